@@ -1,0 +1,4 @@
+pub mod Fault
+pub mod Trace
+pub mod Streams
+pub mod Crash

@@ -1,0 +1,116 @@
+-- What a disk tells, its trace, and what follows from it: the files now, and what a crash may leave of them.
+-- The crash model is this project's profile.
+use Rattle.std.specs.Prelude.{◌≡◌, ◌⊎◌, ◌≤◌, ℕ, ◌+◌, ◌-◌, min, List, [], ◌∷◌, ◌++◌, length, take, drop, Bool, true, false, Option, Some, None, IsSome, IfSome, option_map}
+use Rattle.std.specs.FinMap as map
+use Rattle.fsfs_base.specs.Files.{Files, renamed}
+
+-- a change of names; `Adopt` names a firm file that the disk got otherwise, `FirmNames` makes every change before it firm
+pub data Change : Type 0 where
+  Put : List ℕ → List ℕ → Change
+  Adopt : List ℕ → List ℕ → Change
+  Rename : List ℕ → List ℕ → Change
+  Remove : List ℕ → Change
+  FirmNames : Change
+
+-- a call that was done, or one that failed and left the files from before
+pub data Operation : Type 0 where
+  Done : Change → Operation
+  Attempted : Change → Operation
+
+-- the firm files that a disk began with, and its operations since, the newest first
+pub record Trace : Type 0 where
+  pub first : Files
+  pub operations : List Operation
+
+-- what a change makes of the files
+abbrev pub changed : Change → Files → Files
+changed (Put name bytes) m = map.insert m name bytes
+changed (Adopt name bytes) m = map.insert m name bytes
+changed (Rename from to) m = renamed m from to (map.get m from)
+changed (Remove name) m = map.remove m name
+changed FirmNames m = m
+
+abbrev pub files_after : Files → List Operation → Files
+files_after first [] = first
+files_after first (Done change ∷ operations) = changed change (files_after first operations)
+files_after first (Attempted change ∷ operations) = files_after first operations
+
+-- the files now
+abbrev pub files_now : Trace → Files
+files_now trace = files_after trace.first trace.operations
+
+-- the bytes of the file with a name, if there is one
+abbrev pub file_at : Trace → List ℕ → Option (List ℕ)
+file_at trace name = map.get (files_now trace) name
+
+-- What a crash right after a change may leave: each change that isn't firm is there or not.
+-- `now` are the files that the change met, `Before` says what a crash before it could leave.
+abbrev pub ImageAfter : Change → Files → (Files → Type 0) → Files → Type 0
+ImageAfter (Put name bytes) now Before m = Before m ⊎ ((was : Files) × Before was × (m ≡ map.insert was name bytes))
+ImageAfter (Adopt name bytes) now Before m = Before m ⊎ ((was : Files) × Before was × (m ≡ map.insert was name bytes))
+ImageAfter (Rename from to) now Before m = Before m ⊎ ((was : Files) × Before was × (m ≡ renamed was from to (map.get now from)))
+ImageAfter (Remove name) now Before m = Before m ⊎ ((was : Files) × Before was × (m ≡ map.remove was name))
+ImageAfter FirmNames now Before m = m ≡ now
+
+-- what a crash now may leave: any subset of the changes that aren't firm, in order
+abbrev pub IsImage : Files → List Operation → Files → Type 0
+IsImage first [] m = m ≡ first
+IsImage first (Done change ∷ operations) m = ImageAfter change (files_after first operations) (IsImage first operations) m
+IsImage first (Attempted change ∷ operations) m = IsImage first operations m
+
+-- what a crash in the middle of a call may leave besides: a torn put gives the name any bytes
+abbrev pub TornBy : Change → (Files → Type 0) → Files → Type 0
+TornBy (Put name bytes) Before m = (any : List ℕ) × (was : Files) × Before was × (m ≡ map.insert was name any)
+TornBy (Adopt name bytes) Before m = ⊥
+TornBy (Rename from to) Before m = ⊥
+TornBy (Remove name) Before m = ⊥
+TornBy FirmNames Before m = ⊥
+
+abbrev pub change_of : Operation → Change
+change_of (Done change) = change
+change_of (Attempted change) = change
+
+-- what a crash at some moment since there were n operations might have left, between two calls or in the middle of one
+abbrev pub ImageSince : ℕ → Files → List Operation → Files → Type 0
+ImageSince n first [] m = m ≡ first
+ImageSince n first (operation ∷ operations) m = IsImage first (operation ∷ operations) m
+    ⊎ ((n ≤ length operations) × (ImageAfter (change_of operation) (files_after first operations) (IsImage first operations) m
+    ⊎ (TornBy (change_of operation) (IsImage first operations) m ⊎ ImageSince n first operations m)))
+
+abbrev pub add_operation : Operation → Trace → Trace
+add_operation operation trace = record trace { operations = operation ∷ trace.operations }
+
+-- a call that did its change
+abbrev pub Performs : Change → Option Trace → Option Trace → Type 0
+Performs change old new = new ≡ option_map (add_operation (Done change)) old
+
+-- a call that failed in the middle, and left the files from before
+abbrev pub Attempts : Change → Option Trace → Option Trace → Type 0
+Attempts change old new = new ≡ option_map (add_operation (Attempted change)) old
+
+-- a failed call touched nothing, or leaves the files from before, or those of success
+abbrev pub FailsAt : Change → Option Trace → Option Trace → Type 0
+FailsAt change old new = (new ≡ old) ⊎ (Attempts change old new ⊎ Performs change old new)
+
+-- a failed put may also leave the name with any bytes
+abbrev pub FailsToPut : List ℕ → List ℕ → Option Trace → Option Trace → Type 0
+FailsToPut name bytes old new = (new ≡ old) ⊎ (Attempts (Put name bytes) old new ⊎ ((any : List ℕ) × Performs (Put name any) old new))
+
+-- a read fills the buffer from an offset on, as far as the file goes; past its end that is nothing
+abbrev pub IsRead : Option (List ℕ) → ℕ → List ℕ → List ℕ → Option ℕ → Type 0
+IsRead None offset old new found = (found ≡ None) × (new ≡ old)
+IsRead (Some bytes) offset old new found =
+    let n = min (length old) (length bytes - offset) in
+    (found ≡ Some n) × (new ≡ take n (drop offset bytes) ++ drop n old)
+
+abbrev pub IsSize : Option (List ℕ) → Option ℕ → Type 0
+IsSize file found = found ≡ option_map (λ bytes. length bytes) file
+
+abbrev pub IsThere : Option (List ℕ) → Bool → Type 0
+IsThere None there = there ≡ false
+IsThere (Some bytes) there = there ≡ true
+
+-- the change was done where the file was there, and nothing where it wasn't
+abbrev pub PerformsIfThere : Bool → Change → Option Trace → Option Trace → Type 0
+PerformsIfThere true change old new = Performs change old new
+PerformsIfThere false change old new = new ≡ old
