@@ -1,1 +1,3 @@
 pub mod FileLemmas
+pub mod PathLemmas
+pub mod ClonedLists

@@ -2,5 +2,7 @@
 #![tactic(auto)]
 
 mod name;
+mod path;
 
 pub use name::Name;
+pub use path::FsPath;
