@@ -10,7 +10,7 @@ use Rattle.fsfs_text.specs.Numeral.{digit, value_after, IsNumeral, IsNumber, IsR
 use Rattle.fsfs_text.proofs.Readers.{Reads, chosen, pair_same, err_same}
 
 -- digits behind a number never make it smaller
-value_grows : (base n : ℕ) → 1 ≤ base → (ds : List ℕ) → n ≤ value_after base n ds
+pub value_grows : (base n : ℕ) → 1 ≤ base → (ds : List ℕ) → n ≤ value_after base n ds
 unfolding value_after
 value_grows base n one [] = omega arith
 value_grows base n one (c ∷ cs) = omega (arith, value_grows base (n * base + digit c) one cs, mul-le-mul_left n one)

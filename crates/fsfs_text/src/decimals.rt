@@ -1,5 +1,6 @@
 //! Decimal numbers: `0`, or digits that don't begin with `0`.
 ghost use Rattle.std.specs.Prelude.{◌≡◌, ℕ, OnOk, IfOk, IfSome, Some};
+ghost use Rattle.std.specs.Fmt.{decimal as printed_decimal};
 ghost use Rattle.fsfs_text.specs.Reading.{Gives};
 ghost use Rattle.fsfs_text.specs.Numeral.{digits_at, number_at, plain_at, numeral_at, AppendsNumeral, IsPlain, IsNumber};
 ghost use Rattle.fsfs_text.specs.Grammar.{Appends};
@@ -111,9 +112,10 @@ pub fn put_decimal(out: &mut Vec<u8>, n: u64, end: u8) -> Result<(), AllocError>
     Ok(())
 }
 
-/// The decimal text of a number.
+/// The decimal text of a number, as `format!` prints it too.
 pub fn write_dec(alloc: Global, n: u64) -> Result<Vec<u8>, AllocError>
-    ensures { IfOk result (λ v. IsPlain 10 18446744073709551615 v.items n) }
+    ensures grammar { IfOk result (λ v. IsPlain 10 18446744073709551615 v.items n) }
+    ensures printed { IfOk result (λ v. v.items ≡ printed_decimal n) }
 {
     let mut out = Vec::new(alloc);
     put_dec(&mut out, n)?;
