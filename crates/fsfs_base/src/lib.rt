@@ -3,6 +3,8 @@
 
 mod name;
 mod path;
+mod small_fault;
 
 pub use name::Name;
 pub use path::FsPath;
+pub use small_fault::{SmallFault, SmallFile};
