@@ -1,11 +1,16 @@
 // The name of a file below a repository, kept by value.
-ghost use Rattle.std.specs.Prelude.{◌≡◌, ◌+◌, ◌≤◌, ◌++◌, ◌↔◌, length, IsTrue};
+ghost use Rattle.std.specs.Prelude.{◌≡◌, ◌+◌, ◌≤◌, ◌++◌, ◌↔◌, length, IsTrue, Some, nat_eq, refl};
+ghost use Rattle.std.specs.Ordering.{nat_cmp};
+ghost use Rattle.std.specs.Cmp.{on_equiv, on_total, on_po, on_per, partial_equiv_from_equiv};
+ghost use Rattle.std.specs.Cmp.Lexicographic.{pointwise, slice_cmp, nat_list_eq_equiv, nat_list_cmp_total, texts_po, texts_ties};
 
 use arrayvec::ArrayString;
+use std::alloc::AllocError;
+use std::cmp::Ordering;
 use std::marker::Model;
 
 /// The name of a file below a repository, as `db/revs/0/17`: at most 128 bytes, kept by value. A contract sees its bytes.
-#[derive(Drop)]
+#[derive(Debug, Drop)]
 pub struct Name {
     text: ArrayString<128>,
 }
@@ -58,5 +63,52 @@ impl Name {
         ensures { IsTrue result ↔ (self.now ≡ other.now) }
     {
         self.as_str() == other.as_str()
+    }
+}
+
+impl Clone for Name {
+    ghost is_clone = { λ name copy. copy ≡ name };
+
+    fn clone(&self) -> Result<Name, AllocError> {
+        Ok(self.copy())
+    }
+}
+
+impl PartialEq for Name {
+    ghost eq = { λ a b. pointwise nat_eq a b };
+
+    ghost laws = { on_per (λ a. a) (partial_equiv_from_equiv nat_list_eq_equiv) };
+
+    fn eq(&self, other: &Self) -> bool {
+        self.as_str() == other.as_str()
+    }
+}
+
+impl Eq for Name {
+    ghost laws = { on_equiv (λ a. a) nat_list_eq_equiv };
+}
+
+impl PartialOrd for Name {
+    ghost partial_cmp = { λ a b. Some (slice_cmp nat_cmp a b) };
+
+    ghost laws = { on_po (λ a. a) texts_po };
+
+    fn partial_cmp(&self, other: &Self) -> Option<Ordering> {
+        Some(self.cmp(other))
+    }
+}
+
+/// Names are ordered by their bytes.
+impl Ord for Name {
+    ghost cmp = { λ a b. slice_cmp nat_cmp a b };
+
+    ghost total = { on_total (λ a. a) nat_list_cmp_total };
+
+    ghost matches_partial_cmp = { λ a b. refl };
+
+    ghost matches_eq = { λ a b. texts_ties a b };
+
+    fn cmp(&self, other: &Self) -> Ordering {
+        self.as_str().cmp(other.as_str())
     }
 }
