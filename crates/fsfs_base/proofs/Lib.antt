@@ -1,3 +1,4 @@
 pub mod FileLemmas
 pub mod PathLemmas
 pub mod ClonedLists
+pub mod TreeLemmas

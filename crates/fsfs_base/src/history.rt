@@ -1,0 +1,82 @@
+//! Revisions, and the history that they make.
+ghost use Rattle.std.specs.Prelude.{◌≡◌, ◌++◌, ◌∷◌, [], length, slice_get, OnOk, OnErr};
+ghost use Rattle.std.specs.Option.{option_copied};
+
+use crate::change_map::ChangeMap;
+use crate::tree::Tree;
+use std::alloc::{AllocError, Global};
+use std::marker::Model;
+
+/// A revision: its tree, its changed paths and its properties.
+#[derive(Drop)]
+pub struct Revision {
+    pub tree: Tree,
+    pub changes: ChangeMap,
+    /// Names and values, by the names' bytes.
+    pub properties: Vec<(Vec<u8>, Vec<u8>)>,
+}
+
+impl Model for Revision {
+    ghost use Rattle.std.specs.Prelude.{map};
+    ghost use Rattle.fsfs_base.specs.Revisions.{Revision};
+    ghost use Rattle.fsfs_base.specs.Codes.{coded_revision};
+
+    ghost Value = { Revision };
+
+    ghost coded = { coded_revision };
+
+    ghost view = { λ a. record { tree = a.tree; changes = a.changes; properties = map (λ p. (p.0.items, p.1.items)) a.properties.items } };
+}
+
+/// The revisions of a repository from 0 on, oldest first.
+#[derive(Drop)]
+pub struct History {
+    revisions: Vec<Revision>,
+}
+
+impl Model for History {
+    ghost use Rattle.std.specs.Prelude.{List};
+    ghost use Rattle.std.specs.Coded.{coded_list};
+    ghost use Rattle.fsfs_base.specs.Revisions.{Revision};
+    ghost use Rattle.fsfs_base.specs.Codes.{coded_revision};
+
+    ghost Value = { List Revision };
+
+    ghost coded = { coded_list coded_revision };
+
+    ghost view = { λ a. a.revisions.items };
+}
+
+impl History {
+    /// No revisions.
+    pub fn new(alloc: Global) -> History
+        ensures { result ≡ [] }
+    {
+        History {
+            revisions: Vec::new(alloc),
+        }
+    }
+
+    /// How many revisions there are.
+    pub fn count(&self) -> usize
+        ensures { result ≡ length self.now }
+    {
+        self.revisions.len()
+    }
+
+    /// The revision of this number.
+    pub fn get(&self, rev: u32) -> Option<&Revision>
+        ensures { option_copied result ≡ slice_get self.now rev }
+    {
+        self.revisions.get(rev as usize)
+    }
+
+    /// Adds the next revision.
+    pub fn push(&mut self, revision: Revision) -> Result<(), AllocError>
+        ensures ok { OnOk result (self.new ≡ self.old ++ revision ∷ []) }
+        ensures err { OnErr result (self.new ≡ self.old) }
+    {
+        self.revisions.push(revision)?;
+        Ok(())
+    }
+}

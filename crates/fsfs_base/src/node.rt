@@ -1,0 +1,76 @@
+//! What stands at a path.
+ghost use Rattle.std.specs.Prelude.{◌≡◌};
+
+use crate::path::FsPath;
+use std::alloc::{AllocError, Global};
+use std::marker::Model;
+
+/// What a node is.
+#[derive(Clone, Copy, Debug, PartialEq, Eq)]
+pub enum Kind {
+    File,
+    Dir,
+}
+
+/// A file's text: its bytes, or the place of a text that is not read.
+#[derive(Debug, Drop)]
+pub enum Text {
+    Bytes(Vec<u8>),
+    Closed { rev: u32, offset: u64 },
+}
+
+/// One node of a tree.
+#[derive(Debug, Drop)]
+pub struct Node {
+    pub kind: Kind,
+    pub text: Text,
+    pub properties: Vec<(Vec<u8>, Vec<u8>)>,
+    /// The revision and path that it was copied from.
+    pub source: Option<(u32, FsPath)>,
+    pub added: u32,
+    pub props_changed: u32,
+    pub last_changed: u32,
+}
+
+impl Model for Node {
+    ghost use Rattle.fsfs_base.specs.Nodes.{Node};
+
+    ghost Value = { Node };
+
+    ghost use Rattle.fsfs_base.specs.NodeViews.{node_of};
+
+    ghost view = { node_of };
+}
+
+impl Clone for Text {
+    ghost use Rattle.std.specs.Prelude.{◌≡◌};
+    ghost use Rattle.fsfs_base.specs.NodeViews.{content_of};
+
+    ghost is_clone = { λ s t. content_of t ≡ content_of s };
+
+    fn clone(&self) -> Result<Text, AllocError> {
+        match self {
+            Text::Bytes(bytes) => Ok(Text::Bytes(bytes.clone()?)),
+            Text::Closed { rev, offset } => Ok(Text::Closed {
+                rev: *rev,
+                offset: *offset,
+            }),
+        }
+    }
+}
+
+impl Clone for Node {
+    ghost is_clone = { λ s t. t ≡ s };
+
+    fn clone(&self) -> Result<Node, AllocError> {
+        Ok(Node {
+            kind: self.kind,
+            text: self.text.clone()?,
+            properties: self.properties.clone()?,
+            source: self.source.clone()?,
+            added: self.added,
+            props_changed: self.props_changed,
+            last_changed: self.last_changed,
+        })
+    }
+}
