@@ -2,3 +2,4 @@ pub mod FileLemmas
 pub mod PathLemmas
 pub mod ClonedLists
 pub mod TreeLemmas
+pub mod DateTexts

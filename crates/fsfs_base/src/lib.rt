@@ -1,7 +1,8 @@
-//! The base of the store: what every layer speaks of. The files of a repository and their names.
+//! The base of the store: what every layer speaks of. Files and their names, paths, numbers, dates.
 #![tactic(auto)]
 
 mod change_map;
+mod date;
 mod edit;
 mod history;
 mod mark;
@@ -12,7 +13,9 @@ mod small_fault;
 mod tree;
 
 pub use change_map::{Action, Change, ChangeMap, Folded};
+pub use date::write_date;
 pub use edit::Edit;
+pub use fsfs_text::{B36, next_b36, read_b36, read_dec, write_b36, write_dec};
 pub use history::{History, Revision};
 pub use mark::{Effects, Mark, What, effects_at, outer_marks};
 pub use name::Name;
