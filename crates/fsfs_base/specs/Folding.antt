@@ -22,14 +22,14 @@ change_of kind Prop = record { action = Modify; kind = kind; text_changed = fals
 abbrev pub begun : Kind → What → Folded
 begun kind what = record { change = change_of kind what; was = kind }
 
--- the change with one more flag
-abbrev pub with_text_flag : Folded → Folded
-with_text_flag f = record f { change = record f.change { text_changed = true } }
+-- the change with the flag that a modify raises
+abbrev pub flagged : What → Folded → Folded
+flagged Text f = record f { change = record f.change { text_changed = true } }
+flagged Prop f = record f { change = record f.change { props_changed = true } }
+flagged Gone f = f
+flagged (Make source) f = f
 
-abbrev pub with_props_flag : Folded → Folded
-with_props_flag f = record f { change = record f.change { props_changed = true } }
-
--- a delete after a change
+-- a delete after a change: an add and its delete leave nothing
 abbrev pub after_delete : Action → Kind → Kind → Option Folded
 after_delete Add kind was = None
 after_delete Modify kind was = Some (begun kind Gone)
@@ -37,26 +37,27 @@ after_delete Replace kind was = Some (begun was Gone)
 after_delete Delete kind was = Some (begun kind Gone)
 
 -- an add after a change: after a delete it is a replace, which keeps the kind of what the delete took away
-abbrev pub after_add : Action → Kind → Option (ℕ × Path) → Kind → Option Folded
-after_add Delete kind source was = Some (record { change = record (change_of kind (Make source)) { action = Replace }; was = was })
-after_add Add kind source was = Some (begun kind (Make source))
-after_add Modify kind source was = Some (begun kind (Make source))
-after_add Replace kind source was = Some (begun kind (Make source))
+abbrev pub after_add : Action → Kind → Option (ℕ × Path) → Kind → Folded
+after_add Delete kind source was = record { change = record (change_of kind (Make source)) { action = Replace }; was = was }
+after_add Add kind source was = begun kind (Make source)
+after_add Modify kind source was = begun kind (Make source)
+after_add Replace kind source was = begun kind (Make source)
 
--- a modify after a change
-abbrev pub after_modify : Action → Kind → What → Folded → Folded → Option Folded
-after_modify Delete kind what f with_flag = Some (begun kind what)
-after_modify Add kind what f with_flag = Some with_flag
-after_modify Replace kind what f with_flag = Some with_flag
-after_modify Modify kind what f with_flag = Some with_flag
+-- a modify after a change: the same, with one more flag
+abbrev pub after_modify : Action → Kind → What → Folded → Folded
+after_modify Delete kind what f = begun kind what
+after_modify Add kind what f = flagged what f
+after_modify Replace kind what f = flagged what f
+after_modify Modify kind what f = flagged what f
 
--- what was said of a path, and one more mark at that path
+-- what was said of a path, and one more mark at that path. (No transaction has an add or a delete or a modify after what leaves no
+-- room for it; the new mark stands then.)
 abbrev pub joined : Option Folded → Kind → What → Option Folded
 joined None kind what = Some (begun kind what)
-joined (Some f) kind (Make source) = after_add f.change.action kind source f.was
+joined (Some f) kind (Make source) = Some (after_add f.change.action kind source f.was)
 joined (Some f) kind Gone = after_delete f.change.action kind f.was
-joined (Some f) kind Text = after_modify f.change.action kind Text f (with_text_flag f)
-joined (Some f) kind Prop = after_modify f.change.action kind Prop f (with_props_flag f)
+joined (Some f) kind Text = Some (after_modify f.change.action kind Text f)
+joined (Some f) kind Prop = Some (after_modify f.change.action kind Prop f)
 
 -- a delete of what is above takes away what was said of a path
 abbrev pub forgotten : Option Folded → What → Bool → Option Folded

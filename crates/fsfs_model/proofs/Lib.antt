@@ -16,3 +16,4 @@ pub mod LandedAt
 pub mod Landed
 pub mod Owns
 pub mod Later
+pub mod FoldLemmas

@@ -2,9 +2,13 @@
 #![tactic(auto)]
 
 mod clash;
+mod fold;
+mod history;
 mod land;
 mod laws;
 
 pub use clash::flat_clash;
+pub use fold::flat_fold;
+pub use history::flat_history;
 pub use land::flat_land;
 pub use laws::two_merges_are_one;
