@@ -1,0 +1,22 @@
+// Counts of failed calls.
+ghost use Rattle.std.specs.Prelude.{◌≡◌, ◌≤◌, ◌↔◌, Ok, IsOk, IfOk, OnErr};
+ghost use Rattle.fsfs_disk.specs.Fault.{Rose};
+
+use fsfs_disk::Failed;
+use std::io;
+
+// The answer of a call, with its failure counted.
+pub fn counted<T>(faults: &mut u64, answer: io::Result<T>) -> Result<T, Failed>
+    ensures succeeds { IsOk result ↔ IsOk answer }
+    ensures ok { IfOk result (λ value. answer ≡ Ok value) }
+    ensures later { faults.old ≤ faults.new }
+    ensures failed { OnErr result (Rose faults.old faults.new) }
+{
+    match answer {
+        Ok(value) => Ok(value),
+        Err(_) => {
+            *faults = faults.saturating_add(1);
+            Err(Failed)
+        }
+    }
+}

@@ -1,0 +1,198 @@
+// A folder of the machine, and the files and folders below it by name.
+ghost use Rattle.std.specs.Prelude.{◌≡◌, ◌≤◌, length, IfOk, IfSome, string_bytes};
+
+use std::alloc::{AllocGlobal, Global};
+use std::fs::{File, Files, Metadata};
+use std::io::{ErrorKind, Write};
+use std::os::unix::fs::{FileExt, MetadataExt};
+use std::{fs, io};
+
+// A name is empty for the folder itself. What is said to be made, put or removed is firm only after `sync` of the
+// folder that its name stands in.
+#[derive(Drop)]
+pub struct Folder<R: Files<File = File> + AllocGlobal + Drop> {
+    pub rt: R,
+    pub path: String,
+}
+
+// The name of the folder that a name stands in.
+pub fn parent_of(name: &str) -> &str {
+    match name.rsplit_once('/') {
+        Some((folder, _)) => folder,
+        None => "",
+    }
+}
+
+// Nothing has this name. A file in the place of a folder above it has nothing below.
+fn is_absent(error: &io::Error) -> bool {
+    matches!(error.kind(), ErrorKind::NotFound | ErrorKind::NotADirectory)
+}
+
+// Fills the buffer from an offset on, as far as the file goes, through interrupted calls and short reads.
+fn fill(file: &File, offset: u64, buffer: &mut [u8]) -> io::Result<usize>
+    ensures { IfOk result (λ n. n ≤ length buffer.new) }
+{
+    let mut filled = 0;
+    for _ in 0..u64::MAX {
+        let Some(from) = offset.checked_add(filled as u64) else {
+            break;
+        };
+        if filled >= buffer.len() || from > MAX_OFFSET {
+            break;
+        }
+        match file.read_at(&mut buffer[filled..], from) {
+            Ok(0) => break,
+            Ok(n) => filled += n,
+            Err(error) if error.kind() == ErrorKind::Interrupted => {}
+            Err(error) => return Err(error),
+        }
+    }
+    Ok(filled)
+}
+
+// The system takes offsets up to this; no file goes beyond.
+const MAX_OFFSET: u64 = 0x7fff_ffff_ffff_ffff;
+
+impl<R: Files<File = File> + AllocGlobal + Drop> Folder<R> {
+    pub fn alloc(&self) -> Global {
+        self.rt.alloc()
+    }
+
+    fn path_of(&self, name: &str) -> io::Result<String> {
+        let folder = self.path.as_str();
+        Ok(format!(in self.alloc(); "{folder}/{name}")?)
+    }
+
+    fn found(&self, name: &str) -> io::Result<Option<Metadata>> {
+        match fs::metadata(&self.rt, self.path_of(name)?) {
+            Ok(found) => Ok(Some(found)),
+            Err(error) if is_absent(&error) => Ok(None),
+            Err(error) => Err(error),
+        }
+    }
+
+    pub fn is_folder(&self, name: &str) -> bool {
+        match self.found(name) {
+            Ok(Some(found)) => found.is_dir(),
+            _ => false,
+        }
+    }
+
+    // Whether the open file is the one that has the name.
+    pub fn has_name(&self, file: &File, name: &str) -> io::Result<bool> {
+        let open = file.metadata()?;
+        match self.found(name)? {
+            Some(named) => Ok(named.dev() == open.dev() && named.ino() == open.ino()),
+            None => Ok(false),
+        }
+    }
+
+    // The length of a file. A folder in its place is an error.
+    pub fn size(&self, name: &str) -> io::Result<Option<u64>> {
+        match self.found(name)? {
+            Some(found) if found.is_file() => Ok(Some(found.len())),
+            Some(_) => Err(io::Error::from(ErrorKind::IsADirectory)),
+            None => Ok(None),
+        }
+    }
+
+    pub fn read(&self, name: &str, offset: u64, buffer: &mut [u8]) -> io::Result<Option<usize>>
+        ensures { IfOk result (λ found. IfSome found (λ n. n ≤ length buffer.new)) }
+    {
+        match File::open(&self.rt, self.path_of(name)?) {
+            Ok(file) => Ok(Some(fill(&file, offset, buffer)?)),
+            Err(error) if is_absent(&error) => Ok(None),
+            Err(error) => Err(error),
+        }
+    }
+
+    pub fn is_readable(&self, name: &str) -> bool {
+        match self.path_of(name) {
+            Ok(path) => File::open(&self.rt, path).is_ok(),
+            Err(_) => false,
+        }
+    }
+
+    // A file that is there, open for reading and writing.
+    pub fn open(&self, name: &str) -> io::Result<File> {
+        File::options()
+            .read(true)
+            .write(true)
+            .open(&self.rt, self.path_of(name)?)
+    }
+
+    // A new empty file. One that is there is an error.
+    pub fn create(&self, name: &str) -> io::Result<File> {
+        File::create_new(&self.rt, self.path_of(name)?)
+    }
+
+    // Writes a new file of these bytes beside the name and makes its bytes firm.
+    pub fn write_beside(&self, name: &str, bytes: &[u8]) -> io::Result<File> {
+        let beside = self.beside(name)?;
+        self.remove(beside.as_str())?;
+        let mut file = self.create(beside.as_str())?;
+        let written = match file.write_all(bytes) {
+            Ok(()) => file.sync_all(),
+            Err(error) => Err(error),
+        };
+        match written {
+            Ok(()) => Ok(file),
+            Err(error) => {
+                self.drop_beside(name);
+                Err(error)
+            }
+        }
+    }
+
+    // Gives the file that was written beside the name the name itself.
+    pub fn name_beside(&self, name: &str) -> io::Result<()> {
+        let named = self.rename(self.beside(name)?.as_str(), name);
+        if named.is_err() {
+            self.drop_beside(name);
+        }
+        named
+    }
+
+    // Removes what was written beside the name, as far as the system lets.
+    pub fn drop_beside(&self, name: &str) {
+        if let Ok(beside) = self.beside(name) {
+            let _ = self.remove(beside.as_str());
+        }
+    }
+
+    fn beside(&self, name: &str) -> io::Result<String> {
+        Ok(format!(in self.alloc(); "{name}.beside")?)
+    }
+
+    pub fn rename(&self, from: &str, to: &str) -> io::Result<()> {
+        fs::rename(&self.rt, self.path_of(from)?, self.path_of(to)?)
+    }
+
+    // Whether there was a file to remove.
+    pub fn remove(&self, name: &str) -> io::Result<bool> {
+        match fs::remove_file(&self.rt, self.path_of(name)?) {
+            Ok(()) => Ok(true),
+            Err(error) if is_absent(&error) => Ok(false),
+            Err(error) => Err(error),
+        }
+    }
+
+    // Makes a folder below one that is there. Answers whether it wasn't there before.
+    pub fn make(&self, name: &str) -> io::Result<bool> {
+        match fs::create_dir(&self.rt, self.path_of(name)?) {
+            Ok(()) => Ok(true),
+            Err(_) if self.is_folder(name) => Ok(false),
+            Err(error) => Err(error),
+        }
+    }
+
+    // Removes a folder, if it is empty.
+    pub fn unmake(&self, name: &str) -> io::Result<()> {
+        fs::remove_dir(&self.rt, self.path_of(name)?)
+    }
+
+    // Makes the names in a folder firm, or the bytes of a file.
+    pub fn sync(&self, name: &str) -> io::Result<()> {
+        File::open(&self.rt, self.path_of(name)?)?.sync_all()
+    }
+}
