@@ -1,0 +1,3 @@
+pub mod LineBytes
+pub mod Files
+pub mod Writing

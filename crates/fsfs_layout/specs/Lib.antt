@@ -1,0 +1,4 @@
+pub mod Lacking
+pub mod Formats
+pub mod Small
+pub mod Reading

@@ -1,0 +1,41 @@
+-- Reading the small files from left to right.
+use Rattle.std.specs.Prelude.{ℕ, zero, suc, List, [], ◌∷◌, length, take, Result, Ok, Err, ◌==◌, if◌then◌else◌, codes}
+use Rattle.fsfs_text.specs.Grammar.{begins}
+use Rattle.fsfs_text.specs.Reading.{◌>>=◌, text_at, whole}
+use Rattle.fsfs_text.specs.Numeral.{number_at}
+use Rattle.fsfs_layout.specs.declared.format_file.Format.{Format}
+use Rattle.fsfs_layout.specs.declared.format_file.Format.TheVariants.{Linear, Sharded, Other}
+
+abbrev pub rev_line_at : List ℕ → Result ℕ ℕ
+rev_line_at bytes = whole (number_at 10 2147483647 10 bytes)
+
+abbrev pub base36_line_at : List ℕ → Result ℕ ℕ
+base36_line_at bytes = whole (number_at 36 170581728179578208255 10 bytes)
+
+unfoldable pub next_ids_at : List ℕ → Result (ℕ × ℕ) ℕ
+next_ids_at bytes = whole (number_at 36 170581728179578208255 32 bytes >>= λ n. number_at 36 170581728179578208255 10 n.1 >>= λ c. Ok ((n.0, c.0), c.1))
+
+-- what stands behind n bytes of which none ends a line
+unfoldable pub line_rest_at : ℕ → List ℕ → Result (List ℕ) ℕ
+line_rest_at zero bytes = Ok bytes
+line_rest_at (suc n) [] = Err 0
+line_rest_at (suc n) (b ∷ bs) = if b == 10 then Err (suc (length bs)) else line_rest_at n bs
+
+abbrev pub line_bytes_at : ℕ → List ℕ → Result (List ℕ × List ℕ) ℕ
+line_bytes_at n bytes = line_rest_at n bytes >>= λ rest. Ok (take n bytes, rest)
+
+unfoldable pub uuid_at : List ℕ → Result (List ℕ) ℕ
+uuid_at bytes = whole (line_bytes_at 36 bytes >>= λ u. text_at (10 ∷ []) u.1 >>= λ e. Ok (u.0, e.1))
+
+unfoldable pub count_at : List ℕ → Result (ℕ × List ℕ) ℕ
+count_at bytes = if begins 48 bytes then Err (length bytes) else number_at 10 2147483647 10 bytes
+
+unfoldable pub layout_at : List ℕ → Result (Format × List ℕ) ℕ
+layout_at bytes = text_at (codes "layout ") bytes >>= λ a.
+    if begins 115 a.1 then (text_at (codes "sharded ") a.1 >>= λ b. count_at b.1 >>= λ n. Ok (Sharded n.0, n.1))
+    else (text_at (codes "linear") a.1 >>= λ b. text_at (10 ∷ []) b.1 >>= λ c. Ok (Linear, c.1))
+
+unfoldable pub format_at : List ℕ → Result Format ℕ
+format_at bytes = number_at 10 18446744073709551615 10 bytes >>= λ n.
+    if n.0 == 4 then (if length n.1 == 0 then Ok Linear else whole (layout_at n.1))
+    else Ok (Other n.0)

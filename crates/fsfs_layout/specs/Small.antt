@@ -1,0 +1,48 @@
+-- The small files.
+use Rattle.std.specs.Prelude.{◌≡◌, ◌≢◌, ◌%◌, ℕ, List, [], ◌∷◌, length, ◌⊎◌}
+use Rattle.fsfs_text.specs.Grammar.{Then, IsText, Mapped, IsFaultAt}
+use Rattle.fsfs_text.specs.Numeral.{IsNumber}
+use Rattle.fsfs_base.specs.declared.small_fault.SmallFile.{SmallFile}
+use Rattle.fsfs_base.specs.declared.small_fault.SmallFile.TheVariants.{MinUnpackedRev}
+use Rattle.fsfs_base.specs.declared.small_fault.SmallFault.{SmallFault}
+use Rattle.fsfs_layout.specs.Lacking.{Lacks}
+
+-- `<revision>\n`
+abbrev pub IsRevLine : List ℕ → ℕ → Type 0
+IsRevLine = IsNumber 10 2147483647 10
+
+-- `<revision>\n` of the first revision of a shard
+abbrev pub IsMinUnpackedRev : ℕ → List ℕ → ℕ → Type 0
+IsMinUnpackedRev shard_size text n = IsRevLine text n × (n % shard_size ≡ 0)
+
+-- `<base36>\n`
+abbrev pub IsBase36Line : List ℕ → ℕ → Type 0
+IsBase36Line = IsNumber 36 170581728179578208255 10
+
+-- `<node> <copy>\n`
+abbrev pub IsNextIds : List ℕ → ℕ × ℕ → Type 0
+IsNextIds = Then (IsNumber 36 170581728179578208255 32) (λ node. Mapped (λ copy. (node, copy)) (IsNumber 36 170581728179578208255 10))
+
+-- so many bytes, none of which ends a line
+abbrev pub AreLineBytes : ℕ → List ℕ → List ℕ → Type 0
+AreLineBytes n text value = (text ≡ value) × (length value ≡ n) × Lacks 10 value
+
+-- 36 bytes and the end of the line
+abbrev pub IsUuid : List ℕ → List ℕ → Type 0
+IsUuid = Then (AreLineBytes 36) (λ uuid. Mapped (λ _. uuid) (IsText (10 ∷ [])))
+
+-- the fault names the file, and the first byte after which no text of its grammar goes on
+pub record IsFaultOf {X : Type 0} (file : SmallFile) (G : List ℕ → X → Type 0) (bytes : List ℕ) (fault : SmallFault) : Type 0 where
+  pub names : fault.file ≡ file
+  pub place : IsFaultAt G bytes fault.at
+
+-- a revision's line, but not of the first of a shard: the fault is at its beginning
+pub record IsInsideShard (shard_size : ℕ) (bytes : List ℕ) (fault : SmallFault) : Type 0 where
+  pub number : ℕ
+  pub line : IsRevLine bytes number
+  pub inside : number % shard_size ≢ 0
+  pub names : fault.file ≡ MinUnpackedRev
+  pub place : fault.at ≡ 0
+
+abbrev pub IsMinUnpackedFault : ℕ → List ℕ → SmallFault → Type 0
+IsMinUnpackedFault shard_size bytes fault = IsFaultOf MinUnpackedRev IsRevLine bytes fault ⊎ IsInsideShard shard_size bytes fault

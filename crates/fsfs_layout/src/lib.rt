@@ -1,0 +1,17 @@
+//! The layout of a repository: the small files that say what stands where, and the names of its files.
+//!
+//! Numbers, names and texts are those of the libsvn_fs_fs structure file for format 4.
+#![tactic(auto)]
+
+mod format_file;
+mod next_ids_file;
+mod reading;
+mod rev_files;
+mod txn_current_file;
+mod uuid_file;
+
+pub use format_file::{Format, read_format, write_format};
+pub use next_ids_file::{NextIds, read_next_ids, write_next_ids};
+pub use rev_files::{read_current, read_min_unpacked_rev, write_current, write_min_unpacked_rev};
+pub use txn_current_file::{read_txn_current, write_txn_current};
+pub use uuid_file::{Uuid, read_uuid, write_uuid};

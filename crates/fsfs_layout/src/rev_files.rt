@@ -1,0 +1,97 @@
+//! Files with one revision: `db/current` and `db/min-unpacked-rev`.
+ghost use Rattle.std.specs.Prelude.{◌≡◌, ◌≤◌, ◌<◌, ◌%◌, ℕ, ◌∷◌, [], ◌++◌, IfOk, IfErr, Ok};
+ghost use Rattle.std.specs.Fmt.{decimal};
+ghost use Rattle.fsfs_text.specs.Reading.{Gives};
+ghost use Rattle.fsfs_layout.specs.Small.{IsRevLine, IsMinUnpackedRev, IsFaultOf, IsMinUnpackedFault};
+ghost use Rattle.fsfs_layout.specs.Reading.{rev_line_at};
+
+use fsfs_base::{SmallFault, SmallFile};
+use fsfs_text::decimals::{decimal, put_decimal};
+use std::alloc::{AllocError, Global};
+
+/// The greatest revision number.
+const LAST_REVISION: u64 = 2147483647;
+
+fn rev_line(bytes: &[u8]) -> Result<u32, usize>
+    ensures { Gives (λ n. n) result (rev_line_at bytes.now) }
+{
+    let (number, rest) = decimal(LAST_REVISION, b'\n', bytes)?;
+    if !rest.is_empty() {
+        return Err(rest.len());
+    }
+    Ok(number as u32)
+}
+
+/// The youngest revision, from the bytes of `db/current`: a decimal number of at most 2,147,483,647 and a newline.
+pub fn read_current(bytes: &[u8]) -> Result<u32, SmallFault>
+    ensures found { IfOk result (IsRevLine bytes.now) }
+    ensures only { (n : ℕ) → IsRevLine bytes.now n → result ≡ Ok n }
+    ensures fault { IfErr result (IsFaultOf SmallFile.Current IsRevLine bytes.now) }
+{
+    match rev_line(bytes) {
+        Ok(number) => Ok(number),
+        Err(left) => Err(SmallFault {
+            file: SmallFile::Current,
+            at: bytes.len() - left,
+        }),
+    }
+}
+
+/// The oldest revision that isn't packed, from the bytes of `db/min-unpacked-rev`: a revision number and a newline.
+/// A number that isn't a multiple of the shard size is refused at byte 0.
+pub fn read_min_unpacked_rev(shard_size: u32, bytes: &[u8]) -> Result<u32, SmallFault>
+    requires { 0 < shard_size }
+    ensures found { IfOk result (IsMinUnpackedRev shard_size bytes.now) }
+    ensures only { (n : ℕ) → IsMinUnpackedRev shard_size bytes.now n → result ≡ Ok n }
+    ensures fault { IfErr result (IsMinUnpackedFault shard_size bytes.now) }
+{
+    match rev_line(bytes) {
+        Ok(number) => {
+            if number % shard_size != 0 {
+                return Err(SmallFault {
+                    file: SmallFile::MinUnpackedRev,
+                    at: 0,
+                });
+            }
+            Ok(number)
+        }
+        Err(left) => Err(SmallFault {
+            file: SmallFile::MinUnpackedRev,
+            at: bytes.len() - left,
+        }),
+    }
+}
+
+fn write_rev_line(alloc: Global, rev: u32) -> Result<Vec<u8>, AllocError>
+    requires { rev ≤ 2147483647 }
+    ensures grammar { IfOk result (λ v. IsRevLine v.items rev) }
+    ensures text { IfOk result (λ v. v.items ≡ decimal rev ++ 10 ∷ []) }
+{
+    let mut out = Vec::new(alloc);
+    put_decimal(&mut out, rev as u64, b'\n')?;
+    Ok(out)
+}
+
+/// The bytes of `db/current` for this youngest revision.
+pub fn write_current(alloc: Global, youngest: u32) -> Result<Vec<u8>, AllocError>
+    requires { youngest ≤ 2147483647 }
+    ensures grammar { IfOk result (λ v. IsRevLine v.items youngest) }
+    ensures text { IfOk result (λ v. v.items ≡ decimal youngest ++ 10 ∷ []) }
+{
+    write_rev_line(alloc, youngest)
+}
+
+/// The bytes of `db/min-unpacked-rev` for this oldest revision that isn't packed.
+pub fn write_min_unpacked_rev(
+    alloc: Global,
+    shard_size: u32,
+    rev: u32,
+) -> Result<Vec<u8>, AllocError>
+    requires shard { 0 < shard_size }
+    requires whole_shards { rev % shard_size ≡ 0 }
+    requires fits { rev ≤ 2147483647 }
+    ensures grammar { IfOk result (λ v. IsMinUnpackedRev shard_size v.items rev) }
+    ensures text { IfOk result (λ v. v.items ≡ decimal rev ++ 10 ∷ []) }
+{
+    write_rev_line(alloc, rev)
+}
