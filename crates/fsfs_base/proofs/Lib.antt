@@ -3,3 +3,4 @@ pub mod PathLemmas
 pub mod ClonedLists
 pub mod TreeLemmas
 pub mod DateTexts
+pub mod TxnNameTexts

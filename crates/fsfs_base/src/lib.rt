@@ -11,6 +11,7 @@ mod node;
 mod path;
 mod small_fault;
 mod tree;
+mod txn_name;
 
 pub use change_map::{Action, Change, ChangeMap, Folded};
 pub use date::write_date;
@@ -23,3 +24,4 @@ pub use node::{Kind, Node, Text};
 pub use path::FsPath;
 pub use small_fault::{SmallFault, SmallFile};
 pub use tree::Tree;
+pub use txn_name::{TxnName, plain_txn_name, put_txn_name, read_txn_name};

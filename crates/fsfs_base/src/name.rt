@@ -1,5 +1,5 @@
 // The name of a file below a repository, kept by value.
-ghost use Rattle.std.specs.Prelude.{◌≡◌, ◌+◌, ◌≤◌, ◌++◌, ◌↔◌, length, IsTrue, Some, nat_eq, refl};
+ghost use Rattle.std.specs.Prelude.{◌≡◌, ◌+◌, ◌≤◌, ◌<◌, ◌∷◌, [], ◌++◌, ◌↔◌, length, IsTrue, Some, nat_eq, refl};
 ghost use Rattle.std.specs.Ordering.{nat_cmp};
 ghost use Rattle.std.specs.Cmp.{on_equiv, on_total, on_po, on_per, partial_equiv_from_equiv};
 ghost use Rattle.std.specs.Cmp.Lexicographic.{pointwise, slice_cmp, nat_list_eq_equiv, nat_list_cmp_total, texts_po, texts_ties};
@@ -42,6 +42,15 @@ impl Name {
         ensures { self.new ≡ self.old ++ text.now }
     {
         self.text.push_str(text);
+    }
+
+    /// Puts an ASCII character at its end.
+    pub fn push(&mut self, c: char)
+        requires ascii { c < 128 }
+        requires room { length self.old < 128 }
+        ensures { self.new ≡ self.old ++ c ∷ [] }
+    {
+        self.text.push(c);
     }
 
     pub fn as_str(&self) -> &str

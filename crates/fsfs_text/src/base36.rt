@@ -1,7 +1,7 @@
 //! Base-36 numbers of at most 13 digits, as node numbers, copy numbers and transaction numbers are.
 //!
 //! A number is `0`, or digits `0` to `9` and `a` to `z` that don't begin with `0`.
-ghost use Rattle.std.specs.Prelude.{◌≡◌, ℕ, ◌+◌, ◌<◌, OnOk, IfOk, IfSome, IsSomeAnd, MatchOption};
+ghost use Rattle.std.specs.Prelude.{◌≡◌, ℕ, ◌+◌, ◌<◌, OnOk, IfOk, IfSome, IsSomeAnd, MatchOption, option_map};
 ghost use Rattle.fsfs_text.specs.declared.base36.TheConstants.{B36_END};
 ghost use Rattle.fsfs_text.specs.Reading.{Gives};
 ghost use Rattle.fsfs_text.specs.Numeral.{digits_at, number_at, plain_at, numeral_at, AppendsNumeral, IsPlain, IsNumber};
@@ -99,6 +99,16 @@ fn plain_b36_rest(number: u128, text: &[u8]) -> Option<u128>
                 None
             }
         }
+    }
+}
+
+/// The number that a whole base-36 text is, as a part of a longer reading.
+pub fn plain_base36(text: &[u8]) -> Option<B36>
+    ensures { option_map (λ b. b.number) result ≡ numeral_at 36 170581728179578208255 text.now }
+{
+    match plain_b36(text) {
+        None => None,
+        Some(number) => Some(B36 { number }),
     }
 }
 

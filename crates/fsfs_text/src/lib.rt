@@ -2,6 +2,7 @@
 #![tactic(auto)]
 
 pub mod base36;
+pub mod cuts;
 pub mod decimals;
 mod digits;
 pub mod pieces;
