@@ -4,3 +4,4 @@ pub mod ClonedLists
 pub mod TreeLemmas
 pub mod DateTexts
 pub mod TxnNameTexts
+pub mod PathTextLemmas

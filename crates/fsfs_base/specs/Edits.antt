@@ -1,6 +1,6 @@
 -- What an edit of a transaction makes of its tree, and where it is refused. (svn_fs.h: svn_fs_make_dir, svn_fs_make_file,
 -- svn_fs_delete, svn_fs_copy, svn_fs_apply_text and svn_fs_change_node_prop; the limits are this project's profile.)
-use Rattle.std.specs.Prelude.{ℕ, ◌-◌, Bool, true, false, ◌&&◌, not, nat_le, nat_lt, List, [], ◌∷◌, Option, Some, None, is_some, if◌then◌else◌, length, take, drop, ◌++◌, Vec}
+use Rattle.std.specs.Prelude.{ℕ, ◌-◌, Bool, true, false, ◌&&◌, not, nat_le, nat_lt, List, Option, Some, None, is_some, if◌then◌else◌, length, take, drop, ◌++◌, Vec}
 use Rattle.std.specs.Global.{Global}
 use Rattle.std.specs.List.{filter}
 use Rattle.std.specs.Cmp.Lexicographic.{slice_cmp}

@@ -1,6 +1,6 @@
 -- The changed paths that a transaction's marks come to. (The libsvn_fs_fs structure file, "Revision file format", on changed-path
 -- data; the pairs of changes are folded as libsvn_fs_fs folds them.)
-use Rattle.std.specs.Prelude.{ℕ, Bool, true, false, ◌||◌, List, [], ◌∷◌, Option, Some, None, if◌then◌else◌}
+use Rattle.std.specs.Prelude.{ℕ, Bool, true, false, List, [], ◌∷◌, Option, Some, None, if◌then◌else◌}
 use Rattle.fsfs_base.specs.declared.node.Kind.{Kind}
 use Rattle.fsfs_base.specs.declared.mark.Mark.{Mark}
 use Rattle.fsfs_base.specs.declared.mark.What.{What}

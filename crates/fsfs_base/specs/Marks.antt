@@ -1,6 +1,6 @@
 -- The marks of a transaction, and what they say of a path. (This project's profile; what counts as a change of a node or below
 -- it is svn_fs.h's, at svn_fs_merge.)
-use Rattle.std.specs.Prelude.{ℕ, Bool, true, false, ◌&&◌, ◌||◌, not, List, [], ◌∷◌, ◌++◌, Option, if◌then◌else◌}
+use Rattle.std.specs.Prelude.{Bool, true, false, ◌&&◌, ◌||◌, not, List, [], ◌∷◌, ◌++◌, if◌then◌else◌}
 use Rattle.std.specs.List.{list_any, filter}
 use Rattle.fsfs_base.specs.declared.mark.What.{What}
 use Rattle.fsfs_base.specs.declared.mark.What.TheVariants.{Make, Gone, Text, Prop}

@@ -3,7 +3,7 @@
 use Rattle.std.specs.Prelude.{ℕ, List, Option, Some, None, slice_get}
 use Rattle.std.specs.FinMap.{FinMap, get}
 use Rattle.fsfs_base.specs.declared.change_map.Change.{Change}
-use Rattle.fsfs_base.specs.Paths.{Path, path_cmp}
+use Rattle.fsfs_base.specs.Paths.{path_cmp}
 use Rattle.fsfs_base.specs.Nodes.{Node, TreeFunction}
 
 pub record Revision : Type 0 where

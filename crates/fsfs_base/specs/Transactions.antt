@@ -1,6 +1,6 @@
 -- What a transaction may be over a history, what committing it adds, and which histories come of commits. (svn_fs.h,
 -- svn_fs_begin_txn2 and svn_fs_commit_txn; the definitions are this project's profile.)
-use Rattle.std.specs.Prelude.{◌≡◌, ℕ, suc, ◌-◌, ◌<◌, ◌≤◌, true, List, [], ◌∷◌, ◌++◌, length}
+use Rattle.std.specs.Prelude.{◌≡◌, ℕ, ◌-◌, ◌<◌, ◌≤◌, true, List, [], ◌∷◌, ◌++◌, length}
 use Rattle.std.specs.FinMap.{FinMap, get}
 use Rattle.fsfs_base.specs.declared.edit.Edit.{Edit}
 use Rattle.fsfs_base.specs.declared.mark.Mark.{Mark}

@@ -1,6 +1,7 @@
 //! The base of the store: what every layer speaks of. Files and their names, paths, numbers, dates.
 #![tactic(auto)]
 
+mod bad_path;
 mod change_map;
 mod date;
 mod edit;
@@ -9,10 +10,12 @@ mod mark;
 mod name;
 mod node;
 mod path;
+mod path_text;
 mod small_fault;
 mod tree;
 mod txn_name;
 
+pub use bad_path::{BadPath, PathError, PathFault};
 pub use change_map::{Action, Change, ChangeMap, Folded};
 pub use date::write_date;
 pub use edit::Edit;

@@ -13,7 +13,7 @@ use std::marker::Model;
 /// A path, from the root down: `/` has no names.
 #[derive(Debug, Drop)]
 pub struct FsPath {
-    names: Vec<String>,
+    pub(crate) names: Vec<String>,
 }
 
 impl Model for FsPath {
