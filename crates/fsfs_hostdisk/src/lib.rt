@@ -1,7 +1,8 @@
-//! The edge: the real outside of the programs. Folders and files of the machine, its standard streams, its clock and
-//! its random bytes. None of it tells what it holds; each counts its failures.
+//! The edge: the real outside of the programs. Folders and files of the machine, its standard streams, its clock, its
+//! random bytes and the words of the command line. None of it tells what it holds; each counts its failures.
 #![tactic(auto)]
 
+mod arguments;
 mod disk;
 mod faults;
 mod folder;
@@ -10,6 +11,7 @@ mod once;
 mod standard;
 mod writer;
 
+pub use arguments::words;
 pub use disk::HostDisk;
 pub use machine::Machine;
 pub use once::{OpenGate, SystemClock, SystemDice};
