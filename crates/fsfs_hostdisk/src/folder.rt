@@ -28,6 +28,19 @@ fn is_absent(error: &io::Error) -> bool {
     matches!(error.kind(), ErrorKind::NotFound | ErrorKind::NotADirectory)
 }
 
+// Makes a call again as long as a signal interrupts it.
+fn finished<T, F: Fn() -> io::Result<T> + Drop>(call: F) -> io::Result<T>
+    requires { F.IsAlwaysCallable call }
+{
+    for _ in 0..u64::MAX {
+        match call() {
+            Err(error) if error.kind() == ErrorKind::Interrupted => {}
+            answer => return answer,
+        }
+    }
+    Err(io::Error::from(ErrorKind::TimedOut))
+}
+
 // Fills the buffer from an offset on, as far as the file goes, through interrupted calls and short reads.
 fn fill(file: &File, offset: u64, buffer: &mut [u8]) -> io::Result<usize>
     ensures { IfOk result (λ n. n ≤ length buffer.new) }
@@ -64,7 +77,8 @@ impl<R: Files<File = File> + AllocGlobal + Drop> Folder<R> {
     }
 
     fn found(&self, name: &str) -> io::Result<Option<Metadata>> {
-        match fs::metadata(&self.rt, self.path_of(name)?) {
+        let path = self.path_of(name)?;
+        match finished(|| fs::metadata(&self.rt, path.as_str())) {
             Ok(found) => Ok(Some(found)),
             Err(error) if is_absent(&error) => Ok(None),
             Err(error) => Err(error),
@@ -165,12 +179,14 @@ impl<R: Files<File = File> + AllocGlobal + Drop> Folder<R> {
     }
 
     pub fn rename(&self, from: &str, to: &str) -> io::Result<()> {
-        fs::rename(&self.rt, self.path_of(from)?, self.path_of(to)?)
+        let (from, to) = (self.path_of(from)?, self.path_of(to)?);
+        finished(|| fs::rename(&self.rt, from.as_str(), to.as_str()))
     }
 
     // Whether there was a file to remove.
     pub fn remove(&self, name: &str) -> io::Result<bool> {
-        match fs::remove_file(&self.rt, self.path_of(name)?) {
+        let path = self.path_of(name)?;
+        match finished(|| fs::remove_file(&self.rt, path.as_str())) {
             Ok(()) => Ok(true),
             Err(error) if is_absent(&error) => Ok(false),
             Err(error) => Err(error),
@@ -179,7 +195,8 @@ impl<R: Files<File = File> + AllocGlobal + Drop> Folder<R> {
 
     // Makes a folder below one that is there. Answers whether it wasn't there before.
     pub fn make(&self, name: &str) -> io::Result<bool> {
-        match fs::create_dir(&self.rt, self.path_of(name)?) {
+        let path = self.path_of(name)?;
+        match finished(|| fs::create_dir(&self.rt, path.as_str())) {
             Ok(()) => Ok(true),
             Err(_) if self.is_folder(name) => Ok(false),
             Err(error) => Err(error),
@@ -188,7 +205,8 @@ impl<R: Files<File = File> + AllocGlobal + Drop> Folder<R> {
 
     // Removes a folder, if it is empty.
     pub fn unmake(&self, name: &str) -> io::Result<()> {
-        fs::remove_dir(&self.rt, self.path_of(name)?)
+        let path = self.path_of(name)?;
+        finished(|| fs::remove_dir(&self.rt, path.as_str()))
     }
 
     // Makes the names in a folder firm, or the bytes of a file.
