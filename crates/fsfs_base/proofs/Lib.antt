@@ -5,3 +5,4 @@ pub mod TreeLemmas
 pub mod DateTexts
 pub mod TxnNameTexts
 pub mod PathTextLemmas
+pub mod DigestTexts
