@@ -2,6 +2,7 @@ pub mod FileLemmas
 pub mod PathLemmas
 pub mod ClonedLists
 pub mod TreeLemmas
+pub mod PairLemmas
 pub mod DateTexts
 pub mod TxnNameTexts
 pub mod PathTextLemmas

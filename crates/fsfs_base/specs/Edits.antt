@@ -1,11 +1,12 @@
 -- What an edit of a transaction makes of its tree, and where it is refused. (svn_fs.h: svn_fs_make_dir, svn_fs_make_file,
 -- svn_fs_delete, svn_fs_copy, svn_fs_apply_text and svn_fs_change_node_prop; the limits are this project's profile.)
-use Rattle.std.specs.Prelude.{ℕ, ◌-◌, Bool, true, false, ◌&&◌, not, nat_le, nat_lt, List, Option, Some, None, is_some, if◌then◌else◌, length, take, drop, ◌++◌, Vec}
+use Rattle.std.specs.Prelude.{ℕ, ◌-◌, ◌+◌, nat_eq, Bool, true, false, ◌&&◌, not, nat_le, nat_lt, List, Option, Some, None, is_some, if◌then◌else◌, length, take, drop, ◌++◌, Vec}
 use Rattle.std.specs.Global.{Global}
 use Rattle.std.specs.List.{filter}
 use Rattle.std.specs.Cmp.Lexicographic.{slice_cmp}
 use Rattle.std.specs.Ordering.{nat_cmp}
-use Rattle.std.specs.BTreeMap.{insert_entry}
+use Rattle.std.specs.BTreeMap.{insert_entry, is_at}
+use Rattle.std.specs.Map.{remove_entry}
 use Rattle.std.specs.FinMap as map
 use Rattle.fsfs_base.specs.declared.edit.Edit.{Edit}
 use Rattle.fsfs_base.specs.declared.edit.Edit.TheVariants.{MakeDir, MakeFile, Delete, Copy, PutText, SetProp}
@@ -13,7 +14,7 @@ use Rattle.fsfs_base.specs.declared.mark.Mark.{Mark}
 use Rattle.fsfs_base.specs.declared.mark.What.TheVariants.{Make, Gone, Text, Prop}
 use Rattle.fsfs_base.specs.declared.node.Kind.{Kind}
 use Rattle.fsfs_base.specs.declared.node.Kind.TheVariants.{File, Dir}
-use Rattle.fsfs_base.specs.Paths.{Path, path_cmp, covers, is_root, same_path, same_name}
+use Rattle.fsfs_base.specs.Paths.{Path, path_cmp, covers, is_root, same_path}
 use Rattle.fsfs_base.specs.Nodes.{Node, TreeFunction, Bytes, empty_node}
 
 abbrev pub is_dir : Kind → Bool
@@ -68,7 +69,7 @@ with_text text (Some n) = Some (record n { text = Bytes text })
 
 -- the properties with this value under the name, or without the name
 abbrev pub changed_props : List ℕ → Option (List ℕ) → List (List ℕ × List ℕ) → List (List ℕ × List ℕ)
-changed_props name None properties = filter (λ p. not (same_name name p.0)) properties
+changed_props name None properties = remove_entry (is_at (slice_cmp nat_cmp name)) properties
 changed_props name (Some value) properties = insert_entry (slice_cmp nat_cmp) properties name value
 
 abbrev pub with_prop : List ℕ → Option (List ℕ) → Option Node → Option Node
@@ -110,9 +111,13 @@ mark_of (Copy rev from to) tree t = record { path = to; kind = kind_of_node (tre
 mark_of (PutText path text) tree t = record { path = path; kind = kind_of_node (t path); what = Text }
 mark_of (SetProp path name value) tree t = record { path = path; kind = kind_of_node (t path); what = Prop }
 
+-- q is one name below the path
+abbrev pub is_entry : Path → Path → Bool
+is_entry p q = covers p q && nat_eq (length q) (length p + 1)
+
 -- how many entries a directory of the tree has
 abbrev pub entry_count : map.FinMap path_cmp Node → Path → ℕ
-entry_count tree p = length (filter (λ q. not (is_root q) && same_path (parent q) p) (map.keys tree))
+entry_count tree p = length (filter (is_entry p) (map.keys tree))
 
 -- no more entries than 2 ^ 20 in a directory, no longer property than 2 ^ 20 bytes and no longer text than 2 ^ 30
 abbrev pub within_limits : Edit → map.FinMap path_cmp Node → Bool

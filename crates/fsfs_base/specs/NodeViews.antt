@@ -1,5 +1,4 @@
 -- What a contract sees of a node.
-use Rattle.std.specs.Prelude.{map}
 use Rattle.fsfs_base.specs.declared.node.Text.{Text}
 use Rattle.fsfs_base.specs.declared.node.Text.TheVariants.{Bytes as TextBytes, Closed as TextClosed}
 use Rattle.fsfs_base.specs.declared.node.Node.TheInside.{Inside}
@@ -13,7 +12,7 @@ abbrev pub node_of : Inside → Node
 node_of a = record {
   kind = a.kind;
   text = content_of a.text;
-  properties = map (λ p. (p.0.items, p.1.items)) a.properties.items;
+  properties = a.properties;
   source = a.source;
   added = a.added;
   props_changed = a.props_changed;

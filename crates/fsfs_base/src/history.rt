@@ -3,6 +3,7 @@ ghost use Rattle.std.specs.Prelude.{◌≡◌, ◌++◌, ◌∷◌, [], length, 
 ghost use Rattle.std.specs.Option.{option_copied};
 
 use crate::change_map::ChangeMap;
+use crate::pairs::Pairs;
 use crate::tree::Tree;
 use std::alloc::{AllocError, Global};
 use std::marker::Model;
@@ -12,12 +13,10 @@ use std::marker::Model;
 pub struct Revision {
     pub tree: Tree,
     pub changes: ChangeMap,
-    /// Names and values, by the names' bytes.
-    pub properties: Vec<(Vec<u8>, Vec<u8>)>,
+    pub properties: Pairs,
 }
 
 impl Model for Revision {
-    ghost use Rattle.std.specs.Prelude.{map};
     ghost use Rattle.fsfs_base.specs.Revisions.{Revision};
     ghost use Rattle.fsfs_base.specs.Codes.{coded_revision};
 
@@ -25,7 +24,7 @@ impl Model for Revision {
 
     ghost coded = { coded_revision };
 
-    ghost view = { λ a. record { tree = a.tree; changes = a.changes; properties = map (λ p. (p.0.items, p.1.items)) a.properties.items } };
+    ghost view = { λ a. record { tree = a.tree; changes = a.changes; properties = a.properties } };
 }
 
 /// The revisions of a repository from 0 on, oldest first.

@@ -1,6 +1,7 @@
 //! What stands at a path.
 ghost use Rattle.std.specs.Prelude.{◌≡◌};
 
+use crate::pairs::Pairs;
 use crate::path::FsPath;
 use std::alloc::{AllocError, Global};
 use std::marker::Model;
@@ -24,11 +25,14 @@ pub enum Text {
 pub struct Node {
     pub kind: Kind,
     pub text: Text,
-    pub properties: Vec<(Vec<u8>, Vec<u8>)>,
+    pub properties: Pairs,
     /// The revision and path that it was copied from.
     pub source: Option<(u32, FsPath)>,
+    /// The revision in which it came to stand at its path.
     pub added: u32,
+    /// The last revision in which its properties were set.
     pub props_changed: u32,
+    /// The last revision in which it or anything below it was changed.
     pub last_changed: u32,
 }
 

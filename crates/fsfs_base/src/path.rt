@@ -1,5 +1,5 @@
 //! Paths as lists of names.
-ghost use Rattle.std.specs.Prelude.{◌≡◌, ◌≤◌, ◌++◌, ◌∷◌, [], map, length, take, Some, IfOk};
+ghost use Rattle.std.specs.Prelude.{◌≡◌, ◌≤◌, ◌++◌, ◌∷◌, [], map, length, take, drop, Some, IfOk};
 ghost use Rattle.std.specs.String.{string_bytes};
 ghost use Rattle.fsfs_base.specs.Paths.{Path, path_cmp, same_path, is_above, covers, is_root};
 ghost use Rattle.std.specs.Cmp.Lexicographic.{lists_equiv, nat_list_eq_equiv};
@@ -122,6 +122,16 @@ impl FsPath {
         Ok(FsPath {
             names: self.names[..count].to_vec(alloc)?,
         })
+    }
+
+    /// This path with its first `count` names replaced by those of another.
+    pub fn moved(&self, count: usize, front: &FsPath) -> Result<FsPath, AllocError>
+        requires { count ≤ length self.now }
+        ensures { IfOk result (λ p. p ≡ front.now ++ drop count self.now) }
+    {
+        let mut names = front.names.clone()?;
+        names.extend_from_slice(&self.names[count..])?;
+        Ok(FsPath { names })
     }
 
     pub fn is_root(&self) -> bool

@@ -4,6 +4,7 @@ ghost use Rattle.std.specs.BTreeSet as set;
 ghost use Rattle.std.specs.Option.{option_copied};
 ghost use Rattle.std.specs.FinMap as map;
 ghost use Rattle.fsfs_base.specs.Paths.{Path, path_cmp};
+ghost use Rattle.fsfs_base.specs.Edits.{is_entry, entry_count};
 
 use crate::node::Node;
 use crate::path::FsPath;
@@ -55,6 +56,19 @@ impl Tree {
         Ok(())
     }
 
+    /// How many entries the directory at this path has.
+    pub fn entry_count(&self, directory: &FsPath) -> usize
+        ensures { result ≡ entry_count self.now directory.now }
+    {
+        let mut count = 0;
+        for path in self.nodes.keys() {
+            if is_entry(directory, path) {
+                count += 1;
+            }
+        }
+        count
+    }
+
     /// Adds each path of the tree to the set.
     pub fn add_paths(&self, all: &mut BTreeSet<FsPath>) -> Result<(), AllocError>
         ensures { OnOk result ((q : Path) → set.contains path_cmp all.new q ≡ (set.contains path_cmp all.old q || is_some (map.get self.now q))) }
@@ -64,6 +78,15 @@ impl Tree {
         }
         Ok(())
     }
+}
+
+// Whether the path is one name below the directory.
+fn is_entry(directory: &FsPath, path: &FsPath) -> bool
+    ensures { result ≡ is_entry directory.now path.now }
+{
+    directory.covers(path)
+        && path.depth() > directory.depth()
+        && path.depth() - directory.depth() == 1
 }
 
 impl Clone for Tree {
