@@ -7,3 +7,4 @@ pub mod DateTexts
 pub mod TxnNameTexts
 pub mod PathTextLemmas
 pub mod DigestTexts
+pub mod ResultLemmas

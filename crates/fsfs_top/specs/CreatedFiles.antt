@@ -1,0 +1,57 @@
+-- The files of a new repository: format 4, sharded, with revision 0 alone.
+-- Their texts are those of the libsvn_fs_fs structure file; that every list begins empty is this project's profile.
+use Rattle.std.specs.Prelude.{ℕ, List, [], ◌∷◌, ◌++◌, codes, decimal}
+use Rattle.std.specs.FinMap.{remove}
+use Rattle.uuid.specs.Text.{hyphenated_text, lower}
+use Rattle.uuid.specs.Parts.{with_version, with_variant}
+use Rattle.uuid.specs.declared.Variant.TheVariants.{RFC4122}
+use Rattle.uuid.specs.declared.Version.TheVariants.{Random}
+use Rattle.fsfs_base.specs.Files.{Files, NamedFile, lay_over}
+use Rattle.fsfs_top.specs.declared.initial.NewFile.{NewFile}
+
+-- a file to be written, as its name and bytes
+abbrev pub named : NewFile → NamedFile
+named file = (file.name, file.bytes.items)
+
+-- db/format: the format's number, and how many revisions a shard has
+abbrev pub format_text : ℕ → List ℕ
+format_text shard = codes "4\nlayout sharded " ++ (decimal shard ++ codes "\n")
+
+-- the property list of revision 0: its date alone
+abbrev pub date_properties : List ℕ → List ℕ
+date_properties date = codes "K 8\nsvn:date\nV 27\n" ++ (date ++ codes "\nEND\n")
+
+-- revision 0: the empty directory's representation at 0, its node-revision at 17, no changed paths, the trailer
+abbrev pub revision_zero : List ℕ
+revision_zero = codes "PLAIN\nEND\nENDREP\nid: 0.0.r0/17\ntype: dir\ncount: 0\ntext: 0 0 4 4 2d2977d1c96f487abe4a1e202dd03b4e\ncpath: /\n\n\n17 107\n"
+
+-- an identifier as text
+abbrev pub identifier_text : List ℕ → List ℕ
+identifier_text id = hyphenated_text lower id
+
+-- the version 4 identifier that sixteen random bytes make
+abbrev pub random_identifier : List ℕ → List ℕ
+random_identifier bits = with_version (with_variant bits RFC4122) Random
+
+-- all files but db/format, by which the others become a repository
+abbrev pub unpublished_files : List ℕ → List ℕ → List NamedFile
+unpublished_files identifier date =
+    (codes "format", codes "5\n")
+    ∷ (codes "db/fs-type", codes "fsfs\n")
+    ∷ (codes "db/uuid", identifier ++ codes "\n")
+    ∷ (codes "db/current", codes "0\n")
+    ∷ (codes "db/txn-current", codes "0\n")
+    ∷ (codes "db/min-unpacked-rev", codes "0\n")
+    ∷ (codes "db/write-lock", [])
+    ∷ (codes "db/txn-current-lock", [])
+    ∷ (codes "db/revs/0/0", revision_zero)
+    ∷ (codes "db/revprops/0/0", date_properties date)
+    ∷ []
+
+-- the files of a new repository, from the size of a shard, the identifier's text and the date's text
+abbrev pub created_files : ℕ → List ℕ → List ℕ → List NamedFile
+created_files shard identifier date = unpublished_files identifier date ++ (codes "db/format", format_text shard) ∷ []
+
+-- these files laid over what was there; `db/format-next` is the name under which db/format is written first
+abbrev pub created_over : ℕ → List ℕ → List ℕ → Files → Files
+created_over shard identifier date m = lay_over (created_files shard identifier date) (remove m (codes "db/format-next"))

@@ -1,0 +1,5 @@
+pub mod Answers
+pub mod CreatedFiles
+pub mod Creation
+pub mod Output
+pub mod Words

@@ -1,0 +1,135 @@
+// Making a repository on a disk.
+ghost use Rattle.std.specs.Prelude.{◌≡◌, ◌≤◌, map, option_map, Some, OnOk, OnErr, IfErr};
+ghost use Rattle.fsfs_disk.specs.Fault.{Rose};
+ghost use Rattle.fsfs_disk.specs.Trace.{Trace};
+ghost use Rattle.fsfs_disk.specs.Crash.{AllImages, Leaves};
+ghost use Rattle.fsfs_top.specs.CreatedFiles.{named, identifier_text};
+ghost use Rattle.fsfs_top.specs.Creation.{after_puts, after_publishing, after_creation, StopsInPuts, StopsPublishing, StopsAt, HasRepository, IsNoRepository, IsUnpublished, IsCreated, IsNoneOrWhole, CreateFails};
+
+use crate::fault::DiskPlace;
+use crate::initial::{NewFile, created_files, format_text};
+use fsfs_base::write_date;
+use fsfs_disk::{Disk, Failed, Name};
+use std::alloc::{AllocError, Global};
+use thiserror::Error;
+use uuid::Uuid;
+
+/// Why a repository wasn't made.
+#[derive(Clone, Copy, Debug, PartialEq, Eq, Error)]
+pub enum CreateFault {
+    /// There is one.
+    #[error("there is a repository")]
+    AlreadyRepo,
+    /// A call of the disk failed.
+    #[error("the disk failed")]
+    DiskFault(DiskPlace),
+    /// Memory was wanting, before anything was written.
+    #[error("out of memory")]
+    Memory,
+}
+
+impl From<AllocError> for CreateFault {
+    ghost use Rattle.fsfs_top.specs.declared.creation.CreateFault.TheVariants.{Memory};
+
+    ghost from_gives = { λ _ e. e ≡ Memory };
+
+    fn from(_: AllocError) -> CreateFault {
+        CreateFault::Memory
+    }
+}
+
+// Makes the folders of a repository.
+fn make_folders<D: Disk>(disk: &mut D) -> Result<(), Failed>
+    ensures same { D.trace disk.new ≡ D.trace disk.old }
+    ensures mounted { D.mount_path disk.new ≡ D.mount_path disk.old }
+    ensures later { D.faults disk.old ≤ D.faults disk.new }
+    ensures failed { OnErr result (Rose (D.faults disk.old) (D.faults disk.new)) }
+{
+    disk.make_folder(&Name::new("db/revs/0"))?;
+    disk.make_folder(&Name::new("db/revprops/0"))?;
+    disk.make_folder(&Name::new("db/transactions"))?;
+    disk.make_folder(&Name::new("db/txn-protorevs"))
+}
+
+// Puts files, in order.
+fn put_all<D: Disk>(disk: &mut D, files: &[NewFile]) -> Result<(), Failed>
+    ensures done { OnOk result (D.trace disk.new ≡ option_map (after_puts (map named files.now)) (D.trace disk.old)) }
+    ensures stopped { OnErr result (StopsInPuts (map named files.now) (D.trace disk.old) (D.trace disk.new)) }
+    ensures mounted { D.mount_path disk.new ≡ D.mount_path disk.old }
+    ensures later { D.faults disk.old ≤ D.faults disk.new }
+    ensures failed { OnErr result (Rose (D.faults disk.old) (D.faults disk.new)) }
+{
+    for file in files {
+        disk.put(&file.name, &file.bytes)?;
+    }
+    Ok(())
+}
+
+// Lets the files be a repository, by one change of names.
+fn publish<D: Disk>(disk: &mut D, format: &[u8]) -> Result<(), DiskPlace>
+    ensures done { OnOk result (D.trace disk.new ≡ option_map (after_publishing format.now) (D.trace disk.old)) }
+    ensures stopped { IfErr result (λ place. StopsPublishing place format.now (D.trace disk.old) (D.trace disk.new)) }
+    ensures mounted { D.mount_path disk.new ≡ D.mount_path disk.old }
+    ensures later { D.faults disk.old ≤ D.faults disk.new }
+    ensures failed { OnErr result (Rose (D.faults disk.old) (D.faults disk.new)) }
+{
+    let next = Name::new("db/format-next");
+    disk.put(&next, format)
+        .map_err(|_| DiskPlace::CreatePut)?;
+    disk.rename(&next, &Name::new("db/format"))
+        .map_err(|_| DiskPlace::CreateRename)?;
+    disk.firm_names().map_err(|_| DiskPlace::CreateLast)
+}
+
+// Writes all files of a repository.
+fn write_files<D: Disk>(disk: &mut D, files: &[NewFile], format: &[u8]) -> Result<(), DiskPlace>
+    ensures done { OnOk result (D.trace disk.new ≡ option_map (after_creation (map named files.now) format.now) (D.trace disk.old)) }
+    ensures stopped { IfErr result (λ place. StopsAt place (map named files.now) format.now (D.trace disk.old) (D.trace disk.new)) }
+    ensures mounted { D.mount_path disk.new ≡ D.mount_path disk.old }
+    ensures later { D.faults disk.old ≤ D.faults disk.new }
+    ensures failed { OnErr result (Rose (D.faults disk.old) (D.faults disk.new)) }
+{
+    make_folders(disk).map_err(|_| DiskPlace::CreatePut)?;
+    put_all(disk, files).map_err(|_| DiskPlace::CreatePut)?;
+    disk.firm_names().map_err(|_| DiskPlace::CreateFirm)?;
+    publish(disk, format)
+}
+
+/// Makes a repository of format 4, with so many revisions in a shard, of revision 0 alone, whose date is the moment
+/// (microseconds since the beginning of 1970 in UTC). It is one from the moment on at which `db/format` has its name.
+pub fn create<D: Disk>(
+    alloc: Global,
+    disk: &mut D,
+    identifier: Uuid,
+    shard: u32,
+    moment: u64,
+) -> Result<(), CreateFault>
+    requires { moment ≤ 4_102_444_799_999_999 }
+
+    ensures created { OnOk result (IsCreated shard (identifier_text identifier) moment (D.trace disk.old) (D.trace disk.new)) }
+    ensures fresh { OnOk result (IsNoRepository (D.trace disk.old)) }
+    ensures refused { IfErr result (CreateFails (Rose (D.faults disk.old) (D.faults disk.new)) shard (identifier_text identifier) moment (D.trace disk.old) (D.trace disk.new)) }
+
+    // A repository that is there stays as it is, whatever is answered.
+    ensures there_same { (t : Trace) → D.trace disk.old ≡ Some t → HasRepository t → D.trace disk.new ≡ D.trace disk.old }
+
+    // A crash at any moment leaves no repository or the whole of this one.
+    ensures any_moment { AllImages (D.trace disk.old) IsUnpublished
+        → Leaves (D.trace disk.old) (D.trace disk.new) (IsNoneOrWhole shard (identifier_text identifier) moment (D.trace disk.old)) }
+
+    ensures mounted { D.mount_path disk.new ≡ D.mount_path disk.old }
+    ensures later { D.faults disk.old ≤ D.faults disk.new }
+{
+    match disk.size(&Name::new("db/format")) {
+        Err(_) => return Err(CreateFault::DiskFault(DiskPlace::Read)),
+        Ok(Some(_)) => return Err(CreateFault::AlreadyRepo),
+        Ok(None) => {}
+    }
+    let date = write_date(alloc, moment)?;
+    let files = created_files(alloc, identifier, &date)?;
+    let format = format_text(alloc, shard)?;
+    match write_files(disk, &files, &format) {
+        Ok(()) => Ok(()),
+        Err(place) => Err(CreateFault::DiskFault(place)),
+    }
+}
