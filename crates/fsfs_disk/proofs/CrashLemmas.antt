@@ -1,9 +1,9 @@
 -- How what a crash may leave goes on over a run of disk calls.
-use Rattle.std.proofs.Common.{◌≡◌, ◌⊎◌, ◌≤◌, ℕ, suc, List, [], ◌∷◌, length, inl, inr, ⊎_elim, refl, sym, ap, subst, ◌∙◌, arith}
-use Rattle.std.specs.Prelude.{Option, Some, None, option_map}
-use Rattle.std.specs.FinMap.{get, insert, remove}
-use Rattle.fsfs_base.specs.Files.{Files, renamed}
-use Rattle.fsfs_disk.specs.Trace.{Trace, Change, Operation, Put, Adopt, Rename, Remove, FirmNames, Done, Attempted, IsImage, ImageSince, ImageAfter, TornBy, change_of, add_operation, files_now, files_after, changed, Performs, Attempts, FailsAt, FailsToPut}
+use Rattle.std.proofs.Common.{◌≡◌, ◌⊎◌, ℕ, List, [], ◌∷◌, inl, inr, ⊎_elim, refl, sym, subst, arith}
+use Rattle.std.specs.Prelude.{Option, Some, None}
+use Rattle.std.specs.FinMap.{insert}
+use Rattle.fsfs_base.specs.Files.{Files}
+use Rattle.fsfs_disk.specs.Trace.{Trace, Change, Operation, Put, Adopt, Rename, Remove, FirmNames, Done, Attempted, IsImage, ImageSince, ImageAfter, TornBy, change_of, add_operation, files_now, files_after, Performs, FailsAt, FailsToPut}
 use Rattle.fsfs_disk.specs.Crash.{AllImages, IsFirm, LeavesOnly, Leaves, KeepsImages}
 
 -- this moment is one of those since an earlier one

@@ -1,5 +1,5 @@
 -- What a trace says after one call more.
-use Rattle.std.proofs.Common.{◌≡◌, ◌⊎◌, ℕ, List, inl, inr, refl, sym, subst}
+use Rattle.std.proofs.Common.{ℕ, List, inr, refl, sym, subst}
 use Rattle.std.specs.Prelude.{Option, Some, None, Result, Ok, Err, OnOk, OnErr, IfSome, IsSome}
 use Rattle.fsfs_base.proofs.FileLemmas.{get_new}
 use Rattle.fsfs_disk.specs.Trace.{Trace, Change, Put, Performs, FailsAt, FailsToPut, file_at, files_now}

@@ -1,6 +1,6 @@
 -- What a disk tells, its trace, and what follows from it: the files now, and what a crash may leave of them.
 -- The crash model is this project's profile.
-use Rattle.std.specs.Prelude.{◌≡◌, ◌⊎◌, ◌≤◌, ℕ, ◌+◌, ◌-◌, min, List, [], ◌∷◌, ◌++◌, length, take, drop, Bool, true, false, Option, Some, None, IsSome, IfSome, option_map}
+use Rattle.std.specs.Prelude.{◌≡◌, ◌⊎◌, ◌≤◌, ℕ, ◌-◌, min, List, [], ◌∷◌, ◌++◌, length, take, drop, Bool, true, false, Option, Some, None, option_map}
 use Rattle.std.specs.FinMap as map
 use Rattle.fsfs_base.specs.Files.{Files, renamed}
 

@@ -3,7 +3,7 @@ use Rattle.std.proofs.Common.{◌≡◌, ℕ, List, [], ◌∷◌, ◌++◌, Boo
 use Rattle.std.specs.Prelude.{Option, Some, None, IfSome, option_map, codes, not, ◌&&◌, length, is_some}
 use Rattle.std.specs.Ordering.{nat_cmp, is_eq}
 use Rattle.std.specs.Cmp.Lexicographic.{slice_cmp}
-use Rattle.std.specs.FinMap.{get, insert, remove}
+use Rattle.std.specs.FinMap.{insert, remove}
 use Rattle.fsfs_base.specs.Files.{Files, NamedFile, lay_over}
 use Rattle.fsfs_base.proofs.FileLemmas.{insert-remove, renamed_put, apart_by}
 use Rattle.fsfs_disk.specs.Trace.{Trace, files_now, file_at, IsSize}

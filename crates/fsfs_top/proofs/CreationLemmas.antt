@@ -1,14 +1,14 @@
 -- The course of a creation, call by call.
-use Rattle.std.proofs.Common.{◌≡◌, ◌⊎◌, ℕ, ◌+◌, ◌<◌, suc, List, [], ◌∷◌, ◌++◌, length, drop, take, map, inl, inr, refl, sym, ap, subst, ◌∙◌, add-one}
+use Rattle.std.proofs.Common.{◌≡◌, ℕ, ◌+◌, ◌<◌, List, [], ◌∷◌, ◌++◌, length, drop, take, map, refl, sym, ap, ◌∙◌, add-one}
 use Rattle.std.proofs.lemmas.List.{take-append-drop, map-append}
 use Rattle.std.specs.Prelude.{Option, Some, None, option_map, slice_index_or}
 use Rattle.std.proofs.Math.Seq.{drop-cons, take-suc}
 use Rattle.fsfs_base.specs.Files.{NamedFile}
-use Rattle.fsfs_disk.specs.Trace.{Trace, add_operation, Performs, FailsToPut}
+use Rattle.fsfs_disk.specs.Trace.{Trace, add_operation, Performs}
 use Rattle.fsfs_disk.specs.Trace.Operation.{Done}
 use Rattle.fsfs_disk.specs.Trace.Change.{Put}
 use Rattle.fsfs_top.specs.CreatedFiles.{named}
-use Rattle.fsfs_top.specs.Creation.{after_puts, StopsInPuts}
+use Rattle.fsfs_top.specs.Creation.{after_puts}
 use Rattle.fsfs_top.specs.declared.initial.NewFile.{NewFile}
 
 pub after_puts-append : (files : List NamedFile) (file : NamedFile) (t : Trace) → after_puts (files ++ file ∷ []) t ≡ add_operation (Done (Put file.0 file.1)) (after_puts files t)

@@ -1,6 +1,6 @@
 -- What a number among the words is read as.
 use Rattle.std.proofs.Common.{◌≡◌, ℕ, ◌≤◌, ◌<◌, ◌^◌, List, arith, sym, subst, ◌∙◌}
-use Rattle.std.specs.Prelude.{decimal, Option, Some, None}
+use Rattle.std.specs.Prelude.{Option, Some}
 use Rattle.fsfs_text.specs.Numeral.{IsPlain}
 use Rattle.fsfs_text.proofs.Unique.{decimal_plain}
 use Rattle.fsfs_top.specs.Words.{IsShard}

@@ -1,5 +1,5 @@
 -- What a command answers: a fault or none, the line that tells of it, and the status.
-use Rattle.std.specs.Prelude.{ℕ, List, [], ◌++◌, codes, Option, Some, None}
+use Rattle.std.specs.Prelude.{ℕ, List, ◌++◌, codes, Option, Some, None}
 use Rattle.fsfs_top.specs.declared.fault.DiskPlace.{DiskPlace}
 use Rattle.fsfs_top.specs.declared.fault.DiskPlace.TheVariants.{Read, CreatePut, CreateFirm, CreateRename, CreateLast}
 use Rattle.fsfs_top.specs.declared.fault.Fault.{Fault}
@@ -26,10 +26,9 @@ fault_words MountFault = codes "MountFault"
 fault_words (DiskFault place) = codes "DiskFault " ++ place_words place
 fault_words Memory = codes "Memory"
 
--- the line on the error output: none where there is no fault
-abbrev pub line_of : Tool → Option Fault → List ℕ
-line_of tool None = []
-line_of tool (Some fault) = tool_name tool ++ (codes ": " ++ (fault_words fault ++ codes "\n"))
+-- the line about a fault on the error output
+abbrev pub line_of : Tool → Fault → List ℕ
+line_of tool fault = tool_name tool ++ codes ": " ++ fault_words fault ++ codes "\n"
 
 abbrev pub status_of : Fault → ℕ
 status_of AlreadyRepo = 1

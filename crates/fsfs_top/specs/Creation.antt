@@ -1,5 +1,5 @@
 -- The course of a creation on a disk: what it has done at each place, and what a crash may leave of it.
-use Rattle.std.specs.Prelude.{◌≡◌, ◌⊎◌, ℕ, List, [], ◌∷◌, ◌++◌, Option, Some, None, IfSome, IsSome, option_map, codes}
+use Rattle.std.specs.Prelude.{◌≡◌, ◌⊎◌, ℕ, List, [], ◌∷◌, ◌++◌, Option, None, IfSome, IsSome, option_map, codes}
 use Rattle.std.specs.FinMap.{get}
 use Rattle.fsfs_base.specs.Files.{Files, NamedFile}
 use Rattle.fsfs_base.specs.Dates.{IsDateAt}

@@ -6,7 +6,7 @@ ghost use Rattle.fsfs_disk.specs.Crash.{AllImages, Leaves};
 ghost use Rattle.fsfs_top.specs.CreatedFiles.{named, identifier_text};
 ghost use Rattle.fsfs_top.specs.Creation.{after_puts, after_publishing, after_creation, StopsInPuts, StopsPublishing, StopsAt, HasRepository, IsNoRepository, IsUnpublished, IsCreated, IsNoneOrWhole, CreateFails};
 
-use crate::fault::DiskPlace;
+use crate::fault::{DiskPlace, Fault};
 use crate::initial::{NewFile, created_files, format_text};
 use fsfs_base::write_date;
 use fsfs_disk::{Disk, Failed, Name};
@@ -35,6 +35,21 @@ impl From<AllocError> for CreateFault {
 
     fn from(_: AllocError) -> CreateFault {
         CreateFault::Memory
+    }
+}
+
+impl From<CreateFault> for Fault {
+    ghost use Rattle.std.specs.Prelude.{◌≡◌};
+    ghost use Rattle.fsfs_top.specs.Faults.{fault_from};
+
+    ghost from_gives = { λ e f. f ≡ fault_from e };
+
+    fn from(fault: CreateFault) -> Fault {
+        match fault {
+            CreateFault::AlreadyRepo => Fault::AlreadyRepo,
+            CreateFault::DiskFault(place) => Fault::DiskFault(place),
+            CreateFault::Memory => Fault::Memory,
+        }
     }
 }
 
@@ -74,8 +89,7 @@ fn publish<D: Disk>(disk: &mut D, format: &[u8]) -> Result<(), DiskPlace>
     ensures failed { OnErr result (Rose (D.faults disk.old) (D.faults disk.new)) }
 {
     let next = Name::new("db/format-next");
-    disk.put(&next, format)
-        .map_err(|_| DiskPlace::CreatePut)?;
+    disk.put(&next, format).map_err(|_| DiskPlace::CreatePut)?;
     disk.rename(&next, &Name::new("db/format"))
         .map_err(|_| DiskPlace::CreateRename)?;
     disk.firm_names().map_err(|_| DiskPlace::CreateLast)

@@ -22,7 +22,7 @@ pub fn print<S: Sink>(sink: &mut S, text: &[u8]) -> Result<(), Failed>
 
 /// Writes the line of a fault: the program's name, a colon, a space, the fault's words.
 pub fn print_fault<S: Sink>(sink: &mut S, tool: Tool, fault: Fault) -> Result<(), Failed>
-    ensures printed { Prints (S.written sink.old) (S.written sink.new) (line_of tool (Some fault)) (S.faults sink.old) (S.faults sink.new) result }
+    ensures printed { Prints (S.written sink.old) (S.written sink.new) (line_of tool fault) (S.faults sink.old) (S.faults sink.new) result }
 {
     print(sink, tool.name().as_bytes())?;
     print(sink, b": ")?;

@@ -48,7 +48,10 @@ fn split_create(words: &[String]) -> Option<(&str, Option<&str>)>
             }
         }
         [word, repos, option, number] => {
-            if word.as_str() == "create" && is_repos(repos.as_str()) && option.as_str() == "--shard" {
+            if word.as_str() == "create"
+                && is_repos(repos.as_str())
+                && option.as_str() == "--shard"
+            {
                 Some((repos.as_str(), Some(number.as_str())))
             } else {
                 None

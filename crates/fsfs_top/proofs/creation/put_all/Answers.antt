@@ -1,4 +1,4 @@
-use Rattle.std.proofs.Common.{◌≡◌, ◌+◌, arith, map, option_map, take, drop, sym, subst, ap, ◌∙◌}
+use Rattle.std.proofs.Common.{◌+◌, arith, map, option_map, take, drop, sym, subst, ap, ◌∙◌}
 use Rattle.fsfs_base.proofs.ResultLemmas.{on_err_always}
 use Rattle.fsfs_disk.specs.Trace.{Put, Performs, FailsToPut}
 use Rattle.fsfs_top.specs.CreatedFiles.{named}

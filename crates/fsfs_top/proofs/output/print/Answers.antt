@@ -1,9 +1,11 @@
-use Rattle.std.proofs.Common.{◌≡◌, ◌≤◌, ℕ, ◌+◌, ◌-◌, List, ◌++◌, take, drop, length, sym, ap, subst, ◌∙◌, append_assoc, arith}
-use Rattle.std.specs.Prelude.{Option, Some, None}
+use Rattle.std.proofs.Common.{◌≡◌, ◌≤◌, ℕ, ◌+◌, ◌-◌, List, take, drop, length, sym, ap, subst, ◌∙◌, arith}
+use Rattle.std.specs.Prelude.{Option}
 use Rattle.std.proofs.Math.Seq.{take-add}
 use Rattle.std.proofs.lemmas.List.{drop-drop, length-drop, take_all}
+use Rattle.fsfs_disk.specs.Fault.{Rose}
 use Rattle.fsfs_disk.specs.Streams.{Adds}
 use Rattle.fsfs_disk.proofs.StreamLemmas.{adds_then}
+use Rattle.fsfs_top.proofs.OutputLemmas.{printed_front}
 use Rattle.fsfs_top.proofs.output.print.Goals as goal
 
 went_on : (old mid new : Option (List ℕ)) (text rest : List ℕ) (k n : ℕ) → rest ≡ drop k text → Adds old mid (take k text) → Adds mid new (take n rest)
@@ -18,3 +20,12 @@ loop-rest-preserved g c =
     let whole : take (length c.loop-rest.rest.now - c.in_ok-count.count) (drop c.in_ok-count.count c.loop-rest.rest.now) ≡ drop c.in_ok-count.count c.loop-rest.rest.now =
     take_all (length c.loop-rest.rest.now - c.in_ok-count.count) (drop c.in_ok-count.count c.loop-rest.rest.now) (omega (arith, length-drop c.in_ok-count.count c.loop-rest.rest.now)) in
     (next.0, whole ∙ next.1, next.2, omega (arith, so.3, c.in_ok-count.ensures.cause.later))
+
+pub returns-in_err-count : goal.returns-in_err-count
+returns-in_err-count g c =
+    let so = c.loop-rest.invariant in
+    let told = g.S.Sink.written in
+    let later : g.S.Sink.faults c.args.sink.now ≤ g.S.Sink.faults c.write.new.self = omega (arith, so.3, c.in_err-count.ensures.cause.later) in
+    let rose : Rose (g.S.Sink.faults c.args.sink.now) (g.S.Sink.faults c.write.new.self) = omega (arith, so.3, c.in_err-count.ensures.cause.failed) in
+    let same : Adds (told c.args.sink.now) (told c.write.new.self) (take so.0 c.args.text.now) = subst (λ w. Adds (told c.args.sink.now) w (take so.0 c.args.text.now)) (sym c.in_err-count.ensures.err) so.2 in
+    record { printed = printed_front (told c.args.sink.now) (told c.write.new.self) c.args.text.now so.0 (g.S.Sink.faults c.args.sink.now) (g.S.Sink.faults c.write.new.self) c.from_residual.result c.from_residual.ensures.0 same later rose }

@@ -1,7 +1,5 @@
-use Rattle.std.proofs.Common.{◌≡◌, ℕ, ◌≤◌, ◌<◌, ◌^◌, arith, sym, ◌∙◌}
-use Rattle.std.specs.Prelude.{Some, None}
+use Rattle.std.proofs.Common.{◌<◌, ◌^◌, arith, sym, ◌∙◌}
 use Rattle.fsfs_text.proofs.Unique.{numeral_decimal}
-use Rattle.fsfs_top.specs.Words.{IsShard}
 use Rattle.fsfs_top.proofs.WordLemmas.{shard_is_read, same_number}
 use Rattle.fsfs_top.proofs.words.read_shard.Goals as goal
 

@@ -1,0 +1,50 @@
+use Rattle.std.proofs.Common.{◌≡◌, ◌∙◌, ap, sym, arith}
+use Rattle.fsfs_disk.specs.Fault.{Rose}
+use Rattle.fsfs_top.specs.CreatedFiles.{random_identifier}
+use Rattle.fsfs_top.proofs.CommandLemmas.{drawn, created_done, created_failed, leaves_created}
+use Rattle.fsfs_top.proofs.top.create_at.Goals as goal
+
+pub returns-in-Ok-made-clause-created : goal.returns-in-Ok-made-clause-created
+returns-in-Ok-made-clause-created g c =
+    let told = g.H.Mounted.Disk.trace in
+    let d = drawn (g.C.Clock.next c.args.clock.now) (g.R.Dice.next c.args.dice.now) c.micros-moment.result c.bytes16.result c.micros-moment.ensures.value c.bytes16.ensures.value in
+    let named : c.into_uuid-identifier.result ≡ random_identifier c.bytes16.result = c.into_uuid-identifier.ensures ∙ c.from_random_bytes.ensures.value in
+    let path : g.H.Mounted.Disk.mount_path c.create-made.new.disk ≡ c.args.repos.now = c.create-made.ensures.mounted ∙ c.in-Ok.ensures.path in
+    let back : g.H.Host.disk_at c.unmount.new.self c.args.repos.now ≡ told c.create-made.new.disk = ap (g.H.Host.disk_at c.unmount.new.self) (sym path) ∙ c.unmount.ensures.back in
+    created_done (Rose (g.H.Host.mount_faults c.args.host.now) (g.H.Host.mount_faults c.unmount.new.self)) (Rose (g.H.Host.disk_faults c.args.host.now) (g.H.Host.disk_faults c.unmount.new.self))
+    c.args.shard (g.C.Clock.next c.args.clock.now) (g.R.Dice.next c.args.dice.now) d c.into_uuid-identifier.result (told c.in-Ok.disk) (told c.create-made.new.disk)
+    (g.H.Host.disk_at c.args.host.now c.args.repos.now) (g.H.Host.disk_at c.unmount.new.self c.args.repos.now) named c.in-Ok.ensures.disk back c.in-Ok-made.ensures.fresh c.in-Ok-made.ensures.created
+
+pub returns-in-Ok-made-clause-any_moment : goal.returns-in-Ok-made-clause-any_moment
+returns-in-Ok-made-clause-any_moment g c =
+    let told = g.H.Mounted.Disk.trace in
+    let d = drawn (g.C.Clock.next c.args.clock.now) (g.R.Dice.next c.args.dice.now) c.micros-moment.result c.bytes16.result c.micros-moment.ensures.value c.bytes16.ensures.value in
+    let named : c.into_uuid-identifier.result ≡ random_identifier c.bytes16.result = c.into_uuid-identifier.ensures ∙ c.from_random_bytes.ensures.value in
+    let path : g.H.Mounted.Disk.mount_path c.create-made.new.disk ≡ c.args.repos.now = c.create-made.ensures.mounted ∙ c.in-Ok.ensures.path in
+    let back : g.H.Host.disk_at c.unmount.new.self c.args.repos.now ≡ told c.create-made.new.disk = ap (g.H.Host.disk_at c.unmount.new.self) (sym path) ∙ c.unmount.ensures.back in
+    leaves_created c.args.shard (g.C.Clock.next c.args.clock.now) (g.R.Dice.next c.args.dice.now) d c.into_uuid-identifier.result (told c.in-Ok.disk) (told c.create-made.new.disk)
+    (g.H.Host.disk_at c.args.host.now c.args.repos.now) (g.H.Host.disk_at c.unmount.new.self c.args.repos.now) named c.in-Ok.ensures.disk back c.create-made.ensures.any_moment
+
+pub returns-in-Err-made-clause-created : goal.returns-in-Err-made-clause-created
+returns-in-Err-made-clause-created g c =
+    let told = g.H.Mounted.Disk.trace in
+    let d = drawn (g.C.Clock.next c.args.clock.now) (g.R.Dice.next c.args.dice.now) c.micros-moment.result c.bytes16.result c.micros-moment.ensures.value c.bytes16.ensures.value in
+    let named : c.into_uuid-identifier.result ≡ random_identifier c.bytes16.result = c.into_uuid-identifier.ensures ∙ c.from_random_bytes.ensures.value in
+    let path : g.H.Mounted.Disk.mount_path c.create-made.new.disk ≡ c.args.repos.now = c.create-made.ensures.mounted ∙ c.in-Ok.ensures.path in
+    let back : g.H.Host.disk_at c.unmount.new.self c.args.repos.now ≡ told c.create-made.new.disk = ap (g.H.Host.disk_at c.unmount.new.self) (sym path) ∙ c.unmount.ensures.back in
+    let counted : Rose (g.H.Mounted.Disk.faults c.in-Ok.disk) (g.H.Mounted.Disk.faults c.create-made.new.disk) → Rose (g.H.Host.disk_faults c.args.host.now) (g.H.Host.disk_faults c.unmount.new.self) =
+    λ rose. omega (arith, rose, c.in-Ok.ensures.new, c.in-Ok.ensures.same_faults, c.unmount.ensures.faults) in
+    created_failed (Rose (g.H.Host.mount_faults c.args.host.now) (g.H.Host.mount_faults c.unmount.new.self)) (Rose (g.H.Host.disk_faults c.args.host.now) (g.H.Host.disk_faults c.unmount.new.self))
+    (Rose (g.H.Mounted.Disk.faults c.in-Ok.disk) (g.H.Mounted.Disk.faults c.create-made.new.disk))
+    c.args.shard (g.C.Clock.next c.args.clock.now) (g.R.Dice.next c.args.dice.now) d c.into_uuid-identifier.result (told c.in-Ok.disk) (told c.create-made.new.disk)
+    (g.H.Host.disk_at c.args.host.now c.args.repos.now) (g.H.Host.disk_at c.unmount.new.self c.args.repos.now) c.in-Err-made.fault c.from.result c.from.ensures named c.in-Ok.ensures.disk back counted c.in-Err-made.ensures.refused
+
+pub returns-in-Err-made-clause-any_moment : goal.returns-in-Err-made-clause-any_moment
+returns-in-Err-made-clause-any_moment g c =
+    let told = g.H.Mounted.Disk.trace in
+    let d = drawn (g.C.Clock.next c.args.clock.now) (g.R.Dice.next c.args.dice.now) c.micros-moment.result c.bytes16.result c.micros-moment.ensures.value c.bytes16.ensures.value in
+    let named : c.into_uuid-identifier.result ≡ random_identifier c.bytes16.result = c.into_uuid-identifier.ensures ∙ c.from_random_bytes.ensures.value in
+    let path : g.H.Mounted.Disk.mount_path c.create-made.new.disk ≡ c.args.repos.now = c.create-made.ensures.mounted ∙ c.in-Ok.ensures.path in
+    let back : g.H.Host.disk_at c.unmount.new.self c.args.repos.now ≡ told c.create-made.new.disk = ap (g.H.Host.disk_at c.unmount.new.self) (sym path) ∙ c.unmount.ensures.back in
+    leaves_created c.args.shard (g.C.Clock.next c.args.clock.now) (g.R.Dice.next c.args.dice.now) d c.into_uuid-identifier.result (told c.in-Ok.disk) (told c.create-made.new.disk)
+    (g.H.Host.disk_at c.args.host.now c.args.repos.now) (g.H.Host.disk_at c.unmount.new.self c.args.repos.now) named c.in-Ok.ensures.disk back c.create-made.ensures.any_moment

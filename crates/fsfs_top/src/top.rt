@@ -1,0 +1,126 @@
+// The top call.
+ghost use Rattle.std.specs.Prelude.{◌≡◌, ◌≢◌, ◌≤◌, ℕ, List, map, string_bytes, Option, Some, IfSome, IsSomeAnd};
+ghost use Rattle.fsfs_disk.specs.Fault.{Rose};
+ghost use Rattle.fsfs_disk.specs.Trace.{Trace};
+ghost use Rattle.fsfs_disk.specs.Crash.{AllImages, Leaves};
+ghost use Rattle.fsfs_top.specs.Creation.{IsUnpublished, HasRepository};
+ghost use Rattle.fsfs_top.specs.Answers.{answer_of};
+ghost use Rattle.fsfs_top.specs.Command.{Asks, Created, Did, IsNoneOrCreated, Tells, fault_of};
+ghost use Rattle.fsfs_top.specs.declared.fault.Fault.{Fault};
+
+use crate::creation::create;
+use crate::fault::{Fault, status};
+use crate::output::print_fault;
+use crate::tool::Tool;
+use crate::words::{CreateWords, read_create};
+use fsfs_disk::{Clock, Dice, Gate, Host, Sink, Source};
+use std::alloc::Global;
+use uuid::Builder;
+
+// Mounts a path and makes a repository there.
+fn create_at<H: Host, C: Clock, R: Dice>(
+    alloc: Global,
+    repos: &str,
+    shard: u32,
+    host: &mut H,
+    clock: &mut C,
+    dice: &mut R,
+) -> Result<(), Fault>
+    ensures created { Created (Rose (H.mount_faults host.old) (H.mount_faults host.new)) (Rose (H.disk_faults host.old) (H.disk_faults host.new))
+        shard (C.next clock.old) (R.next dice.old) (H.disk_at host.old repos.now) (H.disk_at host.new repos.now) (fault_of result) }
+    ensures there_same { (t : Trace) → H.disk_at host.old repos.now ≡ Some t → HasRepository t → H.disk_at host.new repos.now ≡ H.disk_at host.old repos.now }
+    ensures any_moment { AllImages (H.disk_at host.old repos.now) IsUnpublished
+        → Leaves (H.disk_at host.old repos.now) (H.disk_at host.new repos.now) (IsNoneOrCreated shard (C.next clock.old) (R.next dice.old) (H.disk_at host.old repos.now)) }
+    ensures others { (path : List ℕ) → path ≢ repos.now → H.disk_at host.new path ≡ H.disk_at host.old path }
+{
+    let mut disk = match host.mount(repos, true) {
+        Ok(disk) => disk,
+        Err(_) => return Err(Fault::MountFault),
+    };
+    let moment = clock.micros();
+    let identifier = Builder::from_random_bytes(dice.bytes16()).into_uuid();
+    let made = create(alloc, &mut disk, identifier, shard, moment);
+    host.unmount(disk);
+    match made {
+        Ok(()) => Ok(()),
+        Err(fault) => Err(Fault::from(fault)),
+    }
+}
+
+// What the words ask for.
+fn read_words(tool: Tool, words: &[String]) -> Option<CreateWords<'_>>
+    ensures found { IfSome result (λ w. Asks tool (map string_bytes words.now) w.repos.now w.shard) }
+    ensures only { (repos : List ℕ) (shard : ℕ) → Asks tool (map string_bytes words.now) repos shard
+        → IsSomeAnd result (λ w. (w.repos.now ≡ repos) × (w.shard ≡ shard)) }
+{
+    match tool {
+        Tool::Admin => read_create(words),
+        Tool::Look | Tool::Jobs => None,
+    }
+}
+
+// Reads the words, and does what they ask for.
+fn run<H: Host, C: Clock, R: Dice>(
+    alloc: Global,
+    tool: Tool,
+    words: &[String],
+    host: &mut H,
+    clock: &mut C,
+    dice: &mut R,
+) -> Result<(), Fault>
+    ensures did { Did (Rose (H.mount_faults host.old) (H.mount_faults host.new)) (Rose (H.disk_faults host.old) (H.disk_faults host.new))
+        tool (map string_bytes words.now) (C.next clock.old) (R.next dice.old) (H.disk_at host.old) (H.disk_at host.new) (fault_of result) }
+    ensures there_same { (repos : List ℕ) (shard : ℕ) (t : Trace) → Asks tool (map string_bytes words.now) repos shard
+        → H.disk_at host.old repos ≡ Some t → HasRepository t → H.disk_at host.new repos ≡ H.disk_at host.old repos }
+    ensures any_moment { (repos : List ℕ) (shard : ℕ) → Asks tool (map string_bytes words.now) repos shard → AllImages (H.disk_at host.old repos) IsUnpublished
+        → Leaves (H.disk_at host.old repos) (H.disk_at host.new repos) (IsNoneOrCreated shard (C.next clock.old) (R.next dice.old) (H.disk_at host.old repos)) }
+    ensures others { (path : List ℕ) → ((shard : ℕ) → Asks tool (map string_bytes words.now) path shard → ⊥) → H.disk_at host.new path ≡ H.disk_at host.old path }
+{
+    match read_words(tool, words) {
+        Some(create) => create_at(alloc, create.repos, create.shard, host, clock, dice),
+        None => Err(Fault::Usage),
+    }
+}
+
+/// The top call: all that a program does. It answers the program's status, 0 where it did what its words ask for;
+/// else it writes one line about the fault to `err`.
+pub fn command<H: Host, I: Source, O: Sink, E: Sink, C: Clock, R: Dice, G: Gate>(
+    alloc: Global,
+    tool: Tool,
+    words: &[String],
+    host: &mut H,
+    _input: &mut I,
+    _out: &mut O,
+    err: &mut E,
+    clock: &mut C,
+    dice: &mut R,
+    _gate: &G,
+) -> u8
+    // One fault or none, to which belong the status, the line, and what was done.
+    ensures answer { (fault : Option Fault) × (result ≡ answer_of fault)
+        × Tells (E.written err.old) (E.written err.new) (Rose (E.faults err.old) (E.faults err.new)) tool fault
+        × Did (Rose (H.mount_faults host.old) (H.mount_faults host.new)) (Rose (H.disk_faults host.old) (H.disk_faults host.new))
+        tool (map string_bytes words.now) (C.next clock.old) (R.next dice.old) (H.disk_at host.old) (H.disk_at host.new) fault }
+
+    // A repository that is there stays as it is, whatever is answered.
+    ensures there_same { (repos : List ℕ) (shard : ℕ) (t : Trace) → Asks tool (map string_bytes words.now) repos shard
+        → H.disk_at host.old repos ≡ Some t → HasRepository t → H.disk_at host.new repos ≡ H.disk_at host.old repos }
+
+    // A crash at any moment leaves no repository at the path, or the whole new one.
+    ensures any_moment { (repos : List ℕ) (shard : ℕ) → Asks tool (map string_bytes words.now) repos shard → AllImages (H.disk_at host.old repos) IsUnpublished
+        → Leaves (H.disk_at host.old repos) (H.disk_at host.new repos) (IsNoneOrCreated shard (C.next clock.old) (R.next dice.old) (H.disk_at host.old repos)) }
+
+    // No path changes but the one that the words name.
+    ensures others { (path : List ℕ) → ((shard : ℕ) → Asks tool (map string_bytes words.now) path shard → ⊥) → H.disk_at host.new path ≡ H.disk_at host.old path }
+
+    ensures silent { O.written _out.new ≡ O.written _out.old }
+    ensures unread { I.remaining _input.new ≡ I.remaining _input.old }
+{
+    match run(alloc, tool, words, host, clock, dice) {
+        Ok(()) => 0,
+        Err(fault) => {
+            let _ = print_fault(err, tool, fault);
+            status(fault)
+        }
+    }
+}
