@@ -1,10 +1,10 @@
 -- Names between slashes: read exactly, refused exactly.
-use Rattle.std.proofs.Common.{◌≡◌, ◌≢◌, ℕ, suc, ◌+◌, ◌<◌, ◌≤◌, Bool, true, false, cond, eqb, ltb, leb, List, [], ◌∷◌, ◌++◌, length, Option, Some, None, refl, sym, ap, subst, ◌∙◌, append_assoc, arith, inl, inr, ◌⊎◌}
+use Rattle.std.proofs.Common.{◌≡◌, ◌≢◌, ℕ, suc, ◌+◌, ◌<◌, ◌≤◌, Bool, true, false, cond, eqb, ltb, leb, List, [], ◌∷◌, ◌++◌, length, Option, Some, None, refl, sym, ap, subst, ◌∙◌, append_assoc, arith, inl, inr, ◌⊎◌, map, take, get_or}
 use Rattle.std.proofs.lemmas.Bool.{ltb-true, ltb-false, leb-true, leb-false, lt-leb, le-ltb, eqb-true, eqb-false, ne_eqb}
-use Rattle.std.proofs.lemmas.List.{nil_from_length, length-append}
+use Rattle.std.proofs.lemmas.List.{nil_from_length, length-append, take_more, take_all, append-nil, map-append}
 use Rattle.std.specs.List.{AllByRecursion, position, slice_split, onto_first}
 use Rattle.fsfs_text.proofs.Readers.{chosen}
-use Rattle.fsfs_base.specs.Paths.{Name, Path, names_text, path_text}
+use Rattle.fsfs_base.specs.Paths.{Name, Path, names_text, path_text, is_root}
 use Rattle.fsfs_base.specs.PathTexts.{is_control, is_dots, HasNoSlash, IsName, IsPath, IsNameFault, HasBadName, IsBadJoin, IsBadPath, IsJoined}
 use Rattle.fsfs_base.specs.PathReading.{control_fault_at, name_fault_at, or_else, names_fault_at}
 use Rattle.fsfs_base.specs.declared.bad_path.BadPath.{BadPath}
@@ -299,3 +299,22 @@ path_joined above text (x ∷ p) root some is e = record { names = x ∷ p; path
 
 pub joined_refusal : (above : Path) (whole text : List ℕ) (at : ℕ) (why : PathFault) → above ≡ [] → whole ≡ 47 ∷ text → text ≢ [] → IsBadJoin above text at why → IsBadPath whole at why
 joined_refusal above whole text at why root e some bad = subst (λ (t : List ℕ). IsBadPath t at why) (sym e) (some, subst (λ (p : Path). IsBadJoin p text at why) root bad)
+
+-- ---- writing
+
+pub shown_names : (path : Path) → is_root path ≡ false → names_text path ≡ path_text path
+shown_names [] e = absurd cc
+shown_names (x ∷ p) e = refl
+
+pub text_more : {A : Type 0} (f : A → Name) (names : List A) (k : ℕ) (d : A) → k < length names → names_text (map f (take (k + 1) names)) ≡ names_text (map f (take k names)) ++ 47 ∷ f (get_or names k d)
+text_more f names k d lt =
+    ap (λ xs. names_text (map f xs)) (take_more names k d lt)
+    ∙ ap names_text (map-append f (take k names) (get_or names k d ∷ []))
+    ∙ names_text-append (map f (take k names)) (f (get_or names k d) ∷ [])
+    ∙ ap (λ (t : List ℕ). names_text (map f (take k names)) ++ 47 ∷ t) (append-nil (f (get_or names k d)))
+
+pub last_name : (path : Path) (n : ℕ) → length path ≡ suc n → (name : Name) × (path ≡ take n path ++ name ∷ [])
+last_name path n size = (get_or path n [], sym (take_all (n + 1) path (omega (arith, size))) ∙ take_more path n [] (omega (arith, size)))
+
+pub written_more : (out text name : List ℕ) → ((out ++ text) ++ 47 ∷ []) ++ name ≡ out ++ (text ++ 47 ∷ name)
+written_more out text name = simp append_assoc

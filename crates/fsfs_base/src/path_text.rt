@@ -1,5 +1,5 @@
 //! Paths and their texts: `/`, or each name with a `/` before it.
-ghost use Rattle.std.specs.Prelude.{◌≡◌, ◌≢◌, ◌∷◌, ℕ, List, ◌==◌, ◌+◌, ◌<◌, ◌≤◌, ◌^◌, ◌++◌, length, map, IfOk, IfErr, MatchOption, MatchResult};
+ghost use Rattle.std.specs.Prelude.{◌≡◌, ◌≢◌, ◌∷◌, ℕ, List, ◌==◌, ◌+◌, ◌<◌, ◌≤◌, ◌^◌, ◌++◌, length, map, [], OnOk, IfOk, IfErr, MatchOption, MatchResult};
 ghost use Rattle.std.specs.List.{position, slice_split};
 ghost use Rattle.std.specs.String.{string_bytes};
 ghost use Rattle.fsfs_base.specs.declared.bad_path.PathError.TheVariants.{OutOfMemory};
@@ -11,6 +11,8 @@ ghost use Rattle.fsfs_base.specs.PathReading.{name_fault_at, names_fault_at};
 use crate::bad_path::{BadPath, PathError, PathFault};
 use crate::path::FsPath;
 use std::alloc::{AllocError, Global};
+use std::fmt;
+use std::fmt::Display;
 
 const MAX_PATH: usize = 4096;
 
@@ -98,6 +100,23 @@ fn names_of<'a>(alloc: Global, text: &'a str) -> Result<Vec<&'a str>, AllocError
     text.split('/').collect(alloc)
 }
 
+impl Display for FsPath {
+    ghost use Rattle.std.specs.Prelude.{Some};
+    ghost use Rattle.fsfs_base.specs.Paths.{path_text};
+
+    ghost output = { λ path. Some (path_text path) };
+
+    fn fmt<W: fmt::Write>(&self, f: &mut fmt::Formatter<W>) -> fmt::Result {
+        if self.is_root() {
+            return write!(f, "/");
+        }
+        for name in &self.names {
+            write!(f, "/{name}")?;
+        }
+        Ok(())
+    }
+}
+
 impl FsPath {
     /// The path with this text: `/`, or each name with a `/` before it, within 4,096 bytes and 128 names.
     ///
@@ -134,6 +153,45 @@ impl FsPath {
             Some(bad) => Err(PathError::Bad(bad)),
             None => Ok(self.with_names(alloc, &names)?),
         }
+    }
+
+    /// Writes the path's text at the end.
+    pub fn put_text(&self, out: &mut Vec<u8>) -> Result<(), AllocError>
+        ensures { OnOk result (out.new.items ≡ out.old.items ++ path_text self.now) }
+    {
+        if self.is_root() {
+            out.push(b'/')?;
+            return Ok(());
+        }
+        for name in &self.names {
+            out.push(b'/')?;
+            out.extend_from_slice(name.as_bytes())?;
+        }
+        Ok(())
+    }
+
+    /// The path's text.
+    pub fn text(&self, alloc: Global) -> Result<String, AllocError>
+        ensures { IfOk result (λ text. string_bytes text ≡ path_text self.now) }
+    {
+        self.to_string(alloc)
+    }
+
+    /// The directory that the path stands in; none for `/`.
+    pub fn parent(&self, alloc: Global) -> Result<Option<FsPath>, AllocError>
+        ensures { IfOk result (λ parent. MatchOption parent (self.now ≡ []) (λ p. (name : List ℕ) × (self.now ≡ p ++ name ∷ []))) }
+    {
+        match self.depth().checked_sub(1) {
+            None => Ok(None),
+            Some(above) => Ok(Some(self.prefix(alloc, above)?)),
+        }
+    }
+
+    /// Its names, from the root down.
+    pub fn names(&self) -> &[String]
+        ensures { map string_bytes result.now ≡ self.now }
+    {
+        self.names.as_slice()
     }
 
     /// The byte at which a further name begins, where the text fits behind this path.
