@@ -15,10 +15,10 @@ use Rattle.fsfs_base.specs.Edits.{without, with_node, with_copy, copied_node, wi
 use Rattle.fsfs_model.proofs.PathLemmas.{both_true, first_true, second_true, cases, not_both, not_true, covers-refl, covers-trans, covers-antisym, covers-either, same_name-is, same_name-refl}
 
 module _ (t : TreeFunction) (p : Path) where
-  left : (q : Path) → covers p q ≡ false → is_some (without t p q) ≡ is_some (t q)
+  pub left : (q : Path) → covers p q ≡ false → is_some (without t p q) ≡ is_some (t q)
   left q out = ap (λ b. is_some (cond b None (t q))) out
 
-  away : (q : Path) → covers p q ≡ true → is_some (without t p q) ≡ false
+  pub away : (q : Path) → covers p q ≡ true → is_some (without t p q) ≡ false
   away q below = ap (λ b. is_some (cond b None (t q))) below
 
   pub deleted : is_some (t p) ≡ true → ChangesPaths Gone p t (without t p)
@@ -30,13 +30,13 @@ module _ (t : TreeFunction) (p : Path) where
     | inr out ↦ left q out ∙ c q x k (elim (cases (covers p x)) [ inl w ↦ absurd (not_both _ h (away x w)) | inr w ↦ sym (left x w) ∙ h ])
   ]
 
-same_path-is : (q p : Path) → same_path q p ≡ true → q ≡ p
+pub same_path-is : (q p : Path) → same_path q p ≡ true → q ≡ p
 same_path-is [] [] h = refl
 same_path-is [] (y ∷ p) h = absurd (false≢true h)
 same_path-is (x ∷ q) [] h = absurd (false≢true h)
 same_path-is (x ∷ q) (y ∷ p) h = λ i. same_name-is x y (first_true _ _ h) i ∷ same_path-is q p (second_true _ _ h) i
 
-same_path-refl : (p : Path) → same_path p p ≡ true
+pub same_path-refl : (p : Path) → same_path p p ≡ true
 same_path-refl [] = refl
 same_path-refl (x ∷ p) = both_true _ _ (same_name-refl x) (same_path-refl p)
 
@@ -82,7 +82,7 @@ module _ (t : TreeFunction) (p : Path) (o : Option Node) where
   there = ap (λ b. is_some (cond b o (t p))) (same_path-refl p)
 
   -- a node that is changed in its place
-  in_place : is_some o ≡ is_some (t p) → (q : Path) → is_some (with_node t p o q) ≡ is_some (t q)
+  pub in_place : is_some o ≡ is_some (t p) → (q : Path) → is_some (with_node t p o q) ≡ is_some (t q)
   in_place same q = elim (cases (same_path q p)) [
     | inl w ↦ ap (λ v. is_some (with_node t p o v)) (same_path-is q p w) ∙ there ∙ same ∙ ap (λ v. is_some (t v)) (sym (same_path-is q p w))
     | inr w ↦ elsewhere q w
@@ -121,7 +121,7 @@ nothing_after : (p : Path) → rest_after p p ≡ []
 nothing_after [] = refl
 nothing_after (x ∷ p) = nothing_after p
 
-copied_some : (r : ℕ) (f : Path) (o : Option Node) → is_some (copied_node r f o) ≡ is_some o
+pub copied_some : (r : ℕ) (f : Path) (o : Option Node) → is_some (copied_node r f o) ≡ is_some o
 copied_some r f None = refl
 copied_some r f (Some n) = refl
 
@@ -155,11 +155,11 @@ module _ (t : TreeFunction) (r : ℕ) (of : TreeFunction) (from to : Path) (c : 
       under : (q x : Path) → covers q x ≡ true → covers to x ≡ true → covers to q ≡ false → covers q to ≡ true
       under q x k w v = elim (covers-either q to x k w) [ inl y ↦ y | inr y ↦ absurd (not_both _ y v) ]
 
-with_text_some : (text : List ℕ) (o : Option Node) → is_some (with_text text o) ≡ is_some o
+pub with_text_some : (text : List ℕ) (o : Option Node) → is_some (with_text text o) ≡ is_some o
 with_text_some text None = refl
 with_text_some text (Some n) = refl
 
-with_prop_some : (name : List ℕ) (value : Option (List ℕ)) (o : Option Node) → is_some (with_prop name value o) ≡ is_some o
+pub with_prop_some : (name : List ℕ) (value : Option (List ℕ)) (o : Option Node) → is_some (with_prop name value o) ≡ is_some o
 with_prop_some name value None = refl
 with_prop_some name value (Some n) = refl
 

@@ -22,7 +22,7 @@ start f m keys e outside q = elim (cases (list_any (eq_by_cmp path_cmp q) keys))
   | inr w ↦ inl (ap (λ m. get m q) e ∙ get-empty path_cmp q ∙ sym (outside q w))
 ]
 
-same_path_is : (q p : Path) → eq_by_cmp path_cmp q p ≡ true → q ≡ p
+pub same_path_is : (q p : Path) → eq_by_cmp path_cmp q p ≡ true → q ≡ p
 same_path_is q p h = exact_paths q p ((Equal-is (path_cmp q p)).0 h)
 
 left_over : (b c : Bool) → b ≡ false → (b || c) ≡ true → c ≡ true

@@ -17,3 +17,4 @@ pub mod Landed
 pub mod Owns
 pub mod Later
 pub mod FoldLemmas
+pub mod Copying

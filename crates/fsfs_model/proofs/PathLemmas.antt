@@ -1,5 +1,5 @@
 -- Prefixes of paths.
-use Rattle.std.proofs.Common.{◌≡◌, Bool, true, false, ◌&&◌, ◌||◌, List, [], ◌∷◌, refl, sym, ◌∙◌, ap, subst, inl, inr, ◌⊎◌}
+use Rattle.std.proofs.Common.{◌≡◌, Bool, true, false, ◌&&◌, ◌||◌, List, [], ◌∷◌, ◌++◌, ◌≤◌, length, drop, arith, refl, sym, ◌∙◌, ap, subst, inl, inr, ◌⊎◌}
 use mathlib.Core.Bool.{false≢true}
 use Rattle.std.specs.List.{list_any}
 use Rattle.std.specs.Cmp.Lexicographic.{nat_list_eq_equiv, bytes_decides}
@@ -95,3 +95,23 @@ found_in test (y ∷ ys) x i h = elim i [
 pub other_side : (a b : Bool) → (a && b) ≡ false → b ≡ true → a ≡ false
 other_side true b h e = absurd (not_both _ e h)
 other_side false b h e = refl
+
+-- what is at or above a path has no more names
+pub covers-length : (q p : Path) → covers q p ≡ true → length q ≤ length p
+covers-length [] p h = omega arith
+covers-length (x ∷ q) [] h = absurd (false≢true h)
+covers-length (x ∷ q) (y ∷ p) h = let r = covers-length q p (second_true _ _ h) in omega arith
+
+pub covers-longer : (q x : Path) → covers q (q ++ x) ≡ true
+covers-longer [] x = refl
+covers-longer (y ∷ q) x = both_true _ _ (same_name-refl y) (covers-longer q x)
+
+-- a path is what covers it, and the names after that
+pub split_at : (q p : Path) → covers q p ≡ true → q ++ drop (length q) p ≡ p
+split_at [] p h = refl
+split_at (x ∷ q) [] h = absurd (false≢true h)
+split_at (x ∷ q) (y ∷ p) h = λ i. same_name-is x y (first_true _ _ h) i ∷ split_at q p (second_true _ _ h) i
+
+pub after_front : (q x : Path) → drop (length q) (q ++ x) ≡ x
+after_front [] x = refl
+after_front (y ∷ q) x = after_front q x

@@ -1,12 +1,14 @@
 //! Slow plain functions over the flat definitions.
 #![tactic(auto)]
 
+mod apply;
 mod clash;
 mod fold;
 mod history;
 mod land;
 mod laws;
 
+pub use apply::flat_apply;
 pub use clash::flat_clash;
 pub use fold::flat_fold;
 pub use history::flat_history;
