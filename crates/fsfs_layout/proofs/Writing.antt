@@ -2,12 +2,14 @@
 use Rattle.std.proofs.Common.{◌≡◌, ℕ, ◌≤◌, ◌<◌, ◌^◌, false, List, [], ◌∷◌, ◌++◌, length, refl, sym, ap, subst, ◌∙◌, arith, append_assoc, inl, inr}
 use Rattle.std.specs.Prelude.{codes}
 use Rattle.std.specs.Fmt.{decimal}
+use Rattle.std.specs.Prelude.{◌≢◌}
 use Rattle.std.proofs.lemmas.Bool.{ne_eqb}
+use Rattle.std.proofs.lemmas.List.{append-nil}
 use Rattle.fsfs_text.specs.Grammar.{Appends, begins}
 use Rattle.fsfs_text.specs.Numeral.{digit, IsNumeral, IsNumber, value_after}
 use Rattle.fsfs_text.proofs.Unique.{numeral_decimal}
 use Rattle.fsfs_layout.specs.declared.format_file.Format.{Format}
-use Rattle.fsfs_layout.specs.declared.format_file.Format.TheVariants.{Linear, Sharded}
+use Rattle.fsfs_layout.specs.declared.format_file.Format.TheVariants.{Linear, Sharded, Other}
 use Rattle.fsfs_layout.specs.Lacking.{Lacks}
 use Rattle.fsfs_layout.specs.Small.{IsUuid}
 use Rattle.fsfs_layout.specs.Formats.{IsCount, IsLayout, IsFormat}
@@ -79,11 +81,12 @@ sharded_layout a b c n one fits e w = record {
   parts = w.parts ∙ ap (λ (t : List ℕ). t ++ w.text) e ∙ append_assoc a (codes "layout sharded ") w.text;
 }
 
--- the line of our format's number and a layout's
-pub our_format : (a b c : List ℕ) (f : Format) → a ≡ [] → Appends (IsNumber 10 18446744073709551615 10) a b 4 → Appends IsLayout b c f → IsFormat c f
-our_format a b c f none w v =
-    let first = appended none w in
-    record { first = b; second = v.text; between = 4; first_is = first; second_is = inr v.text_is; parts = v.parts }
+-- the line of format 4 and a layout's
+pub our_format : (a b : List ℕ) (f : Format) → a ≡ codes "4\n" → Appends IsLayout a b f → IsFormat b f
+our_format a b f line v = inl (record { first = a; second = v.text; between = tt; first_is = line; second_is = inr v.text_is; parts = v.parts })
+
+pub other_format : (a b : List ℕ) (n : ℕ) → n ≢ 4 → a ≡ [] → Appends (IsNumber 10 18446744073709551615 10) a b n → IsFormat b (Other n)
+other_format a b n other none w = inr (record { number = n; rest = []; line = record { front = b; text = appended none w; parts = sym (append-nil b) }; other = other; is = refl })
 
 -- a uuid's bytes and the end of the line
 pub uuid_line : (uuid text : List ℕ) → length uuid ≡ 36 → Lacks 10 uuid → text ≡ uuid ++ 10 ∷ [] → IsUuid text uuid

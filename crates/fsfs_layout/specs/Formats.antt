@@ -1,6 +1,6 @@
 -- What `db/format` says.
-use Rattle.std.specs.Prelude.{◌≢◌, ◌≤◌, ℕ, List, [], ◌∷◌, ◌==◌, codes}
-use Rattle.fsfs_text.specs.Grammar.{Then, IsText, Mapped, Either, Maybe, Except, Choice, Anything}
+use Rattle.std.specs.Prelude.{◌≡◌, ◌≢◌, ◌≤◌, ℕ, List, [], ◌∷◌, ◌⊎◌, codes}
+use Rattle.fsfs_text.specs.Grammar.{Then, IsText, Mapped, Either, Maybe, Except, Begins}
 use Rattle.fsfs_text.specs.Numeral.{IsNumber}
 use Rattle.fsfs_layout.specs.declared.format_file.Format.{Format}
 use Rattle.fsfs_layout.specs.declared.format_file.Format.TheVariants.{Linear, Sharded, Other}
@@ -15,9 +15,20 @@ IsLayout = Then (IsText (codes "layout ")) (λ _. Either
     (Then (IsText (codes "sharded ")) (λ _. Mapped (λ n. Sharded n) IsCount))
     (Then (IsText (codes "linear")) (λ _. Mapped (λ _. Linear) (IsText (10 ∷ [])))))
 
--- the line of the format's number; for ours a layout's line or none, and anything for another's
+-- format 4: its line, and a layout's or none
+abbrev pub IsOurFormat : List ℕ → Format → Type 0
+IsOurFormat = Then (IsText (codes "4\n")) (λ _. Maybe Linear IsLayout)
+
+-- the line of another number, and anything behind it
+pub record IsOtherFormat (text : List ℕ) (format : Format) : Type 0 where
+  pub number : ℕ
+  pub rest : List ℕ
+  pub line : Begins (IsNumber 10 18446744073709551615 10) text number rest
+  pub other : number ≢ 4
+  pub is : format ≡ Other number
+
 abbrev pub IsFormat : List ℕ → Format → Type 0
-IsFormat = Then (IsNumber 10 18446744073709551615 10) (λ n. Choice (n == 4) (Maybe Linear IsLayout) (Anything (Other n)))
+IsFormat text format = IsOurFormat text format ⊎ IsOtherFormat text format
 
 -- a format that has a text: shards of a size from 1 on, and another number than ours
 abbrev pub HasText : Format → Type 0

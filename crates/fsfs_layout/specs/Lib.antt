@@ -2,3 +2,4 @@ pub mod Lacking
 pub mod Formats
 pub mod Small
 pub mod Reading
+pub mod Names

@@ -35,7 +35,17 @@ layout_at bytes = text_at (codes "layout ") bytes >>= λ a.
     if begins 115 a.1 then (text_at (codes "sharded ") a.1 >>= λ b. count_at b.1 >>= λ n. Ok (Sharded n.0, n.1))
     else (text_at (codes "linear") a.1 >>= λ b. text_at (10 ∷ []) b.1 >>= λ c. Ok (Linear, c.1))
 
+unfoldable pub our_format_at : List ℕ → Result Format ℕ
+our_format_at bytes = text_at (codes "4\n") bytes >>= λ a. if length a.1 == 0 then Ok Linear else whole (layout_at a.1)
+
+-- another format's number, or how many bytes are left where reading stopped
+abbrev pub other_at : ℕ → Result (ℕ × List ℕ) ℕ → Result Format ℕ
+other_at left (Ok (n, rest)) = if n == 4 then Err left else Ok (Other n)
+other_at left (Err e) = Err left
+
+abbrev pub or_other : List ℕ → Result Format ℕ → Result Format ℕ
+or_other bytes (Ok f) = Ok f
+or_other bytes (Err left) = other_at left (number_at 10 18446744073709551615 10 bytes)
+
 unfoldable pub format_at : List ℕ → Result Format ℕ
-format_at bytes = number_at 10 18446744073709551615 10 bytes >>= λ n.
-    if n.0 == 4 then (if length n.1 == 0 then Ok Linear else whole (layout_at n.1))
-    else Ok (Other n.0)
+format_at bytes = or_other bytes (our_format_at bytes)

@@ -2,9 +2,9 @@
 ghost use Rattle.std.specs.Prelude.{◌≡◌, IfOk, IfErr, Ok};
 ghost use Rattle.fsfs_text.specs.Reading.{Gives};
 ghost use Rattle.fsfs_layout.specs.declared.format_file.Format.{Format};
-ghost use Rattle.fsfs_layout.specs.Formats.{IsFormat, HasText};
+ghost use Rattle.fsfs_layout.specs.Formats.{IsOurFormat, IsFormat, HasText};
 ghost use Rattle.fsfs_layout.specs.Small.{IsFaultOf};
-ghost use Rattle.fsfs_layout.specs.Reading.{count_at, layout_at, format_at};
+ghost use Rattle.fsfs_layout.specs.Reading.{count_at, layout_at, our_format_at, format_at};
 
 use crate::reading::begins_with;
 use fsfs_base::{SmallFault, SmallFile};
@@ -49,14 +49,11 @@ fn layout(bytes: &[u8]) -> Result<(Format, &[u8]), usize>
     }
 }
 
-#[tactic(auto, unfolding(crate::specs::Reading::format_at))]
-fn whole_format(bytes: &[u8]) -> Result<Format, usize>
-    ensures { Gives (λ f. f) result (format_at bytes.now) }
+#[tactic(auto, unfolding(crate::specs::Reading::our_format_at))]
+fn our_format(bytes: &[u8]) -> Result<Format, usize>
+    ensures { Gives (λ f. f) result (our_format_at bytes.now) }
 {
-    let (number, rest) = decimal(u64::MAX, b'\n', bytes)?;
-    if number != 4 {
-        return Ok(Format::Other(number));
-    }
+    let rest = text(b"4\n", bytes)?;
     if rest.is_empty() {
         return Ok(Format::Linear);
     }
@@ -67,12 +64,32 @@ fn whole_format(bytes: &[u8]) -> Result<Format, usize>
     Ok(found)
 }
 
-/// What `db/format` says: a line with the format's number and, for format 4, a line `layout linear` or
-/// `layout sharded N` or none, which is linear. Behind the line of another format anything may stand.
+#[tactic(auto, unfolding(crate::specs::Reading::format_at))]
+fn whole_format(bytes: &[u8]) -> Result<Format, usize>
+    ensures { Gives (λ f. f) result (format_at bytes.now) }
+{
+    match our_format(bytes) {
+        Ok(found) => Ok(found),
+        Err(left) => match decimal(u64::MAX, b'\n', bytes) {
+            Ok((number, _)) => {
+                if number == 4 {
+                    Err(left)
+                } else {
+                    Ok(Format::Other(number))
+                }
+            }
+            Err(_) => Err(left),
+        },
+    }
+}
+
+/// What `db/format` says. Format 4 is a line `4` and a line `layout linear` or `layout sharded N` or none, which is linear.
+/// A line with another number is another format, and anything may stand behind it. All else is refused where it leaves
+/// format 4.
 pub fn read_format(bytes: &[u8]) -> Result<Format, SmallFault>
     ensures found { IfOk result (IsFormat bytes.now) }
     ensures only { (f : Format) → IsFormat bytes.now f → result ≡ Ok f }
-    ensures fault { IfErr result (IsFaultOf SmallFile.Format IsFormat bytes.now) }
+    ensures fault { IfErr result (IsFaultOf SmallFile.Format IsOurFormat bytes.now) }
 {
     match whole_format(bytes) {
         Ok(found) => Ok(found),
@@ -91,12 +108,12 @@ pub fn write_format(alloc: Global, format: &Format) -> Result<Vec<u8>, AllocErro
     let mut out = Vec::new(alloc);
     match *format {
         Format::Linear => {
-            put_decimal(&mut out, 4, b'\n')?;
+            out.extend_from_slice(b"4\n")?;
             out.extend_from_slice(b"layout linear\n")?;
             Ok(out)
         }
         Format::Sharded(size) => {
-            put_decimal(&mut out, 4, b'\n')?;
+            out.extend_from_slice(b"4\n")?;
             out.extend_from_slice(b"layout sharded ")?;
             put_decimal(&mut out, size as u64, b'\n')?;
             Ok(out)

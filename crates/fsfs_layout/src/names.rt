@@ -1,0 +1,291 @@
+//! The names of a repository's files and folders, from the repository's folder on. (The libsvn_fs_fs structure file;
+//! the names that end in `-next`, under which the new text of a small file is written first, are this project's profile.)
+ghost use Rattle.std.specs.Prelude.{◌≡◌, ◌≤◌, ◌<◌, ◌+◌, ◌++◌, codes, length};
+ghost use Rattle.std.specs.Fmt.{decimal};
+ghost use Rattle.fsfs_text.specs.Base36.{glyph, last_digits};
+ghost use Rattle.fsfs_base.specs.TxnNames.{txn_text};
+ghost use Rattle.fsfs_layout.specs.Names.{in_shard, in_pack, with_txn, small_name};
+
+use fsfs_base::{Name, SmallFile, TxnName};
+use itoa::Buffer;
+
+/// The file that says which version of the repository's own layout it has.
+pub fn repository_format() -> Name
+    ensures { result ≡ codes "format" }
+{
+    Name::new("format")
+}
+
+pub fn format() -> Name
+    ensures { result ≡ codes "db/format" }
+{
+    Name::new("db/format")
+}
+
+/// Where the new text of `db/format` is written first.
+pub fn format_next() -> Name
+    ensures { result ≡ codes "db/format-next" }
+{
+    Name::new("db/format-next")
+}
+
+pub fn fs_type() -> Name
+    ensures { result ≡ codes "db/fs-type" }
+{
+    Name::new("db/fs-type")
+}
+
+pub fn uuid() -> Name
+    ensures { result ≡ codes "db/uuid" }
+{
+    Name::new("db/uuid")
+}
+
+/// The file with the youngest revision.
+pub fn current() -> Name
+    ensures { result ≡ codes "db/current" }
+{
+    Name::new("db/current")
+}
+
+/// Where the new text of `db/current` is written first.
+pub fn current_next() -> Name
+    ensures { result ≡ codes "db/current-next" }
+{
+    Name::new("db/current-next")
+}
+
+/// The file with the oldest revision that isn't packed.
+pub fn min_unpacked_rev() -> Name
+    ensures { result ≡ codes "db/min-unpacked-rev" }
+{
+    Name::new("db/min-unpacked-rev")
+}
+
+/// Where the new text of `db/min-unpacked-rev` is written first.
+pub fn min_unpacked_rev_next() -> Name
+    ensures { result ≡ codes "db/min-unpacked-rev-next" }
+{
+    Name::new("db/min-unpacked-rev-next")
+}
+
+/// The file with the number that the next transaction gets.
+pub fn txn_current() -> Name
+    ensures { result ≡ codes "db/txn-current" }
+{
+    Name::new("db/txn-current")
+}
+
+/// Where the new text of `db/txn-current` is written first.
+pub fn txn_current_next() -> Name
+    ensures { result ≡ codes "db/txn-current-next" }
+{
+    Name::new("db/txn-current-next")
+}
+
+pub fn txn_current_lock() -> Name
+    ensures { result ≡ codes "db/txn-current-lock" }
+{
+    Name::new("db/txn-current-lock")
+}
+
+pub fn write_lock() -> Name
+    ensures { result ≡ codes "db/write-lock" }
+{
+    Name::new("db/write-lock")
+}
+
+/// The folder of the shards of revision files.
+pub fn revisions() -> Name
+    ensures { result ≡ codes "db/revs" }
+{
+    Name::new("db/revs")
+}
+
+/// The folder of the shards of revision property files.
+pub fn revision_props() -> Name
+    ensures { result ≡ codes "db/revprops" }
+{
+    Name::new("db/revprops")
+}
+
+/// The folder of the folders of transactions.
+pub fn transactions() -> Name
+    ensures { result ≡ codes "db/transactions" }
+{
+    Name::new("db/transactions")
+}
+
+/// The folder of the prototype revision files of transactions.
+pub fn proto_revisions() -> Name
+    ensures { result ≡ codes "db/txn-protorevs" }
+{
+    Name::new("db/txn-protorevs")
+}
+
+/// The folder of a shard's revision files.
+pub fn shard(shard: u32) -> Name
+    ensures text { result ≡ codes "db/revs/" ++ decimal shard }
+    ensures short { length result ≤ 18 }
+{
+    let mut name = Name::new("db/revs/");
+    name.push_str(Buffer::new().format(shard));
+    name
+}
+
+/// The folder of a shard's revision property files.
+pub fn props_shard(shard: u32) -> Name
+    ensures text { result ≡ codes "db/revprops/" ++ decimal shard }
+    ensures short { length result ≤ 22 }
+{
+    let mut name = Name::new("db/revprops/");
+    name.push_str(Buffer::new().format(shard));
+    name
+}
+
+/// A revision's file, before it is packed.
+pub fn revision(shard_size: u32, rev: u32) -> Name
+    requires { 0 < shard_size }
+    ensures { result ≡ in_shard (codes "db/revs") shard_size rev }
+{
+    let mut name = shard(rev / shard_size);
+    name.push('/');
+    name.push_str(Buffer::new().format(rev));
+    name
+}
+
+/// The file of a revision's properties.
+pub fn props(shard_size: u32, rev: u32) -> Name
+    requires { 0 < shard_size }
+    ensures { result ≡ in_shard (codes "db/revprops") shard_size rev }
+{
+    let mut name = props_shard(rev / shard_size);
+    name.push('/');
+    name.push_str(Buffer::new().format(rev));
+    name
+}
+
+/// The folder of a packed shard.
+pub fn pack_folder(packed: u32) -> Name
+    ensures text { result ≡ codes "db/revs/" ++ decimal packed ++ codes ".pack" }
+    ensures short { length result ≤ 23 }
+{
+    let mut name = shard(packed);
+    name.push_str(".pack");
+    name
+}
+
+/// The revision files of a packed shard, one after another.
+pub fn pack(shard: u32) -> Name
+    ensures { result ≡ in_pack shard (codes "/pack") }
+{
+    let mut name = pack_folder(shard);
+    name.push_str("/pack");
+    name
+}
+
+/// Where each revision begins in the pack of its shard.
+pub fn manifest(shard: u32) -> Name
+    ensures { result ≡ in_pack shard (codes "/manifest") }
+{
+    let mut name = pack_folder(shard);
+    name.push_str("/manifest");
+    name
+}
+
+/// A small file's name; of a transaction's `next-ids` the last part.
+pub fn small_file(file: &SmallFile) -> Name
+    ensures { result ≡ small_name file.now }
+{
+    match *file {
+        SmallFile::Format => format(),
+        SmallFile::Uuid => uuid(),
+        SmallFile::Current => current(),
+        SmallFile::MinUnpackedRev => min_unpacked_rev(),
+        SmallFile::TxnCurrent => txn_current(),
+        SmallFile::NextIds => Name::new("next-ids"),
+        SmallFile::Manifest(shard) => manifest(shard),
+    }
+}
+
+fn digit(d: u8) -> char
+    requires { d < 36 }
+    ensures digit { result ≡ glyph d }
+    ensures ascii { result < 128 }
+{
+    if d < 10 {
+        char::from(b'0' + d)
+    } else {
+        char::from(b'a' + (d - 10))
+    }
+}
+
+/// Puts the last digits of a number in base 36 at the end.
+#[tactic(auto, unfolding(fsfs_text::specs::Base36::last_digits))]
+fn push_base36(name: &mut Name, digits: usize, number: u128)
+    requires { length name.old + digits ≤ 128 }
+    ensures text { name.new ≡ name.old ++ last_digits digits number }
+    ensures short { length name.new ≤ length name.old + digits }
+{
+    if digits == 0 {
+        return;
+    }
+    if number / 36 == 0 {
+        name.push(digit((number % 36) as u8));
+    } else {
+        push_base36(name, digits - 1, number / 36);
+        name.push(digit((number % 36) as u8));
+    }
+}
+
+fn push_txn(name: &mut Name, txn: &TxnName)
+    requires { length name.old ≤ 100 }
+    ensures text { name.new ≡ name.old ++ txn_text txn.now.base txn.now.number.number }
+    ensures short { length name.new ≤ length name.old + 24 }
+{
+    name.push_str(Buffer::new().format(txn.base));
+    name.push('-');
+    push_base36(name, 13, txn.number.number);
+}
+
+/// A transaction's folder.
+pub fn txn_folder(txn: &TxnName) -> Name
+    ensures text { result ≡ with_txn (codes "db/transactions/") txn.now (codes ".txn") }
+    ensures short { length result ≤ 44 }
+{
+    let mut name = Name::new("db/transactions/");
+    push_txn(&mut name, txn);
+    name.push_str(".txn");
+    name
+}
+
+/// A file in a transaction's folder, by the end of its name.
+pub fn txn_file(txn: &TxnName, file: &str) -> Name
+    requires { length file.now ≤ 80 }
+    ensures { result ≡ with_txn (codes "db/transactions/") txn.now (codes ".txn/" ++ file.now) }
+{
+    let mut name = txn_folder(txn);
+    name.push('/');
+    name.push_str(file);
+    name
+}
+
+/// The prototype revision file of a transaction.
+pub fn proto_revision(txn: &TxnName) -> Name
+    ensures { result ≡ with_txn (codes "db/txn-protorevs/") txn.now (codes ".rev") }
+{
+    let mut name = Name::new("db/txn-protorevs/");
+    push_txn(&mut name, txn);
+    name.push_str(".rev");
+    name
+}
+
+/// The lock file beside a transaction's prototype revision file.
+pub fn proto_revision_lock(txn: &TxnName) -> Name
+    ensures { result ≡ with_txn (codes "db/txn-protorevs/") txn.now (codes ".rev-lock") }
+{
+    let mut name = Name::new("db/txn-protorevs/");
+    push_txn(&mut name, txn);
+    name.push_str(".rev-lock");
+    name
+}
