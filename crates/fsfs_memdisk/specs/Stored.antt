@@ -1,23 +1,15 @@
 -- What the data of a disk in memory tell.
-use Rattle.std.specs.Prelude.{ℕ, List, map, Bool, true, false}
-use Rattle.std.specs.FinMap.{from_entries}
-use Rattle.fsfs_base.specs.Files.{Files}
+use Rattle.std.specs.Prelude.{List, map, Bool, true, false}
 use Rattle.fsfs_disk.specs.Trace.{Change, Operation}
 use Rattle.fsfs_disk.specs.Trace.Change.{Put, Rename, Remove, FirmNames}
 use Rattle.fsfs_disk.specs.Trace.Operation.{Done, Attempted}
-use Rattle.fsfs_memdisk.specs.declared.operations.MemFile.{MemFile}
+use Rattle.fsfs_memdisk.specs.MemFiles.{content}
 use Rattle.fsfs_memdisk.specs.declared.operations.MemOperation.{MemOperation}
 use Rattle.fsfs_memdisk.specs.declared.operations.MemChange.{MemChange}
 use Rattle.fsfs_memdisk.specs.declared.operations.MemChange.TheVariants as stored
 
-abbrev pub pairs_of : List MemFile → List (List ℕ × List ℕ)
-pairs_of files = map (λ file. (file.name, file.bytes.items)) files
-
-abbrev pub files_of : List MemFile → Files
-files_of files = from_entries (pairs_of files)
-
 abbrev pub change_of : MemChange → Change
-change_of (stored.Put file) = Put file.name file.bytes.items
+change_of (stored.Put file) = Put file.name (content file.bytes)
 change_of (stored.Rename from to) = Rename from to
 change_of (stored.Remove name) = Remove name
 change_of stored.FirmNames = FirmNames

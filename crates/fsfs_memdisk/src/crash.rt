@@ -1,140 +1,89 @@
-// What a crash may leave of a disk in memory.
-ghost use Rattle.std.specs.Prelude.{◌≡◌, ◌∷◌, IfOk, OnOk};
-ghost use Rattle.std.specs.FinMap as map;
-ghost use Rattle.fsfs_base.specs.Files.{renamed};
-ghost use Rattle.fsfs_disk.specs.Trace.{IsImage, files_after, Done};
-ghost use Rattle.fsfs_memdisk.specs.Stored.{files_of, operations_of, operation_of, change_of};
+// What a crash leaves of a disk in memory.
+ghost use Rattle.std.specs.Prelude.{◌≡◌, IfOk, OnOk, true, false, drop};
+ghost use Rattle.fsfs_disk.specs.Trace.{changed};
+ghost use Rattle.fsfs_memdisk.specs.PickedImage.{is_picked, left_after, picked_image};
+ghost use Rattle.fsfs_memdisk.specs.Stored.{operations_of, change_of};
 
-use crate::disk::copy_file;
-use crate::operations::{MemChange, MemFile, MemOperation, find};
-use fsfs_disk::Name;
-use std::alloc::{AllocError, Global};
+use crate::files::MemFiles;
+use crate::operations::{MemChange, MemOperation};
+use std::alloc::AllocError;
 use std::collections::VecDeque;
 
-fn copy_change(alloc: Global, change: &MemChange) -> Result<MemChange, AllocError>
-    ensures { IfOk result (λ c. change_of c ≡ change_of change.now) }
+// What is left after one change more: the change, where it is picked, or nothing of it. `now` are the files that it met.
+fn leave(
+    left: &mut MemFiles,
+    now: &MemFiles,
+    change: &MemChange,
+    picked: bool,
+) -> Result<(), AllocError>
+    ensures { OnOk result (left.new ≡ left_after picked (change_of change.now) now.now left.old) }
 {
     match change {
-        MemChange::Put(file) => Ok(MemChange::Put(copy_file(alloc, &file.name, &file.bytes)?)),
-        MemChange::Rename(from, to) => Ok(MemChange::Rename(from.copy(), to.copy())),
-        MemChange::Remove(name) => Ok(MemChange::Remove(name.copy())),
-        MemChange::FirmNames => Ok(MemChange::FirmNames),
+        MemChange::FirmNames => {
+            *left = now.clone()?;
+            Ok(())
+        }
+        MemChange::Rename(from, to) => {
+            if picked {
+                // The file that stood there, which what is left may lack.
+                let bytes = now.share(from)?;
+                left.replace(from, to, bytes)?;
+            }
+            Ok(())
+        }
+        MemChange::Put(_) | MemChange::Remove(_) => {
+            if picked {
+                change.apply(left)?;
+            }
+            Ok(())
+        }
     }
 }
 
-fn copy_operations(
-    alloc: Global,
-    operations: &VecDeque<MemOperation>,
-) -> Result<VecDeque<MemOperation>, AllocError>
-    ensures { IfOk result (λ s. operations_of s.items ≡ operations_of operations.now.items) }
+// One operation more: what is left after it, and the files after it.
+fn meet(
+    left: &mut MemFiles,
+    now: &mut MemFiles,
+    operation: MemOperation,
+    picked: bool,
+) -> Result<(), AllocError>
+    ensures left { OnOk result (operation.done ≡ true → left.new ≡ left_after picked (change_of operation.change) now.old left.old) }
+    ensures now { OnOk result (operation.done ≡ true → now.new ≡ changed (change_of operation.change) now.old) }
+    ensures attempted { OnOk result (operation.done ≡ false → (left.new ≡ left.old) × (now.new ≡ now.old)) }
 {
-    let mut out = VecDeque::new(alloc);
-    for operation in operations {
-        out.push_back(MemOperation {
-            done: operation.done,
-            change: copy_change(alloc, &operation.change)?,
-        })?;
+    if operation.done {
+        leave(left, now, &operation.change, picked)?;
+        operation.change.apply(now)?;
     }
-    Ok(out)
-}
-
-// Adds a change that was done.
-fn add(out: &mut VecDeque<MemOperation>, change: MemChange) -> Result<(), AllocError>
-    ensures { OnOk result (operations_of out.new.items ≡ Done (change_of change) ∷ operations_of out.old.items) }
-{
-    out.push_front(MemOperation { done: true, change })?;
     Ok(())
 }
 
-// A rename of which the image may have the old name's file or not: it names the file that stood there.
-fn add_rename(
-    alloc: Global,
-    first: &[MemFile],
-    seen: &VecDeque<MemOperation>,
-    out: &mut VecDeque<MemOperation>,
-    from: &Name,
-    to: &Name,
-) -> Result<(), AllocError>
-    ensures { let f = files_of first.now in
-        OnOk result (files_after f (operations_of out.new.items)
-        ≡ renamed (files_after f (operations_of out.old.items)) from.now to.now (map.get (files_after f (operations_of seen.now.items)) from.now)) }
+// The first of the picks, and those after it. Past their end nothing is picked.
+fn next_pick(pick: &[bool]) -> (bool, &[bool])
+    ensures first { result.0 ≡ is_picked pick.now 0 }
+    ensures rest { result.1.now ≡ drop 1 pick.now }
 {
-    match find(first, seen, from) {
-        Some(bytes) => {
-            let file = copy_file(alloc, to, bytes)?;
-            add(out, MemChange::Remove(from.copy()))?;
-            add(out, MemChange::Put(file))
-        }
-        None => {
-            add(out, MemChange::Remove(from.copy()))?;
-            add(out, MemChange::Remove(to.copy()))
-        }
+    match pick.split_first() {
+        Some((first, rest)) => (*first, rest),
+        None => (false, pick),
     }
 }
 
-// What is left after one operation more: the change, where it is picked, or nothing of it.
-fn leave(
-    alloc: Global,
-    first: &[MemFile],
-    seen: &VecDeque<MemOperation>,
-    mut out: VecDeque<MemOperation>,
-    operation: &MemOperation,
-    picked: bool,
-) -> Result<VecDeque<MemOperation>, AllocError>
-    requires { let f = files_of first.now in IsImage f (operations_of seen.now.items) (files_after f (operations_of out.items)) }
-    ensures { let f = files_of first.now in IfOk result (λ o. IsImage f (operation_of operation.now ∷ operations_of seen.now.items) (files_after f (operations_of o.items))) }
-{
-    if !operation.done {
-        return Ok(out);
-    }
-    match &operation.change {
-        MemChange::FirmNames => copy_operations(alloc, seen),
-        MemChange::Put(file) => {
-            if !picked {
-                return Ok(out);
-            }
-            add(
-                &mut out,
-                MemChange::Put(copy_file(alloc, &file.name, &file.bytes)?),
-            )?;
-            Ok(out)
-        }
-        MemChange::Rename(from, to) => {
-            if !picked {
-                return Ok(out);
-            }
-            add_rename(alloc, first, seen, &mut out, from, to)?;
-            Ok(out)
-        }
-        MemChange::Remove(name) => {
-            if !picked {
-                return Ok(out);
-            }
-            add(&mut out, MemChange::Remove(name.copy()))?;
-            Ok(out)
-        }
-    }
-}
-
-/// The operations of an image: those that aren't firm are there where they are picked, the oldest first.
+/// What a crash leaves of these files after these operations, the newest first. A change that isn't firm is there where it is picked.
 pub fn image(
-    alloc: Global,
-    first: &[MemFile],
+    first: MemFiles,
     mut operations: VecDeque<MemOperation>,
     pick: &[bool],
-) -> Result<VecDeque<MemOperation>, AllocError>
-    ensures { let f = files_of first.now in IfOk result (λ o. IsImage f (operations_of operations.items) (files_after f (operations_of o.items))) }
+) -> Result<MemFiles, AllocError>
+    ensures { IfOk result (λ left. left ≡ picked_image pick.now first (operations_of operations.items)) }
 {
-    let mut seen = VecDeque::new(alloc);
-    let mut out = VecDeque::new(alloc);
+    let mut now = first.clone()?;
+    let mut left = first;
     let mut rest = pick;
     while let Some(operation) = operations.pop_back() {
-        let picked = rest.first() == Some(&true);
-        if !rest.is_empty() {
-            rest = &rest[1..];
-        }
-        out = leave(alloc, first, &seen, out, &operation, picked)?;
-        seen.push_front(operation)?;
+        let (picked, later) = next_pick(rest);
+        rest = later;
+        meet(&mut left, &mut now, operation, picked)?;
     }
-    Ok(out)
+    Ok(left)
 }

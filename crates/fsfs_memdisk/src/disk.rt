@@ -1,43 +1,40 @@
 // A disk in memory. It keeps its operations, so that it can tell what a crash may leave.
-ghost use Rattle.std.specs.Prelude.{◌≡◌, ◌≤◌, ◌-◌, ◌++◌, min, length, take, drop, [], OnOk, OnErr, IfOk, Some, None, MatchOption};
-ghost use Rattle.fsfs_disk.specs.Fault.{Rose};
-ghost use Rattle.fsfs_disk.specs.Trace.{file_at, files_now, IsImage, Performs, FailsAt};
+ghost use Rattle.std.specs.Prelude.{◌≡◌, ◌≤◌, ◌-◌, ◌++◌, min, length, take, drop, map as each, OnOk, OnErr, IfOk, Some, None, MatchOption, string_bytes};
+ghost use Rattle.std.specs.FinMap as map;
+ghost use Rattle.fsfs_disk.specs.Fault.{HasCause};
+ghost use Rattle.fsfs_disk.specs.Trace.{file_at, files_now, files_after, changed, IsImage, Performs, FailsAt};
 ghost use Rattle.fsfs_disk.specs.Crash.{IsFirm};
+ghost use Rattle.fsfs_memdisk.specs.PickedImage.{picked_image};
+ghost use Rattle.fsfs_memdisk.specs.Stored.{operations_of, change_of};
 
 use crate::crash::image;
-use crate::operations::{MemChange, MemFile, MemOperation, find};
+use crate::faults::Faults;
+use crate::files::MemFiles;
+use crate::operations::{MemChange, MemFile, MemOperation};
 use fsfs_disk::{Disk, Failed, Name};
 use std::alloc::{AllocError, Global};
 use std::collections::VecDeque;
 
+/// A disk in memory. It tells its trace, and can fail at calls that are chosen.
 #[derive(Drop)]
 pub struct MemDisk {
     alloc: Global,
-    mount_path: Vec<u8>,
-    first: Vec<MemFile>,
+    mount_path: String,
+    // The files that it began with, its operations since, the newest first, and the files now.
+    first: MemFiles,
     operations: VecDeque<MemOperation>,
-    failing: Vec<u64>,
-    calls: u64,
-    faults: u64,
-}
-
-pub fn copy_file(alloc: Global, name: &Name, bytes: &[u8]) -> Result<MemFile, AllocError>
-    ensures { IfOk result (λ e. (e.name ≡ name.now) × (e.bytes.items ≡ bytes.now)) }
-{
-    Ok(MemFile {
-        name: name.copy(),
-        bytes: Vec::from_slice(alloc, bytes)?,
-    })
+    files: MemFiles,
+    faults: Faults,
+    ghost present: { files ≡ files_after first (operations_of operations.items) },
 }
 
 impl MemDisk {
     ghost use Rattle.fsfs_memdisk.specs.MemDisk.{trace_of, empty_trace};
-    ghost use Rattle.fsfs_memdisk.specs.Stored.{change_of};
 
     /// An empty disk.
     pub fn new(alloc: Global) -> MemDisk
         ensures trace { trace_of result ≡ empty_trace }
-        ensures faults { result.faults ≡ 0 }
+        ensures faults { result.faults.count ≡ 0 }
     {
         MemDisk::with_faults(alloc, Vec::new(alloc))
     }
@@ -45,21 +42,24 @@ impl MemDisk {
     /// An empty disk whose calls with these numbers fail. The first call is 1.
     pub fn with_faults(alloc: Global, failing: Vec<u64>) -> MemDisk
         ensures trace { trace_of result ≡ empty_trace }
-        ensures faults { result.faults ≡ 0 }
+        ensures faults { result.faults.count ≡ 0 }
+        ensures failing { result.faults.failing ≡ failing }
+        ensures calls { result.faults.calls ≡ 0 }
     {
         MemDisk {
             alloc,
-            mount_path: Vec::new(alloc),
-            first: Vec::new(alloc),
+            mount_path: String::new(alloc),
+            first: MemFiles::new(alloc),
             operations: VecDeque::new(alloc),
-            failing,
-            calls: 0,
-            faults: 0,
+            files: MemFiles::new(alloc),
+            faults: Faults::new(failing),
         }
     }
 
-    /// What a crash leaves: of the changes that aren't firm those that are picked, the oldest of all operations first.
+    /// What a crash leaves: of the changes that aren't firm those that are picked. `pick` has a place for each operation,
+    /// the oldest of the trace first; the changes of operations past its end are not picked. No call of the result fails.
     pub fn crash(self, pick: &[bool]) -> Result<MemDisk, AllocError>
+        ensures picked { IfOk result (λ d. files_now (trace_of d) ≡ picked_image pick.now (trace_of self).first (trace_of self).operations) }
         ensures image { IfOk result (λ d. IsImage (trace_of self).first (trace_of self).operations (files_now (trace_of d))) }
         ensures firm { IfOk result (λ d. IsFirm (Some (trace_of d))) }
     {
@@ -68,103 +68,98 @@ impl MemDisk {
             mount_path,
             first,
             operations,
-            failing: _,
-            calls: _,
+            files: _,
             faults: _,
         } = self;
-        let mut operations = image(alloc, &first, operations, pick)?;
-        operations.push_front(MemOperation {
-            done: true,
-            change: MemChange::FirmNames,
-        })?;
+        let files = image(first, operations, pick)?;
         Ok(MemDisk {
             alloc,
             mount_path,
-            first,
-            operations,
-            failing: Vec::new(alloc),
-            calls: 0,
-            faults: 0,
+            first: files.clone()?,
+            operations: VecDeque::new(alloc),
+            files,
+            faults: Faults::new(Vec::new(alloc)),
         })
     }
 
     /// The disk, kept for a path.
-    pub fn mounted_at(self, mount_path: Vec<u8>) -> MemDisk
-        ensures mount_path { result.mount_path.items ≡ mount_path.items }
+    pub fn mounted_at(mut self, mount_path: String) -> MemDisk
+        ensures mount_path { string_bytes result.mount_path ≡ string_bytes mount_path }
         ensures trace { trace_of result ≡ trace_of self }
         ensures faults { result.faults ≡ self.faults }
     {
-        MemDisk { mount_path, ..self }
+        self.mount_path = mount_path;
+        self
     }
 
-    /// The disk with its count begun anew.
-    pub fn unfailed(self) -> MemDisk
+    /// The disk with its count of faults begun anew.
+    pub fn unfailed(mut self) -> MemDisk
         ensures trace { trace_of result ≡ trace_of self }
-        ensures faults { result.faults ≡ 0 }
-        ensures mount_path { result.mount_path.items ≡ self.mount_path.items }
+        ensures faults { result.faults.count ≡ 0 }
+        ensures mount_path { result.mount_path ≡ self.mount_path }
     {
-        MemDisk { faults: 0, ..self }
+        self.faults.count = 0;
+        self
+    }
+
+    /// The path that it was mounted for.
+    pub fn mount_path(&self) -> &str
+        ensures { result.now ≡ string_bytes self.now.mount_path }
+    {
+        self.mount_path.as_str()
     }
 
     /// How often it has failed.
     pub fn faults(&self) -> u64
-        ensures { result ≡ self.now.faults }
+        ensures { result ≡ self.now.faults.count }
     {
-        self.faults
+        self.faults.count
     }
 
     /// The bytes of a file.
     pub fn file(&self, name: &Name) -> Option<&[u8]>
         ensures { MatchOption result (file_at (trace_of self.now) name.now ≡ None) (λ b. file_at (trace_of self.now) name.now ≡ Some b.now) }
     {
-        self.find(name)
+        self.files.get(name)
     }
 
-    // Counts a fault.
-    fn fail(&mut self) -> Failed
-        ensures trace { trace_of self.new ≡ trace_of self.old }
-        ensures later { self.old.faults ≤ self.new.faults }
-        ensures rose { Rose self.old.faults self.new.faults }
-        ensures mount_path { self.new.mount_path.items ≡ self.old.mount_path.items }
+    /// All names and the bytes of their files, in the order of the names.
+    pub fn files(&self, alloc: Global) -> Result<Vec<(&str, &[u8])>, AllocError>
+        ensures { IfOk result (λ files. each (λ file. (file.0.now, file.1.now)) files.items ≡ map.entries (files_now (trace_of self.now))) }
     {
-        self.faults = self.faults.saturating_add(1);
-        Failed
-    }
-
-    // Counts a call. Whether it is to fail.
-    fn is_failing(&mut self) -> bool
-        ensures trace { trace_of self.new ≡ trace_of self.old }
-        ensures faults { self.new.faults ≡ self.old.faults }
-        ensures mount_path { self.new.mount_path.items ≡ self.old.mount_path.items }
-    {
-        self.calls = self.calls.saturating_add(1);
-        let call = self.calls;
-        self.failing.contains(&call)
+        self.files.list(alloc)
     }
 
     // Does a change, or fails at it.
     fn perform(&mut self, change: MemChange) -> Result<(), Failed>
         ensures ok { OnOk result (Performs (change_of change) (Some (trace_of self.old)) (Some (trace_of self.new))) }
         ensures err { OnErr result (FailsAt (change_of change) (Some (trace_of self.old)) (Some (trace_of self.new))) }
-        ensures later { self.old.faults ≤ self.new.faults }
-        ensures rose { OnErr result (Rose self.old.faults self.new.faults) }
-        ensures mount_path { self.new.mount_path.items ≡ self.old.mount_path.items }
+        ensures cause { HasCause self.old.faults.count self.new.faults.count result }
+        ensures mount_path { self.new.mount_path ≡ self.old.mount_path }
     {
-        let done = !self.is_failing();
-        if self
-            .operations
-            .push_front(MemOperation { done, change })
-            .is_err()
-        {
-            return Err(self.fail());
+        if self.operations.reserve(1).is_err() {
+            return Err(self.faults.fail());
         }
-        if done { Ok(()) } else { Err(self.fail()) }
+        let result = attempt(&mut self.faults, &change, &mut self.files);
+        let done = result.is_ok();
+        // There is room for it.
+        self.operations
+            .push_front(MemOperation { done, change })
+            .unwrap();
+        result
     }
+}
 
-    fn find(&self, name: &Name) -> Option<&[u8]>
-        ensures { MatchOption result (file_at (trace_of self.now) name.now ≡ None) (λ b. file_at (trace_of self.now) name.now ≡ Some b.now) }
-    {
-        find(&self.first, &self.operations, name)
+// Makes a change of these files, unless this call is to fail.
+fn attempt(faults: &mut Faults, change: &MemChange, files: &mut MemFiles) -> Result<(), Failed>
+    ensures ok { OnOk result (files.new ≡ changed (change_of change.now) files.old) }
+    ensures err { OnErr result (files.new ≡ files.old) }
+    ensures cause { HasCause faults.old.count faults.new.count result }
+{
+    faults.call()?;
+    match change.apply(files) {
+        Ok(()) => Ok(()),
+        Err(_) => Err(faults.fail()),
     }
 }
 
@@ -185,14 +180,14 @@ fn copy_from(bytes: &[u8], offset: u64, buffer: &mut [u8]) -> usize
 }
 
 impl Disk for MemDisk {
-    ghost use Rattle.std.specs.Prelude.{Some};
+    ghost use Rattle.std.specs.Prelude.{Some, string_bytes};
     ghost use Rattle.fsfs_memdisk.specs.MemDisk.{trace_of};
 
     ghost trace = { λ d. Some (trace_of d) };
 
-    ghost mount_path = { λ d. d.mount_path.items };
+    ghost mount_path = { λ d. string_bytes d.mount_path };
 
-    ghost faults = { λ d. d.faults };
+    ghost faults = { λ d. d.faults.count };
 
     fn read(
         &mut self,
@@ -200,29 +195,25 @@ impl Disk for MemDisk {
         offset: u64,
         buffer: &mut [u8],
     ) -> Result<Option<usize>, Failed> {
-        if self.is_failing() {
-            return Err(self.fail());
-        }
-        match self.find(name) {
+        self.faults.call()?;
+        match self.file(name) {
             None => Ok(None),
             Some(bytes) => Ok(Some(copy_from(bytes, offset, buffer))),
         }
     }
 
     fn size(&mut self, name: &Name) -> Result<Option<u64>, Failed> {
-        if self.is_failing() {
-            return Err(self.fail());
-        }
-        match self.find(name) {
+        self.faults.call()?;
+        match self.file(name) {
             None => Ok(None),
             Some(bytes) => Ok(Some(bytes.len() as u64)),
         }
     }
 
     fn put(&mut self, name: &Name, bytes: &[u8]) -> Result<(), Failed> {
-        match copy_file(self.alloc, name, bytes) {
+        match MemFile::new(self.alloc, name, bytes) {
             Ok(file) => self.perform(MemChange::Put(file)),
-            Err(_) => Err(self.fail()),
+            Err(_) => Err(self.faults.fail()),
         }
     }
 
@@ -231,13 +222,11 @@ impl Disk for MemDisk {
     }
 
     fn remove(&mut self, name: &Name) -> Result<bool, Failed> {
-        if self.find(name).is_some() {
+        if self.file(name).is_some() {
             self.perform(MemChange::Remove(name.copy()))?;
             return Ok(true);
         }
-        if self.is_failing() {
-            return Err(self.fail());
-        }
+        self.faults.call()?;
         Ok(false)
     }
 
@@ -246,9 +235,6 @@ impl Disk for MemDisk {
     }
 
     fn make_folder(&mut self, _name: &Name) -> Result<(), Failed> {
-        if self.is_failing() {
-            return Err(self.fail());
-        }
-        Ok(())
+        self.faults.call()
     }
 }

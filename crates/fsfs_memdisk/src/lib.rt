@@ -1,8 +1,10 @@
-//! The outside, kept in memory. It tells all that it has.
+//! The outside kept in memory: disks, a host that has them, streams, a clock and dice. It tells all that it has.
 #![tactic(auto)]
 
 mod crash;
 mod disk;
+mod faults;
+mod files;
 mod host;
 mod operations;
 mod streams;

@@ -1,77 +1,68 @@
-// What a disk in memory keeps, and how it finds a file.
-ghost use Rattle.std.specs.Prelude.{◌≡◌, Some, None, MatchOption};
-ghost use Rattle.std.specs.FinMap as map;
-ghost use Rattle.fsfs_disk.specs.Trace.{files_after};
-ghost use Rattle.fsfs_memdisk.specs.Stored.{files_of, operations_of};
+// The operations that a disk in memory keeps.
+ghost use Rattle.std.specs.Prelude.{◌≡◌, OnOk, OnErr, IfOk};
+ghost use Rattle.fsfs_disk.specs.Trace.{changed};
+ghost use Rattle.fsfs_memdisk.specs.MemFiles.{content};
 
-use fsfs_disk::Name;
-use std::collections::VecDeque;
+use crate::files::{Bytes, MemFiles};
+use fsfs_base::Name;
+use std::alloc::{AllocError, Global};
+use std::rc::Rc;
 
+/// A file: its name and its bytes.
 #[derive(Drop)]
 pub struct MemFile {
     pub name: Name,
-    pub bytes: Vec<u8>,
+    pub bytes: Bytes,
 }
 
+/// A change of names.
 #[derive(Drop)]
 pub enum MemChange {
     Put(MemFile),
+    /// From the first name to the second.
     Rename(Name, Name),
     Remove(Name),
     FirmNames,
 }
 
+/// A change that was done, or only attempted.
 #[derive(Drop)]
 pub struct MemOperation {
     pub done: bool,
     pub change: MemChange,
 }
 
-fn find_first<'a>(first: &'a [MemFile], name: &Name) -> Option<&'a [u8]>
-    ensures { MatchOption result (map.get (files_of first.now) name.now ≡ None) (λ b. map.get (files_of first.now) name.now ≡ Some b.now) }
-{
-    for file in first {
-        if file.name.is(name) {
-            return Some(&file.bytes);
-        }
+impl MemFile {
+    pub fn new(alloc: Global, name: &Name, bytes: &[u8]) -> Result<MemFile, AllocError>
+        ensures name { IfOk result (λ file. file.name ≡ name.now) }
+        ensures bytes { IfOk result (λ file. content file.bytes ≡ bytes.now) }
+    {
+        Ok(MemFile {
+            name: name.copy(),
+            bytes: Rc::new(alloc, Vec::from_slice(alloc, bytes)?)?,
+        })
     }
-    None
 }
 
-/// The bytes of the file with a name, after the operations. The newest operation is the first.
-pub fn find<'a>(
-    first: &'a [MemFile],
-    operations: &'a VecDeque<MemOperation>,
-    name: &Name,
-) -> Option<&'a [u8]>
-    ensures { let m = files_after (files_of first.now) (operations_of operations.now.items) in
-        MatchOption result (map.get m name.now ≡ None) (λ b. map.get m name.now ≡ Some b.now) }
-{
-    let mut wanted = name.copy();
-    for operation in operations {
-        if !operation.done {
-            continue;
-        }
-        match &operation.change {
-            MemChange::Put(file) => {
-                if file.name.is(&wanted) {
-                    return Some(&file.bytes);
-                }
-            }
+impl MemChange {
+    ghost use Rattle.fsfs_memdisk.specs.Stored.{change_of};
+
+    /// Makes the change of these files.
+    pub fn apply(&self, files: &mut MemFiles) -> Result<(), AllocError>
+        ensures ok { OnOk result (files.new ≡ changed (change_of self.now) files.old) }
+        ensures err { OnErr result (files.new ≡ files.old) }
+    {
+        match self {
+            MemChange::Put(file) => files.insert(file.name.copy(), file.bytes.clone()?),
             MemChange::Rename(from, to) => {
-                if to.is(&wanted) {
-                    wanted = from.copy();
-                } else if from.is(&wanted) {
-                    return None;
-                }
+                let bytes = files.share(from)?;
+                files.replace(from, to, bytes)
             }
-            MemChange::Remove(gone) => {
-                if gone.is(&wanted) {
-                    return None;
-                }
+            MemChange::Remove(name) => {
+                files.remove(name);
+                Ok(())
             }
-            MemChange::FirmNames => {}
+            MemChange::FirmNames => Ok(()),
         }
     }
-    find_first(first, &wanted)
 }
