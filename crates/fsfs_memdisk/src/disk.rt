@@ -116,6 +116,13 @@ impl MemDisk {
         self.faults.count
     }
 
+    /// How many calls there were. A call that finds no memory for what it is to keep is not counted.
+    pub fn calls(&self) -> u64
+        ensures { result ≡ self.now.faults.calls }
+    {
+        self.faults.calls()
+    }
+
     /// The bytes of a file.
     pub fn file(&self, name: &Name) -> Option<&[u8]>
         ensures { MatchOption result (file_at (trace_of self.now) name.now ≡ None) (λ b. file_at (trace_of self.now) name.now ≡ Some b.now) }

@@ -27,6 +27,13 @@ impl Faults {
         }
     }
 
+    /// How many calls there were.
+    pub fn calls(&self) -> u64
+        ensures { result ≡ self.now.calls }
+    {
+        self.calls
+    }
+
     /// Counts a call. It fails where it is listed, and only there.
     pub fn call(&mut self) -> Result<(), Failed>
         ensures listed { IsErr result ↔ IsTrue (is_next_listed self.old) }

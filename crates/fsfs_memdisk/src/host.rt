@@ -73,6 +73,20 @@ impl MemHost {
     {
         take(&mut self.disks, path)
     }
+
+    /// How often a mount failed.
+    pub fn mount_faults(&self) -> u64
+        ensures { result ≡ self.now.mount_faults }
+    {
+        self.mount_faults
+    }
+
+    /// How often the disks failed that it took back.
+    pub fn disk_faults(&self) -> u64
+        ensures { result ≡ self.now.disk_faults }
+    {
+        self.disk_faults
+    }
 }
 
 // Takes the disk of a path out of its place, which stays.
