@@ -1,5 +1,6 @@
 //! The edge: the real outside of the programs. Folders and files of the machine, its standard streams, its clock, its
-//! random bytes and the words of the command line. None of it tells what it holds; each counts its failures.
+//! random bytes and the words of the command line. The disks and the streams tell nothing of what they hold, and count
+//! their failures.
 #![tactic(auto)]
 
 mod arguments;
