@@ -1,0 +1,54 @@
+// Runs of a program in memory.
+use fsfs_memdisk::{FixedClock, FixedDice, MemDisk, MemHost, MemSink, MemSource, NoGate};
+use fsfs_top::{Tool, command};
+use std::alloc::{AllocError, Global};
+
+/// The moment at which each example runs: 2024-01-02T03:04:05.678901Z.
+pub const MOMENT: u64 = 1_704_164_645_678_901;
+
+/// What a run answered and printed.
+#[derive(Drop)]
+pub struct Ran {
+    pub status: u8,
+    pub out: MemSink,
+    pub err: MemSink,
+}
+
+/// A host with this disk at the path `R`.
+pub fn host_with(alloc: Global, disk: MemDisk) -> Result<MemHost, AllocError> {
+    let mut host = MemHost::new(alloc);
+    host.add_disk("R", disk)?;
+    Ok(host)
+}
+
+/// A host with an empty disk at the path `R`.
+pub fn empty_host(alloc: Global) -> Result<MemHost, AllocError> {
+    host_with(alloc, MemDisk::new(alloc))
+}
+
+fn words(alloc: Global, texts: &[&str]) -> Result<Vec<String>, AllocError> {
+    let mut words = Vec::new(alloc);
+    for text in texts {
+        words.push(String::from_str(alloc, text)?)?;
+    }
+    Ok(words)
+}
+
+/// Runs a program with these words; its dice are all zero.
+pub fn run(
+    alloc: Global,
+    tool: Tool,
+    host: &mut MemHost,
+    texts: &[&str],
+) -> Result<Ran, AllocError> {
+    let words = words(alloc, texts)?;
+    let mut input = MemSource::new(Vec::new(alloc));
+    let mut out = MemSink::new(alloc);
+    let mut err = MemSink::new(alloc);
+    let mut clock = FixedClock::new(MOMENT);
+    let mut dice = FixedDice { bytes: [0; 16] };
+    let status = command(
+        alloc, tool, &words, host, &mut input, &mut out, &mut err, &mut clock, &mut dice, &NoGate,
+    );
+    Ok(Ran { status, out, err })
+}

@@ -1,0 +1,7 @@
+//! The worked examples of the store, run through the top call over disks in memory.
+#![tactic(auto)]
+
+#[cfg(test)]
+mod commands;
+#[cfg(test)]
+mod create;
