@@ -6,12 +6,12 @@ use Rattle.fsfs_disk.specs.Crash.{AllImages, Leaves}
 use Rattle.fsfs_disk.proofs.CrashLemmas.{leaves_with}
 use Rattle.fsfs_top.specs.Answers.{line_of}
 use Rattle.fsfs_top.specs.Output.{Prints}
-use Rattle.fsfs_top.specs.CreatedFiles.{identifier_text, random_identifier}
-use Rattle.fsfs_top.specs.Creation.{IsCreated, IsStopped, IsNoneOrWhole, IsUnpublished, IsNoRepository, CreateFails}
+use Rattle.fsfs_repo.specs.CreatedFiles.{identifier_text, random_identifier}
+use Rattle.fsfs_repo.specs.Creation.{IsCreated, IsStopped, IsNoneOrWhole, IsUnpublished, IsNoRepository, CreateFails}
 use Rattle.fsfs_top.specs.Faults.{fault_from}
 use Rattle.fsfs_top.specs.Command.{Asks, Drawn, Created, Did, IsNoneOrCreated, Tells}
-use Rattle.fsfs_top.specs.declared.creation.CreateFault.{CreateFault}
-use Rattle.fsfs_top.specs.declared.creation.CreateFault.TheVariants as create
+use Rattle.fsfs_repo.specs.declared.creation.CreateFault.{CreateFault}
+use Rattle.fsfs_repo.specs.declared.creation.CreateFault.TheVariants as create
 use Rattle.fsfs_top.specs.declared.fault.Fault.{Fault}
 use Rattle.fsfs_top.specs.declared.fault.Fault.TheVariants.{Usage, AlreadyRepo, MountFault, DiskFault, Memory}
 use Rattle.fsfs_top.specs.declared.tool.Tool.{Tool}

@@ -1,7 +1,7 @@
 -- What a command answers: a fault or none, the line that tells of it, and the status.
 use Rattle.std.specs.Prelude.{ℕ, List, ◌++◌, codes, Option, Some, None}
-use Rattle.fsfs_top.specs.declared.fault.DiskPlace.{DiskPlace}
-use Rattle.fsfs_top.specs.declared.fault.DiskPlace.TheVariants.{Read, CreatePut, CreateFirm, CreateRename, CreateLast}
+use Rattle.fsfs_repo.specs.declared.place.DiskPlace.{DiskPlace}
+use Rattle.fsfs_repo.specs.declared.place.DiskPlace.TheVariants.{Read, CreatePut, CreateFirm, CreateRename, CreateLast}
 use Rattle.fsfs_top.specs.declared.fault.Fault.{Fault}
 use Rattle.fsfs_top.specs.declared.fault.Fault.TheVariants.{Usage, AlreadyRepo, MountFault, DiskFault, Memory}
 use Rattle.fsfs_top.specs.declared.tool.Tool.{Tool}

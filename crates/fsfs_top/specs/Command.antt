@@ -6,8 +6,8 @@ use Rattle.fsfs_disk.specs.Streams.{Adds}
 use Rattle.fsfs_top.specs.Output.{AddsFront}
 use Rattle.fsfs_top.specs.Answers.{line_of}
 use Rattle.fsfs_top.specs.Words.{Creates}
-use Rattle.fsfs_top.specs.CreatedFiles.{identifier_text, random_identifier}
-use Rattle.fsfs_top.specs.Creation.{IsCreated, IsStopped, IsNoneOrWhole, IsRepository, IsNoRepository}
+use Rattle.fsfs_repo.specs.CreatedFiles.{identifier_text, random_identifier}
+use Rattle.fsfs_repo.specs.Creation.{IsCreated, IsStopped, IsNoneOrWhole, IsRepository, IsNoRepository}
 use Rattle.fsfs_top.specs.declared.fault.Fault.{Fault}
 use Rattle.fsfs_top.specs.declared.fault.Fault.TheVariants.{Usage, AlreadyRepo, MountFault, DiskFault, Memory}
 use Rattle.fsfs_top.specs.declared.tool.Tool.{Tool}

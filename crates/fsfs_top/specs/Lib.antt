@@ -1,7 +1,5 @@
 pub mod Answers
 pub mod Command
-pub mod CreatedFiles
-pub mod Creation
 pub mod Faults
 pub mod Output
 pub mod Words

@@ -2,22 +2,8 @@
 ghost use Rattle.std.specs.Prelude.{◌≡◌};
 ghost use Rattle.fsfs_top.specs.Answers.{fault_words, status_of};
 
+use fsfs_repo::{CreateFault, DiskPlace};
 use thiserror::Error;
-
-/// The place of a call of a disk: which call it was that failed.
-#[derive(Clone, Copy, Debug, PartialEq, Eq)]
-pub enum DiskPlace {
-    /// The look whether there is a repository.
-    Read,
-    /// A folder or a file of a new repository is made.
-    CreatePut,
-    /// The names of its files are made firm.
-    CreateFirm,
-    /// `db/format` gets its name, which makes the files a repository.
-    CreateRename,
-    /// That name is made firm.
-    CreateLast,
-}
 
 /// Why a command didn't do what its words say. The printed words are those of `fault_text`.
 #[derive(Clone, Copy, Debug, PartialEq, Eq, Error)]
@@ -37,6 +23,21 @@ pub enum Fault {
     /// Memory was wanting.
     #[error("out of memory")]
     Memory,
+}
+
+impl From<CreateFault> for Fault {
+    ghost use Rattle.std.specs.Prelude.{◌≡◌};
+    ghost use Rattle.fsfs_top.specs.Faults.{fault_from};
+
+    ghost from_gives = { λ e f. f ≡ fault_from e };
+
+    fn from(fault: CreateFault) -> Fault {
+        match fault {
+            CreateFault::AlreadyRepo => Fault::AlreadyRepo,
+            CreateFault::DiskFault(place) => Fault::DiskFault(place),
+            CreateFault::Memory => Fault::Memory,
+        }
+    }
 }
 
 /// The words that tell of a fault.

@@ -3,17 +3,17 @@ ghost use Rattle.std.specs.Prelude.{◌≡◌, ◌≢◌, ◌≤◌, ℕ, List, 
 ghost use Rattle.fsfs_disk.specs.Fault.{Rose};
 ghost use Rattle.fsfs_disk.specs.Trace.{Trace};
 ghost use Rattle.fsfs_disk.specs.Crash.{AllImages, Leaves};
-ghost use Rattle.fsfs_top.specs.Creation.{IsUnpublished, HasRepository};
+ghost use Rattle.fsfs_repo.specs.Creation.{IsUnpublished, HasRepository};
 ghost use Rattle.fsfs_top.specs.Answers.{answer_of};
 ghost use Rattle.fsfs_top.specs.Command.{Asks, Created, Did, IsNoneOrCreated, Tells, fault_of};
 ghost use Rattle.fsfs_top.specs.declared.fault.Fault.{Fault};
 
-use crate::creation::create;
 use crate::fault::{Fault, status};
 use crate::output::print_fault;
 use crate::tool::Tool;
 use crate::words::{CreateWords, read_create};
 use fsfs_disk::{Clock, Dice, Gate, Host, Sink, Source};
+use fsfs_repo::create;
 use std::alloc::Global;
 use uuid::Builder;
 

@@ -3,11 +3,11 @@ ghost use Rattle.std.specs.Prelude.{◌≡◌, ◌≤◌, map, option_map, Some,
 ghost use Rattle.fsfs_disk.specs.Fault.{Rose};
 ghost use Rattle.fsfs_disk.specs.Trace.{Trace};
 ghost use Rattle.fsfs_disk.specs.Crash.{AllImages, Leaves};
-ghost use Rattle.fsfs_top.specs.CreatedFiles.{named, identifier_text};
-ghost use Rattle.fsfs_top.specs.Creation.{after_puts, after_publishing, after_creation, StopsInPuts, StopsPublishing, StopsAt, HasRepository, IsNoRepository, IsUnpublished, IsCreated, IsNoneOrWhole, CreateFails};
+ghost use Rattle.fsfs_repo.specs.CreatedFiles.{named, identifier_text};
+ghost use Rattle.fsfs_repo.specs.Creation.{after_puts, after_publishing, after_creation, StopsInPuts, StopsPublishing, StopsAt, HasRepository, IsNoRepository, IsUnpublished, IsCreated, IsNoneOrWhole, CreateFails};
 
-use crate::fault::{DiskPlace, Fault};
 use crate::initial::{NewFile, created_files, format_text};
+use crate::place::DiskPlace;
 use fsfs_base::write_date;
 use fsfs_disk::{Disk, Failed, Name};
 use std::alloc::{AllocError, Global};
@@ -29,27 +29,12 @@ pub enum CreateFault {
 }
 
 impl From<AllocError> for CreateFault {
-    ghost use Rattle.fsfs_top.specs.declared.creation.CreateFault.TheVariants.{Memory};
+    ghost use Rattle.fsfs_repo.specs.declared.creation.CreateFault.TheVariants.{Memory};
 
     ghost from_gives = { λ _ e. e ≡ Memory };
 
     fn from(_: AllocError) -> CreateFault {
         CreateFault::Memory
-    }
-}
-
-impl From<CreateFault> for Fault {
-    ghost use Rattle.std.specs.Prelude.{◌≡◌};
-    ghost use Rattle.fsfs_top.specs.Faults.{fault_from};
-
-    ghost from_gives = { λ e f. f ≡ fault_from e };
-
-    fn from(fault: CreateFault) -> Fault {
-        match fault {
-            CreateFault::AlreadyRepo => Fault::AlreadyRepo,
-            CreateFault::DiskFault(place) => Fault::DiskFault(place),
-            CreateFault::Memory => Fault::Memory,
-        }
     }
 }
 

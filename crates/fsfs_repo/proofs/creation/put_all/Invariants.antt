@@ -1,7 +1,7 @@
 use Rattle.std.proofs.Common.{◌≡◌, ◌≤◌, map, option_map, take}
-use Rattle.fsfs_top.specs.CreatedFiles.{named}
-use Rattle.fsfs_top.specs.Creation.{after_puts}
-use Rattle.fsfs_top.proofs.creation.put_all.Given as goal
+use Rattle.fsfs_repo.specs.CreatedFiles.{named}
+use Rattle.fsfs_repo.specs.Creation.{after_puts}
+use Rattle.fsfs_repo.proofs.creation.put_all.Given as goal
 
 -- the files so far were put
 abbrev pub invariant-loop-file : goal.invariant-loop-file

@@ -7,7 +7,7 @@ use Rattle.uuid.specs.Parts.{with_version, with_variant}
 use Rattle.uuid.specs.declared.Variant.TheVariants.{RFC4122}
 use Rattle.uuid.specs.declared.Version.TheVariants.{Random}
 use Rattle.fsfs_base.specs.Files.{Files, NamedFile, lay_over}
-use Rattle.fsfs_top.specs.declared.initial.NewFile.{NewFile}
+use Rattle.fsfs_repo.specs.declared.initial.NewFile.{NewFile}
 
 -- a file to be written, as its name and bytes
 abbrev pub named : NewFile → NamedFile

@@ -1,0 +1,2 @@
+pub mod CreatedFiles
+pub mod Creation
