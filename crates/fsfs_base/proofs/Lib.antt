@@ -8,3 +8,4 @@ pub mod TxnNameTexts
 pub mod PathTextLemmas
 pub mod DigestTexts
 pub mod ResultLemmas
+pub mod PropNameTexts
