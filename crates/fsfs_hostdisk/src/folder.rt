@@ -94,7 +94,7 @@ impl<R: Files<File = File> + AllocGlobal + Drop> Folder<R> {
 
     // Whether the open file is the one that has the name.
     pub fn has_name(&self, file: &File, name: &str) -> io::Result<bool> {
-        let open = file.metadata()?;
+        let open = finished(|| file.metadata())?;
         match self.found(name)? {
             Some(named) => Ok(named.dev() == open.dev() && named.ino() == open.ino()),
             None => Ok(false),
