@@ -1,0 +1,3 @@
+pub mod IdTexts
+pub mod RepTexts
+pub mod Appending

@@ -1,0 +1,10 @@
+//! Node-revisions: their ids, the representations of their texts and properties, and the lines that they are written in.
+//!
+//! The forms are those of the libsvn_fs_fs structure file for format 4.
+#![tactic(auto)]
+
+mod node_id;
+mod rep;
+
+pub use node_id::{NodeId, Part, Place, put_id, read_id, write_id};
+pub use rep::{Contents, Rep, Uniquifier, put_contents, put_rep, read_contents, read_rep};
