@@ -34,21 +34,31 @@ fn words(alloc: Global, texts: &[&str]) -> Result<Vec<String>, AllocError> {
     Ok(words)
 }
 
-/// Runs a program with these words; its dice are all zero.
-pub fn run(
+/// Runs a program with these words and this error output; its dice are all zero.
+pub fn run_into(
     alloc: Global,
     tool: Tool,
     host: &mut MemHost,
     texts: &[&str],
+    mut err: MemSink,
 ) -> Result<Ran, AllocError> {
     let words = words(alloc, texts)?;
-    let mut input = MemSource::new(Vec::new(alloc));
+    let mut input = MemSource::new(alloc, Vec::new(alloc));
     let mut out = MemSink::new(alloc);
-    let mut err = MemSink::new(alloc);
     let mut clock = FixedClock::new(MOMENT);
     let mut dice = FixedDice { bytes: [0; 16] };
     let status = command(
         alloc, tool, &words, host, &mut input, &mut out, &mut err, &mut clock, &mut dice, &NoGate,
     );
     Ok(Ran { status, out, err })
+}
+
+/// Runs a program with these words.
+pub fn run(
+    alloc: Global,
+    tool: Tool,
+    host: &mut MemHost,
+    texts: &[&str],
+) -> Result<Ran, AllocError> {
+    run_into(alloc, tool, host, texts, MemSink::new(alloc))
 }

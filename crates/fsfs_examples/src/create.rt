@@ -1,7 +1,7 @@
 // A repository is created, or not.
-use crate::commands::{empty_host, host_with, run};
+use crate::commands::{empty_host, host_with, run, run_into};
 use fsfs_disk::Name;
-use fsfs_memdisk::{MemDisk, MemHost};
+use fsfs_memdisk::{MemDisk, MemHost, MemSink};
 use fsfs_top::Tool;
 use std::alloc::{AllocError, Global};
 use std::test::Fail;
@@ -42,7 +42,12 @@ fn create(alloc: Global, host: &mut MemHost) -> Result<(u8, bool), AllocError> {
 fn creates_a_repository(rt: HostRuntime) -> Result<(), Fail> {
     let alloc = rt.alloc();
     let mut host = empty_host(alloc)?;
-    let ran = run(alloc, Tool::Admin, &mut host, &["create", "R", "--shard", "2"])?;
+    let ran = run(
+        alloc,
+        Tool::Admin,
+        &mut host,
+        &["create", "R", "--shard", "2"],
+    )?;
     assert_eq!(rt; ran.status, 0);
     assert_eq!(rt; ran.out.bytes(), b"".as_slice());
     assert_eq!(rt; ran.err.bytes(), b"".as_slice());
@@ -61,6 +66,18 @@ fn a_repository_stays(rt: HostRuntime) -> Result<(), Fail> {
     assert_eq!(rt; again.err.bytes(), b"svnadmin: AlreadyRepo\n".as_slice());
     let disk = host.disk("R").ok_or("no disk")?;
     assert!(rt; is_created(alloc, disk)?);
+    Ok(())
+}
+
+// The second piece of the line can't be written.
+#[test]
+fn a_failing_error_output_changes_no_status(rt: HostRuntime) -> Result<(), Fail> {
+    let alloc = rt.alloc();
+    let mut host = empty_host(alloc)?;
+    let err = MemSink::with_faults(alloc, vec![in alloc; 2]?);
+    let ran = run_into(alloc, Tool::Admin, &mut host, &["create"], err)?;
+    assert_eq!(rt; ran.status, 2);
+    assert_eq!(rt; ran.err.bytes(), b"svnadmin".as_slice());
     Ok(())
 }
 
@@ -134,7 +151,12 @@ fn a_failing_call_is_told(rt: HostRuntime) -> Result<(), Fail> {
     let alloc = rt.alloc();
     for (call, line, count) in FAILING {
         let mut host = failing_host(alloc, call)?;
-        let ran = run(alloc, Tool::Admin, &mut host, &["create", "R", "--shard", "2"])?;
+        let ran = run(
+            alloc,
+            Tool::Admin,
+            &mut host,
+            &["create", "R", "--shard", "2"],
+        )?;
         assert_eq!(rt; ran.status, 4);
         assert_eq!(rt; ran.err.bytes(), line.as_bytes());
         let disk = host.disk("R").ok_or("no disk")?;
