@@ -41,7 +41,7 @@ same_path-refl [] = refl
 same_path-refl (x ∷ p) = both_true _ _ (same_name-refl x) (same_path-refl p)
 
 -- what is above a path is at or above its parent
-in_parent : (q p : Path) → covers q p ≡ true → covers p q ≡ false → covers q (parent p) ≡ true
+pub in_parent : (q p : Path) → covers q p ≡ true → covers p q ≡ false → covers q (parent p) ≡ true
 in_parent [] p c n = refl
 in_parent (x ∷ q) [] c n = absurd (false≢true c)
 in_parent (x ∷ []) (y ∷ []) c n = absurd (not_both (same_name y x && true) (both_true (same_name y x) true (turned x y (first_true (same_name x y) true c)) refl) n)
@@ -56,19 +56,19 @@ in_parent (x ∷ q) (y ∷ z ∷ p) c n =
     let rest : covers q (parent (z ∷ p)) ≡ true = in_parent q (z ∷ p) (second_true _ _ c) (not_true _ (λ h. not_both (same_name y x && covers (z ∷ p) q) (both_true _ _ back h) n)) in
     subst (λ k. covers (x ∷ q) (take k (y ∷ z ∷ p)) ≡ true) (sym e) (both_true _ _ same rest)
 
-negated : (b : Bool) → not b ≡ true → b ≡ false
+pub negated : (b : Bool) → not b ≡ true → b ≡ false
 negated true h = absurd (false≢true h)
 negated false h = refl
 
-dir_there : (o : Option Node) → is_dir_node o ≡ true → is_some o ≡ true
+pub dir_there : (o : Option Node) → is_dir_node o ≡ true → is_some o ≡ true
 dir_there None h = h
 dir_there (Some n) h = refl
 
 module _ (t : TreeFunction) (p : Path) (c : IsClosed t) (can : can_make t p ≡ true) where
-  free : is_some (t p) ≡ false
+  pub free : is_some (t p) ≡ false
   free = negated _ (second_true _ _ (first_true _ _ can))
 
-  above : (q : Path) → is_above q p ≡ true → is_some (t q) ≡ true
+  pub above : (q : Path) → is_above q p ≡ true → is_some (t q) ≡ true
   above q h = c q (parent p) (in_parent q p (first_true _ _ h) (negated _ (second_true _ _ h))) (dir_there (t (parent p)) (second_true _ _ can))
 
 module _ (t : TreeFunction) (p : Path) (o : Option Node) where
@@ -107,17 +107,17 @@ module _ (t : TreeFunction) (p : Path) (n : Node) (c : IsClosed t) (can : can_ma
     ])
   ]
 
-covers_rest : (to q x : Path) → covers to q ≡ true → covers q x ≡ true → covers (rest_after to q) (rest_after to x) ≡ true
+pub covers_rest : (to q x : Path) → covers to q ≡ true → covers q x ≡ true → covers (rest_after to q) (rest_after to x) ≡ true
 covers_rest [] q x h k = k
 covers_rest (w ∷ to) [] x h k = absurd (false≢true h)
 covers_rest (w ∷ to) (y ∷ q) [] h k = absurd (false≢true k)
 covers_rest (w ∷ to) (y ∷ q) (z ∷ x) h k = covers_rest to q x (second_true _ _ h) (second_true _ _ k)
 
-covers_front : (f a b : Path) → covers a b ≡ true → covers (f ++ a) (f ++ b) ≡ true
+pub covers_front : (f a b : Path) → covers a b ≡ true → covers (f ++ a) (f ++ b) ≡ true
 covers_front [] a b h = h
 covers_front (x ∷ f) a b h = both_true _ _ (same_name-refl x) (covers_front f a b h)
 
-nothing_after : (p : Path) → rest_after p p ≡ []
+pub nothing_after : (p : Path) → rest_after p p ≡ []
 nothing_after [] = refl
 nothing_after (x ∷ p) = nothing_after p
 
@@ -163,7 +163,7 @@ pub with_prop_some : (name : List ℕ) (value : Option (List ℕ)) (o : Option N
 with_prop_some name value None = refl
 with_prop_some name value (Some n) = refl
 
-file_there : (o : Option Node) → is_file_node o ≡ true → is_some o ≡ true
+pub file_there : (o : Option Node) → is_file_node o ≡ true → is_some o ≡ true
 file_there None h = h
 file_there (Some n) h = refl
 

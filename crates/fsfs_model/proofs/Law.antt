@@ -34,11 +34,11 @@ first_closed tree last is [] p c h = ap is_some is.first
 first_closed tree last is (x ∷ q) [] c h = absurd (false≢true c)
 first_closed tree last is (x ∷ q) (y ∷ p) c h = absurd (not_both _ h (ap is_some (is.alone y p)))
 
-closed : (tree : ℕ → TreeFunction) (last r : ℕ) → AreRevisions tree last → r ≤ last → IsClosed (tree r)
+pub closed : (tree : ℕ → TreeFunction) (last r : ℕ) → AreRevisions tree last → r ≤ last → IsClosed (tree r)
 closed tree last zero is le = first_closed tree last is
 closed tree last (suc r) is le = tree_closed (tree (suc r)) (is.next r (omega arith)).is_tree
 
-rooted : (tree : ℕ → TreeFunction) (last r : ℕ) → AreRevisions tree last → r ≤ last → is_some (tree r []) ≡ true
+pub rooted : (tree : ℕ → TreeFunction) (last r : ℕ) → AreRevisions tree last → r ≤ last → is_some (tree r []) ≡ true
 rooted tree last zero is le = ap is_some is.first
 rooted tree last (suc r) is le = ap is_some (is.next r (omega arith)).is_tree.root.1
 
@@ -49,7 +49,7 @@ first_ordered : (tree : ℕ → TreeFunction) (last : ℕ) → AreRevisions tree
 first_ordered tree last is [] n e = subst IsOrdered (Some-inj (empty_node Dir) n (sym is.first ∙ e)) (record { added = omega arith; props_changed = omega arith })
 first_ordered tree last is (x ∷ q) n e = absurd (not_both _ (ap is_some e) (ap is_some (is.alone x q)))
 
-ordered : (tree : ℕ → TreeFunction) (last r : ℕ) → AreRevisions tree last → r ≤ last → AreOrdered (tree r)
+pub ordered : (tree : ℕ → TreeFunction) (last r : ℕ) → AreRevisions tree last → r ≤ last → AreOrdered (tree r)
 ordered tree last zero is le = first_ordered tree last is
 ordered tree last (suc r) is le = (is.next r (omega arith)).ordered
 
@@ -83,7 +83,7 @@ pub record IsSound (tree : ℕ → TreeFunction) (last b : ℕ) (t : TreeFunctio
   pub own : DescribesBase (tree b) t marks
   pub known : b ≤ last
 
-premises : (tree : ℕ → TreeFunction) (last b h : ℕ) (t : TreeFunction) (marks : List Mark) → AreRevisions tree last → IsSound tree last b t marks → b ≤ h → h ≤ last → NoClash b (tree b) (tree h) t marks → Premises b (tree b) (tree h) t marks
+pub premises : (tree : ℕ → TreeFunction) (last b h : ℕ) (t : TreeFunction) (marks : List Mark) → AreRevisions tree last → IsSound tree last b t marks → b ≤ h → h ≤ last → NoClash b (tree b) (tree h) t marks → Premises b (tree b) (tree h) t marks
 premises tree last b h t marks is so le ge clear = record {
   rooted = rooted tree last b is so.known;
   closed_base = closed tree last b is so.known;

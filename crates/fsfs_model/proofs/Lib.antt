@@ -17,4 +17,10 @@ pub mod Landed
 pub mod Owns
 pub mod Later
 pub mod FoldLemmas
+pub mod Directories
+pub mod Contents
+pub mod Origins
+pub mod LandedContents
+pub mod NextHistory
+pub mod Legal
 pub mod Copying

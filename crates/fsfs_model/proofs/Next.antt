@@ -152,8 +152,8 @@ module _ (last base : ℕ) (a s t : TreeFunction) (marks : List Mark) (is : Prem
       ]
 
   -- a node is added no sooner than what is above it
-  pub next_below_born : (q p : Path) (m x : Node) → is_above q p ≡ true → new q ≡ Some m → new p ≡ Some x → m.added ≤ x.added
-  next_below_born q p m x ab e f = by (form p x f)
+  pub next_below_added : (q p : Path) (m x : Node) → is_above q p ≡ true → new q ≡ Some m → new p ≡ Some x → m.added ≤ x.added
+  next_below_added q p m x ab e f = by (form p x f)
     where
       c : covers q p ≡ true
       c = first_true _ _ ab

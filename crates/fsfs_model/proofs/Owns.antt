@@ -16,21 +16,21 @@ use Rattle.fsfs_model.proofs.Walk.{gone_by, gone_from, gone_down}
 
 -- ---- membership
 
-In-append : {A : Type 0} (xs ys : List A) (x : A) → In (xs ++ ys) x → In xs x ⊎ In ys x
+pub In-append : {A : Type 0} (xs ys : List A) (x : A) → In (xs ++ ys) x → In xs x ⊎ In ys x
 In-append [] ys x i = inr i
 In-append (y ∷ xs) ys x (inl e) = inl (inl e)
 In-append (y ∷ xs) ys x (inr i) = elim (In-append xs ys x i) [ inl w ↦ inl (inr w) | inr w ↦ inr w ]
 
-In-left : {A : Type 0} (xs ys : List A) (x : A) → In xs x → In (xs ++ ys) x
+pub In-left : {A : Type 0} (xs ys : List A) (x : A) → In xs x → In (xs ++ ys) x
 In-left (y ∷ xs) ys x (inl e) = inl e
 In-left (y ∷ xs) ys x (inr i) = inr (In-left xs ys x i)
 In-left [] ys x i = absurd i
 
-In-right : {A : Type 0} (xs ys : List A) (x : A) → In ys x → In (xs ++ ys) x
+pub In-right : {A : Type 0} (xs ys : List A) (x : A) → In ys x → In (xs ++ ys) x
 In-right [] ys x i = i
 In-right (y ∷ xs) ys x i = inr (In-right xs ys x i)
 
-In-filter : {A : Type 0} (p : A → Bool) (xs : List A) (x : A) → In (filter p xs) x → In xs x × (p x ≡ true)
+pub In-filter : {A : Type 0} (p : A → Bool) (xs : List A) (x : A) → In (filter p xs) x → In xs x × (p x ≡ true)
 In-filter p [] x i = absurd i
 In-filter p (y ∷ xs) x i = by (In-filter p xs x) (p y) refl i
   where
@@ -39,7 +39,7 @@ In-filter p (y ∷ xs) x i = by (In-filter p xs x) (p y) refl i
     by rec true e (inr w) = let r = rec w in (inr r.0, r.1)
     by rec false e w = let r = rec w in (inr r.0, r.1)
 
-In-filtered : {A : Type 0} (p : A → Bool) (xs : List A) (x : A) → In xs x → p x ≡ true → In (filter p xs) x
+pub In-filtered : {A : Type 0} (p : A → Bool) (xs : List A) (x : A) → In xs x → p x ≡ true → In (filter p xs) x
 In-filtered p [] x i h = absurd i
 In-filtered p (y ∷ xs) x i h = by (λ w. In-filtered p xs x w h) (p y) refl i
   where
@@ -54,7 +54,7 @@ In-filtered p (y ∷ xs) x i h = by (λ w. In-filtered p xs x w h) (p y) refl i
 abbrev pub more : List Path → Mark → List Mark
 more so_far m = if any_covers so_far m.path then [] else m ∷ []
 
-outer_push : (so_far : List Path) (ms : List Mark) (m : Mark) → outer_from so_far (ms ++ m ∷ []) ≡ outer_from so_far ms ++ more (made_by so_far ms) m
+pub outer_push : (so_far : List Path) (ms : List Mark) (m : Mark) → outer_from so_far (ms ++ m ∷ []) ≡ outer_from so_far ms ++ more (made_by so_far ms) m
 outer_push so_far [] m = by (any_covers so_far m.path)
   where
     by : (b : Bool) → cond b [] (m ∷ []) ≡ [] ++ cond b [] (m ∷ [])
@@ -67,11 +67,11 @@ outer_push so_far (x ∷ ms) m = by (outer_push (made_after so_far x.what x.path
     by rest true = rest
     by rest false = ap (λ v. x ∷ v) rest
 
-made_push : (so_far : List Path) (ms : List Mark) (m : Mark) → made_by so_far (ms ++ m ∷ []) ≡ made_after (made_by so_far ms) m.what m.path
+pub made_push : (so_far : List Path) (ms : List Mark) (m : Mark) → made_by so_far (ms ++ m ∷ []) ≡ made_after (made_by so_far ms) m.what m.path
 made_push so_far [] m = refl
 made_push so_far (x ∷ ms) m = made_push (made_after so_far x.what x.path) ms m
 
-make_adds : (so_far : List Path) (k : What) (p : Path) → is_make k ≡ true → made_after so_far k p ≡ so_far ++ p ∷ []
+pub make_adds : (so_far : List Path) (k : What) (p : Path) → is_make k ≡ true → made_after so_far k p ≡ so_far ++ p ∷ []
 make_adds so_far (Make src) p h = refl
 make_adds so_far Gone p h = absurd (false≢true h)
 make_adds so_far Text p h = absurd (false≢true h)
@@ -81,10 +81,10 @@ module _ (base t u : TreeFunction) (marks : List Mark) (m : Mark) (cb : IsClosed
   abbrev pub longer : List Mark
   longer = marks ++ m ∷ []
 
-  in_outer : (x : Mark) → In (outer marks) x → In (outer longer) x
+  pub in_outer : (x : Mark) → In (outer marks) x → In (outer longer) x
   in_outer x i = subst (λ v. In v x) (sym (outer_push [] marks m)) (In-left (outer marks) (more (made marks) m) x i)
 
-  from_outer : (x : Mark) → In (outer longer) x → In (outer marks) x ⊎ ((m ≡ x) × (any_covers (made marks) m.path ≡ false))
+  pub from_outer : (x : Mark) → In (outer longer) x → In (outer marks) x ⊎ ((m ≡ x) × (any_covers (made marks) m.path ≡ false))
   from_outer x i = elim (In-append (outer marks) (more (made marks) m) x (subst (λ v. In v x) (outer_push [] marks m) i)) [
     | inl w ↦ inl w
     | inr w ↦ inr (by (any_covers (made marks) m.path) refl w)
@@ -95,10 +95,10 @@ module _ (base t u : TreeFunction) (marks : List Mark) (m : Mark) (cb : IsClosed
       by false e (inl q) = (q, e)
       by false e (inr w) = absurd w
 
-  new_outer : any_covers (made marks) m.path ≡ false → In (outer longer) m
+  pub new_outer : any_covers (made marks) m.path ≡ false → In (outer longer) m
   new_outer h = subst (λ v. In v m) (sym (outer_push [] marks m)) (In-right (outer marks) (more (made marks) m) m (subst (λ b. In (cond b [] (m ∷ [])) m) (sym h) (inl refl)))
 
-  gone_stays : (p : Path) → (effects marks p).deleted ≡ true → (effects longer p).deleted ≡ true
+  pub gone_stays : (p : Path) → (effects marks p).deleted ≡ true → (effects longer p).deleted ≡ true
   gone_stays p h = let g = gone_by marks p h in gone_from longer g.0 p (in_outer g.0 g.1) g.2 g.3
 
   stays : (x : Path) → ((is_some (base x) ≡ false) ⊎ ((effects marks x).deleted ≡ true)) → (is_some (base x) ≡ false) ⊎ ((effects longer x).deleted ≡ true)
@@ -106,7 +106,7 @@ module _ (base t u : TreeFunction) (marks : List Mark) (m : Mark) (cb : IsClosed
   stays x (inr g) = inr (gone_stays x g)
 
   -- what stands in the tree and is below nothing made is in the base
-  in_base : (p : Path) → is_some (t p) ≡ true → any_covers (made marks) p ≡ false → is_some (base p) ≡ true
+  pub in_base : (p : Path) → is_some (t p) ≡ true → any_covers (made marks) p ≡ false → is_some (base p) ≡ true
   in_base p h n = elim (cases (is_some (base p))) [
     | inl w ↦ w
     | inr w ↦ let q = is.own p w h in absurd (not_both _ (found_in (λ v. covers v p) (made marks) q.0 q.1 q.2) n)

@@ -29,7 +29,7 @@ shape_by n d false (Some v) (Some y) x e = let k = some_is _ _ e in From v refl 
 pub shape : (n : ℕ) (d : Effects) (a s t : Option Node) (x : Node) → landed_at n d a s t ≡ Some x → Shape n d s x
 shape n d a s t x e = shape_by n d _ s (chosen d a s t) x e
 
-pick : (b : Bool) (n k : ℕ) → ((b ≡ true) × (cond b n k ≡ n)) ⊎ ((b ≡ false) × (cond b n k ≡ k))
+pub pick : (b : Bool) (n k : ℕ) → ((b ≡ true) × (cond b n k ≡ n)) ⊎ ((b ≡ false) × (cond b n k ≡ k))
 pick true n k = inl (refl, refl)
 pick false n k = inr (refl, refl)
 
