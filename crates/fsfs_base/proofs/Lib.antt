@@ -9,3 +9,4 @@ pub mod PathTextLemmas
 pub mod DigestTexts
 pub mod ResultLemmas
 pub mod PropNameTexts
+pub mod DateReadings

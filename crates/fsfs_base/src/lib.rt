@@ -20,7 +20,7 @@ mod txn_name;
 
 pub use bad_path::{BadPath, PathError, PathFault};
 pub use change_map::{Action, Change, ChangeMap, Folded};
-pub use date::write_date;
+pub use date::{read_date, write_date};
 pub use digest::HexDigest;
 pub use edit::Edit;
 pub use fsfs_text::{B36, next_b36, read_b36, read_dec, write_b36, write_dec};
