@@ -23,4 +23,7 @@ pub mod Origins
 pub mod LandedContents
 pub mod NextHistory
 pub mod Legal
+pub mod Joined
+pub mod Folds
+pub mod FoldingLaw
 pub mod Copying

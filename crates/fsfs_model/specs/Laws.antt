@@ -1,14 +1,20 @@
 -- The laws of the flat model.
-use Rattle.std.specs.Prelude.{◌≡◌, ℕ, suc, ◌<◌, ◌≤◌, true, List, ◌⊎◌, [], ◌∷◌, ◌++◌, Option, Some, None, is_some, if◌then◌else◌}
+use Rattle.std.specs.FinMap.{get}
+use Rattle.std.specs.Prelude.{◌≡◌, ℕ, ◌<◌, ◌≤◌, Bool, true, not, List, ◌⊎◌, [], ◌∷◌, ◌++◌, Option, Some, None, is_some, if◌then◌else◌}
 use Rattle.fsfs_base.specs.declared.mark.Mark.{Mark}
-use Rattle.fsfs_base.specs.Paths.{Path}
+use Rattle.fsfs_base.specs.declared.mark.What.{What}
+use Rattle.fsfs_base.specs.declared.mark.What.TheVariants.{Make, Gone, Text, Prop}
+use Rattle.fsfs_base.specs.declared.change_map.Change.{Change}
+use Rattle.fsfs_base.specs.declared.change_map.Action.TheVariants.{Delete}
+use Rattle.fsfs_base.specs.Paths.{Path, covers, is_above, same_path}
 use Rattle.fsfs_base.specs.Nodes.{Node, TreeFunction}
-use Rattle.fsfs_base.specs.Marks.{outer, made, made_after, any_covers}
+use Rattle.fsfs_base.specs.Marks.{outer, made, made_after, any_covers, is_make}
+use Rattle.fsfs_base.specs.Folding.{fold}
 use Rattle.fsfs_base.specs.Landing.{land, is_clash, NoClash}
 use Rattle.fsfs_base.specs.Histories.{IsTree, AreRevisions, IsHistory}
 use Rattle.fsfs_base.specs.PathHistories.{path_history, leads_to, go_on}
 use Rattle.fsfs_base.specs.Revisions.{Revision, tree_of}
-use Rattle.fsfs_base.specs.Transactions.{IsTransaction, Entry, IsEntry, IsNext, IsLegal}
+use Rattle.fsfs_base.specs.Transactions.{IsTransaction, Entry, IsEntry, IsNext, IsLegal, last_of}
 
 -- x is in the list
 abbrev pub In : {A : Type 0} → List A → A → Type 0
@@ -52,3 +58,30 @@ pub record PathHistoriesEnd (h : List Revision) : Type 0 where
   pub falls : (r : ℕ) (p : Path) (n : Node) (to : ℕ × Path) → tree_of h r p ≡ Some n → leads_to p n ≡ Some to → (to.0 < r) × (is_some (tree_of h to.0 to.1) ≡ true)
   -- each point stands in the tree of its revision
   pub stands : (r : ℕ) (p : Path) (point : ℕ × Path) → is_some (tree_of h r p) ≡ true → In (path_history (tree_of h) r p) point → is_some (tree_of h point.0 point.1) ≡ true
+
+-- two nodes that differ in their numbers at most, or nothing at both places
+abbrev pub AreSameNodes : Option Node → Option Node → Type 0
+AreSameNodes None None = Unit {0}
+AreSameNodes None (Some x) = ⊥
+AreSameNodes (Some y) None = ⊥
+AreSameNodes (Some y) (Some x) = (y.kind ≡ x.kind) × (y.text ≡ x.text) × (y.properties ≡ x.properties) × (y.source ≡ x.source)
+
+-- an edit at q that makes nothing at p and takes nothing away there
+abbrev pub leaves : What → Path → Path → Bool
+leaves (Make source) q p = not (same_path q p)
+leaves Gone q p = not (covers q p)
+leaves Text q p = true
+leaves Prop q p = true
+
+-- what the changed paths of a revision that a commit adds tell
+pub record FoldingTells : Type 0 where
+  -- where the revision's tree differs from its parent's in kind, text, properties or source, a change stands there or above
+  pub changed : (h : List Revision) (e : Entry) (next : Revision) → IsHistory h → IsEntry h e → IsNext h e next → (p : Path)
+      → AreSameNodes (get next.tree p) (tree_of h (last_of h) p) ⊎ ((q : Path) × (covers q p ≡ true) × (is_some (get next.changes q) ≡ true))
+  -- none stands below a delete
+  pub below_a_delete : (h : List Revision) (e : Entry) (next : Revision) → IsHistory h → IsEntry h e → IsNext h e next → (q p : Path) (c : Change) → is_above q p ≡ true
+      → get next.changes q ≡ Some c → c.action ≡ Delete → get next.changes p ≡ None
+  -- a path of which nothing was said, that was made, and then deleted, has none
+  pub undone : (before between : List Mark) (made gone : Mark) (p : Path) → fold before p ≡ None
+      → made.path ≡ p → is_make made.what ≡ true → ((m : Mark) → In between m → leaves m.what m.path p ≡ true) → gone.path ≡ p → gone.what ≡ Gone
+      → fold (before ++ (made ∷ (between ++ (gone ∷ [])))) p ≡ None

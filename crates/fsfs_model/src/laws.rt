@@ -2,7 +2,7 @@
 ghost use Rattle.std.specs.Prelude.{List};
 ghost use Rattle.fsfs_base.specs.Revisions.{Revision};
 ghost use Rattle.fsfs_base.specs.Histories.{IsHistory};
-ghost use Rattle.fsfs_model.specs.Laws.{OuterMarks, TwoMergesAreOne, LandingLeavesATree, CommitsMakeAHistory, PathHistoriesEnd};
+ghost use Rattle.fsfs_model.specs.Laws.{OuterMarks, TwoMergesAreOne, LandingLeavesATree, CommitsMakeAHistory, FoldingTells, PathHistoriesEnd};
 
 /// Which marks of a transaction are outer: those at or above whose path nothing is that the transaction made itself.
 pub fn outer_marks_stand_alone()
@@ -24,6 +24,12 @@ pub fn landing_leaves_a_tree()
 /// and numbers; and so is what comes of commits in turn.
 pub fn commits_make_a_history()
     ensures { CommitsMakeAHistory }
+{}
+
+/// Wherever the tree of a revision that a commit adds differs from its parent's in kind, text, properties or source, a
+/// changed path stands there or above. None stands below a delete, and a path that was made and deleted again has none.
+pub fn folding_tells()
+    ensures { FoldingTells }
 {}
 
 /// The history of a path goes from each point to an earlier revision, where something stands, and so it ends; and each of
