@@ -49,6 +49,13 @@ fn open_lock<R: Files<File = File> + AllocGlobal + Drop>(
     }
 }
 
+// Removes the file of a lock that was made for it, while the lock is held.
+fn unmake_lock<R: Files<File = File> + AllocGlobal + Drop>(folder: &Folder<R>, lock: &WriteLock) {
+    if lock.is_made {
+        let _ = folder.remove(WRITE_LOCK);
+    }
+}
+
 impl Writer {
     // One without the lock.
     pub fn new(alloc: Global) -> Writer {
@@ -76,18 +83,22 @@ impl Writer {
             // The file is in use by now, whoever made it.
             Err(TryLockError::WouldBlock) => return Err(io::Error::from(ErrorKind::WouldBlock)),
             Err(TryLockError::Error(error)) => {
-                if lock.is_made {
-                    let _ = folder.remove(WRITE_LOCK);
-                }
+                unmake_lock(folder, &lock);
                 return Err(error);
             }
         }
-        // Its last holder may have removed it between the two calls: then it locks nothing.
-        if !folder.has_name(&lock.file, WRITE_LOCK)? {
-            return Err(io::Error::from(ErrorKind::WouldBlock));
+        match folder.has_name(&lock.file, WRITE_LOCK) {
+            Ok(true) => {
+                self.lock = Some(lock);
+                self.note_unfinished(folder)
+            }
+            // Its last holder removed it between the two calls, so it locks nothing.
+            Ok(false) => Err(io::Error::from(ErrorKind::WouldBlock)),
+            Err(error) => {
+                unmake_lock(folder, &lock);
+                Err(error)
+            }
         }
-        self.lock = Some(lock);
-        self.note_unfinished(folder)
     }
 
     // A folder that an earlier run made and left without a repository may not be firm in the one above.
@@ -95,18 +106,16 @@ impl Writer {
         &mut self,
         folder: &Folder<R>,
     ) -> io::Result<()> {
-        if folder.size(FORMAT)?.is_none() && folder.is_readable(ABOVE) {
-            self.note(ABOVE)?;
+        match folder.size(FORMAT) {
+            Ok(None) if folder.is_readable(ABOVE) => self.note(ABOVE),
+            _ => Ok(()),
         }
-        Ok(())
     }
 
     // Gives the lock back. Where there is no repository, what was made goes again, as far as it is empty.
     pub fn release<R: Files<File = File> + AllocGlobal + Drop>(self, folder: &Folder<R>) {
         if let Some(lock) = &self.lock {
-            if lock.is_made {
-                let _ = folder.remove(WRITE_LOCK);
-            }
+            unmake_lock(folder, lock);
         }
         if let Ok(None) = folder.size(FORMAT) {
             for name in self.made.iter().rev() {
