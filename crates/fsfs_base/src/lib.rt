@@ -15,6 +15,8 @@ mod path;
 mod path_text;
 mod prop_name;
 mod small_fault;
+#[cfg(test)]
+mod text_tests;
 mod tree;
 mod txn_name;
 
