@@ -20,7 +20,7 @@ use Rattle.fsfs_noderev.specs.Ids.{IsRev, IsNumber64, b36_at, rev_at, number_at}
 use Rattle.fsfs_noderev.specs.Reps.{UniquifierValue, RepValue, ContentsValue, Own, At, IsRevOrNone, IsMarked, IsUnique, AreDigests, IsRep, AreContents, rev_or_none_at, result_ok, digest_at, marked_at, unique_at, split_digests, digests_at, rep_at, contents_at}
 use Rattle.fsfs_noderev.proofs.IdTexts.{b36_spells, rev_spells, pick}
 
-number_spells : Spells IsNumber64 number_at
+pub number_spells : Spells IsNumber64 number_at
 number_spells = numeral_spells 10 18446744073709551615 (omega arith)
 
 -- ---- digests

@@ -1,2 +1,7 @@
 pub mod Ids
 pub mod Reps
+pub mod Lines
+pub mod Fields
+pub mod Faults
+pub mod NodeRevs
+pub mod Steps

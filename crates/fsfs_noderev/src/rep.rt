@@ -44,7 +44,7 @@ pub enum Contents {
     At(Rep),
 }
 
-fn rev_or_none(text: &[u8]) -> Option<Option<u32>>
+pub(crate) fn rev_or_none(text: &[u8]) -> Option<Option<u32>>
     ensures { result ≡ rev_or_none_at text.now }
 {
     if text == b"-1".as_slice() {

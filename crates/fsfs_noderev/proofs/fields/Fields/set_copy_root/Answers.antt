@@ -1,0 +1,6 @@
+use Rattle.std.proofs.Common.{refl, sym, ◌∙◌, inr}
+use Rattle.fsfs_noderev.proofs.FieldTexts.{none_of}
+use Rattle.fsfs_noderev.proofs.fields.Fields.set_copy_root.Goals as goal
+
+pub returns-in-None-clause-err : goal.returns-in-None-clause-err
+returns-in-None-clause-err c = inr (none_of c.args.self.now.copy_root (sym c.is_some.ensures ∙ c.if-is_some.false), (λ x w. let e = sym c.in-None.is ∙ c.in_ok-root_of.ensures.only x w in absurd cc), refl)
