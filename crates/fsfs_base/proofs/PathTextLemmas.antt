@@ -1,8 +1,8 @@
 -- Names between slashes: read exactly, refused exactly.
-use Rattle.std.proofs.Common.{◌≡◌, ◌≢◌, ℕ, suc, ◌+◌, ◌<◌, ◌≤◌, Bool, true, false, cond, eqb, ltb, leb, List, [], ◌∷◌, ◌++◌, length, Option, Some, None, refl, sym, ap, subst, ◌∙◌, append_assoc, arith, inl, inr, ◌⊎◌, map, take, get_or}
+use Rattle.std.proofs.Common.{◌≡◌, ◌≢◌, ℕ, suc, ◌+◌, ◌<◌, ◌≤◌, Bool, true, false, ◌||◌, not, cond, eqb, ltb, leb, List, [], ◌∷◌, ◌++◌, length, Option, Some, None, refl, sym, ap, subst, ◌∙◌, append_assoc, arith, inl, inr, ◌⊎◌, map, take, get_or}
 use Rattle.std.proofs.lemmas.Bool.{ltb-true, ltb-false, leb-true, leb-false, lt-leb, le-ltb, eqb-true, eqb-false, ne_eqb}
 use Rattle.std.proofs.lemmas.List.{nil_from_length, length-append, take_more, take_all, append-nil, map-append}
-use Rattle.std.specs.List.{AllByRecursion, position, slice_split, onto_first}
+use Rattle.std.specs.List.{AllByRecursion, position, slice_split, onto_first, list_any}
 use Rattle.fsfs_text.proofs.Readers.{chosen}
 use Rattle.fsfs_base.specs.Paths.{Name, Path, names_text, path_text, is_root}
 use Rattle.fsfs_base.specs.PathTexts.{is_control, is_dots, HasNoSlash, IsName, IsPath, IsNameFault, HasBadName, IsBadJoin, IsBadPath, IsJoined}
@@ -318,3 +318,33 @@ last_name path n size = (get_or path n [], sym (take_all (n + 1) path (omega (ar
 
 pub written_more : (out text name : List ℕ) → ((out ++ text) ++ 47 ∷ []) ++ name ≡ out ++ (text ++ 47 ∷ name)
 written_more out text name = simp append_assoc
+
+-- ---- a name alone
+
+no_slash : (name : Name) → list_any (λ b. eqb b 47) name ≡ false → HasNoSlash name
+no_slash [] e = tt
+no_slash (c ∷ name) e = go (eqb c 47) refl e (no_slash name)
+  where
+    go : (t : Bool) → eqb c 47 ≡ t → (t || list_any (λ b. eqb b 47) name) ≡ false → (list_any (λ b. eqb b 47) name ≡ false → HasNoSlash name) → HasNoSlash (c ∷ name)
+    go true is e h = absurd cc
+    go false is e h = (eqb-false c 47 is, h e)
+
+no_slash_found : (name : Name) → HasNoSlash name → list_any (λ b. eqb b 47) name ≡ false
+no_slash_found [] h = refl
+no_slash_found (c ∷ name) h = rw (ne_eqb c 47 h.0) (no_slash_found name h.1)
+
+pub name_taken : (name : Name) → list_any (λ b. eqb b 47) name ≡ false → name_fault_at 0 0 name ≡ None → IsName name
+name_taken name slash e = (name_good 0 0 name (no_slash name slash) e).1
+
+pub name_taken_back : (name : Name) → IsName name → (list_any (λ b. eqb b 47) name ≡ false) × (name_fault_at 0 0 name ≡ None)
+name_taken_back name is = (no_slash_found name is.no_slash, name_passes 0 0 name (omega arith) is)
+
+pub name_is_taken : (name : Name) (slash : Bool) → slash ≡ list_any (λ b. eqb b 47) name → None ≡ name_fault_at 0 0 name → (not slash ≡ true → IsName name) × (IsName name → not slash ≡ true)
+name_is_taken name slash is e = (λ t. name_taken name (sym is ∙ off slash t) (sym e), λ w. ap not (is ∙ (name_taken_back name w).0))
+  where
+    off : (b : Bool) → not b ≡ true → b ≡ false
+    off true t = absurd cc
+    off false t = refl
+
+pub name_is_refused : (name : Name) (bad : BadPath) → Some bad ≡ name_fault_at 0 0 name → IsName name → ⊥
+name_is_refused name bad e w = let h = e ∙ (name_taken_back name w).1 in cc

@@ -32,6 +32,7 @@ pub use name::Name;
 pub use node::{Kind, Node, Text};
 pub use pairs::Pairs;
 pub use path::FsPath;
+pub use path_text::is_name;
 pub use prop_name::{BadPropName, PropName, PropNameError};
 pub use small_fault::{SmallFault, SmallFile};
 pub use tree::Tree;

@@ -1,11 +1,11 @@
 //! Paths and their texts: `/`, or each name with a `/` before it.
-ghost use Rattle.std.specs.Prelude.{◌≡◌, ◌≢◌, ◌∷◌, ℕ, List, ◌==◌, ◌+◌, ◌<◌, ◌≤◌, ◌^◌, ◌++◌, length, map, [], OnOk, IfOk, IfErr, MatchOption, MatchResult};
-ghost use Rattle.std.specs.List.{position, slice_split};
+ghost use Rattle.std.specs.Prelude.{◌≡◌, ◌≢◌, ◌∷◌, ℕ, List, ◌==◌, ◌+◌, ◌<◌, ◌≤◌, ◌^◌, ◌++◌, length, map, [], IsTrue, ◌↔◌, OnOk, IfOk, IfErr, MatchOption, MatchResult};
+ghost use Rattle.std.specs.List.{position, slice_split, list_any};
 ghost use Rattle.std.specs.String.{string_bytes};
 ghost use Rattle.fsfs_base.specs.declared.bad_path.PathError.TheVariants.{OutOfMemory};
 ghost use Rattle.fsfs_base.specs.declared.bad_path.PathFault.TheVariants.{PathTooLong};
 ghost use Rattle.fsfs_base.specs.Paths.{Path, names_text, path_text};
-ghost use Rattle.fsfs_base.specs.PathTexts.{is_control, is_dots, IsPath, IsBadPath, IsJoined, IsBadJoin, IsRefusal};
+ghost use Rattle.fsfs_base.specs.PathTexts.{is_control, is_dots, IsName, IsPath, IsBadPath, IsJoined, IsBadJoin, IsRefusal};
 ghost use Rattle.fsfs_base.specs.PathReading.{name_fault_at, names_fault_at};
 
 use crate::bad_path::{BadPath, PathError, PathFault};
@@ -60,6 +60,23 @@ fn name_fault(above: usize, at: usize, name: &str) -> Option<BadPath>
         return bad(at, PathFault::Dot);
     }
     None
+}
+
+fn has_slash(name: &str) -> bool
+    ensures { result ≡ list_any (λ b. b == 47) name.now }
+{
+    name.as_bytes().iter().any(|byte| *byte == b'/')
+}
+
+/// Whether a path may have this name: not empty, at most 255 bytes, without `/` and control characters, and
+/// neither `.` nor `..`.
+pub fn is_name(name: &str) -> bool
+    ensures { IsTrue result ↔ IsName name.now }
+{
+    match name_fault(0, 0, name) {
+        None => !has_slash(name),
+        Some(_) => false,
+    }
 }
 
 /// What is wrong with the first of the names that is refused.
