@@ -100,7 +100,7 @@ applied (MakeFile path) tree t = with_node t path (Some (empty_node File))
 applied (Delete path) tree t = without t path
 applied (Copy rev from to) tree t = with_copy t rev (tree rev) from to
 applied (PutText path text) tree t = with_node t path (with_text text.items (t path))
-applied (SetProp path name value) tree t = with_node t path (with_prop name.items (bytes_of value) (t path))
+applied (SetProp path name value) tree t = with_node t path (with_prop name (bytes_of value) (t path))
 
 -- the mark that the edit adds
 abbrev pub mark_of : Edit → (ℕ → TreeFunction) → TreeFunction → Mark

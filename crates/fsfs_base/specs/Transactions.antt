@@ -1,7 +1,13 @@
 -- What a transaction may be over a history, what committing it adds, and which histories come of commits. (svn_fs.h,
 -- svn_fs_begin_txn2 and svn_fs_commit_txn; the definitions are this project's profile.)
-use Rattle.std.specs.Prelude.{◌≡◌, ℕ, ◌-◌, ◌<◌, ◌≤◌, true, List, [], ◌∷◌, ◌++◌, length}
+use Rattle.std.specs.Prelude.{◌≡◌, ℕ, ◌-◌, ◌<◌, ◌≤◌, true, List, [], ◌∷◌, ◌++◌, length, Some}
 use Rattle.std.specs.FinMap.{FinMap, get}
+use Rattle.std.specs.Map.{lookup}
+use Rattle.std.specs.BTreeMap.{is_at}
+use Rattle.std.specs.Cmp.Lexicographic.{slice_cmp}
+use Rattle.std.specs.Ordering.{nat_cmp}
+use Rattle.jiff_core.specs.declared.civil.datetime.DateTime.{DateTime}
+use Rattle.fsfs_base.specs.Dates.{IsDateText}
 use Rattle.fsfs_base.specs.declared.edit.Edit.{Edit}
 use Rattle.fsfs_base.specs.declared.mark.Mark.{Mark}
 use Rattle.fsfs_base.specs.Paths.{Path, path_cmp}
@@ -32,9 +38,18 @@ pub record Entry : Type 0 where
 abbrev pub last_of : List Revision → ℕ
 last_of h = length h - 1
 
+-- `svn:date`
+abbrev pub date_name : List ℕ
+date_name = 115 ∷ 118 ∷ 110 ∷ 58 ∷ 100 ∷ 97 ∷ 116 ∷ 101 ∷ []
+
+-- a date among the properties has the form in which dates are stored
+abbrev pub IsDated : List (List ℕ × List ℕ) → Type 0
+IsDated properties = (value : List ℕ) → lookup (is_at (slice_cmp nat_cmp date_name)) properties ≡ Some value → (date : DateTime) × IsDateText value date
+
 -- the entry is of a transaction over the history
-abbrev pub IsEntry : List Revision → Entry → Type 0
-IsEntry h e = IsTransaction (tree_of h) (last_of h) e.base (get e.tree) e.marks
+pub record IsEntry (h : List Revision) (e : Entry) : Type 0 where
+  pub transaction : IsTransaction (tree_of h) (last_of h) e.base (get e.tree) e.marks
+  pub dated : IsDated e.properties
 
 -- committing the entry adds this revision
 pub record IsNext (h : List Revision) (e : Entry) (next : Revision) : Type 0 where

@@ -1,5 +1,6 @@
 //! The edits of a transaction.
 use crate::path::FsPath;
+use crate::prop_name::PropName;
 
 /// One edit of a transaction, with its arguments.
 #[derive(Debug, Drop)]
@@ -30,7 +31,7 @@ pub enum Edit {
     /// Sets a property, or removes it where there is no value.
     SetProp {
         path: FsPath,
-        name: Vec<u8>,
+        name: PropName,
         value: Option<Vec<u8>>,
     },
 }

@@ -181,5 +181,5 @@ edit_changes (PutText path text) tree last t c co h =
     let same = with_text_some text.items (t path) in
     ((file_there (t path) h, in_place t path (with_text text.items (t path)) same), placed_closed t path (with_text text.items (t path)) same c)
 edit_changes (SetProp path name value) tree last t c co h =
-    let same = with_prop_some name.items (bytes_of value) (t path) in
-    ((h, in_place t path (with_prop name.items (bytes_of value) (t path)) same), placed_closed t path (with_prop name.items (bytes_of value) (t path)) same c)
+    let same = with_prop_some name (bytes_of value) (t path) in
+    ((h, in_place t path (with_prop name (bytes_of value) (t path)) same), placed_closed t path (with_prop name (bytes_of value) (t path)) same c)

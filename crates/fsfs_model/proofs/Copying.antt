@@ -80,4 +80,4 @@ nothing_new (Delete path) tree t q n h none = elim (cases (covers path q)) [
   | inr w ↦ not_both _ (sym (left t path q w) ∙ h) none
 ]
 nothing_new (PutText path text) tree t q n h none = not_both _ (sym (in_place t path (with_text text.items (t path)) (with_text_some text.items (t path)) q) ∙ h) none
-nothing_new (SetProp path name value) tree t q n h none = not_both _ (sym (in_place t path (with_prop name.items (bytes_of value) (t path)) (with_prop_some name.items (bytes_of value) (t path)) q) ∙ h) none
+nothing_new (SetProp path name value) tree t q n h none = not_both _ (sym (in_place t path (with_prop name (bytes_of value) (t path)) (with_prop_some name (bytes_of value) (t path)) q) ∙ h) none

@@ -185,4 +185,4 @@ edit_dirs (MakeFile path) tree last t has dirs h = made_dirs t path has h (Some 
 edit_dirs (Delete path) tree last t has dirs h = deleted_dirs t path has (negated _ (first_true _ _ h))
 edit_dirs (Copy rev from to) tree last t has dirs h = copied_dirs t rev (tree rev) from to has (dirs rev (leb-true rev last (second_true _ _ (first_true _ _ h)))) (first_true _ _ (first_true _ _ h))
 edit_dirs (PutText path text) tree last t has dirs h = placed_dirs t path (with_text text.items (t path)) (text_dir text.items (t path)) (with_text_some text.items (t path)) has
-edit_dirs (SetProp path name value) tree last t has dirs h = placed_dirs t path (with_prop name.items (bytes_of value) (t path)) (prop_dir name.items (bytes_of value) (t path)) (with_prop_some name.items (bytes_of value) (t path)) has
+edit_dirs (SetProp path name value) tree last t has dirs h = placed_dirs t path (with_prop name (bytes_of value) (t path)) (prop_dir name (bytes_of value) (t path)) (with_prop_some name (bytes_of value) (t path)) has

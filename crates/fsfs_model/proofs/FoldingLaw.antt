@@ -261,10 +261,10 @@ module _ (h : List Revision) (e : Entry) (next : Revision) (is : IsHistory h) (w
   revisions = subst (λ k. AreRevisions (tree_of h) k) (sym last_is) is.revisions
 
   tell : FoldTells (get e.tree) e.marks
-  tell = fold_tells (tree_of h) (last_of h) e.base (get e.tree) e.marks revisions was
+  tell = fold_tells (tree_of h) (last_of h) e.base (get e.tree) e.marks revisions was.transaction
 
   pre : Premises e.base (tree_of h e.base) (tree_of h (last_of h)) (get e.tree) e.marks
-  pre = premises (tree_of h) (last_of h) e.base (last_of h) (get e.tree) e.marks revisions (sound (tree_of h) (last_of h) e.base (get e.tree) e.marks revisions was) (let b = adds_it.based in let c = is.counted in omega (arith, b, c, last_is)) (omega arith) adds_it.clear
+  pre = premises (tree_of h) (last_of h) e.base (last_of h) (get e.tree) e.marks revisions (sound (tree_of h) (last_of h) e.base (get e.tree) e.marks revisions was.transaction) (let b = adds_it.based in let c = is.counted in omega (arith, b, c, last_is)) (omega arith) adds_it.clear
 
   pub next_told : (p : Path) → AreSameNodes (get next.tree p) (tree_of h (last_of h) p) ⊎ ((q : Path) × (covers q p ≡ true) × (is_some (get next.changes q) ≡ true))
   next_told p = elim (differs_told e.base (tree_of h e.base) (tree_of h (last_of h)) (get e.tree) e.marks pre tell (length h) p) [

@@ -98,7 +98,7 @@ next_history h e next is was adds = record {
     last_is = ap (λ k. k - 1) is.counted ∙ omega arith
 
     here : IsTransaction (tree_of h) last e.base (get e.tree) e.marks
-    here = subst (λ k. IsTransaction (tree_of h) k e.base (get e.tree) e.marks) last_is was
+    here = subst (λ k. IsTransaction (tree_of h) k e.base (get e.tree) e.marks) last_is was.transaction
 
     clear : NoClash e.base (tree_of h e.base) (tree_of h last) (get e.tree) e.marks
     clear = subst (λ k. NoClash e.base (tree_of h e.base) (tree_of h k) (get e.tree) e.marks) last_is adds.clear

@@ -104,8 +104,8 @@ module _ (tree : ℕ → TreeFunction) (last : ℕ) (base t : TreeFunction) (mar
   edit_content (PutText path text) h = changed_content base t (applied (PutText path text) tree t) marks (mark_of (PutText path text) tree t) cb ct is keeps (inl refl) (λ e. h) (beside t path (with_text text.items (t path)))
       (λ x e. (record x { text = Bytes text.items }, at_path t path (with_text text.items (t path)) ∙ ap (with_text text.items) e, refl, refl, inr refl))
       (edit_changes (PutText path text) tree last t ct co h).0.1
-  edit_content (SetProp path name value) h = changed_content base t (applied (SetProp path name value) tree t) marks (mark_of (SetProp path name value) tree t) cb ct is keeps (inr refl) (λ e. absurd (prop_text e)) (beside t path (with_prop name.items (bytes_of value) (t path)))
-      (λ x e. (record x { properties = changed_props name.items (bytes_of value) x.properties }, at_path t path (with_prop name.items (bytes_of value) (t path)) ∙ ap (with_prop name.items (bytes_of value)) e, refl, refl, inl refl))
+  edit_content (SetProp path name value) h = changed_content base t (applied (SetProp path name value) tree t) marks (mark_of (SetProp path name value) tree t) cb ct is keeps (inr refl) (λ e. absurd (prop_text e)) (beside t path (with_prop name (bytes_of value) (t path)))
+      (λ x e. (record x { properties = changed_props name (bytes_of value) x.properties }, at_path t path (with_prop name (bytes_of value) (t path)) ∙ ap (with_prop name (bytes_of value)) e, refl, refl, inl refl))
       (edit_changes (SetProp path name value) tree last t ct co h).0.1
     where
       prop_text : Prop ≡ Text → ⊥
@@ -148,8 +148,8 @@ module _ (tree : ℕ → TreeFunction) (last : ℕ) (t : TreeFunction) (known : 
   edit_sources (PutText path text) h = placed_sources path (with_text text.items (t path)) (λ x from f e k.
       let n = changed_source (t path) (with_text text.items (t path)) (λ n e. (record n { text = Bytes text.items }, ap (with_text text.items) e, refl)) (ap (with_text text.items)) x e in
       known path n.0 from f n.1 (sym n.2 ∙ k))
-  edit_sources (SetProp path name value) h = placed_sources path (with_prop name.items (bytes_of value) (t path)) (λ x from f e k.
-      let n = changed_source (t path) (with_prop name.items (bytes_of value) (t path)) (λ n e. (record n { properties = changed_props name.items (bytes_of value) n.properties }, ap (with_prop name.items (bytes_of value)) e, refl)) (ap (with_prop name.items (bytes_of value))) x e in
+  edit_sources (SetProp path name value) h = placed_sources path (with_prop name (bytes_of value) (t path)) (λ x from f e k.
+      let n = changed_source (t path) (with_prop name (bytes_of value) (t path)) (λ n e. (record n { properties = changed_props name (bytes_of value) n.properties }, ap (with_prop name (bytes_of value)) e, refl)) (ap (with_prop name (bytes_of value))) x e in
       known path n.0 from f n.1 (sym n.2 ∙ k))
 
 module _ (base t u : TreeFunction) (marks : List Mark) (m : Mark) (cb : IsClosed base) (ct : IsClosed t) (is : DescribesBase base t marks) (keeps : KeepsContent base t marks) where

@@ -3,14 +3,14 @@ ghost use Rattle.std.specs.Prelude.{◌≡◌, ◌&&◌, ◌++◌, nat_lt, true,
 ghost use Rattle.std.specs.BTreeSet as set;
 ghost use Rattle.std.specs.FinMap as map;
 ghost use Rattle.std.specs.Option.{option_copied};
-ghost use Rattle.fsfs_base.specs.Edits.{accepts, applied, can_make, within_limits, is_dir_node, is_file_node, with_text, with_prop, changed_props, bytes_of, fits_value, copied_node, rest_after, parent, entry_count};
+ghost use Rattle.fsfs_base.specs.Edits.{accepts, applied, can_make, within_limits, is_dir_node, is_file_node, with_text, with_prop, changed_props, bytes_of, fits_value, copied_node, rest_after, parent, entry_count, kind_of_node, mark_of};
 ghost use Rattle.fsfs_base.specs.Nodes.{empty_node, TreeFunction};
 ghost use Rattle.fsfs_base.specs.Paths.{Path, path_cmp, covers};
 ghost use Rattle.fsfs_base.specs.Revisions.{tree_of};
 ghost use Rattle.fsfs_base.specs.Transactions.{last_of};
 
 use crate::history::node_at;
-use fsfs_base::{Edit, FsPath, History, Kind, Node, Pairs, Text, Tree};
+use fsfs_base::{Edit, FsPath, History, Kind, Mark, Node, Pairs, PropName, Text, Tree, What};
 use std::alloc::{AllocError, Global};
 use std::collections::BTreeSet;
 
@@ -140,19 +140,23 @@ fn with_text(node: Option<&Node>, text: &Vec<u8>) -> Result<Option<Node>, AllocE
 
 // The node with a property set or removed.
 fn with_prop(
+    alloc: Global,
     node: Option<&Node>,
-    name: &Vec<u8>,
+    name: &PropName,
     value: &Option<Vec<u8>>,
 ) -> Result<Option<Node>, AllocError>
-    ensures { IfOk result (λ changed. changed ≡ with_prop name.now.items (bytes_of value.now) (option_copied node.entry)) }
+    ensures { IfOk result (λ changed. changed ≡ with_prop name.now (bytes_of value.now) (option_copied node.entry)) }
 {
     match node {
         None => Ok(None),
         Some(node) => {
             let mut changed = node.clone()?;
             match value {
-                None => changed.properties.remove(name),
-                Some(value) => changed.properties.set(name.clone()?, value.clone()?)?,
+                None => changed.properties.remove(name.as_str().as_bytes()),
+                Some(value) => {
+                    let name = Vec::from_slice(alloc, name.as_str().as_bytes())?;
+                    changed.properties.set(name, value.clone()?)?;
+                }
             }
             Ok(Some(changed))
         }
@@ -198,7 +202,7 @@ fn node_after(
             path: changed,
             name,
             value,
-        } if path == changed => with_prop(own.get(changed), name, value),
+        } if path == changed => with_prop(alloc, own.get(changed), name, value),
         _ => cloned(own.get(path)),
     }
 }
@@ -292,4 +296,35 @@ pub fn flat_apply(
         return Ok(None);
     }
     Ok(Some(tree_after(alloc, edit, history, own)?))
+}
+
+fn kind_of(node: Option<&Node>) -> Kind
+    ensures { result ≡ kind_of_node (option_copied node.entry) }
+{
+    match node {
+        None => Kind::Dir,
+        Some(node) => node.kind,
+    }
+}
+
+/// The mark that an edit of a transaction with the tree `own` adds, where it isn't refused.
+pub fn flat_mark(edit: &Edit, history: &History, own: &Tree) -> Result<Mark, AllocError>
+    ensures { IfOk result (λ mark. mark ≡ mark_of edit.now (tree_of history.now) (map.get own.now)) }
+{
+    let (path, kind, what) = match edit {
+        Edit::MakeDir { path } => (path, Kind::Dir, What::Make(None)),
+        Edit::MakeFile { path } => (path, Kind::File, What::Make(None)),
+        Edit::Delete { path } => (path, kind_of(own.get(path)), What::Gone),
+        Edit::Copy { rev, from, to } => {
+            let kind = kind_of(node_at(history, *rev, from));
+            (to, kind, What::Make(Some((*rev, from.clone()?))))
+        }
+        Edit::PutText { path, .. } => (path, kind_of(own.get(path)), What::Text),
+        Edit::SetProp { path, .. } => (path, kind_of(own.get(path)), What::Prop),
+    };
+    Ok(Mark {
+        path: path.clone()?,
+        kind,
+        what,
+    })
 }

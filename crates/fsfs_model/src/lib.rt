@@ -8,7 +8,7 @@ mod history;
 mod land;
 mod laws;
 
-pub use apply::flat_apply;
+pub use apply::{flat_apply, flat_mark};
 pub use clash::flat_clash;
 pub use fold::flat_fold;
 pub use history::flat_history;
