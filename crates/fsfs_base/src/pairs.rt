@@ -1,5 +1,5 @@
 //! Names with values: a node's or a revision's properties, a directory's entries.
-ghost use Rattle.std.specs.Prelude.{◌≡◌, [], List, ℕ, Option, option_map, OnOk, OnErr};
+ghost use Rattle.std.specs.Prelude.{◌≡◌, [], List, ℕ, Option, option_map, map, OnOk, OnErr};
 ghost use Rattle.std.specs.Cmp.Lexicographic.{slice_cmp};
 ghost use Rattle.std.specs.Ordering.{nat_cmp};
 ghost use Rattle.std.specs.Map.{lookup, remove_entry};
@@ -38,6 +38,13 @@ impl Pairs {
         ensures { option_map (λ value. value.now.items) result ≡ lookup (is_at (slice_cmp nat_cmp name.now)) self.now }
     {
         self.pairs.get(name)
+    }
+
+    /// The pairs as a map.
+    pub fn as_map(&self) -> &BTreeMap<Vec<u8>, Vec<u8>>
+        ensures { map (λ p. (p.0.items, p.1.items)) result.now.entries ≡ self.now }
+    {
+        &self.pairs
     }
 
     /// Gives the name this value.

@@ -1,0 +1,4 @@
+pub mod PutPairs
+pub mod Dumps
+pub mod ChildrenFiles
+pub mod ManyLoops

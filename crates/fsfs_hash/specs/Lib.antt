@@ -1,0 +1,4 @@
+pub mod Dump
+pub mod Children
+pub mod Reading
+pub mod Fault
