@@ -13,7 +13,7 @@ use Rattle.fsfs_disk.proofs.CrashLemmas.{leaves_at, leaves_then, leaves_with, ke
 use Rattle.fsfs_repo.specs.CreatedFiles.{format_text, unpublished_files, created_over}
 use Rattle.fsfs_repo.specs.Creation.{after_puts, after_firm, after_next, after_rename, after_publishing, after_creation, StopsInPuts, StopsPublishing, StopsAt, IsUnpublished, IsNoneOrWhole, IsStopped}
 use Rattle.fsfs_repo.specs.declared.place.DiskPlace.{DiskPlace}
-use Rattle.fsfs_repo.specs.declared.place.DiskPlace.TheVariants.{Read, CreatePut, CreateFirm, CreateRename, CreateLast}
+use Rattle.fsfs_repo.specs.declared.place.DiskPlace.TheVariants.{OpenFirm, OpenRead, Read, CreatePut, CreateFirm, CreateRename, CreateLast}
 use Rattle.fsfs_repo.proofs.CreatedFilesLemmas.{lacks, first_apart, lacks_rest, files_now-after_publishing, files_now-after_creation}
 
 -- another file makes no repository
@@ -101,6 +101,8 @@ leaves_last format (Some t) new at firm all =
     some_is u v e = cc
 
 leaves_publishing : (place : DiskPlace) (format : List ℕ) (old new : Option Trace) → StopsPublishing place format old new → IsFirm old → AllImages old IsUnpublished → Leaves old new (Publishes format old)
+leaves_publishing OpenFirm format old new at firm all = absurd at
+leaves_publishing OpenRead format old new at firm all = absurd at
 leaves_publishing Read format old new at firm all = absurd at
 leaves_publishing CreatePut format old new at firm all = leaves_next format old new at all
 leaves_publishing CreateFirm format old new at firm all = absurd at
@@ -141,6 +143,8 @@ leaves_from_firm files format old new lack all go =
 -- what a creation that failed leaves at each moment
 pub leaves_stopped : (place : DiskPlace) (files : List NamedFile) (format : List ℕ) (old new : Option Trace) → lacks (codes "db/format") files ≡ true → StopsAt place files format old new
     → AllImages old IsUnpublished → Leaves old new (CreatesFiles files format old)
+leaves_stopped OpenFirm files format old new lack at all = absurd at
+leaves_stopped OpenRead files format old new lack at all = absurd at
 leaves_stopped Read files format old new lack at all = same_leaves old new (CreatesFiles files format old) at
 leaves_stopped CreatePut files format old new lack at all =
     ⊎_elim (λ e. same_leaves old new (CreatesFiles files format old) e)
@@ -184,6 +188,8 @@ stopped_so place shard identifier date files format old same new f t s at =
     (subst (λ x. StopsAt place (unpublished_files identifier date) x same new) t (subst (λ x. StopsAt place x format same new) f at))
 
 pub is_stopped : (place : DiskPlace) (shard : ℕ) (identifier date : List ℕ) (moment : ℕ) (old new : Option Trace) → IsDateAt moment date → StopsAt place (unpublished_files identifier date) (format_text shard) old new → IsStopped place shard identifier moment old new
+is_stopped OpenFirm shard identifier date moment old new dated at = absurd at
+is_stopped OpenRead shard identifier date moment old new dated at = absurd at
 is_stopped Read shard identifier date moment old new dated at = at
 is_stopped CreatePut shard identifier date moment old new dated at = (date, dated, at)
 is_stopped CreateFirm shard identifier date moment old new dated at = (date, dated, at)

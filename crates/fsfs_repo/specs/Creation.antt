@@ -10,7 +10,7 @@ use Rattle.fsfs_repo.specs.CreatedFiles.{unpublished_files, format_text, created
 use Rattle.fsfs_repo.specs.declared.creation.CreateFault.{CreateFault}
 use Rattle.fsfs_repo.specs.declared.creation.CreateFault.TheVariants.{AlreadyRepo, DiskFault, Memory}
 use Rattle.fsfs_repo.specs.declared.place.DiskPlace.{DiskPlace}
-use Rattle.fsfs_repo.specs.declared.place.DiskPlace.TheVariants.{Read, CreatePut, CreateFirm, CreateRename, CreateLast}
+use Rattle.fsfs_repo.specs.declared.place.DiskPlace.TheVariants.{OpenFirm, OpenRead, Read, CreatePut, CreateFirm, CreateRename, CreateLast}
 
 -- these files were put, in order
 abbrev pub after_puts : List NamedFile → Trace → Trace
@@ -44,6 +44,8 @@ StopsInPuts files old new =
 
 -- where publishing failed, and what had been done
 abbrev pub StopsPublishing : DiskPlace → List ℕ → Option Trace → Option Trace → Type 0
+StopsPublishing OpenFirm format old new = ⊥
+StopsPublishing OpenRead format old new = ⊥
 StopsPublishing Read format old new = ⊥
 StopsPublishing CreatePut format old new = FailsToPut (codes "db/format-next") format old new
 StopsPublishing CreateFirm format old new = ⊥
@@ -52,6 +54,8 @@ StopsPublishing CreateLast format old new = FailsAt FirmNames (option_map (after
 
 -- where a creation failed, and what had been done. At CreatePut a folder failed, a file's put, or that of `db/format-next`.
 abbrev pub StopsAt : DiskPlace → List NamedFile → List ℕ → Option Trace → Option Trace → Type 0
+StopsAt OpenFirm files format old new = ⊥
+StopsAt OpenRead files format old new = ⊥
 StopsAt Read files format old new = new ≡ old
 StopsAt CreatePut files format old new = (new ≡ old) ⊎ (StopsInPuts files old new ⊎ StopsPublishing CreatePut format (option_map (after_firm files) old) new)
 StopsAt CreateFirm files format old new = FailsAt FirmNames (option_map (after_puts files) old) new

@@ -1,2 +1,5 @@
 pub mod CreatedFiles
 pub mod Creation
+pub mod WholeFile
+pub mod Opening
+pub mod OpenFaults

@@ -3,6 +3,10 @@
 /// The place of a call of a disk: which call it was that failed.
 #[derive(Clone, Copy, Debug, PartialEq, Eq)]
 pub enum DiskPlace {
+    /// The names of a repository that is opened are made firm.
+    OpenFirm,
+    /// A small file of it is read.
+    OpenRead,
     /// The look whether there is a repository.
     Read,
     /// A folder or a file of a new repository is made.

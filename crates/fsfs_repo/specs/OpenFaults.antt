@@ -1,0 +1,63 @@
+-- Why a repository is not opened.
+use Rattle.std.specs.Prelude.{ℕ, List, Option, Some, None, IfSome, option_map}
+use Rattle.fsfs_disk.specs.Trace.{Trace, files_now}
+use Rattle.fsfs_layout.specs.Small.{IsUuid, IsRevLine, IsMinUnpackedRev, IsBase36Line}
+use Rattle.fsfs_repo.specs.Opening.{SmallTexts, small_texts, IsNone, HasFormat, IsLinear, IsRefused}
+use Rattle.fsfs_repo.specs.declared.opening.Opened.{Opened}
+use Rattle.fsfs_repo.specs.declared.opening.SmallFiles.{SmallFiles}
+use Rattle.fsfs_repo.specs.declared.opening.OpenFault.{OpenFault}
+use Rattle.fsfs_repo.specs.declared.opening.OpenFault.TheVariants.{NotRepo, OtherFormat, Linear, Small, DiskFault, Memory}
+use Rattle.fsfs_repo.specs.declared.whole_file.FileFault.{FileFault}
+use Rattle.fsfs_repo.specs.declared.whole_file.FileFault.TheVariants as file
+use Rattle.fsfs_repo.specs.declared.place.DiskPlace.TheVariants.{OpenRead}
+use Rattle.std.specs.Prelude.{◌≡◌, ◌≤◌, ◌+◌}
+
+abbrev pub texts_of : SmallFiles → SmallTexts
+texts_of s = record {
+  format = option_map (λ v. v.items) s.format;
+  fs_type = s.fs_type.items;
+  uuid = s.uuid.items;
+  current = s.current.items;
+  min_unpacked_rev = s.min_unpacked_rev.items;
+  txn_current = s.txn_current.items;
+}
+
+-- what the files behind db/format say
+pub record IsOpenedBehind (shard_size : ℕ) (s : SmallTexts) (o : Opened) : Type 0 where
+  pub shards : o.shard_size ≡ shard_size
+  pub uuid : IsUuid s.uuid o.uuid
+  pub youngest : IsRevLine s.current o.youngest
+  pub min_unpacked_rev : IsMinUnpackedRev shard_size s.min_unpacked_rev o.min_unpacked_rev
+  pub within : o.min_unpacked_rev ≤ o.youngest + 1
+  pub next_txn : IsBase36Line s.txn_current o.next_txn.number
+
+-- a fact for a fault of the disk; want of memory is free, and nothing else comes
+abbrev pub IfOutside : Type 0 → OpenFault → Type 0
+IfOutside P NotRepo = ⊥
+IfOutside P (OtherFormat number) = ⊥
+IfOutside P Linear = ⊥
+IfOutside P (Small fault) = ⊥
+IfOutside P (DiskFault place) = P
+IfOutside P Memory = Unit {0}
+
+abbrev pub outside_of : FileFault → OpenFault
+outside_of file.Failed = DiskFault OpenRead
+outside_of file.Memory = Memory
+
+-- the cause of each refusal, in the bytes of the small files
+abbrev pub JudgedBecause : SmallTexts → OpenFault → Type 0
+JudgedBecause s NotRepo = IsNone s
+JudgedBecause s (OtherFormat number) = HasFormat s number
+JudgedBecause s Linear = IsLinear s
+JudgedBecause s (Small fault) = IsRefused s fault
+JudgedBecause s (DiskFault place) = ⊥
+JudgedBecause s Memory = ⊥
+
+-- the cause of each refusal, in the files of the disk; `rose` says that its count of faults rose
+abbrev pub OpensBecause : Type 0 → Option Trace → OpenFault → Type 0
+OpensBecause rose told NotRepo = IfSome told (λ t. IsNone (small_texts (files_now t)))
+OpensBecause rose told (OtherFormat number) = IfSome told (λ t. HasFormat (small_texts (files_now t)) number)
+OpensBecause rose told Linear = IfSome told (λ t. IsLinear (small_texts (files_now t)))
+OpensBecause rose told (Small fault) = IfSome told (λ t. IsRefused (small_texts (files_now t)) fault)
+OpensBecause rose told (DiskFault place) = rose
+OpensBecause rose told Memory = Unit {0}

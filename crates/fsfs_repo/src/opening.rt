@@ -1,0 +1,177 @@
+// Opening a repository: what its small files say.
+ghost use Rattle.std.specs.Prelude.{◌≡◌, ◌≤◌, ◌<◌, IfOk, IfErr, IfSome, option_map};
+ghost use Rattle.fsfs_disk.specs.Fault.{Rose};
+ghost use Rattle.fsfs_disk.specs.Trace.{files_now};
+ghost use Rattle.fsfs_repo.specs.Opening.{IsOpened, IsRefusedBehind, small_texts, text_at};
+ghost use Rattle.fsfs_repo.specs.OpenFaults.{texts_of, IsOpenedBehind, JudgedBecause, OpensBecause, IfOutside, outside_of};
+
+use crate::place::DiskPlace;
+use crate::whole_file::{FileFault, read_file};
+use fsfs_base::{B36, SmallFault, SmallFile};
+use fsfs_disk::{Disk, Name};
+use fsfs_layout::{
+    Format, Uuid, names, read_current, read_format, read_min_unpacked_rev, read_txn_current,
+    read_uuid,
+};
+use std::alloc::Global;
+use thiserror::Error;
+
+/// What the small files of a repository say.
+#[derive(Drop)]
+pub struct Opened {
+    pub uuid: Uuid,
+    /// How many revisions a shard has.
+    pub shard_size: u32,
+    pub youngest: u32,
+    /// The oldest revision that isn't packed: the first of a shard, at most the one that follows the youngest.
+    pub min_unpacked_rev: u32,
+    /// The number that the next transaction gets.
+    pub next_txn: B36,
+}
+
+/// Why a repository wasn't opened.
+#[derive(Clone, Copy, Debug, PartialEq, Eq, Error)]
+pub enum OpenFault {
+    /// There is none of this type of filesystem.
+    #[error("there is no repository")]
+    NotRepo,
+    /// It has another format.
+    #[error("the repository has another format")]
+    OtherFormat(u64),
+    /// It is not sharded.
+    #[error("the repository is not sharded")]
+    Linear,
+    /// A small file is not in its format.
+    #[error("a small file is damaged")]
+    Small(SmallFault),
+    /// A call of the disk failed.
+    #[error("the disk failed")]
+    DiskFault(DiskPlace),
+    /// Memory was wanting.
+    #[error("out of memory")]
+    Memory,
+}
+
+// The bytes of the small files; an absent file counts as empty, but for `db/format`.
+#[derive(Drop)]
+struct SmallFiles {
+    format: Option<Vec<u8>>,
+    fs_type: Vec<u8>,
+    uuid: Vec<u8>,
+    current: Vec<u8>,
+    min_unpacked_rev: Vec<u8>,
+    txn_current: Vec<u8>,
+}
+
+// The bytes of a small file, none where it isn't there.
+fn text_of<D: Disk>(alloc: Global, disk: &mut D, name: &Name) -> Result<Vec<u8>, OpenFault>
+    ensures bytes { IfSome (D.trace disk.old) (λ t. IfOk result (λ v. v.items ≡ text_at (files_now t) name.now)) }
+    ensures same { D.trace disk.new ≡ D.trace disk.old }
+    ensures mounted { D.mount_path disk.new ≡ D.mount_path disk.old }
+    ensures later { D.faults disk.old ≤ D.faults disk.new }
+    ensures failed { IfErr result (IfOutside (Rose (D.faults disk.old) (D.faults disk.new))) }
+{
+    match read_file(alloc, disk, name) {
+        Ok(Some(bytes)) => Ok(bytes),
+        Ok(None) => Ok(Vec::new(alloc)),
+        Err(fault) => Err(outside(fault)),
+    }
+}
+
+fn outside(fault: FileFault) -> OpenFault
+    ensures { result ≡ outside_of fault }
+{
+    match fault {
+        FileFault::Failed => OpenFault::DiskFault(DiskPlace::OpenRead),
+        FileFault::Memory => OpenFault::Memory,
+    }
+}
+
+// Reads the small files.
+fn read_small_files<D: Disk>(alloc: Global, disk: &mut D) -> Result<SmallFiles, OpenFault>
+    ensures texts { IfSome (D.trace disk.old) (λ t. IfOk result (λ s. texts_of s ≡ small_texts (files_now t))) }
+    ensures same { D.trace disk.new ≡ D.trace disk.old }
+    ensures mounted { D.mount_path disk.new ≡ D.mount_path disk.old }
+    ensures later { D.faults disk.old ≤ D.faults disk.new }
+    ensures failed { IfErr result (IfOutside (Rose (D.faults disk.old) (D.faults disk.new))) }
+{
+    let format = match read_file(alloc, disk, &names::format()) {
+        Ok(found) => found,
+        Err(fault) => return Err(outside(fault)),
+    };
+    let fs_type = text_of(alloc, disk, &names::fs_type())?;
+    let uuid = text_of(alloc, disk, &names::uuid())?;
+    let current = text_of(alloc, disk, &names::current())?;
+    let min_unpacked_rev = text_of(alloc, disk, &names::min_unpacked_rev())?;
+    let txn_current = text_of(alloc, disk, &names::txn_current())?;
+    Ok(SmallFiles {
+        format,
+        fs_type,
+        uuid,
+        current,
+        min_unpacked_rev,
+        txn_current,
+    })
+}
+
+// What the files behind `db/format` say.
+fn judge_sharded(files: &SmallFiles, shard_size: u32) -> Result<Opened, SmallFault>
+    requires { 0 < shard_size }
+    ensures opened { IfOk result (IsOpenedBehind shard_size (texts_of files.now)) }
+    ensures refused { IfErr result (IsRefusedBehind shard_size (texts_of files.now)) }
+{
+    let uuid = read_uuid(&files.uuid)?;
+    let youngest = read_current(&files.current)?;
+    let min_unpacked_rev = read_min_unpacked_rev(shard_size, &files.min_unpacked_rev)?;
+    if min_unpacked_rev as u64 > youngest as u64 + 1 {
+        return Err(SmallFault {
+            file: SmallFile::MinUnpackedRev,
+            at: 0,
+        });
+    }
+    let next_txn = read_txn_current(&files.txn_current)?;
+    Ok(Opened {
+        uuid,
+        shard_size,
+        youngest,
+        min_unpacked_rev,
+        next_txn,
+    })
+}
+
+// What the small files say.
+fn judge(files: &SmallFiles) -> Result<Opened, OpenFault>
+    ensures opened { IfOk result (IsOpened (texts_of files.now)) }
+    ensures refused { IfErr result (JudgedBecause (texts_of files.now)) }
+{
+    let Some(format) = &files.format else {
+        return Err(OpenFault::NotRepo);
+    };
+    if files.fs_type.as_slice() != b"fsfs\n".as_slice() {
+        return Err(OpenFault::NotRepo);
+    }
+    match read_format(format) {
+        Ok(Format::Other(number)) => Err(OpenFault::OtherFormat(number)),
+        Ok(Format::Linear) => Err(OpenFault::Linear),
+        Ok(Format::Sharded(shard_size)) => match judge_sharded(files, shard_size) {
+            Ok(opened) => Ok(opened),
+            Err(fault) => Err(OpenFault::Small(fault)),
+        },
+        Err(fault) => Err(OpenFault::Small(fault)),
+    }
+}
+
+/// Opens a repository: makes its names firm, and reads what its small files say.
+pub fn open<D: Disk>(alloc: Global, disk: &mut D) -> Result<Opened, OpenFault>
+    ensures opened { IfSome (D.trace disk.old) (λ t. IfOk result (IsOpened (small_texts (files_now t)))) }
+    ensures refused { IfErr result (OpensBecause (Rose (D.faults disk.old) (D.faults disk.new)) (D.trace disk.old)) }
+    ensures same { option_map files_now (D.trace disk.new) ≡ option_map files_now (D.trace disk.old) }
+    ensures mounted { D.mount_path disk.new ≡ D.mount_path disk.old }
+    ensures later { D.faults disk.old ≤ D.faults disk.new }
+{
+    if disk.firm_names().is_err() {
+        return Err(OpenFault::DiskFault(DiskPlace::OpenFirm));
+    }
+    let files = read_small_files(alloc, disk)?;
+    judge(&files)
+}
