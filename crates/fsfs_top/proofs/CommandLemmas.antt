@@ -1,20 +1,25 @@
 -- What a creation did, as the top call tells it.
-use Rattle.std.proofs.Common.{◌≡◌, ℕ, List, inl, inr, refl, sym, subst, ◌∙◌}
-use Rattle.std.specs.Prelude.{Option, Some, None, IfSome, Result, Ok, Err, IsErr}
-use Rattle.fsfs_disk.specs.Trace.{Trace}
+use Rattle.std.proofs.Common.{◌≡◌, ◌⊎◌, ℕ, List, inl, inr, ⊎_elim, refl, sym, ap, subst, ◌∙◌}
+use Rattle.std.specs.Prelude.{Option, Some, None, IfSome, option_map}
+use Rattle.std.specs.declared.cmp.Ordering.{Ordering}
+use Rattle.std.specs.declared.cmp.Ordering.TheVariants.{Less, Equal, Greater}
+use Rattle.std.specs.Ordering.{nat_cmp, is_eq}
+use Rattle.std.specs.Cmp.Lexicographic.{slice_cmp}
+use Rattle.std.specs.FinMap.{slice_cmp-IsAntisymmetric, nat_cmp-IsAntisymmetric}
+use Rattle.fsfs_base.specs.Files.{Files}
+use Rattle.fsfs_base.proofs.FileLemmas.{apart_by}
+use Rattle.fsfs_disk.specs.Trace.{Trace, files_now}
 use Rattle.fsfs_disk.specs.Crash.{AllImages, Leaves}
 use Rattle.fsfs_disk.proofs.CrashLemmas.{leaves_with}
-use Rattle.fsfs_top.specs.Answers.{line_of}
-use Rattle.fsfs_top.specs.Output.{Prints}
 use Rattle.fsfs_repo.specs.CreatedFiles.{identifier_text, random_identifier}
 use Rattle.fsfs_repo.specs.Creation.{IsCreated, IsStopped, IsNoneOrWhole, IsUnpublished, IsNoRepository, CreateFails}
-use Rattle.fsfs_top.specs.Faults.{fault_from}
-use Rattle.fsfs_top.specs.Command.{Asks, Drawn, Created, Did, IsNoneOrCreated, Tells}
+use Rattle.fsfs_repo.specs.Opening.{small_texts, IsOpened}
+use Rattle.fsfs_repo.specs.declared.opening.Opened.{Opened}
 use Rattle.fsfs_repo.specs.declared.creation.CreateFault.{CreateFault}
 use Rattle.fsfs_repo.specs.declared.creation.CreateFault.TheVariants as create
+use Rattle.fsfs_top.specs.Faults.{fault_from}
+use Rattle.fsfs_top.specs.Command.{Drawn, Created, IsYoungest, IsNoneOrCreated}
 use Rattle.fsfs_top.specs.declared.fault.Fault.{Fault}
-use Rattle.fsfs_top.specs.declared.fault.Fault.TheVariants.{Usage, AlreadyRepo, MountFault, DiskFault, Memory}
-use Rattle.fsfs_top.specs.declared.tool.Tool.{Tool}
 
 given : {X : Type 0} (told : Option X) (x y : X) → x ≡ y → IfSome told (λ t. y ≡ t) → IfSome told (λ t. x ≡ t)
 given None x y e h = tt
@@ -55,17 +60,24 @@ leaves_created shard clock dice d id old new at_old at_new named was is leaves =
     (λ all. leaves_with old new (IsNoneOrWhole shard (identifier_text id) d.moment old) (IsNoneOrCreated shard clock dice old)
     (λ m h. (d, subst (λ i. IsNoneOrWhole shard (identifier_text i) d.moment old m) named h)) (leaves all)))
 
--- a creation is what the words asked for
-pub did : (mount disk : Type 0) (tool : Tool) (words : List (List ℕ)) (clock : Option ℕ) (dice : Option (List ℕ)) (old new : List ℕ → Option Trace) (repos : List ℕ) (shard : ℕ) (fault : Option Fault)
-    → Asks tool words repos shard → Created mount disk shard clock dice (old repos) (new repos) fault → Did mount disk tool words clock dice old new fault
-did mount disk tool words clock dice old new repos shard None asks made = (repos, shard, asks, made)
-did mount disk tool words clock dice old new repos shard (Some Usage) asks made = absurd made
-did mount disk tool words clock dice old new repos shard (Some AlreadyRepo) asks made = (repos, shard, asks, made)
-did mount disk tool words clock dice old new repos shard (Some MountFault) asks made = (repos, shard, asks, made)
-did mount disk tool words clock dice old new repos shard (Some (DiskFault place)) asks made = (repos, shard, asks, made)
-did mount disk tool words clock dice old new repos shard (Some Memory) asks made = (repos, shard, asks, made)
+-- the youngest revision of the repository that was opened, on the disk that the host had
+pub is_youngest : (told at : Option Trace) (o : Opened) → told ≡ at → IfSome told (λ t. IsOpened (small_texts (files_now t)) o) → IsYoungest at o.youngest
+is_youngest told at o same opened = subst (λ d. IsYoungest d o.youngest) same (so told opened) where
+  so : (d : Option Trace) → IfSome d (λ t. IsOpened (small_texts (files_now t)) o) → IsYoungest d o.youngest
+  so None h = tt
+  so (Some t) h = (o, h, refl)
 
--- a printed line tells of the fault
-pub tells : {E : Type 0} (old new : Option (List ℕ)) (before now : ℕ) (tool : Tool) (fault : Fault) (r : Result (Unit {0}) E) (rose : Type 0) → Prints old new (line_of tool fault) before now r → (IsErr r → rose) → Tells old new rose tool (Some fault)
-tells old new before now tool fault (Ok x) rose p h = inl p.whole
-tells old new before now tool fault (Err e) rose p h = inr (h refl, p.part)
+-- two paths are one or not
+path_cases : (p q : List ℕ) → (p ≡ q) ⊎ (p ≡ q → ⊥)
+path_cases p q = by_test (slice_cmp nat_cmp p q) refl where
+  by_test : (r : Ordering) → slice_cmp nat_cmp p q ≡ r → (p ≡ q) ⊎ (p ≡ q → ⊥)
+  by_test Equal is = inl (slice_cmp-IsAntisymmetric nat_cmp-IsAntisymmetric p q is)
+  by_test Less is = inr (apart_by p q (ap is_eq is))
+  by_test Greater is = inr (apart_by p q (ap is_eq is))
+
+-- the files are the same at this path and at every other
+pub same_files : (old new : List ℕ → Option Trace) (repos path : List ℕ) → option_map files_now (new repos) ≡ option_map files_now (old repos) → ((p : List ℕ) → (p ≡ repos → ⊥) → new p ≡ old p)
+    → option_map files_now (new path) ≡ option_map files_now (old path)
+same_files old new repos path same others = ⊎_elim
+    (λ is. subst (λ p. option_map files_now (new p) ≡ option_map files_now (old p)) (sym is) same)
+    (λ apart. ap (option_map files_now) (others path apart)) (path_cases path repos)

@@ -1,23 +1,33 @@
 -- What the top call does, from the words to the files and the line about a fault.
-use Rattle.std.specs.Prelude.{◌≡◌, ◌⊎◌, ℕ, List, Option, Some, None, IfSome, Result, Ok, Err}
-use Rattle.fsfs_disk.specs.Trace.{Trace}
+use Rattle.std.specs.Prelude.{◌≡◌, ◌⊎◌, ℕ, List, codes, Option, Some, None, IfSome, Result, Ok, Err}
 use Rattle.fsfs_base.specs.Files.{Files}
+use Rattle.fsfs_disk.specs.Trace.{Trace, files_now}
 use Rattle.fsfs_disk.specs.Streams.{Adds}
-use Rattle.fsfs_top.specs.Output.{AddsFront}
-use Rattle.fsfs_top.specs.Answers.{line_of}
-use Rattle.fsfs_top.specs.Words.{Creates}
 use Rattle.fsfs_repo.specs.CreatedFiles.{identifier_text, random_identifier}
 use Rattle.fsfs_repo.specs.Creation.{IsCreated, IsStopped, IsNoneOrWhole, IsRepository, IsNoRepository}
+use Rattle.fsfs_repo.specs.Opening.{small_texts, IsOpened, IsNone, HasFormat, IsLinear, IsRefused}
+use Rattle.fsfs_repo.specs.declared.opening.Opened.{Opened}
+use Rattle.fsfs_top.specs.Output.{AddsFront}
+use Rattle.fsfs_top.specs.Answers.{line_of, revision_line}
+use Rattle.fsfs_top.specs.Words.{Creates, LooksAt}
 use Rattle.fsfs_top.specs.declared.fault.Fault.{Fault}
-use Rattle.fsfs_top.specs.declared.fault.Fault.TheVariants.{Usage, AlreadyRepo, MountFault, DiskFault, Memory}
+use Rattle.fsfs_top.specs.declared.fault.Fault.TheVariants.{Usage, NotRepo, OtherFormat, Linear, Small, AlreadyRepo, MountFault, DiskFault, WriteFault, Memory}
+use Rattle.fsfs_top.specs.declared.words.Order.{Order}
+use Rattle.fsfs_top.specs.declared.words.Order.TheVariants.{Create, Youngest}
 use Rattle.fsfs_top.specs.declared.tool.Tool.{Tool}
 use Rattle.fsfs_top.specs.declared.tool.Tool.TheVariants.{Admin, Look, Jobs}
 
 -- a program's words ask for a new repository at this path, with so many revisions in a shard
-abbrev pub Asks : Tool → List (List ℕ) → List ℕ → ℕ → Type 0
-Asks Admin words repos shard = Creates words repos shard
-Asks Look words repos shard = ⊥
-Asks Jobs words repos shard = ⊥
+abbrev pub AsksCreate : Tool → List (List ℕ) → List ℕ → ℕ → Type 0
+AsksCreate Admin words repos shard = Creates words repos shard
+AsksCreate Look words repos shard = ⊥
+AsksCreate Jobs words repos shard = ⊥
+
+-- they ask for the youngest revision of the repository at this path
+abbrev pub AsksYoungest : Tool → List (List ℕ) → List ℕ → Type 0
+AsksYoungest Admin words repos = ⊥
+AsksYoungest Look words repos = LooksAt (codes "youngest") words repos
+AsksYoungest Jobs words repos = ⊥
 
 -- a moment and sixteen bytes: those that the clock and the dice gave, where they tell
 pub record Drawn (clock : Option ℕ) (dice : Option (List ℕ)) : Type 0 where
@@ -34,24 +44,57 @@ identifier_of clock dice d = identifier_text (random_identifier d.bits)
 abbrev pub Created : Type 0 → Type 0 → ℕ → Option ℕ → Option (List ℕ) → Option Trace → Option Trace → Option Fault → Type 0
 Created mount disk shard clock dice old new None = IsNoRepository old × ((d : Drawn clock dice) × IsCreated shard (identifier_of clock dice d) d.moment old new)
 Created mount disk shard clock dice old new (Some Usage) = ⊥
+Created mount disk shard clock dice old new (Some NotRepo) = ⊥
+Created mount disk shard clock dice old new (Some (OtherFormat number)) = ⊥
+Created mount disk shard clock dice old new (Some Linear) = ⊥
+Created mount disk shard clock dice old new (Some (Small small)) = ⊥
 Created mount disk shard clock dice old new (Some AlreadyRepo) = IsRepository old × (new ≡ old)
 Created mount disk shard clock dice old new (Some MountFault) = mount × (new ≡ old)
 Created mount disk shard clock dice old new (Some (DiskFault place)) = disk × ((d : Drawn clock dice) × IsStopped place shard (identifier_of clock dice d) d.moment old new)
+Created mount disk shard clock dice old new (Some WriteFault) = ⊥
 Created mount disk shard clock dice old new (Some Memory) = new ≡ old
 
--- the words asked for a creation, and this is what it did
-abbrev pub AsksAndCreated : Type 0 → Type 0 → Tool → List (List ℕ) → Option ℕ → Option (List ℕ) → (List ℕ → Option Trace) → (List ℕ → Option Trace) → Option Fault → Type 0
-AsksAndCreated mount disk tool words clock dice old new fault =
-    (repos : List ℕ) × (shard : ℕ) × Asks tool words repos shard × Created mount disk shard clock dice (old repos) (new repos) fault
+-- the youngest revision that an opened repository names
+abbrev pub IsYoungest : Option Trace → ℕ → Type 0
+IsYoungest told youngest = IfSome told (λ t. (o : Opened) × IsOpened (small_texts (files_now t)) o × (o.youngest ≡ youngest))
 
--- What a command did, by its fault or none: Usage exactly where the words are those of no command. `old` and `new` give the disk of each path.
-abbrev pub Did : Type 0 → Type 0 → Tool → List (List ℕ) → Option ℕ → Option (List ℕ) → (List ℕ → Option Trace) → (List ℕ → Option Trace) → Option Fault → Type 0
-Did mount disk tool words clock dice old new (Some Usage) = (repos : List ℕ) (shard : ℕ) → Asks tool words repos shard → ⊥
-Did mount disk tool words clock dice old new None = AsksAndCreated mount disk tool words clock dice old new None
-Did mount disk tool words clock dice old new (Some AlreadyRepo) = AsksAndCreated mount disk tool words clock dice old new (Some AlreadyRepo)
-Did mount disk tool words clock dice old new (Some MountFault) = AsksAndCreated mount disk tool words clock dice old new (Some MountFault)
-Did mount disk tool words clock dice old new (Some (DiskFault place)) = AsksAndCreated mount disk tool words clock dice old new (Some (DiskFault place))
-Did mount disk tool words clock dice old new (Some Memory) = AsksAndCreated mount disk tool words clock dice old new (Some Memory)
+-- Why a repository was not opened, as a command answers it
+abbrev pub NotOpened : Type 0 → Option Trace → Fault → Type 0
+NotOpened disk told Usage = ⊥
+NotOpened disk told NotRepo = IfSome told (λ t. IsNone (small_texts (files_now t)))
+NotOpened disk told (OtherFormat number) = IfSome told (λ t. HasFormat (small_texts (files_now t)) number)
+NotOpened disk told Linear = IfSome told (λ t. IsLinear (small_texts (files_now t)))
+NotOpened disk told (Small small) = IfSome told (λ t. IsRefused (small_texts (files_now t)) small)
+NotOpened disk told AlreadyRepo = ⊥
+NotOpened disk told MountFault = ⊥
+NotOpened disk told (DiskFault place) = disk
+NotOpened disk told WriteFault = ⊥
+NotOpened disk told Memory = Unit {0}
+
+-- What a look at the youngest revision printed, by its fault or none. `write` says that the output's count of faults rose.
+abbrev pub PrintsYoungest : Type 0 → Type 0 → Type 0 → Option Trace → Option (List ℕ) → Option (List ℕ) → Option Fault → Type 0
+PrintsYoungest mount disk write told old new None = (youngest : ℕ) × IsYoungest told youngest × Adds old new (revision_line youngest)
+PrintsYoungest mount disk write told old new (Some MountFault) = mount × (new ≡ old)
+PrintsYoungest mount disk write told old new (Some WriteFault) = write × ((youngest : ℕ) × IsYoungest told youngest × AddsFront old new (revision_line youngest))
+PrintsYoungest mount disk write told old new (Some Usage) = ⊥
+PrintsYoungest mount disk write told old new (Some NotRepo) = NotOpened disk told NotRepo × (new ≡ old)
+PrintsYoungest mount disk write told old new (Some (OtherFormat number)) = NotOpened disk told (OtherFormat number) × (new ≡ old)
+PrintsYoungest mount disk write told old new (Some Linear) = NotOpened disk told Linear × (new ≡ old)
+PrintsYoungest mount disk write told old new (Some (Small small)) = NotOpened disk told (Small small) × (new ≡ old)
+PrintsYoungest mount disk write told old new (Some AlreadyRepo) = ⊥
+PrintsYoungest mount disk write told old new (Some (DiskFault place)) = NotOpened disk told (DiskFault place) × (new ≡ old)
+PrintsYoungest mount disk write told old new (Some Memory) = new ≡ old
+
+-- What a command did, by its fault or none. `at_old` and `at_new` give the disk of each path, `old` and `new` what was written to the output;
+-- `mount`, `disk` and `write` say that the counts of the host and of the output rose.
+abbrev pub Did : Type 0 → Type 0 → Type 0 → Tool → List (List ℕ) → Option ℕ → Option (List ℕ) → (List ℕ → Option Trace) → (List ℕ → Option Trace) → Option (List ℕ) → Option (List ℕ) → Option Fault → Type 0
+Did mount disk write tool words clock dice at_old at_new old new fault =
+    -- it made a repository, or not
+    ((repos : List ℕ) × (shard : ℕ) × AsksCreate tool words repos shard × Created mount disk shard clock dice (at_old repos) (at_new repos) fault × (new ≡ old))
+    -- it printed the youngest revision, or not
+    ⊎ (((repos : List ℕ) × AsksYoungest tool words repos × PrintsYoungest mount disk write (at_old repos) old new fault)
+    -- the words are those of no command
+    ⊎ ((fault ≡ Some Usage) × (new ≡ old) × ((repos : List ℕ) (shard : ℕ) → AsksCreate tool words repos shard → ⊥) × ((repos : List ℕ) → AsksYoungest tool words repos → ⊥)))
 
 -- a crash at some moment of a creation leaves no repository, or the whole of the one that it makes
 abbrev pub IsNoneOrCreated : ℕ → Option ℕ → Option (List ℕ) → Option Trace → Files → Type 0
@@ -66,3 +109,17 @@ fault_of (Err fault) = Some fault
 abbrev pub Tells : Option (List ℕ) → Option (List ℕ) → Type 0 → Tool → Option Fault → Type 0
 Tells old new rose tool None = new ≡ old
 Tells old new rose tool (Some fault) = Adds old new (line_of tool fault) ⊎ (rose × AddsFront old new (line_of tool fault))
+
+-- the order that the words give
+abbrev pub IsOrder : Tool → List (List ℕ) → Order → Type 0
+IsOrder tool words (Create create) = AsksCreate tool words create.repos.now create.shard
+IsOrder tool words (Youngest repos) = AsksYoungest tool words repos.now
+
+-- an order for this repository and no other
+abbrev pub IsCreateOf : List ℕ → ℕ → Order → Type 0
+IsCreateOf repos shard (Create create) = (create.repos.now ≡ repos) × (create.shard ≡ shard)
+IsCreateOf repos shard (Youngest other) = ⊥
+
+abbrev pub IsYoungestOf : List ℕ → Order → Type 0
+IsYoungestOf repos (Create create) = ⊥
+IsYoungestOf repos (Youngest other) = other.now ≡ repos

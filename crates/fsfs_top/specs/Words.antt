@@ -26,3 +26,12 @@ create_words words = None
 -- these words ask for a repository at this path, with so many revisions in a shard
 abbrev pub Creates : List (List ℕ) → List ℕ → ℕ → Type 0
 Creates words repos shard = (number : Option (List ℕ)) × (create_words words ≡ Some (repos, number)) × IsShardOrUsual number shard
+
+-- a command's word, and the path of a repository
+abbrev pub look_words : List ℕ → List (List ℕ) → Option (List ℕ)
+look_words name (word ∷ repos ∷ []) = if bytes_eq word name && is_repos repos then Some repos else None
+look_words name words = None
+
+-- these words are that command's, and name the repository at this path
+abbrev pub LooksAt : List ℕ → List (List ℕ) → List ℕ → Type 0
+LooksAt name words repos = look_words name words ≡ Some repos

@@ -1,8 +1,12 @@
 // What a command answers but success, its words and its status.
-ghost use Rattle.std.specs.Prelude.{◌≡◌};
-ghost use Rattle.fsfs_top.specs.Answers.{fault_words, status_of};
+ghost use Rattle.std.specs.Prelude.{◌≡◌, ◌∷◌, decimal};
+ghost use Rattle.fsfs_top.specs.Answers.{fault_name, fault_values, status_of};
 
-use fsfs_repo::{CreateFault, DiskPlace};
+use arrayvec::ArrayString;
+use fsfs_base::SmallFault;
+use fsfs_layout::names::small_file;
+use fsfs_repo::{CreateFault, DiskPlace, OpenFault};
+use itoa::Buffer;
 use thiserror::Error;
 
 /// Why a command didn't do what its words say. The printed words are those of `fault_text`.
@@ -11,6 +15,18 @@ pub enum Fault {
     /// The words are those of no command.
     #[error("usage")]
     Usage,
+    /// There is no repository of this type of filesystem at the path.
+    #[error("there is no repository")]
+    NotRepo,
+    /// The repository has another format.
+    #[error("the repository has another format")]
+    OtherFormat(u64),
+    /// The repository is not sharded.
+    #[error("the repository is not sharded")]
+    Linear,
+    /// A small file of the repository is not in its format.
+    #[error("a small file is damaged")]
+    Small(SmallFault),
     /// There is a repository at the path.
     #[error("there is a repository")]
     AlreadyRepo,
@@ -20,6 +36,9 @@ pub enum Fault {
     /// A call of the disk failed.
     #[error("the disk failed")]
     DiskFault(DiskPlace),
+    /// The output failed.
+    #[error("the output failed")]
+    WriteFault,
     /// Memory was wanting.
     #[error("out of memory")]
     Memory,
@@ -40,21 +59,73 @@ impl From<CreateFault> for Fault {
     }
 }
 
-/// The words that tell of a fault.
+impl From<OpenFault> for Fault {
+    ghost use Rattle.std.specs.Prelude.{◌≡◌};
+    ghost use Rattle.fsfs_top.specs.Faults.{fault_from_open};
+
+    ghost from_gives = { λ e f. f ≡ fault_from_open e };
+
+    fn from(fault: OpenFault) -> Fault {
+        match fault {
+            OpenFault::NotRepo => Fault::NotRepo,
+            OpenFault::OtherFormat(number) => Fault::OtherFormat(number),
+            OpenFault::Linear => Fault::Linear,
+            OpenFault::Small(small) => Fault::Small(small),
+            OpenFault::DiskFault(place) => Fault::DiskFault(place),
+            OpenFault::Memory => Fault::Memory,
+        }
+    }
+}
+
+/// The name of a fault as it is printed, with the place of a disk's fault.
 pub fn fault_text(fault: Fault) -> &'static str
-    ensures { result.now ≡ fault_words fault }
+    ensures { result.now ≡ fault_name fault }
 {
     match fault {
         Fault::Usage => "Usage",
+        Fault::NotRepo => "NotRepo",
+        Fault::OtherFormat(_) => "OtherFormat",
+        Fault::Linear => "Linear",
+        Fault::Small(_) => "Small",
         Fault::AlreadyRepo => "AlreadyRepo",
         Fault::MountFault => "MountFault",
+        Fault::DiskFault(DiskPlace::OpenFirm) => "DiskFault OpenFirm",
+        Fault::DiskFault(DiskPlace::OpenRead) => "DiskFault OpenRead",
         Fault::DiskFault(DiskPlace::Read) => "DiskFault Read",
         Fault::DiskFault(DiskPlace::CreatePut) => "DiskFault CreatePut",
         Fault::DiskFault(DiskPlace::CreateFirm) => "DiskFault CreateFirm",
         Fault::DiskFault(DiskPlace::CreateRename) => "DiskFault CreateRename",
         Fault::DiskFault(DiskPlace::CreateLast) => "DiskFault CreateLast",
+        Fault::WriteFault => "WriteFault",
         Fault::Memory => "Memory",
     }
+}
+
+// A space and a number.
+fn number_text(number: u64) -> ArrayString<21>
+    ensures { result.bytes ≡ 32 ∷ decimal number }
+{
+    let mut text = ArrayString::new();
+    text.push_str(" ");
+    text.push_str(Buffer::new().format(number));
+    text
+}
+
+/// The values of a fault as they are printed behind its name, a space before each.
+pub fn fault_values_text(fault: Fault) -> ArrayString<192>
+    ensures { result.bytes ≡ fault_values fault }
+{
+    let mut text = ArrayString::new();
+    match fault {
+        Fault::OtherFormat(number) => text.push_str(number_text(number).as_str()),
+        Fault::Small(small) => {
+            text.push_str(" ");
+            text.push_str(small_file(&small.file).as_str());
+            text.push_str(number_text(small.at as u64).as_str());
+        }
+        _ => {}
+    }
+    text
 }
 
 /// The program's status after a fault.
@@ -62,9 +133,10 @@ pub fn status(fault: Fault) -> u8
     ensures { result ≡ status_of fault }
 {
     match fault {
-        Fault::AlreadyRepo => 1,
+        Fault::NotRepo | Fault::AlreadyRepo => 1,
         Fault::Usage => 2,
-        Fault::MountFault | Fault::DiskFault(_) => 4,
+        Fault::OtherFormat(_) | Fault::Linear | Fault::Small(_) => 3,
+        Fault::MountFault | Fault::DiskFault(_) | Fault::WriteFault => 4,
         Fault::Memory => 5,
     }
 }

@@ -7,8 +7,8 @@ mod tool;
 mod top;
 mod words;
 
-pub use fault::{Fault, fault_text, status};
-pub use output::{print, print_fault};
+pub use fault::{Fault, fault_text, fault_values_text, status};
+pub use output::{print, print_fault, print_revision};
 pub use tool::Tool;
 pub use top::command;
-pub use words::{CreateWords, read_create, read_shard};
+pub use words::{CreateWords, Order, read_create, read_look, read_shard};

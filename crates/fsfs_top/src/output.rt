@@ -2,11 +2,13 @@
 ghost use Rattle.std.specs.Prelude.{◌≡◌, ◌≤◌, ℕ, Option, Some, take, length};
 ghost use Rattle.fsfs_disk.specs.Fault.{Rose};
 ghost use Rattle.fsfs_top.specs.Output.{Prints};
-ghost use Rattle.fsfs_top.specs.Answers.{line_of};
+ghost use Rattle.fsfs_top.specs.Answers.{line_of, revision_line};
 
-use crate::fault::{Fault, fault_text};
+use crate::fault::{Fault, fault_text, fault_values_text};
 use crate::tool::Tool;
+use arrayvec::ArrayString;
 use fsfs_disk::{Failed, Sink};
+use itoa::Buffer;
 
 /// Writes a text, or after a failure the part of it before.
 pub fn print<S: Sink>(sink: &mut S, text: &[u8]) -> Result<(), Failed>
@@ -20,12 +22,23 @@ pub fn print<S: Sink>(sink: &mut S, text: &[u8]) -> Result<(), Failed>
     Ok(())
 }
 
-/// Writes the line of a fault: the program's name, a colon, a space, the fault's words.
+/// Writes a revision's number and the end of the line.
+pub fn print_revision<S: Sink>(sink: &mut S, rev: u32) -> Result<(), Failed>
+    ensures printed { Prints (S.written sink.old) (S.written sink.new) (revision_line rev) (S.faults sink.old) (S.faults sink.new) result }
+{
+    let mut line = ArrayString::<11>::new();
+    line.push_str(Buffer::new().format(rev));
+    line.push_str("\n");
+    print(sink, line.as_str().as_bytes())
+}
+
+/// Writes the line of a fault: the program's name, a colon, a space, the fault's name and its values.
 pub fn print_fault<S: Sink>(sink: &mut S, tool: Tool, fault: Fault) -> Result<(), Failed>
     ensures printed { Prints (S.written sink.old) (S.written sink.new) (line_of tool fault) (S.faults sink.old) (S.faults sink.new) result }
 {
     print(sink, tool.name().as_bytes())?;
     print(sink, b": ")?;
     print(sink, fault_text(fault).as_bytes())?;
+    print(sink, fault_values_text(fault).as_str().as_bytes())?;
     print(sink, b"\n")
 }

@@ -1,19 +1,19 @@
 // The top call.
-ghost use Rattle.std.specs.Prelude.{◌≡◌, ◌≢◌, ◌≤◌, ℕ, List, map, string_bytes, Option, Some, IfSome, IsSomeAnd};
+ghost use Rattle.std.specs.Prelude.{◌≡◌, ◌≢◌, ◌≤◌, ℕ, List, map, string_bytes, Option, Some, IfSome, IfNone, option_map};
 ghost use Rattle.fsfs_disk.specs.Fault.{Rose};
-ghost use Rattle.fsfs_disk.specs.Trace.{Trace};
+ghost use Rattle.fsfs_disk.specs.Trace.{Trace, files_now};
 ghost use Rattle.fsfs_disk.specs.Crash.{AllImages, Leaves};
 ghost use Rattle.fsfs_repo.specs.Creation.{IsUnpublished, HasRepository};
 ghost use Rattle.fsfs_top.specs.Answers.{answer_of};
-ghost use Rattle.fsfs_top.specs.Command.{Asks, Created, Did, IsNoneOrCreated, Tells, fault_of};
+ghost use Rattle.fsfs_top.specs.Command.{AsksCreate, AsksYoungest, Created, PrintsYoungest, Did, IsOrder, IsCreateOf, IsYoungestOf, IsNoneOrCreated, Tells, fault_of};
 ghost use Rattle.fsfs_top.specs.declared.fault.Fault.{Fault};
 
 use crate::fault::{Fault, status};
-use crate::output::print_fault;
+use crate::output::{print_fault, print_revision};
 use crate::tool::Tool;
-use crate::words::{CreateWords, read_create};
+use crate::words::{Order, read_create, read_look};
 use fsfs_disk::{Clock, Dice, Gate, Host, Sink, Source};
-use fsfs_repo::create;
+use fsfs_repo::{create, open};
 use std::alloc::Global;
 use uuid::Builder;
 
@@ -47,37 +47,76 @@ fn create_at<H: Host, C: Clock, R: Dice>(
     }
 }
 
+// Mounts a path to read it, and prints the youngest revision of the repository there.
+fn youngest_at<H: Host, O: Sink>(
+    alloc: Global,
+    repos: &str,
+    host: &mut H,
+    out: &mut O,
+) -> Result<(), Fault>
+    ensures printed { PrintsYoungest (Rose (H.mount_faults host.old) (H.mount_faults host.new)) (Rose (H.disk_faults host.old) (H.disk_faults host.new)) (Rose (O.faults out.old) (O.faults out.new))
+        (H.disk_at host.old repos.now) (O.written out.old) (O.written out.new) (fault_of result) }
+    ensures same { option_map files_now (H.disk_at host.new repos.now) ≡ option_map files_now (H.disk_at host.old repos.now) }
+    ensures others { (path : List ℕ) → path ≢ repos.now → H.disk_at host.new path ≡ H.disk_at host.old path }
+{
+    let mut disk = match host.mount(repos, false) {
+        Ok(disk) => disk,
+        Err(_) => return Err(Fault::MountFault),
+    };
+    let opened = open(alloc, &mut disk);
+    host.unmount(disk);
+    match opened {
+        Ok(opened) => match print_revision(out, opened.youngest) {
+            Ok(()) => Ok(()),
+            Err(_) => Err(Fault::WriteFault),
+        },
+        Err(fault) => Err(Fault::from(fault)),
+    }
+}
+
 // What the words ask for.
-fn read_words(tool: Tool, words: &[String]) -> Option<CreateWords<'_>>
-    ensures found { IfSome result (λ w. Asks tool (map string_bytes words.now) w.repos.now w.shard) }
-    ensures only { (repos : List ℕ) (shard : ℕ) → Asks tool (map string_bytes words.now) repos shard
-        → IsSomeAnd result (λ w. (w.repos.now ≡ repos) × (w.shard ≡ shard)) }
+fn read_words(tool: Tool, words: &[String]) -> Option<Order<'_>>
+    ensures found { IfSome result (IsOrder tool (map string_bytes words.now)) }
+    ensures no_create { IfNone result ((repos : List ℕ) (shard : ℕ) → AsksCreate tool (map string_bytes words.now) repos shard → ⊥) }
+    ensures no_youngest { IfNone result ((repos : List ℕ) → AsksYoungest tool (map string_bytes words.now) repos → ⊥) }
+    ensures one_create { (repos : List ℕ) (shard : ℕ) → AsksCreate tool (map string_bytes words.now) repos shard → IfSome result (IsCreateOf repos shard) }
+    ensures one_youngest { (repos : List ℕ) → AsksYoungest tool (map string_bytes words.now) repos → IfSome result (IsYoungestOf repos) }
 {
     match tool {
-        Tool::Admin => read_create(words),
-        Tool::Look | Tool::Jobs => None,
+        Tool::Admin => match read_create(words) {
+            Some(create) => Some(Order::Create(create)),
+            None => None,
+        },
+        Tool::Look => match read_look("youngest", words) {
+            Some(repos) => Some(Order::Youngest(repos)),
+            None => None,
+        },
+        Tool::Jobs => None,
     }
 }
 
 // Reads the words, and does what they ask for.
-fn run<H: Host, C: Clock, R: Dice>(
+fn run<H: Host, O: Sink, C: Clock, R: Dice>(
     alloc: Global,
     tool: Tool,
     words: &[String],
     host: &mut H,
+    out: &mut O,
     clock: &mut C,
     dice: &mut R,
 ) -> Result<(), Fault>
-    ensures did { Did (Rose (H.mount_faults host.old) (H.mount_faults host.new)) (Rose (H.disk_faults host.old) (H.disk_faults host.new))
-        tool (map string_bytes words.now) (C.next clock.old) (R.next dice.old) (H.disk_at host.old) (H.disk_at host.new) (fault_of result) }
-    ensures there_same { (repos : List ℕ) (shard : ℕ) (t : Trace) → Asks tool (map string_bytes words.now) repos shard
+    ensures did { Did (Rose (H.mount_faults host.old) (H.mount_faults host.new)) (Rose (H.disk_faults host.old) (H.disk_faults host.new)) (Rose (O.faults out.old) (O.faults out.new))
+        tool (map string_bytes words.now) (C.next clock.old) (R.next dice.old) (H.disk_at host.old) (H.disk_at host.new) (O.written out.old) (O.written out.new) (fault_of result) }
+    ensures there_same { (repos : List ℕ) (shard : ℕ) (t : Trace) → AsksCreate tool (map string_bytes words.now) repos shard
         → H.disk_at host.old repos ≡ Some t → HasRepository t → H.disk_at host.new repos ≡ H.disk_at host.old repos }
-    ensures any_moment { (repos : List ℕ) (shard : ℕ) → Asks tool (map string_bytes words.now) repos shard → AllImages (H.disk_at host.old repos) IsUnpublished
+    ensures any_moment { (repos : List ℕ) (shard : ℕ) → AsksCreate tool (map string_bytes words.now) repos shard → AllImages (H.disk_at host.old repos) IsUnpublished
         → Leaves (H.disk_at host.old repos) (H.disk_at host.new repos) (IsNoneOrCreated shard (C.next clock.old) (R.next dice.old) (H.disk_at host.old repos)) }
-    ensures others { (path : List ℕ) → ((shard : ℕ) → Asks tool (map string_bytes words.now) path shard → ⊥) → H.disk_at host.new path ≡ H.disk_at host.old path }
+    ensures others { (path : List ℕ) → ((shard : ℕ) → AsksCreate tool (map string_bytes words.now) path shard → ⊥)
+        → option_map files_now (H.disk_at host.new path) ≡ option_map files_now (H.disk_at host.old path) }
 {
     match read_words(tool, words) {
-        Some(create) => create_at(alloc, create.repos, create.shard, host, clock, dice),
+        Some(Order::Create(create)) => create_at(alloc, create.repos, create.shard, host, clock, dice),
+        Some(Order::Youngest(repos)) => youngest_at(alloc, repos, host, out),
         None => Err(Fault::Usage),
     }
 }
@@ -90,33 +129,33 @@ pub fn command<H: Host, I: Source, O: Sink, E: Sink, C: Clock, R: Dice, G: Gate>
     words: &[String],
     host: &mut H,
     _input: &mut I,
-    _out: &mut O,
+    out: &mut O,
     err: &mut E,
     clock: &mut C,
     dice: &mut R,
     _gate: &G,
 ) -> u8
-    // One fault or none, to which belong the status, the line, and what was done.
+    // One fault or none, to which belong the status, the line, and what was done and printed.
     ensures answer { (fault : Option Fault) × (result ≡ answer_of fault)
         × Tells (E.written err.old) (E.written err.new) (Rose (E.faults err.old) (E.faults err.new)) tool fault
-        × Did (Rose (H.mount_faults host.old) (H.mount_faults host.new)) (Rose (H.disk_faults host.old) (H.disk_faults host.new))
-        tool (map string_bytes words.now) (C.next clock.old) (R.next dice.old) (H.disk_at host.old) (H.disk_at host.new) fault }
+        × Did (Rose (H.mount_faults host.old) (H.mount_faults host.new)) (Rose (H.disk_faults host.old) (H.disk_faults host.new)) (Rose (O.faults out.old) (O.faults out.new))
+        tool (map string_bytes words.now) (C.next clock.old) (R.next dice.old) (H.disk_at host.old) (H.disk_at host.new) (O.written out.old) (O.written out.new) fault }
 
-    // A repository that is there stays as it is, whatever is answered.
-    ensures there_same { (repos : List ℕ) (shard : ℕ) (t : Trace) → Asks tool (map string_bytes words.now) repos shard
+    // A repository that is there stays as it is, whatever a creation answers.
+    ensures there_same { (repos : List ℕ) (shard : ℕ) (t : Trace) → AsksCreate tool (map string_bytes words.now) repos shard
         → H.disk_at host.old repos ≡ Some t → HasRepository t → H.disk_at host.new repos ≡ H.disk_at host.old repos }
 
-    // A crash at any moment leaves no repository at the path, or the whole new one.
-    ensures any_moment { (repos : List ℕ) (shard : ℕ) → Asks tool (map string_bytes words.now) repos shard → AllImages (H.disk_at host.old repos) IsUnpublished
+    // A crash at any moment of a creation leaves no repository at the path, or the whole new one.
+    ensures any_moment { (repos : List ℕ) (shard : ℕ) → AsksCreate tool (map string_bytes words.now) repos shard → AllImages (H.disk_at host.old repos) IsUnpublished
         → Leaves (H.disk_at host.old repos) (H.disk_at host.new repos) (IsNoneOrCreated shard (C.next clock.old) (R.next dice.old) (H.disk_at host.old repos)) }
 
-    // No path changes but the one that the words name.
-    ensures others { (path : List ℕ) → ((shard : ℕ) → Asks tool (map string_bytes words.now) path shard → ⊥) → H.disk_at host.new path ≡ H.disk_at host.old path }
+    // No file changes but at a path at which a repository is to be made.
+    ensures others { (path : List ℕ) → ((shard : ℕ) → AsksCreate tool (map string_bytes words.now) path shard → ⊥)
+        → option_map files_now (H.disk_at host.new path) ≡ option_map files_now (H.disk_at host.old path) }
 
-    ensures silent { O.written _out.new ≡ O.written _out.old }
     ensures unread { I.remaining _input.new ≡ I.remaining _input.old }
 {
-    match run(alloc, tool, words, host, clock, dice) {
+    match run(alloc, tool, words, host, out, clock, dice) {
         Ok(()) => 0,
         Err(fault) => {
             let _ = print_fault(err, tool, fault);

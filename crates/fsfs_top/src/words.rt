@@ -1,7 +1,7 @@
 // The words of a command, read by hand.
 ghost use Rattle.std.specs.Prelude.{◌≡◌, ℕ, List, map, string_bytes, Option, Some, option_map, IfSome, IsSomeAnd};
 ghost use Rattle.std.specs.Option.{option_copied};
-ghost use Rattle.fsfs_top.specs.Words.{IsShard, IsShardOrUsual, is_repos as is_repos_word, create_words, Creates};
+ghost use Rattle.fsfs_top.specs.Words.{IsShard, IsShardOrUsual, is_repos as is_repos_word, create_words, Creates, look_words};
 
 use fsfs_base::read_dec;
 
@@ -12,6 +12,15 @@ pub struct CreateWords<'a> {
     pub repos: &'a str,
     /// How many revisions a shard has.
     pub shard: u32,
+}
+
+/// What the words of a program ask for.
+#[derive(Clone, Copy, Debug, PartialEq, Eq)]
+pub enum Order<'a> {
+    /// A new repository.
+    Create(CreateWords<'a>),
+    /// The youngest revision of the repository at this path.
+    Youngest(&'a str),
 }
 
 // How many revisions a shard has where the words don't say.
@@ -73,4 +82,20 @@ pub fn read_create(words: &[String]) -> Option<CreateWords<'_>>
         None => USUAL_SHARD,
     };
     Some(CreateWords { repos, shard })
+}
+
+/// A command's word, and REPOS, which doesn't begin with `-`.
+pub fn read_look<'a>(name: &str, words: &'a [String]) -> Option<&'a str>
+    ensures { option_map (λ w. w.now) result ≡ look_words name.now (map string_bytes words.now) }
+{
+    match words {
+        [word, repos] => {
+            if word.as_str() == name && is_repos(repos.as_str()) {
+                Some(repos.as_str())
+            } else {
+                None
+            }
+        }
+        _ => None,
+    }
 }

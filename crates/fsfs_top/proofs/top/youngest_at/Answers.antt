@@ -1,0 +1,12 @@
+use Rattle.fsfs_top.proofs.CommandLemmas.{is_youngest}
+use Rattle.fsfs_top.proofs.top.youngest_at.Goals as goal
+
+pub returns-in-Ok-print_revision-clause-printed : goal.returns-in-Ok-print_revision-clause-printed
+returns-in-Ok-print_revision-clause-printed g c =
+    let is = is_youngest (g.H.Mounted.Disk.trace c.in-Ok.disk) (g.H.Host.disk_at c.args.host.now c.args.repos.now) c.in-Ok-opened.opened c.in-Ok.ensures.disk c.in-Ok-opened.ensures.opened in
+    (c.in-Ok-opened.opened.youngest, is, c.in-Ok-print_revision.ensures.printed.whole)
+
+pub returns-in-Err-print_revision-clause-printed : goal.returns-in-Err-print_revision-clause-printed
+returns-in-Err-print_revision-clause-printed g c =
+    let is = is_youngest (g.H.Mounted.Disk.trace c.in-Ok.disk) (g.H.Host.disk_at c.args.host.now c.args.repos.now) c.in-Ok-opened.opened c.in-Ok.ensures.disk c.in-Ok-opened.ensures.opened in
+    (c.in-Err-print_revision.ensures.printed.failed, (c.in-Ok-opened.opened.youngest, is, c.in-Err-print_revision.ensures.printed.part))
