@@ -5,3 +5,5 @@
 mod commands;
 #[cfg(test)]
 mod create;
+#[cfg(test)]
+mod look;

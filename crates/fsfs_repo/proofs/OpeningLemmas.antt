@@ -1,5 +1,5 @@
 -- The refusals of an opening, from what each reader says of its bytes.
-use Rattle.std.proofs.Common.{◌≡◌, ◌⊎◌, ◌≤◌, ◌<◌, ◌+◌, ℕ, zero, suc, List, [], ◌∷◌, ◌++◌, Bool, true, false, inl, inr, ⊎_elim, refl, sym, ap, subst, ◌∙◌, arith}
+use Rattle.std.proofs.Common.{◌≡◌, ◌≤◌, ◌<◌, ◌+◌, ℕ, zero, suc, List, [], ◌∷◌, ◌++◌, true, false, inl, inr, ⊎_elim, refl, sym, ap, subst, ◌∙◌, arith}
 use Rattle.std.specs.Prelude.{Option, Some, None, IfSome, Result, Ok, Err, IfErr, option_map}
 use Rattle.fsfs_base.specs.declared.small_fault.SmallFault.{SmallFault}
 use Rattle.fsfs_text.specs.Grammar.{begins}
@@ -7,13 +7,11 @@ use Rattle.std.proofs.lemmas.Fmt.{decimal_digit}
 use Rattle.fsfs_text.proofs.Unique.{numeral_decimal}
 use Rattle.fsfs_disk.specs.Trace.{Trace, FailsAt, FirmNames, Done, Attempted, add_operation, files_now}
 use Rattle.fsfs_layout.specs.Formats.{IsCount, IsFormat}
-use Rattle.fsfs_layout.specs.declared.format_file.Format.{Format}
 use Rattle.fsfs_layout.specs.declared.format_file.Format.TheVariants.{Linear, Sharded, Other}
 use Rattle.fsfs_layout.specs.Small.{IsUuid, IsRevLine, IsMinUnpackedRev, IsBase36Line, IsFaultOf, IsMinUnpackedFault}
 use Rattle.fsfs_base.specs.declared.small_fault.SmallFile.TheVariants as file
 use Rattle.fsfs_repo.specs.Opening.{SmallTexts, small_texts, IsRefusedBehind, IsPastYoungest}
 use Rattle.fsfs_repo.specs.OpenFaults.{JudgedBecause, OpensBecause}
-use Rattle.fsfs_repo.specs.declared.opening.Opened.{Opened}
 use Rattle.fsfs_repo.specs.declared.opening.OpenFault.{OpenFault}
 use Rattle.fsfs_repo.specs.declared.opening.OpenFault.TheVariants as why_not
 
@@ -39,8 +37,15 @@ refused_past n s u c m uuid youngest floor fault su iu sc ic sm im past names pl
 pub refused_txn : (n : ℕ) (s : SmallTexts) (u c m x uuid : List ℕ) (youngest floor : ℕ) (fault : SmallFault) → u ≡ s.uuid → IsUuid u uuid → c ≡ s.current → IsRevLine c youngest → m ≡ s.min_unpacked_rev → IsMinUnpackedRev n m floor
     → floor ≤ youngest + 1 → x ≡ s.txn_current → IsFaultOf file.TxnCurrent IsBase36Line x fault → IsRefusedBehind n s fault
 refused_txn n s u c m x uuid youngest floor fault su iu sc ic sm im within sx ix =
-    inr (uuid, subst (λ t. IsUuid t uuid) su iu, inr (youngest, subst (λ t. IsRevLine t youngest) sc ic,
-    inr (inr (floor, subst (λ t. IsMinUnpackedRev n t floor) sm im, within, subst (λ t. IsFaultOf file.TxnCurrent IsBase36Line t fault) sx ix))))
+    inr (
+      uuid,
+      subst (λ t. IsUuid t uuid) su iu,
+      inr (
+        youngest,
+        subst (λ t. IsRevLine t youngest) sc ic,
+        inr (inr (floor, subst (λ t. IsMinUnpackedRev n t floor) sm im, within, subst (λ t. IsFaultOf file.TxnCurrent IsBase36Line t fault) sx ix)),
+      ),
+    )
 
 -- a number that doesn't begin with 0 is at least 1
 count_above : (text : List ℕ) (n : ℕ) → IsCount text n → 0 < n

@@ -1,5 +1,5 @@
 -- Why a repository is not opened.
-use Rattle.std.specs.Prelude.{ℕ, List, Option, Some, None, IfSome, option_map}
+use Rattle.std.specs.Prelude.{ℕ, Option, IfSome, option_map}
 use Rattle.fsfs_disk.specs.Trace.{Trace, files_now}
 use Rattle.fsfs_layout.specs.Small.{IsUuid, IsRevLine, IsMinUnpackedRev, IsBase36Line}
 use Rattle.fsfs_repo.specs.Opening.{SmallTexts, small_texts, IsNone, HasFormat, IsLinear, IsRefused}

@@ -115,7 +115,14 @@ fn run<H: Host, O: Sink, C: Clock, R: Dice>(
         → option_map files_now (H.disk_at host.new path) ≡ option_map files_now (H.disk_at host.old path) }
 {
     match read_words(tool, words) {
-        Some(Order::Create(create)) => create_at(alloc, create.repos, create.shard, host, clock, dice),
+        Some(Order::Create(create)) => create_at(
+            alloc,
+            create.repos,
+            create.shard,
+            host,
+            clock,
+            dice,
+        ),
         Some(Order::Youngest(repos)) => youngest_at(alloc, repos, host, out),
         None => Err(Fault::Usage),
     }
