@@ -5,3 +5,5 @@ pub mod Same
 pub mod FieldTexts
 pub mod LineTexts
 pub mod Taking
+pub mod Lines10
+pub mod Writes

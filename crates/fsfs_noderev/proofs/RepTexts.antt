@@ -66,7 +66,7 @@ encode_lacks c ok (b ∷ bytes) is =
     let fits : b < 256 = is 0 in
     (lack_at c 16 (b / 16) ok (omega (arith, fits)), (lack_at c 16 (b % 16) ok (omega arith), encode_lacks c ok bytes (λ k. is (suc k))))
 
-digest_lacks : (n c : ℕ) → first_lack c 16 ≡ true → (text bytes : List ℕ) → IsDigestText n text bytes → Lacks c text
+pub digest_lacks : (n c : ℕ) → first_lack c 16 ≡ true → (text bytes : List ℕ) → IsDigestText n text bytes → Lacks c text
 digest_lacks n c ok text bytes w = subst (λ (t : List ℕ). Lacks c t) (sym w.text_is) (encode_lacks c ok bytes w.bytes_are)
 
 -- a reader by its clauses is the function

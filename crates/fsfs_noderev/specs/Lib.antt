@@ -5,3 +5,4 @@ pub mod Fields
 pub mod Faults
 pub mod NodeRevs
 pub mod Steps
+pub mod Writing

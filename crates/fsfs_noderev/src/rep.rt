@@ -155,7 +155,7 @@ pub fn read_contents(text: &[u8]) -> Option<Contents>
     contents_of(text)
 }
 
-fn put_rev_or_none(out: &mut Vec<u8>, rev: Option<u32>) -> Result<(), AllocError>
+pub(crate) fn put_rev_or_none(out: &mut Vec<u8>, rev: Option<u32>) -> Result<(), AllocError>
     requires { FitsRev rev }
     ensures { OnOk result (Appends IsRevOrNone out.old.items out.new.items rev) }
 {

@@ -1,0 +1,125 @@
+-- No value of a field has an end of a line.
+use Rattle.std.proofs.Common.{◌≡◌, ◌≤◌, ◌+◌, ℕ, suc, Bool, true, false, cond, not, eqb, List, [], ◌∷◌, length, Some, None, refl, sym, ap, subst, ◌∙◌, arith}
+use Rattle.std.specs.Prelude.{nat_lt}
+use Rattle.std.specs.List.{AllByRecursion, position, position_or_len}
+use Rattle.std.proofs.lemmas.Bool.{ne_eqb, ltb-false}
+use Rattle.fsfs_text.specs.Cuts.{Lacks, IsCutOf}
+use Rattle.fsfs_text.proofs.CutLemmas.{lacks_from}
+use Rattle.fsfs_text.proofs.Spelling.{plain_lacks}
+use Rattle.fsfs_base.specs.Digests.{IsDigestText}
+use Rattle.fsfs_base.specs.TxnNames.{IsTxnName}
+use Rattle.fsfs_base.specs.Paths.{Path, path_text, names_text}
+use Rattle.fsfs_base.specs.PathTexts.{IsPath, IsName, is_control}
+use Rattle.fsfs_base.specs.declared.node.Kind.TheVariants as kinds
+use Rattle.fsfs_noderev.specs.Ids.{New, Old, Made, At, In, IsB36, IsRev, IsNumber64, IsPart, IsPlace, id_value}
+use Rattle.fsfs_noderev.specs.Reps.{UniquifierValue, RepValue, IsRevOrNone, IsMarked, IsUnique, AreDigests, IsRep, AreContents, ContentsValue, contents_value}
+use Rattle.fsfs_noderev.specs.Reps as reps
+use Rattle.fsfs_noderev.specs.Fields.{IsIdText, IsKindText, AreContentsText, IsPathText, IsSourceText, IsRootText, IsYes}
+use Rattle.fsfs_noderev.proofs.RepTexts.{digest_lacks}
+
+-- no text of G has an end of a line
+abbrev pub OneLine : {X : Type 0} → (List ℕ → X → Type 0) → Type 0
+OneLine {X} G = (text : List ℕ) (x : X) → G text x → Lacks 10 text
+
+cut_line : {X Y : Type 0} (G : List ℕ → X → Type 0) (H : List ℕ → Y → Type 0) (c : ℕ) → eqb c 10 ≡ false → OneLine G → OneLine H → (text : List ℕ) (p : X × Y) → IsCutOf c G H text p → Lacks 10 text
+cut_line G H c other first second text p w = subst (λ (t : List ℕ). Lacks 10 t) (sym w.4) (lacks_from 10 w.0 (c ∷ w.1) (first w.0 p.0 w.2) (other, second w.1 p.1 w.3))
+
+rev_line : OneLine IsRev
+rev_line = plain_lacks 10 2147483647 10 (omega arith)
+
+pub number_line : OneLine IsNumber64
+number_line = plain_lacks 10 18446744073709551615 10 (omega arith)
+
+b36_line : OneLine IsB36
+b36_line = plain_lacks 36 170581728179578208255 10 (omega arith)
+
+part_line : OneLine IsPart
+part_line text (New n) w = subst (λ (t : List ℕ). Lacks 10 t) (sym w.2) (refl, b36_line w.0 n w.1)
+part_line text (Old n) w = b36_line text n w
+part_line text (Made n rev) w = subst (λ (t : List ℕ). Lacks 10 t) (sym w.4) (lacks_from 10 w.0 (45 ∷ w.1) (b36_line w.0 n w.2) (refl, rev_line w.1 rev w.3))
+
+txn_line : OneLine IsTxnName
+txn_line text p w = subst (λ (t : List ℕ). Lacks 10 t) (sym w.4) (lacks_from 10 w.0 (45 ∷ w.1) (rev_line w.0 p.0 w.2) (refl, b36_line w.1 p.1 w.3))
+
+place_line : OneLine IsPlace
+place_line text (At rev offset) w = subst (λ (t : List ℕ). Lacks 10 t) (sym w.2) (refl, cut_line IsRev IsNumber64 47 refl rev_line number_line w.0 (rev, offset) w.1)
+place_line text (In base n) w = subst (λ (t : List ℕ). Lacks 10 t) (sym w.2) (refl, txn_line w.0 (base, n) w.1)
+
+pub id_line : OneLine IsIdText
+id_line text id w =
+    let v = id_value id in
+    cut_line IsPart (IsCutOf 46 IsPart IsPlace) 46 refl part_line (cut_line IsPart IsPlace 46 refl part_line place_line) text (v.node, (v.copy, v.place)) w
+
+pub kind_line : OneLine IsKindText
+kind_line text kinds.File w = subst (λ (t : List ℕ). Lacks 10 t) (sym w) (refl, (refl, (refl, (refl, tt))))
+kind_line text kinds.Dir w = subst (λ (t : List ℕ). Lacks 10 t) (sym w) (refl, (refl, (refl, tt)))
+
+rev_or_none_line : OneLine IsRevOrNone
+rev_or_none_line text None w = subst (λ (t : List ℕ). Lacks 10 t) (sym w) (refl, (refl, tt))
+rev_or_none_line text (Some rev) w = rev_line text rev w
+
+digest_line : (n : ℕ) → OneLine (IsDigestText n)
+digest_line n = digest_lacks n 10 refl
+
+marked_line : OneLine IsMarked
+marked_line text n w = subst (λ (t : List ℕ). Lacks 10 t) (sym w.2) (refl, b36_line w.0 n w.1)
+
+unique_line : OneLine IsUnique
+unique_line text u w = cut_line (IsDigestText 20) (IsCutOf 47 IsTxnName IsMarked) 32 refl (digest_line 20) (cut_line IsTxnName IsMarked 47 refl txn_line marked_line) text (u.sha1, ((u.base, u.txn), u.number)) w
+
+digests_line : OneLine AreDigests
+digests_line text (md5, None) w = digest_line 16 text md5 w
+digests_line text (md5, Some u) w = cut_line (IsDigestText 16) IsUnique 32 refl (digest_line 16) unique_line text (md5, u) w
+
+rep_line : OneLine IsRep
+rep_line text r w =
+    let one : OneLine (IsCutOf 32 IsNumber64 AreDigests) = cut_line IsNumber64 AreDigests 32 refl number_line digests_line in
+    let two : OneLine (IsCutOf 32 IsNumber64 (IsCutOf 32 IsNumber64 AreDigests)) = cut_line IsNumber64 (IsCutOf 32 IsNumber64 AreDigests) 32 refl number_line one in
+    let three : OneLine (IsCutOf 32 IsNumber64 (IsCutOf 32 IsNumber64 (IsCutOf 32 IsNumber64 AreDigests))) = cut_line IsNumber64 (IsCutOf 32 IsNumber64 (IsCutOf 32 IsNumber64 AreDigests)) 32 refl number_line two in
+    cut_line IsRevOrNone (IsCutOf 32 IsNumber64 (IsCutOf 32 IsNumber64 (IsCutOf 32 IsNumber64 AreDigests))) 32 refl rev_or_none_line three text (r.rev, (r.offset, (r.length, (r.size, (r.md5, r.unique))))) w
+
+values_line : OneLine AreContents
+values_line text reps.Own w = subst (λ (t : List ℕ). Lacks 10 t) (sym w) (refl, (refl, tt))
+values_line text (reps.At r) w = rep_line text r w
+
+pub contents_line : OneLine AreContentsText
+contents_line text k w = values_line text (contents_value k) w
+
+-- no control byte, so no end of a line
+name_line : (name : List ℕ) → position is_control name ≡ None → Lacks 10 name
+name_line name e = go (nat_lt (position_or_len is_control name) (length name)) refl e
+  where
+    all : (xs : List ℕ) → length xs ≤ position_or_len is_control xs → Lacks 10 xs
+    all [] le = tt
+    all (b ∷ bs) le = here b bs (is_control b) refl le (all bs)
+      where
+        here : (b : ℕ) (bs : List ℕ) (t : Bool) → is_control b ≡ t → suc (length bs) ≤ cond (not t) (1 + position_or_len is_control bs) 0 → (length bs ≤ position_or_len is_control bs → Lacks 10 bs) → Lacks 10 (b ∷ bs)
+        here b bs true is le more = absurd (omega (arith, le))
+        here b bs false is le more = (ne_eqb b 10 (λ same. clash (sym (ap is_control same) ∙ is)), more (omega (arith, le)))
+          where
+            clash : true ≡ false → ⊥
+            clash e = cc
+
+    go : (t : Bool) → nat_lt (position_or_len is_control name) (length name) ≡ t → cond t (Some (position_or_len is_control name)) None ≡ None → Lacks 10 name
+    go true is e = absurd cc
+    go false is e = all name (ltb-false _ _ is)
+
+names_line : (p : Path) → AllByRecursion IsName p → Lacks 10 (names_text p)
+names_line [] all = tt
+names_line (x ∷ p) all = (refl, lacks_from 10 x (names_text p) (name_line x all.0.no_control) (names_line p all.1))
+
+path_text_line : (p : Path) → IsPath p → Lacks 10 (path_text p)
+path_text_line [] w = (refl, tt)
+path_text_line (x ∷ p) w = names_line (x ∷ p) w.names
+
+pub path_line : OneLine IsPathText
+path_line text p w = subst (λ (t : List ℕ). Lacks 10 t) w.text_is (path_text_line p w.path_is)
+
+pub source_line : OneLine IsSourceText
+source_line text s w = cut_line IsRev IsPathText 32 refl rev_line path_line text (s.rev, s.path) w
+
+pub root_line : OneLine IsRootText
+root_line text r w = cut_line IsRevOrNone IsPathText 32 refl rev_or_none_line path_line text (r.rev, r.path) w
+
+pub yes_line : OneLine IsYes
+yes_line text x w = subst (λ (t : List ℕ). Lacks 10 t) (sym w) (refl, tt)
