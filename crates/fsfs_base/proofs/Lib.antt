@@ -3,10 +3,5 @@ pub mod PathLemmas
 pub mod ClonedLists
 pub mod TreeLemmas
 pub mod PairLemmas
-pub mod DateTexts
-pub mod TxnNameTexts
 pub mod PathTextLemmas
-pub mod DigestTexts
 pub mod ResultLemmas
-pub mod PropNameTexts
-pub mod DateReadings

@@ -7,7 +7,7 @@ use Rattle.std.specs.BTreeMap.{is_at}
 use Rattle.std.specs.Cmp.Lexicographic.{slice_cmp}
 use Rattle.std.specs.Ordering.{nat_cmp}
 use Rattle.jiff_core.specs.declared.civil.datetime.DateTime.{DateTime}
-use Rattle.fsfs_base.specs.Dates.{IsDateText}
+use Rattle.fsfs_fields.specs.Dates.{IsDateText}
 use Rattle.fsfs_base.specs.declared.edit.Edit.{Edit}
 use Rattle.fsfs_base.specs.declared.mark.Mark.{Mark}
 use Rattle.fsfs_base.specs.Paths.{Path, path_cmp}

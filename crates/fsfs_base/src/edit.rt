@@ -1,6 +1,6 @@
 //! The edits of a transaction.
 use crate::path::FsPath;
-use crate::prop_name::PropName;
+use fsfs_fields::PropName;
 
 /// One edit of a transaction, with its arguments.
 #[derive(Debug, Drop)]

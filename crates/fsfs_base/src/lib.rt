@@ -1,10 +1,8 @@
-//! The base of the store: what every layer speaks of. Files and their names, paths, numbers, dates.
+//! The base of the store: what every layer speaks of. Files and their names, paths, trees, histories.
 #![tactic(auto)]
 
 mod bad_path;
 mod change_map;
-mod date;
-mod digest;
 mod edit;
 mod history;
 mod mark;
@@ -13,18 +11,18 @@ mod node;
 mod pairs;
 mod path;
 mod path_text;
-mod prop_name;
 mod small_fault;
 #[cfg(test)]
 mod text_tests;
 mod tree;
-mod txn_name;
 
 pub use bad_path::{BadPath, PathError, PathFault};
 pub use change_map::{Action, Change, ChangeMap, Folded};
-pub use date::{read_date, write_date};
-pub use digest::HexDigest;
 pub use edit::Edit;
+pub use fsfs_fields::{
+    BadPropName, HexDigest, PropName, PropNameError, TxnName, plain_txn_name, put_txn_name,
+    read_date, read_txn_name, write_date,
+};
 pub use fsfs_text::{B36, next_b36, read_b36, read_dec, write_b36, write_dec};
 pub use history::{History, Revision};
 pub use mark::{Effects, Mark, What, effects_at, outer_marks};
@@ -33,7 +31,5 @@ pub use node::{Kind, Node, Text};
 pub use pairs::Pairs;
 pub use path::FsPath;
 pub use path_text::is_name;
-pub use prop_name::{BadPropName, PropName, PropNameError};
 pub use small_fault::{SmallFault, SmallFile};
 pub use tree::Tree;
-pub use txn_name::{TxnName, plain_txn_name, put_txn_name, read_txn_name};

@@ -3,7 +3,7 @@
 ghost use Rattle.std.specs.Prelude.{◌≡◌, ◌≤◌, ◌<◌, ◌+◌, ◌++◌, codes, length};
 ghost use Rattle.std.specs.Fmt.{decimal};
 ghost use Rattle.fsfs_text.specs.Base36.{glyph, last_digits};
-ghost use Rattle.fsfs_base.specs.TxnNames.{txn_text};
+ghost use Rattle.fsfs_fields.specs.TxnNames.{txn_text};
 ghost use Rattle.fsfs_layout.specs.Names.{in_shard, in_pack, with_txn, small_name};
 
 use fsfs_base::{Name, SmallFile, TxnName};

@@ -3,8 +3,8 @@ use Rattle.std.proofs.Common.{◌≡◌, ℕ, ◌<◌, ◌≤◌, List, [], ◌�
 use Rattle.fsfs_text.specs.Grammar.{Appends}
 use Rattle.fsfs_text.specs.Numeral.{IsPlain, AppendsNumeral}
 use Rattle.fsfs_text.specs.Cuts.{IsCutOf}
-use Rattle.fsfs_base.specs.TxnNames.{IsTxnName, txn_text}
-use Rattle.fsfs_base.proofs.TxnNameTexts.{txn_text_is}
+use Rattle.fsfs_fields.specs.TxnNames.{IsTxnName, txn_text}
+use Rattle.fsfs_fields.proofs.TxnNameTexts.{txn_text_is}
 
 -- a text of G, a byte, and a text of H
 pub appends_cut : {X Y : Type 0} {G : List ℕ → X → Type 0} {H : List ℕ → Y → Type 0} {a b c d : List ℕ} {x : X} {y : Y} (sep : ℕ)

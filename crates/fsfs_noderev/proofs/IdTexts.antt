@@ -7,8 +7,8 @@ use Rattle.fsfs_text.specs.Numeral.{digit}
 use Rattle.fsfs_text.specs.Cuts.{Lacks, IsCutOf, cut, and_then, parts_at}
 use Rattle.fsfs_text.proofs.CutLemmas.{cut_found, cut_again, lacks_from}
 use Rattle.fsfs_text.proofs.Spelling.{Spells, bound, some_is, numeral_spells, cut_spells, plain_lacks}
-use Rattle.fsfs_base.specs.TxnNames.{txn_name_at}
-use Rattle.fsfs_base.proofs.TxnNameTexts.{txn_name_spells}
+use Rattle.fsfs_fields.specs.TxnNames.{txn_name_at}
+use Rattle.fsfs_fields.proofs.TxnNameTexts.{txn_name_spells}
 use Rattle.fsfs_noderev.specs.Ids.{PartValue, New, Old, Made, PlaceValue, At, In, IdValue, IsB36, IsRev, IsNumber64, IsPart, IsPlace, IsId, b36_at, rev_at, number_at, old_at, part_at, place_at, id_at}
 
 part_lacks : (t : List ℕ) (p : PartValue) → IsPart t p → Lacks 46 t

@@ -6,8 +6,8 @@ use Rattle.std.proofs.lemmas.Bool.{ne_eqb, ltb-false}
 use Rattle.fsfs_text.specs.Cuts.{Lacks, IsCutOf}
 use Rattle.fsfs_text.proofs.CutLemmas.{lacks_from}
 use Rattle.fsfs_text.proofs.Spelling.{plain_lacks}
-use Rattle.fsfs_base.specs.Digests.{IsDigestText}
-use Rattle.fsfs_base.specs.TxnNames.{IsTxnName}
+use Rattle.fsfs_fields.specs.Digests.{IsDigestText}
+use Rattle.fsfs_fields.specs.TxnNames.{IsTxnName}
 use Rattle.fsfs_base.specs.Paths.{Path, path_text, names_text}
 use Rattle.fsfs_base.specs.PathTexts.{IsPath, IsName, is_control}
 use Rattle.fsfs_base.specs.declared.node.Kind.TheVariants as kinds

@@ -12,10 +12,10 @@ use Rattle.fsfs_text.specs.Numeral.{IsPlain}
 use Rattle.fsfs_text.specs.Cuts.{Lacks, cut, and_then, parts_at}
 use Rattle.fsfs_text.proofs.CutLemmas.{cut_found, cut_again, lacks_from}
 use Rattle.fsfs_text.proofs.Spelling.{Spells, bound, some_is, numeral_spells, cut_spells, plain_lacks}
-use Rattle.fsfs_base.specs.Digests.{is_capital, IsDigestText}
-use Rattle.fsfs_base.proofs.DigestTexts.{digest_found, digest_again}
-use Rattle.fsfs_base.specs.TxnNames.{IsTxnName, txn_name_at}
-use Rattle.fsfs_base.proofs.TxnNameTexts.{txn_name_spells}
+use Rattle.fsfs_fields.specs.Digests.{is_capital, IsDigestText}
+use Rattle.fsfs_fields.proofs.DigestTexts.{digest_found, digest_again}
+use Rattle.fsfs_fields.specs.TxnNames.{IsTxnName, txn_name_at}
+use Rattle.fsfs_fields.proofs.TxnNameTexts.{txn_name_spells}
 use Rattle.fsfs_noderev.specs.Ids.{IsRev, IsNumber64, b36_at, rev_at, number_at}
 use Rattle.fsfs_noderev.specs.Reps.{UniquifierValue, RepValue, ContentsValue, Own, At, IsRevOrNone, IsMarked, IsUnique, AreDigests, IsRep, AreContents, rev_or_none_at, result_ok, digest_at, marked_at, unique_at, split_digests, digests_at, rep_at, contents_at}
 use Rattle.fsfs_noderev.proofs.IdTexts.{b36_spells, rev_spells, pick}

@@ -3,7 +3,7 @@ use Rattle.std.proofs.Common.{◌≡◌, ℕ, ◌<◌, ◌≤◌, Option, Some, 
 use Rattle.std.specs.Prelude.{option_map}
 use Rattle.std.specs.Coded.{le_prop}
 use Rattle.fsfs_text.specs.declared.base36.B36.{B36}
-use Rattle.fsfs_base.specs.declared.txn_name.TxnName.{TxnName}
+use Rattle.fsfs_fields.specs.declared.txn_name.TxnName.{TxnName}
 use Rattle.fsfs_noderev.specs.declared.node_id.Part.{Part}
 use Rattle.fsfs_noderev.specs.declared.node_id.Part.TheVariants as part
 use Rattle.fsfs_noderev.specs.declared.node_id.Place.{Place}

@@ -2,7 +2,7 @@
 use Rattle.std.specs.Prelude.{◌≡◌, ◌≤◌, ℕ, List, [], ◌∷◌, Option, Some, None, ◌==◌, if◌then◌else◌}
 use Rattle.fsfs_text.specs.Numeral.{IsPlain, numeral_at}
 use Rattle.fsfs_text.specs.Cuts.{IsCutOf, cut, and_then, parts_at}
-use Rattle.fsfs_base.specs.TxnNames.{IsTxnName, txn_name_at}
+use Rattle.fsfs_fields.specs.TxnNames.{IsTxnName, txn_name_at}
 use Rattle.fsfs_noderev.specs.declared.node_id.Part.{Part}
 use Rattle.fsfs_noderev.specs.declared.node_id.Part.TheVariants as part
 use Rattle.fsfs_noderev.specs.declared.node_id.Place.{Place}

@@ -1,7 +1,7 @@
 //! Where a text, a property list or a directory stands.
 ghost use Rattle.std.specs.Prelude.{◌≡◌, ◌≤◌, ℕ, List, option_map, IfSome, IsSomeAnd, IfOk, OnOk, codes};
 ghost use Rattle.fsfs_text.specs.Grammar.{Appends};
-ghost use Rattle.fsfs_base.specs.Digests.{IsDigestText};
+ghost use Rattle.fsfs_fields.specs.Digests.{IsDigestText};
 ghost use Rattle.fsfs_noderev.specs.Reps.{RepValue, ContentsValue, unique_value, rep_value, contents_value, IsRevOrNone, IsMarked, IsUnique, AreDigests, IsRep, AreContents, FitsRev, FitsContents, rev_or_none_at, digest_at, marked_at, unique_at, digests_at, rep_at, contents_at};
 
 use crate::node_id::rev_of;

@@ -5,7 +5,7 @@ use Rattle.std.specs.Ordering.{nat_cmp, is_eq}
 use Rattle.std.specs.Cmp.Lexicographic.{slice_cmp}
 use Rattle.std.specs.FinMap.{get, insert, remove}
 use Rattle.fsfs_base.specs.Files.{Files, NamedFile, renamed}
-use Rattle.fsfs_base.specs.Dates.{IsDateAt}
+use Rattle.fsfs_fields.specs.Dates.{IsDateAt}
 use Rattle.fsfs_base.proofs.FileLemmas.{get_new, get_kept, apart_by, remove-insert_same}
 use Rattle.fsfs_disk.specs.Trace.{Trace, Put, Rename, FirmNames, Done, IsImage, add_operation, files_now, Performs, FailsAt, FailsToPut}
 use Rattle.fsfs_disk.specs.Crash.{AllImages, IsFirm, Leaves, KeepsImages}

@@ -2,7 +2,7 @@
 use Rattle.std.specs.Prelude.{◌≡◌, ◌⊎◌, ℕ, List, [], ◌∷◌, ◌++◌, Option, None, IfSome, IsSome, option_map, codes}
 use Rattle.std.specs.FinMap.{get}
 use Rattle.fsfs_base.specs.Files.{Files, NamedFile}
-use Rattle.fsfs_base.specs.Dates.{IsDateAt}
+use Rattle.fsfs_fields.specs.Dates.{IsDateAt}
 use Rattle.fsfs_disk.specs.Trace.{Trace, add_operation, files_now, file_at, FailsAt, FailsToPut}
 use Rattle.fsfs_disk.specs.Trace.Operation.{Done}
 use Rattle.fsfs_disk.specs.Trace.Change.{Put, Rename, FirmNames}

@@ -1,0 +1,5 @@
+pub mod DateTexts
+pub mod DateReadings
+pub mod DigestTexts
+pub mod PropNameTexts
+pub mod TxnNameTexts

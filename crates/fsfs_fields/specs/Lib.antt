@@ -1,0 +1,5 @@
+pub mod Dates
+pub mod DateReading
+pub mod Digests
+pub mod PropNames
+pub mod TxnNames
