@@ -1,5 +1,5 @@
 -- Pairs of bytes, seen as a list.
-use Rattle.std.proofs.Common.{◌≡◌, ◌∙◌, ℕ, List, [], ◌∷◌, refl, sym, ap, map, Vec, Global, Bor, Option, Some, None, Bool, true, false, cond}
+use Rattle.std.proofs.Common.{◌≡◌, ℕ, List, [], ◌∷◌, refl, ap, map, Vec, Global, Bor, Option, Some, None, Bool, true, false, cond}
 use Rattle.std.specs.Option.{option_copied, option_map}
 use Rattle.std.specs.Cmp.Lexicographic.{slice_cmp}
 use Rattle.std.specs.declared.cmp.Ordering.{Ordering}

@@ -1,4 +1,4 @@
-use Rattle.std.proofs.Common.{◌≡◌, ◌∙◌, ◌++◌, ◌-◌, ◌≤◌, sym, ap, map, take, drop, length, List, Global, arith}
+use Rattle.std.proofs.Common.{◌∙◌, ◌++◌, ◌-◌, sym, ap, map, take, drop, length, Global, arith}
 use Rattle.std.specs.String.{string_bytes}
 use Rattle.std.proofs.lemmas.List.{map-append, drop-map, take_all, length-drop}
 use Rattle.fsfs_base.proofs.ClonedLists.{map_cloned}

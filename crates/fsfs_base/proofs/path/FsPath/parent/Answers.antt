@@ -1,4 +1,4 @@
-use Rattle.std.proofs.Common.{◌≡◌, ◌∙◌, ◌++◌, ◌∷◌, [], ap, sym, arith, List, ℕ}
+use Rattle.std.proofs.Common.{◌∙◌, ◌++◌, ◌∷◌, [], ap, sym, arith}
 use Rattle.fsfs_base.specs.Paths.{Path}
 use Rattle.fsfs_base.proofs.PathTextLemmas.{last_name}
 use Rattle.fsfs_base.proofs.path.FsPath.parent.Goals as goal

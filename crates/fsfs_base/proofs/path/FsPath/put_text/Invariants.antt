@@ -1,4 +1,4 @@
-use Rattle.std.proofs.Common.{◌≡◌, ◌++◌, map, take, List, ℕ, Global}
+use Rattle.std.proofs.Common.{◌≡◌, ◌++◌, map, take, Global}
 use Rattle.std.specs.String.{string_bytes}
 use Rattle.fsfs_base.specs.Paths.{names_text}
 use Rattle.fsfs_base.proofs.path.FsPath.put_text.Given as goal

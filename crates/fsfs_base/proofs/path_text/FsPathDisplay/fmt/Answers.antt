@@ -1,4 +1,4 @@
-use Rattle.std.proofs.Common.{◌≡◌, ◌∙◌, ◌++◌, ◌∷◌, [], ap, sym, map, take, arith, rules, List, ℕ, Global}
+use Rattle.std.proofs.Common.{◌∙◌, ◌++◌, ◌∷◌, ap, sym, map, take, arith, rules, List, ℕ, Global}
 use Rattle.std.proofs.Output.{has_written_append, has_written_of_eq}
 use Rattle.std.specs.String.{string_bytes}
 use Rattle.fsfs_base.specs.Paths.{names_text}

@@ -1,11 +1,10 @@
-use Rattle.std.proofs.Common.{◌≡◌, ◌∙◌, ◌+◌, ◌<◌, ◌^◌, sym, ap, subst, length, List, arith, ℕ, Bool, true, false, cond, ◌∷◌, Fits, w64}
+use Rattle.std.proofs.Common.{◌≡◌, ◌∙◌, sym, ap, length, arith, Bool}
 use Rattle.std.specs.List.{filter}
 use Rattle.std.specs.FinMap as map
-use Rattle.std.specs.FinMap.{from_entries}
 use Rattle.std.specs.Map.{keys_of}
 use Rattle.std.specs.Map.Iter.{deref}
 use Rattle.std.proofs.lemmas.Map.Iter.{rest_more}
-use Rattle.fsfs_base.specs.Paths.{Path, path_cmp}
+use Rattle.fsfs_base.specs.Paths.{Path}
 use Rattle.fsfs_base.specs.Edits.{is_entry, entry_count}
 use Rattle.fsfs_base.proofs.TreeLemmas.{entries_is}
 use Rattle.fsfs_base.proofs.tree.Tree.entry_count.Goals as goal
