@@ -1,3 +1,5 @@
 pub mod LineBytes
 pub mod Files
 pub mod Writing
+pub mod Offsets
+pub mod Manifests

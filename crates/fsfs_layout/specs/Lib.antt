@@ -3,3 +3,5 @@ pub mod Formats
 pub mod Small
 pub mod Reading
 pub mod Names
+pub mod ManifestReading
+pub mod Manifest

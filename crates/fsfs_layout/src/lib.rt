@@ -4,14 +4,17 @@
 #![tactic(auto)]
 
 mod format_file;
+mod manifest_file;
 pub mod names;
 mod next_ids_file;
+mod read_error;
 mod reading;
 mod rev_files;
 mod txn_current_file;
 mod uuid_file;
 
 pub use format_file::{Format, read_format, write_format};
+pub use manifest_file::{ManifestError, read_manifest, write_manifest};
 pub use next_ids_file::{NextIds, read_next_ids, write_next_ids};
 pub use rev_files::{read_current, read_min_unpacked_rev, write_current, write_min_unpacked_rev};
 pub use txn_current_file::{read_txn_current, write_txn_current};

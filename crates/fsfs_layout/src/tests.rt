@@ -1,6 +1,7 @@
 //! Outside cases: where each small file is refused, and what it says.
 use super::*;
-use fsfs_base::{SmallFault, TxnName, read_b36};
+use fsfs_base::{SmallFault, SmallFile, TxnName, read_b36};
+use std::alloc::Global;
 use std::test::Fail;
 
 fn place<T: Drop>(read: Result<T, SmallFault>) -> Option<usize> {
@@ -49,6 +50,83 @@ fn format_places(rt: HostRuntime) {
     ];
     for (bytes, at) in cases {
         assert_eq!(rt; place(read_format(bytes)), at);
+    }
+}
+
+fn manifest_fault(alloc: Global, shard_size: u32, bytes: &[u8]) -> Option<SmallFault> {
+    if shard_size == 0 {
+        return None;
+    }
+    match read_manifest(alloc, bytes, 7, shard_size) {
+        Err(ManifestError::Fault(fault)) => Some(fault),
+        _ => None,
+    }
+}
+
+#[test]
+fn manifest_places(rt: HostRuntime) {
+    let cases: [(u32, &[u8], Option<usize>); 19] = [
+        (1, b"0\n", None),
+        (2, b"0\n115\n", None),
+        (3, b"0\n115\n115\n", None),
+        (2, b"0\n18446744073709551615\n", None),
+        (1, b"0\n0\n", Some(2)),
+        (2, b"0\n115\n270\n", Some(6)),
+        (3, b"0\n115\n", Some(6)),
+        (2, b"1\n115\n", Some(0)),
+        (2, b"00\n115\n", Some(1)),
+        (2, b"0\n01\n", Some(3)),
+        (2, b"0\n1a\n", Some(3)),
+        (2, b"0\n-1\n", Some(2)),
+        (2, b"0\n18446744073709551616\n", Some(21)),
+        // Lines that fall: at the first byte that no number from the line before on has there.
+        (3, b"0\n115\n0\n", Some(6)),
+        (3, b"0\n115\n99\n", Some(8)),
+        (3, b"0\n115\n114\n", Some(9)),
+        (3, b"0\n18446744073709551615\n2\n", Some(23)),
+        (
+            3,
+            b"0\n18446744073709551615\n18446744073709551614\n",
+            Some(42),
+        ),
+        (3, b"0\n10000000000000000000\n19\n", Some(24)),
+    ];
+    let file = SmallFile::Manifest(7);
+    for (shard_size, bytes, at) in cases {
+        let fault = manifest_fault(rt.alloc(), shard_size, bytes);
+        assert_eq!(rt; fault, at.map(|at| SmallFault { file, at }));
+    }
+}
+
+#[test]
+fn manifest_of_two(rt: HostRuntime) -> Result<(), Fail> {
+    let offsets = read_manifest(rt.alloc(), b"0\n115\n", 0, 2)
+        .ok()
+        .ok_or("two offsets")?;
+    assert_eq!(rt; offsets.as_slice(), [0, 115].as_slice());
+    let text = write_manifest(rt.alloc(), &offsets)?;
+    assert_eq!(rt; text.as_slice(), b"0\n115\n".as_slice());
+    Ok(())
+}
+
+#[test]
+fn cut_at_every_length(rt: HostRuntime) {
+    let uuid = b"00000000-0000-4000-8000-000000000000\n".as_slice();
+    for end in 0..uuid.len() {
+        assert_eq!(rt; place(read_uuid(&uuid[..end])), Some(end));
+    }
+    let sharded = b"4\nlayout sharded 2\n".as_slice();
+    for end in 3..sharded.len() {
+        assert_eq!(rt; place(read_format(&sharded[..end])), Some(end));
+    }
+    let two = b"0\n115\n".as_slice();
+    for end in 0..two.len() {
+        let fault = manifest_fault(rt.alloc(), 2, &two[..end]);
+        assert_eq!(rt; fault.map(|fault| fault.at), Some(end));
+    }
+    let numbers = b"1z 10\n".as_slice();
+    for end in 0..numbers.len() {
+        assert_eq!(rt; place(read_next_ids(&numbers[..end])), Some(end));
     }
 }
 
