@@ -7,3 +7,5 @@ pub mod LineTexts
 pub mod Taking
 pub mod Lines10
 pub mod Writes
+pub mod Lengths
+pub mod Fitting

@@ -4,6 +4,7 @@ ghost use Rattle.fsfs_noderev.specs.Lines.{pair_at};
 ghost use Rattle.fsfs_noderev.specs.Fields.{field_named, Puts, Refuses, nothing};
 ghost use Rattle.fsfs_noderev.specs.Faults.{IfRefused};
 ghost use Rattle.fsfs_noderev.specs.NodeRevs.{IsRefused, StopsAt, Means, IsMissing, IsRead};
+ghost use Rattle.fsfs_noderev.specs.Writing.{HasText};
 ghost use Rattle.fsfs_noderev.specs.Steps.{StepIs, StopIs, HasFront, IsExact, IsOutOfMemory};
 ghost use Rattle.fsfs_noderev.specs.declared.node_rev.NodeRev.{NodeRev};
 
@@ -192,6 +193,8 @@ pub fn read_noderev(alloc: Global, bytes: &[u8]) -> Result<NodeRev, NodeError>
     ensures found { IfOk result (IsRead (take 65536 bytes.now)) }
     ensures only { (n : NodeRev) → IsRead (take 65536 bytes.now) n → MatchResult result (λ m. m ≡ n) IsOutOfMemory }
     ensures fault { IfErr result (IsExact (take 65536 bytes.now)) }
+    // What is read can be written.
+    ensures writable { IfOk result HasText }
 {
     read_all(alloc, front(MAX_NODE_REV, bytes))
 }

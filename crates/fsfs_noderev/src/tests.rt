@@ -1,6 +1,6 @@
 //! Outside cases: what is read, where it is refused, and what is written.
 use super::*;
-use std::alloc::Global;
+use std::alloc::{AllocError, Global};
 use std::test::Fail;
 
 const FIRST_ROOT: &[u8] =
@@ -65,6 +65,89 @@ fn faults(rt: HostRuntime) {
     for (bytes, at, which) in cases {
         assert_eq!(rt; fault(rt.alloc(), bytes), Some(NodeFault { at, which }));
     }
+}
+
+#[test]
+fn each_field_twice_and_wrong(rt: HostRuntime) -> Result<(), Fail> {
+    let cases: [(&[u8], &[u8], Field); 12] = [
+        (b"id: 0-1.0.r1/0\n", b"id: 0-1.0.r1\n", Field::Id),
+        (b"type: file\n", b"type: File\n", Field::NodeKind),
+        (b"pred: 0-1.0.r0/17\n", b"pred: none\n", Field::Predecessor),
+        (
+            b"count: 1\n",
+            b"count: 18446744073709551616\n",
+            Field::Count,
+        ),
+        (
+            b"text: 1 0 0 0 d41d8cd98f00b204e9800998ecf8427e\n",
+            b"text: 1 0 0 0 d41d8cd98f00b204e9800998ecf8427E\n",
+            Field::Text,
+        ),
+        (b"props: -1\n", b"props: -2\n", Field::Props),
+        (b"cpath: /e\n", b"cpath: e\n", Field::CreatedPath),
+        (b"copyfrom: 1 /a\n", b"copyfrom: -1 /a\n", Field::CopiedFrom),
+        (b"copyroot: -1 /a\n", b"copyroot: 1/a\n", Field::CopiedRoot),
+        (
+            b"is-fresh-txn-root: y\n",
+            b"is-fresh-txn-root: n\n",
+            Field::FreshTxnRoot,
+        ),
+        (b"minfo-cnt: 0\n", b"minfo-cnt: 00\n", Field::MergeinfoCount),
+        (b"minfo-here: y\n", b"minfo-here: \n", Field::MergeinfoHere),
+    ];
+    for (good, bad, field) in cases {
+        let mut text = Vec::from_slice(rt.alloc(), good)?;
+        text.extend_from_slice(good)?;
+        let twice = NodeFault {
+            at: good.len(),
+            which: Which::Twice(field),
+        };
+        assert_eq!(rt; fault(rt.alloc(), &text), Some(twice));
+        let wrong = NodeFault {
+            at: 0,
+            which: Which::BadValue(field),
+        };
+        assert_eq!(rt; fault(rt.alloc(), bad), Some(wrong));
+    }
+    Ok(())
+}
+
+#[test]
+fn absent_fields(rt: HostRuntime) -> Result<(), Fail> {
+    let node = read_noderev(rt.alloc(), b"id: 0.0.r0/17\ntype: dir\ncpath: /\n\n")
+        .ok()
+        .ok_or("a node-revision")?;
+    assert!(rt; node.predecessor.is_none() && node.count == 0);
+    assert!(rt; node.text.is_none() && node.props.is_none());
+    assert!(rt; node.copy_from.is_none() && node.copy_root.is_none());
+    assert!(rt; !node.is_fresh_txn_root && !node.has_mergeinfo);
+    assert!(rt; node.mergeinfo_count.is_none());
+    Ok(())
+}
+
+/// A line of no field with so many bytes as value, and the first root.
+fn padded(alloc: Global, count: usize) -> Result<Vec<u8>, AllocError> {
+    let mut text = Vec::from_slice(alloc, b"x: ")?;
+    for _ in 0..count {
+        text.push(b'x')?;
+    }
+    text.push(b'\n')?;
+    text.extend_from_slice(FIRST_ROOT)?;
+    Ok(text)
+}
+
+#[test]
+fn at_most_65536_bytes(rt: HostRuntime) -> Result<(), Fail> {
+    let text = padded(rt.alloc(), 65442)?;
+    assert_eq!(rt; text.len(), 65536);
+    assert!(rt; read_noderev(rt.alloc(), &text).is_ok());
+    let text = padded(rt.alloc(), 65443)?;
+    let passed = NodeFault {
+        at: 65536,
+        which: Which::NoEnd,
+    };
+    assert_eq!(rt; fault(rt.alloc(), &text), Some(passed));
+    Ok(())
 }
 
 #[test]

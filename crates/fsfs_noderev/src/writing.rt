@@ -1,11 +1,11 @@
 //! Node-revisions written in lines.
-ghost use Rattle.std.specs.Prelude.{◌≡◌, ◌≤◌, ◌++◌, ◌∷◌, [], List, ℕ, Bool, OnOk, IfOk, codes};
+ghost use Rattle.std.specs.Prelude.{◌≡◌, ◌≤◌, ◌++◌, ◌∷◌, [], List, ℕ, Bool, length, take, OnOk, IfOk, codes};
 ghost use Rattle.fsfs_text.specs.Grammar.{Appends};
 ghost use Rattle.fsfs_base.specs.PathTexts.{IsPath};
 ghost use Rattle.fsfs_noderev.specs.Ids.{FitsId, id_value, IsNumber64};
 ghost use Rattle.fsfs_noderev.specs.Reps.{FitsRev, FitsContents, contents_value};
 ghost use Rattle.fsfs_noderev.specs.Fields.{IsIdText, IsKindText, AreContentsText, IsPathText, IsSourceText, IsRootText};
-ghost use Rattle.fsfs_noderev.specs.NodeRevs.{IsNodeRev};
+ghost use Rattle.fsfs_noderev.specs.NodeRevs.{IsNodeRev, IsRead};
 ghost use Rattle.fsfs_noderev.specs.Writing.{IsLineOf, IsOptional, IsFlag, IsWritten, HasText, FitsIds, FitsOptional, FitsSource, FitsRoot};
 
 use crate::node_id::{NodeId, put_id};
@@ -192,10 +192,15 @@ fn optional_root(
 }
 
 /// The text of a node-revision: a line for each field that it has, in the order of `Field`, and an empty line.
+/// It stays within the 65,536 bytes that are read of one.
 pub fn write_noderev(alloc: Global, node: &NodeRev) -> Result<Vec<u8>, AllocError>
     requires { HasText node.now }
     ensures grammar { IfOk result (λ v. IsNodeRev v.items node.now) }
     ensures lines { IfOk result (λ v. IsWritten v.items node.now) }
+    ensures short { IfOk result (λ v. length v.items ≤ 65536) }
+
+    // It reads back as the same node-revision, whatever stands behind it.
+    ensures reads_back { IfOk result (λ v. (rest : List ℕ) → IsRead (take 65536 (v.items ++ rest)) node.now) }
 {
     let mut out = Vec::new(alloc);
     id_line(&mut out, b"id", &node.id)?;
