@@ -1,0 +1,3 @@
+pub mod Told
+pub mod MemBook
+pub mod MemBookLemmas

@@ -1,0 +1,37 @@
+-- What a book in memory tells.
+use Rattle.std.specs.Prelude.{ℕ, ◌+◌, ◌-◌, ◌^◌, min, Bool, nat_eq, List, length, slice_get, Option, Some, None, Result, Ok, Err}
+use Rattle.std.specs.List.{list_any}
+use Rattle.fsfs_book.specs.declared.book.Refusal.{Refusal}
+use Rattle.fsfs_book.specs.declared.book.Refusal.TheVariants.{NoRev, Missing, Small}
+use Rattle.fsfs_book.specs.declared.mem_book.Kept.{Kept}
+use Rattle.fsfs_book.specs.declared.mem_book.Kept.TheVariants.{Bytes, Absent, Damaged}
+use Rattle.fsfs_book.specs.declared.mem_book.MemRev.{MemRev}
+use Rattle.fsfs_book.specs.Told.{Look, Telling}
+
+-- what is read where a file of a revision is kept
+abbrev pub read_of : ℕ → Kept → Result (List ℕ) Refusal
+read_of rev (Bytes bytes) = Ok bytes.items
+read_of rev Absent = Err (Missing rev)
+read_of rev (Damaged fault) = Err (Small fault)
+
+-- what is read of a revision by the file that is looked at; above the last revision there is none
+abbrev pub found_by : (MemRev → Kept) → ℕ → ℕ → Option MemRev → Result (List ℕ) Refusal
+found_by file rev count None = Err (NoRev rev (count - 1))
+found_by file rev count (Some found) = read_of rev (file found)
+
+abbrev pub bytes_in : List MemRev → Look
+bytes_in revs rev = found_by (λ r. r.bytes) rev (length revs) (slice_get revs rev)
+
+abbrev pub props_in : List MemRev → Look
+props_in revs rev = found_by (λ r. r.props) rev (length revs) (slice_get revs rev)
+
+abbrev pub told_in : List MemRev → Telling
+told_in revs = record { revs = λ rev. Some (bytes_in revs rev); props = λ rev. Some (props_in revs rev); youngest = Some (length revs - 1) }
+
+-- the number of the next call; the first is 1, and the count stops at the last number of a u64
+abbrev pub next_call : ℕ → ℕ
+next_call calls = min (calls + 1) (2 ^ 64 - 1)
+
+-- the next call is one of those that are to fail
+abbrev pub is_next_listed : ℕ → List ℕ → Bool
+is_next_listed calls failing = list_any (λ number. nat_eq number (next_call calls)) failing

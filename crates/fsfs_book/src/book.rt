@@ -1,0 +1,84 @@
+//! What the readers of revisions ask of a store.
+ghost use Rattle.std.specs.Prelude.{◌≡◌, ◌≤◌, ◌<◌, ◌^◌, ℕ, List, Option, Some, Result, Ok, length, take, IfOk, IfErr, IfSome};
+ghost use Rattle.fsfs_book.specs.declared.book.Refusal.{Refusal};
+ghost use Rattle.fsfs_book.specs.declared.book.BookFault.TheVariants.{DiskFault};
+ghost use Rattle.fsfs_book.specs.Told.{Telling, Keeps, Gives, part_read, size_read, HasCause, IsAbout};
+
+use fsfs_base::SmallFault;
+use thiserror::Error;
+
+/// Why a book has no such bytes.
+#[derive(Clone, Copy, Debug, PartialEq, Eq, Error)]
+pub enum Refusal {
+    /// The revision that was asked for is above the youngest.
+    #[error("there is no revision {asked}; the youngest is {youngest}")]
+    NoRev { asked: u32, youngest: u64 },
+    /// The offset is past the end of the revision's bytes.
+    #[error("revision {rev} ends before {offset}")]
+    Short { rev: u32, offset: u64 },
+    /// The revision's file is absent.
+    #[error("the file of revision {rev} is absent")]
+    Missing { rev: u32 },
+    /// The small file that says where the revision stands is not in its format.
+    #[error("a small file is damaged")]
+    Small(SmallFault),
+}
+
+/// A call of a book gave nothing.
+#[derive(Clone, Copy, Debug, PartialEq, Eq, Error)]
+pub enum BookFault {
+    /// The book has no such bytes.
+    #[error("the book has no such bytes")]
+    Refused(Refusal),
+    /// A call of the disk below failed, and the book's count of faults rose.
+    #[error("the disk failed")]
+    DiskFault,
+}
+
+/// What gives the bytes of revisions, and the bytes of their property files. Offsets count from the beginning of a
+/// revision's own bytes.
+///
+/// A book may tell, a revision at a time, what there is to read. What it has told stays true, and it may come to tell
+/// more. A book that tells nothing still names its refusals rightly and counts its faults.
+pub trait Book {
+    /// What it tells: of each revision its bytes and the bytes of its property file, or why there are none; and the
+    /// youngest revision, where that is known.
+    ghost told: { Self → Telling };
+
+    /// How often the disk below it has failed. The count stops at the last number of a u64.
+    ghost faults: { Self → ℕ };
+
+    /// The youngest revision.
+    fn youngest(&mut self) -> Result<u64, BookFault>
+        ensures told { IfSome (told self.old).youngest (λ y. IfOk result (λ n. n ≡ y)) }
+        ensures failed { IfErr result (λ e. e ≡ DiskFault) }
+        ensures kept { Keeps (told self.old) (told self.new) }
+        ensures cause { HasCause (faults self.old) (faults self.new) result };
+
+    /// The length of a revision's bytes.
+    fn rev_len(&mut self, rev: u32) -> Result<u64, BookFault>
+        ensures told { (read : Result (List ℕ) Refusal) → (told self.old).revs rev ≡ Some read → Gives (λ n. n) result (size_read read) }
+        ensures about { IfErr result (IsAbout rev 0) }
+        ensures kept { Keeps (told self.old) (told self.new) }
+        ensures cause { HasCause (faults self.old) (faults self.new) result };
+
+    /// Reads a revision's bytes from an offset on into the beginning of the buffer, and answers how many: as many as
+    /// there are and as fit.
+    fn read_rev(&mut self, rev: u32, offset: u64, buffer: &mut [u8]) -> Result<usize, BookFault>
+        ensures bound { IfOk result (λ n. n ≤ length buffer.new) }
+        ensures told { (read : Result (List ℕ) Refusal) → (told self.old).revs rev ≡ Some read → Gives (λ n. take n buffer.new) result (part_read rev offset (length buffer.old) read) }
+        ensures about { IfErr result (IsAbout rev offset) }
+        ensures kept { Keeps (told self.old) (told self.new) }
+        ensures cause { HasCause (faults self.old) (faults self.new) result };
+
+    /// The same of a revision's property file.
+    fn read_props(&mut self, rev: u32, offset: u64, buffer: &mut [u8]) -> Result<usize, BookFault>
+        ensures bound { IfOk result (λ n. n ≤ length buffer.new) }
+        ensures told { (read : Result (List ℕ) Refusal) → (told self.old).props rev ≡ Some read → Gives (λ n. take n buffer.new) result (part_read rev offset (length buffer.old) read) }
+        ensures about { IfErr result (IsAbout rev offset) }
+        ensures kept { Keeps (told self.old) (told self.new) }
+        ensures cause { HasCause (faults self.old) (faults self.new) result };
+
+    /// No revision that is told has 2^64 bytes.
+    ghost fits: { (book : Self) (rev : ℕ) (bytes : List ℕ) → (told book).revs rev ≡ Some (Ok bytes) → length bytes < 2 ^ 64 };
+}

@@ -1,0 +1,190 @@
+//! A book in memory, for tests and small tools. Calls whose numbers are listed fail.
+ghost use Rattle.std.specs.Prelude.{◌≡◌, ◌<◌, ◌≤◌, ◌-◌, ◌↔◌, Ok, Err, IsTrue, IsErr, IfOk, IfErr, OnErr, MatchResult, vec_len, length, take};
+ghost use Rattle.fsfs_book.specs.declared.book.BookFault.TheVariants.{Refused, DiskFault};
+ghost use Rattle.fsfs_book.specs.declared.book.Refusal.TheVariants.{NoRev, Short};
+ghost use Rattle.fsfs_book.specs.Told.{Gives, part_of, Rose, IsRefusalOf};
+ghost use Rattle.fsfs_book.specs.MemBook.{bytes_in, props_in, read_of, next_call, is_next_listed};
+
+use crate::book::{Book, BookFault, Refusal};
+use fsfs_base::SmallFault;
+use std::alloc::Global;
+
+/// What stands where the bytes of a file are looked for.
+#[derive(Drop)]
+pub enum Kept {
+    Bytes(Vec<u8>),
+    /// There is no such file.
+    Absent,
+    /// The small file that says where the bytes stand is not in its format.
+    Damaged(SmallFault),
+}
+
+/// A revision of a book in memory.
+#[derive(Drop)]
+pub struct MemRev {
+    pub bytes: Kept,
+    pub props: Kept,
+}
+
+/// A book in memory. It tells everything.
+#[derive(Drop)]
+pub struct MemBook {
+    revs: Vec<MemRev>,
+    failing: Vec<u64>,
+    calls: u64,
+    faults: u64,
+    ghost some: { 0 < vec_len revs },
+}
+
+// A revision above the last.
+fn none_above(revs: &[MemRev], rev: u32) -> Refusal
+    requires some { 0 < length revs.now }
+    requires above { length revs.now ≤ rev }
+    ensures { result ≡ NoRev rev (length revs.now - 1) }
+{
+    Refusal::NoRev {
+        asked: rev,
+        youngest: revs.len() as u64 - 1,
+    }
+}
+
+fn read_kept(rev: u32, kept: &Kept) -> Result<&[u8], Refusal>
+    ensures read { MatchResult result (λ b. read_of rev kept.now ≡ Ok b.now) (λ e. read_of rev kept.now ≡ Err e) }
+    ensures about { IfErr result (IsRefusalOf rev 0) }
+{
+    match kept {
+        Kept::Bytes(bytes) => Ok(bytes.as_slice()),
+        Kept::Absent => Err(Refusal::Missing { rev }),
+        Kept::Damaged(fault) => Err(Refusal::Small(*fault)),
+    }
+}
+
+fn bytes_of(revs: &[MemRev], rev: u32) -> Result<&[u8], Refusal>
+    requires { 0 < length revs.now }
+    ensures read { MatchResult result (λ b. bytes_in revs.now rev ≡ Ok b.now) (λ e. bytes_in revs.now rev ≡ Err e) }
+    ensures about { IfErr result (IsRefusalOf rev 0) }
+{
+    match revs.get(rev as usize) {
+        None => Err(none_above(revs, rev)),
+        Some(found) => read_kept(rev, &found.bytes),
+    }
+}
+
+fn props_of(revs: &[MemRev], rev: u32) -> Result<&[u8], Refusal>
+    requires { 0 < length revs.now }
+    ensures read { MatchResult result (λ b. props_in revs.now rev ≡ Ok b.now) (λ e. props_in revs.now rev ≡ Err e) }
+    ensures about { IfErr result (IsRefusalOf rev 0) }
+{
+    match revs.get(rev as usize) {
+        None => Err(none_above(revs, rev)),
+        Some(found) => read_kept(rev, &found.props),
+    }
+}
+
+// The bytes from an offset on, as many as fit.
+fn copy_part(bytes: &[u8], rev: u32, offset: u64, buffer: &mut [u8]) -> Result<usize, BookFault>
+    ensures bound { IfOk result (λ n. n ≤ length buffer.new) }
+    ensures part { Gives (λ n. take n buffer.new) result (part_of rev offset (length buffer.old) bytes.now) }
+    ensures short { IfErr result (λ e. e ≡ Refused (Short rev offset)) }
+{
+    if (bytes.len() as u64) < offset {
+        return Err(BookFault::Refused(Refusal::Short { rev, offset }));
+    }
+    let rest = &bytes[offset as usize..];
+    let count = rest.len().min(buffer.len());
+    buffer[..count].copy_from_slice(&rest[..count]);
+    Ok(count)
+}
+
+impl MemBook {
+    /// A book of these revisions, the first being revision 0.
+    pub fn new(alloc: Global, revs: Vec<MemRev>) -> MemBook
+        requires { 0 < vec_len revs }
+        ensures revs { result.revs.items ≡ revs.items }
+        ensures faults { result.faults ≡ 0 }
+    {
+        MemBook::with_faults(revs, Vec::new(alloc))
+    }
+
+    /// The same, of which the calls with these numbers fail. The first call is 1.
+    pub fn with_faults(revs: Vec<MemRev>, failing: Vec<u64>) -> MemBook
+        requires { 0 < vec_len revs }
+        ensures revs { result.revs.items ≡ revs.items }
+        ensures failing { result.failing.items ≡ failing.items }
+        ensures calls { result.calls ≡ 0 }
+        ensures faults { result.faults ≡ 0 }
+    {
+        MemBook {
+            revs,
+            failing,
+            calls: 0,
+            faults: 0,
+        }
+    }
+
+    /// How often it has failed.
+    pub fn faults(&self) -> u64
+        ensures { result ≡ self.now.faults }
+    {
+        self.faults
+    }
+
+    // Counts a call. It fails where it is listed, and only there.
+    fn call(&mut self) -> Result<(), BookFault>
+        ensures listed { IsErr result ↔ IsTrue (is_next_listed self.old.calls self.old.failing.items) }
+        ensures calls { self.new.calls ≡ next_call self.old.calls }
+        ensures failing { self.new.failing ≡ self.old.failing }
+        ensures revs { self.new.revs ≡ self.old.revs }
+        ensures fault { IfErr result (λ e. e ≡ DiskFault) }
+        ensures later { self.old.faults ≤ self.new.faults }
+        ensures rose { OnErr result (Rose self.old.faults self.new.faults) }
+    {
+        self.calls = self.calls.saturating_add(1);
+        let call = self.calls;
+        if self.failing.contains(&call) {
+            self.faults = self.faults.saturating_add(1);
+            return Err(BookFault::DiskFault);
+        }
+        Ok(())
+    }
+}
+
+impl Book for MemBook {
+    ghost use Rattle.fsfs_book.specs.MemBook.{told_in};
+    ghost use Rattle.fsfs_book.specs.MemBookLemmas.{length-bytes_in};
+
+    ghost told = { λ b. told_in b.revs.items };
+
+    ghost faults = { λ b. b.faults };
+
+    fn youngest(&mut self) -> Result<u64, BookFault> {
+        self.call()?;
+        Ok(self.revs.len() as u64 - 1)
+    }
+
+    fn rev_len(&mut self, rev: u32) -> Result<u64, BookFault> {
+        self.call()?;
+        match bytes_of(&self.revs, rev) {
+            Ok(bytes) => Ok(bytes.len() as u64),
+            Err(refusal) => Err(BookFault::Refused(refusal)),
+        }
+    }
+
+    fn read_rev(&mut self, rev: u32, offset: u64, buffer: &mut [u8]) -> Result<usize, BookFault> {
+        self.call()?;
+        match bytes_of(&self.revs, rev) {
+            Ok(bytes) => copy_part(bytes, rev, offset, buffer),
+            Err(refusal) => Err(BookFault::Refused(refusal)),
+        }
+    }
+
+    fn read_props(&mut self, rev: u32, offset: u64, buffer: &mut [u8]) -> Result<usize, BookFault> {
+        self.call()?;
+        match props_of(&self.revs, rev) {
+            Ok(bytes) => copy_part(bytes, rev, offset, buffer),
+            Err(refusal) => Err(BookFault::Refused(refusal)),
+        }
+    }
+
+    ghost fits = { λ book rev bytes told. length-bytes_in book.revs.items rev bytes told };
+}

@@ -1,0 +1,102 @@
+//! A small book of four revisions.
+
+use crate::{Book, BookFault, Kept, MemBook, MemRev, Refusal};
+use fsfs_base::{SmallFault, SmallFile};
+use std::alloc::{AllocError, Global};
+use std::test::Fail;
+
+fn kept(alloc: Global, bytes: &[u8]) -> Result<Kept, AllocError> {
+    Ok(Kept::Bytes(Vec::from_slice(alloc, bytes)?))
+}
+
+fn damaged() -> SmallFault {
+    SmallFault {
+        file: SmallFile::Manifest(1),
+        at: 3,
+    }
+}
+
+// Bytes and properties; no bytes; bytes that can't be found; no properties.
+fn small_book(alloc: Global, failing: &[u64]) -> Result<MemBook, AllocError> {
+    let mut revs = Vec::new(alloc);
+    revs.push(MemRev {
+        bytes: kept(alloc, b"abc")?,
+        props: kept(alloc, b"END\n")?,
+    })?;
+    revs.push(MemRev {
+        bytes: Kept::Absent,
+        props: kept(alloc, b"END\n")?,
+    })?;
+    revs.push(MemRev {
+        bytes: Kept::Damaged(damaged()),
+        props: kept(alloc, b"END\n")?,
+    })?;
+    revs.push(MemRev {
+        bytes: kept(alloc, b"")?,
+        props: Kept::Absent,
+    })?;
+    Ok(MemBook::with_faults(revs, Vec::from_slice(alloc, failing)?))
+}
+
+// As code above reads, over any book.
+fn part<B: Book>(book: &mut B, rev: u32, offset: u64) -> (Result<usize, BookFault>, [u8; 2]) {
+    let mut buffer = [0u8; 2];
+    let answer = book.read_rev(rev, offset, &mut buffer);
+    (answer, buffer)
+}
+
+#[test]
+fn reads_parts(rt: HostRuntime) -> Result<(), Fail> {
+    let mut book = small_book(rt.alloc(), &[])?;
+    let table = [
+        (0, 0, Ok(2), *b"ab"),
+        (0, 1, Ok(2), *b"bc"),
+        (0, 2, Ok(1), *b"c\0"),
+        (0, 3, Ok(0), *b"\0\0"),
+        (0, 4, Err(Refusal::Short { rev: 0, offset: 4 }), *b"\0\0"),
+        (1, 0, Err(Refusal::Missing { rev: 1 }), *b"\0\0"),
+        (2, 0, Err(Refusal::Small(damaged())), *b"\0\0"),
+        (3, 0, Ok(0), *b"\0\0"),
+        (
+            4,
+            0,
+            Err(Refusal::NoRev {
+                asked: 4,
+                youngest: 3,
+            }),
+            *b"\0\0",
+        ),
+    ];
+    for (rev, offset, want, bytes) in table {
+        let (answer, buffer) = part(&mut book, rev, offset);
+        assert!(rt;
+            answer == want.map_err(BookFault::Refused),
+            "at {rev} {offset}"
+        );
+        assert!(rt; buffer == bytes, "at {rev} {offset}");
+    }
+    Ok(())
+}
+
+#[test]
+fn fails_at_listed_calls(rt: HostRuntime) -> Result<(), Fail> {
+    let mut book = small_book(rt.alloc(), &[2, 4])?;
+    let mut buffer = [0u8; 8];
+    assert!(rt; book.youngest() == Ok(3));
+    assert!(rt; book.rev_len(0) == Err(BookFault::DiskFault));
+    assert!(rt; book.rev_len(0) == Ok(3));
+    assert!(rt; book.read_props(0, 0, &mut buffer) == Err(BookFault::DiskFault));
+    assert!(rt; book.read_props(0, 1, &mut buffer) == Ok(3));
+    assert!(rt; &buffer[..3] == b"ND\n".as_slice());
+    assert!(rt; book.faults() == 2);
+    let alone = Vec::from_array(
+        rt.alloc(),
+        [MemRev {
+            bytes: Kept::Absent,
+            props: Kept::Absent,
+        }],
+    )?;
+    assert!(rt; alone.len() == 1);
+    assert!(rt; MemBook::new(rt.alloc(), alone).youngest() == Ok(0));
+    Ok(())
+}
