@@ -1,9 +1,9 @@
 -- What a book tells, and answers that agree with it.
 use Rattle.std.specs.Prelude.{◌≡◌, ℕ, ◌+◌, ◌-◌, ◌^◌, ◌<◌, ◌≤◌, min, nat_lt, List, length, take, drop, Option, Some, Result, Ok, Err, IfErr, if◌then◌else◌}
 use Rattle.fsfs_book.specs.declared.book.Refusal.{Refusal}
-use Rattle.fsfs_book.specs.declared.book.Refusal.TheVariants.{NoRev, Short, Missing, Small}
+use Rattle.fsfs_book.specs.declared.book.Refusal.TheVariants.{NoRev, Missing, Small}
 use Rattle.fsfs_book.specs.declared.book.BookFault.{BookFault}
-use Rattle.fsfs_book.specs.declared.book.BookFault.TheVariants.{Refused, DiskFault}
+use Rattle.fsfs_book.specs.declared.book.BookFault.TheVariants.{Refused, Short, DiskFault}
 
 -- the bytes of each revision, or why there are none
 abbrev pub Look : Type 0
@@ -29,46 +29,34 @@ pub record Keeps (old new : Telling) : Type 0 where
   pub props : (r : ℕ) (read : Result (List ℕ) Refusal) → old.props r ≡ Some read → new.props r ≡ Some read
   pub youngest : (y : ℕ) → old.youngest ≡ Some y → new.youngest ≡ Some y
 
--- reading goes on with what was read, or stops at its first refusal
-infixl 10 ◌>>=◌
-abbrev pub ◌>>=◌ : {A B F : Type 0} → Result A F → (A → Result B F) → Result B F
-(Ok x) >>= f = f x
-(Err e) >>= f = Err e
+-- the size of a revision, of what is read of the revision
+abbrev pub size_read : Result (List ℕ) Refusal → Result ℕ BookFault
+size_read (Err refusal) = Err (Refused refusal)
+size_read (Ok bytes) = Ok (length bytes)
 
-abbrev pub size_of : List ℕ → Result ℕ Refusal
-size_of bytes = Ok (length bytes)
+-- up to so many bytes from an offset on, of what is read of the revision
+abbrev pub part_read : ℕ → ℕ → ℕ → Result (List ℕ) Refusal → Result (List ℕ) BookFault
+part_read rev offset count (Err refusal) = Err (Refused refusal)
+part_read rev offset count (Ok bytes) = if nat_lt (length bytes) offset then Err (Short rev offset) else Ok (take count (drop offset bytes))
 
--- up to so many bytes from an offset on
-abbrev pub part_of : ℕ → ℕ → ℕ → List ℕ → Result (List ℕ) Refusal
-part_of rev offset count bytes = if nat_lt (length bytes) offset then Err (Short rev offset) else Ok (take count (drop offset bytes))
-
--- the size of a revision and a part of it, of what is read of the revision
-abbrev pub size_read : Result (List ℕ) Refusal → Result ℕ Refusal
-size_read read = read >>= size_of
-
-abbrev pub part_read : ℕ → ℕ → ℕ → Result (List ℕ) Refusal → Result (List ℕ) Refusal
-part_read rev offset count read = read >>= part_of rev offset count
-
--- a failure says nothing of the bytes; a refusal is theirs
-abbrev pub Fails : {Y : Type 0} → BookFault → Result Y Refusal → Type 0
-Fails DiskFault read = Unit {0}
-Fails (Refused refusal) read = read ≡ Err refusal
-
--- what a call answered, seen by view, is what reading gives
-abbrev pub Gives : {X Y : Type 0} → (X → Y) → Result X BookFault → Result Y Refusal → Type 0
+-- what a call answered, seen by view, is what reading gives; a failure of the disk says nothing of that
+abbrev pub Gives : {X Y : Type 0} → (X → Y) → Result X BookFault → Result Y BookFault → Type 0
 Gives view (Ok x) read = read ≡ Ok (view x)
-Gives view (Err fault) read = Fails fault read
+Gives view (Err DiskFault) read = Unit {0}
+Gives view (Err (Refused refusal)) read = read ≡ Err (Refused refusal)
+Gives view (Err (Short rev offset)) read = read ≡ Err (Short rev offset)
 
--- a refusal names the revision and the offset that were asked for
-abbrev pub IsRefusalOf : ℕ → ℕ → Refusal → Type 0
-IsRefusalOf rev offset (NoRev asked youngest) = (asked ≡ rev) × (youngest < asked)
-IsRefusalOf rev offset (Short at past) = (at ≡ rev) × (past ≡ offset)
-IsRefusalOf rev offset (Missing absent) = absent ≡ rev
-IsRefusalOf rev offset (Small fault) = Unit {0}
+-- a refusal names the revision that was asked for
+abbrev pub IsRefusalOf : ℕ → Refusal → Type 0
+IsRefusalOf rev (NoRev asked youngest) = (asked ≡ rev) × (youngest < asked)
+IsRefusalOf rev (Missing absent) = absent ≡ rev
+IsRefusalOf rev (Small fault) = Unit {0}
 
+-- and so does a fault, with the offset
 abbrev pub IsAbout : ℕ → ℕ → BookFault → Type 0
+IsAbout rev offset (Refused refusal) = IsRefusalOf rev refusal
+IsAbout rev offset (Short at past) = (at ≡ rev) × (past ≡ offset)
 IsAbout rev offset DiskFault = Unit {0}
-IsAbout rev offset (Refused refusal) = IsRefusalOf rev offset refusal
 
 -- the count rose, or stands at its last value
 abbrev pub Rose : ℕ → ℕ → Type 0
@@ -77,6 +65,7 @@ Rose before now = min (before + 1) (2 ^ 64 - 1) ≤ now
 abbrev pub IfDisk : BookFault → Type 0 → Type 0
 IfDisk DiskFault P = P
 IfDisk (Refused refusal) P = Unit {0}
+IfDisk (Short rev offset) P = Unit {0}
 
 -- a count never falls, and rose where the disk failed
 pub record HasCause {T : Type 0} (before now : ℕ) (result : Result T BookFault) : Type 0 where

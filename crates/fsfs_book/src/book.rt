@@ -7,15 +7,12 @@ ghost use Rattle.fsfs_book.specs.Told.{Telling, Keeps, Gives, part_read, size_re
 use fsfs_base::SmallFault;
 use thiserror::Error;
 
-/// Why a book has no such bytes.
+/// Why a book has no bytes of a revision.
 #[derive(Clone, Copy, Debug, PartialEq, Eq, Error)]
 pub enum Refusal {
     /// The revision that was asked for is above the youngest.
     #[error("there is no revision {asked}; the youngest is {youngest}")]
     NoRev { asked: u32, youngest: u64 },
-    /// The offset is past the end of the revision's bytes.
-    #[error("revision {rev} ends before {offset}")]
-    Short { rev: u32, offset: u64 },
     /// The revision's file is absent.
     #[error("the file of revision {rev} is absent")]
     Missing { rev: u32 },
@@ -27,9 +24,12 @@ pub enum Refusal {
 /// A call of a book gave nothing.
 #[derive(Clone, Copy, Debug, PartialEq, Eq, Error)]
 pub enum BookFault {
-    /// The book has no such bytes.
-    #[error("the book has no such bytes")]
+    /// The book has no bytes of the revision.
+    #[error("the book has no bytes of the revision")]
     Refused(Refusal),
+    /// The offset is past the end of the bytes.
+    #[error("revision {rev} ends before {offset}")]
+    Short { rev: u32, offset: u64 },
     /// A call of the disk below failed, and the book's count of faults rose.
     #[error("the disk failed")]
     DiskFault,

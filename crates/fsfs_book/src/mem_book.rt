@@ -1,8 +1,8 @@
 //! A book in memory, for tests and small tools. Calls whose numbers are listed fail.
 ghost use Rattle.std.specs.Prelude.{◌≡◌, ◌<◌, ◌≤◌, ◌-◌, ◌↔◌, Ok, Err, IsTrue, IsErr, IfOk, IfErr, OnErr, MatchResult, vec_len, length, take};
-ghost use Rattle.fsfs_book.specs.declared.book.BookFault.TheVariants.{Refused, DiskFault};
-ghost use Rattle.fsfs_book.specs.declared.book.Refusal.TheVariants.{NoRev, Short};
-ghost use Rattle.fsfs_book.specs.Told.{Gives, part_of, Rose, IsRefusalOf};
+ghost use Rattle.fsfs_book.specs.declared.book.BookFault.TheVariants.{Short, DiskFault};
+ghost use Rattle.fsfs_book.specs.declared.book.Refusal.TheVariants.{NoRev};
+ghost use Rattle.fsfs_book.specs.Told.{Gives, part_read, Rose, IsRefusalOf};
 ghost use Rattle.fsfs_book.specs.MemBook.{bytes_in, props_in, read_of, next_call, is_next_listed};
 
 use crate::book::{Book, BookFault, Refusal};
@@ -50,7 +50,7 @@ fn none_above(revs: &[MemRev], rev: u32) -> Refusal
 
 fn read_kept(rev: u32, kept: &Kept) -> Result<&[u8], Refusal>
     ensures read { MatchResult result (λ b. read_of rev kept.now ≡ Ok b.now) (λ e. read_of rev kept.now ≡ Err e) }
-    ensures about { IfErr result (IsRefusalOf rev 0) }
+    ensures about { IfErr result (IsRefusalOf rev) }
 {
     match kept {
         Kept::Bytes(bytes) => Ok(bytes.as_slice()),
@@ -62,7 +62,7 @@ fn read_kept(rev: u32, kept: &Kept) -> Result<&[u8], Refusal>
 fn bytes_of(revs: &[MemRev], rev: u32) -> Result<&[u8], Refusal>
     requires { 0 < length revs.now }
     ensures read { MatchResult result (λ b. bytes_in revs.now rev ≡ Ok b.now) (λ e. bytes_in revs.now rev ≡ Err e) }
-    ensures about { IfErr result (IsRefusalOf rev 0) }
+    ensures about { IfErr result (IsRefusalOf rev) }
 {
     match revs.get(rev as usize) {
         None => Err(none_above(revs, rev)),
@@ -73,7 +73,7 @@ fn bytes_of(revs: &[MemRev], rev: u32) -> Result<&[u8], Refusal>
 fn props_of(revs: &[MemRev], rev: u32) -> Result<&[u8], Refusal>
     requires { 0 < length revs.now }
     ensures read { MatchResult result (λ b. props_in revs.now rev ≡ Ok b.now) (λ e. props_in revs.now rev ≡ Err e) }
-    ensures about { IfErr result (IsRefusalOf rev 0) }
+    ensures about { IfErr result (IsRefusalOf rev) }
 {
     match revs.get(rev as usize) {
         None => Err(none_above(revs, rev)),
@@ -84,11 +84,11 @@ fn props_of(revs: &[MemRev], rev: u32) -> Result<&[u8], Refusal>
 // The bytes from an offset on, as many as fit.
 fn copy_part(bytes: &[u8], rev: u32, offset: u64, buffer: &mut [u8]) -> Result<usize, BookFault>
     ensures bound { IfOk result (λ n. n ≤ length buffer.new) }
-    ensures part { Gives (λ n. take n buffer.new) result (part_of rev offset (length buffer.old) bytes.now) }
-    ensures short { IfErr result (λ e. e ≡ Refused (Short rev offset)) }
+    ensures part { Gives (λ n. take n buffer.new) result (part_read rev offset (length buffer.old) (Ok bytes.now)) }
+    ensures short { IfErr result (λ e. e ≡ Short rev offset) }
 {
     if (bytes.len() as u64) < offset {
-        return Err(BookFault::Refused(Refusal::Short { rev, offset }));
+        return Err(BookFault::Short { rev, offset });
     }
     let rest = &bytes[offset as usize..];
     let count = rest.len().min(buffer.len());

@@ -53,26 +53,33 @@ fn reads_parts(rt: HostRuntime) -> Result<(), Fail> {
         (0, 1, Ok(2), *b"bc"),
         (0, 2, Ok(1), *b"c\0"),
         (0, 3, Ok(0), *b"\0\0"),
-        (0, 4, Err(Refusal::Short { rev: 0, offset: 4 }), *b"\0\0"),
-        (1, 0, Err(Refusal::Missing { rev: 1 }), *b"\0\0"),
-        (2, 0, Err(Refusal::Small(damaged())), *b"\0\0"),
+        (0, 4, Err(BookFault::Short { rev: 0, offset: 4 }), *b"\0\0"),
+        (
+            1,
+            0,
+            Err(BookFault::Refused(Refusal::Missing { rev: 1 })),
+            *b"\0\0",
+        ),
+        (
+            2,
+            0,
+            Err(BookFault::Refused(Refusal::Small(damaged()))),
+            *b"\0\0",
+        ),
         (3, 0, Ok(0), *b"\0\0"),
         (
             4,
             0,
-            Err(Refusal::NoRev {
+            Err(BookFault::Refused(Refusal::NoRev {
                 asked: 4,
                 youngest: 3,
-            }),
+            })),
             *b"\0\0",
         ),
     ];
     for (rev, offset, want, bytes) in table {
         let (answer, buffer) = part(&mut book, rev, offset);
-        assert!(rt;
-            answer == want.map_err(BookFault::Refused),
-            "at {rev} {offset}"
-        );
+        assert!(rt; answer == want, "at {rev} {offset}");
         assert!(rt; buffer == bytes, "at {rev} {offset}");
     }
     Ok(())
