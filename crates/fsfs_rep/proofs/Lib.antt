@@ -1,0 +1,3 @@
+pub mod WindowLemmas
+pub mod HeaderLemmas
+pub mod ReadingLemmas

@@ -1,0 +1,11 @@
+-- A representation that is being read.
+use Rattle.std.specs.Prelude.{ℕ, ◌+◌, ◌≤◌, List, length, take, drop}
+use Rattle.fsfs_rep.specs.declared.rep_reader.RepReader.{RepReader}
+use Rattle.fsfs_rep.specs.Headers.{HasPlainLine}
+use Rattle.fsfs_rep.specs.Seen.{HasSeen}
+
+-- the header was there, and so many bytes behind it were read and digested
+pub record IsReading (reader : RepReader) (bytes : List ℕ) : Type 0 where
+  pub header : HasPlainLine reader.rep.offset bytes
+  pub within : reader.rep.offset + 6 + reader.done ≤ length bytes
+  pub seen : HasSeen reader.digester (take reader.done (drop (reader.rep.offset + 6) bytes))

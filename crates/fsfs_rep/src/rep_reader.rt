@@ -1,0 +1,169 @@
+//! A representation read piece by piece.
+ghost use Rattle.std.specs.Prelude.{◌≡◌, ◌≤◌, ◌<◌, ◌+◌, ◌-◌, ◌^◌, min, ℕ, List, Option, Some, Ok, Err, length, take, drop, IsSome, IfOk, IfErr, OnErr, MatchResult};
+ghost use Rattle.fsfs_book.specs.declared.book.Refusal.{Refusal};
+ghost use Rattle.fsfs_book.specs.Told.{Keeps};
+ghost use Rattle.fsfs_rep.specs.Faults.{HasCause, IsRefusedFor, NamesRev};
+ghost use Rattle.fsfs_rep.specs.Frames.{rev_of, text_of, Agrees, Disagrees, IsWhole, IsFaultOf};
+ghost use Rattle.fsfs_rep.specs.Seen.{HasSeen};
+
+use crate::digester::Digester;
+use crate::header::{HEADER_LEN, Header, header_of};
+use crate::rep_fault::RepFault;
+use crate::window::window;
+use fsfs_base::HexDigest;
+use fsfs_book::Book;
+use fsfs_noderev::Rep;
+use fsfs_text::pieces::text;
+
+/// A representation that is being read, from its first byte on. The book is handed to each call, so that it is free
+/// between them; it is to be the same one. Each byte is read and digested once.
+#[derive(Drop)]
+pub struct RepReader {
+    rep: Rep,
+    // How many bytes of the text were read.
+    done: u64,
+    digester: Digester,
+    ghost named: { IsSome rep.rev },
+    ghost bounded: { done ≤ rep.length },
+}
+
+// A place so many bytes behind another. None is above the last number of a u64.
+fn behind(offset: u64, count: u64) -> u64
+    ensures { offset + count < 2 ^ 64 → result ≡ offset + count }
+{
+    offset.saturating_add(count)
+}
+
+// The text is as the representation says.
+fn agree(rep: &Rep, digester: Digester) -> Result<(), RepFault>
+    ensures names { (rev : ℕ) → IfErr result (NamesRev rev) }
+    ensures cause { (before now : ℕ) → before ≤ now → HasCause before now result }
+    ensures text { (text : List ℕ) → HasSeen digester text → MatchResult result (λ _. Agrees rep.now text) (Disagrees rep.now text) }
+{
+    if rep.size != 0 && rep.size != rep.length {
+        return Err(RepFault::Size {
+            kept: rep.size,
+            found: rep.length,
+        });
+    }
+    let (md5, sha1) = digester.finish();
+    if rep.md5 != md5 {
+        return Err(RepFault::Md5 {
+            kept: rep.md5,
+            found: md5,
+        });
+    }
+    match &rep.unique {
+        Some(unique) if unique.sha1 != sha1 => Err(RepFault::Sha1 {
+            kept: unique.sha1,
+            found: sha1,
+        }),
+        _ => Ok(()),
+    }
+}
+
+impl RepReader {
+    ghost use Rattle.fsfs_rep.specs.Reading.{IsReading};
+
+    /// Begins to read a representation of a revision: its header is read, and none of its text.
+    pub fn begin<B: Book>(book: &mut B, rep: &Rep) -> Result<RepReader, RepFault>
+        requires { IsSome rep.now.rev }
+        ensures bytes { (bytes : List ℕ) → (B.told book.old).revs (rev_of rep.now) ≡ Some (Ok bytes) → MatchResult result (λ reader. IsReading reader bytes) (IsFaultOf rep.now bytes) }
+        ensures refused { (why : Refusal) → (B.told book.old).revs (rev_of rep.now) ≡ Some (Err why) → MatchResult result (λ _. ⊥) (IsRefusedFor why) }
+        ensures names { IfErr result (NamesRev (rev_of rep.now)) }
+        ensures rep { IfOk result (λ reader. reader.rep ≡ rep.now) }
+        ensures done { IfOk result (λ reader. reader.done ≡ 0) }
+
+        ensures kept { Keeps (B.told book.old) (B.told book.new) }
+        ensures cause { HasCause (B.faults book.old) (B.faults book.new) result }
+    {
+        let Some(rev) = rep.rev else { unreachable!() };
+        let mut line = [0u8; HEADER_LEN];
+        let count = window(book, rev, rep.offset, &mut line)?;
+        match header_of(&line[..count]) {
+            Header::Plain => Ok(RepReader {
+                rep: *rep,
+                done: 0,
+                digester: Digester::new(),
+            }),
+            Header::Delta => Err(RepFault::Delta {
+                rev,
+                offset: rep.offset,
+            }),
+            Header::Other => Err(RepFault::NoHeader),
+        }
+    }
+
+    /// How many bytes of the text are left to be read.
+    pub fn left(&self) -> u64
+        ensures { result ≡ self.now.rep.length - self.now.done }
+    {
+        self.rep.length - self.done
+    }
+
+    // Where the next byte of the text stands.
+    fn position(&self) -> u64
+        ensures { self.now.rep.offset + 6 + self.now.done < 2 ^ 64 → result ≡ self.now.rep.offset + 6 + self.now.done }
+    {
+        behind(behind(self.rep.offset, 6), self.done)
+    }
+
+    /// Reads the next bytes of the text into the beginning of the buffer, and answers how many: as many as are left and
+    /// as fit. After an `Err` the reader is as it was, so the call can be made again.
+    pub fn next<B: Book>(&mut self, book: &mut B, buffer: &mut [u8]) -> Result<usize, RepFault>
+        ensures count { IfOk result (λ n. n ≡ min (length buffer.old) (self.old.rep.length - self.old.done)) }
+        ensures bytes { (bytes : List ℕ) → (B.told book.old).revs (rev_of self.old.rep) ≡ Some (Ok bytes) → IsReading self.old bytes → MatchResult result (λ n. IsReading self.new bytes × (take n buffer.new ≡ take n (drop self.old.done (text_of self.old.rep bytes)))) (IsFaultOf self.old.rep bytes) }
+        ensures refused { (why : Refusal) → (B.told book.old).revs (rev_of self.old.rep) ≡ Some (Err why) → IfErr result (IsRefusedFor why) }
+        ensures names { IfErr result (NamesRev (rev_of self.old.rep)) }
+        ensures rep { self.new.rep ≡ self.old.rep }
+        ensures done { IfOk result (λ n. self.new.done ≡ self.old.done + n) }
+        ensures err { OnErr result (self.new ≡ self.old) }
+
+        ensures kept { Keeps (B.told book.old) (B.told book.new) }
+        ensures cause { HasCause (B.faults book.old) (B.faults book.new) result }
+    {
+        let Some(rev) = self.rep.rev else { unreachable!() };
+        let left = self.rep.length - self.done;
+        let want = fitting(buffer.len(), left);
+        if want == 0 {
+            return Ok(0);
+        }
+        let piece = &mut buffer[..want];
+        let count = window(book, rev, self.position(), piece)?;
+        if count < want {
+            return Err(RepFault::NoTrailer);
+        }
+        self.digester.update(piece);
+        self.done += want as u64;
+        Ok(want)
+    }
+
+    /// Ends the reading: what follows the text is read, and the text is found to be as the representation says.
+    pub fn finish<B: Book>(self, book: &mut B) -> Result<(), RepFault>
+        requires { self.done ≡ self.rep.length }
+        ensures bytes { (bytes : List ℕ) → (B.told book.old).revs (rev_of self.rep) ≡ Some (Ok bytes) → IsReading self bytes → MatchResult result (λ _. IsWhole self.rep bytes) (IsFaultOf self.rep bytes) }
+        ensures refused { (why : Refusal) → (B.told book.old).revs (rev_of self.rep) ≡ Some (Err why) → MatchResult result (λ _. ⊥) (IsRefusedFor why) }
+        ensures names { IfErr result (NamesRev (rev_of self.rep)) }
+
+        ensures kept { Keeps (B.told book.old) (B.told book.new) }
+        ensures cause { HasCause (B.faults book.old) (B.faults book.new) result }
+    {
+        let Some(rev) = self.rep.rev else { unreachable!() };
+        let mut line = [0u8; 7];
+        let count = window(book, rev, self.position(), &mut line)?;
+        match text(b"ENDREP\n", &line[..count]) {
+            Ok(_) => {
+                let RepReader { rep, digester, .. } = self;
+                agree(&rep, digester)
+            }
+            Err(_) => Err(RepFault::NoTrailer),
+        }
+    }
+}
+
+// As many as fit in so much room.
+fn fitting(room: usize, left: u64) -> usize
+    ensures { result ≡ min room left }
+{
+    if left < room as u64 { left as usize } else { room }
+}
