@@ -1,12 +1,12 @@
 -- A line at the beginning of a window, and at an offset in the bytes.
-use Rattle.std.proofs.Common.{◌≡◌, ℕ, suc, ◌+◌, ◌*◌, ◌^◌, ◌<◌, ◌≤◌, min, true, false, eqb, List, [], ◌∷◌, ◌++◌, length, take, drop, Result, Ok, Err, refl, sym, ap, subst, ◌∙◌, arith, inl, inr, lit<, lit≤}
+use Rattle.std.proofs.Common.{◌≡◌, ℕ, suc, ◌+◌, ◌^◌, ◌<◌, ◌≤◌, List, [], ◌∷◌, ◌++◌, length, take, drop, Result, Ok, Err, refl, sym, ap, subst, ◌∙◌, arith, inl, inr, lit<, lit≤}
 use Rattle.std.proofs.lemmas.List.{length-append, length-take, take-append-drop, take-take, length-drop}
 use Rattle.std.specs.Fmt.{decimal}
 use Rattle.std.proofs.Math.Seq.{take-append_seam}
 use Rattle.std.proofs.lemmas.Fmt.{length-decimal-le}
 use Rattle.std.specs.Prelude.{codes}
-use Rattle.fsfs_text.specs.Grammar.{begins, IsText}
-use Rattle.fsfs_text.specs.Numeral.{IsNumber, IsNumeral}
+use Rattle.fsfs_text.specs.Grammar.{begins}
+use Rattle.fsfs_text.specs.Numeral.{IsNumber}
 use Rattle.fsfs_text.specs.Reading.{text_at}
 use Rattle.fsfs_text.proofs.Readers.{Reads, next_reads, mapped_reads, either_reads, text_reads}
 use Rattle.fsfs_text.proofs.Numerals.{number_reads}
@@ -76,10 +76,19 @@ base_line_short line w =
     let rev = w.second_is in
     let offset = rev.second_is in
     let last = offset.second_is in
-    omega (arith, ap length w.parts, length-append w.first w.second, ap length w.first_is, ap length rev.parts, length-append rev.first rev.second,
-    number_short 2147483647 32 10 rev.first rev.between (lit< tt) (lit< tt) (lit< tt) rev.first_is,
-    ap length offset.parts, length-append offset.first offset.second, number_short 18446744073709551615 32 20 offset.first offset.between (lit< tt) (lit< tt) (lit< tt) offset.first_is,
-    number_short 18446744073709551615 10 20 offset.second last.inner (lit< tt) (lit< tt) (lit< tt) last.inner_is)
+    omega (
+      arith,
+      ap length w.parts,
+      length-append w.first w.second,
+      ap length w.first_is,
+      ap length rev.parts,
+      length-append rev.first rev.second,
+      number_short 2147483647 32 10 rev.first rev.between (lit< tt) (lit< tt) (lit< tt) rev.first_is,
+      ap length offset.parts,
+      length-append offset.first offset.second,
+      number_short 18446744073709551615 32 20 offset.first offset.between (lit< tt) (lit< tt) (lit< tt) offset.first_is,
+      number_short 18446744073709551615 10 20 offset.second last.inner (lit< tt) (lit< tt) (lit< tt) last.inner_is,
+    )
 
 delta_line_short : (line : List ℕ) → IsDeltaLine line tt → length line ≤ 64
 delta_line_short line w =
@@ -110,9 +119,10 @@ module _ (seen : List ℕ) (offset : ℕ) (bytes : List ℕ) (window : seen ≡ 
   delta_seen h = delta_in offset bytes (subst (λ (w : List ℕ). HasDeltaLine 0 w) window h)
 
   pub other_seen : (¬ HasPlainLine 0 seen) × (¬ HasDeltaLine 0 seen) → (¬ HasPlainLine offset bytes) × (¬ HasDeltaLine offset bytes)
-  other_seen h =
-      (λ plain. h.0 (subst (λ (w : List ℕ). HasPlainLine 0 w) (sym window) (plain_within offset bytes plain)),
-      λ delta. h.1 (subst (λ (w : List ℕ). HasDeltaLine 0 w) (sym window) (delta_within offset bytes delta)))
+  other_seen h = (
+    λ plain. h.0 (subst (λ (w : List ℕ). HasPlainLine 0 w) (sym window) (plain_within offset bytes plain)),
+    λ delta. h.1 (subst (λ (w : List ℕ). HasDeltaLine 0 w) (sym window) (delta_within offset bytes delta)),
+  )
 
 -- a text that stands somewhere ends within the bytes
 pub stands_fits : (line : List ℕ) (offset : ℕ) (bytes : List ℕ) → 0 < length line → StandsAt line offset bytes → offset + length line ≤ length bytes

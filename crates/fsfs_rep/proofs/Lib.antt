@@ -1,3 +1,4 @@
 pub mod WindowLemmas
 pub mod HeaderLemmas
 pub mod ReadingLemmas
+pub mod WholeLemmas

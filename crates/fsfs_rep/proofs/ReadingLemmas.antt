@@ -1,9 +1,9 @@
 -- The pieces of a text that is read, and what follows it.
-use Rattle.std.proofs.Common.{◌≡◌, ℕ, ◌+◌, ◌-◌, ◌<◌, ◌≤◌, min, Bool, true, false, List, [], ◌∷◌, ◌++◌, length, take, drop, Option, Some, Result, Ok, Err, refl, sym, ap, subst, ◌∙◌, arith}
+use Rattle.std.proofs.Common.{◌≡◌, ℕ, ◌+◌, ◌-◌, ◌<◌, ◌≤◌, true, false, List, ◌++◌, length, take, drop, Option, Some, Ok, Err, refl, sym, ap, subst, ◌∙◌, arith}
 use Rattle.std.specs.Prelude.{unwrap_or, codes, not}
 use Rattle.std.specs.Str.{bytes_eq}
 use Rattle.std.proofs.lemmas.Slice.Eq.{bytes_eq-Decides}
-use Rattle.std.proofs.lemmas.List.{length-append, length-take, length-drop, take-append-drop, take-take, take_all, drop-take, drop-drop}
+use Rattle.std.proofs.lemmas.List.{length-take, length-drop, take-append-drop, take-take, take_all, drop-take, drop-drop}
 use Rattle.std.proofs.Math.Seq.{take-append_seam}
 use Rattle.fsfs_text.proofs.Readers.{text_reads}
 use Rattle.fsfs_text.specs.Reading.{text_at}
@@ -11,7 +11,7 @@ use Rattle.fsfs_noderev.specs.declared.rep.Rep.{Rep}
 use Rattle.fsfs_rep.specs.declared.rep_fault.RepFault.{RepFault}
 use Rattle.fsfs_rep.specs.declared.rep_fault.RepFault.TheVariants as faults
 use Rattle.fsfs_rep.specs.Headers.{StandsAt}
-use Rattle.fsfs_rep.specs.Frames.{text_of, HasTrailer, IsFramed, Disagrees, IsFaultOf}
+use Rattle.fsfs_rep.specs.Frames.{text_of, IsFramed, Disagrees, IsFaultOf}
 use Rattle.fsfs_rep.proofs.HeaderLemmas.{stands_found, stands_not, stands_in, stands_within, stands_fits}
 
 -- what is told of the representation's revision
@@ -52,7 +52,7 @@ fault_of rep bytes (faults.Delta rev offset) framed d = absurd d
 fault_of rep bytes faults.NoHeader framed d = absurd d
 fault_of rep bytes faults.NoTrailer framed d = absurd d
 
-take_more_of : (xs : List ℕ) (done want : ℕ) → take (done + want) xs ≡ take done xs ++ take want (drop done xs)
+pub take_more_of : (xs : List ℕ) (done want : ℕ) → take (done + want) xs ≡ take done xs ++ take want (drop done xs)
 take_more_of xs done want =
     let all : List ℕ = take (done + want) xs in
     sym (take-append-drop done all) ∙ ap (λ (t : List ℕ). t ++ drop done all) (take-take done (done + want) xs (omega arith)) ∙ ap (λ (t : List ℕ). take done xs ++ t) (drop-take done want xs)
@@ -76,5 +76,5 @@ module _ (offset size done position count want : ℕ) (piece bytes : List ℕ) (
       let all : size ≡ done + rest = omega arith in
       let front : take want (piece ++ after) ≡ piece = ap (λ (n : ℕ). take n (piece ++ after)) (sym room) ∙ take-append_seam piece after in
       let back : take want (drop done (take size xs)) ≡ take want (drop done xs) =
-          ap (λ (n : ℕ). take want (drop done (take n xs))) all ∙ ap (take want) (drop-take done rest xs) ∙ take-take want rest (drop done xs) (omega arith) in
+      ap (λ (n : ℕ). take want (drop done (take n xs))) all ∙ ap (take want) (drop-take done rest xs) ∙ take-take want rest (drop done xs) (omega arith) in
       front ∙ piece_is ∙ sym back

@@ -1,5 +1,5 @@
 -- What a book's part of a revision says of a window.
-use Rattle.std.proofs.Common.{◌≡◌, ℕ, ◌<◌, ltb, List, [], length, take, drop, Bool, true, false, ◌⊎◌, Result, Ok, Err, inl, inr, arith, ap, sym, ◌∙◌}
+use Rattle.std.proofs.Common.{◌≡◌, ℕ, ◌<◌, ltb, List, [], length, take, drop, true, false, ◌⊎◌, Result, Ok, Err, inl, inr, arith, ap, sym, ◌∙◌}
 use Rattle.std.proofs.lemmas.Bool.{ltb-true}
 use Rattle.std.proofs.lemmas.List.{drop_all}
 use Rattle.std.proofs.Math.Seq.{take-nil}

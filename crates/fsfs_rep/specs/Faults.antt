@@ -6,6 +6,8 @@ use Rattle.fsfs_book.specs.declared.book.BookFault.TheVariants as books
 use Rattle.fsfs_book.specs.Told.{Rose, IfDisk, IsRefusalOf}
 use Rattle.fsfs_rep.specs.declared.rep_fault.RepFault.{RepFault}
 use Rattle.fsfs_rep.specs.declared.rep_fault.RepFault.TheVariants as faults
+use Rattle.fsfs_rep.specs.declared.rep_fault.RepError.{RepError}
+use Rattle.fsfs_rep.specs.declared.rep_fault.RepError.TheVariants as errors
 
 -- the book answered this refusal, or the disk failed
 abbrev pub IsBookAnswer : Refusal → BookFault → Type 0
@@ -35,3 +37,8 @@ IfBookFails fault P = Unit {0}
 pub record HasCause {T : Type 0} (before now : ℕ) (result : Result T RepFault) : Type 0 where
   pub later : before ≤ now
   pub failed : IfErr result (λ fault. IfBookFails fault (Rose before now))
+
+-- a fact of the fault, where it isn't that memory was wanting
+abbrev pub IfFault : (RepFault → Type 0) → RepError → Type 0
+IfFault P (errors.Fault fault) = P fault
+IfFault P errors.OutOfMemory = Unit {0}

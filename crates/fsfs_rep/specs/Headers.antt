@@ -1,5 +1,5 @@
 -- The first line of a representation.
-use Rattle.std.specs.Prelude.{◌≡◌, ℕ, List, [], ◌∷◌, length, take, drop, Result, Ok, Err, if◌then◌else◌, codes}
+use Rattle.std.specs.Prelude.{◌≡◌, ℕ, List, [], ◌∷◌, length, take, drop, Result, Ok, if◌then◌else◌, codes}
 use Rattle.fsfs_text.specs.Grammar.{Then, IsText, Mapped, Either, begins}
 use Rattle.fsfs_text.specs.Numeral.{IsNumber, number_at}
 use Rattle.fsfs_text.specs.Reading.{◌>>=◌, text_at}

@@ -7,8 +7,12 @@ mod digester;
 mod header;
 mod rep_fault;
 mod rep_reader;
+#[cfg(test)]
+mod tests;
+mod whole;
 mod window;
 
 pub use digester::Digester;
 pub use rep_fault::{RepError, RepFault};
 pub use rep_reader::RepReader;
+pub use whole::read_rep_bytes;

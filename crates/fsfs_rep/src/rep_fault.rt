@@ -12,7 +12,10 @@ pub enum RepFault {
     Book(BookFault),
     /// The text stands as a delta, which is not read: the line is `DELTA`, or has a base behind that word.
     #[error("a delta at {offset} in revision {rev}")]
-    Delta { rev: u32, offset: u64 },
+    Delta {
+        rev: u32,
+        offset: u64,
+    },
     /// The line `PLAIN` is not where the text is to begin, nor a delta's.
     #[error("no header")]
     NoHeader,
@@ -21,7 +24,10 @@ pub enum RepFault {
     NoTrailer,
     /// The size is not 0, and another than the length.
     #[error("size {kept}, but {found}")]
-    Size { kept: u64, found: u64 },
+    Size {
+        kept: u64,
+        found: u64,
+    },
     /// The MD5 of the bytes is another.
     #[error("another MD5")]
     Md5 {

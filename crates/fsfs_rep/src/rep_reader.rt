@@ -122,7 +122,9 @@ impl RepReader {
         ensures kept { Keeps (B.told book.old) (B.told book.new) }
         ensures cause { HasCause (B.faults book.old) (B.faults book.new) result }
     {
-        let Some(rev) = self.rep.rev else { unreachable!() };
+        let Some(rev) = self.rep.rev else {
+            unreachable!()
+        };
         let left = self.rep.length - self.done;
         let want = fitting(buffer.len(), left);
         if want == 0 {
@@ -148,7 +150,9 @@ impl RepReader {
         ensures kept { Keeps (B.told book.old) (B.told book.new) }
         ensures cause { HasCause (B.faults book.old) (B.faults book.new) result }
     {
-        let Some(rev) = self.rep.rev else { unreachable!() };
+        let Some(rev) = self.rep.rev else {
+            unreachable!()
+        };
         let mut line = [0u8; 7];
         let count = window(book, rev, self.position(), &mut line)?;
         match text(b"ENDREP\n", &line[..count]) {
@@ -165,5 +169,9 @@ impl RepReader {
 fn fitting(room: usize, left: u64) -> usize
     ensures { result ≡ min room left }
 {
-    if left < room as u64 { left as usize } else { room }
+    if left < room as u64 {
+        left as usize
+    } else {
+        room
+    }
 }

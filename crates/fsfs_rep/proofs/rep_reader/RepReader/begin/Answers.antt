@@ -1,8 +1,6 @@
-use Rattle.std.proofs.Common.{◌≡◌, ℕ, List, Option, Result, Some, Ok, Err, refl, sym, ap, ◌∙◌, lit<, arith}
-use Rattle.std.specs.Prelude.{unwrap_or}
+use Rattle.std.proofs.Common.{refl, lit<, arith}
 use Rattle.std.proofs.lemmas.Result.{err_from_is_err_and}
 use Rattle.fsfs_rep.specs.Headers.{plain_line}
-use Rattle.fsfs_rep.specs.Frames.{rev_of}
 use Rattle.fsfs_rep.proofs.HeaderLemmas.{plain_seen, delta_seen, other_seen, stands_fits}
 use Rattle.fsfs_rep.proofs.ReadingLemmas.{at_rev}
 use Rattle.fsfs_rep.proofs.rep_reader.RepReader.begin.Goals as goal

@@ -1,4 +1,4 @@
-use Rattle.std.proofs.Common.{◌≡◌, ℕ, ◌+◌, ◌<◌, ◌≤◌, List, ◌++◌, length, take, drop, sym, subst, ◌∙◌, arith}
+use Rattle.std.proofs.Common.{◌≡◌, ℕ, ◌+◌, ◌<◌, ◌≤◌, List, length, take, drop, sym, subst, ◌∙◌, arith}
 use Rattle.std.proofs.lemmas.List.{length-take}
 use Rattle.std.proofs.lemmas.Result.{err_from_is_err_and}
 use Rattle.fsfs_rep.specs.Seen.{HasSeen}
@@ -48,9 +48,11 @@ returns-clause-bytes g c = λ bytes e reading.
     let enough : want ≤ count = c.if-count-want.false in
     let some : 0 < want = omega (arith, c.if-want-eq0.false) in
     let fits : done + want ≤ rep.length = omega (arith, c.fitting-want.ensures, c.args.self.now.bounded) in
-    let adds = piece_adds rep.offset rep.length done c.position.result count want piece bytes whole bound window enough at in
-    (record {
-      header = reading.header;
-      within = piece_within rep.offset rep.length done c.position.result count want piece bytes whole bound window enough at some;
-      seen = subst (λ (text : List ℕ). HasSeen c.update.new.self text) (sym adds) (c.update.ensures _ reading.seen);
-    }, piece_read rep.offset rep.length done c.position.result count want piece bytes whole bound window enough at (drop want c.args.buffer.now) fits)
+    let adds = piece_adds rep.offset rep.length done c.position.result count want piece bytes whole bound window enough at in (
+      record {
+        header = reading.header;
+        within = piece_within rep.offset rep.length done c.position.result count want piece bytes whole bound window enough at some;
+        seen = subst (λ (text : List ℕ). HasSeen c.update.new.self text) (sym adds) (c.update.ensures _ reading.seen);
+      },
+      piece_read rep.offset rep.length done c.position.result count want piece bytes whole bound window enough at (drop want c.args.buffer.now) fits,
+    )
