@@ -1,0 +1,6 @@
+pub mod WordTexts
+pub mod HeadTexts
+pub mod ItemTexts
+pub mod ItemLists
+pub mod PathSets
+pub mod Writes
