@@ -6,4 +6,8 @@ mod commands;
 #[cfg(test)]
 mod create;
 #[cfg(test)]
+mod format_changes;
+#[cfg(test)]
+mod formats;
+#[cfg(test)]
 mod look;
