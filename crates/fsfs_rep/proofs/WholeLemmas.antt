@@ -4,7 +4,7 @@ use Rattle.fsfs_book.specs.declared.book.Refusal.{Refusal}
 use Rattle.fsfs_book.specs.Told.{Telling, Keeps}
 use Rattle.fsfs_noderev.specs.declared.rep.Rep.{Rep}
 use Rattle.fsfs_rep.specs.declared.rep_fault.RepFault.{RepFault}
-use Rattle.fsfs_rep.specs.Frames.{rev_of, text_of, IsWhole, IsFaultOf}
+use Rattle.fsfs_rep.specs.Frames.{rev_of, text_of, IsWhole, IsFaultOf, CarriesValues}
 use Rattle.fsfs_rep.proofs.ReadingLemmas.{take_more_of}
 
 pub keeps_trans : (a b c : Telling) → Keeps a b → Keeps b c → Keeps a c
@@ -32,3 +32,6 @@ bytes_more named rep bytes items piece done count now same is before next =
     ap (λ (t : List ℕ). t ++ take count piece) before
     ∙ ap (λ (t : List ℕ). take done text ++ t) (next ∙ ap (λ (r : Rep). take count (drop done (text_of r bytes))) same)
     ∙ sym (take_more_of text done count) ∙ ap (λ (n : ℕ). take n text) (sym is)
+
+pub values_for : (named rep : Rep) (fault : RepFault) → named ≡ rep → CarriesValues named fault → CarriesValues rep fault
+values_for named rep fault same h = subst (λ (r : Rep). CarriesValues r fault) same h

@@ -67,3 +67,11 @@ IsFaultOf rep bytes faults.NoHeader = (¬ HasPlainLine rep.offset bytes) × (¬ 
 IsFaultOf rep bytes faults.NoTrailer = HasPlainLine rep.offset bytes × (¬ HasTrailer rep bytes)
 IsFaultOf rep bytes (faults.Book fault) = IsFailure fault
 IsFaultOf rep bytes fault = IsFramed rep bytes × Disagrees rep (text_of rep bytes) fault
+
+-- whatever the book tells: the values that a fault carries are the representation's, and what was found differs
+abbrev pub CarriesValues : Rep → RepFault → Type 0
+CarriesValues rep (faults.Delta rev offset) = (rep.rev ≡ Some rev) × (offset ≡ rep.offset)
+CarriesValues rep (faults.Size kept found) = (kept ≡ rep.size) × (found ≡ rep.length) × (kept ≢ found)
+CarriesValues rep (faults.Md5 kept found) = (kept ≡ rep.md5) × (kept.bytes ≢ found.bytes)
+CarriesValues rep (faults.Sha1 kept found) = ((u : Uniquifier) × (rep.unique ≡ Some u) × (kept ≡ u.sha1)) × (kept.bytes ≢ found.bytes)
+CarriesValues rep fault = Unit {0}

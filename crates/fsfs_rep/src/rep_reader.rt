@@ -3,7 +3,7 @@ ghost use Rattle.std.specs.Prelude.{◌≡◌, ◌≤◌, ◌<◌, ◌+◌, ◌-
 ghost use Rattle.fsfs_book.specs.declared.book.Refusal.{Refusal};
 ghost use Rattle.fsfs_book.specs.Told.{Keeps};
 ghost use Rattle.fsfs_rep.specs.Faults.{HasCause, IsRefusedFor, NamesRev};
-ghost use Rattle.fsfs_rep.specs.Frames.{rev_of, text_of, Agrees, Disagrees, IsWhole, IsFaultOf};
+ghost use Rattle.fsfs_rep.specs.Frames.{rev_of, text_of, Agrees, Disagrees, IsWhole, IsFaultOf, CarriesValues};
 ghost use Rattle.fsfs_rep.specs.Seen.{HasSeen};
 
 use crate::digester::Digester;
@@ -37,6 +37,7 @@ fn behind(offset: u64, count: u64) -> u64
 // The text is as the representation says.
 fn agree(rep: &Rep, digester: Digester) -> Result<(), RepFault>
     ensures names { (rev : ℕ) → IfErr result (NamesRev rev) }
+    ensures values { IfErr result (CarriesValues rep.now) }
     ensures cause { (before now : ℕ) → before ≤ now → HasCause before now result }
     ensures text { (text : List ℕ) → HasSeen digester text → MatchResult result (λ _. Agrees rep.now text) (Disagrees rep.now text) }
 {
@@ -71,6 +72,7 @@ impl RepReader {
         ensures bytes { (bytes : List ℕ) → (B.told book.old).revs (rev_of rep.now) ≡ Some (Ok bytes) → MatchResult result (λ reader. IsReading reader bytes) (IsFaultOf rep.now bytes) }
         ensures refused { (why : Refusal) → (B.told book.old).revs (rev_of rep.now) ≡ Some (Err why) → MatchResult result (λ _. ⊥) (IsRefusedFor why) }
         ensures names { IfErr result (NamesRev (rev_of rep.now)) }
+        ensures values { IfErr result (CarriesValues rep.now) }
         ensures rep { IfOk result (λ reader. reader.rep ≡ rep.now) }
         ensures done { IfOk result (λ reader. reader.done ≡ 0) }
 
@@ -115,6 +117,7 @@ impl RepReader {
         ensures bytes { (bytes : List ℕ) → (B.told book.old).revs (rev_of self.old.rep) ≡ Some (Ok bytes) → IsReading self.old bytes → MatchResult result (λ n. IsReading self.new bytes × (take n buffer.new ≡ take n (drop self.old.done (text_of self.old.rep bytes)))) (IsFaultOf self.old.rep bytes) }
         ensures refused { (why : Refusal) → (B.told book.old).revs (rev_of self.old.rep) ≡ Some (Err why) → IfErr result (IsRefusedFor why) }
         ensures names { IfErr result (NamesRev (rev_of self.old.rep)) }
+        ensures values { IfErr result (CarriesValues self.old.rep) }
         ensures rep { self.new.rep ≡ self.old.rep }
         ensures done { IfOk result (λ n. self.new.done ≡ self.old.done + n) }
         ensures err { OnErr result (self.new ≡ self.old) }
@@ -146,6 +149,7 @@ impl RepReader {
         ensures bytes { (bytes : List ℕ) → (B.told book.old).revs (rev_of self.rep) ≡ Some (Ok bytes) → IsReading self bytes → MatchResult result (λ _. IsWhole self.rep bytes) (IsFaultOf self.rep bytes) }
         ensures refused { (why : Refusal) → (B.told book.old).revs (rev_of self.rep) ≡ Some (Err why) → MatchResult result (λ _. ⊥) (IsRefusedFor why) }
         ensures names { IfErr result (NamesRev (rev_of self.rep)) }
+        ensures values { IfErr result (CarriesValues self.rep) }
 
         ensures kept { Keeps (B.told book.old) (B.told book.new) }
         ensures cause { HasCause (B.faults book.old) (B.faults book.new) result }

@@ -3,7 +3,7 @@ ghost use Rattle.std.specs.Prelude.{◌≡◌, ◌≤◌, ℕ, List, Some, Ok, E
 ghost use Rattle.fsfs_book.specs.declared.book.Refusal.{Refusal};
 ghost use Rattle.fsfs_book.specs.Told.{Keeps, Rose};
 ghost use Rattle.fsfs_rep.specs.Faults.{IfFault, IfBookFails, IsRefusedFor, NamesRev};
-ghost use Rattle.fsfs_rep.specs.Frames.{rev_of, text_of, IsWhole, IsFaultOf};
+ghost use Rattle.fsfs_rep.specs.Frames.{rev_of, text_of, IsWhole, IsFaultOf, CarriesValues};
 
 use crate::rep_fault::RepError;
 use crate::rep_reader::RepReader;
@@ -21,6 +21,7 @@ pub fn read_rep_bytes<B: Book>(alloc: Global, book: &mut B, rep: &Rep) -> Result
     ensures bytes { (bytes : List ℕ) → (B.told book.old).revs (rev_of rep.now) ≡ Some (Ok bytes) → MatchResult result (λ text. (text.items ≡ text_of rep.now bytes) × IsWhole rep.now bytes) (IfFault (IsFaultOf rep.now bytes)) }
     ensures refused { (why : Refusal) → (B.told book.old).revs (rev_of rep.now) ≡ Some (Err why) → MatchResult result (λ _. ⊥) (IfFault (IsRefusedFor why)) }
     ensures names { IfErr result (IfFault (NamesRev (rev_of rep.now))) }
+    ensures values { IfErr result (IfFault (CarriesValues rep.now)) }
 
     ensures kept { Keeps (B.told book.old) (B.told book.new) }
     ensures later { B.faults book.old ≤ B.faults book.new }

@@ -4,7 +4,7 @@ ghost use Rattle.fsfs_noderev.specs.declared.rep.Rep.{Rep};
 ghost use Rattle.fsfs_book.specs.declared.book.Refusal.{Refusal};
 ghost use Rattle.fsfs_book.specs.Told.{Keeps};
 ghost use Rattle.fsfs_rep.specs.Faults.{HasCause, IsRefusedFor, NamesRev};
-ghost use Rattle.fsfs_rep.specs.Frames.{IsFaultOf};
+ghost use Rattle.fsfs_rep.specs.Frames.{IsFaultOf, CarriesValues};
 
 use crate::rep_fault::RepFault;
 use fsfs_book::{Book, BookFault};
@@ -20,6 +20,7 @@ pub(crate) fn window<B: Book>(
     ensures bytes { (bytes : List ℕ) → (B.told book.old).revs rev ≡ Some (Ok bytes) → MatchResult result (λ n. take n buffer.new ≡ take (length buffer.old) (drop offset bytes)) (λ fault. (rep : Rep) → IsFaultOf rep bytes fault) }
     ensures refused { (why : Refusal) → (B.told book.old).revs rev ≡ Some (Err why) → MatchResult result (λ _. ⊥) (IsRefusedFor why) }
     ensures names { IfErr result (NamesRev rev) }
+    ensures values { (rep : Rep) → IfErr result (CarriesValues rep) }
     ensures kept { Keeps (B.told book.old) (B.told book.new) }
     ensures cause { HasCause (B.faults book.old) (B.faults book.new) result }
 {

@@ -41,3 +41,8 @@ returns-in-Other-clause-bytes g c = λ bytes e.
 
 pub returns-in-Other-clause-refused : goal.returns-in-Other-clause-refused
 returns-in-Other-clause-refused g c = λ why e. c.in_ok-count.ensures.refused why (at_rev (g.B.Book.told c.args.book.now).revs c.args.rep.now.rev _ _ c.in-Some.is e)
+
+pub returns-in_err-count-clause-values : goal.returns-in_err-count-clause-values
+returns-in_err-count-clause-values g c =
+    let p = err_from_is_err_and c.from_residual.result c.from_residual.ensures.1 in
+    rw (p.1, p.2) (c.in_err-count.ensures.values c.args.rep.now)

@@ -44,3 +44,8 @@ returns-in-Err-clause-bytes g c = λ bytes e reading.
     let here : c.position.result ≡ rep.offset + 6 + rep.length = c.position.ensures (omega (arith, short, reading.within)) ∙ ap (λ (n : ℕ). rep.offset + 6 + n) c.requires in
     let lacks = trailer_not _ _ c.position.result bytes (c.in_ok-count.ensures.bytes bytes told) c.in-Err.ensures in
     (reading.header, subst (λ (p : ℕ). StandsAt (codes "ENDREP\n") p bytes → ⊥) here lacks)
+
+pub returns-in_err-count-clause-values : goal.returns-in_err-count-clause-values
+returns-in_err-count-clause-values g c =
+    let p = err_from_is_err_and c.from_residual.result c.from_residual.ensures.1 in
+    rw (p.1, p.2) (c.in_err-count.ensures.values c.args.self.rep)

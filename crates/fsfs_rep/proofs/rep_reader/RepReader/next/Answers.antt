@@ -56,3 +56,8 @@ returns-clause-bytes g c = λ bytes e reading.
       },
       piece_read rep.offset rep.length done c.position.result count want piece bytes whole bound window enough at (drop want c.args.buffer.now) fits,
     )
+
+pub returns-in_err-count-clause-values : goal.returns-in_err-count-clause-values
+returns-in_err-count-clause-values g c =
+    let p = err_from_is_err_and c.from_residual.result c.from_residual.ensures.1 in
+    rw (p.1, p.2) (c.in_err-count.ensures.values c.args.self.now.rep)
