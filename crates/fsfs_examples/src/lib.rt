@@ -11,3 +11,5 @@ mod format_changes;
 mod formats;
 #[cfg(test)]
 mod look;
+#[cfg(test)]
+mod tree;

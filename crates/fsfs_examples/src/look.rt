@@ -7,7 +7,7 @@ use std::alloc::{AllocError, Global};
 use std::test::Fail;
 
 // A host with a created repository at the path `R`.
-fn created(alloc: Global) -> Result<MemHost, AllocError> {
+pub fn created(alloc: Global) -> Result<MemHost, AllocError> {
     let mut host = empty_host(alloc)?;
     run(
         alloc,
@@ -34,7 +34,7 @@ fn youngest_of_a_new_repository(rt: HostRuntime) -> Result<(), Fail> {
 }
 
 // The created repository's disk with one file put anew.
-fn with_file(alloc: Global, name: &Name, bytes: &[u8]) -> Result<MemDisk, Fail> {
+pub fn with_file(alloc: Global, name: &Name, bytes: &[u8]) -> Result<MemDisk, Fail> {
     let mut host = created(alloc)?;
     let mut disk = host.take_disk("R").ok_or("no disk")?;
     disk.put(name, bytes)?;

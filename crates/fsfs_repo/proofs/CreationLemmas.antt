@@ -7,7 +7,7 @@ use Rattle.fsfs_base.specs.Files.{NamedFile}
 use Rattle.fsfs_disk.specs.Trace.{Trace, add_operation, Performs}
 use Rattle.fsfs_disk.specs.Trace.Operation.{Done}
 use Rattle.fsfs_disk.specs.Trace.Change.{Put}
-use Rattle.fsfs_repo.specs.CreatedFiles.{named}
+use Rattle.fsfs_repo.specs.NewFiles.{named}
 use Rattle.fsfs_repo.specs.Creation.{after_puts}
 use Rattle.fsfs_repo.specs.declared.initial.NewFile.{NewFile}
 

@@ -3,3 +3,5 @@ pub mod CreatedFilesLemmas
 pub mod CrashLemmas
 pub mod WholeFileLemmas
 pub mod OpeningLemmas
+pub mod DecidingLemmas
+pub mod FirstTreeLemmas

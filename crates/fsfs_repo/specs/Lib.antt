@@ -1,5 +1,7 @@
-pub mod CreatedFiles
+pub mod NewFiles
 pub mod Creation
 pub mod WholeFile
 pub mod Opening
 pub mod OpenFaults
+pub mod Deciding
+pub mod FirstTree

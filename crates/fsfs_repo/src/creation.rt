@@ -3,7 +3,8 @@ ghost use Rattle.std.specs.Prelude.{◌≡◌, ◌≤◌, map, option_map, Some,
 ghost use Rattle.fsfs_disk.specs.Fault.{Rose};
 ghost use Rattle.fsfs_disk.specs.Trace.{Trace};
 ghost use Rattle.fsfs_disk.specs.Crash.{AllImages, Leaves};
-ghost use Rattle.fsfs_repo.specs.CreatedFiles.{named, identifier_text};
+ghost use Rattle.fsfs_model.specs.CreatedFiles.{identifier_text};
+ghost use Rattle.fsfs_repo.specs.NewFiles.{named};
 ghost use Rattle.fsfs_repo.specs.Creation.{after_puts, after_publishing, after_creation, StopsInPuts, StopsPublishing, StopsAt, HasRepository, IsNoRepository, IsUnpublished, IsCreated, IsNoneOrWhole, CreateFails};
 
 use crate::initial::{NewFile, created_files, format_text};

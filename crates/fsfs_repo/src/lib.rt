@@ -1,13 +1,15 @@
-//! A repository over one owned disk: it is created, and opened.
+//! A repository over one owned disk: it is created, and opened, and its first tree is looked at.
 #![tactic(auto)]
 
 mod creation;
+mod first_tree;
 mod initial;
 mod opening;
 mod place;
 mod whole_file;
 
 pub use creation::{CreateFault, create};
+pub use first_tree::{TreeFault, check_first_tree};
 pub use initial::{NewFile, created_files, format_text};
 pub use opening::{OpenFault, Opened, open};
 pub use place::DiskPlace;

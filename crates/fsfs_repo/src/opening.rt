@@ -1,9 +1,11 @@
 // Opening a repository: what its small files say.
-ghost use Rattle.std.specs.Prelude.{◌≡◌, ◌≤◌, ◌<◌, IfOk, IfErr, IfSome, option_map};
+ghost use Rattle.std.specs.Prelude.{◌≡◌, ◌≤◌, ◌<◌, IfOk, IfErr, IfSome, MatchResult, option_map};
 ghost use Rattle.fsfs_disk.specs.Fault.{Rose};
 ghost use Rattle.fsfs_disk.specs.Trace.{files_now};
 ghost use Rattle.fsfs_repo.specs.Opening.{IsOpened, IsRefusedBehind, small_texts, text_at};
 ghost use Rattle.fsfs_repo.specs.OpenFaults.{texts_of, IsOpenedBehind, JudgedBecause, OpensBecause, IfOutside, outside_of};
+ghost use Rattle.fsfs_repo.specs.Deciding.{Decides};
+ghost use Rattle.fsfs_repo.specs.declared.opening.Opened.{Opened};
 
 use crate::place::DiskPlace;
 use crate::whole_file::{FileFault, read_file};
@@ -118,6 +120,7 @@ fn read_small_files<D: Disk>(alloc: Global, disk: &mut D) -> Result<SmallFiles, 
 fn judge_sharded(files: &SmallFiles, shard_size: u32) -> Result<Opened, SmallFault>
     requires { 0 < shard_size }
     ensures opened { IfOk result (IsOpenedBehind shard_size (texts_of files.now)) }
+    ensures only { (o : Opened) → IsOpenedBehind shard_size (texts_of files.now) o → MatchResult result (λ p. p.youngest ≡ o.youngest) (λ _. ⊥) }
     ensures refused { IfErr result (IsRefusedBehind shard_size (texts_of files.now)) }
 {
     let uuid = read_uuid(&files.uuid)?;
@@ -143,6 +146,7 @@ fn judge_sharded(files: &SmallFiles, shard_size: u32) -> Result<Opened, SmallFau
 fn judge(files: &SmallFiles) -> Result<Opened, OpenFault>
     ensures opened { IfOk result (IsOpened (texts_of files.now)) }
     ensures refused { IfErr result (JudgedBecause (texts_of files.now)) }
+    ensures decided { Decides (texts_of files.now) result }
 {
     let Some(format) = &files.format else {
         return Err(OpenFault::NotRepo);
@@ -165,6 +169,8 @@ fn judge(files: &SmallFiles) -> Result<Opened, OpenFault>
 pub fn open<D: Disk>(alloc: Global, disk: &mut D) -> Result<Opened, OpenFault>
     ensures opened { IfSome (D.trace disk.old) (λ t. IfOk result (IsOpened (small_texts (files_now t)))) }
     ensures refused { IfErr result (OpensBecause (Rose (D.faults disk.old) (D.faults disk.new)) (D.trace disk.old)) }
+    // Where it is opened or refused is decided by the files alone.
+    ensures decided { IfSome (D.trace disk.old) (λ t. Decides (small_texts (files_now t)) result) }
     ensures same { option_map files_now (D.trace disk.new) ≡ option_map files_now (D.trace disk.old) }
     ensures mounted { D.mount_path disk.new ≡ D.mount_path disk.old }
     ensures later { D.faults disk.old ≤ D.faults disk.new }

@@ -3,8 +3,11 @@ use Rattle.std.specs.Prelude.{ℕ, List, [], ◌∷◌, ◌++◌, codes, decimal
 use Rattle.fsfs_layout.specs.Names.{small_name}
 use Rattle.fsfs_repo.specs.declared.place.DiskPlace.{DiskPlace}
 use Rattle.fsfs_repo.specs.declared.place.DiskPlace.TheVariants.{OpenFirm, OpenRead, Read, CreatePut, CreateFirm, CreateRename, CreateLast}
+use Rattle.fsfs_revision.specs.declared.damage.What.{What}
+use Rattle.fsfs_revision.specs.declared.damage.What.TheVariants as damaged
+use Rattle.fsfs_revision.specs.declared.damage.Damage.{Damage}
 use Rattle.fsfs_top.specs.declared.fault.Fault.{Fault}
-use Rattle.fsfs_top.specs.declared.fault.Fault.TheVariants.{Usage, NotRepo, OtherFormat, Linear, Small, AlreadyRepo, MountFault, DiskFault, WriteFault, Memory}
+use Rattle.fsfs_top.specs.declared.fault.Fault.TheVariants.{Usage, NotRepo, OtherFormat, Linear, Small, Corrupt, AlreadyRepo, MountFault, DiskFault, WriteFault, Memory}
 use Rattle.fsfs_top.specs.declared.tool.Tool.{Tool}
 use Rattle.fsfs_top.specs.declared.tool.Tool.TheVariants.{Admin, Look, Jobs}
 
@@ -29,11 +32,25 @@ fault_name NotRepo = codes "NotRepo"
 fault_name (OtherFormat number) = codes "OtherFormat"
 fault_name Linear = codes "Linear"
 fault_name (Small small) = codes "Small"
+fault_name (Corrupt damage) = codes "Corrupt"
 fault_name AlreadyRepo = codes "AlreadyRepo"
 fault_name MountFault = codes "MountFault"
 fault_name (DiskFault place) = codes "DiskFault " ++ place_words place
 fault_name WriteFault = codes "WriteFault"
 fault_name Memory = codes "Memory"
+
+abbrev pub what_name : What → List ℕ
+what_name damaged.Trailer = codes "Trailer"
+what_name damaged.NodeRev = codes "NodeRev"
+what_name damaged.PlaceOrder = codes "PlaceOrder"
+what_name damaged.OtherId = codes "OtherId"
+what_name damaged.EntryKind = codes "EntryKind"
+what_name damaged.Header = codes "Header"
+what_name damaged.Missing = codes "Missing"
+
+-- the revision, the offset and what is damaged, a space before each
+abbrev pub damage_values : Damage → List ℕ
+damage_values damage = (32 ∷ decimal damage.at.rev) ++ (32 ∷ decimal damage.at.offset) ++ codes " " ++ what_name damage.what
 
 -- its values, a space before each
 abbrev pub fault_values : Fault → List ℕ
@@ -42,6 +59,7 @@ fault_values NotRepo = []
 fault_values (OtherFormat number) = 32 ∷ decimal number
 fault_values Linear = []
 fault_values (Small small) = codes " " ++ small_name small.file ++ 32 ∷ decimal small.at
+fault_values (Corrupt damage) = damage_values damage
 fault_values AlreadyRepo = []
 fault_values MountFault = []
 fault_values (DiskFault place) = []
@@ -59,6 +77,7 @@ status_of Usage = 2
 status_of (OtherFormat number) = 3
 status_of Linear = 3
 status_of (Small small) = 3
+status_of (Corrupt damage) = 3
 status_of MountFault = 4
 status_of (DiskFault place) = 4
 status_of WriteFault = 4
@@ -71,3 +90,7 @@ answer_of (Some fault) = status_of fault
 -- a revision's line
 abbrev pub revision_line : ℕ → List ℕ
 revision_line rev = decimal rev ++ 10 ∷ []
+
+-- the tree of revision 0: its root alone
+abbrev pub root_line : List ℕ
+root_line = codes "/\n"

@@ -3,17 +3,21 @@ use Rattle.std.specs.Prelude.{◌≡◌, ◌⊎◌, ℕ, List, codes, Option, So
 use Rattle.fsfs_base.specs.Files.{Files}
 use Rattle.fsfs_disk.specs.Trace.{Trace, files_now}
 use Rattle.fsfs_disk.specs.Streams.{Adds}
-use Rattle.fsfs_repo.specs.CreatedFiles.{identifier_text, random_identifier}
+use Rattle.fsfs_model.specs.CreatedFiles.{identifier_text, random_identifier}
 use Rattle.fsfs_repo.specs.Creation.{IsCreated, IsStopped, IsNoneOrWhole, IsRepository, IsNoRepository}
 use Rattle.fsfs_repo.specs.Opening.{small_texts, IsOpened, IsNone, HasFormat, IsLinear, IsRefused}
+use Rattle.fsfs_repo.specs.FirstTree.{IsFirstTree, HasLater, IsDamagedFirst}
 use Rattle.fsfs_repo.specs.declared.opening.Opened.{Opened}
+use Rattle.fsfs_base.specs.declared.small_fault.SmallFault.{SmallFault}
+use Rattle.fsfs_revision.specs.declared.damage.Damage.{Damage}
 use Rattle.fsfs_top.specs.Output.{AddsFront}
-use Rattle.fsfs_top.specs.Answers.{line_of, revision_line}
+use Rattle.fsfs_top.specs.Answers.{line_of, revision_line, root_line}
+use Rattle.fsfs_top.specs.Faults.{later_fault}
 use Rattle.fsfs_top.specs.Words.{Creates, LooksAt}
 use Rattle.fsfs_top.specs.declared.fault.Fault.{Fault}
-use Rattle.fsfs_top.specs.declared.fault.Fault.TheVariants.{Usage, NotRepo, OtherFormat, Linear, Small, AlreadyRepo, MountFault, DiskFault, WriteFault, Memory}
+use Rattle.fsfs_top.specs.declared.fault.Fault.TheVariants.{Usage, NotRepo, OtherFormat, Linear, Small, Corrupt, AlreadyRepo, MountFault, DiskFault, WriteFault, Memory}
 use Rattle.fsfs_top.specs.declared.words.Order.{Order}
-use Rattle.fsfs_top.specs.declared.words.Order.TheVariants.{Create, Youngest}
+use Rattle.fsfs_top.specs.declared.words.Order.TheVariants.{Create, Youngest, Tree}
 use Rattle.fsfs_top.specs.declared.tool.Tool.{Tool}
 use Rattle.fsfs_top.specs.declared.tool.Tool.TheVariants.{Admin, Look, Jobs}
 
@@ -28,6 +32,12 @@ abbrev pub AsksYoungest : Tool → List (List ℕ) → List ℕ → Type 0
 AsksYoungest Admin words repos = ⊥
 AsksYoungest Look words repos = LooksAt (codes "youngest") words repos
 AsksYoungest Jobs words repos = ⊥
+
+-- they ask for the tree of the repository at this path
+abbrev pub AsksTree : Tool → List (List ℕ) → List ℕ → Type 0
+AsksTree Admin words repos = ⊥
+AsksTree Look words repos = LooksAt (codes "tree") words repos
+AsksTree Jobs words repos = ⊥
 
 -- a moment and sixteen bytes: those that the clock and the dice gave, where they tell
 pub record Drawn (clock : Option ℕ) (dice : Option (List ℕ)) : Type 0 where
@@ -48,6 +58,7 @@ Created mount disk shard clock dice old new (Some NotRepo) = ⊥
 Created mount disk shard clock dice old new (Some (OtherFormat number)) = ⊥
 Created mount disk shard clock dice old new (Some Linear) = ⊥
 Created mount disk shard clock dice old new (Some (Small small)) = ⊥
+Created mount disk shard clock dice old new (Some (Corrupt damage)) = ⊥
 Created mount disk shard clock dice old new (Some AlreadyRepo) = IsRepository old × (new ≡ old)
 Created mount disk shard clock dice old new (Some MountFault) = mount × (new ≡ old)
 Created mount disk shard clock dice old new (Some (DiskFault place)) = disk × ((d : Drawn clock dice) × IsStopped place shard (identifier_of clock dice d) d.moment old new)
@@ -65,6 +76,7 @@ NotOpened disk told NotRepo = IfSome told (λ t. IsNone (small_texts (files_now 
 NotOpened disk told (OtherFormat number) = IfSome told (λ t. HasFormat (small_texts (files_now t)) number)
 NotOpened disk told Linear = IfSome told (λ t. IsLinear (small_texts (files_now t)))
 NotOpened disk told (Small small) = IfSome told (λ t. IsRefused (small_texts (files_now t)) small)
+NotOpened disk told (Corrupt damage) = ⊥
 NotOpened disk told AlreadyRepo = ⊥
 NotOpened disk told MountFault = ⊥
 NotOpened disk told (DiskFault place) = disk
@@ -81,9 +93,76 @@ PrintsYoungest mount disk write told old new (Some NotRepo) = NotOpened disk tol
 PrintsYoungest mount disk write told old new (Some (OtherFormat number)) = NotOpened disk told (OtherFormat number) × (new ≡ old)
 PrintsYoungest mount disk write told old new (Some Linear) = NotOpened disk told Linear × (new ≡ old)
 PrintsYoungest mount disk write told old new (Some (Small small)) = NotOpened disk told (Small small) × (new ≡ old)
+PrintsYoungest mount disk write told old new (Some (Corrupt damage)) = ⊥
 PrintsYoungest mount disk write told old new (Some AlreadyRepo) = ⊥
 PrintsYoungest mount disk write told old new (Some (DiskFault place)) = NotOpened disk told (DiskFault place) × (new ≡ old)
 PrintsYoungest mount disk write told old new (Some Memory) = new ≡ old
+
+-- the repository is new, so that its tree is `/` alone
+abbrev pub IsFirst : Option Trace → Type 0
+IsFirst told = IfSome told (λ t. IsFirstTree (files_now t))
+
+-- a small file is refused; or the youngest revision is a later one
+abbrev pub IsSmall : Option Trace → SmallFault → Type 0
+IsSmall told small = IfSome told (λ t. IsRefused (small_texts (files_now t)) small ⊎ (HasLater (files_now t) × (small ≡ later_fault)))
+
+-- What a look at the tree printed, by its fault or none
+abbrev pub PrintsTree : Type 0 → Type 0 → Type 0 → Option Trace → Option (List ℕ) → Option (List ℕ) → Option Fault → Type 0
+PrintsTree mount disk write told old new None = IsFirst told × Adds old new root_line
+PrintsTree mount disk write told old new (Some MountFault) = mount × (new ≡ old)
+PrintsTree mount disk write told old new (Some WriteFault) = write × IsFirst told × AddsFront old new root_line
+PrintsTree mount disk write told old new (Some Usage) = ⊥
+PrintsTree mount disk write told old new (Some NotRepo) = NotOpened disk told NotRepo × (new ≡ old)
+PrintsTree mount disk write told old new (Some (OtherFormat number)) = NotOpened disk told (OtherFormat number) × (new ≡ old)
+PrintsTree mount disk write told old new (Some Linear) = NotOpened disk told Linear × (new ≡ old)
+PrintsTree mount disk write told old new (Some (Small small)) = IsSmall told small × (new ≡ old)
+PrintsTree mount disk write told old new (Some (Corrupt damage)) = IfSome told (λ t. IsDamagedFirst (files_now t) damage) × (new ≡ old)
+PrintsTree mount disk write told old new (Some AlreadyRepo) = ⊥
+PrintsTree mount disk write told old new (Some (DiskFault place)) = disk × (new ≡ old)
+PrintsTree mount disk write told old new (Some Memory) = new ≡ old
+
+-- ---- the files decide what is answered
+
+-- a failure of the outside, or want of memory
+abbrev pub IsOutside : Fault → Type 0
+IsOutside Usage = ⊥
+IsOutside NotRepo = ⊥
+IsOutside (OtherFormat number) = ⊥
+IsOutside Linear = ⊥
+IsOutside (Small small) = ⊥
+IsOutside (Corrupt damage) = ⊥
+IsOutside AlreadyRepo = ⊥
+IsOutside MountFault = Unit {0}
+IsOutside (DiskFault place) = Unit {0}
+IsOutside WriteFault = Unit {0}
+IsOutside Memory = Unit {0}
+
+-- what is answered is what is decided, unless the outside failed
+abbrev pub Agrees : Option Fault → Option Fault → Type 0
+Agrees decided None = decided ≡ None
+Agrees decided (Some fault) = (decided ≡ Some fault) ⊎ IsOutside fault
+
+-- a look at the youngest revision: each of its answers comes wherever its cause is there; what is left is Small
+pub record DecidesYoungest (m : Files) (fault : Option Fault) : Type 0 where
+  pub opened : (o : Opened) → IsOpened (small_texts m) o → Agrees None fault
+  pub none : IsNone (small_texts m) → Agrees (Some NotRepo) fault
+  pub other : (number : ℕ) → HasFormat (small_texts m) number → Agrees (Some (OtherFormat number)) fault
+  pub linear : IsLinear (small_texts m) → Agrees (Some Linear) fault
+
+-- and the same of a look at the tree
+pub record DecidesLook (m : Files) (fault : Option Fault) : Type 0 where
+  pub shown : IsFirstTree m → Agrees None fault
+  pub none : IsNone (small_texts m) → Agrees (Some NotRepo) fault
+  pub other : (number : ℕ) → HasFormat (small_texts m) number → Agrees (Some (OtherFormat number)) fault
+  pub linear : IsLinear (small_texts m) → Agrees (Some Linear) fault
+  pub later : HasLater m → Agrees (Some (Small later_fault)) fault
+  pub damaged : (damage : Damage) → IsDamagedFirst m damage → Agrees (Some (Corrupt damage)) fault
+
+abbrev pub YoungestIsDecided : Option Trace → Option Fault → Type 0
+YoungestIsDecided told fault = IfSome told (λ t. DecidesYoungest (files_now t) fault)
+
+abbrev pub TreeIsDecided : Option Trace → Option Fault → Type 0
+TreeIsDecided told fault = IfSome told (λ t. DecidesLook (files_now t) fault)
 
 -- What a command did, by its fault or none. `at_old` and `at_new` give the disk of each path, `old` and `new` what was written to the output;
 -- `mount`, `disk` and `write` say that the counts of the host and of the output rose.
@@ -92,9 +171,12 @@ Did mount disk write tool words clock dice at_old at_new old new fault =
     -- it made a repository, or not
     ((repos : List ℕ) × (shard : ℕ) × AsksCreate tool words repos shard × Created mount disk shard clock dice (at_old repos) (at_new repos) fault × (new ≡ old))
     -- it printed the youngest revision, or not
-    ⊎ (((repos : List ℕ) × AsksYoungest tool words repos × PrintsYoungest mount disk write (at_old repos) old new fault)
+    ⊎ (((repos : List ℕ) × AsksYoungest tool words repos × PrintsYoungest mount disk write (at_old repos) old new fault × YoungestIsDecided (at_old repos) fault)
+    -- it printed the tree, or not
+    ⊎ (((repos : List ℕ) × AsksTree tool words repos × PrintsTree mount disk write (at_old repos) old new fault × TreeIsDecided (at_old repos) fault)
     -- the words are those of no command
-    ⊎ ((fault ≡ Some Usage) × (new ≡ old) × ((repos : List ℕ) (shard : ℕ) → AsksCreate tool words repos shard → ⊥) × ((repos : List ℕ) → AsksYoungest tool words repos → ⊥)))
+    ⊎ ((fault ≡ Some Usage) × (new ≡ old) × ((repos : List ℕ) (shard : ℕ) → AsksCreate tool words repos shard → ⊥) × ((repos : List ℕ) → AsksYoungest tool words repos → ⊥)
+    × ((repos : List ℕ) → AsksTree tool words repos → ⊥))))
 
 -- a crash at some moment of a creation leaves no repository, or the whole of the one that it makes
 abbrev pub IsNoneOrCreated : ℕ → Option ℕ → Option (List ℕ) → Option Trace → Files → Type 0
@@ -114,12 +196,20 @@ Tells old new rose tool (Some fault) = Adds old new (line_of tool fault) ⊎ (ro
 abbrev pub IsOrder : Tool → List (List ℕ) → Order → Type 0
 IsOrder tool words (Create create) = AsksCreate tool words create.repos.now create.shard
 IsOrder tool words (Youngest repos) = AsksYoungest tool words repos.now
+IsOrder tool words (Tree repos) = AsksTree tool words repos.now
 
 -- an order for this repository and no other
 abbrev pub IsCreateOf : List ℕ → ℕ → Order → Type 0
 IsCreateOf repos shard (Create create) = (create.repos.now ≡ repos) × (create.shard ≡ shard)
 IsCreateOf repos shard (Youngest other) = ⊥
+IsCreateOf repos shard (Tree other) = ⊥
 
 abbrev pub IsYoungestOf : List ℕ → Order → Type 0
 IsYoungestOf repos (Create create) = ⊥
 IsYoungestOf repos (Youngest other) = other.now ≡ repos
+IsYoungestOf repos (Tree other) = ⊥
+
+abbrev pub IsTreeOf : List ℕ → Order → Type 0
+IsTreeOf repos (Create create) = ⊥
+IsTreeOf repos (Youngest other) = ⊥
+IsTreeOf repos (Tree other) = other.now ≡ repos

@@ -1,10 +1,14 @@
--- The fault that a command answers where a creation or an opening failed.
+-- The fault that a command answers where a creation, an opening or a look at a tree failed.
 use Rattle.fsfs_repo.specs.declared.creation.CreateFault.{CreateFault}
 use Rattle.fsfs_repo.specs.declared.creation.CreateFault.TheVariants as create
 use Rattle.fsfs_repo.specs.declared.opening.OpenFault.{OpenFault}
 use Rattle.fsfs_repo.specs.declared.opening.OpenFault.TheVariants as opening
+use Rattle.fsfs_base.specs.declared.small_fault.SmallFault.{SmallFault}
+use Rattle.fsfs_base.specs.declared.small_fault.SmallFile.TheVariants.{Current}
+use Rattle.fsfs_repo.specs.declared.first_tree.TreeFault.{TreeFault}
+use Rattle.fsfs_repo.specs.declared.first_tree.TreeFault.TheVariants as tree
 use Rattle.fsfs_top.specs.declared.fault.Fault.{Fault}
-use Rattle.fsfs_top.specs.declared.fault.Fault.TheVariants.{NotRepo, OtherFormat, Linear, Small, AlreadyRepo, DiskFault, Memory}
+use Rattle.fsfs_top.specs.declared.fault.Fault.TheVariants.{NotRepo, OtherFormat, Linear, Small, Corrupt, AlreadyRepo, DiskFault, Memory}
 
 abbrev pub fault_from : CreateFault → Fault
 fault_from create.AlreadyRepo = AlreadyRepo
@@ -18,3 +22,14 @@ fault_from_open opening.Linear = Linear
 fault_from_open (opening.Small small) = Small small
 fault_from_open (opening.DiskFault place) = DiskFault place
 fault_from_open opening.Memory = Memory
+
+-- trees of later revisions can't be read yet: `db/current` is refused at its beginning
+abbrev pub later_fault : SmallFault
+later_fault = record { file = Current; at = 0 }
+
+abbrev pub fault_from_tree : TreeFault → Fault
+fault_from_tree (tree.NotOpened why) = fault_from_open why
+fault_from_tree tree.LaterYoungest = Small later_fault
+fault_from_tree (tree.Damaged damage) = Corrupt damage
+fault_from_tree (tree.DiskFault place) = DiskFault place
+fault_from_tree tree.Memory = Memory

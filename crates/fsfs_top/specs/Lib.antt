@@ -2,4 +2,5 @@ pub mod Answers
 pub mod Command
 pub mod Faults
 pub mod Output
+pub mod Replies
 pub mod Words

@@ -1,11 +1,12 @@
 // What a command answers but success, its words and its status.
 ghost use Rattle.std.specs.Prelude.{◌≡◌, ◌∷◌, decimal};
-ghost use Rattle.fsfs_top.specs.Answers.{fault_name, fault_values, status_of};
+ghost use Rattle.fsfs_top.specs.Answers.{fault_name, fault_values, what_name, damage_values, status_of};
 
 use arrayvec::ArrayString;
-use fsfs_base::SmallFault;
+use fsfs_base::{SmallFault, SmallFile};
 use fsfs_layout::names::small_file;
-use fsfs_repo::{CreateFault, DiskPlace, OpenFault};
+use fsfs_repo::{CreateFault, DiskPlace, OpenFault, TreeFault};
+use fsfs_revision::{Damage, What};
 use itoa::Buffer;
 use thiserror::Error;
 
@@ -27,6 +28,9 @@ pub enum Fault {
     /// A small file of the repository is not in its format.
     #[error("a small file is damaged")]
     Small(SmallFault),
+    /// A revision is damaged.
+    #[error("a revision is damaged")]
+    Corrupt(Damage),
     /// There is a repository at the path.
     #[error("there is a repository")]
     AlreadyRepo,
@@ -77,6 +81,26 @@ impl From<OpenFault> for Fault {
     }
 }
 
+impl From<TreeFault> for Fault {
+    ghost use Rattle.std.specs.Prelude.{◌≡◌};
+    ghost use Rattle.fsfs_top.specs.Faults.{fault_from_tree};
+
+    ghost from_gives = { λ e f. f ≡ fault_from_tree e };
+
+    fn from(fault: TreeFault) -> Fault {
+        match fault {
+            TreeFault::NotOpened(why) => Fault::from(why),
+            TreeFault::LaterYoungest => Fault::Small(SmallFault {
+                file: SmallFile::Current,
+                at: 0,
+            }),
+            TreeFault::Damaged(damage) => Fault::Corrupt(damage),
+            TreeFault::DiskFault(place) => Fault::DiskFault(place),
+            TreeFault::Memory => Fault::Memory,
+        }
+    }
+}
+
 /// The name of a fault as it is printed, with the place of a disk's fault.
 pub fn fault_text(fault: Fault) -> &'static str
     ensures { result.now ≡ fault_name fault }
@@ -87,6 +111,7 @@ pub fn fault_text(fault: Fault) -> &'static str
         Fault::OtherFormat(_) => "OtherFormat",
         Fault::Linear => "Linear",
         Fault::Small(_) => "Small",
+        Fault::Corrupt(_) => "Corrupt",
         Fault::AlreadyRepo => "AlreadyRepo",
         Fault::MountFault => "MountFault",
         Fault::DiskFault(DiskPlace::OpenFirm) => "DiskFault OpenFirm",
@@ -111,6 +136,33 @@ fn number_text(number: u64) -> ArrayString<21>
     text
 }
 
+/// The name of what is damaged in a revision, as it is printed.
+pub fn what_text(what: What) -> &'static str
+    ensures { result.now ≡ what_name what }
+{
+    match what {
+        What::Trailer => "Trailer",
+        What::NodeRev => "NodeRev",
+        What::PlaceOrder => "PlaceOrder",
+        What::OtherId => "OtherId",
+        What::EntryKind => "EntryKind",
+        What::Header => "Header",
+        What::Missing => "Missing",
+    }
+}
+
+// The values of damage: the revision, the offset and what is damaged, a space before each.
+fn damage_text(damage: Damage) -> ArrayString<64>
+    ensures { result.bytes ≡ damage_values damage }
+{
+    let mut text = ArrayString::new();
+    text.push_str(number_text(damage.at.rev as u64).as_str());
+    text.push_str(number_text(damage.at.offset).as_str());
+    text.push_str(" ");
+    text.push_str(what_text(damage.what));
+    text
+}
+
 /// The values of a fault as they are printed behind its name, a space before each.
 pub fn fault_values_text(fault: Fault) -> ArrayString<192>
     ensures { result.bytes ≡ fault_values fault }
@@ -123,6 +175,7 @@ pub fn fault_values_text(fault: Fault) -> ArrayString<192>
             text.push_str(small_file(&small.file).as_str());
             text.push_str(number_text(small.at as u64).as_str());
         }
+        Fault::Corrupt(damage) => text.push_str(damage_text(damage).as_str()),
         _ => {}
     }
     text
@@ -135,7 +188,7 @@ pub fn status(fault: Fault) -> u8
     match fault {
         Fault::NotRepo | Fault::AlreadyRepo => 1,
         Fault::Usage => 2,
-        Fault::OtherFormat(_) | Fault::Linear | Fault::Small(_) => 3,
+        Fault::OtherFormat(_) | Fault::Linear | Fault::Small(_) | Fault::Corrupt(_) => 3,
         Fault::MountFault | Fault::DiskFault(_) | Fault::WriteFault => 4,
         Fault::Memory => 5,
     }

@@ -2,7 +2,7 @@
 ghost use Rattle.std.specs.Prelude.{◌≡◌, ◌≤◌, ℕ, Option, Some, take, length};
 ghost use Rattle.fsfs_disk.specs.Fault.{Rose};
 ghost use Rattle.fsfs_top.specs.Output.{Prints};
-ghost use Rattle.fsfs_top.specs.Answers.{line_of, revision_line};
+ghost use Rattle.fsfs_top.specs.Answers.{line_of, revision_line, root_line};
 
 use crate::fault::{Fault, fault_text, fault_values_text};
 use crate::tool::Tool;
@@ -30,6 +30,13 @@ pub fn print_revision<S: Sink>(sink: &mut S, rev: u32) -> Result<(), Failed>
     line.push_str(Buffer::new().format(rev));
     line.push_str("\n");
     print(sink, line.as_str().as_bytes())
+}
+
+/// Writes the tree of revision 0: its root alone.
+pub fn print_root<S: Sink>(sink: &mut S) -> Result<(), Failed>
+    ensures printed { Prints (S.written sink.old) (S.written sink.new) root_line (S.faults sink.old) (S.faults sink.new) result }
+{
+    print(sink, b"/\n")
 }
 
 /// Writes the line of a fault: the program's name, a colon, a space, the fault's name and its values.

@@ -5,15 +5,16 @@ ghost use Rattle.fsfs_disk.specs.Trace.{Trace, files_now};
 ghost use Rattle.fsfs_disk.specs.Crash.{AllImages, Leaves};
 ghost use Rattle.fsfs_repo.specs.Creation.{IsUnpublished, HasRepository};
 ghost use Rattle.fsfs_top.specs.Answers.{answer_of};
-ghost use Rattle.fsfs_top.specs.Command.{AsksCreate, AsksYoungest, Created, PrintsYoungest, Did, IsOrder, IsCreateOf, IsYoungestOf, IsNoneOrCreated, Tells, fault_of};
+ghost use Rattle.fsfs_top.specs.Command.{AsksCreate, AsksYoungest, AsksTree, Created, PrintsYoungest, PrintsTree, YoungestIsDecided, TreeIsDecided, Did, IsOrder, IsCreateOf, IsYoungestOf, IsTreeOf, IsNoneOrCreated, Tells, fault_of};
+ghost use Rattle.fsfs_top.specs.Replies.{Replies, Gives};
 ghost use Rattle.fsfs_top.specs.declared.fault.Fault.{Fault};
 
 use crate::fault::{Fault, status};
-use crate::output::{print_fault, print_revision};
+use crate::output::{print_fault, print_revision, print_root};
 use crate::tool::Tool;
 use crate::words::{Order, read_create, read_look};
 use fsfs_disk::{Clock, Dice, Gate, Host, Sink, Source};
-use fsfs_repo::{create, open};
+use fsfs_repo::{check_first_tree, create, open};
 use std::alloc::Global;
 use uuid::Builder;
 
@@ -56,6 +57,7 @@ fn youngest_at<H: Host, O: Sink>(
 ) -> Result<(), Fault>
     ensures printed { PrintsYoungest (Rose (H.mount_faults host.old) (H.mount_faults host.new)) (Rose (H.disk_faults host.old) (H.disk_faults host.new)) (Rose (O.faults out.old) (O.faults out.new))
         (H.disk_at host.old repos.now) (O.written out.old) (O.written out.new) (fault_of result) }
+    ensures decided { YoungestIsDecided (H.disk_at host.old repos.now) (fault_of result) }
     ensures same { option_map files_now (H.disk_at host.new repos.now) ≡ option_map files_now (H.disk_at host.old repos.now) }
     ensures others { (path : List ℕ) → path ≢ repos.now → H.disk_at host.new path ≡ H.disk_at host.old path }
 {
@@ -74,13 +76,43 @@ fn youngest_at<H: Host, O: Sink>(
     }
 }
 
+// Mounts a path to read it, and prints the tree of the repository there.
+fn tree_at<H: Host, O: Sink>(
+    alloc: Global,
+    repos: &str,
+    host: &mut H,
+    out: &mut O,
+) -> Result<(), Fault>
+    ensures printed { PrintsTree (Rose (H.mount_faults host.old) (H.mount_faults host.new)) (Rose (H.disk_faults host.old) (H.disk_faults host.new)) (Rose (O.faults out.old) (O.faults out.new))
+        (H.disk_at host.old repos.now) (O.written out.old) (O.written out.new) (fault_of result) }
+    ensures decided { TreeIsDecided (H.disk_at host.old repos.now) (fault_of result) }
+    ensures same { option_map files_now (H.disk_at host.new repos.now) ≡ option_map files_now (H.disk_at host.old repos.now) }
+    ensures others { (path : List ℕ) → path ≢ repos.now → H.disk_at host.new path ≡ H.disk_at host.old path }
+{
+    let mut disk = match host.mount(repos, false) {
+        Ok(disk) => disk,
+        Err(_) => return Err(Fault::MountFault),
+    };
+    let looked = check_first_tree(alloc, &mut disk);
+    host.unmount(disk);
+    match looked {
+        Ok(()) => match print_root(out) {
+            Ok(()) => Ok(()),
+            Err(_) => Err(Fault::WriteFault),
+        },
+        Err(fault) => Err(Fault::from(fault)),
+    }
+}
+
 // What the words ask for.
 fn read_words(tool: Tool, words: &[String]) -> Option<Order<'_>>
     ensures found { IfSome result (IsOrder tool (map string_bytes words.now)) }
     ensures no_create { IfNone result ((repos : List ℕ) (shard : ℕ) → AsksCreate tool (map string_bytes words.now) repos shard → ⊥) }
     ensures no_youngest { IfNone result ((repos : List ℕ) → AsksYoungest tool (map string_bytes words.now) repos → ⊥) }
+    ensures no_tree { IfNone result ((repos : List ℕ) → AsksTree tool (map string_bytes words.now) repos → ⊥) }
     ensures one_create { (repos : List ℕ) (shard : ℕ) → AsksCreate tool (map string_bytes words.now) repos shard → IfSome result (IsCreateOf repos shard) }
     ensures one_youngest { (repos : List ℕ) → AsksYoungest tool (map string_bytes words.now) repos → IfSome result (IsYoungestOf repos) }
+    ensures one_tree { (repos : List ℕ) → AsksTree tool (map string_bytes words.now) repos → IfSome result (IsTreeOf repos) }
 {
     match tool {
         Tool::Admin => match read_create(words) {
@@ -89,7 +121,10 @@ fn read_words(tool: Tool, words: &[String]) -> Option<Order<'_>>
         },
         Tool::Look => match read_look("youngest", words) {
             Some(repos) => Some(Order::Youngest(repos)),
-            None => None,
+            None => match read_look("tree", words) {
+                Some(repos) => Some(Order::Tree(repos)),
+                None => None,
+            },
         },
         Tool::Jobs => None,
     }
@@ -124,6 +159,7 @@ fn run<H: Host, O: Sink, C: Clock, R: Dice>(
             dice,
         ),
         Some(Order::Youngest(repos)) => youngest_at(alloc, repos, host, out),
+        Some(Order::Tree(repos)) => tree_at(alloc, repos, host, out),
         None => Err(Fault::Usage),
     }
 }
@@ -147,6 +183,12 @@ pub fn command<H: Host, I: Source, O: Sink, E: Sink, C: Clock, R: Dice, G: Gate>
         × Tells (E.written err.old) (E.written err.new) (Rose (E.faults err.old) (E.faults err.new)) tool fault
         × Did (Rose (H.mount_faults host.old) (H.mount_faults host.new)) (Rose (H.disk_faults host.old) (H.disk_faults host.new)) (Rose (O.faults out.old) (O.faults out.new))
         tool (map string_bytes words.now) (C.next clock.old) (R.next dice.old) (H.disk_at host.old) (H.disk_at host.new) (O.written out.old) (O.written out.new) fault }
+
+    // Looks give the replies of the flat model: the youngest revision, of any history that ends with it, and the tree of a
+    // new repository.
+    ensures replies { Replies tool (map string_bytes words.now) (H.disk_at host.old) (Gives result
+        (Rose (H.mount_faults host.old) (H.mount_faults host.new)) (Rose (H.disk_faults host.old) (H.disk_faults host.new)) (Rose (O.faults out.old) (O.faults out.new)) (Rose (E.faults err.old) (E.faults err.new))
+        (O.written out.old) (O.written out.new) (E.written err.old) (E.written err.new)) }
 
     // A repository that is there stays as it is, whatever a creation answers.
     ensures there_same { (repos : List ℕ) (shard : ℕ) (t : Trace) → AsksCreate tool (map string_bytes words.now) repos shard

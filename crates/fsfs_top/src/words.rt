@@ -21,6 +21,8 @@ pub enum Order<'a> {
     Create(CreateWords<'a>),
     /// The youngest revision of the repository at this path.
     Youngest(&'a str),
+    /// The tree of the youngest revision of the repository at this path.
+    Tree(&'a str),
 }
 
 // How many revisions a shard has where the words don't say.

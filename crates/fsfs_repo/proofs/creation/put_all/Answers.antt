@@ -1,7 +1,7 @@
 use Rattle.std.proofs.Common.{◌+◌, arith, map, option_map, take, drop, sym, subst, ap, ◌∙◌}
 use Rattle.fsfs_base.proofs.ResultLemmas.{on_err_always}
 use Rattle.fsfs_disk.specs.Trace.{Put, Performs, FailsToPut}
-use Rattle.fsfs_repo.specs.CreatedFiles.{named}
+use Rattle.fsfs_repo.specs.NewFiles.{named}
 use Rattle.fsfs_repo.specs.Creation.{after_puts}
 use Rattle.fsfs_repo.proofs.CreationLemmas.{puts_more, parts_at, taken_more}
 use Rattle.fsfs_repo.proofs.creation.put_all.Goals as goal

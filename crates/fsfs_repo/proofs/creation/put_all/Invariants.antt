@@ -1,5 +1,5 @@
 use Rattle.std.proofs.Common.{◌≡◌, ◌≤◌, map, option_map, take}
-use Rattle.fsfs_repo.specs.CreatedFiles.{named}
+use Rattle.fsfs_repo.specs.NewFiles.{named}
 use Rattle.fsfs_repo.specs.Creation.{after_puts}
 use Rattle.fsfs_repo.proofs.creation.put_all.Given as goal
 

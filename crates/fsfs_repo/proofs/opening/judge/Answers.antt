@@ -1,8 +1,43 @@
-use Rattle.std.proofs.Common.{subst}
+use Rattle.std.proofs.Common.{subst, sym, rules}
+use Rattle.fsfs_repo.specs.Opening.{IsFsfs}
+use Rattle.fsfs_repo.specs.OpenFaults.{texts_of}
 use Rattle.fsfs_layout.specs.Formats.{IsFormat}
+use Rattle.fsfs_repo.proofs.DecidingLemmas.{decides_other, decides_linear, decides_unread, decides_opened, decides_refused}
 use Rattle.fsfs_repo.proofs.OpeningLemmas.{shards_above}
 use Rattle.fsfs_repo.proofs.opening.judge.Goals as goal
 
 pub judge_sharded-requires : goal.judge_sharded-requires
 judge_sharded-requires c =
     shards_above c.deref.result.now c.in-Ok-Sharded.shard_size (subst (IsFormat c.deref.result.now) c.in-Ok-Sharded.field-0-is c.in-Ok-Sharded.ensures.found)
+
+pub returns-in-Ok-Other-clause-decided : goal.returns-in-Ok-Other-clause-decided
+returns-in-Ok-Other-clause-decided c =
+    let is : IsFsfs (texts_of c.args.files.now) c.in-Some.format.items = search rules in
+    decides_other (texts_of c.args.files.now) c.in-Some.format.items c.in-Ok-Other.number
+    (record { is = is; only = λ g w. let e = c.in-Ok-Other.ensures.only g (subst (λ t. IsFormat t g) (sym c.deref.ensures.value) w) in let f = c.in-Ok-Other.field-0-is in cc })
+
+pub returns-in-Ok-Linear-clause-decided : goal.returns-in-Ok-Linear-clause-decided
+returns-in-Ok-Linear-clause-decided c =
+    let is : IsFsfs (texts_of c.args.files.now) c.in-Some.format.items = search rules in
+    decides_linear (texts_of c.args.files.now) c.in-Some.format.items
+    (record { is = is; only = λ g w. let e = c.in-Ok-Linear.ensures.only g (subst (λ t. IsFormat t g) (sym c.deref.ensures.value) w) in let f = c.in-Ok-Linear.field-0-is in cc })
+
+pub returns-in-Ok-clause-decided : goal.returns-in-Ok-clause-decided
+returns-in-Ok-clause-decided c =
+    let is : IsFsfs (texts_of c.args.files.now) c.in-Some.format.items = search rules in
+    decides_opened (texts_of c.args.files.now) c.in-Some.format.items c.in-Ok-Sharded.shard_size c.in-Ok.opened
+    (record { is = is; only = λ g w. let e = c.in-Ok-Sharded.ensures.only g (subst (λ t. IsFormat t g) (sym c.deref.ensures.value) w) in let f = c.in-Ok-Sharded.field-0-is in cc })
+    c.in-Ok.ensures.only
+
+pub returns-in-Err-judge_sharded-clause-decided : goal.returns-in-Err-judge_sharded-clause-decided
+returns-in-Err-judge_sharded-clause-decided c =
+    let is : IsFsfs (texts_of c.args.files.now) c.in-Some.format.items = search rules in
+    decides_refused (texts_of c.args.files.now) c.in-Some.format.items c.in-Ok-Sharded.shard_size c.in-Err-judge_sharded.fault
+    (record { is = is; only = λ g w. let e = c.in-Ok-Sharded.ensures.only g (subst (λ t. IsFormat t g) (sym c.deref.ensures.value) w) in let f = c.in-Ok-Sharded.field-0-is in cc })
+    c.in-Err-judge_sharded.ensures.only
+
+pub returns-in-Err-clause-decided : goal.returns-in-Err-clause-decided
+returns-in-Err-clause-decided c =
+    let is : IsFsfs (texts_of c.args.files.now) c.in-Some.format.items = search rules in
+    decides_unread (texts_of c.args.files.now) c.in-Some.format.items c.in-Err.fault
+    (record { is = is; only = λ g w. let e = c.in-Err.ensures.only g (subst (λ t. IsFormat t g) (sym c.deref.ensures.value) w) in cc })

@@ -1,17 +1,12 @@
 -- The files of a new repository: format 4, sharded, with revision 0 alone.
 -- Their texts are those of the libsvn_fs_fs structure file; that every list begins empty is this project's profile.
-use Rattle.std.specs.Prelude.{ℕ, List, [], ◌∷◌, ◌++◌, codes, decimal}
-use Rattle.std.specs.FinMap.{remove}
+use Rattle.std.specs.Prelude.{◌≡◌, ℕ, List, [], ◌∷◌, ◌++◌, Some, codes, decimal}
+use Rattle.std.specs.FinMap.{get, remove}
 use Rattle.uuid.specs.Text.{hyphenated_text, lower}
 use Rattle.uuid.specs.Parts.{with_version, with_variant}
 use Rattle.uuid.specs.declared.Variant.TheVariants.{RFC4122}
 use Rattle.uuid.specs.declared.Version.TheVariants.{Random}
 use Rattle.fsfs_base.specs.Files.{Files, NamedFile, lay_over}
-use Rattle.fsfs_repo.specs.declared.initial.NewFile.{NewFile}
-
--- a file to be written, as its name and bytes
-abbrev pub named : NewFile → NamedFile
-named file = (file.name, file.bytes.items)
 
 -- db/format: the format's number, and how many revisions a shard has
 abbrev pub format_text : ℕ → List ℕ
@@ -55,3 +50,8 @@ created_files shard identifier date = unpublished_files identifier date ++ (code
 -- these files laid over what was there; `db/format-next` is the name under which db/format is written first
 abbrev pub created_over : ℕ → List ℕ → List ℕ → Files → Files
 created_over shard identifier date m = lay_over (created_files shard identifier date) (remove m (codes "db/format-next"))
+
+-- each of these files is there, with just its bytes
+abbrev pub Holds : List NamedFile → Files → Type 0
+Holds [] m = Unit {0}
+Holds (file ∷ files) m = (get m file.0 ≡ Some file.1) × Holds files m

@@ -1,0 +1,2 @@
+pub mod TrailerLemmas
+pub mod DamageLemmas

@@ -1,0 +1,23 @@
+use Rattle.std.proofs.Common.{map, refl}
+use Rattle.std.specs.Prelude.{string_bytes, Some, None}
+use Rattle.fsfs_disk.specs.Fault.{Rose}
+use Rattle.fsfs_top.specs.Answers.{line_of}
+use Rattle.fsfs_top.proofs.ReplyLemmas.{replies, told_line}
+use Rattle.fsfs_top.proofs.top.command.Goals as goal
+
+pub returns-in-Ok-clause-replies : goal.returns-in-Ok-clause-replies
+returns-in-Ok-clause-replies g c =
+    replies (Rose (g.H.Host.mount_faults c.args.host.now) (g.H.Host.mount_faults c.run.new.host)) (Rose (g.H.Host.disk_faults c.args.host.now) (g.H.Host.disk_faults c.run.new.host))
+    (Rose (g.O.Sink.faults c.args.out.now) (g.O.Sink.faults c.run.new.out)) (Rose (g.E.Sink.faults c.args.err.now) (g.E.Sink.faults c.args.err.now))
+    c.args.tool (map string_bytes c.args.words.now) (g.C.Clock.next c.args.clock.now) (g.R.Dice.next c.args.dice.now) (g.H.Host.disk_at c.args.host.now) (g.H.Host.disk_at c.run.new.host)
+    (g.O.Sink.written c.args.out.now) (g.O.Sink.written c.run.new.out) (g.E.Sink.written c.args.err.now) (g.E.Sink.written c.args.err.now)
+    0 None c.in-Ok.ensures.did refl refl
+
+pub returns-in-Err-clause-replies : goal.returns-in-Err-clause-replies
+returns-in-Err-clause-replies g c =
+    let tells = told_line (g.E.Sink.written c.args.err.now) (g.E.Sink.written c.print_fault.new.sink) (line_of c.args.tool c.in-Err.fault) (g.E.Sink.faults c.args.err.now) (g.E.Sink.faults c.print_fault.new.sink) c.print_fault.result c.print_fault.ensures.printed in
+    replies (Rose (g.H.Host.mount_faults c.args.host.now) (g.H.Host.mount_faults c.run.new.host)) (Rose (g.H.Host.disk_faults c.args.host.now) (g.H.Host.disk_faults c.run.new.host))
+    (Rose (g.O.Sink.faults c.args.out.now) (g.O.Sink.faults c.run.new.out)) (Rose (g.E.Sink.faults c.args.err.now) (g.E.Sink.faults c.print_fault.new.sink))
+    c.args.tool (map string_bytes c.args.words.now) (g.C.Clock.next c.args.clock.now) (g.R.Dice.next c.args.dice.now) (g.H.Host.disk_at c.args.host.now) (g.H.Host.disk_at c.run.new.host)
+    (g.O.Sink.written c.args.out.now) (g.O.Sink.written c.run.new.out) (g.E.Sink.written c.args.err.now) (g.E.Sink.written c.print_fault.new.sink)
+    c.status.result (Some c.in-Err.fault) c.in-Err.ensures.did c.status.ensures tells
