@@ -1,13 +1,13 @@
 -- What the small files decide, by what `db/format` says.
-use Rattle.std.proofs.Common.{◌≡◌, ℕ, List, ◌⊎◌, inl, inr, refl, sym, ap, subst, ◌∙◌}
-use Rattle.std.specs.Prelude.{Option, Some, None, IfSome, Result, Ok, Err, option_map, codes}
+use Rattle.std.proofs.Common.{◌≡◌, ℕ, List, inl, inr, refl, sym, subst, ◌∙◌}
+use Rattle.std.specs.Prelude.{Option, Some, None, IfSome, Result, Ok, Err}
 use Rattle.fsfs_base.specs.declared.small_fault.SmallFault.{SmallFault}
 use Rattle.fsfs_disk.specs.Trace.{Trace, files_now}
 use Rattle.fsfs_layout.specs.Formats.{IsFormat}
 use Rattle.fsfs_layout.specs.Small.{IsMinUnpackedRev}
 use Rattle.fsfs_layout.specs.declared.format_file.Format.{Format}
 use Rattle.fsfs_layout.specs.declared.format_file.Format.TheVariants.{Linear, Sharded, Other}
-use Rattle.fsfs_repo.specs.Opening.{SmallTexts, small_texts, IsFsfs, IsNone, IsOpened, HasFormat, IsLinear}
+use Rattle.fsfs_repo.specs.Opening.{SmallTexts, small_texts, IsFsfs, IsNone, IsOpened}
 use Rattle.fsfs_repo.specs.OpenFaults.{IsOpenedBehind}
 use Rattle.fsfs_repo.specs.Deciding.{Decides}
 use Rattle.fsfs_repo.specs.declared.opening.Opened.{Opened}

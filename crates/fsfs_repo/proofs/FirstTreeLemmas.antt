@@ -1,6 +1,6 @@
 -- What the files decide of the tree of revision 0.
 use Rattle.std.proofs.Common.{◌≡◌, ◌≢◌, ℕ, Bool, true, false, List, ◌⊎◌, inl, inr, refl, sym, ap, subst, ◌∙◌}
-use Rattle.std.specs.Prelude.{Option, Some, None, IfSome, OnOk, Result, Ok, Err, option_map, codes}
+use Rattle.std.specs.Prelude.{Option, Some, None, IfSome, Ok, Err, option_map, codes}
 use Rattle.fsfs_base.specs.Files.{Files}
 use Rattle.fsfs_disk.specs.Trace.{Trace, files_now, file_at}
 use Rattle.fsfs_noderev.specs.declared.node_rev.NodeRev.{NodeRev}
@@ -11,12 +11,11 @@ use Rattle.fsfs_revision.specs.declared.damage.RevisionError.{RevisionError}
 use Rattle.fsfs_revision.specs.declared.damage.RevisionError.TheVariants as error
 use Rattle.fsfs_repo.specs.Opening.{small_texts, IsOpened}
 use Rattle.fsfs_repo.specs.Deciding.{Decides, IsOutside}
-use Rattle.fsfs_repo.specs.FirstTree.{is_empty_directory, rep_offset, ShowsRoot, HeaderRow, FirstRow, first_file, IsNew, HasLater, IsFirstTree, IsDamagedFirst, DecidesTree}
+use Rattle.fsfs_repo.specs.FirstTree.{is_empty_directory, rep_offset, ShowsRoot, FirstRow, first_file, HasLater, IsFirstTree, IsDamagedFirst, DecidesTree}
 use Rattle.fsfs_repo.specs.declared.opening.Opened.{Opened}
 use Rattle.fsfs_repo.specs.declared.opening.OpenFault.{OpenFault}
 use Rattle.fsfs_repo.specs.declared.opening.OpenFault.TheVariants as opening
 use Rattle.fsfs_repo.specs.declared.place.DiskPlace.{DiskPlace}
-use Rattle.fsfs_repo.specs.declared.first_tree.TreeFault.{TreeFault}
 use Rattle.fsfs_repo.specs.declared.first_tree.TreeFault.TheVariants.{NotOpened, LaterYoungest, Damaged, DiskFault, Memory}
 
 -- ---- the bytes

@@ -5,3 +5,4 @@ pub mod WholeFileLemmas
 pub mod OpeningLemmas
 pub mod DecidingLemmas
 pub mod FirstTreeLemmas
+pub mod NewRepositoryLemmas

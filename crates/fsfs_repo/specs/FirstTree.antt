@@ -15,7 +15,6 @@ use Rattle.fsfs_repo.specs.Opening.{small_texts, IsOpened, IsNone, HasFormat, Is
 use Rattle.fsfs_repo.specs.OpenFaults.{OpensBecause}
 use Rattle.fsfs_repo.specs.Deciding.{IsOutside}
 use Rattle.fsfs_repo.specs.declared.opening.Opened.{Opened}
-use Rattle.fsfs_repo.specs.declared.opening.OpenFault.{OpenFault}
 use Rattle.fsfs_repo.specs.declared.opening.OpenFault.TheVariants as opening
 use Rattle.fsfs_repo.specs.declared.first_tree.TreeFault.{TreeFault}
 use Rattle.fsfs_repo.specs.declared.first_tree.TreeFault.TheVariants.{NotOpened, LaterYoungest, Damaged, DiskFault, Memory}

@@ -5,3 +5,4 @@ pub mod Opening
 pub mod OpenFaults
 pub mod Deciding
 pub mod FirstTree
+pub mod NewRepositories

@@ -1,8 +1,8 @@
 -- The replies of looks, from what a command did and printed.
-use Rattle.std.proofs.Common.{◌≡◌, ℕ, Bool, true, false, List, [], ◌∷◌, ◌++◌, length, cond, ◌⊎◌, inl, inr, refl, sym, ap, subst, ◌∙◌, append-nil, arith}
-use Rattle.std.specs.Prelude.{Option, Some, None, IfSome, ◌&&◌, ◌==◌, codes, Ok, Err, Result}
+use Rattle.std.proofs.Common.{◌≡◌, ℕ, Bool, true, false, List, [], ◌∷◌, cond, ◌⊎◌, inl, inr, refl, sym, ap, subst, ◌∙◌, append-nil, arith}
+use Rattle.std.specs.Prelude.{Option, Some, None, ◌&&◌, ◌==◌, codes, Ok, Err, Result}
 use Rattle.std.specs.Str.{bytes_eq}
-use Rattle.std.specs.FinMap.{empty, insert, entries, put, entries-insert, len, len-entries, len-empty}
+use Rattle.std.specs.FinMap.{empty, entries, put, entries-insert, len-entries, len-empty}
 use Rattle.std.specs.List.{flat_map}
 use Rattle.std.proofs.lemmas.Bool.{eqb-true}
 use Rattle.std.proofs.lemmas.List.{nil_from_length}
@@ -19,13 +19,14 @@ use Rattle.fsfs_disk.specs.Fault.{Rose}
 use Rattle.fsfs_disk.specs.Streams.{Adds}
 use Rattle.fsfs_model.specs.Answers as model
 use Rattle.fsfs_model.specs.Answers.{Answer, Reply, new_history, tree_line}
-use Rattle.fsfs_repo.specs.Opening.{small_texts, IsOpened, IsNone}
+use Rattle.fsfs_repo.specs.Opening.{small_texts, IsOpened}
 use Rattle.fsfs_repo.specs.FirstTree.{IsFirstTree}
 use Rattle.fsfs_repo.specs.declared.opening.Opened.{Opened}
-use Rattle.fsfs_top.specs.Answers.{answer_of, line_of, revision_line, root_line}
+use Rattle.fsfs_repo.proofs.NewRepositoryLemmas.{new_repositories_show_their_tree}
+use Rattle.fsfs_top.specs.Answers.{answer_of, revision_line, root_line}
 use Rattle.fsfs_top.specs.Output.{AddsFront, Prints}
 use Rattle.fsfs_top.specs.Words.{look_words, is_repos}
-use Rattle.fsfs_top.specs.Command.{AsksCreate, AsksYoungest, AsksTree, Did, PrintsYoungest, PrintsTree, YoungestIsDecided, TreeIsDecided, IsOutside, Agrees, Tells}
+use Rattle.fsfs_top.specs.Command.{AsksYoungest, AsksTree, Did, PrintsYoungest, PrintsTree, YoungestIsDecided, TreeIsDecided, IsOutside, Agrees, Tells}
 use Rattle.fsfs_top.specs.Replies.{Gives, Replies}
 use Rattle.fsfs_top.specs.declared.fault.Fault.{Fault}
 use Rattle.fsfs_top.specs.declared.fault.Fault.TheVariants.{Usage, NotRepo, OtherFormat, Linear, Small, Corrupt, AlreadyRepo, MountFault, DiskFault, WriteFault, Memory}
@@ -161,6 +162,15 @@ replies mount disk write told tool words clock dice at_old at_new old new err_ol
   tree = λ repos t date asks here is.
       let w = did_tree mount disk write tool words clock dice at_old at_new old new fault repos did asks in
       given_tree mount disk write told tool t date old new err_old err_new status fault is s tells
+      (subst (λ (x : Option Trace). PrintsTree mount disk write x old new fault) here w.0) (subst (λ (x : Option Trace). TreeIsDecided x fault) here w.1);
+  new_youngest = λ repos t date asks here holds.
+      let is = new_repositories_show_their_tree (files_now t) date holds in
+      let w = did_youngest mount disk write tool words clock dice at_old at_new old new fault repos did asks in
+      given_youngest mount disk write told tool t is.0.0 (new_history date) old new err_old err_new status fault is.0.1 (sym is.0.2) s tells
+      (subst (λ (x : Option Trace). PrintsYoungest mount disk write x old new fault) here w.0) (subst (λ (x : Option Trace). YoungestIsDecided x fault) here w.1);
+  new_tree = λ repos t date asks here holds.
+      let w = did_tree mount disk write tool words clock dice at_old at_new old new fault repos did asks in
+      given_tree mount disk write told tool t date old new err_old err_new status fault (new_repositories_show_their_tree (files_now t) date holds) s tells
       (subst (λ (x : Option Trace). PrintsTree mount disk write x old new fault) here w.0) (subst (λ (x : Option Trace). TreeIsDecided x fault) here w.1);
 }
 

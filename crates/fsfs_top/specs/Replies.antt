@@ -7,6 +7,7 @@ use Rattle.fsfs_disk.specs.Streams.{Adds}
 use Rattle.fsfs_model.specs.Answers.{Reply, Answer, Youngest, Tree, new_history}
 use Rattle.fsfs_repo.specs.Opening.{small_texts, IsOpened}
 use Rattle.fsfs_repo.specs.FirstTree.{IsFirstTree}
+use Rattle.fsfs_repo.specs.NewRepositories.{HoldsCreated}
 use Rattle.fsfs_repo.specs.declared.opening.Opened.{Opened}
 use Rattle.fsfs_top.specs.Output.{AddsFront}
 use Rattle.fsfs_top.specs.Command.{AsksYoungest, AsksTree}
@@ -29,5 +30,8 @@ pub record Replies (tool : Tool) (words : List (List ℕ)) (at : List ℕ → Op
   -- of any history that ends with the revision that the files name
   pub youngest : (repos : List ℕ) (t : Trace) (o : Opened) (h : List Revision) → AsksYoungest tool words repos → at repos ≡ Some t → IsOpened (small_texts (files_now t)) o → last_of h ≡ o.youngest
       → Given (Answer Youngest (Some h))
-  -- of the history of a new repository, whatever its date
+  -- of the history of a new repository, where the files show its tree
   pub tree : (repos : List ℕ) (t : Trace) (date : List ℕ) → AsksTree tool words repos → at repos ≡ Some t → IsFirstTree (files_now t) → Given (Answer Tree (Some (new_history date)))
+  -- of the files of a new repository, whatever its date, its identifier and the size of a shard
+  pub new_youngest : (repos : List ℕ) (t : Trace) (date : List ℕ) → AsksYoungest tool words repos → at repos ≡ Some t → HoldsCreated (files_now t) date → Given (Answer Youngest (Some (new_history date)))
+  pub new_tree : (repos : List ℕ) (t : Trace) (date : List ℕ) → AsksTree tool words repos → at repos ≡ Some t → HoldsCreated (files_now t) date → Given (Answer Tree (Some (new_history date)))

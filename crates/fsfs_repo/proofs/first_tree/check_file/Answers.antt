@@ -1,4 +1,4 @@
-use Rattle.std.proofs.Common.{◌≡◌, ℕ, List, Vec, Global, sym, ap, subst}
+use Rattle.std.proofs.Common.{ℕ, List, Vec, Global, sym, ap, subst}
 use Rattle.std.specs.Prelude.{Option, Some, OnOk, option_map}
 use Rattle.fsfs_repo.specs.FirstTree.{ShowsRoot, FirstRow}
 use Rattle.fsfs_repo.proofs.first_tree.check_file.Goals as goal
