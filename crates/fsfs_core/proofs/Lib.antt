@@ -5,3 +5,8 @@ pub mod Keeps
 pub mod Steps
 pub mod Created
 pub mod Showing
+pub mod LineLemmas
+pub mod OnePlace
+pub mod Reading
+pub mod Along
+pub mod Calling

@@ -3,3 +3,5 @@ pub mod Disk
 pub mod Machine
 pub mod Kept
 pub mod Shown
+pub mod Lines
+pub mod State

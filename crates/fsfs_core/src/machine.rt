@@ -1,13 +1,34 @@
 //! The parts of the machine's state, its steps and their outcomes.
+ghost use Rattle.std.specs.Prelude.{◌≡◌};
+ghost use Rattle.fsfs_core.specs.Machine.{entry_of};
+
 use crate::contents::{Bytes, Contents};
 use fsfs_base::{Edit, FsPath, Mark, Pairs, Revision, Tree};
 use std::marker::Model;
 
 /// A revision of the history, and the bytes beside it: those of its revision file.
-#[derive(Drop)]
 pub struct Recorded {
     pub revision: Revision,
     pub bytes: Bytes,
+}
+
+impl Drop for Recorded {
+    fn drop(self) {
+        let Recorded {
+            revision: _revision,
+            bytes: _bytes,
+        } = self;
+    }
+}
+
+impl Recorded {
+    /// The revision, and its bytes.
+    pub fn parts(self) -> (Revision, Bytes)
+        ensures { result ≡ record { 0 = self.revision; 1 = self.bytes } }
+    {
+        let Recorded { revision, bytes } = self;
+        (revision, bytes)
+    }
 }
 
 /// The marks of a transaction, in the order of its accepted edits.
@@ -26,13 +47,46 @@ impl Model for Marks {
 }
 
 /// A transaction: its name, the revision that it stands on, its tree and marks, and how often it was merged.
-#[derive(Drop)]
 pub struct Txn {
     pub name: u64,
     pub base: u32,
     pub tree: Tree,
     pub marks: Marks,
     pub landings: u64,
+}
+
+impl Drop for Txn {
+    fn drop(self) {
+        let Txn {
+            name: _,
+            base: _,
+            tree: _tree,
+            marks: _marks,
+            landings: _,
+        } = self;
+    }
+}
+
+impl Txn {
+    /// The entry of the transaction, as this pass commits it with these properties.
+    pub fn entry(self, pass: u64, properties: Pairs) -> Entry
+        ensures { result ≡ entry_of pass self properties }
+    {
+        let Txn {
+            name: _,
+            base,
+            tree,
+            marks,
+            landings: _,
+        } = self;
+        Entry {
+            pass,
+            base,
+            tree,
+            marks,
+            properties,
+        }
+    }
 }
 
 /// A transaction as it is committed, with its properties and the number of the pass that commits it.
@@ -65,11 +119,34 @@ pub struct Drawn {
 }
 
 /// The revision that a section is about to add, the entry that it lands, and its bytes.
-#[derive(Drop)]
 pub struct Coming {
     pub entry: Entry,
     pub revision: Revision,
     pub bytes: Bytes,
+}
+
+impl Drop for Coming {
+    fn drop(self) {
+        let Coming {
+            entry: _entry,
+            revision: _revision,
+            bytes: _bytes,
+        } = self;
+    }
+}
+
+impl Coming {
+    /// The revision, and its bytes.
+    pub fn parts(self) -> (Revision, Bytes)
+        ensures { result ≡ record { 0 = self.revision; 1 = self.bytes } }
+    {
+        let Coming {
+            entry: _entry,
+            revision,
+            bytes,
+        } = self;
+        (revision, bytes)
+    }
 }
 
 /// The places at which the disk is called.

@@ -1,0 +1,27 @@
+-- A revision more is read.
+use Rattle.std.proofs.Common.{◌≡◌, ◌<◌, ◌+◌, ◌-◌, ℕ, suc, zero, List, [], ◌∷◌, ◌++◌, refl, sym, ap, ◌∙◌, arith, add-one}
+use Rattle.std.specs.Prelude.{Option, Some, None}
+use Rattle.fsfs_core.specs.declared.contents.Name.TheVariants.{Props}
+use Rattle.fsfs_core.specs.declared.machine.Recorded.{Recorded}
+use Rattle.fsfs_core.specs.Disk.{Disk, found, shown}
+use Rattle.fsfs_core.specs.Machine.{revision_in, read_one, read_back}
+
+pub read_more : (f : ℕ) (d : Disk) (n : ℕ) (h : List Recorded) (x : Recorded) → read_back f d n ≡ Some h → Some x ≡ revision_in (shown f d n) (found d (Props n)) → read_back f d (n + 1) ≡ Some (h ++ x ∷ [])
+read_more f d n h x e g = ap (λ k. read_back f d k) (add-one n) ∙ ap (λ o. read_one o (revision_in (shown f d n) (found d (Props n)))) e ∙ ap (λ o. read_one (Some h) o) (sym g)
+
+no_more : (o : Option (List Recorded)) (d : Option Recorded) → o ≡ None → read_one o d ≡ None
+no_more o d e = ap (λ x. read_one x d) e
+
+none_on : (f : ℕ) (d : Disk) (n k : ℕ) → read_back f d n ≡ None → read_back f d (k + n) ≡ None
+none_on f d n zero e = let g : zero + n ≡ n = omega arith in ap (λ m. read_back f d m) g ∙ e
+none_on f d n (suc k) e = let g : suc k + n ≡ suc (k + n) = omega arith in ap (λ m. read_back f d m) g ∙ no_more (read_back f d (k + n)) (revision_in (shown f d (k + n)) (found d (Props (k + n)))) (none_on f d n k e)
+
+one_none : (o : Option (List Recorded)) → read_one o None ≡ None
+one_none None = refl
+one_none (Some h) = refl
+
+pub read_none : (f : ℕ) (d : Disk) (n m : ℕ) → None ≡ revision_in (shown f d n) (found d (Props n)) → n < m → None ≡ read_back f d m
+read_none f d n m e less =
+    let here : read_back f d (suc n) ≡ None = ap (λ o. read_one (read_back f d n) o) (sym e) ∙ one_none (read_back f d n) in
+    let far : (m - suc n) + suc n ≡ m = omega (arith, less) in
+    sym (sym (ap (λ k. read_back f d k) far) ∙ none_on f d (suc n) (m - suc n) here)

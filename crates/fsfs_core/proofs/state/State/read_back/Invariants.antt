@@ -1,0 +1,7 @@
+use Rattle.std.proofs.Common.{◌≡◌}
+use Rattle.std.specs.Prelude.{Some}
+use Rattle.fsfs_core.specs.Machine.{read_back}
+use Rattle.fsfs_core.proofs.state.State.read_back.Given as goal
+
+abbrev pub invariant-loop-rev : goal.invariant-loop-rev
+invariant-loop-rev l = read_back l.floor l.self.disk.items l.rev ≡ Some l.line

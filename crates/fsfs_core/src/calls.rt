@@ -1,0 +1,278 @@
+//! The words, and the calls of a section.
+ghost use Rattle.std.specs.Prelude.{◌≡◌, ◌+◌, ◌&&◌, length, OnOk, IfOk, MatchOption, Some, None, if◌then◌else◌};
+ghost use Rattle.fsfs_core.specs.Disk.{found};
+ghost use Rattle.fsfs_core.specs.Machine.{did, barred, answer, is_there, taken, inside, let_go, stuck_at, held_by, has_begun_by, is_up, looked, ended, at_place, learns, rename_of, due, gives, called, called_by, drawn, revealed};
+ghost use Rattle.fsfs_core.specs.State.{world_of};
+
+use crate::contents::{Change, Contents, Name};
+use crate::files::{change_made, find, find_number, is_fine};
+use crate::machine::{Lock, Marks, Outcome, Place, Section, Txn, Went};
+use crate::passes::{find_stuck, learn, reveal_by, see_least};
+use crate::section::{
+    answer_of, drawn_section, is_due_at, is_lock_up, is_quiet_section, next_section,
+};
+use crate::state::State;
+use crate::txns::base_tree;
+use std::alloc::AllocError;
+use std::mem;
+
+impl State {
+    // The section of the pass, taken out where it holds the lock.
+    fn take_section(&mut self, p: u64) -> Option<Section>
+        ensures none { result ≡ None → self.new ≡ self.old }
+        ensures some { MatchOption result (held_by p self.old.lock ≡ None)
+            (λ s. (held_by p self.old.lock ≡ Some s) × (world_of self.new ≡ record (world_of self.old) { lock = Lock.Free })) }
+    {
+        match mem::replace(&mut self.lock, Lock::Free) {
+            Lock::Held(q, section) if q == p => Some(section),
+            lock => {
+                self.lock = lock;
+                None
+            }
+        }
+    }
+
+    // Whether the pass has just taken the lock.
+    pub(crate) fn has_begun(&self, p: u64) -> bool
+        ensures { result ≡ has_begun_by p self.now.lock }
+    {
+        matches!(&self.lock, Lock::Held(q, Section::Begun) if *q == p)
+    }
+
+    pub(crate) fn take_lock(&mut self, p: u64) -> Outcome
+        ensures { did (world_of self.new) result ≡ (if is_there (world_of self.old) p then taken (world_of self.old) p self.old.lock else barred (world_of self.old)) }
+    {
+        if !self.is_there(p) {
+            return Outcome::Barred;
+        }
+        match mem::replace(&mut self.lock, Lock::Free) {
+            Lock::Free => {
+                self.lock = Lock::Held(p, Section::Begun);
+                Outcome::Done
+            }
+            Lock::Stuck(place, coming) => {
+                self.lock = Lock::Stuck(place, coming);
+                find_stuck(&mut self.passes, p, place);
+                Outcome::Stuck(place)
+            }
+            lock => {
+                self.lock = lock;
+                Outcome::Barred
+            }
+        }
+    }
+
+    pub(crate) fn give_lock(&mut self, p: u64) -> Outcome
+        ensures { did (world_of self.new) result ≡ inside (world_of self.old) (let_go (world_of self.old)) (held_by p self.old.lock) }
+    {
+        match self.take_section(p) {
+            None => Outcome::Barred,
+            Some(section) => {
+                if is_quiet_section(&section) {
+                    Outcome::Done
+                } else {
+                    self.lock = Lock::Held(p, section);
+                    Outcome::Barred
+                }
+            }
+        }
+    }
+
+    pub(crate) fn stick_lock(&mut self, p: u64) -> Outcome
+        ensures { did (world_of self.new) result ≡ inside (world_of self.old) (stuck_at (world_of self.old)) (held_by p self.old.lock) }
+    {
+        match self.take_section(p) {
+            Some(Section::Doubtful(place, coming)) => {
+                self.lock = Lock::Stuck(place, coming);
+                Outcome::Done
+            }
+            Some(section) => {
+                self.lock = Lock::Held(p, section);
+                Outcome::Barred
+            }
+            None => Outcome::Barred,
+        }
+    }
+
+    pub(crate) fn look(&mut self, p: u64) -> Outcome
+        ensures { did (world_of self.new) result ≡ (if is_there (world_of self.old) p && is_up self.old.lock then looked (world_of self.old) p else barred (world_of self.old)) }
+    {
+        if self.is_there(p) && is_lock_up(&self.lock) {
+            see_least(&mut self.passes, p, self.young);
+            Outcome::Youngest(self.young)
+        } else {
+            Outcome::Barred
+        }
+    }
+
+    pub(crate) fn reveal(&mut self, p: u64) -> Result<Outcome, AllocError>
+        ensures { IfOk result (λ o. did (world_of self.new) o ≡ inside (world_of self.old) (revealed (world_of self.old) p) (held_by p self.old.lock)) }
+    {
+        match self.take_section(p) {
+            Some(Section::CurrentFirm(coming)) => {
+                let young = self.count();
+                let (revision, bytes) = coming.parts();
+                self.line.push(revision, bytes)?;
+                self.young = young;
+                let seen = self.count();
+                reveal_by(&mut self.passes, p, young, seen)?;
+                self.lock = Lock::Held(p, Section::Over);
+                Ok(Outcome::Done)
+            }
+            Some(section) => {
+                self.lock = Lock::Held(p, section);
+                Ok(Outcome::Barred)
+            }
+            None => Ok(Outcome::Barred),
+        }
+    }
+
+    // The change is made as far as the call went, and the pass learns.
+    pub(crate) fn end_call(
+        &mut self,
+        p: u64,
+        place: Place,
+        change: Change,
+        section: Section,
+        went: Went,
+    ) -> Result<(), AllocError>
+        ensures { OnOk result (world_of self.new ≡ ended (world_of self.old) p place change section went) }
+    {
+        let seen = self.count();
+        learn(&mut self.passes, p, seen, place, &went)?;
+        if let Some(change) = change_made(went, change) {
+            self.disk.push_front(change)?;
+        }
+        self.lock = Lock::Held(p, section);
+        Ok(())
+    }
+
+    fn renaming(&self, from: Name, to: Name) -> Result<Option<Change>, AllocError>
+        ensures { IfOk result (λ o. o ≡ rename_of from to (found self.now.disk.items from)) }
+    {
+        match find(&self.disk, &from) {
+            Some(file) => {
+                let file = file.copy(self.alloc)?;
+                Ok(Some(Change::Rename(from, to, file)))
+            }
+            None => Ok(None),
+        }
+    }
+
+    // The change that the call makes which is due.
+    fn due_change(&self, section: &Section) -> Result<Option<Change>, AllocError>
+        ensures { IfOk result (λ o. o ≡ due (world_of self.now) section.now) }
+    {
+        let number = self.count();
+        match section {
+            Section::CountRead(x) => Ok(Some(Change::Put(
+                Name::CounterNext,
+                Contents::Number(x.next),
+            ))),
+            Section::CountPut(_) => self.renaming(Name::CounterNext, Name::Counter),
+            Section::RevPut(x) => {
+                let properties = x.revision.properties.clone()?;
+                Ok(Some(Change::Put(Name::Props(number), Contents::PropsFile(properties))))
+            }
+            Section::RevFirm(_) => Ok(Some(Change::Put(
+                Name::CurrentNext,
+                Contents::Number(number),
+            ))),
+            Section::CurrentPut(_) => self.renaming(Name::CurrentNext, Name::Current),
+            Section::CountRenamed(_) | Section::PropsPut(_) | Section::CurrentRenamed(_) => {
+                Ok(Some(Change::Firm))
+            }
+            Section::Begun | Section::CurrentFirm(_) | Section::Doubtful(_, _) | Section::Over => {
+                Ok(None)
+            }
+        }
+    }
+
+    // The name is given as the names are firm, and the transaction begins.
+    fn give_name(&mut self, section: &Section, went: &Went) -> Result<(), AllocError>
+        ensures { OnOk result (world_of self.new ≡ gives section.now went.now (world_of self.old)) }
+    {
+        if let Section::CountRenamed(x) = section {
+            if is_fine(went) {
+                let tree = base_tree(self.alloc, self.line.revisions(), x.base)?;
+                self.given.push_front(x.name)?;
+                self.txns.push(Txn {
+                    name: x.name,
+                    base: x.base,
+                    tree,
+                    marks: Marks::new(self.alloc),
+                    landings: 0,
+                })?;
+            }
+        }
+        Ok(())
+    }
+
+    fn go_on(
+        &mut self,
+        p: u64,
+        place: Place,
+        section: Section,
+        change: Change,
+        went: Went,
+    ) -> Result<Outcome, AllocError>
+        ensures { IfOk result (λ o. did (world_of self.new) o ≡ called_by (world_of self.old) p place went section (Some change)) }
+    {
+        self.give_name(&section, &went)?;
+        let answer = answer_of(&went);
+        let next = next_section(section, &went);
+        self.end_call(p, place, change, next, went)?;
+        Ok(answer)
+    }
+
+    // The call at that place, where it is due.
+    #[tactic(auto, using(crate::proofs::Calling::call_goes_on))]
+    pub(crate) fn call(&mut self, p: u64, place: Place, went: Went) -> Result<Outcome, AllocError>
+        ensures { IfOk result (λ o. did (world_of self.new) o ≡ inside (world_of self.old) (called (world_of self.old) p place went) (held_by p self.old.lock)) }
+    {
+        let section = match self.take_section(p) {
+            Some(section) => section,
+            None => return Ok(Outcome::Barred),
+        };
+        if !is_due_at(&section, place) {
+            self.lock = Lock::Held(p, section);
+            return Ok(Outcome::Barred);
+        }
+        match self.due_change(&section)? {
+            None => {
+                self.lock = Lock::Held(p, section);
+                Ok(Outcome::Barred)
+            }
+            Some(change) => self.go_on(p, place, section, change, went),
+        }
+    }
+
+    fn end_read(&mut self, p: u64, section: Section, went: &Went) -> Result<(), AllocError>
+        ensures { OnOk result (world_of self.new ≡ record (world_of self.old) { lock = Lock.Held p section; passes = at_place self.old.passes.items p (learns (length self.old.line) Place.TxnRead went.now) }) }
+    {
+        let seen = self.count();
+        learn(&mut self.passes, p, seen, Place::TxnRead, went)?;
+        self.lock = Lock::Held(p, section);
+        Ok(())
+    }
+
+    // `TxnRead`.
+    pub(crate) fn draw(&mut self, p: u64, base: u32, went: Went) -> Result<Outcome, AllocError>
+        ensures { IfOk result (λ o. did (world_of self.new) o ≡ inside (world_of self.old) (drawn (world_of self.old) p base went) (held_by p self.old.lock)) }
+    {
+        if !self.has_begun(p) {
+            return Ok(Outcome::Barred);
+        }
+        match find_number(&self.disk, &Name::Counter) {
+            None => Ok(Outcome::Barred),
+            Some(name) => {
+                if (base as u64) < self.count() && name < u64::MAX {
+                    self.end_read(p, drawn_section(name, name + 1, base, &went), &went)?;
+                    Ok(answer_of(&went))
+                } else {
+                    Ok(Outcome::Barred)
+                }
+            }
+        }
+    }
+}

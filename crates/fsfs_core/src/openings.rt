@@ -1,0 +1,141 @@
+//! Ends of the object, and openings.
+ghost use Rattle.std.specs.Prelude.{◌≡◌, ◌+◌, ◌∷◌, IfOk, OnOk, if◌then◌else◌};
+ghost use Rattle.fsfs_core.specs.Disk.{found, shown, left};
+ghost use Rattle.fsfs_core.specs.Machine.{did, barred, is_up, ends, revision_in, read_back, opened, open_at, disk_after};
+ghost use Rattle.fsfs_core.specs.State.{world_of};
+
+use crate::contents::{Change, Contents, Name};
+use crate::files::{change_made, find, find_number, find_rev, is_fine, what_is_left};
+use crate::line::Line;
+use crate::machine::{Lock, Outcome, Pass, Picks, Recorded, Went};
+use crate::section::{is_lock_up, lock_down};
+use crate::state::State;
+use fsfs_base::Revision;
+use std::alloc::{AllocError, Global};
+use std::collections::VecDeque;
+use std::mem;
+
+impl State {
+    fn end(&mut self)
+        ensures { world_of self.new ≡ ends (world_of self.old) }
+    {
+        let lock = mem::replace(&mut self.lock, Lock::Down);
+        self.lock = lock_down(lock);
+        self.txns.clear();
+        self.passes.clear();
+    }
+
+    pub(crate) fn close(&mut self) -> Outcome
+        ensures { did (world_of self.new) result ≡ (if is_up self.old.lock then did (ends (world_of self.old)) Outcome.Done else barred (world_of self.old)) }
+    {
+        if is_lock_up(&self.lock) {
+            self.end();
+            Outcome::Done
+        } else {
+            Outcome::Barred
+        }
+    }
+
+    pub(crate) fn crash(&mut self, picks: Picks) -> Result<Outcome, AllocError>
+        ensures { IfOk result (λ o. did (world_of self.new) o ≡ did (record (ends (world_of self.old)) { disk = Change.Firm ∷ left picks self.old.disk.items }) Outcome.Done) }
+    {
+        let disk = mem::replace(&mut self.disk, VecDeque::new(self.alloc));
+        self.disk = what_is_left(self.alloc, disk, &picks.picks)?;
+        self.disk.push_front(Change::Firm)?;
+        self.end();
+        Ok(Outcome::Done)
+    }
+
+    fn revision_at(&self, floor: u64, rev: u64) -> Result<Option<Recorded>, AllocError>
+        ensures { IfOk result (λ o. o ≡ revision_in (shown floor self.now.disk.items rev) (found self.now.disk.items (Name.Props rev))) }
+    {
+        match (
+            find_rev(&self.disk, floor, rev),
+            find(&self.disk, &Name::Props(rev)),
+        ) {
+            (
+                Some(Contents::RevFile(tree, changes, bytes)),
+                Some(Contents::PropsFile(properties)),
+            ) => Ok(Some(Recorded {
+                revision: Revision {
+                    tree: tree.clone()?,
+                    changes: changes.clone()?,
+                    properties: properties.clone()?,
+                },
+                bytes: bytes.copy(self.alloc)?,
+            })),
+            _ => Ok(None),
+        }
+    }
+
+    // So many revisions, as the files show them.
+    #[tactic(auto, using(crate::proofs::Reading::read_more, crate::proofs::Reading::read_none))]
+    fn read_back(&self, floor: u64, count: u64) -> Result<Option<Line>, AllocError>
+        ensures { IfOk result (λ o. o ≡ read_back floor self.now.disk.items count) }
+    {
+        let mut line = Line::new(self.alloc);
+        for rev in 0..count {
+            match self.revision_at(floor, rev)? {
+                Some(recorded) => {
+                    let (revision, bytes) = recorded.parts();
+                    line.push(revision, bytes)?;
+                }
+                None => return Ok(None),
+            }
+        }
+        Ok(Some(line))
+    }
+
+    pub(crate) fn open(&mut self, went: Went) -> Result<Outcome, AllocError>
+        ensures { IfOk result (λ o. did (world_of self.new) o ≡ (if is_up self.old.lock then barred (world_of self.old) else open_at (world_of self.old) went)) }
+    {
+        if is_lock_up(&self.lock) {
+            return Ok(Outcome::Barred);
+        }
+        if !is_fine(&went) {
+            return self.fail_to_open(went);
+        }
+        match (
+            find_number(&self.disk, &Name::Current),
+            find_number(&self.disk, &Name::Floor),
+        ) {
+            (Some(last), Some(floor)) => {
+                if last < u64::MAX {
+                    self.open_at(last, last + 1, floor)
+                } else {
+                    Ok(Outcome::Missing)
+                }
+            }
+            _ => Ok(Outcome::Missing),
+        }
+    }
+
+    fn fail_to_open(&mut self, went: Went) -> Result<Outcome, AllocError>
+        ensures { IfOk result (λ o. did (world_of self.new) o ≡ did (record (world_of self.old) { disk = disk_after went Change.Firm self.old.disk.items }) Outcome.Failed) }
+    {
+        if let Some(change) = change_made(went, Change::Firm) {
+            self.disk.push_front(change)?;
+        }
+        Ok(Outcome::Failed)
+    }
+
+    fn open_at(&mut self, last: u64, count: u64, floor: u64) -> Result<Outcome, AllocError>
+        requires { count ≡ last + 1 }
+        ensures { IfOk result (λ o. did (world_of self.new) o ≡ opened (world_of self.old) last floor (read_back floor self.old.disk.items (last + 1))) }
+    {
+        match self.read_back(floor, count)? {
+            Some(line) => {
+                self.disk.push_front(Change::Firm)?;
+                self.lock = Lock::Free;
+                self.young = last;
+                self.line = line;
+                self.floor = floor;
+                self.txns.clear();
+                self.passes.clear();
+                self.passes.push(Pass::first(self.alloc, count, floor))?;
+                Ok(Outcome::Done)
+            }
+            None => Ok(Outcome::Missing),
+        }
+    }
+}

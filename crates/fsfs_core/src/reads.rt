@@ -1,0 +1,118 @@
+//! Reads, and steps of passes alone.
+ghost use Rattle.std.specs.Prelude.{◌≡◌, ◌==◌, ◌&&◌, not, slice_get, IfOk, if◌then◌else◌};
+ghost use Rattle.fsfs_core.specs.Disk.{found, shown};
+ghost use Rattle.fsfs_core.specs.Machine.{did, barred, is_there, either, range_of, floor_of, has_read, floor_read, split_off, join_with, number_of};
+ghost use Rattle.fsfs_core.specs.State.{world_of};
+
+use crate::contents::{Contents, Name};
+use crate::files::{find_number, find_rev, is_fine};
+use crate::machine::{Outcome, Place, Went};
+use crate::passes::{join_to, learn, read_floor_by};
+use crate::state::State;
+use std::alloc::AllocError;
+
+fn floor_answer(found: Option<u64>, went: &Went) -> Outcome
+    ensures { result ≡ either went.now (floor_of found) Outcome.Failed }
+{
+    if !is_fine(went) {
+        return Outcome::Failed;
+    }
+    match found {
+        Some(number) => Outcome::Floor(number),
+        None => Outcome::Missing,
+    }
+}
+
+impl State {
+    fn range(&self, floor: u64, rev: u64, offset: u64, length: u64) -> Result<Outcome, AllocError>
+        ensures { IfOk result (λ o. o ≡ range_of offset length (shown floor self.now.disk.items rev)) }
+    {
+        match find_rev(&self.disk, floor, rev) {
+            Some(Contents::RevFile(_, _, bytes)) => {
+                Ok(Outcome::Bytes(bytes.range(self.alloc, offset, length)?))
+            }
+            Some(Contents::PropsFile(_) | Contents::Number(_) | Contents::Junk) | None => {
+                Ok(Outcome::Missing)
+            }
+        }
+    }
+
+    fn range_answer(
+        &self,
+        floor: u64,
+        rev: u64,
+        offset: u64,
+        length: u64,
+        went: &Went,
+    ) -> Result<Outcome, AllocError>
+        ensures { IfOk result (λ o. o ≡ either went.now (range_of offset length (shown floor self.now.disk.items rev)) Outcome.Failed) }
+    {
+        if is_fine(went) {
+            self.range(floor, rev, offset, length)
+        } else {
+            Ok(Outcome::Failed)
+        }
+    }
+
+    // Reads what the pass knows of.
+    pub(crate) fn read(
+        &mut self,
+        p: u64,
+        rev: u64,
+        offset: u64,
+        length: u64,
+        went: Went,
+    ) -> Result<Outcome, AllocError>
+        ensures { IfOk result (λ o. did (world_of self.new) o ≡ has_read (world_of self.old) p rev offset length went (slice_get self.old.passes.items p)) }
+    {
+        let at = p as usize;
+        if at >= self.passes.len() {
+            return Ok(Outcome::Barred);
+        }
+        let pass = &self.passes[at];
+        if !pass.knows(rev) {
+            return Ok(Outcome::Barred);
+        }
+        let answer = self.range_answer(pass.floor, rev, offset, length, &went)?;
+        let seen = self.count();
+        learn(&mut self.passes, p, seen, Place::Read, &went)?;
+        Ok(answer)
+    }
+
+    pub(crate) fn read_floor(&mut self, p: u64, went: Went) -> Result<Outcome, AllocError>
+        ensures { IfOk result (λ o. did (world_of self.new) o ≡ floor_read (world_of self.old) p went (slice_get self.old.passes.items p)) }
+    {
+        if !self.is_there(p) {
+            return Ok(Outcome::Barred);
+        }
+        let found = find_number(&self.disk, &Name::Floor);
+        let seen = self.count();
+        read_floor_by(&mut self.passes, p, seen, found, &went)?;
+        Ok(floor_answer(found, &went))
+    }
+
+    pub(crate) fn split(&mut self, p: u64) -> Result<Outcome, AllocError>
+        ensures { IfOk result (λ o. did (world_of self.new) o ≡ split_off (world_of self.old) (slice_get self.old.passes.items p)) }
+    {
+        let at = p as usize;
+        if at >= self.passes.len() {
+            return Ok(Outcome::Barred);
+        }
+        let new = self.passes[at].split(self.alloc);
+        self.passes.push(new)?;
+        Ok(Outcome::Done)
+    }
+
+    pub(crate) fn join(&mut self, p: u64, q: u64) -> Result<Outcome, AllocError>
+        ensures { IfOk result (λ o. did (world_of self.new) o
+            ≡ (if is_there (world_of self.old) p && not (p == q) then join_with (world_of self.old) p (slice_get self.old.passes.items q) else barred (world_of self.old))) }
+    {
+        let at = q as usize;
+        if !self.is_there(p) || p == q || at >= self.passes.len() {
+            return Ok(Outcome::Barred);
+        }
+        let other = self.passes[at].view(self.alloc)?;
+        join_to(&mut self.passes, p, &other)?;
+        Ok(Outcome::Done)
+    }
+}

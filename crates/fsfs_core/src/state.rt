@@ -1,0 +1,209 @@
+//! The machine as data, and its steps.
+ghost use Rattle.std.specs.Prelude.{◌≡◌, ◌∷◌, ◌++◌, [], length, OnOk, IfOk, None};
+ghost use Rattle.std.specs.FinMap as finmap;
+ghost use Rattle.fsfs_base.specs.Nodes.{empty_node};
+ghost use Rattle.fsfs_core.specs.Machine.{Happens, Runs, did, created, stuck_place, revisions, is_there};
+ghost use Rattle.fsfs_core.specs.Kept.{Kept, Keeps, RunKeeps};
+ghost use Rattle.fsfs_core.specs.State.{world_of};
+
+use crate::contents::{Bytes, Change, Contents, Name};
+use crate::line::Line;
+use crate::machine::{Lock, Outcome, Pass, Place, Step, Txn};
+use fsfs_base::{ChangeMap, FsPath, History, Kind, Node, Pairs, Revision, Text, Tree};
+use std::alloc::{AllocError, Global};
+use std::collections::VecDeque;
+
+/// The machine's state.
+#[derive(Drop)]
+pub struct State {
+    pub(crate) alloc: Global,
+    // The newest change first.
+    pub(crate) disk: VecDeque<Change>,
+    pub(crate) lock: Lock,
+    pub(crate) young: u64,
+    pub(crate) line: Line,
+    pub(crate) floor: u64,
+    // The newest name first.
+    pub(crate) given: VecDeque<u64>,
+    pub(crate) txns: Vec<Txn>,
+    pub(crate) passes: Vec<Pass>,
+}
+
+// The tree of revision 0: `/` alone.
+fn first_tree(alloc: Global) -> Result<Tree, AllocError>
+    ensures { IfOk result (λ tree. tree ≡ finmap.insert finmap.empty [] (empty_node Kind.Dir)) }
+{
+    let mut tree = Tree::new(alloc);
+    let root = Node {
+        kind: Kind::Dir,
+        text: Text::Bytes(Vec::new(alloc)),
+        properties: Pairs::new(alloc),
+        source: None,
+        added: 0,
+        props_changed: 0,
+        last_changed: 0,
+    };
+    tree.insert(FsPath::root(alloc), root)?;
+    Ok(tree)
+}
+
+// The files of a repository of revision 0, all of them firm.
+fn first_files(
+    alloc: Global,
+    properties: &Pairs,
+    bytes: &Bytes,
+) -> Result<VecDeque<Change>, AllocError>
+    ensures { IfOk result (λ disk. disk.items ≡ (created properties.now bytes.now).disk) }
+{
+    let file = Contents::RevFile(
+        first_tree(alloc)?,
+        ChangeMap::new(alloc),
+        bytes.copy(alloc)?,
+    );
+    let mut disk = VecDeque::new(alloc);
+    disk.push_front(Change::Put(Name::Floor, Contents::Number(0)))?;
+    disk.push_front(Change::Put(Name::Counter, Contents::Number(0)))?;
+    disk.push_front(Change::Put(Name::Props(0), Contents::PropsFile(properties.clone()?)))?;
+    disk.push_front(Change::Put(Name::Rev(0), file))?;
+    disk.push_front(Change::Put(Name::Current, Contents::Number(0)))?;
+    disk.push_front(Change::Firm)?;
+    Ok(disk)
+}
+
+impl State {
+    /// A repository of revision 0, open, all of it firm; revision 0 has these properties, and its file these bytes.
+    pub fn create(alloc: Global, properties: Pairs, bytes: Bytes) -> Result<State, AllocError>
+        ensures world { IfOk result (λ s. world_of s ≡ created properties bytes) }
+        ensures kept { IfOk result (λ s. Kept (world_of s)) }
+    {
+        State::first(alloc, properties, bytes)
+    }
+
+    fn first(alloc: Global, properties: Pairs, bytes: Bytes) -> Result<State, AllocError>
+        ensures { IfOk result (λ s. world_of s ≡ created properties bytes) }
+    {
+        let disk = first_files(alloc, &properties, &bytes)?;
+        let mut line = Line::new(alloc);
+        let revision = Revision {
+            tree: first_tree(alloc)?,
+            changes: ChangeMap::new(alloc),
+            properties,
+        };
+        line.push(revision, bytes)?;
+        let mut passes = Vec::new(alloc);
+        passes.push(Pass::first(alloc, 1, 0))?;
+        Ok(State {
+            alloc,
+            disk,
+            lock: Lock::Free,
+            young: 0,
+            line,
+            floor: 0,
+            given: VecDeque::new(alloc),
+            txns: Vec::new(alloc),
+            passes,
+        })
+    }
+
+    /// The number of the youngest revision.
+    pub fn young(&self) -> u64
+        ensures { result ≡ (world_of self.now).young }
+    {
+        self.young
+    }
+
+    /// Where the lock is stuck.
+    pub fn stuck(&self) -> Option<Place>
+        ensures { result ≡ stuck_place (world_of self.now).lock }
+    {
+        match &self.lock {
+            Lock::Stuck(place, _) => Some(*place),
+            Lock::Free | Lock::Held(_, _) | Lock::Down | Lock::DownDoubtful(_) => None,
+        }
+    }
+
+    /// The history, without the bytes beside it.
+    pub fn history(&self) -> &History
+        ensures { result.now ≡ revisions (world_of self.now).history }
+    {
+        self.line.revisions()
+    }
+
+    // How many revisions there are.
+    pub(crate) fn count(&self) -> u64
+        ensures { result ≡ length self.now.line }
+    {
+        self.line.count() as u64
+    }
+
+    // Whether there is such a pass.
+    pub(crate) fn is_there(&self, p: u64) -> bool
+        ensures { result ≡ is_there (world_of self.now) p }
+    {
+        (p as usize) < self.passes.len()
+    }
+
+    fn take_step(&mut self, s: Step) -> Result<Outcome, AllocError>
+        ensures { IfOk result (λ o. Happens (world_of self.old) s (did (world_of self.new) o)) }
+    {
+        match s {
+            Step::TakeLock { pass } => Ok(self.take_lock(pass)),
+            Step::GiveLock { pass } => Ok(self.give_lock(pass)),
+            Step::StickLock { pass } => Ok(self.stick_lock(pass)),
+            Step::Draw { pass, base, went } => self.draw(pass, base, went),
+            Step::AdoptRev {
+                pass,
+                txn,
+                properties,
+                bytes,
+                went,
+            } => self.adopt_rev(pass, txn, properties, bytes, went),
+            Step::Call { pass, place, went } => self.call(pass, place, went),
+            Step::Reveal { pass } => self.reveal(pass),
+            Step::Look { pass } => Ok(self.look(pass)),
+            Step::Read {
+                pass,
+                rev,
+                offset,
+                length,
+                went,
+            } => self.read(pass, rev, offset, length, went),
+            Step::ReadFloor { pass, went } => self.read_floor(pass, went),
+            Step::Split { pass } => self.split(pass),
+            Step::Join { pass, other } => self.join(pass, other),
+            Step::Edit { txn, edit } => self.edit(txn, edit),
+            Step::Merge { txn, head } => self.merge(txn, head),
+            Step::Close => Ok(self.close()),
+            Step::Crash { picks } => self.crash(picks),
+            Step::Open { went } => self.open(went),
+        }
+    }
+
+    /// One step, and what it read or answered: a step that isn't allowed changes nothing and answers `Barred`. On
+    /// want of memory nothing is said of the state.
+    pub fn step(&mut self, s: Step) -> Result<Outcome, AllocError>
+        ensures happens { IfOk result (λ o. Happens (world_of self.old) s (did (world_of self.new) o)) }
+        ensures kept { IfOk result (λ o. Kept (world_of self.old) → Keeps (world_of self.old) s (did (world_of self.new) o)) }
+    {
+        self.take_step(s)
+    }
+
+    fn run_all(&mut self, mut steps: VecDeque<Step>) -> Result<Vec<Outcome>, AllocError>
+        ensures { IfOk result (λ os. Runs (world_of self.old) steps.items os.items (world_of self.new)) }
+    {
+        let mut outcomes = Vec::new(self.alloc);
+        while let Some(step) = steps.pop_front() {
+            let outcome = self.take_step(step)?;
+            outcomes.push(outcome)?;
+        }
+        Ok(outcomes)
+    }
+
+    /// Step after step, with the outcome of each.
+    pub fn run(&mut self, steps: VecDeque<Step>) -> Result<Vec<Outcome>, AllocError>
+        ensures runs { IfOk result (λ os. Runs (world_of self.old) steps.items os.items (world_of self.new)) }
+        ensures kept { IfOk result (λ os. Kept (world_of self.old) → RunKeeps (world_of self.old) (world_of self.new)) }
+    {
+        self.run_all(steps)
+    }
+}

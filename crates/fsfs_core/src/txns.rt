@@ -1,0 +1,161 @@
+//! Transactions: their trees and marks, and what committing them adds.
+ghost use Rattle.std.specs.Prelude.{◌≡◌, ◌+◌, ◌<◌, ◌≤◌, ◌++◌, ◌∷◌, [], length, slice_get, List, ℕ, OnOk, OnErr, IfOk, IfSome, MatchOption, MatchResult, Some, None, IsTrue, ◌↔◌};
+ghost use Rattle.std.specs.FinMap as finmap;
+ghost use Rattle.fsfs_base.specs.Paths.{Path};
+ghost use Rattle.fsfs_base.specs.Landing.{land, NoClash, IsFirstClash};
+ghost use Rattle.fsfs_base.specs.Revisions.{Revision as Stands, tree_of};
+ghost use Rattle.fsfs_base.specs.Transactions.{IsDated, IsNext, last_of};
+ghost use Rattle.fsfs_core.specs.Machine.{at_place, edited, merged, tree_in, entry_of};
+
+use crate::machine::{Marks, Txn};
+use fsfs_base::{FsPath, History, Mark, Pairs, Revision, Tree, read_date};
+use fsfs_model::{flat_clash, flat_fold, flat_land};
+use std::alloc::{AllocError, Global};
+
+impl Marks {
+    pub fn new(alloc: Global) -> Marks
+        ensures { result ≡ [] }
+    {
+        Marks {
+            marks: Vec::new(alloc),
+        }
+    }
+
+    pub fn as_slice(&self) -> &[Mark]
+        ensures { result.now ≡ self.now }
+    {
+        &self.marks
+    }
+
+    pub fn push(&mut self, mark: Mark) -> Result<(), AllocError>
+        ensures { OnOk result (self.new ≡ self.old ++ mark ∷ []) }
+    {
+        self.marks.push(mark)?;
+        Ok(())
+    }
+}
+
+/// The tree of a revision that there is.
+pub fn tree_at(history: &History, rev: u32) -> Option<&Tree>
+    ensures { MatchOption result (length history.now ≤ rev) (λ tree. (rev < length history.now) × (finmap.get tree.now ≡ tree_of history.now rev)) }
+{
+    match history.get(rev) {
+        Some(revision) => Some(&revision.tree),
+        None => None,
+    }
+}
+
+/// A copy of the tree of a revision, empty where there is none.
+pub fn base_tree(alloc: Global, history: &History, rev: u32) -> Result<Tree, AllocError>
+    ensures { IfOk result (λ tree. tree ≡ tree_in (slice_get history.now rev)) }
+{
+    match history.get(rev) {
+        Some(revision) => Ok(revision.tree.clone()?),
+        None => Ok(Tree::new(alloc)),
+    }
+}
+
+/// The transaction with an edit more.
+#[tactic(auto, using(crate::proofs::OnePlace::set_at_place, crate::proofs::OnePlace::no_place))]
+pub fn set_edited(txns: &mut Vec<Txn>, t: u64, tree: Tree, mark: Mark) -> Result<(), AllocError>
+    ensures { OnOk result (txns.new.items ≡ at_place txns.old.items t (edited tree mark)) }
+{
+    let at = t as usize;
+    if at < txns.len() {
+        let txn = &mut txns[at];
+        txn.tree = tree;
+        txn.marks.push(mark)?;
+    }
+    Ok(())
+}
+
+/// The transaction on its new base.
+#[tactic(auto, using(crate::proofs::OnePlace::set_at_place, crate::proofs::OnePlace::no_place))]
+pub fn set_merged(txns: &mut Vec<Txn>, t: u64, tree: Tree, head: u32)
+    ensures { txns.new.items ≡ at_place txns.old.items t (merged tree head) }
+{
+    let at = t as usize;
+    if at < txns.len() {
+        let txn = &mut txns[at];
+        txn.base = head;
+        txn.tree = tree;
+        txn.landings = txn.landings.saturating_add(1);
+    }
+}
+
+// Whether a date among the properties has the stored form.
+#[tactic(auto, using(crate::proofs::Calling::dated_by))]
+fn is_dated(properties: &Pairs) -> bool
+    ensures { IsTrue result ↔ IsDated properties.now }
+{
+    match properties.get(b"svn:date") {
+        None => true,
+        Some(value) => read_date(value).is_some(),
+    }
+}
+
+/// The transaction's tree landed on a later head as revision `n`, or the path where the two clash first.
+pub fn land_on(
+    alloc: Global,
+    txn: &Txn,
+    base: &Tree,
+    head: &Tree,
+    n: u32,
+) -> Result<Result<Tree, FsPath>, AllocError>
+    ensures { IfOk result (λ landed. MatchResult landed
+        (λ tree. NoClash txn.now.base (finmap.get base.now) (finmap.get head.now) (finmap.get txn.now.tree) txn.now.marks
+        × ((q : Path) → finmap.get tree q ≡ land (finmap.get base.now) (finmap.get head.now) (finmap.get txn.now.tree) txn.now.marks n q))
+        (λ path. IsFirstClash txn.now.base (finmap.get base.now) (finmap.get head.now) (finmap.get txn.now.tree) txn.now.marks path)) }
+{
+    let marks = txn.marks.as_slice();
+    match flat_clash(alloc, txn.base, base, head, &txn.tree, marks)? {
+        Some(path) => Ok(Err(path)),
+        None => Ok(Ok(flat_land(alloc, base, head, &txn.tree, marks, n)?)),
+    }
+}
+
+// The same on the last of the revisions, as the one that follows.
+fn next_tree(alloc: Global, history: &History, txn: &Txn) -> Result<Option<Tree>, AllocError>
+    ensures { IfOk result (λ o. MatchOption o
+        ((p : ℕ) (properties : List (List ℕ × List ℕ)) (next : Stands) → IsNext history.now (entry_of p txn.now properties) next → ⊥)
+        (λ tree. (txn.now.base < length history.now) × (length history.now ≤ 2147483647)
+        × NoClash txn.now.base (tree_of history.now txn.now.base) (tree_of history.now (last_of history.now)) (finmap.get txn.now.tree) txn.now.marks
+        × ((q : Path) → finmap.get tree q ≡ land (tree_of history.now txn.now.base) (tree_of history.now (last_of history.now)) (finmap.get txn.now.tree) txn.now.marks (length history.now) q))) }
+{
+    let count = history.count();
+    if count > 2147483647 {
+        return Ok(None);
+    }
+    let last = count.saturating_sub(1) as u32;
+    match (tree_at(history, txn.base), tree_at(history, last)) {
+        (Some(base), Some(head)) => match land_on(alloc, txn, base, head, count as u32)? {
+            Ok(tree) => Ok(Some(tree)),
+            Err(_) => Ok(None),
+        },
+        _ => Ok(None),
+    }
+}
+
+/// The revision that committing the transaction with these properties adds, where it can be added.
+pub fn next_of(
+    alloc: Global,
+    history: &History,
+    txn: &Txn,
+    properties: &Pairs,
+) -> Result<Option<Revision>, AllocError>
+    ensures { (p : ℕ) → IfOk result (λ o. MatchOption o
+        ((next : Stands) → IsDated properties.now → IsNext history.now (entry_of p txn.now properties.now) next → ⊥)
+        (λ next. IsDated properties.now × IsNext history.now (entry_of p txn.now properties.now) next)) }
+{
+    if !is_dated(properties) {
+        return Ok(None);
+    }
+    match next_tree(alloc, history, txn)? {
+        None => Ok(None),
+        Some(tree) => Ok(Some(Revision {
+            tree,
+            changes: flat_fold(alloc, txn.marks.as_slice())?,
+            properties: properties.clone()?,
+        })),
+    }
+}
