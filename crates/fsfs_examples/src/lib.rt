@@ -6,10 +6,6 @@ mod commands;
 #[cfg(test)]
 mod create;
 #[cfg(test)]
-mod format_changes;
-#[cfg(test)]
-mod formats;
-#[cfg(test)]
 mod look;
 #[cfg(test)]
 mod tree;

@@ -10,7 +10,13 @@ use fsfs_noderev::{Field, NodeError, NodeFault, Which, read_noderev};
 use std::alloc::{AllocError, Global};
 use std::test::Fail;
 
-fn changed(alloc: Global, text: &[u8], at: usize, byte: u8) -> Result<Vec<u8>, AllocError> {
+// The text with this byte in place of the one that stands there.
+pub(crate) fn changed(
+    alloc: Global,
+    text: &[u8],
+    at: usize,
+    byte: u8,
+) -> Result<Vec<u8>, AllocError> {
     let mut bytes = Vec::from_slice(alloc, text)?;
     if let Some(old) = bytes.get_mut(at) {
         *old = byte;

@@ -28,7 +28,7 @@ pub(crate) const EMPTY_FILE: &[u8] =
     b"PLAIN\nENDREP\nid: 0-1.0.r1/13\ntype: file\ncount: 0\ntext: 1 0 0 0 d41d8cd98f00b204e9800998ecf8427e da39a3ee5e6b4b0d3255bfef95601890afd80709 0-0/_1\ncpath: /e\ncopyroot: 0 /\n\nPLAIN\nK 1\ne\nV 16\nfile 0-1.0.r1/13\nEND\nENDREP\nid: 0.0.r1/214\ntype: dir\npred: 0.0.r0/17\ncount: 1\ntext: 1 169 32 32 50cd94674e2eddee340070119638b793\ncpath: /\ncopyroot: 0 /\n\n0-1.0.r1/13 add-file true false /e\n\n\n214 339\n";
 
 // A commit without edits, 126 bytes: the root at 0.
-const EMPTY_COMMIT: &[u8] =
+pub(crate) const EMPTY_COMMIT: &[u8] =
     b"id: 0.0.r1/0\ntype: dir\npred: 0.0.r0/17\ncount: 1\ntext: 0 0 4 4 2d2977d1c96f487abe4a1e202dd03b4e\ncpath: /\ncopyroot: 0 /\n\n\n0 119\n";
 
 // The node-revision that begins here, if it is written to just the bytes up to `to`.
@@ -73,7 +73,7 @@ fn root_id(rev: u32, offset: u64) -> NodeId {
 }
 
 // The id of the first node of revision 1.
-fn made_id(offset: u64) -> NodeId {
+pub(crate) fn made_id(offset: u64) -> NodeId {
     NodeId {
         node: Part::Made(B36 { number: 0 }, 1),
         copy: ZERO,
@@ -249,8 +249,7 @@ fn small_files(rt: HostRuntime) -> Result<(), Fail> {
 
 // Cut anywhere, a dump and a node-revision end too early.
 #[test]
-fn cut_at_every_length(rt: HostRuntime) -> Result<(), Fail> {
-    let alloc = rt.alloc();
+fn dumps_cut_at_every_length(rt: HostRuntime) {
     let dumps: [&[u8]; 4] = [
         b"END\n",
         REVISION_0_PROPS,
@@ -260,18 +259,40 @@ fn cut_at_every_length(rt: HostRuntime) -> Result<(), Fail> {
     for dump in dumps {
         for end in 0..dump.len() {
             let early = HashError::Fault(HashFault { at: end });
-            assert_eq!(rt; read_hash(alloc, &dump[..end]).err(), Some(early));
+            assert_eq!(rt; read_hash(rt.alloc(), &dump[..end]).err(), Some(early));
         }
     }
-    let file = EMPTY_FILE.get(13..169).ok_or("the file")?;
-    for end in 0..file.len() {
-        let early = NodeError::Fault(NodeFault {
-            at: end,
-            which: Which::NoEnd,
-        });
-        assert_eq!(rt; read_noderev(alloc, &file[..end]).err(), Some(early));
+}
+
+// A revision, and where a node-revision of it begins and ends.
+const NODE_REVISIONS: [(&[u8], usize, usize); 6] = [
+    (REVISION_0, 17, 107),
+    (FIRST_DIRECTORY, 0, 59),
+    (FIRST_DIRECTORY, 102, 226),
+    (EMPTY_FILE, 13, 169),
+    (EMPTY_FILE, 214, 339),
+    (EMPTY_COMMIT, 0, 119),
+];
+
+#[test]
+fn node_revisions_cut_at_every_length(rt: HostRuntime) -> Result<(), Fail> {
+    for (revision, begins, ends) in NODE_REVISIONS {
+        let node = revision.get(begins..ends).ok_or("a node-revision")?;
+        for end in 0..node.len() {
+            let early = NodeError::Fault(NodeFault {
+                at: end,
+                which: Which::NoEnd,
+            });
+            assert_eq!(rt; read_noderev(rt.alloc(), &node[..end]).err(), Some(early));
+        }
     }
-    let text = file.get(42..130).ok_or("the representation")?;
+    Ok(())
+}
+
+// The name of the empty text's representation is cut to another one only in front of its SHA-1.
+#[test]
+fn a_name_cut_at_every_length(rt: HostRuntime) -> Result<(), Fail> {
+    let text = EMPTY_FILE.get(55..143).ok_or("the representation")?;
     assert!(rt; read_rep(text).is_some());
     for end in 0..text.len() {
         assert_eq!(rt; read_rep(&text[..end]).is_some(), end == 40);
