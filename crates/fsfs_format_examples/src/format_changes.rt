@@ -94,6 +94,35 @@ fn in_small_files(rt: HostRuntime) -> Result<(), Fail> {
     Ok(())
 }
 
+// Where the file is refused that is cut here: at its length. The first line of a format is a format.
+fn cut_small(file: SmallFile, end: usize) -> Option<SmallFault> {
+    if file == SmallFile::Format && end == 2 {
+        None
+    } else {
+        Some(SmallFault { file, at: end })
+    }
+}
+
+#[test]
+fn small_files_cut_at_every_length(rt: HostRuntime) {
+    let files = [
+        SmallFile::Format,
+        SmallFile::Uuid,
+        SmallFile::Current,
+        SmallFile::MinUnpackedRev,
+        SmallFile::TxnCurrent,
+        SmallFile::NextIds,
+        SmallFile::Manifest(0),
+    ];
+    for file in files {
+        let text = small_text(file);
+        for end in 0..text.len() {
+            let found = small_fault(rt.alloc(), file, &text[..end]);
+            assert_eq!(rt; found, cut_small(file, end));
+        }
+    }
+}
+
 // The byte of the root's entries that is changed, what it becomes, and where the dump is refused.
 const DUMP: [(usize, u8, usize); 19] = [
     (0, b'k', 0),
