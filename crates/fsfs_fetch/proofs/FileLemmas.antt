@@ -1,0 +1,172 @@
+-- Reads of single files.
+use Rattle.std.proofs.Common.{◌≡◌, ◌≤◌, ◌<◌, ℕ, ◌+◌, ◌-◌, List, [], ◌++◌, length, take, drop, min, refl, sym, ap, subst, ◌∙◌, inl, inr, arith, cond, nat_lt, false, true}
+use Rattle.std.specs.Prelude.{Option, Some, None, Result, Ok, Err, IfSome, IfOk, IfErr, unwrap_or, ◌⊎◌, option_map}
+use Rattle.std.proofs.lemmas.Grind.{common_steps}
+use Rattle.std.proofs.lemmas.Bool.Decides.{nat_tests}
+use Rattle.std.proofs.Math.Seq.{take-add}
+use Rattle.std.proofs.lemmas.List.{length-take, length-drop, take-append-le, take_all, length-append}
+use Rattle.std.specs.FinMap as map
+use Rattle.fsfs_base.specs.Files.{Files}
+use Rattle.fsfs_disk.specs.Trace.{IsRead, IsSize}
+use Rattle.fsfs_book.specs.declared.book.BookFault.{BookFault}
+use Rattle.fsfs_book.specs.declared.book.BookFault.TheVariants.{Refused, Short, DiskFault, OutOfMemory}
+use Rattle.fsfs_fetch.specs.Views.{View, Later}
+use Rattle.fsfs_fetch.specs.Answers.{Stays, MayGo, IsFrontOf, FromFile, size_of_file, part_of_file}
+use Rattle.fsfs_fetch.proofs.ViewLemmas.{next, told_at, stays_later, stays_now, goes_later, goes_now, later_same}
+
+some_count : (n m : ℕ) → ◌≡◌ {A = Option ℕ} (Some n) (Some m) → n ≡ m
+some_count n m e = cc
+
+-- the bytes that one read puts in front of the buffer
+pub read_bytes : (bytes old : List ℕ) (offset n : ℕ) → n ≤ length bytes - offset → take n (take n (drop offset bytes) ++ drop n old) ≡ take n (drop offset bytes)
+read_bytes bytes old offset n le =
+    take-append-le n (take n (drop offset bytes)) (drop n old) (omega (arith, length-take n (drop offset bytes), length-drop offset bytes, le))
+    ∙ take_all n (take n (drop offset bytes)) (omega (arith, length-take n (drop offset bytes)))
+
+front_of : (bytes items old new : List ℕ) (offset count n : ℕ) → items ≡ take (length items) bytes → offset ≡ length items → n ≡ min (length old) (length bytes - offset) → new ≡ take n (drop offset bytes) ++ drop n old → n ≡ count
+    → items ++ take count new ≡ take (length (items ++ take count new)) bytes
+front_of bytes items old new offset count n front at is read same =
+    let le : n ≤ length bytes - offset = omega (arith, is) in
+    let got : take count new ≡ take n (drop offset bytes) = ap (λ k. take k new) (sym same) ∙ ap (take n) read ∙ read_bytes bytes old offset n le in
+    let here : items ≡ take offset bytes = front ∙ ap (λ k. take k bytes) (sym at) in
+    let whole : items ++ take count new ≡ take (offset + n) bytes = ap (λ xs. xs ++ take count new) here ∙ ap (λ xs. take offset bytes ++ xs) got ∙ sym (take-add offset n bytes) in
+    let count_is : length (items ++ take count new) ≡ offset + n =
+    length-append items (take count new) ∙ omega (arith, at, ap length got, length-take n (drop offset bytes), length-drop offset bytes, le) in
+    whole ∙ ap (λ k. take k bytes) (sym count_is)
+
+front_more : (file : Option (List ℕ)) (items old new : List ℕ) (offset count : ℕ) (found : Option ℕ) → IsFrontOf items file → offset ≡ length items → IsRead file offset old new found → found ≡ Some count
+    → IsFrontOf (items ++ take count new) file
+front_more None items old new offset count found front at read is = let h : None ≡ Some count = sym read.0 ∙ is in cc
+front_more (Some bytes) items old new offset count found front at read is =
+    front_of bytes items old new offset count (min (length old) (length bytes - offset)) front at refl read.1 (some_count (min (length old) (length bytes - offset)) count (sym read.0 ∙ is))
+
+-- what one call reads of a file that stays
+pub read_stays : (v w : View) (name : List ℕ) (file : Option (List ℕ)) (P : Option (List ℕ) → Type 0) → Later v w → Stays v name file → IfSome w.files (λ m. P (map.get m name)) → P file
+read_stays v w name file P e s h =
+    let t = stays_later v w name file e s in
+    let Q : Files → Type 0 = λ m. P (map.get m name) in
+    subst P (stays_now w name file t) (told_at w.files t.now Q t.told h)
+
+pub more_of : (v w : View) (name items old new : List ℕ) (offset count : ℕ) (found : Option ℕ) (file : Option (List ℕ)) → Later v w → Stays v name file → IfSome w.files (λ m. IsRead (map.get m name) offset old new found)
+    → IsFrontOf items file → offset ≡ length items → found ≡ Some count → IsFrontOf (items ++ take count new) file
+more_of v w name items old new offset count found file e s read front at is =
+    let P : Option (List ℕ) → Type 0 = λ f. IsRead f offset old new found in
+    front_more file items old new offset count found front at (read_stays v w name file P e s read) is
+
+-- a read of nothing into some room, behind all that there is
+no_more : (bytes items : List ℕ) (offset room n : ℕ) → 0 < room → items ≡ take (length items) bytes → offset ≡ length items → n ≡ min room (length bytes - offset) → n ≡ 0 → items ≡ bytes
+no_more bytes items offset room n some front at is none =
+    let all : length bytes ≤ length items = omega (arith, some, at, is, none) in
+    front ∙ take_all (length items) bytes all
+
+whole_file : (file : Option (List ℕ)) (items old new : List ℕ) (offset : ℕ) (found : Option ℕ) → 0 < length old → IsFrontOf items file → offset ≡ length items → IsRead file offset old new found → found ≡ Some 0 → items ≡ unwrap_or file []
+whole_file None items old new offset found some front at read is = front
+whole_file (Some bytes) items old new offset found some front at read is =
+    no_more bytes items offset (length old) (min (length old) (length bytes - offset)) some front at refl (some_count (min (length old) (length bytes - offset)) 0 (sym read.0 ∙ is))
+
+pub end_of : (v w : View) (name items old new : List ℕ) (offset : ℕ) (found : Option ℕ) (file : Option (List ℕ)) → Later v w → Stays v name file → IfSome w.files (λ m. IsRead (map.get m name) offset old new found)
+    → 0 < length old → IsFrontOf items file → offset ≡ length items → found ≡ Some 0 → items ≡ unwrap_or file []
+end_of v w name items old new offset found file e s read some front at is =
+    let P : Option (List ℕ) → Type 0 = λ f. IsRead f offset old new found in
+    whole_file file items old new offset found some front at (read_stays v w name file P e s read) is
+
+no_bytes : (file : Option (List ℕ)) (offset : ℕ) (old new : List ℕ) (found : Option ℕ) → IsRead file offset old new found → found ≡ None → [] ≡ unwrap_or file []
+no_bytes None offset old new found read is = refl
+no_bytes (Some bytes) offset old new found read is = let h : ◌≡◌ {A = Option ℕ} (Some (min (length old) (length bytes - offset))) None = sym read.0 ∙ is in cc
+
+pub none_of : (v w : View) (name old new : List ℕ) (offset : ℕ) (found : Option ℕ) (file : Option (List ℕ)) → Later v w → Stays v name file → IfSome w.files (λ m. IsRead (map.get m name) offset old new found) → found ≡ None → [] ≡ unwrap_or file []
+none_of v w name old new offset found file e s read is =
+    let P : Option (List ℕ) → Type 0 = λ f. IsRead f offset old new found in
+    no_bytes file offset old new found (read_stays v w name file P e s read) is
+
+-- ---- a file that may go
+
+-- the size of a file, or that it isn't there
+found_size : (file at : Option (List ℕ)) (new : Option Files) (name : List ℕ) (m : Files) (found : Option ℕ) → new ≡ Some m → map.get m name ≡ at → (at ≡ file) ⊎ (at ≡ None) → IsSize at found → FromFile {X = ℕ} {Y = ℕ} file new name (λ n. n) size_of_file (Ok found)
+found_size file None new name m None told here stands is = (m, told, here)
+found_size file None new name m (Some n) told here stands is = let h : ◌≡◌ {A = Option ℕ} (Some n) None = is in cc
+found_size file (Some bytes) new name m None told here stands is = let h : ◌≡◌ {A = Option ℕ} None (Some (length bytes)) = is in cc
+found_size file (Some bytes) new name m (Some n) told here (inl same) is = (bytes, sym same, ap (λ (k : ℕ). Ok k) (sym (some_count n (length bytes) is)))
+found_size file (Some bytes) new name m (Some n) told here (inr none) is = cc
+
+pub size_found : (v w : View) (name : List ℕ) (file : Option (List ℕ)) (size : Option ℕ) → Later v w → MayGo v name file → IfSome w.files (λ m. IsSize (map.get m name) size) → FromFile {X = ℕ} {Y = ℕ} file w.files name (λ n. n) size_of_file (Ok size)
+size_found v w name file size e s h =
+    let t = goes_later v w name file e s in
+    let Q : Files → Type 0 = λ m. IsSize (map.get m name) size in
+    found_size file (map.get t.now name) w.files name t.now size t.told refl (goes_now w name file t) (told_at w.files t.now Q t.told h)
+
+size_result : (file at : Option (List ℕ)) (new : Option Files) (name : List ℕ) (m : Files) (result : Result (Option ℕ) BookFault) → new ≡ Some m → map.get m name ≡ at → (at ≡ file) ⊎ (at ≡ None) → IfOk result (IsSize at) → IfErr result (λ e. e ≡ DiskFault)
+    → FromFile {X = ℕ} {Y = ℕ} file new name (λ n. n) size_of_file result
+size_result file at new name m (Err DiskFault) told here stands is failed = tt
+size_result file at new name m (Err OutOfMemory) told here stands is failed = tt
+size_result file at new name m (Err (Refused r)) told here stands is failed = cc
+size_result file at new name m (Err (Short r o)) told here stands is failed = cc
+size_result file at new name m (Ok found) told here stands is failed = found_size file at new name m found told here stands is
+
+pub size_of_result : (v w : View) (name : List ℕ) (file : Option (List ℕ)) (result : Result (Option ℕ) BookFault) → Later v w → MayGo v name file → IfSome w.files (λ m. IfOk result (IsSize (map.get m name))) → IfErr result (λ e. e ≡ DiskFault)
+    → FromFile {X = ℕ} {Y = ℕ} file w.files name (λ n. n) size_of_file result
+size_of_result v w name file result e s h failed =
+    let t = goes_later v w name file e s in
+    let Q : Files → Type 0 = λ m. IfOk result (IsSize (map.get m name)) in
+    size_result file (map.get t.now name) w.files name t.now result t.told refl (goes_now w name file t) (told_at w.files t.now Q t.told h) failed
+
+-- where the size of a file was found, the file stands and has that size
+sized : (file at : Option (List ℕ)) (size : ℕ) → (at ≡ file) ⊎ (at ≡ None) → IsSize at (Some size) → (bytes : List ℕ) × (file ≡ Some bytes) × (size ≡ length bytes)
+sized file None size stands is = let h : ◌≡◌ {A = Option ℕ} (Some size) None = is in cc
+sized file (Some bytes) size (inl same) is = (bytes, sym same, some_count size (length bytes) is)
+sized file (Some bytes) size (inr none) is = let h : ◌≡◌ {A = Option (List ℕ)} (Some bytes) None = none in cc
+
+pub has_size : (v w : View) (name : List ℕ) (file : Option (List ℕ)) (size : ℕ) → Later v w → MayGo v name file → IfSome w.files (λ m. IsSize (map.get m name) (Some size)) → (bytes : List ℕ) × (file ≡ Some bytes) × (size ≡ length bytes)
+has_size v w name file size e s h =
+    let t = goes_later v w name file e s in
+    let Q : Files → Type 0 = λ m. IsSize (map.get m name) (Some size) in
+    sized file (map.get t.now name) size (goes_now w name file t) (told_at w.files t.now Q t.told h)
+
+-- an offset past the end
+pub past_end : (v w : View) (name : List ℕ) (file : Option (List ℕ)) (rev offset count size : ℕ) → Later v w → MayGo v name file → IfSome w.files (λ m. IsSize (map.get m name) (Some size)) → size < offset
+    → (bytes : List ℕ) × (file ≡ Some bytes) × (part_of_file rev offset count bytes ≡ Err (Short rev offset))
+past_end v w name file rev offset count size e s h lt =
+    let p = has_size v w name file size e s h in
+    let past : nat_lt (length p.0) offset ≡ true = grind (arith, nat_tests) in
+    (p.0, p.1, rw past refl)
+
+take_lesser : (n m : ℕ) (xs : List ℕ) → length xs ≡ m → take (min n m) xs ≡ take n xs
+take_lesser n m xs is = grind (arith, common_steps, take_all)
+
+part_same : (bytes file old new : List ℕ) (rev offset n : ℕ) → file ≡ bytes → offset ≤ length bytes → IsRead (Some file) offset old new (Some n) → part_of_file rev offset (length old) bytes ≡ Ok (take n new)
+part_same bytes file old new rev offset n same le read =
+    let k : ℕ = min (length old) (length file - offset) in
+    let n_is : n ≡ k = some_count n k read.0 in
+    let not_past : nat_lt (length bytes) offset ≡ false = grind (arith, nat_tests) in
+    let got : take n new ≡ take k (drop offset file) = ap (λ j. take j new) n_is ∙ ap (take k) read.1 ∙ read_bytes file old offset k (omega arith) in
+    let cut : take k (drop offset file) ≡ take (length old) (drop offset file) = take_lesser (length old) (length file - offset) (drop offset file) (length-drop offset file) in
+    let whole : take (length old) (drop offset bytes) ≡ take n new = ap (λ xs. take (length old) (drop offset xs)) (sym same) ∙ sym cut ∙ sym got in
+    rw not_past (ap (λ (xs : List ℕ). Ok xs) whole)
+
+some_bytes : (a b : List ℕ) → ◌≡◌ {A = Option (List ℕ)} (Some a) (Some b) → a ≡ b
+some_bytes a b e = cc
+
+part_of_result : (file at : Option (List ℕ)) (whole : List ℕ) (new_files : Option Files) (name : List ℕ) (m : Files) (rev offset : ℕ) (old new : List ℕ) (result : Result (Option ℕ) BookFault)
+    → new_files ≡ Some m → map.get m name ≡ at → (at ≡ file) ⊎ (at ≡ None) → file ≡ Some whole → offset ≤ length whole → IfOk result (IsRead at offset old new) → IfErr result (λ e. e ≡ DiskFault)
+    → FromFile {X = ℕ} {Y = List ℕ} file new_files name (λ n. take n new) (part_of_file rev offset (length old)) result
+part_of_result file at whole new_files name m rev offset old new (Err DiskFault) told here stands is le read failed = tt
+part_of_result file at whole new_files name m rev offset old new (Err OutOfMemory) told here stands is le read failed = tt
+part_of_result file at whole new_files name m rev offset old new (Err (Refused r)) told here stands is le read failed = cc
+part_of_result file at whole new_files name m rev offset old new (Err (Short r o)) told here stands is le read failed = cc
+part_of_result file None whole new_files name m rev offset old new (Ok None) told here stands is le read failed = (m, told, here)
+part_of_result file (Some b) whole new_files name m rev offset old new (Ok None) told here stands is le read failed = let h : ◌≡◌ {A = Option ℕ} None (Some (min (length old) (length b - offset))) = read.0 in cc
+part_of_result file None whole new_files name m rev offset old new (Ok (Some n)) told here stands is le read failed = let h : ◌≡◌ {A = Option ℕ} (Some n) None = read.0 in cc
+part_of_result file (Some b) whole new_files name m rev offset old new (Ok (Some n)) told here (inl same) is le read failed =
+    let e : b ≡ whole = some_bytes b whole (same ∙ is) in
+    (whole, is, part_same whole b old new rev offset n e le read)
+part_of_result file (Some b) whole new_files name m rev offset old new (Ok (Some n)) told here (inr none) is le read failed = let h : ◌≡◌ {A = Option (List ℕ)} (Some b) None = none in cc
+
+pub part_found : (u v w : View) (name : List ℕ) (file : Option (List ℕ)) (rev offset size : ℕ) (old new : List ℕ) (result : Result (Option ℕ) BookFault) → Later u v → Later v w → MayGo u name file
+    → IfSome v.files (λ m. IsSize (map.get m name) (Some size)) → offset ≤ size → IfSome w.files (λ m. IfOk result (IsRead (map.get m name) offset old new)) → IfErr result (λ e. e ≡ DiskFault)
+    → FromFile {X = ℕ} {Y = List ℕ} file w.files name (λ n. take n new) (part_of_file rev offset (length old)) result
+part_found u v w name file rev offset size old new result e f s h le read failed =
+    let p = has_size u v name file size e s h in
+    let t = goes_later v w name file f (goes_later u v name file e s) in
+    let Q : Files → Type 0 = λ m. IfOk result (IsRead (map.get m name) offset old new) in
+    let within : offset ≤ length p.0 = omega (arith, le, p.2) in
+    part_of_result file (map.get t.now name) p.0 w.files name t.now rev offset old new result t.told refl (goes_now w name file t) p.1 within (told_at w.files t.now Q t.told read) failed

@@ -1,0 +1,7 @@
+pub mod ViewLemmas
+pub mod FileLemmas
+pub mod ManifestLemmas
+pub mod PackLemmas
+pub mod DirectLemmas
+pub mod FloorLemmas
+pub mod TellingLemmas

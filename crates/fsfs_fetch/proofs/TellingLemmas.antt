@@ -1,0 +1,167 @@
+-- What a reader tells, taken apart and put together.
+use Rattle.std.proofs.Common.{◌≡◌, ◌≤◌, ◌<◌, ℕ, ◌^◌, List, length, take, drop, refl, sym, ap, subst, ◌∙◌, inl, inr, arith, Bool, true, false, cond, nat_lt}
+use Rattle.std.specs.Prelude.{Option, Some, None, Result, Ok, Err, ◌&&◌, ◌⊎◌, unwrap_or}
+use Rattle.std.proofs.lemmas.List.{length-take, length-drop}
+use Rattle.std.proofs.lemmas.Bool.Decides.{nat_tests}
+use Rattle.std.specs.FinMap as map
+use Rattle.fsfs_base.specs.Files.{Files}
+use Rattle.fsfs_book.specs.declared.book.Refusal.{Refusal}
+use Rattle.fsfs_book.specs.declared.book.Refusal.TheVariants.{NoRev, Missing, Small}
+use Rattle.fsfs_book.specs.declared.book.BookFault.{BookFault}
+use Rattle.fsfs_book.specs.declared.book.BookFault.TheVariants.{Refused}
+use Rattle.fsfs_book.specs.Told.{Telling, Keeps}
+use Rattle.fsfs_fetch.specs.declared.manifests.KeptManifest.{KeptManifest}
+use Rattle.fsfs_fetch.specs.RevBytes.{rev_bytes, rev_file, props_bytes, or_missing}
+use Rattle.fsfs_fetch.specs.Views.{Reach, Ends, Grows, IsKnown, IsYoungest, Extends, View, Later}
+use Rattle.fsfs_fetch.specs.Kept.{telling, within, revs_in, props_in, if_short, is_short, is_right, last_of, IsFoundAt, FindsAsWell}
+use Rattle.fsfs_fetch.proofs.ViewLemmas.{next, known_later, some_files}
+
+-- a revision above the youngest
+pub record IsPast (reach : Reach) (rev : ℕ) (read : Result (List ℕ) Refusal) : Type 0 where
+  pub youngest : ℕ
+  pub ends : reach ≡ Ends youngest
+  pub above : youngest < rev
+  pub read : read ≡ Err (NoRev rev youngest)
+
+-- ---- what is told within reach
+
+within_ends : (past : Bool) (reach : Reach) (y rev : ℕ) (inner : Option (Result (List ℕ) Refusal)) (read : Result (List ℕ) Refusal) → reach ≡ Ends y → past ≡ nat_lt y rev → cond past (Some (Err (NoRev rev y))) inner ≡ Some read
+    → (IsPast reach rev read) ⊎ ((rev ≤ y) × (inner ≡ Some read))
+within_ends true reach y rev inner read e is told =
+    let lt : y < rev = grind (arith, nat_tests) in
+    let same : Err (NoRev rev y) ≡ read = cc in
+    inl (record { youngest = y; ends = e; above = lt; read = sym same })
+within_ends false reach y rev inner read e is told = let le : rev ≤ y = grind (arith, nat_tests) in inr (le, told)
+
+within_grows : (past : Bool) (least rev : ℕ) (inner : Option (Result (List ℕ) Refusal)) (read : Result (List ℕ) Refusal) → past ≡ nat_lt least rev → cond past None inner ≡ Some read → (rev ≤ least) × (inner ≡ Some read)
+within_grows true least rev inner read is told = cc
+within_grows false least rev inner read is told = let le : rev ≤ least = grind (arith, nat_tests) in (le, told)
+
+within_read : (reach : Reach) (rev : ℕ) (inner : Option (Result (List ℕ) Refusal)) (read : Result (List ℕ) Refusal) → within reach rev inner ≡ Some read → (IsPast reach rev read) ⊎ ((IsKnown reach rev) × (inner ≡ Some read))
+within_read (Ends y) rev inner read told = within_ends (nat_lt y rev) (Ends y) y rev inner read refl refl told
+within_read (Grows least) rev inner read told = inr (within_grows (nat_lt least rev) least rev inner read refl told)
+
+not_past : (a b : ℕ) → b ≤ a → nat_lt a b ≡ false
+not_past a b le = grind (arith, nat_tests)
+
+is_past : (a b : ℕ) → a < b → nat_lt a b ≡ true
+is_past a b lt = grind (arith, nat_tests)
+
+within_known : (reach : Reach) (rev : ℕ) (inner : Option (Result (List ℕ) Refusal)) → IsKnown reach rev → within reach rev inner ≡ inner
+within_known (Ends y) rev inner known = let e : nat_lt y rev ≡ false = not_past y rev known in rw e refl
+within_known (Grows least) rev inner known = let e : nat_lt least rev ≡ false = not_past least rev known in rw e refl
+
+within_past : (reach : Reach) (rev y : ℕ) (inner : Option (Result (List ℕ) Refusal)) → reach ≡ Ends y → y < rev → within reach rev inner ≡ Some (Err (NoRev rev y))
+within_past reach rev y inner e lt =
+    let past : nat_lt y rev ≡ true = is_past y rev lt in
+    let P : (Option (Result (List ℕ) Refusal)) → Type 0 = λ o. cond (nat_lt y rev) (Some (Err (NoRev rev y))) inner ≡ o in
+    ap (λ r. within r rev inner) e ∙ rw past refl
+
+-- ---- what is told of the files
+
+if_short_some : (right short : Bool) (bytes read : Result (List ℕ) Refusal) → cond (right && short) (Some bytes) None ≡ Some read → (right ≡ true) × (short ≡ true) × (bytes ≡ read)
+if_short_some true true bytes read told = (refl, refl, cc)
+if_short_some true false bytes read told = cc
+if_short_some false short bytes read told = cc
+
+-- the bytes that are told
+pub record IsToldAt (view : View) (floor : ℕ) (kept : Option KeptManifest) (rev : ℕ) (read : Result (List ℕ) Refusal) : Type 0 where
+  pub files : Files
+  pub found : IsFoundAt view floor kept rev files
+  pub short : is_short (rev_bytes view.shard_size files rev) ≡ true
+  pub bytes : rev_bytes view.shard_size files rev ≡ read
+
+revs_some : (n floor : ℕ) (kept : Option KeptManifest) (files : Option Files) (rev : ℕ) (read : Result (List ℕ) Refusal) → revs_in n floor kept files rev ≡ Some read
+    → (m : Files) × (files ≡ Some m) × (is_right n m floor kept rev ≡ true) × (is_short (rev_bytes n m rev) ≡ true) × (rev_bytes n m rev ≡ read)
+revs_some n floor kept None rev read told = cc
+revs_some n floor kept (Some m) rev read told =
+    let p = if_short_some (is_right n m floor kept rev) (is_short (rev_bytes n m rev)) (rev_bytes n m rev) read told in
+    (m, refl, p.0, p.1, p.2)
+
+pub told_revs : (v : View) (floor : ℕ) (kept : Option KeptManifest) (rev : ℕ) (read : Result (List ℕ) Refusal) → (telling v floor kept).revs rev ≡ Some read → (IsPast v.reach rev read) ⊎ (IsToldAt v floor kept rev read)
+unfolding telling
+told_revs v floor kept rev read told =
+    elim (within_read v.reach rev (revs_in v.shard_size floor kept v.files rev) read told) [
+      inl p ↦ inl p
+    | inr p ↦
+      let q = revs_some v.shard_size floor kept v.files rev read p.1 in
+      inr (record { files = q.0; found = record { told = q.1; known = p.0; right = q.2 }; short = q.3; bytes = q.4 })
+    ]
+
+pub tells_past : (v : View) (floor : ℕ) (kept : Option KeptManifest) (rev : ℕ) (read : Result (List ℕ) Refusal) → IsPast v.reach rev read → (telling v floor kept).revs rev ≡ Some read
+unfolding telling
+tells_past v floor kept rev read p = within_past v.reach rev p.youngest (revs_in v.shard_size floor kept v.files rev) p.ends p.above ∙ ap (λ (r : Result (List ℕ) Refusal). Some r) (sym p.read)
+
+revs_found : (n floor : ℕ) (kept : Option KeptManifest) (files : Option Files) (m : Files) (rev : ℕ) → files ≡ Some m → is_right n m floor kept rev ≡ true → is_short (rev_bytes n m rev) ≡ true → revs_in n floor kept files rev ≡ Some (rev_bytes n m rev)
+revs_found n floor kept files m rev e right short = ap (λ f. revs_in n floor kept f rev) e ∙ rw (right, short) refl
+
+pub tells_found : (v : View) (floor : ℕ) (kept : Option KeptManifest) (m : Files) (rev : ℕ) → IsFoundAt v floor kept rev m → is_short (rev_bytes v.shard_size m rev) ≡ true → (telling v floor kept).revs rev ≡ Some (rev_bytes v.shard_size m rev)
+unfolding telling
+tells_found v floor kept m rev p short = within_known v.reach rev (revs_in v.shard_size floor kept v.files rev) p.known ∙ revs_found v.shard_size floor kept v.files m rev p.told p.right short
+
+props_some : (n : ℕ) (files : Option Files) (rev : ℕ) (read : Result (List ℕ) Refusal) → props_in n files rev ≡ Some read → (m : Files) × (files ≡ Some m) × (props_bytes n m rev ≡ read)
+props_some n None rev read told = cc
+props_some n (Some m) rev read told = (m, refl, cc)
+
+pub record HasProps (view : View) (rev : ℕ) (read : Result (List ℕ) Refusal) : Type 0 where
+  pub files : Files
+  pub told : view.files ≡ Some files
+  pub known : IsKnown view.reach rev
+  pub bytes : props_bytes view.shard_size files rev ≡ read
+
+pub told_props : (v : View) (floor : ℕ) (kept : Option KeptManifest) (rev : ℕ) (read : Result (List ℕ) Refusal) → (telling v floor kept).props rev ≡ Some read → (IsPast v.reach rev read) ⊎ (HasProps v rev read)
+unfolding telling
+told_props v floor kept rev read told =
+    elim (within_read v.reach rev (props_in v.shard_size v.files rev) read told) [
+      inl p ↦ inl p
+    | inr p ↦
+      let q = props_some v.shard_size v.files rev read p.1 in
+      inr (record { files = q.0; told = q.1; known = p.0; bytes = q.2 })
+    ]
+
+pub tells_past_props : (v : View) (floor : ℕ) (kept : Option KeptManifest) (rev : ℕ) (read : Result (List ℕ) Refusal) → IsPast v.reach rev read → (telling v floor kept).props rev ≡ Some read
+unfolding telling
+tells_past_props v floor kept rev read p = within_past v.reach rev p.youngest (props_in v.shard_size v.files rev) p.ends p.above ∙ ap (λ (r : Result (List ℕ) Refusal). Some r) (sym p.read)
+
+pub tells_props : (v : View) (floor : ℕ) (kept : Option KeptManifest) (m : Files) (rev : ℕ) → v.files ≡ Some m → IsKnown v.reach rev → (telling v floor kept).props rev ≡ Some (props_bytes v.shard_size m rev)
+unfolding telling
+tells_props v floor kept m rev e known = within_known v.reach rev (props_in v.shard_size v.files rev) known ∙ ap (λ f. props_in v.shard_size f rev) e
+
+-- ---- what is told stays told
+
+past_later : (v w : View) (rev : ℕ) (read : Result (List ℕ) Refusal) → Later v w → IsPast v.reach rev read → IsPast w.reach rev read
+past_later v w rev read e p =
+    let P : Reach → Type 0 = λ r. Extends r w.reach in
+    let ends : w.reach ≡ Ends p.youngest = subst P p.ends e.reach in
+    record { youngest = p.youngest; ends = ends; above = p.above; read = p.read }
+
+last_later : (a b : Reach) (y : ℕ) → Extends a b → last_of a ≡ Some y → last_of b ≡ Some y
+last_later (Ends n) b y e is = ap last_of e ∙ is
+last_later (Grows n) b y e is = cc
+
+found_told : (v w : View) (f g : ℕ) (k l : Option KeptManifest) (rev : ℕ) (read : Result (List ℕ) Refusal) → Later v w → FindsAsWell v f k w g l → IsToldAt v f k rev read → (telling w g l).revs rev ≡ Some read
+found_told v w f g k l rev read e finds p =
+    let q = finds p.files rev p.found in
+    let n = next v w p.files e p.found.told in
+    let one : n.files ≡ q.0 = some_files n.files q.0 (sym n.told ∙ q.1.told) in
+    let same : rev_bytes w.shard_size q.0 rev ≡ rev_bytes v.shard_size p.files rev =
+      ap (λ m. rev_bytes w.shard_size m rev) (sym one) ∙ ap (λ j. rev_bytes j n.files rev) e.size ∙ n.follows.bytes rev p.found.known in
+    tells_found w g l q.0 rev q.1 (ap is_short same ∙ p.short) ∙ ap (λ (r : Result (List ℕ) Refusal). Some r) (same ∙ p.bytes)
+
+props_told : (v w : View) (g : ℕ) (l : Option KeptManifest) (rev : ℕ) (read : Result (List ℕ) Refusal) → Later v w → HasProps v rev read → (telling w g l).props rev ≡ Some read
+props_told v w g l rev read e p =
+    let n = next v w p.files e p.told in
+    let same : props_bytes w.shard_size n.files rev ≡ props_bytes v.shard_size p.files rev =
+      ap (λ j. props_bytes j n.files rev) e.size ∙ ap (or_missing rev) (n.follows.props rev p.known) in
+    tells_props w g l n.files rev n.told (known_later v.reach w.reach rev e.reach p.known) ∙ ap (λ (r : Result (List ℕ) Refusal). Some r) (same ∙ p.bytes)
+
+youngest_told : (v w : View) (f g : ℕ) (k l : Option KeptManifest) (y : ℕ) → Later v w → (telling v f k).youngest ≡ Some y → (telling w g l).youngest ≡ Some y
+unfolding telling
+youngest_told v w f g k l y e is = last_later v.reach w.reach y e.reach is
+
+pub keeps : (v w : View) (f g : ℕ) (k l : Option KeptManifest) → Later v w → FindsAsWell v f k w g l → Keeps (telling v f k) (telling w g l)
+keeps v w f g k l e finds = record {
+  revs = λ rev read told. elim (told_revs v f k rev read told) [ inl p ↦ tells_past w g l rev read (past_later v w rev read e p) | inr p ↦ found_told v w f g k l rev read e finds p ];
+  props = λ rev read told. elim (told_props v f k rev read told) [ inl p ↦ tells_past_props w g l rev read (past_later v w rev read e p) | inr p ↦ props_told v w g l rev read e p ];
+  youngest = λ y is. youngest_told v w f g k l y e is;
+}

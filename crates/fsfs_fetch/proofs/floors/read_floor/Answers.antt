@@ -1,0 +1,16 @@
+use Rattle.std.proofs.Common.{◌≡◌, ℕ, length, take, refl, sym, ap, subst, ◌∙◌, arith}
+use Rattle.std.specs.Prelude.{Ok, Err, unwrap_or}
+use Rattle.fsfs_fetch.proofs.FloorLemmas.{floor_found}
+use Rattle.fsfs_fetch.proofs.floors.read_floor.Goals as goal
+
+pub returns-in-Ok-clause-told : goal.returns-in-Ok-clause-told
+returns-in-Ok-clause-told g c =
+    let w = g.R.Reads.view c.read_at.new.reads in
+    let n : c.shard_size-shard_size.result ≡ w.shard_size = c.shard_size-shard_size.ensures.size ∙ sym c.read_at.ensures.later.size in
+    floor_found w.files c.shard_size-shard_size.result w.shard_size c.min_unpacked_rev.result _ c.read_at.new.buffer _ c.in_ok-found.found (Ok c.in-Ok.floor) n c.min_unpacked_rev.ensures refl c.in_ok-found.ensures.bytes (ap (λ k. take k c.read_at.new.buffer) c.unwrap_or-count.ensures) c.in-Ok.ensures
+
+pub returns-in-Err-clause-told : goal.returns-in-Err-clause-told
+returns-in-Err-clause-told g c =
+    let w = g.R.Reads.view c.read_at.new.reads in
+    let n : c.shard_size-shard_size.result ≡ w.shard_size = c.shard_size-shard_size.ensures.size ∙ sym c.read_at.ensures.later.size in
+    floor_found w.files c.shard_size-shard_size.result w.shard_size c.min_unpacked_rev.result _ c.read_at.new.buffer _ c.in_ok-found.found (Err c.in-Err.fault) n c.min_unpacked_rev.ensures refl c.in_ok-found.ensures.bytes (ap (λ k. take k c.read_at.new.buffer) c.unwrap_or-count.ensures) c.in-Err.ensures

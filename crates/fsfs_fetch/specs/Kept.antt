@@ -1,0 +1,100 @@
+-- What a reader tells that keeps a floor and a manifest.
+use Rattle.std.specs.Prelude.{◌≡◌, ℕ, ◌/◌, Bool, true, false, nat_lt, nat_eq, ◌==◌, ◌&&◌, if◌then◌else◌, List, [], length, Option, Some, None, Result, Ok, Err}
+use Rattle.std.specs.Cmp.Lexicographic.{pointwise}
+use Rattle.fsfs_base.specs.Files.{Files}
+use Rattle.fsfs_base.specs.declared.small_fault.SmallFault.{SmallFault}
+use Rattle.fsfs_book.specs.declared.book.Refusal.{Refusal}
+use Rattle.fsfs_book.specs.declared.book.Refusal.TheVariants.{NoRev}
+use Rattle.fsfs_book.specs.Told.{Telling}
+use Rattle.fsfs_fetch.specs.declared.manifests.KeptManifest.{KeptManifest}
+use Rattle.fsfs_fetch.specs.RevBytes.{rev_bytes, rev_file, props_bytes, manifest_in}
+use Rattle.fsfs_fetch.specs.Views.{View, Reach, Ends, Grows, IsKnown, is_packed}
+
+abbrev pub are_offsets : List ℕ → Result (List ℕ) SmallFault → Bool
+are_offsets offsets (Err fault) = false
+are_offsets offsets (Ok found) = pointwise nat_eq offsets found
+
+-- a kept manifest is of another shard than the revision's, or that shard's own
+abbrev pub fits : ℕ → Files → Option KeptManifest → ℕ → Bool
+fits shard_size files None rev = true
+fits shard_size files (Some kept) rev = if kept.shard == rev / shard_size then are_offsets kept.offsets.items (manifest_in shard_size files (rev / shard_size)) else true
+
+-- a revision's own file has its bytes, where there is one
+abbrev pub agrees : Option (List ℕ) → Result (List ℕ) Refusal → Bool
+agrees None read = true
+agrees (Some file) (Err refusal) = false
+agrees (Some file) (Ok bytes) = pointwise nat_eq file bytes
+
+-- A reader that keeps this floor finds the revision's bytes: what is below the kept floor is packed; what isn't may be
+-- packed since, and its own file may be there still, with the same bytes.
+unfoldable pub is_right : ℕ → Files → ℕ → Option KeptManifest → ℕ → Bool
+is_right shard_size files floor kept rev =
+    if nat_lt rev floor then is_packed shard_size files rev && fits shard_size files kept rev
+    else agrees (rev_file shard_size files rev) (rev_bytes shard_size files rev)
+
+-- no disk has a file of 2^64 bytes
+abbrev pub is_short : Result (List ℕ) Refusal → Bool
+is_short (Err refusal) = true
+is_short (Ok bytes) = nat_lt (length bytes) 18446744073709551616
+
+abbrev pub if_short : Bool → Result (List ℕ) Refusal → Option (Result (List ℕ) Refusal)
+if_short right read = if right && is_short read then Some read else None
+
+abbrev pub revs_in : ℕ → ℕ → Option KeptManifest → Option Files → ℕ → Option (Result (List ℕ) Refusal)
+revs_in shard_size floor kept None rev = None
+revs_in shard_size floor kept (Some files) rev = if_short (is_right shard_size files floor kept rev) (rev_bytes shard_size files rev)
+
+abbrev pub props_in : ℕ → Option Files → ℕ → Option (Result (List ℕ) Refusal)
+props_in shard_size None rev = None
+props_in shard_size (Some files) rev = Some (props_bytes shard_size files rev)
+
+-- of a revision above the youngest, that there is none
+abbrev pub within : Reach → ℕ → Option (Result (List ℕ) Refusal) → Option (Result (List ℕ) Refusal)
+within (Ends youngest) rev read = if nat_lt youngest rev then Some (Err (NoRev rev youngest)) else read
+within (Grows least) rev read = if nat_lt least rev then None else read
+
+abbrev pub last_of : Reach → Option ℕ
+last_of (Ends youngest) = Some youngest
+last_of (Grows least) = None
+
+-- what a reader over a store tells, that keeps this floor and this manifest
+unfoldable pub telling : View → ℕ → Option KeptManifest → Telling
+telling view floor kept = record {
+  revs = λ rev. within view.reach rev (revs_in view.shard_size floor kept view.files rev);
+  props = λ rev. within view.reach rev (props_in view.shard_size view.files rev);
+  youngest = last_of view.reach;
+}
+
+abbrev pub keeps_shard : Option KeptManifest → ℕ → Bool
+keeps_shard None shard = false
+keeps_shard (Some kept) shard = kept.shard == shard
+
+abbrev pub kept_offsets : Option KeptManifest → List ℕ
+kept_offsets None = []
+kept_offsets (Some kept) = kept.offsets.items
+
+-- a revision of these files is packed, and the kept manifest serves it
+pub record IsPackedAt (view : View) (kept : Option KeptManifest) (rev : ℕ) (m : Files) : Type 0 where
+  pub told : view.files ≡ Some m
+  pub packed : is_packed view.shard_size m rev ≡ true
+  pub fits : fits view.shard_size m kept rev ≡ true
+
+-- a manifest that was kept since serves what the one before served
+abbrev pub ServesAsWell : View → Option KeptManifest → Option KeptManifest → Type 0
+ServesAsWell view old new = (m : Files) (rev : ℕ) → IsPackedAt view old rev m → fits view.shard_size m new rev ≡ true
+
+-- a revision that there is is found in these files by what is kept
+pub record IsFoundAt (view : View) (floor : ℕ) (kept : Option KeptManifest) (rev : ℕ) (m : Files) : Type 0 where
+  pub told : view.files ≡ Some m
+  pub known : IsKnown view.reach rev
+  pub right : is_right view.shard_size m floor kept rev ≡ true
+
+-- and all that was found by what was kept is found by what is kept now
+abbrev pub FindsAsWell : View → ℕ → Option KeptManifest → View → ℕ → Option KeptManifest → Type 0
+FindsAsWell view floor kept new_view new_floor new_kept = (m : Files) (rev : ℕ) → IsFoundAt view floor kept rev m → (new : Files) × IsFoundAt new_view new_floor new_kept rev new
+
+-- a revision that there is whose own file is gone
+pub record IsGoneAt (view : View) (rev : ℕ) (m : Files) : Type 0 where
+  pub told : view.files ≡ Some m
+  pub known : IsKnown view.reach rev
+  pub gone : rev_file view.shard_size m rev ≡ None

@@ -1,0 +1,60 @@
+-- What a store that is read tells, and how it may change while others write to it.
+use Rattle.std.specs.Prelude.{◌≡◌, ◌⊎◌, ◌≤◌, ◌<◌, ℕ, ◌/◌, Bool, true, false, nat_lt, List, Option, Some, None, Result, Ok, Err}
+use Rattle.std.specs.FinMap as map
+use Rattle.fsfs_base.specs.Files.{Files}
+use Rattle.fsfs_base.specs.declared.small_fault.SmallFault.{SmallFault}
+use Rattle.fsfs_fetch.specs.RevBytes.{rev_bytes, rev_file, props_file, floor_in, manifest_file, pack_in}
+
+-- which revisions there are: those up to the youngest, which stays the youngest, or at least those up to a number
+pub data Reach : Type 0 where
+  Ends : ℕ → Reach
+  Grows : ℕ → Reach
+
+abbrev pub IsKnown : Reach → ℕ → Type 0
+IsKnown (Ends youngest) rev = rev ≤ youngest
+IsKnown (Grows least) rev = rev ≤ least
+
+abbrev pub IsYoungest : Reach → ℕ → Type 0
+IsYoungest (Ends youngest) n = n ≡ youngest
+IsYoungest (Grows least) n = least ≤ n
+
+-- later there are as many revisions or more
+abbrev pub Extends : Reach → Reach → Type 0
+Extends (Ends youngest) new = new ≡ Ends youngest
+Extends (Grows least) (Ends youngest) = least ≤ youngest
+Extends (Grows least) (Grows n) = least ≤ n
+
+-- what a store tells: the size of its shards, its revisions, and its files as the last call met them, where it tells these
+pub record View : Type 0 where
+  pub shard_size : ℕ
+  pub reach : Reach
+  pub files : Option Files
+
+abbrev pub is_below : ℕ → Result ℕ SmallFault → Bool
+is_below rev (Err fault) = false
+is_below rev (Ok floor) = nat_lt rev floor
+
+-- a revision is packed: it is below the floor
+unfoldable pub is_packed : ℕ → Files → ℕ → Bool
+is_packed shard_size files rev = is_below rev (floor_in shard_size files)
+
+-- The files that are met later: revisions keep their bytes, floors don't fall, what is packed stays where it is, and a
+-- revision's own file stays or goes.
+pub record Follows (shard_size : ℕ) (reach : Reach) (old new : Files) : Type 0 where
+  pub bytes : (rev : ℕ) → IsKnown reach rev → rev_bytes shard_size new rev ≡ rev_bytes shard_size old rev
+  pub packed : (rev : ℕ) → is_packed shard_size old rev ≡ true → is_packed shard_size new rev ≡ true
+  pub manifest : (rev : ℕ) → is_packed shard_size old rev ≡ true → manifest_file new (rev / shard_size) ≡ manifest_file old (rev / shard_size)
+  pub pack : (rev : ℕ) → is_packed shard_size old rev ≡ true → pack_in new (rev / shard_size) ≡ pack_in old (rev / shard_size)
+  pub own : (rev : ℕ) → IsKnown reach rev → (rev_file shard_size new rev ≡ rev_file shard_size old rev) ⊎ (rev_file shard_size new rev ≡ None)
+  pub props : (rev : ℕ) → IsKnown reach rev → props_file shard_size new rev ≡ props_file shard_size old rev
+
+abbrev pub FilesLater : ℕ → Reach → Option Files → Option Files → Type 0
+FilesLater shard_size reach None new = Unit {0}
+FilesLater shard_size reach (Some old) None = ⊥
+FilesLater shard_size reach (Some old) (Some new) = Follows shard_size reach old new
+
+-- what a store may tell later
+pub record Later (old new : View) : Type 0 where
+  pub size : new.shard_size ≡ old.shard_size
+  pub reach : Extends old.reach new.reach
+  pub files : FilesLater old.shard_size old.reach old.files new.files

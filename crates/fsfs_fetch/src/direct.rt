@@ -1,0 +1,245 @@
+//! A book over a store that is read.
+ghost use Rattle.std.specs.Prelude.{◌≡◌, ◌≤◌, ◌<◌, ℕ, List, Some, None, length, take, IfOk, IfErr, OnOk};
+ghost use Rattle.fsfs_base.specs.Files.{Files};
+ghost use Rattle.fsfs_book.specs.declared.book.BookFault.TheVariants.{Refused};
+ghost use Rattle.fsfs_book.specs.declared.book.Refusal.TheVariants.{NoRev};
+ghost use Rattle.fsfs_book.specs.Told.{HasCause, Gives, IsAbout, size_read, part_read};
+ghost use Rattle.fsfs_fetch.specs.RevBytes.{rev_bytes, props_bytes};
+ghost use Rattle.fsfs_fetch.specs.Views.{Later, IsYoungest, IsKnown};
+ghost use Rattle.fsfs_fetch.specs.Kept.{IsFoundAt, FindsAsWell, IsGoneAt};
+
+use crate::files::{file_len, file_part};
+use crate::floors::refresh;
+use crate::manifests::KeptManifest;
+use crate::packs::{packed_len, packed_part};
+use crate::reads::Reads;
+use fsfs_book::{Book, BookFault, Refusal};
+use fsfs_layout::names;
+use std::alloc::Global;
+
+/// A book over a store that is read. It keeps the last floor that it read, the oldest revision that isn't packed, and the
+/// manifest of the shard that it read last. Where a revision's file is absent, since the revision was packed, the floor is
+/// read again once.
+#[derive(Drop)]
+pub struct Direct<R: Reads> {
+    alloc: Global,
+    reads: R,
+    floor: u32,
+    kept: Option<KeptManifest>,
+}
+
+impl<R: Reads> Direct<R> {
+    /// A book over this store, which begins with this floor.
+    pub fn new(alloc: Global, reads: R, floor: u32) -> Direct<R>
+        ensures reads { result.reads ≡ reads }
+        ensures floor { result.floor ≡ floor }
+        ensures kept { result.kept ≡ None }
+    {
+        Direct {
+            alloc,
+            reads,
+            floor,
+            kept: None,
+        }
+    }
+
+    /// The store that it reads.
+    pub fn into_reads(self) -> R
+        ensures { result ≡ self.reads }
+    {
+        let Direct { reads, .. } = self;
+        reads
+    }
+
+    /// The floor that it keeps.
+    pub fn floor(&self) -> u32
+        ensures { result ≡ self.now.floor }
+    {
+        self.floor
+    }
+}
+
+// Refuses a revision above the youngest.
+fn check_rev<R: Reads>(reads: &mut R, rev: u32) -> Result<(), BookFault>
+    ensures there { OnOk result ((n : ℕ) × IsYoungest (R.view reads.new).reach n × (rev ≤ n)) }
+    ensures above { IfErr result (λ e. (n : ℕ) × IsYoungest (R.view reads.new).reach n × (n < rev) × (e ≡ Refused (NoRev rev n))) }
+    ensures later { Later (R.view reads.old) (R.view reads.new) }
+    ensures faults { R.faults reads.old ≤ R.faults reads.new }
+{
+    let youngest = reads.youngest();
+    if youngest < rev as u64 {
+        return Err(BookFault::Refused(Refusal::NoRev {
+            asked: rev,
+            youngest,
+        }));
+    }
+    Ok(())
+}
+
+// A part of a revision whose own file was absent.
+fn part_once_more<R: Reads>(
+    alloc: Global,
+    reads: &mut R,
+    floor: &mut u32,
+    kept: &mut Option<KeptManifest>,
+    rev: u32,
+    offset: u64,
+    buffer: &mut [u8],
+) -> Result<usize, BookFault>
+    ensures bound { IfOk result (λ n. n ≤ length buffer.new) }
+    ensures told { (m : Files) → IsGoneAt (R.view reads.old) rev m → Gives (λ n. take n buffer.new) result (part_read rev offset (length buffer.old) (rev_bytes (R.view reads.old).shard_size m rev)) }
+    ensures finds { FindsAsWell (R.view reads.old) floor.old kept.old (R.view reads.new) floor.new kept.new }
+    ensures about { IfErr result (IsAbout rev offset) }
+    ensures later { Later (R.view reads.old) (R.view reads.new) }
+    ensures cause { HasCause (R.faults reads.old) (R.faults reads.new) result }
+{
+    refresh(reads, floor, kept)?;
+    if rev < *floor {
+        return packed_part(alloc, reads, kept, rev, offset, buffer);
+    }
+    let name = names::revision(reads.shard_size(), rev);
+    match file_part(reads, &name, rev, offset, buffer)? {
+        None => Err(BookFault::Refused(Refusal::Missing { rev })),
+        Some(count) => Ok(count),
+    }
+}
+
+// A part of a revision that there is.
+fn part_of<R: Reads>(
+    alloc: Global,
+    reads: &mut R,
+    floor: &mut u32,
+    kept: &mut Option<KeptManifest>,
+    rev: u32,
+    offset: u64,
+    buffer: &mut [u8],
+) -> Result<usize, BookFault>
+    ensures bound { IfOk result (λ n. n ≤ length buffer.new) }
+    ensures told { (m : Files) → IsFoundAt (R.view reads.old) floor.old kept.old rev m → Gives (λ n. take n buffer.new) result (part_read rev offset (length buffer.old) (rev_bytes (R.view reads.old).shard_size m rev)) }
+    ensures finds { FindsAsWell (R.view reads.old) floor.old kept.old (R.view reads.new) floor.new kept.new }
+    ensures about { IfErr result (IsAbout rev offset) }
+    ensures later { Later (R.view reads.old) (R.view reads.new) }
+    ensures cause { HasCause (R.faults reads.old) (R.faults reads.new) result }
+{
+    if rev < *floor {
+        return packed_part(alloc, reads, kept, rev, offset, buffer);
+    }
+    let name = names::revision(reads.shard_size(), rev);
+    match file_part(reads, &name, rev, offset, buffer)? {
+        None => part_once_more(alloc, reads, floor, kept, rev, offset, buffer),
+        Some(count) => Ok(count),
+    }
+}
+
+// The length of a revision whose own file was absent.
+fn len_once_more<R: Reads>(
+    alloc: Global,
+    reads: &mut R,
+    floor: &mut u32,
+    kept: &mut Option<KeptManifest>,
+    rev: u32,
+) -> Result<u64, BookFault>
+    ensures told { (m : Files) → IsGoneAt (R.view reads.old) rev m → Gives (λ n. n) result (size_read (rev_bytes (R.view reads.old).shard_size m rev)) }
+    ensures finds { FindsAsWell (R.view reads.old) floor.old kept.old (R.view reads.new) floor.new kept.new }
+    ensures about { IfErr result (IsAbout rev 0) }
+    ensures later { Later (R.view reads.old) (R.view reads.new) }
+    ensures cause { HasCause (R.faults reads.old) (R.faults reads.new) result }
+{
+    refresh(reads, floor, kept)?;
+    if rev < *floor {
+        return packed_len(alloc, reads, kept, rev);
+    }
+    let name = names::revision(reads.shard_size(), rev);
+    match file_len(reads, &name)? {
+        None => Err(BookFault::Refused(Refusal::Missing { rev })),
+        Some(length) => Ok(length),
+    }
+}
+
+// The length of a revision that there is.
+fn len_of<R: Reads>(
+    alloc: Global,
+    reads: &mut R,
+    floor: &mut u32,
+    kept: &mut Option<KeptManifest>,
+    rev: u32,
+) -> Result<u64, BookFault>
+    ensures told { (m : Files) → IsFoundAt (R.view reads.old) floor.old kept.old rev m → Gives (λ n. n) result (size_read (rev_bytes (R.view reads.old).shard_size m rev)) }
+    ensures finds { FindsAsWell (R.view reads.old) floor.old kept.old (R.view reads.new) floor.new kept.new }
+    ensures about { IfErr result (IsAbout rev 0) }
+    ensures later { Later (R.view reads.old) (R.view reads.new) }
+    ensures cause { HasCause (R.faults reads.old) (R.faults reads.new) result }
+{
+    if rev < *floor {
+        return packed_len(alloc, reads, kept, rev);
+    }
+    let name = names::revision(reads.shard_size(), rev);
+    match file_len(reads, &name)? {
+        None => len_once_more(alloc, reads, floor, kept, rev),
+        Some(length) => Ok(length),
+    }
+}
+
+// A part of the properties of a revision that there is.
+fn props_of<R: Reads>(
+    reads: &mut R,
+    rev: u32,
+    offset: u64,
+    buffer: &mut [u8],
+) -> Result<usize, BookFault>
+    ensures bound { IfOk result (λ n. n ≤ length buffer.new) }
+    ensures told { (m : Files) → (R.view reads.old).files ≡ Some m → IsKnown (R.view reads.old).reach rev → Gives (λ n. take n buffer.new) result (part_read rev offset (length buffer.old) (props_bytes (R.view reads.old).shard_size m rev)) }
+    ensures about { IfErr result (IsAbout rev offset) }
+    ensures later { Later (R.view reads.old) (R.view reads.new) }
+    ensures cause { HasCause (R.faults reads.old) (R.faults reads.new) result }
+{
+    let name = names::props(reads.shard_size(), rev);
+    match file_part(reads, &name, rev, offset, buffer)? {
+        None => Err(BookFault::Refused(Refusal::Missing { rev })),
+        Some(count) => Ok(count),
+    }
+}
+
+impl<R: Reads> Book for Direct<R> {
+    ghost use Rattle.fsfs_fetch.specs.Kept.{telling};
+    ghost use Rattle.fsfs_fetch.specs.KeptLemmas.{told_short};
+
+    ghost told = { λ d. telling (R.view d.reads) d.floor d.kept };
+
+    ghost faults = { λ d. R.faults d.reads };
+
+    fn youngest(&mut self) -> Result<u64, BookFault> {
+        Ok(self.reads.youngest())
+    }
+
+    fn rev_len(&mut self, rev: u32) -> Result<u64, BookFault> {
+        check_rev(&mut self.reads, rev)?;
+        len_of(
+            self.alloc,
+            &mut self.reads,
+            &mut self.floor,
+            &mut self.kept,
+            rev,
+        )
+    }
+
+    fn read_rev(&mut self, rev: u32, offset: u64, buffer: &mut [u8]) -> Result<usize, BookFault> {
+        check_rev(&mut self.reads, rev)?;
+        part_of(
+            self.alloc,
+            &mut self.reads,
+            &mut self.floor,
+            &mut self.kept,
+            rev,
+            offset,
+            buffer,
+        )
+    }
+
+    fn read_props(&mut self, rev: u32, offset: u64, buffer: &mut [u8]) -> Result<usize, BookFault> {
+        check_rev(&mut self.reads, rev)?;
+        props_of(&mut self.reads, rev, offset, buffer)
+    }
+
+    ghost fits = { λ d rev bytes told. told_short (R.view d.reads) d.floor d.kept rev bytes told };
+}

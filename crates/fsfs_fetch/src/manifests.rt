@@ -1,0 +1,86 @@
+//! The manifest of a packed shard, kept from one read to the next.
+ghost use Rattle.std.specs.Prelude.{◌≡◌, ◌≤◌, ◌<◌, ◌/◌, ℕ, List, Option, IfErr, OnErr, true, unwrap_or, []};
+ghost use Rattle.fsfs_base.specs.Files.{Files};
+ghost use Rattle.fsfs_base.specs.declared.small_fault.SmallFile.TheVariants.{Manifest};
+ghost use Rattle.fsfs_layout.specs.Names.{small_name};
+ghost use Rattle.fsfs_book.specs.Told.{HasCause, Gives, IsAbout};
+ghost use Rattle.fsfs_fetch.specs.RevBytes.{manifest_of, manifest_in};
+ghost use Rattle.fsfs_fetch.specs.Kept.{IsPackedAt, ServesAsWell, kept_offsets, keeps_shard};
+ghost use Rattle.fsfs_fetch.specs.Views.{Later, is_packed};
+ghost use Rattle.fsfs_fetch.specs.Answers.{Stays, refused};
+
+use crate::files::load;
+use crate::reads::Reads;
+use fsfs_book::{BookFault, Refusal};
+use fsfs_layout::{ManifestError, names, read_manifest};
+use std::alloc::Global;
+
+/// The manifest of a shard that was read last.
+#[derive(Drop)]
+pub(crate) struct KeptManifest {
+    pub shard: u32,
+    /// Where each revision begins in the pack.
+    pub offsets: Vec<u64>,
+}
+
+/// Where each revision of a shard begins in the shard's pack.
+pub(crate) fn shard_offsets<R: Reads>(
+    alloc: Global,
+    reads: &mut R,
+    shard: u32,
+) -> Result<Vec<u64>, BookFault>
+    ensures told { (file : Option (List ℕ)) → Stays (R.view reads.old) (small_name (Manifest shard)) file
+        → Gives (λ v. v.items) result (refused (manifest_of (R.view reads.old).shard_size shard (unwrap_or file []))) }
+    ensures about { (rev offset : ℕ) → IfErr result (IsAbout rev offset) }
+    ensures later { Later (R.view reads.old) (R.view reads.new) }
+    ensures cause { HasCause (R.faults reads.old) (R.faults reads.new) result }
+{
+    let shard_size = reads.shard_size();
+    let text = load(alloc, reads, &names::manifest(shard))?;
+    match read_manifest(alloc, &text, shard, shard_size) {
+        Ok(offsets) => Ok(offsets),
+        Err(ManifestError::OutOfMemory) => Err(BookFault::OutOfMemory),
+        Err(ManifestError::Fault(fault)) => Err(BookFault::Refused(Refusal::Small(fault))),
+    }
+}
+
+/// Keeps the manifest of a shard, unless it is kept.
+pub(crate) fn keep_manifest<R: Reads>(
+    alloc: Global,
+    reads: &mut R,
+    kept: &mut Option<KeptManifest>,
+    shard: u32,
+) -> Result<(), BookFault>
+    ensures told { (m : Files) (rev : ℕ) → IsPackedAt (R.view reads.old) kept.old rev m → rev / (R.view reads.old).shard_size ≡ shard
+        → Gives (λ _. kept_offsets kept.new) result (refused (manifest_in (R.view reads.old).shard_size m shard)) }
+    ensures serves { ServesAsWell (R.view reads.old) kept.old kept.new }
+    ensures about { (rev offset : ℕ) → IfErr result (IsAbout rev offset) }
+    ensures later { Later (R.view reads.old) (R.view reads.new) }
+    ensures cause { HasCause (R.faults reads.old) (R.faults reads.new) result }
+{
+    if is_kept(kept, shard) {
+        return Ok(());
+    }
+    let offsets = shard_offsets(alloc, reads, shard)?;
+    *kept = Some(KeptManifest { shard, offsets });
+    Ok(())
+}
+
+fn is_kept(kept: &Option<KeptManifest>, shard: u32) -> bool
+    ensures { result ≡ keeps_shard kept.now shard }
+{
+    match kept {
+        None => false,
+        Some(found) => found.shard == shard,
+    }
+}
+
+/// The offsets of the manifest that is kept.
+pub(crate) fn offsets_of(kept: &Option<KeptManifest>) -> &[u64]
+    ensures { result.now ≡ kept_offsets kept.now }
+{
+    match kept {
+        None => &[],
+        Some(found) => found.offsets.as_slice(),
+    }
+}

@@ -1,0 +1,43 @@
+//! What a store of revisions is read through.
+ghost use Rattle.std.specs.Prelude.{◌≡◌, ◌≤◌, ◌<◌, ℕ, length, IfOk, IfSome};
+ghost use Rattle.std.specs.FinMap.{get};
+ghost use Rattle.fsfs_disk.specs.Fault.{HasCause};
+ghost use Rattle.fsfs_disk.specs.Trace.{IsRead, IsSize};
+ghost use Rattle.fsfs_fetch.specs.Views.{View, Later, IsYoungest};
+
+use fsfs_disk::{Failed, Name};
+
+/// A store of revisions that is read: the files of a repository, of which others may make more, and pack some, between
+/// two calls. Each call meets the files of one moment.
+pub trait Reads {
+    /// What it tells: the size of its shards, which revisions there are, and its files as the last call met them.
+    ghost view: { Self → View };
+
+    /// How often it has failed. The count stops at the last number of a u64.
+    ghost faults: { Self → ℕ };
+
+    /// How many revisions a shard has.
+    fn shard_size(&self) -> u32
+        ensures size { result ≡ (view self.now).shard_size }
+        ensures some { 0 < result };
+
+    /// The youngest revision.
+    fn youngest(&mut self) -> u64
+        ensures youngest { IsYoungest (view self.new).reach result }
+        ensures later { Later (view self.old) (view self.new) }
+        ensures faults { faults self.old ≤ faults self.new };
+
+    /// Fills the buffer from an offset on, as far as the file goes, and answers how many bytes that is: fewer than the
+    /// buffer's length only at the file's end, none past it. `None`: there is no such file.
+    fn read(&mut self, name: &Name, offset: u64, buffer: &mut [u8]) -> Result<Option<usize>, Failed>
+        ensures bound { IfOk result (λ found. IfSome found (λ n. n ≤ length buffer.new)) }
+        ensures bytes { IfSome (view self.new).files (λ m. IfOk result (IsRead (get m name.now) offset buffer.old buffer.new)) }
+        ensures later { Later (view self.old) (view self.new) }
+        ensures cause { HasCause (faults self.old) (faults self.new) result };
+
+    /// The length of a file in bytes. `None`: there is no such file.
+    fn size(&mut self, name: &Name) -> Result<Option<u64>, Failed>
+        ensures length { IfSome (view self.new).files (λ m. IfOk result (IsSize (get m name.now))) }
+        ensures later { Later (view self.old) (view self.new) }
+        ensures cause { HasCause (faults self.old) (faults self.new) result };
+}
