@@ -13,7 +13,7 @@ use Rattle.fsfs_book.specs.declared.book.BookFault.{BookFault}
 use Rattle.fsfs_book.specs.declared.book.BookFault.TheVariants.{Refused, Short, DiskFault, OutOfMemory}
 use Rattle.fsfs_book.specs.Told.{Gives, part_read, size_read}
 use Rattle.fsfs_fetch.specs.declared.manifests.KeptManifest.{KeptManifest}
-use Rattle.fsfs_fetch.specs.RevBytes.{floor_in, rev_bytes, packed_bytes, by_floor, or_missing, rev_file, manifest_of}
+use Rattle.fsfs_fetch.specs.RevBytes.{floor_in, rev_bytes, packed_bytes, by_floor, or_missing, rev_file, props_file, props_bytes, manifest_of}
 use Rattle.fsfs_fetch.specs.Views.{Reach, IsKnown, View, Follows, Later, is_packed, is_below}
 use Rattle.fsfs_fetch.specs.Answers.{MayGo, FromFile, refused}
 use Rattle.fsfs_fetch.specs.Kept.{fits, agrees, is_right, are_offsets, IsPackedAt, ServesAsWell, IsFoundAt, FindsAsWell, IsGoneAt}
@@ -309,3 +309,31 @@ fresh_found v w m rev fresh left f lt none =
     let p = fresh_packed v w m rev fresh f lt in
     let P : Option KeptManifest → Type 0 = λ o. IsPackedAt w o rev f.new in
     (subst P (sym none) p.0, p.1)
+
+-- ---- properties
+
+pub props_stay : (v : View) (m : Files) (rev n : ℕ) (name : List ℕ) → v.files ≡ Some m → IsKnown v.reach rev → n ≡ v.shard_size → name ≡ in_shard (codes "db/revprops") n rev → MayGo v name (props_file v.shard_size m rev)
+props_stay v m rev n name told known e named =
+    let P : List ℕ → Type 0 = λ t. MayGo v t (props_file v.shard_size m rev) in
+    let is : in_shard (codes "db/revprops") v.shard_size rev ≡ name = ap (λ k. in_shard (codes "db/revprops") k rev) (sym e) ∙ sym named in
+    subst P is (record { now = m; told = told; later = λ new f. inl (f.props rev known) })
+
+pub props_gone : (v w : View) (m : Files) (rev n : ℕ) (name : List ℕ) → Later v w → v.files ≡ Some m → IsKnown v.reach rev → n ≡ v.shard_size → name ≡ in_shard (codes "db/revprops") n rev → (k : Files) × (w.files ≡ Some k) × (map.get k name ≡ None)
+    → props_bytes v.shard_size m rev ≡ Err (Missing rev)
+props_gone v w m rev n name e told known same named p =
+    let k = next v w m e told in
+    let one : k.files ≡ p.0 = some_files k.files p.0 (sym k.told ∙ p.1) in
+    let is : in_shard (codes "db/revprops") v.shard_size rev ≡ name = ap (λ j. in_shard (codes "db/revprops") j rev) (sym same) ∙ sym named in
+    let gone : props_file v.shard_size k.files rev ≡ None = ap (map.get k.files) is ∙ ap (λ f. map.get f name) one ∙ p.2 in
+    ap (or_missing rev) (sym (k.follows.props rev known) ∙ gone)
+
+pub props_some : {X Y : Type 0} (view : X → Y) (F : Result (List ℕ) Refusal → Result Y BookFault) (rev : ℕ) (file : Option (List ℕ)) (new : Option Files) (name : List ℕ) (x : X)
+    → FromFile {X = X} {Y = Y} file new name view (λ bytes. F (Ok bytes)) (Ok (Some x)) → Gives {X = X} {Y = Y} view (Ok x) (F (or_missing rev file))
+props_some view F rev file new name x h = ap (λ o. F (or_missing rev o)) h.1 ∙ h.2
+
+pub props_err : {X Y Z : Type 0} (view : X → Y) (look : Z → Y) (F : Result (List ℕ) Refusal → Result Y BookFault) (rev : ℕ) (file : Option (List ℕ)) (new : Option Files) (name : List ℕ) (e : BookFault)
+    → FromFile {X = X} {Y = Y} file new name view (λ bytes. F (Ok bytes)) (Err e) → Gives {X = Z} {Y = Y} look (Err e) (F (or_missing rev file))
+props_err view look F rev file new name DiskFault h = tt
+props_err view look F rev file new name OutOfMemory h = tt
+props_err view look F rev file new name (Refused r) h = absurd h
+props_err view look F rev file new name (Short r o) h = ap (λ o. F (or_missing rev o)) h.1 ∙ h.2

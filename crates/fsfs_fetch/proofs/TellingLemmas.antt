@@ -1,6 +1,6 @@
 -- What a reader tells, taken apart and put together.
 use Rattle.std.proofs.Common.{◌≡◌, ◌≤◌, ◌<◌, ℕ, ◌^◌, List, length, take, drop, refl, sym, ap, subst, ◌∙◌, inl, inr, arith, Bool, true, false, cond, nat_lt}
-use Rattle.std.specs.Prelude.{Option, Some, None, Result, Ok, Err, ◌&&◌, ◌⊎◌, unwrap_or}
+use Rattle.std.specs.Prelude.{Option, Some, None, Result, Ok, Err, IfSome, ◌&&◌, ◌⊎◌, unwrap_or}
 use Rattle.std.proofs.lemmas.List.{length-take, length-drop}
 use Rattle.std.proofs.lemmas.Bool.Decides.{nat_tests}
 use Rattle.std.specs.FinMap as map
@@ -9,19 +9,20 @@ use Rattle.fsfs_book.specs.declared.book.Refusal.{Refusal}
 use Rattle.fsfs_book.specs.declared.book.Refusal.TheVariants.{NoRev, Missing, Small}
 use Rattle.fsfs_book.specs.declared.book.BookFault.{BookFault}
 use Rattle.fsfs_book.specs.declared.book.BookFault.TheVariants.{Refused}
-use Rattle.fsfs_book.specs.Told.{Telling, Keeps}
+use Rattle.fsfs_book.specs.Told.{Telling, Keeps, Gives}
 use Rattle.fsfs_fetch.specs.declared.manifests.KeptManifest.{KeptManifest}
 use Rattle.fsfs_fetch.specs.RevBytes.{rev_bytes, rev_file, props_bytes, or_missing}
 use Rattle.fsfs_fetch.specs.Views.{Reach, Ends, Grows, IsKnown, IsYoungest, Extends, View, Later}
 use Rattle.fsfs_fetch.specs.Kept.{telling, within, revs_in, props_in, if_short, is_short, is_right, last_of, IsFoundAt, FindsAsWell}
 use Rattle.fsfs_fetch.proofs.ViewLemmas.{next, known_later, some_files}
+use Rattle.fsfs_fetch.proofs.DirectLemmas.{found_later}
 
 -- a revision above the youngest
 pub record IsPast (reach : Reach) (rev : ℕ) (read : Result (List ℕ) Refusal) : Type 0 where
   pub youngest : ℕ
   pub ends : reach ≡ Ends youngest
   pub above : youngest < rev
-  pub read : read ≡ Err (NoRev rev youngest)
+  pub is : read ≡ Err (NoRev rev youngest)
 
 -- ---- what is told within reach
 
@@ -30,7 +31,7 @@ within_ends : (past : Bool) (reach : Reach) (y rev : ℕ) (inner : Option (Resul
 within_ends true reach y rev inner read e is told =
     let lt : y < rev = grind (arith, nat_tests) in
     let same : Err (NoRev rev y) ≡ read = cc in
-    inl (record { youngest = y; ends = e; above = lt; read = sym same })
+    inl (record { youngest = y; ends = e; above = lt; is = sym same })
 within_ends false reach y rev inner read e is told = let le : rev ≤ y = grind (arith, nat_tests) in inr (le, told)
 
 within_grows : (past : Bool) (least rev : ℕ) (inner : Option (Result (List ℕ) Refusal)) (read : Result (List ℕ) Refusal) → past ≡ nat_lt least rev → cond past None inner ≡ Some read → (rev ≤ least) × (inner ≡ Some read)
@@ -90,7 +91,7 @@ told_revs v floor kept rev read told =
 
 pub tells_past : (v : View) (floor : ℕ) (kept : Option KeptManifest) (rev : ℕ) (read : Result (List ℕ) Refusal) → IsPast v.reach rev read → (telling v floor kept).revs rev ≡ Some read
 unfolding telling
-tells_past v floor kept rev read p = within_past v.reach rev p.youngest (revs_in v.shard_size floor kept v.files rev) p.ends p.above ∙ ap (λ (r : Result (List ℕ) Refusal). Some r) (sym p.read)
+tells_past v floor kept rev read p = within_past v.reach rev p.youngest (revs_in v.shard_size floor kept v.files rev) p.ends p.above ∙ ap (λ (r : Result (List ℕ) Refusal). Some r) (sym p.is)
 
 revs_found : (n floor : ℕ) (kept : Option KeptManifest) (files : Option Files) (m : Files) (rev : ℕ) → files ≡ Some m → is_right n m floor kept rev ≡ true → is_short (rev_bytes n m rev) ≡ true → revs_in n floor kept files rev ≡ Some (rev_bytes n m rev)
 revs_found n floor kept files m rev e right short = ap (λ f. revs_in n floor kept f rev) e ∙ rw (right, short) refl
@@ -121,7 +122,7 @@ told_props v floor kept rev read told =
 
 pub tells_past_props : (v : View) (floor : ℕ) (kept : Option KeptManifest) (rev : ℕ) (read : Result (List ℕ) Refusal) → IsPast v.reach rev read → (telling v floor kept).props rev ≡ Some read
 unfolding telling
-tells_past_props v floor kept rev read p = within_past v.reach rev p.youngest (props_in v.shard_size v.files rev) p.ends p.above ∙ ap (λ (r : Result (List ℕ) Refusal). Some r) (sym p.read)
+tells_past_props v floor kept rev read p = within_past v.reach rev p.youngest (props_in v.shard_size v.files rev) p.ends p.above ∙ ap (λ (r : Result (List ℕ) Refusal). Some r) (sym p.is)
 
 pub tells_props : (v : View) (floor : ℕ) (kept : Option KeptManifest) (m : Files) (rev : ℕ) → v.files ≡ Some m → IsKnown v.reach rev → (telling v floor kept).props rev ≡ Some (props_bytes v.shard_size m rev)
 unfolding telling
@@ -133,7 +134,7 @@ past_later : (v w : View) (rev : ℕ) (read : Result (List ℕ) Refusal) → Lat
 past_later v w rev read e p =
     let P : Reach → Type 0 = λ r. Extends r w.reach in
     let ends : w.reach ≡ Ends p.youngest = subst P p.ends e.reach in
-    record { youngest = p.youngest; ends = ends; above = p.above; read = p.read }
+    record { youngest = p.youngest; ends = ends; above = p.above; is = p.is }
 
 last_later : (a b : Reach) (y : ℕ) → Extends a b → last_of a ≡ Some y → last_of b ≡ Some y
 last_later (Ends n) b y e is = ap last_of e ∙ is
@@ -165,3 +166,74 @@ keeps v w f g k l e finds = record {
   props = λ rev read told. elim (told_props v f k rev read told) [ inl p ↦ tells_past_props w g l rev read (past_later v w rev read e p) | inr p ↦ props_told v w g l rev read e p ];
   youngest = λ y is. youngest_told v w f g k l y e is;
 }
+
+-- ---- what a call meets: a revision above the youngest, or one that there is
+
+not_above : (reach : Reach) (rev n : ℕ) → IsYoungest reach n → n < rev → ¬ IsKnown reach rev
+not_above (Ends y) rev n is lt known = omega (arith, is, lt, known)
+not_above (Grows least) rev n is lt known = omega (arith, is, lt, known)
+
+youngest_is : (reach : Reach) (n y : ℕ) → IsYoungest reach n → reach ≡ Ends y → n ≡ y
+youngest_is reach n y is e = let P : Reach → Type 0 = λ r. IsYoungest r n in subst P e is
+
+past_read : (v w : View) (rev n : ℕ) (read : Result (List ℕ) Refusal) → Later v w → IsYoungest w.reach n → IsPast v.reach rev read → read ≡ Err (NoRev rev n)
+past_read v w rev n read e is p =
+    let q = past_later v w rev read e p in
+    q.is ∙ ap (λ y. Err (NoRev rev y)) (sym (youngest_is w.reach n q.youngest is q.ends))
+
+pub revs_above : (v w : View) (floor : ℕ) (kept : Option KeptManifest) (rev n : ℕ) (read : Result (List ℕ) Refusal) → Later v w → IsYoungest w.reach n → n < rev → (telling v floor kept).revs rev ≡ Some read → read ≡ Err (NoRev rev n)
+revs_above v w floor kept rev n read e is lt told =
+    elim (told_revs v floor kept rev read told) [
+      inl p ↦ past_read v w rev n read e is p
+    | inr p ↦ absurd (not_above w.reach rev n is lt (known_later v.reach w.reach rev e.reach p.found.known))
+    ]
+
+pub props_above : (v w : View) (floor : ℕ) (kept : Option KeptManifest) (rev n : ℕ) (read : Result (List ℕ) Refusal) → Later v w → IsYoungest w.reach n → n < rev → (telling v floor kept).props rev ≡ Some read → read ≡ Err (NoRev rev n)
+props_above v w floor kept rev n read e is lt told =
+    elim (told_props v floor kept rev read told) [
+      inl p ↦ past_read v w rev n read e is p
+    | inr p ↦ absurd (not_above w.reach rev n is lt (known_later v.reach w.reach rev e.reach p.known))
+    ]
+
+-- there is a revision, by the youngest
+abbrev pub IsThere : View → ℕ → Type 0
+IsThere view rev = (n : ℕ) × IsYoungest view.reach n × (rev ≤ n)
+
+not_past_there : (v w : View) (rev : ℕ) (read : Result (List ℕ) Refusal) → Later v w → IsThere w rev → ¬ IsPast v.reach rev read
+not_past_there v w rev read e there p =
+    let q = past_later v w rev read e p in
+    omega (arith, q.above, there.2, youngest_is w.reach there.0 q.youngest there.1 q.ends)
+
+pub revs_there : (v w : View) (floor : ℕ) (kept : Option KeptManifest) (rev : ℕ) (read : Result (List ℕ) Refusal) → Later v w → IsThere w rev → (telling v floor kept).revs rev ≡ Some read
+    → (new : Files) × (IsFoundAt w floor kept rev new) × (rev_bytes w.shard_size new rev ≡ read)
+revs_there v w floor kept rev read e there told =
+    elim (told_revs v floor kept rev read told) [
+      inl p ↦ absurd (not_past_there v w rev read e there p)
+    | inr p ↦ let k = found_later v w floor kept p.files rev e p.found in (k.0, k.1, k.2 ∙ p.bytes)
+    ]
+
+pub props_there : (v w : View) (floor : ℕ) (kept : Option KeptManifest) (rev : ℕ) (read : Result (List ℕ) Refusal) → Later v w → IsThere w rev → (telling v floor kept).props rev ≡ Some read → HasProps w rev read
+props_there v w floor kept rev read e there told =
+    elim (told_props v floor kept rev read told) [
+      inl p ↦ absurd (not_past_there v w rev read e there p)
+    | inr p ↦
+      let n = next v w p.files e p.told in
+      let same : props_bytes w.shard_size n.files rev ≡ props_bytes v.shard_size p.files rev =
+      ap (λ j. props_bytes j n.files rev) e.size ∙ ap (or_missing rev) (n.follows.props rev p.known) in
+      record { files = n.files; told = n.told; known = known_later v.reach w.reach rev e.reach p.known; bytes = same ∙ p.bytes }
+    ]
+
+youngest_within : (a b : Reach) (n : ℕ) → Extends a b → IsYoungest b n → IfSome (last_of a) (λ y. n ≡ y)
+youngest_within (Ends y) b n e is = youngest_is b n y is e
+youngest_within (Grows least) b n e is = tt
+
+pub youngest_same : (v w : View) (floor : ℕ) (kept : Option KeptManifest) (n : ℕ) → Later v w → IsYoungest w.reach n → IfSome (telling v floor kept).youngest (λ y. n ≡ y)
+unfolding telling
+youngest_same v w floor kept n e is = youngest_within v.reach w.reach n e.reach is
+
+-- the refusal of a revision above the youngest
+pub above_gives : {X Y : Type 0} (view : X → Y) (F : Result (List ℕ) Refusal → Result Y BookFault) (rev n : ℕ) (read : Result (List ℕ) Refusal) (e : BookFault) → ((r : Refusal) → F (Err r) ≡ Err (Refused r)) → e ≡ Refused (NoRev rev n) → read ≡ Err (NoRev rev n)
+    → Gives {X = X} {Y = Y} view (Err e) (F read)
+above_gives view F rev n read e f is same =
+    let P : BookFault → Type 0 = λ x. Gives view (Err x) (F read) in
+    subst P (sym is) (ap F same ∙ f (NoRev rev n))
