@@ -113,19 +113,23 @@ bytes_own : (n : ℕ) (m : Files) (rev floor : ℕ) → floor_in n m ≡ Ok floo
 unfolding rev_bytes
 bytes_own n m rev floor e le = by_floor_own n m rev floor (floor_in n m) e le
 
+-- a reader whose floor is that of the files, and that keeps no manifest
+pub fresh_right : (n : ℕ) (m : Files) (rev floor : ℕ) → floor_in n m ≡ Ok floor → is_right n m floor None rev ≡ true
+fresh_right n m rev floor is =
+    make_right n m floor None rev
+    (λ lt. (below_is n m rev floor is ∙ lesser rev floor lt, refl))
+    (λ le. own_agrees n m rev floor (rev_file n m rev) (rev_bytes n m rev) refl (bytes_own n m rev floor is le))
+
 -- a floor that was read anew
 pub finds_fresh : (v w : View) (floor fresh : ℕ) (kept : Option KeptManifest) → Later v w → IfSome w.files (λ m. refused (floor_in w.shard_size m) ≡ Ok fresh) → FindsAsWell v floor kept w fresh None
 finds_fresh v w floor fresh kept e read = λ m rev p.
     let k = next v w m e p.told in
     let Q : Files → Type 0 = λ f. refused (floor_in w.shard_size f) ≡ Ok fresh in
     let is : floor_in w.shard_size k.files ≡ Ok fresh = refused_ok _ fresh (told_at w.files k.files Q k.told read) in
-    let packed_is = below_is w.shard_size k.files rev fresh is in
     (k.files, record {
       told = k.told;
       known = known_later v.reach w.reach rev e.reach p.known;
-      right = make_right w.shard_size k.files fresh None rev
-      (λ lt. (packed_is ∙ lesser rev fresh lt, refl))
-      (λ le. own_agrees w.shard_size k.files rev fresh (rev_file w.shard_size k.files rev) (rev_bytes w.shard_size k.files rev) refl (bytes_own w.shard_size k.files rev fresh is le));
+      right = fresh_right w.shard_size k.files rev fresh is;
     })
 
 pub finds_more : (u v w : View) (a b c : ℕ) (k l p : Option KeptManifest) → FindsAsWell u a k v b l → FindsAsWell v b l w c p → FindsAsWell u a k w c p

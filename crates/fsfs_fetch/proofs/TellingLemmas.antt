@@ -1,21 +1,23 @@
 -- What a reader tells, taken apart and put together.
-use Rattle.std.proofs.Common.{◌≡◌, ◌≤◌, ◌<◌, ℕ, ◌^◌, List, length, take, drop, refl, sym, ap, subst, ◌∙◌, inl, inr, arith, Bool, true, false, cond, nat_lt}
+use Rattle.std.proofs.Common.{◌≡◌, ◌≤◌, ◌<◌, ℕ, ◌^◌, ◌/◌, List, [], length, take, drop, refl, sym, ap, subst, ◌∙◌, inl, inr, arith, Bool, true, false, cond, nat_lt}
 use Rattle.std.specs.Prelude.{Option, Some, None, Result, Ok, Err, IfSome, ◌&&◌, ◌⊎◌, unwrap_or}
 use Rattle.std.proofs.lemmas.List.{length-take, length-drop}
 use Rattle.std.proofs.lemmas.Bool.Decides.{nat_tests}
 use Rattle.std.specs.FinMap as map
 use Rattle.fsfs_base.specs.Files.{Files}
+use Rattle.fsfs_base.specs.declared.small_fault.SmallFault.{SmallFault}
 use Rattle.fsfs_book.specs.declared.book.Refusal.{Refusal}
 use Rattle.fsfs_book.specs.declared.book.Refusal.TheVariants.{NoRev, Missing, Small}
 use Rattle.fsfs_book.specs.declared.book.BookFault.{BookFault}
 use Rattle.fsfs_book.specs.declared.book.BookFault.TheVariants.{Refused}
 use Rattle.fsfs_book.specs.Told.{Telling, Keeps, Gives}
 use Rattle.fsfs_fetch.specs.declared.manifests.KeptManifest.{KeptManifest}
-use Rattle.fsfs_fetch.specs.RevBytes.{rev_bytes, rev_file, props_bytes, or_missing}
+use Rattle.fsfs_fetch.specs.declared.packs.Section.{Section}
+use Rattle.fsfs_fetch.specs.RevBytes.{rev_bytes, rev_file, props_bytes, or_missing, by_floor, floor_in, packed_bytes, packed_section, pack_in, cut, cut_from}
 use Rattle.fsfs_fetch.specs.Views.{Reach, Ends, Grows, IsKnown, IsYoungest, Extends, View, Later}
-use Rattle.fsfs_fetch.specs.Kept.{telling, within, revs_in, props_in, if_short, is_short, is_right, last_of, IsFoundAt, FindsAsWell}
+use Rattle.fsfs_fetch.specs.Kept.{HasShortFiles, TellsFiles, telling, within, revs_in, props_in, if_short, is_short, is_right, last_of, IsFoundAt, FindsAsWell}
 use Rattle.fsfs_fetch.proofs.ViewLemmas.{next, known_later, some_files}
-use Rattle.fsfs_fetch.proofs.DirectLemmas.{found_later}
+use Rattle.fsfs_fetch.proofs.DirectLemmas.{found_later, fresh_right}
 
 -- a revision above the youngest
 pub record IsPast (reach : Reach) (rev : ℕ) (read : Result (List ℕ) Refusal) : Type 0 where
@@ -237,3 +239,48 @@ pub above_gives : {X Y : Type 0} (view : X → Y) (F : Result (List ℕ) Refusal
 above_gives view F rev n read e f is same =
     let P : BookFault → Type 0 = λ x. Gives view (Err x) (F read) in
     subst P (sym is) (ap F same ∙ f (NoRev rev n))
+
+-- ---- all is told with the floor of the files
+
+short_if : (bytes : List ℕ) → length bytes < 2 ^ 64 → is_short (Ok bytes) ≡ true
+short_if bytes lt = is_past (length bytes) 18446744073709551616 lt
+
+short_own : (rev : ℕ) (file : Option (List ℕ)) → ((bytes : List ℕ) → file ≡ Some bytes → length bytes < 2 ^ 64) → is_short (or_missing rev file) ≡ true
+short_own rev None f = refl
+short_own rev (Some bytes) f = short_if bytes (f bytes refl)
+
+cut_less : (s : Section) (bytes : List ℕ) → length (cut s bytes) ≤ length bytes
+cut_less s bytes = omega (arith, length-take s.length (drop s.start bytes), length-drop s.start bytes)
+
+short_cut : (pack : Option (List ℕ)) (section : Result Section Refusal) → ((bytes : List ℕ) → pack ≡ Some bytes → length bytes < 2 ^ 64) → is_short (cut_from pack section) ≡ true
+short_cut pack (Err refusal) f = refl
+short_cut None (Ok s) f = let le : length (cut s []) ≤ 0 = cut_less s [] in short_if (cut s []) (omega (arith, le))
+short_cut (Some bytes) (Ok s) f = short_if (cut s bytes) (omega (arith, cut_less s bytes, f bytes refl))
+
+short_choice : (b : Bool) (x y : Result (List ℕ) Refusal) → is_short x ≡ true → is_short y ≡ true → is_short (cond b x y) ≡ true
+short_choice true x y e f = e
+short_choice false x y e f = f
+
+short_packed : (n : ℕ) (m : Files) (rev : ℕ) → HasShortFiles m → is_short (packed_bytes n m rev) ≡ true
+unfolding packed_bytes
+short_packed n m rev short = short_cut (pack_in m (rev / n)) (packed_section n m rev) (λ bytes e. short _ bytes e)
+
+short_by_floor : (n : ℕ) (m : Files) (rev : ℕ) (floor : Result ℕ SmallFault) → HasShortFiles m → is_short (by_floor n m rev floor) ≡ true
+short_by_floor n m rev (Err fault) short = refl
+short_by_floor n m rev (Ok floor) short =
+    short_choice (nat_lt rev floor) (packed_bytes n m rev) (or_missing rev (rev_file n m rev)) (short_packed n m rev short) (short_own rev (rev_file n m rev) (λ bytes e. short _ bytes e))
+
+short_bytes : (n : ℕ) (m : Files) (rev : ℕ) → HasShortFiles m → is_short (rev_bytes n m rev) ≡ true
+unfolding rev_bytes
+short_bytes n m rev short = short_by_floor n m rev (floor_in n m) short
+
+youngest_last : (v : View) (floor : ℕ) (kept : Option KeptManifest) → (telling v floor kept).youngest ≡ last_of v.reach
+unfolding telling
+youngest_last v floor kept = refl
+
+pub tells_files : (v : View) (floor : ℕ) (m : Files) → v.files ≡ Some m → floor_in v.shard_size m ≡ Ok floor → HasShortFiles m → TellsFiles v m (telling v floor None)
+tells_files v floor m told is short = record {
+  revs = λ rev known. tells_found v floor None m rev (record { told = told; known = known; right = fresh_right v.shard_size m rev floor is }) (short_bytes v.shard_size m rev short);
+  props = λ rev known. tells_props v floor None m rev told known;
+  youngest = youngest_last v floor None;
+}

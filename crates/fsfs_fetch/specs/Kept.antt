@@ -1,6 +1,7 @@
 -- What a reader tells that keeps a floor and a manifest.
-use Rattle.std.specs.Prelude.{◌≡◌, ℕ, ◌/◌, Bool, true, false, nat_lt, nat_eq, ◌==◌, ◌&&◌, if◌then◌else◌, List, [], length, Option, Some, None, Result, Ok, Err}
+use Rattle.std.specs.Prelude.{◌≡◌, ℕ, ◌/◌, ◌^◌, ◌<◌, Bool, true, false, nat_lt, nat_eq, ◌==◌, ◌&&◌, if◌then◌else◌, List, [], length, Option, Some, None, Result, Ok, Err}
 use Rattle.std.specs.Cmp.Lexicographic.{pointwise}
+use Rattle.std.specs.FinMap as map
 use Rattle.fsfs_base.specs.Files.{Files}
 use Rattle.fsfs_base.specs.declared.small_fault.SmallFault.{SmallFault}
 use Rattle.fsfs_book.specs.declared.book.Refusal.{Refusal}
@@ -64,6 +65,16 @@ telling view floor kept = record {
   props = λ rev. within view.reach rev (props_in view.shard_size view.files rev);
   youngest = last_of view.reach;
 }
+
+-- no file of these has 2^64 bytes
+abbrev pub HasShortFiles : Files → Type 0
+HasShortFiles files = (name bytes : List ℕ) → map.get files name ≡ Some bytes → length bytes < 2 ^ 64
+
+-- of each revision that there is, all is told that these files say
+pub record TellsFiles (view : View) (files : Files) (told : Telling) : Type 0 where
+  pub revs : (rev : ℕ) → IsKnown view.reach rev → told.revs rev ≡ Some (rev_bytes view.shard_size files rev)
+  pub props : (rev : ℕ) → IsKnown view.reach rev → told.props rev ≡ Some (props_bytes view.shard_size files rev)
+  pub youngest : told.youngest ≡ last_of view.reach
 
 abbrev pub keeps_shard : Option KeptManifest → ℕ → Bool
 keeps_shard None shard = false

@@ -1,12 +1,12 @@
 //! A book over a store that is read.
-ghost use Rattle.std.specs.Prelude.{◌≡◌, ◌≤◌, ◌<◌, ℕ, List, Some, None, length, take, IfOk, IfErr, OnOk};
+ghost use Rattle.std.specs.Prelude.{◌≡◌, ◌≤◌, ◌<◌, ℕ, List, Some, None, Ok, length, take, IfOk, IfErr, OnOk};
 ghost use Rattle.fsfs_base.specs.Files.{Files};
 ghost use Rattle.fsfs_book.specs.declared.book.BookFault.TheVariants.{Refused};
 ghost use Rattle.fsfs_book.specs.declared.book.Refusal.TheVariants.{NoRev};
 ghost use Rattle.fsfs_book.specs.Told.{HasCause, Gives, IsAbout, size_read, part_read};
-ghost use Rattle.fsfs_fetch.specs.RevBytes.{rev_bytes, props_bytes};
+ghost use Rattle.fsfs_fetch.specs.RevBytes.{rev_bytes, props_bytes, floor_in};
 ghost use Rattle.fsfs_fetch.specs.Views.{Later, IsYoungest, IsKnown};
-ghost use Rattle.fsfs_fetch.specs.Kept.{IsFoundAt, FindsAsWell, IsGoneAt};
+ghost use Rattle.fsfs_fetch.specs.Kept.{IsFoundAt, FindsAsWell, IsGoneAt, HasShortFiles, TellsFiles, telling};
 
 use crate::files::{file_len, file_part};
 use crate::floors::refresh;
@@ -29,11 +29,14 @@ pub struct Direct<R: Reads> {
 }
 
 impl<R: Reads> Direct<R> {
-    /// A book over this store, which begins with this floor.
+    /// A book over this store, which begins with this floor. With the floor that the files have, all is told that they say
+    /// of the revisions that there are.
     pub fn new(alloc: Global, reads: R, floor: u32) -> Direct<R>
         ensures reads { result.reads ≡ reads }
         ensures floor { result.floor ≡ floor }
         ensures kept { result.kept ≡ None }
+        ensures told { (m : Files) → (R.view reads).files ≡ Some m → floor_in (R.view reads).shard_size m ≡ Ok floor → HasShortFiles m
+            → TellsFiles (R.view reads) m (telling (R.view result.reads) result.floor result.kept) }
     {
         Direct {
             alloc,
@@ -201,7 +204,6 @@ fn props_of<R: Reads>(
 }
 
 impl<R: Reads> Book for Direct<R> {
-    ghost use Rattle.fsfs_fetch.specs.Kept.{telling};
     ghost use Rattle.fsfs_fetch.specs.KeptLemmas.{told_short};
 
     ghost told = { λ d. telling (R.view d.reads) d.floor d.kept };
