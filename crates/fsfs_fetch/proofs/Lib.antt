@@ -5,3 +5,4 @@ pub mod PackLemmas
 pub mod DirectLemmas
 pub mod FloorLemmas
 pub mod TellingLemmas
+pub mod OwnedLemmas

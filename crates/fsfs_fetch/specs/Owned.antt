@@ -1,7 +1,16 @@
 -- What an owned disk tells to one who reads its revisions.
-use Rattle.std.specs.Prelude.{ℕ, Option, option_map}
+use Rattle.std.specs.Prelude.{◌≡◌, ℕ, Option, Some, option_map}
+use Rattle.fsfs_base.specs.Files.{Files}
 use Rattle.fsfs_disk.specs.Trace.{Trace, files_now}
+use Rattle.fsfs_book.specs.Told.{Telling, Knows}
+use Rattle.fsfs_fetch.specs.RevBytes.{rev_bytes, props_bytes}
 use Rattle.fsfs_fetch.specs.Views.{View, Ends}
 
 abbrev pub owned_view : Option Trace → ℕ → ℕ → View
 owned_view trace youngest shard_size = record { shard_size = shard_size; reach = Ends youngest; files = option_map files_now trace }
+
+-- a book that tells of each revision up to the youngest what the files say
+pub record TellsAll (last shard_size : ℕ) (files : Files) (told : Telling) : Type 0 where
+  pub revs : Knows told.revs last (rev_bytes shard_size files)
+  pub props : Knows told.props last (props_bytes shard_size files)
+  pub youngest : told.youngest ≡ Some last

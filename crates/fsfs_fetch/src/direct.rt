@@ -4,6 +4,8 @@ ghost use Rattle.fsfs_base.specs.Files.{Files};
 ghost use Rattle.fsfs_book.specs.declared.book.BookFault.TheVariants.{Refused};
 ghost use Rattle.fsfs_book.specs.declared.book.Refusal.TheVariants.{NoRev};
 ghost use Rattle.fsfs_book.specs.Told.{HasCause, Gives, IsAbout, size_read, part_read};
+ghost use Rattle.fsfs_disk.specs.Trace.{Trace, files_now};
+ghost use Rattle.fsfs_fetch.specs.Owned.{TellsAll};
 ghost use Rattle.fsfs_fetch.specs.RevBytes.{rev_bytes, props_bytes, floor_in};
 ghost use Rattle.fsfs_fetch.specs.Views.{Later, IsYoungest, IsKnown};
 ghost use Rattle.fsfs_fetch.specs.Kept.{IsFoundAt, FindsAsWell, IsGoneAt, HasShortFiles, TellsFiles, telling};
@@ -11,9 +13,11 @@ ghost use Rattle.fsfs_fetch.specs.Kept.{IsFoundAt, FindsAsWell, IsGoneAt, HasSho
 use crate::files::{file_len, file_part};
 use crate::floors::refresh;
 use crate::manifests::KeptManifest;
+use crate::owned::OwnedReads;
 use crate::packs::{packed_len, packed_part};
 use crate::reads::Reads;
 use fsfs_book::{Book, BookFault, Refusal};
+use fsfs_disk::Disk;
 use fsfs_layout::names;
 use std::alloc::Global;
 
@@ -36,7 +40,7 @@ impl<R: Reads> Direct<R> {
         ensures floor { result.floor ≡ floor }
         ensures kept { result.kept ≡ None }
         ensures told { (m : Files) → (R.view reads).files ≡ Some m → floor_in (R.view reads).shard_size m ≡ Ok floor → HasShortFiles m
-            → TellsFiles (R.view reads) m (telling (R.view result.reads) result.floor result.kept) }
+            → TellsFiles (R.view reads) m (⟦<Direct<R> as Book>⟧.told result) }
     {
         Direct {
             alloc,
@@ -60,6 +64,23 @@ impl<R: Reads> Direct<R> {
     {
         self.floor
     }
+}
+
+/// A book over a disk that nobody else writes to, with the youngest revision of its repository, the size of its shards
+/// and this floor. With the floor that the files have, it tells of each revision what they say.
+pub fn over_disk<D: Disk>(
+    alloc: Global,
+    disk: D,
+    youngest: u32,
+    shard_size: u32,
+    floor: u32,
+) -> Direct<OwnedReads<D>>
+    requires { 0 < shard_size }
+    ensures disk { result.reads.disk ≡ disk }
+    ensures told { (t : Trace) → D.trace disk ≡ Some t → floor_in shard_size (files_now t) ≡ Ok floor → HasShortFiles (files_now t)
+        → TellsAll youngest shard_size (files_now t) (⟦<Direct<OwnedReads<D>> as Book>⟧.told result) }
+{
+    Direct::new(alloc, OwnedReads::new(disk, youngest, shard_size), floor)
 }
 
 // Refuses a revision above the youngest.
