@@ -1,7 +1,7 @@
 -- What a reader finds by the floor and the manifest that it keeps.
-use Rattle.std.proofs.Common.{◌≡◌, ◌≤◌, ◌<◌, ℕ, ◌/◌, List, [], length, take, refl, sym, ap, subst, ◌∙◌, inl, inr, arith, Bool, true, false, cond, nat_lt, nat_eq}
+use Rattle.std.proofs.Common.{◌≡◌, ◌≤◌, ◌<◌, ℕ, ◌/◌, List, [], refl, sym, ap, subst, ◌∙◌, inl, inr, arith, Bool, true, false, cond, nat_lt}
 use Rattle.std.specs.Prelude.{Option, Some, None, Result, Ok, Err, IfSome, unwrap_or, ◌==◌, ◌&&◌, ◌⊎◌, codes}
-use Rattle.std.specs.Cmp.Lexicographic.{pointwise, same_text, nat_list_eq_equiv}
+use Rattle.std.specs.Cmp.Lexicographic.{same_text, nat_list_eq_equiv}
 use Rattle.std.proofs.lemmas.Bool.Decides.{nat_tests}
 use Rattle.std.specs.FinMap as map
 use Rattle.fsfs_base.specs.Files.{Files}
@@ -81,12 +81,14 @@ right_later n reach m new floor kept rev f known right =
 found_next : (v w : View) (floor : ℕ) (kept : Option KeptManifest) (m : Files) (rev : ℕ) → Later v w → IsFoundAt v floor kept rev m → (new : Files) × IsFoundAt w floor kept rev new
 found_next v w floor kept m rev e p =
     let k = next v w m e p.told in
-    let P : ℕ → Type 0 = λ n. is_right n k.files floor kept rev ≡ true in
-    (k.files, record {
-      told = k.told;
-      known = known_later v.reach w.reach rev e.reach p.known;
-      right = subst P (sym e.size) (right_later v.shard_size v.reach m k.files floor kept rev k.follows p.known p.right);
-    })
+    let P : ℕ → Type 0 = λ n. is_right n k.files floor kept rev ≡ true in (
+      k.files,
+      record {
+        told = k.told;
+        known = known_later v.reach w.reach rev e.reach p.known;
+        right = subst P (sym e.size) (right_later v.shard_size v.reach m k.files floor kept rev k.follows p.known p.right);
+      },
+    )
 
 pub finds_later : (v w : View) (floor : ℕ) (kept : Option KeptManifest) → Later v w → FindsAsWell v floor kept w floor kept
 finds_later v w floor kept e = λ m rev p. found_next v w floor kept m rev e p
@@ -125,12 +127,14 @@ pub finds_fresh : (v w : View) (floor fresh : ℕ) (kept : Option KeptManifest) 
 finds_fresh v w floor fresh kept e read = λ m rev p.
     let k = next v w m e p.told in
     let Q : Files → Type 0 = λ f. refused (floor_in w.shard_size f) ≡ Ok fresh in
-    let is : floor_in w.shard_size k.files ≡ Ok fresh = refused_ok _ fresh (told_at w.files k.files Q k.told read) in
-    (k.files, record {
-      told = k.told;
-      known = known_later v.reach w.reach rev e.reach p.known;
-      right = fresh_right w.shard_size k.files rev fresh is;
-    })
+    let is : floor_in w.shard_size k.files ≡ Ok fresh = refused_ok _ fresh (told_at w.files k.files Q k.told read) in (
+      k.files,
+      record {
+        told = k.told;
+        known = known_later v.reach w.reach rev e.reach p.known;
+        right = fresh_right w.shard_size k.files rev fresh is;
+      },
+    )
 
 pub finds_more : (u v w : View) (a b c : ℕ) (k l p : Option KeptManifest) → FindsAsWell u a k v b l → FindsAsWell v b l w c p → FindsAsWell u a k w c p
 finds_more u v w a b c k l p f g = λ m rev h. let q = f m rev h in g q.0 rev q.1
@@ -253,12 +257,15 @@ pub found_later : (v w : View) (floor : ℕ) (kept : Option KeptManifest) (m : F
     → (new : Files) × (IsFoundAt w floor kept rev new) × (rev_bytes w.shard_size new rev ≡ rev_bytes v.shard_size m rev)
 found_later v w floor kept m rev e p =
     let k = next v w m e p.told in
-    let P : ℕ → Type 0 = λ n. is_right n k.files floor kept rev ≡ true in
-    (k.files, record {
-      told = k.told;
-      known = known_later v.reach w.reach rev e.reach p.known;
-      right = subst P (sym e.size) (right_later v.shard_size v.reach m k.files floor kept rev k.follows p.known p.right);
-    }, ap (λ j. rev_bytes j k.files rev) e.size ∙ k.follows.bytes rev p.known)
+    let P : ℕ → Type 0 = λ n. is_right n k.files floor kept rev ≡ true in (
+      k.files,
+      record {
+        told = k.told;
+        known = known_later v.reach w.reach rev e.reach p.known;
+        right = subst P (sym e.size) (right_later v.shard_size v.reach m k.files floor kept rev k.follows p.known p.right);
+      },
+      ap (λ j. rev_bytes j k.files rev) e.size ∙ k.follows.bytes rev p.known,
+    )
 
 -- the own file of a revision that is found, where the kept floor is no greater
 pub own_right : (v : View) (floor : ℕ) (kept : Option KeptManifest) (m : Files) (rev : ℕ) → floor ≤ rev → IsFoundAt v floor kept rev m → agrees (rev_file v.shard_size m rev) (rev_bytes v.shard_size m rev) ≡ true

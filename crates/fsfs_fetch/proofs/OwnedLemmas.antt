@@ -1,9 +1,8 @@
 -- What is told of an owned disk.
-use Rattle.std.proofs.Common.{◌≡◌, ◌≤◌, ℕ, List, sym, ap, ◌∙◌, arith}
-use Rattle.std.specs.Prelude.{Option, Some, Result, Ok, option_map}
+use Rattle.std.proofs.Common.{◌≡◌, ℕ, ap, ◌∙◌, arith}
+use Rattle.std.specs.Prelude.{Option, Some, Ok, option_map}
 use Rattle.fsfs_base.specs.Files.{Files}
 use Rattle.fsfs_disk.specs.Trace.{Trace, files_now}
-use Rattle.fsfs_book.specs.declared.book.Refusal.{Refusal}
 use Rattle.fsfs_book.specs.Told.{Telling}
 use Rattle.fsfs_fetch.specs.RevBytes.{rev_bytes, props_bytes, floor_in}
 use Rattle.fsfs_fetch.specs.Kept.{TellsFiles}

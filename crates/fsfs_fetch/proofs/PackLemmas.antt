@@ -1,9 +1,8 @@
 -- Revisions in packs.
-use Rattle.std.proofs.Common.{◌≡◌, ◌≤◌, ◌<◌, ℕ, ◌+◌, ◌-◌, ◌/◌, ◌%◌, List, [], ◌++◌, length, take, drop, min, refl, sym, ap, subst, ◌∙◌, arith, Bool, true, false, cond, nat_lt}
-use Rattle.std.specs.Prelude.{Option, Some, None, Result, Ok, Err, IfOk, IfSome, unwrap_or, codes}
-use Rattle.std.proofs.lemmas.List.{length-take, length-drop, take_all, drop-take, drop-drop, take-take, take_min, take-append-le}
+use Rattle.std.proofs.Common.{◌≡◌, ◌≤◌, ◌<◌, ℕ, ◌+◌, ◌-◌, ◌/◌, ◌%◌, List, ◌++◌, length, take, drop, min, refl, sym, ap, subst, ◌∙◌, arith, true, false, nat_lt}
+use Rattle.std.specs.Prelude.{Option, Some, None, Result, Ok, Err, IfSome, codes}
+use Rattle.std.proofs.lemmas.List.{length-take, length-drop, drop-take, drop-drop, take-take, take_min, take-append-le}
 use Rattle.std.proofs.lemmas.Bool.Decides.{nat_tests}
-use Rattle.std.proofs.lemmas.Grind.{common_steps}
 use Rattle.std.specs.FinMap as map
 use Rattle.fsfs_base.specs.Files.{Files}
 use Rattle.fsfs_base.specs.declared.small_fault.SmallFault.{SmallFault}
@@ -17,12 +16,11 @@ use Rattle.fsfs_book.specs.Told.{Gives, size_read, part_read}
 use Rattle.fsfs_fetch.specs.declared.manifests.KeptManifest.{KeptManifest}
 use Rattle.fsfs_fetch.specs.declared.packs.Section.{Section}
 use Rattle.fsfs_fetch.specs.RevBytes.{manifest_in, pack_in, section_at, section_of, packed_section, packed_bytes, cut, cut_from}
-use Rattle.fsfs_fetch.specs.Views.{View, Follows, Later}
+use Rattle.fsfs_fetch.specs.Views.{View, Later}
 use Rattle.fsfs_fetch.specs.Answers.{Stays, refused, as_book}
 use Rattle.fsfs_fetch.specs.Kept.{IsPackedAt}
 use Rattle.fsfs_fetch.proofs.FileLemmas.{read_stays, read_bytes}
 use Rattle.fsfs_fetch.proofs.ViewLemmas.{stays_later}
-use Rattle.fsfs_fetch.proofs.ManifestLemmas.{refused_ok}
 
 pub pack_stays : (view : View) (kept : Option KeptManifest) (rev : ℕ) (m : Files) → IsPackedAt view kept rev m → Stays view (in_pack (rev / view.shard_size) (codes "/pack")) (pack_in m (rev / view.shard_size))
 pack_stays view kept rev m p = record { now = m; told = p.told; later = λ new f. f.pack rev p.packed }

@@ -1,21 +1,20 @@
 -- What a reader tells, taken apart and put together.
-use Rattle.std.proofs.Common.{◌≡◌, ◌≤◌, ◌<◌, ℕ, ◌^◌, ◌/◌, List, [], length, take, drop, refl, sym, ap, subst, ◌∙◌, inl, inr, arith, Bool, true, false, cond, nat_lt}
-use Rattle.std.specs.Prelude.{Option, Some, None, Result, Ok, Err, IfSome, ◌&&◌, ◌⊎◌, unwrap_or}
+use Rattle.std.proofs.Common.{◌≡◌, ◌≤◌, ◌<◌, ℕ, ◌^◌, ◌/◌, List, [], length, drop, refl, sym, ap, subst, ◌∙◌, inl, inr, arith, Bool, true, false, cond, nat_lt}
+use Rattle.std.specs.Prelude.{Option, Some, None, Result, Ok, Err, IfSome, ◌&&◌, ◌⊎◌}
 use Rattle.std.proofs.lemmas.List.{length-take, length-drop}
 use Rattle.std.proofs.lemmas.Bool.Decides.{nat_tests}
-use Rattle.std.specs.FinMap as map
 use Rattle.fsfs_base.specs.Files.{Files}
 use Rattle.fsfs_base.specs.declared.small_fault.SmallFault.{SmallFault}
 use Rattle.fsfs_book.specs.declared.book.Refusal.{Refusal}
-use Rattle.fsfs_book.specs.declared.book.Refusal.TheVariants.{NoRev, Missing, Small}
+use Rattle.fsfs_book.specs.declared.book.Refusal.TheVariants.{NoRev}
 use Rattle.fsfs_book.specs.declared.book.BookFault.{BookFault}
 use Rattle.fsfs_book.specs.declared.book.BookFault.TheVariants.{Refused}
-use Rattle.fsfs_book.specs.Told.{Telling, Keeps, Gives}
+use Rattle.fsfs_book.specs.Told.{Keeps, Gives}
 use Rattle.fsfs_fetch.specs.declared.manifests.KeptManifest.{KeptManifest}
 use Rattle.fsfs_fetch.specs.declared.packs.Section.{Section}
 use Rattle.fsfs_fetch.specs.RevBytes.{rev_bytes, rev_file, props_bytes, or_missing, by_floor, floor_in, packed_bytes, packed_section, pack_in, cut, cut_from}
 use Rattle.fsfs_fetch.specs.Views.{Reach, Ends, Grows, IsKnown, IsYoungest, Extends, View, Later}
-use Rattle.fsfs_fetch.specs.Kept.{HasShortFiles, TellsFiles, telling, within, revs_in, props_in, if_short, is_short, is_right, last_of, IsFoundAt, FindsAsWell}
+use Rattle.fsfs_fetch.specs.Kept.{HasShortFiles, TellsFiles, telling, within, revs_in, props_in, is_short, is_right, last_of, IsFoundAt, FindsAsWell}
 use Rattle.fsfs_fetch.proofs.ViewLemmas.{next, known_later, some_files}
 use Rattle.fsfs_fetch.proofs.DirectLemmas.{found_later, fresh_right}
 
@@ -85,10 +84,10 @@ pub told_revs : (v : View) (floor : ℕ) (kept : Option KeptManifest) (rev : ℕ
 unfolding telling
 told_revs v floor kept rev read told =
     elim (within_read v.reach rev (revs_in v.shard_size floor kept v.files rev) read told) [
-      inl p ↦ inl p
-    | inr p ↦
-      let q = revs_some v.shard_size floor kept v.files rev read p.1 in
-      inr (record { files = q.0; found = record { told = q.1; known = p.0; right = q.2 }; short = q.3; bytes = q.4 })
+      | inl p ↦ inl p
+      | inr p ↦
+          let q = revs_some v.shard_size floor kept v.files rev read p.1 in
+          inr (record { files = q.0; found = record { told = q.1; known = p.0; right = q.2 }; short = q.3; bytes = q.4 })
     ]
 
 pub tells_past : (v : View) (floor : ℕ) (kept : Option KeptManifest) (rev : ℕ) (read : Result (List ℕ) Refusal) → IsPast v.reach rev read → (telling v floor kept).revs rev ≡ Some read
@@ -116,10 +115,10 @@ pub told_props : (v : View) (floor : ℕ) (kept : Option KeptManifest) (rev : �
 unfolding telling
 told_props v floor kept rev read told =
     elim (within_read v.reach rev (props_in v.shard_size v.files rev) read told) [
-      inl p ↦ inl p
-    | inr p ↦
-      let q = props_some v.shard_size v.files rev read p.1 in
-      inr (record { files = q.0; told = q.1; known = p.0; bytes = q.2 })
+      | inl p ↦ inl p
+      | inr p ↦
+          let q = props_some v.shard_size v.files rev read p.1 in
+          inr (record { files = q.0; told = q.1; known = p.0; bytes = q.2 })
     ]
 
 pub tells_past_props : (v : View) (floor : ℕ) (kept : Option KeptManifest) (rev : ℕ) (read : Result (List ℕ) Refusal) → IsPast v.reach rev read → (telling v floor kept).props rev ≡ Some read
@@ -148,14 +147,14 @@ found_told v w f g k l rev read e finds p =
     let n = next v w p.files e p.found.told in
     let one : n.files ≡ q.0 = some_files n.files q.0 (sym n.told ∙ q.1.told) in
     let same : rev_bytes w.shard_size q.0 rev ≡ rev_bytes v.shard_size p.files rev =
-      ap (λ m. rev_bytes w.shard_size m rev) (sym one) ∙ ap (λ j. rev_bytes j n.files rev) e.size ∙ n.follows.bytes rev p.found.known in
+    ap (λ m. rev_bytes w.shard_size m rev) (sym one) ∙ ap (λ j. rev_bytes j n.files rev) e.size ∙ n.follows.bytes rev p.found.known in
     tells_found w g l q.0 rev q.1 (ap is_short same ∙ p.short) ∙ ap (λ (r : Result (List ℕ) Refusal). Some r) (same ∙ p.bytes)
 
 props_told : (v w : View) (g : ℕ) (l : Option KeptManifest) (rev : ℕ) (read : Result (List ℕ) Refusal) → Later v w → HasProps v rev read → (telling w g l).props rev ≡ Some read
 props_told v w g l rev read e p =
     let n = next v w p.files e p.told in
     let same : props_bytes w.shard_size n.files rev ≡ props_bytes v.shard_size p.files rev =
-      ap (λ j. props_bytes j n.files rev) e.size ∙ ap (or_missing rev) (n.follows.props rev p.known) in
+    ap (λ j. props_bytes j n.files rev) e.size ∙ ap (or_missing rev) (n.follows.props rev p.known) in
     tells_props w g l n.files rev n.told (known_later v.reach w.reach rev e.reach p.known) ∙ ap (λ (r : Result (List ℕ) Refusal). Some r) (same ∙ p.bytes)
 
 youngest_told : (v w : View) (f g : ℕ) (k l : Option KeptManifest) (y : ℕ) → Later v w → (telling v f k).youngest ≡ Some y → (telling w g l).youngest ≡ Some y
@@ -186,15 +185,15 @@ past_read v w rev n read e is p =
 pub revs_above : (v w : View) (floor : ℕ) (kept : Option KeptManifest) (rev n : ℕ) (read : Result (List ℕ) Refusal) → Later v w → IsYoungest w.reach n → n < rev → (telling v floor kept).revs rev ≡ Some read → read ≡ Err (NoRev rev n)
 revs_above v w floor kept rev n read e is lt told =
     elim (told_revs v floor kept rev read told) [
-      inl p ↦ past_read v w rev n read e is p
-    | inr p ↦ absurd (not_above w.reach rev n is lt (known_later v.reach w.reach rev e.reach p.found.known))
+      | inl p ↦ past_read v w rev n read e is p
+      | inr p ↦ absurd (not_above w.reach rev n is lt (known_later v.reach w.reach rev e.reach p.found.known))
     ]
 
 pub props_above : (v w : View) (floor : ℕ) (kept : Option KeptManifest) (rev n : ℕ) (read : Result (List ℕ) Refusal) → Later v w → IsYoungest w.reach n → n < rev → (telling v floor kept).props rev ≡ Some read → read ≡ Err (NoRev rev n)
 props_above v w floor kept rev n read e is lt told =
     elim (told_props v floor kept rev read told) [
-      inl p ↦ past_read v w rev n read e is p
-    | inr p ↦ absurd (not_above w.reach rev n is lt (known_later v.reach w.reach rev e.reach p.known))
+      | inl p ↦ past_read v w rev n read e is p
+      | inr p ↦ absurd (not_above w.reach rev n is lt (known_later v.reach w.reach rev e.reach p.known))
     ]
 
 -- there is a revision, by the youngest
@@ -210,19 +209,19 @@ pub revs_there : (v w : View) (floor : ℕ) (kept : Option KeptManifest) (rev : 
     → (new : Files) × (IsFoundAt w floor kept rev new) × (rev_bytes w.shard_size new rev ≡ read)
 revs_there v w floor kept rev read e there told =
     elim (told_revs v floor kept rev read told) [
-      inl p ↦ absurd (not_past_there v w rev read e there p)
-    | inr p ↦ let k = found_later v w floor kept p.files rev e p.found in (k.0, k.1, k.2 ∙ p.bytes)
+      | inl p ↦ absurd (not_past_there v w rev read e there p)
+      | inr p ↦ let k = found_later v w floor kept p.files rev e p.found in (k.0, k.1, k.2 ∙ p.bytes)
     ]
 
 pub props_there : (v w : View) (floor : ℕ) (kept : Option KeptManifest) (rev : ℕ) (read : Result (List ℕ) Refusal) → Later v w → IsThere w rev → (telling v floor kept).props rev ≡ Some read → HasProps w rev read
 props_there v w floor kept rev read e there told =
     elim (told_props v floor kept rev read told) [
-      inl p ↦ absurd (not_past_there v w rev read e there p)
-    | inr p ↦
-      let n = next v w p.files e p.told in
-      let same : props_bytes w.shard_size n.files rev ≡ props_bytes v.shard_size p.files rev =
-      ap (λ j. props_bytes j n.files rev) e.size ∙ ap (or_missing rev) (n.follows.props rev p.known) in
-      record { files = n.files; told = n.told; known = known_later v.reach w.reach rev e.reach p.known; bytes = same ∙ p.bytes }
+      | inl p ↦ absurd (not_past_there v w rev read e there p)
+      | inr p ↦
+          let n = next v w p.files e p.told in
+          let same : props_bytes w.shard_size n.files rev ≡ props_bytes v.shard_size p.files rev =
+          ap (λ j. props_bytes j n.files rev) e.size ∙ ap (or_missing rev) (n.follows.props rev p.known) in
+          record { files = n.files; told = n.told; known = known_later v.reach w.reach rev e.reach p.known; bytes = same ∙ p.bytes }
     ]
 
 youngest_within : (a b : Reach) (n : ℕ) → Extends a b → IsYoungest b n → IfSome (last_of a) (λ y. n ≡ y)

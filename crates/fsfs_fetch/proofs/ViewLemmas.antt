@@ -1,12 +1,12 @@
 -- Views follow one another.
-use Rattle.std.proofs.Common.{◌≡◌, ◌≤◌, ℕ, ◌/◌, List, Option, Some, None, refl, sym, subst, ◌∙◌, inl, inr, arith, true}
+use Rattle.std.proofs.Common.{◌≡◌, ◌≤◌, ℕ, List, Option, Some, None, refl, sym, subst, ◌∙◌, inl, inr, arith}
 use Rattle.std.specs.Prelude.{IfSome, IfErr, Result, Ok, Err, ◌⊎◌}
 use Rattle.fsfs_book.specs.declared.book.BookFault.{BookFault}
 use Rattle.fsfs_book.specs.declared.book.BookFault.TheVariants.{Refused, Short, DiskFault, OutOfMemory}
 use Rattle.fsfs_book.specs.Told.{HasCause, IfDisk, Rose}
 use Rattle.std.specs.FinMap as map
 use Rattle.fsfs_base.specs.Files.{Files}
-use Rattle.fsfs_fetch.specs.Views.{Reach, Ends, Grows, IsKnown, IsYoungest, Extends, View, Follows, FilesLater, Later}
+use Rattle.fsfs_fetch.specs.Views.{Reach, Ends, Grows, IsKnown, Extends, View, Follows, FilesLater, Later}
 use Rattle.fsfs_fetch.specs.Answers.{Stays, MayGo}
 
 pub extends_same : (reach : Reach) → Extends reach reach

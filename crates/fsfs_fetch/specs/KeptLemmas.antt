@@ -1,5 +1,5 @@
 -- What a reader tells is short.
-use Rattle.std.proofs.Common.{◌≡◌, ℕ, ◌^◌, ◌<◌, List, length, Option, Some, None, Ok, Err, Bool, true, false, cond, nat_lt, arith}
+use Rattle.std.proofs.Common.{◌≡◌, ℕ, ◌^◌, ◌<◌, List, length, Option, Some, None, Ok, Bool, true, false, cond, nat_lt, arith}
 use Rattle.std.specs.Prelude.{Result, ◌&&◌}
 use Rattle.std.proofs.lemmas.Bool.Decides.{nat_tests}
 use Rattle.fsfs_base.specs.Files.{Files}
@@ -7,7 +7,7 @@ use Rattle.fsfs_book.specs.declared.book.Refusal.{Refusal}
 use Rattle.fsfs_fetch.specs.declared.manifests.KeptManifest.{KeptManifest}
 use Rattle.fsfs_fetch.specs.RevBytes.{rev_bytes}
 use Rattle.fsfs_fetch.specs.Views.{View, Reach, Ends, Grows}
-use Rattle.fsfs_fetch.specs.Kept.{telling, is_right, is_short, if_short, revs_in, within}
+use Rattle.fsfs_fetch.specs.Kept.{telling, is_right, is_short, revs_in, within}
 
 if_small : (right short : Bool) (n : ℕ) (bytes : List ℕ) (read : Result (List ℕ) Refusal) → (read ≡ Ok bytes → short ≡ nat_lt (length bytes) 18446744073709551616) → cond (right && short) (Some read) None ≡ Some (Ok bytes) → length bytes < 2 ^ 64
 if_small false short n bytes read e told = cc

@@ -1,5 +1,5 @@
 -- The bytes of a revision, packed or not: where they stand in the files of a repository, or why there are none.
-use Rattle.std.specs.Prelude.{ℕ, ◌+◌, ◌-◌, ◌/◌, ◌%◌, min, Bool, nat_lt, ◌==◌, if◌then◌else◌, List, [], length, take, drop, slice_index, slice_index_or, Option, Some, None, unwrap_or, Result, Ok, Err, codes}
+use Rattle.std.specs.Prelude.{ℕ, ◌+◌, ◌-◌, ◌/◌, ◌%◌, min, nat_lt, ◌==◌, if◌then◌else◌, List, [], length, take, drop, slice_index, slice_index_or, Option, Some, None, unwrap_or, Result, Ok, Err, codes}
 use Rattle.std.specs.FinMap as map
 use Rattle.fsfs_base.specs.Files.{Files}
 use Rattle.fsfs_base.specs.declared.small_fault.SmallFile.{SmallFile}

@@ -1,6 +1,5 @@
 -- What a store that is read tells, and how it may change while others write to it.
-use Rattle.std.specs.Prelude.{◌≡◌, ◌⊎◌, ◌≤◌, ◌<◌, ℕ, ◌/◌, Bool, true, false, nat_lt, List, Option, Some, None, Result, Ok, Err}
-use Rattle.std.specs.FinMap as map
+use Rattle.std.specs.Prelude.{◌≡◌, ◌⊎◌, ◌≤◌, ℕ, ◌/◌, Bool, true, false, nat_lt, Option, Some, None, Result, Ok, Err}
 use Rattle.fsfs_base.specs.Files.{Files}
 use Rattle.fsfs_base.specs.declared.small_fault.SmallFault.{SmallFault}
 use Rattle.fsfs_fetch.specs.RevBytes.{rev_bytes, rev_file, props_file, floor_in, manifest_file, pack_in}

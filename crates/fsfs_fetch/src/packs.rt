@@ -104,7 +104,12 @@ fn section_part<R: Reads>(
 {
     let shard = rev / reads.shard_size();
     let count = fitting(section, offset, buffer.len());
-    match read_at(reads, &names::pack(shard), section.start + offset, &mut buffer[..count])? {
+    match read_at(
+        reads,
+        &names::pack(shard),
+        section.start + offset,
+        &mut buffer[..count],
+    )? {
         None => Err(BookFault::Refused(Refusal::Missing { rev })),
         Some(found) => Ok(found),
     }

@@ -1,12 +1,11 @@
-use Rattle.std.proofs.Common.{◌≡◌, ℕ, List, length, take, sym, ap, subst, ◌∙◌, arith}
-use Rattle.std.specs.Prelude.{Option, Some, None, Result, Ok, Err}
+use Rattle.std.proofs.Common.{ℕ, List, length, take, sym, subst}
+use Rattle.std.specs.Prelude.{Option, Ok}
 use Rattle.std.proofs.lemmas.Result.{err_from_is_err_and}
-use Rattle.fsfs_book.specs.declared.book.BookFault.{BookFault}
-use Rattle.fsfs_book.specs.Told.{part_read, size_read}
-use Rattle.fsfs_fetch.specs.RevBytes.{rev_bytes, rev_file, floor_in}
-use Rattle.fsfs_fetch.specs.Answers.{FromFile, part_of_file, size_of_file}
+use Rattle.fsfs_book.specs.Told.{part_read}
+use Rattle.fsfs_fetch.specs.RevBytes.{rev_file}
+use Rattle.fsfs_fetch.specs.Answers.{FromFile, part_of_file}
 use Rattle.fsfs_fetch.proofs.ViewLemmas.{later_more, cause_from}
-use Rattle.fsfs_fetch.proofs.DirectLemmas.{fresh_fault, fresh_floor, fresh_found, fresh_goes, fresh_missing, floor_err, floor_err_len, bytes_fault, bytes_packed, finds_same, finds_read, finds_later, finds_serving, finds_more, gives_at, gone_err, gone_some, gone_at, packed_at, own_goes, own_right, own_some, own_err}
+use Rattle.fsfs_fetch.proofs.DirectLemmas.{bytes_packed, finds_later, finds_serving, finds_more, gives_at, gone_at, packed_at, own_goes, own_right, own_some, own_err}
 use Rattle.fsfs_fetch.proofs.direct.part_of.Goals as goal
 
 pub returns-then-rev-floor-clause-told : goal.returns-then-rev-floor-clause-told

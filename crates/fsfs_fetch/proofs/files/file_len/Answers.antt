@@ -1,5 +1,3 @@
-use Rattle.fsfs_fetch.specs.Answers.{FromFile}
-use Rattle.std.specs.Prelude.{Option, Result, Ok, Err, IfSome, IfOk, IfErr}
 use Rattle.fsfs_fetch.proofs.FileLemmas.{size_of_result}
 use Rattle.fsfs_fetch.proofs.files.file_len.Goals as goal
 

@@ -1,9 +1,9 @@
-use Rattle.std.proofs.Common.{◌≡◌, ◌≤◌, subst, arith}
-use Rattle.std.specs.Prelude.{Option, Some, IfSome}
+use Rattle.std.proofs.Common.{subst, arith}
+use Rattle.std.specs.Prelude.{IfSome}
 use Rattle.std.specs.FinMap as map
 use Rattle.fsfs_disk.specs.Trace.{IsSize}
 use Rattle.fsfs_fetch.proofs.ViewLemmas.{later_more}
-use Rattle.fsfs_fetch.proofs.FileLemmas.{size_found, past_end, part_found}
+use Rattle.fsfs_fetch.proofs.FileLemmas.{size_found, part_found}
 use Rattle.fsfs_fetch.proofs.files.file_part.Goals as goal
 
 pub returns-in-None-clause-told : goal.returns-in-None-clause-told

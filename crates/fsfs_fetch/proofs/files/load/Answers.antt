@@ -1,5 +1,5 @@
-use Rattle.std.proofs.Common.{◌≡◌, ◌<◌, ◌≤◌, ℕ, List, length, take, sym, ap, subst, ◌∙◌, arith}
-use Rattle.std.specs.Prelude.{Option, Some, None, IfSome, unwrap_or}
+use Rattle.std.proofs.Common.{◌≡◌, ◌<◌, ℕ, length, sym, ap, subst, ◌∙◌, arith}
+use Rattle.std.specs.Prelude.{Some}
 use Rattle.std.proofs.lemmas.Grind.{common_steps}
 use Rattle.fsfs_fetch.specs.Answers.{IsFrontOf}
 use Rattle.fsfs_fetch.proofs.ViewLemmas.{later_more, stays_later}
@@ -38,9 +38,9 @@ loop-preserved g c =
     let at : c.len.result ≡ length c.loop.bytes.items = grind (arith, common_steps) in
     record {
       front = λ file s.
-      let t = stays_later (view c.args.reads.now) (view c.loop.reads) c.args.name.now file c.loop.invariant.later s in
-      let more = more_of (view c.loop.reads) (view c.read_at.new.reads) c.args.name.now c.loop.bytes.items c.loop.piece c.read_at.new.buffer c.len.result c.in-Some.count c.in_ok-read_at.field-0 file c.in_ok-read_at.ensures.later t c.in_ok-read_at.ensures.bytes (c.loop.invariant.front file s) at c.in-Some.is in
-      subst (λ items. IsFrontOf items file) (sym c.in-Ok.ensures.items) more;
+          let t = stays_later (view c.args.reads.now) (view c.loop.reads) c.args.name.now file c.loop.invariant.later s in
+          let more = more_of (view c.loop.reads) (view c.read_at.new.reads) c.args.name.now c.loop.bytes.items c.loop.piece c.read_at.new.buffer c.len.result c.in-Some.count c.in_ok-read_at.field-0 file c.in_ok-read_at.ensures.later t c.in_ok-read_at.ensures.bytes (c.loop.invariant.front file s) at c.in-Some.is in
+          subst (λ items. IsFrontOf items file) (sym c.in-Ok.ensures.items) more;
       room = omega (arith, c.loop.invariant.room, c.read_at.auto.buffer);
       later = later_more _ _ _ c.loop.invariant.later c.in_ok-read_at.ensures.later;
       faults = omega (arith, c.loop.invariant.faults, c.in_ok-read_at.ensures.cause.later);

@@ -1,4 +1,4 @@
-use Rattle.std.proofs.Common.{◌≡◌, arith}
+use Rattle.std.proofs.Common.{arith}
 use Rattle.fsfs_text.proofs.Readers.{all_exact}
 use Rattle.fsfs_layout.proofs.Files.{rev_line_reads}
 use Rattle.fsfs_fetch.proofs.FloorLemmas.{floor_ok, floor_inside, floor_bad}

@@ -1,5 +1,5 @@
-use Rattle.std.proofs.Common.{◌≡◌, ℕ, length, take, refl, sym, ap, subst, ◌∙◌, arith}
-use Rattle.std.specs.Prelude.{Ok, Err, unwrap_or}
+use Rattle.std.proofs.Common.{◌≡◌, take, refl, sym, ap, ◌∙◌}
+use Rattle.std.specs.Prelude.{Ok, Err}
 use Rattle.fsfs_fetch.proofs.FloorLemmas.{floor_found}
 use Rattle.fsfs_fetch.proofs.floors.read_floor.Goals as goal
 

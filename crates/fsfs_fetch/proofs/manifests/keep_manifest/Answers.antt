@@ -1,7 +1,7 @@
-use Rattle.std.proofs.Common.{◌≡◌, ℕ, refl, sym, ap, ◌∙◌, Vec, Global}
+use Rattle.std.proofs.Common.{ℕ, Vec, Global}
 use Rattle.fsfs_fetch.specs.Kept.{kept_offsets}
 use Rattle.std.proofs.lemmas.Result.{err_from_is_err_and}
-use Rattle.fsfs_fetch.proofs.ManifestLemmas.{manifest_stays, kept_told, read_serves, refused_ok, gives_any}
+use Rattle.fsfs_fetch.proofs.ManifestLemmas.{manifest_stays, read_serves, refused_ok, gives_any}
 use Rattle.fsfs_fetch.proofs.manifests.keep_manifest.Goals as goal
 
 pub returns-in_err-offsets-clause-told : goal.returns-in_err-offsets-clause-told

@@ -1,7 +1,6 @@
 use Rattle.std.proofs.Common.{◌≡◌, [], sym, subst}
-use Rattle.std.specs.Prelude.{Ok, Err, unwrap_or}
+use Rattle.std.specs.Prelude.{unwrap_or}
 use Rattle.fsfs_fetch.specs.Answers.{Stays}
-use Rattle.fsfs_fetch.specs.RevBytes.{manifest_of}
 use Rattle.fsfs_fetch.proofs.ManifestLemmas.{manifest_ok, manifest_err, manifest_told}
 use Rattle.fsfs_fetch.proofs.manifests.shard_offsets.Goals as goal
 

@@ -1,4 +1,3 @@
-use Rattle.std.proofs.Common.{◌≡◌}
 use Rattle.std.proofs.lemmas.Result.{err_from_is_err_and}
 use Rattle.fsfs_fetch.proofs.PackLemmas.{len_told, len_err}
 use Rattle.fsfs_fetch.proofs.packs.packed_len.Goals as goal

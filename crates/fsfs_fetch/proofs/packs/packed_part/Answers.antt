@@ -1,5 +1,4 @@
-use Rattle.std.proofs.Common.{◌≡◌, ◌≤◌, ℕ, List, take, sym, ap, subst, ◌∙◌, arith}
-use Rattle.std.specs.Prelude.{Some}
+use Rattle.std.proofs.Common.{ℕ, take, arith}
 use Rattle.std.proofs.lemmas.Result.{err_from_is_err_and}
 use Rattle.fsfs_fetch.proofs.ViewLemmas.{later_more, cause_from}
 use Rattle.fsfs_fetch.proofs.PackLemmas.{part_stops, part_past, is_section, pack_of, part_whole}
