@@ -1,0 +1,4 @@
+pub mod NumberLemmas
+pub mod PathLemmas
+pub mod TakenLemmas
+pub mod ReadLemmas
