@@ -3,3 +3,4 @@ pub mod Grammars
 pub mod Words
 pub mod Faults
 pub mod Readings
+pub mod Chains

@@ -45,26 +45,30 @@ shows_ids rows = option_map_or (λ word. bytes_eq word (codes "true")) (first_of
 
 -- ---- what the matches of each command ask for
 
-abbrev pub repos_in : List Row → Option (List ℕ)
-repos_in rows = first_of (codes "REPOS") rows
+-- a word that clap requires
+abbrev pub required_in : List ℕ → List Row → List ℕ
+required_in name rows = unwrap_or (first_of name rows) []
+
+abbrev pub repos_in : List Row → List ℕ
+repos_in rows = required_in (codes "REPOS") rows
 
 abbrev pub path_in : List Row → Option (List ℕ)
 path_in rows = first_of (codes "PATH") rows
 
 abbrev pub create_asked : List Row → Option Asked
-create_asked rows = option_and_then (λ repos. option_map (Create repos) (shard_in rows)) (repos_in rows)
+create_asked rows = option_map (Create (repos_in rows)) (shard_in rows)
 
 abbrev pub tree_asked : List Row → Option Asked
-tree_asked rows = option_and_then (λ repos. option_map (λ revision. Tree repos revision (shows_ids rows) (path_in rows)) (revision_in rows)) (repos_in rows)
+tree_asked rows = option_map (λ revision. Tree (repos_in rows) revision (shows_ids rows) (path_in rows)) (revision_in rows)
 
 abbrev pub cat_asked : List Row → Option Asked
-cat_asked rows = option_and_then (λ repos. option_and_then (λ path. option_map (λ revision. Cat repos revision path) (revision_in rows)) (path_in rows)) (repos_in rows)
+cat_asked rows = option_map (λ revision. Cat (repos_in rows) revision (required_in (codes "PATH") rows)) (revision_in rows)
 
 -- the words behind a command's own
 abbrev pub asked_by : Verb → List (List ℕ) → Option Asked
 asked_by verb.Create words = option_and_then create_asked (taken create_app words)
-asked_by verb.Youngest words = option_and_then (λ rows. option_map Youngest (repos_in rows)) (taken youngest_app words)
-asked_by verb.Uuid words = option_and_then (λ rows. option_map Uuid (repos_in rows)) (taken uuid_app words)
+asked_by verb.Youngest words = option_map (λ rows. Youngest (repos_in rows)) (taken youngest_app words)
+asked_by verb.Uuid words = option_map (λ rows. Uuid (repos_in rows)) (taken uuid_app words)
 asked_by verb.Tree words = option_and_then tree_asked (taken tree_app words)
 asked_by verb.Cat words = option_and_then cat_asked (taken cat_app words)
 

@@ -1,7 +1,7 @@
 //! Words are read.
-ghost use Rattle.std.specs.Prelude.{◌≡◌, ◌==◌, ℕ, List, map, string_bytes, true, option_map};
-ghost use Rattle.clap.specs.Words.{app_of, found_of, is_simple_and_free, rows_of, first_of};
-ghost use Rattle.fsfs_words.specs.Words.{taken, asked, asked_by, revision_in, shard_in, shows_ids, path_in};
+ghost use Rattle.std.specs.Prelude.{◌≡◌, ◌==◌, ℕ, List, map, string_bytes, true, is_some, option_map, IfOk};
+ghost use Rattle.clap.specs.Words.{app_of, found_of, is_simple_and_free, rows_of, first_of, IsParsedFrom};
+ghost use Rattle.fsfs_words.specs.Words.{taken, asked, asked_by, revision_in, shard_in, shows_ids, path_in, required_in};
 ghost use Rattle.fsfs_words.specs.Readings.{Reads, Finds, GivesPath};
 
 use crate::commands::{cat_command, create_command, look_command, tree_command};
@@ -23,7 +23,8 @@ const USUAL_SHARD: u32 = 1000;
 // What clap finds in the words of a command.
 fn matches_of<'a>(command: Command<'a>, words: &'a [String]) -> Result<ArgMatches<'a>, WordsFault>
     requires { is_simple_and_free (app_of command) ≡ true }
-    ensures { Finds (taken (app_of command.entry) (map string_bytes words.entry.now)) (λ m. rows_of (found_of m)) result }
+    ensures found { Finds (taken (app_of command.entry) (map string_bytes words.entry.now)) (λ m. rows_of (found_of m)) result }
+    ensures parsed { IfOk result (IsParsedFrom command.entry) }
 {
     match command.try_get_matches_from(words) {
         Ok(matches) => Ok(matches),
@@ -42,10 +43,14 @@ fn word_of<'a>(matches: &ArgMatches<'a>, id: &str) -> Option<&'a str>
 }
 
 // The word of an argument that clap requires.
-fn required<'a>(matches: &ArgMatches<'a>, id: &str) -> Result<&'a str, WordsFault>
-    ensures { Finds (first_of id.now (rows_of (found_of matches.now))) (λ word. word.now) result }
+fn required<'a>(matches: &ArgMatches<'a>, id: &str) -> &'a str
+    requires { is_some (first_of id.now (rows_of (found_of matches.now))) ≡ true }
+    ensures { result.now ≡ required_in id.now (rows_of (found_of matches.now)) }
 {
-    word_of(matches, id).ok_or(WordsFault::Usage)
+    match word_of(matches, id) {
+        Some(word) => word,
+        None => unreachable!(),
+    }
 }
 
 // [-r REV]
@@ -98,7 +103,7 @@ fn read_create<'a>(alloc: Global, words: &'a [String]) -> Result<Order<'a>, Word
     ensures { Reads (asked_by Verb.Create (map string_bytes words.entry.now)) result }
 {
     let matches = matches_of(create_command(alloc)?, words)?;
-    let repos = required(&matches, "REPOS")?;
+    let repos = required(&matches, "REPOS");
     let shard = shard_given(&matches)?;
     Ok(Order::Create(CreateOrder { repos, shard }))
 }
@@ -107,21 +112,21 @@ fn read_youngest<'a>(alloc: Global, words: &'a [String]) -> Result<Order<'a>, Wo
     ensures { Reads (asked_by Verb.Youngest (map string_bytes words.entry.now)) result }
 {
     let matches = matches_of(look_command(alloc, "youngest")?, words)?;
-    Ok(Order::Youngest(required(&matches, "REPOS")?))
+    Ok(Order::Youngest(required(&matches, "REPOS")))
 }
 
 fn read_uuid<'a>(alloc: Global, words: &'a [String]) -> Result<Order<'a>, WordsFault>
     ensures { Reads (asked_by Verb.Uuid (map string_bytes words.entry.now)) result }
 {
     let matches = matches_of(look_command(alloc, "uuid")?, words)?;
-    Ok(Order::Uuid(required(&matches, "REPOS")?))
+    Ok(Order::Uuid(required(&matches, "REPOS")))
 }
 
 fn read_tree<'a>(alloc: Global, words: &'a [String]) -> Result<Order<'a>, WordsFault>
     ensures { Reads (asked_by Verb.Tree (map string_bytes words.entry.now)) result }
 {
     let matches = matches_of(tree_command(alloc)?, words)?;
-    let repos = required(&matches, "REPOS")?;
+    let repos = required(&matches, "REPOS");
     let revision = revision_given(&matches)?;
     let show_ids = shows_ids_given(&matches);
     let path = path_given(alloc, &matches)?;
@@ -137,8 +142,8 @@ fn read_cat<'a>(alloc: Global, words: &'a [String]) -> Result<Order<'a>, WordsFa
     ensures { Reads (asked_by Verb.Cat (map string_bytes words.entry.now)) result }
 {
     let matches = matches_of(cat_command(alloc)?, words)?;
-    let repos = required(&matches, "REPOS")?;
-    let word = required(&matches, "PATH")?;
+    let repos = required(&matches, "REPOS");
+    let word = required(&matches, "PATH");
     let revision = revision_given(&matches)?;
     let path = read_path(alloc, word)?;
     Ok(Order::Cat(CatOrder {

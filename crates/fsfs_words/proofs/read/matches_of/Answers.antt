@@ -9,12 +9,12 @@ use Rattle.fsfs_words.proofs.TakenLemmas.{taken_some, refused_kind, is_simple_to
 use Rattle.fsfs_words.proofs.read.matches_of.Goals.{in-OutOfMemory, in_default}
 use Rattle.fsfs_words.proofs.read.matches_of.Goals as goal
 
-pub returns-in-Ok : goal.returns-in-Ok
-returns-in-Ok c =
+pub returns-in-Ok-clause-found : goal.returns-in-Ok-clause-found
+returns-in-Ok-clause-found c =
     taken_some (app_of c.args.command) (map string_bytes c.args.words.now) (rows_of (found_of c.in-Ok.matches)) (c.in-Ok.ensures.kinds c.requires) (c.in-Ok.ensures.matches (is_simple_too (app_of c.args.command) c.requires)).0
 
-pub returns-after-kind : goal.returns-after-kind
-returns-after-kind c =
+pub returns-after-kind-clause-found : goal.returns-after-kind-clause-found
+returns-after-kind-clause-found c =
     let app = app_of c.args.command in
     let words = map string_bytes c.args.words.now in
     elim c.match-kind.branch [
