@@ -1,4 +1,4 @@
-// The youngest revision of a repository, and repositories that are not opened.
+// The youngest revision of a repository, its identifier, and repositories that are not opened.
 use crate::commands::{Ran, empty_host, run};
 use fsfs_disk::{Disk, Name};
 use fsfs_memdisk::{MemDisk, MemHost};
@@ -29,6 +29,20 @@ fn youngest_of_a_new_repository(rt: HostRuntime) -> Result<(), Fail> {
     let ran = youngest(alloc, &mut host)?;
     assert_eq!(rt; ran.status, 0);
     assert_eq!(rt; ran.out.bytes(), b"0\n".as_slice());
+    assert_eq!(rt; ran.err.bytes(), b"".as_slice());
+    Ok(())
+}
+
+#[test]
+fn uuid_of_a_new_repository(rt: HostRuntime) -> Result<(), Fail> {
+    let alloc = rt.alloc();
+    let mut host = created(alloc)?;
+    let ran = run(alloc, Tool::Look, &mut host, &["uuid", "R"])?;
+    assert_eq!(rt; ran.status, 0);
+    assert_eq!(rt;
+        ran.out.bytes(),
+        b"00000000-0000-4000-8000-000000000000\n".as_slice()
+    );
     assert_eq!(rt; ran.err.bytes(), b"".as_slice());
     Ok(())
 }

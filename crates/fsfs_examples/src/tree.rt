@@ -22,6 +22,27 @@ fn tree_of_a_new_repository(rt: HostRuntime) -> Result<(), Fail> {
     Ok(())
 }
 
+// What can't be answered of a tree yet.
+const NOT_YET: [&[&str]; 5] = [
+    &["tree", "-r", "0", "R"],
+    &["tree", "--show-ids", "R"],
+    &["tree", "R", "/a"],
+    &["tree", "R", "a//b"],
+    &["cat", "R", "/a"],
+];
+
+#[test]
+fn parts_of_a_tree_are_usage_yet(rt: HostRuntime) -> Result<(), Fail> {
+    let alloc = rt.alloc();
+    let mut host = created(alloc)?;
+    for words in NOT_YET {
+        let ran = run(alloc, Tool::Look, &mut host, words)?;
+        assert_eq!(rt; ran.status, 2);
+        assert_eq!(rt; ran.err.bytes(), b"svnlook: Usage\n".as_slice());
+    }
+    Ok(())
+}
+
 // What a look at the tree answers where one file was put anew.
 fn tree_with(alloc: Global, name: &Name, bytes: &[u8]) -> Result<Ran, Fail> {
     let disk = with_file(alloc, name, bytes)?;

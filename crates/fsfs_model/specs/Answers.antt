@@ -63,6 +63,11 @@ Answer Youngest (Some history) = prints (decimal (last_of history) ++ codes "\n"
 Answer Tree None = refuses (codes "svnlook: NotRepo\n") 1
 Answer Tree (Some history) = prints (text_of_revision (slice_get history (last_of history)))
 
+-- `uuid`, of the identifier of the repository, which no history tells; none where there is no repository at the path
+abbrev pub UuidAnswer : Option (List ℕ) → Reply
+UuidAnswer None = refuses (codes "svnlook: NotRepo\n") 1
+UuidAnswer (Some identifier) = prints (identifier ++ codes "\n")
+
 -- ---- what a new repository stands for
 
 -- revision 0: `/` alone, an empty directory, with no changed paths, and the date as its one property

@@ -17,7 +17,7 @@ use Rattle.fsfs_repo.specs.declared.opening.Opened.{Opened}
 use Rattle.fsfs_repo.specs.declared.creation.CreateFault.{CreateFault}
 use Rattle.fsfs_repo.specs.declared.creation.CreateFault.TheVariants as create
 use Rattle.fsfs_top.specs.Faults.{fault_from}
-use Rattle.fsfs_top.specs.Command.{Drawn, Created, IsYoungest, IsNoneOrCreated}
+use Rattle.fsfs_top.specs.Command.{Drawn, Created, OpensAs, IsNoneOrCreated}
 use Rattle.fsfs_top.specs.declared.fault.Fault.{Fault}
 
 given : {X : Type 0} (told : Option X) (x y : X) → x ≡ y → IfSome told (λ t. y ≡ t) → IfSome told (λ t. x ≡ t)
@@ -59,12 +59,9 @@ leaves_created shard clock dice d id old new at_old at_new named was is leaves =
     (λ all. leaves_with old new (IsNoneOrWhole shard (identifier_text id) d.moment old) (IsNoneOrCreated shard clock dice old)
     (λ m h. (d, subst (λ i. IsNoneOrWhole shard (identifier_text i) d.moment old m) named h)) (leaves all)))
 
--- the youngest revision of the repository that was opened, on the disk that the host had
-pub is_youngest : (told at : Option Trace) (o : Opened) → told ≡ at → IfSome told (λ t. IsOpened (small_texts (files_now t)) o) → IsYoungest at o.youngest
-is_youngest told at o same opened = subst (λ d. IsYoungest d o.youngest) same (so told opened) where
-  so : (d : Option Trace) → IfSome d (λ t. IsOpened (small_texts (files_now t)) o) → IsYoungest d o.youngest
-  so None h = tt
-  so (Some t) h = (o, h, refl)
+-- what the small files say of the repository that was opened, on the disk that the host had
+pub opens_as : (told at : Option Trace) (o : Opened) → told ≡ at → IfSome told (λ t. IsOpened (small_texts (files_now t)) o) → OpensAs at o
+opens_as told at o same opened = subst (λ d. OpensAs d o) same opened
 
 -- two paths are one or not
 path_cases : (p q : List ℕ) → (p ≡ q) ⊎ (p ≡ q → ⊥)

@@ -1,5 +1,5 @@
-pub mod WordLemmas
 pub mod OutputLemmas
 pub mod CommandLemmas
 pub mod LookLemmas
 pub mod ReplyLemmas
+pub mod TodayLemmas

@@ -13,8 +13,9 @@ use Rattle.fsfs_repo.specs.declared.opening.OpenFault.TheVariants as opening
 use Rattle.fsfs_repo.specs.declared.first_tree.TreeFault.{TreeFault}
 use Rattle.fsfs_repo.specs.declared.first_tree.TreeFault.TheVariants as tree
 use Rattle.fsfs_top.specs.Faults.{fault_from_open, fault_from_tree, later_fault}
-use Rattle.fsfs_top.specs.Command.{PrintsTree, IsOutside, Agrees, DecidesYoungest, DecidesLook, YoungestIsDecided, TreeIsDecided}
+use Rattle.fsfs_top.specs.Command.{PrintsTree, IsOutside, Agrees, DecidesShown, DecidesLook, ShownIsDecided, TreeIsDecided}
 use Rattle.fsfs_top.specs.declared.fault.Fault.{Fault}
+use Rattle.fsfs_top.specs.declared.fault.Fault.TheVariants.{Memory}
 
 -- ---- failures of the outside
 
@@ -41,35 +42,35 @@ tree_agrees : (why want : TreeFault) → (why ≡ want) ⊎ IsTreeOutside why �
 tree_agrees why want (inl e) = inl (ap (λ x. Some (fault_from_tree x)) (sym e))
 tree_agrees why want (inr h) = inr (outside_of_tree why h)
 
--- ---- the youngest revision
+-- ---- the small files
 
-youngest_told : (m : Files) (o : Opened) → Decides (small_texts m) (Ok o) → DecidesYoungest m None
-youngest_told m o d = record {
+opened_told : (m : Files) (o : Opened) → Decides (small_texts m) (Ok o) → DecidesShown m None
+opened_told m o d = record {
   opened = λ p w. refl;
   none = λ w. absurd (d.none w);
   other = λ n w. absurd (d.other n w);
   linear = λ w. absurd (d.linear w);
 }
 
-youngest_refused : (m : Files) (why : OpenFault) → Decides (small_texts m) (Err why) → DecidesYoungest m (Some (fault_from_open why))
-youngest_refused m why d = record {
+opening_refused : (m : Files) (why : OpenFault) → Decides (small_texts m) (Err why) → DecidesShown m (Some (fault_from_open why))
+opening_refused m why d = record {
   opened = λ p w. inr (outside_of_open why (d.opened p w));
   none = λ w. open_agrees why opening.NotRepo (d.none w);
   other = λ n w. open_agrees why (opening.OtherFormat n) (d.other n w);
   linear = λ w. open_agrees why opening.Linear (d.linear w);
 }
 
-pub youngest_decided : (told at : Option Trace) (o : Opened) → told ≡ at → IfSome told (λ t. Decides (small_texts (files_now t)) (Ok o)) → YoungestIsDecided at None
-youngest_decided told at o same d = subst (λ x. YoungestIsDecided x None) same (so told d) where
-  so : (x : Option Trace) → IfSome x (λ t. Decides (small_texts (files_now t)) (Ok o)) → YoungestIsDecided x None
+pub shown_decided : (told at : Option Trace) (o : Opened) → told ≡ at → IfSome told (λ t. Decides (small_texts (files_now t)) (Ok o)) → ShownIsDecided at None
+shown_decided told at o same d = subst (λ x. ShownIsDecided x None) same (so told d) where
+  so : (x : Option Trace) → IfSome x (λ t. Decides (small_texts (files_now t)) (Ok o)) → ShownIsDecided x None
   so None h = tt
-  so (Some t) h = youngest_told (files_now t) o h
+  so (Some t) h = opened_told (files_now t) o h
 
-pub refusal_decided : (told at : Option Trace) (why : OpenFault) (fault : Fault) → told ≡ at → fault ≡ fault_from_open why → IfSome told (λ t. Decides (small_texts (files_now t)) (Err why)) → YoungestIsDecided at (Some fault)
-refusal_decided told at why fault same from d = subst (λ f. YoungestIsDecided at (Some f)) (sym from) (subst (λ x. YoungestIsDecided x (Some (fault_from_open why))) same (so told d)) where
-  so : (x : Option Trace) → IfSome x (λ t. Decides (small_texts (files_now t)) (Err why)) → YoungestIsDecided x (Some (fault_from_open why))
+pub refusal_decided : (told at : Option Trace) (why : OpenFault) (fault : Fault) → told ≡ at → fault ≡ fault_from_open why → IfSome told (λ t. Decides (small_texts (files_now t)) (Err why)) → ShownIsDecided at (Some fault)
+refusal_decided told at why fault same from d = subst (λ f. ShownIsDecided at (Some f)) (sym from) (subst (λ x. ShownIsDecided x (Some (fault_from_open why))) same (so told d)) where
+  so : (x : Option Trace) → IfSome x (λ t. Decides (small_texts (files_now t)) (Err why)) → ShownIsDecided x (Some (fault_from_open why))
   so None h = tt
-  so (Some t) h = youngest_refused (files_now t) why h
+  so (Some t) h = opening_refused (files_now t) why h
 
 -- ---- the tree
 
@@ -130,3 +131,13 @@ tree_not_printed mount disk write rose told at old new why fault same from count
       by_why (tree.Damaged damage) h = (h, kept)
       by_why (tree.DiskFault place) h = (counted h, kept)
       by_why tree.Memory h = kept
+
+-- ---- want of memory, before the disk was looked at
+
+pub memory_shown : (told : Option Trace) → ShownIsDecided told (Some Memory)
+memory_shown None = tt
+memory_shown (Some t) = record { opened = λ o w. inr tt; none = λ w. inr tt; other = λ n w. inr tt; linear = λ w. inr tt }
+
+pub memory_tree : (told : Option Trace) → TreeIsDecided told (Some Memory)
+memory_tree None = tt
+memory_tree (Some t) = record { shown = λ w. inr tt; none = λ w. inr tt; other = λ n w. inr tt; linear = λ w. inr tt; later = λ w. inr tt; damaged = λ d w. inr tt }

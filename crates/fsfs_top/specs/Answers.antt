@@ -8,13 +8,11 @@ use Rattle.fsfs_revision.specs.declared.damage.What.TheVariants as damaged
 use Rattle.fsfs_revision.specs.declared.damage.Damage.{Damage}
 use Rattle.fsfs_top.specs.declared.fault.Fault.{Fault}
 use Rattle.fsfs_top.specs.declared.fault.Fault.TheVariants.{Usage, NotRepo, OtherFormat, Linear, Small, Corrupt, AlreadyRepo, MountFault, DiskFault, WriteFault, Memory}
-use Rattle.fsfs_top.specs.declared.tool.Tool.{Tool}
-use Rattle.fsfs_top.specs.declared.tool.Tool.TheVariants.{Admin, Look, Jobs}
-
-abbrev pub tool_name : Tool → List ℕ
-tool_name Admin = codes "svnadmin"
-tool_name Look = codes "svnlook"
-tool_name Jobs = codes "svnjobs"
+use Rattle.fsfs_repo.specs.declared.opening.Opened.{Opened}
+use Rattle.fsfs_top.specs.declared.output.Shown.{Shown}
+use Rattle.fsfs_top.specs.declared.output.Shown.TheVariants.{Youngest, Uuid}
+use Rattle.fsfs_words.specs.Commands.{tool_name}
+use Rattle.fsfs_words.specs.declared.tool.Tool.{Tool}
 
 abbrev pub place_words : DiskPlace → List ℕ
 place_words OpenFirm = codes "OpenFirm"
@@ -90,6 +88,15 @@ answer_of (Some fault) = status_of fault
 -- a revision's line
 abbrev pub revision_line : ℕ → List ℕ
 revision_line rev = decimal rev ++ 10 ∷ []
+
+-- an identifier's line
+abbrev pub uuid_line : List ℕ → List ℕ
+uuid_line identifier = identifier ++ 10 ∷ []
+
+-- the line that a look at the small files prints
+abbrev pub shown_line : Shown → Opened → List ℕ
+shown_line Youngest opened = revision_line opened.youngest
+shown_line Uuid opened = uuid_line opened.uuid
 
 -- the tree of revision 0: its root alone
 abbrev pub root_line : List ℕ

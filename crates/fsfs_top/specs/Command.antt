@@ -1,5 +1,5 @@
 -- What the top call does, from the words to the files and the line about a fault.
-use Rattle.std.specs.Prelude.{◌≡◌, ◌⊎◌, ℕ, List, codes, Option, Some, None, IfSome, Result, Ok, Err}
+use Rattle.std.specs.Prelude.{◌≡◌, ◌⊎◌, ℕ, List, [], false, Option, Some, None, IfSome, Result, Ok, Err}
 use Rattle.fsfs_base.specs.Files.{Files}
 use Rattle.fsfs_disk.specs.Trace.{Trace, files_now}
 use Rattle.fsfs_disk.specs.Streams.{Adds}
@@ -11,33 +11,41 @@ use Rattle.fsfs_repo.specs.declared.opening.Opened.{Opened}
 use Rattle.fsfs_base.specs.declared.small_fault.SmallFault.{SmallFault}
 use Rattle.fsfs_revision.specs.declared.damage.Damage.{Damage}
 use Rattle.fsfs_top.specs.Output.{AddsFront}
-use Rattle.fsfs_top.specs.Answers.{line_of, revision_line, root_line}
+use Rattle.fsfs_top.specs.Answers.{line_of, shown_line, root_line}
 use Rattle.fsfs_top.specs.Faults.{later_fault}
-use Rattle.fsfs_top.specs.Words.{Creates, LooksAt}
+use Rattle.fsfs_words.specs.Words as said
+use Rattle.fsfs_words.specs.Words.{Asked, asked}
+use Rattle.fsfs_words.specs.Readings.{IsPathGiven}
+use Rattle.fsfs_words.specs.declared.tool.Tool.{Tool}
+use Rattle.fsfs_words.specs.declared.order.Order.{Order}
+use Rattle.fsfs_words.specs.declared.order.Order.TheVariants as order
+use Rattle.fsfs_words.specs.declared.order.Order.TheVariants.{Create, Tree, Cat}
 use Rattle.fsfs_top.specs.declared.fault.Fault.{Fault}
 use Rattle.fsfs_top.specs.declared.fault.Fault.TheVariants.{Usage, NotRepo, OtherFormat, Linear, Small, Corrupt, AlreadyRepo, MountFault, DiskFault, WriteFault, Memory}
-use Rattle.fsfs_top.specs.declared.words.Order.{Order}
-use Rattle.fsfs_top.specs.declared.words.Order.TheVariants.{Create, Youngest, Tree}
-use Rattle.fsfs_top.specs.declared.tool.Tool.{Tool}
-use Rattle.fsfs_top.specs.declared.tool.Tool.TheVariants.{Admin, Look, Jobs}
+use Rattle.fsfs_top.specs.declared.output.Shown.{Shown}
+use Rattle.fsfs_top.specs.declared.output.Shown.TheVariants.{Youngest, Uuid}
 
 -- a program's words ask for a new repository at this path, with so many revisions in a shard
 abbrev pub AsksCreate : Tool → List (List ℕ) → List ℕ → ℕ → Type 0
-AsksCreate Admin words repos shard = Creates words repos shard
-AsksCreate Look words repos shard = ⊥
-AsksCreate Jobs words repos shard = ⊥
+AsksCreate tool words repos shard = asked tool words ≡ Some (said.Create repos shard)
 
--- they ask for the youngest revision of the repository at this path
-abbrev pub AsksYoungest : Tool → List (List ℕ) → List ℕ → Type 0
-AsksYoungest Admin words repos = ⊥
-AsksYoungest Look words repos = LooksAt (codes "youngest") words repos
-AsksYoungest Jobs words repos = ⊥
+-- they ask for the youngest revision of the repository at this path, or for its identifier
+abbrev pub asked_shown : Shown → List ℕ → Asked
+asked_shown Youngest repos = said.Youngest repos
+asked_shown Uuid repos = said.Uuid repos
 
--- they ask for the tree of the repository at this path
+abbrev pub AsksShown : Shown → Tool → List (List ℕ) → List ℕ → Type 0
+AsksShown shown tool words repos = asked tool words ≡ Some (asked_shown shown repos)
+
+-- they ask for the tree of the repository at this path, and for nothing of it that can't be answered yet
 abbrev pub AsksTree : Tool → List (List ℕ) → List ℕ → Type 0
-AsksTree Admin words repos = ⊥
-AsksTree Look words repos = LooksAt (codes "tree") words repos
-AsksTree Jobs words repos = ⊥
+AsksTree tool words repos = (path : Option (List ℕ)) × (asked tool words ≡ Some (said.Tree repos None false path)) × IsPathGiven path []
+
+-- they ask for nothing, or for nothing that can be answered yet
+pub record AsksNothing (tool : Tool) (words : List (List ℕ)) : Type 0 where
+  pub create : (repos : List ℕ) (shard : ℕ) → AsksCreate tool words repos shard → ⊥
+  pub shown : (shown : Shown) (repos : List ℕ) → AsksShown shown tool words repos → ⊥
+  pub tree : (repos : List ℕ) → AsksTree tool words repos → ⊥
 
 -- a moment and sixteen bytes: those that the clock and the dice gave, where they tell
 pub record Drawn (clock : Option ℕ) (dice : Option (List ℕ)) : Type 0 where
@@ -65,9 +73,9 @@ Created mount disk shard clock dice old new (Some (DiskFault place)) = disk × (
 Created mount disk shard clock dice old new (Some WriteFault) = ⊥
 Created mount disk shard clock dice old new (Some Memory) = new ≡ old
 
--- the youngest revision that an opened repository names
-abbrev pub IsYoungest : Option Trace → ℕ → Type 0
-IsYoungest told youngest = IfSome told (λ t. (o : Opened) × IsOpened (small_texts (files_now t)) o × (o.youngest ≡ youngest))
+-- the small files of the repository say this
+abbrev pub OpensAs : Option Trace → Opened → Type 0
+OpensAs told o = IfSome told (λ t. IsOpened (small_texts (files_now t)) o)
 
 -- Why a repository was not opened, as a command answers it
 abbrev pub NotOpened : Type 0 → Option Trace → Fault → Type 0
@@ -83,20 +91,20 @@ NotOpened disk told (DiskFault place) = disk
 NotOpened disk told WriteFault = ⊥
 NotOpened disk told Memory = Unit {0}
 
--- What a look at the youngest revision printed, by its fault or none. `write` says that the output's count of faults rose.
-abbrev pub PrintsYoungest : Type 0 → Type 0 → Type 0 → Option Trace → Option (List ℕ) → Option (List ℕ) → Option Fault → Type 0
-PrintsYoungest mount disk write told old new None = (youngest : ℕ) × IsYoungest told youngest × Adds old new (revision_line youngest)
-PrintsYoungest mount disk write told old new (Some MountFault) = mount × (new ≡ old)
-PrintsYoungest mount disk write told old new (Some WriteFault) = write × ((youngest : ℕ) × IsYoungest told youngest × AddsFront old new (revision_line youngest))
-PrintsYoungest mount disk write told old new (Some Usage) = ⊥
-PrintsYoungest mount disk write told old new (Some NotRepo) = NotOpened disk told NotRepo × (new ≡ old)
-PrintsYoungest mount disk write told old new (Some (OtherFormat number)) = NotOpened disk told (OtherFormat number) × (new ≡ old)
-PrintsYoungest mount disk write told old new (Some Linear) = NotOpened disk told Linear × (new ≡ old)
-PrintsYoungest mount disk write told old new (Some (Small small)) = NotOpened disk told (Small small) × (new ≡ old)
-PrintsYoungest mount disk write told old new (Some (Corrupt damage)) = ⊥
-PrintsYoungest mount disk write told old new (Some AlreadyRepo) = ⊥
-PrintsYoungest mount disk write told old new (Some (DiskFault place)) = NotOpened disk told (DiskFault place) × (new ≡ old)
-PrintsYoungest mount disk write told old new (Some Memory) = new ≡ old
+-- What a look at the small files printed, by its fault or none. `write` says that the output's count of faults rose.
+abbrev pub PrintsShown : Shown → Type 0 → Type 0 → Type 0 → Option Trace → Option (List ℕ) → Option (List ℕ) → Option Fault → Type 0
+PrintsShown shown mount disk write told old new None = (o : Opened) × OpensAs told o × Adds old new (shown_line shown o)
+PrintsShown shown mount disk write told old new (Some MountFault) = mount × (new ≡ old)
+PrintsShown shown mount disk write told old new (Some WriteFault) = write × ((o : Opened) × OpensAs told o × AddsFront old new (shown_line shown o))
+PrintsShown shown mount disk write told old new (Some Usage) = ⊥
+PrintsShown shown mount disk write told old new (Some NotRepo) = NotOpened disk told NotRepo × (new ≡ old)
+PrintsShown shown mount disk write told old new (Some (OtherFormat number)) = NotOpened disk told (OtherFormat number) × (new ≡ old)
+PrintsShown shown mount disk write told old new (Some Linear) = NotOpened disk told Linear × (new ≡ old)
+PrintsShown shown mount disk write told old new (Some (Small small)) = NotOpened disk told (Small small) × (new ≡ old)
+PrintsShown shown mount disk write told old new (Some (Corrupt damage)) = ⊥
+PrintsShown shown mount disk write told old new (Some AlreadyRepo) = ⊥
+PrintsShown shown mount disk write told old new (Some (DiskFault place)) = NotOpened disk told (DiskFault place) × (new ≡ old)
+PrintsShown shown mount disk write told old new (Some Memory) = new ≡ old
 
 -- the repository is new, so that its tree is `/` alone
 abbrev pub IsFirst : Option Trace → Type 0
@@ -142,8 +150,8 @@ abbrev pub Agrees : Option Fault → Option Fault → Type 0
 Agrees decided None = decided ≡ None
 Agrees decided (Some fault) = (decided ≡ Some fault) ⊎ IsOutside fault
 
--- a look at the youngest revision: each of its answers comes wherever its cause is there; what is left is Small
-pub record DecidesYoungest (m : Files) (fault : Option Fault) : Type 0 where
+-- a look at the small files: each of its answers comes wherever its cause is there; what is left is Small
+pub record DecidesShown (m : Files) (fault : Option Fault) : Type 0 where
   pub opened : (o : Opened) → IsOpened (small_texts m) o → Agrees None fault
   pub none : IsNone (small_texts m) → Agrees (Some NotRepo) fault
   pub other : (number : ℕ) → HasFormat (small_texts m) number → Agrees (Some (OtherFormat number)) fault
@@ -158,8 +166,8 @@ pub record DecidesLook (m : Files) (fault : Option Fault) : Type 0 where
   pub later : HasLater m → Agrees (Some (Small later_fault)) fault
   pub damaged : (damage : Damage) → IsDamagedFirst m damage → Agrees (Some (Corrupt damage)) fault
 
-abbrev pub YoungestIsDecided : Option Trace → Option Fault → Type 0
-YoungestIsDecided told fault = IfSome told (λ t. DecidesYoungest (files_now t) fault)
+abbrev pub ShownIsDecided : Option Trace → Option Fault → Type 0
+ShownIsDecided told fault = IfSome told (λ t. DecidesShown (files_now t) fault)
 
 abbrev pub TreeIsDecided : Option Trace → Option Fault → Type 0
 TreeIsDecided told fault = IfSome told (λ t. DecidesLook (files_now t) fault)
@@ -170,13 +178,13 @@ abbrev pub Did : Type 0 → Type 0 → Type 0 → Tool → List (List ℕ) → O
 Did mount disk write tool words clock dice at_old at_new old new fault =
     -- it made a repository, or not
     ((repos : List ℕ) × (shard : ℕ) × AsksCreate tool words repos shard × Created mount disk shard clock dice (at_old repos) (at_new repos) fault × (new ≡ old))
-    -- it printed the youngest revision, or not
-    ⊎ (((repos : List ℕ) × AsksYoungest tool words repos × PrintsYoungest mount disk write (at_old repos) old new fault × YoungestIsDecided (at_old repos) fault)
+    -- it printed the youngest revision or the identifier, or not
+    ⊎ (((shown : Shown) × (repos : List ℕ) × AsksShown shown tool words repos × PrintsShown shown mount disk write (at_old repos) old new fault × ShownIsDecided (at_old repos) fault)
     -- it printed the tree, or not
     ⊎ (((repos : List ℕ) × AsksTree tool words repos × PrintsTree mount disk write (at_old repos) old new fault × TreeIsDecided (at_old repos) fault)
-    -- the words are those of no command
-    ⊎ ((fault ≡ Some Usage) × (new ≡ old) × ((repos : List ℕ) (shard : ℕ) → AsksCreate tool words repos shard → ⊥) × ((repos : List ℕ) → AsksYoungest tool words repos → ⊥)
-    × ((repos : List ℕ) → AsksTree tool words repos → ⊥))))
+    -- the words are those of no command; or memory was wanting while they were read
+    ⊎ (((fault ≡ Some Usage) × (new ≡ old) × AsksNothing tool words)
+    ⊎ ((fault ≡ Some Memory) × (new ≡ old) × ((path : List ℕ) → at_new path ≡ at_old path)))))
 
 -- a crash at some moment of a creation leaves no repository, or the whole of the one that it makes
 abbrev pub IsNoneOrCreated : ℕ → Option ℕ → Option (List ℕ) → Option Trace → Files → Type 0
@@ -194,22 +202,20 @@ Tells old new rose tool (Some fault) = Adds old new (line_of tool fault) ⊎ (ro
 
 -- the order that the words give
 abbrev pub IsOrder : Tool → List (List ℕ) → Order → Type 0
-IsOrder tool words (Create create) = AsksCreate tool words create.repos.now create.shard
-IsOrder tool words (Youngest repos) = AsksYoungest tool words repos.now
-IsOrder tool words (Tree repos) = AsksTree tool words repos.now
+IsOrder tool words (Create order) = AsksCreate tool words order.repos.now order.shard
+IsOrder tool words (order.Youngest repos) = AsksShown Youngest tool words repos.now
+IsOrder tool words (order.Uuid repos) = AsksShown Uuid tool words repos.now
+IsOrder tool words (Tree order) = AsksTree tool words order.repos.now
+IsOrder tool words (Cat order) = ⊥
 
--- an order for this repository and no other
+-- an order for this new repository and no other
 abbrev pub IsCreateOf : List ℕ → ℕ → Order → Type 0
-IsCreateOf repos shard (Create create) = (create.repos.now ≡ repos) × (create.shard ≡ shard)
-IsCreateOf repos shard (Youngest other) = ⊥
+IsCreateOf repos shard (Create order) = (order.repos.now ≡ repos) × (order.shard ≡ shard)
+IsCreateOf repos shard (order.Youngest other) = ⊥
+IsCreateOf repos shard (order.Uuid other) = ⊥
 IsCreateOf repos shard (Tree other) = ⊥
+IsCreateOf repos shard (Cat other) = ⊥
 
-abbrev pub IsYoungestOf : List ℕ → Order → Type 0
-IsYoungestOf repos (Create create) = ⊥
-IsYoungestOf repos (Youngest other) = other.now ≡ repos
-IsYoungestOf repos (Tree other) = ⊥
-
-abbrev pub IsTreeOf : List ℕ → Order → Type 0
-IsTreeOf repos (Create create) = ⊥
-IsTreeOf repos (Youngest other) = ⊥
-IsTreeOf repos (Tree other) = other.now ≡ repos
+-- Usage exactly where the words ask for nothing that can be answered; want of memory apart
+abbrev pub IsRefusedWords : Tool → List (List ℕ) → Fault → Type 0
+IsRefusedWords tool words fault = ((fault ≡ Usage) × AsksNothing tool words) ⊎ (fault ≡ Memory)

@@ -1,4 +1,4 @@
--- The fault that a command answers where a creation, an opening or a look at a tree failed.
+-- The fault that a command answers where the words were not read, or a creation, an opening or a look at a tree failed.
 use Rattle.fsfs_repo.specs.declared.creation.CreateFault.{CreateFault}
 use Rattle.fsfs_repo.specs.declared.creation.CreateFault.TheVariants as create
 use Rattle.fsfs_repo.specs.declared.opening.OpenFault.{OpenFault}
@@ -7,8 +7,16 @@ use Rattle.fsfs_base.specs.declared.small_fault.SmallFault.{SmallFault}
 use Rattle.fsfs_base.specs.declared.small_fault.SmallFile.TheVariants.{Current}
 use Rattle.fsfs_repo.specs.declared.first_tree.TreeFault.{TreeFault}
 use Rattle.fsfs_repo.specs.declared.first_tree.TreeFault.TheVariants as tree
+use Rattle.fsfs_words.specs.declared.fault.WordsFault.{WordsFault}
+use Rattle.fsfs_words.specs.declared.fault.WordsFault.TheVariants as words
 use Rattle.fsfs_top.specs.declared.fault.Fault.{Fault}
-use Rattle.fsfs_top.specs.declared.fault.Fault.TheVariants.{NotRepo, OtherFormat, Linear, Small, Corrupt, AlreadyRepo, DiskFault, Memory}
+use Rattle.fsfs_top.specs.declared.fault.Fault.TheVariants.{Usage, NotRepo, OtherFormat, Linear, Small, Corrupt, AlreadyRepo, DiskFault, Memory}
+
+-- no path among the words is answered yet, so that one that is none is Usage too
+abbrev pub fault_from_words : WordsFault → Fault
+fault_from_words words.Usage = Usage
+fault_from_words (words.BadPath bad) = Usage
+fault_from_words words.Memory = Memory
 
 abbrev pub fault_from : CreateFault → Fault
 fault_from create.AlreadyRepo = AlreadyRepo

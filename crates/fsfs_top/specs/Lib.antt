@@ -3,4 +3,4 @@ pub mod Command
 pub mod Faults
 pub mod Output
 pub mod Replies
-pub mod Words
+pub mod Today

@@ -7,6 +7,7 @@ use fsfs_base::{SmallFault, SmallFile};
 use fsfs_layout::names::small_file;
 use fsfs_repo::{CreateFault, DiskPlace, OpenFault, TreeFault};
 use fsfs_revision::{Damage, What};
+use fsfs_words::WordsFault;
 use itoa::Buffer;
 use thiserror::Error;
 
@@ -97,6 +98,21 @@ impl From<TreeFault> for Fault {
             TreeFault::Damaged(damage) => Fault::Corrupt(damage),
             TreeFault::DiskFault(place) => Fault::DiskFault(place),
             TreeFault::Memory => Fault::Memory,
+        }
+    }
+}
+
+impl From<WordsFault> for Fault {
+    ghost use Rattle.std.specs.Prelude.{◌≡◌};
+    ghost use Rattle.fsfs_top.specs.Faults.{fault_from_words};
+
+    ghost from_gives = { λ e f. f ≡ fault_from_words e };
+
+    fn from(fault: WordsFault) -> Fault {
+        match fault {
+            WordsFault::Usage => Fault::Usage,
+            WordsFault::BadPath(_) => Fault::Usage,
+            WordsFault::Memory => Fault::Memory,
         }
     }
 }

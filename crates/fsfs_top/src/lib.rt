@@ -3,12 +3,11 @@
 
 mod fault;
 mod output;
-mod tool;
+mod today;
 mod top;
-mod words;
 
 pub use fault::{Fault, fault_text, fault_values_text, status, what_text};
-pub use output::{print, print_fault, print_revision, print_root};
-pub use tool::Tool;
+pub use fsfs_words::Tool;
+pub use output::{Shown, print, print_fault, print_revision, print_root, print_shown, print_uuid};
+pub use today::{is_answered_today, read_today};
 pub use top::command;
-pub use words::{CreateWords, Order, read_create, read_look, read_shard};

@@ -2,12 +2,14 @@
 ghost use Rattle.std.specs.Prelude.{◌≡◌, ◌≤◌, ℕ, Option, Some, take, length};
 ghost use Rattle.fsfs_disk.specs.Fault.{Rose};
 ghost use Rattle.fsfs_top.specs.Output.{Prints};
-ghost use Rattle.fsfs_top.specs.Answers.{line_of, revision_line, root_line};
+ghost use Rattle.fsfs_top.specs.Answers.{line_of, revision_line, uuid_line, shown_line, root_line};
 
 use crate::fault::{Fault, fault_text, fault_values_text};
-use crate::tool::Tool;
 use arrayvec::ArrayString;
 use fsfs_disk::{Failed, Sink};
+use fsfs_layout::Uuid;
+use fsfs_repo::Opened;
+use fsfs_words::Tool;
 use itoa::Buffer;
 
 /// Writes a text, or after a failure the part of it before.
@@ -30,6 +32,33 @@ pub fn print_revision<S: Sink>(sink: &mut S, rev: u32) -> Result<(), Failed>
     line.push_str(Buffer::new().format(rev));
     line.push_str("\n");
     print(sink, line.as_str().as_bytes())
+}
+
+/// Writes an identifier and the end of the line.
+pub fn print_uuid<S: Sink>(sink: &mut S, uuid: &Uuid) -> Result<(), Failed>
+    ensures printed { Prints (S.written sink.old) (S.written sink.new) (uuid_line uuid.now) (S.faults sink.old) (S.faults sink.new) result }
+{
+    print(sink, uuid.as_bytes())?;
+    print(sink, b"\n")
+}
+
+/// What a look at the small files of a repository shows.
+#[derive(Clone, Copy, Debug, PartialEq, Eq)]
+pub enum Shown {
+    /// The youngest revision.
+    Youngest,
+    /// The identifier.
+    Uuid,
+}
+
+/// Writes what a look at the small files shows, and the end of the line.
+pub fn print_shown<S: Sink>(sink: &mut S, shown: Shown, opened: &Opened) -> Result<(), Failed>
+    ensures printed { Prints (S.written sink.old) (S.written sink.new) (shown_line shown opened.now) (S.faults sink.old) (S.faults sink.new) result }
+{
+    match shown {
+        Shown::Youngest => print_revision(sink, opened.youngest),
+        Shown::Uuid => print_uuid(sink, &opened.uuid),
+    }
 }
 
 /// Writes the tree of revision 0: its root alone.

@@ -5,16 +5,16 @@ ghost use Rattle.fsfs_disk.specs.Trace.{Trace, files_now};
 ghost use Rattle.fsfs_disk.specs.Crash.{AllImages, Leaves};
 ghost use Rattle.fsfs_repo.specs.Creation.{IsUnpublished, HasRepository};
 ghost use Rattle.fsfs_top.specs.Answers.{answer_of};
-ghost use Rattle.fsfs_top.specs.Command.{AsksCreate, AsksYoungest, AsksTree, Created, PrintsYoungest, PrintsTree, YoungestIsDecided, TreeIsDecided, Did, IsOrder, IsCreateOf, IsYoungestOf, IsTreeOf, IsNoneOrCreated, Tells, fault_of};
+ghost use Rattle.fsfs_top.specs.Command.{AsksCreate, Created, PrintsShown, PrintsTree, ShownIsDecided, TreeIsDecided, Did, IsNoneOrCreated, Tells, fault_of};
 ghost use Rattle.fsfs_top.specs.Replies.{Replies, Gives};
 ghost use Rattle.fsfs_top.specs.declared.fault.Fault.{Fault};
 
 use crate::fault::{Fault, status};
-use crate::output::{print_fault, print_revision, print_root};
-use crate::tool::Tool;
-use crate::words::{Order, read_create, read_look};
+use crate::output::{Shown, print_fault, print_root, print_shown};
+use crate::today::read_today;
 use fsfs_disk::{Clock, Dice, Gate, Host, Sink, Source};
 use fsfs_repo::{check_first_tree, create, open};
+use fsfs_words::{Order, Tool};
 use std::alloc::Global;
 use uuid::Builder;
 
@@ -48,16 +48,17 @@ fn create_at<H: Host, C: Clock, R: Dice>(
     }
 }
 
-// Mounts a path to read it, and prints the youngest revision of the repository there.
-fn youngest_at<H: Host, O: Sink>(
+// Mounts a path to read it, and prints what the small files of the repository there say.
+fn shown_at<H: Host, O: Sink>(
     alloc: Global,
+    shown: Shown,
     repos: &str,
     host: &mut H,
     out: &mut O,
 ) -> Result<(), Fault>
-    ensures printed { PrintsYoungest (Rose (H.mount_faults host.old) (H.mount_faults host.new)) (Rose (H.disk_faults host.old) (H.disk_faults host.new)) (Rose (O.faults out.old) (O.faults out.new))
+    ensures printed { PrintsShown shown (Rose (H.mount_faults host.old) (H.mount_faults host.new)) (Rose (H.disk_faults host.old) (H.disk_faults host.new)) (Rose (O.faults out.old) (O.faults out.new))
         (H.disk_at host.old repos.now) (O.written out.old) (O.written out.new) (fault_of result) }
-    ensures decided { YoungestIsDecided (H.disk_at host.old repos.now) (fault_of result) }
+    ensures decided { ShownIsDecided (H.disk_at host.old repos.now) (fault_of result) }
     ensures same { option_map files_now (H.disk_at host.new repos.now) ≡ option_map files_now (H.disk_at host.old repos.now) }
     ensures others { (path : List ℕ) → path ≢ repos.now → H.disk_at host.new path ≡ H.disk_at host.old path }
 {
@@ -68,7 +69,7 @@ fn youngest_at<H: Host, O: Sink>(
     let opened = open(alloc, &mut disk);
     host.unmount(disk);
     match opened {
-        Ok(opened) => match print_revision(out, opened.youngest) {
+        Ok(opened) => match print_shown(out, shown, &opened) {
             Ok(()) => Ok(()),
             Err(_) => Err(Fault::WriteFault),
         },
@@ -104,32 +105,6 @@ fn tree_at<H: Host, O: Sink>(
     }
 }
 
-// What the words ask for.
-fn read_words(tool: Tool, words: &[String]) -> Option<Order<'_>>
-    ensures found { IfSome result (IsOrder tool (map string_bytes words.now)) }
-    ensures no_create { IfNone result ((repos : List ℕ) (shard : ℕ) → AsksCreate tool (map string_bytes words.now) repos shard → ⊥) }
-    ensures no_youngest { IfNone result ((repos : List ℕ) → AsksYoungest tool (map string_bytes words.now) repos → ⊥) }
-    ensures no_tree { IfNone result ((repos : List ℕ) → AsksTree tool (map string_bytes words.now) repos → ⊥) }
-    ensures one_create { (repos : List ℕ) (shard : ℕ) → AsksCreate tool (map string_bytes words.now) repos shard → IfSome result (IsCreateOf repos shard) }
-    ensures one_youngest { (repos : List ℕ) → AsksYoungest tool (map string_bytes words.now) repos → IfSome result (IsYoungestOf repos) }
-    ensures one_tree { (repos : List ℕ) → AsksTree tool (map string_bytes words.now) repos → IfSome result (IsTreeOf repos) }
-{
-    match tool {
-        Tool::Admin => match read_create(words) {
-            Some(create) => Some(Order::Create(create)),
-            None => None,
-        },
-        Tool::Look => match read_look("youngest", words) {
-            Some(repos) => Some(Order::Youngest(repos)),
-            None => match read_look("tree", words) {
-                Some(repos) => Some(Order::Tree(repos)),
-                None => None,
-            },
-        },
-        Tool::Jobs => None,
-    }
-}
-
 // Reads the words, and does what they ask for.
 fn run<H: Host, O: Sink, C: Clock, R: Dice>(
     alloc: Global,
@@ -149,18 +124,12 @@ fn run<H: Host, O: Sink, C: Clock, R: Dice>(
     ensures others { (path : List ℕ) → ((shard : ℕ) → AsksCreate tool (map string_bytes words.now) path shard → ⊥)
         → option_map files_now (H.disk_at host.new path) ≡ option_map files_now (H.disk_at host.old path) }
 {
-    match read_words(tool, words) {
-        Some(Order::Create(create)) => create_at(
-            alloc,
-            create.repos,
-            create.shard,
-            host,
-            clock,
-            dice,
-        ),
-        Some(Order::Youngest(repos)) => youngest_at(alloc, repos, host, out),
-        Some(Order::Tree(repos)) => tree_at(alloc, repos, host, out),
-        None => Err(Fault::Usage),
+    match read_today(alloc, tool, words)? {
+        Order::Create(order) => create_at(alloc, order.repos, order.shard, host, clock, dice),
+        Order::Youngest(repos) => shown_at(alloc, Shown::Youngest, repos, host, out),
+        Order::Uuid(repos) => shown_at(alloc, Shown::Uuid, repos, host, out),
+        Order::Tree(order) => tree_at(alloc, order.repos, host, out),
+        Order::Cat(_) => Err(Fault::Usage),
     }
 }
 
@@ -184,8 +153,8 @@ pub fn command<H: Host, I: Source, O: Sink, E: Sink, C: Clock, R: Dice, G: Gate>
         × Did (Rose (H.mount_faults host.old) (H.mount_faults host.new)) (Rose (H.disk_faults host.old) (H.disk_faults host.new)) (Rose (O.faults out.old) (O.faults out.new))
         tool (map string_bytes words.now) (C.next clock.old) (R.next dice.old) (H.disk_at host.old) (H.disk_at host.new) (O.written out.old) (O.written out.new) fault }
 
-    // Looks give the replies of the flat model: the youngest revision, of any history that ends with it, and the tree of a
-    // new repository.
+    // Looks give the replies of the flat model: the youngest revision, of any history that ends with it, the identifier, and
+    // the tree of a new repository.
     ensures replies { Replies tool (map string_bytes words.now) (H.disk_at host.old) (Gives result
         (Rose (H.mount_faults host.old) (H.mount_faults host.new)) (Rose (H.disk_faults host.old) (H.disk_faults host.new)) (Rose (O.faults out.old) (O.faults out.new)) (Rose (E.faults err.old) (E.faults err.new))
         (O.written out.old) (O.written out.new) (E.written err.old) (E.written err.new)) }

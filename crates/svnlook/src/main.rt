@@ -1,4 +1,4 @@
-//! Looks into repositories: `svnlook youngest REPOS` and `svnlook tree REPOS`.
+//! Looks into repositories: `svnlook youngest REPOS`, `svnlook uuid REPOS` and `svnlook tree REPOS`.
 #![tactic(auto)]
 
 use fsfs_hostdisk::{Machine, OpenGate, StreamSink, StreamSource, SystemClock, SystemDice, words};

@@ -2,7 +2,8 @@ use Rattle.std.proofs.Common.{◌≡◌, ◌≤◌, ◌++◌, refl, subst, ◌�
 use Rattle.std.specs.Prelude.{codes, Err}
 use Rattle.fsfs_disk.specs.Streams.{Adds}
 use Rattle.fsfs_disk.proofs.StreamLemmas.{adds_then}
-use Rattle.fsfs_top.specs.Answers.{tool_name, fault_name, fault_values, line_of}
+use Rattle.fsfs_words.specs.Commands.{tool_name}
+use Rattle.fsfs_top.specs.Answers.{fault_name, fault_values, line_of}
 use Rattle.fsfs_top.specs.Output.{Prints}
 use Rattle.fsfs_top.proofs.OutputLemmas.{printed_more, printed_less, passed_on}
 use Rattle.fsfs_top.proofs.output.print_fault.Goals as goal

@@ -1,0 +1,46 @@
+-- The grammars of single words: a revision, the size of a shard, a path. (This project's profile.)
+use Rattle.std.specs.Prelude.{◌≡◌, ◌≤◌, ℕ, List, [], ◌∷◌, ◌==◌, ◌&&◌, nat_lt, nat_le, length, Option, Some, None, Bool, if◌then◌else◌, decimal}
+use Rattle.std.specs.Char.{is_ascii_digit}
+use Rattle.std.specs.List.{list_all}
+use Rattle.std.specs.Str.{bytes_eq}
+use Rattle.std.specs.Str.Parse.{digits_value}
+use Rattle.fsfs_base.specs.Paths.{Path, path_text}
+use Rattle.fsfs_base.specs.PathTexts.{IsPath}
+
+-- REV: one to ten digits
+abbrev pub is_revision : List ℕ → Bool
+is_revision text = nat_lt 0 (length text) && nat_le (length text) 10 && list_all is_ascii_digit text
+
+-- the number that they write
+unfoldable pub revision_of : List ℕ → Option ℕ
+revision_of text = if is_revision text then Some (digits_value 10 text) else None
+
+-- N: the decimal text of a number from 1 to 100,000
+abbrev pub IsShard : List ℕ → ℕ → Type 0
+IsShard text shard = (text ≡ decimal shard) × (1 ≤ shard) × (shard ≤ 100_000)
+
+abbrev pub is_shard : List ℕ → ℕ → Bool
+is_shard text shard = bytes_eq text (decimal shard) && nat_le 1 shard && nat_le shard 100_000
+
+-- that number
+unfoldable pub shard_of : List ℕ → Option ℕ
+shard_of text = if is_shard text (digits_value 10 text) then Some (digits_value 10 text) else None
+
+-- ---- PATH: a word without a `/` at its beginning gets one, and one `/` at its end is dropped, so that `/` stays
+
+abbrev pub without_last_slash : List ℕ → List ℕ
+without_last_slash [] = []
+without_last_slash (c ∷ []) = if c == 47 then [] else c ∷ []
+without_last_slash (c ∷ d ∷ rest) = c ∷ without_last_slash (d ∷ rest)
+
+abbrev pub with_first_slash : List ℕ → List ℕ
+with_first_slash [] = 47 ∷ []
+with_first_slash (c ∷ rest) = if c == 47 then c ∷ rest else 47 ∷ c ∷ rest
+
+-- the text of the path that a word means, in which a refusal counts its byte
+unfoldable pub path_meant : List ℕ → List ℕ
+path_meant word = with_first_slash (without_last_slash word)
+
+-- the path that a word means
+abbrev pub IsPathOf : List ℕ → Path → Type 0
+IsPathOf word path = IsPath path × (path_text path ≡ path_meant word)

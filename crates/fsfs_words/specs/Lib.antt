@@ -1,0 +1,6 @@
+pub mod Commands
+pub mod Grammars
+pub mod Words
+pub mod Faults
+pub mod Readings
+pub mod Chains
