@@ -6,6 +6,8 @@
 //! mean, are this project's profile.
 #![tactic(auto)]
 
+mod laws;
 mod wrong;
 
+pub use laws::readings_have_one_answer;
 pub use wrong::{ReadError, RepDamage, RepWhat, Wrong};
