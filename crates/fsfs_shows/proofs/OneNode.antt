@@ -18,7 +18,7 @@ use Rattle.fsfs_revision.proofs.TrailerLemmas.{trailer_reads, one_trailer}
 use Rattle.fsfs_revision.proofs.DamageLemmas.{IsOne, node_rows_agree, row_or_node, row_behind, no_root_row, root_no_row}
 use Rattle.fsfs_shows.specs.declared.wrong.Wrong.{Wrong}
 use Rattle.fsfs_shows.specs.Readings.{HasOneAnswer, IsDamage}
-use Rattle.fsfs_shows.specs.Reading.{NodeIn, NodeAt, RootIn, RootOf}
+use Rattle.fsfs_shows.specs.Reading.{BytesOf, NodeIn, NodeAt, RootIn, RootOf}
 use Rattle.fsfs_shows.proofs.OneStep.{ok_ap, err_ap, ok_same, and_then_one, bytes_one, same_damage, damage_one, no_damage}
 
 -- ---- a node-revision
@@ -36,7 +36,7 @@ node_in_one at bytes (Err e) (Ok v) b a = absurd (no_damage (NodeRow at bytes) (
 node_in_one at bytes (Err e) (Err f) a b = err_ap e f (damage_one (NodeRow at bytes) (node_rows_agree at bytes) e f a b)
 
 pub node_at_one : (look : Look) (at : RevOffset) → HasOneAnswer (NodeAt look at)
-node_at_one look at = and_then_one (bytes_one look at.rev) (λ bytes. node_in_one at (drop at.offset bytes))
+node_at_one look at = and_then_one (BytesOf look at.rev) (λ bytes. NodeIn at (drop at.offset bytes)) (bytes_one look at.rev) (λ bytes. node_in_one at (drop at.offset bytes))
 
 pub node_same : (at : RevOffset) (bytes : List ℕ) (v w : NodeRev) → IsNodeAt at bytes v → IsNodeAt at bytes w → v ≡ w
 node_same at bytes v w a b = read_one bytes v w a.0.0 b.0.0
@@ -96,4 +96,4 @@ module _ (rev : ℕ) (bytes : List ℕ) where
   root_in_one (Err e) (Err f) a b = err_ap e f (damage_one (RootRow rev bytes) root_rows_agree e f a b)
 
 pub root_of_one : (look : Look) (rev : ℕ) → HasOneAnswer (RootOf look rev)
-root_of_one look rev = and_then_one (bytes_one look rev) (root_in_one rev)
+root_of_one look rev = and_then_one (BytesOf look rev) (RootIn rev) (bytes_one look rev) (root_in_one rev)

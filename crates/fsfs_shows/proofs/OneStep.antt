@@ -29,28 +29,28 @@ ok_ap {X} x y e = ap (λ (z : X). let r : Result X Wrong = Ok z in r) e
 pub err_ap : {X : Type 0} (v w : Wrong) → v ≡ w → (let r : Result X Wrong = Err v in r) ≡ Err w
 err_ap {X} v w e = ap (λ (z : Wrong). let r : Result X Wrong = Err z in r) e
 
-module _ {X Y : Type 0} {R : Result X Wrong → Type 0} {S : X → Result Y Wrong → Type 0} where
+module _ {X Y : Type 0} (R : Result X Wrong → Type 0) (S : X → Result Y Wrong → Type 0) (one : HasOneAnswer R) where
   -- what comes behind comes behind the only value
-  pub behind_one : HasOneAnswer R → (x y : X) (r : Result Y Wrong) → R (Ok x) → R (Ok y) → S y r → S x r
-  behind_one one x y r a b s = subst (λ (z : X). S z r) (sym (ok_same x y (one (Ok x) (Ok y) a b))) s
+  behind_one : (x y : X) (r : Result Y Wrong) → R (Ok x) → R (Ok y) → S y r → S x r
+  behind_one x y r a b s = subst (λ (z : X). S z r) (sym (ok_same x y (one (Ok x) (Ok y) a b))) s
 
-  pub and_then_one : HasOneAnswer R → ((x : X) → HasOneAnswer (S x)) → HasOneAnswer (AndThen R S)
-  and_then_one one each (Ok y) (Ok z) (x, r, s) (u, t, v) = each x (Ok y) (Ok z) s (behind_one one x u (Ok z) r t v)
-  and_then_one one each (Ok y) (Err w) (x, r, s) (inl t) = ok_no_err x w (one (Ok x) (Err w) r t)
-  and_then_one one each (Ok y) (Err w) (x, r, s) (inr (u, t, v)) = each x (Ok y) (Err w) s (behind_one one x u (Err w) r t v)
-  and_then_one one each (Err w) (Ok z) (inl r) (u, t, v) = ok_no_err u w (one (Ok u) (Err w) t r)
-  and_then_one one each (Err w) (Ok z) (inr (x, r, s)) (u, t, v) = each x (Err w) (Ok z) s (behind_one one x u (Ok z) r t v)
-  and_then_one one each (Err w) (Err e) (inl r) (inl t) = err_ap w e (err_same w e (one (Err w) (Err e) r t))
-  and_then_one one each (Err w) (Err e) (inl r) (inr (u, t, v)) = ok_no_err u w (one (Ok u) (Err w) t r)
-  and_then_one one each (Err w) (Err e) (inr (x, r, s)) (inl t) = ok_no_err x e (one (Ok x) (Err e) r t)
-  and_then_one one each (Err w) (Err e) (inr (x, r, s)) (inr (u, t, v)) = each x (Err w) (Err e) s (behind_one one x u (Err e) r t v)
+  pub and_then_one : ((x : X) → HasOneAnswer (S x)) → HasOneAnswer (AndThen R S)
+  and_then_one each (Ok y) (Ok z) a b = each a.0 (Ok y) (Ok z) a.2 (behind_one a.0 b.0 (Ok z) a.1 b.1 b.2)
+  and_then_one each (Ok y) (Err w) a (inl t) = ok_no_err a.0 w (one (Ok a.0) (Err w) a.1 t)
+  and_then_one each (Ok y) (Err w) a (inr b) = each a.0 (Ok y) (Err w) a.2 (behind_one a.0 b.0 (Err w) a.1 b.1 b.2)
+  and_then_one each (Err w) (Ok z) (inl r) b = ok_no_err b.0 w (one (Ok b.0) (Err w) b.1 r)
+  and_then_one each (Err w) (Ok z) (inr a) b = each a.0 (Err w) (Ok z) a.2 (behind_one a.0 b.0 (Ok z) a.1 b.1 b.2)
+  and_then_one each (Err w) (Err e) (inl r) (inl t) = err_ap w e (err_same w e (one (Err w) (Err e) r t))
+  and_then_one each (Err w) (Err e) (inl r) (inr b) = ok_no_err b.0 w (one (Ok b.0) (Err w) b.1 r)
+  and_then_one each (Err w) (Err e) (inr a) (inl t) = ok_no_err a.0 e (one (Ok a.0) (Err e) a.1 t)
+  and_then_one each (Err w) (Err e) (inr a) (inr b) = each a.0 (Err w) (Err e) a.2 (behind_one a.0 b.0 (Err e) a.1 b.1 b.2)
 
 pub bytes_one : (look : Look) (rev : ℕ) → HasOneAnswer (BytesOf look rev)
 bytes_one look rev (Ok a) (Ok b) g h = let e : a ≡ b = (let f = sym g ∙ h in cc) in ok_ap a b e
-bytes_one look rev (Ok a) (Err w) g (why, h, is) = let f = sym g ∙ h in absurd cc
-bytes_one look rev (Err w) (Ok b) (why, h, is) g = let f = sym g ∙ h in absurd cc
-bytes_one look rev (Err w) (Err e) (why, h, is) (reason, g, same) =
-    let f : why ≡ reason = (let f = sym h ∙ g in cc) in err_ap w e (is ∙ ap (λ (r : Refusal). wrongs.Refused r) f ∙ sym same)
+bytes_one look rev (Ok a) (Err w) g h = let f = sym g ∙ h.1 in absurd cc
+bytes_one look rev (Err w) (Ok b) h g = let f = sym g ∙ h.1 in absurd cc
+bytes_one look rev (Err w) (Err e) g h =
+    let f : g.0 ≡ h.0 = (let f = sym g.1 ∙ h.1 in cc) in err_ap w e (g.2 ∙ ap (λ (r : Refusal). wrongs.Refused r) f ∙ sym h.2)
 
 pub contents_one : {X : Type 0} (nothing : X) (R : Rep → Result X Wrong → Type 0) → ((rep : Rep) → HasOneAnswer (R rep)) → (o : Option Contents) → HasOneAnswer (OfContents nothing R o)
 contents_one nothing R each None a b g h = g ∙ sym h
