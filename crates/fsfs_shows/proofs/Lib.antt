@@ -1,2 +1,6 @@
 pub mod OneStep
 pub mod OneNode
+pub mod OneRep
+pub mod OneEntry
+pub mod OneWalk
+pub mod OneTree

@@ -1,15 +1,26 @@
 //! The laws of reading. Each of these functions does nothing: what it ensures is proved once for all bytes.
 ghost use Rattle.std.specs.Prelude.{◌≡◌, ℕ};
 ghost use Rattle.fsfs_base.specs.Paths.{Path, Name};
+ghost use Rattle.fsfs_base.specs.Nodes.{TreeFunction};
 ghost use Rattle.fsfs_book.specs.Told.{Look};
 ghost use Rattle.fsfs_noderev.specs.declared.node_rev.NodeRev.{NodeRev};
-ghost use Rattle.fsfs_noderev.specs.declared.rep.Rep.{Rep};
 ghost use Rattle.fsfs_revision.specs.declared.damage.RevOffset.{RevOffset};
 ghost use Rattle.fsfs_shows.specs.Readings.{HasOneAnswer};
-ghost use Rattle.fsfs_shows.specs.Reading.{NodeAt, RootOf, RepAt, PairsAt, TextOf, PropsOf, EntriesOf, ChildOf, MetAt};
+ghost use Rattle.fsfs_shows.specs.Reading.{NodeAt, RootOf, TextOf, PropsOf, EntriesOf, ChildOf, MetAt};
+ghost use Rattle.fsfs_shows.specs.Shown.{Shows};
 
 /// Whatever the bytes are, a reading has one answer at most: one value, or one thing that is wrong first, at one place.
 pub fn readings_have_one_answer()
     ensures nodes { (look : Look) (at : RevOffset) → HasOneAnswer (NodeAt look at) }
     ensures roots { (look : Look) (rev : ℕ) → HasOneAnswer (RootOf look rev) }
+    ensures texts { (look : Look) (v : NodeRev) → HasOneAnswer (TextOf look v) }
+    ensures props { (look : Look) (v : NodeRev) → HasOneAnswer (PropsOf look v) }
+    ensures entries { (look : Look) (v : NodeRev) → HasOneAnswer (EntriesOf look v) }
+    ensures children { (look : Look) (v : NodeRev) (name : Name) → HasOneAnswer (ChildOf look v name) }
+    ensures paths { (look : Look) (rev : ℕ) (path : Path) → HasOneAnswer (MetAt look rev path) }
+{}
+
+/// The bytes of the revisions show one tree at most as that of a revision.
+pub fn one_tree_is_shown()
+    ensures { (look : Look) (rev : ℕ) (s t : TreeFunction) → Shows look rev s → Shows look rev t → (path : Path) → s path ≡ t path }
 {}
