@@ -8,9 +8,10 @@ use Rattle.fsfs_base.specs.declared.node.Kind.TheVariants.{File, Dir}
 use Rattle.fsfs_book.specs.Told.{Look}
 use Rattle.fsfs_noderev.specs.declared.node_id.NodeId.{NodeId}
 use Rattle.fsfs_noderev.specs.declared.node_rev.NodeRev.{NodeRev}
+use Rattle.fsfs_revision.specs.Damages.{place_of}
 use Rattle.fsfs_shows.specs.declared.wrong.Wrong.{Wrong}
 use Rattle.fsfs_shows.specs.Reading.{OfId, TextOf, Met, Stands, Lacking, Blocked, MetAt, StandsAt}
-use Rattle.fsfs_shows.specs.Chains.{own_rev, Chain, First, Breaks, Goes, copy_root_of, IsCopiedIn}
+use Rattle.fsfs_shows.specs.Chains.{own_rev, Chain, First, Breaks, Goes, copy_root_of, IsCopiedIn, contents_rev}
 use Rattle.fsfs_shows.specs.Shown.{IsTextOf, Nearest, source_by, IsOfCopy, IsSource, IsShown, IsShownAs, Shows}
 use Rattle.fsfs_shows.proofs.OneStep.{ok_same}
 use Rattle.fsfs_shows.proofs.OneWalk.{text_one, props_one, of_id_one, met_same, stands_same}
@@ -95,9 +96,8 @@ text_same look File v (Bytes a) (Closed r o) g h = absurd (let e = text_one look
 text_same look File v (Closed r o) (Bytes a) g h = absurd (let e = text_one look v (Err _) (Ok a) g h in cc)
 text_same look File v (Closed r o) (Closed s q) g h =
     let e = text_one look v (Err _) (Err _) g h in
-    let rev : r ≡ s = cc in
-    let offset : o ≡ q = cc in
-    λ i. Closed (rev i) (offset i)
+    let place : place_of r o ≡ place_of s q = cc in
+    λ i. Closed (place i).rev (place i).offset
 
 -- ---- a node, a tree
 
@@ -109,7 +109,7 @@ shown_same look r p v m n a b =
     let first = first_same look v a.first b.first a.chain b.chain in
     let copied = copied_same look r p a.copied b.copied a.copied_is b.copied_is in
     let added = a.added ∙ (λ i. max (first i) (copied i)) ∙ sym b.added in
-    let props_changed = a.props_changed ∙ ap (λ (x : ℕ). max x _) added ∙ sym b.props_changed in
+    let props_changed = a.props_changed ∙ ap (λ (x : ℕ). max x (contents_rev v.props)) added ∙ sym b.props_changed in
     let last_changed = a.last_changed ∙ ap (λ (x : ℕ). max x (own_rev v)) copied ∙ sym b.last_changed in
     let moved = subst (λ (x : ℕ). IsSource look r p x n.added m.source) first (subst (λ (x : ℕ). IsSource look r p a.first x m.source) added a.source) in
     let source = source_same look r p b.first n.added m.source n.source moved b.source in
