@@ -4,3 +4,4 @@ pub mod OneRep
 pub mod OneEntry
 pub mod OneWalk
 pub mod OneTree
+pub mod Walks

@@ -1,5 +1,6 @@
 pub mod Readings
 pub mod Reading
+pub mod Damaged
 pub mod Chains
 pub mod Shown
 pub mod IdRules

@@ -7,7 +7,9 @@ ghost use Rattle.fsfs_noderev.specs.declared.node_rev.NodeRev.{NodeRev};
 ghost use Rattle.fsfs_revision.specs.declared.damage.RevOffset.{RevOffset};
 ghost use Rattle.fsfs_shows.specs.Readings.{HasOneAnswer};
 ghost use Rattle.fsfs_shows.specs.Reading.{NodeAt, RootOf, TextOf, PropsOf, EntriesOf, ChildOf, MetAt};
+ghost use Rattle.fsfs_shows.specs.Damaged.{DamageIsFirst};
 ghost use Rattle.fsfs_shows.specs.Shown.{Shows};
+ghost use Rattle.fsfs_shows.specs.declared.wrong.Wrong.{Wrong};
 
 /// Whatever the bytes are, a reading has one answer at most: one value, or one thing that is wrong first, at one place.
 pub fn readings_have_one_answer()
@@ -23,4 +25,10 @@ pub fn readings_have_one_answer()
 /// The bytes of the revisions show one tree at most as that of a revision.
 pub fn one_tree_is_shown()
     ensures { (look : Look) (rev : ℕ) (s t : TreeFunction) → Shows look rev s → Shows look rev t → (path : Path) → s path ≡ t path }
+{}
+
+/// A path meets what is wrong exactly where that is the first damage on the way down: the root of the revision isn't had, or a
+/// directory stands above, all above it being whole, and its child of the next name isn't had.
+pub fn damage_is_the_first()
+    ensures { (look : Look) (rev : ℕ) (path : Path) (w : Wrong) → DamageIsFirst look rev path w }
 {}

@@ -9,5 +9,5 @@
 mod laws;
 mod wrong;
 
-pub use laws::{one_tree_is_shown, readings_have_one_answer};
+pub use laws::{damage_is_the_first, one_tree_is_shown, readings_have_one_answer};
 pub use wrong::{ReadError, RepDamage, RepWhat, Wrong};
