@@ -5,3 +5,4 @@ pub mod OneEntry
 pub mod OneWalk
 pub mod OneTree
 pub mod Walks
+pub mod FirstRevision

@@ -4,3 +4,4 @@ pub mod Damaged
 pub mod Chains
 pub mod Shown
 pub mod IdRules
+pub mod FirstRevision

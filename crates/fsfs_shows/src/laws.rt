@@ -1,5 +1,5 @@
 //! The laws of reading. Each of these functions does nothing: what it ensures is proved once for all bytes.
-ghost use Rattle.std.specs.Prelude.{◌≡◌, ℕ};
+ghost use Rattle.std.specs.Prelude.{◌≡◌, ℕ, Ok};
 ghost use Rattle.fsfs_base.specs.Paths.{Path, Name};
 ghost use Rattle.fsfs_base.specs.Nodes.{TreeFunction};
 ghost use Rattle.fsfs_book.specs.Told.{Look};
@@ -9,6 +9,8 @@ ghost use Rattle.fsfs_shows.specs.Readings.{HasOneAnswer};
 ghost use Rattle.fsfs_shows.specs.Reading.{NodeAt, RootOf, TextOf, PropsOf, EntriesOf, ChildOf, MetAt};
 ghost use Rattle.fsfs_shows.specs.Damaged.{DamageIsFirst};
 ghost use Rattle.fsfs_shows.specs.Shown.{Shows};
+ghost use Rattle.fsfs_shows.specs.FirstRevision.{first_bytes, first_tree};
+ghost use Rattle.fsfs_shows.specs.IdRules.{IdRule};
 ghost use Rattle.fsfs_shows.specs.declared.wrong.Wrong.{Wrong};
 
 /// Whatever the bytes are, a reading has one answer at most: one value, or one thing that is wrong first, at one place.
@@ -31,4 +33,10 @@ pub fn one_tree_is_shown()
 /// directory stands above, all above it being whole, and its child of the next name isn't had.
 pub fn damage_is_the_first()
     ensures { (look : Look) (rev : ℕ) (path : Path) (w : Wrong) → DamageIsFirst look rev path w }
+{}
+
+/// The bytes that revision 0 of a new repository has show `/` alone, and obey the rules of ids.
+pub fn the_first_revision_shows_its_root()
+    ensures tree { (look : Look) → look 0 ≡ Ok first_bytes → Shows look 0 first_tree }
+    ensures ids { (look : Look) → look 0 ≡ Ok first_bytes → IdRule look 0 }
 {}
