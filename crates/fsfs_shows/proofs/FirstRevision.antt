@@ -1,6 +1,6 @@
 -- The bytes of revision 0 show `/`, and obey the rules of ids.
-use Rattle.std.proofs.Common.{◌≡◌, ◌≢◌, ◌≤◌, ◌<◌, ℕ, zero, suc, Bool, true, false, ◌&&◌, not, List, [], ◌∷◌, ◌++◌, take, drop, length, Option, Some, None, refl, sym, ap, subst, ◌∙◌, arith, inl, inr}
-use Rattle.std.specs.Prelude.{Result, Ok, Err, ◌==◌, unwrap_or, codes}
+use Rattle.std.proofs.Common.{◌≡◌, ◌≤◌, ◌<◌, ℕ, zero, suc, Bool, true, false, ◌&&◌, not, List, [], ◌∷◌, ◌++◌, take, Some, None, refl, sym, ap, subst, ◌∙◌, arith, inl}
+use Rattle.std.specs.Prelude.{Ok, ◌==◌, codes}
 use Rattle.std.specs.List.{slice_index}
 use Rattle.std.proofs.lemmas.Bool.{and_parts}
 use Rattle.std.proofs.lemmas.Str.{IsUtf8-from_ascii}
@@ -12,7 +12,7 @@ use Rattle.fsfs_text.specs.Cuts.{Lacks}
 use Rattle.fsfs_text.specs.declared.base36.B36.{B36}
 use Rattle.fsfs_text.proofs.Readers.{all_found}
 use Rattle.fsfs_base.specs.Paths.{Name, Path}
-use Rattle.fsfs_base.specs.Nodes.{Bytes, empty_node}
+use Rattle.fsfs_base.specs.Nodes.{empty_node}
 use Rattle.fsfs_base.specs.declared.node.Kind.TheVariants.{Dir}
 use Rattle.fsfs_book.specs.Told.{Look}
 use Rattle.fsfs_hash.specs.Dump.{IsDump}
@@ -37,7 +37,7 @@ use Rattle.fsfs_revision.specs.Trailers.{trailer_at, EndsWith}
 use Rattle.fsfs_revision.specs.Damages.{IsRootOf}
 use Rattle.fsfs_revision.specs.declared.trailer.Trailer.{Trailer}
 use Rattle.fsfs_revision.proofs.TrailerLemmas.{trailer_reads}
-use Rattle.fsfs_shows.specs.Reading.{Entry, RepAt, PairsAt, EntriesOf, ChildOf, Met, Stands, Lacking, MetAt, StandsAt}
+use Rattle.fsfs_shows.specs.Reading.{EntriesOf, ChildOf, Met, Stands, Lacking, MetAt, StandsAt}
 use Rattle.fsfs_shows.specs.Chains.{own_rev, IsPred, First, copy_root_of, IsCopiedIn}
 use Rattle.fsfs_shows.specs.Shown.{IsShown, IsShownAs, Shows}
 use Rattle.fsfs_shows.specs.IdRules.{IsOf, IsChild, HasSuffix, IdRule}

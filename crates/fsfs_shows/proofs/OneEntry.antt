@@ -1,6 +1,6 @@
 -- A directory's entries are read in one way at most.
 use Rattle.std.proofs.Common.{◌≡◌, ℕ, List, [], ◌∷◌, ◌++◌, refl, sym, ap, subst, ◌∙◌, inl, inr, arith}
-use Rattle.std.specs.Prelude.{Result, Ok, Err, true, false, codes}
+use Rattle.std.specs.Prelude.{Ok, Err, true, false, codes}
 use Rattle.fsfs_base.specs.declared.node.Kind.{Kind}
 use Rattle.fsfs_base.specs.declared.node.Kind.TheVariants.{File, Dir}
 use Rattle.fsfs_book.specs.Told.{Look}
@@ -17,7 +17,7 @@ use Rattle.fsfs_shows.specs.declared.wrong.RepDamage.{RepDamage}
 use Rattle.fsfs_shows.specs.declared.wrong.Wrong.{Wrong}
 use Rattle.fsfs_shows.specs.declared.wrong.Wrong.TheVariants as wrongs
 use Rattle.fsfs_shows.specs.Readings.{HasOneAnswer}
-use Rattle.fsfs_shows.specs.Reading.{Pairs, PairsAt, Entry, kind_word, IsEntryName, IsEntryValue, IsEntry, BadPair, IsMisplaced, PairRow, AreEntries, FirstPairRow, EntriesIn, EntriesAt, EntriesOf, offset_of}
+use Rattle.fsfs_shows.specs.Reading.{Pairs, PairsAt, Entry, kind_word, IsEntryName, IsEntryValue, IsEntry, BadPair, PairRow, AreEntries, FirstPairRow, EntriesIn, EntriesAt, EntriesOf, offset_of}
 use Rattle.fsfs_shows.proofs.OneStep.{ok_ap, err_ap, and_then_one, contents_one, same_damage}
 use Rattle.fsfs_shows.proofs.OneRep.{head_same, same_rep_damage, pairs_at_one}
 

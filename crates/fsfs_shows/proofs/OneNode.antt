@@ -1,25 +1,23 @@
 -- A node-revision, and a root, are read in one way at most.
-use Rattle.std.proofs.Common.{◌≡◌, ℕ, List, [], ◌∷◌, ◌++◌, drop, take, refl, sym, ap, subst, ◌∙◌, append_assoc, inl, inr, ◌⊎◌}
-use Rattle.std.specs.Prelude.{Result, Ok, Err, true}
+use Rattle.std.proofs.Common.{◌≡◌, ℕ, List, [], ◌∷◌, ◌++◌, drop, take, sym, ap, subst, ◌∙◌, append_assoc, inl, inr, ◌⊎◌}
+use Rattle.std.specs.Prelude.{Result, Ok, Err}
 use Rattle.std.specs.List.{flat_map}
 use Rattle.fsfs_text.proofs.Readers.{all_again}
 use Rattle.fsfs_book.specs.Told.{Look}
 use Rattle.fsfs_noderev.specs.Lines.{line}
-use Rattle.fsfs_noderev.specs.NodeRevs.{IsRead}
 use Rattle.fsfs_noderev.specs.declared.node_rev.NodeRev.{NodeRev}
 use Rattle.fsfs_noderev.proofs.Taking.{read_only}
 use Rattle.fsfs_revision.specs.Trailers.{IsTrailer, EndsWith}
-use Rattle.fsfs_revision.specs.Nodes.{IsNodeAt, is_root}
+use Rattle.fsfs_revision.specs.Nodes.{IsNodeAt}
 use Rattle.fsfs_revision.specs.Damages.{NodeRow, NoRootRow, RootRow, IsRootOf, place_of}
 use Rattle.fsfs_revision.specs.declared.damage.RevOffset.{RevOffset}
 use Rattle.fsfs_revision.specs.declared.damage.Damage.{Damage}
 use Rattle.fsfs_revision.specs.declared.trailer.Trailer.{Trailer}
 use Rattle.fsfs_revision.proofs.TrailerLemmas.{trailer_reads, one_trailer}
 use Rattle.fsfs_revision.proofs.DamageLemmas.{IsOne, node_rows_agree, row_or_node, row_behind, no_root_row, root_no_row}
-use Rattle.fsfs_shows.specs.declared.wrong.Wrong.{Wrong}
-use Rattle.fsfs_shows.specs.Readings.{HasOneAnswer, IsDamage}
+use Rattle.fsfs_shows.specs.Readings.{HasOneAnswer}
 use Rattle.fsfs_shows.specs.Reading.{BytesOf, NodeIn, NodeAt, RootIn, RootOf}
-use Rattle.fsfs_shows.proofs.OneStep.{ok_ap, err_ap, ok_same, and_then_one, bytes_one, same_damage, damage_one, no_damage}
+use Rattle.fsfs_shows.proofs.OneStep.{ok_ap, err_ap, and_then_one, bytes_one, same_damage, damage_one, no_damage}
 
 -- ---- a node-revision
 
@@ -82,7 +80,7 @@ module _ (rev : ℕ) (bytes : List ℕ) where
   root_or_row : (v : NodeRev) (d : Damage) → IsRootOf rev bytes v → RootRow rev bytes d → ⊥
   root_or_row v d a row =
       root_no_row rev bytes a.0 v d (λ w m. node_same (place_of rev a.0.root) (drop a.0.root bytes) v w a.2 m) (no_row a.0 v a.2) a.3
-          (row_behind rev bytes a.0 d a.1 (λ u w. end_one 0 bytes a.0 u a.1 w) row)
+      (row_behind rev bytes a.0 d a.1 (λ u w. end_one 0 bytes a.0 u a.1 w) row)
 
   root_same : (v w : NodeRev) → IsRootOf rev bytes v → IsRootOf rev bytes w → v ≡ w
   root_same v w a b =

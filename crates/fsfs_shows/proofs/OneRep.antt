@@ -1,8 +1,6 @@
 -- A representation and a dump are read in one way at most, and the rows of what is wrong with them exclude each other.
-use Rattle.std.proofs.Common.{◌≡◌, ◌≢◌, ℕ, suc, List, [], ◌∷◌, ◌++◌, drop, take, length, refl, sym, ap, subst, ◌∙◌, arith}
-use Rattle.std.specs.Prelude.{Result, Ok, Err, Some, IfSome, codes}
-use Rattle.std.proofs.lemmas.List.{take-append-drop}
-use Rattle.md5.specs.Md5.{md5}
+use Rattle.std.proofs.Common.{◌≡◌, ℕ, List, [], ◌∷◌, ◌++◌, drop, take, length, refl, sym, ap, subst, ◌∙◌, arith}
+use Rattle.std.specs.Prelude.{Ok, Err, IfSome, codes}
 use Rattle.sha1.specs.Sha1.{sha1}
 use Rattle.fsfs_book.specs.Told.{Look}
 use Rattle.fsfs_text.proofs.Readers.{all_again}
@@ -11,8 +9,8 @@ use Rattle.fsfs_noderev.specs.declared.rep.Uniquifier.{Uniquifier}
 use Rattle.fsfs_hash.specs.Dump.{IsDump}
 use Rattle.fsfs_hash.specs.Reading.{dump_at}
 use Rattle.fsfs_hash.proofs.Dumps.{dump_reads, pairs_same}
-use Rattle.fsfs_rep.specs.Frames.{rev_of, text_of, HasSize, HasMd5, HasSha1, IsWhole, Disagrees}
-use Rattle.fsfs_rep.specs.Headers.{HasPlainLine, HasDeltaLine, plain_line}
+use Rattle.fsfs_rep.specs.Frames.{rev_of, text_of, HasSize, IsWhole, Disagrees}
+use Rattle.fsfs_rep.specs.Headers.{HasPlainLine, HasDeltaLine}
 use Rattle.fsfs_rep.specs.declared.rep_fault.RepFault.TheVariants as faults
 use Rattle.fsfs_shows.specs.declared.wrong.RepWhat.{RepWhat}
 use Rattle.fsfs_shows.specs.declared.wrong.RepWhat.TheVariants as repwhat

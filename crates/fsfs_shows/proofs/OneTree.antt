@@ -1,5 +1,5 @@
 -- The bytes show one tree at most.
-use Rattle.std.proofs.Common.{◌≡◌, ◌≤◌, ◌<◌, ℕ, max, List, [], ◌∷◌, ◌++◌, length, take, refl, sym, ap, subst, ◌∙◌, arith, inl, inr}
+use Rattle.std.proofs.Common.{◌≡◌, ◌≤◌, ◌<◌, ℕ, max, List, take, refl, sym, ap, subst, ◌∙◌, arith, inl, inr}
 use Rattle.std.specs.Prelude.{Result, Ok, Err, Option, Some, None}
 use Rattle.fsfs_base.specs.Paths.{Path}
 use Rattle.fsfs_base.specs.Nodes.{Node, Content, Bytes, Closed, TreeFunction}
@@ -10,7 +10,7 @@ use Rattle.fsfs_noderev.specs.declared.node_id.NodeId.{NodeId}
 use Rattle.fsfs_noderev.specs.declared.node_rev.NodeRev.{NodeRev}
 use Rattle.fsfs_revision.specs.Damages.{place_of}
 use Rattle.fsfs_shows.specs.declared.wrong.Wrong.{Wrong}
-use Rattle.fsfs_shows.specs.Reading.{OfId, TextOf, Met, Stands, Lacking, Blocked, MetAt, StandsAt}
+use Rattle.fsfs_shows.specs.Reading.{OfId, Met, Stands, Lacking, Blocked, MetAt, StandsAt}
 use Rattle.fsfs_shows.specs.Chains.{own_rev, Chain, First, Breaks, Goes, copy_root_of, IsCopiedIn, contents_rev}
 use Rattle.fsfs_shows.specs.Shown.{IsTextOf, Nearest, source_by, IsOfCopy, IsSource, IsShown, IsShownAs, Shows}
 use Rattle.fsfs_shows.proofs.OneStep.{ok_same}

@@ -1,5 +1,5 @@
 -- What is named, a child, and what is met at a path are read in one way at most.
-use Rattle.std.proofs.Common.{◌≡◌, ℕ, suc, List, [], ◌∷◌, refl, sym, ap, subst, ◌∙◌, inl, inr}
+use Rattle.std.proofs.Common.{◌≡◌, ℕ, suc, [], ◌∷◌, sym, ap, ◌∙◌}
 use Rattle.std.specs.Prelude.{Result, Ok, Err, Option, Some, None}
 use Rattle.fsfs_base.specs.Paths.{Name, Path}
 use Rattle.fsfs_base.specs.declared.node.Kind.{Kind}
@@ -9,7 +9,7 @@ use Rattle.fsfs_noderev.specs.declared.node_id.NodeId.{NodeId}
 use Rattle.fsfs_noderev.specs.declared.node_rev.NodeRev.{NodeRev}
 use Rattle.fsfs_shows.specs.declared.wrong.Wrong.{Wrong}
 use Rattle.fsfs_shows.specs.Readings.{HasOneAnswer}
-use Rattle.fsfs_shows.specs.Reading.{offset_of, NodeAt, RootOf, RepAt, PairsAt, TextOf, PropsOf, OtherThan, HasId, OfId, Entry, OfOtherKind, HasKind, OfEntry, named, EntriesOf, OfNamed, ChildOf, Met, Stands, Lacking, Blocked, OrLacking, InDirectory, MetFrom, MetAt, StandsAt}
+use Rattle.fsfs_shows.specs.Reading.{offset_of, NodeAt, RootOf, RepAt, PairsAt, TextOf, PropsOf, OtherThan, HasId, OfId, Entry, OfOtherKind, HasKind, OfEntry, named, EntriesOf, OfNamed, ChildOf, Met, Stands, OrLacking, InDirectory, MetFrom, MetAt, StandsAt}
 use Rattle.fsfs_shows.proofs.OneStep.{ok_ap, err_ap, ok_same, and_then_one, contents_one, same_damage, damage_one, no_damage}
 use Rattle.fsfs_shows.proofs.OneNode.{node_at_one, root_of_one}
 use Rattle.fsfs_shows.proofs.OneRep.{rep_at_one, pairs_at_one}

@@ -1,6 +1,6 @@
 -- Walks down a path, one behind another.
-use Rattle.std.proofs.Common.{◌≡◌, ℕ, suc, ◌+◌, List, [], ◌∷◌, ◌++◌, length, take, drop, refl, sym, ap, subst, ◌∙◌, inl, inr, arith, append_assoc}
-use Rattle.std.proofs.lemmas.List.{append-nil, take-append-drop}
+use Rattle.std.proofs.Common.{◌≡◌, ℕ, suc, ◌+◌, [], ◌∷◌, ◌++◌, length, take, drop, refl, sym, ap, subst, ◌∙◌, inl, inr, arith, append_assoc}
+use Rattle.std.proofs.lemmas.List.{take-append-drop}
 use Rattle.std.specs.Prelude.{Result, Ok, Err, Option, Some, None}
 use Rattle.fsfs_base.specs.Paths.{Name, Path}
 use Rattle.fsfs_base.specs.declared.node.Kind.{Kind}
@@ -8,7 +8,7 @@ use Rattle.fsfs_base.specs.declared.node.Kind.TheVariants.{File, Dir}
 use Rattle.fsfs_book.specs.Told.{Look}
 use Rattle.fsfs_noderev.specs.declared.node_rev.NodeRev.{NodeRev}
 use Rattle.fsfs_shows.specs.declared.wrong.Wrong.{Wrong}
-use Rattle.fsfs_shows.specs.Reading.{RootOf, ChildOf, Met, Stands, Lacking, Blocked, OrLacking, InDirectory, MetFrom, MetAt, StandsAt}
+use Rattle.fsfs_shows.specs.Reading.{ChildOf, Met, Stands, OrLacking, InDirectory, MetFrom, MetAt, StandsAt}
 use Rattle.fsfs_shows.specs.Damaged.{FirstDamage, AtRoot, Below}
 
 -- one step down, and what comes of it
@@ -30,7 +30,7 @@ met_on look a v depth [] rest r at on =
     subst (λ (n : ℕ). MetFrom look a n rest r) (omega arith) (subst (λ (n : NodeRev). MetFrom look n (depth + length (let e : Path = [] in e)) rest r) same on)
 met_on look a v depth (name ∷ front) rest r at on =
     in_directory_on a.kind depth (ChildOf look a name) (λ w. MetFrom look w (suc depth) front) (λ w. MetFrom look w (suc depth) (front ++ rest)) v r at
-        (λ u further. met_on look u v (suc depth) front rest r further (subst (λ (n : ℕ). MetFrom look v n rest r) (omega arith) on))
+    (λ u further. met_on look u v (suc depth) front rest r further (subst (λ (n : ℕ). MetFrom look v n rest r) (omega arith) on))
 
 pub met_behind : (look : Look) (rev : ℕ) (v : NodeRev) (front rest : Path) (r : Result Met Wrong) → StandsAt look rev front v → MetFrom look v (length front) rest r → MetAt look rev (front ++ rest) r
 met_behind look rev v front rest (Ok m) at on = (at.0, at.1, met_on look at.0 v 0 front rest (Ok m) at.2 (subst (λ (n : ℕ). MetFrom look v n rest (Ok m)) (omega arith) on))
@@ -43,7 +43,7 @@ in_dir kind depth R S m is h = subst (λ (k : Kind). InDirectory k depth R S m) 
 pub child_stands : (look : Look) (rev : ℕ) (dir u : NodeRev) (front : Path) (name : Name) → StandsAt look rev front dir → dir.kind ≡ Dir → ChildOf look dir name (Ok (Some u)) → StandsAt look rev (front ++ name ∷ []) u
 child_stands look rev dir u front name at is child =
     met_behind look rev dir front (name ∷ []) (Ok (Stands u)) at
-        (in_dir dir.kind (length front) (ChildOf look dir name) (λ w. MetFrom look w (suc (length front)) []) (Ok (Stands u)) is (Some u, child, refl))
+    (in_dir dir.kind (length front) (ChildOf look dir name) (λ w. MetFrom look w (suc (length front)) []) (Ok (Stands u)) is (Some u, child, refl))
 
 -- ---- the first damage
 
@@ -76,7 +76,7 @@ module _ (look : Look) (rev : ℕ) (w : Wrong) where
   below_child front name names v None at is next child on = absurd cc
   below_child front name names v (Some u) at is next child on =
       subst (λ (p : Path). FirstDamage look rev p w) (append_assoc front (name ∷ []) names)
-          (next u (child_stands look rev v u front name at is child) (subst (λ (n : ℕ). MetFrom look u n names (Err w)) (sym (length_push front name)) on))
+      (next u (child_stands look rev v u front name at is child) (subst (λ (n : ℕ). MetFrom look u n names (Err w)) (sym (length_push front name)) on))
 
   first_in : (front : Path) (name : Name) (names : Path) (v : NodeRev) (kind : Kind) → StandsAt look rev front v → v.kind ≡ kind → FurtherOn front name names
       → InDirectory kind (length front) (ChildOf look v name) (λ u. MetFrom look u (suc (length front)) names) (Err w) → FirstDamage look rev (front ++ name ∷ names) w
@@ -97,4 +97,4 @@ module _ (look : Look) (rev : ℕ) (w : Wrong) where
   met_of_first path (Below k dir name rest behind at is child) =
       let parts : take k path ++ (name ∷ rest) ≡ path = ap (λ (t : Path). take k path ++ t) (sym behind) ∙ take-append-drop k path in
       subst (λ (p : Path). MetAt look rev p (Err w)) parts
-          (met_behind look rev dir (take k path) (name ∷ rest) (Err w) at (in_dir dir.kind (length (take k path)) (ChildOf look dir name) (λ u. MetFrom look u (suc (length (take k path))) rest) (Err w) is (inl child)))
+      (met_behind look rev dir (take k path) (name ∷ rest) (Err w) at (in_dir dir.kind (length (take k path)) (ChildOf look dir name) (λ u. MetFrom look u (suc (length (take k path))) rest) (Err w) is (inl child)))

@@ -26,7 +26,6 @@ use Rattle.fsfs_rep.specs.declared.rep_fault.RepFault.TheVariants as faults
 use Rattle.fsfs_revision.specs.Damages.{NodeRow, IsRootOf, RootRow, place_of}
 use Rattle.fsfs_revision.specs.Nodes.{IsNodeAt, is_revision_id, place_before}
 use Rattle.fsfs_revision.specs.declared.damage.RevOffset.{RevOffset}
-use Rattle.fsfs_revision.specs.declared.damage.What.{What}
 use Rattle.fsfs_revision.specs.declared.damage.What.TheVariants as what
 use Rattle.fsfs_revision.specs.declared.damage.Damage.{Damage}
 use Rattle.fsfs_shows.specs.declared.wrong.RepWhat.{RepWhat}

@@ -1,6 +1,6 @@
 -- The bytes show one history at most.
-use Rattle.std.proofs.Common.{◌≡◌, ◌≢◌, ℕ, suc, List, [], ◌∷◌, ◌++◌, drop, length, refl, sym, ap, subst, ◌∙◌, arith, inl, inr}
-use Rattle.std.specs.Prelude.{Result, Ok, Err, Option, Some, None, true, false, slice_get, Contains}
+use Rattle.std.proofs.Common.{◌≡◌, ℕ, suc, List, [], ◌∷◌, ◌++◌, drop, refl, sym, ap, subst, ◌∙◌}
+use Rattle.std.specs.Prelude.{Result, Ok, Option, Some, None, true, false, Contains}
 use Rattle.std.specs.FinMap.{FinMap, get}
 use Rattle.fsfs_text.proofs.Readers.{all_again}
 use Rattle.fsfs_base.specs.Files.{Files}
@@ -14,17 +14,13 @@ use Rattle.fsfs_hash.specs.Dump.{IsDump}
 use Rattle.fsfs_noderev.specs.declared.node_rev.NodeRev.{NodeRev}
 use Rattle.fsfs_layout.specs.Formats.{IsFormat}
 use Rattle.fsfs_layout.specs.Small.{IsRevLine}
-use Rattle.fsfs_layout.specs.Reading.{format_at, rev_line_at}
-use Rattle.fsfs_layout.specs.declared.format_file.Format.{Format}
 use Rattle.fsfs_layout.specs.declared.format_file.Format.TheVariants.{Sharded}
 use Rattle.fsfs_layout.proofs.Files.{format_again, rev_line_reads}
-use Rattle.fsfs_revision.specs.Trailers.{IsTrailer, EndsWith}
-use Rattle.fsfs_revision.specs.declared.trailer.Trailer.{Trailer}
+use Rattle.fsfs_revision.specs.Trailers.{IsTrailer}
 use Rattle.fsfs_revision.proofs.TrailerLemmas.{one_trailer}
 use Rattle.fsfs_changes.specs.Changes.{HasNewPath, AreRevisionChanges}
 use Rattle.fsfs_changes.specs.declared.item.ChangeItem.{ChangeItem}
 use Rattle.fsfs_changes.proofs.ItemLists.{items_one}
-use Rattle.fsfs_shows.specs.Reading.{OfId, StandsAt}
 use Rattle.fsfs_shows.proofs.OneNode.{end_one}
 use Rattle.fsfs_shows.proofs.OneRep.{dump_one}
 use Rattle.fsfs_shows.proofs.OneStep.{ok_same}
@@ -32,7 +28,7 @@ use Rattle.fsfs_shows.proofs.OneWalk.{of_id_one, stands_same}
 use Rattle.fsfs_shows.proofs.OneTree.{one_tree}
 use Rattle.fsfs_stands.specs.Changes.{HasItems, IsKindOf, Said, Named, There, NotThere, IsChangeOf, AreChangesOf}
 use Rattle.fsfs_stands.specs.History.{ShowsRevision, ShowsHistory}
-use Rattle.fsfs_stands.specs.Files.{Says, StandsFor}
+use Rattle.fsfs_stands.specs.Files.{Says}
 use Rattle.fsfs_stands.specs.Same.{AreSame, OneHistoryIsShown, OneHistoryIsStoodFor}
 
 some_same : {A : Type 0} (x y : A) → (let o : Option A = Some x in o) ≡ Some y → x ≡ y

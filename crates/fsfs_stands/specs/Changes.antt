@@ -2,7 +2,7 @@
 --
 -- The libsvn_fs_fs structure file has the form of the items ("Revision file format", changed-path data). What an item without a kind
 -- means, and that each path comes once, are this project's profile.
-use Rattle.std.specs.Prelude.{◌≡◌, ◌≢◌, ◌⊎◌, ℕ, true, false, List, drop, Contains, Option, Some, None, option_map, Ok}
+use Rattle.std.specs.Prelude.{◌≡◌, ◌≢◌, ℕ, true, false, List, drop, Contains, Some, None, option_map, Ok}
 use Rattle.std.specs.FinMap.{FinMap, get}
 use Rattle.fsfs_base.specs.Paths.{Path, path_cmp}
 use Rattle.fsfs_base.specs.declared.node.Kind.{Kind}
@@ -10,7 +10,6 @@ use Rattle.fsfs_base.specs.declared.node.Kind.TheVariants.{File}
 use Rattle.fsfs_base.specs.declared.change_map.Action.TheVariants.{Delete}
 use Rattle.fsfs_base.specs.declared.change_map.Change.{Change}
 use Rattle.fsfs_book.specs.Told.{Look}
-use Rattle.fsfs_noderev.specs.declared.node_rev.CopySource.{CopySource}
 use Rattle.fsfs_noderev.specs.declared.node_rev.NodeRev.{NodeRev}
 use Rattle.fsfs_revision.specs.Nodes.{is_revision_id}
 use Rattle.fsfs_revision.specs.Trailers.{EndsWith}
