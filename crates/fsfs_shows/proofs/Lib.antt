@@ -6,3 +6,4 @@ pub mod OneWalk
 pub mod OneTree
 pub mod Walks
 pub mod FirstRevision
+pub mod ByTree

@@ -36,7 +36,7 @@ pub met_behind : (look : Look) (rev : ℕ) (v : NodeRev) (front rest : Path) (r 
 met_behind look rev v front rest (Ok m) at on = (at.0, at.1, met_on look at.0 v 0 front rest (Ok m) at.2 (subst (λ (n : ℕ). MetFrom look v n rest (Ok m)) (omega arith) on))
 met_behind look rev v front rest (Err w) at on = inr (at.0, at.1, met_on look at.0 v 0 front rest (Err w) at.2 (subst (λ (n : ℕ). MetFrom look v n rest (Err w)) (omega arith) on))
 
-in_dir : (kind : Kind) (depth : ℕ) (R : Result (Option NodeRev) Wrong → Type 0) (S : NodeRev → Result Met Wrong → Type 0) (m : Result Met Wrong) → kind ≡ Dir → InDirectory Dir depth R S m → InDirectory kind depth R S m
+pub in_dir : (kind : Kind) (depth : ℕ) (R : Result (Option NodeRev) Wrong → Type 0) (S : NodeRev → Result Met Wrong → Type 0) (m : Result Met Wrong) → kind ≡ Dir → InDirectory Dir depth R S m → InDirectory kind depth R S m
 in_dir kind depth R S m is h = subst (λ (k : Kind). InDirectory k depth R S m) (sym is) h
 
 -- a child of a directory stands at its path
@@ -47,21 +47,21 @@ child_stands look rev dir u front name at is child =
 
 -- ---- the first damage
 
+drop_front : (f r : Path) → drop (length f) (f ++ r) ≡ r
+drop_front [] r = refl
+drop_front (x ∷ f) r = drop_front f r
+
+take_none : (r : Path) → take 0 r ≡ []
+take_none [] = refl
+take_none (x ∷ r) = refl
+
+pub take_front : (f r : Path) → take (length f) (f ++ r) ≡ f
+take_front [] r = take_none r
+take_front (x ∷ f) r = ap (λ (p : Path). x ∷ p) (take_front f r)
+
 module _ (look : Look) (rev : ℕ) (w : Wrong) where
   child_damage : (front : Path) (dir : NodeRev) (name : Name) (names : Path) → StandsAt look rev front dir → dir.kind ≡ Dir → ChildOf look dir name (Err w) → FirstDamage look rev (front ++ name ∷ names) w
   child_damage front dir name names at is child = Below (length front) dir name names (drop_front front (name ∷ names)) (subst (λ (p : Path). StandsAt look rev p dir) (sym (take_front front (name ∷ names))) at) is child
-    where
-      drop_front : (f r : Path) → drop (length f) (f ++ r) ≡ r
-      drop_front [] r = refl
-      drop_front (x ∷ f) r = drop_front f r
-
-      take_front : (f r : Path) → take (length f) (f ++ r) ≡ f
-      take_front [] r = take_none r
-        where
-          take_none : (r : Path) → take 0 r ≡ []
-          take_none [] = refl
-          take_none (x ∷ r) = refl
-      take_front (x ∷ f) r = ap (λ (p : Path). x ∷ p) (take_front f r)
 
   -- the damage further on, below the child
   abbrev FurtherOn : Path → Name → Path → Type 0

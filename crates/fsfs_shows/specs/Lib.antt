@@ -5,3 +5,4 @@ pub mod Chains
 pub mod Shown
 pub mod IdRules
 pub mod FirstRevision
+pub mod ByTree

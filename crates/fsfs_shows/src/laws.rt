@@ -7,6 +7,7 @@ ghost use Rattle.fsfs_noderev.specs.declared.node_rev.NodeRev.{NodeRev};
 ghost use Rattle.fsfs_revision.specs.declared.damage.RevOffset.{RevOffset};
 ghost use Rattle.fsfs_shows.specs.Readings.{HasOneAnswer};
 ghost use Rattle.fsfs_shows.specs.Reading.{NodeAt, RootOf, TextOf, PropsOf, EntriesOf, ChildOf, MetAt};
+ghost use Rattle.fsfs_shows.specs.ByTree.{IsReadByTree};
 ghost use Rattle.fsfs_shows.specs.Damaged.{DamageIsFirst};
 ghost use Rattle.fsfs_shows.specs.Shown.{Shows};
 ghost use Rattle.fsfs_shows.specs.FirstRevision.{first_bytes, first_tree};
@@ -33,6 +34,12 @@ pub fn one_tree_is_shown()
 /// directory stands above, all above it being whole, and its child of the next name isn't had.
 pub fn damage_is_the_first()
     ensures { (look : Look) (rev : ℕ) (path : Path) (w : Wrong) → DamageIsFirst look rev path w }
+{}
+
+/// Where the bytes show a tree, all that is read of it is by the tree: at a path the node that stands there, or the first path that
+/// the tree lacks, or the file that is in the way, and never what is wrong; a directory's entries, the properties and the texts.
+pub fn readings_answer_by_the_tree()
+    ensures { (look : Look) (rev : ℕ) (tree : TreeFunction) → Shows look rev tree → IsReadByTree look rev tree }
 {}
 
 /// The bytes that revision 0 of a new repository has show `/` alone, and obey the rules of ids.
