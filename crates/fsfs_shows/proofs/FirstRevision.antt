@@ -1,5 +1,5 @@
 -- The bytes of revision 0 show `/`, and obey the rules of ids.
-use Rattle.std.proofs.Common.{◌≡◌, ◌≤◌, ◌<◌, ℕ, zero, suc, Bool, true, false, ◌&&◌, not, List, [], ◌∷◌, ◌++◌, take, Some, None, refl, sym, ap, subst, ◌∙◌, arith, inl}
+use Rattle.std.proofs.Common.{◌≡◌, ◌≤◌, ◌<◌, ℕ, zero, suc, Bool, true, false, ◌&&◌, not, List, [], ◌∷◌, ◌++◌, take, drop, Some, None, refl, sym, ap, subst, ◌∙◌, arith, inl}
 use Rattle.std.specs.Prelude.{Ok, ◌==◌, codes}
 use Rattle.std.specs.List.{slice_index}
 use Rattle.std.proofs.lemmas.Bool.{and_parts}
@@ -34,7 +34,8 @@ use Rattle.fsfs_noderev.proofs.RepTexts.{contents_spells}
 use Rattle.fsfs_noderev.proofs.Lengths.{reads_back}
 use Rattle.fsfs_rep.specs.Frames.{IsWhole}
 use Rattle.fsfs_revision.specs.Trailers.{trailer_at, EndsWith}
-use Rattle.fsfs_revision.specs.Damages.{IsRootOf}
+use Rattle.fsfs_revision.specs.Damages.{IsRootOf, place_of}
+use Rattle.fsfs_revision.specs.Nodes.{IsNodeAt}
 use Rattle.fsfs_revision.specs.declared.trailer.Trailer.{Trailer}
 use Rattle.fsfs_revision.proofs.TrailerLemmas.{trailer_reads}
 use Rattle.fsfs_shows.specs.Reading.{EntriesOf, ChildOf, Met, Stands, Lacking, MetAt, StandsAt}
@@ -46,7 +47,7 @@ use Rattle.fsfs_shows.proofs.OneWalk.{met_same, stands_same}
 
 -- ---- bytes that lack one, by a test
 
-abbrev is_free_of : ℕ → List ℕ → Bool
+abbrev pub is_free_of : ℕ → List ℕ → Bool
 is_free_of c [] = true
 is_free_of c (b ∷ bs) = not (b == c) && is_free_of c bs
 
@@ -60,16 +61,16 @@ lacks c (b ∷ bs) e = let p = and_parts (not (b == c)) (is_free_of c bs) e in (
 
 -- ---- the root's node-revision
 
-abbrev zero_b36 : B36
+abbrev pub zero_b36 : B36
 zero_b36 = record { number = 0; small = omega arith }
 
-abbrev root_id : NodeId
+abbrev pub root_id : NodeId
 root_id = record { node = part.Old zero_b36; copy = part.Old zero_b36; place = place.At 0 17 }
 
 abbrev root_rep : Rep
 root_rep = record { rev = Some 0; offset = 0; length = 4; size = 4; md5 = record { bytes = 45 ∷ 41 ∷ 119 ∷ 209 ∷ 201 ∷ 111 ∷ 72 ∷ 122 ∷ 190 ∷ 74 ∷ 30 ∷ 32 ∷ 45 ∷ 208 ∷ 59 ∷ 78 ∷ [] }; unique = None }
 
-abbrev root : NodeRev
+abbrev pub root : NodeRev
 root = record { id = root_id; kind = Dir; predecessor = None; count = 0; text = Some (contents.At root_rep); props = None; created_path = []; copy_from = None; copy_root = None; is_fresh_txn_root = false; mergeinfo_count = None; has_mergeinfo = false }
 
 abbrev root_fields : Fields
@@ -87,10 +88,10 @@ slash_is_ascii : (i : ℕ) → slice_index (codes "/") i < 128
 slash_is_ascii zero = omega arith
 slash_is_ascii (suc i) = omega arith
 
-path_is : IsPathText (codes "/") []
+pub path_is : IsPathText (codes "/") []
 path_is = record { path_is = record { names = tt; deep = omega arith; fits = omega arith }; text_is = refl; utf8 = IsUtf8-from_ascii (codes "/") slash_is_ascii }
 
-zero_digit : IsNumeral 10 (codes "0") 0
+pub zero_digit : IsNumeral 10 (codes "0") 0
 unfolding value_after
 zero_digit = ((omega arith, tt), (λ e. refl), refl)
 
@@ -100,7 +101,7 @@ count_is = (zero_digit, omega arith)
 abbrev root_lines : List (List ℕ × List ℕ)
 root_lines = (codes "id", codes "0.0.r0/17") ∷ (codes "type", codes "dir") ∷ (codes "count", codes "0") ∷ (codes "text", codes "0 0 4 4 2d2977d1c96f487abe4a1e202dd03b4e") ∷ (codes "cpath", codes "/") ∷ []
 
-pair_of : (name value : List ℕ) → (name ≡ [] → ⊥) → is_free_of 58 name ≡ true → is_free_of 10 name ≡ true → is_free_of 10 value ≡ true → IsPair (name, value)
+pub pair_of : (name value : List ℕ) → (name ≡ [] → ⊥) → is_free_of 58 name ≡ true → is_free_of 10 name ≡ true → is_free_of 10 value ≡ true → IsPair (name, value)
 pair_of name value filled a b c = record { filled = filled; colon = lacks 58 name a; name = lacks 10 name b; value = lacks 10 value c }
 
 taken : Takes nothing root_lines root_fields
@@ -143,7 +144,7 @@ root_is = record {
 
 -- ---- the trailer, the root and its directory
 
-abbrev trailer : Trailer
+abbrev pub trailer : Trailer
 trailer = record { root = 17; changes = 107 }
 
 trailer_is : trailer_at (codes "\n17 107\n") ≡ Ok (17, 107)
@@ -161,8 +162,11 @@ ends = record {
   changes = omega arith;
 }
 
+pub root_node : IsNodeAt (place_of 0 17) (drop 17 first_bytes) root
+root_node = ((reads_back 65536 root_text root root_is (omega arith) (codes "\n17 107\n"), refl), refl)
+
 root_there : IsRootOf 0 first_bytes root
-root_there = (trailer, ends, ((reads_back 65536 root_text root root_is (omega arith) (codes "\n17 107\n"), refl), refl), refl)
+root_there = (trailer, ends, root_node, refl)
 
 digest_of_end : md5 (codes "END\n") ≡ 45 ∷ 41 ∷ 119 ∷ 209 ∷ 201 ∷ 111 ∷ 72 ∷ 122 ∷ 190 ∷ 74 ∷ 30 ∷ 32 ∷ 45 ∷ 208 ∷ 59 ∷ 78 ∷ []
 unfolding block_words rounds compress hash_after digest_bytes md5
@@ -177,7 +181,7 @@ no_pairs = record { inner = []; inner_is = (tt, refl); value_is = refl }
 -- ---- what is shown
 
 module _ (look : Look) (is : look 0 ≡ Ok first_bytes) where
-  root_stands : StandsAt look 0 [] root
+  pub root_stands : StandsAt look 0 [] root
   root_stands = (root, (first_bytes, is, root_there), refl)
 
   no_entries : EntriesOf look root (Ok [])
@@ -189,10 +193,10 @@ module _ (look : Look) (is : look 0 ≡ Ok first_bytes) where
   none_below : (name : Name) (names : Path) → MetAt look 0 (name ∷ names) (Ok (Lacking 1))
   none_below name names = (root, (first_bytes, is, root_there), (None, no_child name, refl))
 
-  only_root : (q : NodeRev) → StandsAt look 0 [] q → q ≡ root
+  pub only_root : (q : NodeRev) → StandsAt look 0 [] q → q ≡ root
   only_root q at = stands_same look 0 [] q root at root_stands
 
-  nothing_below : (name : Name) (names : Path) (q : NodeRev) → StandsAt look 0 (name ∷ names) q → ⊥
+  pub nothing_below : (name : Name) (names : Path) (q : NodeRev) → StandsAt look 0 (name ∷ names) q → ⊥
   nothing_below name names q at = let e = met_same look 0 (name ∷ names) (Stands q) (Lacking 1) at (none_below name names) in absurd cc
 
   copied : IsCopiedIn look 0 [] 0
@@ -229,7 +233,7 @@ module _ (look : Look) (is : look 0 ≡ Ok first_bytes) where
 
   -- ---- the rules of ids
 
-  the_root : (r : ℕ) (p : Path) (v : NodeRev) → r ≤ 0 → StandsAt look r p v → v ≡ root
+  pub the_root : (r : ℕ) (p : Path) (v : NodeRev) → r ≤ 0 → StandsAt look r p v → v ≡ root
   the_root zero [] v le at = only_root v at
   the_root zero (name ∷ names) v le at = absurd (nothing_below name names v at)
   the_root (suc r) p v le at = absurd (omega (arith, le))

@@ -7,3 +7,4 @@ pub mod OneTree
 pub mod Walks
 pub mod FirstRevision
 pub mod ByTree
+pub mod FirstDirectory

@@ -6,3 +6,4 @@ pub mod Shown
 pub mod IdRules
 pub mod FirstRevision
 pub mod ByTree
+pub mod FirstDirectory

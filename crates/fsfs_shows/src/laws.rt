@@ -11,6 +11,7 @@ ghost use Rattle.fsfs_shows.specs.ByTree.{IsReadByTree};
 ghost use Rattle.fsfs_shows.specs.Damaged.{DamageIsFirst};
 ghost use Rattle.fsfs_shows.specs.Shown.{Shows};
 ghost use Rattle.fsfs_shows.specs.FirstRevision.{first_bytes, first_tree};
+ghost use Rattle.fsfs_shows.specs.FirstDirectory.{directory_bytes, directory_tree};
 ghost use Rattle.fsfs_shows.specs.IdRules.{IdRule};
 ghost use Rattle.fsfs_shows.specs.declared.wrong.Wrong.{Wrong};
 
@@ -46,4 +47,10 @@ pub fn readings_answer_by_the_tree()
 pub fn the_first_revision_shows_its_root()
     ensures tree { (look : Look) → look 0 ≡ Ok first_bytes → Shows look 0 first_tree }
     ensures ids { (look : Look) → look 0 ≡ Ok first_bytes → IdRule look 0 }
+{}
+
+/// The bytes of a revision 1 that made a directory, behind those of revision 0, show it and obey the rules of ids.
+pub fn a_directory_is_shown()
+    ensures tree { (look : Look) → look 0 ≡ Ok first_bytes → look 1 ≡ Ok directory_bytes → Shows look 1 directory_tree }
+    ensures ids { (look : Look) → look 0 ≡ Ok first_bytes → look 1 ≡ Ok directory_bytes → IdRule look 1 }
 {}
