@@ -1,5 +1,5 @@
 -- Where the bytes show a tree, what is read is by the tree.
-use Rattle.std.proofs.Common.{◌≡◌, ◌≤◌, ◌<◌, ℕ, suc, ◌+◌, List, [], ◌∷◌, ◌++◌, length, take, drop, refl, sym, ap, subst, ◌∙◌, inl, inr, arith, append_assoc}
+use Rattle.std.proofs.Common.{◌≡◌, ℕ, suc, ◌+◌, List, [], ◌∷◌, ◌++◌, length, take, refl, sym, ap, subst, ◌∙◌, inl, inr, arith, append_assoc}
 use Rattle.std.proofs.lemmas.List.{length-append}
 use Rattle.std.specs.Prelude.{Result, Ok, Err, Option, Some, None, IsSomeAnd}
 use Rattle.fsfs_base.specs.Paths.{Name, Path}
@@ -11,13 +11,13 @@ use Rattle.fsfs_noderev.specs.declared.node_rev.NodeRev.{NodeRev}
 use Rattle.fsfs_revision.specs.Damages.{place_of}
 use Rattle.fsfs_shows.specs.declared.wrong.Wrong.{Wrong}
 use Rattle.fsfs_shows.specs.declared.wrong.Wrong.TheVariants as wrongs
-use Rattle.fsfs_shows.specs.Reading.{Entry, named, TextOf, PropsOf, EntriesOf, OfEntry, OfNamed, ChildOf, Met, Stands, Lacking, Blocked, OrLacking, InDirectory, MetFrom, MetAt, StandsAt}
+use Rattle.fsfs_shows.specs.Reading.{Entry, named, TextOf, PropsOf, EntriesOf, OfNamed, ChildOf, Met, Stands, Lacking, Blocked, OrLacking, InDirectory, MetFrom, MetAt, StandsAt}
 use Rattle.fsfs_shows.specs.Shown.{IsTextOf, IsShown, IsShownAs, Shows}
 use Rattle.fsfs_shows.specs.ByTree.{LacksAt, IsBlockedAt, IsMetByTree, IsEntryByTree, AreEntriesByTree, IsTextByTree, IsReadByTree}
 use Rattle.fsfs_shows.proofs.OneStep.{ok_same}
 use Rattle.fsfs_shows.proofs.OneNode.{root_of_one}
 use Rattle.fsfs_shows.proofs.OneEntry.{entries_one}
-use Rattle.fsfs_shows.proofs.OneWalk.{child_one, met_at_one, met_same, stands_same, text_one, props_one}
+use Rattle.fsfs_shows.proofs.OneWalk.{child_one, met_at_one, met_same, text_one, props_one}
 use Rattle.fsfs_shows.proofs.Walks.{met_behind, in_dir, child_stands, take_front}
 
 -- ---- going on from where a node-revision stands
@@ -43,7 +43,7 @@ met_after look a v depth [] rest r at all =
     subst (λ (n : ℕ). MetFrom look v n rest r) (omega arith) (subst (λ (x : NodeRev). MetFrom look x depth rest r) same all)
 met_after look a v depth (name ∷ front) rest r at all =
     after_directory look a v name a.kind depth (λ w. MetFrom look w (suc depth) front) (λ w. MetFrom look w (suc depth) (front ++ rest)) (λ x s. MetFrom look x (depth + length (name ∷ front)) rest s) r at all
-        (λ u on also. subst (λ (n : ℕ). MetFrom look v n rest r) (omega arith) (met_after look u v (suc depth) front rest r on also))
+    (λ u on also. subst (λ (n : ℕ). MetFrom look v n rest r) (omega arith) (met_after look u v (suc depth) front rest r on also))
 
 root_same : (look : Look) (rev : ℕ) (v : NodeRev) (front rest : Path) (m : Met) → StandsAt look rev front v → MetAt look rev (front ++ rest) (Ok m) → MetFrom look v (length front) rest (Ok m)
 root_same look rev v front rest m at all =
@@ -93,7 +93,7 @@ module _ (look : Look) (rev : ℕ) where
       → MetFrom look u (suc (length front)) names (Ok m) → Stops look rev (front ++ name ∷ names) m
   further front name names v m u at is next child on =
       subst (λ (p : Path). Stops look rev p m) (append_assoc front (name ∷ []) names)
-          (next u (child_stands look rev v u front name at is child) (subst (λ (n : ℕ). MetFrom look u n names (Ok m)) (sym (length_push front name)) on))
+      (next u (child_stands look rev v u front name at is child) (subst (λ (n : ℕ). MetFrom look u n names (Ok m)) (sym (length_push front name)) on))
 
   stops_below : (front : Path) (name : Name) (names : Path) (v : NodeRev) (m : Met) (o : Option NodeRev) → StandsAt look rev front v → v.kind ≡ Dir → FurtherOn front name names m → ChildOf look v name (Ok o)
       → OrLacking (suc (length front)) (λ u. MetFrom look u (suc (length front)) names) o (Ok m) → Stops look rev (front ++ name ∷ names) m
@@ -195,7 +195,7 @@ module _ (look : Look) (rev : ℕ) (tree : TreeFunction) (shows : Shows look rev
   none_there : (p : Path) (v : NodeRev) (name : Name) → StandsAt look rev p v → v.kind ≡ Dir → ChildOf look v name (Ok None) → tree (p ++ name ∷ []) ≡ None
   none_there p v name at is child =
       shown_there (p ++ name ∷ []) (Lacking (suc (length p)))
-          (met_behind look rev v p (name ∷ []) (Ok (Lacking (suc (length p)))) at (in_dir v.kind (length p) (ChildOf look v name) (λ w. MetFrom look w (suc (length p)) []) (Ok (Lacking (suc (length p)))) is (None, child, refl)))
+      (met_behind look rev v p (name ∷ []) (Ok (Lacking (suc (length p)))) at (in_dir v.kind (length p) (ChildOf look v name) (λ w. MetFrom look w (suc (length p)) []) (Ok (Lacking (suc (length p)))) is (None, child, refl)))
 
   some_kind : (o : Option Node) (n : Node) (kind : Kind) → o ≡ Some n → n.kind ≡ kind → IsSomeAnd o (λ x. x.kind ≡ kind)
   some_kind o n kind is k = subst (λ (x : Option Node). IsSomeAnd x (λ y. y.kind ≡ kind)) (sym is) k

@@ -1,21 +1,20 @@
 -- The bytes of a revision 1 that made `/a` show it.
-use Rattle.std.proofs.Common.{◌≡◌, ◌≢◌, ◌≤◌, ◌<◌, ℕ, zero, suc, Bool, true, false, List, [], ◌∷◌, ◌++◌, take, drop, length, Option, Some, None, refl, sym, ap, subst, ◌∙◌, arith, inl, inr, ◌⊎◌}
-use Rattle.std.specs.Prelude.{◌+◌, ◌-◌, ◌^◌, min, Result, Ok, Err, codes, if◌then◌else◌}
+use Rattle.std.proofs.Common.{◌≡◌, ◌≤◌, ◌<◌, ℕ, zero, suc, Bool, true, false, List, [], ◌∷◌, ◌++◌, take, drop, Option, Some, None, refl, sym, ap, subst, ◌∙◌, arith, inl, inr, ◌⊎◌}
+use Rattle.std.specs.Prelude.{◌+◌, ◌-◌, ◌^◌, min, Ok, codes, if◌then◌else◌}
 use Rattle.std.specs.List.{slice_index}
 use Rattle.std.proofs.lemmas.Str.{IsUtf8-from_ascii}
 use Rattle.hex.specs.Hex.{decode_pairs}
 use Rattle.md5.specs.Md5.{block_words, rounds, compress, hash_after, digest_bytes, md5}
-use Rattle.fsfs_text.specs.Reading.{text_at, bytes_at, until_at}
-use Rattle.fsfs_text.specs.Numeral.{IsNumeral, value_after, numeral_at, plain_at, number_at, digits_at}
+use Rattle.fsfs_text.specs.Reading.{text_at, until_at}
+use Rattle.fsfs_text.specs.Numeral.{numeral_at, plain_at, number_at, digits_at}
 use Rattle.fsfs_text.proofs.Readers.{all_found}
 use Rattle.fsfs_base.specs.Paths.{Name, Path, same_name}
 use Rattle.fsfs_base.specs.PathTexts.{IsName}
-use Rattle.fsfs_base.specs.Nodes.{Bytes, empty_node}
 use Rattle.fsfs_base.specs.declared.node.Kind.TheVariants.{Dir}
 use Rattle.fsfs_base.proofs.PathLemmas.{same_name-is}
 use Rattle.fsfs_book.specs.Told.{Look}
 use Rattle.fsfs_hash.specs.Dump.{IsDump}
-use Rattle.fsfs_hash.specs.Reading.{field_at, entry_at, entries_at, dump_at}
+use Rattle.fsfs_hash.specs.Reading.{field_at, entry_at, dump_at}
 use Rattle.fsfs_hash.proofs.Dumps.{dump_reads}
 use Rattle.fsfs_noderev.specs.Ids.{id_at, part_at, place_at, IsNumber64, part_value, Old}
 use Rattle.fsfs_noderev.specs.Reps.{contents_at, rep_at, digests_at, digest_at}
@@ -39,7 +38,7 @@ use Rattle.fsfs_revision.specs.Damages.{IsRootOf, place_of}
 use Rattle.fsfs_revision.specs.Nodes.{IsNodeAt}
 use Rattle.fsfs_revision.specs.declared.trailer.Trailer.{Trailer}
 use Rattle.fsfs_revision.proofs.TrailerLemmas.{trailer_reads}
-use Rattle.fsfs_shows.specs.Reading.{RootOf, Pairs, Entry, IsEntry, IsEntryName, named, OfId, OfNamed, EntriesOf, ChildOf, Met, Stands, Lacking, MetAt, StandsAt}
+use Rattle.fsfs_shows.specs.Reading.{RootOf, Pairs, Entry, IsEntry, IsEntryName, OfId, OfNamed, EntriesOf, ChildOf, Met, Stands, Lacking, MetAt, StandsAt}
 use Rattle.fsfs_shows.specs.Chains.{own_rev, IsPred, First, Goes, copy_root_of, IsCopiedIn}
 use Rattle.fsfs_shows.specs.Shown.{IsShown, IsShownAs, Shows}
 use Rattle.fsfs_shows.specs.IdRules.{IsOf, IsChild, HasSuffix, Directory, IdRule}

@@ -9,7 +9,7 @@ use Rattle.fsfs_revision.specs.Damages.{place_of}
 use Rattle.fsfs_shows.specs.declared.wrong.Wrong.{Wrong}
 use Rattle.fsfs_shows.specs.declared.wrong.Wrong.TheVariants as wrongs
 use Rattle.fsfs_shows.specs.Reading.{Entry, named, TextOf, PropsOf, EntriesOf, Met, Stands, Lacking, Blocked, MetAt, StandsAt}
-use Rattle.fsfs_shows.specs.Shown.{IsShown, Shows}
+use Rattle.fsfs_shows.specs.Shown.{IsShown}
 
 -- the first `depth` names of the path lead to nothing, and those before the last of them to a directory
 pub record LacksAt (tree : TreeFunction) (p : Path) (depth : ℕ) : Type 0 where
