@@ -147,12 +147,12 @@ root_is = record {
 abbrev pub trailer : Trailer
 trailer = record { root = 17; changes = 107 }
 
-trailer_is : trailer_at (codes "\n17 107\n") ≡ Ok (17, 107)
+pub trailer_is : trailer_at (codes "\n17 107\n") ≡ Ok (17, 107)
 unfolding trailer_at text_at number_at digits_at
 trailer_is = refl
 
-ends : EndsWith 0 first_bytes trailer
-ends = record {
+abbrev pub trailer_ends : EndsWith 0 first_bytes trailer
+trailer_ends = record {
   front = take 107 first_bytes;
   text = codes "\n17 107\n";
   text_is = all_found trailer_reads (codes "\n17 107\n") (17, 107) trailer_is;
@@ -166,7 +166,7 @@ pub root_node : IsNodeAt (place_of 0 17) (drop 17 first_bytes) root
 root_node = ((reads_back 65536 root_text root root_is (omega arith) (codes "\n17 107\n"), refl), refl)
 
 root_there : IsRootOf 0 first_bytes root
-root_there = (trailer, ends, root_node, refl)
+root_there = (trailer, trailer_ends, root_node, refl)
 
 digest_of_end : md5 (codes "END\n") ≡ 45 ∷ 41 ∷ 119 ∷ 209 ∷ 201 ∷ 111 ∷ 72 ∷ 122 ∷ 190 ∷ 74 ∷ 30 ∷ 32 ∷ 45 ∷ 208 ∷ 59 ∷ 78 ∷ []
 unfolding block_words rounds compress hash_after digest_bytes md5

@@ -2,3 +2,4 @@ pub mod Changes
 pub mod History
 pub mod Files
 pub mod Same
+pub mod FirstHistory
