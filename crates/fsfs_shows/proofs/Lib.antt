@@ -8,3 +8,4 @@ pub mod Walks
 pub mod FirstRevision
 pub mod ByTree
 pub mod FirstDirectory
+pub mod TreeLaw

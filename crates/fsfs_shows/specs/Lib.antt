@@ -7,3 +7,4 @@ pub mod IdRules
 pub mod FirstRevision
 pub mod ByTree
 pub mod FirstDirectory
+pub mod TreeLaw

@@ -10,6 +10,7 @@ ghost use Rattle.fsfs_shows.specs.Reading.{NodeAt, RootOf, TextOf, PropsOf, Entr
 ghost use Rattle.fsfs_shows.specs.ByTree.{IsReadByTree};
 ghost use Rattle.fsfs_shows.specs.Damaged.{DamageIsFirst};
 ghost use Rattle.fsfs_shows.specs.Shown.{Shows};
+ghost use Rattle.fsfs_shows.specs.TreeLaw.{IsSound};
 ghost use Rattle.fsfs_shows.specs.FirstRevision.{first_bytes, first_tree};
 ghost use Rattle.fsfs_shows.specs.FirstDirectory.{directory_bytes, directory_tree};
 ghost use Rattle.fsfs_shows.specs.IdRules.{IdRule};
@@ -53,4 +54,9 @@ pub fn the_first_revision_shows_its_root()
 pub fn a_directory_is_shown()
     ensures tree { (look : Look) → look 0 ≡ Ok first_bytes → look 1 ≡ Ok directory_bytes → Shows look 1 directory_tree }
     ensures ids { (look : Look) → look 0 ≡ Ok first_bytes → look 1 ≡ Ok directory_bytes → IdRule look 1 }
+{}
+
+/// What the bytes of a revision show is a tree, its numbers are in order, and none is above the revision's.
+pub fn shown_trees_are_sound()
+    ensures { (look : Look) (rev : ℕ) (tree : TreeFunction) → Shows look rev tree → IsSound rev tree }
 {}
