@@ -1,0 +1,11 @@
+pub mod OneStep
+pub mod OneNode
+pub mod OneRep
+pub mod OneEntry
+pub mod OneWalk
+pub mod OneTree
+pub mod Walks
+pub mod FirstRevision
+pub mod ByTree
+pub mod FirstDirectory
+pub mod TreeLaw

@@ -1,0 +1,10 @@
+pub mod Readings
+pub mod Reading
+pub mod Damaged
+pub mod Chains
+pub mod Shown
+pub mod IdRules
+pub mod FirstRevision
+pub mod ByTree
+pub mod FirstDirectory
+pub mod TreeLaw

@@ -1,0 +1,5 @@
+pub mod Changes
+pub mod History
+pub mod Files
+pub mod Same
+pub mod FirstHistory
