@@ -2,14 +2,12 @@
 ghost use Rattle.std.specs.Prelude.{◌≡◌, ◌∷◌, ◌++◌, [], length, OnOk, IfOk, None};
 ghost use Rattle.std.specs.FinMap as finmap;
 ghost use Rattle.fsfs_base.specs.Nodes.{empty_node};
-ghost use Rattle.fsfs_core.specs.Machine.{Happens, Runs, did, created, stuck_place, revisions, is_there};
-ghost use Rattle.fsfs_core.specs.Kept.{Kept, Keeps, RunKeeps};
+ghost use Rattle.fsfs_world.specs.Machine.{Happens, Runs, did, created, stuck_place, revisions, is_there};
+ghost use Rattle.fsfs_world.specs.Kept.{Kept, Keeps, RunKeeps};
 ghost use Rattle.fsfs_core.specs.State.{world_of};
 
-use crate::contents::{Bytes, Change, Contents, Name};
-use crate::line::Line;
-use crate::machine::{Lock, Outcome, Pass, Place, Step, Txn};
 use fsfs_base::{ChangeMap, FsPath, History, Kind, Node, Pairs, Revision, Text, Tree};
+use fsfs_world::{Bytes, Change, Contents, Line, Lock, Name, Outcome, Pass, Place, Step, Txn};
 use std::alloc::{AllocError, Global};
 use std::collections::VecDeque;
 
