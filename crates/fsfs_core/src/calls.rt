@@ -110,8 +110,9 @@ impl State {
         match self.take_section(p) {
             Some(Section::CurrentFirm(coming)) => {
                 let young = self.count();
-                let (revision, bytes) = coming.parts();
+                let (entry, revision, bytes) = coming.parts();
                 self.line.push(revision, bytes)?;
+                self.since.push(entry)?;
                 self.young = young;
                 let seen = self.count();
                 reveal_by(&mut self.passes, p, young, seen)?;

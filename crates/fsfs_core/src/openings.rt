@@ -19,6 +19,8 @@ impl State {
     {
         let lock = mem::replace(&mut self.lock, Lock::Down);
         self.lock = lock_down(lock);
+        self.opening = self.count();
+        self.since.clear();
         self.txns.clear();
         self.passes.clear();
     }
@@ -127,6 +129,8 @@ impl State {
                 self.lock = Lock::Free;
                 self.young = last;
                 self.line = line;
+                self.opening = count;
+                self.since.clear();
                 self.floor = floor;
                 self.txns.clear();
                 self.passes.clear();

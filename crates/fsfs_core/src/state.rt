@@ -7,7 +7,9 @@ ghost use Rattle.fsfs_world.specs.Kept.{Kept, Keeps, RunKeeps};
 ghost use Rattle.fsfs_core.specs.State.{world_of};
 
 use fsfs_base::{ChangeMap, FsPath, History, Kind, Node, Pairs, Revision, Text, Tree};
-use fsfs_world::{Bytes, Change, Contents, Line, Lock, Name, Outcome, Pass, Place, Step, Txn};
+use fsfs_world::{
+    Bytes, Change, Contents, Entry, Line, Lock, Name, Outcome, Pass, Place, Step, Txn,
+};
 use std::alloc::{AllocError, Global};
 use std::collections::VecDeque;
 
@@ -20,6 +22,9 @@ pub struct State {
     pub(crate) lock: Lock,
     pub(crate) young: u64,
     pub(crate) line: Line,
+    // How many revisions there were at the opening, and the entries of those since.
+    pub(crate) opening: u64,
+    pub(crate) since: Vec<Entry>,
     pub(crate) floor: u64,
     // The newest name first.
     pub(crate) given: VecDeque<u64>,
@@ -96,6 +101,8 @@ impl State {
             lock: Lock::Free,
             young: 0,
             line,
+            opening: 1,
+            since: Vec::new(alloc),
             floor: 0,
             given: VecDeque::new(alloc),
             txns: Vec::new(alloc),

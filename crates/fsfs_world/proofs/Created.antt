@@ -52,4 +52,6 @@ created_kept w properties bytes is = subst (λ z. Kept z) (sym is) kept
       once = tt;
       knows = tt;
       next = tt;
+      whose = record { legal = refl; count = omega arith; carriers = tt; mine = (refl, tt) };
+      holder = tt;
     }

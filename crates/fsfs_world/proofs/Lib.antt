@@ -1,6 +1,7 @@
 pub mod Images
 pub mod Standing
 pub mod Growing
+pub mod Whose
 pub mod Keeps
 pub mod Steps
 pub mod Created

@@ -36,11 +36,12 @@ use Rattle.std.proofs.lemmas.List.{take_all}
 use Rattle.fsfs_model.proofs.Legal.{commits_make_a_history}
 use Rattle.fsfs_model.proofs.PathLemmas.{first_true, second_true}
 use Rattle.fsfs_world.specs.Machine.{World, Did, did, barred, disk_after, either, answer, learns, due, gives as gives_name, called_by, called, recorded, revisions, with_next, at_place, is_up, is_due, file_of, inside, held_by, is_begun, has_begun_by, number_of, count_read, counted, drawn, entry_of, IsComing, adopted, AdoptsTxn, Adopts, without_place, edited, EditsIf, Edits, merged, MergesIf, Merges, let_go, stuck_at, reveals, revealed, taken, looked, is_known, range_of, turned, has_read, raised, sees_floor, floor_read, down, ends, revision_in, read_one, read_back, opened, named, open_at, split_off, joined, join_with, is_there, Happens, Runs}
-use Rattle.fsfs_world.specs.Kept.{HasAll, StandsFor, StandsForEither, StandsIn, Stands, AllBelow, CountsOn, KnowsAt, coming, Follows, IsSeen, AreSeen, AreTransactions, FloorIs, Kept, Grows, Names, GivesBytes, Gives, StepsKeep, SeenStays, RunsKeep}
+use Rattle.fsfs_world.specs.Kept.{HasAll, StandsFor, StandsForEither, StandsIn, Stands, AllBelow, CountsOn, KnowsAt, coming, Follows, IsSeen, AreSeen, AreTransactions, Whose, IsHolder, FloorIs, Kept, Grows, Names, GivesBytes, Gives, StepsKeep, SeenStays, RunsKeep}
 use Rattle.fsfs_world.proofs.Images.{Each, each_firm, read_is_image, left_is_image}
 use Rattle.fsfs_world.proofs.Standing.{shown_again, past_rev, same_number}
 use Rattle.fsfs_world.proofs.Growing.{transactions_go_on, transactions_at, transaction_at, transactions_without, revisions_length, revisions_next}
 use Rattle.fsfs_world.proofs.Keeps.{no_less, seen_at, learnt, keeps_put, keeps_called}
+use Rattle.fsfs_world.proofs.Whose.{length_at, there_at, whose_at, whose_next, whose_split}
 
 -- a step from w to v
 pub record Moves (w v : World) : Type 0 where
@@ -103,10 +104,10 @@ count_keeps w p b went k is less at = by_end went
     below = subst (λ n. AllBelow n w.given) (same_number (found w.disk Counter) read.0 k read.1 is) read.2
 
     by_end : (went : Went) → Kept (count_read w p b went k)
-    by_end Fine = record { young = at.young; seen = learnt (length w.history) w.floor w.passes p TxnRead Fine at.seen; history = at.history; transactions = at.transactions; stands = at.stands; floor = at.floor; floors = at.floors; counts = at.counts; once = at.once; knows = (less, below, refl); next = tt }
-    by_end Before = record { young = at.young; seen = learnt (length w.history) w.floor w.passes p TxnRead Before at.seen; history = at.history; transactions = at.transactions; stands = at.stands; floor = at.floor; floors = at.floors; counts = at.counts; once = at.once; knows = tt; next = tt }
-    by_end After = record { young = at.young; seen = learnt (length w.history) w.floor w.passes p TxnRead After at.seen; history = at.history; transactions = at.transactions; stands = at.stands; floor = at.floor; floors = at.floors; counts = at.counts; once = at.once; knows = tt; next = tt }
-    by_end (Torn any) = record { young = at.young; seen = learnt (length w.history) w.floor w.passes p TxnRead (Torn any) at.seen; history = at.history; transactions = at.transactions; stands = at.stands; floor = at.floor; floors = at.floors; counts = at.counts; once = at.once; knows = tt; next = tt }
+    by_end Fine = record { young = at.young; seen = learnt (length w.history) w.floor w.passes p TxnRead Fine at.seen; history = at.history; transactions = at.transactions; stands = at.stands; floor = at.floor; floors = at.floors; counts = at.counts; once = at.once; knows = (less, below, refl); next = tt; whose = whose_at w.opening w.history w.since w.passes p (learns (length w.history) TxnRead Fine) (λ x. refl) at.whose; holder = (there_at w.passes p p (learns (length w.history) TxnRead Fine) at.holder.0, tt) }
+    by_end Before = record { young = at.young; seen = learnt (length w.history) w.floor w.passes p TxnRead Before at.seen; history = at.history; transactions = at.transactions; stands = at.stands; floor = at.floor; floors = at.floors; counts = at.counts; once = at.once; knows = tt; next = tt; whose = whose_at w.opening w.history w.since w.passes p (learns (length w.history) TxnRead Before) (λ x. refl) at.whose; holder = (there_at w.passes p p (learns (length w.history) TxnRead Before) at.holder.0, tt) }
+    by_end After = record { young = at.young; seen = learnt (length w.history) w.floor w.passes p TxnRead After at.seen; history = at.history; transactions = at.transactions; stands = at.stands; floor = at.floor; floors = at.floors; counts = at.counts; once = at.once; knows = tt; next = tt; whose = whose_at w.opening w.history w.since w.passes p (learns (length w.history) TxnRead After) (λ x. refl) at.whose; holder = (there_at w.passes p p (learns (length w.history) TxnRead After) at.holder.0, tt) }
+    by_end (Torn any) = record { young = at.young; seen = learnt (length w.history) w.floor w.passes p TxnRead (Torn any) at.seen; history = at.history; transactions = at.transactions; stands = at.stands; floor = at.floor; floors = at.floors; counts = at.counts; once = at.once; knows = tt; next = tt; whose = whose_at w.opening w.history w.since w.passes p (learns (length w.history) TxnRead (Torn any)) (λ x. refl) at.whose; holder = (there_at w.passes p p (learns (length w.history) TxnRead (Torn any)) at.holder.0, tt) }
 
 counted_keeps : (w : World) (p b : ℕ) (went : Went) (o : Option Contents) → found w.disk Counter ≡ o → Kept w → Kept (record w { lock = Held p Begun }) → Moves w (counted w p b went (number_of o)).world
 counted_keeps w p b went None is k at = stays w k
@@ -127,19 +128,19 @@ drawn_keeps w p b went s k at = stays w k
 -- the first call of a commit
 adopted_keeps : (w : World) (p t : ℕ) (e : Entry) (bytes : List ℕ) (went : Went) (x : Coming)
     → IsTransaction (tree_of (revisions w.history)) (last_of (revisions w.history)) e.base (get e.tree) e.marks
-    → IsComing w.history e bytes x → Kept (record w { lock = Held p Begun }) → Kept (adopted w p t went x)
-adopted_keeps w p t e bytes went x was is at =
+    → e.pass ≡ p → IsComing w.history e bytes x → Kept (record w { lock = Held p Begun }) → Kept (adopted w p t went x)
+adopted_keeps w p t e bytes went x was mine is at =
     let less : World = record w { txns = without_place w.txns t } in
-    let k : Kept (record less { lock = Held p Begun }) = record { young = at.young; seen = at.seen; history = at.history; transactions = transactions_without (revisions w.history) w.txns t at.transactions; stands = at.stands; floor = at.floor; floors = at.floors; counts = at.counts; once = at.once; knows = tt; next = tt } in
+    let k : Kept (record less { lock = Held p Begun }) = record { young = at.young; seen = at.seen; history = at.history; transactions = transactions_without (revisions w.history) w.txns t at.transactions; stands = at.stands; floor = at.floor; floors = at.floors; counts = at.counts; once = at.once; knows = tt; next = tt; whose = at.whose; holder = at.holder } in
     let follows : Follows w.history x = subst (λ z. IsEntry (revisions w.history) z × IsNext (revisions w.history) z x.revision) (sym is.entry) (record { transaction = was; dated = is.adds.0 }, is.adds.1) in
-    keeps_put less p PutRev Begun (Rev (length w.history)) (file_of (recorded x)) (RevPut x) went k
+    keeps_put less p PutRev Begun (Rev (length w.history)) (file_of (recorded x)) (RevPut x) went k (ap (λ z. z.pass) is.entry ∙ mine)
     (λ m i. i) (λ m any i. past_rev w.floor m w.history any i) (λ m i. i) (λ m any i. i) (shown_again w.floor w.disk (length w.history) (file_of (recorded x)) at.floor) follows
 
 adopts_txn_keep : (w : World) (p t : ℕ) (properties : List (List ℕ × List ℕ)) (bytes : List ℕ) (went : Went) (o : Option Txn) (d : Did) → slice_get w.txns t ≡ o
     → Kept w → Kept (record w { lock = Held p Begun }) → AdoptsTxn w p t properties bytes went o d → Moves w d.world
 adopts_txn_keep w p t properties bytes went None d is k at e = subst (λ z. Moves w z.world) (sym e) (stays w k)
 adopts_txn_keep w p t properties bytes went (Some txn) d is k at e = ⊎_elim
-    (λ a. subst (λ z. Moves w z.world) (sym a.2) (moved w (adopted w p t went a.0) (adopted_keeps w p t (entry_of p txn properties) bytes went a.0 (transaction_at (revisions w.history) w.txns t txn is k.transactions) a.1 at) refl refl))
+    (λ a. subst (λ z. Moves w z.world) (sym a.2) (moved w (adopted w p t went a.0) (adopted_keeps w p t (entry_of p txn properties) bytes went a.0 (transaction_at (revisions w.history) w.txns t txn is k.transactions) refl a.1 at) refl refl))
     (λ b. subst (λ z. Moves w z.world) (sym b.1) (stays w k)) e
 
 begun_section : (s : Section) → is_begun (Some s) ≡ true → s ≡ Begun
@@ -161,7 +162,7 @@ adopts_keep w p t properties bytes went true d is k e =
 
 -- edits and merges
 with_txns : (w : World) (txns : List Txn) → AreTransactions (revisions w.history) txns → Kept w → Moves w (record w { txns = txns })
-with_txns w txns t k = moved w (record w { txns = txns }) (record { young = k.young; seen = k.seen; history = k.history; transactions = t; stands = k.stands; floor = k.floor; floors = k.floors; counts = k.counts; once = k.once; knows = k.knows; next = k.next }) refl refl
+with_txns w txns t k = moved w (record w { txns = txns }) (record { young = k.young; seen = k.seen; history = k.history; transactions = t; stands = k.stands; floor = k.floor; floors = k.floors; counts = k.counts; once = k.once; knows = k.knows; next = k.next; whose = k.whose; holder = k.holder }) refl refl
 
 edits_if_keep : (w : World) (t : ℕ) (edit : Edit) (x : Txn) (b : Bool) (d : Did) → slice_get w.txns t ≡ Some x
     → (accepts edit (tree_of (revisions w.history)) (last_of (revisions w.history)) (get x.tree) && within_limits edit x.tree) ≡ b → Kept w → EditsIf w t edit x b d → Moves w d.world
@@ -211,17 +212,33 @@ merges_keep w t head None d is k e = subst (λ z. Moves w z.world) (sym e) (stay
 merges_keep w t head (Some x) d is k e = merges_if_keep w t head x _ d is refl k e
 
 -- the words
-with_passes : (w : World) (passes : List Pass) → AreSeen (length w.history) w.floor passes → Kept w → Moves w (record w { passes = passes })
-with_passes w passes s k = moved w (record w { passes = passes }) (record { young = k.young; seen = s; history = k.history; transactions = k.transactions; stands = k.stands; floor = k.floor; floors = k.floors; counts = k.counts; once = k.once; knows = k.knows; next = k.next }) refl refl
+with_passes : (w : World) (passes : List Pass) → AreSeen (length w.history) w.floor passes → Whose w.opening w.history w.since passes → IsHolder (length passes) w.lock → Kept w → Moves w (record w { passes = passes })
+with_passes w passes s whose holder k = moved w (record w { passes = passes }) (record { young = k.young; seen = s; history = k.history; transactions = k.transactions; stands = k.stands; floor = k.floor; floors = k.floors; counts = k.counts; once = k.once; knows = k.knows; next = k.next; whose = whose; holder = holder }) refl refl
 
-taken_keeps : (w : World) (p : ℕ) (lock : Lock) → w.lock ≡ lock → Kept (record w { lock = lock }) → Kept w → Moves w (taken w p lock).world
-taken_keeps w p Free is at k = moved w (record w { lock = Held p Begun }) (record { young = at.young; seen = at.seen; history = at.history; transactions = at.transactions; stands = at.stands; floor = at.floor; floors = at.floors; counts = at.counts; once = at.once; knows = tt; next = tt }) refl refl
-taken_keeps w p (Stuck place x) is at k = with_passes w (at_place w.passes p (λ y. record y { stuck = Some place }))
-    (seen_at (length w.history) w.floor w.passes p (λ y. record y { stuck = Some place }) (λ y s. record { seen = s.seen; least = s.least; mine = s.mine; floor = s.floor }) k.seen) k
-taken_keeps w p lock is at k = stays w k
+-- the holder is there still, where there are no fewer passes
+holder_stays : (n m : ℕ) (lock : Lock) → n ≤ m → IsHolder n lock → IsHolder m lock
+holder_stays n m (Held p s) le h = let less : p < n = h.0 in (omega (arith, less, le), h.1)
+holder_stays n m lock le h = tt
+
+-- one pass learns something, and has no more revisions of its own
+with_pass : (w : World) (p : ℕ) (f : Pass → Pass) → ((x : Pass) → IsSeen (length w.history) w.floor x → IsSeen (length w.history) w.floor (f x)) → ((x : Pass) → (f x).mine ≡ x.mine)
+    → Kept w → Moves w (record w { passes = at_place w.passes p f })
+with_pass w p f seen same k =
+    let e : length (at_place w.passes p f) ≡ length w.passes = length_at w.passes p f in
+    with_passes w (at_place w.passes p f) (seen_at (length w.history) w.floor w.passes p f seen k.seen) (whose_at w.opening w.history w.since w.passes p f same k.whose)
+    (holder_stays (length w.passes) (length (at_place w.passes p f)) w.lock (omega (arith, e)) k.holder) k
+
+taken_keeps : (w : World) (p : ℕ) (lock : Lock) → p < length w.passes → w.lock ≡ lock → Kept (record w { lock = lock }) → Kept w → Moves w (taken w p lock).world
+taken_keeps w p Free there is at k = moved w (record w { lock = Held p Begun }) (record { young = at.young; seen = at.seen; history = at.history; transactions = at.transactions; stands = at.stands; floor = at.floor; floors = at.floors; counts = at.counts; once = at.once; knows = tt; next = tt; whose = at.whose; holder = (there, tt) }) refl refl
+taken_keeps w p (Stuck place x) there is at k = with_pass w p (λ y. record y { stuck = Some place }) (λ y s. record { seen = s.seen; least = s.least; mine = s.mine; floor = s.floor }) (λ y. refl) k
+taken_keeps w p lock there is at k = stays w k
+
+lock_keeps : (w : World) (p : ℕ) (b : Bool) → is_there w p ≡ b → Kept w → Moves w (cond b (taken w p w.lock) (barred w)).world
+lock_keeps w p true is k = taken_keeps w p w.lock (let there : p < length w.passes = grind (arith, is) in there) refl k k
+lock_keeps w p false is k = stays w k
 
 freed : (w : World) (p : ℕ) (s : Section) → Kept (record w { lock = Held p s }) → ((m : Disk) → StandsIn w.floor w.history s m → StandsFor w.floor m w.history) → Moves w (record w { lock = Free })
-freed w p s at plain = moved w (record w { lock = Free }) (record { young = at.young; seen = at.seen; history = at.history; transactions = at.transactions; stands = λ m i. plain m (at.stands m i); floor = at.floor; floors = at.floors; counts = at.counts; once = at.once; knows = tt; next = tt }) refl refl
+freed w p s at plain = moved w (record w { lock = Free }) (record { young = at.young; seen = at.seen; history = at.history; transactions = at.transactions; stands = λ m i. plain m (at.stands m i); floor = at.floor; floors = at.floors; counts = at.counts; once = at.once; knows = tt; next = tt; whose = at.whose; holder = tt }) refl refl
 
 let_go_keeps : (w : World) (p : ℕ) (s : Section) → Kept w → Kept (record w { lock = Held p s }) → Moves w (let_go w s).world
 let_go_keeps w p Begun k at = freed w p Begun at (λ m i. i)
@@ -236,7 +253,7 @@ let_go_keeps w p Over k at = freed w p Over at (λ m i. i)
 let_go_keeps w p s k at = stays w k
 
 stuck_keeps : (w : World) (p : ℕ) (s : Section) → Kept w → Kept (record w { lock = Held p s }) → Moves w (stuck_at w s).world
-stuck_keeps w p (Doubtful place x) k at = moved w (record w { lock = Stuck place x }) (record { young = at.young; seen = at.seen; history = at.history; transactions = at.transactions; stands = at.stands; floor = at.floor; floors = at.floors; counts = at.counts; once = at.once; knows = tt; next = at.next }) refl refl
+stuck_keeps w p (Doubtful place x) k at = moved w (record w { lock = Stuck place x }) (record { young = at.young; seen = at.seen; history = at.history; transactions = at.transactions; stands = at.stands; floor = at.floor; floors = at.floors; counts = at.counts; once = at.once; knows = tt; next = at.next; whose = at.whose; holder = tt }) refl refl
 stuck_keeps w p s k at = stays w k
 
 seen_more : (n m f : ℕ) (xs : List Pass) → n ≤ m → AreSeen n f xs → AreSeen m f xs
@@ -276,6 +293,8 @@ revealed_keeps w p (CurrentFirm x) k at =
         once = at.once;
         knows = tt;
         next = tt;
+        whose = whose_next w.opening w.history w.since w.passes p x at.holder.1 at.holder.0 at.next at.whose;
+        holder = (there_at w.passes p p (reveals (length w.history)) at.holder.0, tt);
       };
       grows = inr (x, at.next, refl);
       names = inl refl;
@@ -285,8 +304,7 @@ revealed_keeps w p s k at = stays w k
 look_keeps : (w : World) (p : ℕ) (b : Bool) → (is_there w p && is_up w.lock) ≡ b → Kept w → Moves w (cond b (looked w p) (barred w)).world
 look_keeps w p false is k = stays w k
 look_keeps w p true is k = let last : w.young + 1 ≡ length w.history = k.young (second_true _ _ is) in
-    with_passes w (at_place w.passes p (λ x. record x { least = w.young }))
-    (seen_at (length w.history) w.floor w.passes p (λ x. record x { least = w.young }) (λ x s. record { seen = s.seen; least = omega (arith, last); mine = s.mine; floor = s.floor }) k.seen) k
+    with_pass w p (λ x. record x { least = w.young }) (λ x s. record { seen = s.seen; least = omega (arith, last); mine = s.mine; floor = s.floor }) (λ x. refl) k
 
 pub seen_of : (n f : ℕ) (xs : List Pass) (p : ℕ) (x : Pass) → AreSeen n f xs → slice_get xs p ≡ Some x → IsSeen n f x
 seen_of n f [] p x s e = let g : None ≡ Some x = e in absurd cc
@@ -297,10 +315,14 @@ seen_append : (n f : ℕ) (xs : List Pass) (x : Pass) → AreSeen n f xs → IsS
 seen_append n f [] x s a = (a, tt)
 seen_append n f (y ∷ ys) x s a = (s.0, seen_append n f ys x s.1 a)
 
+-- a turn of the disk that changes nothing
+turn_keeps : (w : World) (p : ℕ) (place : Place) (went : Went) → Kept w → Moves w (turned w p place went)
+turn_keeps w p place went k = with_pass w p (learns (length w.history) place went) (λ x s. record { seen = omega arith; least = s.least; mine = no_less x.mine x.seen (length w.history) s.seen s.mine; floor = s.floor }) (λ x. refl) k
+
 read_keeps : (w : World) (p r offset size : ℕ) (went : Went) (o : Option Pass) → Kept w → Moves w (has_read w p r offset size went o).world
 read_keeps w p r offset size went None k = stays w k
 read_keeps w p r offset size went (Some x) k = elim (is_known x r) as (λ b. Moves w (cond b (did (turned w p Read went) (either went (range_of offset size (shown x.floor w.disk r)) outcome.Failed)) (barred w)).world) [
-  | true ↦ with_passes w (at_place w.passes p (learns (length w.history) Read went)) (learnt (length w.history) w.floor w.passes p Read went k.seen) k
+  | true ↦ turn_keeps w p Read went k
   | false ↦ stays w k
 ]
 
@@ -310,9 +332,8 @@ floor_raised w x e le = subst (λ o. raised (number_of o) x ≤ w.floor) (sym e)
 floor_read_keeps : (w : World) (p : ℕ) (went : Went) (o : Option Pass) → Kept w → Moves w (floor_read w p went o).world
 floor_read_keeps w p went None k = stays w k
 floor_read_keeps w p went (Some x) k =
-    with_passes w (at_place w.passes p (sees_floor (length w.history) went (number_of (found w.disk Floor))))
-    (seen_at (length w.history) w.floor w.passes p (sees_floor (length w.history) went (number_of (found w.disk Floor)))
-    (λ y s. record { seen = omega arith; least = s.least; mine = no_less y.mine y.seen (length w.history) s.seen s.mine; floor = by_end went y s.floor }) k.seen) k
+    with_pass w p (sees_floor (length w.history) went (number_of (found w.disk Floor)))
+    (λ y s. record { seen = omega arith; least = s.least; mine = no_less y.mine y.seen (length w.history) s.seen s.mine; floor = by_end went y s.floor }) (λ y. refl) k
   where
     by_end : (went : Went) (y : Pass) → y.floor ≤ w.floor → (sees_floor (length w.history) went (number_of (found w.disk Floor)) y).floor ≤ w.floor
     by_end Fine y le = floor_raised w y.floor (k.floors w.disk (read_is_image w.disk)) le
@@ -323,17 +344,20 @@ floor_read_keeps w p went (Some x) k =
 split_keeps : (w : World) (p : ℕ) (o : Option Pass) → slice_get w.passes p ≡ o → Kept w → Moves w (split_off w o).world
 split_keeps w p None e k = stays w k
 split_keeps w p (Some x) e k = let s : IsSeen (length w.history) w.floor x = seen_of (length w.history) w.floor w.passes p x k.seen e in
-    with_passes w (w.passes ++ record x { mine = []; faults = [] } ∷ []) (seen_append (length w.history) w.floor w.passes (record x { mine = []; faults = [] }) k.seen (record { seen = s.seen; least = s.least; mine = tt; floor = s.floor })) k
+    let longer : length (w.passes ++ record x { mine = []; faults = [] } ∷ []) ≡ length w.passes + 1 = length-append w.passes (record x { mine = []; faults = [] } ∷ []) in
+    with_passes w (w.passes ++ record x { mine = []; faults = [] } ∷ []) (seen_append (length w.history) w.floor w.passes (record x { mine = []; faults = [] }) k.seen (record { seen = s.seen; least = s.least; mine = tt; floor = s.floor }))
+    (whose_split w.opening w.history w.since w.passes (record x { mine = []; faults = [] }) refl k.whose)
+    (holder_stays (length w.passes) (length (w.passes ++ record x { mine = []; faults = [] } ∷ [])) w.lock (omega (arith, longer)) k.holder) k
 
 join_keeps : (w : World) (p q : ℕ) (o : Option Pass) → slice_get w.passes q ≡ o → Kept w → Moves w (join_with w p o).world
 join_keeps w p q None e k = stays w k
 join_keeps w p q (Some y) e k = let s : IsSeen (length w.history) w.floor y = seen_of (length w.history) w.floor w.passes q y k.seen e in
-    with_passes w (at_place w.passes p (joined y)) (seen_at (length w.history) w.floor w.passes p (joined y) (λ x t. record {
+    with_pass w p (joined y) (λ x t. record {
       seen = omega (arith, t.seen, s.seen);
       least = omega (arith, t.least, s.least);
       mine = no_less x.mine x.seen (max x.seen y.seen) (omega arith) t.mine;
       floor = omega (arith, t.floor, s.floor);
-    }) k.seen) k
+    }) (λ x. refl) k
 
 -- an end of the object: nothing of the words is left
 down_stands : (f : ℕ) (h : List Recorded) (lock : Lock) (m : Disk) → Stands f h lock m → Stands f h (down lock) m
@@ -358,16 +382,17 @@ pub record IsDown (f : ℕ) (h : List Recorded) (given : List ℕ) (lock : Lock)
   pub up : is_up lock ≡ false
   pub knows : KnowsAt f h given lock d
   pub next : IfSome (coming lock) (Follows h)
+  pub holder : IsHolder 0 lock
 
 down_next : (f : ℕ) (h : List Recorded) (given : List ℕ) (lock : Lock) (d : Disk) → IfSome (coming lock) (Follows h) → IsDown f h given (down lock) d
-down_next f h given Free d n = record { up = refl; knows = tt; next = tt }
-down_next f h given (Stuck place x) d n = record { up = refl; knows = tt; next = n }
-down_next f h given Down d n = record { up = refl; knows = tt; next = tt }
-down_next f h given (DownDoubtful x) d n = record { up = refl; knows = tt; next = n }
-down_next f h given (Held p (CurrentRenamed x)) d n = record { up = refl; knows = tt; next = n }
-down_next f h given (Held p (CurrentFirm x)) d n = record { up = refl; knows = tt; next = n }
-down_next f h given (Held p (Doubtful place x)) d n = record { up = refl; knows = tt; next = n }
-down_next f h given (Held p s) d n = record { up = refl; knows = tt; next = tt }
+down_next f h given Free d n = record { up = refl; knows = tt; next = tt; holder = tt }
+down_next f h given (Stuck place x) d n = record { up = refl; knows = tt; next = n; holder = tt }
+down_next f h given Down d n = record { up = refl; knows = tt; next = tt; holder = tt }
+down_next f h given (DownDoubtful x) d n = record { up = refl; knows = tt; next = n; holder = tt }
+down_next f h given (Held p (CurrentRenamed x)) d n = record { up = refl; knows = tt; next = n; holder = tt }
+down_next f h given (Held p (CurrentFirm x)) d n = record { up = refl; knows = tt; next = n; holder = tt }
+down_next f h given (Held p (Doubtful place x)) d n = record { up = refl; knows = tt; next = n; holder = tt }
+down_next f h given (Held p s) d n = record { up = refl; knows = tt; next = tt; holder = tt }
 
 not_up : (b : Bool) (A : Type 0) → b ≡ false → b ≡ true → A
 not_up b A e f = let g : false ≡ true = sym e ∙ f in absurd cc
@@ -404,6 +429,8 @@ ends_keeps w d k stands counts floors = let n = down_next w.floor w.history w.gi
   once = k.once;
   knows = n.knows;
   next = n.next;
+  whose = record { legal = ap revisions (take_all (length w.history) w.history (omega arith)); count = omega arith; carriers = tt; mine = tt };
+  holder = n.holder;
 }) refl refl
 
 crash_keeps : (w : World) (picks : List Bool) → Kept w → Moves w (record (ends w) { disk = Firm ∷ left picks w.disk })
@@ -450,6 +477,8 @@ opened_keeps w h k s is g last kept = record {
     once = kept.once;
     knows = tt;
     next = tt;
+    whose = record { legal = ap revisions (take_all (k + 1) h (omega (arith, last))); count = omega (arith, last); carriers = tt; mine = (refl, tt) };
+    holder = tt;
   };
   grows = g;
   names = inl refl;
@@ -484,6 +513,8 @@ firmed w went k knows = moved w (record w { disk = disk_after went Firm w.disk }
   once = k.once;
   knows = knows;
   next = k.next;
+  whose = k.whose;
+  holder = k.holder;
 }) refl refl
   where
     both : (went : Went) (P : Disk → Type 0) → Each w.disk P → P (Firm ∷ w.disk) → Each (disk_after went Firm w.disk) P
@@ -515,7 +546,7 @@ if_moves w true d k m = m
 if_moves w false d k m = stays w k
 
 step_moves : (w : World) (s : Step) (d : Did) → Happens w s d → Kept w → Moves w d.world
-step_moves w (step.TakeLock p) d is k = along w d _ is (if_moves w (is_there w p) (taken w p w.lock) k (taken_keeps w p w.lock refl k k))
+step_moves w (step.TakeLock p) d is k = along w d _ is (lock_keeps w p (is_there w p) refl k)
 step_moves w (step.GiveLock p) d is k = along w d _ is (keeps_inside w p (let_go w) w.lock refl k (λ s at. let_go_keeps w p s k at))
 step_moves w (step.StickLock p) d is k = along w d _ is (keeps_inside w p (stuck_at w) w.lock refl k (λ s at. stuck_keeps w p s k at))
 step_moves w (step.Draw p b went) d is k = along w d _ is (keeps_inside w p (drawn w p b went) w.lock refl k (λ s at. drawn_keeps w p b went s k at))

@@ -1,5 +1,5 @@
 -- What holds after each step.
-use Rattle.std.specs.Prelude.{◌≡◌, ◌⊎◌, ◌<◌, ◌≤◌, ◌+◌, ℕ, List, [], ◌∷◌, ◌++◌, length, take, drop, true, Option, Some, None, IfSome, slice_get}
+use Rattle.std.specs.Prelude.{◌≡◌, ◌⊎◌, ◌<◌, ◌≤◌, ◌+◌, ◌==◌, if◌then◌else◌, ℕ, List, [], ◌∷◌, ◌++◌, length, take, drop, true, Option, Some, None, IfSome, slice_get}
 use Rattle.std.specs.FinMap.{get}
 use Rattle.fsfs_base.specs.Revisions.{Revision, tree_of}
 use Rattle.fsfs_base.specs.Histories.{IsHistory}
@@ -115,6 +115,40 @@ abbrev pub AreSeen : ℕ → ℕ → List Pass → Type 0
 AreSeen n floor [] = Unit {0}
 AreSeen n floor (x ∷ xs) = IsSeen n floor x × AreSeen n floor xs
 
+-- the revisions, numbered from r on, whose entry carries the number of pass p
+abbrev pub carried_by : ℕ → ℕ → List Entry → List ℕ
+carried_by p r [] = []
+carried_by p r (e ∷ es) = if e.pass == p then r ∷ carried_by p (r + 1) es else carried_by p (r + 1) es
+
+-- the own revisions of each pass, numbered from k on, are those since the opening whose entry carries its number
+abbrev pub AreMine : ℕ → List Entry → ℕ → List Pass → Type 0
+AreMine opening es k [] = Unit {0}
+AreMine opening es k (x ∷ xs) = (x.mine ≡ carried_by k opening es) × AreMine opening es (k + 1) xs
+
+-- each entry carries the number of one of n passes
+abbrev pub AreOfPasses : ℕ → List Entry → Type 0
+AreOfPasses n [] = Unit {0}
+AreOfPasses n (e ∷ es) = (e.pass < n) × AreOfPasses n es
+
+-- whose entry each revision since the opening carries
+pub record Whose (opening : ℕ) (h : List Recorded) (es : List Entry) (xs : List Pass) : Type 0 where
+  -- the revisions since the opening came by the landings of these entries in turn
+  pub legal : IsLegal (revisions (take opening h)) es (revisions h)
+  pub count : opening + length es ≡ length h
+  -- each carries the number of a pass
+  pub carriers : AreOfPasses (length xs) es
+  -- each pass's own revisions are all those, in order, whose entry carries its number
+  pub mine : AreMine opening es 0 xs
+
+-- the revision to come carries the number of the pass
+abbrev pub Carries : ℕ → Section → Type 0
+Carries p s = IfSome (coming_in s) (λ x. x.entry.pass ≡ p)
+
+-- the lock is held by one of n passes, and the revision to come carries the number of that pass
+abbrev pub IsHolder : ℕ → Lock → Type 0
+IsHolder n (Held p s) = (p < n) × Carries p s
+IsHolder n lock = Unit {0}
+
 -- each transaction grew by accepted edits and landings without clash over these revisions
 abbrev pub AreTransactions : List Revision → List Txn → Type 0
 AreTransactions h [] = Unit {0}
@@ -147,6 +181,10 @@ pub record Kept (w : World) : Type 0 where
   pub knows : KnowsAt w.floor w.history w.given w.lock w.disk
   -- the revision to come is the landing of its entry
   pub next : IfSome (coming w.lock) (Follows w.history)
+  -- each pass's own revisions are those since the opening whose entry carries its number
+  pub whose : Whose w.opening w.history w.since w.passes
+  -- the lock is held by a pass that is there, and the revision to come carries its number
+  pub holder : IsHolder (length w.passes) w.lock
 
 -- the history is as before, or has one more revision, that of an entry
 abbrev pub Grows : List Recorded → List Recorded → Type 0

@@ -42,6 +42,10 @@ pub record World : Type 0 where
   pub young : ℕ
   -- each revision with the bytes beside it
   pub history : List Recorded
+  -- how many revisions there were at the opening
+  pub opening : ℕ
+  -- the entries of the revisions since, in order
+  pub since : List Entry
   -- the `min-unpacked-rev` that is firm
   pub floor : ℕ
   -- the numbers of the transaction names given, the newest first
@@ -309,6 +313,7 @@ abbrev pub revealed : World → ℕ → Section → Did
 revealed w p (CurrentFirm x) =
     did (record w {
       history = with_next w.history x;
+      since = w.since ++ x.entry ∷ [];
       young = length w.history;
       lock = Held p Over;
       passes = at_place w.passes p (reveals (length w.history));
@@ -373,7 +378,7 @@ down (DownDoubtful x) = DownDoubtful x
 down lock = Down
 
 abbrev pub ends : World → World
-ends w = record w { lock = down w.lock; txns = []; passes = [] }
+ends w = record w { lock = down w.lock; opening = length w.history; since = []; txns = []; passes = [] }
 
 -- the revision that two files show
 abbrev pub revision_in : Option Contents → Option Contents → Option Recorded
@@ -396,7 +401,7 @@ first_pass n floor = record { seen = n; least = n - 1; mine = []; floor = floor;
 abbrev pub opened : World → ℕ → ℕ → Option (List Recorded) → Did
 opened w k floor None = did w outcome.Missing
 opened w k floor (Some h) =
-    did (record w { disk = Firm ∷ w.disk; lock = Free; young = k; history = h; floor = floor; txns = []; passes = first_pass (k + 1) floor ∷ [] }) outcome.Done
+    did (record w { disk = Firm ∷ w.disk; lock = Free; young = k; history = h; opening = k + 1; since = []; floor = floor; txns = []; passes = first_pass (k + 1) floor ∷ [] }) outcome.Done
 
 abbrev pub named : World → Option ℕ → Option ℕ → Did
 named w (Some k) (Some floor) = if nat_lt k (2 ^ 64 - 1) then opened w k floor (read_back floor w.disk (k + 1)) else did w outcome.Missing
@@ -431,6 +436,8 @@ created properties bytes = record {
   lock = Free;
   young = 0;
   history = first_revision properties bytes ∷ [];
+  opening = 1;
+  since = [];
   floor = 0;
   given = [];
   txns = [];

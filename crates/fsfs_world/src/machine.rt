@@ -136,16 +136,16 @@ impl Drop for Coming {
 }
 
 impl Coming {
-    /// The revision, and its bytes.
-    pub fn parts(self) -> (Revision, Bytes)
-        ensures { result ≡ record { 0 = self.revision; 1 = self.bytes } }
+    /// The entry, the revision that it lands, and the revision's bytes.
+    pub fn parts(self) -> (Entry, Revision, Bytes)
+        ensures { result ≡ record { 0 = self.entry; 1 = self.revision; 2 = self.bytes } }
     {
         let Coming {
-            entry: _entry,
+            entry,
             revision,
             bytes,
         } = self;
-        (revision, bytes)
+        (entry, revision, bytes)
     }
 }
 
@@ -233,7 +233,7 @@ pub struct Pass {
     pub seen: u64,
     /// The greatest youngest number that it was told.
     pub least: u64,
-    /// The revisions that it has revealed itself, since the opening.
+    /// Its own revisions: those since the opening whose entry carries its number.
     pub mine: Numbers,
     /// The greatest `min-unpacked-rev` that it has read.
     pub floor: u64,
