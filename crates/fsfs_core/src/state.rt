@@ -173,6 +173,7 @@ impl State {
                 length,
                 went,
             } => self.read(pass, rev, offset, length, went),
+            Step::ReadProps { pass, rev, went } => self.read_props(pass, rev, went),
             Step::ReadFloor { pass, went } => self.read_floor(pass, went),
             Step::Split { pass } => self.split(pass),
             Step::Join { pass, other } => self.join(pass, other),

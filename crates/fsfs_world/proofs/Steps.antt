@@ -35,8 +35,8 @@ use Rattle.fsfs_world.specs.Disk.{Disk, found, shown, left}
 use Rattle.std.proofs.lemmas.List.{take_all}
 use Rattle.fsfs_model.proofs.Legal.{commits_make_a_history}
 use Rattle.fsfs_model.proofs.PathLemmas.{first_true, second_true}
-use Rattle.fsfs_world.specs.Machine.{World, Did, did, barred, disk_after, either, answer, learns, due, gives as gives_name, called_by, called, recorded, revisions, with_next, at_place, is_up, is_due, file_of, inside, held_by, is_begun, has_begun_by, number_of, count_read, counted, drawn, entry_of, IsComing, adopted, AdoptsTxn, Adopts, without_place, edited, EditsIf, Edits, merged, MergesIf, Merges, let_go, stuck_at, reveals, revealed, taken, looked, is_known, range_of, turned, has_read, raised, sees_floor, floor_read, down, ends, revision_in, read_one, read_back, opened, named, open_at, split_off, joined, join_with, is_there, Happens, Runs}
-use Rattle.fsfs_world.specs.Kept.{HasAll, StandsFor, StandsForEither, StandsIn, Stands, AllBelow, CountsOn, KnowsAt, coming, Follows, IsSeen, AreSeen, AreTransactions, Whose, IsHolder, FloorIs, Kept, Grows, Names, GivesBytes, Gives, StepsKeep, SeenStays, RunsKeep}
+use Rattle.fsfs_world.specs.Machine.{World, Did, did, barred, disk_after, either, answer, learns, due, gives as gives_name, called_by, called, recorded, revisions, with_next, at_place, is_up, is_due, file_of, inside, held_by, is_begun, has_begun_by, number_of, count_read, counted, drawn, entry_of, IsComing, adopted, AdoptsTxn, Adopts, without_place, edited, EditsIf, Edits, merged, MergesIf, Merges, let_go, stuck_at, reveals, revealed, taken, looked, is_known, range_of, turned, has_read, properties_in, has_read_props, raised, sees_floor, floor_read, down, ends, revision_in, read_one, read_back, opened, named, open_at, split_off, joined, join_with, is_there, Happens, Runs}
+use Rattle.fsfs_world.specs.Kept.{HasAll, StandsFor, StandsForEither, StandsIn, Stands, AllBelow, CountsOn, KnowsAt, coming, Follows, IsSeen, AreSeen, AreTransactions, Whose, IsHolder, FloorIs, Kept, Grows, Names, GivesBytes, GivesProps, Gives, StepsKeep, SeenStays, RunsKeep}
 use Rattle.fsfs_world.proofs.Images.{Each, each_firm, read_is_image, left_is_image}
 use Rattle.fsfs_world.proofs.Standing.{shown_again, past_rev, same_number}
 use Rattle.fsfs_world.proofs.Growing.{transactions_go_on, transactions_at, transaction_at, transactions_without, revisions_length, revisions_next}
@@ -326,6 +326,13 @@ read_keeps w p r offset size went (Some x) k = elim (is_known x r) as (λ b. Mov
   | false ↦ stays w k
 ]
 
+props_keep : (w : World) (p r : ℕ) (went : Went) (o : Option Pass) → Kept w → Moves w (has_read_props w p r went o).world
+props_keep w p r went None k = stays w k
+props_keep w p r went (Some x) k = elim (is_known x r) as (λ b. Moves w (cond b (did (turned w p Read went) (either went (properties_in (found w.disk (Props r))) outcome.Failed)) (barred w)).world) [
+  | true ↦ turn_keeps w p Read went k
+  | false ↦ stays w k
+]
+
 floor_raised : (w : World) (x : ℕ) → found w.disk Floor ≡ Some (Number w.floor) → x ≤ w.floor → raised (number_of (found w.disk Floor)) x ≤ w.floor
 floor_raised w x e le = subst (λ o. raised (number_of o) x ≤ w.floor) (sym e) (omega (arith, le))
 
@@ -555,6 +562,7 @@ step_moves w (step.Call p place went) d is k = along w d _ is (keeps_inside w p 
 step_moves w (step.Reveal p) d is k = along w d _ is (keeps_inside w p (revealed w p) w.lock refl k (λ s at. revealed_keeps w p s k at))
 step_moves w (step.Look p) d is k = along w d _ is (look_keeps w p (is_there w p && is_up w.lock) refl k)
 step_moves w (step.Read p r offset size went) d is k = along w d _ is (read_keeps w p r offset size went (slice_get w.passes p) k)
+step_moves w (step.ReadProps p r went) d is k = along w d _ is (props_keep w p r went (slice_get w.passes p) k)
 step_moves w (step.ReadFloor p went) d is k = along w d _ is (floor_read_keeps w p went (slice_get w.passes p) k)
 step_moves w (step.Split p) d is k = along w d _ is (split_keeps w p (slice_get w.passes p) refl k)
 step_moves w (step.Join p q) d is k = along w d _ is (if_moves w (is_there w p && not (p == q)) (join_with w p (slice_get w.passes q)) k (join_keeps w p q (slice_get w.passes q) refl k))
@@ -624,8 +632,25 @@ read_gives w p r offset size went (Some x) is k = elim (is_known x r) as (λ b. 
     by_end After less = tt
     by_end (Torn any) less = tt
 
+props_give : (w : World) (p r : ℕ) (went : Went) (o : Option Pass) → slice_get w.passes p ≡ o → Kept w → GivesProps w.history r (has_read_props w p r went o).outcome
+props_give w p r went None is k = tt
+props_give w p r went (Some x) is k = elim (is_known x r) as (λ b. is_known x r ≡ b → GivesProps w.history r (cond b (did (turned w p Read went) (either went (properties_in (found w.disk (Props r))) outcome.Failed)) (barred w)).outcome) [
+  | true ↦ λ e. by_end went (known_less (length w.history) w.floor r x (seen_of (length w.history) w.floor w.passes p x k.seen is) e)
+  | false ↦ λ e. tt
+] refl
+  where
+    by_end : (went : Went) → r < length w.history → GivesProps w.history r (either went (properties_in (found w.disk (Props r))) outcome.Failed)
+    by_end Fine less =
+        let at = some_at w.history r less in
+        let file : found w.disk (Props r) ≡ Some (PropsFile at.0.revision.properties) = (has_all w.floor w.history w.lock w.disk (k.stands w.disk (read_is_image w.disk)) r at.0 at.1).1 in
+        subst (λ o. GivesProps w.history r (properties_in o)) (sym file) (at.0, at.1, refl)
+    by_end Before less = tt
+    by_end After less = tt
+    by_end (Torn any) less = tt
+
 gives : (w : World) (s : Step) (d : Did) → Happens w s d → Kept w → Gives w s d.outcome
 gives w (step.Read p r offset size went) d is k = subst (λ z. GivesBytes w.history r offset size z.outcome) (sym is) (read_gives w p r offset size went (slice_get w.passes p) refl k)
+gives w (step.ReadProps p r went) d is k = subst (λ z. GivesProps w.history r z.outcome) (sym is) (props_give w p r went (slice_get w.passes p) refl k)
 gives w s d is k = tt
 
 pub step_keeps : StepsKeep

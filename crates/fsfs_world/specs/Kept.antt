@@ -200,9 +200,16 @@ GivesBytes h r offset size (outcome.Bytes bytes) = (x : Recorded) × (slice_get 
 GivesBytes h r offset size outcome.Missing = ⊥
 GivesBytes h r offset size o = Unit {0}
 
+-- properties that were read are those of the revision
+abbrev pub GivesProps : List Recorded → ℕ → Outcome → Type 0
+GivesProps h r (outcome.Properties properties) = (x : Recorded) × (slice_get h r ≡ Some x) × (properties ≡ x.revision.properties)
+GivesProps h r outcome.Missing = ⊥
+GivesProps h r o = Unit {0}
+
 -- a read answers by the history, and never that there is no such file
 abbrev pub Gives : World → Step → Outcome → Type 0
 Gives w (step.Read p r offset size went) o = GivesBytes w.history r offset size o
+Gives w (step.ReadProps p r went) o = GivesProps w.history r o
 Gives w s o = Unit {0}
 
 -- a step from w

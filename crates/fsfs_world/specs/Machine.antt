@@ -351,6 +351,16 @@ has_read w p r offset size went None = barred w
 has_read w p r offset size went (Some x) =
     if is_known x r then did (turned w p Read went) (either went (range_of offset size (shown x.floor w.disk r)) outcome.Failed) else barred w
 
+-- the properties in a file
+abbrev pub properties_in : Option Contents → Outcome
+properties_in (Some (PropsFile properties)) = outcome.Properties properties
+properties_in o = outcome.Missing
+
+abbrev pub has_read_props : World → ℕ → ℕ → Went → Option Pass → Did
+has_read_props w p r went None = barred w
+has_read_props w p r went (Some x) =
+    if is_known x r then did (turned w p Read went) (either went (properties_in (found w.disk (Props r))) outcome.Failed) else barred w
+
 abbrev pub floor_of : Option ℕ → Outcome
 floor_of (Some k) = outcome.Floor k
 floor_of None = outcome.Missing
@@ -455,6 +465,7 @@ Happens w (step.Call p place went) d = d ≡ inside w (called w p place went) (h
 Happens w (step.Reveal p) d = d ≡ inside w (revealed w p) (held_by p w.lock)
 Happens w (step.Look p) d = d ≡ (if is_there w p && is_up w.lock then looked w p else barred w)
 Happens w (step.Read p r offset size went) d = d ≡ has_read w p r offset size went (slice_get w.passes p)
+Happens w (step.ReadProps p r went) d = d ≡ has_read_props w p r went (slice_get w.passes p)
 Happens w (step.ReadFloor p went) d = d ≡ floor_read w p went (slice_get w.passes p)
 Happens w (step.Split p) d = d ≡ split_off w (slice_get w.passes p)
 Happens w (step.Join p q) d = d ≡ (if is_there w p && not (p == q) then join_with w p (slice_get w.passes q) else barred w)

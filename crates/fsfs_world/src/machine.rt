@@ -298,6 +298,12 @@ pub enum Step {
         length: u64,
         went: Went,
     },
+    /// Reads the property file of a revision.
+    ReadProps {
+        pass: u64,
+        rev: u64,
+        went: Went,
+    },
     /// Reads `min-unpacked-rev`.
     ReadFloor {
         pass: u64,
@@ -358,6 +364,8 @@ pub enum Outcome {
     Youngest(u64),
     /// The bytes that were read.
     Bytes(Bytes),
+    /// The properties that a property file shows.
+    Properties(Pairs),
     /// The number that `min-unpacked-rev` shows.
     Floor(u64),
     /// No such file, or another than was asked for.
