@@ -1,18 +1,16 @@
 //! The words, and the calls of a section.
 ghost use Rattle.std.specs.Prelude.{◌≡◌, ◌+◌, ◌&&◌, length, OnOk, IfOk, MatchOption, Some, None, if◌then◌else◌};
-ghost use Rattle.fsfs_core.specs.Disk.{found};
-ghost use Rattle.fsfs_core.specs.Machine.{did, barred, answer, is_there, taken, inside, let_go, stuck_at, held_by, has_begun_by, is_up, looked, ended, at_place, learns, rename_of, due, gives, called, called_by, drawn, revealed};
+ghost use Rattle.fsfs_world.specs.Disk.{found};
+ghost use Rattle.fsfs_world.specs.Machine.{did, barred, answer, is_there, taken, inside, let_go, stuck_at, held_by, has_begun_by, is_up, looked, ended, at_place, learns, rename_of, due, gives, called, called_by, drawn, revealed};
 ghost use Rattle.fsfs_core.specs.State.{world_of};
 
-use crate::contents::{Change, Contents, Name};
-use crate::files::{change_made, find, find_number, is_fine};
-use crate::machine::{Lock, Marks, Outcome, Place, Section, Txn, Went};
-use crate::passes::{find_stuck, learn, reveal_by, see_least};
-use crate::section::{
+use crate::state::State;
+use fsfs_world::files::{change_made, find, find_number, is_fine};
+use fsfs_world::passes::{find_stuck, learn, reveal_by, see_least};
+use fsfs_world::section::{
     answer_of, drawn_section, is_due_at, is_lock_up, is_quiet_section, next_section,
 };
-use crate::state::State;
-use crate::txns::base_tree;
+use fsfs_world::{Change, Contents, Drawn, Lock, Name, Outcome, Place, Section, Went};
 use std::alloc::AllocError;
 use std::mem;
 
@@ -111,8 +109,9 @@ impl State {
         match self.take_section(p) {
             Some(Section::CurrentFirm(coming)) => {
                 let young = self.count();
-                let (revision, bytes) = coming.parts();
+                let (entry, revision, bytes) = coming.parts();
                 self.line.push(revision, bytes)?;
+                self.since.push(entry)?;
                 self.young = young;
                 let seen = self.count();
                 reveal_by(&mut self.passes, p, young, seen)?;
@@ -188,20 +187,17 @@ impl State {
         }
     }
 
-    // The name is given as the names are firm, and the transaction begins.
+    // The name is given as the names are firm.
     fn give_name(&mut self, section: &Section, went: &Went) -> Result<(), AllocError>
         ensures { OnOk result (world_of self.new ≡ gives section.now went.now (world_of self.old)) }
     {
         if let Section::CountRenamed(x) = section {
             if is_fine(went) {
-                let tree = base_tree(self.alloc, self.line.revisions(), x.base)?;
                 self.given.push_front(x.name)?;
-                self.txns.push(Txn {
+                self.named.push(Drawn {
                     name: x.name,
+                    next: x.next,
                     base: x.base,
-                    tree,
-                    marks: Marks::new(self.alloc),
-                    landings: 0,
                 })?;
             }
         }

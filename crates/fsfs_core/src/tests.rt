@@ -25,6 +25,11 @@ fn begin(state: &mut State, base: u32) -> Result<(), AllocError> {
     call(state, Place::TxnRename, Went::Fine)?;
     call(state, Place::TxnFirm, Went::Fine)?;
     state.step(Step::GiveLock { pass: 0 })?;
+    state.step(Step::MakeBench {
+        pass: 0,
+        name: 0,
+        went: Went::Fine,
+    })?;
     Ok(())
 }
 
@@ -72,6 +77,9 @@ fn stopped(alloc: Global, picks: Vec<bool>) -> Result<State, AllocError> {
     rename_current(&mut state, alloc)?;
     state.step(Step::Crash {
         picks: Picks { picks },
+        labels: Picks {
+            picks: Vec::new(alloc),
+        },
     })?;
     state.step(Step::Open { went: Went::Fine })?;
     Ok(state)
