@@ -131,17 +131,20 @@ fn image_is_whole(alloc: Global, count: usize, image: usize, young: u64) -> Resu
     is_whole(alloc, &mut state, young)
 }
 
-fn fault_is_whole(alloc: Global, row: usize, image: usize) -> Result<bool, Fail> {
-    let (count, act, youngs, _) = *FAULTS.get(row).ok_or("a fault")?;
+fn fault_is_whole(
+    alloc: Global,
+    count: usize,
+    act: Do,
+    image: usize,
+    young: u64,
+) -> Result<bool, Fail> {
     let mut state = after_steps(alloc, count)?;
     let failed = play(alloc, &mut state, &[(act, Want::Failed)])?;
     stop(alloc, &mut state, image % 2 == 1, image / 2 == 1)?;
-    let young = *youngs.get(image).ok_or("an image")?;
     Ok(failed.is_none() && is_whole(alloc, &mut state, young)?)
 }
 
-fn closed_is_whole(alloc: Global, row: usize) -> Result<bool, Fail> {
-    let (count, act, _, young) = *FAULTS.get(row).ok_or("a fault")?;
+fn closed_is_whole(alloc: Global, count: usize, act: Do, young: u64) -> Result<bool, Fail> {
     let mut state = after_steps(alloc, count)?;
     let failed = play(alloc, &mut state, &[(act, Want::Failed)])?;
     done(alloc, &mut state, &[Do::Close, Do::Open(How::Fine)])?;
@@ -180,9 +183,11 @@ fn after_each_step_each_image_opens_whole(rt: HostRuntime) -> Result<(), Fail> {
 #[test]
 fn after_each_fault_each_image_opens_whole(rt: HostRuntime) -> Result<(), Fail> {
     for row in 0..FAULTS.len() {
+        let (count, act, youngs, _) = FAULTS[row];
         for image in 0..4 {
+            let young = youngs[image];
             assert!(rt;
-                fault_is_whole(rt.alloc(), row, image)?,
+                fault_is_whole(rt.alloc(), count, act, image, young)?,
                 "row {row}, image {image}"
             );
         }
@@ -193,7 +198,11 @@ fn after_each_fault_each_image_opens_whole(rt: HostRuntime) -> Result<(), Fail> 
 #[test]
 fn after_each_fault_it_closes_and_opens_whole(rt: HostRuntime) -> Result<(), Fail> {
     for row in 0..FAULTS.len() {
-        assert!(rt; closed_is_whole(rt.alloc(), row)?, "row {row}");
+        let (count, act, _, young) = FAULTS[row];
+        assert!(rt;
+            closed_is_whole(rt.alloc(), count, act, young)?,
+            "row {row}"
+        );
     }
     Ok(())
 }
