@@ -1,12 +1,3 @@
-pub mod Images
-pub mod Standing
-pub mod Growing
-pub mod Keeps
-pub mod Steps
-pub mod Created
-pub mod Showing
-pub mod LineLemmas
-pub mod OnePlace
 pub mod Reading
 pub mod Along
 pub mod Calling

@@ -1,7 +1,1 @@
-pub mod Codes
-pub mod Disk
-pub mod Machine
-pub mod Kept
-pub mod Shown
-pub mod Lines
 pub mod State

@@ -1,18 +1,17 @@
 //! The words, and the calls of a section.
 ghost use Rattle.std.specs.Prelude.{◌≡◌, ◌+◌, ◌&&◌, length, OnOk, IfOk, MatchOption, Some, None, if◌then◌else◌};
-ghost use Rattle.fsfs_core.specs.Disk.{found};
-ghost use Rattle.fsfs_core.specs.Machine.{did, barred, answer, is_there, taken, inside, let_go, stuck_at, held_by, has_begun_by, is_up, looked, ended, at_place, learns, rename_of, due, gives, called, called_by, drawn, revealed};
+ghost use Rattle.fsfs_world.specs.Disk.{found};
+ghost use Rattle.fsfs_world.specs.Machine.{did, barred, answer, is_there, taken, inside, let_go, stuck_at, held_by, has_begun_by, is_up, looked, ended, at_place, learns, rename_of, due, gives, called, called_by, drawn, revealed};
 ghost use Rattle.fsfs_core.specs.State.{world_of};
 
-use crate::contents::{Change, Contents, Name};
-use crate::files::{change_made, find, find_number, is_fine};
-use crate::machine::{Lock, Marks, Outcome, Place, Section, Txn, Went};
-use crate::passes::{find_stuck, learn, reveal_by, see_least};
-use crate::section::{
-    answer_of, drawn_section, is_due_at, is_lock_up, is_quiet_section, next_section,
-};
 use crate::state::State;
 use crate::txns::base_tree;
+use fsfs_world::files::{change_made, find, find_number, is_fine};
+use fsfs_world::passes::{find_stuck, learn, reveal_by, see_least};
+use fsfs_world::section::{
+    answer_of, drawn_section, is_due_at, is_lock_up, is_quiet_section, next_section,
+};
+use fsfs_world::{Change, Contents, Lock, Marks, Name, Outcome, Place, Section, Txn, Went};
 use std::alloc::AllocError;
 use std::mem;
 
@@ -111,8 +110,9 @@ impl State {
         match self.take_section(p) {
             Some(Section::CurrentFirm(coming)) => {
                 let young = self.count();
-                let (revision, bytes) = coming.parts();
+                let (entry, revision, bytes) = coming.parts();
                 self.line.push(revision, bytes)?;
+                self.since.push(entry)?;
                 self.young = young;
                 let seen = self.count();
                 reveal_by(&mut self.passes, p, young, seen)?;

@@ -1,16 +1,14 @@
 //! Ends of the object, and openings.
 ghost use Rattle.std.specs.Prelude.{◌≡◌, ◌+◌, ◌∷◌, IfOk, OnOk, if◌then◌else◌};
-ghost use Rattle.fsfs_core.specs.Disk.{found, shown, left};
-ghost use Rattle.fsfs_core.specs.Machine.{did, barred, is_up, ends, revision_in, read_back, opened, open_at, disk_after};
+ghost use Rattle.fsfs_world.specs.Disk.{found, shown, left};
+ghost use Rattle.fsfs_world.specs.Machine.{did, barred, is_up, ends, revision_in, read_back, opened, open_at, disk_after};
 ghost use Rattle.fsfs_core.specs.State.{world_of};
 
-use crate::contents::{Change, Contents, Name};
-use crate::files::{change_made, find, find_number, find_rev, is_fine, what_is_left};
-use crate::line::Line;
-use crate::machine::{Lock, Outcome, Pass, Picks, Recorded, Went};
-use crate::section::{is_lock_up, lock_down};
 use crate::state::State;
 use fsfs_base::Revision;
+use fsfs_world::files::{change_made, find, find_number, find_rev, is_fine, what_is_left};
+use fsfs_world::section::{is_lock_up, lock_down};
+use fsfs_world::{Change, Contents, Line, Lock, Name, Outcome, Pass, Picks, Recorded, Went};
 use std::alloc::{AllocError, Global};
 use std::collections::VecDeque;
 use std::mem;
@@ -21,6 +19,8 @@ impl State {
     {
         let lock = mem::replace(&mut self.lock, Lock::Down);
         self.lock = lock_down(lock);
+        self.opening = self.count();
+        self.since.clear();
         self.txns.clear();
         self.passes.clear();
     }
@@ -129,6 +129,8 @@ impl State {
                 self.lock = Lock::Free;
                 self.young = last;
                 self.line = line;
+                self.opening = count;
+                self.since.clear();
                 self.floor = floor;
                 self.txns.clear();
                 self.passes.clear();

@@ -2,14 +2,14 @@
 ghost use Rattle.std.specs.Prelude.{◌≡◌, ◌∷◌, ◌++◌, [], length, OnOk, IfOk, None};
 ghost use Rattle.std.specs.FinMap as finmap;
 ghost use Rattle.fsfs_base.specs.Nodes.{empty_node};
-ghost use Rattle.fsfs_core.specs.Machine.{Happens, Runs, did, created, stuck_place, revisions, is_there};
-ghost use Rattle.fsfs_core.specs.Kept.{Kept, Keeps, RunKeeps};
+ghost use Rattle.fsfs_world.specs.Machine.{Happens, Runs, did, created, stuck_place, revisions, is_there};
+ghost use Rattle.fsfs_world.specs.Kept.{Kept, Keeps, RunKeeps};
 ghost use Rattle.fsfs_core.specs.State.{world_of};
 
-use crate::contents::{Bytes, Change, Contents, Name};
-use crate::line::Line;
-use crate::machine::{Lock, Outcome, Pass, Place, Step, Txn};
 use fsfs_base::{ChangeMap, FsPath, History, Kind, Node, Pairs, Revision, Text, Tree};
+use fsfs_world::{
+    Bytes, Change, Contents, Entry, Line, Lock, Name, Outcome, Pass, Place, Step, Txn,
+};
 use std::alloc::{AllocError, Global};
 use std::collections::VecDeque;
 
@@ -22,6 +22,9 @@ pub struct State {
     pub(crate) lock: Lock,
     pub(crate) young: u64,
     pub(crate) line: Line,
+    // How many revisions there were at the opening, and the entries of those since.
+    pub(crate) opening: u64,
+    pub(crate) since: Vec<Entry>,
     pub(crate) floor: u64,
     // The newest name first.
     pub(crate) given: VecDeque<u64>,
@@ -98,6 +101,8 @@ impl State {
             lock: Lock::Free,
             young: 0,
             line,
+            opening: 1,
+            since: Vec::new(alloc),
             floor: 0,
             given: VecDeque::new(alloc),
             txns: Vec::new(alloc),

@@ -5,35 +5,12 @@ ghost use Rattle.fsfs_base.specs.Paths.{Path};
 ghost use Rattle.fsfs_base.specs.Landing.{land, NoClash, IsFirstClash};
 ghost use Rattle.fsfs_base.specs.Revisions.{Revision as Stands, tree_of};
 ghost use Rattle.fsfs_base.specs.Transactions.{IsDated, IsNext, last_of};
-ghost use Rattle.fsfs_core.specs.Machine.{at_place, edited, merged, tree_in, entry_of};
+ghost use Rattle.fsfs_world.specs.Machine.{tree_in, entry_of};
 
-use crate::machine::{Marks, Txn};
-use fsfs_base::{FsPath, History, Mark, Pairs, Revision, Tree, read_date};
+use fsfs_base::{FsPath, History, Pairs, Revision, Tree, read_date};
 use fsfs_model::{flat_clash, flat_fold, flat_land};
+use fsfs_world::Txn;
 use std::alloc::{AllocError, Global};
-
-impl Marks {
-    pub fn new(alloc: Global) -> Marks
-        ensures { result ≡ [] }
-    {
-        Marks {
-            marks: Vec::new(alloc),
-        }
-    }
-
-    pub fn as_slice(&self) -> &[Mark]
-        ensures { result.now ≡ self.now }
-    {
-        &self.marks
-    }
-
-    pub fn push(&mut self, mark: Mark) -> Result<(), AllocError>
-        ensures { OnOk result (self.new ≡ self.old ++ mark ∷ []) }
-    {
-        self.marks.push(mark)?;
-        Ok(())
-    }
-}
 
 /// The tree of a revision that there is.
 pub fn tree_at(history: &History, rev: u32) -> Option<&Tree>
@@ -52,34 +29,6 @@ pub fn base_tree(alloc: Global, history: &History, rev: u32) -> Result<Tree, All
     match history.get(rev) {
         Some(revision) => Ok(revision.tree.clone()?),
         None => Ok(Tree::new(alloc)),
-    }
-}
-
-/// The transaction with an edit more.
-#[tactic(auto, using(crate::proofs::OnePlace::set_at_place, crate::proofs::OnePlace::no_place))]
-pub fn set_edited(txns: &mut Vec<Txn>, t: u64, tree: Tree, mark: Mark) -> Result<(), AllocError>
-    ensures { OnOk result (txns.new.items ≡ at_place txns.old.items t (edited tree mark)) }
-{
-    let at = t as usize;
-    if at < txns.len() {
-        let txn = &mut txns[at];
-        txn.tree = tree;
-        txn.marks.push(mark)?;
-    }
-    Ok(())
-}
-
-/// The transaction on its new base.
-#[tactic(auto, using(crate::proofs::OnePlace::set_at_place, crate::proofs::OnePlace::no_place))]
-pub fn set_merged(txns: &mut Vec<Txn>, t: u64, tree: Tree, head: u32)
-    ensures { txns.new.items ≡ at_place txns.old.items t (merged tree head) }
-{
-    let at = t as usize;
-    if at < txns.len() {
-        let txn = &mut txns[at];
-        txn.base = head;
-        txn.tree = tree;
-        txn.landings = txn.landings.saturating_add(1);
     }
 }
 

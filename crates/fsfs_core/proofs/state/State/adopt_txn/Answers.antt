@@ -1,7 +1,7 @@
 -- A commit's first call uses its transaction up.
 use Rattle.std.proofs.Common.{◌≡◌, ◌<◌, ◌∙◌, length, Some, sym, ap, refl, arith}
 use Rattle.std.specs.Prelude.{slice_get}
-use Rattle.fsfs_core.specs.declared.machine.Coming.{Coming}
+use Rattle.fsfs_world.specs.declared.machine.Coming.{Coming}
 use Rattle.fsfs_core.specs.State.{world_of}
 use Rattle.fsfs_core.proofs.Calling.{adopts_none, adopts_some, stands_at}
 use Rattle.fsfs_core.proofs.state.State.adopt_txn.Goals as goal

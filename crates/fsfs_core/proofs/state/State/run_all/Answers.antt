@@ -1,6 +1,6 @@
 -- At the end no step is left, so the invariant speaks of all outcomes.
 use Rattle.std.proofs.Common.{◌≡◌, ◌++◌, List, [], ◌∷◌, length, refl, subst, sym, append-nil, arith}
-use Rattle.fsfs_core.specs.Machine.{Runs}
+use Rattle.fsfs_world.specs.Machine.{Runs}
 use Rattle.fsfs_core.specs.State.{world_of}
 use Rattle.fsfs_core.proofs.state.State.run_all.Goals as goal
 

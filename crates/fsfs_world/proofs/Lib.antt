@@ -1,0 +1,10 @@
+pub mod Images
+pub mod Standing
+pub mod Growing
+pub mod Whose
+pub mod Keeps
+pub mod Steps
+pub mod Created
+pub mod Showing
+pub mod LineLemmas
+pub mod OnePlace

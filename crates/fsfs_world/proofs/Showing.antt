@@ -1,0 +1,108 @@
+-- Images of a disk are read as images of the machine's.
+use Rattle.std.proofs.Common.{◌≡◌, ℕ, List, ◌∷◌, Bool, true, false, cond, inl, inr, ⊎_elim, refl, sym, ap, subst, ◌∙◌}
+use Rattle.std.specs.Prelude.{Some, None}
+use Rattle.std.specs.FinMap.{get, insert, remove, get-insert, get-remove, slice_cmp-IsAntisymmetric, nat_cmp-IsAntisymmetric}
+use Rattle.std.specs.declared.cmp.Ordering.TheVariants.{Less, Equal, Greater}
+use Rattle.std.specs.Cmp.{tied_itself}
+use Rattle.std.specs.Cmp.Lexicographic.{slice_cmp, nat_list_cmp_total}
+use Rattle.std.specs.Ordering.{nat_cmp, is_eq}
+use Rattle.fsfs_base.specs.Files.{Files, renamed}
+use Rattle.fsfs_disk.specs.Trace.{Operation, Done, Attempted, files_after, TornBy}
+use Rattle.fsfs_disk.specs.Trace as real
+use Rattle.fsfs_world.specs.declared.contents.Name.{Name}
+use Rattle.fsfs_world.specs.declared.contents.Contents.{Contents}
+use Rattle.fsfs_world.specs.declared.contents.Contents.TheVariants.{Junk}
+use Rattle.fsfs_world.specs.declared.contents.Change.TheVariants.{Put, Rename, Remove, Firm}
+use Rattle.fsfs_world.specs.Disk.{Disk, found, same_name, IsImage}
+use Rattle.fsfs_world.specs.Shown.{IsReading, AtName, AreRead, Shows, Start, Putting, Adopting, Renaming, Removing, Firming, Attempting, Beside, ImagesAreShown}
+
+-- the test of two names, as a choice
+at_same : {X : Type 0} (k : List ℕ) (x y : X) → cond (is_eq (slice_cmp nat_cmp k k)) x y ≡ x
+at_same k x y = ap (λ r. cond (is_eq r) x y) (tied_itself nat_list_cmp_total k)
+
+at_other : {X : Type 0} (q k : List ℕ) (x y : X) → (q ≡ k → ⊥) → cond (is_eq (slice_cmp nat_cmp q k)) x y ≡ y
+at_other q k x y apart =
+    elim (slice_cmp nat_cmp q k) as (λ r. slice_cmp nat_cmp q k ≡ r → cond (is_eq r) x y ≡ y) [
+      | Less ↦ λ p. refl
+      | Equal ↦ λ p. absurd (apart (slice_cmp-IsAntisymmetric nat_cmp-IsAntisymmetric q k p))
+      | Greater ↦ λ p. refl
+    ] refl
+
+get_new : (m : Files) (k v : List ℕ) → get (insert m k v) k ≡ Some v
+get_new m k v = get-insert nat_list_cmp_total m k v k ∙ at_same k (Some v) (get m k)
+
+get_kept : (m : Files) (k v q : List ℕ) → (q ≡ k → ⊥) → get (insert m k v) q ≡ get m q
+get_kept m k v q apart = get-insert nat_list_cmp_total m k v q ∙ at_other q k (Some v) (get m q) apart
+
+get_gone : (m : Files) (k : List ℕ) → get (remove m k) k ≡ None
+get_gone m k = get-remove nat_list_cmp_total m k k ∙ at_same k None (get m k)
+
+get_left : (m : Files) (k q : List ℕ) → (q ≡ k → ⊥) → get (remove m k) q ≡ get m q
+get_left m k q apart = get-remove nat_list_cmp_total m k q ∙ at_other q k None (get m q) apart
+
+module _ (names : Name → List ℕ) (reads : List ℕ → Contents → Bool) (is : IsReading names reads) where
+  read_put : (m : Files) (d : Disk) (n : Name) (bytes : List ℕ) (c : Contents) → AreRead names reads m d → reads bytes c ≡ true → AreRead names reads (insert m (names n) bytes) (Put n c ∷ d)
+  read_put m d n bytes c all ok q =
+      elim (same_name n q) as (λ b. same_name n q ≡ b → AtName reads (get (insert m (names n) bytes) (names q)) (cond b (Some c) (found d q))) [
+        | true ↦ λ e. subst (λ o. AtName reads o (Some c)) (sym (ap (λ k. get (insert m (names n) bytes) k) (sym (is.same n q e)) ∙ get_new m (names n) bytes)) ok
+        | false ↦ λ e. subst (λ o. AtName reads o (found d q)) (sym (get_kept m (names n) bytes (names q) (is.apart n q e))) (all q)
+      ] refl
+
+  read_remove : (m : Files) (d : Disk) (n : Name) → AreRead names reads m d → AreRead names reads (remove m (names n)) (Remove n ∷ d)
+  read_remove m d n all q =
+      elim (same_name n q) as (λ b. same_name n q ≡ b → AtName reads (get (remove m (names n)) (names q)) (cond b None (found d q))) [
+        | true ↦ λ e. subst (λ o. AtName reads o None) (sym (ap (λ k. get (remove m (names n)) k) (sym (is.same n q e)) ∙ get_gone m (names n))) tt
+        | false ↦ λ e. subst (λ o. AtName reads o (found d q)) (sym (get_left m (names n) (names q) (is.apart n q e))) (all q)
+      ] refl
+
+  read_rename : (m : Files) (d : Disk) (from to : Name) (bytes : List ℕ) (c : Contents) → AreRead names reads m d → reads bytes c ≡ true
+      → AreRead names reads (insert (remove m (names from)) (names to) bytes) (Rename from to c ∷ d)
+  read_rename m d from to bytes c all ok q =
+      elim (same_name to q) as (λ b. same_name to q ≡ b → AtName reads (get (insert (remove m (names from)) (names to) bytes) (names q)) (cond b (Some c) (cond (same_name from q) None (found d q)))) [
+        | true ↦ λ e. subst (λ o. AtName reads o (Some c)) (sym (ap (λ k. get (insert (remove m (names from)) (names to) bytes) k) (sym (is.same to q e)) ∙ get_new (remove m (names from)) (names to) bytes)) ok
+        | false ↦ λ e. subst (λ o. AtName reads o (cond (same_name from q) None (found d q))) (sym (get_kept (remove m (names from)) (names to) bytes (names q) (is.apart to q e))) (read_remove m d from all q)
+      ] refl
+
+  read_beside : (m : Files) (d : Disk) (name bytes : List ℕ) → ((n : Name) → names n ≡ name → ⊥) → AreRead names reads m d → AreRead names reads (insert m name bytes) d
+  read_beside m d name bytes other all q = subst (λ o. AtName reads o (found d q)) (sym (get_kept m name bytes (names q) (other q))) (all q)
+
+  -- the files now
+  now_read : (first : Files) (t : List Operation) (d : Disk) → Shows names reads first t d → AreRead names reads (files_after first t) d
+  now_read first _ _ (Start d all) = all
+  now_read first _ _ (Putting t d n bytes c s ok) = read_put (files_after first t) d n bytes c (now_read first t d s) ok
+  now_read first _ _ (Adopting t d n bytes c s ok) = read_put (files_after first t) d n bytes c (now_read first t d s) ok
+  now_read first _ _ (Renaming t d from to bytes c s at ok) =
+      subst (λ o. AreRead names reads (renamed (files_after first t) (names from) (names to) o) (Rename from to c ∷ d)) (sym at) (read_rename (files_after first t) d from to bytes c (now_read first t d s) ok)
+  now_read first _ _ (Removing t d n s) = read_remove (files_after first t) d n (now_read first t d s)
+  now_read first _ _ (Firming t d s) = now_read first t d s
+  now_read first _ _ (Attempting t d c s) = now_read first t d s
+  now_read first _ _ (Beside t d name bytes other s) = read_beside (files_after first t) d name bytes other (now_read first t d s)
+
+  image_read : (first : Files) (t : List Operation) (d : Disk) → Shows names reads first t d → (m : Files) → real.IsImage first t m → (e : Disk) × IsImage d e × AreRead names reads m e
+  image_read first _ _ (Start d all) m image = (Firm ∷ d, refl, subst (λ z. AreRead names reads z d) (sym image) all)
+  image_read first _ _ (Putting t d n bytes c s ok) m image =
+      ⊎_elim (λ i. let r = image_read first t d s m i in (r.0, inl r.1, r.2))
+      (λ w. let r = image_read first t d s w.0 w.1 in (Put n c ∷ r.0, inr (r.0, r.1, refl), subst (λ z. AreRead names reads z (Put n c ∷ r.0)) (sym w.2) (read_put w.0 r.0 n bytes c r.2 ok))) image
+  image_read first _ _ (Adopting t d n bytes c s ok) m image =
+      ⊎_elim (λ i. let r = image_read first t d s m i in (r.0, inl r.1, r.2))
+      (λ w. let r = image_read first t d s w.0 w.1 in (Put n c ∷ r.0, inr (r.0, r.1, refl), subst (λ z. AreRead names reads z (Put n c ∷ r.0)) (sym w.2) (read_put w.0 r.0 n bytes c r.2 ok))) image
+  image_read first _ _ (Renaming t d from to bytes c s at ok) m image =
+      ⊎_elim (λ i. let r = image_read first t d s m i in (r.0, inl r.1, r.2))
+      (λ w. let r = image_read first t d s w.0 w.1 in (Rename from to c ∷ r.0, inr (r.0, r.1, refl), subst (λ z. AreRead names reads z (Rename from to c ∷ r.0)) (sym (w.2 ∙ ap (λ o. renamed w.0 (names from) (names to) o) at)) (read_rename w.0 r.0 from to bytes c r.2 ok))) image
+  image_read first _ _ (Removing t d n s) m image =
+      ⊎_elim (λ i. let r = image_read first t d s m i in (r.0, inl r.1, r.2))
+      (λ w. let r = image_read first t d s w.0 w.1 in (Remove n ∷ r.0, inr (r.0, r.1, refl), subst (λ z. AreRead names reads z (Remove n ∷ r.0)) (sym w.2) (read_remove w.0 r.0 n r.2))) image
+  image_read first _ _ (Firming t d s) m image = (Firm ∷ d, refl, subst (λ z. AreRead names reads z d) (sym image) (now_read first t d s))
+  image_read first _ _ (Attempting t d c s) m image = image_read first t d s m image
+  image_read first _ _ (Beside t d name bytes other s) m image =
+      ⊎_elim (λ i. image_read first t d s m i)
+      (λ w. let r = image_read first t d s w.0 w.1 in (r.0, r.1, subst (λ z. AreRead names reads z r.0) (sym w.2) (read_beside w.0 r.0 name bytes other r.2))) image
+
+  torn_read : (first : Files) (t : List Operation) (d : Disk) → Shows names reads first t d → (n : Name) (bytes : List ℕ)
+      → (m : Files) → TornBy (real.Put (names n) bytes) (real.IsImage first t) m → (e : Disk) × IsImage (Put n Junk ∷ d) e × AreRead names reads m e
+  torn_read first t d s n bytes m w =
+      let r = image_read first t d s w.1 w.2 in
+      (Put n Junk ∷ r.0, inr (r.0, r.1, refl), subst (λ z. AreRead names reads z (Put n Junk ∷ r.0)) (sym w.3) (read_put w.1 r.0 n w.0 Junk r.2 (is.junk w.0)))
+
+  pub images_are_shown : ImagesAreShown names reads
+  images_are_shown = record { now = now_read; images = image_read; torn = torn_read }

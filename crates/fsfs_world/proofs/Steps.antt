@@ -1,0 +1,681 @@
+-- Each step and each run keeps it.
+use Rattle.std.proofs.Common.{◌≡◌, ◌<◌, ◌≤◌, ◌+◌, ◌-◌, ◌^◌, ◌==◌, ℕ, suc, zero, List, [], ◌∷◌, ◌++◌, length, Bool, true, false, cond, inl, inr, ⊎_elim, refl, sym, ap, subst, ◌∙◌, arith, length-append, take, append_assoc, append-nil}
+use Rattle.std.specs.Prelude.{Option, Some, None, IfSome, slice_get, nat_lt, nat_le, max, not, ◌&&◌, ◌||◌}
+use Rattle.std.specs.FinMap.{FinMap, get}
+use Rattle.fsfs_base.specs.declared.edit.Edit.{Edit}
+use Rattle.fsfs_base.specs.Paths.{Path, path_cmp}
+use Rattle.fsfs_base.specs.Nodes.{Node}
+use Rattle.fsfs_base.specs.Edits.{accepts, applied, mark_of, within_limits}
+use Rattle.fsfs_base.specs.Landing.{land, NoClash}
+use Rattle.fsfs_base.specs.Revisions.{Revision, tree_of}
+use Rattle.fsfs_base.specs.Histories.{IsHistory}
+use Rattle.fsfs_base.specs.Transactions.{Entry, IsTransaction, Edited, Landed, IsEntry, IsNext, IsLegal, last_of}
+use Rattle.fsfs_world.specs.declared.contents.Name.TheVariants.{Current, Counter, Floor, Rev, Props}
+use Rattle.fsfs_world.specs.declared.contents.Contents.{Contents}
+use Rattle.fsfs_world.specs.declared.contents.Contents.TheVariants.{RevFile, PropsFile, Number, Junk}
+use Rattle.fsfs_world.specs.declared.contents.Change.{Change}
+use Rattle.fsfs_world.specs.declared.contents.Change.TheVariants.{Firm}
+use Rattle.fsfs_world.specs.declared.machine.Recorded.{Recorded}
+use Rattle.fsfs_world.specs.declared.machine.Txn.{Txn}
+use Rattle.fsfs_world.specs.declared.machine.Coming.{Coming}
+use Rattle.fsfs_world.specs.declared.machine.Place.{Place}
+use Rattle.fsfs_world.specs.declared.machine.Place.TheVariants.{TxnRead, PutRev, Read}
+use Rattle.fsfs_world.specs.declared.machine.Pass.{Pass}
+use Rattle.fsfs_world.specs.declared.machine.Section.{Section}
+use Rattle.fsfs_world.specs.declared.machine.Section.TheVariants.{Begun, CountRead, CountPut, CountRenamed, RevPut, PropsPut, RevFirm, CurrentPut, CurrentRenamed, CurrentFirm, Doubtful, Over}
+use Rattle.fsfs_world.specs.declared.machine.Lock.{Lock}
+use Rattle.fsfs_world.specs.declared.machine.Lock.TheVariants.{Free, Held, Stuck, Down, DownDoubtful}
+use Rattle.fsfs_world.specs.declared.machine.Went.{Went}
+use Rattle.fsfs_world.specs.declared.machine.Went.TheVariants.{Fine, Before, After, Torn}
+use Rattle.fsfs_world.specs.declared.machine.Outcome.{Outcome}
+use Rattle.fsfs_world.specs.declared.machine.Outcome.TheVariants as outcome
+use Rattle.fsfs_world.specs.declared.machine.Step.{Step}
+use Rattle.fsfs_world.specs.declared.machine.Step.TheVariants as step
+use Rattle.fsfs_world.specs.Disk.{Disk, found, shown, left}
+use Rattle.std.proofs.lemmas.List.{take_all}
+use Rattle.fsfs_model.proofs.Legal.{commits_make_a_history}
+use Rattle.fsfs_model.proofs.PathLemmas.{first_true, second_true}
+use Rattle.fsfs_world.specs.Machine.{World, Did, did, barred, disk_after, either, answer, learns, due, gives as gives_name, called_by, called, recorded, revisions, with_next, at_place, is_up, is_due, file_of, inside, held_by, is_begun, has_begun_by, number_of, count_read, counted, drawn, entry_of, IsComing, adopted, AdoptsTxn, Adopts, without_place, edited, EditsIf, Edits, merged, MergesIf, Merges, let_go, stuck_at, reveals, revealed, taken, looked, is_known, range_of, turned, has_read, raised, sees_floor, floor_read, down, ends, revision_in, read_one, read_back, opened, named, open_at, split_off, joined, join_with, is_there, Happens, Runs}
+use Rattle.fsfs_world.specs.Kept.{HasAll, StandsFor, StandsForEither, StandsIn, Stands, AllBelow, CountsOn, KnowsAt, coming, Follows, IsSeen, AreSeen, AreTransactions, Whose, IsHolder, FloorIs, Kept, Grows, Names, GivesBytes, Gives, StepsKeep, SeenStays, RunsKeep}
+use Rattle.fsfs_world.proofs.Images.{Each, each_firm, read_is_image, left_is_image}
+use Rattle.fsfs_world.proofs.Standing.{shown_again, past_rev, same_number}
+use Rattle.fsfs_world.proofs.Growing.{transactions_go_on, transactions_at, transaction_at, transactions_without, revisions_length, revisions_next}
+use Rattle.fsfs_world.proofs.Keeps.{no_less, seen_at, learnt, keeps_put, keeps_called}
+use Rattle.fsfs_world.proofs.Whose.{length_at, there_at, whose_at, whose_next, whose_split}
+
+-- a step from w to v
+pub record Moves (w v : World) : Type 0 where
+  pub kept : Kept v
+  pub grows : Grows w.history v.history
+  pub names : Names w.given v.given
+
+stays : (w : World) → Kept w → Moves w w
+stays w k = record { kept = k; grows = inl refl; names = inl refl }
+
+moved : (w v : World) → Kept v → v.history ≡ w.history → v.given ≡ w.given → Moves w v
+moved w v k h g = record { kept = k; grows = inl h; names = inl g }
+
+-- what is done with a section of the pass that holds the lock
+keeps_inside : (w : World) (p : ℕ) (f : Section → Did) (lock : Lock) → w.lock ≡ lock → Kept w
+    → ((s : Section) → Kept (record w { lock = Held p s }) → Moves w (f s).world) → Moves w (inside w f (held_by p lock)).world
+keeps_inside w p f Free is k h = stays w k
+keeps_inside w p f (Stuck place x) is k h = stays w k
+keeps_inside w p f Down is k h = stays w k
+keeps_inside w p f (DownDoubtful x) is k h = stays w k
+keeps_inside w p f (Held q s) is k h =
+    elim (q == p) as (λ b. (q == p) ≡ b → Moves w (inside w f (cond b (Some s) None)).world) [
+      | true ↦ λ e. let same : q ≡ p = grind (arith, e) in h s (subst (λ l. Kept (record w { lock = l })) (is ∙ ap (λ n. Held n s) same) k)
+      | false ↦ λ e. stays w k
+    ] refl
+
+history_gives : (s : Section) (went : Went) (w : World) → (gives_name s went w).history ≡ w.history
+history_gives (CountRenamed x) Fine w = refl
+history_gives (CountRenamed x) Before w = refl
+history_gives (CountRenamed x) After w = refl
+history_gives (CountRenamed x) (Torn any) w = refl
+history_gives s went w = refl
+
+history_called : (w : World) (p : ℕ) (place : Place) (went : Went) (s : Section) (o : Option Change) → (called_by w p place went s o).world.history ≡ w.history
+history_called w p place went s None = refl
+history_called w p place went s (Some change) = history_gives s went w
+
+names_called : (w : World) (p : ℕ) (place : Place) (went : Went) (s : Section) (o : Option Change) → Kept (record w { lock = Held p s }) → Names w.given (called_by w p place went s o).world.given
+names_called w p place went s None k = inl refl
+names_called w p place Fine (CountRenamed x) (Some change) k = inr (x.name, k.knows.1, refl)
+names_called w p place Before (CountRenamed x) (Some change) k = inl refl
+names_called w p place After (CountRenamed x) (Some change) k = inl refl
+names_called w p place (Torn any) (CountRenamed x) (Some change) k = inl refl
+names_called w p place went s (Some change) k = inl refl
+
+called_keeps : (w : World) (p : ℕ) (place : Place) (went : Went) (s : Section) → Kept w → Kept (record w { lock = Held p s }) → Moves w (called w p place went s).world
+called_keeps w p place went s k at = elim (is_due s place) as (λ b. Moves w (cond b (called_by w p place went s (due w s)) (barred w)).world) [
+  | true ↦ record { kept = ⊎_elim (λ a. a) (λ e. subst (λ v. Kept v) (sym e) k) (keeps_called w p place went s at); grows = inl (history_called w p place went s (due w s)); names = names_called w p place went s (due w s) at }
+  | false ↦ stays w k
+]
+
+-- the first call of a begin
+count_keeps : (w : World) (p b : ℕ) (went : Went) (k : ℕ) → found w.disk Counter ≡ Some (Number k) → b < length w.history → Kept (record w { lock = Held p Begun }) → Kept (count_read w p b went k)
+count_keeps w p b went k is less at = by_end went
+  where
+    read : (j : ℕ) × (found w.disk Counter ≡ Some (Number j)) × AllBelow j w.given
+    read = at.counts w.disk (read_is_image w.disk)
+
+    below : AllBelow k w.given
+    below = subst (λ n. AllBelow n w.given) (same_number (found w.disk Counter) read.0 k read.1 is) read.2
+
+    by_end : (went : Went) → Kept (count_read w p b went k)
+    by_end Fine = record { young = at.young; seen = learnt (length w.history) w.floor w.passes p TxnRead Fine at.seen; history = at.history; transactions = at.transactions; stands = at.stands; floor = at.floor; floors = at.floors; counts = at.counts; once = at.once; knows = (less, below, refl); next = tt; whose = whose_at w.opening w.history w.since w.passes p (learns (length w.history) TxnRead Fine) (λ x. refl) at.whose; holder = (there_at w.passes p p (learns (length w.history) TxnRead Fine) at.holder.0, tt) }
+    by_end Before = record { young = at.young; seen = learnt (length w.history) w.floor w.passes p TxnRead Before at.seen; history = at.history; transactions = at.transactions; stands = at.stands; floor = at.floor; floors = at.floors; counts = at.counts; once = at.once; knows = tt; next = tt; whose = whose_at w.opening w.history w.since w.passes p (learns (length w.history) TxnRead Before) (λ x. refl) at.whose; holder = (there_at w.passes p p (learns (length w.history) TxnRead Before) at.holder.0, tt) }
+    by_end After = record { young = at.young; seen = learnt (length w.history) w.floor w.passes p TxnRead After at.seen; history = at.history; transactions = at.transactions; stands = at.stands; floor = at.floor; floors = at.floors; counts = at.counts; once = at.once; knows = tt; next = tt; whose = whose_at w.opening w.history w.since w.passes p (learns (length w.history) TxnRead After) (λ x. refl) at.whose; holder = (there_at w.passes p p (learns (length w.history) TxnRead After) at.holder.0, tt) }
+    by_end (Torn any) = record { young = at.young; seen = learnt (length w.history) w.floor w.passes p TxnRead (Torn any) at.seen; history = at.history; transactions = at.transactions; stands = at.stands; floor = at.floor; floors = at.floors; counts = at.counts; once = at.once; knows = tt; next = tt; whose = whose_at w.opening w.history w.since w.passes p (learns (length w.history) TxnRead (Torn any)) (λ x. refl) at.whose; holder = (there_at w.passes p p (learns (length w.history) TxnRead (Torn any)) at.holder.0, tt) }
+
+counted_keeps : (w : World) (p b : ℕ) (went : Went) (o : Option Contents) → found w.disk Counter ≡ o → Kept w → Kept (record w { lock = Held p Begun }) → Moves w (counted w p b went (number_of o)).world
+counted_keeps w p b went None is k at = stays w k
+counted_keeps w p b went (Some (Number n)) is k at =
+    elim (nat_lt b (length w.history) && nat_lt n (2 ^ 64 - 1)) as (λ t. (nat_lt b (length w.history) && nat_lt n (2 ^ 64 - 1)) ≡ t → Moves w (cond t (did (count_read w p b went n) (answer went)) (barred w)).world) [
+      | true ↦ λ e. let f : nat_lt b (length w.history) ≡ true = first_true _ _ e in let less : b < length w.history = grind (arith, f) in
+          moved w (count_read w p b went n) (count_keeps w p b went n is less at) refl refl
+      | false ↦ λ e. stays w k
+    ] refl
+counted_keeps w p b went (Some (RevFile tree changes bytes)) is k at = stays w k
+counted_keeps w p b went (Some (PropsFile props)) is k at = stays w k
+counted_keeps w p b went (Some Junk) is k at = stays w k
+
+drawn_keeps : (w : World) (p b : ℕ) (went : Went) (s : Section) → Kept w → Kept (record w { lock = Held p s }) → Moves w (drawn w p b went s).world
+drawn_keeps w p b went Begun k at = counted_keeps w p b went (found w.disk Counter) refl k at
+drawn_keeps w p b went s k at = stays w k
+
+-- the first call of a commit
+adopted_keeps : (w : World) (p t : ℕ) (e : Entry) (bytes : List ℕ) (went : Went) (x : Coming)
+    → IsTransaction (tree_of (revisions w.history)) (last_of (revisions w.history)) e.base (get e.tree) e.marks
+    → e.pass ≡ p → IsComing w.history e bytes x → Kept (record w { lock = Held p Begun }) → Kept (adopted w p t went x)
+adopted_keeps w p t e bytes went x was mine is at =
+    let less : World = record w { txns = without_place w.txns t } in
+    let k : Kept (record less { lock = Held p Begun }) = record { young = at.young; seen = at.seen; history = at.history; transactions = transactions_without (revisions w.history) w.txns t at.transactions; stands = at.stands; floor = at.floor; floors = at.floors; counts = at.counts; once = at.once; knows = tt; next = tt; whose = at.whose; holder = at.holder } in
+    let follows : Follows w.history x = subst (λ z. IsEntry (revisions w.history) z × IsNext (revisions w.history) z x.revision) (sym is.entry) (record { transaction = was; dated = is.adds.0 }, is.adds.1) in
+    keeps_put less p PutRev Begun (Rev (length w.history)) (file_of (recorded x)) (RevPut x) went k (ap (λ z. z.pass) is.entry ∙ mine)
+    (λ m i. i) (λ m any i. past_rev w.floor m w.history any i) (λ m i. i) (λ m any i. i) (shown_again w.floor w.disk (length w.history) (file_of (recorded x)) at.floor) follows
+
+adopts_txn_keep : (w : World) (p t : ℕ) (properties : List (List ℕ × List ℕ)) (bytes : List ℕ) (went : Went) (o : Option Txn) (d : Did) → slice_get w.txns t ≡ o
+    → Kept w → Kept (record w { lock = Held p Begun }) → AdoptsTxn w p t properties bytes went o d → Moves w d.world
+adopts_txn_keep w p t properties bytes went None d is k at e = subst (λ z. Moves w z.world) (sym e) (stays w k)
+adopts_txn_keep w p t properties bytes went (Some txn) d is k at e = ⊎_elim
+    (λ a. subst (λ z. Moves w z.world) (sym a.2) (moved w (adopted w p t went a.0) (adopted_keeps w p t (entry_of p txn properties) bytes went a.0 (transaction_at (revisions w.history) w.txns t txn is k.transactions) refl a.1 at) refl refl))
+    (λ b. subst (λ z. Moves w z.world) (sym b.1) (stays w k)) e
+
+begun_section : (s : Section) → is_begun (Some s) ≡ true → s ≡ Begun
+begun_section Begun e = refl
+begun_section s e = let f : false ≡ true = e in absurd cc
+
+held_begun : (p : ℕ) (lock : Lock) → has_begun_by p lock ≡ true → lock ≡ Held p Begun
+held_begun p (Held q s) e = elim (q == p) as (λ b. (q == p) ≡ b → is_begun (cond b (Some s) None) ≡ true → Held q s ≡ Held p Begun) [
+  | true ↦ λ t f. let same : q ≡ p = grind (arith, t) in let at : s ≡ Begun = begun_section s f in ap (λ n. Held n s) same ∙ ap (λ z. Held p z) at
+  | false ↦ λ t f. let g : false ≡ true = f in absurd cc
+] refl e
+held_begun p lock e = let f : false ≡ true = e in absurd cc
+
+adopts_keep : (w : World) (p t : ℕ) (properties : List (List ℕ × List ℕ)) (bytes : List ℕ) (went : Went) (b : Bool) (d : Did) → has_begun_by p w.lock ≡ b → Kept w
+    → Adopts w p t properties bytes went b d → Moves w d.world
+adopts_keep w p t properties bytes went false d is k e = subst (λ z. Moves w z.world) (sym e) (stays w k)
+adopts_keep w p t properties bytes went true d is k e =
+    adopts_txn_keep w p t properties bytes went (slice_get w.txns t) d refl k (subst (λ l. Kept (record w { lock = l })) (held_begun p w.lock is) k) e
+
+-- edits and merges
+with_txns : (w : World) (txns : List Txn) → AreTransactions (revisions w.history) txns → Kept w → Moves w (record w { txns = txns })
+with_txns w txns t k = moved w (record w { txns = txns }) (record { young = k.young; seen = k.seen; history = k.history; transactions = t; stands = k.stands; floor = k.floor; floors = k.floors; counts = k.counts; once = k.once; knows = k.knows; next = k.next; whose = k.whose; holder = k.holder }) refl refl
+
+edits_if_keep : (w : World) (t : ℕ) (edit : Edit) (x : Txn) (b : Bool) (d : Did) → slice_get w.txns t ≡ Some x
+    → (accepts edit (tree_of (revisions w.history)) (last_of (revisions w.history)) (get x.tree) && within_limits edit x.tree) ≡ b → Kept w → EditsIf w t edit x b d → Moves w d.world
+edits_if_keep w t edit x false d is ok k e = subst (λ z. Moves w z.world) (sym e) (stays w k)
+edits_if_keep w t edit x true d is ok k e =
+    let h : List Revision = revisions w.history in
+    let was : IsTransaction (tree_of h) (last_of h) x.base (get x.tree) x.marks = transaction_at h w.txns t x is k.transactions in
+    let fun : get e.0 ≡ applied edit (tree_of h) (get x.tree) = (λ i q. e.1 q i) in
+    let new : IsTransaction (tree_of h) (last_of h) x.base (get e.0) (x.marks ++ mark_of edit (tree_of h) (get x.tree) ∷ []) =
+    subst (λ f. IsTransaction (tree_of h) (last_of h) x.base f (x.marks ++ mark_of edit (tree_of h) (get x.tree) ∷ [])) (sym fun)
+    (Edited x.base (get x.tree) x.marks edit was (first_true _ _ ok)) in
+    subst (λ z. Moves w z.world) (sym e.2) (with_txns w (at_place w.txns t (edited e.0 (mark_of edit (tree_of (revisions w.history)) (get x.tree)))) (transactions_at h w.txns t x (edited e.0 (mark_of edit (tree_of (revisions w.history)) (get x.tree))) is new k.transactions) k)
+
+edits_keep : (w : World) (t : ℕ) (edit : Edit) (o : Option Txn) (d : Did) → slice_get w.txns t ≡ o → Kept w → Edits w t edit o d → Moves w d.world
+edits_keep w t edit None d is k e = subst (λ z. Moves w z.world) (sym e) (stays w k)
+edits_keep w t edit (Some x) d is k e = edits_if_keep w t edit x _ d is refl k e
+
+merges_if_keep : (w : World) (t head : ℕ) (x : Txn) (b : Bool) (d : Did) → slice_get w.txns t ≡ Some x
+    → (nat_le x.base head && nat_lt head (length w.history)) ≡ b → Kept w → MergesIf w t head x b d → Moves w d.world
+merges_if_keep w t head x false d is ok k e = subst (λ z. Moves w z.world) (sym e) (stays w k)
+merges_if_keep w t head x true d is ok k e = ⊎_elim on_clear (λ c. subst (λ z. Moves w z.world) (sym c.2) (stays w k)) e
+  where
+    h : List Revision
+    h = revisions w.history
+
+    was : IsTransaction (tree_of h) (last_of h) x.base (get x.tree) x.marks
+    was = transaction_at h w.txns t x is k.transactions
+
+    up : x.base ≤ head
+    up = let f : nat_le x.base head ≡ true = first_true (nat_le x.base head) (nat_lt head (length w.history)) ok in grind (arith, f)
+
+    in_range : head ≤ last_of h
+    in_range = let f : nat_lt head (length w.history) ≡ true = second_true (nat_le x.base head) (nat_lt head (length w.history)) ok in let less : head < length w.history = grind (arith, f) in omega (arith, less, revisions_length w.history)
+
+    on_clear : NoClash x.base (tree_of h x.base) (tree_of h head) (get x.tree) x.marks
+        × (tree : FinMap path_cmp Node)
+        × ((q : Path) → get tree q ≡ land (tree_of h x.base) (tree_of h head) (get x.tree) x.marks head q)
+        × (d ≡ did (record w { txns = at_place w.txns t (merged tree head) }) outcome.Done) → Moves w d.world
+    on_clear a =
+        let fun : get a.1 ≡ land (tree_of h x.base) (tree_of h head) (get x.tree) x.marks head = (λ i q. a.2 q i) in
+        let new : IsTransaction (tree_of h) (last_of h) head (get a.1) x.marks =
+        subst (λ f. IsTransaction (tree_of h) (last_of h) head f x.marks) (sym fun) (Landed x.base head head (get x.tree) x.marks was up in_range a.0) in
+        subst (λ z. Moves w z.world) (sym a.3) (with_txns w (at_place w.txns t (merged a.1 head)) (transactions_at h w.txns t x (merged a.1 head) is new k.transactions) k)
+
+merges_keep : (w : World) (t head : ℕ) (o : Option Txn) (d : Did) → slice_get w.txns t ≡ o → Kept w → Merges w t head o d → Moves w d.world
+merges_keep w t head None d is k e = subst (λ z. Moves w z.world) (sym e) (stays w k)
+merges_keep w t head (Some x) d is k e = merges_if_keep w t head x _ d is refl k e
+
+-- the words
+with_passes : (w : World) (passes : List Pass) → AreSeen (length w.history) w.floor passes → Whose w.opening w.history w.since passes → IsHolder (length passes) w.lock → Kept w → Moves w (record w { passes = passes })
+with_passes w passes s whose holder k = moved w (record w { passes = passes }) (record { young = k.young; seen = s; history = k.history; transactions = k.transactions; stands = k.stands; floor = k.floor; floors = k.floors; counts = k.counts; once = k.once; knows = k.knows; next = k.next; whose = whose; holder = holder }) refl refl
+
+-- the holder is there still, where there are no fewer passes
+holder_stays : (n m : ℕ) (lock : Lock) → n ≤ m → IsHolder n lock → IsHolder m lock
+holder_stays n m (Held p s) le h = let less : p < n = h.0 in (omega (arith, less, le), h.1)
+holder_stays n m lock le h = tt
+
+-- one pass learns something, and has no more revisions of its own
+with_pass : (w : World) (p : ℕ) (f : Pass → Pass) → ((x : Pass) → IsSeen (length w.history) w.floor x → IsSeen (length w.history) w.floor (f x)) → ((x : Pass) → (f x).mine ≡ x.mine)
+    → Kept w → Moves w (record w { passes = at_place w.passes p f })
+with_pass w p f seen same k =
+    let e : length (at_place w.passes p f) ≡ length w.passes = length_at w.passes p f in
+    with_passes w (at_place w.passes p f) (seen_at (length w.history) w.floor w.passes p f seen k.seen) (whose_at w.opening w.history w.since w.passes p f same k.whose)
+    (holder_stays (length w.passes) (length (at_place w.passes p f)) w.lock (omega (arith, e)) k.holder) k
+
+taken_keeps : (w : World) (p : ℕ) (lock : Lock) → p < length w.passes → w.lock ≡ lock → Kept (record w { lock = lock }) → Kept w → Moves w (taken w p lock).world
+taken_keeps w p Free there is at k = moved w (record w { lock = Held p Begun }) (record { young = at.young; seen = at.seen; history = at.history; transactions = at.transactions; stands = at.stands; floor = at.floor; floors = at.floors; counts = at.counts; once = at.once; knows = tt; next = tt; whose = at.whose; holder = (there, tt) }) refl refl
+taken_keeps w p (Stuck place x) there is at k = with_pass w p (λ y. record y { stuck = Some place }) (λ y s. record { seen = s.seen; least = s.least; mine = s.mine; floor = s.floor }) (λ y. refl) k
+taken_keeps w p lock there is at k = stays w k
+
+lock_keeps : (w : World) (p : ℕ) (b : Bool) → is_there w p ≡ b → Kept w → Moves w (cond b (taken w p w.lock) (barred w)).world
+lock_keeps w p true is k = taken_keeps w p w.lock (let there : p < length w.passes = grind (arith, is) in there) refl k k
+lock_keeps w p false is k = stays w k
+
+freed : (w : World) (p : ℕ) (s : Section) → Kept (record w { lock = Held p s }) → ((m : Disk) → StandsIn w.floor w.history s m → StandsFor w.floor m w.history) → Moves w (record w { lock = Free })
+freed w p s at plain = moved w (record w { lock = Free }) (record { young = at.young; seen = at.seen; history = at.history; transactions = at.transactions; stands = λ m i. plain m (at.stands m i); floor = at.floor; floors = at.floors; counts = at.counts; once = at.once; knows = tt; next = tt; whose = at.whose; holder = tt }) refl refl
+
+let_go_keeps : (w : World) (p : ℕ) (s : Section) → Kept w → Kept (record w { lock = Held p s }) → Moves w (let_go w s).world
+let_go_keeps w p Begun k at = freed w p Begun at (λ m i. i)
+let_go_keeps w p (CountRead x) k at = freed w p (CountRead x) at (λ m i. i)
+let_go_keeps w p (CountPut x) k at = freed w p (CountPut x) at (λ m i. i)
+let_go_keeps w p (CountRenamed x) k at = freed w p (CountRenamed x) at (λ m i. i)
+let_go_keeps w p (RevPut x) k at = freed w p (RevPut x) at (λ m i. i)
+let_go_keeps w p (PropsPut x) k at = freed w p (PropsPut x) at (λ m i. i)
+let_go_keeps w p (RevFirm x) k at = freed w p (RevFirm x) at (λ m i. i.0)
+let_go_keeps w p (CurrentPut x) k at = freed w p (CurrentPut x) at (λ m i. i.0)
+let_go_keeps w p Over k at = freed w p Over at (λ m i. i)
+let_go_keeps w p s k at = stays w k
+
+stuck_keeps : (w : World) (p : ℕ) (s : Section) → Kept w → Kept (record w { lock = Held p s }) → Moves w (stuck_at w s).world
+stuck_keeps w p (Doubtful place x) k at = moved w (record w { lock = Stuck place x }) (record { young = at.young; seen = at.seen; history = at.history; transactions = at.transactions; stands = at.stands; floor = at.floor; floors = at.floors; counts = at.counts; once = at.once; knows = tt; next = at.next; whose = at.whose; holder = tt }) refl refl
+stuck_keeps w p s k at = stays w k
+
+seen_more : (n m f : ℕ) (xs : List Pass) → n ≤ m → AreSeen n f xs → AreSeen m f xs
+seen_more n m f [] le s = tt
+seen_more n m f (x ∷ xs) le s = let one : IsSeen n f x = s.0 in (record { seen = omega (arith, le, one.seen); least = omega (arith, le, one.least); mine = one.mine; floor = one.floor }, seen_more n m f xs le s.1)
+
+below_append : (xs : List ℕ) (a n : ℕ) → AllBelow n xs → a < n → AllBelow n (xs ++ a ∷ [])
+below_append [] a n s less = (less, tt)
+below_append (x ∷ xs) a n s less = (s.0, below_append xs a n s.1 less)
+
+next_is_history : (h : List Recorded) (x : Coming) → IsHistory (revisions h) → Follows h x → IsHistory (revisions (with_next h x))
+next_is_history h x is f = subst (λ z. IsHistory z) (sym (revisions_next h x)) (commits_make_a_history.next (revisions h) x.entry x.revision is f.0 f.1)
+
+some_revision : (h : List Recorded) → IsHistory (revisions h) → 0 < length (revisions h)
+some_revision h is = let e : length (revisions h) ≡ suc is.last = is.counted in omega (arith, e)
+
+revealed_keeps : (w : World) (p : ℕ) (s : Section) → Kept w → Kept (record w { lock = Held p s }) → Moves w (revealed w p s).world
+revealed_keeps w p (CurrentFirm x) k at =
+    let n : ℕ = length w.history in
+    let more : length (with_next w.history x) ≡ length w.history + 1 = length-append w.history (recorded x ∷ []) in
+    let old : AreSeen (length (with_next w.history x)) w.floor w.passes = seen_more (length w.history) (length (with_next w.history x)) w.floor w.passes (omega (arith, more)) k.seen in
+    record {
+      kept = record {
+        young = λ up. sym more;
+        seen = seen_at (length (with_next w.history x)) w.floor w.passes p (reveals (length w.history)) (λ y s. record {
+          seen = omega (arith, more);
+          least = s.least;
+          mine = below_append y.mine (length w.history) (length w.history + 1) (no_less y.mine y.seen (length w.history + 1) (omega (arith, more, s.seen)) s.mine) (omega arith);
+          floor = s.floor;
+        }) old;
+        history = next_is_history w.history x at.history at.next;
+        transactions = subst (λ z. AreTransactions z w.txns) (sym (revisions_next w.history x)) (transactions_go_on (revisions w.history) x.revision w.txns (some_revision w.history at.history) at.transactions);
+        stands = at.stands;
+        floor = at.floor;
+        floors = at.floors;
+        counts = at.counts;
+        once = at.once;
+        knows = tt;
+        next = tt;
+        whose = whose_next w.opening w.history w.since w.passes p x at.holder.1 at.holder.0 at.next at.whose;
+        holder = (there_at w.passes p p (reveals (length w.history)) at.holder.0, tt);
+      };
+      grows = inr (x, at.next, refl);
+      names = inl refl;
+    }
+revealed_keeps w p s k at = stays w k
+
+look_keeps : (w : World) (p : ℕ) (b : Bool) → (is_there w p && is_up w.lock) ≡ b → Kept w → Moves w (cond b (looked w p) (barred w)).world
+look_keeps w p false is k = stays w k
+look_keeps w p true is k = let last : w.young + 1 ≡ length w.history = k.young (second_true _ _ is) in
+    with_pass w p (λ x. record x { least = w.young }) (λ x s. record { seen = s.seen; least = omega (arith, last); mine = s.mine; floor = s.floor }) (λ x. refl) k
+
+pub seen_of : (n f : ℕ) (xs : List Pass) (p : ℕ) (x : Pass) → AreSeen n f xs → slice_get xs p ≡ Some x → IsSeen n f x
+seen_of n f [] p x s e = let g : None ≡ Some x = e in absurd cc
+seen_of n f (y ∷ ys) zero x s e = let g : y ≡ x = (let h : Some y ≡ Some x = e in cc) in subst (λ z. IsSeen n f z) g s.0
+seen_of n f (y ∷ ys) (suc p) x s e = seen_of n f ys p x s.1 e
+
+seen_append : (n f : ℕ) (xs : List Pass) (x : Pass) → AreSeen n f xs → IsSeen n f x → AreSeen n f (xs ++ x ∷ [])
+seen_append n f [] x s a = (a, tt)
+seen_append n f (y ∷ ys) x s a = (s.0, seen_append n f ys x s.1 a)
+
+-- a turn of the disk that changes nothing
+turn_keeps : (w : World) (p : ℕ) (place : Place) (went : Went) → Kept w → Moves w (turned w p place went)
+turn_keeps w p place went k = with_pass w p (learns (length w.history) place went) (λ x s. record { seen = omega arith; least = s.least; mine = no_less x.mine x.seen (length w.history) s.seen s.mine; floor = s.floor }) (λ x. refl) k
+
+read_keeps : (w : World) (p r offset size : ℕ) (went : Went) (o : Option Pass) → Kept w → Moves w (has_read w p r offset size went o).world
+read_keeps w p r offset size went None k = stays w k
+read_keeps w p r offset size went (Some x) k = elim (is_known x r) as (λ b. Moves w (cond b (did (turned w p Read went) (either went (range_of offset size (shown x.floor w.disk r)) outcome.Failed)) (barred w)).world) [
+  | true ↦ turn_keeps w p Read went k
+  | false ↦ stays w k
+]
+
+floor_raised : (w : World) (x : ℕ) → found w.disk Floor ≡ Some (Number w.floor) → x ≤ w.floor → raised (number_of (found w.disk Floor)) x ≤ w.floor
+floor_raised w x e le = subst (λ o. raised (number_of o) x ≤ w.floor) (sym e) (omega (arith, le))
+
+floor_read_keeps : (w : World) (p : ℕ) (went : Went) (o : Option Pass) → Kept w → Moves w (floor_read w p went o).world
+floor_read_keeps w p went None k = stays w k
+floor_read_keeps w p went (Some x) k =
+    with_pass w p (sees_floor (length w.history) went (number_of (found w.disk Floor)))
+    (λ y s. record { seen = omega arith; least = s.least; mine = no_less y.mine y.seen (length w.history) s.seen s.mine; floor = by_end went y s.floor }) (λ y. refl) k
+  where
+    by_end : (went : Went) (y : Pass) → y.floor ≤ w.floor → (sees_floor (length w.history) went (number_of (found w.disk Floor)) y).floor ≤ w.floor
+    by_end Fine y le = floor_raised w y.floor (k.floors w.disk (read_is_image w.disk)) le
+    by_end Before y le = le
+    by_end After y le = le
+    by_end (Torn any) y le = le
+
+split_keeps : (w : World) (p : ℕ) (o : Option Pass) → slice_get w.passes p ≡ o → Kept w → Moves w (split_off w o).world
+split_keeps w p None e k = stays w k
+split_keeps w p (Some x) e k = let s : IsSeen (length w.history) w.floor x = seen_of (length w.history) w.floor w.passes p x k.seen e in
+    let longer : length (w.passes ++ record x { mine = []; faults = [] } ∷ []) ≡ length w.passes + 1 = length-append w.passes (record x { mine = []; faults = [] } ∷ []) in
+    with_passes w (w.passes ++ record x { mine = []; faults = [] } ∷ []) (seen_append (length w.history) w.floor w.passes (record x { mine = []; faults = [] }) k.seen (record { seen = s.seen; least = s.least; mine = tt; floor = s.floor }))
+    (whose_split w.opening w.history w.since w.passes (record x { mine = []; faults = [] }) refl k.whose)
+    (holder_stays (length w.passes) (length (w.passes ++ record x { mine = []; faults = [] } ∷ [])) w.lock (omega (arith, longer)) k.holder) k
+
+join_keeps : (w : World) (p q : ℕ) (o : Option Pass) → slice_get w.passes q ≡ o → Kept w → Moves w (join_with w p o).world
+join_keeps w p q None e k = stays w k
+join_keeps w p q (Some y) e k = let s : IsSeen (length w.history) w.floor y = seen_of (length w.history) w.floor w.passes q y k.seen e in
+    with_pass w p (joined y) (λ x t. record {
+      seen = omega (arith, t.seen, s.seen);
+      least = omega (arith, t.least, s.least);
+      mine = no_less x.mine x.seen (max x.seen y.seen) (omega arith) t.mine;
+      floor = omega (arith, t.floor, s.floor);
+    }) (λ x. refl) k
+
+-- an end of the object: nothing of the words is left
+down_stands : (f : ℕ) (h : List Recorded) (lock : Lock) (m : Disk) → Stands f h lock m → Stands f h (down lock) m
+down_stands f h Free m s = s
+down_stands f h (Stuck place x) m s = s.0
+down_stands f h Down m s = s
+down_stands f h (DownDoubtful x) m s = s
+down_stands f h (Held p Begun) m s = s
+down_stands f h (Held p (CountRead x)) m s = s
+down_stands f h (Held p (CountPut x)) m s = s
+down_stands f h (Held p (CountRenamed x)) m s = s
+down_stands f h (Held p (RevPut x)) m s = s
+down_stands f h (Held p (PropsPut x)) m s = s
+down_stands f h (Held p (RevFirm x)) m s = s.0
+down_stands f h (Held p (CurrentPut x)) m s = s.0
+down_stands f h (Held p (CurrentRenamed x)) m s = s.0
+down_stands f h (Held p (CurrentFirm x)) m s = inr s
+down_stands f h (Held p (Doubtful place x)) m s = s.0
+down_stands f h (Held p Over) m s = s
+
+pub record IsDown (f : ℕ) (h : List Recorded) (given : List ℕ) (lock : Lock) (d : Disk) : Type 0 where
+  pub up : is_up lock ≡ false
+  pub knows : KnowsAt f h given lock d
+  pub next : IfSome (coming lock) (Follows h)
+  pub holder : IsHolder 0 lock
+
+down_next : (f : ℕ) (h : List Recorded) (given : List ℕ) (lock : Lock) (d : Disk) → IfSome (coming lock) (Follows h) → IsDown f h given (down lock) d
+down_next f h given Free d n = record { up = refl; knows = tt; next = tt; holder = tt }
+down_next f h given (Stuck place x) d n = record { up = refl; knows = tt; next = n; holder = tt }
+down_next f h given Down d n = record { up = refl; knows = tt; next = tt; holder = tt }
+down_next f h given (DownDoubtful x) d n = record { up = refl; knows = tt; next = n; holder = tt }
+down_next f h given (Held p (CurrentRenamed x)) d n = record { up = refl; knows = tt; next = n; holder = tt }
+down_next f h given (Held p (CurrentFirm x)) d n = record { up = refl; knows = tt; next = n; holder = tt }
+down_next f h given (Held p (Doubtful place x)) d n = record { up = refl; knows = tt; next = n; holder = tt }
+down_next f h given (Held p s) d n = record { up = refl; knows = tt; next = tt; holder = tt }
+
+not_up : (b : Bool) (A : Type 0) → b ≡ false → b ≡ true → A
+not_up b A e f = let g : false ≡ true = sym e ∙ f in absurd cc
+
+-- a mark of firmness changes no file
+firm_stands : (f : ℕ) (h : List Recorded) (lock : Lock) (m : Disk) → Stands f h lock m → Stands f h lock (Firm ∷ m)
+firm_stands f h Free m s = s
+firm_stands f h (Stuck place x) m s = s
+firm_stands f h Down m s = s
+firm_stands f h (DownDoubtful x) m s = s
+firm_stands f h (Held p Begun) m s = s
+firm_stands f h (Held p (CountRead x)) m s = s
+firm_stands f h (Held p (CountPut x)) m s = s
+firm_stands f h (Held p (CountRenamed x)) m s = s
+firm_stands f h (Held p (RevPut x)) m s = s
+firm_stands f h (Held p (PropsPut x)) m s = s
+firm_stands f h (Held p (RevFirm x)) m s = s
+firm_stands f h (Held p (CurrentPut x)) m s = s
+firm_stands f h (Held p (CurrentRenamed x)) m s = s
+firm_stands f h (Held p (CurrentFirm x)) m s = s
+firm_stands f h (Held p (Doubtful place x)) m s = s
+firm_stands f h (Held p Over) m s = s
+
+ends_keeps : (w : World) (d : Disk) → Kept w → Each d (Stands w.floor w.history w.lock) → Each d (CountsOn w.given) → Each d (FloorIs w.floor) → Moves w (record (ends w) { disk = d })
+ends_keeps w d k stands counts floors = let n = down_next w.floor w.history w.given w.lock d k.next in moved w (record (ends w) { disk = d }) (record {
+  young = λ up. not_up (is_up (down w.lock)) _ n.up up;
+  seen = tt;
+  history = k.history;
+  transactions = tt;
+  stands = λ m i. down_stands w.floor w.history w.lock m (stands m i);
+  floor = k.floor;
+  floors = floors;
+  counts = counts;
+  once = k.once;
+  knows = n.knows;
+  next = n.next;
+  whose = record { legal = ap revisions (take_all (length w.history) w.history (omega arith)); count = omega arith; carriers = tt; mine = tt };
+  holder = n.holder;
+}) refl refl
+
+crash_keeps : (w : World) (picks : List Bool) → Kept w → Moves w (record (ends w) { disk = Firm ∷ left picks w.disk })
+crash_keeps w picks k = let i = left_is_image picks w.disk in
+    ends_keeps w (Firm ∷ left picks w.disk) k
+    (each_firm (left picks w.disk) (Stands w.floor w.history w.lock) (firm_stands w.floor w.history w.lock (left picks w.disk) (k.stands (left picks w.disk) i)))
+    (each_firm (left picks w.disk) (CountsOn w.given) (k.counts (left picks w.disk) i))
+    (each_firm (left picks w.disk) (FloorIs w.floor) (k.floors (left picks w.disk) i))
+
+-- what the files show
+pub some_at : (h : List Recorded) (n : ℕ) → n < length h → (x : Recorded) × (slice_get h n ≡ Some x)
+some_at [] n less = absurd (omega (arith, less))
+some_at (y ∷ ys) zero less = (y, refl)
+some_at (y ∷ ys) (suc n) less = some_at ys n (omega (arith, less))
+
+take_one : (h : List Recorded) (n : ℕ) (x : Recorded) → slice_get h n ≡ Some x → take (suc n) h ≡ take n h ++ x ∷ []
+take_one [] n x e = let f : None ≡ Some x = e in absurd cc
+take_one (y ∷ ys) zero x e = let f : Some y ≡ Some x = e in let g : y ≡ x = cc in ap (λ z. z ∷ []) g
+take_one (y ∷ ys) (suc n) x e = ap (λ zs. y ∷ zs) (take_one ys n x e)
+
+reads : (f : ℕ) (d : Disk) (h : List Recorded) (n : ℕ) → HasAll f d h → n ≤ length h → read_back f d n ≡ Some (take n h)
+reads f d h zero all le = refl
+reads f d h (suc n) all le =
+    let at = some_at h n (omega (arith, le)) in
+    let x = at.0 in
+    let files = all n x at.1 in
+    ap (λ o. read_one o (revision_in (shown f d n) (found d (Props n)))) (reads f d h n all (omega (arith, le)))
+    ∙ ap (λ o. read_one (Some (take n h)) (revision_in o (found d (Props n)))) files.0
+    ∙ ap (λ o. read_one (Some (take n h)) (revision_in (Some (file_of x)) o)) files.1
+    ∙ ap (λ l. Some l) (sym (take_one h n x at.1))
+
+-- an opening goes on from what the files stand for
+opened_keeps : (w : World) (h : List Recorded) (k : ℕ) → StandsFor w.floor w.disk h → IsHistory (revisions h) → Grows w.history h → k + 1 ≡ length h → Kept w → Moves w (opened w k w.floor (Some h)).world
+opened_keeps w h k s is g last kept = record {
+  kept = record {
+    young = λ up. last;
+    seen = (record { seen = omega (arith, last); least = omega (arith, last); mine = tt; floor = omega arith }, tt);
+    history = is;
+    transactions = tt;
+    stands = each_firm w.disk (λ m. StandsFor w.floor m h) s;
+    floor = kept.floor;
+    floors = each_firm w.disk (FloorIs w.floor) (kept.floors w.disk (read_is_image w.disk));
+    counts = each_firm w.disk (CountsOn w.given) (kept.counts w.disk (read_is_image w.disk));
+    once = kept.once;
+    knows = tt;
+    next = tt;
+    whose = record { legal = ap revisions (take_all (k + 1) h (omega (arith, last))); count = omega (arith, last); carriers = tt; mine = (refl, tt) };
+    holder = tt;
+  };
+  grows = g;
+  names = inl refl;
+}
+
+named_keeps : (w : World) (h : List Recorded) (k : ℕ) → StandsFor w.floor w.disk h → IsHistory (revisions h) → Grows w.history h → k + 1 ≡ length h → Kept w → Moves w (named w (Some k) (Some w.floor)).world
+named_keeps w h k s is g last kept =
+    let back : read_back w.floor w.disk (k + 1) ≡ Some h = reads w.floor w.disk h (k + 1) s.0 (omega (arith, last)) ∙ ap (λ n. Some (take n h)) last ∙ ap (λ z. Some z) (take_all (length h) h (omega arith)) in
+    elim (nat_lt k (2 ^ 64 - 1)) as (λ b. Moves w (cond b (opened w k w.floor (read_back w.floor w.disk (k + 1))) (did w outcome.Missing)).world) [
+      | true ↦ subst (λ o. Moves w (opened w k w.floor o).world) (sym back) (opened_keeps w h k s is g last kept)
+      | false ↦ stays w kept
+    ]
+
+open_keeps : (w : World) (went : Went) (h : List Recorded) → StandsFor w.floor w.disk h → IsHistory (revisions h) → Grows w.history h → Moves w (record w { disk = disk_after went Firm w.disk }) → Kept w → Moves w (open_at w went).world
+open_keeps w Fine h s is g ill k =
+    subst (λ o. Moves w (named w (number_of (found w.disk Current)) (number_of o)).world) (sym (k.floors w.disk (read_is_image w.disk)))
+    (subst (λ o. Moves w (named w (number_of o) (Some w.floor)).world) (sym s.1.1) (named_keeps w h s.1.0 s is g s.1.2 k))
+open_keeps w Before h s is g ill k = ill
+open_keeps w After h s is g ill k = ill
+open_keeps w (Torn any) h s is g ill k = ill
+
+firmed : (w : World) (went : Went) → Kept w → KnowsAt w.floor w.history w.given w.lock (disk_after went Firm w.disk) → Moves w (record w { disk = disk_after went Firm w.disk })
+firmed w went k knows = moved w (record w { disk = disk_after went Firm w.disk }) (record {
+  young = k.young;
+  seen = k.seen;
+  history = k.history;
+  transactions = k.transactions;
+  stands = both went (Stands w.floor w.history w.lock) k.stands (firm_stands w.floor w.history w.lock w.disk (k.stands w.disk (read_is_image w.disk)));
+  floor = k.floor;
+  floors = both went (FloorIs w.floor) k.floors (k.floors w.disk (read_is_image w.disk));
+  counts = both went (CountsOn w.given) k.counts (k.counts w.disk (read_is_image w.disk));
+  once = k.once;
+  knows = knows;
+  next = k.next;
+  whose = k.whose;
+  holder = k.holder;
+}) refl refl
+  where
+    both : (went : Went) (P : Disk → Type 0) → Each w.disk P → P (Firm ∷ w.disk) → Each (disk_after went Firm w.disk) P
+    both Fine P all now = each_firm w.disk P now
+    both After P all now = each_firm w.disk P now
+    both Before P all now = all
+    both (Torn any) P all now = all
+
+open_down_keeps : (w : World) (went : Went) (lock : Lock) → w.lock ≡ lock → Kept w → Moves w (cond (is_up lock) (barred w) (open_at w went)).world
+open_down_keeps w went Free is k = stays w k
+open_down_keeps w went (Held p s) is k = stays w k
+open_down_keeps w went (Stuck place x) is k = stays w k
+open_down_keeps w went Down is k =
+    let s : StandsFor w.floor w.disk w.history = subst (λ l. Stands w.floor w.history l w.disk) is (k.stands w.disk (read_is_image w.disk)) in
+    let knows : KnowsAt w.floor w.history w.given w.lock (disk_after went Firm w.disk) = subst (λ l. KnowsAt w.floor w.history w.given l (disk_after went Firm w.disk)) (sym is) tt in
+    open_keeps w went w.history s k.history (inl refl) (firmed w went k knows) k
+open_down_keeps w went (DownDoubtful x) is k =
+    let s : StandsForEither w.floor w.disk w.history x = subst (λ l. Stands w.floor w.history l w.disk) is (k.stands w.disk (read_is_image w.disk)) in
+    let knows : KnowsAt w.floor w.history w.given w.lock (disk_after went Firm w.disk) = subst (λ l. KnowsAt w.floor w.history w.given l (disk_after went Firm w.disk)) (sym is) tt in
+    let next : Follows w.history x = subst (λ l. IfSome (coming l) (Follows w.history)) is k.next in
+    ⊎_elim (λ a. open_keeps w went w.history a k.history (inl refl) (firmed w went k knows) k)
+    (λ b. open_keeps w went (with_next w.history x) b (next_is_history w.history x k.history next) (inr (x, next, refl)) (firmed w went k knows) k) s
+
+along : (w : World) (d e : Did) → d ≡ e → Moves w e.world → Moves w d.world
+along w d e is m = subst (λ z. Moves w z.world) (sym is) m
+
+if_moves : (w : World) (b : Bool) (d : Did) → Kept w → Moves w d.world → Moves w (cond b d (barred w)).world
+if_moves w true d k m = m
+if_moves w false d k m = stays w k
+
+step_moves : (w : World) (s : Step) (d : Did) → Happens w s d → Kept w → Moves w d.world
+step_moves w (step.TakeLock p) d is k = along w d _ is (lock_keeps w p (is_there w p) refl k)
+step_moves w (step.GiveLock p) d is k = along w d _ is (keeps_inside w p (let_go w) w.lock refl k (λ s at. let_go_keeps w p s k at))
+step_moves w (step.StickLock p) d is k = along w d _ is (keeps_inside w p (stuck_at w) w.lock refl k (λ s at. stuck_keeps w p s k at))
+step_moves w (step.Draw p b went) d is k = along w d _ is (keeps_inside w p (drawn w p b went) w.lock refl k (λ s at. drawn_keeps w p b went s k at))
+step_moves w (step.AdoptRev p t properties bytes went) d is k = adopts_keep w p t properties bytes went (has_begun_by p w.lock) d refl k is
+step_moves w (step.Call p place went) d is k = along w d _ is (keeps_inside w p (called w p place went) w.lock refl k (λ s at. called_keeps w p place went s k at))
+step_moves w (step.Reveal p) d is k = along w d _ is (keeps_inside w p (revealed w p) w.lock refl k (λ s at. revealed_keeps w p s k at))
+step_moves w (step.Look p) d is k = along w d _ is (look_keeps w p (is_there w p && is_up w.lock) refl k)
+step_moves w (step.Read p r offset size went) d is k = along w d _ is (read_keeps w p r offset size went (slice_get w.passes p) k)
+step_moves w (step.ReadFloor p went) d is k = along w d _ is (floor_read_keeps w p went (slice_get w.passes p) k)
+step_moves w (step.Split p) d is k = along w d _ is (split_keeps w p (slice_get w.passes p) refl k)
+step_moves w (step.Join p q) d is k = along w d _ is (if_moves w (is_there w p && not (p == q)) (join_with w p (slice_get w.passes q)) k (join_keeps w p q (slice_get w.passes q) refl k))
+step_moves w (step.Edit t edit) d is k = edits_keep w t edit (slice_get w.txns t) d refl k is
+step_moves w (step.Merge t head) d is k = merges_keep w t head (slice_get w.txns t) d refl k is
+step_moves w step.Close d is k = along w d _ is (if_moves w (is_up w.lock) (did (ends w) outcome.Done) k (ends_keeps w w.disk k k.stands k.counts k.floors))
+step_moves w (step.Crash picks) d is k = along w d _ is (crash_keeps w picks k)
+step_moves w (step.Open went) d is k = along w d _ is (open_down_keeps w went w.lock refl k)
+
+-- whatever is under way, an image has each revision's files
+get_before : (h : List Recorded) (y : Recorded) (r : ℕ) (x : Recorded) → slice_get h r ≡ Some x → slice_get (h ++ y ∷ []) r ≡ Some x
+get_before [] y r x e = let f : None ≡ Some x = e in absurd cc
+get_before (z ∷ h) y zero x e = e
+get_before (z ∷ h) y (suc r) x e = get_before h y r x e
+
+either_all : (f : ℕ) (m : Disk) (h : List Recorded) (x : Coming) → StandsForEither f m h x → HasAll f m h
+either_all f m h x s = ⊎_elim (λ a. a.0) (λ b r y e. b.0 r y (get_before h (recorded x) r y e)) s
+
+pub has_all : (f : ℕ) (h : List Recorded) (lock : Lock) (m : Disk) → Stands f h lock m → HasAll f m h
+has_all f h Free m s = s.0
+has_all f h (Stuck place x) m s = either_all f m h x s.0
+has_all f h Down m s = s.0
+has_all f h (DownDoubtful x) m s = either_all f m h x s
+has_all f h (Held p Begun) m s = s.0
+has_all f h (Held p (CountRead x)) m s = s.0
+has_all f h (Held p (CountPut x)) m s = s.0
+has_all f h (Held p (CountRenamed x)) m s = s.0
+has_all f h (Held p (RevPut x)) m s = s.0
+has_all f h (Held p (PropsPut x)) m s = s.0
+has_all f h (Held p (RevFirm x)) m s = s.0.0
+has_all f h (Held p (CurrentPut x)) m s = s.0.0
+has_all f h (Held p (CurrentRenamed x)) m s = either_all f m h x s.0
+has_all f h (Held p (CurrentFirm x)) m s = either_all f m h x (inr s)
+has_all f h (Held p (Doubtful place x)) m s = either_all f m h x s.0
+has_all f h (Held p Over) m s = s.0
+
+-- what a pass knows of is in the history
+known_less : (n f r : ℕ) (x : Pass) → IsSeen n f x → is_known x r ≡ true → r < n
+known_less n f r x s e = let a : x.seen ≤ n = s.seen in let b : x.least < n = s.least in by_case (nat_lt r x.seen) refl
+  where
+    by_case : (b : Bool) → nat_lt r x.seen ≡ b → r < n
+    by_case true is = let less : r < x.seen = grind (arith, is) in omega (arith, less, s.seen)
+    by_case false is =
+        let f : nat_le r x.least ≡ true = subst (λ b. (b || nat_le r x.least) ≡ true) is e in
+        let le : r ≤ x.least = grind (arith, f) in omega (arith, le, s.least)
+
+read_gives : (w : World) (p r offset size : ℕ) (went : Went) (o : Option Pass) → slice_get w.passes p ≡ o → Kept w → GivesBytes w.history r offset size (has_read w p r offset size went o).outcome
+read_gives w p r offset size went None is k = tt
+read_gives w p r offset size went (Some x) is k = elim (is_known x r) as (λ b. is_known x r ≡ b → GivesBytes w.history r offset size (cond b (did (turned w p Read went) (either went (range_of offset size (shown x.floor w.disk r)) outcome.Failed)) (barred w)).outcome) [
+  | true ↦ λ e. by_end went (known_less (length w.history) w.floor r x seen e)
+  | false ↦ λ e. tt
+] refl
+  where
+    seen : IsSeen (length w.history) w.floor x
+    seen = seen_of (length w.history) w.floor w.passes p x k.seen is
+
+    same_floor : w.floor ≡ x.floor
+    same_floor = omega (arith, seen.floor, k.floor)
+
+    by_end : (went : Went) → r < length w.history → GivesBytes w.history r offset size (either went (range_of offset size (shown x.floor w.disk r)) outcome.Failed)
+    by_end Fine less =
+        let at = some_at w.history r less in
+        let file : shown w.floor w.disk r ≡ Some (file_of at.0) = (has_all w.floor w.history w.lock w.disk (k.stands w.disk (read_is_image w.disk)) r at.0 at.1).0 in
+        let here : shown x.floor w.disk r ≡ Some (file_of at.0) = subst (λ f. shown f w.disk r ≡ Some (file_of at.0)) same_floor file in
+        subst (λ o. GivesBytes w.history r offset size (range_of offset size o)) (sym here) (at.0, at.1, refl)
+    by_end Before less = tt
+    by_end After less = tt
+    by_end (Torn any) less = tt
+
+gives : (w : World) (s : Step) (d : Did) → Happens w s d → Kept w → Gives w s d.outcome
+gives w (step.Read p r offset size went) d is k = subst (λ z. GivesBytes w.history r offset size z.outcome) (sym is) (read_gives w p r offset size went (slice_get w.passes p) refl k)
+gives w s d is k = tt
+
+pub step_keeps : StepsKeep
+step_keeps w s d is k = let m = step_moves w s d is k in record { kept = m.kept; grows = m.grows; names = m.names; reads = gives w s d is k }
+
+-- runs
+legal_after : (a b c : List Recorded) (es : List Entry) → Grows a b → IsLegal (revisions b) es (revisions c) → (all : List Entry) × IsLegal (revisions a) all (revisions c)
+legal_after a b c es g l = ⊎_elim (λ e. (es, subst (λ z. IsLegal (revisions z) es (revisions c)) e l))
+    (λ n. (n.0.entry ∷ es, (n.1.0, n.0.revision, n.1.1, subst (λ z. IsLegal z es (revisions c)) (ap revisions n.2 ∙ revisions_next a n.0) l))) g
+
+grown_after : (a b c more : List Recorded) → Grows a b → c ≡ b ++ more → (all : List Recorded) × (c ≡ a ++ all)
+grown_after a b c more g e = ⊎_elim (λ s. (more, e ∙ ap (λ z. z ++ more) s)) (λ n. (recorded n.0 ∷ more, e ∙ ap (λ z. z ++ more) n.2 ∙ append_assoc a (recorded n.0 ∷ []) more)) g
+
+names_after : (a b c more : List ℕ) → Names a b → c ≡ more ++ b → (all : List ℕ) × (c ≡ all ++ a)
+names_after a b c more n e = ⊎_elim (λ s. (more, e ∙ ap (λ z. more ++ z) s)) (λ k. (more ++ k.0 ∷ [], e ∙ ap (λ z. more ++ z) k.2 ∙ sym (append_assoc more (k.0 ∷ []) a))) n
+
+get_first : (h more : List Recorded) (r : ℕ) (x : Recorded) → slice_get h r ≡ Some x → slice_get (h ++ more) r ≡ Some x
+get_first [] more r x e = let f : None ≡ Some x = e in absurd cc
+get_first (z ∷ h) more zero x e = e
+get_first (z ∷ h) more (suc r) x e = get_first h more r x e
+
+seen_stays : (w v : World) (more : List Recorded) → v.history ≡ w.history ++ more → Kept w → SeenStays w v
+seen_stays w v more e k p r pass is less =
+    let s : IsSeen (length w.history) w.floor pass = seen_of (length w.history) w.floor w.passes p pass k.seen is in
+    let at = some_at w.history r (omega (arith, less, s.seen)) in
+    (at.0, at.1, subst (λ h. slice_get h r ≡ Some at.0) (sym e) (get_first w.history more r at.0 at.1))
+
+-- what a run leaves, but for what follows of it
+pub record Ran (w v : World) : Type 0 where
+  pub kept : Kept v
+  pub entries : List Entry
+  pub legal : IsLegal (revisions w.history) entries (revisions v.history)
+  pub more : List Recorded
+  pub grown : v.history ≡ w.history ++ more
+  pub names : List ℕ
+  pub given : v.given ≡ names ++ w.given
+
+nothing_ran : (w v : World) → w ≡ v → Kept w → Ran w v
+nothing_ran w v e k = subst (λ z. Ran w z) e (record { kept = k; entries = []; legal = refl; more = []; grown = sym (append-nil w.history); names = []; given = refl })
+
+ran : (w v : World) (steps : List Step) (os : List Outcome) → Runs w steps os v → Kept w → Ran w v
+ran w v [] os is k = nothing_ran w v is.1 k
+ran w v (s ∷ steps) os is k =
+    let one = step_moves w s is.0 is.1 k in
+    let rest = ran is.0.world v steps is.2 is.4 one.kept in
+    let l = legal_after w.history is.0.world.history v.history rest.entries one.grows rest.legal in
+    let g = grown_after w.history is.0.world.history v.history rest.more one.grows rest.grown in
+    let n = names_after w.given is.0.world.given v.given rest.names one.names rest.given in
+    record { kept = rest.kept; entries = l.0; legal = l.1; more = g.0; grown = g.1; names = n.0; given = n.1 }
+
+pub run_keeps : RunsKeep
+run_keeps w v steps os is k = let r = ran w v steps os is k in
+    record { kept = r.kept; entries = r.entries; legal = r.legal; more = r.more; grown = r.grown; seen = seen_stays w v r.more r.grown k; names = r.names; given = r.given; once = r.kept.once }

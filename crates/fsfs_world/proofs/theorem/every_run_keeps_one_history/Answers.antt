@@ -1,0 +1,15 @@
+-- The laws.
+use Rattle.std.proofs.Common.{refl}
+use Rattle.fsfs_world.specs.Machine.{created}
+use Rattle.fsfs_world.proofs.Created.{created_kept}
+use Rattle.fsfs_world.proofs.Steps.{step_keeps, run_keeps}
+use Rattle.fsfs_world.proofs.theorem.every_run_keeps_one_history.Goals as goal
+
+pub returns-clause-steps : goal.returns-clause-steps
+returns-clause-steps c = step_keeps
+
+pub returns-clause-runs : goal.returns-clause-runs
+returns-clause-runs c = run_keeps
+
+pub returns-clause-created : goal.returns-clause-created
+returns-clause-created c = λ properties bytes. created_kept (created properties bytes) properties bytes refl

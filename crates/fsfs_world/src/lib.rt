@@ -1,0 +1,21 @@
+//! The world of the pure machine: its parts and steps, what each step may leave and answer, what holds after each,
+//! and the theorem that every run keeps one history.
+#![tactic(auto)]
+
+mod contents;
+pub mod files;
+mod line;
+mod machine;
+mod marks;
+pub mod passes;
+pub mod section;
+mod theorem;
+
+pub use contents::{Bytes, Change, Contents, Name};
+pub use line::Line;
+pub use machine::{
+    Coming, Drawn, Entry, Lock, Marks, Numbers, Outcome, Pass, Picks, Place, Places, Recorded,
+    Section, Step, Txn, Went,
+};
+pub use marks::{set_edited, set_merged};
+pub use theorem::{every_run_keeps_one_history, images_are_shown};
