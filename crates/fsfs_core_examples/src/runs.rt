@@ -67,6 +67,7 @@ pub fn begin(alloc: Global, state: &mut State, base: u32) -> Result<(), Fail> {
         Do::Call(0, Place::TxnRename, How::Fine),
         Do::Call(0, Place::TxnFirm, How::Fine),
         Do::GiveLock(0),
+        Do::MakeBench(0, 0, How::Fine),
     ];
     done(alloc, state, &acts)
 }

@@ -48,8 +48,13 @@ pub enum Do {
     /// Of the transaction at this place.
     Edit(u64, Work),
     Merge(u64, u32),
+    /// Of the name at this place.
+    MakeBench(u64, u64, How),
+    ListTxns(u64),
+    /// The transaction at this place.
+    Purge(u64, u64, How),
     Close,
-    /// The newest change comes through, and the one before it.
+    /// The newest change comes through, and the one before it; and all labels do.
     Crash(bool, bool),
     Open(How),
 }
@@ -64,6 +69,7 @@ pub enum Want {
     Youngest(u64),
     Bytes(&'static [u8]),
     Floor(u64),
+    Names(&'static [u64]),
     Missing,
     Conflict(Names),
 }
@@ -142,6 +148,9 @@ fn crash(alloc: Global, newest: bool, next: bool) -> Result<Step, AllocError> {
         picks: Picks {
             picks: Vec::from_slice(alloc, &[newest, next])?,
         },
+        labels: Picks {
+            picks: Vec::from_slice(alloc, &[true; 4])?,
+        },
     })
 }
 
@@ -176,6 +185,20 @@ pub fn step_of(alloc: Global, act: Do) -> Result<Step, Fail> {
             edit: edit_of(alloc, work)?,
         }),
         Do::Merge(txn, head) => Ok(Step::Merge { txn, head }),
+        Do::MakeBench(pass, name, how) => Ok(Step::MakeBench {
+            pass,
+            name,
+            went: went(how),
+        }),
+        Do::ListTxns(pass) => Ok(Step::ListTxns {
+            pass,
+            went: Went::Fine,
+        }),
+        Do::Purge(pass, txn, how) => Ok(Step::Purge {
+            pass,
+            txn,
+            went: went(how),
+        }),
         Do::Close => Ok(Step::Close),
         Do::Crash(newest, next) => Ok(crash(alloc, newest, next)?),
         Do::Open(how) => Ok(Step::Open { went: went(how) }),
@@ -192,6 +215,7 @@ pub fn is_answer(alloc: Global, outcome: &Outcome, want: Want) -> Result<bool, A
         (Outcome::Stuck(place), Want::Stuck(at)) => Ok(*place == at),
         (Outcome::Youngest(number), Want::Youngest(young)) => Ok(*number == young),
         (Outcome::Floor(number), Want::Floor(floor)) => Ok(*number == floor),
+        (Outcome::Names(found), Want::Names(names)) => Ok(found.numbers.as_slice() == names),
         (Outcome::Bytes(found), Want::Bytes(bytes)) => Ok(found.as_slice() == bytes),
         (Outcome::Conflict(path), Want::Conflict(names)) => Ok(*path == path_of(alloc, names)?),
         _ => Ok(false),
