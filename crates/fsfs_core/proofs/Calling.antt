@@ -1,5 +1,5 @@
 -- A call of a section goes on where it was due; an edit is found where its transaction stands.
-use Rattle.std.proofs.Common.{◌≡◌, ◌<◌, ◌≤◌, ℕ, suc, zero, List, [], ◌∷◌, length, Bool, true, false, cond, inl, inr, refl, sym, ap, subst, ◌∙◌, arith, get_or}
+use Rattle.std.proofs.Common.{◌≡◌, ◌<◌, ◌≤◌, ℕ, suc, zero, List, [], ◌∷◌, ◌++◌, length, Bool, true, false, cond, inl, inr, refl, sym, ap, subst, ◌∙◌, arith, get_or}
 use Rattle.std.specs.Prelude.{Option, Some, None, slice_get, Result, Ok, Err, IfOk, IfSome, MatchOption, MatchResult, is_some, nat_le, nat_lt, ◌&&◌, ◌↔◌}
 use Rattle.std.specs.FinMap.{FinMap, get}
 use Rattle.fsfs_base.specs.declared.edit.Edit.{Edit}
@@ -192,7 +192,7 @@ adopts_none w p t properties bytes went x h o there here none found =
 
 pub adopts_some : {E : Type 0} (r : Result Outcome E) (w u v : World) (p t : ℕ) (properties : List (List ℕ × List ℕ)) (bytes : List ℕ) (went : Went) (x y : Txn) (h : List Revision) (o : Option Revision) (coming : Coming)
     → slice_get w.txns t ≡ Some x → slice_get w.txns t ≡ Some y → h ≡ revisions w.history → o ≡ Some coming.revision → Finds h p x properties o
-    → coming.entry ≡ entry_of p y properties → coming.bytes ≡ bytes → u ≡ record w { txns = without_place w.txns t }
+    → coming.entry ≡ entry_of p y properties → coming.bytes ≡ bytes → u ≡ record w { txns = without_place w.txns t; spent = w.spent ++ y.name ∷ [] }
     → IfOk r (λ a. did v a ≡ did (at_call u p PutRev (Put (Rev (length u.history)) (file_of (recorded coming))) (RevPut coming) Over went) (answer went))
     → IfOk r (λ a. AdoptsTxn w p t properties bytes went (slice_get w.txns t) (did v a))
 adopts_some (Err _) w u v p t properties bytes went x y h o coming there again here found_is found entry brought rest e = tt
@@ -204,5 +204,5 @@ adopts_some (Ok a) w u v p t properties bytes went x y h o coming there again he
     (inl (
       coming,
       record { entry = entry ∙ ap (λ z. entry_of p z properties) (sym same); brought = brought; adds = adds },
-      e ∙ ap (λ z. did (at_call z p PutRev (Put (Rev (length z.history)) (file_of (recorded coming))) (RevPut coming) Over went) (answer went)) rest,
+      e ∙ ap (λ z. did (at_call z p PutRev (Put (Rev (length z.history)) (file_of (recorded coming))) (RevPut coming) Over went) (answer went)) (rest ∙ ap (λ z. record w { txns = without_place w.txns t; spent = w.spent ++ z.name ∷ [] }) (sym same)),
     ))

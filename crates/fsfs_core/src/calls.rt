@@ -5,13 +5,12 @@ ghost use Rattle.fsfs_world.specs.Machine.{did, barred, answer, is_there, taken,
 ghost use Rattle.fsfs_core.specs.State.{world_of};
 
 use crate::state::State;
-use crate::txns::base_tree;
 use fsfs_world::files::{change_made, find, find_number, is_fine};
 use fsfs_world::passes::{find_stuck, learn, reveal_by, see_least};
 use fsfs_world::section::{
     answer_of, drawn_section, is_due_at, is_lock_up, is_quiet_section, next_section,
 };
-use fsfs_world::{Change, Contents, Lock, Marks, Name, Outcome, Place, Section, Txn, Went};
+use fsfs_world::{Change, Contents, Drawn, Lock, Name, Outcome, Place, Section, Went};
 use std::alloc::AllocError;
 use std::mem;
 
@@ -188,20 +187,17 @@ impl State {
         }
     }
 
-    // The name is given as the names are firm, and the transaction begins.
+    // The name is given as the names are firm.
     fn give_name(&mut self, section: &Section, went: &Went) -> Result<(), AllocError>
         ensures { OnOk result (world_of self.new ≡ gives section.now went.now (world_of self.old)) }
     {
         if let Section::CountRenamed(x) = section {
             if is_fine(went) {
-                let tree = base_tree(self.alloc, self.line.revisions(), x.base)?;
                 self.given.push_front(x.name)?;
-                self.txns.push(Txn {
+                self.named.push(Drawn {
                     name: x.name,
+                    next: x.next,
                     base: x.base,
-                    tree,
-                    marks: Marks::new(self.alloc),
-                    landings: 0,
                 })?;
             }
         }

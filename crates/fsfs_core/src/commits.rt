@@ -64,6 +64,7 @@ impl State {
             None => Ok(Outcome::Barred),
             Some(revision) => {
                 let txn = self.txns.remove(at);
+                self.spent.push(txn.name)?;
                 let entry = txn.entry(p, properties);
                 let coming = Coming {
                     entry,

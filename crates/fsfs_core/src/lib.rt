@@ -3,6 +3,7 @@
 
 mod calls;
 mod commits;
+mod labels;
 mod openings;
 mod reads;
 mod state;

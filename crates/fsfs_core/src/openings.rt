@@ -1,12 +1,13 @@
 //! Ends of the object, and openings.
 ghost use Rattle.std.specs.Prelude.{◌≡◌, ◌+◌, ◌∷◌, IfOk, OnOk, if◌then◌else◌};
 ghost use Rattle.fsfs_world.specs.Disk.{found, shown, left};
-ghost use Rattle.fsfs_world.specs.Machine.{did, barred, is_up, ends, revision_in, read_back, opened, open_at, disk_after};
+ghost use Rattle.fsfs_world.specs.Machine.{did, barred, is_up, ends, revision_in, read_back, opened, open_at, disk_after, labels_left};
 ghost use Rattle.fsfs_core.specs.State.{world_of};
 
 use crate::state::State;
 use fsfs_base::Revision;
 use fsfs_world::files::{change_made, find, find_number, find_rev, is_fine, what_is_left};
+use fsfs_world::labels::pick_labels;
 use fsfs_world::section::{is_lock_up, lock_down};
 use fsfs_world::{Change, Contents, Line, Lock, Name, Outcome, Pass, Picks, Recorded, Went};
 use std::alloc::{AllocError, Global};
@@ -21,7 +22,9 @@ impl State {
         self.lock = lock_down(lock);
         self.opening = self.count();
         self.since.clear();
+        self.named.clear();
         self.txns.clear();
+        self.spent.clear();
         self.passes.clear();
     }
 
@@ -36,9 +39,12 @@ impl State {
         }
     }
 
-    pub(crate) fn crash(&mut self, picks: Picks) -> Result<Outcome, AllocError>
-        ensures { IfOk result (λ o. did (world_of self.new) o ≡ did (record (ends (world_of self.old)) { disk = Change.Firm ∷ left picks self.old.disk.items }) Outcome.Done) }
+    pub(crate) fn crash(&mut self, picks: Picks, labels: Picks) -> Result<Outcome, AllocError>
+        ensures { IfOk result (λ o. did (world_of self.new) o
+            ≡ did (record (ends (world_of self.old)) { disk = Change.Firm ∷ left picks self.old.disk.items; labels = labels_left labels self.old.labels.items }) Outcome.Done) }
     {
+        let kept = mem::replace(&mut self.labels, VecDeque::new(self.alloc));
+        self.labels = pick_labels(self.alloc, kept, &labels.picks)?;
         let disk = mem::replace(&mut self.disk, VecDeque::new(self.alloc));
         self.disk = what_is_left(self.alloc, disk, &picks.picks)?;
         self.disk.push_front(Change::Firm)?;
@@ -132,7 +138,9 @@ impl State {
                 self.opening = count;
                 self.since.clear();
                 self.floor = floor;
+                self.named.clear();
                 self.txns.clear();
+                self.spent.clear();
                 self.passes.clear();
                 self.passes.push(Pass::first(self.alloc, count, floor))?;
                 Ok(Outcome::Done)

@@ -1,11 +1,11 @@
 //! Reads, and steps of passes alone.
 ghost use Rattle.std.specs.Prelude.{◌≡◌, ◌==◌, ◌&&◌, not, slice_get, IfOk, if◌then◌else◌};
 ghost use Rattle.fsfs_world.specs.Disk.{found, shown};
-ghost use Rattle.fsfs_world.specs.Machine.{did, barred, is_there, either, range_of, floor_of, has_read, floor_read, split_off, join_with, number_of};
+ghost use Rattle.fsfs_world.specs.Machine.{did, barred, is_there, either, range_of, floor_of, has_read, properties_in, has_read_props, floor_read, split_off, join_with, number_of};
 ghost use Rattle.fsfs_core.specs.State.{world_of};
 
 use crate::state::State;
-use fsfs_world::files::{find_number, find_rev, is_fine};
+use fsfs_world::files::{find, find_number, find_rev, is_fine};
 use fsfs_world::passes::{join_to, learn, read_floor_by};
 use fsfs_world::{Contents, Name, Outcome, Place, Went};
 use std::alloc::AllocError;
@@ -73,6 +73,44 @@ impl State {
             return Ok(Outcome::Barred);
         }
         let answer = self.range_answer(pass.floor, rev, offset, length, &went)?;
+        let seen = self.count();
+        learn(&mut self.passes, p, seen, Place::Read, &went)?;
+        Ok(answer)
+    }
+
+    fn properties(&self, rev: u64) -> Result<Outcome, AllocError>
+        ensures { IfOk result (λ o. o ≡ properties_in (found self.now.disk.items (Name.Props rev))) }
+    {
+        match find(&self.disk, &Name::Props(rev)) {
+            Some(Contents::PropsFile(properties)) => Ok(Outcome::Properties(properties.clone()?)),
+            Some(Contents::RevFile(_, _, _) | Contents::Number(_) | Contents::Junk) | None => {
+                Ok(Outcome::Missing)
+            }
+        }
+    }
+
+    fn properties_answer(&self, rev: u64, went: &Went) -> Result<Outcome, AllocError>
+        ensures { IfOk result (λ o. o ≡ either went.now (properties_in (found self.now.disk.items (Name.Props rev))) Outcome.Failed) }
+    {
+        if is_fine(went) {
+            self.properties(rev)
+        } else {
+            Ok(Outcome::Failed)
+        }
+    }
+
+    // Reads the properties of what the pass knows of.
+    pub(crate) fn read_props(&mut self, p: u64, rev: u64, went: Went) -> Result<Outcome, AllocError>
+        ensures { IfOk result (λ o. did (world_of self.new) o ≡ has_read_props (world_of self.old) p rev went (slice_get self.old.passes.items p)) }
+    {
+        let at = p as usize;
+        if at >= self.passes.len() {
+            return Ok(Outcome::Barred);
+        }
+        if !self.passes[at].knows(rev) {
+            return Ok(Outcome::Barred);
+        }
+        let answer = self.properties_answer(rev, &went)?;
         let seen = self.count();
         learn(&mut self.passes, p, seen, Place::Read, &went)?;
         Ok(answer)

@@ -8,7 +8,7 @@ ghost use Rattle.fsfs_core.specs.State.{world_of};
 
 use fsfs_base::{ChangeMap, FsPath, History, Kind, Node, Pairs, Revision, Text, Tree};
 use fsfs_world::{
-    Bytes, Change, Contents, Entry, Line, Lock, Name, Outcome, Pass, Place, Step, Txn,
+    Bytes, Change, Contents, Drawn, Entry, Line, Lock, Name, Outcome, Pass, Place, Step, Txn,
 };
 use std::alloc::{AllocError, Global};
 use std::collections::VecDeque;
@@ -28,7 +28,11 @@ pub struct State {
     pub(crate) floor: u64,
     // The newest name first.
     pub(crate) given: VecDeque<u64>,
+    // The newest label first.
+    pub(crate) labels: VecDeque<u64>,
+    pub(crate) named: Vec<Drawn>,
     pub(crate) txns: Vec<Txn>,
+    pub(crate) spent: Vec<u64>,
     pub(crate) passes: Vec<Pass>,
 }
 
@@ -105,7 +109,10 @@ impl State {
             since: Vec::new(alloc),
             floor: 0,
             given: VecDeque::new(alloc),
+            labels: VecDeque::new(alloc),
+            named: Vec::new(alloc),
             txns: Vec::new(alloc),
+            spent: Vec::new(alloc),
             passes,
         })
     }
@@ -173,13 +180,20 @@ impl State {
                 length,
                 went,
             } => self.read(pass, rev, offset, length, went),
+            Step::ReadProps { pass, rev, went } => self.read_props(pass, rev, went),
             Step::ReadFloor { pass, went } => self.read_floor(pass, went),
             Step::Split { pass } => self.split(pass),
             Step::Join { pass, other } => self.join(pass, other),
             Step::Edit { txn, edit } => self.edit(txn, edit),
             Step::Merge { txn, head } => self.merge(txn, head),
+            Step::MakeBench { pass, name, went } => self.make_bench(pass, name, went),
+            Step::ListTxns { pass, went } => self.list_txns(pass, went),
+            Step::Purge { pass, txn, went } => self.purge(pass, txn, went),
+            Step::PurgeSpent { pass, spent, went } => self.purge_spent(pass, spent, went),
+            Step::ListLabels { went } => self.list_labels(went),
+            Step::DropLabel { name, went } => self.drop_label(name, went),
             Step::Close => Ok(self.close()),
-            Step::Crash { picks } => self.crash(picks),
+            Step::Crash { picks, labels } => self.crash(picks, labels),
             Step::Open { went } => self.open(went),
         }
     }

@@ -50,6 +50,8 @@ created_kept w properties bytes is = subst (λ z. Kept z) (sym is) kept
       floors = each_firm disk (FloorIs 0) refl;
       counts = each_firm disk (CountsOn []) (0, refl, tt);
       once = tt;
+      labels = tt;
+      named = tt;
       knows = tt;
       next = tt;
       whose = record { legal = refl; count = omega arith; carriers = tt; mine = (refl, tt) };

@@ -26,7 +26,8 @@ use Rattle.fsfs_world.specs.Machine.{World, disk_after, learns, at_call, rename_
 use Rattle.fsfs_world.specs.Kept.{StandsFor, StandsIn, AllBelow, CountsOn, Knows, coming_in, Follows, IsSeen, AreSeen, Carries, FloorIs, Kept}
 use Rattle.fsfs_world.proofs.Images.{Each, each_put, each_rename, each_firm, read_is_image}
 use Rattle.fsfs_world.proofs.Standing.{same_again, past_props, stands_next, not_alone}
-use Rattle.fsfs_world.proofs.Growing.{transactions_append, revisions_length}
+use Rattle.fsfs_world.proofs.Growing.{revisions_length}
+use Rattle.fsfs_world.proofs.Given.{given_more, named_append, named_given}
 use Rattle.fsfs_world.proofs.Whose.{there_at, whose_at}
 
 -- numbers below a less number are below a greater
@@ -67,10 +68,10 @@ pub keeps_call : (w : World) (p : ℕ) (place : Place) (s : Section) (change : C
 keeps_call w p place s change after spoiled went k carries ill_carries stands counts knows next ill ill_counts ill_knows ill_next = by_end went ill ill_counts
   where
     by_end : (went : Went) → Each (disk_after went change w.disk) (StandsIn w.floor w.history spoiled) → Each (disk_after went change w.disk) (Steady w) → Kept (at_call w p place change after spoiled went)
-    by_end Fine ill ill_counts = record { young = k.young; seen = learnt (length w.history) w.floor w.passes p place Fine k.seen; history = k.history; transactions = k.transactions; stands = stands; floor = k.floor; floors = λ m i. (counts m i).1; counts = λ m i. (counts m i).0; once = k.once; knows = knows; next = next; whose = whose_at w.opening w.history w.since w.passes p (learns (length w.history) place Fine) (λ x. refl) k.whose; holder = (there_at w.passes p p (learns (length w.history) place Fine) k.holder.0, carries) }
-    by_end Before ill ill_counts = record { young = k.young; seen = learnt (length w.history) w.floor w.passes p place Before k.seen; history = k.history; transactions = k.transactions; stands = ill; floor = k.floor; floors = λ m i. (ill_counts m i).1; counts = λ m i. (ill_counts m i).0; once = k.once; knows = ill_knows _; next = ill_next; whose = whose_at w.opening w.history w.since w.passes p (learns (length w.history) place Before) (λ x. refl) k.whose; holder = (there_at w.passes p p (learns (length w.history) place Before) k.holder.0, ill_carries) }
-    by_end After ill ill_counts = record { young = k.young; seen = learnt (length w.history) w.floor w.passes p place After k.seen; history = k.history; transactions = k.transactions; stands = ill; floor = k.floor; floors = λ m i. (ill_counts m i).1; counts = λ m i. (ill_counts m i).0; once = k.once; knows = ill_knows _; next = ill_next; whose = whose_at w.opening w.history w.since w.passes p (learns (length w.history) place After) (λ x. refl) k.whose; holder = (there_at w.passes p p (learns (length w.history) place After) k.holder.0, ill_carries) }
-    by_end (Torn any) ill ill_counts = record { young = k.young; seen = learnt (length w.history) w.floor w.passes p place (Torn any) k.seen; history = k.history; transactions = k.transactions; stands = ill; floor = k.floor; floors = λ m i. (ill_counts m i).1; counts = λ m i. (ill_counts m i).0; once = k.once; knows = ill_knows _; next = ill_next; whose = whose_at w.opening w.history w.since w.passes p (learns (length w.history) place (Torn any)) (λ x. refl) k.whose; holder = (there_at w.passes p p (learns (length w.history) place (Torn any)) k.holder.0, ill_carries) }
+    by_end Fine ill ill_counts = record { young = k.young; seen = learnt (length w.history) w.floor w.passes p place Fine k.seen; history = k.history; transactions = k.transactions; stands = stands; floor = k.floor; floors = λ m i. (counts m i).1; counts = λ m i. (counts m i).0; once = k.once; labels = k.labels; named = k.named; knows = knows; next = next; whose = whose_at w.opening w.history w.since w.passes p (learns (length w.history) place Fine) (λ x. refl) k.whose; holder = (there_at w.passes p p (learns (length w.history) place Fine) k.holder.0, carries) }
+    by_end Before ill ill_counts = record { young = k.young; seen = learnt (length w.history) w.floor w.passes p place Before k.seen; history = k.history; transactions = k.transactions; stands = ill; floor = k.floor; floors = λ m i. (ill_counts m i).1; counts = λ m i. (ill_counts m i).0; once = k.once; labels = k.labels; named = k.named; knows = ill_knows _; next = ill_next; whose = whose_at w.opening w.history w.since w.passes p (learns (length w.history) place Before) (λ x. refl) k.whose; holder = (there_at w.passes p p (learns (length w.history) place Before) k.holder.0, ill_carries) }
+    by_end After ill ill_counts = record { young = k.young; seen = learnt (length w.history) w.floor w.passes p place After k.seen; history = k.history; transactions = k.transactions; stands = ill; floor = k.floor; floors = λ m i. (ill_counts m i).1; counts = λ m i. (ill_counts m i).0; once = k.once; labels = k.labels; named = k.named; knows = ill_knows _; next = ill_next; whose = whose_at w.opening w.history w.since w.passes p (learns (length w.history) place After) (λ x. refl) k.whose; holder = (there_at w.passes p p (learns (length w.history) place After) k.holder.0, ill_carries) }
+    by_end (Torn any) ill ill_counts = record { young = k.young; seen = learnt (length w.history) w.floor w.passes p place (Torn any) k.seen; history = k.history; transactions = k.transactions; stands = ill; floor = k.floor; floors = λ m i. (ill_counts m i).1; counts = λ m i. (ill_counts m i).0; once = k.once; labels = k.labels; named = k.named; knows = ill_knows _; next = ill_next; whose = whose_at w.opening w.history w.since w.passes p (learns (length w.history) place (Torn any)) (λ x. refl) k.whose; holder = (there_at w.passes p p (learns (length w.history) place (Torn any)) k.holder.0, ill_carries) }
 
 -- what a failed call leaves
 pub each_failed : (went : Went) (change : Change) (d : Disk) (P : Disk → Type 0) → Each d P → Each (change ∷ d) P → ((n : Name) (c any : Contents) → change ≡ Put n c → Each (Put n any ∷ d) P) → Each (disk_after went change d) P
@@ -163,7 +164,7 @@ tree_at [] b less = absurd (omega (arith, less))
 tree_at (x ∷ h) zero less = refl
 tree_at (x ∷ h) (suc b) less = tree_at h b (omega (arith, less))
 
-begun_is : (h : List Recorded) (x : Drawn) → x.base < length h → IsTransaction (tree_of (revisions h)) (last_of (revisions h)) x.base (get (begun_txn h x).tree) []
+pub begun_is : (h : List Recorded) (x : Drawn) → x.base < length h → IsTransaction (tree_of (revisions h)) (last_of (revisions h)) x.base (get (begun_txn h x).tree) []
 begun_is h x less =
     let e : length (revisions h) ≡ length h = revisions_length h in
     subst (λ t. IsTransaction (tree_of (revisions h)) (last_of (revisions h)) x.base t []) (sym (tree_at h x.base less)) (BegunTxn x.base (omega (arith, e, less)))
@@ -173,12 +174,14 @@ keeps_given w p place x Fine kept = let next : x.next ≡ x.name + 1 = kept.know
   young = kept.young;
   seen = learnt (length w.history) w.floor w.passes p place Fine kept.seen;
   history = kept.history;
-  transactions = transactions_append (revisions w.history) w.txns (begun_txn w.history x ∷ []) kept.transactions (begun_is w.history x kept.knows.0, tt);
+  transactions = kept.transactions;
   stands = each_firm w.disk (λ m. StandsFor w.floor m w.history) (kept.stands w.disk (read_is_image w.disk));
   floor = kept.floor;
   floors = each_firm w.disk (FloorIs w.floor) (kept.floors w.disk (read_is_image w.disk));
   counts = each_firm w.disk (CountsOn (x.name ∷ w.given)) (x.next, kept.knows.3, (omega (arith, next), no_less w.given x.name x.next (omega (arith, next)) kept.knows.1));
   once = (kept.knows.1, kept.once);
+  labels = given_more w.given w.labels x.name kept.labels;
+  named = named_append (length w.history) (x.name ∷ w.given) w.named (x ∷ []) (named_given (length w.history) w.given w.named x.name kept.named) ((kept.knows.0, inl refl), tt);
   knows = tt;
   next = tt;
   whose = whose_at w.opening w.history w.since w.passes p (learns (length w.history) place Fine) (λ x. refl) kept.whose;

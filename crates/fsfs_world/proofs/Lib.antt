@@ -2,6 +2,7 @@ pub mod Images
 pub mod Standing
 pub mod Growing
 pub mod Whose
+pub mod Given
 pub mod Keeps
 pub mod Steps
 pub mod Created

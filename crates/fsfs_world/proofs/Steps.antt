@@ -20,6 +20,8 @@ use Rattle.fsfs_world.specs.declared.machine.Txn.{Txn}
 use Rattle.fsfs_world.specs.declared.machine.Coming.{Coming}
 use Rattle.fsfs_world.specs.declared.machine.Place.{Place}
 use Rattle.fsfs_world.specs.declared.machine.Place.TheVariants.{TxnRead, PutRev, Read}
+use Rattle.fsfs_world.specs.declared.machine.Place.TheVariants as place
+use Rattle.fsfs_world.specs.declared.machine.Drawn.{Drawn}
 use Rattle.fsfs_world.specs.declared.machine.Pass.{Pass}
 use Rattle.fsfs_world.specs.declared.machine.Section.{Section}
 use Rattle.fsfs_world.specs.declared.machine.Section.TheVariants.{Begun, CountRead, CountPut, CountRenamed, RevPut, PropsPut, RevFirm, CurrentPut, CurrentRenamed, CurrentFirm, Doubtful, Over}
@@ -35,12 +37,13 @@ use Rattle.fsfs_world.specs.Disk.{Disk, found, shown, left}
 use Rattle.std.proofs.lemmas.List.{take_all}
 use Rattle.fsfs_model.proofs.Legal.{commits_make_a_history}
 use Rattle.fsfs_model.proofs.PathLemmas.{first_true, second_true}
-use Rattle.fsfs_world.specs.Machine.{World, Did, did, barred, disk_after, either, answer, learns, due, gives as gives_name, called_by, called, recorded, revisions, with_next, at_place, is_up, is_due, file_of, inside, held_by, is_begun, has_begun_by, number_of, count_read, counted, drawn, entry_of, IsComing, adopted, AdoptsTxn, Adopts, without_place, edited, EditsIf, Edits, merged, MergesIf, Merges, let_go, stuck_at, reveals, revealed, taken, looked, is_known, range_of, turned, has_read, raised, sees_floor, floor_read, down, ends, revision_in, read_one, read_back, opened, named, open_at, split_off, joined, join_with, is_there, Happens, Runs}
-use Rattle.fsfs_world.specs.Kept.{HasAll, StandsFor, StandsForEither, StandsIn, Stands, AllBelow, CountsOn, KnowsAt, coming, Follows, IsSeen, AreSeen, AreTransactions, Whose, IsHolder, FloorIs, Kept, Grows, Names, GivesBytes, Gives, StepsKeep, SeenStays, RunsKeep}
+use Rattle.fsfs_world.specs.Machine.{World, Did, did, barred, disk_after, either, answer, learns, labels_left, labelled, unlabelled, begun_txn, is_outside, made, purged, purged_spent, listed, label_dropped, due, gives as gives_name, called_by, called, recorded, revisions, with_next, at_place, is_up, is_due, file_of, inside, held_by, is_begun, has_begun_by, number_of, count_read, counted, drawn, entry_of, IsComing, adopted, AdoptsTxn, Adopts, without_place, edited, EditsIf, Edits, merged, MergesIf, Merges, let_go, stuck_at, reveals, revealed, taken, looked, is_known, range_of, turned, has_read, properties_in, has_read_props, raised, sees_floor, floor_read, down, ends, revision_in, read_one, read_back, opened, named, open_at, split_off, joined, join_with, is_there, Happens, Runs}
+use Rattle.fsfs_world.specs.Kept.{HasAll, StandsFor, StandsForEither, StandsIn, Stands, AllBelow, CountsOn, KnowsAt, coming, Follows, IsSeen, AreSeen, AreTransactions, Whose, IsHolder, FloorIs, Kept, Grows, Names, IsIn, AllGiven, AreNamed, GivesBytes, GivesProps, GivesNames, IsPurged, Gives, StepsKeep, SeenStays, RunsKeep}
 use Rattle.fsfs_world.proofs.Images.{Each, each_firm, read_is_image, left_is_image}
 use Rattle.fsfs_world.proofs.Standing.{shown_again, past_rev, same_number}
-use Rattle.fsfs_world.proofs.Growing.{transactions_go_on, transactions_at, transaction_at, transactions_without, revisions_length, revisions_next}
-use Rattle.fsfs_world.proofs.Keeps.{no_less, seen_at, learnt, keeps_put, keeps_called}
+use Rattle.fsfs_world.proofs.Given.{given_labelled, given_unlabelled, given_left, gone, named_more, named_without, named_at}
+use Rattle.fsfs_world.proofs.Growing.{transactions_append, transactions_go_on, transactions_at, transaction_at, transactions_without, revisions_length, revisions_next}
+use Rattle.fsfs_world.proofs.Keeps.{no_less, seen_at, learnt, keeps_put, keeps_called, begun_is}
 use Rattle.fsfs_world.proofs.Whose.{length_at, there_at, whose_at, whose_next, whose_split}
 
 -- a step from w to v
@@ -104,10 +107,10 @@ count_keeps w p b went k is less at = by_end went
     below = subst (λ n. AllBelow n w.given) (same_number (found w.disk Counter) read.0 k read.1 is) read.2
 
     by_end : (went : Went) → Kept (count_read w p b went k)
-    by_end Fine = record { young = at.young; seen = learnt (length w.history) w.floor w.passes p TxnRead Fine at.seen; history = at.history; transactions = at.transactions; stands = at.stands; floor = at.floor; floors = at.floors; counts = at.counts; once = at.once; knows = (less, below, refl); next = tt; whose = whose_at w.opening w.history w.since w.passes p (learns (length w.history) TxnRead Fine) (λ x. refl) at.whose; holder = (there_at w.passes p p (learns (length w.history) TxnRead Fine) at.holder.0, tt) }
-    by_end Before = record { young = at.young; seen = learnt (length w.history) w.floor w.passes p TxnRead Before at.seen; history = at.history; transactions = at.transactions; stands = at.stands; floor = at.floor; floors = at.floors; counts = at.counts; once = at.once; knows = tt; next = tt; whose = whose_at w.opening w.history w.since w.passes p (learns (length w.history) TxnRead Before) (λ x. refl) at.whose; holder = (there_at w.passes p p (learns (length w.history) TxnRead Before) at.holder.0, tt) }
-    by_end After = record { young = at.young; seen = learnt (length w.history) w.floor w.passes p TxnRead After at.seen; history = at.history; transactions = at.transactions; stands = at.stands; floor = at.floor; floors = at.floors; counts = at.counts; once = at.once; knows = tt; next = tt; whose = whose_at w.opening w.history w.since w.passes p (learns (length w.history) TxnRead After) (λ x. refl) at.whose; holder = (there_at w.passes p p (learns (length w.history) TxnRead After) at.holder.0, tt) }
-    by_end (Torn any) = record { young = at.young; seen = learnt (length w.history) w.floor w.passes p TxnRead (Torn any) at.seen; history = at.history; transactions = at.transactions; stands = at.stands; floor = at.floor; floors = at.floors; counts = at.counts; once = at.once; knows = tt; next = tt; whose = whose_at w.opening w.history w.since w.passes p (learns (length w.history) TxnRead (Torn any)) (λ x. refl) at.whose; holder = (there_at w.passes p p (learns (length w.history) TxnRead (Torn any)) at.holder.0, tt) }
+    by_end Fine = record { young = at.young; seen = learnt (length w.history) w.floor w.passes p TxnRead Fine at.seen; history = at.history; transactions = at.transactions; stands = at.stands; floor = at.floor; floors = at.floors; counts = at.counts; once = at.once; labels = at.labels; named = at.named; knows = (less, below, refl); next = tt; whose = whose_at w.opening w.history w.since w.passes p (learns (length w.history) TxnRead Fine) (λ x. refl) at.whose; holder = (there_at w.passes p p (learns (length w.history) TxnRead Fine) at.holder.0, tt) }
+    by_end Before = record { young = at.young; seen = learnt (length w.history) w.floor w.passes p TxnRead Before at.seen; history = at.history; transactions = at.transactions; stands = at.stands; floor = at.floor; floors = at.floors; counts = at.counts; once = at.once; labels = at.labels; named = at.named; knows = tt; next = tt; whose = whose_at w.opening w.history w.since w.passes p (learns (length w.history) TxnRead Before) (λ x. refl) at.whose; holder = (there_at w.passes p p (learns (length w.history) TxnRead Before) at.holder.0, tt) }
+    by_end After = record { young = at.young; seen = learnt (length w.history) w.floor w.passes p TxnRead After at.seen; history = at.history; transactions = at.transactions; stands = at.stands; floor = at.floor; floors = at.floors; counts = at.counts; once = at.once; labels = at.labels; named = at.named; knows = tt; next = tt; whose = whose_at w.opening w.history w.since w.passes p (learns (length w.history) TxnRead After) (λ x. refl) at.whose; holder = (there_at w.passes p p (learns (length w.history) TxnRead After) at.holder.0, tt) }
+    by_end (Torn any) = record { young = at.young; seen = learnt (length w.history) w.floor w.passes p TxnRead (Torn any) at.seen; history = at.history; transactions = at.transactions; stands = at.stands; floor = at.floor; floors = at.floors; counts = at.counts; once = at.once; labels = at.labels; named = at.named; knows = tt; next = tt; whose = whose_at w.opening w.history w.since w.passes p (learns (length w.history) TxnRead (Torn any)) (λ x. refl) at.whose; holder = (there_at w.passes p p (learns (length w.history) TxnRead (Torn any)) at.holder.0, tt) }
 
 counted_keeps : (w : World) (p b : ℕ) (went : Went) (o : Option Contents) → found w.disk Counter ≡ o → Kept w → Kept (record w { lock = Held p Begun }) → Moves w (counted w p b went (number_of o)).world
 counted_keeps w p b went None is k at = stays w k
@@ -126,12 +129,12 @@ drawn_keeps w p b went Begun k at = counted_keeps w p b went (found w.disk Count
 drawn_keeps w p b went s k at = stays w k
 
 -- the first call of a commit
-adopted_keeps : (w : World) (p t : ℕ) (e : Entry) (bytes : List ℕ) (went : Went) (x : Coming)
+adopted_keeps : (w : World) (p t name : ℕ) (e : Entry) (bytes : List ℕ) (went : Went) (x : Coming)
     → IsTransaction (tree_of (revisions w.history)) (last_of (revisions w.history)) e.base (get e.tree) e.marks
-    → e.pass ≡ p → IsComing w.history e bytes x → Kept (record w { lock = Held p Begun }) → Kept (adopted w p t went x)
-adopted_keeps w p t e bytes went x was mine is at =
-    let less : World = record w { txns = without_place w.txns t } in
-    let k : Kept (record less { lock = Held p Begun }) = record { young = at.young; seen = at.seen; history = at.history; transactions = transactions_without (revisions w.history) w.txns t at.transactions; stands = at.stands; floor = at.floor; floors = at.floors; counts = at.counts; once = at.once; knows = tt; next = tt; whose = at.whose; holder = at.holder } in
+    → e.pass ≡ p → IsComing w.history e bytes x → Kept (record w { lock = Held p Begun }) → Kept (adopted w p t name went x)
+adopted_keeps w p t name e bytes went x was mine is at =
+    let less : World = record w { txns = without_place w.txns t; spent = w.spent ++ name ∷ [] } in
+    let k : Kept (record less { lock = Held p Begun }) = record { young = at.young; seen = at.seen; history = at.history; transactions = transactions_without (revisions w.history) w.txns t at.transactions; stands = at.stands; floor = at.floor; floors = at.floors; counts = at.counts; once = at.once; labels = at.labels; named = at.named; knows = tt; next = tt; whose = at.whose; holder = at.holder } in
     let follows : Follows w.history x = subst (λ z. IsEntry (revisions w.history) z × IsNext (revisions w.history) z x.revision) (sym is.entry) (record { transaction = was; dated = is.adds.0 }, is.adds.1) in
     keeps_put less p PutRev Begun (Rev (length w.history)) (file_of (recorded x)) (RevPut x) went k (ap (λ z. z.pass) is.entry ∙ mine)
     (λ m i. i) (λ m any i. past_rev w.floor m w.history any i) (λ m i. i) (λ m any i. i) (shown_again w.floor w.disk (length w.history) (file_of (recorded x)) at.floor) follows
@@ -140,7 +143,7 @@ adopts_txn_keep : (w : World) (p t : ℕ) (properties : List (List ℕ × List �
     → Kept w → Kept (record w { lock = Held p Begun }) → AdoptsTxn w p t properties bytes went o d → Moves w d.world
 adopts_txn_keep w p t properties bytes went None d is k at e = subst (λ z. Moves w z.world) (sym e) (stays w k)
 adopts_txn_keep w p t properties bytes went (Some txn) d is k at e = ⊎_elim
-    (λ a. subst (λ z. Moves w z.world) (sym a.2) (moved w (adopted w p t went a.0) (adopted_keeps w p t (entry_of p txn properties) bytes went a.0 (transaction_at (revisions w.history) w.txns t txn is k.transactions) refl a.1 at) refl refl))
+    (λ a. subst (λ z. Moves w z.world) (sym a.2) (moved w (adopted w p t txn.name went a.0) (adopted_keeps w p t txn.name (entry_of p txn properties) bytes went a.0 (transaction_at (revisions w.history) w.txns t txn is k.transactions) refl a.1 at) refl refl))
     (λ b. subst (λ z. Moves w z.world) (sym b.1) (stays w k)) e
 
 begun_section : (s : Section) → is_begun (Some s) ≡ true → s ≡ Begun
@@ -162,7 +165,7 @@ adopts_keep w p t properties bytes went true d is k e =
 
 -- edits and merges
 with_txns : (w : World) (txns : List Txn) → AreTransactions (revisions w.history) txns → Kept w → Moves w (record w { txns = txns })
-with_txns w txns t k = moved w (record w { txns = txns }) (record { young = k.young; seen = k.seen; history = k.history; transactions = t; stands = k.stands; floor = k.floor; floors = k.floors; counts = k.counts; once = k.once; knows = k.knows; next = k.next; whose = k.whose; holder = k.holder }) refl refl
+with_txns w txns t k = moved w (record w { txns = txns }) (record { young = k.young; seen = k.seen; history = k.history; transactions = t; stands = k.stands; floor = k.floor; floors = k.floors; counts = k.counts; once = k.once; labels = k.labels; named = k.named; knows = k.knows; next = k.next; whose = k.whose; holder = k.holder }) refl refl
 
 edits_if_keep : (w : World) (t : ℕ) (edit : Edit) (x : Txn) (b : Bool) (d : Did) → slice_get w.txns t ≡ Some x
     → (accepts edit (tree_of (revisions w.history)) (last_of (revisions w.history)) (get x.tree) && within_limits edit x.tree) ≡ b → Kept w → EditsIf w t edit x b d → Moves w d.world
@@ -213,7 +216,7 @@ merges_keep w t head (Some x) d is k e = merges_if_keep w t head x _ d is refl k
 
 -- the words
 with_passes : (w : World) (passes : List Pass) → AreSeen (length w.history) w.floor passes → Whose w.opening w.history w.since passes → IsHolder (length passes) w.lock → Kept w → Moves w (record w { passes = passes })
-with_passes w passes s whose holder k = moved w (record w { passes = passes }) (record { young = k.young; seen = s; history = k.history; transactions = k.transactions; stands = k.stands; floor = k.floor; floors = k.floors; counts = k.counts; once = k.once; knows = k.knows; next = k.next; whose = whose; holder = holder }) refl refl
+with_passes w passes s whose holder k = moved w (record w { passes = passes }) (record { young = k.young; seen = s; history = k.history; transactions = k.transactions; stands = k.stands; floor = k.floor; floors = k.floors; counts = k.counts; once = k.once; labels = k.labels; named = k.named; knows = k.knows; next = k.next; whose = whose; holder = holder }) refl refl
 
 -- the holder is there still, where there are no fewer passes
 holder_stays : (n m : ℕ) (lock : Lock) → n ≤ m → IsHolder n lock → IsHolder m lock
@@ -229,7 +232,7 @@ with_pass w p f seen same k =
     (holder_stays (length w.passes) (length (at_place w.passes p f)) w.lock (omega (arith, e)) k.holder) k
 
 taken_keeps : (w : World) (p : ℕ) (lock : Lock) → p < length w.passes → w.lock ≡ lock → Kept (record w { lock = lock }) → Kept w → Moves w (taken w p lock).world
-taken_keeps w p Free there is at k = moved w (record w { lock = Held p Begun }) (record { young = at.young; seen = at.seen; history = at.history; transactions = at.transactions; stands = at.stands; floor = at.floor; floors = at.floors; counts = at.counts; once = at.once; knows = tt; next = tt; whose = at.whose; holder = (there, tt) }) refl refl
+taken_keeps w p Free there is at k = moved w (record w { lock = Held p Begun }) (record { young = at.young; seen = at.seen; history = at.history; transactions = at.transactions; stands = at.stands; floor = at.floor; floors = at.floors; counts = at.counts; once = at.once; labels = at.labels; named = at.named; knows = tt; next = tt; whose = at.whose; holder = (there, tt) }) refl refl
 taken_keeps w p (Stuck place x) there is at k = with_pass w p (λ y. record y { stuck = Some place }) (λ y s. record { seen = s.seen; least = s.least; mine = s.mine; floor = s.floor }) (λ y. refl) k
 taken_keeps w p lock there is at k = stays w k
 
@@ -238,7 +241,7 @@ lock_keeps w p true is k = taken_keeps w p w.lock (let there : p < length w.pass
 lock_keeps w p false is k = stays w k
 
 freed : (w : World) (p : ℕ) (s : Section) → Kept (record w { lock = Held p s }) → ((m : Disk) → StandsIn w.floor w.history s m → StandsFor w.floor m w.history) → Moves w (record w { lock = Free })
-freed w p s at plain = moved w (record w { lock = Free }) (record { young = at.young; seen = at.seen; history = at.history; transactions = at.transactions; stands = λ m i. plain m (at.stands m i); floor = at.floor; floors = at.floors; counts = at.counts; once = at.once; knows = tt; next = tt; whose = at.whose; holder = tt }) refl refl
+freed w p s at plain = moved w (record w { lock = Free }) (record { young = at.young; seen = at.seen; history = at.history; transactions = at.transactions; stands = λ m i. plain m (at.stands m i); floor = at.floor; floors = at.floors; counts = at.counts; once = at.once; labels = at.labels; named = at.named; knows = tt; next = tt; whose = at.whose; holder = tt }) refl refl
 
 let_go_keeps : (w : World) (p : ℕ) (s : Section) → Kept w → Kept (record w { lock = Held p s }) → Moves w (let_go w s).world
 let_go_keeps w p Begun k at = freed w p Begun at (λ m i. i)
@@ -253,7 +256,7 @@ let_go_keeps w p Over k at = freed w p Over at (λ m i. i)
 let_go_keeps w p s k at = stays w k
 
 stuck_keeps : (w : World) (p : ℕ) (s : Section) → Kept w → Kept (record w { lock = Held p s }) → Moves w (stuck_at w s).world
-stuck_keeps w p (Doubtful place x) k at = moved w (record w { lock = Stuck place x }) (record { young = at.young; seen = at.seen; history = at.history; transactions = at.transactions; stands = at.stands; floor = at.floor; floors = at.floors; counts = at.counts; once = at.once; knows = tt; next = at.next; whose = at.whose; holder = tt }) refl refl
+stuck_keeps w p (Doubtful place x) k at = moved w (record w { lock = Stuck place x }) (record { young = at.young; seen = at.seen; history = at.history; transactions = at.transactions; stands = at.stands; floor = at.floor; floors = at.floors; counts = at.counts; once = at.once; labels = at.labels; named = at.named; knows = tt; next = at.next; whose = at.whose; holder = tt }) refl refl
 stuck_keeps w p s k at = stays w k
 
 seen_more : (n m f : ℕ) (xs : List Pass) → n ≤ m → AreSeen n f xs → AreSeen m f xs
@@ -291,6 +294,8 @@ revealed_keeps w p (CurrentFirm x) k at =
         floors = at.floors;
         counts = at.counts;
         once = at.once;
+        labels = at.labels;
+        named = named_more (length w.history) (length (with_next w.history x)) w.given w.named (omega (arith, more)) at.named;
         knows = tt;
         next = tt;
         whose = whose_next w.opening w.history w.since w.passes p x at.holder.1 at.holder.0 at.next at.whose;
@@ -322,6 +327,13 @@ turn_keeps w p place went k = with_pass w p (learns (length w.history) place wen
 read_keeps : (w : World) (p r offset size : ℕ) (went : Went) (o : Option Pass) → Kept w → Moves w (has_read w p r offset size went o).world
 read_keeps w p r offset size went None k = stays w k
 read_keeps w p r offset size went (Some x) k = elim (is_known x r) as (λ b. Moves w (cond b (did (turned w p Read went) (either went (range_of offset size (shown x.floor w.disk r)) outcome.Failed)) (barred w)).world) [
+  | true ↦ turn_keeps w p Read went k
+  | false ↦ stays w k
+]
+
+props_keep : (w : World) (p r : ℕ) (went : Went) (o : Option Pass) → Kept w → Moves w (has_read_props w p r went o).world
+props_keep w p r went None k = stays w k
+props_keep w p r went (Some x) k = elim (is_known x r) as (λ b. Moves w (cond b (did (turned w p Read went) (either went (properties_in (found w.disk (Props r))) outcome.Failed)) (barred w)).world) [
   | true ↦ turn_keeps w p Read went k
   | false ↦ stays w k
 ]
@@ -416,8 +428,8 @@ firm_stands f h (Held p (CurrentFirm x)) m s = s
 firm_stands f h (Held p (Doubtful place x)) m s = s
 firm_stands f h (Held p Over) m s = s
 
-ends_keeps : (w : World) (d : Disk) → Kept w → Each d (Stands w.floor w.history w.lock) → Each d (CountsOn w.given) → Each d (FloorIs w.floor) → Moves w (record (ends w) { disk = d })
-ends_keeps w d k stands counts floors = let n = down_next w.floor w.history w.given w.lock d k.next in moved w (record (ends w) { disk = d }) (record {
+ends_keeps : (w : World) (d : Disk) (labels : List ℕ) → Kept w → Each d (Stands w.floor w.history w.lock) → Each d (CountsOn w.given) → Each d (FloorIs w.floor) → AllGiven w.given labels → Moves w (record (ends w) { disk = d; labels = labels })
+ends_keeps w d labels k stands counts floors given = let n = down_next w.floor w.history w.given w.lock d k.next in moved w (record (ends w) { disk = d; labels = labels }) (record {
   young = λ up. not_up (is_up (down w.lock)) _ n.up up;
   seen = tt;
   history = k.history;
@@ -427,18 +439,21 @@ ends_keeps w d k stands counts floors = let n = down_next w.floor w.history w.gi
   floors = floors;
   counts = counts;
   once = k.once;
+  labels = given;
+  named = tt;
   knows = n.knows;
   next = n.next;
   whose = record { legal = ap revisions (take_all (length w.history) w.history (omega arith)); count = omega arith; carriers = tt; mine = tt };
   holder = n.holder;
 }) refl refl
 
-crash_keeps : (w : World) (picks : List Bool) → Kept w → Moves w (record (ends w) { disk = Firm ∷ left picks w.disk })
-crash_keeps w picks k = let i = left_is_image picks w.disk in
-    ends_keeps w (Firm ∷ left picks w.disk) k
+crash_keeps : (w : World) (picks labels : List Bool) → Kept w → Moves w (record (ends w) { disk = Firm ∷ left picks w.disk; labels = labels_left labels w.labels })
+crash_keeps w picks labels k = let i = left_is_image picks w.disk in
+    ends_keeps w (Firm ∷ left picks w.disk) (labels_left labels w.labels) k
     (each_firm (left picks w.disk) (Stands w.floor w.history w.lock) (firm_stands w.floor w.history w.lock (left picks w.disk) (k.stands (left picks w.disk) i)))
     (each_firm (left picks w.disk) (CountsOn w.given) (k.counts (left picks w.disk) i))
     (each_firm (left picks w.disk) (FloorIs w.floor) (k.floors (left picks w.disk) i))
+    (given_left w.given labels w.labels k.labels)
 
 -- what the files show
 pub some_at : (h : List Recorded) (n : ℕ) → n < length h → (x : Recorded) × (slice_get h n ≡ Some x)
@@ -475,6 +490,8 @@ opened_keeps w h k s is g last kept = record {
     floors = each_firm w.disk (FloorIs w.floor) (kept.floors w.disk (read_is_image w.disk));
     counts = each_firm w.disk (CountsOn w.given) (kept.counts w.disk (read_is_image w.disk));
     once = kept.once;
+    labels = kept.labels;
+    named = tt;
     knows = tt;
     next = tt;
     whose = record { legal = ap revisions (take_all (k + 1) h (omega (arith, last))); count = omega (arith, last); carriers = tt; mine = (refl, tt) };
@@ -511,6 +528,8 @@ firmed w went k knows = moved w (record w { disk = disk_after went Firm w.disk }
   floors = both went (FloorIs w.floor) k.floors (k.floors w.disk (read_is_image w.disk));
   counts = both went (CountsOn w.given) k.counts (k.counts w.disk (read_is_image w.disk));
   once = k.once;
+  labels = k.labels;
+  named = k.named;
   knows = knows;
   next = k.next;
   whose = k.whose;
@@ -545,6 +564,45 @@ if_moves : (w : World) (b : Bool) (d : Did) → Kept w → Moves w d.world → M
 if_moves w true d k m = m
 if_moves w false d k m = stays w k
 
+unless_up : (w : World) (b : Bool) (d : Did) → Kept w → Moves w d.world → Moves w (cond b (barred w) d).world
+unless_up w true d k m = stays w k
+unless_up w false d k m = m
+
+-- labels
+with_labels : (w : World) (labels : List ℕ) → AllGiven w.given labels → Kept w → Moves w (record w { labels = labels })
+with_labels w labels given k = moved w (record w { labels = labels }) (record { young = k.young; seen = k.seen; history = k.history; transactions = k.transactions; stands = k.stands; floor = k.floor; floors = k.floors; counts = k.counts; once = k.once; labels = given; named = k.named; knows = k.knows; next = k.next; whose = k.whose; holder = k.holder }) refl refl
+
+-- the same with other transactions, and a pass's turn after it
+with_parts : (w : World) (labels : List ℕ) (named : List Drawn) (txns : List Txn) (spent : List ℕ) (p : ℕ) (at : Place) (went : Went) → AllGiven w.given labels → AreNamed (length w.history) w.given named
+    → AreTransactions (revisions w.history) txns → Kept w → Moves w (turned (record w { labels = labels; named = named; txns = txns; spent = spent }) p at went)
+with_parts w labels named txns spent p at went given are t k =
+    let v : World = record w { labels = labels; named = named; txns = txns; spent = spent } in
+    let turned_keeps = turn_keeps v p at went (record { young = k.young; seen = k.seen; history = k.history; transactions = t; stands = k.stands; floor = k.floor; floors = k.floors; counts = k.counts; once = k.once; labels = given; named = are; knows = k.knows; next = k.next; whose = k.whose; holder = k.holder }) in
+    record { kept = turned_keeps.kept; grows = inl refl; names = inl refl }
+
+made_txns : (w : World) (went : Went) (x : Drawn) → x.base < length w.history → AreTransactions (revisions w.history) w.txns → AreTransactions (revisions w.history) (either went (w.txns ++ begun_txn w.history x ∷ []) w.txns)
+made_txns w Fine x less t = transactions_append (revisions w.history) w.txns (begun_txn w.history x ∷ []) t (begun_is w.history x less, tt)
+made_txns w Before x less t = t
+made_txns w After x less t = t
+made_txns w (Torn any) x less t = t
+
+made_keeps : (w : World) (p n : ℕ) (went : Went) (o : Option Drawn) → slice_get w.named n ≡ o → Kept w → Moves w (made w p n went o).world
+made_keeps w p n went None is k = stays w k
+made_keeps w p n went (Some x) is k =
+    let at : (x.base < length w.history) × IsIn x.name w.given = named_at (length w.history) w.given w.named n x is k.named in
+    with_parts w (labelled went x.name w.labels) (without_place w.named n) (either went (w.txns ++ begun_txn w.history x ∷ []) w.txns) (either went w.spent (w.spent ++ x.name ∷ [])) p place.MakeBench went
+    (given_labelled w.given w.labels went x.name at.1 k.labels) (named_without (length w.history) w.given w.named n k.named) (made_txns w went x at.0 k.transactions) k
+
+purged_keeps : (w : World) (p t : ℕ) (went : Went) (o : Option Txn) → Kept w → Moves w (purged w p t went o).world
+purged_keeps w p t went None k = stays w k
+purged_keeps w p t went (Some x) k = with_parts w (unlabelled went x.name w.labels) w.named (without_place w.txns t) w.spent p place.Remove went
+    (given_unlabelled w.given w.labels went x.name k.labels) k.named (transactions_without (revisions w.history) w.txns t k.transactions) k
+
+purged_spent_keeps : (w : World) (p n : ℕ) (went : Went) (o : Option ℕ) → Kept w → Moves w (purged_spent w p n went o).world
+purged_spent_keeps w p n went None k = stays w k
+purged_spent_keeps w p n went (Some name) k = with_parts w (unlabelled went name w.labels) w.named w.txns (without_place w.spent n) p place.Remove went
+    (given_unlabelled w.given w.labels went name k.labels) k.named k.transactions k
+
 step_moves : (w : World) (s : Step) (d : Did) → Happens w s d → Kept w → Moves w d.world
 step_moves w (step.TakeLock p) d is k = along w d _ is (lock_keeps w p (is_there w p) refl k)
 step_moves w (step.GiveLock p) d is k = along w d _ is (keeps_inside w p (let_go w) w.lock refl k (λ s at. let_go_keeps w p s k at))
@@ -555,13 +613,20 @@ step_moves w (step.Call p place went) d is k = along w d _ is (keeps_inside w p 
 step_moves w (step.Reveal p) d is k = along w d _ is (keeps_inside w p (revealed w p) w.lock refl k (λ s at. revealed_keeps w p s k at))
 step_moves w (step.Look p) d is k = along w d _ is (look_keeps w p (is_there w p && is_up w.lock) refl k)
 step_moves w (step.Read p r offset size went) d is k = along w d _ is (read_keeps w p r offset size went (slice_get w.passes p) k)
+step_moves w (step.ReadProps p r went) d is k = along w d _ is (props_keep w p r went (slice_get w.passes p) k)
 step_moves w (step.ReadFloor p went) d is k = along w d _ is (floor_read_keeps w p went (slice_get w.passes p) k)
 step_moves w (step.Split p) d is k = along w d _ is (split_keeps w p (slice_get w.passes p) refl k)
 step_moves w (step.Join p q) d is k = along w d _ is (if_moves w (is_there w p && not (p == q)) (join_with w p (slice_get w.passes q)) k (join_keeps w p q (slice_get w.passes q) refl k))
 step_moves w (step.Edit t edit) d is k = edits_keep w t edit (slice_get w.txns t) d refl k is
 step_moves w (step.Merge t head) d is k = merges_keep w t head (slice_get w.txns t) d refl k is
-step_moves w step.Close d is k = along w d _ is (if_moves w (is_up w.lock) (did (ends w) outcome.Done) k (ends_keeps w w.disk k k.stands k.counts k.floors))
-step_moves w (step.Crash picks) d is k = along w d _ is (crash_keeps w picks k)
+step_moves w step.Close d is k = along w d _ is (if_moves w (is_up w.lock) (did (ends w) outcome.Done) k (ends_keeps w w.disk w.labels k k.stands k.counts k.floors k.labels))
+step_moves w (step.MakeBench p n went) d is k = along w d _ is (if_moves w (is_there w p && is_outside p w.lock) (made w p n went (slice_get w.named n)) k (made_keeps w p n went (slice_get w.named n) refl k))
+step_moves w (step.ListTxns p went) d is k = along w d _ is (if_moves w (is_there w p) (did (turned w p place.List went) (listed w went)) k (turn_keeps w p place.List went k))
+step_moves w (step.Purge p t went) d is k = along w d _ is (if_moves w (is_there w p && is_outside p w.lock) (purged w p t went (slice_get w.txns t)) k (purged_keeps w p t went (slice_get w.txns t) k))
+step_moves w (step.PurgeSpent p n went) d is k = along w d _ is (if_moves w (is_there w p && is_outside p w.lock) (purged_spent w p n went (slice_get w.spent n)) k (purged_spent_keeps w p n went (slice_get w.spent n) k))
+step_moves w (step.ListLabels went) d is k = along w d _ is (unless_up w (is_up w.lock) (did w (listed w went)) k (stays w k))
+step_moves w (step.DropLabel name went) d is k = along w d _ is (unless_up w (is_up w.lock) (label_dropped w name went) k (with_labels w (unlabelled went name w.labels) (given_unlabelled w.given w.labels went name k.labels) k))
+step_moves w (step.Crash picks labels) d is k = along w d _ is (crash_keeps w picks labels k)
 step_moves w (step.Open went) d is k = along w d _ is (open_down_keeps w went w.lock refl k)
 
 -- whatever is under way, an image has each revision's files
@@ -624,12 +689,78 @@ read_gives w p r offset size went (Some x) is k = elim (is_known x r) as (λ b. 
     by_end After less = tt
     by_end (Torn any) less = tt
 
-gives : (w : World) (s : Step) (d : Did) → Happens w s d → Kept w → Gives w s d.outcome
+props_give : (w : World) (p r : ℕ) (went : Went) (o : Option Pass) → slice_get w.passes p ≡ o → Kept w → GivesProps w.history r (has_read_props w p r went o).outcome
+props_give w p r went None is k = tt
+props_give w p r went (Some x) is k = elim (is_known x r) as (λ b. is_known x r ≡ b → GivesProps w.history r (cond b (did (turned w p Read went) (either went (properties_in (found w.disk (Props r))) outcome.Failed)) (barred w)).outcome) [
+  | true ↦ λ e. by_end went (known_less (length w.history) w.floor r x (seen_of (length w.history) w.floor w.passes p x k.seen is) e)
+  | false ↦ λ e. tt
+] refl
+  where
+    by_end : (went : Went) → r < length w.history → GivesProps w.history r (either went (properties_in (found w.disk (Props r))) outcome.Failed)
+    by_end Fine less =
+        let at = some_at w.history r less in
+        let file : found w.disk (Props r) ≡ Some (PropsFile at.0.revision.properties) = (has_all w.floor w.history w.lock w.disk (k.stands w.disk (read_is_image w.disk)) r at.0 at.1).1 in
+        subst (λ o. GivesProps w.history r (properties_in o)) (sym file) (at.0, at.1, refl)
+    by_end Before less = tt
+    by_end After less = tt
+    by_end (Torn any) less = tt
+
+names_given : (w : World) (went : Went) → Kept w → GivesNames w.given (listed w went)
+names_given w Fine k = k.labels
+names_given w Before k = tt
+names_given w After k = tt
+names_given w (Torn any) k = tt
+
+-- what a purge leaves
+purge_gives : (w v : World) (went : Went) (name : ℕ) → v.labels ≡ unlabelled went name w.labels → IsPurged name (did v (answer went))
+purge_gives w v Fine name is = λ e i. gone name w.labels (subst (λ l. IsIn name l) is i)
+purge_gives w v Before name is = λ e i. let f : outcome.Failed ≡ outcome.Done = e in absurd cc
+purge_gives w v After name is = λ e i. let f : outcome.Failed ≡ outcome.Done = e in absurd cc
+purge_gives w v (Torn any) name is = λ e i. let f : outcome.Failed ≡ outcome.Done = e in absurd cc
+
+-- where it was barred, it says that nothing was done
+barred_purges : (w : World) (name : ℕ) → IsPurged name (barred w)
+barred_purges w name = λ e i. let f : outcome.Barred ≡ outcome.Done = e in absurd cc
+
+if_purges : (w : World) (b : Bool) (name : ℕ) (d : Did) → IsPurged name d → IsPurged name (cond b d (barred w))
+if_purges w true name d g = g
+if_purges w false name d g = barred_purges w name
+
+txn_purges : (w : World) (p t : ℕ) (went : Went) (b : Bool) (o : Option Txn) → IfSome o (λ x. IsPurged x.name (cond b (purged w p t went o) (barred w)))
+txn_purges w p t went b None = tt
+txn_purges w p t went b (Some x) = if_purges w b x.name (purged w p t went (Some x)) (purge_gives w (purged w p t went (Some x)).world went x.name refl)
+
+spent_purges : (w : World) (p n : ℕ) (went : Went) (b : Bool) (o : Option ℕ) → IfSome o (λ name. IsPurged name (cond b (purged_spent w p n went o) (barred w)))
+spent_purges w p n went b None = tt
+spent_purges w p n went b (Some name) = if_purges w b name (purged_spent w p n went (Some name)) (purge_gives w (purged_spent w p n went (Some name)).world went name refl)
+
+drop_purges : (w : World) (name : ℕ) (went : Went) (b : Bool) → IsPurged name (cond b (barred w) (label_dropped w name went))
+drop_purges w name went true = barred_purges w name
+drop_purges w name Fine false = λ e i. gone name w.labels i
+drop_purges w name Before false = λ e i. let f : outcome.Failed ≡ outcome.Done = e in absurd cc
+drop_purges w name After false = λ e i. let f : outcome.Failed ≡ outcome.Done = e in absurd cc
+drop_purges w name (Torn any) false = λ e i. let f : outcome.Failed ≡ outcome.Done = e in absurd cc
+
+txns_listed : (w : World) (p : ℕ) (went : Went) (b : Bool) → Kept w → GivesNames w.given (cond b (did (turned w p place.List went) (listed w went)) (barred w)).outcome
+txns_listed w p went true k = names_given w went k
+txns_listed w p went false k = tt
+
+labels_listed : (w : World) (went : Went) (b : Bool) → Kept w → GivesNames w.given (cond b (barred w) (did w (listed w went))).outcome
+labels_listed w went true k = tt
+labels_listed w went false k = names_given w went k
+
+gives : (w : World) (s : Step) (d : Did) → Happens w s d → Kept w → Gives w s d
 gives w (step.Read p r offset size went) d is k = subst (λ z. GivesBytes w.history r offset size z.outcome) (sym is) (read_gives w p r offset size went (slice_get w.passes p) refl k)
+gives w (step.ReadProps p r went) d is k = subst (λ z. GivesProps w.history r z.outcome) (sym is) (props_give w p r went (slice_get w.passes p) refl k)
+gives w (step.ListTxns p went) d is k = subst (λ z. GivesNames w.given z.outcome) (sym is) (txns_listed w p went (is_there w p) k)
+gives w (step.ListLabels went) d is k = subst (λ z. GivesNames w.given z.outcome) (sym is) (labels_listed w went (is_up w.lock) k)
+gives w (step.Purge p t went) d is k = subst (λ z. IfSome (slice_get w.txns t) (λ x. IsPurged x.name z)) (sym is) (txn_purges w p t went (is_there w p && is_outside p w.lock) (slice_get w.txns t))
+gives w (step.PurgeSpent p n went) d is k = subst (λ z. IfSome (slice_get w.spent n) (λ name. IsPurged name z)) (sym is) (spent_purges w p n went (is_there w p && is_outside p w.lock) (slice_get w.spent n))
+gives w (step.DropLabel name went) d is k = subst (λ z. IsPurged name z) (sym is) (drop_purges w name went (is_up w.lock))
 gives w s d is k = tt
 
 pub step_keeps : StepsKeep
-step_keeps w s d is k = let m = step_moves w s d is k in record { kept = m.kept; grows = m.grows; names = m.names; reads = gives w s d is k }
+step_keeps w s d is k = let m = step_moves w s d is k in record { kept = m.kept; grows = m.grows; names = m.names; gives = gives w s d is k }
 
 -- runs
 legal_after : (a b c : List Recorded) (es : List Entry) → Grows a b → IsLegal (revisions b) es (revisions c) → (all : List Entry) × IsLegal (revisions a) all (revisions c)

@@ -8,6 +8,7 @@ use Rattle.fsfs_world.specs.declared.contents.Name.TheVariants.{Current, Current
 use Rattle.fsfs_world.specs.declared.contents.Contents.TheVariants.{PropsFile, Number}
 use Rattle.fsfs_world.specs.declared.machine.Recorded.{Recorded}
 use Rattle.fsfs_world.specs.declared.machine.Coming.{Coming}
+use Rattle.fsfs_world.specs.declared.machine.Drawn.{Drawn}
 use Rattle.fsfs_world.specs.declared.machine.Txn.{Txn}
 use Rattle.fsfs_world.specs.declared.machine.Section.{Section}
 use Rattle.fsfs_world.specs.declared.machine.Section.TheVariants.{CountRead, CountPut, CountRenamed, RevPut, PropsPut, RevFirm, CurrentPut, CurrentRenamed, CurrentFirm, Doubtful}
@@ -67,6 +68,21 @@ CountsOn given m = (k : ℕ) × (found m Counter ≡ Some (Number k)) × AllBelo
 abbrev pub AreGivenOnce : List ℕ → Type 0
 AreGivenOnce [] = Unit {0}
 AreGivenOnce (g ∷ gs) = AllBelow g gs × AreGivenOnce gs
+
+-- the number is in the list
+abbrev pub IsIn : ℕ → List ℕ → Type 0
+IsIn k [] = ⊥
+IsIn k (x ∷ xs) = (x ≡ k) ⊎ IsIn k xs
+
+-- each label is of a name that was given
+abbrev pub AllGiven : List ℕ → List ℕ → Type 0
+AllGiven given [] = Unit {0}
+AllGiven given (k ∷ ks) = IsIn k given × AllGiven given ks
+
+-- each name that has no bench yet was given, for a revision of a history of n
+abbrev pub AreNamed : ℕ → List ℕ → List Drawn → Type 0
+AreNamed n given [] = Unit {0}
+AreNamed n given (x ∷ xs) = ((x.base < n) × IsIn x.name given) × AreNamed n given xs
 
 -- what the section knows of the files as they are read
 abbrev pub Knows : ℕ → List Recorded → List ℕ → Section → Disk → Type 0
@@ -177,6 +193,10 @@ pub record Kept (w : World) : Type 0 where
   pub counts : (m : Disk) → IsImage w.disk m → CountsOn w.given m
   -- no name was given twice
   pub once : AreGivenOnce w.given
+  -- each label is of a transaction whose name was given
+  pub labels : AllGiven w.given w.labels
+  -- each name without a bench was given, and its base is in the history
+  pub named : AreNamed (length w.history) w.given w.named
   -- the files that the section under way has put read as it put them
   pub knows : KnowsAt w.floor w.history w.given w.lock w.disk
   -- the revision to come is the landing of its entry
@@ -200,19 +220,40 @@ GivesBytes h r offset size (outcome.Bytes bytes) = (x : Recorded) × (slice_get 
 GivesBytes h r offset size outcome.Missing = ⊥
 GivesBytes h r offset size o = Unit {0}
 
--- a read answers by the history, and never that there is no such file
-abbrev pub Gives : World → Step → Outcome → Type 0
-Gives w (step.Read p r offset size went) o = GivesBytes w.history r offset size o
-Gives w s o = Unit {0}
+-- properties that were read are those of the revision
+abbrev pub GivesProps : List Recorded → ℕ → Outcome → Type 0
+GivesProps h r (outcome.Properties properties) = (x : Recorded) × (slice_get h r ≡ Some x) × (properties ≡ x.revision.properties)
+GivesProps h r outcome.Missing = ⊥
+GivesProps h r o = Unit {0}
+
+-- names that were listed are names that were given
+abbrev pub GivesNames : List ℕ → Outcome → Type 0
+GivesNames given (outcome.Names names) = AllGiven given names
+GivesNames given o = Unit {0}
+
+-- where the answer is that it was done, the label is gone
+abbrev pub IsPurged : ℕ → Did → Type 0
+IsPurged name d = d.outcome ≡ outcome.Done → IsIn name d.world.labels → ⊥
+
+-- a read answers by the history, and never that there is no such file; what is listed was given; what is purged is gone
+abbrev pub Gives : World → Step → Did → Type 0
+Gives w (step.Read p r offset size went) d = GivesBytes w.history r offset size d.outcome
+Gives w (step.ReadProps p r went) d = GivesProps w.history r d.outcome
+Gives w (step.ListTxns p went) d = GivesNames w.given d.outcome
+Gives w (step.ListLabels went) d = GivesNames w.given d.outcome
+Gives w (step.Purge p t went) d = IfSome (slice_get w.txns t) (λ x. IsPurged x.name d)
+Gives w (step.PurgeSpent p n went) d = IfSome (slice_get w.spent n) (λ name. IsPurged name d)
+Gives w (step.DropLabel name went) d = IsPurged name d
+Gives w s d = Unit {0}
 
 -- a step from w
 pub record Keeps (w : World) (s : Step) (d : Did) : Type 0 where
   pub kept : Kept d.world
   pub grows : Grows w.history d.world.history
   pub names : Names w.given d.world.given
-  pub reads : Gives w s d.outcome
+  pub gives : Gives w s d
 
--- each step keeps it, adds at most one revision, gives at most one name, and reads by the history
+-- each step keeps it, adds at most one revision, gives at most one name, and answers by the history
 abbrev pub StepsKeep : Type 0
 StepsKeep = (w : World) (s : Step) (d : Did) → Happens w s d → Kept w → Keeps w s d
 

@@ -23,6 +23,7 @@ use Rattle.fsfs_world.specs.declared.machine.Coming.{Coming}
 use Rattle.fsfs_world.specs.declared.machine.Drawn.{Drawn}
 use Rattle.fsfs_world.specs.declared.machine.Place.{Place}
 use Rattle.fsfs_world.specs.declared.machine.Place.TheVariants.{TxnRead, TxnPut, TxnRename, TxnFirm, PutRev, PutProps, FirmRev, PutCurrent, RenameCurrent, FirmCurrent, Read}
+use Rattle.fsfs_world.specs.declared.machine.Place.TheVariants as place
 use Rattle.fsfs_world.specs.declared.machine.Section.{Section}
 use Rattle.fsfs_world.specs.declared.machine.Section.TheVariants.{Begun, CountRead, CountPut, CountRenamed, RevPut, PropsPut, RevFirm, CurrentPut, CurrentRenamed, CurrentFirm, Doubtful, Over}
 use Rattle.fsfs_world.specs.declared.machine.Lock.{Lock}
@@ -34,7 +35,7 @@ use Rattle.fsfs_world.specs.declared.machine.Outcome.{Outcome}
 use Rattle.fsfs_world.specs.declared.machine.Outcome.TheVariants as outcome
 use Rattle.fsfs_world.specs.declared.machine.Step.{Step}
 use Rattle.fsfs_world.specs.declared.machine.Step.TheVariants as step
-use Rattle.fsfs_world.specs.Disk.{Disk, found, shown, left}
+use Rattle.fsfs_world.specs.Disk.{Disk, found, shown, left, is_picked}
 
 pub record World : Type 0 where
   pub disk : Disk
@@ -50,8 +51,14 @@ pub record World : Type 0 where
   pub floor : ℕ
   -- the numbers of the transaction names given, the newest first
   pub given : List ℕ
+  -- the names of the transactions whose labels the disk keeps
+  pub labels : List ℕ
+  -- the names given whose transactions have no bench yet, with their bases
+  pub named : List Drawn
   -- the transactions under way
   pub txns : List Txn
+  -- the names of the transactions that are no more, and whose labels are to be dropped
+  pub spent : List ℕ
   pub passes : List Pass
 
 -- what a step leaves, and what it answers
@@ -126,6 +133,36 @@ either went fine ill = if is_fine_in went then fine else ill
 abbrev pub answer : Went → Outcome
 answer went = either went outcome.Done outcome.Failed
 
+-- whether a call takes effect, however it ends
+abbrev pub takes_effect : Went → Bool
+takes_effect Fine = true
+takes_effect After = true
+takes_effect went = false
+
+abbrev pub without : ℕ → List ℕ → List ℕ
+without k [] = []
+without k (x ∷ xs) = if x == k then without k xs else x ∷ without k xs
+
+-- the labels after one was to be made, or dropped; a failed call leaves it or not
+abbrev pub labelled : Went → ℕ → List ℕ → List ℕ
+labelled went name labels = if takes_effect went then name ∷ labels else labels
+
+abbrev pub unlabelled : Went → ℕ → List ℕ → List ℕ
+unlabelled went name labels = if takes_effect went then without name labels else labels
+
+abbrev pub has_label : ℕ → List ℕ → Bool
+has_label k [] = false
+has_label k (x ∷ xs) = x == k || has_label k xs
+
+abbrev pub label_where : Bool → ℕ → List ℕ → List ℕ
+label_where true k ks = k ∷ ks
+label_where false k ks = ks
+
+-- a crash leaves each label or not
+abbrev pub labels_left : List Bool → List ℕ → List ℕ
+labels_left picks [] = []
+labels_left picks (k ∷ ks) = label_where (is_picked picks) k (labels_left (drop 1 picks) ks)
+
 -- a turn shows a pass the history, of n revisions; the place of its fault is kept
 abbrev pub learns : ℕ → Place → Went → Pass → Pass
 learns n place went x = record x { seen = n; faults = either went x.faults (x.faults ++ place ∷ []) }
@@ -179,9 +216,9 @@ tree_in (Some x) = x.tree
 abbrev pub begun_txn : List Recorded → Drawn → Txn
 begun_txn h x = record { name = x.name; base = x.base; tree = tree_in (slice_get (revisions h) x.base); marks = []; landings = 0 }
 
--- the name that is given as the names are firm, with its transaction
+-- the name that is given as the names are firm
 abbrev pub gives : Section → Went → World → World
-gives (CountRenamed x) Fine w = record w { given = x.name ∷ w.given; txns = w.txns ++ begun_txn w.history x ∷ [] }
+gives (CountRenamed x) Fine w = record w { given = x.name ∷ w.given; named = w.named ++ x ∷ [] }
 gives s went w = w
 
 abbrev pub called_by : World → ℕ → Place → Went → Section → Option Change → Did
@@ -242,18 +279,18 @@ pub record IsComing (h : List Recorded) (e : Entry) (bytes : List ℕ) (x : Comi
   pub brought : x.bytes ≡ bytes
   pub adds : Adds h e x.revision
 
--- PutRev: a commit's first call; the transaction is used up
-abbrev pub adopted : World → ℕ → ℕ → Went → Coming → World
-adopted w p t went x = at_call (record w { txns = without_place w.txns t }) p PutRev (Put (Rev (length w.history)) (file_of (recorded x))) (RevPut x) Over went
+-- PutRev: a commit's first call; the transaction is used up, and its label is yet to be dropped
+abbrev pub adopted : World → ℕ → ℕ → ℕ → Went → Coming → World
+adopted w p t name went x = at_call (record w { txns = without_place w.txns t; spent = w.spent ++ name ∷ [] }) p PutRev (Put (Rev (length w.history)) (file_of (recorded x))) (RevPut x) Over went
 
-abbrev pub AdoptsOf : World → ℕ → ℕ → Entry → List ℕ → Went → Did → Type 0
-AdoptsOf w p t e bytes went d =
-    ((x : Coming) × IsComing w.history e bytes x × (d ≡ did (adopted w p t went x) (answer went)))
+abbrev pub AdoptsOf : World → ℕ → ℕ → ℕ → Entry → List ℕ → Went → Did → Type 0
+AdoptsOf w p t name e bytes went d =
+    ((x : Coming) × IsComing w.history e bytes x × (d ≡ did (adopted w p t name went x) (answer went)))
     ⊎ (((next : Revision) → Adds w.history e next → ⊥) × (d ≡ barred w))
 
 abbrev pub AdoptsTxn : World → ℕ → ℕ → List (List ℕ × List ℕ) → List ℕ → Went → Option Txn → Did → Type 0
 AdoptsTxn w p t properties bytes went None d = d ≡ barred w
-AdoptsTxn w p t properties bytes went (Some txn) d = AdoptsOf w p t (entry_of p txn properties) bytes went d
+AdoptsTxn w p t properties bytes went (Some txn) d = AdoptsOf w p t txn.name (entry_of p txn properties) bytes went d
 
 abbrev pub Adopts : World → ℕ → ℕ → List (List ℕ × List ℕ) → List ℕ → Went → Bool → Did → Type 0
 Adopts w p t properties bytes went false d = d ≡ barred w
@@ -351,6 +388,16 @@ has_read w p r offset size went None = barred w
 has_read w p r offset size went (Some x) =
     if is_known x r then did (turned w p Read went) (either went (range_of offset size (shown x.floor w.disk r)) outcome.Failed) else barred w
 
+-- the properties in a file
+abbrev pub properties_in : Option Contents → Outcome
+properties_in (Some (PropsFile properties)) = outcome.Properties properties
+properties_in o = outcome.Missing
+
+abbrev pub has_read_props : World → ℕ → ℕ → Went → Option Pass → Did
+has_read_props w p r went None = barred w
+has_read_props w p r went (Some x) =
+    if is_known x r then did (turned w p Read went) (either went (properties_in (found w.disk (Props r))) outcome.Failed) else barred w
+
 abbrev pub floor_of : Option ℕ → Outcome
 floor_of (Some k) = outcome.Floor k
 floor_of None = outcome.Missing
@@ -368,6 +415,49 @@ floor_read w p went (Some x) =
     did (record w { passes = at_place w.passes p (sees_floor (length w.history) went (number_of (found w.disk Floor))) })
     (either went (floor_of (number_of (found w.disk Floor))) outcome.Failed)
 
+-- the pass is in no section
+abbrev pub is_outside : ℕ → Lock → Bool
+is_outside p (Held q s) = not (q == p)
+is_outside p lock = true
+
+-- a begin's last call: the transaction has a bench now, or it is no more
+abbrev pub made : World → ℕ → ℕ → Went → Option Drawn → Did
+made w p n went None = barred w
+made w p n went (Some x) =
+    did (record w {
+      labels = labelled went x.name w.labels;
+      named = without_place w.named n;
+      txns = either went (w.txns ++ begun_txn w.history x ∷ []) w.txns;
+      spent = either went w.spent (w.spent ++ x.name ∷ []);
+      passes = at_place w.passes p (learns (length w.history) place.MakeBench went);
+    }) (answer went)
+
+abbrev pub purged : World → ℕ → ℕ → Went → Option Txn → Did
+purged w p t went None = barred w
+purged w p t went (Some x) =
+    did (record w {
+      labels = unlabelled went x.name w.labels;
+      txns = without_place w.txns t;
+      passes = at_place w.passes p (learns (length w.history) place.Remove went);
+    }) (answer went)
+
+abbrev pub purged_spent : World → ℕ → ℕ → Went → Option ℕ → Did
+purged_spent w p n went None = barred w
+purged_spent w p n went (Some name) =
+    did (record w {
+      labels = unlabelled went name w.labels;
+      spent = without_place w.spent n;
+      passes = at_place w.passes p (learns (length w.history) place.Remove went);
+    }) (answer went)
+
+abbrev pub listed : World → Went → Outcome
+listed w went = either went (outcome.Names w.labels) outcome.Failed
+
+-- a label is dropped while no object has the disk
+abbrev pub label_dropped : World → ℕ → Went → Did
+label_dropped w name went =
+    did (record w { labels = unlabelled went name w.labels }) (either went (if has_label name w.labels then outcome.Done else outcome.Missing) outcome.Failed)
+
 -- the lock of an object that is no more
 abbrev pub down : Lock → Lock
 down (Held p (CurrentRenamed x)) = DownDoubtful x
@@ -378,7 +468,7 @@ down (DownDoubtful x) = DownDoubtful x
 down lock = Down
 
 abbrev pub ends : World → World
-ends w = record w { lock = down w.lock; opening = length w.history; since = []; txns = []; passes = [] }
+ends w = record w { lock = down w.lock; opening = length w.history; since = []; named = []; txns = []; spent = []; passes = [] }
 
 -- the revision that two files show
 abbrev pub revision_in : Option Contents → Option Contents → Option Recorded
@@ -401,7 +491,7 @@ first_pass n floor = record { seen = n; least = n - 1; mine = []; floor = floor;
 abbrev pub opened : World → ℕ → ℕ → Option (List Recorded) → Did
 opened w k floor None = did w outcome.Missing
 opened w k floor (Some h) =
-    did (record w { disk = Firm ∷ w.disk; lock = Free; young = k; history = h; opening = k + 1; since = []; floor = floor; txns = []; passes = first_pass (k + 1) floor ∷ [] }) outcome.Done
+    did (record w { disk = Firm ∷ w.disk; lock = Free; young = k; history = h; opening = k + 1; since = []; floor = floor; named = []; txns = []; spent = []; passes = first_pass (k + 1) floor ∷ [] }) outcome.Done
 
 abbrev pub named : World → Option ℕ → Option ℕ → Did
 named w (Some k) (Some floor) = if nat_lt k (2 ^ 64 - 1) then opened w k floor (read_back floor w.disk (k + 1)) else did w outcome.Missing
@@ -440,7 +530,10 @@ created properties bytes = record {
   since = [];
   floor = 0;
   given = [];
+  labels = [];
+  named = [];
   txns = [];
+  spent = [];
   passes = first_pass 1 0 ∷ [];
 }
 
@@ -455,13 +548,20 @@ Happens w (step.Call p place went) d = d ≡ inside w (called w p place went) (h
 Happens w (step.Reveal p) d = d ≡ inside w (revealed w p) (held_by p w.lock)
 Happens w (step.Look p) d = d ≡ (if is_there w p && is_up w.lock then looked w p else barred w)
 Happens w (step.Read p r offset size went) d = d ≡ has_read w p r offset size went (slice_get w.passes p)
+Happens w (step.ReadProps p r went) d = d ≡ has_read_props w p r went (slice_get w.passes p)
 Happens w (step.ReadFloor p went) d = d ≡ floor_read w p went (slice_get w.passes p)
 Happens w (step.Split p) d = d ≡ split_off w (slice_get w.passes p)
 Happens w (step.Join p q) d = d ≡ (if is_there w p && not (p == q) then join_with w p (slice_get w.passes q) else barred w)
 Happens w (step.Edit t edit) d = Edits w t edit (slice_get w.txns t) d
 Happens w (step.Merge t head) d = Merges w t head (slice_get w.txns t) d
+Happens w (step.MakeBench p n went) d = d ≡ (if is_there w p && is_outside p w.lock then made w p n went (slice_get w.named n) else barred w)
+Happens w (step.ListTxns p went) d = d ≡ (if is_there w p then did (turned w p place.List went) (listed w went) else barred w)
+Happens w (step.Purge p t went) d = d ≡ (if is_there w p && is_outside p w.lock then purged w p t went (slice_get w.txns t) else barred w)
+Happens w (step.PurgeSpent p n went) d = d ≡ (if is_there w p && is_outside p w.lock then purged_spent w p n went (slice_get w.spent n) else barred w)
+Happens w (step.ListLabels went) d = d ≡ (if is_up w.lock then barred w else did w (listed w went))
+Happens w (step.DropLabel name went) d = d ≡ (if is_up w.lock then barred w else label_dropped w name went)
 Happens w step.Close d = d ≡ (if is_up w.lock then did (ends w) outcome.Done else barred w)
-Happens w (step.Crash picks) d = d ≡ did (record (ends w) { disk = Firm ∷ left picks w.disk }) outcome.Done
+Happens w (step.Crash picks labels) d = d ≡ did (record (ends w) { disk = Firm ∷ left picks w.disk; labels = labels_left labels w.labels }) outcome.Done
 Happens w (step.Open went) d = d ≡ (if is_up w.lock then barred w else open_at w went)
 
 -- what a list of steps may leave and answer

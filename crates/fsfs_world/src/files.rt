@@ -122,7 +122,8 @@ fn is_firm(change: &Change) -> bool
     matches!(change, Change::Firm)
 }
 
-fn is_picked_first(picks: &[bool]) -> bool
+// Whether the first is picked.
+pub(crate) fn is_picked_first(picks: &[bool]) -> bool
     ensures { result ≡ is_picked picks.now }
 {
     match picks {
@@ -131,7 +132,7 @@ fn is_picked_first(picks: &[bool]) -> bool
     }
 }
 
-fn without_first(picks: &[bool]) -> &[bool]
+pub(crate) fn without_first(picks: &[bool]) -> &[bool]
     ensures { result.now ≡ drop 1 picks.now }
 {
     match picks {

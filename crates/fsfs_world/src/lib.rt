@@ -4,6 +4,7 @@
 
 mod contents;
 pub mod files;
+pub mod labels;
 mod line;
 mod machine;
 mod marks;

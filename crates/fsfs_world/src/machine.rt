@@ -163,6 +163,12 @@ pub enum Place {
     RenameCurrent,
     FirmCurrent,
     Read,
+    /// A transaction's bench is made, with its label.
+    MakeBench,
+    /// The labels are listed.
+    List,
+    /// A bench is dropped, and its label.
+    Remove,
 }
 
 /// How far the holder of the lock has come: each is named after the last call that was done.
@@ -298,6 +304,12 @@ pub enum Step {
         length: u64,
         went: Went,
     },
+    /// Reads the property file of a revision.
+    ReadProps {
+        pass: u64,
+        rev: u64,
+        went: Went,
+    },
     /// Reads `min-unpacked-rev`.
     ReadFloor {
         pass: u64,
@@ -320,17 +332,50 @@ pub enum Step {
         txn: u64,
         head: u32,
     },
+    /// `MakeBench`, a begin's last call, of one of the names that are given and have no bench yet.
+    MakeBench {
+        pass: u64,
+        name: u64,
+        went: Went,
+    },
+    /// Lists the names of transactions that have a label.
+    ListTxns {
+        pass: u64,
+        went: Went,
+    },
+    /// Purges a transaction under way: its label is dropped.
+    Purge {
+        pass: u64,
+        txn: u64,
+        went: Went,
+    },
+    /// Drops the label of a transaction that is no more: a commit used it up, or its bench could not be made.
+    PurgeSpent {
+        pass: u64,
+        spent: u64,
+        went: Went,
+    },
+    /// Lists the labels while no object has the disk.
+    ListLabels {
+        went: Went,
+    },
+    /// Drops the label of the transaction with that name while no object has the disk.
+    DropLabel {
+        name: u64,
+        went: Went,
+    },
     Close,
-    /// The pending changes that are picked come through; the newest first.
+    /// The pending changes that are picked come through, the newest first, and the labels that are picked.
     Crash {
         picks: Picks,
+        labels: Picks,
     },
     Open {
         went: Went,
     },
 }
 
-/// Which pending changes come through.
+/// Which pending changes, or labels, come through.
 #[derive(Drop)]
 pub struct Picks {
     pub picks: Vec<bool>,
@@ -358,8 +403,12 @@ pub enum Outcome {
     Youngest(u64),
     /// The bytes that were read.
     Bytes(Bytes),
+    /// The properties that a property file shows.
+    Properties(Pairs),
     /// The number that `min-unpacked-rev` shows.
     Floor(u64),
+    /// The names of the transactions that have a label.
+    Names(Numbers),
     /// No such file, or another than was asked for.
     Missing,
     /// The merge would clash here first: the transaction is as before.

@@ -5,6 +5,7 @@ ghost use Rattle.fsfs_world.specs.Machine.{at_place, learns, reveals, joined, se
 use crate::files::is_fine;
 use crate::machine::{Numbers, Pass, Place, Places, Went};
 use std::alloc::{AllocError, Global};
+use std::collections::VecDeque;
 
 impl Places {
     pub fn new(alloc: Global) -> Places
@@ -52,6 +53,17 @@ impl Numbers {
     {
         self.numbers.push(number)?;
         Ok(())
+    }
+
+    /// The same numbers.
+    pub fn of(alloc: Global, numbers: &VecDeque<u64>) -> Result<Numbers, AllocError>
+        ensures { IfOk result (λ o. o ≡ numbers.now.items) }
+    {
+        let mut out = Numbers::new(alloc);
+        for number in numbers {
+            out.push(*number)?;
+        }
+        Ok(out)
     }
 }
 

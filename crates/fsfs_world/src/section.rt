@@ -1,6 +1,6 @@
 //! How far a section has come.
 ghost use Rattle.std.specs.Prelude.{◌≡◌, ◌+◌, ℕ};
-ghost use Rattle.fsfs_world.specs.Machine.{either, is_due, is_quiet, is_up, after, spoiled, down, answer};
+ghost use Rattle.fsfs_world.specs.Machine.{either, is_due, is_quiet, is_up, is_outside, after, spoiled, down, answer};
 
 use crate::files::is_fine;
 use crate::machine::{Drawn, Lock, Outcome, Place, Section, Went};
@@ -84,6 +84,13 @@ pub fn is_lock_up(lock: &Lock) -> bool
     ensures { result ≡ is_up lock.now }
 {
     !matches!(lock, Lock::Down | Lock::DownDoubtful(_))
+}
+
+/// Whether the pass is in no section.
+pub fn is_outside_section(p: u64, lock: &Lock) -> bool
+    ensures { result ≡ is_outside p lock.now }
+{
+    !matches!(lock, Lock::Held(q, _) if *q == p)
 }
 
 /// The lock of an object that is no more.
