@@ -1,0 +1,223 @@
+// Steps as the tables write them, and their answers.
+use fsfs_base::{Edit, FsPath, Pairs, PropName};
+use fsfs_core::{Bytes, Contents, Outcome, Picks, Place, Step, Went};
+use std::alloc::{AllocError, Global};
+use std::test::Fail;
+
+/// The names of a path.
+pub type Names = &'static [&'static str];
+
+/// How a disk call goes.
+#[derive(Clone, Copy)]
+pub enum How {
+    Fine,
+    Before,
+    After,
+    Torn,
+}
+
+/// An edit of a transaction.
+#[derive(Clone, Copy)]
+pub enum Work {
+    MakeDir(Names),
+    MakeFile(Names),
+    PutText(Names, &'static [u8]),
+    Delete(Names),
+    /// The property `color`, with the value `r`.
+    Color(Names),
+}
+
+/// A step, of the pass whose number comes first.
+#[derive(Clone, Copy)]
+pub enum Do {
+    TakeLock(u64),
+    GiveLock(u64),
+    StickLock(u64),
+    /// On this base.
+    Draw(u64, u32, How),
+    /// The transaction at this place, with these bytes of its revision file.
+    PutRev(u64, u64, &'static [u8], How),
+    Call(u64, Place, How),
+    Reveal(u64),
+    Look(u64),
+    /// Reads the whole file of this revision.
+    Read(u64, u64),
+    ReadFloor(u64),
+    Split(u64),
+    Join(u64, u64),
+    /// Of the transaction at this place.
+    Edit(u64, Work),
+    Merge(u64, u32),
+    /// Of the name at this place.
+    MakeBench(u64, u64, How),
+    ListTxns(u64),
+    /// The transaction at this place.
+    Purge(u64, u64, How),
+    Close,
+    /// The newest change comes through, and the one before it; and all labels do.
+    Crash(bool, bool),
+    Open(How),
+}
+
+/// What a step answers.
+#[derive(Clone, Copy)]
+pub enum Want {
+    Barred,
+    Done,
+    Failed,
+    Stuck(Place),
+    Youngest(u64),
+    Bytes(&'static [u8]),
+    Floor(u64),
+    Names(&'static [u64]),
+    Missing,
+    Conflict(Names),
+}
+
+/// The path of these names.
+pub fn path_of(alloc: Global, names: &[&str]) -> Result<FsPath, AllocError> {
+    let mut path = FsPath::root(alloc);
+    for name in names {
+        path = path.child(alloc, name)?;
+    }
+    Ok(path)
+}
+
+fn went(how: How) -> Went {
+    match how {
+        How::Fine => Went::Fine,
+        How::Before => Went::Before,
+        How::After => Went::After,
+        How::Torn => Went::Torn(Contents::Junk),
+    }
+}
+
+fn bytes_of(alloc: Global, bytes: &[u8]) -> Result<Bytes, AllocError> {
+    Ok(Bytes::new(Vec::from_slice(alloc, bytes)?))
+}
+
+fn color(alloc: Global, names: Names) -> Result<Edit, Fail> {
+    Ok(Edit::SetProp {
+        path: path_of(alloc, names)?,
+        name: PropName::parse(alloc, "color")?,
+        value: Some(Vec::from_slice(alloc, b"r")?),
+    })
+}
+
+fn edit_of(alloc: Global, work: Work) -> Result<Edit, Fail> {
+    match work {
+        Work::MakeDir(names) => Ok(Edit::MakeDir {
+            path: path_of(alloc, names)?,
+        }),
+        Work::MakeFile(names) => Ok(Edit::MakeFile {
+            path: path_of(alloc, names)?,
+        }),
+        Work::PutText(names, text) => Ok(Edit::PutText {
+            path: path_of(alloc, names)?,
+            text: Vec::from_slice(alloc, text)?,
+        }),
+        Work::Delete(names) => Ok(Edit::Delete {
+            path: path_of(alloc, names)?,
+        }),
+        Work::Color(names) => color(alloc, names),
+    }
+}
+
+fn put_rev(alloc: Global, pass: u64, txn: u64, bytes: &[u8], how: How) -> Result<Step, AllocError> {
+    Ok(Step::AdoptRev {
+        pass,
+        txn,
+        properties: Pairs::new(alloc),
+        bytes: bytes_of(alloc, bytes)?,
+        went: went(how),
+    })
+}
+
+fn read(pass: u64, rev: u64) -> Step {
+    Step::Read {
+        pass,
+        rev,
+        offset: 0,
+        length: 1000,
+        went: Went::Fine,
+    }
+}
+
+fn crash(alloc: Global, newest: bool, next: bool) -> Result<Step, AllocError> {
+    Ok(Step::Crash {
+        picks: Picks {
+            picks: Vec::from_slice(alloc, &[newest, next])?,
+        },
+        labels: Picks {
+            picks: Vec::from_slice(alloc, &[true; 4])?,
+        },
+    })
+}
+
+/// The step that a table writes so.
+pub fn step_of(alloc: Global, act: Do) -> Result<Step, Fail> {
+    match act {
+        Do::TakeLock(pass) => Ok(Step::TakeLock { pass }),
+        Do::GiveLock(pass) => Ok(Step::GiveLock { pass }),
+        Do::StickLock(pass) => Ok(Step::StickLock { pass }),
+        Do::Draw(pass, base, how) => Ok(Step::Draw {
+            pass,
+            base,
+            went: went(how),
+        }),
+        Do::PutRev(pass, txn, bytes, how) => Ok(put_rev(alloc, pass, txn, bytes, how)?),
+        Do::Call(pass, place, how) => Ok(Step::Call {
+            pass,
+            place,
+            went: went(how),
+        }),
+        Do::Reveal(pass) => Ok(Step::Reveal { pass }),
+        Do::Look(pass) => Ok(Step::Look { pass }),
+        Do::Read(pass, rev) => Ok(read(pass, rev)),
+        Do::ReadFloor(pass) => Ok(Step::ReadFloor {
+            pass,
+            went: Went::Fine,
+        }),
+        Do::Split(pass) => Ok(Step::Split { pass }),
+        Do::Join(pass, other) => Ok(Step::Join { pass, other }),
+        Do::Edit(txn, work) => Ok(Step::Edit {
+            txn,
+            edit: edit_of(alloc, work)?,
+        }),
+        Do::Merge(txn, head) => Ok(Step::Merge { txn, head }),
+        Do::MakeBench(pass, name, how) => Ok(Step::MakeBench {
+            pass,
+            name,
+            went: went(how),
+        }),
+        Do::ListTxns(pass) => Ok(Step::ListTxns {
+            pass,
+            went: Went::Fine,
+        }),
+        Do::Purge(pass, txn, how) => Ok(Step::Purge {
+            pass,
+            txn,
+            went: went(how),
+        }),
+        Do::Close => Ok(Step::Close),
+        Do::Crash(newest, next) => Ok(crash(alloc, newest, next)?),
+        Do::Open(how) => Ok(Step::Open { went: went(how) }),
+    }
+}
+
+/// Whether the outcome is the one that is wanted.
+pub fn is_answer(alloc: Global, outcome: &Outcome, want: Want) -> Result<bool, AllocError> {
+    match (outcome, want) {
+        (Outcome::Barred, Want::Barred) => Ok(true),
+        (Outcome::Done, Want::Done) => Ok(true),
+        (Outcome::Failed, Want::Failed) => Ok(true),
+        (Outcome::Missing, Want::Missing) => Ok(true),
+        (Outcome::Stuck(place), Want::Stuck(at)) => Ok(*place == at),
+        (Outcome::Youngest(number), Want::Youngest(young)) => Ok(*number == young),
+        (Outcome::Floor(number), Want::Floor(floor)) => Ok(*number == floor),
+        (Outcome::Names(found), Want::Names(names)) => Ok(found.numbers.as_slice() == names),
+        (Outcome::Bytes(found), Want::Bytes(bytes)) => Ok(found.as_slice() == bytes),
+        (Outcome::Conflict(path), Want::Conflict(names)) => Ok(*path == path_of(alloc, names)?),
+        _ => Ok(false),
+    }
+}
