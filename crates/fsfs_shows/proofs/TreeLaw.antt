@@ -1,11 +1,10 @@
 -- What the bytes show is a tree, with numbers in order.
-use Rattle.std.proofs.Common.{◌≡◌, ◌≤◌, ◌<◌, ℕ, suc, max, cond, Bool, true, false, ◌&&◌, List, [], ◌∷◌, ◌++◌, length, take, refl, sym, ap, subst, ◌∙◌, arith, inl, inr}
+use Rattle.std.proofs.Common.{◌≡◌, ◌≤◌, ℕ, suc, max, cond, Bool, true, false, ◌&&◌, List, [], ◌∷◌, ◌++◌, take, refl, sym, ap, subst, ◌∙◌, arith}
 use Rattle.std.proofs.lemmas.Bool.{and_parts}
 use Rattle.std.proofs.lemmas.Bool.Decides.{nat_tests}
-use Rattle.std.specs.Prelude.{Result, Ok, Err, Option, Some, None, not, nat_lt, nat_le, ◌==◌, ◌||◌, is_some, IsSomeAnd, unwrap_or}
+use Rattle.std.specs.Prelude.{Result, Ok, Option, Some, None, not, ◌==◌, is_some, IsSomeAnd, unwrap_or}
 use Rattle.fsfs_base.specs.Paths.{Name, Path, same_name, covers, is_above}
 use Rattle.fsfs_base.specs.Nodes.{Node, TreeFunction}
-use Rattle.fsfs_base.specs.Histories.{IsTree, IsOrdered}
 use Rattle.fsfs_base.specs.declared.node.Kind.{Kind}
 use Rattle.fsfs_base.specs.declared.node.Kind.TheVariants.{File, Dir}
 use Rattle.fsfs_base.proofs.PathLemmas.{same_name-is, same_name-refl}
@@ -17,12 +16,12 @@ use Rattle.fsfs_noderev.specs.declared.rep.Contents.{Contents}
 use Rattle.fsfs_noderev.specs.declared.rep.Contents.TheVariants as contents
 use Rattle.fsfs_noderev.specs.declared.node_rev.CopyRoot.{CopyRoot}
 use Rattle.fsfs_noderev.specs.declared.node_rev.NodeRev.{NodeRev}
-use Rattle.fsfs_revision.specs.Nodes.{is_before, place_before, pred_before, rep_place_before, rep_before, source_before, rev_not_after, root_not_after, is_ordered, is_own_place, is_directory, is_root}
+use Rattle.fsfs_revision.specs.Nodes.{place_before, pred_before, rep_place_before, rep_before, source_before, rev_not_after, root_not_after, is_ordered, is_own_place, is_directory}
 use Rattle.fsfs_revision.specs.Damages.{place_of}
 use Rattle.fsfs_revision.specs.declared.damage.RevOffset.{RevOffset}
 use Rattle.fsfs_shows.specs.declared.wrong.Wrong.{Wrong}
-use Rattle.fsfs_shows.specs.Reading.{offset_of, RootOf, OfId, OfEntry, OfNamed, Pairs, Entry, IsEntry, AreEntries, EntriesAt, EntriesOf, OfContents, named, ChildOf, Met, Stands, Lacking, Blocked, OrLacking, InDirectory, MetFrom, MetAt, StandsAt}
-use Rattle.fsfs_shows.specs.Chains.{own_rev, Chain, First, Breaks, Goes, root_or_own, copy_root_of, IsCopiedIn, contents_rev}
+use Rattle.fsfs_shows.specs.Reading.{offset_of, RootOf, OfId, OfNamed, Pairs, Entry, AreEntries, EntriesAt, EntriesOf, OfContents, named, ChildOf, Met, Stands, Lacking, Blocked, OrLacking, InDirectory, MetFrom, MetAt, StandsAt}
+use Rattle.fsfs_shows.specs.Chains.{own_rev, Chain, First, Breaks, Goes, root_or_own, contents_rev}
 use Rattle.fsfs_shows.specs.Shown.{IsShown, IsShownAs, Shows}
 use Rattle.fsfs_shows.specs.TreeLaw.{IsSound}
 use Rattle.fsfs_shows.proofs.OneStep.{ok_same}
@@ -164,7 +163,7 @@ module _ (look : Look) where
       subst (λ (x : NodeRev). IsHome x × (own_rev x ≤ own_rev a)) same (home, omega arith)
   walk_home a v depth (name ∷ p) home at =
       home_in a.kind depth (ChildOf look a name) (λ w. MetFrom look w (suc depth) p) (IsHome v × (own_rev v ≤ own_rev a)) v at
-          (λ u child on. let c = child_home a u name child in let w = walk_home u v (suc depth) p c.0 on in (w.0, omega (arith, w.1, c.1)))
+      (λ u child on. let c = child_home a u name child in let w = walk_home u v (suc depth) p c.0 on in (w.0, omega (arith, w.1, c.1)))
 
   stands_home : (rev : ℕ) (p : Path) (v : NodeRev) → StandsAt look rev p v → IsHome v × (own_rev v ≤ rev)
   stands_home rev p v at =
@@ -253,7 +252,7 @@ module _ (look : Look) (rev : ℕ) (tree : TreeFunction) (shows : Shows look rev
       let q = stands_home look rev (take c.0 p) c.1 c.3 in
       let copied : w.copied ≤ rev = omega (arith, c.4, root_le c.1 c.1.copy_root q.0.root, q.1) in
       numbers n.added n.props_changed n.last_changed w.first w.copied (contents_rev v.props) (own_rev v) rev w.added w.props_changed w.last_changed
-          (chain_le look v (Ok w.first) w.first w.chain refl home.0) (props_le (offset_of v.id.place) v.props home.0.props) home.1 copied
+      (chain_le look v (Ok w.first) w.first w.chain refl home.0) (props_le (offset_of v.id.place) v.props home.0.props) home.1 copied
 
   pub sound : IsSound rev tree
   sound = record {
