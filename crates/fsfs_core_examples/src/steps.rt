@@ -53,6 +53,13 @@ pub enum Do {
     ListTxns(u64),
     /// The transaction at this place.
     Purge(u64, u64, How),
+    /// The name at this place among those whose transactions are no more.
+    PurgeSpent(u64, u64, How),
+    ListLabels,
+    /// That of this name.
+    DropLabel(u64, How),
+    /// Reads the property file of this revision.
+    ReadProps(u64, u64),
     Close,
     /// The newest change comes through, and the one before it; and all labels do.
     Crash(bool, bool),
@@ -70,6 +77,7 @@ pub enum Want {
     Bytes(&'static [u8]),
     Floor(u64),
     Names(&'static [u64]),
+    NoProperties,
     Missing,
     Conflict(Names),
 }
@@ -199,6 +207,21 @@ pub fn step_of(alloc: Global, act: Do) -> Result<Step, Fail> {
             txn,
             went: went(how),
         }),
+        Do::PurgeSpent(pass, spent, how) => Ok(Step::PurgeSpent {
+            pass,
+            spent,
+            went: went(how),
+        }),
+        Do::ListLabels => Ok(Step::ListLabels { went: Went::Fine }),
+        Do::DropLabel(name, how) => Ok(Step::DropLabel {
+            name,
+            went: went(how),
+        }),
+        Do::ReadProps(pass, rev) => Ok(Step::ReadProps {
+            pass,
+            rev,
+            went: Went::Fine,
+        }),
         Do::Close => Ok(Step::Close),
         Do::Crash(newest, next) => Ok(crash(alloc, newest, next)?),
         Do::Open(how) => Ok(Step::Open { went: went(how) }),
@@ -215,6 +238,7 @@ pub fn is_answer(alloc: Global, outcome: &Outcome, want: Want) -> Result<bool, A
         (Outcome::Stuck(place), Want::Stuck(at)) => Ok(*place == at),
         (Outcome::Youngest(number), Want::Youngest(young)) => Ok(*number == young),
         (Outcome::Floor(number), Want::Floor(floor)) => Ok(*number == floor),
+        (Outcome::Properties(found), Want::NoProperties) => Ok(found.as_map().is_empty()),
         (Outcome::Names(found), Want::Names(names)) => Ok(found.numbers.as_slice() == names),
         (Outcome::Bytes(found), Want::Bytes(bytes)) => Ok(found.as_slice() == bytes),
         (Outcome::Conflict(path), Want::Conflict(names)) => Ok(*path == path_of(alloc, names)?),
