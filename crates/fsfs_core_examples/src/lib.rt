@@ -1,8 +1,10 @@
-//! Runs of the pure machine, worked out by hand: stops, faults, merges, begins and passes.
+//! Runs of the pure machine, worked out by hand: stops, faults, merges, begins, labels and passes.
 #![tactic(auto)]
 
 #[cfg(test)]
 mod begins;
+#[cfg(test)]
+mod labels;
 #[cfg(test)]
 mod merges;
 #[cfg(test)]

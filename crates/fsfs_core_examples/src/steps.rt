@@ -53,6 +53,13 @@ pub enum Do {
     ListTxns(u64),
     /// The transaction at this place.
     Purge(u64, u64, How),
+    /// The name at this place among those whose transactions are no more.
+    PurgeSpent(u64, u64, How),
+    ListLabels,
+    /// That of this name.
+    DropLabel(u64, How),
+    /// Reads the property file of this revision.
+    ReadProps(u64, u64),
     Close,
     /// The newest change comes through, and the one before it; and all labels do.
     Crash(bool, bool),
@@ -70,6 +77,7 @@ pub enum Want {
     Bytes(&'static [u8]),
     Floor(u64),
     Names(&'static [u64]),
+    NoProperties,
     Missing,
     Conflict(Names),
 }
@@ -154,55 +162,90 @@ fn crash(alloc: Global, newest: bool, next: bool) -> Result<Step, AllocError> {
     })
 }
 
+fn draw(pass: u64, base: u32, how: How) -> Step {
+    let went = went(how);
+    Step::Draw { pass, base, went }
+}
+
+fn call(pass: u64, place: Place, how: How) -> Step {
+    let went = went(how);
+    Step::Call { pass, place, went }
+}
+
+fn make_bench(pass: u64, name: u64, how: How) -> Step {
+    let went = went(how);
+    Step::MakeBench { pass, name, went }
+}
+
+fn purge(pass: u64, txn: u64, how: How) -> Step {
+    let went = went(how);
+    Step::Purge { pass, txn, went }
+}
+
+fn purge_spent(pass: u64, spent: u64, how: How) -> Step {
+    let went = went(how);
+    Step::PurgeSpent { pass, spent, went }
+}
+
+fn drop_label(name: u64, how: How) -> Step {
+    let went = went(how);
+    Step::DropLabel { name, went }
+}
+
+fn read_floor(pass: u64) -> Step {
+    let went = Went::Fine;
+    Step::ReadFloor { pass, went }
+}
+
+fn list_txns(pass: u64) -> Step {
+    let went = Went::Fine;
+    Step::ListTxns { pass, went }
+}
+
+fn list_labels() -> Step {
+    let went = Went::Fine;
+    Step::ListLabels { went }
+}
+
+fn read_props(pass: u64, rev: u64) -> Step {
+    let went = Went::Fine;
+    Step::ReadProps { pass, rev, went }
+}
+
+fn edit(alloc: Global, txn: u64, work: Work) -> Result<Step, Fail> {
+    let edit = edit_of(alloc, work)?;
+    Ok(Step::Edit { txn, edit })
+}
+
 /// The step that a table writes so.
 pub fn step_of(alloc: Global, act: Do) -> Result<Step, Fail> {
-    match act {
-        Do::TakeLock(pass) => Ok(Step::TakeLock { pass }),
-        Do::GiveLock(pass) => Ok(Step::GiveLock { pass }),
-        Do::StickLock(pass) => Ok(Step::StickLock { pass }),
-        Do::Draw(pass, base, how) => Ok(Step::Draw {
-            pass,
-            base,
-            went: went(how),
-        }),
-        Do::PutRev(pass, txn, bytes, how) => Ok(put_rev(alloc, pass, txn, bytes, how)?),
-        Do::Call(pass, place, how) => Ok(Step::Call {
-            pass,
-            place,
-            went: went(how),
-        }),
-        Do::Reveal(pass) => Ok(Step::Reveal { pass }),
-        Do::Look(pass) => Ok(Step::Look { pass }),
-        Do::Read(pass, rev) => Ok(read(pass, rev)),
-        Do::ReadFloor(pass) => Ok(Step::ReadFloor {
-            pass,
-            went: Went::Fine,
-        }),
-        Do::Split(pass) => Ok(Step::Split { pass }),
-        Do::Join(pass, other) => Ok(Step::Join { pass, other }),
-        Do::Edit(txn, work) => Ok(Step::Edit {
-            txn,
-            edit: edit_of(alloc, work)?,
-        }),
-        Do::Merge(txn, head) => Ok(Step::Merge { txn, head }),
-        Do::MakeBench(pass, name, how) => Ok(Step::MakeBench {
-            pass,
-            name,
-            went: went(how),
-        }),
-        Do::ListTxns(pass) => Ok(Step::ListTxns {
-            pass,
-            went: Went::Fine,
-        }),
-        Do::Purge(pass, txn, how) => Ok(Step::Purge {
-            pass,
-            txn,
-            went: went(how),
-        }),
-        Do::Close => Ok(Step::Close),
-        Do::Crash(newest, next) => Ok(crash(alloc, newest, next)?),
-        Do::Open(how) => Ok(Step::Open { went: went(how) }),
-    }
+    let step = match act {
+        Do::TakeLock(pass) => Step::TakeLock { pass },
+        Do::GiveLock(pass) => Step::GiveLock { pass },
+        Do::StickLock(pass) => Step::StickLock { pass },
+        Do::Draw(pass, base, how) => draw(pass, base, how),
+        Do::PutRev(pass, txn, bytes, how) => put_rev(alloc, pass, txn, bytes, how)?,
+        Do::Call(pass, place, how) => call(pass, place, how),
+        Do::Reveal(pass) => Step::Reveal { pass },
+        Do::Look(pass) => Step::Look { pass },
+        Do::Read(pass, rev) => read(pass, rev),
+        Do::ReadFloor(pass) => read_floor(pass),
+        Do::Split(pass) => Step::Split { pass },
+        Do::Join(pass, other) => Step::Join { pass, other },
+        Do::Edit(txn, work) => edit(alloc, txn, work)?,
+        Do::Merge(txn, head) => Step::Merge { txn, head },
+        Do::MakeBench(pass, name, how) => make_bench(pass, name, how),
+        Do::ListTxns(pass) => list_txns(pass),
+        Do::Purge(pass, txn, how) => purge(pass, txn, how),
+        Do::PurgeSpent(pass, spent, how) => purge_spent(pass, spent, how),
+        Do::ListLabels => list_labels(),
+        Do::DropLabel(name, how) => drop_label(name, how),
+        Do::ReadProps(pass, rev) => read_props(pass, rev),
+        Do::Close => Step::Close,
+        Do::Crash(newest, next) => crash(alloc, newest, next)?,
+        Do::Open(how) => Step::Open { went: went(how) },
+    };
+    Ok(step)
 }
 
 /// Whether the outcome is the one that is wanted.
@@ -215,6 +258,7 @@ pub fn is_answer(alloc: Global, outcome: &Outcome, want: Want) -> Result<bool, A
         (Outcome::Stuck(place), Want::Stuck(at)) => Ok(*place == at),
         (Outcome::Youngest(number), Want::Youngest(young)) => Ok(*number == young),
         (Outcome::Floor(number), Want::Floor(floor)) => Ok(*number == floor),
+        (Outcome::Properties(found), Want::NoProperties) => Ok(found.as_map().is_empty()),
         (Outcome::Names(found), Want::Names(names)) => Ok(found.numbers.as_slice() == names),
         (Outcome::Bytes(found), Want::Bytes(bytes)) => Ok(found.as_slice() == bytes),
         (Outcome::Conflict(path), Want::Conflict(names)) => Ok(*path == path_of(alloc, names)?),
