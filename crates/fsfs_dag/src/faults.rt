@@ -1,67 +1,72 @@
 //! What the faults of the readers below mean.
-use crate::fault::{ReadFault, What, Wrong};
-use fsfs_book::{BookFault, Refusal};
-use fsfs_noderev::Rep;
+ghost use Rattle.std.specs.Prelude.{◌≡◌};
+ghost use Rattle.fsfs_dag.specs.Faults.{bad_rep, of_book, of_rep, of_rep_error};
+ghost use Rattle.fsfs_shows.specs.Reading.{offset_of, rep_place};
+
+use fsfs_book::BookFault;
+use fsfs_noderev::{Place, Rep};
 use fsfs_rep::{RepError, RepFault};
-use fsfs_revision::{Damage, RevOffset, What as Damaged};
+use fsfs_revision::RevOffset;
+use fsfs_shows::{ReadError, RepDamage, RepWhat, Wrong};
 
-// What a refusal of a book says of the files.
-fn of_refusal(refusal: Refusal) -> Wrong {
-    match refusal {
-        Refusal::NoRev { asked, youngest } => Wrong::NoRev { asked, youngest },
-        Refusal::Missing { rev } => Wrong::Corrupt(RevOffset { rev, offset: 0 }, What::Missing),
-        Refusal::Small(fault) => Wrong::Small(fault),
-    }
+/// Damage of the representation at this place.
+pub(crate) fn bad_rep(at: RevOffset, what: RepWhat) -> ReadError
+    ensures { result ≡ bad_rep at what }
+{
+    ReadError::Wrong(Wrong::BadRep(RepDamage { at, what }))
 }
 
-/// A fault of a book; none where the offset is past the end.
-pub(crate) fn of_book(fault: BookFault) -> Option<ReadFault> {
+fn of_book(at: RevOffset, fault: BookFault) -> ReadError
+    ensures { result ≡ of_book at fault }
+{
     match fault {
-        BookFault::Refused(refusal) => Some(ReadFault::Wrong(of_refusal(refusal))),
-        BookFault::Short { .. } => None,
-        BookFault::DiskFault => Some(ReadFault::DiskFault),
+        BookFault::Refused(refusal) => ReadError::Wrong(Wrong::Refused(refusal)),
+        BookFault::Short { .. } => bad_rep(at, RepWhat::EndRep),
+        BookFault::DiskFault => ReadError::DiskFault,
     }
-}
-
-fn of_damaged(what: Damaged) -> What {
-    match what {
-        Damaged::Trailer => What::Trailer,
-        Damaged::NodeRev => What::NodeRev,
-        Damaged::PlaceOrder => What::PlaceOrder,
-        Damaged::OtherId => What::OtherId,
-        Damaged::EntryKind => What::EntryKind,
-        Damaged::Header => What::Header,
-        Damaged::Missing => What::Missing,
-    }
-}
-
-/// Damage of a revision's bytes.
-pub(crate) fn of_damage(damage: Damage) -> Wrong {
-    Wrong::Corrupt(damage.at, of_damaged(damage.what))
-}
-
-fn at_rep(at: RevOffset, what: What) -> ReadFault {
-    ReadFault::Wrong(Wrong::Corrupt(at, what))
 }
 
 /// A fault of the representation at this place.
-pub(crate) fn of_rep(at: RevOffset, fault: RepFault) -> ReadFault {
+pub(crate) fn of_rep(at: RevOffset, fault: RepFault) -> ReadError
+    ensures { result ≡ of_rep at fault }
+{
     match fault {
-        RepFault::Book(BookFault::Refused(refusal)) => ReadFault::Wrong(of_refusal(refusal)),
-        RepFault::Book(_) => ReadFault::DiskFault,
-        RepFault::Delta { .. } => ReadFault::Wrong(Wrong::Delta(at)),
-        RepFault::NoHeader => at_rep(at, What::Header),
-        RepFault::NoTrailer => at_rep(at, What::EndRep),
-        RepFault::Size { kept, found } => at_rep(at, What::Size { kept, found }),
-        RepFault::Md5 { kept, found } => at_rep(at, What::Md5 { kept, found }),
-        RepFault::Sha1 { kept, found } => at_rep(at, What::Sha1 { kept, found }),
+        RepFault::Book(fault) => of_book(at, fault),
+        RepFault::Delta { .. } => ReadError::Wrong(Wrong::Delta(at)),
+        RepFault::NoHeader => bad_rep(at, RepWhat::Header),
+        RepFault::NoTrailer => bad_rep(at, RepWhat::EndRep),
+        RepFault::Size { kept, found } => bad_rep(at, RepWhat::Size { kept, found }),
+        RepFault::Md5 { kept, found } => bad_rep(at, RepWhat::Md5 { kept, found }),
+        RepFault::Sha1 { kept, found } => bad_rep(at, RepWhat::Sha1 { kept, found }),
     }
 }
 
 /// Why the bytes of the representation at this place are not had.
-pub(crate) fn of_rep_error(at: RevOffset, error: RepError) -> ReadFault {
+pub(crate) fn of_rep_error(at: RevOffset, error: RepError) -> ReadError
+    ensures { result ≡ of_rep_error at error }
+{
     match error {
         RepError::Fault(fault) => of_rep(at, fault),
-        RepError::OutOfMemory => ReadFault::OutOfMemory,
+        RepError::OutOfMemory => ReadError::OutOfMemory,
+    }
+}
+
+/// Where a representation's header is to begin.
+pub(crate) fn rep_place(rep: &Rep) -> RevOffset
+    ensures { result ≡ rep_place rep.now }
+{
+    RevOffset {
+        rev: rep.rev.unwrap_or(0),
+        offset: rep.offset,
+    }
+}
+
+/// Where a node-revision stands by the place of its id.
+pub(crate) fn offset_of(place: Place) -> RevOffset
+    ensures { result ≡ offset_of place }
+{
+    match place {
+        Place::At(rev, offset) => RevOffset { rev, offset },
+        Place::In(_) => RevOffset { rev: 0, offset: 0 },
     }
 }

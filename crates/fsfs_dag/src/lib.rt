@@ -7,17 +7,13 @@
 
 mod contents;
 mod directory;
-mod fault;
 mod faults;
 mod node;
 mod reading;
-#[cfg(test)]
-mod tests;
 mod walk;
 
-pub use contents::{props, text_to};
+pub use contents::props;
 pub use directory::{Entry, entries, entry_named};
-pub use fault::{ReadFault, TextFault, What, Wrong};
 pub use node::PlacedNode;
-pub use reading::{child_of, root_of};
-pub use walk::{Met, node_at};
+pub use reading::{child_of, named_node, root_of};
+pub use walk::{Met, child_named, node_at};

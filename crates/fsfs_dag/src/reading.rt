@@ -1,97 +1,161 @@
 //! The node-revision at a place of a revision, and a revision's root.
+ghost use Rattle.std.specs.Prelude.{◌≡◌, ◌≤◌, ◌<◌, ◌^◌, ◌+◌, ℕ, true, length, take, IfOk};
+ghost use Rattle.fsfs_book.specs.Told.{Look, Knows, Keeps};
+ghost use Rattle.fsfs_revision.specs.Nodes.{is_ordered};
+ghost use Rattle.fsfs_revision.specs.declared.damage.RevisionError.TheVariants.{Damaged};
+ghost use Rattle.fsfs_shows.specs.Readings.{Answers, of_revision};
+ghost use Rattle.fsfs_shows.specs.Reading.{NodeAt, RootOf, OfEntry, OfId, HasId, HasKind, offset_of};
+ghost use Rattle.fsfs_dag.specs.Causes.{HasCause, IsQuiet};
+ghost use Rattle.fsfs_dag.specs.Told.{IsTold, LengthOf, WindowAt, EndOf};
+ghost use Rattle.fsfs_dag.specs.Views.{entry_value};
+
 use crate::directory::Entry;
-use crate::fault::{ReadFault, What, Wrong};
-use crate::faults::{of_book, of_damage};
+use crate::faults::offset_of;
 use crate::node::PlacedNode;
-use fsfs_book::Book;
-use fsfs_noderev::{MAX_NODE_REV, NodeRev};
+use fsfs_book::{Book, BookFault};
+use fsfs_noderev::{MAX_NODE_REV, NodeId, NodeRev};
 use fsfs_revision::{
-    RevOffset, RevisionError, TRAILER_LIMIT, check_root, read_node_at, read_tail,
+    Damage, RevOffset, RevisionError, TRAILER_LIMIT, What, check_root, read_node_at, read_tail,
 };
+use fsfs_shows::{ReadError, Wrong};
 use std::alloc::Global;
 
+fn damaged(at: RevOffset, what: What) -> ReadError
+    ensures { result ≡ of_revision (Damaged (record { at = at; what = what })) }
+{
+    ReadError::Wrong(Wrong::Damaged(Damage { at, what }))
+}
+
 // How long a revision is.
-fn length<B: Book>(book: &mut B, rev: u32) -> Result<u64, ReadFault> {
+fn length<B: Book>(book: &mut B, rev: u32) -> Result<u64, ReadError>
+    ensures told { (look : Look) → IsTold (B.told book.old) look rev → Answers (λ n. n) (LengthOf look rev) result }
+    ensures kept { Keeps (B.told book.old) (B.told book.new) }
+    ensures cause { HasCause (B.faults book.old) (B.faults book.new) result }
+{
     match book.rev_len(rev) {
         Ok(len) => Ok(len),
-        Err(fault) => match of_book(fault) {
-            Some(fault) => Err(fault),
-            None => Ok(0),
-        },
+        Err(BookFault::Refused(refusal)) => Err(ReadError::Wrong(Wrong::Refused(refusal))),
+        Err(BookFault::Short { .. }) => Ok(0),
+        Err(BookFault::DiskFault) => Err(ReadError::DiskFault),
     }
 }
 
 // Reads a revision's bytes from a place on, as many as there are and as fit; none past the end.
-fn window<B: Book>(book: &mut B, at: RevOffset, buffer: &mut [u8]) -> Result<usize, ReadFault> {
+fn window<B: Book>(book: &mut B, at: RevOffset, buffer: &mut [u8]) -> Result<usize, ReadError>
+    ensures bound { IfOk result (λ n. n ≤ length buffer.new) }
+    ensures told { (look : Look) → IsTold (B.told book.old) look at.rev → Answers (λ n. take n buffer.new) (WindowAt look at (length buffer.old)) result }
+    ensures kept { Keeps (B.told book.old) (B.told book.new) }
+    ensures cause { HasCause (B.faults book.old) (B.faults book.new) result }
+{
     match book.read_rev(at.rev, at.offset, buffer) {
         Ok(count) => Ok(count),
-        Err(fault) => match of_book(fault) {
-            Some(fault) => Err(fault),
-            None => Ok(0),
-        },
+        Err(BookFault::Refused(refusal)) => Err(ReadError::Wrong(Wrong::Refused(refusal))),
+        Err(BookFault::Short { .. }) => Ok(0),
+        Err(BookFault::DiskFault) => Err(ReadError::DiskFault),
     }
 }
 
 // Where the trailer says that a revision's root stands.
-fn root_place<B: Book>(book: &mut B, rev: u32) -> Result<RevOffset, ReadFault> {
+fn root_place<B: Book>(book: &mut B, rev: u32) -> Result<RevOffset, ReadError>
+    ensures told { (look : Look) → IsTold (B.told book.old) look rev → Answers (λ at. at) (EndOf look rev) result }
+    ensures rev { IfOk result (λ at. at.rev ≡ rev) }
+    ensures kept { Keeps (B.told book.old) (B.told book.new) }
+    ensures cause { HasCause (B.faults book.old) (B.faults book.new) result }
+{
     let len = length(book, rev)?;
     let begins = len.saturating_sub(TRAILER_LIMIT as u64);
+    let at = RevOffset {
+        rev,
+        offset: begins,
+    };
     let mut tail = [0u8; TRAILER_LIMIT];
-    let count = window(book, RevOffset { rev, offset: begins }, &mut tail)?;
+    let count = window(book, at, &mut tail)?;
     match read_tail(begins, &tail[..count]) {
         Some(trailer) => Ok(RevOffset {
             rev,
             offset: trailer.root,
         }),
-        None => Err(ReadFault::Wrong(Wrong::Corrupt(
-            RevOffset { rev, offset: len },
-            What::Trailer,
-        ))),
+        None => Err(damaged(RevOffset { rev, offset: len }, What::Trailer)),
     }
 }
 
 // The node-revision that stands at a place.
-fn node_read<B: Book>(
-    alloc: Global,
-    book: &mut B,
-    at: RevOffset,
-) -> Result<PlacedNode, ReadFault> {
+fn node_read<B: Book>(alloc: Global, book: &mut B, at: RevOffset) -> Result<NodeRev, ReadError>
+    ensures told { (look : Look) → IsTold (B.told book.old) look at.rev → Answers (λ v. v) (NodeAt look at) result }
+    ensures ordered { IfOk result (λ v. is_ordered at v ≡ true) }
+    ensures kept { Keeps (B.told book.old) (B.told book.new) }
+    ensures cause { HasCause (B.faults book.old) (B.faults book.new) result }
+{
     let mut bytes = [0u8; MAX_NODE_REV];
     let count = window(book, at, &mut bytes)?;
     match read_node_at(alloc, at, &bytes[..count]) {
-        Ok(node) => Ok(PlacedNode { at, node }),
-        Err(RevisionError::OutOfMemory) => Err(ReadFault::OutOfMemory),
-        Err(RevisionError::Damaged(damage)) => Err(ReadFault::Wrong(of_damage(damage))),
+        Ok(node) => Ok(node),
+        Err(RevisionError::OutOfMemory) => Err(ReadError::OutOfMemory),
+        Err(RevisionError::Damaged(damage)) => Err(ReadError::Wrong(Wrong::Damaged(damage))),
     }
 }
 
-/// The root of a revision.
-pub fn root_of<B: Book>(alloc: Global, book: &mut B, rev: u32) -> Result<PlacedNode, ReadFault> {
+/// The root of a revision: the node-revision that its trailer names. Trailer, NodeRev, PlaceOrder, OtherId and EntryKind
+/// are tried in this order.
+pub fn root_of<B: Book>(alloc: Global, book: &mut B, rev: u32) -> Result<PlacedNode, ReadError>
+    ensures told { (look : Look) → Knows (B.told book.old).revs rev look → Answers (λ found. found.node) (RootOf look rev) result }
+    ensures rev { IfOk result (λ found. (offset_of found.node.id.place).rev ≡ rev) }
+    ensures kept { Keeps (B.told book.old) (B.told book.new) }
+    ensures cause { HasCause (B.faults book.old) (B.faults book.new) result }
+{
     let at = root_place(book, rev)?;
-    let root = node_read(alloc, book, at)?;
-    match check_root(at, &root.node) {
-        Ok(()) => Ok(root),
-        Err(damage) => Err(ReadFault::Wrong(of_damage(damage))),
+    let node = node_read(alloc, book, at)?;
+    match check_root(at, &node) {
+        Ok(()) => Ok(PlacedNode { node }),
+        Err(damage) => Err(ReadError::Wrong(Wrong::Damaged(damage))),
     }
 }
 
-// The child, if it has the id and the kind of its entry.
-fn as_named(entry: &Entry, child: PlacedNode) -> Result<PlacedNode, ReadFault> {
-    if child.node.id != entry.id {
-        return Err(ReadFault::Wrong(Wrong::Corrupt(child.at, What::OtherId)));
+// The node-revision, if it has the id that names it.
+fn with_id(id: NodeId, node: NodeRev) -> Result<NodeRev, ReadError>
+    ensures told { Answers (λ v. v) (HasId id node) result }
+    ensures same { IfOk result (λ v. v ≡ node) }
+    ensures quiet { IsQuiet result }
+{
+    if node.id == id {
+        Ok(node)
+    } else {
+        Err(damaged(offset_of(id.place), What::OtherId))
     }
-    if child.node.kind != entry.kind {
-        return Err(ReadFault::Wrong(Wrong::Corrupt(child.at, What::EntryKind)));
-    }
-    Ok(child)
 }
 
-/// The node-revision that an entry names.
-pub fn child_of<B: Book>(
-    alloc: Global,
-    book: &mut B,
-    entry: &Entry,
-) -> Result<PlacedNode, ReadFault> {
-    let child = node_read(alloc, book, entry.at)?;
-    as_named(entry, child)
+/// The node-revision of an id, whatever its kind.
+pub fn named_node<B: Book>(alloc: Global, book: &mut B, id: NodeId) -> Result<PlacedNode, ReadError>
+    ensures told { (look : Look) → Knows (B.told book.old).revs (offset_of id.place).rev look → Answers (λ found. found.node) (OfId look id) result }
+    ensures id { IfOk result (λ found. found.node.id ≡ id) }
+    ensures kept { Keeps (B.told book.old) (B.told book.new) }
+    ensures cause { HasCause (B.faults book.old) (B.faults book.new) result }
+{
+    let read = node_read(alloc, book, offset_of(id.place))?;
+    let node = with_id(id, read)?;
+    Ok(PlacedNode { node })
+}
+
+// The child, if it has the kind that its entry says.
+fn with_kind(entry: &Entry, child: PlacedNode) -> Result<PlacedNode, ReadError>
+    ensures told { Answers (λ found. found.node) (HasKind (entry_value entry.now) child.node) result }
+    ensures same { IfOk result (λ found. found ≡ child) }
+    ensures quiet { IsQuiet result }
+{
+    if child.node.kind == entry.kind {
+        Ok(child)
+    } else {
+        Err(damaged(offset_of(entry.id.place), What::EntryKind))
+    }
+}
+
+/// The node-revision that an entry names. NodeRev, PlaceOrder, OtherId and EntryKind are tried in this order.
+pub fn child_of<B: Book>(alloc: Global, book: &mut B, entry: &Entry) -> Result<PlacedNode, ReadError>
+    ensures told { (look : Look) → Knows (B.told book.old).revs (offset_of entry.now.id.place).rev look → Answers (λ found. found.node) (OfEntry look (entry_value entry.now)) result }
+    ensures id { IfOk result (λ found. found.node.id ≡ entry.now.id) }
+    ensures kept { Keeps (B.told book.old) (B.told book.new) }
+    ensures cause { HasCause (B.faults book.old) (B.faults book.new) result }
+{
+    let child = named_node(alloc, book, entry.id)?;
+    with_kind(entry, child)
 }
