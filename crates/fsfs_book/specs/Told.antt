@@ -3,7 +3,7 @@ use Rattle.std.specs.Prelude.{◌≡◌, ℕ, ◌+◌, ◌-◌, ◌^◌, ◌<◌
 use Rattle.fsfs_book.specs.declared.book.Refusal.{Refusal}
 use Rattle.fsfs_book.specs.declared.book.Refusal.TheVariants.{NoRev, Missing, Small}
 use Rattle.fsfs_book.specs.declared.book.BookFault.{BookFault}
-use Rattle.fsfs_book.specs.declared.book.BookFault.TheVariants.{Refused, Short, DiskFault}
+use Rattle.fsfs_book.specs.declared.book.BookFault.TheVariants.{Refused, Short, DiskFault, OutOfMemory}
 
 -- the bytes of each revision, or why there are none
 abbrev pub Look : Type 0
@@ -39,10 +39,11 @@ abbrev pub part_read : ℕ → ℕ → ℕ → Result (List ℕ) Refusal → Res
 part_read rev offset count (Err refusal) = Err (Refused refusal)
 part_read rev offset count (Ok bytes) = if nat_lt (length bytes) offset then Err (Short rev offset) else Ok (take count (drop offset bytes))
 
--- what a call answered, seen by view, is what reading gives; a failure of the disk says nothing of that
+-- what a call answered, seen by view, is what reading gives; a failure of the disk and want of memory say nothing of that
 abbrev pub Gives : {X Y : Type 0} → (X → Y) → Result X BookFault → Result Y BookFault → Type 0
 Gives view (Ok x) read = read ≡ Ok (view x)
 Gives view (Err DiskFault) read = Unit {0}
+Gives view (Err OutOfMemory) read = Unit {0}
 Gives view (Err (Refused refusal)) read = read ≡ Err (Refused refusal)
 Gives view (Err (Short rev offset)) read = read ≡ Err (Short rev offset)
 
@@ -57,6 +58,7 @@ abbrev pub IsAbout : ℕ → ℕ → BookFault → Type 0
 IsAbout rev offset (Refused refusal) = IsRefusalOf rev refusal
 IsAbout rev offset (Short at past) = (at ≡ rev) × (past ≡ offset)
 IsAbout rev offset DiskFault = Unit {0}
+IsAbout rev offset OutOfMemory = Unit {0}
 
 -- the count rose, or stands at its last value
 abbrev pub Rose : ℕ → ℕ → Type 0
@@ -64,6 +66,7 @@ Rose before now = min (before + 1) (2 ^ 64 - 1) ≤ now
 
 abbrev pub IfDisk : BookFault → Type 0 → Type 0
 IfDisk DiskFault P = P
+IfDisk OutOfMemory P = Unit {0}
 IfDisk (Refused refusal) P = Unit {0}
 IfDisk (Short rev offset) P = Unit {0}
 

@@ -33,6 +33,9 @@ pub enum BookFault {
     /// A call of the disk below failed, and the book's count of faults rose.
     #[error("the disk failed")]
     DiskFault,
+    /// Memory was wanting for what the book has to read before it finds the bytes.
+    #[error("out of memory")]
+    OutOfMemory,
 }
 
 /// What gives the bytes of revisions, and the bytes of their property files. Offsets count from the beginning of a

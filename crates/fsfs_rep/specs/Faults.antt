@@ -9,11 +9,12 @@ use Rattle.fsfs_rep.specs.declared.rep_fault.RepFault.TheVariants as faults
 use Rattle.fsfs_rep.specs.declared.rep_fault.RepError.{RepError}
 use Rattle.fsfs_rep.specs.declared.rep_fault.RepError.TheVariants as errors
 
--- the book answered this refusal, or the disk failed
+-- the book answered this refusal, or the disk failed, or memory was wanting
 abbrev pub IsBookAnswer : Refusal → BookFault → Type 0
 IsBookAnswer why (books.Refused refusal) = refusal ≡ why
 IsBookAnswer why (books.Short rev offset) = ⊥
 IsBookAnswer why books.DiskFault = Unit {0}
+IsBookAnswer why books.OutOfMemory = Unit {0}
 
 abbrev pub IsRefusedFor : Refusal → RepFault → Type 0
 IsRefusedFor why (faults.Book fault) = IsBookAnswer why fault
@@ -24,6 +25,7 @@ abbrev pub IsBookFaultOf : ℕ → BookFault → Type 0
 IsBookFaultOf rev (books.Refused refusal) = IsRefusalOf rev refusal
 IsBookFaultOf rev (books.Short at offset) = ⊥
 IsBookFaultOf rev books.DiskFault = Unit {0}
+IsBookFaultOf rev books.OutOfMemory = Unit {0}
 
 abbrev pub NamesRev : ℕ → RepFault → Type 0
 NamesRev rev (faults.Book fault) = IsBookFaultOf rev fault

@@ -57,6 +57,7 @@ Disagrees rep text fault = ⊥
 -- a book that has the bytes can only fail
 abbrev pub IsFailure : BookFault → Type 0
 IsFailure books.DiskFault = Unit {0}
+IsFailure books.OutOfMemory = Unit {0}
 IsFailure (books.Refused refusal) = ⊥
 IsFailure (books.Short rev offset) = ⊥
 

@@ -29,5 +29,6 @@ pub(crate) fn window<B: Book>(
         Err(BookFault::Short { .. }) => Ok(0),
         Err(BookFault::Refused(refusal)) => Err(RepFault::Book(BookFault::Refused(refusal))),
         Err(BookFault::DiskFault) => Err(RepFault::Book(BookFault::DiskFault)),
+        Err(BookFault::OutOfMemory) => Err(RepFault::Book(BookFault::OutOfMemory)),
     }
 }
