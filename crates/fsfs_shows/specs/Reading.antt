@@ -1,0 +1,256 @@
+-- What is read of the bytes of all revisions: a node-revision, a root, a representation, a directory, a node at a path.
+--
+-- The libsvn_fs_fs structure file has the forms. The order of the checks is this project's profile: of a node-revision its form,
+-- what it names, its id, its kind; of a representation its header, its end, its size, its MD5, its SHA-1, its dump, and then
+-- entry by entry, in byte order of the names, the name, the value and the place. The last entry of a name counts.
+use Rattle.std.specs.Prelude.{◌≡◌, ◌≢◌, ◌⊎◌, ℕ, suc, true, false, List, [], ◌∷◌, ◌++◌, drop, Option, Some, None, Result, Ok, Err, if◌then◌else◌, codes}
+use Rattle.std.specs.Str.{IsUtf8}
+use Rattle.fsfs_base.specs.Paths.{Name, Path, same_name}
+use Rattle.fsfs_base.specs.PathTexts.{IsName}
+use Rattle.fsfs_base.specs.declared.node.Kind.{Kind}
+use Rattle.fsfs_base.specs.declared.node.Kind.TheVariants.{File, Dir}
+use Rattle.fsfs_book.specs.declared.book.Refusal.{Refusal}
+use Rattle.fsfs_book.specs.Told.{Look}
+use Rattle.fsfs_noderev.specs.Fields.{IsIdText}
+use Rattle.fsfs_noderev.specs.declared.node_id.Place.{Place}
+use Rattle.fsfs_noderev.specs.declared.node_id.Place.TheVariants as places
+use Rattle.fsfs_noderev.specs.declared.node_id.NodeId.{NodeId}
+use Rattle.fsfs_noderev.specs.declared.rep.Rep.{Rep}
+use Rattle.fsfs_noderev.specs.declared.rep.Contents.{Contents}
+use Rattle.fsfs_noderev.specs.declared.rep.Contents.TheVariants as contents
+use Rattle.fsfs_noderev.specs.declared.node_rev.NodeRev.{NodeRev}
+use Rattle.fsfs_hash.specs.Dump.{IsDump}
+use Rattle.fsfs_rep.specs.Frames.{rev_of, text_of, IsWhole, IsFaultOf}
+use Rattle.fsfs_rep.specs.Headers.{HasDeltaLine}
+use Rattle.fsfs_rep.specs.declared.rep_fault.RepFault.TheVariants as faults
+use Rattle.fsfs_revision.specs.Damages.{NodeRow, IsRootOf, RootRow, place_of}
+use Rattle.fsfs_revision.specs.Nodes.{IsNodeAt, is_revision_id, place_before}
+use Rattle.fsfs_revision.specs.declared.damage.RevOffset.{RevOffset}
+use Rattle.fsfs_revision.specs.declared.damage.What.{What}
+use Rattle.fsfs_revision.specs.declared.damage.What.TheVariants as what
+use Rattle.fsfs_revision.specs.declared.damage.Damage.{Damage}
+use Rattle.fsfs_shows.specs.declared.wrong.RepWhat.{RepWhat}
+use Rattle.fsfs_shows.specs.declared.wrong.RepWhat.TheVariants as repwhat
+use Rattle.fsfs_shows.specs.declared.wrong.RepDamage.{RepDamage}
+use Rattle.fsfs_shows.specs.declared.wrong.Wrong.{Wrong}
+use Rattle.fsfs_shows.specs.declared.wrong.Wrong.TheVariants as wrongs
+use Rattle.fsfs_shows.specs.Readings.{AndThen, IsDamage, IsRepDamage}
+
+-- ---- the bytes of a revision
+
+abbrev pub BytesOf : Look → ℕ → Result (List ℕ) Wrong → Type 0
+BytesOf look rev (Ok bytes) = look rev ≡ Ok bytes
+BytesOf look rev (Err w) = (why : Refusal) × (look rev ≡ Err why) × (w ≡ wrongs.Refused why)
+
+-- ---- a node-revision
+
+-- the node-revision at this place, of the bytes from there on
+abbrev pub NodeIn : RevOffset → List ℕ → Result NodeRev Wrong → Type 0
+NodeIn at bytes (Ok v) = IsNodeAt at bytes v
+NodeIn at bytes (Err w) = IsDamage (NodeRow at bytes) w
+
+abbrev pub NodeAt : Look → RevOffset → Result NodeRev Wrong → Type 0
+NodeAt look at = AndThen (BytesOf look at.rev) (λ bytes. NodeIn at (drop at.offset bytes))
+
+-- the root of a revision
+abbrev pub RootIn : ℕ → List ℕ → Result NodeRev Wrong → Type 0
+RootIn rev bytes (Ok v) = IsRootOf rev bytes v
+RootIn rev bytes (Err w) = IsDamage (RootRow rev bytes) w
+
+abbrev pub RootOf : Look → ℕ → Result NodeRev Wrong → Type 0
+RootOf look rev = AndThen (BytesOf look rev) (RootIn rev)
+
+-- where a node-revision stands by its id
+abbrev pub offset_of : Place → RevOffset
+offset_of (places.At rev offset) = place_of rev offset
+offset_of (places.In txn) = place_of 0 0
+
+-- ---- a representation
+
+-- where its header is to begin
+abbrev pub rep_place : Rep → RevOffset
+rep_place rep = place_of (rev_of rep) rep.offset
+
+-- what is wrong with a representation, of the bytes of its revision
+abbrev pub RepRow : Rep → List ℕ → RepWhat → Type 0
+RepRow rep bytes repwhat.Header = IsFaultOf rep bytes faults.NoHeader
+RepRow rep bytes repwhat.EndRep = IsFaultOf rep bytes faults.NoTrailer
+RepRow rep bytes (repwhat.Size kept found) = IsFaultOf rep bytes (faults.Size kept found)
+RepRow rep bytes (repwhat.Md5 kept found) = IsFaultOf rep bytes (faults.Md5 kept found)
+RepRow rep bytes (repwhat.Sha1 kept found) = IsFaultOf rep bytes (faults.Sha1 kept found)
+RepRow rep bytes repwhat.Hash = ⊥
+RepRow rep bytes repwhat.BadName = ⊥
+RepRow rep bytes repwhat.EntryValue = ⊥
+
+-- its text, of the bytes of its revision
+abbrev pub RepIn : Rep → List ℕ → Result (List ℕ) Wrong → Type 0
+RepIn rep bytes (Ok text) = (text ≡ text_of rep bytes) × IsWhole rep bytes
+RepIn rep bytes (Err (wrongs.Delta at)) = (at ≡ rep_place rep) × HasDeltaLine rep.offset bytes
+RepIn rep bytes (Err (wrongs.BadRep d)) = (d.at ≡ rep_place rep) × RepRow rep bytes d.what
+RepIn rep bytes (Err (wrongs.Damaged d)) = ⊥
+RepIn rep bytes (Err (wrongs.Refused why)) = ⊥
+
+abbrev pub RepAt : Look → Rep → Result (List ℕ) Wrong → Type 0
+RepAt look rep = AndThen (BytesOf look (rev_of rep)) (RepIn rep)
+
+-- ---- a property list, and a directory's pairs of names and values
+
+abbrev pub Pairs : Type 0
+Pairs = List (List ℕ × List ℕ)
+
+abbrev pub HashRow : Rep → List ℕ → RepDamage → Type 0
+HashRow rep text d = (d.at ≡ rep_place rep) × (d.what ≡ repwhat.Hash) × ((pairs : Pairs) → IsDump text pairs → ⊥)
+
+-- the pairs of a representation's text
+abbrev pub PairsIn : Rep → List ℕ → Result Pairs Wrong → Type 0
+PairsIn rep text (Ok pairs) = IsDump text pairs
+PairsIn rep text (Err w) = IsRepDamage (HashRow rep text) w
+
+abbrev pub PairsAt : Look → Rep → Result Pairs Wrong → Type 0
+PairsAt look rep = AndThen (RepAt look rep) (PairsIn rep)
+
+-- where there is no representation, nothing is read. `-1`, for a transaction's own file, stands in no revision.
+abbrev pub OfContents : {X : Type 0} → X → (Rep → Result X Wrong → Type 0) → Option Contents → Result X Wrong → Type 0
+OfContents nothing R None r = r ≡ Ok nothing
+OfContents nothing R (Some contents.Own) r = ⊥
+OfContents nothing R (Some (contents.At rep)) r = R rep r
+
+-- the text of a file, and the properties of any node-revision
+abbrev pub TextOf : Look → NodeRev → Result (List ℕ) Wrong → Type 0
+TextOf look v = OfContents [] (RepAt look) v.text
+
+abbrev pub PropsOf : Look → NodeRev → Result Pairs Wrong → Type 0
+PropsOf look v = OfContents [] (PairsAt look) v.props
+
+-- ---- the entries of a directory
+
+pub record Entry : Type 0 where
+  pub name : Name
+  pub kind : Kind
+  pub id : NodeId
+
+abbrev pub kind_word : Kind → List ℕ
+kind_word File = codes "file "
+kind_word Dir = codes "dir "
+
+-- a name that a path may have, in UTF-8
+pub record IsEntryName (name : Name) : Type 0 where
+  pub name_is : IsName name
+  pub utf8 : IsUtf8 name
+
+-- `file <id>` or `dir <id>`, the id of a node-revision in a revision
+pub record IsEntryValue (text : List ℕ) (kind : Kind) (id : NodeId) : Type 0 where
+  pub id_text : List ℕ
+  pub id_is : IsIdText id_text id
+  pub parts : text ≡ kind_word kind ++ id_text
+  pub lasting : is_revision_id id ≡ true
+
+-- a pair of a dump is this entry of the directory whose node-revision stands at `home`
+pub record IsEntry (home : RevOffset) (pair : List ℕ × List ℕ) (entry : Entry) : Type 0 where
+  pub name : pair.0 ≡ entry.name
+  pub name_is : IsEntryName entry.name
+  pub value_is : IsEntryValue pair.1 entry.kind entry.id
+  -- what stands in a directory stands before it
+  pub before : place_before home entry.id.place ≡ true
+
+-- what is wrong with a pair of a directory's dump; the place of an entry that isn't before the directory is that of the directory
+abbrev pub BadPair : RevOffset → Rep → List ℕ × List ℕ → Wrong → Type 0
+BadPair home rep pair (wrongs.BadRep d) = (d.at ≡ rep_place rep) × BadPairRow pair d.what
+  where
+    abbrev BadPairRow : List ℕ × List ℕ → RepWhat → Type 0
+    BadPairRow pair repwhat.BadName = IsEntryName pair.0 → ⊥
+    BadPairRow pair repwhat.EntryValue = IsEntryName pair.0 × ((kind : Kind) (id : NodeId) → IsEntryValue pair.1 kind id → ⊥)
+    BadPairRow pair w = ⊥
+BadPair home rep pair (wrongs.Damaged d) = (d.at ≡ home) × (d.what ≡ what.PlaceOrder) × IsEntryName pair.0 × (kind : Kind) × (id : NodeId) × IsEntryValue pair.1 kind id × (place_before home id.place ≡ false)
+BadPair home rep pair w = ⊥
+
+-- the pairs are these entries, one by one
+abbrev pub AreEntries : RevOffset → Pairs → List Entry → Type 0
+AreEntries home [] [] = Unit {0}
+AreEntries home [] (entry ∷ entries) = ⊥
+AreEntries home (pair ∷ pairs) [] = ⊥
+AreEntries home (pair ∷ pairs) (entry ∷ entries) = IsEntry home pair entry × AreEntries home pairs entries
+
+-- the first pair that is no entry, all before it being entries
+abbrev pub FirstBadPair : RevOffset → Rep → Pairs → Wrong → Type 0
+FirstBadPair home rep [] w = ⊥
+FirstBadPair home rep (pair ∷ pairs) w = BadPair home rep pair w ⊎ ((entry : Entry) × IsEntry home pair entry × FirstBadPair home rep pairs w)
+
+abbrev pub EntriesIn : RevOffset → Rep → Pairs → Result (List Entry) Wrong → Type 0
+EntriesIn home rep pairs (Ok entries) = AreEntries home pairs entries
+EntriesIn home rep pairs (Err w) = FirstBadPair home rep pairs w
+
+abbrev pub EntriesAt : Look → RevOffset → Rep → Result (List Entry) Wrong → Type 0
+EntriesAt look home rep = AndThen (PairsAt look rep) (EntriesIn home rep)
+
+-- the entries of a directory, in byte order of their names
+abbrev pub EntriesOf : Look → NodeRev → Result (List Entry) Wrong → Type 0
+EntriesOf look v = OfContents [] (EntriesAt look (offset_of v.id.place)) v.text
+
+-- ---- a node-revision that something names
+
+abbrev pub OtherThan : NodeId → NodeRev → Damage → Type 0
+OtherThan id u d = (d.at ≡ offset_of id.place) × (d.what ≡ what.OtherId) × (u.id ≢ id)
+
+-- it has the id that names it
+abbrev pub HasId : NodeId → NodeRev → Result NodeRev Wrong → Type 0
+HasId id u (Ok v) = (v ≡ u) × (u.id ≡ id)
+HasId id u (Err w) = IsDamage (OtherThan id u) w
+
+abbrev pub OfId : Look → NodeId → Result NodeRev Wrong → Type 0
+OfId look id = AndThen (NodeAt look (offset_of id.place)) (HasId id)
+
+abbrev pub OfOtherKind : Entry → NodeRev → Damage → Type 0
+OfOtherKind entry u d = (d.at ≡ offset_of entry.id.place) × (d.what ≡ what.EntryKind) × (u.kind ≢ entry.kind)
+
+-- it is a file where the entry says so, and a directory where it says so
+abbrev pub HasKind : Entry → NodeRev → Result NodeRev Wrong → Type 0
+HasKind entry u (Ok v) = (v ≡ u) × (u.kind ≡ entry.kind)
+HasKind entry u (Err w) = IsDamage (OfOtherKind entry u) w
+
+abbrev pub OfEntry : Look → Entry → Result NodeRev Wrong → Type 0
+OfEntry look entry = AndThen (OfId look entry.id) (HasKind entry)
+
+-- ---- a child, and a path
+
+abbrev pub named : Name → List Entry → Option Entry
+named name [] = None
+named name (entry ∷ entries) = if same_name entry.name name then Some entry else named name entries
+
+abbrev pub OfNamed : Look → Option Entry → Result (Option NodeRev) Wrong → Type 0
+OfNamed look None r = r ≡ Ok None
+OfNamed look (Some entry) (Ok None) = ⊥
+OfNamed look (Some entry) (Ok (Some u)) = OfEntry look entry (Ok u)
+OfNamed look (Some entry) (Err w) = OfEntry look entry (Err w)
+
+-- the child of a name in a directory, if it has one
+abbrev pub ChildOf : Look → NodeRev → Name → Result (Option NodeRev) Wrong → Type 0
+ChildOf look v name = AndThen (EntriesOf look v) (λ entries. OfNamed look (named name entries))
+
+-- what is met on the way down a path: a node-revision stands there; or the first so many names lead to nothing, or to a file that
+-- further names follow
+pub data Met : Type 0 where
+  Stands : NodeRev → Met
+  Lacking : ℕ → Met
+  Blocked : ℕ → Met
+
+abbrev pub OrLacking : ℕ → (NodeRev → Result Met Wrong → Type 0) → Option NodeRev → Result Met Wrong → Type 0
+OrLacking depth R None r = r ≡ Ok (Lacking depth)
+OrLacking depth R (Some v) r = R v r
+
+abbrev pub InDirectory : Kind → ℕ → (Result (Option NodeRev) Wrong → Type 0) → (NodeRev → Result Met Wrong → Type 0) → Result Met Wrong → Type 0
+InDirectory File depth R S r = r ≡ Ok (Blocked depth)
+InDirectory Dir depth R S r = AndThen R (OrLacking (suc depth) S) r
+
+-- from a node-revision that `depth` names lead to, down further names
+abbrev pub MetFrom : Look → NodeRev → ℕ → Path → Result Met Wrong → Type 0
+MetFrom look v depth [] r = r ≡ Ok (Stands v)
+MetFrom look v depth (name ∷ names) r = InDirectory v.kind depth (ChildOf look v name) (λ w. MetFrom look w (suc depth) names) r
+
+-- from the root of a revision down a path
+abbrev pub MetAt : Look → ℕ → Path → Result Met Wrong → Type 0
+MetAt look rev path = AndThen (RootOf look rev) (λ v. MetFrom look v 0 path)
+
+-- a node-revision stands at the path
+abbrev pub StandsAt : Look → ℕ → Path → NodeRev → Type 0
+StandsAt look rev path v = MetAt look rev path (Ok (Stands v))
