@@ -1,0 +1,4 @@
+pub mod Steps
+pub mod Windows
+pub mod Reps
+pub mod PairLemmas

@@ -21,6 +21,7 @@ abbrev pub of_book : RevOffset → BookFault → ReadError
 of_book at (books.Refused refusal) = errors.Wrong (wrongs.Refused refusal)
 of_book at (books.Short rev offset) = bad_rep at whats.EndRep
 of_book at books.DiskFault = errors.DiskFault
+of_book at books.OutOfMemory = errors.OutOfMemory
 
 -- a fault of the representation at this place
 abbrev pub of_rep : RevOffset → RepFault → ReadError

@@ -7,7 +7,7 @@ use Rattle.fsfs_noderev.specs.declared.rep.Rep.{Rep}
 use Rattle.fsfs_revision.specs.declared.damage.RevOffset.{RevOffset}
 use Rattle.fsfs_revision.specs.Nodes.{place_before}
 use Rattle.fsfs_shows.specs.declared.wrong.Wrong.{Wrong}
-use Rattle.fsfs_shows.specs.Reading.{Entry as EntryValue, IsEntry, BadPair, offset_of, Met as MetValue, Stands, Lacking, Blocked}
+use Rattle.fsfs_shows.specs.Reading.{Entry as EntryValue, IsEntry, PairRow, offset_of, Met as MetValue, Stands, Lacking, Blocked}
 use Rattle.fsfs_dag.specs.declared.directory.Entry.{Entry}
 use Rattle.fsfs_dag.specs.declared.node.PlacedNode.{PlacedNode}
 use Rattle.fsfs_dag.specs.declared.walk.Met.{Met}
@@ -26,7 +26,7 @@ home_of v = offset_of v.id.place
 -- what one pair of a directory's dump is
 abbrev pub EntryIn : RevOffset → Rep → List ℕ × List ℕ → Result EntryValue Wrong → Type 0
 EntryIn home rep pair (Ok entry) = IsEntry home pair entry
-EntryIn home rep pair (Err w) = BadPair home rep pair w
+EntryIn home rep pair (Err w) = PairRow home rep pair w
 
 -- the entry names a node-revision before this place
 abbrev pub IsBefore : RevOffset → Entry → Type 0

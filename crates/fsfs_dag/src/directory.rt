@@ -98,9 +98,10 @@ fn entry_of(
     let Some(name) = name_of(name) else {
         return Err(bad_rep(rep_place(rep), RepWhat::BadName));
     };
-    let Some((kind, id)) = value_of(value) else {
+    let Some(target) = value_of(value) else {
         return Err(bad_rep(rep_place(rep), RepWhat::EntryValue));
     };
+    let (kind, id) = target;
     if !stands_before(home, id.place) {
         let what = What::PlaceOrder;
         return Err(ReadError::Wrong(Wrong::Damaged(Damage { at: home, what })));

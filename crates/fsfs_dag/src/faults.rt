@@ -23,6 +23,7 @@ fn of_book(at: RevOffset, fault: BookFault) -> ReadError
         BookFault::Refused(refusal) => ReadError::Wrong(Wrong::Refused(refusal)),
         BookFault::Short { .. } => bad_rep(at, RepWhat::EndRep),
         BookFault::DiskFault => ReadError::DiskFault,
+        BookFault::OutOfMemory => ReadError::OutOfMemory,
     }
 }
 

@@ -1,5 +1,5 @@
 //! The node-revision at a place of a revision, and a revision's root.
-ghost use Rattle.std.specs.Prelude.{◌≡◌, ◌≤◌, ◌<◌, ◌^◌, ◌+◌, ℕ, true, length, take, IfOk};
+ghost use Rattle.std.specs.Prelude.{◌≡◌, ◌≤◌, ◌<◌, ◌^◌, ◌+◌, ◌↔◌, ℕ, true, length, take, IfOk, IsTrue};
 ghost use Rattle.fsfs_book.specs.Told.{Look, Knows, Keeps};
 ghost use Rattle.fsfs_revision.specs.Nodes.{is_ordered};
 ghost use Rattle.fsfs_revision.specs.declared.damage.RevisionError.TheVariants.{Damaged};
@@ -13,7 +13,7 @@ use crate::directory::Entry;
 use crate::faults::offset_of;
 use crate::node::PlacedNode;
 use fsfs_book::{Book, BookFault};
-use fsfs_noderev::{MAX_NODE_REV, NodeId, NodeRev};
+use fsfs_noderev::{MAX_NODE_REV, NodeId, NodeRev, Part, Place};
 use fsfs_revision::{
     Damage, RevOffset, RevisionError, TRAILER_LIMIT, What, check_root, read_node_at, read_tail,
 };
@@ -37,6 +37,7 @@ fn length<B: Book>(book: &mut B, rev: u32) -> Result<u64, ReadError>
         Err(BookFault::Refused(refusal)) => Err(ReadError::Wrong(Wrong::Refused(refusal))),
         Err(BookFault::Short { .. }) => Ok(0),
         Err(BookFault::DiskFault) => Err(ReadError::DiskFault),
+        Err(BookFault::OutOfMemory) => Err(ReadError::OutOfMemory),
     }
 }
 
@@ -52,6 +53,7 @@ fn window<B: Book>(book: &mut B, at: RevOffset, buffer: &mut [u8]) -> Result<usi
         Err(BookFault::Refused(refusal)) => Err(ReadError::Wrong(Wrong::Refused(refusal))),
         Err(BookFault::Short { .. }) => Ok(0),
         Err(BookFault::DiskFault) => Err(ReadError::DiskFault),
+        Err(BookFault::OutOfMemory) => Err(ReadError::OutOfMemory),
     }
 }
 
@@ -111,13 +113,31 @@ pub fn root_of<B: Book>(alloc: Global, book: &mut B, rev: u32) -> Result<PlacedN
     }
 }
 
+fn same_part(a: Part, b: Part) -> bool
+    ensures { IsTrue result ↔ (a ≡ b) }
+{
+    a == b
+}
+
+fn same_place(a: Place, b: Place) -> bool
+    ensures { IsTrue result ↔ (a ≡ b) }
+{
+    a == b
+}
+
+fn same_id(a: &NodeId, b: &NodeId) -> bool
+    ensures { IsTrue result ↔ (a.now ≡ b.now) }
+{
+    same_part(a.node, b.node) && same_part(a.copy, b.copy) && same_place(a.place, b.place)
+}
+
 // The node-revision, if it has the id that names it.
 fn with_id(id: NodeId, node: NodeRev) -> Result<NodeRev, ReadError>
     ensures told { Answers (λ v. v) (HasId id node) result }
     ensures same { IfOk result (λ v. v ≡ node) }
     ensures quiet { IsQuiet result }
 {
-    if node.id == id {
+    if same_id(&node.id, &id) {
         Ok(node)
     } else {
         Err(damaged(offset_of(id.place), What::OtherId))
