@@ -3,7 +3,7 @@
 -- A node-revision names its predecessor by id, and its copy root by revision and path: the copy by which it, or something above
 -- it, came to where it stands. (The libsvn_fs_fs structure file, "Node-revision identities" and the fields `pred`, `copyroot` and
 -- `copyfrom`.)
-use Rattle.std.specs.Prelude.{◌≡◌, ◌≤◌, ◌<◌, ℕ, List, take, drop, length, Option, Some, None, unwrap_or, Result, Ok, Err}
+use Rattle.std.specs.Prelude.{◌≡◌, ◌≤◌, ℕ, take, length, Option, Some, None, unwrap_or, Result, Ok, Err}
 use Rattle.fsfs_base.specs.Paths.{Path}
 use Rattle.fsfs_book.specs.Told.{Look}
 use Rattle.fsfs_noderev.specs.declared.node_id.NodeId.{NodeId}

@@ -3,14 +3,12 @@
 -- The libsvn_fs_fs structure file says what the parts of an id are for: the node part is one for all that goes on from one new
 -- node, the copy part is one for all that goes on from one copy. Which copy part and which copy root a changed node below a copy
 -- gets is this project's profile.
-use Rattle.std.specs.Prelude.{◌≡◌, ◌≢◌, ◌≤◌, ◌<◌, ◌⊎◌, ◌+◌, ◌-◌, ◌^◌, ◌==◌, ◌++◌, ℕ, suc, Bool, true, false, min, nat_lt, List, [], ◌∷◌, Option, Some, None, Result, Ok, if◌then◌else◌}
+use Rattle.std.specs.Prelude.{◌≡◌, ◌≢◌, ◌≤◌, ◌<◌, ◌⊎◌, ◌+◌, ◌-◌, ◌^◌, ◌++◌, ℕ, suc, min, nat_lt, [], ◌∷◌, Some, None, Ok, if◌then◌else◌}
 use Rattle.fsfs_base.specs.Paths.{Name, Path}
-use Rattle.fsfs_base.specs.declared.node.Kind.TheVariants.{Dir}
 use Rattle.fsfs_book.specs.Told.{Look}
 use Rattle.fsfs_noderev.specs.Ids.{part_value, Old}
 use Rattle.fsfs_noderev.specs.declared.node_id.Part.{Part}
 use Rattle.fsfs_noderev.specs.declared.node_id.Part.TheVariants as parts
-use Rattle.fsfs_noderev.specs.declared.node_id.NodeId.{NodeId}
 use Rattle.fsfs_noderev.specs.declared.node_rev.CopySource.{CopySource}
 use Rattle.fsfs_noderev.specs.declared.node_rev.NodeRev.{NodeRev}
 use Rattle.fsfs_shows.specs.Reading.{ChildOf, StandsAt}
@@ -58,7 +56,6 @@ pub record IdRule (look : Look) (top : ℕ) : Type 0 where
   pub node : (v u : NodeRev) → IsOf look top v → IsPred look v u → v.id.node ≡ u.id.node
   pub kind : (v u : NodeRev) → IsOf look top v → IsPred look v u → v.kind ≡ u.kind
   pub count : (v u : NodeRev) → IsOf look top v → IsPred look v u → v.count ≡ min (u.count + 1) (2 ^ 64 - 1)
-
   -- (b) the root of each revision is of node 0 and copy 0, made in that revision, and goes on from the root before it
   pub root_id : (r : ℕ) (v : NodeRev) → r ≤ top → StandsAt look r [] v → (part_value v.id.node ≡ Old 0) × (part_value v.id.copy ≡ Old 0) × (own_rev v ≡ r)
   pub root_copy : (r : ℕ) (v : NodeRev) → r ≤ top → StandsAt look r [] v → v.copy_from ≡ None
@@ -68,11 +65,9 @@ pub record IdRule (look : Look) (top : ℕ) : Type 0 where
   -- revision 0 has a root without predecessor and properties, and nothing below it
   pub first : (v : NodeRev) → StandsAt look 0 [] v → (v.predecessor ≡ None) × (v.props ≡ None) × ((copy_root_of v).0 ≡ 0)
   pub alone : (name : Name) (p : Path) (v : NodeRev) → StandsAt look 0 (name ∷ p) v → ⊥
-
   -- (c) a node begins once, in the revision that its node part tells
   pub begins_once : (v u : NodeRev) → IsOf look top v → IsOf look top u → v.predecessor ≡ None → u.predecessor ≡ None → v.id.node ≡ u.id.node → v.id ≡ u.id
   pub begins_in : (v : NodeRev) → IsOf look top v → v.predecessor ≡ None → HasSuffix (own_rev v) v.id.node
-
   -- (d) a copy stands in its own revision at the path at which it was made, and nowhere else; it is its own copy root; it has a copy
   -- part of its own; and it goes on from its source, which is of an earlier revision
   pub copy_there : (v : NodeRev) (from : CopySource) → IsOf look top v → v.copy_from ≡ Some from → StandsAt look (own_rev v) v.created_path v
@@ -82,7 +77,6 @@ pub record IdRule (look : Look) (top : ℕ) : Type 0 where
   pub copy_own : (v u : NodeRev) (from other : CopySource) → IsOf look top v → IsOf look top u → v.copy_from ≡ Some from → u.copy_from ≡ Some other → v.id.copy ≡ u.id.copy → v.id ≡ u.id
   pub copy_source : (v : NodeRev) (from : CopySource) → IsOf look top v → v.copy_from ≡ Some from
       → (from.rev < own_rev v) × (u : NodeRev) × StandsAt look from.rev from.path u × (v.predecessor ≡ Some u.id)
-
   -- (e) what is no copy, in a directory of its own revision: a new node has the directory's copy root, and what goes on has it where
   -- the directory was copied since; the copy part is the directory's, an earlier one, or drawn
   pub root_of_new : (r : ℕ) (p : Path) (name : Name) (dir v : NodeRev) → IsChild look top r p name dir v → own_rev v ≡ r → v.copy_from ≡ None → v.predecessor ≡ None
@@ -90,12 +84,10 @@ pub record IdRule (look : Look) (top : ℕ) : Type 0 where
   pub root_of_next : (r : ℕ) (p : Path) (name : Name) (dir v u : NodeRev) → IsChild look top r p name dir v → own_rev v ≡ r → v.copy_from ≡ None → IsPred look v u
       → copy_root_of v ≡ root_after dir u
   pub copy_part_of : (r : ℕ) (p : Path) (name : Name) (dir v : NodeRev) → IsChild look top r p name dir v → own_rev v ≡ r → v.copy_from ≡ None → CopyPartFrom look top dir v
-
   -- (f) what is older than its directory was in the directory's predecessor under its name; what goes on goes on from what was there
   pub older : (r : ℕ) (p : Path) (name : Name) (dir v : NodeRev) → IsChild look top r p name dir v → own_rev v < own_rev dir
       → (u : NodeRev) × IsPred look dir u × ChildOf look u name (Ok (Some v))
   pub goes_on : (r : ℕ) (p : Path) (name : Name) (dir v w : NodeRev) → IsChild look top r p name dir v → own_rev v ≡ own_rev dir → v.copy_from ≡ None → IsPred look v w
       → (u : NodeRev) × IsPred look dir u × ChildOf look u name (Ok (Some w))
-
   -- (g) properties that were not set with a node-revision are its predecessor's
   pub props : (v u : NodeRev) → IsOf look top v → IsPred look v u → (contents_rev v.props < own_rev v) ⊎ (v.props ≡ None) → v.props ≡ u.props

@@ -1,5 +1,8 @@
 pub mod Readings
 pub mod Reading
+pub mod Damaged
 pub mod Chains
 pub mod Shown
 pub mod IdRules
+pub mod FirstRevision
+pub mod ByTree

@@ -26,7 +26,6 @@ use Rattle.fsfs_rep.specs.declared.rep_fault.RepFault.TheVariants as faults
 use Rattle.fsfs_revision.specs.Damages.{NodeRow, IsRootOf, RootRow, place_of}
 use Rattle.fsfs_revision.specs.Nodes.{IsNodeAt, is_revision_id, place_before}
 use Rattle.fsfs_revision.specs.declared.damage.RevOffset.{RevOffset}
-use Rattle.fsfs_revision.specs.declared.damage.What.{What}
 use Rattle.fsfs_revision.specs.declared.damage.What.TheVariants as what
 use Rattle.fsfs_revision.specs.declared.damage.Damage.{Damage}
 use Rattle.fsfs_shows.specs.declared.wrong.RepWhat.{RepWhat}
@@ -153,16 +152,26 @@ pub record IsEntry (home : RevOffset) (pair : List ℕ × List ℕ) (entry : Ent
   -- what stands in a directory stands before it
   pub before : place_before home entry.id.place ≡ true
 
--- what is wrong with a pair of a directory's dump; the place of an entry that isn't before the directory is that of the directory
-abbrev pub BadPair : RevOffset → Rep → List ℕ × List ℕ → Wrong → Type 0
-BadPair home rep pair (wrongs.BadRep d) = (d.at ≡ rep_place rep) × BadPairRow pair d.what
-  where
-    abbrev BadPairRow : List ℕ × List ℕ → RepWhat → Type 0
-    BadPairRow pair repwhat.BadName = IsEntryName pair.0 → ⊥
-    BadPairRow pair repwhat.EntryValue = IsEntryName pair.0 × ((kind : Kind) (id : NodeId) → IsEntryValue pair.1 kind id → ⊥)
-    BadPairRow pair w = ⊥
-BadPair home rep pair (wrongs.Damaged d) = (d.at ≡ home) × (d.what ≡ what.PlaceOrder) × IsEntryName pair.0 × (kind : Kind) × (id : NodeId) × IsEntryValue pair.1 kind id × (place_before home id.place ≡ false)
-BadPair home rep pair w = ⊥
+-- what is wrong with the name or the value of a pair of a directory's dump, in this order
+abbrev pub BadPair : List ℕ × List ℕ → RepWhat → Type 0
+BadPair pair repwhat.BadName = IsEntryName pair.0 → ⊥
+BadPair pair repwhat.EntryValue = IsEntryName pair.0 × ((kind : Kind) (id : NodeId) → IsEntryValue pair.1 kind id → ⊥)
+BadPair pair w = ⊥
+
+-- what stands in a directory isn't before it
+pub record IsMisplaced (home : RevOffset) (pair : List ℕ × List ℕ) : Type 0 where
+  pub kind : Kind
+  pub id : NodeId
+  pub name_is : IsEntryName pair.0
+  pub value_is : IsEntryValue pair.1 kind id
+  pub not_before : place_before home id.place ≡ false
+
+-- the row of a pair: a name or a value at the representation, a place at the directory's node-revision
+abbrev pub PairRow : RevOffset → Rep → List ℕ × List ℕ → Wrong → Type 0
+PairRow home rep pair (wrongs.BadRep d) = (d.at ≡ rep_place rep) × BadPair pair d.what
+PairRow home rep pair (wrongs.Damaged d) = (d.at ≡ home) × (d.what ≡ what.PlaceOrder) × IsMisplaced home pair
+PairRow home rep pair (wrongs.Refused why) = ⊥
+PairRow home rep pair (wrongs.Delta at) = ⊥
 
 -- the pairs are these entries, one by one
 abbrev pub AreEntries : RevOffset → Pairs → List Entry → Type 0
@@ -171,14 +180,14 @@ AreEntries home [] (entry ∷ entries) = ⊥
 AreEntries home (pair ∷ pairs) [] = ⊥
 AreEntries home (pair ∷ pairs) (entry ∷ entries) = IsEntry home pair entry × AreEntries home pairs entries
 
--- the first pair that is no entry, all before it being entries
-abbrev pub FirstBadPair : RevOffset → Rep → Pairs → Wrong → Type 0
-FirstBadPair home rep [] w = ⊥
-FirstBadPair home rep (pair ∷ pairs) w = BadPair home rep pair w ⊎ ((entry : Entry) × IsEntry home pair entry × FirstBadPair home rep pairs w)
+-- the row of the first pair that is no entry
+abbrev pub FirstPairRow : RevOffset → Rep → Pairs → Wrong → Type 0
+FirstPairRow home rep [] w = ⊥
+FirstPairRow home rep (pair ∷ pairs) w = PairRow home rep pair w ⊎ ((entry : Entry) × IsEntry home pair entry × FirstPairRow home rep pairs w)
 
 abbrev pub EntriesIn : RevOffset → Rep → Pairs → Result (List Entry) Wrong → Type 0
 EntriesIn home rep pairs (Ok entries) = AreEntries home pairs entries
-EntriesIn home rep pairs (Err w) = FirstBadPair home rep pairs w
+EntriesIn home rep pairs (Err w) = FirstPairRow home rep pairs w
 
 abbrev pub EntriesAt : Look → RevOffset → Rep → Result (List Entry) Wrong → Type 0
 EntriesAt look home rep = AndThen (PairsAt look rep) (EntriesIn home rep)

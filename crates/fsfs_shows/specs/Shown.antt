@@ -3,7 +3,7 @@
 -- Kind, text and properties stand in the node-revision at a path. The three numbers and the source are not written anywhere: a
 -- directory is copied without what is below it, so they come of the chain of predecessors and of the copy roots on the way to the
 -- path. (The node-revisions are those of the libsvn_fs_fs structure file; the numbers are this project's profile.)
-use Rattle.std.specs.Prelude.{◌≡◌, ◌≢◌, ◌≤◌, ◌<◌, ◌⊎◌, ◌++◌, ℕ, max, List, [], take, drop, length, Option, Some, None, Result, Ok, Err, IsSomeAnd, if◌then◌else◌}
+use Rattle.std.specs.Prelude.{◌≡◌, ◌≢◌, ◌≤◌, ◌<◌, ◌⊎◌, ◌++◌, ℕ, max, [], take, drop, length, Option, Some, None, Ok, Err, IsSomeAnd, if◌then◌else◌}
 use Rattle.fsfs_base.specs.Paths.{Path, covers}
 use Rattle.fsfs_base.specs.Nodes.{Node, Content, Bytes, Closed, TreeFunction}
 use Rattle.fsfs_base.specs.declared.node.Kind.{Kind}

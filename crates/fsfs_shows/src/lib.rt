@@ -6,6 +6,11 @@
 //! mean, are this project's profile.
 #![tactic(auto)]
 
+mod laws;
 mod wrong;
 
+pub use laws::{
+    damage_is_the_first, one_tree_is_shown, readings_answer_by_the_tree, readings_have_one_answer,
+    the_first_revision_shows_its_root,
+};
 pub use wrong::{ReadError, RepDamage, RepWhat, Wrong};

@@ -15,7 +15,10 @@ pub enum RepWhat {
     /// The line `ENDREP` doesn't follow behind so many bytes.
     EndRep,
     /// The size is not 0, and another than the length.
-    Size { kept: u64, found: u64 },
+    Size {
+        kept: u64,
+        found: u64,
+    },
     /// The MD5 of the bytes is another.
     Md5 {
         kept: HexDigest<16>,

@@ -1,0 +1,160 @@
+-- The bytes show one history at most.
+use Rattle.std.proofs.Common.{◌≡◌, ℕ, suc, List, [], ◌∷◌, ◌++◌, drop, refl, sym, ap, subst, ◌∙◌}
+use Rattle.std.specs.Prelude.{Result, Ok, Option, Some, None, true, false, Contains}
+use Rattle.std.specs.FinMap.{FinMap, get}
+use Rattle.fsfs_text.proofs.Readers.{all_again}
+use Rattle.fsfs_base.specs.Files.{Files}
+use Rattle.fsfs_base.specs.Paths.{Path, path_cmp}
+use Rattle.fsfs_base.specs.Revisions.{Revision}
+use Rattle.fsfs_base.specs.declared.node.Kind.{Kind}
+use Rattle.fsfs_base.specs.declared.change_map.Change.{Change}
+use Rattle.fsfs_book.specs.Told.{Look}
+use Rattle.fsfs_book.specs.declared.book.Refusal.{Refusal}
+use Rattle.fsfs_hash.specs.Dump.{IsDump}
+use Rattle.fsfs_noderev.specs.declared.node_rev.NodeRev.{NodeRev}
+use Rattle.fsfs_layout.specs.Formats.{IsFormat}
+use Rattle.fsfs_layout.specs.Small.{IsRevLine}
+use Rattle.fsfs_layout.specs.declared.format_file.Format.TheVariants.{Sharded}
+use Rattle.fsfs_layout.proofs.Files.{format_again, rev_line_reads}
+use Rattle.fsfs_revision.specs.Trailers.{IsTrailer}
+use Rattle.fsfs_revision.proofs.TrailerLemmas.{one_trailer}
+use Rattle.fsfs_changes.specs.Changes.{HasNewPath, AreRevisionChanges}
+use Rattle.fsfs_changes.specs.declared.item.ChangeItem.{ChangeItem}
+use Rattle.fsfs_changes.proofs.ItemLists.{items_one}
+use Rattle.fsfs_shows.proofs.OneNode.{end_one}
+use Rattle.fsfs_shows.proofs.OneRep.{dump_one}
+use Rattle.fsfs_shows.proofs.OneStep.{ok_same}
+use Rattle.fsfs_shows.proofs.OneWalk.{of_id_one, stands_same}
+use Rattle.fsfs_shows.proofs.OneTree.{one_tree}
+use Rattle.fsfs_stands.specs.Changes.{HasItems, IsKindOf, Said, Named, There, NotThere, IsChangeOf, AreChangesOf}
+use Rattle.fsfs_stands.specs.History.{ShowsRevision, ShowsHistory}
+use Rattle.fsfs_stands.specs.Files.{Says}
+use Rattle.fsfs_stands.specs.Same.{AreSame, OneHistoryIsShown, OneHistoryIsStoodFor}
+
+some_same : {A : Type 0} (x y : A) → (let o : Option A = Some x in o) ≡ Some y → x ≡ y
+some_same x y e = cc
+
+no_both : {A B : Type 0} (o : Option A) (x : A) → o ≡ Some x → o ≡ None → B
+no_both o x e f = let g = sym e ∙ f in absurd cc
+
+-- ---- the items
+
+same_front : (f g s t : List ℕ) (p q : ℕ × ℕ) → IsTrailer s p → IsTrailer t q → f ++ s ≡ g ++ t → f ≡ g
+same_front [] [] s t p q a b e = refl
+same_front [] (c ∷ g) s t p q a b e = absurd (one_trailer s t g c p q a b e)
+same_front (c ∷ f) [] s t p q a b e = absurd (one_trailer t s f c q p b a (sym e))
+same_front (c ∷ f) (d ∷ g) s t p q a b e =
+    let head : c ≡ d = cc in
+    let rest = same_front f g s t p q a b (let h : f ++ s ≡ g ++ t = cc in h) in
+    λ i. head i ∷ rest i
+
+has_items_one : (bytes : List ℕ) (a b : List ChangeItem) → HasItems bytes a → HasItems bytes b → a ≡ b
+has_items_one bytes a b v w =
+    let t = v.trailer in
+    let u = w.trailer in
+    let trailer = end_one 0 bytes t u v.ends w.ends in
+    let front = same_front v.ends.front w.ends.front v.ends.text w.ends.text (t.root, t.changes) (u.root, u.changes) v.ends.text_is w.ends.text_is (sym v.ends.parts ∙ w.ends.parts) in
+    let text : drop w.trailer.changes w.ends.front ≡ drop v.trailer.changes v.ends.front = (λ i. drop (sym trailer i).changes (sym front i)) in
+    items_one HasNewPath [] (drop v.trailer.changes v.ends.front) a b v.items_are (subst (λ (x : List ℕ). AreRevisionChanges x b) text w.items_are)
+
+-- ---- the change of an item
+
+kind_one : {look : Look} {r : ℕ} {item : ChangeItem} {a b : Kind} → IsKindOf look r item a → IsKindOf look r item b → a ≡ b
+kind_one (Said k e) (Said l f) = some_same k l (sym e ∙ f)
+kind_one {item = item} (Said k e) (Named u f i o) = no_both item.kind k e f
+kind_one {item = item} (Said k e) (There v f i o) = no_both item.kind k e f
+kind_one {item = item} (Said k e) (NotThere f i o) = no_both item.kind k e f
+kind_one {item = item} (Named u f i o) (Said k e) = no_both item.kind k e f
+kind_one {look} {item = item} (Named u e h o) (Named v f i p) = ap (λ (x : NodeRev). x.kind) (ok_same u v (of_id_one look item.id (Ok u) (Ok v) o p))
+kind_one (Named u e h o) (There v f i p) = let g : true ≡ false = sym h ∙ i in absurd cc
+kind_one (Named u e h o) (NotThere f i p) = let g : true ≡ false = sym h ∙ i in absurd cc
+kind_one {item = item} (There u f i o) (Said k e) = no_both item.kind k e f
+kind_one (There u e h o) (Named v f i p) = let g : true ≡ false = sym i ∙ h in absurd cc
+kind_one {look} {r} {item} (There u e h o) (There v f i p) = ap (λ (x : NodeRev). x.kind) (stands_same look r item.path u v o p)
+kind_one (There u e h o) (NotThere f i p) = absurd (p u o)
+kind_one {item = item} (NotThere f i o) (Said k e) = no_both item.kind k e f
+kind_one (NotThere e h o) (Named v f i p) = let g : true ≡ false = sym i ∙ h in absurd cc
+kind_one (NotThere e h o) (There v f i p) = absurd (o v p)
+kind_one (NotThere e h o) (NotThere f i p) = refl
+
+change_one : (look : Look) (r : ℕ) (item : ChangeItem) (a b : Change) → IsChangeOf look r item a → IsChangeOf look r item b → a ≡ b
+change_one look r item a b v w =
+    let action = v.action ∙ sym w.action in
+    let kind = kind_one v.kind w.kind in
+    let text_changed = v.text_changed ∙ sym w.text_changed in
+    let props_changed = v.props_changed ∙ sym w.props_changed in
+    let source = v.source ∙ sym w.source in
+    λ i. record { action = action i; kind = kind i; text_changed = text_changed i; props_changed = props_changed i; source = source i }
+
+-- ---- the changed paths
+
+module _ (look : Look) (r : ℕ) (bytes : List ℕ) (a b : FinMap path_cmp Change) (v : AreChangesOf look r bytes a) (w : AreChangesOf look r bytes b) where
+  items_same : v.items ≡ w.items
+  items_same = has_items_one bytes v.items w.items v.items_are w.items_are
+
+  -- what one map has at a path, the other has
+  also : (p : Path) (c : Change) → get a p ≡ Some c → get b p ≡ Some c
+  also p c e =
+      let of = v.only p c e in
+      let there : Contains w.items of.0 = subst (λ (xs : List ChangeItem). Contains xs of.0) items_same of.1 in
+      let x = v.each of.0 of.1 in
+      let y = w.each of.0 there in
+      let here : get a p ≡ Some x.0 = subst (λ (q : Path). get a q ≡ Some x.0) of.2 x.2 in
+      let other : get b p ≡ Some y.0 = subst (λ (q : Path). get b q ≡ Some y.0) of.2 y.2 in
+      let first = some_same x.0 c (sym here ∙ e) in
+      let same = change_one look r of.0 x.0 y.0 x.1 y.1 in
+      other ∙ ap (λ (z : Change). let o : Option Change = Some z in o) (sym same ∙ first)
+
+either_way : {A : Type 0} (a b : Option A) → ((x : A) → a ≡ Some x → b ≡ Some x) → ((x : A) → b ≡ Some x → a ≡ Some x) → a ≡ b
+either_way None None f g = refl
+either_way None (Some y) f g = let e = g y refl in absurd cc
+either_way (Some x) b f g = sym (f x refl)
+
+changes_same : (look : Look) (r : ℕ) (bytes : List ℕ) (a b : FinMap path_cmp Change) → AreChangesOf look r bytes a → AreChangesOf look r bytes b → (p : Path) → get a p ≡ get b p
+changes_same look r bytes a b v w p = either_way (get a p) (get b p) (also look r bytes a b v w p) (also look r bytes b a w v p)
+
+-- ---- a revision, a history
+
+look_one : (read : Result (List ℕ) Refusal) (x y : List ℕ) → read ≡ Ok x → read ≡ Ok y → x ≡ y
+look_one read x y e f = let g = sym e ∙ f in (let h : x ≡ y = cc in h)
+
+revision_same : (look props : Look) (r : ℕ) (a b : Revision) → ShowsRevision look props r a → ShowsRevision look props r b → AreSame a b
+revision_same look props r a b v w =
+    let bytes = look_one (look r) w.bytes v.bytes w.bytes_are v.bytes_are in
+    let file = look_one (props r) w.file v.file w.file_is v.file_is in
+    record {
+      tree = one_tree look r (get a.tree) (get b.tree) v.tree w.tree;
+      changes = changes_same look r v.bytes a.changes b.changes v.changes (subst (λ (x : List ℕ). AreChangesOf look r x b.changes) bytes w.changes);
+      properties = dump_one v.file a.properties b.properties v.properties (subst (λ (x : List ℕ). IsDump x b.properties) file w.properties);
+    }
+
+pub one_history : OneHistoryIsShown
+one_history look props g h v w r a b e f = revision_same look props r a b (v.each r a e) (w.each r b f)
+
+-- ---- files
+
+text_one : (files : Files) (name s t : List ℕ) → get files name ≡ Some s → get files name ≡ Some t → s ≡ t
+text_one files name s t e f = some_same s t (sym e ∙ f)
+
+rev_one : (files : Files) (name : List ℕ) (m n : ℕ) → Says files name IsRevLine m → Says files name IsRevLine n → m ≡ n
+rev_one files name m n v w =
+    let one = all_again rev_line_reads v.0 m v.2 in
+    let two = all_again rev_line_reads v.0 n (subst (λ (t : List ℕ). IsRevLine t n) (text_one files name w.0 v.0 w.1 v.1) w.2) in
+    let both = sym one ∙ two in
+    cc
+
+shard_one : (files : Files) (name : List ℕ) (m n : ℕ) → Says files name IsFormat (Sharded m) → Says files name IsFormat (Sharded n) → m ≡ n
+shard_one files name m n v w =
+    let one = format_again v.0 (Sharded m) v.2 in
+    let two = format_again v.0 (Sharded n) (subst (λ (t : List ℕ). IsFormat t (Sharded n)) (text_one files name w.0 v.0 w.1 v.1) w.2) in
+    let both = sym one ∙ two in
+    cc
+
+pub one_stood_for : OneHistoryIsStoodFor
+one_stood_for revs props files g h v w =
+    let youngest = rev_one files _ v.youngest w.youngest v.small.current w.small.current in
+    let shard = shard_one files _ w.shard_size v.shard_size w.small.format v.small.format in
+    let moved = subst (λ (n : ℕ). ShowsHistory (revs n files) (props n files) h) shard w.history in (
+      v.count ∙ ap suc youngest ∙ sym w.count,
+      one_history (revs v.shard_size files) (props v.shard_size files) g h v.history moved,
+    )

@@ -1,0 +1,4 @@
+pub mod Changes
+pub mod History
+pub mod Files
+pub mod Same
