@@ -1,4 +1,5 @@
 pub mod Steps
 pub mod Windows
+pub mod IdLemmas
 pub mod Reps
 pub mod PairLemmas

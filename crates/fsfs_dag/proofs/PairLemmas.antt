@@ -1,7 +1,21 @@
 -- The entries of a directory, pair by pair.
 use Rattle.std.proofs.Common.{◌≡◌, ℕ, suc, ◌≤◌, ◌<◌, List, [], ◌∷◌, ◌++◌, length, true, false, Option, Some, None, Result, Ok, Err, refl, sym, ap, subst, ◌∙◌, arith, inl, inr}
+use Rattle.std.specs.Prelude.{map}
+use Rattle.std.specs.List.{AllByRecursion}
+use Rattle.std.specs.declared.vec.Vec.{Vec}
+use Rattle.std.specs.declared.alloc.Global.{Global}
+use Rattle.std.proofs.lemmas.List.{append-nil}
+use Rattle.fsfs_noderev.specs.declared.rep.Rep.{Rep}
+use Rattle.fsfs_revision.specs.declared.damage.RevOffset.{RevOffset}
+use Rattle.fsfs_shows.specs.declared.wrong.Wrong.{Wrong}
+use Rattle.fsfs_shows.specs.declared.wrong.ReadError.{ReadError}
+use Rattle.fsfs_shows.specs.declared.wrong.ReadError.TheVariants as errors
+use Rattle.fsfs_shows.specs.Readings.{Answers}
+use Rattle.fsfs_shows.specs.Reading.{Entry as EntryValue, IsEntry, AreEntries, FirstPairRow, EntriesIn}
+use Rattle.fsfs_dag.specs.declared.directory.Entry.{Entry}
+use Rattle.fsfs_dag.specs.Views.{entry_value, entry_values, EntryIn, IsBefore, AreBefore}
 use Rattle.fsfs_text.specs.Reading.{text_at}
-use Rattle.fsfs_text.proofs.Readers.{text_reads}
+use Rattle.fsfs_text.proofs.Readers.{text_reads, ok_is}
 
 pub word_not : (word value rest : List ℕ) (left : ℕ) → text_at word value ≡ Err left → value ≡ word ++ rest → ⊥
 word_not word value rest left e parts =
@@ -18,6 +32,59 @@ pub word_rest : (word value rest other : List ℕ) → text_at word value ≡ Ok
 word_rest word value rest other e parts =
     let one : text_at word (word ++ other) ≡ Ok (tt, other) = (text_reads word (suc (length (word ++ other)))).again word tt other (omega arith) refl in
     let two : text_at word value ≡ Ok (tt, other) = ap (text_at word) parts ∙ one in
-    let x : Result (Unit {0} × List ℕ) ℕ = Ok (tt, rest) in
-    let both : x ≡ Ok (tt, other) = sym e ∙ two in
-    cc
+    let both = ok_is {A = Unit {0} × List ℕ} (tt, rest) (tt, other) (sym e ∙ two) in
+    ap (λ (p : Unit {0} × List ℕ). p.1) both
+
+-- ---- the pairs of a dump, one after another
+
+abbrev pub Pair : Type 0
+Pair = List ℕ × List ℕ
+
+abbrev pub pair_of : Vec ℕ Global × Vec ℕ Global → Pair
+pair_of p = (p.0.items, p.1.items)
+
+values_push : (items : List Entry) (entry : Entry) (tail : List EntryValue) → entry_values (items ++ entry ∷ []) ++ tail ≡ entry_values items ++ entry_value entry ∷ tail
+values_push [] entry tail = refl
+values_push (x ∷ items) entry tail = ap (λ (t : List EntryValue). entry_value x ∷ t) (values_push items entry tail)
+
+before_push : (home : RevOffset) (items : List Entry) (entry : Entry) → AreBefore home items → IsBefore home entry → AreBefore home (items ++ entry ∷ [])
+before_push home [] entry all one = (one, tt)
+before_push home (x ∷ items) entry all one = (all.0, before_push home items entry all.1 one)
+
+-- some first pairs are these entries: whatever the rest is, the whole is so
+pub record AreSoFar (home : RevOffset) (rep : Rep) (pairs rest : List Pair) (items : List Entry) : Type 0 where
+  pub found : (tail : List EntryValue) → AreEntries home rest tail → AreEntries home pairs (entry_values items ++ tail)
+  pub wrong : (w : Wrong) → FirstPairRow home rep rest w → FirstPairRow home rep pairs w
+  pub before : AreBefore home items
+
+pub none_so_far : (home : RevOffset) (rep : Rep) (pairs rest : List Pair) (items : List Entry) → rest ≡ pairs → items ≡ [] → AreSoFar home rep pairs rest items
+none_so_far home rep pairs rest items all none = record {
+  found = λ tail h. subst (λ (t : List Entry). AreEntries home pairs (entry_values t ++ tail)) (sym none) (subst (λ (p : List Pair). AreEntries home p tail) all h);
+  wrong = λ w h. subst (λ (p : List Pair). FirstPairRow home rep p w) all h;
+  before = subst (λ (t : List Entry). AreBefore home t) (sym none) tt;
+}
+
+pub one_more : (home : RevOffset) (rep : Rep) (pairs left rest : List Pair) (pair : Pair) (items new : List Entry) (entry : Entry)
+    → AreSoFar home rep pairs left items → left ≡ pair ∷ rest → IsEntry home pair (entry_value entry) → IsBefore home entry → new ≡ items ++ entry ∷ [] → AreSoFar home rep pairs rest new
+one_more home rep pairs left rest pair items new entry so is one before pushed = subst (λ (t : List Entry). AreSoFar home rep pairs rest t) (sym pushed) more
+  where
+    more : AreSoFar home rep pairs rest (items ++ entry ∷ [])
+    more = record {
+      found = λ tail h. subst (λ (t : List EntryValue). AreEntries home pairs t) (sym (values_push items entry tail))
+          (so.found (entry_value entry ∷ tail) (subst (λ (p : List Pair). AreEntries home p (entry_value entry ∷ tail)) (sym is) (one, h)));
+      wrong = λ w h. so.wrong w (subst (λ (p : List Pair). FirstPairRow home rep p w) (sym is) (inr (entry_value entry, one, h)));
+      before = before_push home items entry so.before before;
+    }
+
+abbrev pub entries_seen : Vec Entry Global → List EntryValue
+entries_seen v = entry_values v.items
+
+pub first_wrong : (home : RevOffset) (rep : Rep) (pairs left rest : List Pair) (pair : Pair) (items : List Entry) (e : ReadError)
+    → AreSoFar home rep pairs left items → left ≡ pair ∷ rest → Answers entry_value (EntryIn home rep pair) (Err e) → Answers entries_seen (EntriesIn home rep pairs) (Err e)
+first_wrong home rep pairs left rest pair items (errors.Wrong w) so is h = so.wrong w (subst (λ (p : List Pair). FirstPairRow home rep p w) (sym is) (inl h))
+first_wrong home rep pairs left rest pair items errors.OutOfMemory so is h = tt
+first_wrong home rep pairs left rest pair items errors.DiskFault so is h = tt
+
+pub all_found : (home : RevOffset) (rep : Rep) (pairs left : List Pair) (items : List Entry) → AreSoFar home rep pairs left items → left ≡ [] → AreEntries home pairs (entry_values items)
+all_found home rep pairs left items so is =
+    subst (λ (t : List EntryValue). AreEntries home pairs t) (append-nil (entry_values items)) (so.found [] (subst (λ (p : List Pair). AreEntries home p []) (sym is) tt))

@@ -33,11 +33,8 @@ module _ (look : Look) (rep : Rep) where
   pub rep_found : (text : List ℕ) → ((bytes : List ℕ) → look (rev_of rep) ≡ Ok bytes → (text ≡ text_of rep bytes) × IsWhole rep bytes) → ((why : Refusal) → look (rev_of rep) ≡ Err why → ⊥) → RepAt look rep (Ok text)
   rep_found text found refused = found_in (look (rev_of rep)) text refl found refused
 
-  view : List ℕ → List ℕ
-  view text = text
-
   -- of bytes that are there
-  wrong_there : (bytes : List ℕ) (fault : RepFault) → look (rev_of rep) ≡ Ok bytes → IsFaultOf rep bytes fault → Answers view (RepAt look rep) (Err (of_rep (rep_place rep) fault))
+  wrong_there : (bytes : List ℕ) (fault : RepFault) → look (rev_of rep) ≡ Ok bytes → IsFaultOf rep bytes fault → Answers (λ (t : List ℕ). t) (RepAt look rep) (Err (of_rep (rep_place rep) fault))
   wrong_there bytes (faults.Book (books.Refused refusal)) is h = absurd h
   wrong_there bytes (faults.Book (books.Short rev offset)) is h = absurd h
   wrong_there bytes (faults.Book books.DiskFault) is h = tt
@@ -50,7 +47,7 @@ module _ (look : Look) (rep : Rep) where
   wrong_there bytes (faults.Sha1 kept found) is h = inr (bytes, is, (refl, h))
 
   -- of a revision without bytes
-  wrong_without : (why : Refusal) (fault : RepFault) → look (rev_of rep) ≡ Err why → IsRefusedFor why fault → Answers view (RepAt look rep) (Err (of_rep (rep_place rep) fault))
+  wrong_without : (why : Refusal) (fault : RepFault) → look (rev_of rep) ≡ Err why → IsRefusedFor why fault → Answers (λ (t : List ℕ). t) (RepAt look rep) (Err (of_rep (rep_place rep) fault))
   wrong_without why (faults.Book (books.Refused refusal)) is h = inl (why, is, ap (λ (r : Refusal). wrongs.Refused r) h)
   wrong_without why (faults.Book (books.Short rev offset)) is h = absurd h
   wrong_without why (faults.Book books.DiskFault) is h = tt
@@ -63,13 +60,13 @@ module _ (look : Look) (rep : Rep) where
   wrong_without why (faults.Sha1 kept found) is h = absurd h
 
   wrong_in : (read : Result (List ℕ) Refusal) (error : RepError) → look (rev_of rep) ≡ read → ((bytes : List ℕ) → read ≡ Ok bytes → IfFault (IsFaultOf rep bytes) error) → ((why : Refusal) → read ≡ Err why → IfFault (IsRefusedFor why) error)
-      → Answers view (RepAt look rep) (Err (of_rep_error (rep_place rep) error))
+      → Answers (λ (t : List ℕ). t) (RepAt look rep) (Err (of_rep_error (rep_place rep) error))
   wrong_in read rep_errors.OutOfMemory is there without = tt
   wrong_in (Ok bytes) (rep_errors.Fault fault) is there without = wrong_there bytes fault is (there bytes refl)
   wrong_in (Err why) (rep_errors.Fault fault) is there without = wrong_without why fault is (without why refl)
 
   pub rep_wrong : (error : RepError) → ((bytes : List ℕ) → look (rev_of rep) ≡ Ok bytes → IfFault (IsFaultOf rep bytes) error) → ((why : Refusal) → look (rev_of rep) ≡ Err why → IfFault (IsRefusedFor why) error)
-      → Answers view (RepAt look rep) (Err (of_rep_error (rep_place rep) error))
+      → Answers (λ (t : List ℕ). t) (RepAt look rep) (Err (of_rep_error (rep_place rep) error))
   rep_wrong error there without = wrong_in (look (rev_of rep)) error refl there without
 
 -- ---- what a node-revision names

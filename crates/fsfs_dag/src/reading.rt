@@ -1,5 +1,5 @@
 //! The node-revision at a place of a revision, and a revision's root.
-ghost use Rattle.std.specs.Prelude.{◌≡◌, ◌≤◌, ◌<◌, ◌^◌, ◌+◌, ◌↔◌, ℕ, true, length, take, IfOk, IsTrue};
+ghost use Rattle.std.specs.Prelude.{◌≡◌, ◌≤◌, ◌<◌, ◌^◌, ◌+◌, ℕ, true, length, take, IfOk};
 ghost use Rattle.fsfs_book.specs.Told.{Look, Knows, Keeps};
 ghost use Rattle.fsfs_revision.specs.Nodes.{is_ordered};
 ghost use Rattle.fsfs_revision.specs.declared.damage.RevisionError.TheVariants.{Damaged};
@@ -7,6 +7,7 @@ ghost use Rattle.fsfs_shows.specs.Readings.{Answers, of_revision};
 ghost use Rattle.fsfs_shows.specs.Reading.{NodeAt, RootOf, OfEntry, OfId, HasId, HasKind, offset_of};
 ghost use Rattle.fsfs_dag.specs.Causes.{HasCause, IsQuiet};
 ghost use Rattle.fsfs_dag.specs.Told.{IsTold, LengthOf, WindowAt, EndOf};
+ghost use Rattle.fsfs_dag.specs.Same.{same_part, same_place, same_id};
 ghost use Rattle.fsfs_dag.specs.Views.{entry_value};
 
 use crate::directory::Entry;
@@ -114,19 +115,41 @@ pub fn root_of<B: Book>(alloc: Global, book: &mut B, rev: u32) -> Result<PlacedN
 }
 
 fn same_part(a: Part, b: Part) -> bool
-    ensures { IsTrue result ↔ (a ≡ b) }
+    ensures { result ≡ same_part a b }
 {
-    a == b
+    match a {
+        Part::New(m) => match b {
+            Part::New(n) => m.number == n.number,
+            _ => false,
+        },
+        Part::Old(m) => match b {
+            Part::Old(n) => m.number == n.number,
+            _ => false,
+        },
+        Part::Made(m, made) => match b {
+            Part::Made(n, rev) => m.number == n.number && made == rev,
+            _ => false,
+        },
+    }
 }
 
 fn same_place(a: Place, b: Place) -> bool
-    ensures { IsTrue result ↔ (a ≡ b) }
+    ensures { result ≡ same_place a b }
 {
-    a == b
+    match a {
+        Place::At(rev, offset) => match b {
+            Place::At(other, place) => rev == other && offset == place,
+            Place::In(_) => false,
+        },
+        Place::In(txn) => match b {
+            Place::At(_, _) => false,
+            Place::In(other) => txn.base == other.base && txn.number.number == other.number.number,
+        },
+    }
 }
 
 fn same_id(a: &NodeId, b: &NodeId) -> bool
-    ensures { IsTrue result ↔ (a.now ≡ b.now) }
+    ensures { result ≡ same_id a.now b.now }
 {
     same_part(a.node, b.node) && same_part(a.copy, b.copy) && same_place(a.place, b.place)
 }

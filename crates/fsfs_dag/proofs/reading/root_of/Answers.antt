@@ -4,7 +4,8 @@ use Rattle.fsfs_noderev.specs.declared.node_rev.NodeRev.{NodeRev}
 use Rattle.fsfs_revision.specs.declared.damage.RevOffset.{RevOffset}
 use Rattle.fsfs_dag.specs.declared.node.PlacedNode.{PlacedNode}
 use Rattle.fsfs_dag.proofs.Steps.{told_later}
-use Rattle.fsfs_dag.proofs.Windows.{root_no_end, root_no_node, root_found, root_wrong}
+use Rattle.fsfs_dag.proofs.Windows.{root_no_end, root_no_node, root_found, root_wrong, placed_root}
+use Rattle.fsfs_rep.proofs.WholeLemmas.{keeps_trans}
 use Rattle.fsfs_dag.proofs.reading.root_of.Goals as goal
 
 pub returns-in_err-at-clause-told : goal.returns-in_err-at-clause-told
@@ -30,3 +31,9 @@ returns-in-Err-clause-told g c = λ look knows.
     let at_le : c.in_ok-at.at.rev ≤ c.args.rev = omega (arith, c.in_ok-at.ensures.rev) in
     let later = told_later _ _ look c.in_ok-at.at.rev c.in_ok-at.ensures.kept (knows c.in_ok-at.at.rev at_le) in
     root_wrong look c.args.rev c.in_ok-at.at (c.in_ok-at.ensures.told look (knows c.args.rev (omega arith))) c.in_ok-node.node c.in-Err.damage (c.in_ok-node.ensures.told look later) c.in-Err.ensures.damage
+
+pub invariant_of-result : goal.invariant_of-result
+invariant_of-result g c = record { ordered = placed_root c.in_ok-at.at c.in_ok-node.node c.in-Ok.ensures.found c.in_ok-node.ensures.ordered }
+
+pub returns-in-Err-clause-kept : goal.returns-in-Err-clause-kept
+returns-in-Err-clause-kept g c = keeps_trans _ _ _ c.in_ok-at.ensures.kept c.in_ok-node.ensures.kept

@@ -1,4 +1,4 @@
-use Rattle.std.proofs.Common.{◌≡◌, ℕ}
+use Rattle.std.proofs.Common.{◌≡◌, ℕ, take}
 use Rattle.std.proofs.lemmas.Result.{err_from_is_err_and}
 use Rattle.fsfs_revision.specs.Damages.{place_of}
 use Rattle.fsfs_revision.specs.declared.damage.RevOffset.{RevOffset}
@@ -16,7 +16,7 @@ pub returns-in_err-count-clause-told : goal.returns-in_err-count-clause-told
 returns-in_err-count-clause-told g c = λ look told.
     let p = err_from_is_err_and c.from_residual-in_err-count.result c.from_residual-in_err-count.ensures.1 in
     let later = told_later _ _ look c.args.rev c.in_ok-len.ensures.kept told in
-    rw (p.1, p.2) (window_stops _ (λ (at : RevOffset). at) look (place_of c.args.rev c.saturating_sub-begins.result) 64 c.in_err-count.field-0.0 (EndIn c.args.rev) (c.in_err-count.ensures.told look later))
+    rw (p.1, p.2) (window_stops (λ (n : ℕ). take n c.window.new.buffer) (λ (at : RevOffset). at) look (place_of c.args.rev c.saturating_sub-begins.result) 64 c.in_err-count.field-0.0 (EndIn c.args.rev) (c.in_err-count.ensures.told look later))
 
 pub returns-in-Some-clause-told : goal.returns-in-Some-clause-told
 returns-in-Some-clause-told g c = λ look told.
