@@ -1,6 +1,6 @@
 -- The entries of a directory, pair by pair.
 use Rattle.std.proofs.Common.{◌≡◌, ℕ, suc, ◌≤◌, ◌<◌, List, [], ◌∷◌, ◌++◌, length, true, false, Option, Some, None, Result, Ok, Err, refl, sym, ap, subst, ◌∙◌, arith, inl, inr}
-use Rattle.std.specs.Prelude.{map}
+use Rattle.std.specs.Prelude.{map, Bool, is_ok, is_err, if◌then◌else◌, cond}
 use Rattle.std.specs.List.{AllByRecursion}
 use Rattle.std.specs.declared.vec.Vec.{Vec}
 use Rattle.std.specs.declared.alloc.Global.{Global}
@@ -11,7 +11,15 @@ use Rattle.fsfs_shows.specs.declared.wrong.Wrong.{Wrong}
 use Rattle.fsfs_shows.specs.declared.wrong.ReadError.{ReadError}
 use Rattle.fsfs_shows.specs.declared.wrong.ReadError.TheVariants as errors
 use Rattle.fsfs_shows.specs.Readings.{Answers}
-use Rattle.fsfs_shows.specs.Reading.{Entry as EntryValue, IsEntry, AreEntries, FirstPairRow, EntriesIn}
+use Rattle.fsfs_shows.specs.Reading.{Entry as EntryValue, IsEntry, AreEntries, FirstPairRow, EntriesIn, EntriesOf, ChildOf, OfNamed, OfEntry, named, offset_of}
+use Rattle.std.proofs.lemmas.Bool.Decides.{nat_tests}
+use Rattle.fsfs_base.specs.Paths.{Name, same_name}
+use Rattle.fsfs_book.specs.Told.{Look}
+use Rattle.fsfs_noderev.specs.declared.node_id.Place.{Place}
+use Rattle.fsfs_noderev.specs.declared.node_id.Place.TheVariants as places
+use Rattle.fsfs_noderev.specs.declared.node_rev.NodeRev.{NodeRev}
+use Rattle.fsfs_revision.specs.Nodes.{is_before, place_before}
+use Rattle.fsfs_dag.proofs.Steps.{goes_on}
 use Rattle.fsfs_dag.specs.declared.directory.Entry.{Entry}
 use Rattle.fsfs_dag.specs.Views.{entry_value, entry_values, EntryIn, IsBefore, AreBefore}
 use Rattle.fsfs_text.specs.Reading.{text_at}
@@ -88,3 +96,37 @@ first_wrong home rep pairs left rest pair items errors.DiskFault so is h = tt
 pub all_found : (home : RevOffset) (rep : Rep) (pairs left : List Pair) (items : List Entry) → AreSoFar home rep pairs left items → left ≡ [] → AreEntries home pairs (entry_values items)
 all_found home rep pairs left items so is =
     subst (λ (t : List EntryValue). AreEntries home pairs t) (append-nil (entry_values items)) (so.found [] (subst (λ (p : List Pair). AreEntries home p []) (sym is) tt))
+
+-- what was put at the end, where the push did not fail
+pub pushed : {A : Type 0} (r : Result (Unit {0}) A) (old new : List Entry) (entry : Entry) → false ≡ is_err r → new ≡ (if is_ok r then old ++ entry ∷ [] else old) → new ≡ old ++ entry ∷ []
+pushed (Ok x) old new entry e h = h
+pushed (Err x) old new entry e h = absurd cc
+
+-- ---- the entry of a name
+
+before_le : (rev offset : ℕ) (home : RevOffset) → is_before rev offset home ≡ true → rev ≤ home.rev
+before_le rev offset home h = grind (arith, nat_tests)
+
+pub place_le : (home : RevOffset) (place : Place) → place_before home place ≡ true → (offset_of place).rev ≤ home.rev
+place_le home (places.At rev offset) h = before_le rev offset home h
+place_le home (places.In txn) h = absurd cc
+
+pub named_before : (home : RevOffset) (name : Name) (items : List Entry) (x : EntryValue) → AreBefore home items → named name (entry_values items) ≡ Some x → place_before home x.id.place ≡ true
+named_before home name [] x all h = absurd cc
+named_before home name (entry ∷ items) x all h = by_test (same_name (entry_value entry).name name) h
+  where
+    by_test : (test : Bool) → cond test (Some (entry_value entry)) (named name (entry_values items)) ≡ Some x → place_before home x.id.place ≡ true
+    by_test true e = let same : entry_value entry ≡ x = cc in subst (λ (v : EntryValue). place_before home v.id.place ≡ true) same all.0
+    by_test false e = named_before home name items x all.1 e
+
+module _ (look : Look) (v : NodeRev) (name : Name) (all : List EntryValue) (x : EntryValue) (read : EntriesOf look v (Ok all)) (is : named name all ≡ Some x) where
+  of_some : (r : Result (Option NodeRev) Wrong) → OfNamed look (Some x) r → OfNamed look (named name all) r
+  of_some r h = subst (λ (n : Option EntryValue). OfNamed look n r) (sym is) h
+
+  pub child_found : (u : NodeRev) → OfEntry look x (Ok u) → ChildOf look v name (Ok (Some u))
+  child_found u h = (all, read, of_some (Ok (Some u)) h)
+
+  pub child_wrong : {A B : Type 0} (first : A → NodeRev) (second : B → Option NodeRev) (e : ReadError) → Answers first (OfEntry look x) (Err e) → Answers second (ChildOf look v name) (Err e)
+  child_wrong first second (errors.Wrong w) h = inr (all, read, of_some (Err w) h)
+  child_wrong first second errors.OutOfMemory h = tt
+  child_wrong first second errors.DiskFault h = tt
