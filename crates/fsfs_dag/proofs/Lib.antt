@@ -3,3 +3,4 @@ pub mod Windows
 pub mod IdLemmas
 pub mod Reps
 pub mod PairLemmas
+pub mod WalkLemmas

@@ -113,11 +113,11 @@ place_le home (places.In txn) h = absurd cc
 
 pub named_before : (home : RevOffset) (name : Name) (items : List Entry) (x : EntryValue) → AreBefore home items → named name (entry_values items) ≡ Some x → place_before home x.id.place ≡ true
 named_before home name [] x all h = absurd cc
-named_before home name (entry ∷ items) x all h = by_test (same_name (entry_value entry).name name) h
+named_before home name (entry ∷ items) x all h = by_test (same_name (entry_value entry).name name) (named_before home name items x all.1) h
   where
-    by_test : (test : Bool) → cond test (Some (entry_value entry)) (named name (entry_values items)) ≡ Some x → place_before home x.id.place ≡ true
-    by_test true e = let same : entry_value entry ≡ x = cc in subst (λ (v : EntryValue). place_before home v.id.place ≡ true) same all.0
-    by_test false e = named_before home name items x all.1 e
+    by_test : (test : Bool) → (named name (entry_values items) ≡ Some x → place_before home x.id.place ≡ true) → cond test (Some (entry_value entry)) (named name (entry_values items)) ≡ Some x → place_before home x.id.place ≡ true
+    by_test true later e = let same : entry_value entry ≡ x = cc in subst (λ (v : EntryValue). place_before home v.id.place ≡ true) same all.0
+    by_test false later e = later e
 
 module _ (look : Look) (v : NodeRev) (name : Name) (all : List EntryValue) (x : EntryValue) (read : EntriesOf look v (Ok all)) (is : named name all ≡ Some x) where
   of_some : (r : Result (Option NodeRev) Wrong) → OfNamed look (Some x) r → OfNamed look (named name all) r

@@ -4,7 +4,7 @@ ghost use Rattle.fsfs_base.specs.declared.node.Kind.TheVariants.{File};
 ghost use Rattle.fsfs_book.specs.Told.{Look, Knows, Keeps};
 ghost use Rattle.fsfs_rep.specs.Frames.{rev_of};
 ghost use Rattle.fsfs_shows.specs.Readings.{Answers};
-ghost use Rattle.fsfs_shows.specs.Reading.{RepAt, PairsIn, PairsAt, PropsOf};
+ghost use Rattle.fsfs_shows.specs.Reading.{RepAt, PairsIn, PairsAt, PropsOf, TextOf};
 ghost use Rattle.fsfs_dag.specs.Causes.{HasCause, IsQuiet};
 ghost use Rattle.fsfs_dag.specs.Told.{IsTold};
 ghost use Rattle.fsfs_dag.specs.Views.{home_of};
@@ -64,5 +64,18 @@ pub fn props<B: Book>(alloc: Global, book: &mut B, node: &PlacedNode) -> Result<
     match node.props() {
         None => Ok(Pairs::new(alloc)),
         Some(rep) => pairs_in(alloc, book, rep),
+    }
+}
+
+/// The text of a file, all of it checked. The whole text is in memory then.
+pub fn text_of<B: Book>(alloc: Global, book: &mut B, file: &PlacedNode) -> Result<Vec<u8>, ReadError>
+    requires { file.now.node.kind ≡ File }
+    ensures told { (look : Look) → Knows (B.told book.old).revs (home_of file.now.node).rev look → Answers (λ v. v.items) (TextOf look file.now.node) result }
+    ensures kept { Keeps (B.told book.old) (B.told book.new) }
+    ensures cause { HasCause (B.faults book.old) (B.faults book.new) result }
+{
+    match file.text() {
+        None => Ok(Vec::new(alloc)),
+        Some(rep) => rep_read(alloc, book, rep),
     }
 }

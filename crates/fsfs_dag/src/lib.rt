@@ -10,9 +10,11 @@ mod directory;
 mod faults;
 mod node;
 mod reading;
+#[cfg(test)]
+mod tests;
 mod walk;
 
-pub use contents::props;
+pub use contents::{props, text_of};
 pub use directory::{Entry, entries, entry_named};
 pub use node::PlacedNode;
 pub use reading::{child_of, named_node, root_of};
