@@ -68,7 +68,11 @@ pub fn props<B: Book>(alloc: Global, book: &mut B, node: &PlacedNode) -> Result<
 }
 
 /// The text of a file, all of it checked. The whole text is in memory then.
-pub fn text_of<B: Book>(alloc: Global, book: &mut B, file: &PlacedNode) -> Result<Vec<u8>, ReadError>
+pub fn text_of<B: Book>(
+    alloc: Global,
+    book: &mut B,
+    file: &PlacedNode,
+) -> Result<Vec<u8>, ReadError>
     requires { file.now.node.kind ≡ File }
     ensures told { (look : Look) → Knows (B.told book.old).revs (home_of file.now.node).rev look → Answers (λ v. v.items) (TextOf look file.now.node) result }
     ensures kept { Keeps (B.told book.old) (B.told book.new) }

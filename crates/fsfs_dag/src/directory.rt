@@ -64,13 +64,7 @@ fn name_of(name: &[u8]) -> Option<&str>
 {
     match str::from_utf8(name) {
         Err(_) => None,
-        Ok(name) => {
-            if is_name(name) {
-                Some(name)
-            } else {
-                None
-            }
-        }
+        Ok(name) => { if is_name(name) { Some(name) } else { None } }
     }
 }
 

@@ -15,13 +15,13 @@ returns-in_default-value_of-clause-told c =
 
 pub returns-then-not-stands_before-clause-told : goal.returns-then-not-stands_before-clause-told
 returns-then-not-stands_before-clause-told c = (
-    refl,
-    refl,
-    record {
-      kind = c.in-Some-value_of.target.0;
-      id = c.in-Some-value_of.target.1;
-      name_is = c.in-Some.ensures.found.1;
-      value_is = c.in-Some-value_of.ensures.found;
-      not_before = sym c.if-not-stands_before.ensures;
-    },
+  refl,
+  refl,
+  record {
+    kind = c.in-Some-value_of.target.0;
+    id = c.in-Some-value_of.target.1;
+    name_is = c.in-Some.ensures.found.1;
+    value_is = c.in-Some-value_of.ensures.found;
+    not_before = sym c.if-not-stands_before.ensures;
+  },
 )
