@@ -1,4 +1,4 @@
-use Rattle.std.proofs.Common.{◌≡◌, ap, sym, ◌∙◌}
+use Rattle.std.proofs.Common.{ap, sym, ◌∙◌}
 use Rattle.std.specs.Prelude.{Some}
 use Rattle.fsfs_fetch.specs.Owned.{owned_view, below_of}
 use Rattle.fsfs_fetch.proofs.TellingLemmas.{below_same}

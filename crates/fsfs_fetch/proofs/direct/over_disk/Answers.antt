@@ -1,7 +1,6 @@
-use Rattle.std.proofs.Common.{◌≡◌, ap, sym, ◌∙◌}
+use Rattle.std.proofs.Common.{◌≡◌, ap, ◌∙◌}
 use Rattle.std.specs.Prelude.{Some}
 use Rattle.fsfs_disk.specs.Trace.{files_now}
-use Rattle.fsfs_book.specs.Told.{Below}
 use Rattle.fsfs_fetch.specs.Owned.{below_of}
 use Rattle.fsfs_fetch.proofs.OwnedLemmas.{owned_files, owned_floor, owned_tells}
 use Rattle.fsfs_fetch.proofs.direct.over_disk.Goals as goal
