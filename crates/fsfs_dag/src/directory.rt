@@ -3,12 +3,16 @@ ghost use Rattle.std.specs.Prelude.{◌≡◌, ◌++◌, ℕ, List, true, Some, 
 ghost use Rattle.std.specs.String.{string_bytes};
 ghost use Rattle.fsfs_base.specs.declared.node.Kind.{Kind};
 ghost use Rattle.fsfs_base.specs.declared.node.Kind.TheVariants.{Dir};
+ghost use Rattle.fsfs_base.specs.Paths.{Path};
+ghost use Rattle.fsfs_base.specs.Nodes.{TreeFunction};
 ghost use Rattle.fsfs_book.specs.Told.{Look, Knows, Keeps};
 ghost use Rattle.fsfs_noderev.specs.Fields.{IsIdText};
 ghost use Rattle.fsfs_noderev.specs.declared.node_id.NodeId.{NodeId};
 ghost use Rattle.fsfs_revision.specs.Nodes.{is_revision_id, place_before};
 ghost use Rattle.fsfs_shows.specs.Readings.{Answers};
-ghost use Rattle.fsfs_shows.specs.Reading.{EntriesIn, EntriesOf, IsEntryName, IsEntryValue, named, rep_place};
+ghost use Rattle.fsfs_shows.specs.Reading.{EntriesIn, EntriesOf, IsEntryName, IsEntryValue, StandsAt, named, rep_place};
+ghost use Rattle.fsfs_shows.specs.Shown.{Shows};
+ghost use Rattle.fsfs_shows.specs.ByTree.{AreEntriesByTree};
 ghost use Rattle.fsfs_dag.specs.Causes.{HasCause, IsQuiet};
 ghost use Rattle.fsfs_dag.specs.Views.{entry_value, entry_values, home_of, EntryIn, AreBefore, IsBefore};
 
@@ -137,6 +141,7 @@ pub fn entries<B: Book>(
 ) -> Result<Vec<Entry>, ReadError>
     requires { dir.now.node.kind ≡ Dir }
     ensures told { (look : Look) → Knows (B.told book.old).revs (home_of dir.now.node).rev look → Answers (λ v. entry_values v.items) (EntriesOf look dir.now.node) result }
+    ensures by_tree { (look : Look) (rev : ℕ) (tree : TreeFunction) (path : Path) → Knows (B.told book.old).revs (home_of dir.now.node).rev look → Shows look rev tree → StandsAt look rev path dir.now.node → Answers (λ v. entry_values v.items) (AreEntriesByTree tree path) result }
     ensures before { IfOk result (λ v. AreBefore (home_of dir.now.node) v.items) }
     ensures kept { Keeps (B.told book.old) (B.told book.new) }
     ensures cause { HasCause (B.faults book.old) (B.faults book.new) result }

@@ -1,9 +1,12 @@
 //! The node at a path.
 ghost use Rattle.std.specs.Prelude.{◌≡◌, ◌≤◌, IfOk, IfSome, option_map};
 ghost use Rattle.fsfs_base.specs.declared.node.Kind.TheVariants.{Dir};
+ghost use Rattle.fsfs_base.specs.Nodes.{TreeFunction};
 ghost use Rattle.fsfs_book.specs.Told.{Look, Knows, Keeps};
 ghost use Rattle.fsfs_shows.specs.Readings.{Answers};
 ghost use Rattle.fsfs_shows.specs.Reading.{ChildOf, MetAt};
+ghost use Rattle.fsfs_shows.specs.Shown.{Shows};
+ghost use Rattle.fsfs_shows.specs.ByTree.{IsMetByTree};
 ghost use Rattle.fsfs_dag.specs.Causes.{HasCause};
 ghost use Rattle.fsfs_dag.specs.Views.{home_of, met_value};
 
@@ -57,6 +60,7 @@ pub fn node_at<B: Book>(
     path: &FsPath,
 ) -> Result<Met, ReadError>
     ensures told { (look : Look) → Knows (B.told book.old).revs rev look → Answers met_value (MetAt look rev path.now) result }
+    ensures by_tree { (look : Look) (tree : TreeFunction) → Knows (B.told book.old).revs rev look → Shows look rev tree → Answers met_value (IsMetByTree look rev tree path.now) result }
     ensures kept { Keeps (B.told book.old) (B.told book.new) }
     ensures cause { HasCause (B.faults book.old) (B.faults book.new) result }
 {

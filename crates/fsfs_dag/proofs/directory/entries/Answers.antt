@@ -8,6 +8,10 @@ use Rattle.fsfs_dag.specs.Views.{home_of, entry_values}
 use Rattle.fsfs_dag.proofs.Steps.{stops, goes_on}
 use Rattle.fsfs_dag.proofs.PairLemmas.{Pair, entries_seen}
 use Rattle.fsfs_dag.proofs.Reps.{rep_le, contents_some, contents_none}
+use Rattle.fsfs_shows.specs.Reading.{EntriesOf}
+use Rattle.fsfs_shows.specs.ByTree.{AreEntriesByTree}
+use Rattle.fsfs_shows.proofs.ByTree.{by_tree}
+use Rattle.fsfs_dag.proofs.Steps.{answers_as}
 use Rattle.fsfs_dag.proofs.directory.entries.Goals as goal
 
 abbrev Pairs : Type 0
@@ -35,3 +39,15 @@ returns-in_ok-pairs-in-Some-clause-told g c = λ look knows.
     let found = subst (λ (a : RevOffset). Answers entries_seen (EntriesIn a rep pairs) c.entries_of.result) c.place.ensures c.entries_of.ensures.told in
     contents_some entries_seen c.entries_of.result [] (EntriesAt look (home_of v)) v.text rep c.in-Some.ensures.value
     (goes_on entries_seen c.entries_of.result (PairsAt look rep) (EntriesIn (home_of v) rep) pairs (c.in_ok-pairs-in-Some.ensures.told look told) found)
+
+pub returns-in-None-clause-by_tree : goal.returns-in-None-clause-by_tree
+returns-in-None-clause-by_tree g c = λ look rev tree path knows shows stands.
+    (by_tree look rev tree shows).entries path c.args.dir.now.node (Ok (entries_seen c.new.result)) stands c.requires (returns-in-None-clause-told g c look knows)
+
+pub returns-in_err-pairs-in-Some-clause-by_tree : goal.returns-in_err-pairs-in-Some-clause-by_tree
+returns-in_err-pairs-in-Some-clause-by_tree g c = λ look rev tree path knows shows stands.
+    answers_as entries_seen _ (EntriesOf look c.args.dir.now.node) (AreEntriesByTree tree path) (λ read. (by_tree look rev tree shows).entries path c.args.dir.now.node read stands c.requires) (returns-in_err-pairs-in-Some-clause-told g c look knows)
+
+pub returns-in_ok-pairs-in-Some-clause-by_tree : goal.returns-in_ok-pairs-in-Some-clause-by_tree
+returns-in_ok-pairs-in-Some-clause-by_tree g c = λ look rev tree path knows shows stands.
+    answers_as entries_seen _ (EntriesOf look c.args.dir.now.node) (AreEntriesByTree tree path) (λ read. (by_tree look rev tree shows).entries path c.args.dir.now.node read stands c.requires) (returns-in_ok-pairs-in-Some-clause-told g c look knows)

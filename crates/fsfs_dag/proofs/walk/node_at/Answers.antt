@@ -1,15 +1,19 @@
-use Rattle.std.proofs.Common.{◌≡◌, ◌≤◌, ℕ, List, ◌+◌, ◌∷◌, [], drop, map, Result, Err, refl, sym, ap, subst, ◌∙◌, arith}
+use Rattle.std.proofs.Common.{◌≡◌, ◌≤◌, ℕ, List, ◌+◌, ◌∷◌, [], drop, map, Result, Ok, Err, refl, sym, ap, subst, ◌∙◌, arith}
 use Rattle.std.specs.Prelude.{Option, option_map}
 use Rattle.std.specs.String.{string_bytes}
 use Rattle.std.proofs.lemmas.Result.{err_from_is_err_and}
 use Rattle.fsfs_base.specs.Paths.{Path}
 use Rattle.fsfs_book.specs.Told.{Look, Knows}
 use Rattle.fsfs_rep.proofs.WholeLemmas.{keeps_trans}
-use Rattle.fsfs_shows.specs.Reading.{MetFrom, ChildOf}
+use Rattle.fsfs_shows.specs.Reading.{RootOf, MetFrom, ChildOf}
 use Rattle.fsfs_shows.specs.Readings.{Answers}
 use Rattle.fsfs_dag.specs.declared.node.PlacedNode.{PlacedNode}
 use Rattle.fsfs_dag.specs.Views.{home_of, met_value}
 use Rattle.fsfs_dag.proofs.WalkLemmas.{names_step, names_end, from_root, walk_ends, walk_file, walk_down, walk_absent, walk_wrong}
+use Rattle.fsfs_shows.specs.Reading.{MetAt, Stands, Lacking, Blocked}
+use Rattle.fsfs_shows.specs.ByTree.{IsMetByTree}
+use Rattle.fsfs_shows.proofs.ByTree.{by_tree}
+use Rattle.fsfs_dag.proofs.Steps.{answers_as, stops}
 use Rattle.fsfs_dag.proofs.walk.node_at.Goals as goal
 
 pub loop-name-init : goal.loop-name-init
@@ -86,3 +90,23 @@ returns-clause-told g c = λ look knows.
     let i = c.loop-name.name-index in
     let items = c.names-name-items.result.now in
     inv.met look knows _ (walk_ends look v c.loop-name.depth (map string_bytes (drop i items)) (names_end string_bytes items i (omega (arith, c.loop-name-test.false))))
+
+pub returns-in-File-clause-by_tree : goal.returns-in-File-clause-by_tree
+returns-in-File-clause-by_tree g c = λ look tree knows shows. (by_tree look c.args.rev tree shows).paths c.args.path.now (Ok (Blocked c.loop-name.depth)) (returns-in-File-clause-told g c look knows)
+
+pub returns-in_err-child_named-clause-by_tree : goal.returns-in_err-child_named-clause-by_tree
+returns-in_err-child_named-clause-by_tree g c = λ look tree knows shows.
+    answers_as met_value _ (MetAt look c.args.rev c.args.path.now) (IsMetByTree look c.args.rev tree c.args.path.now) ((by_tree look c.args.rev tree shows).paths c.args.path.now) (returns-in_err-child_named-clause-told g c look knows)
+
+pub returns-in-None-clause-by_tree : goal.returns-in-None-clause-by_tree
+returns-in-None-clause-by_tree g c = λ look tree knows shows. (by_tree look c.args.rev tree shows).paths c.args.path.now (Ok (Lacking (c.loop-name.depth + 1))) (returns-in-None-clause-told g c look knows)
+
+pub returns-clause-by_tree : goal.returns-clause-by_tree
+returns-clause-by_tree g c = λ look tree knows shows. (by_tree look c.args.rev tree shows).paths c.args.path.now (Ok (Stands c.loop-name.node.node)) (returns-clause-told g c look knows)
+
+pub returns-in_err-node-clause-by_tree : goal.returns-in_err-node-clause-by_tree
+returns-in_err-node-clause-by_tree g c = λ look tree knows shows.
+    let p = err_from_is_err_and c.from_residual.result c.from_residual.ensures.1 in
+    let e = c.in_err-node.field-0.0 in
+    rw (p.1, p.2) (answers_as met_value (Err e) (MetAt look c.args.rev c.args.path.now) (IsMetByTree look c.args.rev tree c.args.path.now) ((by_tree look c.args.rev tree shows).paths c.args.path.now)
+    (stops (λ (found : PlacedNode). found.node) met_value e (RootOf look c.args.rev) (λ v. MetFrom look v 0 c.args.path.now) (c.in_err-node.ensures.told look knows)))
