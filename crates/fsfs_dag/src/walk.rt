@@ -52,12 +52,7 @@ pub fn child_named<B: Book>(
 }
 
 // Walks from the root down the names.
-fn go_down<B: Book>(
-    alloc: Global,
-    book: &mut B,
-    rev: u32,
-    path: &FsPath,
-) -> Result<Met, ReadError>
+fn go_down<B: Book>(alloc: Global, book: &mut B, rev: u32, path: &FsPath) -> Result<Met, ReadError>
     ensures told { (look : Look) → Knows (B.told book.old).revs rev look → Answers met_value (MetAt look rev path.now) result }
     ensures kept { Keeps (B.told book.old) (B.told book.new) }
     ensures cause { HasCause (B.faults book.old) (B.faults book.new) result }
