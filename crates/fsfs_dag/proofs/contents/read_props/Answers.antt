@@ -1,6 +1,6 @@
-use Rattle.std.proofs.Common.{◌≡◌, ℕ, List, [], refl, sym, ap, subst, ◌∙◌}
+use Rattle.std.proofs.Common.{ℕ, List, []}
 use Rattle.fsfs_shows.specs.Reading.{PairsAt}
-use Rattle.fsfs_dag.proofs.Reps.{rep_le, rep_named, contents_some, contents_none}
+use Rattle.fsfs_dag.proofs.Reps.{rep_le, contents_some, contents_none}
 use Rattle.fsfs_dag.proofs.contents.read_props.Goals as goal
 
 abbrev Pairs : Type 0

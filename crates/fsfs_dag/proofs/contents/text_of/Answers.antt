@@ -1,4 +1,4 @@
-use Rattle.std.proofs.Common.{◌≡◌, ℕ, List, Result}
+use Rattle.std.proofs.Common.{ℕ, List, Result}
 use Rattle.std.specs.declared.vec.Vec.{Vec}
 use Rattle.std.specs.declared.alloc.Global.{Global}
 use Rattle.fsfs_shows.specs.declared.wrong.Wrong.{Wrong}

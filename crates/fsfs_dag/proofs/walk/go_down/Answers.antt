@@ -1,9 +1,9 @@
-use Rattle.std.proofs.Common.{◌≡◌, ◌≤◌, ℕ, List, ◌+◌, ◌∷◌, [], drop, map, Result, Err, refl, sym, ap, subst, ◌∙◌, arith}
-use Rattle.std.specs.Prelude.{Option, option_map}
+use Rattle.std.proofs.Common.{◌≤◌, ℕ, List, ◌+◌, drop, map, Err, refl, subst, arith}
+use Rattle.std.specs.Prelude.{option_map}
 use Rattle.std.specs.String.{string_bytes}
 use Rattle.std.proofs.lemmas.Result.{err_from_is_err_and}
 use Rattle.fsfs_base.specs.Paths.{Path}
-use Rattle.fsfs_book.specs.Told.{Look, Knows}
+use Rattle.fsfs_book.specs.Told.{Knows}
 use Rattle.fsfs_rep.proofs.WholeLemmas.{keeps_trans}
 use Rattle.fsfs_shows.specs.Reading.{MetFrom, ChildOf}
 use Rattle.fsfs_shows.specs.Readings.{Answers}
