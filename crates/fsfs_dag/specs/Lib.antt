@@ -3,4 +3,3 @@ pub mod Told
 pub mod Faults
 pub mod Same
 pub mod Views
-pub mod ByTree

@@ -158,7 +158,10 @@ fn costs(rt: HostRuntime) -> Result<(), Fail> {
     let many = [FIRST_DIRECTORY, EMPTY_COMMIT, EMPTY_COMMIT, EMPTY_COMMIT];
     for revisions in [few.as_slice(), many.as_slice()] {
         let mut book = book_of(alloc, revisions, &[8])?;
-        assert_eq!(rt; answer_of(met(alloc, &mut book, 1, "/a")), at(Kind::Dir, 1, 0));
+        assert_eq!(rt;
+            answer_of(met(alloc, &mut book, 1, "/a")),
+            at(Kind::Dir, 1, 0)
+        );
         let mut book = book_of(alloc, revisions, &[7])?;
         assert_eq!(rt; answer_of(met(alloc, &mut book, 1, "/a")), Answer::Failed);
     }
