@@ -12,6 +12,6 @@ mod tests;
 mod trailer;
 
 pub use damage::{Damage, RevOffset, RevisionError, What};
-pub use node::read_node_at;
+pub use node::{is_before, is_revision_id, read_node_at};
 pub use root::{check_root, read_root};
 pub use trailer::{TRAILER_LIMIT, Trailer, put_trailer, read_tail, read_trailer};

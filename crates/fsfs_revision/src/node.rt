@@ -20,7 +20,8 @@ fn is_lasting(part: Part) -> bool
     }
 }
 
-fn is_revision_id(id: &NodeId) -> bool
+/// Whether an id has no form that only a transaction has.
+pub fn is_revision_id(id: &NodeId) -> bool
     ensures { result ≡ is_revision_id id.now }
 {
     match id.place {
@@ -69,7 +70,8 @@ fn is_of_revision(node: &NodeRev) -> bool
         && !node.is_fresh_txn_root
 }
 
-fn is_before(rev: u32, offset: u64, at: RevOffset) -> bool
+/// Whether a place of a revision comes before another: by the revision, then by the offset.
+pub fn is_before(rev: u32, offset: u64, at: RevOffset) -> bool
     ensures { result ≡ before rev offset at }
 {
     rev < at.rev || (rev == at.rev && offset < at.offset)

@@ -1,0 +1,132 @@
+-- The entries of a directory, pair by pair.
+use Rattle.std.proofs.Common.{◌≡◌, ℕ, suc, ◌≤◌, ◌<◌, List, [], ◌∷◌, ◌++◌, length, true, false, Option, Some, None, Result, Ok, Err, refl, sym, ap, subst, ◌∙◌, arith, inl, inr}
+use Rattle.std.specs.Prelude.{map, Bool, is_ok, is_err, if◌then◌else◌, cond}
+use Rattle.std.specs.List.{AllByRecursion}
+use Rattle.std.specs.declared.vec.Vec.{Vec}
+use Rattle.std.specs.declared.alloc.Global.{Global}
+use Rattle.std.proofs.lemmas.List.{append-nil}
+use Rattle.fsfs_noderev.specs.declared.rep.Rep.{Rep}
+use Rattle.fsfs_revision.specs.declared.damage.RevOffset.{RevOffset}
+use Rattle.fsfs_shows.specs.declared.wrong.Wrong.{Wrong}
+use Rattle.fsfs_shows.specs.declared.wrong.ReadError.{ReadError}
+use Rattle.fsfs_shows.specs.declared.wrong.ReadError.TheVariants as errors
+use Rattle.fsfs_shows.specs.Readings.{Answers}
+use Rattle.fsfs_shows.specs.Reading.{Entry as EntryValue, IsEntry, AreEntries, FirstPairRow, EntriesIn, EntriesOf, ChildOf, OfNamed, OfEntry, named, offset_of}
+use Rattle.std.proofs.lemmas.Bool.Decides.{nat_tests}
+use Rattle.fsfs_base.specs.Paths.{Name, same_name}
+use Rattle.fsfs_book.specs.Told.{Look}
+use Rattle.fsfs_noderev.specs.declared.node_id.Place.{Place}
+use Rattle.fsfs_noderev.specs.declared.node_id.Place.TheVariants as places
+use Rattle.fsfs_noderev.specs.declared.node_rev.NodeRev.{NodeRev}
+use Rattle.fsfs_revision.specs.Nodes.{is_before, place_before}
+use Rattle.fsfs_dag.proofs.Steps.{goes_on}
+use Rattle.fsfs_dag.specs.declared.directory.Entry.{Entry}
+use Rattle.fsfs_dag.specs.Views.{entry_value, entry_values, EntryIn, IsBefore, AreBefore}
+use Rattle.fsfs_text.specs.Reading.{text_at}
+use Rattle.fsfs_text.proofs.Readers.{text_reads, ok_is}
+
+pub word_not : (word value rest : List ℕ) (left : ℕ) → text_at word value ≡ Err left → value ≡ word ++ rest → ⊥
+word_not word value rest left e parts =
+    let one : text_at word (word ++ rest) ≡ Ok (tt, rest) = (text_reads word (suc (length (word ++ rest)))).again word tt rest (omega arith) refl in
+    let two : text_at word value ≡ Ok (tt, rest) = ap (text_at word) parts ∙ one in
+    cc
+
+pub word_found : (word value rest : List ℕ) → text_at word value ≡ Ok (tt, rest) → value ≡ word ++ rest
+word_found word value rest e =
+    let w = (text_reads word (suc (length value))).found value tt rest (omega arith) e in
+    w.parts ∙ ap (λ (f : List ℕ). f ++ rest) w.text
+
+pub word_rest : (word value rest other : List ℕ) → text_at word value ≡ Ok (tt, rest) → value ≡ word ++ other → rest ≡ other
+word_rest word value rest other e parts =
+    let one : text_at word (word ++ other) ≡ Ok (tt, other) = (text_reads word (suc (length (word ++ other)))).again word tt other (omega arith) refl in
+    let two : text_at word value ≡ Ok (tt, other) = ap (text_at word) parts ∙ one in
+    let both = ok_is {A = Unit {0} × List ℕ} (tt, rest) (tt, other) (sym e ∙ two) in
+    ap (λ (p : Unit {0} × List ℕ). p.1) both
+
+-- ---- the pairs of a dump, one after another
+
+abbrev pub Pair : Type 0
+Pair = List ℕ × List ℕ
+
+abbrev pub pair_of : Vec ℕ Global × Vec ℕ Global → Pair
+pair_of p = (p.0.items, p.1.items)
+
+values_push : (items : List Entry) (entry : Entry) (tail : List EntryValue) → entry_values (items ++ entry ∷ []) ++ tail ≡ entry_values items ++ entry_value entry ∷ tail
+values_push [] entry tail = refl
+values_push (x ∷ items) entry tail = ap (λ (t : List EntryValue). entry_value x ∷ t) (values_push items entry tail)
+
+before_push : (home : RevOffset) (items : List Entry) (entry : Entry) → AreBefore home items → IsBefore home entry → AreBefore home (items ++ entry ∷ [])
+before_push home [] entry all one = (one, tt)
+before_push home (x ∷ items) entry all one = (all.0, before_push home items entry all.1 one)
+
+-- some first pairs are these entries: whatever the rest is, the whole is so
+pub record AreSoFar (home : RevOffset) (rep : Rep) (pairs rest : List Pair) (items : List Entry) : Type 0 where
+  pub found : (tail : List EntryValue) → AreEntries home rest tail → AreEntries home pairs (entry_values items ++ tail)
+  pub wrong : (w : Wrong) → FirstPairRow home rep rest w → FirstPairRow home rep pairs w
+  pub before : AreBefore home items
+
+pub none_so_far : (home : RevOffset) (rep : Rep) (pairs rest : List Pair) (items : List Entry) → rest ≡ pairs → items ≡ [] → AreSoFar home rep pairs rest items
+none_so_far home rep pairs rest items all none = record {
+  found = λ tail h. subst (λ (t : List Entry). AreEntries home pairs (entry_values t ++ tail)) (sym none) (subst (λ (p : List Pair). AreEntries home p tail) all h);
+  wrong = λ w h. subst (λ (p : List Pair). FirstPairRow home rep p w) all h;
+  before = subst (λ (t : List Entry). AreBefore home t) (sym none) tt;
+}
+
+pub one_more : (home : RevOffset) (rep : Rep) (pairs left rest : List Pair) (pair : Pair) (items new : List Entry) (entry : Entry)
+    → AreSoFar home rep pairs left items → left ≡ pair ∷ rest → IsEntry home pair (entry_value entry) → IsBefore home entry → new ≡ items ++ entry ∷ [] → AreSoFar home rep pairs rest new
+one_more home rep pairs left rest pair items new entry so is one before pushed = subst (λ (t : List Entry). AreSoFar home rep pairs rest t) (sym pushed) more
+  where
+    more : AreSoFar home rep pairs rest (items ++ entry ∷ [])
+    more = record {
+      found = λ tail h. subst (λ (t : List EntryValue). AreEntries home pairs t) (sym (values_push items entry tail))
+          (so.found (entry_value entry ∷ tail) (subst (λ (p : List Pair). AreEntries home p (entry_value entry ∷ tail)) (sym is) (one, h)));
+      wrong = λ w h. so.wrong w (subst (λ (p : List Pair). FirstPairRow home rep p w) (sym is) (inr (entry_value entry, one, h)));
+      before = before_push home items entry so.before before;
+    }
+
+abbrev pub entries_seen : Vec Entry Global → List EntryValue
+entries_seen v = entry_values v.items
+
+pub first_wrong : (home : RevOffset) (rep : Rep) (pairs left rest : List Pair) (pair : Pair) (items : List Entry) (e : ReadError)
+    → AreSoFar home rep pairs left items → left ≡ pair ∷ rest → Answers entry_value (EntryIn home rep pair) (Err e) → Answers entries_seen (EntriesIn home rep pairs) (Err e)
+first_wrong home rep pairs left rest pair items (errors.Wrong w) so is h = so.wrong w (subst (λ (p : List Pair). FirstPairRow home rep p w) (sym is) (inl h))
+first_wrong home rep pairs left rest pair items errors.OutOfMemory so is h = tt
+first_wrong home rep pairs left rest pair items errors.DiskFault so is h = tt
+
+pub all_found : (home : RevOffset) (rep : Rep) (pairs left : List Pair) (items : List Entry) → AreSoFar home rep pairs left items → left ≡ [] → AreEntries home pairs (entry_values items)
+all_found home rep pairs left items so is =
+    subst (λ (t : List EntryValue). AreEntries home pairs t) (append-nil (entry_values items)) (so.found [] (subst (λ (p : List Pair). AreEntries home p []) (sym is) tt))
+
+-- what was put at the end, where the push did not fail
+pub pushed : {A : Type 0} (r : Result (Unit {0}) A) (old new : List Entry) (entry : Entry) → false ≡ is_err r → new ≡ (if is_ok r then old ++ entry ∷ [] else old) → new ≡ old ++ entry ∷ []
+pushed (Ok x) old new entry e h = h
+pushed (Err x) old new entry e h = absurd cc
+
+-- ---- the entry of a name
+
+before_le : (rev offset : ℕ) (home : RevOffset) → is_before rev offset home ≡ true → rev ≤ home.rev
+before_le rev offset home h = grind (arith, nat_tests)
+
+pub place_le : (home : RevOffset) (place : Place) → place_before home place ≡ true → (offset_of place).rev ≤ home.rev
+place_le home (places.At rev offset) h = before_le rev offset home h
+place_le home (places.In txn) h = absurd cc
+
+pub named_before : (home : RevOffset) (name : Name) (items : List Entry) (x : EntryValue) → AreBefore home items → named name (entry_values items) ≡ Some x → place_before home x.id.place ≡ true
+named_before home name [] x all h = absurd cc
+named_before home name (entry ∷ items) x all h = by_test (same_name (entry_value entry).name name) (named_before home name items x all.1) h
+  where
+    by_test : (test : Bool) → (named name (entry_values items) ≡ Some x → place_before home x.id.place ≡ true) → cond test (Some (entry_value entry)) (named name (entry_values items)) ≡ Some x → place_before home x.id.place ≡ true
+    by_test true later e = let same : entry_value entry ≡ x = cc in subst (λ (v : EntryValue). place_before home v.id.place ≡ true) same all.0
+    by_test false later e = later e
+
+module _ (look : Look) (v : NodeRev) (name : Name) (all : List EntryValue) (x : EntryValue) (read : EntriesOf look v (Ok all)) (is : named name all ≡ Some x) where
+  of_some : (r : Result (Option NodeRev) Wrong) → OfNamed look (Some x) r → OfNamed look (named name all) r
+  of_some r h = subst (λ (n : Option EntryValue). OfNamed look n r) (sym is) h
+
+  pub child_found : (u : NodeRev) → OfEntry look x (Ok u) → ChildOf look v name (Ok (Some u))
+  child_found u h = (all, read, of_some (Ok (Some u)) h)
+
+  pub child_wrong : {A B : Type 0} (first : A → NodeRev) (second : B → Option NodeRev) (e : ReadError) → Answers first (OfEntry look x) (Err e) → Answers second (ChildOf look v name) (Err e)
+  child_wrong first second (errors.Wrong w) h = inr (all, read, of_some (Err w) h)
+  child_wrong first second errors.OutOfMemory h = tt
+  child_wrong first second errors.DiskFault h = tt

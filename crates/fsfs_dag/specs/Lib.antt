@@ -1,0 +1,5 @@
+pub mod Causes
+pub mod Told
+pub mod Faults
+pub mod Same
+pub mod Views

@@ -1,0 +1,32 @@
+-- What a book tells of a revision, and what is read of it.
+use Rattle.std.specs.Prelude.{◌≡◌, ℕ, ◌<◌, List, length, take, drop, Some, Result, Ok, Err}
+use Rattle.fsfs_book.specs.Told.{Look, Telling}
+use Rattle.fsfs_revision.specs.declared.damage.RevOffset.{RevOffset}
+use Rattle.fsfs_revision.specs.declared.trailer.Trailer.{Trailer}
+use Rattle.fsfs_revision.specs.Trailers.{EndsWith}
+use Rattle.fsfs_revision.specs.Damages.{place_of, EndRow}
+use Rattle.fsfs_shows.specs.declared.wrong.Wrong.{Wrong}
+use Rattle.fsfs_shows.specs.Readings.{AndThen, IsDamage}
+use Rattle.fsfs_shows.specs.Reading.{BytesOf}
+
+-- what look says of the revision is what is told of it
+abbrev pub IsTold : Telling → Look → ℕ → Type 0
+IsTold told look rev = told.revs rev ≡ Some (look rev)
+
+-- the length of a revision
+abbrev pub LengthOf : Look → ℕ → Result ℕ Wrong → Type 0
+LengthOf look rev (Ok n) = (bytes : List ℕ) × (look rev ≡ Ok bytes) × (n ≡ length bytes)
+LengthOf look rev (Err w) = BytesOf look rev (Err w)
+
+-- up to so many bytes of a revision from a place on; none past the end
+abbrev pub WindowAt : Look → RevOffset → ℕ → Result (List ℕ) Wrong → Type 0
+WindowAt look at count (Ok seen) = (bytes : List ℕ) × (look at.rev ≡ Ok bytes) × (seen ≡ take count (drop at.offset bytes))
+WindowAt look at count (Err w) = BytesOf look at.rev (Err w)
+
+-- where the trailer says that the root stands
+abbrev pub EndIn : ℕ → List ℕ → Result RevOffset Wrong → Type 0
+EndIn rev bytes (Ok at) = (t : Trailer) × EndsWith 0 bytes t × (at ≡ place_of rev t.root)
+EndIn rev bytes (Err w) = IsDamage (EndRow rev bytes) w
+
+abbrev pub EndOf : Look → ℕ → Result RevOffset Wrong → Type 0
+EndOf look rev = AndThen (BytesOf look rev) (EndIn rev)

@@ -1,0 +1,81 @@
+//! A node's properties and a file's text.
+ghost use Rattle.std.specs.Prelude.{◌≡◌, IsSome, IfErr};
+ghost use Rattle.fsfs_base.specs.declared.node.Kind.TheVariants.{File};
+ghost use Rattle.fsfs_book.specs.Told.{Look, Knows, Keeps};
+ghost use Rattle.fsfs_rep.specs.Frames.{rev_of};
+ghost use Rattle.fsfs_shows.specs.Readings.{Answers};
+ghost use Rattle.fsfs_shows.specs.Reading.{RepAt, PairsIn, PairsAt, PropsOf, TextOf};
+ghost use Rattle.fsfs_dag.specs.Causes.{HasCause, IsQuiet};
+ghost use Rattle.fsfs_dag.specs.Told.{IsTold};
+ghost use Rattle.fsfs_dag.specs.Views.{home_of};
+
+use crate::faults::{bad_rep, of_rep_error, rep_place};
+use crate::node::PlacedNode;
+use fsfs_base::Pairs;
+use fsfs_book::Book;
+use fsfs_hash::{HashError, read_hash};
+use fsfs_noderev::Rep;
+use fsfs_rep::read_rep_bytes;
+use fsfs_shows::{ReadError, RepWhat};
+use std::alloc::Global;
+
+// The bytes of a representation.
+fn rep_read<B: Book>(alloc: Global, book: &mut B, rep: &Rep) -> Result<Vec<u8>, ReadError>
+    requires { IsSome rep.now.rev }
+    ensures told { (look : Look) → IsTold (B.told book.old) look (rev_of rep.now) → Answers (λ v. v.items) (RepAt look rep.now) result }
+    ensures kept { Keeps (B.told book.old) (B.told book.new) }
+    ensures cause { HasCause (B.faults book.old) (B.faults book.new) result }
+{
+    match read_rep_bytes(alloc, book, rep) {
+        Ok(bytes) => Ok(bytes),
+        Err(error) => Err(of_rep_error(rep_place(rep), error)),
+    }
+}
+
+// The pairs of the bytes of a representation.
+fn hash_in(alloc: Global, rep: &Rep, bytes: &[u8]) -> Result<Pairs, ReadError>
+    ensures told { Answers (λ pairs. pairs) (PairsIn rep.now bytes.now) result }
+    ensures quiet { IsQuiet result }
+{
+    match read_hash(alloc, bytes) {
+        Ok(pairs) => Ok(pairs),
+        Err(HashError::OutOfMemory) => Err(ReadError::OutOfMemory),
+        Err(HashError::Fault(_)) => Err(bad_rep(rep_place(rep), RepWhat::Hash)),
+    }
+}
+
+/// The pairs of a representation that holds a dump.
+pub(crate) fn pairs_in<B: Book>(alloc: Global, book: &mut B, rep: &Rep) -> Result<Pairs, ReadError>
+    requires { IsSome rep.now.rev }
+    ensures told { (look : Look) → IsTold (B.told book.old) look (rev_of rep.now) → Answers (λ pairs. pairs) (PairsAt look rep.now) result }
+    ensures kept { Keeps (B.told book.old) (B.told book.new) }
+    ensures cause { HasCause (B.faults book.old) (B.faults book.new) result }
+{
+    let bytes = rep_read(alloc, book, rep)?;
+    hash_in(alloc, rep, &bytes)
+}
+
+/// The properties of a node.
+pub fn props<B: Book>(alloc: Global, book: &mut B, node: &PlacedNode) -> Result<Pairs, ReadError>
+    ensures told { (look : Look) → Knows (B.told book.old).revs (home_of node.now.node).rev look → Answers (λ pairs. pairs) (PropsOf look node.now.node) result }
+    ensures kept { Keeps (B.told book.old) (B.told book.new) }
+    ensures cause { HasCause (B.faults book.old) (B.faults book.new) result }
+{
+    match node.props() {
+        None => Ok(Pairs::new(alloc)),
+        Some(rep) => pairs_in(alloc, book, rep),
+    }
+}
+
+/// The text of a file, all of it checked. The whole text is in memory then.
+pub fn text_of<B: Book>(alloc: Global, book: &mut B, file: &PlacedNode) -> Result<Vec<u8>, ReadError>
+    requires { file.now.node.kind ≡ File }
+    ensures told { (look : Look) → Knows (B.told book.old).revs (home_of file.now.node).rev look → Answers (λ v. v.items) (TextOf look file.now.node) result }
+    ensures kept { Keeps (B.told book.old) (B.told book.new) }
+    ensures cause { HasCause (B.faults book.old) (B.faults book.new) result }
+{
+    match file.text() {
+        None => Ok(Vec::new(alloc)),
+        Some(rep) => rep_read(alloc, book, rep),
+    }
+}

@@ -1,0 +1,204 @@
+//! The node-revision at a place of a revision, and a revision's root.
+ghost use Rattle.std.specs.Prelude.{◌≡◌, ◌≤◌, ◌<◌, ◌^◌, ◌+◌, ℕ, true, length, take, IfOk};
+ghost use Rattle.fsfs_book.specs.Told.{Look, Knows, Keeps};
+ghost use Rattle.fsfs_revision.specs.Nodes.{is_ordered};
+ghost use Rattle.fsfs_revision.specs.declared.damage.RevisionError.TheVariants.{Damaged};
+ghost use Rattle.fsfs_shows.specs.Readings.{Answers, of_revision};
+ghost use Rattle.fsfs_shows.specs.Reading.{NodeAt, RootOf, OfEntry, OfId, HasId, HasKind, offset_of};
+ghost use Rattle.fsfs_dag.specs.Causes.{HasCause, IsQuiet};
+ghost use Rattle.fsfs_dag.specs.Told.{IsTold, LengthOf, WindowAt, EndOf};
+ghost use Rattle.fsfs_dag.specs.Same.{same_part, same_place, same_id};
+ghost use Rattle.fsfs_dag.specs.Views.{entry_value};
+
+use crate::directory::Entry;
+use crate::faults::offset_of;
+use crate::node::PlacedNode;
+use fsfs_book::{Book, BookFault};
+use fsfs_noderev::{MAX_NODE_REV, NodeId, NodeRev, Part, Place};
+use fsfs_revision::{
+    Damage, RevOffset, RevisionError, TRAILER_LIMIT, What, check_root, read_node_at, read_tail,
+};
+use fsfs_shows::{ReadError, Wrong};
+use std::alloc::Global;
+
+fn damaged(at: RevOffset, what: What) -> ReadError
+    ensures { result ≡ of_revision (Damaged (record { at = at; what = what })) }
+{
+    ReadError::Wrong(Wrong::Damaged(Damage { at, what }))
+}
+
+// How long a revision is.
+fn length<B: Book>(book: &mut B, rev: u32) -> Result<u64, ReadError>
+    ensures told { (look : Look) → IsTold (B.told book.old) look rev → Answers (λ n. n) (LengthOf look rev) result }
+    ensures kept { Keeps (B.told book.old) (B.told book.new) }
+    ensures cause { HasCause (B.faults book.old) (B.faults book.new) result }
+{
+    match book.rev_len(rev) {
+        Ok(len) => Ok(len),
+        Err(BookFault::Refused(refusal)) => Err(ReadError::Wrong(Wrong::Refused(refusal))),
+        Err(BookFault::Short { .. }) => Ok(0),
+        Err(BookFault::DiskFault) => Err(ReadError::DiskFault),
+        Err(BookFault::OutOfMemory) => Err(ReadError::OutOfMemory),
+    }
+}
+
+// Reads a revision's bytes from a place on, as many as there are and as fit; none past the end.
+fn window<B: Book>(book: &mut B, at: RevOffset, buffer: &mut [u8]) -> Result<usize, ReadError>
+    ensures bound { IfOk result (λ n. n ≤ length buffer.new) }
+    ensures told { (look : Look) → IsTold (B.told book.old) look at.rev → Answers (λ n. take n buffer.new) (WindowAt look at (length buffer.old)) result }
+    ensures kept { Keeps (B.told book.old) (B.told book.new) }
+    ensures cause { HasCause (B.faults book.old) (B.faults book.new) result }
+{
+    match book.read_rev(at.rev, at.offset, buffer) {
+        Ok(count) => Ok(count),
+        Err(BookFault::Refused(refusal)) => Err(ReadError::Wrong(Wrong::Refused(refusal))),
+        Err(BookFault::Short { .. }) => Ok(0),
+        Err(BookFault::DiskFault) => Err(ReadError::DiskFault),
+        Err(BookFault::OutOfMemory) => Err(ReadError::OutOfMemory),
+    }
+}
+
+// Where the trailer says that a revision's root stands.
+fn root_place<B: Book>(book: &mut B, rev: u32) -> Result<RevOffset, ReadError>
+    ensures told { (look : Look) → IsTold (B.told book.old) look rev → Answers (λ at. at) (EndOf look rev) result }
+    ensures rev { IfOk result (λ at. at.rev ≡ rev) }
+    ensures kept { Keeps (B.told book.old) (B.told book.new) }
+    ensures cause { HasCause (B.faults book.old) (B.faults book.new) result }
+{
+    let len = length(book, rev)?;
+    let begins = len.saturating_sub(TRAILER_LIMIT as u64);
+    let at = RevOffset {
+        rev,
+        offset: begins,
+    };
+    let mut tail = [0u8; TRAILER_LIMIT];
+    let count = window(book, at, &mut tail)?;
+    match read_tail(begins, &tail[..count]) {
+        Some(trailer) => Ok(RevOffset {
+            rev,
+            offset: trailer.root,
+        }),
+        None => Err(damaged(RevOffset { rev, offset: len }, What::Trailer)),
+    }
+}
+
+// The node-revision that stands at a place.
+fn node_read<B: Book>(alloc: Global, book: &mut B, at: RevOffset) -> Result<NodeRev, ReadError>
+    ensures told { (look : Look) → IsTold (B.told book.old) look at.rev → Answers (λ v. v) (NodeAt look at) result }
+    ensures ordered { IfOk result (λ v. is_ordered at v ≡ true) }
+    ensures kept { Keeps (B.told book.old) (B.told book.new) }
+    ensures cause { HasCause (B.faults book.old) (B.faults book.new) result }
+{
+    let mut bytes = [0u8; MAX_NODE_REV];
+    let count = window(book, at, &mut bytes)?;
+    match read_node_at(alloc, at, &bytes[..count]) {
+        Ok(node) => Ok(node),
+        Err(RevisionError::OutOfMemory) => Err(ReadError::OutOfMemory),
+        Err(RevisionError::Damaged(damage)) => Err(ReadError::Wrong(Wrong::Damaged(damage))),
+    }
+}
+
+/// The root of a revision: the node-revision that its trailer names. Trailer, NodeRev, PlaceOrder, OtherId and EntryKind
+/// are tried in this order.
+pub fn root_of<B: Book>(alloc: Global, book: &mut B, rev: u32) -> Result<PlacedNode, ReadError>
+    ensures told { (look : Look) → Knows (B.told book.old).revs rev look → Answers (λ found. found.node) (RootOf look rev) result }
+    ensures rev { IfOk result (λ found. (offset_of found.node.id.place).rev ≡ rev) }
+    ensures kept { Keeps (B.told book.old) (B.told book.new) }
+    ensures cause { HasCause (B.faults book.old) (B.faults book.new) result }
+{
+    let at = root_place(book, rev)?;
+    let node = node_read(alloc, book, at)?;
+    match check_root(at, &node) {
+        Ok(()) => Ok(PlacedNode { node }),
+        Err(damage) => Err(ReadError::Wrong(Wrong::Damaged(damage))),
+    }
+}
+
+fn same_part(a: Part, b: Part) -> bool
+    ensures { result ≡ same_part a b }
+{
+    match a {
+        Part::New(m) => match b {
+            Part::New(n) => m.number == n.number,
+            _ => false,
+        },
+        Part::Old(m) => match b {
+            Part::Old(n) => m.number == n.number,
+            _ => false,
+        },
+        Part::Made(m, made) => match b {
+            Part::Made(n, rev) => m.number == n.number && made == rev,
+            _ => false,
+        },
+    }
+}
+
+fn same_place(a: Place, b: Place) -> bool
+    ensures { result ≡ same_place a b }
+{
+    match a {
+        Place::At(rev, offset) => match b {
+            Place::At(other, place) => rev == other && offset == place,
+            Place::In(_) => false,
+        },
+        Place::In(txn) => match b {
+            Place::At(_, _) => false,
+            Place::In(other) => txn.base == other.base && txn.number.number == other.number.number,
+        },
+    }
+}
+
+fn same_id(a: &NodeId, b: &NodeId) -> bool
+    ensures { result ≡ same_id a.now b.now }
+{
+    same_part(a.node, b.node) && same_part(a.copy, b.copy) && same_place(a.place, b.place)
+}
+
+// The node-revision, if it has the id that names it.
+fn with_id(id: NodeId, node: NodeRev) -> Result<NodeRev, ReadError>
+    ensures told { Answers (λ v. v) (HasId id node) result }
+    ensures same { IfOk result (λ v. v ≡ node) }
+    ensures quiet { IsQuiet result }
+{
+    if same_id(&node.id, &id) {
+        Ok(node)
+    } else {
+        Err(damaged(offset_of(id.place), What::OtherId))
+    }
+}
+
+/// The node-revision of an id, whatever its kind.
+pub fn named_node<B: Book>(alloc: Global, book: &mut B, id: NodeId) -> Result<PlacedNode, ReadError>
+    ensures told { (look : Look) → Knows (B.told book.old).revs (offset_of id.place).rev look → Answers (λ found. found.node) (OfId look id) result }
+    ensures id { IfOk result (λ found. found.node.id ≡ id) }
+    ensures kept { Keeps (B.told book.old) (B.told book.new) }
+    ensures cause { HasCause (B.faults book.old) (B.faults book.new) result }
+{
+    let read = node_read(alloc, book, offset_of(id.place))?;
+    let node = with_id(id, read)?;
+    Ok(PlacedNode { node })
+}
+
+// The child, if it has the kind that its entry says.
+fn with_kind(entry: &Entry, child: PlacedNode) -> Result<PlacedNode, ReadError>
+    ensures told { Answers (λ found. found.node) (HasKind (entry_value entry.now) child.node) result }
+    ensures same { IfOk result (λ found. found ≡ child) }
+    ensures quiet { IsQuiet result }
+{
+    if child.node.kind == entry.kind {
+        Ok(child)
+    } else {
+        Err(damaged(offset_of(entry.id.place), What::EntryKind))
+    }
+}
+
+/// The node-revision that an entry names. NodeRev, PlaceOrder, OtherId and EntryKind are tried in this order.
+pub fn child_of<B: Book>(alloc: Global, book: &mut B, entry: &Entry) -> Result<PlacedNode, ReadError>
+    ensures told { (look : Look) → Knows (B.told book.old).revs (offset_of entry.now.id.place).rev look → Answers (λ found. found.node) (OfEntry look (entry_value entry.now)) result }
+    ensures id { IfOk result (λ found. found.node.id ≡ entry.now.id) }
+    ensures kept { Keeps (B.told book.old) (B.told book.new) }
+    ensures cause { HasCause (B.faults book.old) (B.faults book.new) result }
+{
+    let child = named_node(alloc, book, entry.id)?;
+    with_kind(entry, child)
+}
