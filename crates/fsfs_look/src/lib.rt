@@ -1,0 +1,18 @@
+//! What `svnlook` prints of a revision, over any book into any sink: the text of a tree, and the text of a file.
+//!
+//! The texts are those of Subversion's own `svnlook`.
+#![tactic(auto)]
+
+mod cat;
+mod lines;
+mod look_error;
+mod output;
+mod path;
+#[cfg(test)]
+mod tests;
+mod tree;
+
+pub use cat::cat;
+pub use look_error::{LookError, LookFault};
+pub use output::print;
+pub use tree::tree_text;
