@@ -1,2 +1,11 @@
 pub mod Errors
 pub mod Output
+pub mod Paths
+pub mod Lines
+pub mod Texts
+pub mod TreeTexts
+pub mod FileTexts
+pub mod Written
+pub mod Walks
+pub mod Weights
+pub mod FlatTexts

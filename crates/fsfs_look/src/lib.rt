@@ -3,7 +3,7 @@
 //! The texts are those of Subversion's own `svnlook`.
 #![tactic(auto)]
 
-mod cat;
+mod file;
 mod lines;
 mod look_error;
 mod output;
@@ -12,7 +12,7 @@ mod path;
 mod tests;
 mod tree;
 
-pub use cat::cat;
+pub use file::cat;
 pub use look_error::{LookError, LookFault};
 pub use output::print;
 pub use tree::tree_text;

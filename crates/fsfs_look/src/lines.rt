@@ -1,4 +1,9 @@
 //! The line of a node in the text of a tree.
+ghost use Rattle.std.specs.Prelude.{◌≡◌, ◌++◌, ◌↔◌, ℕ, List, true, replicate, OnOk, codes};
+ghost use Rattle.fsfs_noderev.specs.Ids.{FitsPart, FitsPlace, FitsId, part_value, place_value, id_value};
+ghost use Rattle.fsfs_noderev.specs.Fields.{IsIdText};
+ghost use Rattle.fsfs_model.specs.Answers.{kind_mark};
+ghost use Rattle.fsfs_look.specs.Lines.{PutsLine};
 
 use crate::look_error::{LookError, LookFault};
 use fsfs_base::Kind;
@@ -10,7 +15,9 @@ use std::alloc::AllocError;
 
 const LAST_REVISION: u32 = 2147483647;
 
-fn part_fits(part: Part) -> bool {
+fn part_fits(part: Part) -> bool
+    ensures { (result ≡ true) ↔ FitsPart (part_value part) }
+{
     match part {
         Part::New(_) => true,
         Part::Old(_) => true,
@@ -18,7 +25,9 @@ fn part_fits(part: Part) -> bool {
     }
 }
 
-fn place_fits(place: Place) -> bool {
+fn place_fits(place: Place) -> bool
+    ensures { (result ≡ true) ↔ FitsPlace (place_value place) }
+{
     match place {
         Place::At(rev, _) => rev <= LAST_REVISION,
         Place::In(_) => true,
@@ -26,11 +35,15 @@ fn place_fits(place: Place) -> bool {
 }
 
 // Whether the revisions that an id names are within their limit, so that it has a text.
-fn has_text(id: &NodeId) -> bool {
+fn has_text(id: &NodeId) -> bool
+    ensures { (result ≡ true) ↔ FitsId (id_value id.now) }
+{
     part_fits(id.node) && part_fits(id.copy) && place_fits(id.place)
 }
 
-fn put_spaces(lines: &mut Vec<u8>, count: usize) -> Result<(), AllocError> {
+fn put_spaces(lines: &mut Vec<u8>, count: usize) -> Result<(), AllocError>
+    ensures { OnOk result (lines.new.items ≡ lines.old.items ++ replicate count 32) }
+{
     for _ in 0..count {
         lines.push(b' ')?;
     }
@@ -38,7 +51,9 @@ fn put_spaces(lines: &mut Vec<u8>, count: usize) -> Result<(), AllocError> {
 }
 
 // The name, and `/` behind that of a directory.
-fn put_name(lines: &mut Vec<u8>, name: &str, kind: Kind) -> Result<(), AllocError> {
+fn put_name(lines: &mut Vec<u8>, name: &str, kind: Kind) -> Result<(), AllocError>
+    ensures { OnOk result (lines.new.items ≡ lines.old.items ++ name.now ++ kind_mark kind) }
+{
     lines.extend_from_slice(name.as_bytes())?;
     match kind {
         Kind::File => {}
@@ -48,14 +63,19 @@ fn put_name(lines: &mut Vec<u8>, name: &str, kind: Kind) -> Result<(), AllocErro
 }
 
 // An id in angle brackets behind a space.
-fn put_shown_id(lines: &mut Vec<u8>, id: &NodeId) -> Result<(), AllocError> {
+fn put_shown_id(lines: &mut Vec<u8>, id: &NodeId) -> Result<(), AllocError>
+    requires { FitsId (id_value id.now) }
+    ensures { OnOk result ((id_text : List ℕ) × IsIdText id_text id.now × (lines.new.items ≡ lines.old.items ++ codes " <" ++ id_text ++ codes ">")) }
+{
     lines.extend_from_slice(b" <")?;
     put_id(lines, id)?;
     lines.push(b'>')?;
     Ok(())
 }
 
-fn put_end(lines: &mut Vec<u8>) -> Result<(), AllocError> {
+fn put_end(lines: &mut Vec<u8>) -> Result<(), AllocError>
+    ensures { OnOk result (lines.new.items ≡ lines.old.items ++ codes "\n") }
+{
     lines.push(b'\n')?;
     Ok(())
 }
@@ -68,7 +88,9 @@ pub(crate) fn put_line(
     level: usize,
     name: &str,
     found: &PlacedNode,
-) -> Result<(), LookError> {
+) -> Result<(), LookError>
+    ensures { PutsLine show_ids level name.now found.now.node lines.old.items lines.new.items result }
+{
     put_spaces(lines, level)?;
     put_name(lines, name, found.node.kind)?;
     if show_ids {

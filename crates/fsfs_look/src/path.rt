@@ -1,4 +1,9 @@
 //! The node at a path of a revision, or the fault that names a part of the path.
+ghost use Rattle.fsfs_book.specs.Told.{Look, Knows, Keeps};
+ghost use Rattle.fsfs_model.specs.Answers.{last_name as last};
+ghost use Rattle.std.specs.Prelude.{◌≡◌};
+ghost use Rattle.fsfs_look.specs.Paths.{IsFound};
+ghost use Rattle.fsfs_look.specs.Written.{HasDiskCause};
 
 use crate::look_error::{LookError, LookFault};
 use fsfs_base::FsPath;
@@ -12,7 +17,11 @@ pub(crate) fn found_at<B: Book>(
     book: &mut B,
     rev: u32,
     path: &FsPath,
-) -> Result<PlacedNode, LookError> {
+) -> Result<PlacedNode, LookError>
+    ensures told { (look : Look) → Knows (B.told book.old).revs rev look → IsFound look rev path.now result }
+    ensures kept { Keeps (B.told book.old) (B.told book.new) }
+    ensures cause { HasDiskCause (B.faults book.old) (B.faults book.new) result }
+{
     match node_at(alloc, book, rev, path) {
         Ok(Met::Node(found)) => Ok(found),
         Ok(Met::Absent(names)) => Err(LookError::Fault(LookFault::NotFound { names })),
@@ -22,7 +31,9 @@ pub(crate) fn found_at<B: Book>(
 }
 
 /// The last name of a path; `/` has none.
-pub(crate) fn last_name(path: &FsPath) -> &str {
+pub(crate) fn last_name(path: &FsPath) -> &str
+    ensures { result.now ≡ last path.now }
+{
     match path.names() {
         [.., last] => last,
         [] => "",

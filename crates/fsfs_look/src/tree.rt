@@ -2,6 +2,20 @@
 //!
 //! A directory's entries are put onto a stack of what is left to write, the first on top, so that a chain of directories
 //! of any length takes no more of the machine's own stack.
+ghost use Rattle.std.specs.Prelude.{◌≡◌, ◌≤◌, ◌+◌, ◌++◌, ◌<◌, ◌^◌, ◌*◌, ℕ, List, [], Option, map, OnOk, OnErr, IfErr, length};
+ghost use Rattle.fsfs_book.specs.Told.{Look, Knows, Keeps};
+ghost use Rattle.fsfs_disk.specs.Streams.{Adds};
+ghost use Rattle.fsfs_disk.specs.Fault.{Rose};
+ghost use Rattle.fsfs_dag.specs.Views.{home_of, entry_values, AreBefore};
+ghost use Rattle.fsfs_revision.specs.declared.damage.RevOffset.{RevOffset};
+ghost use Rattle.fsfs_shows.specs.Reading.{Entry as EntryValue};
+ghost use Rattle.fsfs_look.specs.declared.look_error.LookError.TheVariants.{OutOfMemory, WriteFault};
+ghost use Rattle.fsfs_look.specs.Lines.{HasIdText};
+ghost use Rattle.fsfs_look.specs.Output.{AddsFront};
+ghost use Rattle.fsfs_look.specs.TreeTexts.{TreeText};
+ghost use Rattle.fsfs_look.specs.Walks.{left, at_level, LeftText, NodeFrom, AreWithin, Puts, Walks};
+ghost use Rattle.fsfs_look.specs.Weights.{total, weight};
+ghost use Rattle.fsfs_look.specs.Written.{Writes, HasDiskCause, HasSinkCause};
 
 use crate::lines::put_line;
 use crate::look_error::LookError;
@@ -28,7 +42,12 @@ fn put_entries(
     todo: &mut Vec<Pending>,
     level: usize,
     mut below: Vec<Entry>,
-) -> Result<(), LookError> {
+) -> Result<(), LookError>
+    ensures left { OnOk result (left todo.new.items ≡ at_level level (entry_values below.items) ++ left todo.old.items) }
+    ensures within { (home : RevOffset) (top : ℕ) → AreBefore home below.items → home.rev ≤ top → AreWithin top todo.old.items → OnOk result (AreWithin top todo.new.items) }
+    ensures total { (home : RevOffset) → home.offset < 2 ^ 64 → AreBefore home below.items → OnOk result (total todo.new.items < total todo.old.items + weight home) }
+    ensures memory { IfErr result (λ e. e ≡ OutOfMemory) }
+{
     while let Some(entry) = below.pop() {
         if todo.push(Pending { level, entry }).is_err() {
             return Err(LookError::OutOfMemory);
@@ -47,7 +66,15 @@ fn put_node<B: Book>(
     found: &PlacedNode,
     todo: &mut Vec<Pending>,
     lines: &mut Vec<u8>,
-) -> Result<(), LookError> {
+) -> Result<(), LookError>
+    ensures told { (look : Look) → Knows (B.told book.old).revs (home_of found.now.node).rev look → HasIdText found.now.node
+        → Puts look show_ids level name.now found.now.node todo.old.items todo.new.items lines.old.items lines.new.items result }
+    ensures within { (top : ℕ) → (home_of found.now.node).rev ≤ top → AreWithin top todo.old.items → OnOk result (AreWithin top todo.new.items) }
+    ensures total { OnOk result (total todo.new.items < total todo.old.items + weight (home_of found.now.node)) }
+    ensures kept { Keeps (B.told book.old) (B.told book.new) }
+    ensures cause { HasDiskCause (B.faults book.old) (B.faults book.new) result }
+    ensures quiet { (faults : ℕ) → HasSinkCause faults faults result }
+{
     put_line(lines, show_ids, level, name, found)?;
     match found.node.kind {
         Kind::File => Ok(()),
@@ -62,7 +89,13 @@ fn put_node<B: Book>(
 }
 
 // Writes the lines, and keeps none.
-fn write_lines<S: Sink>(sink: &mut S, lines: &mut Vec<u8>) -> Result<(), LookError> {
+fn write_lines<S: Sink>(sink: &mut S, lines: &mut Vec<u8>) -> Result<(), LookError>
+    ensures added { OnOk result (Adds (S.written sink.old) (S.written sink.new) lines.old.items) }
+    ensures none { OnOk result (lines.new.items ≡ []) }
+    ensures part { OnErr result (AddsFront (S.written sink.old) (S.written sink.new) lines.old.items) }
+    ensures failed { IfErr result (λ e. e ≡ WriteFault) }
+    ensures sink { HasSinkCause (S.faults sink.old) (S.faults sink.new) result }
+{
     if print(sink, lines).is_err() {
         return Err(LookError::WriteFault);
     }
@@ -71,7 +104,12 @@ fn write_lines<S: Sink>(sink: &mut S, lines: &mut Vec<u8>) -> Result<(), LookErr
 }
 
 // Writes the lines where they fill a piece.
-fn write_full<S: Sink>(sink: &mut S, lines: &mut Vec<u8>) -> Result<(), LookError> {
+fn write_full<S: Sink>(sink: &mut S, lines: &mut Vec<u8>) -> Result<(), LookError>
+    ensures added { OnOk result ((written : List ℕ) × Adds (S.written sink.old) (S.written sink.new) written × (lines.old.items ≡ written ++ lines.new.items)) }
+    ensures part { OnErr result (AddsFront (S.written sink.old) (S.written sink.new) lines.old.items) }
+    ensures failed { IfErr result (λ e. e ≡ WriteFault) }
+    ensures sink { HasSinkCause (S.faults sink.old) (S.faults sink.new) result }
+{
     if lines.len() < PIECE {
         return Ok(());
     }
@@ -86,7 +124,13 @@ fn write_todo<B: Book, S: Sink>(
     todo: &mut Vec<Pending>,
     lines: &mut Vec<u8>,
     sink: &mut S,
-) -> Result<(), LookError> {
+) -> Result<(), LookError>
+    ensures told { (top : ℕ) (look : Look) → Knows (B.told book.old).revs top look → AreWithin top todo.old.items
+        → Walks (LeftText look show_ids (left todo.old.items)) lines.old.items lines.new.items (S.written sink.old) (S.written sink.new) result }
+    ensures kept { Keeps (B.told book.old) (B.told book.new) }
+    ensures cause { HasDiskCause (B.faults book.old) (B.faults book.new) result }
+    ensures sink { HasSinkCause (S.faults sink.old) (S.faults sink.new) result }
+{
     while let Some(next) = todo.pop() {
         write_full(sink, lines)?;
         let child = child_of(alloc, book, &next.entry)?;
@@ -104,7 +148,14 @@ fn write_tree<B: Book, S: Sink>(
     found: &PlacedNode,
     lines: &mut Vec<u8>,
     sink: &mut S,
-) -> Result<(), LookError> {
+) -> Result<(), LookError>
+    requires { lines.old.items ≡ [] }
+    ensures told { (top : ℕ) (look : Look) → Knows (B.told book.old).revs top look → (home_of found.now.node).rev ≤ top → HasIdText found.now.node
+        → Walks (NodeFrom look show_ids name.now found.now.node) [] lines.new.items (S.written sink.old) (S.written sink.new) result }
+    ensures kept { Keeps (B.told book.old) (B.told book.new) }
+    ensures cause { HasDiskCause (B.faults book.old) (B.faults book.new) result }
+    ensures sink { HasSinkCause (S.faults sink.old) (S.faults sink.new) result }
+{
     let mut todo = Vec::new(alloc);
     put_node(alloc, book, show_ids, 0, name, found, &mut todo, lines)?;
     write_todo(alloc, book, show_ids, &mut todo, lines, sink)
@@ -119,7 +170,12 @@ pub fn tree_text<B: Book, S: Sink>(
     path: &FsPath,
     show_ids: bool,
     sink: &mut S,
-) -> Result<(), LookError> {
+) -> Result<(), LookError>
+    ensures told { (look : Look) → Knows (B.told book.old).revs rev look → Writes (TreeText look rev path.now show_ids) (S.written sink.old) (S.written sink.new) result }
+    ensures kept { Keeps (B.told book.old) (B.told book.new) }
+    ensures cause { HasDiskCause (B.faults book.old) (B.faults book.new) result }
+    ensures sink { HasSinkCause (S.faults sink.old) (S.faults sink.new) result }
+{
     let found = found_at(alloc, book, rev, path)?;
     let mut lines = Vec::new(alloc);
     let name = last_name(path);

@@ -1,4 +1,17 @@
 //! The text of a file.
+ghost use Rattle.std.specs.Prelude.{◌≡◌, ◌<◌, ℕ, List, Some, Ok, Err, IsSome, MatchResult, length};
+ghost use Rattle.fsfs_book.specs.declared.book.Refusal.{Refusal};
+ghost use Rattle.fsfs_book.specs.Told.{Look, Knows, Keeps};
+ghost use Rattle.fsfs_rep.specs.Faults.{HasCause, IsRefusedFor};
+ghost use Rattle.fsfs_rep.specs.Frames.{rev_of, text_of, IsWhole, IsFaultOf};
+ghost use Rattle.fsfs_shows.specs.declared.wrong.Wrong.TheVariants.{BadRep};
+ghost use Rattle.fsfs_shows.specs.Reading.{rep_place as place};
+ghost use Rattle.fsfs_dag.specs.Faults.{of_book as book_error, of_rep as rep_error};
+ghost use Rattle.fsfs_look.specs.declared.look_error.LookFault.TheVariants as faults;
+ghost use Rattle.fsfs_look.specs.declared.look_error.LookError.TheVariants.{Fault};
+ghost use Rattle.fsfs_look.specs.Errors.{of_read};
+ghost use Rattle.fsfs_look.specs.FileTexts.{FileText, IsWholeText};
+ghost use Rattle.fsfs_look.specs.Written.{Writes, HasDiskCause, HasSinkCause};
 
 use crate::look_error::{LookError, LookFault};
 use crate::output::print;
@@ -15,15 +28,21 @@ use std::alloc::Global;
 // How many bytes are read and written at a time.
 const PIECE: usize = 65536;
 
-fn refused(wrong: Wrong) -> LookError {
+fn refused(wrong: Wrong) -> LookError
+    ensures { result ≡ Fault (faults.Wrong wrong) }
+{
     LookError::Fault(LookFault::Wrong(wrong))
 }
 
-fn bad_rep(at: RevOffset, what: RepWhat) -> LookError {
+fn bad_rep(at: RevOffset, what: RepWhat) -> LookError
+    ensures { result ≡ Fault (faults.Wrong (BadRep (record { at = at; what = what }))) }
+{
     refused(Wrong::BadRep(RepDamage { at, what }))
 }
 
-fn of_book(at: RevOffset, fault: BookFault) -> LookError {
+fn of_book(at: RevOffset, fault: BookFault) -> LookError
+    ensures { result ≡ of_read (book_error at fault) }
+{
     match fault {
         BookFault::Refused(refusal) => refused(Wrong::Refused(refusal)),
         BookFault::Short { .. } => bad_rep(at, RepWhat::EndRep),
@@ -33,7 +52,9 @@ fn of_book(at: RevOffset, fault: BookFault) -> LookError {
 }
 
 // A fault of the representation whose header is to begin at this place.
-fn of_rep(at: RevOffset, fault: RepFault) -> LookError {
+fn of_rep(at: RevOffset, fault: RepFault) -> LookError
+    ensures { result ≡ of_read (rep_error at fault) }
+{
     match fault {
         RepFault::Book(fault) => of_book(at, fault),
         RepFault::Delta { .. } => refused(Wrong::Delta(at)),
@@ -45,7 +66,9 @@ fn of_rep(at: RevOffset, fault: RepFault) -> LookError {
     }
 }
 
-fn rep_place(rep: &Rep) -> RevOffset {
+fn rep_place(rep: &Rep) -> RevOffset
+    ensures { result ≡ place rep.now }
+{
     RevOffset {
         rev: rep.rev.unwrap_or(0),
         offset: rep.offset,
@@ -53,7 +76,15 @@ fn rep_place(rep: &Rep) -> RevOffset {
 }
 
 // Reads a representation to its end, and checks it.
-fn check_rep<B: Book>(book: &mut B, rep: &Rep, piece: &mut [u8]) -> Result<(), RepFault> {
+fn check_rep<B: Book>(book: &mut B, rep: &Rep, piece: &mut [u8]) -> Result<(), RepFault>
+    requires rev { IsSome rep.now.rev }
+    requires room { 0 < length piece.old }
+    ensures bytes { (bytes : List ℕ) → (B.told book.old).revs (rev_of rep.now) ≡ Some (Ok bytes) → MatchResult result (λ _. IsWhole rep.now bytes) (IsFaultOf rep.now bytes) }
+    ensures refused { (why : Refusal) → (B.told book.old).revs (rev_of rep.now) ≡ Some (Err why) → MatchResult result (λ _. ⊥) (IsRefusedFor why) }
+    ensures room { length piece.new ≡ length piece.old }
+    ensures kept { Keeps (B.told book.old) (B.told book.new) }
+    ensures cause { HasCause (B.faults book.old) (B.faults book.new) result }
+{
     let mut reader = RepReader::begin(book, rep)?;
     'pieces: while reader.left() > 0 {
         reader.next(book, piece)?;
@@ -67,7 +98,15 @@ fn write_rep<B: Book, S: Sink>(
     rep: &Rep,
     piece: &mut [u8],
     sink: &mut S,
-) -> Result<(), LookError> {
+) -> Result<(), LookError>
+    requires rev { IsSome rep.now.rev }
+    requires room { 0 < length piece.old }
+    ensures told { (bytes : List ℕ) → (B.told book.old).revs (rev_of rep.now) ≡ Some (Ok bytes) → IsWhole rep.now bytes
+        → Writes (IsWholeText (text_of rep.now bytes)) (S.written sink.old) (S.written sink.new) result }
+    ensures kept { Keeps (B.told book.old) (B.told book.new) }
+    ensures cause { HasDiskCause (B.faults book.old) (B.faults book.new) result }
+    ensures sink { HasSinkCause (S.faults sink.old) (S.faults sink.new) result }
+{
     let at = rep_place(rep);
     let mut reader = match RepReader::begin(book, rep) {
         Ok(reader) => reader,
@@ -96,7 +135,12 @@ pub fn cat<B: Book, S: Sink>(
     rev: u32,
     path: &FsPath,
     sink: &mut S,
-) -> Result<(), LookError> {
+) -> Result<(), LookError>
+    ensures told { (look : Look) → Knows (B.told book.old).revs rev look → Writes (FileText look rev path.now) (S.written sink.old) (S.written sink.new) result }
+    ensures kept { Keeps (B.told book.old) (B.told book.new) }
+    ensures cause { HasDiskCause (B.faults book.old) (B.faults book.new) result }
+    ensures sink { HasSinkCause (S.faults sink.old) (S.faults sink.new) result }
+{
     let found = found_at(alloc, book, rev, path)?;
     match found.node.kind {
         Kind::Dir => Err(LookError::Fault(LookFault::NotFile)),
