@@ -1,1 +1,5 @@
-mod OutputLemmas
+pub mod OutputLemmas
+pub mod WalkLemmas
+pub mod WeightLemmas
+pub mod TextLemmas
+pub mod LineLemmas

@@ -7,6 +7,7 @@ use Rattle.fsfs_disk.specs.Streams.{Adds}
 use Rattle.fsfs_noderev.specs.declared.node_rev.NodeRev.{NodeRev}
 use Rattle.fsfs_shows.specs.Reading.{Entry, offset_of}
 use Rattle.fsfs_dag.specs.Views.{entry_value}
+use Rattle.fsfs_dag.specs.declared.directory.Entry.{Entry as PlacedEntry}
 use Rattle.fsfs_look.specs.declared.tree.Pending.{Pending}
 use Rattle.fsfs_look.specs.declared.look_error.LookError.{LookError}
 use Rattle.fsfs_look.specs.declared.look_error.LookError.TheVariants as errors
@@ -20,6 +21,14 @@ pending_value p = (p.level, entry_value p.entry)
 -- in the order in which it is written: the last is the first
 abbrev pub left : List Pending → List (ℕ × Entry)
 left todo = map pending_value (reverse todo)
+
+abbrev pub pending : ℕ → PlacedEntry → Pending
+pending level entry = record { level = level; entry = entry }
+
+-- the entries of a directory above what is left to write, the first on top
+abbrev pub pend : ℕ → List PlacedEntry → List Pending → List Pending
+pend level [] todo = todo
+pend level (entry ∷ entries) todo = pend level entries todo ++ pending level entry ∷ []
 
 abbrev pub at_level : ℕ → List Entry → List (ℕ × Entry)
 at_level level = map (λ entry. (level, entry))

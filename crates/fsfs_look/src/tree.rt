@@ -2,18 +2,15 @@
 //!
 //! A directory's entries are put onto a stack of what is left to write, the first on top, so that a chain of directories
 //! of any length takes no more of the machine's own stack.
-ghost use Rattle.std.specs.Prelude.{◌≡◌, ◌≤◌, ◌+◌, ◌++◌, ◌<◌, ◌^◌, ◌*◌, ℕ, List, [], Option, map, OnOk, OnErr, IfErr, length};
+ghost use Rattle.std.specs.Prelude.{◌≡◌, ◌≤◌, ◌+◌, ◌++◌, ◌<◌, ℕ, List, [], OnOk, OnErr, IfErr};
 ghost use Rattle.fsfs_book.specs.Told.{Look, Knows, Keeps};
 ghost use Rattle.fsfs_disk.specs.Streams.{Adds};
-ghost use Rattle.fsfs_disk.specs.Fault.{Rose};
-ghost use Rattle.fsfs_dag.specs.Views.{home_of, entry_values, AreBefore};
-ghost use Rattle.fsfs_revision.specs.declared.damage.RevOffset.{RevOffset};
-ghost use Rattle.fsfs_shows.specs.Reading.{Entry as EntryValue};
+ghost use Rattle.fsfs_dag.specs.Views.{home_of};
 ghost use Rattle.fsfs_look.specs.declared.look_error.LookError.TheVariants.{OutOfMemory, WriteFault};
 ghost use Rattle.fsfs_look.specs.Lines.{HasIdText};
 ghost use Rattle.fsfs_look.specs.Output.{AddsFront};
 ghost use Rattle.fsfs_look.specs.TreeTexts.{TreeText};
-ghost use Rattle.fsfs_look.specs.Walks.{left, at_level, LeftText, NodeFrom, AreWithin, Puts, Walks};
+ghost use Rattle.fsfs_look.specs.Walks.{left, pend, LeftText, NodeFrom, AreWithin, Puts, Walks};
 ghost use Rattle.fsfs_look.specs.Weights.{total, weight};
 ghost use Rattle.fsfs_look.specs.Written.{Writes, HasDiskCause, HasSinkCause};
 
@@ -43,9 +40,7 @@ fn put_entries(
     level: usize,
     mut below: Vec<Entry>,
 ) -> Result<(), LookError>
-    ensures left { OnOk result (left todo.new.items ≡ at_level level (entry_values below.items) ++ left todo.old.items) }
-    ensures within { (home : RevOffset) (top : ℕ) → AreBefore home below.items → home.rev ≤ top → AreWithin top todo.old.items → OnOk result (AreWithin top todo.new.items) }
-    ensures total { (home : RevOffset) → home.offset < 2 ^ 64 → AreBefore home below.items → OnOk result (total todo.new.items < total todo.old.items + weight home) }
+    ensures items { OnOk result (todo.new.items ≡ pend level below.items todo.old.items) }
     ensures memory { IfErr result (λ e. e ≡ OutOfMemory) }
 {
     while let Some(entry) = below.pop() {
