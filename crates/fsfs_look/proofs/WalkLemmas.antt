@@ -12,9 +12,17 @@ use Rattle.fsfs_dag.specs.declared.directory.Entry.{Entry as PlacedEntry}
 use Rattle.fsfs_dag.specs.Views.{entry_value, entry_values}
 use Rattle.fsfs_look.specs.declared.tree.Pending.{Pending}
 use Rattle.fsfs_look.specs.declared.look_error.LookFault.TheVariants as faults
+use Rattle.std.proofs.Common.{Vec, Global}
+use Rattle.std.specs.Prelude.{OnOk, IfErr}
+use Rattle.fsfs_shows.specs.declared.wrong.ReadError.{ReadError}
+use Rattle.fsfs_shows.specs.declared.wrong.ReadError.TheVariants as reads
+use Rattle.fsfs_shows.specs.Readings.{Answers}
+use Rattle.fsfs_look.specs.declared.look_error.LookError.{LookError}
+use Rattle.fsfs_look.specs.declared.look_error.LookError.TheVariants as errors
+use Rattle.fsfs_look.specs.Errors.{of_read}
 use Rattle.fsfs_look.specs.Texts.{End, Whole, Refused, Stopped}
 use Rattle.fsfs_look.specs.TreeTexts.{IsLine, NodeText, OfFile, OfDir, OfWrongDir, EntryText, OfNode, OfWrong, Stops, EntriesText, OfNone, OfLast, OfNext}
-use Rattle.fsfs_look.specs.Walks.{pending_value, pending, pend, left, at_level, Then, LeftText}
+use Rattle.fsfs_look.specs.Walks.{pending_value, pending, pend, left, at_level, Then, LeftText, Puts}
 
 -- ---- what is left, as a list
 
@@ -77,3 +85,24 @@ module _ (look : Look) (ids : Bool) where
 
   pub stops_first : (S : List ℕ → End → Type 0) (level : ℕ) (entry : Entry) → Then (EntryText look ids level entry) S [] Stopped
   stops_first S level entry = inl (Stops level entry, stopped_ne)
+
+  -- ---- a node's line and its entries, as they were put
+
+  pub puts_file : (level : ℕ) (name : Name) (v : NodeRev) (todo : List Pending) (before now line : List ℕ) → IsLine ids level name v line → now ≡ before ++ line → v.kind ≡ File → Puts look ids level name v todo todo before now (Ok tt)
+  puts_file level name v todo before now line is e kind = (line, e, λ text end h. file_then (LeftText look ids (left todo)) level name v line text end is kind h)
+
+  pub puts_wrong : (level : ℕ) (name : Name) (v : NodeRev) (old new : List Pending) (before now line : List ℕ) → IsLine ids level name v line → now ≡ before ++ line → v.kind ≡ Dir → (e : ReadError)
+      → Answers (λ (found : Vec PlacedEntry Global). entry_values found.items) (EntriesOf look v) (Err e) → Puts look ids level name v old new before now (Err (of_read e))
+  puts_wrong level name v old new before now line is e kind (reads.Wrong w) read = (line, e, OfWrongDir level name v line w is kind read)
+  puts_wrong level name v old new before now line is e kind reads.OutOfMemory read = tt
+  puts_wrong level name v old new before now line is e kind reads.DiskFault read = tt
+
+  pub puts_dir : (level next : ℕ) (name : Name) (v : NodeRev) (old new : List Pending) (before now line : List ℕ) → IsLine ids level name v line → now ≡ before ++ line → v.kind ≡ Dir → next ≡ suc level
+      → (below : List PlacedEntry) → EntriesOf look v (Ok (entry_values below)) → (r : Result (Unit {0}) LookError) → OnOk r (new ≡ pend next below old) → IfErr r (λ e. e ≡ errors.OutOfMemory) → Puts look ids level name v old new before now r
+  puts_dir level next name v old new before now line is e kind one below read (Ok x) items memory = (line, e, text_of) where
+    text_of : (text : List ℕ) (end : End) → LeftText look ids (left new) text end → Then (NodeText look ids level name v) (LeftText look ids (left old)) (line ++ text) end
+    text_of text end h =
+        let same : left new ≡ at_level (suc level) (entry_values below) ++ left old = ap left (items ∙ ap (λ n. pend n below old) one) ∙ left_pend (suc level) below old in
+        let k : LeftText look ids (at_level (suc level) (entry_values below) ++ left old) text end = subst (λ t. LeftText look ids t text end) same h in
+        dir_then (LeftText look ids (left old)) level name v line (entry_values below) text end is kind read (entries_then (suc level) (entry_values below) (left old) text end k)
+  puts_dir level next name v old new before now line is e kind one below read (Err f) items memory = subst (λ x. Puts look ids level name v old new before now (Err x)) (sym memory) tt

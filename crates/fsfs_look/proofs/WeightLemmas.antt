@@ -78,3 +78,6 @@ pub total_pend : (level : ℕ) (home : RevOffset) (entries : List Entry) (todo :
 total_pend level home entries todo short fits before =
     let pos : 0 < 2 ^ 65 = omega arith in
     less (total (pend level entries todo)) (total todo) (length entries * weight home) (weight home) (sum_pend level home entries todo fits before) (few (length entries) (weight home) short) (one-le-pow (rank home) (2 ^ 65) pos)
+
+pub weighs : (s : ℕ) (home : RevOffset) → s < s + weight home
+weighs s home = let pos : 0 < 2 ^ 65 = omega arith in omega (arith, one-le-pow (rank home) (2 ^ 65) pos)

@@ -7,9 +7,8 @@ ghost use Rattle.fsfs_look.specs.Lines.{PutsLine};
 
 use crate::look_error::{LookError, LookFault};
 use fsfs_base::Kind;
-use fsfs_dag::PlacedNode;
-use fsfs_noderev::{NodeId, Part, Place, put_id};
-use fsfs_revision::{Damage, What};
+use fsfs_noderev::{NodeId, NodeRev, Part, Place, put_id};
+use fsfs_revision::{Damage, RevOffset, What};
 use fsfs_shows::Wrong;
 use std::alloc::AllocError;
 
@@ -80,26 +79,26 @@ fn put_end(lines: &mut Vec<u8>) -> Result<(), AllocError>
     Ok(())
 }
 
-/// Puts the line of a node behind these lines: a space for each level, its name, `/` behind that of a directory, and its id
-/// in angle brackets if ids are shown.
+/// Puts the line of a node that stands at this place behind these lines: a space for each level, its name, `/` behind that
+/// of a directory, and its id in angle brackets if ids are shown.
 pub(crate) fn put_line(
     lines: &mut Vec<u8>,
     show_ids: bool,
     level: usize,
     name: &str,
-    found: &PlacedNode,
+    node: &NodeRev,
+    at: RevOffset,
 ) -> Result<(), LookError>
-    ensures { PutsLine show_ids level name.now found.now.node lines.old.items lines.new.items result }
+    ensures { PutsLine show_ids level name.now node.now lines.old.items lines.new.items result }
 {
     put_spaces(lines, level)?;
-    put_name(lines, name, found.node.kind)?;
+    put_name(lines, name, node.kind)?;
     if show_ids {
-        if !has_text(&found.node.id) {
-            let at = found.place();
+        if !has_text(&node.id) {
             let what = What::NodeRev;
             return Err(LookError::Fault(LookFault::Wrong(Wrong::Damaged(Damage { at, what }))));
         }
-        put_shown_id(lines, &found.node.id)?;
+        put_shown_id(lines, &node.id)?;
     }
     put_end(lines)?;
     Ok(())

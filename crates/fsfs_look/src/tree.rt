@@ -70,7 +70,8 @@ fn put_node<B: Book>(
     ensures cause { HasDiskCause (B.faults book.old) (B.faults book.new) result }
     ensures quiet { (faults : ℕ) → HasSinkCause faults faults result }
 {
-    put_line(lines, show_ids, level, name, found)?;
+    let home = found.place();
+    put_line(lines, show_ids, level, name, &found.node, home)?;
     match found.node.kind {
         Kind::File => Ok(()),
         Kind::Dir => {
