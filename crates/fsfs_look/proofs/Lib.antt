@@ -3,3 +3,5 @@ pub mod WalkLemmas
 pub mod WeightLemmas
 pub mod TextLemmas
 pub mod LineLemmas
+pub mod ProgressLemmas
+pub mod FitLemmas
