@@ -5,3 +5,4 @@ pub mod TextLemmas
 pub mod LineLemmas
 pub mod ProgressLemmas
 pub mod FitLemmas
+pub mod EndLemmas

@@ -30,7 +30,7 @@ pub record Progress (R S : List ℕ → End → Type 0) (before lines : List ℕ
   pub joined : before ++ so_far ≡ written ++ lines
   pub goes : (text : List ℕ) (end : End) → S text end → R (so_far ++ text) end
 
-adds_nothing : (told : Option (List ℕ)) → Adds told told []
+pub adds_nothing : (told : Option (List ℕ)) → Adds told told []
 adds_nothing None = tt
 adds_nothing (Some w) = ap (λ t. Some t) (sym (append-nil w))
 
