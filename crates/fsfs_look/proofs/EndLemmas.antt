@@ -17,7 +17,7 @@ use Rattle.fsfs_look.specs.Output.{AddsFront}
 use Rattle.fsfs_look.specs.Paths.{IsFound, IsNotFound}
 use Rattle.fsfs_look.specs.Texts.{End, Whole, Refused, Stopped, Nothing, AtPath}
 use Rattle.fsfs_look.specs.TreeTexts.{NodeText, TreeText}
-use Rattle.fsfs_look.specs.Walks.{left, Then, LeftText, NodeFrom, Puts, Joins, JoinsSome, WalksTo, Walks}
+use Rattle.fsfs_look.specs.Walks.{left, Then, LeftText, NodeFrom, Puts, Joins, JoinsSome, WalksTo, Walks, EndsSo}
 use Rattle.fsfs_look.specs.Written.{Writes, WritesFront}
 use Rattle.fsfs_look.proofs.ProgressLemmas.{adds_nothing}
 
@@ -60,26 +60,18 @@ module _ (R : List ℕ → End → Type 0) (now : List ℕ) (old mid new : Optio
   last_front written end adds (text, h, e) (front, rest, is, more) =
       (text, end, h, (written ++ front, rest, e ∙ ap (λ t. written ++ t) is ∙ sym (append_assoc written front rest), adds_then old mid new written front adds more))
 
-  pub whole_written : Walks R [] now old mid (Ok tt) → Adds mid new now → Writes R old new (Ok tt)
-  whole_written (written, adds, h) more = last_lines written Whole adds h more
-
-  pub whole_front : Walks R [] now old mid (Ok tt) → AddsFront mid new now → Writes R old new (Err errors.WriteFault)
-  whole_front (written, adds, h) more = last_front written Whole adds h more
-
-  pub fault_written : (fault : LookFault) → Walks R [] now old mid (Err (errors.Fault fault)) → Adds mid new now → Writes R old new (Err (errors.Fault fault))
-  fault_written fault (written, adds, h) more = last_lines written (Refused fault) adds h more
-
-  pub fault_front : (fault : LookFault) → Walks R [] now old mid (Err (errors.Fault fault)) → AddsFront mid new now → Writes R old new (Err errors.WriteFault)
-  fault_front fault (written, adds, h) more = last_front written (Refused fault) adds h more
-
 some_written : (R : List ℕ → End → Type 0) (old new : Option (List ℕ)) (written : List ℕ) → Adds old new written → JoinsSome R [] written → WritesFront R old new
 some_written R old new written adds (end, rest, (text, h, e)) = (text, end, h, (written, rest, e, adds))
 
-pub failed_written : (R : List ℕ → End → Type 0) (now : List ℕ) (old new : Option (List ℕ)) (e : LookError) → ((fault : LookFault) → e ≡ errors.Fault fault → ⊥) → Walks R [] now old new (Err e) → Writes R old new (Err e)
-failed_written R now old new (errors.Fault fault) other h = absurd (other fault refl)
-failed_written R now old new errors.OutOfMemory other (written, adds, h) = some_written R old new written adds h
-failed_written R now old new errors.DiskFault other (written, adds, h) = some_written R old new written adds h
-failed_written R now old new errors.WriteFault other (written, adds, h) = some_written R old new written adds h
+pub ends_written : (R : List ℕ → End → Type 0) (now : List ℕ) (old mid new : Option (List ℕ)) (walked r : Result (Unit {0}) LookError) → Walks R [] now old mid walked → EndsSo now mid new walked r → Writes R old new r
+ends_written R now old mid new (Ok x) (Ok y) (written, adds, h) more = last_lines R now old mid new written Whole adds h more
+ends_written R now old mid new (Ok x) (Err e) (written, adds, h) (is, more) = subst (λ f. Writes R old new (Err f)) (sym is) (last_front R now old mid new written Whole adds h more)
+ends_written R now old mid new (Err (errors.Fault fault)) (Ok y) h more = absurd more
+ends_written R now old mid new (Err (errors.Fault fault)) (Err e) (written, adds, h) (inl (is, more)) = subst (λ f. Writes R old new (Err f)) (sym is) (last_lines R now old mid new written (Refused fault) adds h more)
+ends_written R now old mid new (Err (errors.Fault fault)) (Err e) (written, adds, h) (inr (is, more)) = subst (λ f. Writes R old new (Err f)) (sym is) (last_front R now old mid new written (Refused fault) adds h more)
+ends_written R now old mid new (Err errors.OutOfMemory) r (written, adds, h) (is, same) = subst (λ x. Writes R old new x) (sym is) (subst (λ t. WritesFront R old t) (sym same) (some_written R old mid written adds h))
+ends_written R now old mid new (Err errors.DiskFault) r (written, adds, h) (is, same) = subst (λ x. Writes R old new x) (sym is) (subst (λ t. WritesFront R old t) (sym same) (some_written R old mid written adds h))
+ends_written R now old mid new (Err errors.WriteFault) r (written, adds, h) (is, same) = subst (λ x. Writes R old new x) (sym is) (subst (λ t. WritesFront R old t) (sym same) (some_written R old mid written adds h))
 
 -- ---- what is met at the path
 

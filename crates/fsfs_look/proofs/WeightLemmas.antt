@@ -25,7 +25,7 @@ place_rank (places.In txn) home fits h = absurd cc
 before_rev : (rev offset : ℕ) (home : RevOffset) → is_before rev offset home ≡ true → rev ≤ home.rev
 before_rev rev offset home h = grind (arith, nat_tests)
 
-place_rev : (place : Place) (home : RevOffset) → place_before home place ≡ true → (offset_of place).rev ≤ home.rev
+pub place_rev : (place : Place) (home : RevOffset) → place_before home place ≡ true → (offset_of place).rev ≤ home.rev
 place_rev (places.At rev offset) home h = before_rev rev offset home h
 place_rev (places.In txn) home h = absurd cc
 

@@ -11,6 +11,7 @@ use Rattle.fsfs_dag.specs.declared.directory.Entry.{Entry as PlacedEntry}
 use Rattle.fsfs_look.specs.declared.tree.Pending.{Pending}
 use Rattle.fsfs_look.specs.declared.look_error.LookError.{LookError}
 use Rattle.fsfs_look.specs.declared.look_error.LookError.TheVariants as errors
+use Rattle.fsfs_look.specs.Output.{AddsFront}
 use Rattle.fsfs_look.specs.Texts.{End, Whole, Refused, Stopped, Nothing}
 use Rattle.fsfs_look.specs.TreeTexts.{NodeText, EntryText}
 
@@ -76,3 +77,13 @@ WalksTo R before now written (Err errors.WriteFault) = JoinsSome R before writte
 -- a text was written but for the lines that are kept now
 abbrev pub Walks : (List ℕ → End → Type 0) → List ℕ → List ℕ → Option (List ℕ) → Option (List ℕ) → Result (Unit {0}) LookError → Type 0
 Walks R before now old new result = (written : List ℕ) × Adds old new written × WalksTo R before now written result
+
+-- the last lines were written where the walk came to an end, and nothing where it failed
+abbrev pub EndsSo : List ℕ → Option (List ℕ) → Option (List ℕ) → Result (Unit {0}) LookError → Result (Unit {0}) LookError → Type 0
+EndsSo lines mid new (Ok x) (Ok y) = Adds mid new lines
+EndsSo lines mid new (Ok x) (Err e) = (e ≡ errors.WriteFault) × AddsFront mid new lines
+EndsSo lines mid new (Err (errors.Fault fault)) (Ok y) = ⊥
+EndsSo lines mid new (Err (errors.Fault fault)) (Err e) = ((e ≡ errors.Fault fault) × Adds mid new lines) ⊎ ((e ≡ errors.WriteFault) × AddsFront mid new lines)
+EndsSo lines mid new (Err errors.OutOfMemory) result = (result ≡ Err errors.OutOfMemory) × (new ≡ mid)
+EndsSo lines mid new (Err errors.DiskFault) result = (result ≡ Err errors.DiskFault) × (new ≡ mid)
+EndsSo lines mid new (Err errors.WriteFault) result = (result ≡ Err errors.WriteFault) × (new ≡ mid)

@@ -1,9 +1,9 @@
 //! The node at a path of a revision, or the fault that names a part of the path.
 ghost use Rattle.fsfs_book.specs.Told.{Look, Knows, Keeps};
 ghost use Rattle.fsfs_model.specs.Answers.{last_name as last};
-ghost use Rattle.std.specs.Prelude.{◌≡◌};
+ghost use Rattle.std.specs.Prelude.{◌≡◌, ℕ};
 ghost use Rattle.fsfs_look.specs.Paths.{IsFound};
-ghost use Rattle.fsfs_look.specs.Written.{HasDiskCause};
+ghost use Rattle.fsfs_look.specs.Written.{HasDiskCause, HasSinkCause};
 
 use crate::look_error::{LookError, LookFault};
 use fsfs_base::FsPath;
@@ -21,6 +21,7 @@ pub(crate) fn found_at<B: Book>(
     ensures told { (look : Look) → Knows (B.told book.old).revs rev look → IsFound look rev path.now result }
     ensures kept { Keeps (B.told book.old) (B.told book.new) }
     ensures cause { HasDiskCause (B.faults book.old) (B.faults book.new) result }
+    ensures quiet { (faults : ℕ) → HasSinkCause faults faults result }
 {
     match node_at(alloc, book, rev, path) {
         Ok(Met::Node(found)) => Ok(found),

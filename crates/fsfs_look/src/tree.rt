@@ -10,7 +10,7 @@ ghost use Rattle.fsfs_look.specs.declared.look_error.LookError.TheVariants.{OutO
 ghost use Rattle.fsfs_look.specs.Lines.{HasIdText};
 ghost use Rattle.fsfs_look.specs.Output.{AddsFront};
 ghost use Rattle.fsfs_look.specs.TreeTexts.{TreeText};
-ghost use Rattle.fsfs_look.specs.Walks.{left, pend, LeftText, NodeFrom, AreWithin, Puts, Walks};
+ghost use Rattle.fsfs_look.specs.Walks.{left, pend, LeftText, NodeFrom, AreWithin, Puts, Walks, EndsSo};
 ghost use Rattle.fsfs_look.specs.Weights.{total, weight};
 ghost use Rattle.fsfs_look.specs.Written.{Writes, HasDiskCause, HasSinkCause};
 
@@ -157,6 +157,28 @@ fn write_tree<B: Book, S: Sink>(
     write_todo(alloc, book, show_ids, &mut todo, lines, sink)
 }
 
+// Writes the last lines of a text that ended so.
+fn write_last<S: Sink>(
+    sink: &mut S,
+    lines: &mut Vec<u8>,
+    walked: Result<(), LookError>,
+) -> Result<(), LookError>
+    ensures ends { EndsSo lines.old.items (S.written sink.old) (S.written sink.new) walked result }
+    ensures cause { (before now : ℕ) → HasDiskCause before now walked → HasDiskCause before now result }
+    ensures sink { (before : ℕ) → HasSinkCause before (S.faults sink.old) walked → HasSinkCause before (S.faults sink.new) result }
+{
+    match walked {
+        Ok(()) => write_lines(sink, lines),
+        Err(LookError::Fault(fault)) => {
+            write_lines(sink, lines)?;
+            Err(LookError::Fault(fault))
+        }
+        Err(LookError::OutOfMemory) => Err(LookError::OutOfMemory),
+        Err(LookError::DiskFault) => Err(LookError::DiskFault),
+        Err(LookError::WriteFault) => Err(LookError::WriteFault),
+    }
+}
+
 /// Writes the text of the tree at a path of a revision: a line for each node, parents first, the names of a directory in
 /// the order of their bytes. Where something is wrong with the bytes, what comes before it is written.
 pub fn tree_text<B: Book, S: Sink>(
@@ -175,12 +197,6 @@ pub fn tree_text<B: Book, S: Sink>(
     let found = found_at(alloc, book, rev, path)?;
     let mut lines = Vec::new(alloc);
     let name = last_name(path);
-    match write_tree(alloc, book, show_ids, name, &found, &mut lines, sink) {
-        Ok(()) => write_lines(sink, &mut lines),
-        Err(LookError::Fault(fault)) => {
-            write_lines(sink, &mut lines)?;
-            Err(LookError::Fault(fault))
-        }
-        Err(error) => Err(error),
-    }
+    let walked = write_tree(alloc, book, show_ids, name, &found, &mut lines, sink);
+    write_last(sink, &mut lines, walked)
 }
