@@ -17,7 +17,8 @@ returns-in_err-found-clause-told g c = λ look knows.
 pub returns-in_err-found-clause-sink : goal.returns-in_err-found-clause-sink
 returns-in_err-found-clause-sink g c =
     let e = err_from_is_err_and c.from_residual.result c.from_residual.ensures.1 in
-    rw (e.1, e.2) (c.in_err-found.ensures.quiet (g.S.Sink.faults c.args.sink.now))
+    let q = c.in_err-found.ensures.quiet (g.S.Sink.faults c.args.sink.now) in
+    rw (e.1, e.2) (record { later = q.later; failed = q.failed })
 
 pub returns-clause-kept : goal.returns-clause-kept
 returns-clause-kept g c = keeps_trans _ _ _ c.in_ok-found.ensures.kept c.write_tree-walked.ensures.kept
