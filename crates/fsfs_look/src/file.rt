@@ -14,7 +14,7 @@ ghost use Rattle.fsfs_look.specs.FileTexts.{FileText, IsWholeText};
 ghost use Rattle.fsfs_look.specs.Written.{Writes, HasDiskCause, HasSinkCause};
 
 use crate::look_error::{LookError, LookFault};
-use crate::output::print;
+use crate::output::write_piece;
 use crate::path::found_at;
 use fsfs_base::{FsPath, Kind};
 use fsfs_book::{Book, BookFault};
@@ -117,9 +117,7 @@ fn write_rep<B: Book, S: Sink>(
             Ok(count) => count,
             Err(fault) => return Err(of_rep(at, fault)),
         };
-        if print(sink, &piece[..count]).is_err() {
-            return Err(LookError::WriteFault);
-        }
+        write_piece(sink, &piece[..count])?;
     }
     match reader.finish(book) {
         Ok(()) => Ok(()),

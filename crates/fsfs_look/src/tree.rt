@@ -16,7 +16,7 @@ ghost use Rattle.fsfs_look.specs.Written.{Writes, HasDiskCause, HasSinkCause};
 
 use crate::lines::put_line;
 use crate::look_error::LookError;
-use crate::output::print;
+use crate::output::write_piece;
 use crate::path::{found_at, last_name};
 use fsfs_base::{FsPath, Kind};
 use fsfs_book::Book;
@@ -92,9 +92,7 @@ fn write_lines<S: Sink>(sink: &mut S, lines: &mut Vec<u8>) -> Result<(), LookErr
     ensures failed { IfErr result (λ e. e ≡ WriteFault) }
     ensures sink { HasSinkCause (S.faults sink.old) (S.faults sink.new) result }
 {
-    if print(sink, lines).is_err() {
-        return Err(LookError::WriteFault);
-    }
+    write_piece(sink, lines)?;
     lines.clear();
     Ok(())
 }
