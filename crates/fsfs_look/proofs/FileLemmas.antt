@@ -50,7 +50,7 @@ module _ (rep : Rep) (bytes : List ℕ) (whole : IsWhole rep bytes) (old new : O
   pub whole_fails : (fault : RepFault) → IsFaultOf rep bytes fault → WritesFront (IsWholeText (text_of rep bytes)) old new → Writes (IsWholeText (text_of rep bytes)) old new (Err (of_read (of_rep (rep_place rep) fault)))
   whole_fails fault h front =
       only_failures (of_rep (rep_place rep) fault)
-          (rep_wrong Only rep (rep_errors.Fault fault) (λ b e. let same : bytes ≡ b = cc in subst (λ (x : List ℕ). IsFaultOf rep x fault) same h) (λ why e. absurd cc)) front
+      (rep_wrong Only rep (rep_errors.Fault fault) (λ b e. let same : bytes ≡ b = cc in subst (λ (x : List ℕ). IsFaultOf rep x fault) same h) (λ why e. absurd cc)) front
 
 -- a first part of a text
 pub front_of : (text : List ℕ) (done : ℕ) (old new : Option (List ℕ)) → Adds old new (take done text) → WritesFront (IsWholeText text) old new
@@ -58,12 +58,18 @@ front_of text done old new adds = (text, Whole, (refl, refl), (take done text, d
 
 -- and a first part of the piece behind it
 pub front_more : (text piece : List ℕ) (done count : ℕ) (old mid new : Option (List ℕ)) → Adds old mid (take done text) → piece ≡ take count (drop done text) → AddsFront mid new piece → WritesFront (IsWholeText text) old new
-front_more text piece done count old mid new adds is (front, rest, e, more) =
-    (text, Whole, (refl, refl),
-     (take done text ++ front, rest ++ drop count (drop done text),
-      sym (take-append-drop done text) ∙ ap (λ t. take done text ++ t) (sym (take-append-drop count (drop done text)) ∙ ap (λ t. t ++ drop count (drop done text)) (sym is ∙ e) ∙ append_assoc front rest (drop count (drop done text)))
-      ∙ sym (append_assoc (take done text) front (rest ++ drop count (drop done text))),
-      adds_then old mid new (take done text) front adds more))
+front_more text piece done count old mid new adds is (front, rest, e, more) = (
+  text,
+  Whole,
+  (refl, refl),
+  (
+    take done text ++ front,
+    rest ++ drop count (drop done text),
+    sym (take-append-drop done text) ∙ ap (λ t. take done text ++ t) (sym (take-append-drop count (drop done text)) ∙ ap (λ t. t ++ drop count (drop done text)) (sym is ∙ e) ∙ append_assoc front rest (drop count (drop done text)))
+        ∙ sym (append_assoc (take done text) front (rest ++ drop count (drop done text))),
+    adds_then old mid new (take done text) front adds more,
+  ),
+)
 
 -- ---- what stands at the path
 
@@ -91,7 +97,7 @@ module _ (look : Look) (rev : ℕ) (path : Path) (v : NodeRev) (met : MetAt look
           → Writes (FileText look rev path) out out (Err (of_read (of_rep (rep_place rep) fault)))
       file_wrong out fault there without =
           file_fails out (of_rep (rep_place rep) fault)
-              (contents_some (λ (t : List ℕ). t) (Err (of_rep (rep_place rep) fault)) [] (RepAt look) v.text rep is (rep_wrong look rep (rep_errors.Fault fault) (λ bytes e. there bytes (told_as (Ok bytes) e)) (λ why e. without why (told_as (Err why) e))))
+          (contents_some (λ (t : List ℕ). t) (Err (of_rep (rep_place rep) fault)) [] (RepAt look) v.text rep is (rep_wrong look rep (rep_errors.Fault fault) (λ bytes e. there bytes (told_as (Ok bytes) e)) (λ why e. without why (told_as (Err why) e))))
 
       module _ (checked : (bytes : List ℕ) → told (rev_of rep) ≡ Some (Ok bytes) → IsWhole rep bytes) (had : (why : Refusal) → told (rev_of rep) ≡ Some (Err why) → ⊥) (old new : Option (List ℕ)) (r : Result (Unit {0}) LookError)
           (written : (bytes : List ℕ) → told (rev_of rep) ≡ Some (Ok bytes) → IsWhole rep bytes → Writes (IsWholeText (text_of rep bytes)) old new r) where

@@ -18,7 +18,8 @@ shown_grouped before opening id closing = ap (λ t. t ++ closing) (append_assoc 
 
 pub put_whole : (ids : Bool) (level : ℕ) (name : Name) (v : NodeRev) (shown_id before a b c now : List ℕ) → IsShownId ids v.id shown_id → a ≡ before ++ replicate level 32 → b ≡ a ++ name ++ kind_mark v.kind → c ≡ b ++ shown_id → now ≡ c ++ codes "\n"
     → (line : List ℕ) × IsLine ids level name v line × (now ≡ before ++ line)
-put_whole ids level name v shown_id before a b c now shown ea eb ec en =
-    (replicate level 32 ++ name ++ kind_mark v.kind ++ shown_id ++ codes "\n",
-     record { shown_id = shown_id; id_is = shown; line_is = refl },
-     en ∙ ap (λ t. t ++ codes "\n") (ec ∙ ap (λ t. t ++ shown_id) (eb ∙ ap (λ t. t ++ name ++ kind_mark v.kind) ea)) ∙ grouped before (replicate level 32) name (kind_mark v.kind) shown_id (codes "\n"))
+put_whole ids level name v shown_id before a b c now shown ea eb ec en = (
+  replicate level 32 ++ name ++ kind_mark v.kind ++ shown_id ++ codes "\n",
+  record { shown_id = shown_id; id_is = shown; line_is = refl },
+  en ∙ ap (λ t. t ++ codes "\n") (ec ∙ ap (λ t. t ++ shown_id) (eb ∙ ap (λ t. t ++ name ++ kind_mark v.kind) ea)) ∙ grouped before (replicate level 32) name (kind_mark v.kind) shown_id (codes "\n"),
+)

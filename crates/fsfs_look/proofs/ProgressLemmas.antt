@@ -99,7 +99,7 @@ pub put_goes : (look : Look) (ids : Bool) (R : List ℕ → End → Type 0) (lev
     → Puts look ids level entry.name v todo after lines now (Ok tt) → Progress R (LeftText look ids (left after)) before now old new
 put_goes look ids R level entry v todo after before lines now old new p read h =
     longer R (Then (EntryText look ids level entry) (LeftText look ids (left todo))) (LeftText look ids (left after)) before lines now h.0 old new p h.1
-        (λ text end t. node_first look ids (LeftText look ids (left todo)) level entry v (h.0 ++ text) end read (h.2 text end t))
+    (λ text end t. node_first look ids (LeftText look ids (left todo)) level entry v (h.0 ++ text) end read (h.2 text end t))
 
 -- ---- the first of what is left
 

@@ -66,7 +66,7 @@ sum_pend : (level : ℕ) (home : RevOffset) (entries : List Entry) (todo : List 
 sum_pend level home [] todo fits before = omega arith
 sum_pend level home (e ∷ entries) todo fits before =
     more (total (pend level entries todo)) (total todo) (weight (offset_of e.id.place)) (weight home) (length entries) _ (total_push (pend level entries todo) (pending level e))
-        (sum_pend level home entries todo fits before.1) (one_less (rank (offset_of e.id.place)) (rank home) (place_rank e.id.place home fits before.0))
+    (sum_pend level home entries todo fits before.1) (one_less (rank (offset_of e.id.place)) (rank home) (place_rank e.id.place home fits before.0))
 
 few : (n w : ℕ) → n < 2 ^ 64 → n * w ≤ 2 ^ 64 * w
 few n w lt = let le : n ≤ 2 ^ 64 = omega arith in let k : w * n ≤ w * 2 ^ 64 = mul-le-mul_left w le in omega arith

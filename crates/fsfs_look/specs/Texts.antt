@@ -25,4 +25,4 @@ abbrev pub AtPath : Look → ℕ → Path → (Met → List ℕ → End → Type
 AtPath look rev path R text end =
     Nothing Stopped text end
     ⊎ (((w : Wrong) × MetAt look rev path (Err w) × Nothing (Refused (faults.Wrong w)) text end)
-      ⊎ ((met : Met) × MetAt look rev path (Ok met) × R met text end))
+    ⊎ ((met : Met) × MetAt look rev path (Ok met) × R met text end))

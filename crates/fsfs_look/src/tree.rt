@@ -128,7 +128,16 @@ fn write_todo<B: Book, S: Sink>(
     while let Some(next) = todo.pop() {
         write_full(sink, lines)?;
         let child = child_of(alloc, book, &next.entry)?;
-        put_node(alloc, book, show_ids, next.level, &next.entry.name, &child, todo, lines)?;
+        put_node(
+            alloc,
+            book,
+            show_ids,
+            next.level,
+            &next.entry.name,
+            &child,
+            todo,
+            lines,
+        )?;
     }
     Ok(())
 }

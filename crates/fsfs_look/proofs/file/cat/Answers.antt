@@ -44,7 +44,7 @@ returns-in-Ok-clause-told g c = λ look knows.
     let upto : rev_of rep ≤ c.args.rev = omega (arith, home, stands_within look c.args.rev c.args.path.now v met) in
     let known : told (rev_of rep) ≡ Some (look (rev_of rep)) = c.in_ok-found.ensures.kept.revs (rev_of rep) (look (rev_of rep)) (knows (rev_of rep) upto) in
     file_written look c.args.rev c.args.path.now v met c.in-File.is rep c.in-Some.ensures.value told known c.in-Ok.ensures.bytes c.in-Ok.ensures.refused (g.S.Sink.written c.args.sink.now) (g.S.Sink.written c.write_rep.new.sink) c.write_rep.result
-        (λ bytes e whole. c.write_rep.ensures.told bytes (c.in-Ok.ensures.kept.revs (rev_of rep) (Ok bytes) e) whole)
+    (λ bytes e whole. c.write_rep.ensures.told bytes (c.in-Ok.ensures.kept.revs (rev_of rep) (Ok bytes) e) whole)
 
 pub returns-in-Ok-clause-kept : goal.returns-in-Ok-clause-kept
 returns-in-Ok-clause-kept g c = keeps_trans _ _ _ c.in_ok-found.ensures.kept (keeps_trans _ _ _ c.in-Ok.ensures.kept c.write_rep.ensures.kept)
@@ -60,7 +60,7 @@ returns-clause-told g c = λ look knows.
     let known : told (rev_of rep) ≡ Some (look (rev_of rep)) = c.in_ok-found.ensures.kept.revs (rev_of rep) (look (rev_of rep)) (knows (rev_of rep) upto) in
     let is = c.of_rep.ensures ∙ ap (λ (at : RevOffset). of_read (of_rep at c.in-Err.fault)) c.rep_place.ensures in
     subst (λ (e : LookError). Writes (FileText look c.args.rev c.args.path.now) (g.S.Sink.written c.args.sink.now) (g.S.Sink.written c.args.sink.now) (Err e)) (sym is)
-        (file_wrong look c.args.rev c.args.path.now v met c.in-File.is rep c.in-Some.ensures.value told known (g.S.Sink.written c.args.sink.now) c.in-Err.fault c.in-Err.ensures.bytes c.in-Err.ensures.refused)
+    (file_wrong look c.args.rev c.args.path.now v met c.in-File.is rep c.in-Some.ensures.value told known (g.S.Sink.written c.args.sink.now) c.in-Err.fault c.in-Err.ensures.bytes c.in-Err.ensures.refused)
 
 pub returns-clause-kept : goal.returns-clause-kept
 returns-clause-kept g c = keeps_trans _ _ _ c.in_ok-found.ensures.kept c.in-Err.ensures.kept

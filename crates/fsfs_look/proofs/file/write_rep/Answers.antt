@@ -20,8 +20,8 @@ returns-in-Err-next-clause-told g c = λ bytes e whole.
     let fault = fault_for _ _ bytes _ inv.rep (c.in-Err-next.ensures.bytes bytes told (inv.read bytes e).0) in
     let is = c.of_rep-in-Err-next.ensures ∙ ap (λ (at : RevOffset). of_read (of_rep at c.in-Err-next.fault)) c.rep_place-at.ensures in
     rw is
-      (whole_fails c.args.rep.now bytes whole (g.S.Sink.written c.args.sink.now) (g.S.Sink.written c.pieces.sink) c.in-Err-next.fault fault
-          (front_of (text_of c.args.rep.now bytes) c.pieces.reader.done (g.S.Sink.written c.args.sink.now) (g.S.Sink.written c.pieces.sink) (inv.read bytes e).1))
+    (whole_fails c.args.rep.now bytes whole (g.S.Sink.written c.args.sink.now) (g.S.Sink.written c.pieces.sink) c.in-Err-next.fault fault
+    (front_of (text_of c.args.rep.now bytes) c.pieces.reader.done (g.S.Sink.written c.args.sink.now) (g.S.Sink.written c.pieces.sink) (inv.read bytes e).1))
 
 pub returns-in_err-write_piece-clause-told : goal.returns-in_err-write_piece-clause-told
 returns-in_err-write_piece-clause-told g c = λ bytes e whole.
@@ -29,11 +29,11 @@ returns-in_err-write_piece-clause-told g c = λ bytes e whole.
     let told = told_later _ _ _ _ (Ok bytes) inv.kept inv.rep e in
     let next = c.in-Ok-next.ensures.bytes bytes told (inv.read bytes e).0 in
     let piece : take c.in-Ok-next.count c.next.new.buffer ≡ take c.in-Ok-next.count (drop c.pieces.reader.done (text_of c.args.rep.now bytes)) =
-        next.1 ∙ ap (λ (r : Rep). take c.in-Ok-next.count (drop c.pieces.reader.done (text_of r bytes))) inv.rep in
+    next.1 ∙ ap (λ (r : Rep). take c.in-Ok-next.count (drop c.pieces.reader.done (text_of r bytes))) inv.rep in
     let p = err_from_is_err_and c.from_residual.result c.from_residual.ensures.1 in
     rw (p.1, p.2, c.in_err-write_piece.ensures.failed)
-      (front_more (text_of c.args.rep.now bytes) (take c.in-Ok-next.count c.next.new.buffer) c.pieces.reader.done c.in-Ok-next.count (g.S.Sink.written c.args.sink.now) (g.S.Sink.written c.pieces.sink) (g.S.Sink.written c.write_piece.new.sink)
-          (inv.read bytes e).1 piece c.in_err-write_piece.ensures.part)
+    (front_more (text_of c.args.rep.now bytes) (take c.in-Ok-next.count c.next.new.buffer) c.pieces.reader.done c.in-Ok-next.count (g.S.Sink.written c.args.sink.now) (g.S.Sink.written c.pieces.sink) (g.S.Sink.written c.write_piece.new.sink)
+    (inv.read bytes e).1 piece c.in_err-write_piece.ensures.part)
 
 pub pieces-preserved : goal.pieces-preserved
 pieces-preserved g c =
@@ -45,10 +45,11 @@ pieces-preserved g c =
           let told = told_later _ _ _ _ (Ok bytes) inv.kept inv.rep e in
           let next = c.in-Ok-next.ensures.bytes bytes told (inv.read bytes e).0 in
           let text = text_of c.args.rep.now bytes in
-          let more = bytes_more _ c.args.rep.now bytes (take c.pieces.reader.done text) c.next.new.buffer c.pieces.reader.done c.in-Ok-next.count c.next.new.self.done inv.rep c.in-Ok-next.ensures.done refl next.1 in
-          (next.0,
-           subst (λ t. Adds (g.S.Sink.written c.args.sink.now) (g.S.Sink.written c.write_piece.new.sink) t) more
-               (adds_then (g.S.Sink.written c.args.sink.now) (g.S.Sink.written c.pieces.sink) (g.S.Sink.written c.write_piece.new.sink) (take c.pieces.reader.done text) (take c.in-Ok-next.count c.next.new.buffer) (inv.read bytes e).1 c.in_ok-write_piece.ensures.added));
+          let more = bytes_more _ c.args.rep.now bytes (take c.pieces.reader.done text) c.next.new.buffer c.pieces.reader.done c.in-Ok-next.count c.next.new.self.done inv.rep c.in-Ok-next.ensures.done refl next.1 in (
+            next.0,
+            subst (λ t. Adds (g.S.Sink.written c.args.sink.now) (g.S.Sink.written c.write_piece.new.sink) t) more
+                (adds_then (g.S.Sink.written c.args.sink.now) (g.S.Sink.written c.pieces.sink) (g.S.Sink.written c.write_piece.new.sink) (take c.pieces.reader.done text) (take c.in-Ok-next.count c.next.new.buffer) (inv.read bytes e).1 c.in_ok-write_piece.ensures.added),
+          );
       kept = keeps_trans _ _ _ inv.kept c.in-Ok-next.ensures.kept;
       later = omega (arith, inv.later, c.in-Ok-next.ensures.cause.later);
       sink = omega (arith, inv.sink, c.in_ok-write_piece.ensures.sink.later);
@@ -69,8 +70,8 @@ returns-in-Err-finish-clause-told g c = λ bytes e whole.
     let fault = fault_for _ _ bytes _ inv.rep (c.in-Err-finish.ensures.bytes bytes told (inv.read bytes e).0) in
     let is = c.of_rep-in-Err-finish.ensures ∙ ap (λ (at : RevOffset). of_read (of_rep at c.in-Err-finish.fault)) c.rep_place-at.ensures in
     rw is
-      (whole_fails c.args.rep.now bytes whole (g.S.Sink.written c.args.sink.now) (g.S.Sink.written c.pieces.sink) c.in-Err-finish.fault fault
-          (front_of (text_of c.args.rep.now bytes) c.pieces.reader.done (g.S.Sink.written c.args.sink.now) (g.S.Sink.written c.pieces.sink) (inv.read bytes e).1))
+    (whole_fails c.args.rep.now bytes whole (g.S.Sink.written c.args.sink.now) (g.S.Sink.written c.pieces.sink) c.in-Err-finish.fault fault
+    (front_of (text_of c.args.rep.now bytes) c.pieces.reader.done (g.S.Sink.written c.args.sink.now) (g.S.Sink.written c.pieces.sink) (inv.read bytes e).1))
 
 pub returns-in_err-write_piece-clause-kept : goal.returns-in_err-write_piece-clause-kept
 returns-in_err-write_piece-clause-kept g c = keeps_trans _ _ _ c.pieces.invariant.kept c.in-Ok-next.ensures.kept

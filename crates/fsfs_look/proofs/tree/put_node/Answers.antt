@@ -13,7 +13,7 @@ returns-in_err-below-in-Dir-clause-told g c = λ look knows fits.
     let k = c.in_ok-put_line.ensures in
     let p = err_from_is_err_and c.from_residual-in_err-below-in-Dir.result c.from_residual-in_err-below-in-Dir.ensures.1 in
     rw (p.1, p.2) (puts_wrong look c.args.show_ids c.args.level c.args.name.now c.args.found.now.node c.args.todo.now.items c.args.todo.now.items c.args.lines.now.items c.put_line.new.lines.items k.0 k.1 k.2 c.in-Dir.is c.in_err-below-in-Dir.field-0.0
-        (c.in_err-below-in-Dir.ensures.told look knows))
+    (c.in_err-below-in-Dir.ensures.told look knows))
 
 pub returns-in-File-clause-told : goal.returns-in-File-clause-told
 returns-in-File-clause-told g c = λ look knows fits.
@@ -28,7 +28,7 @@ returns-in_ok-below-in-Dir-clause-told g c = λ look knows fits.
     let k = c.in_ok-put_line.ensures in
     let next : c.in-Some.next ≡ suc c.args.level = search rules in
     puts_dir look c.args.show_ids c.args.level c.in-Some.next c.args.name.now c.args.found.now.node c.args.todo.now.items c.put_entries.new.todo.items c.args.lines.now.items c.put_line.new.lines.items k.0 k.1 k.2 c.in-Dir.is next
-        c.in_ok-below-in-Dir.below.items (c.in_ok-below-in-Dir.ensures.told look knows) c.put_entries.result c.put_entries.ensures.items c.put_entries.ensures.memory
+    c.in_ok-below-in-Dir.below.items (c.in_ok-below-in-Dir.ensures.told look knows) c.put_entries.result c.put_entries.ensures.items c.put_entries.ensures.memory
 
 pub returns-in_ok-below-in-Dir-clause-within : goal.returns-in_ok-below-in-Dir-clause-within
 returns-in_ok-below-in-Dir-clause-within g c = λ top le before.
