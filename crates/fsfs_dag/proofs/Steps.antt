@@ -1,6 +1,6 @@
 -- Readings one after another.
-use Rattle.std.proofs.Common.{◌≡◌, ℕ, ◌≤◌, Option, Some, Result, Ok, Err, inl, inr}
-use Rattle.fsfs_book.specs.Told.{Look, Told, Telling, Knows, Keeps}
+use Rattle.std.proofs.Common.{◌≡◌, ℕ, Some, Result, Ok, Err, inl, inr}
+use Rattle.fsfs_book.specs.Told.{Look, Telling, Knows, Keeps}
 use Rattle.fsfs_shows.specs.declared.wrong.Wrong.{Wrong}
 use Rattle.fsfs_shows.specs.declared.wrong.ReadError.{ReadError}
 use Rattle.fsfs_shows.specs.declared.wrong.ReadError.TheVariants as errors

@@ -1,5 +1,5 @@
 -- Steps of the walk down a path.
-use Rattle.std.proofs.Common.{◌≡◌, ℕ, suc, ◌<◌, ◌≤◌, ◌+◌, List, [], ◌∷◌, length, drop, get_or, map, Option, Some, None, Result, Ok, Err, refl, sym, ap, subst, inl, inr, arith, add-one, drop-cons}
+use Rattle.std.proofs.Common.{◌≡◌, ℕ, suc, ◌<◌, ◌≤◌, ◌+◌, List, [], ◌∷◌, length, drop, get_or, map, Option, Some, None, Result, Ok, Err, refl, sym, ap, subst, inl, inr, add-one, drop-cons}
 use Rattle.std.proofs.lemmas.List.{drop_all}
 use Rattle.fsfs_base.specs.Paths.{Name, Path}
 use Rattle.fsfs_base.specs.declared.node.Kind.{Kind}
@@ -9,8 +9,8 @@ use Rattle.fsfs_noderev.specs.declared.node_rev.NodeRev.{NodeRev}
 use Rattle.fsfs_shows.specs.declared.wrong.Wrong.{Wrong}
 use Rattle.fsfs_shows.specs.declared.wrong.ReadError.{ReadError}
 use Rattle.fsfs_shows.specs.declared.wrong.ReadError.TheVariants as errors
-use Rattle.fsfs_shows.specs.Readings.{AndThen, Answers}
-use Rattle.fsfs_shows.specs.Reading.{RootOf, ChildOf, Met, Stands, Lacking, Blocked, OrLacking, InDirectory, MetFrom, MetAt}
+use Rattle.fsfs_shows.specs.Readings.{Answers}
+use Rattle.fsfs_shows.specs.Reading.{RootOf, ChildOf, Met, Stands, Lacking, Blocked, InDirectory, MetFrom, MetAt}
 
 pub names_step : {S : Type 0} (text : S → Name) (items : List S) (i : ℕ) (item : S) → i < length items → item ≡ get_or items i item → map text (drop i items) ≡ text item ∷ map text (drop (i + 1) items)
 names_step text items i item lt e =

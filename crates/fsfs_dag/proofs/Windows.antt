@@ -1,12 +1,11 @@
 -- What a book's answers say of a revision's length, its end and its node-revisions.
-use Rattle.std.proofs.Common.{◌≡◌, ℕ, ◌+◌, ◌-◌, ◌<◌, ◌≤◌, List, [], length, take, drop, true, false, Option, Some, None, Result, Ok, Err, refl, sym, ap, subst, ◌∙◌, arith, inl, inr, zero-add, ltb}
+use Rattle.std.proofs.Common.{◌≡◌, ℕ, ◌-◌, List, [], length, take, drop, true, false, Result, Ok, Err, refl, sym, ap, subst, ◌∙◌, arith, inl, inr, zero-add}
 use Rattle.std.specs.Prelude.{Bool, ◌==◌, ◌&&◌}
 use Rattle.std.proofs.lemmas.Bool.Decides.{nat_tests}
 use Rattle.std.proofs.lemmas.List.{take-take, take_all, length-drop}
 use Rattle.fsfs_book.specs.declared.book.Refusal.{Refusal}
-use Rattle.fsfs_book.specs.declared.book.BookFault.{BookFault}
 use Rattle.fsfs_book.specs.declared.book.BookFault.TheVariants as books
-use Rattle.fsfs_book.specs.Told.{Look, Gives, size_read, part_read}
+use Rattle.fsfs_book.specs.Told.{Look, size_read, part_read}
 use Rattle.fsfs_noderev.specs.NodeRevs.{IsRead}
 use Rattle.fsfs_noderev.specs.declared.node_rev.NodeRev.{NodeRev}
 use Rattle.fsfs_rep.proofs.WindowLemmas.{part_found, part_short, part_there, part_lacks, part_not_short, part_refused}
@@ -27,8 +26,8 @@ use Rattle.fsfs_shows.specs.declared.wrong.Wrong.TheVariants as wrongs
 use Rattle.fsfs_shows.specs.declared.wrong.ReadError.{ReadError}
 use Rattle.fsfs_shows.specs.declared.wrong.ReadError.TheVariants as errors
 use Rattle.fsfs_shows.specs.Readings.{AndThen, Answers, IsDamage}
-use Rattle.fsfs_shows.specs.Reading.{BytesOf, NodeIn, NodeAt, RootIn, RootOf, offset_of}
-use Rattle.fsfs_dag.specs.Told.{LengthOf, WindowAt, EndIn, EndOf}
+use Rattle.fsfs_shows.specs.Reading.{BytesOf, NodeAt, RootIn, RootOf, offset_of}
+use Rattle.fsfs_dag.specs.Told.{LengthOf, WindowAt, EndOf}
 
 -- both tests of a conjunction hold
 pub both_hold : (a b : Bool) → (a && b) ≡ true → (a ≡ true) × (b ≡ true)

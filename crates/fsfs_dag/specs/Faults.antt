@@ -8,7 +8,6 @@ use Rattle.fsfs_rep.specs.declared.rep_fault.RepError.TheVariants as rep_errors
 use Rattle.fsfs_revision.specs.declared.damage.RevOffset.{RevOffset}
 use Rattle.fsfs_shows.specs.declared.wrong.RepWhat.{RepWhat}
 use Rattle.fsfs_shows.specs.declared.wrong.RepWhat.TheVariants as whats
-use Rattle.fsfs_shows.specs.declared.wrong.Wrong.{Wrong}
 use Rattle.fsfs_shows.specs.declared.wrong.Wrong.TheVariants as wrongs
 use Rattle.fsfs_shows.specs.declared.wrong.ReadError.{ReadError}
 use Rattle.fsfs_shows.specs.declared.wrong.ReadError.TheVariants as errors

@@ -1,5 +1,5 @@
 -- Whether two ids are the same, by their numbers.
-use Rattle.std.specs.Prelude.{ℕ, Bool, false, ◌==◌, ◌&&◌}
+use Rattle.std.specs.Prelude.{Bool, false, ◌==◌, ◌&&◌}
 use Rattle.fsfs_noderev.specs.declared.node_id.Part.{Part}
 use Rattle.fsfs_noderev.specs.declared.node_id.Part.TheVariants.{New, Old, Made}
 use Rattle.fsfs_noderev.specs.declared.node_id.Place.{Place}

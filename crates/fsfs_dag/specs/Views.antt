@@ -1,5 +1,5 @@
 -- What the types of this crate are, apart from where they lie in memory.
-use Rattle.std.specs.Prelude.{◌≡◌, ℕ, List, [], ◌∷◌, map, true, Result, Ok, Err}
+use Rattle.std.specs.Prelude.{◌≡◌, ℕ, List, map, true, Result, Ok, Err}
 use Rattle.std.specs.List.{AllByRecursion}
 use Rattle.std.specs.String.{string_bytes}
 use Rattle.fsfs_noderev.specs.declared.node_rev.NodeRev.{NodeRev}
@@ -9,7 +9,6 @@ use Rattle.fsfs_revision.specs.Nodes.{place_before}
 use Rattle.fsfs_shows.specs.declared.wrong.Wrong.{Wrong}
 use Rattle.fsfs_shows.specs.Reading.{Entry as EntryValue, IsEntry, PairRow, offset_of, Met as MetValue, Stands, Lacking, Blocked}
 use Rattle.fsfs_dag.specs.declared.directory.Entry.{Entry}
-use Rattle.fsfs_dag.specs.declared.node.PlacedNode.{PlacedNode}
 use Rattle.fsfs_dag.specs.declared.walk.Met.{Met}
 use Rattle.fsfs_dag.specs.declared.walk.Met.TheVariants as mets
 

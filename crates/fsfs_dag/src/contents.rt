@@ -1,10 +1,14 @@
 //! A node's properties and a file's text.
-ghost use Rattle.std.specs.Prelude.{◌≡◌, IsSome, IfErr};
+ghost use Rattle.std.specs.Prelude.{◌≡◌, ℕ, Some, Ok, IsSome, IfErr};
 ghost use Rattle.fsfs_base.specs.declared.node.Kind.TheVariants.{File};
 ghost use Rattle.fsfs_book.specs.Told.{Look, Knows, Keeps};
 ghost use Rattle.fsfs_rep.specs.Frames.{rev_of};
 ghost use Rattle.fsfs_shows.specs.Readings.{Answers};
-ghost use Rattle.fsfs_shows.specs.Reading.{RepAt, PairsIn, PairsAt, PropsOf, TextOf};
+ghost use Rattle.fsfs_shows.specs.Reading.{RepAt, PairsIn, PairsAt, PropsOf, TextOf, StandsAt};
+ghost use Rattle.fsfs_base.specs.Nodes.{TreeFunction, Node};
+ghost use Rattle.fsfs_base.specs.Paths.{Path};
+ghost use Rattle.fsfs_shows.specs.Shown.{Shows};
+ghost use Rattle.fsfs_shows.specs.ByTree.{IsTextByTree};
 ghost use Rattle.fsfs_dag.specs.Causes.{HasCause, IsQuiet};
 ghost use Rattle.fsfs_dag.specs.Told.{IsTold};
 ghost use Rattle.fsfs_dag.specs.Views.{home_of};
@@ -55,8 +59,7 @@ pub(crate) fn pairs_in<B: Book>(alloc: Global, book: &mut B, rep: &Rep) -> Resul
     hash_in(alloc, rep, &bytes)
 }
 
-/// The properties of a node.
-pub fn props<B: Book>(alloc: Global, book: &mut B, node: &PlacedNode) -> Result<Pairs, ReadError>
+fn read_props<B: Book>(alloc: Global, book: &mut B, node: &PlacedNode) -> Result<Pairs, ReadError>
     ensures told { (look : Look) → Knows (B.told book.old).revs (home_of node.now.node).rev look → Answers (λ pairs. pairs) (PropsOf look node.now.node) result }
     ensures kept { Keeps (B.told book.old) (B.told book.new) }
     ensures cause { HasCause (B.faults book.old) (B.faults book.new) result }
@@ -67,8 +70,18 @@ pub fn props<B: Book>(alloc: Global, book: &mut B, node: &PlacedNode) -> Result<
     }
 }
 
-/// The text of a file, all of it checked. The whole text is in memory then.
-pub fn text_of<B: Book>(alloc: Global, book: &mut B, file: &PlacedNode) -> Result<Vec<u8>, ReadError>
+/// The properties of a node.
+pub fn props<B: Book>(alloc: Global, book: &mut B, node: &PlacedNode) -> Result<Pairs, ReadError>
+    ensures told { (look : Look) → Knows (B.told book.old).revs (home_of node.now.node).rev look → Answers (λ pairs. pairs) (PropsOf look node.now.node) result }
+    // Where the bytes show a tree and the node stands at a path, they are those of the tree's node, and never damage.
+    ensures shown { (look : Look) (rev : ℕ) (tree : TreeFunction) (p : Path) (n : Node) → Knows (B.told book.old).revs (home_of node.now.node).rev look → Shows look rev tree → StandsAt look rev p node.now.node → tree p ≡ Some n → Answers (λ pairs. pairs) (λ read. read ≡ Ok n.properties) result }
+    ensures kept { Keeps (B.told book.old) (B.told book.new) }
+    ensures cause { HasCause (B.faults book.old) (B.faults book.new) result }
+{
+    read_props(alloc, book, node)
+}
+
+fn read_text<B: Book>(alloc: Global, book: &mut B, file: &PlacedNode) -> Result<Vec<u8>, ReadError>
     requires { file.now.node.kind ≡ File }
     ensures told { (look : Look) → Knows (B.told book.old).revs (home_of file.now.node).rev look → Answers (λ v. v.items) (TextOf look file.now.node) result }
     ensures kept { Keeps (B.told book.old) (B.told book.new) }
@@ -78,4 +91,20 @@ pub fn text_of<B: Book>(alloc: Global, book: &mut B, file: &PlacedNode) -> Resul
         None => Ok(Vec::new(alloc)),
         Some(rep) => rep_read(alloc, book, rep),
     }
+}
+
+/// The text of a file, all of it checked. The whole text is in memory then.
+pub fn text_of<B: Book>(
+    alloc: Global,
+    book: &mut B,
+    file: &PlacedNode,
+) -> Result<Vec<u8>, ReadError>
+    requires { file.now.node.kind ≡ File }
+    ensures told { (look : Look) → Knows (B.told book.old).revs (home_of file.now.node).rev look → Answers (λ v. v.items) (TextOf look file.now.node) result }
+    // Where the bytes show a tree and the file stands at a path, it is that of the tree's node; only a delta is refused.
+    ensures shown { (look : Look) (rev : ℕ) (tree : TreeFunction) (p : Path) (n : Node) → Knows (B.told book.old).revs (home_of file.now.node).rev look → Shows look rev tree → StandsAt look rev p file.now.node → tree p ≡ Some n → Answers (λ v. v.items) (λ read. IsTextByTree read n.text) result }
+    ensures kept { Keeps (B.told book.old) (B.told book.new) }
+    ensures cause { HasCause (B.faults book.old) (B.faults book.new) result }
+{
+    read_text(alloc, book, file)
 }

@@ -193,7 +193,11 @@ fn with_kind(entry: &Entry, child: PlacedNode) -> Result<PlacedNode, ReadError>
 }
 
 /// The node-revision that an entry names. NodeRev, PlaceOrder, OtherId and EntryKind are tried in this order.
-pub fn child_of<B: Book>(alloc: Global, book: &mut B, entry: &Entry) -> Result<PlacedNode, ReadError>
+pub fn child_of<B: Book>(
+    alloc: Global,
+    book: &mut B,
+    entry: &Entry,
+) -> Result<PlacedNode, ReadError>
     ensures told { (look : Look) → Knows (B.told book.old).revs (offset_of entry.now.id.place).rev look → Answers (λ found. found.node) (OfEntry look (entry_value entry.now)) result }
     ensures id { IfOk result (λ found. found.node.id ≡ entry.now.id) }
     ensures kept { Keeps (B.told book.old) (B.told book.new) }

@@ -9,19 +9,24 @@ use std::alloc::{AllocError, Global};
 use std::test::Fail;
 
 // Revision 0: a root alone, at 17.
-const REVISION_0: &[u8] = b"PLAIN\nEND\nENDREP\nid: 0.0.r0/17\ntype: dir\ncount: 0\ntext: 0 0 4 4 2d2977d1c96f487abe4a1e202dd03b4e\ncpath: /\n\n\n17 107\n";
+const REVISION_0: &[u8] =
+    b"PLAIN\nEND\nENDREP\nid: 0.0.r0/17\ntype: dir\ncount: 0\ntext: 0 0 4 4 2d2977d1c96f487abe4a1e202dd03b4e\ncpath: /\n\n\n17 107\n";
 
 // `/a`, a directory, is made: it stands at 0, the root's entries at 59, the root at 102.
-const FIRST_DIRECTORY: &[u8] = b"id: 0-1.0.r1/0\ntype: dir\ncount: 0\ncpath: /a\ncopyroot: 0 /\n\nPLAIN\nK 1\na\nV 14\ndir 0-1.0.r1/0\nEND\nENDREP\nid: 0.0.r1/102\ntype: dir\npred: 0.0.r0/17\ncount: 1\ntext: 1 59 30 30 63880cd9dea1c72f787be697eaf2f7b4\ncpath: /\ncopyroot: 0 /\n\n0-1.0.r1/0 add-dir false false /a\n\n\n102 226\n";
+const FIRST_DIRECTORY: &[u8] =
+    b"id: 0-1.0.r1/0\ntype: dir\ncount: 0\ncpath: /a\ncopyroot: 0 /\n\nPLAIN\nK 1\na\nV 14\ndir 0-1.0.r1/0\nEND\nENDREP\nid: 0.0.r1/102\ntype: dir\npred: 0.0.r0/17\ncount: 1\ntext: 1 59 30 30 63880cd9dea1c72f787be697eaf2f7b4\ncpath: /\ncopyroot: 0 /\n\n0-1.0.r1/0 add-dir false false /a\n\n\n102 226\n";
 
 // The same, but the root's entry names the root itself.
-const LOOP: &[u8] = b"id: 0-1.0.r1/0\ntype: dir\ncount: 0\ncpath: /a\ncopyroot: 0 /\n\nPLAIN\nK 1\na\nV 14\ndir 0.0.r1/102\nEND\nENDREP\nid: 0.0.r1/102\ntype: dir\npred: 0.0.r0/17\ncount: 1\ntext: 1 59 30 30 12cca7bb5de77da556c131bda9dff949\ncpath: /\ncopyroot: 0 /\n\n0-1.0.r1/0 add-dir false false /a\n\n\n102 226\n";
+const LOOP: &[u8] =
+    b"id: 0-1.0.r1/0\ntype: dir\ncount: 0\ncpath: /a\ncopyroot: 0 /\n\nPLAIN\nK 1\na\nV 14\ndir 0.0.r1/102\nEND\nENDREP\nid: 0.0.r1/102\ntype: dir\npred: 0.0.r0/17\ncount: 1\ntext: 1 59 30 30 12cca7bb5de77da556c131bda9dff949\ncpath: /\ncopyroot: 0 /\n\n0-1.0.r1/0 add-dir false false /a\n\n\n102 226\n";
 
 // `/e`, an empty file, is made: its text stands at 0, the file at 13, the root's entries at 169, the root at 214.
-const EMPTY_FILE: &[u8] = b"PLAIN\nENDREP\nid: 0-1.0.r1/13\ntype: file\ncount: 0\ntext: 1 0 0 0 d41d8cd98f00b204e9800998ecf8427e da39a3ee5e6b4b0d3255bfef95601890afd80709 0-0/_1\ncpath: /e\ncopyroot: 0 /\n\nPLAIN\nK 1\ne\nV 16\nfile 0-1.0.r1/13\nEND\nENDREP\nid: 0.0.r1/214\ntype: dir\npred: 0.0.r0/17\ncount: 1\ntext: 1 169 32 32 50cd94674e2eddee340070119638b793\ncpath: /\ncopyroot: 0 /\n\n0-1.0.r1/13 add-file true false /e\n\n\n214 339\n";
+const EMPTY_FILE: &[u8] =
+    b"PLAIN\nENDREP\nid: 0-1.0.r1/13\ntype: file\ncount: 0\ntext: 1 0 0 0 d41d8cd98f00b204e9800998ecf8427e da39a3ee5e6b4b0d3255bfef95601890afd80709 0-0/_1\ncpath: /e\ncopyroot: 0 /\n\nPLAIN\nK 1\ne\nV 16\nfile 0-1.0.r1/13\nEND\nENDREP\nid: 0.0.r1/214\ntype: dir\npred: 0.0.r0/17\ncount: 1\ntext: 1 169 32 32 50cd94674e2eddee340070119638b793\ncpath: /\ncopyroot: 0 /\n\n0-1.0.r1/13 add-file true false /e\n\n\n214 339\n";
 
 // A commit of nothing: the root stands at 0, and has the entries of revision 0.
-const EMPTY_COMMIT: &[u8] = b"id: 0.0.r1/0\ntype: dir\npred: 0.0.r0/17\ncount: 1\ntext: 0 0 4 4 2d2977d1c96f487abe4a1e202dd03b4e\ncpath: /\ncopyroot: 0 /\n\n\n0 119\n";
+const EMPTY_COMMIT: &[u8] =
+    b"id: 0.0.r1/0\ntype: dir\npred: 0.0.r0/17\ncount: 1\ntext: 0 0 4 4 2d2977d1c96f487abe4a1e202dd03b4e\ncpath: /\ncopyroot: 0 /\n\n\n0 119\n";
 
 // A book of revision 0 and these revisions, whose calls of these numbers fail.
 fn book_of(alloc: Global, revisions: &[&[u8]], failing: &[u64]) -> Result<MemBook, AllocError> {
@@ -59,7 +64,7 @@ enum Answer {
     Failed,
 }
 
-fn answer(read: Result<Met, ReadError>) -> Answer {
+fn answer_of(read: Result<Met, ReadError>) -> Answer {
     match read {
         Ok(Met::Node(found)) => Answer::Node(found.node.kind, found.place()),
         Ok(Met::Absent(count)) => Answer::Absent(count),
@@ -91,7 +96,12 @@ fn paths(rt: HostRuntime) -> Result<(), Fail> {
         (FIRST_DIRECTORY, 1, "/a", at(Kind::Dir, 1, 0)),
         (FIRST_DIRECTORY, 0, "/a", Answer::Absent(1)),
         (FIRST_DIRECTORY, 1, "/a/b/c", Answer::Absent(2)),
-        (FIRST_DIRECTORY, 9, "/a", Answer::Wrong(Wrong::Refused(no_rev))),
+        (
+            FIRST_DIRECTORY,
+            9,
+            "/a",
+            Answer::Wrong(Wrong::Refused(no_rev)),
+        ),
         (EMPTY_FILE, 1, "/e", at(Kind::File, 1, 13)),
         (EMPTY_FILE, 1, "/e/x", Answer::File(1)),
         (EMPTY_COMMIT, 1, "/", at(Kind::Dir, 1, 0)),
@@ -101,7 +111,11 @@ fn paths(rt: HostRuntime) -> Result<(), Fail> {
     ];
     for (bytes, rev, path, want) in table {
         let mut book = book_of(alloc, &[bytes], &[])?;
-        assert_eq!(rt; answer(met(alloc, &mut book, rev, path)), want, "{path} of {rev}");
+        assert_eq!(rt;
+            answer_of(met(alloc, &mut book, rev, path)),
+            want,
+            "{path} of {rev}"
+        );
     }
     Ok(())
 }
@@ -144,9 +158,12 @@ fn costs(rt: HostRuntime) -> Result<(), Fail> {
     let many = [FIRST_DIRECTORY, EMPTY_COMMIT, EMPTY_COMMIT, EMPTY_COMMIT];
     for revisions in [few.as_slice(), many.as_slice()] {
         let mut book = book_of(alloc, revisions, &[8])?;
-        assert_eq!(rt; answer(met(alloc, &mut book, 1, "/a")), at(Kind::Dir, 1, 0));
+        assert_eq!(rt;
+            answer_of(met(alloc, &mut book, 1, "/a")),
+            at(Kind::Dir, 1, 0)
+        );
         let mut book = book_of(alloc, revisions, &[7])?;
-        assert_eq!(rt; answer(met(alloc, &mut book, 1, "/a")), Answer::Failed);
+        assert_eq!(rt; answer_of(met(alloc, &mut book, 1, "/a")), Answer::Failed);
     }
     Ok(())
 }

@@ -1,4 +1,4 @@
-use Rattle.std.proofs.Common.{◌≡◌, ℕ, List, Err, true, false, refl, sym, ap, subst, ◌∙◌}
+use Rattle.std.proofs.Common.{◌≡◌, Err, true, false, refl, sym, ap, subst, ◌∙◌}
 use Rattle.fsfs_revision.specs.declared.damage.RevOffset.{RevOffset}
 use Rattle.fsfs_shows.specs.declared.wrong.ReadError.{ReadError}
 use Rattle.fsfs_shows.specs.declared.wrong.RepWhat.TheVariants.{EntryValue}
@@ -15,13 +15,13 @@ returns-in_default-value_of-clause-told c =
 
 pub returns-then-not-stands_before-clause-told : goal.returns-then-not-stands_before-clause-told
 returns-then-not-stands_before-clause-told c = (
-    refl,
-    refl,
-    record {
-      kind = c.in-Some-value_of.target.0;
-      id = c.in-Some-value_of.target.1;
-      name_is = c.in-Some.ensures.found.1;
-      value_is = c.in-Some-value_of.ensures.found;
-      not_before = sym c.if-not-stands_before.ensures;
-    },
+  refl,
+  refl,
+  record {
+    kind = c.in-Some-value_of.target.0;
+    id = c.in-Some-value_of.target.1;
+    name_is = c.in-Some.ensures.found.1;
+    value_is = c.in-Some-value_of.ensures.found;
+    not_before = sym c.if-not-stands_before.ensures;
+  },
 )

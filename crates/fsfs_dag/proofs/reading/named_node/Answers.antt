@@ -1,10 +1,10 @@
-use Rattle.std.proofs.Common.{◌≡◌, ◌≤◌, Err, Ok, refl, sym, arith}
+use Rattle.std.proofs.Common.{Err, Ok, arith}
 use Rattle.std.proofs.lemmas.Result.{err_from_is_err_and}
 use Rattle.fsfs_book.specs.Told.{Look}
 use Rattle.fsfs_noderev.specs.declared.node_rev.NodeRev.{NodeRev}
 use Rattle.fsfs_revision.specs.declared.damage.RevOffset.{RevOffset}
 use Rattle.fsfs_shows.specs.Readings.{Answers}
-use Rattle.fsfs_shows.specs.Reading.{NodeAt, HasId, OfId, offset_of}
+use Rattle.fsfs_shows.specs.Reading.{NodeAt, HasId, offset_of}
 use Rattle.fsfs_dag.specs.Told.{IsTold}
 use Rattle.fsfs_dag.specs.declared.node.PlacedNode.{PlacedNode}
 use Rattle.fsfs_dag.proofs.Steps.{stops, goes_on, err_as}

@@ -1,4 +1,4 @@
-use Rattle.std.proofs.Common.{◌≡◌, refl, sym, ◌∙◌, Err, subst, ap}
+use Rattle.std.proofs.Common.{refl, sym, ◌∙◌, Err, subst, ap}
 use Rattle.fsfs_noderev.specs.declared.node_rev.NodeRev.{NodeRev}
 use Rattle.fsfs_revision.specs.declared.damage.RevOffset.{RevOffset}
 use Rattle.fsfs_revision.specs.declared.damage.What.TheVariants.{OtherId}
