@@ -3,3 +3,4 @@ pub mod Told
 pub mod Faults
 pub mod Same
 pub mod Views
+pub mod Writing

@@ -176,14 +176,10 @@ pub fn entries<B: Book>(
 pub fn entry_named<'a>(entries: &'a [Entry], name: &str) -> Option<&'a Entry>
     ensures { option_map (λ entry. entry_value entry.now) result ≡ named name.now (entry_values entries.now) }
 {
-    match entries {
-        [] => None,
-        [entry, rest @ ..] => {
-            if entry.name.as_str() == name {
-                Some(entry)
-            } else {
-                entry_named(rest, name)
-            }
+    for entry in entries {
+        if entry.name.as_str() == name {
+            return Some(entry);
         }
     }
+    None
 }

@@ -13,9 +13,11 @@ mod reading;
 #[cfg(test)]
 mod tests;
 mod walk;
+mod writing;
 
 pub use contents::{props, text_of};
 pub use directory::{Entry, entries, entry_named};
 pub use node::PlacedNode;
 pub use reading::{child_of, named_node, root_of};
 pub use walk::{Met, child_named, node_at};
+pub use writing::{TextError, text_to};

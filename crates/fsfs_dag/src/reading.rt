@@ -1,10 +1,13 @@
 //! The node-revision at a place of a revision, and a revision's root.
-ghost use Rattle.std.specs.Prelude.{◌≡◌, ◌≤◌, ◌<◌, ◌^◌, ◌+◌, ℕ, true, length, take, IfOk};
+ghost use Rattle.std.specs.Prelude.{◌≡◌, ◌≤◌, ◌<◌, ◌^◌, ◌+◌, ℕ, [], true, length, take, IfOk};
+ghost use Rattle.fsfs_base.specs.Nodes.{TreeFunction};
 ghost use Rattle.fsfs_book.specs.Told.{Look, Knows, Keeps};
 ghost use Rattle.fsfs_revision.specs.Nodes.{is_ordered};
 ghost use Rattle.fsfs_revision.specs.declared.damage.RevisionError.TheVariants.{Damaged};
 ghost use Rattle.fsfs_shows.specs.Readings.{Answers, of_revision};
-ghost use Rattle.fsfs_shows.specs.Reading.{NodeAt, RootOf, OfEntry, OfId, HasId, HasKind, offset_of};
+ghost use Rattle.fsfs_shows.specs.Reading.{NodeAt, RootOf, OfEntry, OfId, HasId, HasKind, Stands, offset_of};
+ghost use Rattle.fsfs_shows.specs.Shown.{Shows};
+ghost use Rattle.fsfs_shows.specs.ByTree.{IsMetByTree};
 ghost use Rattle.fsfs_dag.specs.Causes.{HasCause, IsQuiet};
 ghost use Rattle.fsfs_dag.specs.Told.{IsTold, LengthOf, WindowAt, EndOf};
 ghost use Rattle.fsfs_dag.specs.Same.{same_part, same_place, same_id};
@@ -98,9 +101,7 @@ fn node_read<B: Book>(alloc: Global, book: &mut B, at: RevOffset) -> Result<Node
     }
 }
 
-/// The root of a revision: the node-revision that its trailer names. Trailer, NodeRev, PlaceOrder, OtherId and EntryKind
-/// are tried in this order.
-pub fn root_of<B: Book>(alloc: Global, book: &mut B, rev: u32) -> Result<PlacedNode, ReadError>
+fn read_root<B: Book>(alloc: Global, book: &mut B, rev: u32) -> Result<PlacedNode, ReadError>
     ensures told { (look : Look) → Knows (B.told book.old).revs rev look → Answers (λ found. found.node) (RootOf look rev) result }
     ensures rev { IfOk result (λ found. (offset_of found.node.id.place).rev ≡ rev) }
     ensures kept { Keeps (B.told book.old) (B.told book.new) }
@@ -112,6 +113,19 @@ pub fn root_of<B: Book>(alloc: Global, book: &mut B, rev: u32) -> Result<PlacedN
         Ok(()) => Ok(PlacedNode { node }),
         Err(damage) => Err(ReadError::Wrong(Wrong::Damaged(damage))),
     }
+}
+
+/// The root of a revision: the node-revision that its trailer names. Trailer, NodeRev, PlaceOrder, OtherId and EntryKind
+/// are tried in this order.
+pub fn root_of<B: Book>(alloc: Global, book: &mut B, rev: u32) -> Result<PlacedNode, ReadError>
+    ensures told { (look : Look) → Knows (B.told book.old).revs rev look → Answers (λ found. found.node) (RootOf look rev) result }
+    // Where the bytes show a tree, it is what stands at `/` there, and never damage.
+    ensures shown { (look : Look) (tree : TreeFunction) → Knows (B.told book.old).revs rev look → Shows look rev tree → Answers (λ found. Stands found.node) (IsMetByTree look rev tree []) result }
+    ensures rev { IfOk result (λ found. (offset_of found.node.id.place).rev ≡ rev) }
+    ensures kept { Keeps (B.told book.old) (B.told book.new) }
+    ensures cause { HasCause (B.faults book.old) (B.faults book.new) result }
+{
+    read_root(alloc, book, rev)
 }
 
 fn same_part(a: Part, b: Part) -> bool

@@ -1,8 +1,9 @@
 //! Readings of small revisions whose bytes are given by hand, whole and damaged.
 
-use crate::{Met, entries, entry_named, node_at, props, root_of, text_of};
+use crate::{Met, TextError, entries, entry_named, node_at, props, root_of, text_of, text_to};
 use fsfs_base::{FsPath, Kind};
 use fsfs_book::{Kept, MemBook, MemRev, Refusal};
+use fsfs_memdisk::MemSink;
 use fsfs_revision::{Damage, RevOffset, What};
 use fsfs_shows::{ReadError, Wrong};
 use std::alloc::{AllocError, Global};
@@ -27,6 +28,11 @@ const EMPTY_FILE: &[u8] =
 // A commit of nothing: the root stands at 0, and has the entries of revision 0.
 const EMPTY_COMMIT: &[u8] =
     b"id: 0.0.r1/0\ntype: dir\npred: 0.0.r0/17\ncount: 1\ntext: 0 0 4 4 2d2977d1c96f487abe4a1e202dd03b4e\ncpath: /\ncopyroot: 0 /\n\n\n0 119\n";
+
+// `/t`, a file, is made: its text stands at 0, the file at 18, the root's entries at 174, the root at 219. The texts and
+// digests are those of a revision that Subversion's own tools have verified.
+const SHORT_TEXT: &[u8] =
+    b"PLAIN\nline ENDREP\nid: 0-1.0.r1/18\ntype: file\ncount: 0\ntext: 1 0 5 5 f4c3d0d5c072ee9bda6d38a2a964f829 f92571f120306a6044bf2c426f504824232b7cd5 0-1/_1\ncpath: /t\ncopyroot: 0 /\n\nPLAIN\nK 1\nt\nV 16\nfile 0-1.0.r1/18\nEND\nENDREP\nid: 0.0.r1/219\ntype: dir\npred: 0.0.r0/17\ncount: 1\ntext: 1 174 32 32 36f37b1b9857a27121c5cad270ef0dd9\ncpath: /\ncopyroot: 0 /\n\n0-1.0.r1/18 add-file true false /t\n\n\n219 344\n";
 
 // A book of revision 0 and these revisions, whose calls of these numbers fail.
 fn book_of(alloc: Global, revisions: &[&[u8]], failing: &[u64]) -> Result<MemBook, AllocError> {
@@ -165,5 +171,24 @@ fn costs(rt: HostRuntime) -> Result<(), Fail> {
         let mut book = book_of(alloc, revisions, &[7])?;
         assert_eq!(rt; answer_of(met(alloc, &mut book, 1, "/a")), Answer::Failed);
     }
+    Ok(())
+}
+
+// The text of a file in a sink, whole, or nothing where the sink fails.
+#[test]
+fn written(rt: HostRuntime) -> Result<(), Fail> {
+    let alloc = rt.alloc();
+    let mut book = book_of(alloc, &[SHORT_TEXT], &[])?;
+    let Met::Node(file) = met(alloc, &mut book, 1, "/t")? else {
+        return Err(Fail::from("no node"));
+    };
+    assert!(rt; file.node.kind == Kind::File);
+    let mut sink = MemSink::new(alloc);
+    text_to(alloc, &mut book, &file, &mut sink)?;
+    assert_eq!(rt; sink.bytes(), b"line ".as_slice());
+    let mut failing = MemSink::with_faults(alloc, Vec::from_slice(alloc, &[1])?);
+    let answer = text_to(alloc, &mut book, &file, &mut failing);
+    assert_eq!(rt; answer, Err(TextError::WriteFault));
+    assert!(rt; failing.bytes().is_empty());
     Ok(())
 }

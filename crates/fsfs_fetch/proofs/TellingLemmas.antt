@@ -161,11 +161,16 @@ youngest_told : (v w : View) (f g : ℕ) (k l : Option KeptManifest) (y : ℕ) �
 unfolding telling
 youngest_told v w f g k l y e is = last_later v.reach w.reach y e.reach is
 
+below_told : (v w : View) (f g : ℕ) (k l : Option KeptManifest) → Later v w → (telling w g l).below ≡ (telling v f k).below
+unfolding telling
+below_told v w f g k l e = e.below
+
 pub keeps : (v w : View) (f g : ℕ) (k l : Option KeptManifest) → Later v w → FindsAsWell v f k w g l → Keeps (telling v f k) (telling w g l)
 keeps v w f g k l e finds = record {
   revs = λ rev read told. elim (told_revs v f k rev read told) [ inl p ↦ tells_past w g l rev read (past_later v w rev read e p) | inr p ↦ found_told v w f g k l rev read e finds p ];
   props = λ rev read told. elim (told_props v f k rev read told) [ inl p ↦ tells_past_props w g l rev read (past_later v w rev read e p) | inr p ↦ props_told v w g l rev read e p ];
   youngest = λ y is. youngest_told v w f g k l y e is;
+  below = below_told v w f g k l e;
 }
 
 -- ---- what a call meets: a revision above the youngest, or one that there is
@@ -276,6 +281,10 @@ short_bytes n m rev short = short_by_floor n m rev (floor_in n m) short
 youngest_last : (v : View) (floor : ℕ) (kept : Option KeptManifest) → (telling v floor kept).youngest ≡ last_of v.reach
 unfolding telling
 youngest_last v floor kept = refl
+
+pub below_same : (v : View) (floor : ℕ) (kept : Option KeptManifest) → (telling v floor kept).below ≡ v.below
+unfolding telling
+below_same v floor kept = refl
 
 pub tells_files : (v : View) (floor : ℕ) (m : Files) → v.files ≡ Some m → floor_in v.shard_size m ≡ Ok floor → HasShortFiles m → TellsFiles v m (telling v floor None)
 tells_files v floor m told is short = record {

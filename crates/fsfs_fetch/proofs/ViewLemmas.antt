@@ -61,7 +61,7 @@ files_more n r s (Some a) (Some b) None e f g = absurd g
 files_more n r s (Some a) (Some b) (Some c) e f g = follows_more n r s a b c e f g
 
 pub later_same : (v : View) → Later v v
-later_same v = record { size = refl; reach = extends_same v.reach; files = files_same v.shard_size v.reach v.files }
+later_same v = record { size = refl; reach = extends_same v.reach; files = files_same v.shard_size v.reach v.files; below = refl }
 
 pub later_more : (u v w : View) → Later u v → Later v w → Later u w
 later_more u v w e f =
@@ -70,6 +70,7 @@ later_more u v w e f =
       size = f.size ∙ e.size;
       reach = extends_more u.reach v.reach w.reach e.reach f.reach;
       files = files_more u.shard_size u.reach v.reach u.files v.files w.files e.reach e.files (subst P e.size f.files);
+      below = f.below ∙ e.below;
     }
 
 -- the files that are met later, where they are told now

@@ -64,6 +64,7 @@ telling view floor kept = record {
   revs = λ rev. within view.reach rev (revs_in view.shard_size floor kept view.files rev);
   props = λ rev. within view.reach rev (props_in view.shard_size view.files rev);
   youngest = last_of view.reach;
+  below = view.below;
 }
 
 -- no file of these has 2^64 bytes

@@ -2,6 +2,7 @@
 use Rattle.std.specs.Prelude.{◌≡◌, ◌⊎◌, ◌≤◌, ℕ, ◌/◌, Bool, true, false, nat_lt, Option, Some, None, Result, Ok, Err}
 use Rattle.fsfs_base.specs.Files.{Files}
 use Rattle.fsfs_base.specs.declared.small_fault.SmallFault.{SmallFault}
+use Rattle.fsfs_book.specs.Told.{Below}
 use Rattle.fsfs_fetch.specs.RevBytes.{rev_bytes, rev_file, props_file, floor_in, manifest_file, pack_in}
 
 -- which revisions there are: those up to the youngest, which stays the youngest, or at least those up to a number
@@ -23,11 +24,13 @@ Extends (Ends youngest) new = new ≡ Ends youngest
 Extends (Grows least) (Ends youngest) = least ≤ youngest
 Extends (Grows least) (Grows n) = least ≤ n
 
--- what a store tells: the size of its shards, its revisions, and its files as the last call met them, where it tells these
+-- what a store tells: the size of its shards, its revisions, its files as the last call met them, and the disk below it,
+-- where it tells these
 pub record View : Type 0 where
   pub shard_size : ℕ
   pub reach : Reach
   pub files : Option Files
+  pub below : Option Below
 
 abbrev pub is_below : ℕ → Result ℕ SmallFault → Bool
 is_below rev (Err fault) = false
@@ -52,8 +55,9 @@ FilesLater shard_size reach None new = Unit {0}
 FilesLater shard_size reach (Some old) None = ⊥
 FilesLater shard_size reach (Some old) (Some new) = Follows shard_size reach old new
 
--- what a store may tell later
+-- what a store may tell later; reading leaves the disk below as it is
 pub record Later (old new : View) : Type 0 where
   pub size : new.shard_size ≡ old.shard_size
   pub reach : Extends old.reach new.reach
   pub files : FilesLater old.shard_size old.reach old.files new.files
+  pub below : new.below ≡ old.below

@@ -12,7 +12,7 @@ mod owned;
 mod packs;
 mod reads;
 
-pub use direct::{Direct, over_disk};
+pub use direct::{Direct, disk_of, over_disk};
 pub use owned::OwnedReads;
 pub use reads::Reads;
 

@@ -1,6 +1,6 @@
 //! Reads over a disk in memory: revisions in files of their own, and the first shard packed.
 
-use crate::{Direct, OwnedReads, over_disk};
+use crate::{Direct, OwnedReads, disk_of, over_disk};
 use fsfs_base::{SmallFault, SmallFile};
 use fsfs_book::{Book, BookFault, Refusal};
 use fsfs_disk::{Disk, Name};
@@ -157,7 +157,7 @@ fn refuses_what_is_damaged(rt: HostRuntime) -> Result<(), Fail> {
     let mut book = Direct::new(rt.alloc(), OwnedReads::new(disk, 4, 2), 2);
     assert!(rt; part(&mut book, 1, 0).0 == Err(BookFault::Refused(Refusal::Missing { rev: 1 })));
     assert!(rt; part(&mut book, 4, 0).0 == Err(small(SmallFile::MinUnpackedRev, 0)));
-    let mut disk = book.into_reads().into_disk();
+    let mut disk = disk_of(book);
     disk.remove(&Name::new("db/revs/0.pack/manifest"))?;
     let mut book = Direct::new(rt.alloc(), OwnedReads::new(disk, 4, 2), 2);
     assert!(rt; part(&mut book, 1, 0).0 == Err(small(SmallFile::Manifest(0), 0)));

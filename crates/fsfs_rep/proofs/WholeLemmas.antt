@@ -12,6 +12,7 @@ keeps_trans a b c first second = record {
   revs = λ r read e. second.revs r read (first.revs r read e);
   props = λ r read e. second.props r read (first.props r read e);
   youngest = λ y e. second.youngest y (first.youngest y e);
+  below = second.below ∙ first.below;
 }
 
 -- what is told of a representation's revision, later

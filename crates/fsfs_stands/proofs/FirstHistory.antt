@@ -14,12 +14,13 @@ use Rattle.fsfs_base.specs.declared.change_map.Change.{Change}
 use Rattle.fsfs_book.specs.Told.{Look}
 use Rattle.fsfs_hash.specs.Dump.{Field, Entry, IsDump}
 use Rattle.fsfs_noderev.proofs.RepTexts.{number_spells}
+use Rattle.fsfs_model.specs.CreatedFiles.{date_properties}
 use Rattle.fsfs_shows.specs.Shown.{IsShownAs, Shows}
 use Rattle.fsfs_shows.specs.FirstRevision.{first_bytes, first_tree}
 use Rattle.fsfs_shows.proofs.FirstRevision.{first_shown, first_rules, trailer, trailer_ends}
 use Rattle.fsfs_stands.specs.Changes.{HasItems, AreChangesOf}
 use Rattle.fsfs_stands.specs.History.{ShowsRevision}
-use Rattle.fsfs_stands.specs.FirstHistory.{date_file, first_revision, FirstHistoryIsShown}
+use Rattle.fsfs_stands.specs.FirstHistory.{first_revision, FirstHistoryIsShown}
 
 -- ---- the tree
 
@@ -93,14 +94,14 @@ entry_is date size = record {
   parts = refl;
 }
 
-dump_is : (date : List ℕ) → length date ≡ 27 → IsDump (date_file date) ((date_name, date) ∷ [])
+dump_is : (date : List ℕ) → length date ≡ 27 → IsDump (date_properties date) ((date_name, date) ∷ [])
 dump_is date size = record {
   inner = (date_name, date) ∷ [];
   inner_is = (codes "K 8\nsvn:date\n" ++ (codes "V 27\n" ++ (date ++ 10 ∷ [])), codes "END\n", entry_is date size, (tt, refl), parts);
   value_is = refl;
 }
   where
-    parts : date_file date ≡ (codes "K 8\nsvn:date\n" ++ (codes "V 27\n" ++ (date ++ 10 ∷ []))) ++ codes "END\n"
+    parts : date_properties date ≡ (codes "K 8\nsvn:date\n" ++ (codes "V 27\n" ++ (date ++ 10 ∷ []))) ++ codes "END\n"
     parts = ap (λ (t : List ℕ). codes "K 8\nsvn:date\nV 27\n" ++ t) (sym (append_assoc date (10 ∷ []) (codes "END\n")))
 
 some_same : {A : Type 0} (x y : A) → (let o : Option A = Some x in o) ≡ Some y → x ≡ y
@@ -115,7 +116,7 @@ first_history look props date dt dated is file = record { each = each; ids = fir
       bytes_are = is;
       tree = tree_shown look is date;
       changes = no_changes look;
-      file = date_file date;
+      file = date_properties date;
       file_is = file;
       properties = dump_is date (date_length date dt dated);
       dated = λ value e. (dt, subst (λ (t : List ℕ). IsDateText t dt) (some_same date value e) dated);

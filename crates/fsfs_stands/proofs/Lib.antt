@@ -1,2 +1,3 @@
 pub mod OneHistory
 pub mod FirstHistory
+pub mod NewRepository

@@ -26,6 +26,7 @@ use Rattle.fsfs_shows.proofs.OneRep.{dump_one}
 use Rattle.fsfs_shows.proofs.OneStep.{ok_same}
 use Rattle.fsfs_shows.proofs.OneWalk.{of_id_one, stands_same}
 use Rattle.fsfs_shows.proofs.OneTree.{one_tree}
+use Rattle.fsfs_fetch.specs.RevBytes.{rev_bytes, props_bytes}
 use Rattle.fsfs_stands.specs.Changes.{HasItems, IsKindOf, Said, Named, There, NotThere, IsChangeOf, AreChangesOf}
 use Rattle.fsfs_stands.specs.History.{ShowsRevision, ShowsHistory}
 use Rattle.fsfs_stands.specs.Files.{Says}
@@ -151,10 +152,10 @@ shard_one files name m n v w =
     cc
 
 pub one_stood_for : OneHistoryIsStoodFor
-one_stood_for revs props files g h v w =
+one_stood_for files g h v w =
     let youngest = rev_one files _ v.youngest w.youngest v.small.current w.small.current in
     let shard = shard_one files _ w.shard_size v.shard_size w.small.format v.small.format in
-    let moved = subst (λ (n : ℕ). ShowsHistory (revs n files) (props n files) h) shard w.history in (
+    let moved = subst (λ (n : ℕ). ShowsHistory (rev_bytes n files) (props_bytes n files) h) shard w.history in (
       v.count ∙ ap suc youngest ∙ sym w.count,
-      one_history (revs v.shard_size files) (props v.shard_size files) g h v.history moved,
+      one_history (rev_bytes v.shard_size files) (props_bytes v.shard_size files) g h v.history moved,
     )

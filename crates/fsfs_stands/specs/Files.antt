@@ -1,15 +1,15 @@
 -- Which history the files of a repository stand for.
 --
--- The files are those of the libsvn_fs_fs structure file, "Layout of the FS directory", for the sharded layout of format 4. Where the
--- bytes of a revision stand, in a file of their own or in a pack, is handed in.
+-- The files are those of the libsvn_fs_fs structure file, "Layout of the FS directory", for the sharded layout of format 4. The bytes
+-- of a revision stand in a file of their own, or below the floor in the pack of their shard.
 use Rattle.std.specs.Prelude.{◌≡◌, ◌≤◌, ◌+◌, ℕ, suc, List, length, Some, codes}
 use Rattle.std.specs.FinMap.{get}
 use Rattle.fsfs_base.specs.Files.{Files}
 use Rattle.fsfs_base.specs.Revisions.{Revision}
-use Rattle.fsfs_book.specs.Told.{Look}
 use Rattle.fsfs_layout.specs.Formats.{IsFormat}
 use Rattle.fsfs_layout.specs.Small.{IsUuid, IsRevLine, IsMinUnpackedRev, IsBase36Line}
 use Rattle.fsfs_layout.specs.declared.format_file.Format.TheVariants.{Sharded}
+use Rattle.fsfs_fetch.specs.RevBytes.{rev_bytes, props_bytes}
 use Rattle.fsfs_stands.specs.History.{ShowsHistory}
 
 -- a file has a text of this grammar, which says this value
@@ -27,12 +27,12 @@ pub record HasSmallFiles (files : Files) (shard_size youngest floor : ℕ) : Typ
   -- what is packed is there
   pub within : floor ≤ youngest + 1
 
--- the files stand for the history, where these are the bytes of revisions and of property files, by the size of a shard
-pub record StandsFor (revs props : ℕ → Files → Look) (files : Files) (h : List Revision) : Type 0 where
+-- the files stand for the history: the bytes of revisions, packed or not, and the property files show it
+pub record StandsFor (files : Files) (h : List Revision) : Type 0 where
   pub shard_size : ℕ
   pub youngest : ℕ
   pub floor : ℕ
   pub small : HasSmallFiles files shard_size youngest floor
   -- `current` names the last revision
   pub count : length h ≡ suc youngest
-  pub history : ShowsHistory (revs shard_size files) (props shard_size files) h
+  pub history : ShowsHistory (rev_bytes shard_size files) (props_bytes shard_size files) h

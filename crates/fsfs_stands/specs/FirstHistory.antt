@@ -1,5 +1,5 @@
 -- The history of a new repository: revision 0, with its date.
-use Rattle.std.specs.Prelude.{◌≡◌, ℕ, List, [], ◌∷◌, ◌++◌, Ok, codes}
+use Rattle.std.specs.Prelude.{◌≡◌, ℕ, List, [], ◌∷◌, Ok}
 use Rattle.std.specs.FinMap.{empty, insert}
 use Rattle.jiff_core.specs.declared.civil.datetime.DateTime.{DateTime}
 use Rattle.fsfs_fields.specs.Dates.{IsDateText}
@@ -8,12 +8,9 @@ use Rattle.fsfs_base.specs.Revisions.{Revision}
 use Rattle.fsfs_base.specs.Transactions.{date_name}
 use Rattle.fsfs_base.specs.declared.node.Kind.TheVariants.{Dir}
 use Rattle.fsfs_book.specs.Told.{Look}
+use Rattle.fsfs_model.specs.CreatedFiles.{date_properties}
 use Rattle.fsfs_shows.specs.FirstRevision.{first_bytes}
 use Rattle.fsfs_stands.specs.History.{ShowsHistory}
-
--- the property file with a date alone
-abbrev pub date_file : List ℕ → List ℕ
-date_file date = codes "K 8\nsvn:date\nV 27\n" ++ (date ++ codes "\nEND\n")
 
 -- `/` alone, no changed paths, the date
 abbrev pub first_revision : List ℕ → Revision
@@ -21,4 +18,4 @@ first_revision date = record { tree = insert empty [] (empty_node Dir); changes 
 
 -- the bytes of revision 0 and of its property file show this history
 abbrev pub FirstHistoryIsShown : Type 0
-FirstHistoryIsShown = (look props : Look) (date : List ℕ) (dt : DateTime) → IsDateText date dt → look 0 ≡ Ok first_bytes → props 0 ≡ Ok (date_file date) → ShowsHistory look props (first_revision date ∷ [])
+FirstHistoryIsShown = (look props : Look) (date : List ℕ) (dt : DateTime) → IsDateText date dt → look 0 ≡ Ok first_bytes → props 0 ≡ Ok (date_properties date) → ShowsHistory look props (first_revision date ∷ [])

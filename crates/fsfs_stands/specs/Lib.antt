@@ -3,3 +3,4 @@ pub mod History
 pub mod Files
 pub mod Same
 pub mod FirstHistory
+pub mod NewRepository

@@ -21,4 +21,4 @@ abbrev pub OneHistoryIsShown : Type 0
 OneHistoryIsShown = (look props : Look) (g h : List Revision) → ShowsHistory look props g → ShowsHistory look props h → AreSameRevisions g h
 
 abbrev pub OneHistoryIsStoodFor : Type 0
-OneHistoryIsStoodFor = (revs props : ℕ → Files → Look) (files : Files) (g h : List Revision) → StandsFor revs props files g → StandsFor revs props files h → (length g ≡ length h) × AreSameRevisions g h
+OneHistoryIsStoodFor = (files : Files) (g h : List Revision) → StandsFor files g → StandsFor files h → (length g ≡ length h) × AreSameRevisions g h

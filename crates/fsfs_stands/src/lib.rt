@@ -6,4 +6,4 @@
 
 mod laws;
 
-pub use laws::{one_history_is_shown, the_first_history_is_shown};
+pub use laws::{new_repositories_stand, one_history_is_shown, the_first_history_is_shown};

@@ -25,7 +25,6 @@ chain_more c d xs a chain added = record {
 
 -- ---- no two ids are one
 
-
 abbrev apart : List ℕ → List (List ℕ) → Bool
 apart id [] = true
 apart id (x ∷ xs) = not (bytes_eq x id) && not (bytes_eq id x) && apart id xs

@@ -14,6 +14,7 @@ use Rattle.fsfs_world.specs.Disk.{Disk}
 use Rattle.fsfs_world.specs.Machine.{World, created, first_revision, file_of, revisions}
 use Rattle.fsfs_world.specs.Kept.{HasFiles, HasAll, StandsFor, CountsOn, FloorIs, Kept}
 use Rattle.fsfs_world.proofs.Images.{each_firm}
+use Rattle.fsfs_world.proofs.Benches.{none_apart}
 
 one_revision : (d : Disk) (x : Recorded) → HasFiles 0 d 0 x → HasAll 0 d (x ∷ [])
 one_revision d x files zero y e = let same : x ≡ y = (let f : Some x ≡ Some y = e in cc) in subst (λ z. HasFiles 0 d 0 z) same files
@@ -52,6 +53,8 @@ created_kept w properties bytes is = subst (λ z. Kept z) (sym is) kept
       once = tt;
       labels = tt;
       named = tt;
+      apart = none_apart [];
+      benches = λ up. tt;
       knows = tt;
       next = tt;
       whose = record { legal = refl; count = omega arith; carriers = tt; mine = (refl, tt) };

@@ -1,5 +1,5 @@
 -- Labels of transactions, and names that were given.
-use Rattle.std.proofs.Common.{◌≡◌, ◌⊎◌, ◌<◌, ◌≤◌, ◌+◌, ◌==◌, ℕ, suc, zero, List, [], ◌∷◌, ◌++◌, length, Bool, true, false, cond, inl, inr, ⊎_elim, refl, sym, ap, subst, ◌∙◌, arith, take, drop}
+use Rattle.std.proofs.Common.{◌≡◌, ◌<◌, ◌≤◌, ◌+◌, ◌==◌, ℕ, suc, zero, List, [], ◌∷◌, ◌++◌, Bool, true, false, cond, inr, ⊎_elim, refl, sym, subst, ◌∙◌, arith, take, drop}
 use Rattle.std.specs.Prelude.{Some, None, slice_get}
 use Rattle.fsfs_world.specs.declared.machine.Drawn.{Drawn}
 use Rattle.fsfs_world.specs.declared.machine.Went.{Went}

@@ -27,6 +27,7 @@ use Rattle.fsfs_world.specs.Kept.{StandsFor, StandsIn, AllBelow, CountsOn, Knows
 use Rattle.fsfs_world.proofs.Images.{Each, each_put, each_rename, each_firm, read_is_image}
 use Rattle.fsfs_world.proofs.Standing.{same_again, past_props, stands_next, not_alone}
 use Rattle.fsfs_world.proofs.Growing.{revisions_length}
+use Rattle.fsfs_world.proofs.Benches.{apart_given}
 use Rattle.fsfs_world.proofs.Given.{given_more, named_append, named_given}
 use Rattle.fsfs_world.proofs.Whose.{there_at, whose_at}
 
@@ -68,10 +69,10 @@ pub keeps_call : (w : World) (p : ℕ) (place : Place) (s : Section) (change : C
 keeps_call w p place s change after spoiled went k carries ill_carries stands counts knows next ill ill_counts ill_knows ill_next = by_end went ill ill_counts
   where
     by_end : (went : Went) → Each (disk_after went change w.disk) (StandsIn w.floor w.history spoiled) → Each (disk_after went change w.disk) (Steady w) → Kept (at_call w p place change after spoiled went)
-    by_end Fine ill ill_counts = record { young = k.young; seen = learnt (length w.history) w.floor w.passes p place Fine k.seen; history = k.history; transactions = k.transactions; stands = stands; floor = k.floor; floors = λ m i. (counts m i).1; counts = λ m i. (counts m i).0; once = k.once; labels = k.labels; named = k.named; knows = knows; next = next; whose = whose_at w.opening w.history w.since w.passes p (learns (length w.history) place Fine) (λ x. refl) k.whose; holder = (there_at w.passes p p (learns (length w.history) place Fine) k.holder.0, carries) }
-    by_end Before ill ill_counts = record { young = k.young; seen = learnt (length w.history) w.floor w.passes p place Before k.seen; history = k.history; transactions = k.transactions; stands = ill; floor = k.floor; floors = λ m i. (ill_counts m i).1; counts = λ m i. (ill_counts m i).0; once = k.once; labels = k.labels; named = k.named; knows = ill_knows _; next = ill_next; whose = whose_at w.opening w.history w.since w.passes p (learns (length w.history) place Before) (λ x. refl) k.whose; holder = (there_at w.passes p p (learns (length w.history) place Before) k.holder.0, ill_carries) }
-    by_end After ill ill_counts = record { young = k.young; seen = learnt (length w.history) w.floor w.passes p place After k.seen; history = k.history; transactions = k.transactions; stands = ill; floor = k.floor; floors = λ m i. (ill_counts m i).1; counts = λ m i. (ill_counts m i).0; once = k.once; labels = k.labels; named = k.named; knows = ill_knows _; next = ill_next; whose = whose_at w.opening w.history w.since w.passes p (learns (length w.history) place After) (λ x. refl) k.whose; holder = (there_at w.passes p p (learns (length w.history) place After) k.holder.0, ill_carries) }
-    by_end (Torn any) ill ill_counts = record { young = k.young; seen = learnt (length w.history) w.floor w.passes p place (Torn any) k.seen; history = k.history; transactions = k.transactions; stands = ill; floor = k.floor; floors = λ m i. (ill_counts m i).1; counts = λ m i. (ill_counts m i).0; once = k.once; labels = k.labels; named = k.named; knows = ill_knows _; next = ill_next; whose = whose_at w.opening w.history w.since w.passes p (learns (length w.history) place (Torn any)) (λ x. refl) k.whose; holder = (there_at w.passes p p (learns (length w.history) place (Torn any)) k.holder.0, ill_carries) }
+    by_end Fine ill ill_counts = record { young = k.young; seen = learnt (length w.history) w.floor w.passes p place Fine k.seen; history = k.history; transactions = k.transactions; stands = stands; floor = k.floor; floors = λ m i. (counts m i).1; counts = λ m i. (counts m i).0; once = k.once; labels = k.labels; named = k.named; apart = k.apart; benches = k.benches; knows = knows; next = next; whose = whose_at w.opening w.history w.since w.passes p (learns (length w.history) place Fine) (λ x. refl) k.whose; holder = (there_at w.passes p p (learns (length w.history) place Fine) k.holder.0, carries) }
+    by_end Before ill ill_counts = record { young = k.young; seen = learnt (length w.history) w.floor w.passes p place Before k.seen; history = k.history; transactions = k.transactions; stands = ill; floor = k.floor; floors = λ m i. (ill_counts m i).1; counts = λ m i. (ill_counts m i).0; once = k.once; labels = k.labels; named = k.named; apart = k.apart; benches = k.benches; knows = ill_knows _; next = ill_next; whose = whose_at w.opening w.history w.since w.passes p (learns (length w.history) place Before) (λ x. refl) k.whose; holder = (there_at w.passes p p (learns (length w.history) place Before) k.holder.0, ill_carries) }
+    by_end After ill ill_counts = record { young = k.young; seen = learnt (length w.history) w.floor w.passes p place After k.seen; history = k.history; transactions = k.transactions; stands = ill; floor = k.floor; floors = λ m i. (ill_counts m i).1; counts = λ m i. (ill_counts m i).0; once = k.once; labels = k.labels; named = k.named; apart = k.apart; benches = k.benches; knows = ill_knows _; next = ill_next; whose = whose_at w.opening w.history w.since w.passes p (learns (length w.history) place After) (λ x. refl) k.whose; holder = (there_at w.passes p p (learns (length w.history) place After) k.holder.0, ill_carries) }
+    by_end (Torn any) ill ill_counts = record { young = k.young; seen = learnt (length w.history) w.floor w.passes p place (Torn any) k.seen; history = k.history; transactions = k.transactions; stands = ill; floor = k.floor; floors = λ m i. (ill_counts m i).1; counts = λ m i. (ill_counts m i).0; once = k.once; labels = k.labels; named = k.named; apart = k.apart; benches = k.benches; knows = ill_knows _; next = ill_next; whose = whose_at w.opening w.history w.since w.passes p (learns (length w.history) place (Torn any)) (λ x. refl) k.whose; holder = (there_at w.passes p p (learns (length w.history) place (Torn any)) k.holder.0, ill_carries) }
 
 -- what a failed call leaves
 pub each_failed : (went : Went) (change : Change) (d : Disk) (P : Disk → Type 0) → Each d P → Each (change ∷ d) P → ((n : Name) (c any : Contents) → change ≡ Put n c → Each (Put n any ∷ d) P) → Each (disk_after went change d) P
@@ -181,6 +182,8 @@ keeps_given w p place x Fine kept = let next : x.next ≡ x.name + 1 = kept.know
   counts = each_firm w.disk (CountsOn (x.name ∷ w.given)) (x.next, kept.knows.3, (omega (arith, next), no_less w.given x.name x.next (omega (arith, next)) kept.knows.1));
   once = (kept.knows.1, kept.once);
   labels = given_more w.given w.labels x.name kept.labels;
+  apart = apart_given w.given w.named w.txns w.spent x kept.knows.1 kept.apart;
+  benches = kept.benches;
   named = named_append (length w.history) (x.name ∷ w.given) w.named (x ∷ []) (named_given (length w.history) w.given w.named x.name kept.named) ((kept.knows.0, inl refl), tt);
   knows = tt;
   next = tt;

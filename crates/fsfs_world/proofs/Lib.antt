@@ -3,6 +3,7 @@ pub mod Standing
 pub mod Growing
 pub mod Whose
 pub mod Given
+pub mod Benches
 pub mod Keeps
 pub mod Steps
 pub mod Created

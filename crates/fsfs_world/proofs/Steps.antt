@@ -38,9 +38,10 @@ use Rattle.std.proofs.lemmas.List.{take_all}
 use Rattle.fsfs_model.proofs.Legal.{commits_make_a_history}
 use Rattle.fsfs_model.proofs.PathLemmas.{first_true, second_true}
 use Rattle.fsfs_world.specs.Machine.{World, Did, did, barred, disk_after, either, answer, learns, labels_left, labelled, unlabelled, begun_txn, is_outside, made, purged, purged_spent, listed, label_dropped, due, gives as gives_name, called_by, called, recorded, revisions, with_next, at_place, is_up, is_due, file_of, inside, held_by, is_begun, has_begun_by, number_of, count_read, counted, drawn, entry_of, IsComing, adopted, AdoptsTxn, Adopts, without_place, edited, EditsIf, Edits, merged, MergesIf, Merges, let_go, stuck_at, reveals, revealed, taken, looked, is_known, range_of, turned, has_read, properties_in, has_read_props, raised, sees_floor, floor_read, down, ends, revision_in, read_one, read_back, opened, named, open_at, split_off, joined, join_with, is_there, Happens, Runs}
-use Rattle.fsfs_world.specs.Kept.{HasAll, StandsFor, StandsForEither, StandsIn, Stands, AllBelow, CountsOn, KnowsAt, coming, Follows, IsSeen, AreSeen, AreTransactions, Whose, IsHolder, FloorIs, Kept, Grows, Names, IsIn, AllGiven, AreNamed, GivesBytes, GivesProps, GivesNames, IsPurged, Gives, StepsKeep, SeenStays, RunsKeep}
+use Rattle.fsfs_world.specs.Kept.{HasAll, StandsFor, StandsForEither, StandsIn, Stands, AllBelow, CountsOn, KnowsAt, coming, Follows, IsSeen, AreSeen, AreTransactions, Whose, IsHolder, FloorIs, Kept, Grows, Names, IsIn, AllGiven, AreNamed, AreApart, HaveLabels, GivesBytes, GivesProps, GivesNames, IsPurged, Gives, StepsKeep, SeenStays, RunsKeep}
 use Rattle.fsfs_world.proofs.Images.{Each, each_firm, read_is_image, left_is_image}
 use Rattle.fsfs_world.proofs.Standing.{shown_again, past_rev, same_number}
+use Rattle.fsfs_world.proofs.Benches.{apart_at, apart_spent, apart_purged, apart_dropped, apart_made, have_without_place, have_at, have_purged, have_dropped, have_made, none_apart}
 use Rattle.fsfs_world.proofs.Given.{given_labelled, given_unlabelled, given_left, gone, named_more, named_without, named_at}
 use Rattle.fsfs_world.proofs.Growing.{transactions_append, transactions_go_on, transactions_at, transaction_at, transactions_without, revisions_length, revisions_next}
 use Rattle.fsfs_world.proofs.Keeps.{no_less, seen_at, learnt, keeps_put, keeps_called, begun_is}
@@ -107,10 +108,10 @@ count_keeps w p b went k is less at = by_end went
     below = subst (λ n. AllBelow n w.given) (same_number (found w.disk Counter) read.0 k read.1 is) read.2
 
     by_end : (went : Went) → Kept (count_read w p b went k)
-    by_end Fine = record { young = at.young; seen = learnt (length w.history) w.floor w.passes p TxnRead Fine at.seen; history = at.history; transactions = at.transactions; stands = at.stands; floor = at.floor; floors = at.floors; counts = at.counts; once = at.once; labels = at.labels; named = at.named; knows = (less, below, refl); next = tt; whose = whose_at w.opening w.history w.since w.passes p (learns (length w.history) TxnRead Fine) (λ x. refl) at.whose; holder = (there_at w.passes p p (learns (length w.history) TxnRead Fine) at.holder.0, tt) }
-    by_end Before = record { young = at.young; seen = learnt (length w.history) w.floor w.passes p TxnRead Before at.seen; history = at.history; transactions = at.transactions; stands = at.stands; floor = at.floor; floors = at.floors; counts = at.counts; once = at.once; labels = at.labels; named = at.named; knows = tt; next = tt; whose = whose_at w.opening w.history w.since w.passes p (learns (length w.history) TxnRead Before) (λ x. refl) at.whose; holder = (there_at w.passes p p (learns (length w.history) TxnRead Before) at.holder.0, tt) }
-    by_end After = record { young = at.young; seen = learnt (length w.history) w.floor w.passes p TxnRead After at.seen; history = at.history; transactions = at.transactions; stands = at.stands; floor = at.floor; floors = at.floors; counts = at.counts; once = at.once; labels = at.labels; named = at.named; knows = tt; next = tt; whose = whose_at w.opening w.history w.since w.passes p (learns (length w.history) TxnRead After) (λ x. refl) at.whose; holder = (there_at w.passes p p (learns (length w.history) TxnRead After) at.holder.0, tt) }
-    by_end (Torn any) = record { young = at.young; seen = learnt (length w.history) w.floor w.passes p TxnRead (Torn any) at.seen; history = at.history; transactions = at.transactions; stands = at.stands; floor = at.floor; floors = at.floors; counts = at.counts; once = at.once; labels = at.labels; named = at.named; knows = tt; next = tt; whose = whose_at w.opening w.history w.since w.passes p (learns (length w.history) TxnRead (Torn any)) (λ x. refl) at.whose; holder = (there_at w.passes p p (learns (length w.history) TxnRead (Torn any)) at.holder.0, tt) }
+    by_end Fine = record { young = at.young; seen = learnt (length w.history) w.floor w.passes p TxnRead Fine at.seen; history = at.history; transactions = at.transactions; stands = at.stands; floor = at.floor; floors = at.floors; counts = at.counts; once = at.once; labels = at.labels; named = at.named; apart = at.apart; benches = at.benches; knows = (less, below, refl); next = tt; whose = whose_at w.opening w.history w.since w.passes p (learns (length w.history) TxnRead Fine) (λ x. refl) at.whose; holder = (there_at w.passes p p (learns (length w.history) TxnRead Fine) at.holder.0, tt) }
+    by_end Before = record { young = at.young; seen = learnt (length w.history) w.floor w.passes p TxnRead Before at.seen; history = at.history; transactions = at.transactions; stands = at.stands; floor = at.floor; floors = at.floors; counts = at.counts; once = at.once; labels = at.labels; named = at.named; apart = at.apart; benches = at.benches; knows = tt; next = tt; whose = whose_at w.opening w.history w.since w.passes p (learns (length w.history) TxnRead Before) (λ x. refl) at.whose; holder = (there_at w.passes p p (learns (length w.history) TxnRead Before) at.holder.0, tt) }
+    by_end After = record { young = at.young; seen = learnt (length w.history) w.floor w.passes p TxnRead After at.seen; history = at.history; transactions = at.transactions; stands = at.stands; floor = at.floor; floors = at.floors; counts = at.counts; once = at.once; labels = at.labels; named = at.named; apart = at.apart; benches = at.benches; knows = tt; next = tt; whose = whose_at w.opening w.history w.since w.passes p (learns (length w.history) TxnRead After) (λ x. refl) at.whose; holder = (there_at w.passes p p (learns (length w.history) TxnRead After) at.holder.0, tt) }
+    by_end (Torn any) = record { young = at.young; seen = learnt (length w.history) w.floor w.passes p TxnRead (Torn any) at.seen; history = at.history; transactions = at.transactions; stands = at.stands; floor = at.floor; floors = at.floors; counts = at.counts; once = at.once; labels = at.labels; named = at.named; apart = at.apart; benches = at.benches; knows = tt; next = tt; whose = whose_at w.opening w.history w.since w.passes p (learns (length w.history) TxnRead (Torn any)) (λ x. refl) at.whose; holder = (there_at w.passes p p (learns (length w.history) TxnRead (Torn any)) at.holder.0, tt) }
 
 counted_keeps : (w : World) (p b : ℕ) (went : Went) (o : Option Contents) → found w.disk Counter ≡ o → Kept w → Kept (record w { lock = Held p Begun }) → Moves w (counted w p b went (number_of o)).world
 counted_keeps w p b went None is k at = stays w k
@@ -129,12 +130,12 @@ drawn_keeps w p b went Begun k at = counted_keeps w p b went (found w.disk Count
 drawn_keeps w p b went s k at = stays w k
 
 -- the first call of a commit
-adopted_keeps : (w : World) (p t name : ℕ) (e : Entry) (bytes : List ℕ) (went : Went) (x : Coming)
+adopted_keeps : (w : World) (p t : ℕ) (txn : Txn) (e : Entry) (bytes : List ℕ) (went : Went) (x : Coming)
     → IsTransaction (tree_of (revisions w.history)) (last_of (revisions w.history)) e.base (get e.tree) e.marks
-    → e.pass ≡ p → IsComing w.history e bytes x → Kept (record w { lock = Held p Begun }) → Kept (adopted w p t name went x)
-adopted_keeps w p t name e bytes went x was mine is at =
-    let less : World = record w { txns = without_place w.txns t; spent = w.spent ++ name ∷ [] } in
-    let k : Kept (record less { lock = Held p Begun }) = record { young = at.young; seen = at.seen; history = at.history; transactions = transactions_without (revisions w.history) w.txns t at.transactions; stands = at.stands; floor = at.floor; floors = at.floors; counts = at.counts; once = at.once; labels = at.labels; named = at.named; knows = tt; next = tt; whose = at.whose; holder = at.holder } in
+    → slice_get w.txns t ≡ Some txn → e.pass ≡ p → IsComing w.history e bytes x → Kept (record w { lock = Held p Begun }) → Kept (adopted w p t txn.name went x)
+adopted_keeps w p t txn e bytes went x was there mine is at =
+    let less : World = record w { txns = without_place w.txns t; spent = w.spent ++ txn.name ∷ [] } in
+    let k : Kept (record less { lock = Held p Begun }) = record { young = at.young; seen = at.seen; history = at.history; transactions = transactions_without (revisions w.history) w.txns t at.transactions; stands = at.stands; floor = at.floor; floors = at.floors; counts = at.counts; once = at.once; labels = at.labels; named = at.named; apart = apart_spent w.given w.named w.txns w.spent t txn there at.apart; benches = λ up. have_without_place w.labels w.txns t (at.benches refl); knows = tt; next = tt; whose = at.whose; holder = at.holder } in
     let follows : Follows w.history x = subst (λ z. IsEntry (revisions w.history) z × IsNext (revisions w.history) z x.revision) (sym is.entry) (record { transaction = was; dated = is.adds.0 }, is.adds.1) in
     keeps_put less p PutRev Begun (Rev (length w.history)) (file_of (recorded x)) (RevPut x) went k (ap (λ z. z.pass) is.entry ∙ mine)
     (λ m i. i) (λ m any i. past_rev w.floor m w.history any i) (λ m i. i) (λ m any i. i) (shown_again w.floor w.disk (length w.history) (file_of (recorded x)) at.floor) follows
@@ -143,7 +144,7 @@ adopts_txn_keep : (w : World) (p t : ℕ) (properties : List (List ℕ × List �
     → Kept w → Kept (record w { lock = Held p Begun }) → AdoptsTxn w p t properties bytes went o d → Moves w d.world
 adopts_txn_keep w p t properties bytes went None d is k at e = subst (λ z. Moves w z.world) (sym e) (stays w k)
 adopts_txn_keep w p t properties bytes went (Some txn) d is k at e = ⊎_elim
-    (λ a. subst (λ z. Moves w z.world) (sym a.2) (moved w (adopted w p t txn.name went a.0) (adopted_keeps w p t txn.name (entry_of p txn properties) bytes went a.0 (transaction_at (revisions w.history) w.txns t txn is k.transactions) refl a.1 at) refl refl))
+    (λ a. subst (λ z. Moves w z.world) (sym a.2) (moved w (adopted w p t txn.name went a.0) (adopted_keeps w p t txn (entry_of p txn properties) bytes went a.0 (transaction_at (revisions w.history) w.txns t txn is k.transactions) is refl a.1 at) refl refl))
     (λ b. subst (λ z. Moves w z.world) (sym b.1) (stays w k)) e
 
 begun_section : (s : Section) → is_begun (Some s) ≡ true → s ≡ Begun
@@ -164,8 +165,8 @@ adopts_keep w p t properties bytes went true d is k e =
     adopts_txn_keep w p t properties bytes went (slice_get w.txns t) d refl k (subst (λ l. Kept (record w { lock = l })) (held_begun p w.lock is) k) e
 
 -- edits and merges
-with_txns : (w : World) (txns : List Txn) → AreTransactions (revisions w.history) txns → Kept w → Moves w (record w { txns = txns })
-with_txns w txns t k = moved w (record w { txns = txns }) (record { young = k.young; seen = k.seen; history = k.history; transactions = t; stands = k.stands; floor = k.floor; floors = k.floors; counts = k.counts; once = k.once; labels = k.labels; named = k.named; knows = k.knows; next = k.next; whose = k.whose; holder = k.holder }) refl refl
+with_txns : (w : World) (txns : List Txn) → AreTransactions (revisions w.history) txns → AreApart w.given w.named txns w.spent → (is_up w.lock ≡ true → HaveLabels w.labels txns) → Kept w → Moves w (record w { txns = txns })
+with_txns w txns t apart benches k = moved w (record w { txns = txns }) (record { young = k.young; seen = k.seen; history = k.history; transactions = t; stands = k.stands; floor = k.floor; floors = k.floors; counts = k.counts; once = k.once; labels = k.labels; named = k.named; apart = apart; benches = benches; knows = k.knows; next = k.next; whose = k.whose; holder = k.holder }) refl refl
 
 edits_if_keep : (w : World) (t : ℕ) (edit : Edit) (x : Txn) (b : Bool) (d : Did) → slice_get w.txns t ≡ Some x
     → (accepts edit (tree_of (revisions w.history)) (last_of (revisions w.history)) (get x.tree) && within_limits edit x.tree) ≡ b → Kept w → EditsIf w t edit x b d → Moves w d.world
@@ -177,7 +178,8 @@ edits_if_keep w t edit x true d is ok k e =
     let new : IsTransaction (tree_of h) (last_of h) x.base (get e.0) (x.marks ++ mark_of edit (tree_of h) (get x.tree) ∷ []) =
     subst (λ f. IsTransaction (tree_of h) (last_of h) x.base f (x.marks ++ mark_of edit (tree_of h) (get x.tree) ∷ [])) (sym fun)
     (Edited x.base (get x.tree) x.marks edit was (first_true _ _ ok)) in
-    subst (λ z. Moves w z.world) (sym e.2) (with_txns w (at_place w.txns t (edited e.0 (mark_of edit (tree_of (revisions w.history)) (get x.tree)))) (transactions_at h w.txns t x (edited e.0 (mark_of edit (tree_of (revisions w.history)) (get x.tree))) is new k.transactions) k)
+    subst (λ z. Moves w z.world) (sym e.2) (with_txns w (at_place w.txns t (edited e.0 (mark_of edit (tree_of (revisions w.history)) (get x.tree)))) (transactions_at h w.txns t x (edited e.0 (mark_of edit (tree_of (revisions w.history)) (get x.tree))) is new k.transactions)
+    (apart_at w.given w.named w.txns w.spent t (edited e.0 (mark_of edit (tree_of (revisions w.history)) (get x.tree))) (λ y. refl) k.apart) (λ up. have_at w.labels w.txns t (edited e.0 (mark_of edit (tree_of (revisions w.history)) (get x.tree))) (λ y. refl) (k.benches up)) k)
 
 edits_keep : (w : World) (t : ℕ) (edit : Edit) (o : Option Txn) (d : Did) → slice_get w.txns t ≡ o → Kept w → Edits w t edit o d → Moves w d.world
 edits_keep w t edit None d is k e = subst (λ z. Moves w z.world) (sym e) (stays w k)
@@ -208,7 +210,8 @@ merges_if_keep w t head x true d is ok k e = ⊎_elim on_clear (λ c. subst (λ 
         let fun : get a.1 ≡ land (tree_of h x.base) (tree_of h head) (get x.tree) x.marks head = (λ i q. a.2 q i) in
         let new : IsTransaction (tree_of h) (last_of h) head (get a.1) x.marks =
         subst (λ f. IsTransaction (tree_of h) (last_of h) head f x.marks) (sym fun) (Landed x.base head head (get x.tree) x.marks was up in_range a.0) in
-        subst (λ z. Moves w z.world) (sym a.3) (with_txns w (at_place w.txns t (merged a.1 head)) (transactions_at h w.txns t x (merged a.1 head) is new k.transactions) k)
+        subst (λ z. Moves w z.world) (sym a.3) (with_txns w (at_place w.txns t (merged a.1 head)) (transactions_at h w.txns t x (merged a.1 head) is new k.transactions)
+        (apart_at w.given w.named w.txns w.spent t (merged a.1 head) (λ y. refl) k.apart) (λ up. have_at w.labels w.txns t (merged a.1 head) (λ y. refl) (k.benches up)) k)
 
 merges_keep : (w : World) (t head : ℕ) (o : Option Txn) (d : Did) → slice_get w.txns t ≡ o → Kept w → Merges w t head o d → Moves w d.world
 merges_keep w t head None d is k e = subst (λ z. Moves w z.world) (sym e) (stays w k)
@@ -216,7 +219,7 @@ merges_keep w t head (Some x) d is k e = merges_if_keep w t head x _ d is refl k
 
 -- the words
 with_passes : (w : World) (passes : List Pass) → AreSeen (length w.history) w.floor passes → Whose w.opening w.history w.since passes → IsHolder (length passes) w.lock → Kept w → Moves w (record w { passes = passes })
-with_passes w passes s whose holder k = moved w (record w { passes = passes }) (record { young = k.young; seen = s; history = k.history; transactions = k.transactions; stands = k.stands; floor = k.floor; floors = k.floors; counts = k.counts; once = k.once; labels = k.labels; named = k.named; knows = k.knows; next = k.next; whose = whose; holder = holder }) refl refl
+with_passes w passes s whose holder k = moved w (record w { passes = passes }) (record { young = k.young; seen = s; history = k.history; transactions = k.transactions; stands = k.stands; floor = k.floor; floors = k.floors; counts = k.counts; once = k.once; labels = k.labels; named = k.named; apart = k.apart; benches = k.benches; knows = k.knows; next = k.next; whose = whose; holder = holder }) refl refl
 
 -- the holder is there still, where there are no fewer passes
 holder_stays : (n m : ℕ) (lock : Lock) → n ≤ m → IsHolder n lock → IsHolder m lock
@@ -232,7 +235,7 @@ with_pass w p f seen same k =
     (holder_stays (length w.passes) (length (at_place w.passes p f)) w.lock (omega (arith, e)) k.holder) k
 
 taken_keeps : (w : World) (p : ℕ) (lock : Lock) → p < length w.passes → w.lock ≡ lock → Kept (record w { lock = lock }) → Kept w → Moves w (taken w p lock).world
-taken_keeps w p Free there is at k = moved w (record w { lock = Held p Begun }) (record { young = at.young; seen = at.seen; history = at.history; transactions = at.transactions; stands = at.stands; floor = at.floor; floors = at.floors; counts = at.counts; once = at.once; labels = at.labels; named = at.named; knows = tt; next = tt; whose = at.whose; holder = (there, tt) }) refl refl
+taken_keeps w p Free there is at k = moved w (record w { lock = Held p Begun }) (record { young = at.young; seen = at.seen; history = at.history; transactions = at.transactions; stands = at.stands; floor = at.floor; floors = at.floors; counts = at.counts; once = at.once; labels = at.labels; named = at.named; apart = at.apart; benches = at.benches; knows = tt; next = tt; whose = at.whose; holder = (there, tt) }) refl refl
 taken_keeps w p (Stuck place x) there is at k = with_pass w p (λ y. record y { stuck = Some place }) (λ y s. record { seen = s.seen; least = s.least; mine = s.mine; floor = s.floor }) (λ y. refl) k
 taken_keeps w p lock there is at k = stays w k
 
@@ -241,7 +244,7 @@ lock_keeps w p true is k = taken_keeps w p w.lock (let there : p < length w.pass
 lock_keeps w p false is k = stays w k
 
 freed : (w : World) (p : ℕ) (s : Section) → Kept (record w { lock = Held p s }) → ((m : Disk) → StandsIn w.floor w.history s m → StandsFor w.floor m w.history) → Moves w (record w { lock = Free })
-freed w p s at plain = moved w (record w { lock = Free }) (record { young = at.young; seen = at.seen; history = at.history; transactions = at.transactions; stands = λ m i. plain m (at.stands m i); floor = at.floor; floors = at.floors; counts = at.counts; once = at.once; labels = at.labels; named = at.named; knows = tt; next = tt; whose = at.whose; holder = tt }) refl refl
+freed w p s at plain = moved w (record w { lock = Free }) (record { young = at.young; seen = at.seen; history = at.history; transactions = at.transactions; stands = λ m i. plain m (at.stands m i); floor = at.floor; floors = at.floors; counts = at.counts; once = at.once; labels = at.labels; named = at.named; apart = at.apart; benches = at.benches; knows = tt; next = tt; whose = at.whose; holder = tt }) refl refl
 
 let_go_keeps : (w : World) (p : ℕ) (s : Section) → Kept w → Kept (record w { lock = Held p s }) → Moves w (let_go w s).world
 let_go_keeps w p Begun k at = freed w p Begun at (λ m i. i)
@@ -256,7 +259,7 @@ let_go_keeps w p Over k at = freed w p Over at (λ m i. i)
 let_go_keeps w p s k at = stays w k
 
 stuck_keeps : (w : World) (p : ℕ) (s : Section) → Kept w → Kept (record w { lock = Held p s }) → Moves w (stuck_at w s).world
-stuck_keeps w p (Doubtful place x) k at = moved w (record w { lock = Stuck place x }) (record { young = at.young; seen = at.seen; history = at.history; transactions = at.transactions; stands = at.stands; floor = at.floor; floors = at.floors; counts = at.counts; once = at.once; labels = at.labels; named = at.named; knows = tt; next = at.next; whose = at.whose; holder = tt }) refl refl
+stuck_keeps w p (Doubtful place x) k at = moved w (record w { lock = Stuck place x }) (record { young = at.young; seen = at.seen; history = at.history; transactions = at.transactions; stands = at.stands; floor = at.floor; floors = at.floors; counts = at.counts; once = at.once; labels = at.labels; named = at.named; apart = at.apart; benches = at.benches; knows = tt; next = at.next; whose = at.whose; holder = tt }) refl refl
 stuck_keeps w p s k at = stays w k
 
 seen_more : (n m f : ℕ) (xs : List Pass) → n ≤ m → AreSeen n f xs → AreSeen m f xs
@@ -296,6 +299,8 @@ revealed_keeps w p (CurrentFirm x) k at =
         once = at.once;
         labels = at.labels;
         named = named_more (length w.history) (length (with_next w.history x)) w.given w.named (omega (arith, more)) at.named;
+        apart = at.apart;
+        benches = at.benches;
         knows = tt;
         next = tt;
         whose = whose_next w.opening w.history w.since w.passes p x at.holder.1 at.holder.0 at.next at.whose;
@@ -441,6 +446,8 @@ ends_keeps w d labels k stands counts floors given = let n = down_next w.floor w
   once = k.once;
   labels = given;
   named = tt;
+  apart = none_apart w.given;
+  benches = λ up. not_up (is_up (down w.lock)) _ n.up up;
   knows = n.knows;
   next = n.next;
   whose = record { legal = ap revisions (take_all (length w.history) w.history (omega arith)); count = omega arith; carriers = tt; mine = tt };
@@ -492,6 +499,8 @@ opened_keeps w h k s is g last kept = record {
     once = kept.once;
     labels = kept.labels;
     named = tt;
+    apart = none_apart w.given;
+    benches = λ up. tt;
     knows = tt;
     next = tt;
     whose = record { legal = ap revisions (take_all (k + 1) h (omega (arith, last))); count = omega (arith, last); carriers = tt; mine = (refl, tt) };
@@ -530,6 +539,8 @@ firmed w went k knows = moved w (record w { disk = disk_after went Firm w.disk }
   once = k.once;
   labels = k.labels;
   named = k.named;
+  apart = k.apart;
+  benches = k.benches;
   knows = knows;
   next = k.next;
   whose = k.whose;
@@ -569,15 +580,19 @@ unless_up w true d k m = stays w k
 unless_up w false d k m = m
 
 -- labels
-with_labels : (w : World) (labels : List ℕ) → AllGiven w.given labels → Kept w → Moves w (record w { labels = labels })
-with_labels w labels given k = moved w (record w { labels = labels }) (record { young = k.young; seen = k.seen; history = k.history; transactions = k.transactions; stands = k.stands; floor = k.floor; floors = k.floors; counts = k.counts; once = k.once; labels = given; named = k.named; knows = k.knows; next = k.next; whose = k.whose; holder = k.holder }) refl refl
+with_labels : (w : World) (labels : List ℕ) → AllGiven w.given labels → (is_up w.lock ≡ true → HaveLabels labels w.txns) → Kept w → Moves w (record w { labels = labels })
+with_labels w labels given benches k = moved w (record w { labels = labels }) (record { young = k.young; seen = k.seen; history = k.history; transactions = k.transactions; stands = k.stands; floor = k.floor; floors = k.floors; counts = k.counts; once = k.once; labels = given; named = k.named; apart = k.apart; benches = benches; knows = k.knows; next = k.next; whose = k.whose; holder = k.holder }) refl refl
+
+label_keeps : (w : World) (name : ℕ) (went : Went) (b : Bool) → is_up w.lock ≡ b → Kept w → Moves w (cond b (barred w) (label_dropped w name went)).world
+label_keeps w name went true is k = stays w k
+label_keeps w name went false is k = with_labels w (unlabelled went name w.labels) (given_unlabelled w.given w.labels went name k.labels) (λ up. not_up (is_up w.lock) _ is up) k
 
 -- the same with other transactions, and a pass's turn after it
 with_parts : (w : World) (labels : List ℕ) (named : List Drawn) (txns : List Txn) (spent : List ℕ) (p : ℕ) (at : Place) (went : Went) → AllGiven w.given labels → AreNamed (length w.history) w.given named
-    → AreTransactions (revisions w.history) txns → Kept w → Moves w (turned (record w { labels = labels; named = named; txns = txns; spent = spent }) p at went)
-with_parts w labels named txns spent p at went given are t k =
+    → AreTransactions (revisions w.history) txns → AreApart w.given named txns spent → (is_up w.lock ≡ true → HaveLabels labels txns) → Kept w → Moves w (turned (record w { labels = labels; named = named; txns = txns; spent = spent }) p at went)
+with_parts w labels named txns spent p at went given are t apart benches k =
     let v : World = record w { labels = labels; named = named; txns = txns; spent = spent } in
-    let turned_keeps = turn_keeps v p at went (record { young = k.young; seen = k.seen; history = k.history; transactions = t; stands = k.stands; floor = k.floor; floors = k.floors; counts = k.counts; once = k.once; labels = given; named = are; knows = k.knows; next = k.next; whose = k.whose; holder = k.holder }) in
+    let turned_keeps = turn_keeps v p at went (record { young = k.young; seen = k.seen; history = k.history; transactions = t; stands = k.stands; floor = k.floor; floors = k.floors; counts = k.counts; once = k.once; labels = given; named = are; apart = apart; benches = benches; knows = k.knows; next = k.next; whose = k.whose; holder = k.holder }) in
     record { kept = turned_keeps.kept; grows = inl refl; names = inl refl }
 
 made_txns : (w : World) (went : Went) (x : Drawn) → x.base < length w.history → AreTransactions (revisions w.history) w.txns → AreTransactions (revisions w.history) (either went (w.txns ++ begun_txn w.history x ∷ []) w.txns)
@@ -591,17 +606,20 @@ made_keeps w p n went None is k = stays w k
 made_keeps w p n went (Some x) is k =
     let at : (x.base < length w.history) × IsIn x.name w.given = named_at (length w.history) w.given w.named n x is k.named in
     with_parts w (labelled went x.name w.labels) (without_place w.named n) (either went (w.txns ++ begun_txn w.history x ∷ []) w.txns) (either went w.spent (w.spent ++ x.name ∷ [])) p place.MakeBench went
-    (given_labelled w.given w.labels went x.name at.1 k.labels) (named_without (length w.history) w.given w.named n k.named) (made_txns w went x at.0 k.transactions) k
+    (given_labelled w.given w.labels went x.name at.1 k.labels) (named_without (length w.history) w.given w.named n k.named) (made_txns w went x at.0 k.transactions)
+    (apart_made w.history w.given w.named w.txns w.spent n x went is k.apart) (λ up. have_made w.history w.labels w.txns x went (k.benches up)) k
 
-purged_keeps : (w : World) (p t : ℕ) (went : Went) (o : Option Txn) → Kept w → Moves w (purged w p t went o).world
-purged_keeps w p t went None k = stays w k
-purged_keeps w p t went (Some x) k = with_parts w (unlabelled went x.name w.labels) w.named (without_place w.txns t) w.spent p place.Remove went
-    (given_unlabelled w.given w.labels went x.name k.labels) k.named (transactions_without (revisions w.history) w.txns t k.transactions) k
+purged_keeps : (w : World) (p t : ℕ) (went : Went) (o : Option Txn) → slice_get w.txns t ≡ o → Kept w → Moves w (purged w p t went o).world
+purged_keeps w p t went None is k = stays w k
+purged_keeps w p t went (Some x) is k = with_parts w (unlabelled went x.name w.labels) w.named (without_place w.txns t) w.spent p place.Remove went
+    (given_unlabelled w.given w.labels went x.name k.labels) k.named (transactions_without (revisions w.history) w.txns t k.transactions)
+    (apart_purged w.given w.named w.txns w.spent t x is k.apart) (λ up. have_purged w.given w.named w.txns w.spent w.labels t x went is k.apart (k.benches up)) k
 
-purged_spent_keeps : (w : World) (p n : ℕ) (went : Went) (o : Option ℕ) → Kept w → Moves w (purged_spent w p n went o).world
-purged_spent_keeps w p n went None k = stays w k
-purged_spent_keeps w p n went (Some name) k = with_parts w (unlabelled went name w.labels) w.named w.txns (without_place w.spent n) p place.Remove went
-    (given_unlabelled w.given w.labels went name k.labels) k.named k.transactions k
+purged_spent_keeps : (w : World) (p n : ℕ) (went : Went) (o : Option ℕ) → slice_get w.spent n ≡ o → Kept w → Moves w (purged_spent w p n went o).world
+purged_spent_keeps w p n went None is k = stays w k
+purged_spent_keeps w p n went (Some name) is k = with_parts w (unlabelled went name w.labels) w.named w.txns (without_place w.spent n) p place.Remove went
+    (given_unlabelled w.given w.labels went name k.labels) k.named k.transactions
+    (apart_dropped w.given w.named w.txns w.spent n name is k.apart) (λ up. have_dropped w.given w.named w.txns w.spent w.labels n name went is k.apart (k.benches up)) k
 
 step_moves : (w : World) (s : Step) (d : Did) → Happens w s d → Kept w → Moves w d.world
 step_moves w (step.TakeLock p) d is k = along w d _ is (lock_keeps w p (is_there w p) refl k)
@@ -622,10 +640,10 @@ step_moves w (step.Merge t head) d is k = merges_keep w t head (slice_get w.txns
 step_moves w step.Close d is k = along w d _ is (if_moves w (is_up w.lock) (did (ends w) outcome.Done) k (ends_keeps w w.disk w.labels k k.stands k.counts k.floors k.labels))
 step_moves w (step.MakeBench p n went) d is k = along w d _ is (if_moves w (is_there w p && is_outside p w.lock) (made w p n went (slice_get w.named n)) k (made_keeps w p n went (slice_get w.named n) refl k))
 step_moves w (step.ListTxns p went) d is k = along w d _ is (if_moves w (is_there w p) (did (turned w p place.List went) (listed w went)) k (turn_keeps w p place.List went k))
-step_moves w (step.Purge p t went) d is k = along w d _ is (if_moves w (is_there w p && is_outside p w.lock) (purged w p t went (slice_get w.txns t)) k (purged_keeps w p t went (slice_get w.txns t) k))
-step_moves w (step.PurgeSpent p n went) d is k = along w d _ is (if_moves w (is_there w p && is_outside p w.lock) (purged_spent w p n went (slice_get w.spent n)) k (purged_spent_keeps w p n went (slice_get w.spent n) k))
+step_moves w (step.Purge p t went) d is k = along w d _ is (if_moves w (is_there w p && is_outside p w.lock) (purged w p t went (slice_get w.txns t)) k (purged_keeps w p t went (slice_get w.txns t) refl k))
+step_moves w (step.PurgeSpent p n went) d is k = along w d _ is (if_moves w (is_there w p && is_outside p w.lock) (purged_spent w p n went (slice_get w.spent n)) k (purged_spent_keeps w p n went (slice_get w.spent n) refl k))
 step_moves w (step.ListLabels went) d is k = along w d _ is (unless_up w (is_up w.lock) (did w (listed w went)) k (stays w k))
-step_moves w (step.DropLabel name went) d is k = along w d _ is (unless_up w (is_up w.lock) (label_dropped w name went) k (with_labels w (unlabelled went name w.labels) (given_unlabelled w.given w.labels went name k.labels) k))
+step_moves w (step.DropLabel name went) d is k = along w d _ is (label_keeps w name went (is_up w.lock) refl k)
 step_moves w (step.Crash picks labels) d is k = along w d _ is (crash_keeps w picks labels k)
 step_moves w (step.Open went) d is k = along w d _ is (open_down_keeps w went w.lock refl k)
 

@@ -79,6 +79,35 @@ abbrev pub AllGiven : List ℕ → List ℕ → Type 0
 AllGiven given [] = Unit {0}
 AllGiven given (k ∷ ks) = IsIn k given × AllGiven given ks
 
+-- how often the name stands among these
+abbrev pub one : ℕ → ℕ → ℕ
+one a k = if a == k then 1 else 0
+
+abbrev pub times : {A : Type 0} → (A → ℕ) → ℕ → List A → ℕ
+times name k [] = 0
+times name k (x ∷ xs) = one (name x) k + times name k xs
+
+abbrev pub drawn_name : Drawn → ℕ
+drawn_name x = x.name
+
+abbrev pub txn_name : Txn → ℕ
+txn_name x = x.name
+
+abbrev pub itself : ℕ → ℕ
+itself k = k
+
+abbrev pub uses : ℕ → List Drawn → List Txn → List ℕ → ℕ
+uses k named txns spent = times drawn_name k named + times txn_name k txns + times itself k spent
+
+-- each name is used once at most, and only if it was given
+abbrev pub AreApart : List ℕ → List Drawn → List Txn → List ℕ → Type 0
+AreApart given named txns spent = (k : ℕ) → (uses k named txns spent ≤ 1) × (0 < uses k named txns spent → IsIn k given)
+
+-- each transaction has its label
+abbrev pub HaveLabels : List ℕ → List Txn → Type 0
+HaveLabels labels [] = Unit {0}
+HaveLabels labels (x ∷ xs) = IsIn x.name labels × HaveLabels labels xs
+
 -- each name that has no bench yet was given, for a revision of a history of n
 abbrev pub AreNamed : ℕ → List ℕ → List Drawn → Type 0
 AreNamed n given [] = Unit {0}
@@ -197,6 +226,10 @@ pub record Kept (w : World) : Type 0 where
   pub labels : AllGiven w.given w.labels
   -- each name without a bench was given, and its base is in the history
   pub named : AreNamed (length w.history) w.given w.named
+  -- no name is that of two transactions, be they without a bench yet, under way, or no more and with a label still to be dropped
+  pub apart : AreApart w.given w.named w.txns w.spent
+  -- while the repository is open, each transaction under way has its label
+  pub benches : is_up w.lock ≡ true → HaveLabels w.labels w.txns
   -- the files that the section under way has put read as it put them
   pub knows : KnowsAt w.floor w.history w.given w.lock w.disk
   -- the revision to come is the landing of its entry

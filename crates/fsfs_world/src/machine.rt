@@ -218,7 +218,7 @@ impl Model for Places {
     ghost view = { λ a. a.places.items };
 }
 
-/// Numbers of revisions.
+/// Numbers of revisions, or of the names of transactions.
 #[derive(Drop)]
 pub struct Numbers {
     pub numbers: Vec<u64>,

@@ -1,0 +1,97 @@
+-- The files of a new repository stand for the first history.
+use Rattle.std.proofs.Common.{◌≡◌, ◌≤◌, ℕ, List, [], ◌∷◌, ◌++◌, take, refl, sym, ap, ◌∙◌, arith}
+use Rattle.std.specs.Prelude.{Option, Some, Ok, unwrap_or, codes, decimal}
+use Rattle.std.specs.FinMap.{get}
+use Rattle.std.proofs.Math.Nat.{zero-mod, zero-div}
+use Rattle.fsfs_text.specs.Numeral.{IsNumber, IsNumeral, value_after}
+use Rattle.fsfs_text.proofs.Readers.{all_again}
+use Rattle.fsfs_text.proofs.Unique.{decimal_plain, numeral_decimal}
+use Rattle.fsfs_base.specs.Files.{Files}
+use Rattle.fsfs_layout.specs.Formats.{IsFormat}
+use Rattle.fsfs_layout.specs.Names.{in_shard}
+use Rattle.fsfs_layout.specs.declared.format_file.Format.TheVariants.{Sharded}
+use Rattle.fsfs_layout.proofs.Files.{rev_line_reads}
+use Rattle.fsfs_layout.proofs.Writing.{sharded_layout, our_format, uuid_line}
+use Rattle.fsfs_fetch.specs.RevBytes.{floor_of, floor_in, or_missing, by_floor, rev_bytes, props_bytes}
+use Rattle.fsfs_fetch.proofs.FloorLemmas.{floor_ok}
+use Rattle.fsfs_model.specs.CreatedFiles.{format_text, date_properties}
+use Rattle.fsfs_shows.specs.FirstRevision.{first_bytes}
+use Rattle.fsfs_stands.specs.NewRepository.{NewRepositoriesStand}
+use Rattle.fsfs_stands.proofs.FirstHistory.{first_history}
+
+-- ---- the small files
+
+zero_digit : IsNumeral 10 (codes "0") 0
+unfolding value_after
+zero_digit = ((omega arith, tt), (λ e. refl), refl)
+
+zero_digit36 : IsNumeral 36 (codes "0") 0
+unfolding value_after
+zero_digit36 = ((omega arith, tt), (λ e. refl), refl)
+
+zero_line : IsNumber 10 2147483647 10 (codes "0\n") 0
+zero_line = record { digits = codes "0"; numeral = zero_digit; fits = omega arith; parts = refl }
+
+zero_line36 : IsNumber 36 170581728179578208255 10 (codes "0\n") 0
+zero_line36 = record { digits = codes "0"; numeral = zero_digit36; fits = omega arith; parts = refl }
+
+format_is : (n : ℕ) → 1 ≤ n → n ≤ 2147483647 → IsFormat (format_text n) (Sharded n)
+format_is n one most =
+    let number : IsNumber 10 18446744073709551615 10 (decimal n ++ 10 ∷ []) n =
+    record { digits = decimal n; numeral = (decimal_plain 2147483647 n most (omega (arith, most))).0; fits = omega (arith, most); parts = refl } in
+    our_format (codes "4\n") (format_text n) (Sharded n) refl
+    (sharded_layout (codes "4\n") (codes "4\nlayout sharded ") (format_text n) n one most refl (record { text = decimal n ++ 10 ∷ []; text_is = number; parts = refl }))
+
+-- ---- the bytes of revision 0
+
+-- nothing is packed
+floor_is : (n : ℕ) (files : Files) → get files (codes "db/min-unpacked-rev") ≡ Some (codes "0\n") → floor_in n files ≡ Ok 0
+unfolding floor_in
+floor_is n files there =
+    ap (λ (o : Option (List ℕ)). floor_of n (take 64 (unwrap_or o []))) there
+    ∙ floor_ok n 0 (codes "0\n") (all_again rev_line_reads (codes "0\n") 0 zero_line) (zero-mod n)
+
+zero_text : decimal 0 ≡ codes "0"
+zero_text = sym (numeral_decimal (codes "0") 0 (omega arith) zero_digit)
+
+abbrev first_of : List ℕ → List ℕ
+first_of folder = folder ++ 47 ∷ codes "0" ++ 47 ∷ codes "0"
+
+-- whatever the size of a shard, revision 0 is in shard 0
+first_name : (folder : List ℕ) (n : ℕ) → in_shard folder n 0 ≡ first_of folder
+first_name folder n =
+    ap (λ (k : ℕ). folder ++ 47 ∷ decimal k ++ 47 ∷ decimal 0) (zero-div n)
+    ∙ ap (λ (t : List ℕ). folder ++ 47 ∷ t ++ 47 ∷ t) zero_text
+
+file_is : (files : Files) (folder bytes : List ℕ) (n : ℕ) → get files (first_of folder) ≡ Some bytes → or_missing 0 (get files (in_shard folder n 0)) ≡ Ok bytes
+file_is files folder bytes n there = ap (or_missing 0) (ap (get files) (first_name folder n) ∙ there)
+
+rev_is : (n : ℕ) (files : Files) (bytes : List ℕ) → floor_in n files ≡ Ok 0 → get files (codes "db/revs/0/0") ≡ Some bytes → rev_bytes n files 0 ≡ Ok bytes
+unfolding rev_bytes
+rev_is n files bytes floor there = ap (by_floor n files 0) floor ∙ file_is files (codes "db/revs") bytes n there
+
+-- ---- the history
+
+pub new_repositories_stand : NewRepositoriesStand
+new_repositories_stand files date w =
+    let h = w.new in
+    let n = w.shard_size in
+    let floor = h.1.1.1.1.1.0 in
+    let bytes : rev_bytes n files 0 ≡ Ok first_bytes = rev_is n files first_bytes (floor_is n files floor) h.1.1.1.1.1.1.1.1.0 in
+    let properties : props_bytes n files 0 ≡ Ok (date_properties date) = file_is files (codes "db/revprops") (date_properties date) n h.1.1.1.1.1.1.1.1.1.0 in
+    record {
+      shard_size = n;
+      youngest = 0;
+      floor = 0;
+      small = record {
+        format = (format_text n, h.1.1.1.1.1.1.1.1.1.1.0, format_is n w.from_one w.most);
+        fs_type = h.1.0;
+        uuid = (w.identifier, (w.identifier ++ codes "\n", h.1.1.0, uuid_line w.identifier (w.identifier ++ codes "\n") w.characters w.one_line refl));
+        current = (codes "0\n", h.1.1.1.0, zero_line);
+        min_unpacked_rev = (codes "0\n", floor, (zero_line, zero-mod n));
+        txn_current = (0, (codes "0\n", h.1.1.1.1.0, zero_line36));
+        within = omega arith;
+      };
+      count = refl;
+      history = first_history (rev_bytes n files) (props_bytes n files) date w.moment w.dated bytes properties;
+    }
