@@ -13,7 +13,7 @@ use Rattle.fsfs_look.specs.declared.look_error.LookError.TheVariants as errors
 use Rattle.fsfs_look.specs.declared.look_error.LookFault.{LookFault}
 use Rattle.fsfs_look.specs.declared.look_error.LookFault.TheVariants as faults
 use Rattle.fsfs_look.specs.declared.tree.Pending.{Pending}
-use Rattle.fsfs_look.specs.Output.{AddsFront}
+use Rattle.fsfs_output.specs.Output.{AddsFront}
 use Rattle.fsfs_look.specs.Paths.{IsFound, IsNotFound}
 use Rattle.fsfs_look.specs.Texts.{End, Whole, Refused, Stopped, Nothing, AtPath}
 use Rattle.fsfs_look.specs.TreeTexts.{NodeText, TreeText}

@@ -1,4 +1,3 @@
-pub mod OutputLemmas
 pub mod WalkLemmas
 pub mod WeightLemmas
 pub mod TextLemmas

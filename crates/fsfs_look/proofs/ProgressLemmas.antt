@@ -15,7 +15,7 @@ use Rattle.fsfs_look.specs.declared.look_error.LookError.TheVariants as errors
 use Rattle.fsfs_look.specs.declared.look_error.LookFault.TheVariants as faults
 use Rattle.fsfs_look.specs.declared.tree.Pending.{Pending}
 use Rattle.fsfs_look.specs.Errors.{of_read}
-use Rattle.fsfs_look.specs.Output.{AddsFront}
+use Rattle.fsfs_output.specs.Output.{AddsFront}
 use Rattle.fsfs_look.specs.Texts.{End, Whole, Refused, Stopped}
 use Rattle.fsfs_look.specs.TreeTexts.{NodeText, EntryText}
 use Rattle.fsfs_look.specs.Walks.{left, Then, LeftText, Puts, Joins, JoinsSome, WalksTo, Walks}

@@ -1,5 +1,4 @@
 pub mod Errors
-pub mod Output
 pub mod Paths
 pub mod Lines
 pub mod Texts

@@ -11,7 +11,7 @@ use Rattle.fsfs_dag.specs.declared.directory.Entry.{Entry as PlacedEntry}
 use Rattle.fsfs_look.specs.declared.tree.Pending.{Pending}
 use Rattle.fsfs_look.specs.declared.look_error.LookError.{LookError}
 use Rattle.fsfs_look.specs.declared.look_error.LookError.TheVariants as errors
-use Rattle.fsfs_look.specs.Output.{AddsFront}
+use Rattle.fsfs_output.specs.Output.{AddsFront}
 use Rattle.fsfs_look.specs.Texts.{End, Whole, Refused, Stopped, Nothing}
 use Rattle.fsfs_look.specs.TreeTexts.{NodeText, EntryText}
 

@@ -4,7 +4,7 @@ use Rattle.fsfs_disk.specs.Fault.{Rose}
 use Rattle.fsfs_disk.specs.Streams.{Adds}
 use Rattle.fsfs_look.specs.declared.look_error.LookError.{LookError}
 use Rattle.fsfs_look.specs.declared.look_error.LookError.TheVariants as errors
-use Rattle.fsfs_look.specs.Output.{AddsFront}
+use Rattle.fsfs_output.specs.Output.{AddsFront}
 use Rattle.fsfs_look.specs.Texts.{End, Whole, Refused}
 
 -- a first part of a text was written

@@ -14,7 +14,7 @@ ghost use Rattle.fsfs_look.specs.FileTexts.{FileText, IsWholeText};
 ghost use Rattle.fsfs_look.specs.Written.{Writes, HasDiskCause, HasSinkCause};
 
 use crate::look_error::{LookError, LookFault};
-use crate::output::write_piece;
+use crate::piece::write_piece;
 use crate::path::found_at;
 use fsfs_base::{FsPath, Kind};
 use fsfs_book::{Book, BookFault};

@@ -6,13 +6,12 @@
 mod file;
 mod lines;
 mod look_error;
-mod output;
 mod path;
+mod piece;
 #[cfg(test)]
 mod tests;
 mod tree;
 
 pub use file::cat;
 pub use look_error::{LookError, LookFault};
-pub use output::print;
 pub use tree::tree_text;

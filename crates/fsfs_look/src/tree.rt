@@ -8,7 +8,7 @@ ghost use Rattle.fsfs_disk.specs.Streams.{Adds};
 ghost use Rattle.fsfs_dag.specs.Views.{home_of};
 ghost use Rattle.fsfs_look.specs.declared.look_error.LookError.TheVariants.{OutOfMemory, WriteFault};
 ghost use Rattle.fsfs_look.specs.Lines.{HasIdText};
-ghost use Rattle.fsfs_look.specs.Output.{AddsFront};
+ghost use Rattle.fsfs_output.specs.Output.{AddsFront};
 ghost use Rattle.fsfs_look.specs.TreeTexts.{TreeText};
 ghost use Rattle.fsfs_look.specs.Walks.{left, pend, LeftText, NodeFrom, AreWithin, Puts, Walks, EndsSo};
 ghost use Rattle.fsfs_look.specs.Weights.{total, weight};
@@ -16,7 +16,7 @@ ghost use Rattle.fsfs_look.specs.Written.{Writes, HasDiskCause, HasSinkCause};
 
 use crate::lines::put_line;
 use crate::look_error::LookError;
-use crate::output::write_piece;
+use crate::piece::write_piece;
 use crate::path::{found_at, last_name};
 use fsfs_base::{FsPath, Kind};
 use fsfs_book::Book;

@@ -1,27 +1,15 @@
-//! Writing into a sink.
-ghost use Rattle.std.specs.Prelude.{◌≡◌, ◌≤◌, ℕ, Option, Some, OnOk, OnErr, IfErr, take, length};
-ghost use Rattle.fsfs_disk.specs.Fault.{Rose};
+//! Writing a part of a look.
+ghost use Rattle.std.specs.Prelude.{◌≡◌, OnOk, OnErr, IfErr};
 ghost use Rattle.fsfs_disk.specs.Streams.{Adds};
+ghost use Rattle.fsfs_output.specs.Output.{AddsFront};
 ghost use Rattle.fsfs_look.specs.declared.look_error.LookError.TheVariants.{WriteFault};
-ghost use Rattle.fsfs_look.specs.Output.{AddsFront, Prints};
 ghost use Rattle.fsfs_look.specs.Written.{HasSinkCause};
 
 use crate::look_error::LookError;
-use fsfs_disk::{Failed, Sink};
+use fsfs_disk::Sink;
+use fsfs_output::print;
 
-/// Writes a text, or after a failure the part of it before.
-pub fn print<S: Sink>(sink: &mut S, text: &[u8]) -> Result<(), Failed>
-    ensures printed { Prints (S.written sink.old) (S.written sink.new) text.now (S.faults sink.old) (S.faults sink.new) result }
-{
-    let mut rest = text;
-    while !rest.is_empty() {
-        let count = sink.write(rest)?;
-        rest = &rest[count..];
-    }
-    Ok(())
-}
-
-/// The same, as a part of a look.
+/// Writes a part of a look, or after a failure a first part of it.
 pub(crate) fn write_piece<S: Sink>(sink: &mut S, text: &[u8]) -> Result<(), LookError>
     ensures added { OnOk result (Adds (S.written sink.old) (S.written sink.new) text.now) }
     ensures part { OnErr result (AddsFront (S.written sink.old) (S.written sink.new) text.now) }
