@@ -47,16 +47,6 @@ impl From<AllocError> for LookError {
     }
 }
 
-impl From<LookFault> for LookError {
-    ghost use Rattle.fsfs_look.specs.declared.look_error.LookError.TheVariants.{Fault};
-
-    ghost from_gives = { λ fault e. e ≡ Fault fault };
-
-    fn from(fault: LookFault) -> LookError {
-        LookError::Fault(fault)
-    }
-}
-
 impl From<ReadError> for LookError {
     ghost use Rattle.fsfs_look.specs.Errors.{of_read};
 

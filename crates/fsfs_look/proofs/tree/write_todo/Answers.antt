@@ -17,7 +17,7 @@ use Rattle.fsfs_look.proofs.tree.write_todo.Goals as goal
 
 pub loop-next-init : goal.loop-next-init
 loop-next-init g c = record {
-  kept = record { revs = λ r read e. e; props = λ r read e. e; youngest = λ y e. e };
+  kept = record { revs = λ r read e. e; props = λ r read e. e; youngest = λ y e. e; below = refl };
   later = omega arith;
   sink = omega arith;
   within = λ top w. w;
