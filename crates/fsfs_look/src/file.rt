@@ -14,8 +14,8 @@ ghost use Rattle.fsfs_look.specs.FileTexts.{FileText, IsWholeText};
 ghost use Rattle.fsfs_look.specs.Written.{Writes, HasDiskCause, HasSinkCause};
 
 use crate::look_error::{LookError, LookFault};
-use crate::piece::write_piece;
 use crate::path::found_at;
+use crate::piece::write_piece;
 use fsfs_base::{FsPath, Kind};
 use fsfs_book::{Book, BookFault};
 use fsfs_disk::Sink;

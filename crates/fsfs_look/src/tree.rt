@@ -16,8 +16,8 @@ ghost use Rattle.fsfs_look.specs.Written.{Writes, HasDiskCause, HasSinkCause};
 
 use crate::lines::put_line;
 use crate::look_error::LookError;
-use crate::piece::write_piece;
 use crate::path::{found_at, last_name};
+use crate::piece::write_piece;
 use fsfs_base::{FsPath, Kind};
 use fsfs_book::Book;
 use fsfs_dag::{Entry, PlacedNode, child_of, entries};
