@@ -27,8 +27,8 @@ fn of_book(at: RevOffset, fault: BookFault) -> ReadError
     }
 }
 
-/// A fault of the representation at this place.
-pub(crate) fn of_rep(at: RevOffset, fault: RepFault) -> ReadError
+/// What a fault of the representation whose header is to begin at this place means to a reading.
+pub fn of_rep(at: RevOffset, fault: RepFault) -> ReadError
     ensures { result ≡ of_rep at fault }
 {
     match fault {
@@ -52,8 +52,8 @@ pub(crate) fn of_rep_error(at: RevOffset, error: RepError) -> ReadError
     }
 }
 
-/// Where a representation's header is to begin.
-pub(crate) fn rep_place(rep: &Rep) -> RevOffset
+/// Where the header of a representation of a committed revision is to begin: a revision and a byte of it.
+pub fn rep_place(rep: &Rep) -> RevOffset
     ensures { result ≡ rep_place rep.now }
 {
     RevOffset {

@@ -17,6 +17,7 @@ mod writing;
 
 pub use contents::{props, text_of};
 pub use directory::{Entry, entries, entry_named};
+pub use faults::{of_rep, rep_place};
 pub use node::PlacedNode;
 pub use reading::{child_of, named_node, root_of};
 pub use walk::{Met, child_named, node_at};

@@ -3,3 +3,4 @@ pub mod Files
 pub mod Writing
 pub mod Offsets
 pub mod Manifests
+pub mod Apart

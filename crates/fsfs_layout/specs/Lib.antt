@@ -5,3 +5,4 @@ pub mod Reading
 pub mod Names
 pub mod ManifestReading
 pub mod Manifest
+pub mod FileNames

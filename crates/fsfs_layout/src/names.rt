@@ -5,6 +5,7 @@ ghost use Rattle.std.specs.Fmt.{decimal};
 ghost use Rattle.fsfs_text.specs.Base36.{glyph, last_digits};
 ghost use Rattle.fsfs_fields.specs.TxnNames.{txn_text};
 ghost use Rattle.fsfs_layout.specs.Names.{in_shard, in_pack, with_txn, small_name};
+ghost use Rattle.fsfs_layout.specs.FileNames.{NamesAreApart};
 
 use fsfs_base::{Name, SmallFile, TxnName};
 use itoa::Buffer;
@@ -288,4 +289,11 @@ pub fn proto_revision_lock(txn: &TxnName) -> Name
     push_txn(&mut name, txn);
     name.push_str(".rev-lock");
     name
+}
+
+/// A law: no two files or folders of a repository have one name, whatever the size of its shards.
+pub fn names_are_apart(shard_size: u32)
+    ensures { NamesAreApart shard_size }
+{
+    let _ = shard_size;
 }

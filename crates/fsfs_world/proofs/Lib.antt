@@ -6,6 +6,7 @@ pub mod Given
 pub mod Benches
 pub mod Keeps
 pub mod Steps
+pub mod Running
 pub mod Created
 pub mod Showing
 pub mod LineLemmas

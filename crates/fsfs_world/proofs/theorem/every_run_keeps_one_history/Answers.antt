@@ -2,7 +2,8 @@
 use Rattle.std.proofs.Common.{refl}
 use Rattle.fsfs_world.specs.Machine.{created}
 use Rattle.fsfs_world.proofs.Created.{created_kept}
-use Rattle.fsfs_world.proofs.Steps.{step_keeps, run_keeps}
+use Rattle.fsfs_world.proofs.Steps.{step_keeps}
+use Rattle.fsfs_world.proofs.Running.{run_keeps}
 use Rattle.fsfs_world.proofs.theorem.every_run_keeps_one_history.Goals as goal
 
 pub returns-clause-steps : goal.returns-clause-steps

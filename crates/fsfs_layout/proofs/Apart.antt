@@ -1,0 +1,321 @@
+-- No two files have one name.
+use Rattle.std.proofs.Common.{◌≡◌, ℕ, suc, ◌/◌, ◌<◌, ◌≤◌, ◌^◌, Bool, true, false, cond, eqb, List, [], ◌∷◌, ◌++◌, length, refl, sym, ap, subst, ◌∙◌, append_assoc, arith}
+use Rattle.std.specs.Prelude.{codes}
+use Rattle.std.specs.List.{AllByRecursion}
+use Rattle.std.specs.Str.{bytes_eq}
+use Rattle.std.specs.Fmt.{decimal}
+use Rattle.std.proofs.lemmas.List.{append_cancel_left, append-nil}
+use Rattle.std.proofs.Math.Nat.{div-le_self}
+use Rattle.fsfs_text.specs.Numeral.{digit, value_after, IsNumeral}
+use Rattle.fsfs_text.specs.Base36.{base36}
+use Rattle.fsfs_text.proofs.Unique.{decimal_numeral, numeral_digits}
+use Rattle.fsfs_text.proofs.Base36Texts.{base36_numeral}
+use Rattle.fsfs_fields.specs.TxnNames.{txn_text}
+use Rattle.fsfs_layout.specs.Names.{in_shard, in_pack}
+use Rattle.fsfs_layout.specs.FileNames.{OnlyFile, RepositoryFormat, Format, FormatNext, FsType, Uuid, Current, CurrentNext, MinUnpackedRev, MinUnpackedRevNext, TxnCurrent, TxnCurrentNext, TxnCurrentLock, WriteLock, Revisions, RevisionProps, Transactions, ProtoRevisions, only_name, RevsFile, Shard, Revision, PackFolder, Pack, Manifest, PropsFile, PropsShard, Props, TxnFile, Folder, Below, txn_file_end, ProtoFile, Texts, Lock, proto_file_end, File, Only, InRevs, InProps, OfTxn, OfProto, revs_name, props_name, file_name, FitsRevs, FitsProps, FitsFile, NamesAreApart}
+
+-- ---- numbers in names
+
+abbrev AreDigits : ℕ → List ℕ → Type 0
+AreDigits base = AllByRecursion (λ d. digit d < base)
+
+-- no digit stands first
+abbrev NoDigit : ℕ → List ℕ → Type 0
+NoDigit base [] = Unit {0}
+NoDigit base (c ∷ cs) = base ≤ digit c
+
+same_front : (base : ℕ) (s t p q : List ℕ) → AreDigits base s → AreDigits base t → NoDigit base p → NoDigit base q → s ++ p ≡ t ++ q → (s ≡ t) × (p ≡ q)
+same_front base [] [] p q a b c d e = (refl, e)
+same_front base [] (x ∷ t) [] q a b c d e = absurd cc
+same_front base [] (x ∷ t) (y ∷ p) q a b c d e = let same : y ≡ x = cc in absurd (omega (arith, ap digit same, c, b.0))
+same_front base (x ∷ s) [] p [] a b c d e = absurd cc
+same_front base (x ∷ s) [] p (y ∷ q) a b c d e = let same : x ≡ y = cc in absurd (omega (arith, ap digit same, d, a.0))
+same_front base (x ∷ s) (y ∷ t) p q a b c d e =
+    let first : x ≡ y = cc in
+    let rest : s ++ p ≡ t ++ q = cc in
+    let w = same_front base s t p q a.1 b.1 c d rest in
+    ((λ i. first i ∷ w.0 i), w.1)
+
+same_number : (base m n : ℕ) (s t : List ℕ) → IsNumeral base s m → IsNumeral base t n → s ≡ t → m ≡ n
+same_number base m n s t a b e = sym (numeral_digits base s m a).2 ∙ ap (value_after base 0) e ∙ (numeral_digits base t n b).2
+
+same_decimal : (m n : ℕ) (p q : List ℕ) → m < 2 ^ 64 → n < 2 ^ 64 → NoDigit 10 p → NoDigit 10 q → decimal m ++ p ≡ decimal n ++ q → (m ≡ n) × (p ≡ q)
+same_decimal m n p q fits fits' c d e =
+    let a = decimal_numeral m fits in
+    let b = decimal_numeral n fits' in
+    let w = same_front 10 (decimal m) (decimal n) p q (numeral_digits 10 (decimal m) m a).0 (numeral_digits 10 (decimal n) n b).0 c d e in
+    (same_number 10 m n (decimal m) (decimal n) a b w.0, w.1)
+
+same_base36 : (m n : ℕ) (p q : List ℕ) → m < 170581728179578208256 → n < 170581728179578208256 → NoDigit 36 p → NoDigit 36 q → base36 m ++ p ≡ base36 n ++ q → (m ≡ n) × (p ≡ q)
+same_base36 m n p q fits fits' c d e =
+    let a = base36_numeral m fits in
+    let b = base36_numeral n fits' in
+    let w = same_front 36 (base36 m) (base36 n) p q (numeral_digits 36 (base36 m) m a).0 (numeral_digits 36 (base36 n) n b).0 c d e in
+    (same_number 36 m n (base36 m) (base36 n) a b w.0, w.1)
+
+record SameTxn (b c m n : ℕ) (p q : List ℕ) : Type 0 where
+  pub base : b ≡ c
+  pub number : m ≡ n
+  pub rest : p ≡ q
+
+same_txn : (front p q : List ℕ) (b c m n : ℕ) → b < 2 ^ 32 → c < 2 ^ 32 → m < 170581728179578208256 → n < 170581728179578208256 → NoDigit 36 p → NoDigit 36 q → front ++ txn_text b m ++ p ≡ front ++ txn_text c n ++ q → SameTxn b c m n p q
+same_txn front p q b c m n fb fc fm fn np nq e =
+    let one : front ++ (decimal b ++ (45 ∷ (base36 m ++ p))) ≡ front ++ (decimal c ++ (45 ∷ (base36 n ++ q))) = sym (parts b m p) ∙ e ∙ parts c n q in
+    let two = same_decimal b c (45 ∷ (base36 m ++ p)) (45 ∷ (base36 n ++ q)) (omega arith) (omega arith) (omega arith) (omega arith) (append_cancel_left front (decimal b ++ (45 ∷ (base36 m ++ p))) (decimal c ++ (45 ∷ (base36 n ++ q))) one) in
+    let tail = two.1 in
+    let three = same_base36 m n p q fm fn np nq (let t : base36 m ++ p ≡ base36 n ++ q = cc in t) in
+    record { base = two.0; number = three.0; rest = three.1 }
+  where
+    parts : (b m : ℕ) (p : List ℕ) → front ++ txn_text b m ++ p ≡ front ++ (decimal b ++ (45 ∷ (base36 m ++ p)))
+    parts b m p = simp append_assoc
+
+-- ---- which folder a name is in
+
+abbrev starts : List ℕ → List ℕ → Bool
+starts [] text = true
+starts (c ∷ cs) [] = false
+starts (c ∷ cs) (b ∷ bs) = cond (eqb b c) (starts cs bs) false
+
+abbrev group : List ℕ → ℕ
+group text = cond (starts (codes "db/revs/") text) 1 (cond (starts (codes "db/revprops/") text) 2 (cond (starts (codes "db/transactions/") text) 3 (cond (starts (codes "db/txn-protorevs/") text) 4 0)))
+
+abbrev group_of : File → ℕ
+group_of (Only f) = 0
+group_of (InRevs f) = 1
+group_of (InProps f) = 2
+group_of (OfTxn base number f) = 3
+group_of (OfProto base number f) = 4
+
+only_group : (f : OnlyFile) → group (only_name f) ≡ 0
+only_group RepositoryFormat = refl
+only_group Format = refl
+only_group FormatNext = refl
+only_group FsType = refl
+only_group Uuid = refl
+only_group Current = refl
+only_group CurrentNext = refl
+only_group MinUnpackedRev = refl
+only_group MinUnpackedRevNext = refl
+only_group TxnCurrent = refl
+only_group TxnCurrentNext = refl
+only_group TxnCurrentLock = refl
+only_group WriteLock = refl
+only_group Revisions = refl
+only_group RevisionProps = refl
+only_group Transactions = refl
+only_group ProtoRevisions = refl
+
+name_group : (shard_size : ℕ) (f : File) → group (file_name shard_size f) ≡ group_of f
+name_group shard_size (Only f) = only_group f
+name_group shard_size (InRevs (Shard n)) = refl
+name_group shard_size (InRevs (Revision rev)) = refl
+name_group shard_size (InRevs (PackFolder n)) = refl
+name_group shard_size (InRevs (Pack n)) = refl
+name_group shard_size (InRevs (Manifest n)) = refl
+name_group shard_size (InProps (PropsShard n)) = refl
+name_group shard_size (InProps (Props rev)) = refl
+name_group shard_size (OfTxn base number f) = refl
+name_group shard_size (OfProto base number f) = refl
+
+-- ---- within a folder
+
+-- the file of a name that is there once
+abbrev only_of : List ℕ → OnlyFile
+only_of text =
+    cond (bytes_eq text (codes "format")) RepositoryFormat (cond (bytes_eq text (codes "db/format")) Format (cond (bytes_eq text (codes "db/format-next")) FormatNext
+    (cond (bytes_eq text (codes "db/fs-type")) FsType (cond (bytes_eq text (codes "db/uuid")) Uuid (cond (bytes_eq text (codes "db/current")) Current (cond (bytes_eq text (codes "db/current-next")) CurrentNext
+    (cond (bytes_eq text (codes "db/min-unpacked-rev")) MinUnpackedRev (cond (bytes_eq text (codes "db/min-unpacked-rev-next")) MinUnpackedRevNext (cond (bytes_eq text (codes "db/txn-current")) TxnCurrent
+    (cond (bytes_eq text (codes "db/txn-current-next")) TxnCurrentNext (cond (bytes_eq text (codes "db/txn-current-lock")) TxnCurrentLock (cond (bytes_eq text (codes "db/write-lock")) WriteLock
+    (cond (bytes_eq text (codes "db/revs")) Revisions (cond (bytes_eq text (codes "db/revprops")) RevisionProps (cond (bytes_eq text (codes "db/transactions")) Transactions ProtoRevisions)))))))))))))))
+
+only_back : (f : OnlyFile) → only_of (only_name f) ≡ f
+only_back RepositoryFormat = refl
+only_back Format = refl
+only_back FormatNext = refl
+only_back FsType = refl
+only_back Uuid = refl
+only_back Current = refl
+only_back CurrentNext = refl
+only_back MinUnpackedRev = refl
+only_back MinUnpackedRevNext = refl
+only_back TxnCurrent = refl
+only_back TxnCurrentNext = refl
+only_back TxnCurrentLock = refl
+only_back WriteLock = refl
+only_back Revisions = refl
+only_back RevisionProps = refl
+only_back Transactions = refl
+only_back ProtoRevisions = refl
+
+-- a number and what stands behind it
+abbrev revs_number : ℕ → RevsFile → ℕ
+revs_number shard_size (Shard n) = n
+revs_number shard_size (Revision rev) = rev / shard_size
+revs_number shard_size (PackFolder n) = n
+revs_number shard_size (Pack n) = n
+revs_number shard_size (Manifest n) = n
+
+abbrev revs_end : RevsFile → List ℕ
+revs_end (Shard n) = []
+revs_end (Revision rev) = 47 ∷ decimal rev
+revs_end (PackFolder n) = codes ".pack"
+revs_end (Pack n) = codes ".pack/pack"
+revs_end (Manifest n) = codes ".pack/manifest"
+
+revs_parts : (shard_size : ℕ) (f : RevsFile) → revs_name shard_size f ≡ codes "db/revs/" ++ (decimal (revs_number shard_size f) ++ revs_end f)
+revs_parts shard_size (Shard n) = ap (λ (t : List ℕ). codes "db/revs/" ++ t) (sym (append-nil (decimal n)))
+revs_parts shard_size (Revision rev) = simp append_assoc
+revs_parts shard_size (PackFolder n) = simp append_assoc
+revs_parts shard_size (Pack n) = simp append_assoc
+revs_parts shard_size (Manifest n) = simp append_assoc
+
+revs_no_digit : (f : RevsFile) → NoDigit 10 (revs_end f)
+revs_no_digit (Shard n) = tt
+revs_no_digit (Revision rev) = omega arith
+revs_no_digit (PackFolder n) = omega arith
+revs_no_digit (Pack n) = omega arith
+revs_no_digit (Manifest n) = omega arith
+
+div_fits : (n k : ℕ) → n < 2 ^ 32 → n / k < 2 ^ 64
+div_fits n k fits = omega (arith, fits, div-le_self n k)
+
+revs_fits : (shard_size : ℕ) (f : RevsFile) → FitsRevs f → revs_number shard_size f < 2 ^ 64
+revs_fits shard_size (Shard n) fits = omega arith
+revs_fits shard_size (Revision rev) fits = div_fits rev shard_size fits
+revs_fits shard_size (PackFolder n) fits = omega arith
+revs_fits shard_size (Pack n) fits = omega arith
+revs_fits shard_size (Manifest n) fits = omega arith
+
+rev_ends : (r s : ℕ) → r < 2 ^ 32 → s < 2 ^ 32 → (47 ∷ decimal r) ≡ (47 ∷ decimal s) → r ≡ s
+rev_ends r s fr fs e =
+    let tails : decimal r ≡ decimal s = cc in
+    same_number 10 r s (decimal r) (decimal s) (decimal_numeral r (omega arith)) (decimal_numeral s (omega arith)) tails
+
+not_nil : (c : ℕ) (cs : List ℕ) → (c ∷ cs) ≡ [] → ⊥
+not_nil c cs e = cc
+
+heads : (c d : ℕ) (cs ds : List ℕ) → (c ∷ cs) ≡ (d ∷ ds) → c ≡ d
+heads c d cs ds e = cc
+
+revs_same : (shard_size : ℕ) (a b : RevsFile) → FitsRevs a → FitsRevs b → revs_number shard_size a ≡ revs_number shard_size b → revs_end a ≡ revs_end b → a ≡ b
+revs_same k (Shard n) (Shard m) fa fb e t = ap (λ (x : ℕ). Shard x) e
+revs_same k (Shard n) (Revision m) fa fb e t = absurd (not_nil 47 (decimal m) (sym t))
+revs_same k (Shard n) (PackFolder m) fa fb e t = absurd (not_nil 46 (codes "pack") (sym t))
+revs_same k (Shard n) (Pack m) fa fb e t = absurd (not_nil 46 (codes "pack/pack") (sym t))
+revs_same k (Shard n) (Manifest m) fa fb e t = absurd (not_nil 46 (codes "pack/manifest") (sym t))
+revs_same k (Revision n) (Shard m) fa fb e t = absurd (not_nil 47 (decimal n) t)
+revs_same k (Revision n) (Revision m) fa fb e t = ap (λ (x : ℕ). Revision x) (rev_ends n m fa fb t)
+revs_same k (Revision n) (PackFolder m) fa fb e t = absurd (omega (arith, heads 47 46 (decimal n) (codes "pack") t))
+revs_same k (Revision n) (Pack m) fa fb e t = absurd (omega (arith, heads 47 46 (decimal n) (codes "pack/pack") t))
+revs_same k (Revision n) (Manifest m) fa fb e t = absurd (omega (arith, heads 47 46 (decimal n) (codes "pack/manifest") t))
+revs_same k (PackFolder n) (Shard m) fa fb e t = absurd (not_nil 46 (codes "pack") t)
+revs_same k (PackFolder n) (Revision m) fa fb e t = absurd (omega (arith, heads 46 47 (codes "pack") (decimal m) t))
+revs_same k (PackFolder n) (PackFolder m) fa fb e t = ap (λ (x : ℕ). PackFolder x) e
+revs_same k (PackFolder n) (Pack m) fa fb e t = let d : 5 ≡ 10 = ap length t in absurd (omega (arith, d))
+revs_same k (PackFolder n) (Manifest m) fa fb e t = let d : 5 ≡ 14 = ap length t in absurd (omega (arith, d))
+revs_same k (Pack n) (Shard m) fa fb e t = absurd (not_nil 46 (codes "pack/pack") t)
+revs_same k (Pack n) (Revision m) fa fb e t = absurd (omega (arith, heads 46 47 (codes "pack/pack") (decimal m) t))
+revs_same k (Pack n) (PackFolder m) fa fb e t = let d : 10 ≡ 5 = ap length t in absurd (omega (arith, d))
+revs_same k (Pack n) (Pack m) fa fb e t = ap (λ (x : ℕ). Pack x) e
+revs_same k (Pack n) (Manifest m) fa fb e t = let d : 10 ≡ 14 = ap length t in absurd (omega (arith, d))
+revs_same k (Manifest n) (Shard m) fa fb e t = absurd (not_nil 46 (codes "pack/manifest") t)
+revs_same k (Manifest n) (Revision m) fa fb e t = absurd (omega (arith, heads 46 47 (codes "pack/manifest") (decimal m) t))
+revs_same k (Manifest n) (PackFolder m) fa fb e t = let d : 14 ≡ 5 = ap length t in absurd (omega (arith, d))
+revs_same k (Manifest n) (Pack m) fa fb e t = let d : 14 ≡ 10 = ap length t in absurd (omega (arith, d))
+revs_same k (Manifest n) (Manifest m) fa fb e t = ap (λ (x : ℕ). Manifest x) e
+
+revs_apart : (shard_size : ℕ) (a b : RevsFile) → FitsRevs a → FitsRevs b → revs_name shard_size a ≡ revs_name shard_size b → a ≡ b
+revs_apart k a b fa fb e =
+    let one = append_cancel_left (codes "db/revs/") (decimal (revs_number k a) ++ revs_end a) (decimal (revs_number k b) ++ revs_end b) (sym (revs_parts k a) ∙ e ∙ revs_parts k b) in
+    let two = same_decimal (revs_number k a) (revs_number k b) (revs_end a) (revs_end b) (revs_fits k a fa) (revs_fits k b fb) (revs_no_digit a) (revs_no_digit b) one in
+    revs_same k a b fa fb two.0 two.1
+
+abbrev props_number : ℕ → PropsFile → ℕ
+props_number shard_size (PropsShard n) = n
+props_number shard_size (Props rev) = rev / shard_size
+
+abbrev props_end : PropsFile → List ℕ
+props_end (PropsShard n) = []
+props_end (Props rev) = 47 ∷ decimal rev
+
+props_parts : (shard_size : ℕ) (f : PropsFile) → props_name shard_size f ≡ codes "db/revprops/" ++ (decimal (props_number shard_size f) ++ props_end f)
+props_parts shard_size (PropsShard n) = ap (λ (t : List ℕ). codes "db/revprops/" ++ t) (sym (append-nil (decimal n)))
+props_parts shard_size (Props rev) = simp append_assoc
+
+props_no_digit : (f : PropsFile) → NoDigit 10 (props_end f)
+props_no_digit (PropsShard n) = tt
+props_no_digit (Props rev) = omega arith
+
+props_fits : (shard_size : ℕ) (f : PropsFile) → FitsProps f → props_number shard_size f < 2 ^ 64
+props_fits shard_size (PropsShard n) fits = omega arith
+props_fits shard_size (Props rev) fits = div_fits rev shard_size fits
+
+props_same : (shard_size : ℕ) (a b : PropsFile) → FitsProps a → FitsProps b → props_number shard_size a ≡ props_number shard_size b → props_end a ≡ props_end b → a ≡ b
+props_same k (PropsShard n) (PropsShard m) fa fb e t = ap (λ (x : ℕ). PropsShard x) e
+props_same k (PropsShard n) (Props m) fa fb e t = absurd (not_nil 47 (decimal m) (sym t))
+props_same k (Props n) (PropsShard m) fa fb e t = absurd (not_nil 47 (decimal n) t)
+props_same k (Props n) (Props m) fa fb e t = ap (λ (x : ℕ). Props x) (rev_ends n m fa fb t)
+
+props_apart : (shard_size : ℕ) (a b : PropsFile) → FitsProps a → FitsProps b → props_name shard_size a ≡ props_name shard_size b → a ≡ b
+props_apart k a b fa fb e =
+    let one = append_cancel_left (codes "db/revprops/") (decimal (props_number k a) ++ props_end a) (decimal (props_number k b) ++ props_end b) (sym (props_parts k a) ∙ e ∙ props_parts k b) in
+    let two = same_decimal (props_number k a) (props_number k b) (props_end a) (props_end b) (props_fits k a fa) (props_fits k b fb) (props_no_digit a) (props_no_digit b) one in
+    props_same k a b fa fb two.0 two.1
+
+txn_no_digit : (f : TxnFile) → NoDigit 36 (txn_file_end f)
+txn_no_digit Folder = omega arith
+txn_no_digit (Below file) = omega arith
+
+txn_ends : (f g : TxnFile) → txn_file_end f ≡ txn_file_end g → f ≡ g
+txn_ends Folder Folder e = refl
+txn_ends Folder (Below file) e = absurd cc
+txn_ends (Below file) Folder e = absurd cc
+txn_ends (Below file) (Below other) e = ap (λ (x : List ℕ). Below x) (append_cancel_left (codes ".txn/") file other e)
+
+proto_no_digit : (f : ProtoFile) → NoDigit 36 (proto_file_end f)
+proto_no_digit Texts = omega arith
+proto_no_digit Lock = omega arith
+
+proto_ends : (f g : ProtoFile) → proto_file_end f ≡ proto_file_end g → f ≡ g
+proto_ends Texts Texts e = refl
+proto_ends Texts Lock e = absurd cc
+proto_ends Lock Texts e = absurd cc
+proto_ends Lock Lock e = refl
+
+-- ---- all names
+
+pub names_apart : (shard_size : ℕ) → NamesAreApart shard_size
+names_apart k a b fa fb e = go a b fa fb e (sym (name_group k a) ∙ ap group e ∙ name_group k b)
+  where
+    go : (a b : File) → FitsFile a → FitsFile b → file_name k a ≡ file_name k b → group_of a ≡ group_of b → a ≡ b
+    go (Only f) (Only g) fa fb e same = ap (λ (x : OnlyFile). Only x) (sym (only_back f) ∙ ap only_of e ∙ only_back g)
+    go (InRevs f) (InRevs g) fa fb e same = ap (λ (x : RevsFile). InRevs x) (revs_apart k f g fa fb e)
+    go (InProps f) (InProps g) fa fb e same = ap (λ (x : PropsFile). InProps x) (props_apart k f g fa fb e)
+    go (OfTxn b m f) (OfTxn c n g) fa fb e same =
+        let w = same_txn (codes "db/transactions/") (txn_file_end f) (txn_file_end g) b c m n fa.0 fb.0 fa.1 fb.1 (txn_no_digit f) (txn_no_digit g) e in
+        let file = txn_ends f g w.rest in
+        λ i. OfTxn (w.base i) (w.number i) (file i)
+    go (OfProto b m f) (OfProto c n g) fa fb e same =
+        let w = same_txn (codes "db/txn-protorevs/") (proto_file_end f) (proto_file_end g) b c m n fa.0 fb.0 fa.1 fb.1 (proto_no_digit f) (proto_no_digit g) e in
+        let file = proto_ends f g w.rest in
+        λ i. OfProto (w.base i) (w.number i) (file i)
+    go (Only f) (InRevs g) fa fb e same = absurd cc
+    go (Only f) (InProps g) fa fb e same = absurd cc
+    go (Only f) (OfTxn c n g) fa fb e same = absurd cc
+    go (Only f) (OfProto c n g) fa fb e same = absurd cc
+    go (InRevs f) (Only g) fa fb e same = absurd cc
+    go (InRevs f) (InProps g) fa fb e same = absurd cc
+    go (InRevs f) (OfTxn c n g) fa fb e same = absurd cc
+    go (InRevs f) (OfProto c n g) fa fb e same = absurd cc
+    go (InProps f) (Only g) fa fb e same = absurd cc
+    go (InProps f) (InRevs g) fa fb e same = absurd cc
+    go (InProps f) (OfTxn c n g) fa fb e same = absurd cc
+    go (InProps f) (OfProto c n g) fa fb e same = absurd cc
+    go (OfTxn b m f) (Only g) fa fb e same = absurd cc
+    go (OfTxn b m f) (InRevs g) fa fb e same = absurd cc
+    go (OfTxn b m f) (InProps g) fa fb e same = absurd cc
+    go (OfTxn b m f) (OfProto c n g) fa fb e same = absurd cc
+    go (OfProto b m f) (Only g) fa fb e same = absurd cc
+    go (OfProto b m f) (InRevs g) fa fb e same = absurd cc
+    go (OfProto b m f) (InProps g) fa fb e same = absurd cc
+    go (OfProto b m f) (OfTxn c n g) fa fb e same = absurd cc
