@@ -1,12 +1,12 @@
 -- What each command answers, from what the files of a repository stand for. (svnlook's texts are those of Subversion's own;
 -- the lines about a fault and the statuses are this project's profile.)
-use Rattle.std.specs.Prelude.{ℕ, List, [], ◌∷◌, ◌++◌, replicate, length, Option, Some, None, codes, decimal, slice_get}
+use Rattle.std.specs.Prelude.{ℕ, List, [], ◌∷◌, ◌++◌, ◌-◌, replicate, length, Option, Some, None, unwrap_or, codes, decimal, slice_get}
 use Rattle.std.specs.List.{flat_map}
-use Rattle.std.specs.FinMap.{FinMap, empty, insert, entries}
+use Rattle.std.specs.FinMap.{FinMap, empty, insert, get, entries, retain_keys}
 use Rattle.fsfs_base.specs.declared.node.Kind.{Kind}
 use Rattle.fsfs_base.specs.declared.node.Kind.TheVariants.{File, Dir}
-use Rattle.fsfs_base.specs.Paths.{Path, path_cmp}
-use Rattle.fsfs_base.specs.Nodes.{Node, empty_node}
+use Rattle.fsfs_base.specs.Paths.{Path, path_cmp, path_text, covers}
+use Rattle.fsfs_base.specs.Nodes.{Node, Content, Bytes, Closed, TreeFunction, empty_node}
 use Rattle.fsfs_base.specs.Revisions.{Revision}
 use Rattle.fsfs_base.specs.Transactions.{last_of, date_name}
 
@@ -14,7 +14,10 @@ use Rattle.fsfs_base.specs.Transactions.{last_of, date_name}
 pub data Command : Type 0 where
   Create : Command
   Youngest : Command
-  Tree : Command
+  -- of a revision, or of the youngest; what is shown behind the name of each node, nothing or its id; the path from which on
+  Tree : Option ℕ → (Path → List ℕ) → Path → Command
+  -- of a revision, or of the youngest; the path of the file
+  Cat : Option ℕ → Path → Command
 
 -- what a command writes to its output, the line about a fault that it writes to its error output, if any, and its status
 pub record Reply : Type 0 where
@@ -30,6 +33,37 @@ prints text = record { output = text; line = []; status = 0 }
 abbrev pub refuses : List ℕ → ℕ → Reply
 refuses line status = record { output = []; line = line; status = status }
 
+-- a look refused: the name of the fault and its values, and the status
+abbrev pub refuses_look : List ℕ → ℕ → Reply
+refuses_look fault = refuses (codes "svnlook: " ++ fault ++ codes "\n")
+
+-- for what stands or doesn't stand at this path
+abbrev pub refuses_at : List ℕ → Path → Reply
+refuses_at name path = refuses_look (name ++ 32 ∷ path_text path) 1
+
+-- ---- what is found at a path
+
+-- the node at its end; or the first path on the way at which nothing stands, or at which a file stands that further names follow
+pub data Found : Type 0 where
+  Stands : Node → Found
+  Lacking : Path → Found
+  Blocked : Path → Found
+
+-- on through a node
+abbrev pub through : Kind → Path → Found → Found
+through File at found = Blocked at
+through Dir at found = found
+
+-- from what stands at a path on, down further names
+abbrev pub found_from : TreeFunction → Path → Path → Option Node → Found
+found_from tree at [] None = Lacking at
+found_from tree at [] (Some node) = Stands node
+found_from tree at (name ∷ names) None = Lacking at
+found_from tree at (name ∷ names) (Some node) = through node.kind at (found_from tree (at ++ name ∷ []) names (tree (at ++ name ∷ [])))
+
+abbrev pub found_at : TreeFunction → Path → Found
+found_at tree path = found_from tree [] path (tree [])
+
 -- ---- the text of a tree: a line for each node, parents first, names in the order of their bytes
 
 abbrev pub last_name : Path → List ℕ
@@ -41,31 +75,58 @@ abbrev pub kind_mark : Kind → List ℕ
 kind_mark File = []
 kind_mark Dir = codes "/"
 
--- a space for each level below the root, the last name, and `/` for a directory
-abbrev pub tree_line : Path × Node → List ℕ
-tree_line e = replicate (length e.0) 32 ++ last_name e.0 ++ kind_mark e.1.kind ++ codes "\n"
+-- a space for each level below the path, the last name, `/` for a directory, and what is shown behind it
+abbrev pub tree_line : (Path → List ℕ) → Path → Path × Node → List ℕ
+tree_line shown top e = replicate (length e.0 - length top) 32 ++ last_name e.0 ++ kind_mark e.1.kind ++ shown e.0 ++ codes "\n"
 
-abbrev pub tree_text : FinMap path_cmp Node → List ℕ
-tree_text tree = flat_map tree_line (entries tree)
-
-abbrev pub text_of_revision : Option Revision → List ℕ
-text_of_revision None = []
-text_of_revision (Some revision) = tree_text revision.tree
+-- of the nodes at the path and below it, in the order of their paths
+abbrev pub tree_text : (Path → List ℕ) → Path → FinMap path_cmp Node → List ℕ
+tree_text shown top tree = flat_map (tree_line shown top) (entries (retain_keys tree (covers top)))
 
 -- ---- the answer of each command
+
+abbrev pub tree_reply : (Path → List ℕ) → Path → FinMap path_cmp Node → Found → Reply
+tree_reply shown top tree (Stands node) = prints (tree_text shown top tree)
+tree_reply shown top tree (Lacking at) = refuses_at (codes "NotFound") at
+tree_reply shown top tree (Blocked at) = refuses_at (codes "NotDir") at
+
+-- the bytes of a file's text alone; a text that is not read is refused, at its place
+abbrev pub node_reply : Path → Kind → Content → Reply
+node_reply path Dir text = refuses_at (codes "NotFile") path
+node_reply path File (Bytes bytes) = prints bytes
+node_reply path File (Closed rev offset) = refuses_look (codes "Delta " ++ decimal rev ++ 32 ∷ decimal offset) 3
+
+abbrev pub text_reply : Path → Found → Reply
+text_reply path (Stands node) = node_reply path node.kind node.text
+text_reply path (Lacking at) = refuses_at (codes "NotFound") at
+text_reply path (Blocked at) = refuses_at (codes "NotDir") at
+
+-- the revision that is asked for
+abbrev pub asked_revision : Option ℕ → List Revision → ℕ
+asked_revision revision history = unwrap_or revision (last_of history)
+
+abbrev pub in_revision : (Revision → Reply) → ℕ → ℕ → Option Revision → Reply
+in_revision reply asked youngest None = refuses_look (codes "NoRev " ++ decimal asked ++ 32 ∷ decimal youngest) 1
+in_revision reply asked youngest (Some revision) = reply revision
+
+-- of the revision that is asked for, if the history has it
+abbrev pub of_revision : Option ℕ → List Revision → (Revision → Reply) → Reply
+of_revision revision history reply = in_revision reply (asked_revision revision history) (last_of history) (slice_get history (asked_revision revision history))
 
 -- a repository stands for a history; none where there is no repository at the path
 abbrev pub Answer : Command → Option (List Revision) → Reply
 Answer Create None = prints []
 Answer Create (Some history) = refuses (codes "svnadmin: AlreadyRepo\n") 1
-Answer Youngest None = refuses (codes "svnlook: NotRepo\n") 1
+Answer Youngest None = refuses_look (codes "NotRepo") 1
 Answer Youngest (Some history) = prints (decimal (last_of history) ++ codes "\n")
-Answer Tree None = refuses (codes "svnlook: NotRepo\n") 1
-Answer Tree (Some history) = prints (text_of_revision (slice_get history (last_of history)))
+Answer (Tree revision shown path) None = refuses_look (codes "NotRepo") 1
+Answer (Tree revision shown path) (Some history) = of_revision revision history (λ r. tree_reply shown path r.tree (found_at (get r.tree) path))
+Answer (Cat revision path) None = refuses_look (codes "NotRepo") 1
+Answer (Cat revision path) (Some history) = of_revision revision history (λ r. text_reply path (found_at (get r.tree) path))
 
 -- `uuid`, of the identifier of the repository, which no history tells; none where there is no repository at the path
 abbrev pub UuidAnswer : Option (List ℕ) → Reply
-UuidAnswer None = refuses (codes "svnlook: NotRepo\n") 1
+UuidAnswer None = refuses_look (codes "NotRepo") 1
 UuidAnswer (Some identifier) = prints (identifier ++ codes "\n")
 
 -- ---- what a new repository stands for
