@@ -1,0 +1,20 @@
+use Rattle.std.proofs.Common.{◌≡◌, ◌≤◌, ◌-◌, ℕ, List, Some, Ok, Err, length}
+use Rattle.fsfs_book.specs.declared.book.Refusal.{Refusal}
+use Rattle.fsfs_book.specs.Told.{Keeps}
+use Rattle.fsfs_rep.specs.Frames.{rev_of}
+use Rattle.fsfs_rep.specs.Reading.{IsReading}
+use Rattle.fsfs_look.proofs.file.check_rep.Given as goal
+
+-- the representation is read up to here
+abbrev pub invariant-pieces : goal.invariant-pieces
+invariant-pieces g l = record {
+  rep : l.reader.rep ≡ l.fn.rep;
+  room : length l.piece ≡ length l.fn.piece;
+  read : (bytes : List ℕ) → (g.B.Book.told l.fn.book).revs (rev_of l.fn.rep) ≡ Some (Ok bytes) → IsReading l.reader bytes;
+  there : (why : Refusal) → (g.B.Book.told l.fn.book).revs (rev_of l.fn.rep) ≡ Some (Err why) → ⊥;
+  kept : Keeps (g.B.Book.told l.fn.book) (g.B.Book.told l.book);
+  later : g.B.Book.faults l.fn.book ≤ g.B.Book.faults l.book;
+}
+
+abbrev pub decreases-pieces : goal.decreases-pieces
+decreases-pieces g l = l.reader.rep.length - l.reader.done

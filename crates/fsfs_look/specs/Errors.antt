@@ -1,0 +1,11 @@
+-- What the errors of the readers below mean.
+use Rattle.fsfs_shows.specs.declared.wrong.ReadError.{ReadError}
+use Rattle.fsfs_shows.specs.declared.wrong.ReadError.TheVariants as reads
+use Rattle.fsfs_texts.specs.declared.look_fault.LookFault.TheVariants.{Wrong}
+use Rattle.fsfs_look.specs.declared.look_error.LookError.{LookError}
+use Rattle.fsfs_look.specs.declared.look_error.LookError.TheVariants.{OutOfMemory, DiskFault, Fault}
+
+abbrev pub of_read : ReadError → LookError
+of_read reads.OutOfMemory = OutOfMemory
+of_read reads.DiskFault = DiskFault
+of_read (reads.Wrong w) = Fault (Wrong w)

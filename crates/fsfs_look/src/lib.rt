@@ -1,0 +1,17 @@
+//! What `svnlook` prints of a revision, over any book into any sink: the text of a tree, and the text of a file.
+//!
+//! The texts are those of Subversion's own `svnlook`.
+#![tactic(auto)]
+
+mod file;
+mod lines;
+mod look_error;
+mod path;
+mod piece;
+#[cfg(test)]
+mod tests;
+mod tree;
+
+pub use file::cat;
+pub use look_error::LookError;
+pub use tree::tree_text;

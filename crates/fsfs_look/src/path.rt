@@ -1,0 +1,43 @@
+//! The node at a path of a revision, or the fault that names a part of the path.
+ghost use Rattle.fsfs_book.specs.Told.{Look, Knows, Keeps};
+ghost use Rattle.fsfs_model.specs.Answers.{last_name as last};
+ghost use Rattle.std.specs.Prelude.{◌≡◌, ℕ};
+ghost use Rattle.fsfs_look.specs.Paths.{IsFound};
+ghost use Rattle.fsfs_look.specs.Written.{HasDiskCause, HasSinkCause};
+
+use crate::look_error::LookError;
+use fsfs_base::FsPath;
+use fsfs_book::Book;
+use fsfs_dag::{Met, PlacedNode, node_at};
+use fsfs_texts::LookFault;
+use std::alloc::Global;
+
+/// The node that stands at a path of a revision.
+pub(crate) fn found_at<B: Book>(
+    alloc: Global,
+    book: &mut B,
+    rev: u32,
+    path: &FsPath,
+) -> Result<PlacedNode, LookError>
+    ensures told { (look : Look) → Knows (B.told book.old).revs rev look → IsFound look rev path.now result }
+    ensures kept { Keeps (B.told book.old) (B.told book.new) }
+    ensures cause { HasDiskCause (B.faults book.old) (B.faults book.new) result }
+    ensures quiet { (faults : ℕ) → HasSinkCause faults faults result }
+{
+    match node_at(alloc, book, rev, path) {
+        Ok(Met::Node(found)) => Ok(found),
+        Ok(Met::Absent(names)) => Err(LookError::Fault(LookFault::NotFound { names })),
+        Ok(Met::File(names)) => Err(LookError::Fault(LookFault::NotDir { names })),
+        Err(error) => Err(LookError::from(error)),
+    }
+}
+
+/// The last name of a path; `/` has none.
+pub(crate) fn last_name(path: &FsPath) -> &str
+    ensures { result.now ≡ last path.now }
+{
+    match path.names() {
+        [.., last] => last,
+        [] => "",
+    }
+}
