@@ -4,5 +4,3 @@ pub mod CrashLemmas
 pub mod WholeFileLemmas
 pub mod OpeningLemmas
 pub mod DecidingLemmas
-pub mod FirstTreeLemmas
-pub mod NewRepositoryLemmas

@@ -4,5 +4,3 @@ pub mod WholeFile
 pub mod Opening
 pub mod OpenFaults
 pub mod Deciding
-pub mod FirstTree
-pub mod NewRepositories

@@ -7,7 +7,7 @@ pub enum DiskPlace {
     OpenFirm,
     /// A small file of it is read.
     OpenRead,
-    /// The look whether there is a repository.
+    /// The look whether there is a repository, or a reading of revisions.
     Read,
     /// A folder or a file of a new repository is made.
     CreatePut,
