@@ -1,5 +1,3 @@
-pub mod OutputLemmas
 pub mod CommandLemmas
 pub mod LookLemmas
 pub mod ReplyLemmas
-pub mod TodayLemmas

@@ -1,6 +1,4 @@
 pub mod Answers
+pub mod Looks
 pub mod Command
-pub mod Faults
-pub mod Output
 pub mod Replies
-pub mod Today

@@ -1,17 +1,21 @@
 -- The replies of looks, as the flat model answers them.
-use Rattle.std.specs.Prelude.{◌≡◌, ◌⊎◌, ℕ, List, Option, Some}
+use Rattle.std.specs.Prelude.{◌≡◌, ◌⊎◌, ℕ, Bool, false, List, [], Option, Some, None}
+use Rattle.fsfs_base.specs.Paths.{Path}
 use Rattle.fsfs_base.specs.Revisions.{Revision}
 use Rattle.fsfs_base.specs.Transactions.{last_of}
 use Rattle.fsfs_disk.specs.Trace.{Trace, files_now}
 use Rattle.fsfs_disk.specs.Streams.{Adds}
-use Rattle.fsfs_model.specs.Answers.{Reply, Answer, UuidAnswer, new_history}
+use Rattle.fsfs_fetch.specs.RevBytes.{rev_bytes}
+use Rattle.fsfs_model.specs.Answers.{Reply, Answer, UuidAnswer, asked_revision}
 use Rattle.fsfs_model.specs.Answers as model
-use Rattle.fsfs_repo.specs.Opening.{small_texts, IsOpened}
-use Rattle.fsfs_repo.specs.FirstTree.{IsFirstTree}
-use Rattle.fsfs_repo.specs.NewRepositories.{HoldsCreated}
+use Rattle.fsfs_output.specs.Output.{AddsFront}
+use Rattle.fsfs_repo.specs.Opening.{small_texts, IsOpened, IsNone}
 use Rattle.fsfs_repo.specs.declared.opening.Opened.{Opened}
-use Rattle.fsfs_top.specs.Output.{AddsFront}
-use Rattle.fsfs_top.specs.Command.{AsksShown, AsksTree}
+use Rattle.fsfs_stands.specs.Files.{StandsFor}
+use Rattle.fsfs_stands.specs.NewRepository.{HoldsNew}
+use Rattle.fsfs_texts.specs.ByTree.{AreShownIds}
+use Rattle.fsfs_top.specs.Command.{AsksShown, AsksPrinted}
+use Rattle.fsfs_top.specs.declared.look.Printed.TheVariants.{Tree, Text}
 use Rattle.fsfs_top.specs.declared.output.Shown.TheVariants.{Youngest, Uuid}
 use Rattle.fsfs_words.specs.declared.tool.Tool.{Tool}
 
@@ -20,12 +24,12 @@ abbrev pub GivesWhole : Reply → ℕ → Type 0 → Option (List ℕ) → Optio
 GivesWhole reply status told old new err_old err_new =
     (status ≡ reply.status) × Adds old new reply.output × (Adds err_old err_new reply.line ⊎ (told × AddsFront err_old err_new reply.line))
 
--- or the outside failed, with status 4 and a first part of the output; or memory was wanting, with status 5 and none of it.
--- `mount`, `disk`, `write` and `told` say that the counts of the host, of the output and of the error output rose.
+-- Or a first part of its output: the outside failed, with status 4, or memory was wanting, with status 5. `mount`, `disk`, `write` and `told` say that the counts of the
+-- host, of the output and of the error output rose.
 abbrev pub Gives : ℕ → Type 0 → Type 0 → Type 0 → Type 0 → Option (List ℕ) → Option (List ℕ) → Option (List ℕ) → Option (List ℕ) → Reply → Type 0
 Gives status mount disk write told old new err_old err_new reply =
     GivesWhole reply status told old new err_old err_new
-    ⊎ (((status ≡ 4) × (mount ⊎ (disk ⊎ write)) × AddsFront old new reply.output) ⊎ ((status ≡ 5) × (new ≡ old)))
+    ⊎ (AddsFront old new reply.output × (((status ≡ 4) × (mount ⊎ (disk ⊎ write))) ⊎ (status ≡ 5)))
 
 -- the replies of looks at repositories, of the files that the disks of paths have
 pub record Replies (tool : Tool) (words : List (List ℕ)) (at : List ℕ → Option Trace) (Given : Reply → Type 0) : Type 0 where
@@ -34,9 +38,20 @@ pub record Replies (tool : Tool) (words : List (List ℕ)) (at : List ℕ → Op
       → Given (Answer model.Youngest (Some h))
   -- of the identifier that the files have
   pub uuid : (repos : List ℕ) (t : Trace) (o : Opened) → AsksShown Uuid tool words repos → at repos ≡ Some t → IsOpened (small_texts (files_now t)) o → Given (UuidAnswer (Some o.uuid))
-  -- of the history of a new repository, where the files show its tree
-  pub tree : (repos : List ℕ) (t : Trace) (date : List ℕ) → AsksTree tool words repos → at repos ≡ Some t → IsFirstTree (files_now t) → Given (Answer model.Tree (Some (new_history date)))
+  -- of the history that the files stand for; the ids that are shown are those of the node-revisions at the paths
+  pub tree : (repos : List ℕ) (t : Trace) (h : List Revision) (revision : Option ℕ) (ids : Bool) (path : Path) (shown : Path → List ℕ) → AsksPrinted (Tree ids) revision path tool words repos → at repos ≡ Some t
+      → (stands : StandsFor (files_now t) h) → AreShownIds (rev_bytes stands.shard_size (files_now t)) (asked_revision revision h) ids shown → Given (Answer (model.Tree revision shown path) (Some h))
+  pub cat : (repos : List ℕ) (t : Trace) (h : List Revision) (revision : Option ℕ) (path : Path) → AsksPrinted Text revision path tool words repos → at repos ≡ Some t
+      → StandsFor (files_now t) h → Given (Answer (model.Cat revision path) (Some h))
+  -- where there is no repository
+  pub no_youngest : (repos : List ℕ) (t : Trace) → AsksShown Youngest tool words repos → at repos ≡ Some t → IsNone (small_texts (files_now t)) → Given (Answer model.Youngest None)
+  pub no_uuid : (repos : List ℕ) (t : Trace) → AsksShown Uuid tool words repos → at repos ≡ Some t → IsNone (small_texts (files_now t)) → Given (UuidAnswer None)
+  pub no_tree : (repos : List ℕ) (t : Trace) (revision : Option ℕ) (ids : Bool) (path : Path) (shown : Path → List ℕ) → AsksPrinted (Tree ids) revision path tool words repos → at repos ≡ Some t
+      → IsNone (small_texts (files_now t)) → Given (Answer (model.Tree revision shown path) None)
+  pub no_cat : (repos : List ℕ) (t : Trace) (revision : Option ℕ) (path : Path) → AsksPrinted Text revision path tool words repos → at repos ≡ Some t
+      → IsNone (small_texts (files_now t)) → Given (Answer (model.Cat revision path) None)
   -- of the files of a new repository, whatever its date, its identifier and the size of a shard
-  pub new_youngest : (repos : List ℕ) (t : Trace) (date : List ℕ) → AsksShown Youngest tool words repos → at repos ≡ Some t → HoldsCreated (files_now t) date → Given (Answer model.Youngest (Some (new_history date)))
-  pub new_tree : (repos : List ℕ) (t : Trace) (date : List ℕ) → AsksTree tool words repos → at repos ≡ Some t → HoldsCreated (files_now t) date → Given (Answer model.Tree (Some (new_history date)))
-  pub new_uuid : (repos : List ℕ) (t : Trace) (date : List ℕ) → AsksShown Uuid tool words repos → at repos ≡ Some t → (created : HoldsCreated (files_now t) date) → Given (UuidAnswer (Some created.identifier))
+  pub new_youngest : (repos : List ℕ) (t : Trace) (date : List ℕ) → AsksShown Youngest tool words repos → at repos ≡ Some t → HoldsNew (files_now t) date → Given (Answer model.Youngest (Some (model.new_history date)))
+  pub new_tree : (repos : List ℕ) (t : Trace) (date : List ℕ) (revision : Option ℕ) (path : Path) → AsksPrinted (Tree false) revision path tool words repos → at repos ≡ Some t → HoldsNew (files_now t) date
+      → Given (Answer (model.Tree revision (λ p. []) path) (Some (model.new_history date)))
+  pub new_uuid : (repos : List ℕ) (t : Trace) (date : List ℕ) → AsksShown Uuid tool words repos → at repos ≡ Some t → (new : HoldsNew (files_now t) date) → Given (UuidAnswer (Some new.identifier))

@@ -5,16 +5,18 @@ ghost use Rattle.fsfs_disk.specs.Trace.{Trace, files_now};
 ghost use Rattle.fsfs_disk.specs.Crash.{AllImages, Leaves};
 ghost use Rattle.fsfs_repo.specs.Creation.{IsUnpublished, HasRepository};
 ghost use Rattle.fsfs_top.specs.Answers.{answer_of};
-ghost use Rattle.fsfs_top.specs.Command.{AsksCreate, Created, PrintsShown, PrintsTree, ShownIsDecided, TreeIsDecided, Did, IsNoneOrCreated, Tells, fault_of};
+ghost use Rattle.fsfs_top.specs.Command.{AsksCreate, Created, Did, IsNoneOrCreated, Tells, fault_of};
+ghost use Rattle.fsfs_top.specs.Looks.{PrintsShown, ShownIsDecided};
 ghost use Rattle.fsfs_top.specs.Replies.{Replies, Gives};
-ghost use Rattle.fsfs_top.specs.declared.fault.Fault.{Fault};
+ghost use Rattle.fsfs_top.specs.declared.look.Printed.TheVariants.{Tree, Text};
+ghost use Rattle.fsfs_faults.specs.declared.fault.Fault.{Fault};
 
-use crate::fault::{Fault, status};
-use crate::output::{Shown, print_fault, print_root, print_shown};
-use crate::today::read_today;
+use crate::look::{Printed, RevisionLook, look_at};
+use crate::output::{Shown, print_shown};
 use fsfs_disk::{Clock, Dice, Gate, Host, Sink, Source};
-use fsfs_repo::{check_first_tree, create, open};
-use fsfs_words::{Order, Tool};
+use fsfs_faults::{Fault, print_fault, status};
+use fsfs_repo::{create, open};
+use fsfs_words::{CatOrder, Order, Tool, TreeOrder, read_words};
 use std::alloc::Global;
 use uuid::Builder;
 
@@ -77,31 +79,28 @@ fn shown_at<H: Host, O: Sink>(
     }
 }
 
-// Mounts a path to read it, and prints the tree of the repository there.
-fn tree_at<H: Host, O: Sink>(
-    alloc: Global,
-    repos: &str,
-    host: &mut H,
-    out: &mut O,
-) -> Result<(), Fault>
-    ensures printed { PrintsTree (Rose (H.mount_faults host.old) (H.mount_faults host.new)) (Rose (H.disk_faults host.old) (H.disk_faults host.new)) (Rose (O.faults out.old) (O.faults out.new))
-        (H.disk_at host.old repos.now) (O.written out.old) (O.written out.new) (fault_of result) }
-    ensures decided { TreeIsDecided (H.disk_at host.old repos.now) (fault_of result) }
-    ensures same { option_map files_now (H.disk_at host.new repos.now) ≡ option_map files_now (H.disk_at host.old repos.now) }
-    ensures others { (path : List ℕ) → path ≢ repos.now → H.disk_at host.new path ≡ H.disk_at host.old path }
+// The look that an order for a tree is.
+fn look_of_tree(order: TreeOrder<'_>) -> RevisionLook
+    ensures { result ≡ record { printed = Tree order.show_ids; revision = order.revision; path = order.path } }
 {
-    let mut disk = match host.mount(repos, false) {
-        Ok(disk) => disk,
-        Err(_) => return Err(Fault::MountFault),
+    let printed = Printed::Tree {
+        show_ids: order.show_ids,
     };
-    let looked = check_first_tree(alloc, &mut disk);
-    host.unmount(disk);
-    match looked {
-        Ok(()) => match print_root(out) {
-            Ok(()) => Ok(()),
-            Err(_) => Err(Fault::WriteFault),
-        },
-        Err(fault) => Err(Fault::from(fault)),
+    RevisionLook {
+        printed,
+        revision: order.revision,
+        path: order.path,
+    }
+}
+
+// The look that an order for a text is.
+fn look_of_cat(order: CatOrder<'_>) -> RevisionLook
+    ensures { result ≡ record { printed = Text; revision = order.revision; path = order.path } }
+{
+    RevisionLook {
+        printed: Printed::Text,
+        revision: order.revision,
+        path: order.path,
     }
 }
 
@@ -124,12 +123,18 @@ fn run<H: Host, O: Sink, C: Clock, R: Dice>(
     ensures others { (path : List ℕ) → ((shard : ℕ) → AsksCreate tool (map string_bytes words.now) path shard → ⊥)
         → option_map files_now (H.disk_at host.new path) ≡ option_map files_now (H.disk_at host.old path) }
 {
-    match read_today(alloc, tool, words)? {
+    match read_words(alloc, tool, words)? {
         Order::Create(order) => create_at(alloc, order.repos, order.shard, host, clock, dice),
         Order::Youngest(repos) => shown_at(alloc, Shown::Youngest, repos, host, out),
         Order::Uuid(repos) => shown_at(alloc, Shown::Uuid, repos, host, out),
-        Order::Tree(order) => tree_at(alloc, order.repos, host, out),
-        Order::Cat(_) => Err(Fault::Usage),
+        Order::Tree(order) => {
+            let repos = order.repos;
+            look_at(alloc, repos, &look_of_tree(order), host, out)
+        }
+        Order::Cat(order) => {
+            let repos = order.repos;
+            look_at(alloc, repos, &look_of_cat(order), host, out)
+        }
     }
 }
 
@@ -154,7 +159,7 @@ pub fn command<H: Host, I: Source, O: Sink, E: Sink, C: Clock, R: Dice, G: Gate>
         tool (map string_bytes words.now) (C.next clock.old) (R.next dice.old) (H.disk_at host.old) (H.disk_at host.new) (O.written out.old) (O.written out.new) fault }
 
     // Looks give the replies of the flat model: the youngest revision, of any history that ends with it, the identifier, and
-    // the tree of a new repository.
+    // trees and texts of the history that the files stand for.
     ensures replies { Replies tool (map string_bytes words.now) (H.disk_at host.old) (Gives result
         (Rose (H.mount_faults host.old) (H.mount_faults host.new)) (Rose (H.disk_faults host.old) (H.disk_faults host.new)) (Rose (O.faults out.old) (O.faults out.new)) (Rose (E.faults err.old) (E.faults err.new))
         (O.written out.old) (O.written out.new) (E.written err.old) (E.written err.new)) }
@@ -176,8 +181,8 @@ pub fn command<H: Host, I: Source, O: Sink, E: Sink, C: Clock, R: Dice, G: Gate>
     match run(alloc, tool, words, host, out, clock, dice) {
         Ok(()) => 0,
         Err(fault) => {
-            let _ = print_fault(err, tool, fault);
-            status(fault)
+            let _ = print_fault(err, tool, &fault);
+            status(&fault)
         }
     }
 }

@@ -1,15 +1,17 @@
-//! Looks into repositories: `svnlook youngest REPOS`, `svnlook uuid REPOS` and `svnlook tree REPOS`.
+//! Looks into repositories: `svnlook youngest`, `uuid`, `tree` and `cat`.
 #![tactic(auto)]
 
+use fsfs_faults::{Fault, print_fault, status};
 use fsfs_hostdisk::{Machine, OpenGate, StreamSink, StreamSource, SystemClock, SystemDice, words};
-use fsfs_top::{Fault, Tool, command, print, print_fault, status};
+use fsfs_output::print;
+use fsfs_top::{Tool, command};
 use std::process::ExitCode;
 
 fn main(rt: HostRuntime) -> ExitCode {
     let mut err = StreamSink::new(rt.stderr());
     let Ok(words) = words(&rt) else {
-        let _ = print_fault(&mut err, Tool::Look, Fault::Memory);
-        return ExitCode::from(status(Fault::Memory));
+        let _ = print_fault(&mut err, Tool::Look, &Fault::Memory);
+        return ExitCode::from(status(&Fault::Memory));
     };
     // In the top call a clock and dice can't fail, so a machine that can't give them ends the program before.
     let (Ok(mut clock), Ok(mut dice)) = (SystemClock::read(&rt), SystemDice::draw(&rt)) else {

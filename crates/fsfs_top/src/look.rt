@@ -1,0 +1,153 @@
+// Looks at a revision of a repository.
+ghost use Rattle.std.specs.Prelude.{◌≡◌, ◌≢◌, ◌≤◌, ◌<◌, ◌⊎◌, ℕ, List, Some, IfOk, IfErr, IfSome, option_map};
+ghost use Rattle.fsfs_book.specs.Told.{Look, Knows, Keeps};
+ghost use Rattle.fsfs_disk.specs.Fault.{Rose};
+ghost use Rattle.fsfs_disk.specs.Trace.{files_now};
+ghost use Rattle.fsfs_faults.specs.declared.fault.Fault.TheVariants as faults;
+ghost use Rattle.fsfs_look.specs.Written.{Writes, HasDiskCause, HasSinkCause};
+ghost use Rattle.fsfs_repo.specs.Opening.{small_texts, IsOpened};
+ghost use Rattle.fsfs_top.specs.Command.{fault_of};
+ghost use Rattle.fsfs_top.specs.Looks.{TextOf, LacksRevision, LooksInto, PrintsLook, LookIsDecided, looked_revision, IsFaultOf};
+
+use fsfs_base::FsPath;
+use fsfs_book::Book;
+use fsfs_disk::{Disk, Host, Sink};
+use fsfs_faults::Fault;
+use fsfs_fetch::{disk_of, over_disk};
+use fsfs_look::{LookError, cat, tree_text};
+use fsfs_repo::{DiskPlace, Opened, open};
+use std::alloc::Global;
+
+/// What is printed of a revision.
+#[derive(Clone, Copy, Debug, PartialEq, Eq)]
+pub enum Printed {
+    /// The nodes at and below the path, with their ids or without.
+    Tree { show_ids: bool },
+    /// The text of the file at the path.
+    Text,
+}
+
+/// A look at a revision.
+#[derive(Debug, Drop)]
+pub struct RevisionLook {
+    pub printed: Printed,
+    /// The revision; none for the youngest.
+    pub revision: Option<u64>,
+    /// The path in the repository.
+    pub path: FsPath,
+}
+
+// The revision that is looked at.
+fn revision_of(look: &RevisionLook, opened: &Opened) -> Result<u32, Fault>
+    ensures found { IfOk result (λ rev. (rev ≡ looked_revision look.now opened.now) × (rev ≤ opened.now.youngest)) }
+    ensures lacking { IfErr result (λ fault. (rev : ℕ) × LacksRevision look.now opened.now rev × (fault ≡ faults.NoRev rev opened.now.youngest)) }
+{
+    match look.revision {
+        None => Ok(opened.youngest),
+        Some(rev) => {
+            if rev > opened.youngest as u64 {
+                return Err(Fault::NoRev {
+                    asked: rev,
+                    youngest: opened.youngest as u64,
+                });
+            }
+            Ok(rev as u32)
+        }
+    }
+}
+
+// Prints of a revision what is looked at.
+fn print_look<B: Book, O: Sink>(
+    alloc: Global,
+    book: &mut B,
+    rev: u32,
+    look: &RevisionLook,
+    out: &mut O,
+) -> Result<(), LookError>
+    ensures told { (bytes : Look) → Knows (B.told book.old).revs rev bytes → Writes (TextOf look.now.printed bytes rev look.now.path) (O.written out.old) (O.written out.new) result }
+    ensures kept { Keeps (B.told book.old) (B.told book.new) }
+    ensures cause { HasDiskCause (B.faults book.old) (B.faults book.new) result }
+    ensures sink { HasSinkCause (O.faults out.old) (O.faults out.new) result }
+{
+    match look.printed {
+        Printed::Tree { show_ids } => tree_text(alloc, book, rev, &look.path, show_ids, out),
+        Printed::Text => cat(alloc, book, rev, &look.path, out),
+    }
+}
+
+// The fault of a look at this path that ended so.
+fn fault_at(alloc: Global, path: &FsPath, error: LookError) -> Fault
+    ensures { (disk write : Type 0) → IfErr (Err error) (λ e. IfDisk e disk) → IfErr (Err error) (λ e. IfWrite e write) → IsFaultOf disk write path.now (Err error) (Some result) }
+{
+    match error {
+        LookError::OutOfMemory => Fault::Memory,
+        LookError::DiskFault => Fault::DiskFault(DiskPlace::Read),
+        LookError::WriteFault => Fault::WriteFault,
+        LookError::Fault(fault) => Fault::of_look(alloc, path, fault),
+    }
+}
+
+// Prints of an opened repository what is looked at, and gives its disk back.
+fn look_into<D: Disk, O: Sink>(
+    alloc: Global,
+    disk: D,
+    opened: &Opened,
+    look: &RevisionLook,
+    out: &mut O,
+) -> (D, Result<(), Fault>)
+    requires { 0 < opened.now.shard_size }
+    ensures printed { IfSome (D.trace disk) (λ t. IsOpened (small_texts (files_now t)) opened.now)
+        → LooksInto (Rose (D.faults disk) (D.faults result.0)) (Rose (O.faults out.old) (O.faults out.new)) look.now opened.now (D.trace disk) (O.written out.old) (O.written out.new) (fault_of result.1) }
+    ensures same { D.trace result.0 ≡ D.trace disk }
+    ensures mounted { D.mount_path result.0 ≡ D.mount_path disk }
+    ensures later { D.faults disk ≤ D.faults result.0 }
+{
+    let rev = match revision_of(look, opened) {
+        Ok(rev) => rev,
+        Err(fault) => return (disk, Err(fault)),
+    };
+    let mut book = over_disk(
+        alloc,
+        disk,
+        opened.youngest,
+        opened.shard_size,
+        opened.min_unpacked_rev,
+    );
+    let printed = print_look(alloc, &mut book, rev, look, out);
+    let disk = disk_of(book);
+    match printed {
+        Ok(()) => (disk, Ok(())),
+        Err(error) => (disk, Err(fault_at(alloc, &look.path, error))),
+    }
+}
+
+/// Mounts a path to read it, and prints what is looked at of a revision of the repository there.
+pub(crate) fn look_at<H: Host, O: Sink>(
+    alloc: Global,
+    repos: &str,
+    look: &RevisionLook,
+    host: &mut H,
+    out: &mut O,
+) -> Result<(), Fault>
+    ensures printed { PrintsLook look.now (Rose (H.mount_faults host.old) (H.mount_faults host.new)) (Rose (H.disk_faults host.old) (H.disk_faults host.new)) (Rose (O.faults out.old) (O.faults out.new))
+        (H.disk_at host.old repos.now) (O.written out.old) (O.written out.new) (fault_of result) }
+    ensures decided { LookIsDecided look.now (H.disk_at host.old repos.now) (fault_of result) }
+    ensures same { option_map files_now (H.disk_at host.new repos.now) ≡ option_map files_now (H.disk_at host.old repos.now) }
+    ensures others { (path : List ℕ) → path ≢ repos.now → H.disk_at host.new path ≡ H.disk_at host.old path }
+{
+    let mut disk = match host.mount(repos, false) {
+        Ok(disk) => disk,
+        Err(_) => return Err(Fault::MountFault),
+    };
+    match open(alloc, &mut disk) {
+        Ok(opened) => {
+            let (disk, looked) = look_into(alloc, disk, &opened, look, out);
+            host.unmount(disk);
+            looked
+        }
+        Err(fault) => {
+            host.unmount(disk);
+            Err(Fault::from(fault))
+        }
+    }
+}
