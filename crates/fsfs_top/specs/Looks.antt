@@ -1,5 +1,5 @@
 -- Looks at a repository: what they print, and why they print nothing or no more.
-use Rattle.std.specs.Prelude.{◌≡◌, ◌≤◌, ◌<◌, ◌⊎◌, ℕ, List, Option, Some, None, IfSome, unwrap_or, Result, Ok, Err}
+use Rattle.std.specs.Prelude.{◌≡◌, ◌≤◌, ◌<◌, ◌⊎◌, ℕ, List, Option, Some, None, IfSome, option_map, unwrap_or, Result, Ok, Err}
 use Rattle.fsfs_base.specs.Files.{Files}
 use Rattle.fsfs_base.specs.Paths.{Path}
 use Rattle.fsfs_book.specs.Told.{Look}
@@ -8,6 +8,7 @@ use Rattle.fsfs_disk.specs.Streams.{Adds}
 use Rattle.fsfs_faults.specs.Faults.{fault_from_open, fault_from_look}
 use Rattle.fsfs_faults.specs.declared.fault.Fault.{Fault}
 use Rattle.fsfs_faults.specs.declared.fault.Fault.TheVariants.{NotRepo, OtherFormat, Linear, NoRev, MountFault, DiskFault, WriteFault, Memory}
+use Rattle.fsfs_fetch.specs.Kept.{HasShortFiles}
 use Rattle.fsfs_fetch.specs.RevBytes.{rev_bytes}
 use Rattle.fsfs_look.specs.Written.{Writes}
 use Rattle.fsfs_look.specs.declared.look_error.LookError.{LookError}
@@ -79,22 +80,23 @@ IsFaultOf disk write path (Err errors.DiskFault) fault = disk × (fault ≡ Some
 IsFaultOf disk write path (Err errors.WriteFault) fault = write × (fault ≡ Some WriteFault)
 IsFaultOf disk write path (Err errors.OutOfMemory) fault = fault ≡ Some Memory
 
--- a revision of an opened repository was looked at: the whole text was printed, or all before what is refused; or where the look failed a first part
-pub record Looked (disk write : Type 0) (look : RevisionLook) (o : Opened) (told : Option Trace) (old new : Option (List ℕ)) (fault : Option Fault) : Type 0 where
+-- A revision of an opened repository was looked at: the whole text was printed, or all before what is refused; or where the look failed a first part. (No file has 2^64
+-- bytes or more.)
+pub record Looked (disk write : Type 0) (look : RevisionLook) (o : Opened) (files : Option Files) (old new : Option (List ℕ)) (fault : Option Fault) : Type 0 where
   pub there : looked_revision look o ≤ o.youngest
   pub result : Result (Unit {0}) LookError
-  pub writes : IfSome told (λ t. Writes (TextIn look o (files_now t)) old new result)
+  pub writes : IfSome files (λ m. HasShortFiles m → Writes (TextIn look o m) old new result)
   pub fault_is : IsFaultOf disk write look.path result fault
 
 -- or it has no such revision
-abbrev pub LooksInto : Type 0 → Type 0 → RevisionLook → Opened → Option Trace → Option (List ℕ) → Option (List ℕ) → Option Fault → Type 0
-LooksInto disk write look o told old new fault =
-    ((rev : ℕ) × LacksRevision look o rev × (fault ≡ Some (NoRev rev o.youngest)) × (new ≡ old)) ⊎ Looked disk write look o told old new fault
+abbrev pub LooksInto : Type 0 → Type 0 → RevisionLook → Opened → Option Files → Option (List ℕ) → Option (List ℕ) → Option Fault → Type 0
+LooksInto disk write look o files old new fault =
+    ((rev : ℕ) × LacksRevision look o rev × (fault ≡ Some (NoRev rev o.youngest)) × (new ≡ old)) ⊎ Looked disk write look o files old new fault
 
 -- what a look at a revision printed
 abbrev pub PrintsLook : RevisionLook → Type 0 → Type 0 → Type 0 → Option Trace → Option (List ℕ) → Option (List ℕ) → Option Fault → Type 0
 PrintsLook look mount disk write told old new fault =
-    NotOpened mount disk told old new fault ⊎ ((o : Opened) × OpensAs told o × LooksInto disk write look o told old new fault)
+    NotOpened mount disk told old new fault ⊎ ((o : Opened) × OpensAs told o × LooksInto disk write look o (option_map files_now told) old new fault)
 
 -- ---- the files decide what is answered
 
@@ -122,8 +124,8 @@ pub record DecidesShown (files : Files) (fault : Option Fault) : Type 0 where
 pub record DecidesLook (look : RevisionLook) (files : Files) (fault : Option Fault) : Type 0 where
   pub opening : DecidesOpening files fault
   pub lacking : (o : Opened) (rev : ℕ) → IsOpened (small_texts files) o → LacksRevision look o rev → Agrees (Some (NoRev rev o.youngest)) fault
-  pub whole : (o : Opened) (text : List ℕ) → IsOpened (small_texts files) o → looked_revision look o ≤ o.youngest → TextIn look o files text Whole → Agrees None fault
-  pub refused : (o : Opened) (text : List ℕ) (why : LookFault) → IsOpened (small_texts files) o → looked_revision look o ≤ o.youngest → TextIn look o files text (Refused why) → Agrees (Some (fault_from_look look.path why)) fault
+  pub whole : HasShortFiles files → (o : Opened) (text : List ℕ) → IsOpened (small_texts files) o → looked_revision look o ≤ o.youngest → TextIn look o files text Whole → Agrees None fault
+  pub refused : HasShortFiles files → (o : Opened) (text : List ℕ) (why : LookFault) → IsOpened (small_texts files) o → looked_revision look o ≤ o.youngest → TextIn look o files text (Refused why) → Agrees (Some (fault_from_look look.path why)) fault
 
 abbrev pub ShownIsDecided : Option Trace → Option Fault → Type 0
 ShownIsDecided told fault = IfSome told (λ t. DecidesShown (files_now t) fault)
