@@ -32,7 +32,7 @@ use Rattle.fsfs_repo.specs.declared.opening.OpenFault.TheVariants as opening
 use Rattle.fsfs_repo.specs.declared.place.DiskPlace.TheVariants.{Read}
 use Rattle.fsfs_texts.specs.Texts.{End, Whole, Refused}
 use Rattle.fsfs_texts.specs.declared.look_fault.LookFault.{LookFault}
-use Rattle.fsfs_top.specs.Looks.{TextOf, TextIn, looked_revision, LacksRevision, IsFaultOf, Looked, LooksInto, IsOutside, Agrees, DecidesOpening, DecidesShown, DecidesLook, ShownIsDecided, LookIsDecided}
+use Rattle.fsfs_top.specs.Looks.{TextOf, TextIn, looked_revision, LacksRevision, IsFaultOf, Looked, LooksInto, DoesNotOpen, IsOutside, Agrees, DecidesOpening, DecidesShown, DecidesLook, ShownIsDecided, LookIsDecided}
 use Rattle.fsfs_top.specs.declared.look.RevisionLook.{RevisionLook}
 use Rattle.fsfs_top.specs.declared.look.Printed.{Printed}
 use Rattle.fsfs_top.specs.declared.look.Printed.TheVariants.{Tree, Text}
@@ -47,11 +47,11 @@ some_same x y e = cc
 sharded_same : (m n : ℕ) → ◌≡◌ {A = Result Format ℕ} (Ok (Sharded m)) (Ok (Sharded n)) → m ≡ n
 sharded_same m n e = cc
 
-one_youngest : (m : Files) (o p : Opened) → IsOpened (small_texts m) o → IsOpened (small_texts m) p → o.youngest ≡ p.youngest
+pub one_youngest : (m : Files) (o p : Opened) → IsOpened (small_texts m) o → IsOpened (small_texts m) p → o.youngest ≡ p.youngest
 one_youngest m o p a b =
     ok_is o.youngest p.youngest (sym (all_again rev_line_reads (small_texts m).current o.youngest a.youngest) ∙ all_again rev_line_reads (small_texts m).current p.youngest b.youngest)
 
-one_shard : (m : Files) (o p : Opened) → IsOpened (small_texts m) o → IsOpened (small_texts m) p → o.shard_size ≡ p.shard_size
+pub one_shard : (m : Files) (o p : Opened) → IsOpened (small_texts m) o → IsOpened (small_texts m) p → o.shard_size ≡ p.shard_size
 one_shard m o p a b =
     let text = some_same a.format.0 b.format.0 (sym a.format.1.there ∙ b.format.1.there) in
     let other = subst (λ (t : List ℕ). IsFormat t (Sharded p.shard_size)) (sym text) b.format.2 in
@@ -159,7 +159,7 @@ one_refusal a b why other (inr (inl (e, front))) = absurd cc
 one_refusal a b why other (inr (inr (e, front))) = absurd cc
 
 -- the text is by what every opening says
-same_text : (look : RevisionLook) (o p : Opened) (m : Files) (text : List ℕ) (end : End) → o.shard_size ≡ p.shard_size → o.youngest ≡ p.youngest → TextIn look p m text end → TextIn look o m text end
+pub same_text : (look : RevisionLook) (o p : Opened) (m : Files) (text : List ℕ) (end : End) → o.shard_size ≡ p.shard_size → o.youngest ≡ p.youngest → TextIn look p m text end → TextIn look o m text end
 same_text look o p m text end shard youngest is =
     subst (λ (n : ℕ). TextOf look.printed (rev_bytes n m) (looked_revision look o) look.path text end) (sym shard)
     (subst (λ (y : ℕ). TextOf look.printed (rev_bytes p.shard_size m) (unwrap_or look.revision y) look.path text end) (sym youngest) is)
@@ -227,3 +227,13 @@ look_outside look (Some t) fault out = record {
   whole = λ short p text w there is. inr out;
   refused = λ short p text f w there is. inr out;
 }
+
+-- want of memory before a repository is opened
+pub unopened : (told : Option Trace) → DoesNotOpen told opening.Memory
+unopened None = tt
+unopened (Some t) = λ o is. tt
+
+-- and what an opening that was refused tells
+pub does_not_open : (told : Option Trace) (why : OpenFault) → IfSome told (λ t. Decides (small_texts (files_now t)) (Err why)) → DoesNotOpen told why
+does_not_open None why d = tt
+does_not_open (Some t) why d = λ o is. d.opened o is

@@ -16,6 +16,7 @@ use Rattle.fsfs_look.specs.declared.look_error.LookError.TheVariants as errors
 use Rattle.fsfs_output.specs.Output.{AddsFront}
 use Rattle.fsfs_repo.specs.Opening.{small_texts, IsOpened, IsNone, HasFormat, IsLinear}
 use Rattle.fsfs_repo.specs.OpenFaults.{OpensBecause}
+use Rattle.fsfs_repo.specs.Deciding.{IsOutside as IsOpenOutside}
 use Rattle.fsfs_repo.specs.declared.opening.Opened.{Opened}
 use Rattle.fsfs_repo.specs.declared.opening.OpenFault.{OpenFault}
 use Rattle.fsfs_repo.specs.declared.place.DiskPlace.{DiskPlace}
@@ -34,12 +35,16 @@ use Rattle.fsfs_top.specs.declared.output.Shown.{Shown}
 abbrev pub OpensAs : Option Trace → Opened → Type 0
 OpensAs told o = IfSome told (λ t. IsOpened (small_texts (files_now t)) o)
 
+-- the files don't open, unless the outside failed
+abbrev pub DoesNotOpen : Option Trace → OpenFault → Type 0
+DoesNotOpen told why = IfSome told (λ t. (o : Opened) → IsOpened (small_texts (files_now t)) o → IsOpenOutside why)
+
 -- Nothing was printed, since the path was not mounted or the repository there not opened. `mount` says that the host's count of mounts rose, `disk` that its count of
 -- disks' faults did.
 abbrev pub NotOpened : Type 0 → Type 0 → Option Trace → Option (List ℕ) → Option (List ℕ) → Option Fault → Type 0
 NotOpened mount disk told old new fault =
     ((fault ≡ Some MountFault) × mount × (new ≡ old))
-    ⊎ ((why : OpenFault) × (fault ≡ Some (fault_from_open why)) × OpensBecause disk told why × (new ≡ old))
+    ⊎ ((why : OpenFault) × (fault ≡ Some (fault_from_open why)) × OpensBecause disk told why × DoesNotOpen told why × (new ≡ old))
 
 -- ---- a look at the small files
 
