@@ -1,3 +1,4 @@
 pub mod CommandLemmas
 pub mod LookLemmas
 pub mod ReplyLemmas
+pub mod PathWords
