@@ -111,11 +111,11 @@ module _ (tree : FinMap path_cmp Node) where
 
   -- nothing stands below what is no directory
   none_below : IsTree (get tree) → (p q : Path) → is_above p q ≡ true → ((n : Node) → get tree p ≡ Some n → n.kind ≡ Dir → ⊥) → get tree q ≡ None
-  none_below is p q above no = by (get tree q) refl
+  none_below is p q above not_dir = by (get tree q) refl
     where
       by : (o : Option Node) → get tree q ≡ o → o ≡ None
       by None e = refl
-      by (Some m) e = let d = is.above p q above (ap is_some e) in absurd (no d.0 d.1 d.2)
+      by (Some m) e = let d = is.above p q above (ap is_some e) in absurd (not_dir d.0 d.1 d.2)
 
   no_dir : (n m : Node) (o : Option Node) → o ≡ Some n → n.kind ≡ File → o ≡ Some m → m.kind ≡ Dir → ⊥
   no_dir n m o e f g h =
@@ -152,15 +152,15 @@ module _ (tree : FinMap path_cmp Node) where
   child_key p a q under = let r = drop (length (p ++ a ∷ [])) q in (r, sym (split_at (p ++ a ∷ []) q under) ∙ append_assoc p (a ∷ []) r)
 
   outside : (p q : Path) (a : Name) → is_above p q ≡ false → covers (p ++ a ∷ []) q ≡ false
-  outside p q a no = not_true (covers (p ++ a ∷ []) q) (λ under.
+  outside p q a apart = not_true (covers (p ++ a ∷ []) q) (λ under.
       let r = child_key p a q under in
-      not_both (is_above p q) (subst (λ (x : Path). is_above p x ≡ true) (sym r.1) (longer_is_below p a r.0)) no)
+      not_both (is_above p q) (subst (λ (x : Path). is_above p x ≡ true) (sym r.1) (longer_is_below p a r.0)) apart)
 
   find_outside : (p q : Path) → is_above p q ≡ false → (es : List Entry) → find path_cmp q (children p es) ≡ None
-  find_outside p q no [] = refl
-  find_outside p q no (e ∷ es) =
-      let first : find path_cmp q (block (p ++ e.name ∷ [])) ≡ None = find_block (p ++ e.name ∷ []) q ∙ ap (λ (b : Bool). cond b (get tree q) None) (outside p q e.name no) in
-      find_append path_cmp q (block (p ++ e.name ∷ [])) (children p es) ∙ (λ i. option_or (first i) (find_outside p q no es i))
+  find_outside p q apart [] = refl
+  find_outside p q apart (e ∷ es) =
+      let first : find path_cmp q (block (p ++ e.name ∷ [])) ≡ None = find_block (p ++ e.name ∷ []) q ∙ ap (λ (b : Bool). cond b (get tree q) None) (outside p q e.name apart) in
+      find_append path_cmp q (block (p ++ e.name ∷ [])) (children p es) ∙ (λ i. option_or (first i) (find_outside p q apart es i))
 
   module _ (is : IsTree (get tree)) (p : Path) (es : List Entry) (by_tree : (name : Name) → IsEntryByTree (named name es) (get tree (p ++ name ∷ []))) where
     -- a child that no entry names has nothing below it

@@ -36,21 +36,21 @@ before_later k l (e ∷ es) lt h = (nat_list_cmp_total.trans k l e.0 lt h.0, bef
 
 before_put : (j k v : List ℕ) (es : Pairs) → name_cmp j k ≡ Less → KeyIsBefore j es → KeyIsBefore j (put es (k, v))
 before_put j k v [] lt h = (lt, tt)
-before_put j k v (e ∷ es) lt h = by (name_cmp k e.0) refl
+before_put j k v (e ∷ es) lt h = by (name_cmp k e.0) refl (before_put j k v es lt h.1)
   where
-    by : (o : Ordering) → name_cmp k e.0 ≡ o → KeyIsBefore j (put (e ∷ es) (k, v))
-    by Less is = rw is (lt, h)
-    by Equal is = rw is h
-    by Greater is = rw is (h.0, before_put j k v es lt h.1)
+    by : (o : Ordering) → name_cmp k e.0 ≡ o → KeyIsBefore j (put es (k, v)) → KeyIsBefore j (put (e ∷ es) (k, v))
+    by Less is rest = rw is (lt, h)
+    by Equal is rest = rw is h
+    by Greater is rest = rw is (h.0, rest)
 
 put_rises : (k v : List ℕ) (es : Pairs) → KeysRise es → KeysRise (put es (k, v))
 put_rises k v [] h = (tt, tt)
-put_rises k v (e ∷ es) h = by (name_cmp k e.0) refl
+put_rises k v (e ∷ es) h = by (name_cmp k e.0) refl (put_rises k v es h.1)
   where
-    by : (o : Ordering) → name_cmp k e.0 ≡ o → KeysRise (put (e ∷ es) (k, v))
-    by Less is = rw is ((is, before_later k e.0 es is h.0), h)
-    by Equal is = rw is h
-    by Greater is = rw is (before_put e.0 k v es (nat_list_cmp_total.antisymm e.0 k ∙ ap ordering_reverse is) h.0, put_rises k v es h.1)
+    by : (o : Ordering) → name_cmp k e.0 ≡ o → KeysRise (put es (k, v)) → KeysRise (put (e ∷ es) (k, v))
+    by Less is rest = rw is ((is, before_later k e.0 es is h.0), h)
+    by Equal is rest = rw is h
+    by Greater is rest = rw is (before_put e.0 k v es (nat_list_cmp_total.antisymm e.0 k ∙ ap ordering_reverse is) h.0, rest)
 
 put_all_rises : (pairs es : Pairs) → KeysRise pairs → KeysRise (put_all pairs es)
 put_all_rises pairs [] h = h

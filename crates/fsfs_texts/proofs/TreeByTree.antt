@@ -48,9 +48,9 @@ of_behind front whole text Stopped h = (h.0, ap (λ (t : List ℕ). front ++ t) 
 
 -- a text that isn't whole, before more
 of_stopped : (whole more text : List ℕ) (end : End) → end ≢ Whole → IsOf whole text end → IsOf (whole ++ more) text end
-of_stopped whole more text Whole no h = absurd (no refl)
-of_stopped whole more text (Refused fault) no h = absurd h
-of_stopped whole more text Stopped no h = (h.0 ++ more, ap (λ (t : List ℕ). t ++ more) h.1 ∙ append_assoc text h.0 more)
+of_stopped whole more text Whole cut h = absurd (cut refl)
+of_stopped whole more text (Refused fault) cut h = absurd h
+of_stopped whole more text Stopped cut h = (h.0 ++ more, ap (λ (t : List ℕ). t ++ more) h.1 ∙ append_assoc text h.0 more)
 
 -- ---- names and levels
 
@@ -62,6 +62,9 @@ last_push (x ∷ y ∷ p) name = last_push (y ∷ p) name
 length_push : (p : Path) (name : Name) → length (p ++ name ∷ []) ≡ suc (length p)
 length_push [] name = refl
 length_push (x ∷ p) name = ap suc (length_push p name)
+
+deeper : (m level n : ℕ) → m ≡ level + n → suc m ≡ suc level + n
+deeper m level n deep = omega (arith, deep)
 
 -- ---- the lines of a tree
 
@@ -116,7 +119,7 @@ module _ (look : Look) (rev : ℕ) (ids : Bool) (tree : FinMap path_cmp Node) (s
     node_lines _ _ _ _ _ (OfFile level name v line is file) p at deep last = sym (file_lines p v level name line at deep last is file)
     node_lines _ _ _ _ _ (OfDir level name v line es text end is dir of below) p at deep last =
         subst (λ (whole : List ℕ). IsOf whole (line ++ text) end) (sym (directory_lines p v level name line es at deep last is dir of))
-        (of_behind line (child_lines p es) text end (entries_lines (suc level) es text end below p (leads_on p v es at dir of) (ap suc deep)))
+        (of_behind line (child_lines p es) text end (entries_lines (suc level) es text end below p (leads_on p v es at dir of) (deeper (length p) level (length top) deep)))
     node_lines _ _ _ _ _ (OfWrongDir level name v line w is dir of) p at deep last = (by_tree look rev (get tree) shows).entries p v (Err w) at dir of
 
     entry_lines : (level : ℕ) (entry : Entry) (text : List ℕ) (end : End) → EntryText look ids level entry text end → (p : Path) → LeadsOn p entry → suc (length p) ≡ level + length top → IsOf (lines (p ++ entry.name ∷ [])) text end
@@ -127,9 +130,9 @@ module _ (look : Look) (rev : ℕ) (ids : Bool) (tree : FinMap path_cmp Node) (s
 
     entries_lines : (level : ℕ) (es : List Entry) (text : List ℕ) (end : End) → EntriesText look ids level es text end → (p : Path) → AllByRecursion (LeadsOn p) es → suc (length p) ≡ level + length top → IsOf (child_lines p es) text end
     entries_lines _ _ _ _ (OfNone level) p on deep = refl
-    entries_lines _ _ _ _ (OfLast level entry es text end first no) p on deep =
+    entries_lines _ _ _ _ (OfLast level entry es text end first cut) p on deep =
         subst (λ (whole : List ℕ). IsOf whole text end) (sym (flat_map-append (tree_line shown top) (block tree (p ++ entry.name ∷ [])) (children tree p es)))
-        (of_stopped (lines (p ++ entry.name ∷ [])) (child_lines p es) text end no (entry_lines level entry text end first p on.0 deep))
+        (of_stopped (lines (p ++ entry.name ∷ [])) (child_lines p es) text end cut (entry_lines level entry text end first p on.0 deep))
     entries_lines _ _ _ _ (OfNext level entry es text rest end first later) p on deep =
         let front : text ≡ lines (p ++ entry.name ∷ []) = entry_lines level entry text Whole first p on.0 deep in
         subst (λ (whole : List ℕ). IsOf whole (text ++ rest) end) (sym (flat_map-append (tree_line shown top) (block tree (p ++ entry.name ∷ [])) (children tree p es) ∙ ap (λ (t : List ℕ). t ++ child_lines p es) (sym front)))
