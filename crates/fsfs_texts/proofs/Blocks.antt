@@ -1,6 +1,5 @@
 -- The entries of a tree at a path and below it, in the order of their paths: the node at the path, and behind it those of each child.
-use Rattle.std.proofs.Common.{◌≡◌, ℕ, Bool, true, false, cond, ◌&&◌, not, T, List, [], ◌∷◌, ◌++◌, Option, Some, None, is_some, refl, sym, ap, subst, ◌∙◌, append_assoc, append-nil, drop, length, Ordering, Less, Equal, Greater, is_eq, flat_map}
-use Rattle.std.specs.Prelude.{IsSomeAnd}
+use Rattle.std.proofs.Common.{◌≡◌, Bool, true, false, cond, ◌&&◌, not, T, List, [], ◌∷◌, ◌++◌, Option, Some, None, is_some, refl, sym, ap, subst, ◌∙◌, append_assoc, append-nil, drop, length, Ordering, Less, Equal, Greater, is_eq, flat_map}
 use Rattle.std.specs.List.{AllByRecursion}
 use Rattle.std.specs.Option.{option_or}
 use Rattle.std.specs.Ordering.{eq_by_cmp, ordering_then}
@@ -9,12 +8,11 @@ use Rattle.std.specs.Cmp.Lexicographic.{nat_list_cmp_total}
 use Rattle.std.specs.FinMap.{FinMap, get, entries, entries_sorted, retain_keys, get-entries, get-retain_keys}
 use Rattle.std.specs.FinMap.Entries.{find, is_sorted, below_all, same_entries}
 use Rattle.fsfs_base.specs.Paths.{Name, Path, name_cmp, path_cmp, path_cmp_total, same_name, covers, is_above}
-use Rattle.fsfs_base.specs.Nodes.{Node, TreeFunction}
+use Rattle.fsfs_base.specs.Nodes.{Node}
 use Rattle.fsfs_base.specs.Histories.{IsTree}
-use Rattle.fsfs_base.specs.declared.node.Kind.{Kind}
 use Rattle.fsfs_base.specs.declared.node.Kind.TheVariants.{File, Dir}
 use Rattle.fsfs_base.proofs.TreeLemmas.{exact_paths}
-use Rattle.fsfs_base.proofs.PathLemmas.{both_true, first_true, second_true, not_both, not_true, same_name-refl, same_name-is, covers-refl, covers-antisym}
+use Rattle.fsfs_base.proofs.PathLemmas.{both_true, first_true, second_true, not_both, not_true, same_name-refl, covers-refl, covers-antisym}
 use Rattle.fsfs_model.proofs.PathLemmas.{covers-longer, split_at}
 use Rattle.fsfs_shows.specs.Reading.{Entry, named}
 use Rattle.fsfs_shows.specs.ByTree.{IsEntryByTree}

@@ -1,5 +1,5 @@
 -- Where the bytes show a tree, the text of a file is that of the node.
-use Rattle.std.proofs.Common.{◌≡◌, ℕ, List, [], refl, sym, ap, subst, ◌∙◌, inl, inr, ◌⊎◌}
+use Rattle.std.proofs.Common.{◌≡◌, ℕ, List, [], refl, sym, ap, subst, ◌∙◌, inl, inr}
 use Rattle.std.specs.Prelude.{Ok, Err, Some}
 use Rattle.fsfs_base.specs.Paths.{Path}
 use Rattle.fsfs_base.specs.Nodes.{Node, Content, Bytes, Closed, TreeFunction}
@@ -9,18 +9,15 @@ use Rattle.fsfs_book.specs.Told.{Look}
 use Rattle.fsfs_model.specs.Answers as answers
 use Rattle.fsfs_model.specs.Answers.{Found, found_at}
 use Rattle.fsfs_noderev.specs.declared.node_rev.NodeRev.{NodeRev}
-use Rattle.fsfs_revision.specs.Damages.{place_of}
 use Rattle.fsfs_shows.specs.declared.wrong.Wrong.{Wrong}
-use Rattle.fsfs_shows.specs.declared.wrong.Wrong.TheVariants as wrongs
-use Rattle.fsfs_shows.specs.Reading.{TextOf, Met, Stands, Lacking, Blocked, MetAt, StandsAt}
+use Rattle.fsfs_shows.specs.Reading.{Met, Stands, Lacking, Blocked, MetAt, StandsAt}
 use Rattle.fsfs_shows.specs.Shown.{Shows}
 use Rattle.fsfs_shows.specs.ByTree.{IsTextByTree}
 use Rattle.fsfs_shows.proofs.ByTree.{by_tree}
-use Rattle.fsfs_texts.specs.declared.look_fault.LookFault.{LookFault}
 use Rattle.fsfs_texts.specs.declared.look_fault.LookFault.TheVariants as faults
 use Rattle.fsfs_texts.specs.Texts.{End, Whole, Refused, Stopped, Nothing}
 use Rattle.fsfs_texts.specs.FileTexts.{KindText, MetFileText, FileText}
-use Rattle.fsfs_texts.specs.ByTree.{IsOf, IsRefusedFor, IsNotFoundAt, IsNotDirAt, IsContent, IsFileOf, FilesAreByTree}
+use Rattle.fsfs_texts.specs.ByTree.{IsContent, IsFileOf, FilesAreByTree}
 use Rattle.fsfs_texts.proofs.FoundAt.{IsFoundAs, node_at, never_wrong, found_as}
 
 -- nothing, for this reason, is what a relation says of it

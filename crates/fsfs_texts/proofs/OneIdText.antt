@@ -1,11 +1,11 @@
 -- An id has one text.
-use Rattle.std.proofs.Common.{◌≡◌, ℕ, ◌≤◌, Bool, true, false, List, [], ◌∷◌, ◌++◌, refl, sym, ap, ◌∙◌, arith}
+use Rattle.std.proofs.Common.{◌≡◌, ℕ, ◌≤◌, Bool, true, false, List, ◌∷◌, ◌++◌, sym, ap, ◌∙◌, arith}
 use Rattle.std.specs.Prelude.{codes}
 use Rattle.fsfs_text.specs.Numeral.{IsPlain}
 use Rattle.fsfs_text.specs.Cuts.{IsCutOf}
 use Rattle.fsfs_text.proofs.Unique.{numeral_same}
 use Rattle.fsfs_noderev.specs.Fields.{IsIdText}
-use Rattle.fsfs_noderev.specs.Ids.{PartValue, New, Old, Made, PlaceValue, At, In, IsPart, IsPlace, id_value}
+use Rattle.fsfs_noderev.specs.Ids.{New, Old, Made, At, In, IsPart, IsPlace, id_value}
 use Rattle.fsfs_noderev.specs.declared.node_id.NodeId.{NodeId}
 use Rattle.fsfs_texts.specs.TreeTexts.{IsShownId}
 

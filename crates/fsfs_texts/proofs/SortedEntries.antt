@@ -1,5 +1,5 @@
 -- Lists of entries in the order of their keys, one behind another.
-use Rattle.std.proofs.Common.{◌≡◌, Bool, true, false, cond, ◌&&◌, T, List, [], ◌∷◌, ◌++◌, Option, Some, None, is_some, refl, sym, ap, subst, ◌∙◌, Ordering, Less, Equal, is_lt, is_eq}
+use Rattle.std.proofs.Common.{◌≡◌, Bool, true, false, cond, ◌&&◌, T, List, [], ◌∷◌, ◌++◌, Option, Some, is_some, refl, sym, ap, subst, Ordering, Less, is_lt, is_eq}
 use Rattle.std.specs.Option.{option_or}
 use Rattle.std.specs.List.{AllByRecursion}
 use Rattle.std.specs.Ordering.{eq_by_cmp}
@@ -58,11 +58,10 @@ module _ {K X : Type 0} (R : K → K → Ordering) where
   -- what holds of each key that is found holds of each key
   pub keys_found : IsTotalOrder R → (P : K → Type 0) (es : List (K × X)) → ((q : K) → is_some (find R q es) ≡ true → P q) → AllByRecursion (λ e. P e.0) es
   keys_found total P [] h = tt
-  keys_found total P (e ∷ es) h =
-      (
-        h e.0 (ap (λ (o : Ordering). is_some (cond (is_eq o) (Some e.1) (find R e.0 es))) (tied_itself total e.0)),
-        keys_found total P es (λ q some. h q (behind (eq_by_cmp R q e.0) e.1 (find R q es) some)),
-      )
+  keys_found total P (e ∷ es) h = (
+    h e.0 (ap (λ (o : Ordering). is_some (cond (is_eq o) (Some e.1) (find R e.0 es))) (tied_itself total e.0)),
+    keys_found total P es (λ q some. h q (behind (eq_by_cmp R q e.0) e.1 (find R q es) some)),
+  )
     where
       behind : (b : Bool) (x : X) (o : Option X) → is_some o ≡ true → is_some (cond b (Some x) o) ≡ true
       behind true x o some = refl

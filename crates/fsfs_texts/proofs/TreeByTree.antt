@@ -1,13 +1,12 @@
 -- Where the bytes show a tree, the text that is derived directory after directory is that of the tree's entries in order.
 use Rattle.std.proofs.Common.{◌≡◌, ◌≢◌, ℕ, suc, ◌+◌, ◌-◌, Bool, List, [], ◌∷◌, ◌++◌, length, replicate, refl, sym, ap, subst, ◌∙◌, inl, inr, arith, append_assoc, append-nil, flat_map}
-use Rattle.std.specs.Prelude.{Ok, Err, Option, Some, None, codes}
-use Rattle.std.specs.FinMap.{FinMap, get, entries, retain_keys}
+use Rattle.std.specs.Prelude.{Ok, Err, Option, Some, codes}
+use Rattle.std.specs.FinMap.{FinMap, get}
 use Rattle.std.specs.List.{AllByRecursion}
 use Rattle.std.proofs.lemmas.Grind.{flat_map-append}
 use Rattle.fsfs_base.specs.Histories.{IsTree}
-use Rattle.fsfs_base.specs.Paths.{Name, Path, path_cmp, covers}
+use Rattle.fsfs_base.specs.Paths.{Name, Path, path_cmp}
 use Rattle.fsfs_base.specs.Nodes.{Node}
-use Rattle.fsfs_base.specs.declared.node.Kind.{Kind}
 use Rattle.fsfs_base.specs.declared.node.Kind.TheVariants.{File, Dir}
 use Rattle.fsfs_book.specs.Told.{Look}
 use Rattle.fsfs_model.specs.Answers as answers
@@ -15,16 +14,14 @@ use Rattle.fsfs_model.specs.Answers.{Found, found_at, last_name, kind_mark, tree
 use Rattle.fsfs_noderev.specs.declared.node_rev.NodeRev.{NodeRev}
 use Rattle.fsfs_shows.specs.declared.wrong.Wrong.{Wrong}
 use Rattle.fsfs_shows.specs.Reading.{Entry, named, EntriesOf, OfEntry, OfNamed, ChildOf, Met, Stands, Lacking, Blocked, MetFrom, MetAt, StandsAt}
-use Rattle.fsfs_shows.specs.Shown.{IsShown, Shows}
-use Rattle.fsfs_shows.specs.ByTree.{IsEntryByTree}
+use Rattle.fsfs_shows.specs.Shown.{Shows}
 use Rattle.fsfs_shows.proofs.ByTree.{by_tree}
 use Rattle.fsfs_shows.proofs.TreeLaw.{sound}
 use Rattle.fsfs_shows.proofs.Walks.{met_behind, in_dir, child_stands}
-use Rattle.fsfs_texts.specs.declared.look_fault.LookFault.{LookFault}
 use Rattle.fsfs_texts.specs.declared.look_fault.LookFault.TheVariants as faults
-use Rattle.fsfs_texts.specs.Texts.{End, Whole, Refused, Stopped, Nothing}
-use Rattle.fsfs_texts.specs.TreeTexts.{IsShownId, IsLine, NodeText, OfFile, OfDir, OfWrongDir, EntryText, OfNode, OfWrong, Stops, EntriesText, OfNone, OfLast, OfNext, MetText, TreeText}
-use Rattle.fsfs_texts.specs.ByTree.{IsOf, IsRefusedFor, IsNotFoundAt, IsNotDirAt, AreShownIds, IsTreeOf, TreesAreByTree}
+use Rattle.fsfs_texts.specs.Texts.{End, Whole, Refused, Stopped}
+use Rattle.fsfs_texts.specs.TreeTexts.{IsLine, NodeText, OfFile, OfDir, OfWrongDir, EntryText, OfNode, OfWrong, Stops, EntriesText, OfNone, OfLast, OfNext, MetText, TreeText}
+use Rattle.fsfs_texts.specs.ByTree.{IsOf, AreShownIds, IsTreeOf, TreesAreByTree}
 use Rattle.fsfs_texts.proofs.FoundAt.{IsFoundAs, node_at, never_wrong, found_as}
 use Rattle.fsfs_texts.proofs.FileByTree.{nothing_is}
 use Rattle.fsfs_texts.proofs.OneIdText.{shown_id_one}
