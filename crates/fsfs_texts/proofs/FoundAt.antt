@@ -21,7 +21,7 @@ IsFoundAs tree path (Stands v) found = (n : Node) × (tree path ≡ Some n) × (
 IsFoundAs tree path (Lacking depth) found = found ≡ answers.Lacking (take depth path)
 IsFoundAs tree path (Blocked depth) found = found ≡ answers.Blocked (take depth path)
 
-length_push : (front : Path) (name : Name) → length (front ++ name ∷ []) ≡ suc (length front)
+pub length_push : (front : Path) (name : Name) → length (front ++ name ∷ []) ≡ suc (length front)
 length_push [] name = refl
 length_push (x ∷ front) name = ap suc (length_push front name)
 

@@ -22,7 +22,7 @@ use Rattle.fsfs_texts.specs.declared.look_fault.LookFault.TheVariants as faults
 use Rattle.fsfs_texts.specs.Texts.{End, Whole, Refused, Stopped}
 use Rattle.fsfs_texts.specs.TreeTexts.{IsLine, NodeText, OfFile, OfDir, OfWrongDir, EntryText, OfNode, OfWrong, Stops, EntriesText, OfNone, OfLast, OfNext, MetText, TreeText}
 use Rattle.fsfs_texts.specs.ByTree.{IsOf, AreShownIds, IsTreeOf, TreesAreByTree}
-use Rattle.fsfs_texts.proofs.FoundAt.{IsFoundAs, node_at, never_wrong, found_as}
+use Rattle.fsfs_texts.proofs.FoundAt.{IsFoundAs, length_push, node_at, never_wrong, found_as}
 use Rattle.fsfs_texts.proofs.FileByTree.{nothing_is}
 use Rattle.fsfs_texts.proofs.OneIdText.{shown_id_one}
 use Rattle.fsfs_texts.proofs.EntryNames.{entries_rise, each_named}
@@ -30,9 +30,6 @@ use Rattle.fsfs_texts.proofs.SortedEntries.{all_weaker}
 use Rattle.fsfs_texts.proofs.Blocks.{block, file_block, children, directory_block}
 
 -- ---- texts one behind another
-
-of_itself : (whole : List ℕ) → IsOf whole whole Whole
-of_itself whole = refl
 
 of_nothing : (whole : List ℕ) → IsOf whole [] Stopped
 of_nothing whole = (whole, refl)
@@ -55,10 +52,6 @@ last_push : (p : Path) (name : Name) → last_name (p ++ name ∷ []) ≡ name
 last_push [] name = refl
 last_push (x ∷ []) name = refl
 last_push (x ∷ y ∷ p) name = last_push (y ∷ p) name
-
-length_push : (p : Path) (name : Name) → length (p ++ name ∷ []) ≡ suc (length p)
-length_push [] name = refl
-length_push (x ∷ p) name = ap suc (length_push p name)
 
 deeper : (m level n : ℕ) → m ≡ level + n → suc m ≡ suc level + n
 deeper m level n deep = omega (arith, deep)
