@@ -1,3 +1,3 @@
-pub mod IdTexts
+pub mod OneIdText
 pub mod OneText
 pub mod Prefixes

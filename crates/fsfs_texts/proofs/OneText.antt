@@ -1,12 +1,11 @@
 -- A look prints one text at most, and where a failure stops it a first part of that.
 use Rattle.std.proofs.Common.{◌≡◌, ℕ, Bool, suc, List, [], ◌∷◌, ◌++◌, Ok, Err, refl, sym, ap, subst, ◌∙◌, append_assoc, inl, inr}
-use Rattle.std.specs.Prelude.{◌≢◌, true, false, codes, replicate}
+use Rattle.std.specs.Prelude.{◌≢◌, codes, replicate}
 use Rattle.fsfs_base.specs.Paths.{Name, Path}
 use Rattle.fsfs_base.specs.declared.node.Kind.{Kind}
 use Rattle.fsfs_base.specs.declared.node.Kind.TheVariants.{File, Dir}
 use Rattle.fsfs_book.specs.Told.{Look}
 use Rattle.fsfs_model.specs.Answers.{last_name, kind_mark}
-use Rattle.fsfs_noderev.specs.declared.node_id.NodeId.{NodeId}
 use Rattle.fsfs_noderev.specs.declared.node_rev.NodeRev.{NodeRev}
 use Rattle.fsfs_shows.specs.declared.wrong.Wrong.{Wrong}
 use Rattle.fsfs_shows.specs.Reading.{Entry, EntriesOf, OfEntry, Met, Stands, Lacking, Blocked}
@@ -15,10 +14,10 @@ use Rattle.fsfs_shows.proofs.OneEntry.{entries_one}
 use Rattle.fsfs_shows.proofs.OneWalk.{text_one, of_entry_one, met_at_one}
 use Rattle.fsfs_texts.specs.declared.look_fault.LookFault.TheVariants as faults
 use Rattle.fsfs_texts.specs.Texts.{End, Whole, Refused, Stopped, Nothing, AtPath}
-use Rattle.fsfs_texts.specs.TreeTexts.{IsShownId, IsLine, NodeText, OfFile, OfDir, OfWrongDir, EntryText, OfNode, OfWrong, Stops, EntriesText, OfNone, OfLast, OfNext, MetText}
+use Rattle.fsfs_texts.specs.TreeTexts.{IsLine, NodeText, OfFile, OfDir, OfWrongDir, EntryText, OfNode, OfWrong, Stops, EntriesText, OfNone, OfLast, OfNext, MetText}
 use Rattle.fsfs_texts.specs.FileTexts.{KindText, MetFileText}
 use Rattle.fsfs_texts.specs.Agreeing.{IsFront, Agree, HasOneText, TreesHaveOneText, FilesHaveOneText}
-use Rattle.fsfs_texts.proofs.IdTexts.{id_text_one}
+use Rattle.fsfs_texts.proofs.OneIdText.{shown_id_one}
 
 -- ---- two texts that agree
 
@@ -72,10 +71,6 @@ no_file_dir : {A : Type 0} (k : Kind) → k ≡ File → k ≡ Dir → A
 no_file_dir k e f = let g = sym e ∙ f in absurd cc
 
 -- ---- lines
-
-shown_id_one : (ids : Bool) (id : NodeId) (a b : List ℕ) → IsShownId ids id a → IsShownId ids id b → a ≡ b
-shown_id_one false id a b g h = g ∙ sym h
-shown_id_one true id a b g h = g.2 ∙ ap (λ (t : List ℕ). codes " <" ++ t ++ codes ">") (id_text_one g.0 h.0 id g.1 h.1) ∙ sym h.2
 
 line_one : (ids : Bool) (level : ℕ) (name : Name) (v : NodeRev) (a b : List ℕ) → IsLine ids level name v a → IsLine ids level name v b → a ≡ b
 line_one ids level name v a b g h =
