@@ -5,3 +5,5 @@ pub mod EntryNames
 pub mod SortedEntries
 pub mod Blocks
 pub mod TreeByTree
+pub mod OneText
+pub mod Prefixes
