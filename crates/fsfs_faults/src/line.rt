@@ -143,7 +143,8 @@ fn digest_text<const N: usize>(digest: &HexDigest<N>) -> ArrayString<41>
     requires { N ≤ 20 }
     ensures { result.bytes ≡ 32 ∷ encode_lower digest.now.bytes }
 {
-    hex_text(digest.bytes.as_slice())
+    let bytes = digest.bytes;
+    hex_text(&bytes)
 }
 
 // What is damaged in a representation, with its values, a space before each.
