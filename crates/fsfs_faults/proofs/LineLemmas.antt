@@ -1,5 +1,5 @@
 -- The line of a fault in the pieces that are printed.
-use Rattle.std.proofs.Common.{◌≡◌, List, ℕ, ◌++◌, refl, sym, ap, ◌∙◌, append_assoc, append-nil}
+use Rattle.std.proofs.Common.{◌≡◌, List, ℕ, ◌++◌, refl, ap, ◌∙◌, append_assoc, append-nil}
 use Rattle.std.specs.Prelude.{codes}
 use Rattle.fsfs_words.specs.Commands.{tool_name}
 use Rattle.fsfs_words.specs.declared.tool.Tool.{Tool}

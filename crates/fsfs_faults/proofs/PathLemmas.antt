@@ -1,6 +1,6 @@
 -- The text of a path that is printed name by name.
-use Rattle.std.proofs.Common.{◌≡◌, ◌+◌, ◌<◌, ◌≤◌, ℕ, List, [], ◌∷◌, ◌++◌, Bool, false, length, map, take, drop, get_or, refl, sym, ap, ◌∙◌}
-use Rattle.std.proofs.lemmas.List.{take-append-drop, map-append, take_all}
+use Rattle.std.proofs.Common.{◌≡◌, ◌+◌, ◌<◌, ℕ, List, [], ◌∷◌, ◌++◌, false, length, map, take, drop, get_or, refl, sym, ap, ◌∙◌}
+use Rattle.std.proofs.lemmas.List.{take-append-drop, map-append}
 use Rattle.fsfs_base.specs.Paths.{Name, Path, names_text, path_text, is_root}
 use Rattle.fsfs_base.proofs.PathTextLemmas.{names_text-append, text_more}
 

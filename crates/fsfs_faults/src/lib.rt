@@ -4,6 +4,8 @@
 mod fault;
 mod line;
 mod output;
+#[cfg(test)]
+mod tests;
 
 pub use fault::Fault;
 pub use fsfs_words::Tool;

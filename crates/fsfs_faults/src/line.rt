@@ -1,7 +1,6 @@
 //! The words of a fault, its status, and its line but for a path.
-ghost use Rattle.std.specs.Prelude.{◌≡◌, ◌≤◌, ◌∷◌, ◌++◌, length, decimal, codes};
+ghost use Rattle.std.specs.Prelude.{◌≡◌, ◌<◌, ◌≤◌, ◌∷◌, ◌++◌, length, slice_index, decimal, codes};
 ghost use Rattle.hex.specs.Hex.{encode_lower, lower_digits};
-ghost use Rattle.std.specs.Prelude.{◌<◌, slice_index};
 ghost use Rattle.fsfs_faults.specs.Lines.{place_words, fault_name, what_name, why_name, at_values, rep_what_values, status_of};
 ghost use Rattle.fsfs_faults.specs.Pieces.{fixed_values, head_of};
 

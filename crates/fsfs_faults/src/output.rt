@@ -38,7 +38,9 @@ fn print_path_of<S: Sink>(sink: &mut S, fault: &Fault) -> Result<(), Failed>
     ensures printed { Prints (S.written sink.old) (S.written sink.new) (path_values fault.now) (S.faults sink.old) (S.faults sink.new) result }
 {
     match fault {
-        Fault::NotFound(path) | Fault::NotDir(path) | Fault::NotFile(path) => print_path(sink, path),
+        Fault::NotFound(path) | Fault::NotDir(path) | Fault::NotFile(path) => {
+            print_path(sink, path)
+        }
         _ => Ok(()),
     }
 }

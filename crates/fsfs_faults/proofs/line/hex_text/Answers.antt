@@ -1,6 +1,5 @@
-use Rattle.std.proofs.Common.{◌≡◌, lit<, length-append, ◌+◌, ◌*◌, ◌∷◌, ◌++◌, [], ℕ, List, length, take, sym, ap, ◌∙◌, arith}
+use Rattle.std.proofs.Common.{lit<, length-append, ◌∷◌, ◌++◌, [], ℕ, List, length, sym, ap, ◌∙◌, arith}
 use Rattle.std.proofs.lemmas.Str.{encode_ascii}
-use Rattle.hex.specs.Hex.{encode_lower}
 use Rattle.fsfs_faults.proofs.HexLemmas.{hex_none, hex_size, digits_more}
 use Rattle.fsfs_faults.proofs.line.hex_text.Goals as goal
 

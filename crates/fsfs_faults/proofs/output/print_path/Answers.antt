@@ -1,4 +1,4 @@
-use Rattle.std.proofs.Common.{◌≡◌, ◌∷◌, ◌++◌, ◌+◌, ◌≤◌, ◌<◌, List, ℕ, refl, sym, ap, subst, ◌∙◌, map, take, drop, length, get_or, arith, Global}
+use Rattle.std.proofs.Common.{◌≡◌, ◌∷◌, ◌++◌, ◌+◌, List, ℕ, refl, sym, ap, subst, ◌∙◌, map, take, drop, get_or, arith, Global}
 use Rattle.std.specs.Prelude.{Err}
 use Rattle.std.specs.String.{string_bytes}
 use Rattle.fsfs_base.specs.Paths.{names_text, path_text}
