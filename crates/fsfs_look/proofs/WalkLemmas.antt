@@ -1,6 +1,6 @@
 -- The text of what is left to write.
-use Rattle.std.proofs.Common.{◌≡◌, ℕ, Bool, suc, ◌+◌, List, [], ◌∷◌, ◌++◌, map, length, arith, Result, Ok, Err, refl, sym, ap, subst, ◌∙◌, append_assoc, append-nil, inl, inr, add-one}
-use Rattle.std.specs.Prelude.{◌≢◌, reverse}
+use Rattle.std.proofs.Common.{◌≡◌, ℕ, Bool, suc, List, [], ◌∷◌, ◌++◌, map, length, arith, Result, Ok, Err, refl, sym, ap, subst, ◌∙◌, append_assoc, inl, inr}
+use Rattle.std.specs.Prelude.{◌≢◌}
 use Rattle.std.proofs.lemmas.List.{reverse-append}
 use Rattle.fsfs_base.specs.Paths.{Name}
 use Rattle.fsfs_base.specs.declared.node.Kind.TheVariants.{File, Dir}

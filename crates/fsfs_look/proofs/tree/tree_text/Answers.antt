@@ -1,4 +1,4 @@
-use Rattle.std.proofs.Common.{◌≡◌, List, ℕ, Ok, Err, [], refl, sym, subst}
+use Rattle.std.proofs.Common.{List, ℕ, refl}
 use Rattle.std.proofs.lemmas.Result.{err_from_is_err_and}
 use Rattle.fsfs_rep.proofs.WholeLemmas.{keeps_trans}
 use Rattle.fsfs_texts.specs.Texts.{End}

@@ -1,8 +1,7 @@
-use Rattle.std.proofs.Common.{◌≡◌, ◌≤◌, ◌<◌, ◌+◌, ℕ, Bool, List, [], ◌∷◌, ◌++◌, Option, Ok, Err, refl, sym, ap, subst, ◌∙◌, arith, rules, length}
+use Rattle.std.proofs.Common.{◌≡◌, ◌≤◌, ℕ, List, [], Ok, Err, refl, sym, ap, subst, ◌∙◌, arith, rules}
 use Rattle.std.proofs.lemmas.Result.{err_from_is_err_and}
-use Rattle.fsfs_book.specs.Told.{Look, Knows}
 use Rattle.fsfs_rep.proofs.WholeLemmas.{keeps_trans}
-use Rattle.fsfs_shows.specs.Reading.{offset_of, OfEntry}
+use Rattle.fsfs_shows.specs.Reading.{offset_of}
 use Rattle.fsfs_dag.specs.Views.{entry_value, home_of}
 use Rattle.fsfs_noderev.specs.declared.node_id.NodeId.{NodeId}
 use Rattle.fsfs_texts.specs.Texts.{End}

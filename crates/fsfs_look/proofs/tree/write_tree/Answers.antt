@@ -1,11 +1,8 @@
-use Rattle.std.proofs.Common.{◌≡◌, ◌≤◌, Bool, Err, Ok, List, [], sym, subst, arith}
+use Rattle.std.proofs.Common.{Bool, Err, Ok, List, [], sym, subst, arith}
 use Rattle.std.proofs.lemmas.Result.{err_from_is_err_and}
-use Rattle.fsfs_rep.proofs.WholeLemmas.{keeps_trans}
-use Rattle.fsfs_dag.specs.Views.{home_of}
 use Rattle.fsfs_look.specs.declared.tree.Pending.{Pending}
 use Rattle.fsfs_look.specs.Walks.{Puts, AreWithin, Walks, LeftText, left}
 use Rattle.fsfs_look.proofs.EndLemmas.{start_fails, start_goes}
-use Rattle.fsfs_look.proofs.ProgressLemmas.{knows_upto}
 use Rattle.fsfs_look.proofs.tree.write_tree.Goals as goal
 
 pub returns-in_err-put_node-clause-told : goal.returns-in_err-put_node-clause-told
