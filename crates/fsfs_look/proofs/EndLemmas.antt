@@ -1,5 +1,5 @@
 -- The text of a node at a path, to its end.
-use Rattle.std.proofs.Common.{◌≡◌, ℕ, Bool, ◌≤◌, List, [], ◌∷◌, ◌++◌, Option, Result, Ok, Err, refl, sym, ap, subst, ◌∙◌, append_assoc, append-nil, inl, inr}
+use Rattle.std.proofs.Common.{◌≡◌, ℕ, Bool, List, [], ◌++◌, Option, Result, Ok, Err, refl, sym, ap, subst, ◌∙◌, append_assoc, append-nil, inl, inr}
 use Rattle.fsfs_base.specs.Paths.{Name, Path}
 use Rattle.fsfs_book.specs.Told.{Look}
 use Rattle.fsfs_disk.specs.Streams.{Adds}
@@ -7,17 +7,15 @@ use Rattle.fsfs_disk.proofs.StreamLemmas.{adds_then}
 use Rattle.fsfs_model.specs.Answers.{last_name}
 use Rattle.fsfs_noderev.specs.declared.node_rev.NodeRev.{NodeRev}
 use Rattle.fsfs_shows.specs.Reading.{MetAt, Met, Stands, Lacking, Blocked}
-use Rattle.fsfs_dag.specs.declared.node.PlacedNode.{PlacedNode}
 use Rattle.fsfs_look.specs.declared.look_error.LookError.{LookError}
 use Rattle.fsfs_look.specs.declared.look_error.LookError.TheVariants as errors
-use Rattle.fsfs_texts.specs.declared.look_fault.LookFault.{LookFault}
 use Rattle.fsfs_texts.specs.declared.look_fault.LookFault.TheVariants as faults
 use Rattle.fsfs_look.specs.declared.tree.Pending.{Pending}
 use Rattle.fsfs_output.specs.Output.{AddsFront}
-use Rattle.fsfs_look.specs.Paths.{IsFound, IsNotFound}
-use Rattle.fsfs_texts.specs.Texts.{End, Whole, Refused, Stopped, Nothing, AtPath}
+use Rattle.fsfs_look.specs.Paths.{IsFound}
+use Rattle.fsfs_texts.specs.Texts.{End, Whole, Refused, Stopped, AtPath}
 use Rattle.fsfs_texts.specs.TreeTexts.{NodeText, TreeText}
-use Rattle.fsfs_look.specs.Walks.{left, Then, LeftText, NodeFrom, Puts, Joins, JoinsSome, WalksTo, Walks, EndsSo}
+use Rattle.fsfs_look.specs.Walks.{left, Then, LeftText, NodeFrom, Puts, Joins, JoinsSome, Walks, EndsSo}
 use Rattle.fsfs_look.specs.Written.{Writes, WritesFront}
 use Rattle.fsfs_look.proofs.ProgressLemmas.{adds_nothing}
 

@@ -1,5 +1,5 @@
 -- The text of a file.
-use Rattle.std.proofs.Common.{◌≡◌, ℕ, ◌≤◌, ◌+◌, List, [], ◌∷◌, ◌++◌, take, drop, length, Option, Some, None, Result, Ok, Err, refl, sym, ap, subst, ◌∙◌, append_assoc, inl, inr, arith}
+use Rattle.std.proofs.Common.{◌≡◌, ℕ, List, [], ◌++◌, take, drop, Option, Some, None, Result, Ok, Err, refl, sym, ap, subst, ◌∙◌, append_assoc, inl, inr}
 use Rattle.std.proofs.lemmas.List.{take-append-drop}
 use Rattle.fsfs_base.specs.Paths.{Path}
 use Rattle.fsfs_base.specs.declared.node.Kind.TheVariants.{File, Dir}
@@ -14,11 +14,10 @@ use Rattle.fsfs_rep.specs.Faults.{IsRefusedFor}
 use Rattle.fsfs_rep.specs.Frames.{rev_of, text_of, IsWhole, IsFaultOf}
 use Rattle.fsfs_rep.specs.declared.rep_fault.RepFault.{RepFault}
 use Rattle.fsfs_rep.specs.declared.rep_fault.RepError.TheVariants as rep_errors
-use Rattle.fsfs_shows.specs.declared.wrong.Wrong.{Wrong}
 use Rattle.fsfs_shows.specs.declared.wrong.ReadError.{ReadError}
 use Rattle.fsfs_shows.specs.declared.wrong.ReadError.TheVariants as reads
 use Rattle.fsfs_shows.specs.Readings.{Answers}
-use Rattle.fsfs_shows.specs.Reading.{RepAt, TextOf, MetAt, Met, Stands, rep_place}
+use Rattle.fsfs_shows.specs.Reading.{RepAt, TextOf, MetAt, Stands, rep_place}
 use Rattle.fsfs_shows.proofs.OneRep.{rep_at_one}
 use Rattle.fsfs_dag.specs.Faults.{of_rep}
 use Rattle.fsfs_dag.proofs.Reps.{rep_wrong, contents_some, contents_none}

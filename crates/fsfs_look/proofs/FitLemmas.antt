@@ -1,5 +1,5 @@
 -- The ids of node-revisions that were read have texts.
-use Rattle.std.proofs.Common.{◌≡◌, ◌≤◌, ℕ, Bool, true, false, ap, ◌∙◌, arith, List, [], ◌∷◌, suc, Option, Some, None, Result, Ok, Err, refl, sym, subst, inl, inr}
+use Rattle.std.proofs.Common.{◌≡◌, ◌≤◌, ℕ, Bool, true, false, ap, ◌∙◌, arith, List, [], ◌∷◌, suc, Option, Some, None, Ok, refl, sym, subst}
 use Rattle.std.specs.Prelude.{if◌then◌else◌}
 use Rattle.fsfs_base.specs.Paths.{Name, Path}
 use Rattle.fsfs_book.specs.Told.{Look}
@@ -8,7 +8,7 @@ use Rattle.fsfs_noderev.specs.declared.node_rev.NodeRev.{NodeRev}
 use Rattle.fsfs_noderev.proofs.Fitting.{all_fit}
 use Rattle.fsfs_base.specs.declared.node.Kind.{Kind}
 use Rattle.fsfs_base.specs.declared.node.Kind.TheVariants.{File, Dir}
-use Rattle.fsfs_shows.specs.Reading.{Entry, OfEntry, named, OfNamed, ChildOf, OrLacking, InDirectory, MetFrom, MetAt, Met, Stands}
+use Rattle.fsfs_shows.specs.Reading.{Entry, OfEntry, named, OfNamed, ChildOf, OrLacking, InDirectory, MetFrom, MetAt, Stands}
 use Rattle.std.proofs.lemmas.Bool.Decides.{nat_tests}
 use Rattle.std.specs.List.{AllByRecursion}
 use Rattle.std.specs.Prelude.{◌&&◌}

@@ -1,5 +1,5 @@
 -- The parts of a line.
-use Rattle.std.proofs.Common.{◌≡◌, ◌++◌, ℕ, Bool, List, ap, refl, sym, ◌∙◌, append_assoc, replicate}
+use Rattle.std.proofs.Common.{◌≡◌, ◌++◌, ℕ, Bool, List, ap, refl, ◌∙◌, append_assoc, replicate}
 use Rattle.std.specs.Prelude.{codes}
 use Rattle.fsfs_base.specs.Paths.{Name}
 use Rattle.fsfs_model.specs.Answers.{kind_mark}

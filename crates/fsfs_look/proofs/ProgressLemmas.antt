@@ -1,6 +1,5 @@
 -- How far a text was written.
-use Rattle.std.proofs.Common.{◌≡◌, ℕ, Bool, ◌≤◌, List, [], ◌∷◌, ◌++◌, Option, Some, None, Result, Ok, Err, refl, sym, ap, subst, ◌∙◌, append_assoc, append-nil, arith}
-use Rattle.fsfs_base.specs.Paths.{Name}
+use Rattle.std.proofs.Common.{◌≡◌, ℕ, Bool, ◌≤◌, List, [], ◌∷◌, ◌++◌, Option, Some, None, Result, Ok, Err, sym, ap, subst, ◌∙◌, append_assoc, append-nil, arith}
 use Rattle.fsfs_book.specs.Told.{Look, Telling, Knows, Keeps}
 use Rattle.fsfs_disk.specs.Streams.{Adds}
 use Rattle.fsfs_disk.proofs.StreamLemmas.{adds_then}
@@ -17,8 +16,8 @@ use Rattle.fsfs_look.specs.declared.tree.Pending.{Pending}
 use Rattle.fsfs_look.specs.Errors.{of_read}
 use Rattle.fsfs_output.specs.Output.{AddsFront}
 use Rattle.fsfs_texts.specs.Texts.{End, Whole, Refused, Stopped}
-use Rattle.fsfs_texts.specs.TreeTexts.{NodeText, EntryText}
-use Rattle.fsfs_look.specs.Walks.{left, Then, LeftText, Puts, Joins, JoinsSome, WalksTo, Walks}
+use Rattle.fsfs_texts.specs.TreeTexts.{EntryText}
+use Rattle.fsfs_look.specs.Walks.{left, Then, LeftText, Puts, Joins, JoinsSome, Walks}
 use Rattle.fsfs_dag.specs.Views.{entry_value}
 use Rattle.fsfs_look.proofs.WalkLemmas.{left_push, wrong_first, refused_first, stops_first, node_first}
 

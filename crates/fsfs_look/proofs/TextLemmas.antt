@@ -1,12 +1,12 @@
 -- What a reading answered, as a look answers it.
-use Rattle.std.proofs.Common.{◌≡◌, ℕ, ◌≤◌, ◌-◌, ◌+◌, suc, List, [], ◌∷◌, ◌++◌, length, get_or, map, Option, Result, Ok, Err, refl, sym, ap, subst, ◌∙◌, inl, inr, arith}
+use Rattle.std.proofs.Common.{◌≡◌, ℕ, ◌≤◌, ◌-◌, List, [], ◌∷◌, length, get_or, map, Result, Ok, Err, refl, subst, arith}
 use Rattle.fsfs_base.specs.Paths.{Name, Path}
 use Rattle.fsfs_book.specs.Told.{Look}
 use Rattle.fsfs_model.specs.Answers.{last_name}
 use Rattle.fsfs_shows.specs.declared.wrong.ReadError.{ReadError}
 use Rattle.fsfs_shows.specs.declared.wrong.ReadError.TheVariants as reads
 use Rattle.fsfs_shows.specs.Readings.{Answers}
-use Rattle.fsfs_shows.specs.Reading.{Met, MetAt}
+use Rattle.fsfs_shows.specs.Reading.{MetAt}
 use Rattle.fsfs_dag.specs.declared.node.PlacedNode.{PlacedNode}
 use Rattle.fsfs_dag.specs.declared.walk.Met.{Met as Rust}
 use Rattle.fsfs_dag.specs.declared.walk.Met.TheVariants as mets

@@ -1,6 +1,6 @@
 -- The text of what is left to write.
-use Rattle.std.proofs.Common.{◌≡◌, ℕ, Bool, suc, ◌+◌, List, [], ◌∷◌, ◌++◌, map, length, arith, Result, Ok, Err, refl, sym, ap, subst, ◌∙◌, append_assoc, append-nil, inl, inr, add-one}
-use Rattle.std.specs.Prelude.{◌≢◌, reverse}
+use Rattle.std.proofs.Common.{◌≡◌, ℕ, Bool, suc, List, [], ◌∷◌, ◌++◌, map, length, arith, Result, Ok, Err, refl, sym, ap, subst, ◌∙◌, append_assoc, inl, inr}
+use Rattle.std.specs.Prelude.{◌≢◌}
 use Rattle.std.proofs.lemmas.List.{reverse-append}
 use Rattle.fsfs_base.specs.Paths.{Name}
 use Rattle.fsfs_base.specs.declared.node.Kind.TheVariants.{File, Dir}
@@ -106,3 +106,8 @@ module _ (look : Look) (ids : Bool) where
         let k : LeftText look ids (at_level (suc level) (entry_values below) ++ left old) text end = subst (λ t. LeftText look ids t text end) same h in
         dir_then (LeftText look ids (left old)) level name v line (entry_values below) text end is kind read (entries_then (suc level) (entry_values below) (left old) text end k)
   puts_dir level next name v old new before now line is e kind one below read (Err f) items memory = subst (λ x. Puts look ids level name v old new before now (Err x)) (sym memory) tt
+
+  -- the same, where ids are shown as they were, and of the same name
+  pub puts_as : (other : Bool) (level : ℕ) (written name : Name) (v : NodeRev) (old new : List Pending) (before now : List ℕ) (r : Result (Unit {0}) LookError) → ids ≡ other → written ≡ name
+      → Puts look ids level written v old new before now r → Puts look other level name v old new before now r
+  puts_as other level written name v old new before now r same same_name h = subst (λ b. Puts look b level name v old new before now r) same (subst (λ n. Puts look ids level n v old new before now r) same_name h)

@@ -1,6 +1,5 @@
 -- What stands in a directory weighs less than the directory.
-use Rattle.std.proofs.Common.{◌≡◌, ℕ, suc, ◌≤◌, ◌<◌, ◌+◌, ◌*◌, ◌-◌, ◌^◌, List, [], ◌∷◌, ◌++◌, length, refl, ap, ◌∙◌, arith, true, false}
-use Rattle.std.specs.Prelude.{min}
+use Rattle.std.proofs.Common.{◌≡◌, ℕ, suc, ◌≤◌, ◌<◌, ◌+◌, ◌*◌, ◌^◌, List, [], ◌∷◌, ◌++◌, length, arith, true}
 use Rattle.std.proofs.Math.Nat.{one-le-pow, pow-le-pow_right, pow-suc, mul-le-mul_left}
 use Rattle.std.proofs.lemmas.Bool.Decides.{nat_tests}
 use Rattle.fsfs_noderev.specs.declared.node_id.Place.{Place}
@@ -10,7 +9,7 @@ use Rattle.fsfs_revision.specs.Damages.{place_of}
 use Rattle.fsfs_revision.specs.Nodes.{is_before, place_before}
 use Rattle.fsfs_shows.specs.Reading.{offset_of}
 use Rattle.fsfs_dag.specs.declared.directory.Entry.{Entry}
-use Rattle.fsfs_dag.specs.Views.{AreBefore, IsBefore}
+use Rattle.fsfs_dag.specs.Views.{AreBefore}
 use Rattle.fsfs_look.specs.declared.tree.Pending.{Pending}
 use Rattle.fsfs_look.specs.Walks.{pend, pending, AreWithin}
 use Rattle.fsfs_look.specs.Weights.{rank, weight, total}

@@ -34,6 +34,14 @@ pub(crate) struct Pending {
     entry: Entry,
 }
 
+/// How far a text has come: what is left to write, the last of it next, and the lines that are not written yet.
+#[derive(Debug, Drop)]
+pub(crate) struct Walk {
+    show_ids: bool,
+    todo: Vec<Pending>,
+    lines: Vec<u8>,
+}
+
 // Puts the entries of a directory onto what is left to write, the first on top.
 fn put_entries(
     todo: &mut Vec<Pending>,
@@ -55,23 +63,29 @@ fn put_entries(
 fn put_node<B: Book>(
     alloc: Global,
     book: &mut B,
-    show_ids: bool,
+    walk: &mut Walk,
     level: usize,
     name: &str,
     found: &PlacedNode,
-    todo: &mut Vec<Pending>,
-    lines: &mut Vec<u8>,
 ) -> Result<(), LookError>
     ensures told { (look : Look) → Knows (B.told book.old).revs (home_of found.now.node).rev look → HasIdText found.now.node
-        → Puts look show_ids level name.now found.now.node todo.old.items todo.new.items lines.old.items lines.new.items result }
-    ensures within { (top : ℕ) → (home_of found.now.node).rev ≤ top → AreWithin top todo.old.items → OnOk result (AreWithin top todo.new.items) }
-    ensures total { OnOk result (total todo.new.items < total todo.old.items + weight (home_of found.now.node)) }
+        → Puts look walk.old.show_ids level name.now found.now.node walk.old.todo.items walk.new.todo.items walk.old.lines.items walk.new.lines.items result }
+    ensures within { (top : ℕ) → (home_of found.now.node).rev ≤ top → AreWithin top walk.old.todo.items → OnOk result (AreWithin top walk.new.todo.items) }
+    ensures total { OnOk result (total walk.new.todo.items < total walk.old.todo.items + weight (home_of found.now.node)) }
+    ensures ids { walk.new.show_ids ≡ walk.old.show_ids }
     ensures kept { Keeps (B.told book.old) (B.told book.new) }
     ensures cause { HasDiskCause (B.faults book.old) (B.faults book.new) result }
     ensures quiet { (faults : ℕ) → HasSinkCause faults faults result }
 {
     let home = found.place();
-    put_line(lines, show_ids, level, name, &found.node, home)?;
+    put_line(
+        &mut walk.lines,
+        walk.show_ids,
+        level,
+        name,
+        &found.node,
+        home,
+    )?;
     match found.node.kind {
         Kind::File => Ok(()),
         Kind::Dir => {
@@ -79,7 +93,7 @@ fn put_node<B: Book>(
                 return Err(LookError::OutOfMemory);
             };
             let below = entries(alloc, book, found)?;
-            put_entries(todo, next, below)
+            put_entries(&mut walk.todo, next, below)
         }
     }
 }
@@ -114,30 +128,19 @@ fn write_full<S: Sink>(sink: &mut S, lines: &mut Vec<u8>) -> Result<(), LookErro
 fn write_todo<B: Book, S: Sink>(
     alloc: Global,
     book: &mut B,
-    show_ids: bool,
-    todo: &mut Vec<Pending>,
-    lines: &mut Vec<u8>,
+    walk: &mut Walk,
     sink: &mut S,
 ) -> Result<(), LookError>
-    ensures told { (top : ℕ) (look : Look) → Knows (B.told book.old).revs top look → AreWithin top todo.old.items
-        → Walks (LeftText look show_ids (left todo.old.items)) lines.old.items lines.new.items (S.written sink.old) (S.written sink.new) result }
+    ensures told { (top : ℕ) (look : Look) → Knows (B.told book.old).revs top look → AreWithin top walk.old.todo.items
+        → Walks (LeftText look walk.old.show_ids (left walk.old.todo.items)) walk.old.lines.items walk.new.lines.items (S.written sink.old) (S.written sink.new) result }
     ensures kept { Keeps (B.told book.old) (B.told book.new) }
     ensures cause { HasDiskCause (B.faults book.old) (B.faults book.new) result }
     ensures sink { HasSinkCause (S.faults sink.old) (S.faults sink.new) result }
 {
-    while let Some(next) = todo.pop() {
-        write_full(sink, lines)?;
+    while let Some(next) = walk.todo.pop() {
+        write_full(sink, &mut walk.lines)?;
         let child = child_of(alloc, book, &next.entry)?;
-        put_node(
-            alloc,
-            book,
-            show_ids,
-            next.level,
-            &next.entry.name,
-            &child,
-            todo,
-            lines,
-        )?;
+        put_node(alloc, book, walk, next.level, &next.entry.name, &child)?;
     }
     Ok(())
 }
@@ -146,22 +149,21 @@ fn write_todo<B: Book, S: Sink>(
 fn write_tree<B: Book, S: Sink>(
     alloc: Global,
     book: &mut B,
-    show_ids: bool,
+    walk: &mut Walk,
     name: &str,
     found: &PlacedNode,
-    lines: &mut Vec<u8>,
     sink: &mut S,
 ) -> Result<(), LookError>
-    requires { lines.old.items ≡ [] }
+    requires todo { walk.old.todo.items ≡ [] }
+    requires lines { walk.old.lines.items ≡ [] }
     ensures told { (top : ℕ) (look : Look) → Knows (B.told book.old).revs top look → (home_of found.now.node).rev ≤ top → HasIdText found.now.node
-        → Walks (NodeFrom look show_ids name.now found.now.node) [] lines.new.items (S.written sink.old) (S.written sink.new) result }
+        → Walks (NodeFrom look walk.old.show_ids name.now found.now.node) [] walk.new.lines.items (S.written sink.old) (S.written sink.new) result }
     ensures kept { Keeps (B.told book.old) (B.told book.new) }
     ensures cause { HasDiskCause (B.faults book.old) (B.faults book.new) result }
     ensures sink { HasSinkCause (S.faults sink.old) (S.faults sink.new) result }
 {
-    let mut todo = Vec::new(alloc);
-    put_node(alloc, book, show_ids, 0, name, found, &mut todo, lines)?;
-    write_todo(alloc, book, show_ids, &mut todo, lines, sink)
+    put_node(alloc, book, walk, 0, name, found)?;
+    write_todo(alloc, book, walk, sink)
 }
 
 // Writes the last lines of a text that ended so.
@@ -202,8 +204,12 @@ pub fn tree_text<B: Book, S: Sink>(
     ensures sink { HasSinkCause (S.faults sink.old) (S.faults sink.new) result }
 {
     let found = found_at(alloc, book, rev, path)?;
-    let mut lines = Vec::new(alloc);
+    let mut walk = Walk {
+        show_ids,
+        todo: Vec::new(alloc),
+        lines: Vec::new(alloc),
+    };
     let name = last_name(path);
-    let walked = write_tree(alloc, book, show_ids, name, &found, &mut lines, sink);
-    write_last(sink, &mut lines, walked)
+    let walked = write_tree(alloc, book, &mut walk, name, &found, sink);
+    write_last(sink, &mut walk.lines, walked)
 }

@@ -1,4 +1,4 @@
-use Rattle.std.proofs.Common.{◌≡◌, List, ℕ, Ok, subst}
+use Rattle.std.proofs.Common.{Ok, subst}
 use Rattle.std.specs.Prelude.{MatchResult}
 use Rattle.std.proofs.lemmas.Result.{err_from_is_err_and}
 use Rattle.fsfs_noderev.specs.declared.rep.Rep.{Rep}

@@ -1,5 +1,5 @@
-use Rattle.std.proofs.Common.{◌≡◌, ◌≤◌, ◌+◌, ◌-◌, List, ℕ, Ok, Err, length, take, drop, refl, sym, ap, subst, ◌∙◌, arith, rules}
-use Rattle.std.proofs.lemmas.List.{take_all, length-take, take-append-drop}
+use Rattle.std.proofs.Common.{◌≡◌, ◌≤◌, ◌+◌, Ok, length, take, drop, refl, ap, subst, ◌∙◌, arith, rules}
+use Rattle.std.proofs.lemmas.List.{take_all, length-take}
 use Rattle.std.proofs.lemmas.Result.{err_from_is_err_and}
 use Rattle.fsfs_disk.specs.Streams.{Adds}
 use Rattle.fsfs_disk.proofs.StreamLemmas.{adds_then}
@@ -7,7 +7,6 @@ use Rattle.fsfs_noderev.specs.declared.rep.Rep.{Rep}
 use Rattle.fsfs_rep.specs.Frames.{text_of}
 use Rattle.fsfs_rep.proofs.WholeLemmas.{keeps_trans, told_later, fault_for, bytes_more}
 use Rattle.fsfs_look.proofs.FileLemmas.{whole_fails, front_of, front_more}
-use Rattle.fsfs_look.proofs.ProgressLemmas.{adds_nothing}
 use Rattle.fsfs_look.proofs.file.write_rep.Goals as goal
 
 pub returns-in-Err-next-clause-told : goal.returns-in-Err-next-clause-told

@@ -1,4 +1,4 @@
-use Rattle.std.proofs.Common.{◌≡◌, ◌≤◌, ◌-◌, ℕ, List, Some, Ok, Err, length, take}
+use Rattle.std.proofs.Common.{◌≡◌, ◌≤◌, ◌-◌, ℕ, List, Some, Ok, length, take}
 use Rattle.fsfs_book.specs.Told.{Keeps}
 use Rattle.fsfs_disk.specs.Streams.{Adds}
 use Rattle.fsfs_rep.specs.Frames.{rev_of, text_of}

@@ -1,6 +1,5 @@
-use Rattle.std.proofs.Common.{◌≡◌, ◌++◌, List, ℕ, ap, sym, refl, ◌∙◌, subst, append-nil}
-use Rattle.std.specs.Prelude.{codes, true, false, []}
-use Rattle.fsfs_noderev.specs.Fields.{IsIdText}
+use Rattle.std.proofs.Common.{◌++◌, ap, sym, refl, ◌∙◌, subst, append-nil}
+use Rattle.std.specs.Prelude.{codes, []}
 use Rattle.fsfs_texts.specs.TreeTexts.{IsShownId}
 use Rattle.fsfs_look.proofs.LineLemmas.{put_whole, shown_grouped}
 use Rattle.fsfs_look.proofs.lines.put_line.Goals as goal

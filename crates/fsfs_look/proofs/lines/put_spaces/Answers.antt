@@ -1,4 +1,4 @@
-use Rattle.std.proofs.Common.{◌≡◌, ◌++◌, ◌∷◌, [], ap, sym, ◌∙◌, append_assoc, replicate}
+use Rattle.std.proofs.Common.{◌++◌, ◌∷◌, [], ap, ◌∙◌, append_assoc, replicate}
 use Rattle.std.proofs.lemmas.List.{replicate_more}
 use Rattle.fsfs_look.proofs.lines.put_spaces.Goals as goal
 

@@ -1,4 +1,4 @@
-use Rattle.std.proofs.Common.{◌≡◌, sym, ap, ◌∙◌}
+use Rattle.std.proofs.Common.{ap, ◌∙◌}
 use Rattle.std.specs.String.{string_bytes}
 use Rattle.fsfs_model.specs.Answers.{last_name}
 use Rattle.fsfs_look.proofs.TextLemmas.{last_of}

@@ -1,4 +1,4 @@
-use Rattle.std.proofs.Common.{◌≡◌, ◌++◌, ◌∷◌, [], true, false, ap, sym, refl, ◌∙◌, append_assoc, append-nil, not, rules}
+use Rattle.std.proofs.Common.{◌≡◌, ◌++◌, ◌∷◌, [], ap, sym, refl, ◌∙◌, append_assoc, append-nil, not, rules}
 use Rattle.std.specs.Prelude.{cond}
 use Rattle.fsfs_look.specs.Walks.{pend, pending}
 use Rattle.fsfs_look.proofs.WalkLemmas.{nothing_left}

@@ -1,4 +1,4 @@
-use Rattle.std.proofs.Common.{◌≡◌, List, ℕ, Ok, Err, [], refl, sym, subst}
+use Rattle.std.proofs.Common.{List, ℕ, refl}
 use Rattle.std.proofs.lemmas.Result.{err_from_is_err_and}
 use Rattle.fsfs_rep.proofs.WholeLemmas.{keeps_trans}
 use Rattle.fsfs_texts.specs.Texts.{End}
@@ -31,4 +31,4 @@ returns-clause-told g c = λ look knows.
     let walks = c.write_tree-walked.ensures.told c.args.rev look (λ r lower. c.in_ok-found.ensures.kept.revs r (look r) (knows r lower)) (stands_within look c.args.rev c.args.path.now v met) (stands_fits look c.args.rev c.args.path.now v met) in
     writes_as R (TreeText look c.args.rev c.args.path.now c.args.show_ids) (g.S.Sink.written c.args.sink.now) (g.S.Sink.written c.write_last.new.sink) c.write_last.result
     (tree_at look c.args.rev c.args.path.now c.args.show_ids c.last_name-name.result.now v c.last_name-name.ensures met)
-    (ends_written R c.write_tree-walked.new.lines.items (g.S.Sink.written c.args.sink.now) (g.S.Sink.written c.write_tree-walked.new.sink) (g.S.Sink.written c.write_last.new.sink) c.write_tree-walked.result c.write_last.result walks c.write_last.ensures.ends)
+    (ends_written R c.write_tree-walked.new.walk.lines.items (g.S.Sink.written c.args.sink.now) (g.S.Sink.written c.write_tree-walked.new.sink) (g.S.Sink.written c.write_last.new.sink) c.write_tree-walked.result c.write_last.result walks c.write_last.ensures.ends)
