@@ -147,6 +147,7 @@ fn judge(files: &SmallFiles) -> Result<Opened, OpenFault>
     ensures opened { IfOk result (IsOpened (texts_of files.now)) }
     ensures refused { IfErr result (JudgedBecause (texts_of files.now)) }
     ensures decided { Decides (texts_of files.now) result }
+    ensures shards { IfOk result (λ o. 0 < o.shard_size) }
 {
     let Some(format) = &files.format else {
         return Err(OpenFault::NotRepo);
@@ -168,6 +169,7 @@ fn judge(files: &SmallFiles) -> Result<Opened, OpenFault>
 /// Opens a repository: makes its names firm, and reads what its small files say.
 pub fn open<D: Disk>(alloc: Global, disk: &mut D) -> Result<Opened, OpenFault>
     ensures opened { IfSome (D.trace disk.old) (λ t. IfOk result (IsOpened (small_texts (files_now t)))) }
+    ensures shards { IfOk result (λ o. 0 < o.shard_size) }
     ensures refused { IfErr result (OpensBecause (Rose (D.faults disk.old) (D.faults disk.new)) (D.trace disk.old)) }
     // Where it is opened or refused is decided by the files alone.
     ensures decided { IfSome (D.trace disk.old) (λ t. Decides (small_texts (files_now t)) result) }

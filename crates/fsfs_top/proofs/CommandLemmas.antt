@@ -16,9 +16,10 @@ use Rattle.fsfs_repo.specs.Opening.{small_texts, IsOpened}
 use Rattle.fsfs_repo.specs.declared.opening.Opened.{Opened}
 use Rattle.fsfs_repo.specs.declared.creation.CreateFault.{CreateFault}
 use Rattle.fsfs_repo.specs.declared.creation.CreateFault.TheVariants as create
-use Rattle.fsfs_top.specs.Faults.{fault_from}
-use Rattle.fsfs_top.specs.Command.{Drawn, Created, OpensAs, IsNoneOrCreated}
-use Rattle.fsfs_top.specs.declared.fault.Fault.{Fault}
+use Rattle.fsfs_faults.specs.Faults.{fault_from_create}
+use Rattle.fsfs_faults.specs.declared.fault.Fault.{Fault}
+use Rattle.fsfs_top.specs.Command.{Drawn, Created, IsNoneOrCreated}
+use Rattle.fsfs_top.specs.Looks.{OpensAs}
 
 given : {X : Type 0} (told : Option X) (x y : X) → x ≡ y → IfSome told (λ t. y ≡ t) → IfSome told (λ t. x ≡ t)
 given None x y e h = tt
@@ -34,21 +35,22 @@ pub created_done : (mount disk : Type 0) (shard : ℕ) (clock : Option ℕ) (dic
 created_done mount disk shard clock dice d id old new at_old at_new named was is none_there made =
     subst (λ o. Created mount disk shard clock dice o at_new None) was
     (subst (λ o. Created mount disk shard clock dice old o None) (sym is)
-    (none_there, (d, subst (λ i. IsCreated shard (identifier_text i) d.moment old new) named made)))
+    (inr (inr (refl, none_there, (d, subst (λ i. IsCreated shard (identifier_text i) d.moment old new) named made)))))
+
+counted_failure : (rose disk : Type 0) (shard moment : ℕ) (identifier : List ℕ) (old new : Option Trace) (why : CreateFault) → (rose → disk) → CreateFails rose shard identifier moment old new why → CreateFails disk shard identifier moment old new why
+counted_failure rose disk shard moment identifier old new create.AlreadyRepo counted h = h
+counted_failure rose disk shard moment identifier old new (create.DiskFault place) counted h = (counted h.0, h.1)
+counted_failure rose disk shard moment identifier old new create.Memory counted h = h
 
 -- and one that failed
-pub created_failed : (mount disk rose : Type 0) (shard : ℕ) (clock : Option ℕ) (dice : Option (List ℕ)) (d : Drawn clock dice) (id : List ℕ) (old new at_old at_new : Option Trace) (why : CreateFault) (fault : Fault) → fault ≡ fault_from why
+pub created_failed : (mount disk rose : Type 0) (shard : ℕ) (clock : Option ℕ) (dice : Option (List ℕ)) (d : Drawn clock dice) (id : List ℕ) (old new at_old at_new : Option Trace) (why : CreateFault) (fault : Fault) → fault ≡ fault_from_create why
     → id ≡ random_identifier d.bits → old ≡ at_old → at_new ≡ new → (rose → disk)
     → CreateFails rose shard (identifier_text id) d.moment old new why → Created mount disk shard clock dice at_old at_new (Some fault)
 created_failed mount disk rose shard clock dice d id old new at_old at_new why fault from named was is counted failed =
     subst (λ f. Created mount disk shard clock dice at_old at_new (Some f)) (sym from)
-    (subst (λ o. Created mount disk shard clock dice o at_new (Some (fault_from why))) was
-    (subst (λ o. Created mount disk shard clock dice old o (Some (fault_from why))) (sym is) (by_why why failed)))
-  where
-    by_why : (why : CreateFault) → CreateFails rose shard (identifier_text id) d.moment old new why → Created mount disk shard clock dice old new (Some (fault_from why))
-    by_why create.AlreadyRepo h = h
-    by_why (create.DiskFault place) h = (counted h.0, (d, subst (λ i. IsStopped place shard (identifier_text i) d.moment old new) named h.1))
-    by_why create.Memory h = h
+    (subst (λ o. Created mount disk shard clock dice o at_new (Some (fault_from_create why))) was
+    (subst (λ o. Created mount disk shard clock dice old o (Some (fault_from_create why))) (sym is)
+    (inr (inl (why, refl, (d, subst (λ i. CreateFails disk shard (identifier_text i) d.moment old new why) named (counted_failure rose disk shard d.moment (identifier_text id) old new why counted failed)))))))
 
 -- what a crash leaves, on the disk that the host had
 pub leaves_created : (shard : ℕ) (clock : Option ℕ) (dice : Option (List ℕ)) (d : Drawn clock dice) (id : List ℕ) (old new at_old at_new : Option Trace) → id ≡ random_identifier d.bits → old ≡ at_old → at_new ≡ new

@@ -1,143 +1,239 @@
 -- What the files decide of a look, as the top call tells it.
-use Rattle.std.proofs.Common.{◌≡◌, ℕ, List, ◌⊎◌, inl, inr, refl, sym, ap, subst}
-use Rattle.std.specs.Prelude.{Option, Some, None, IfSome, Ok, Err}
+use Rattle.std.proofs.Common.{◌≡◌, ◌≤◌, ◌<◌, ◌^◌, ℕ, List, [], ◌∷◌, ◌++◌, ◌⊎◌, length, take, inl, inr, refl, sym, ap, subst, ◌∙◌, arith}
+use Rattle.std.specs.Prelude.{Option, Some, None, IfSome, option_map, unwrap_or, Result, Ok, Err, codes, decimal}
+use Rattle.std.proofs.lemmas.List.{take_all, length-append}
+use Rattle.std.proofs.lemmas.Fmt.{length-decimal-le}
+use Rattle.fsfs_text.proofs.Readers.{all_again, ok_is}
+use Rattle.fsfs_text.proofs.Unique.{numeral_decimal}
 use Rattle.fsfs_base.specs.Files.{Files}
-use Rattle.fsfs_base.specs.declared.small_fault.SmallFault.{SmallFault}
+use Rattle.fsfs_base.specs.Paths.{Path}
+use Rattle.fsfs_base.specs.declared.small_fault.SmallFile.TheVariants.{MinUnpackedRev}
+use Rattle.fsfs_book.specs.Told.{Look}
 use Rattle.fsfs_disk.specs.Trace.{Trace, files_now}
-use Rattle.fsfs_repo.specs.Opening.{small_texts, IsRefused}
+use Rattle.fsfs_faults.specs.Faults.{fault_from_open, fault_from_look}
+use Rattle.fsfs_faults.specs.declared.fault.Fault.{Fault}
+use Rattle.fsfs_faults.specs.declared.fault.Fault.TheVariants.{NoRev, MountFault, DiskFault, WriteFault, Memory}
+use Rattle.fsfs_fetch.specs.Kept.{HasShortFiles}
+use Rattle.fsfs_fetch.specs.RevBytes.{floor_of, floor_in, text_in, rev_bytes}
+use Rattle.fsfs_fetch.proofs.FloorLemmas.{floor_ok}
+use Rattle.fsfs_layout.specs.Small.{IsRevLine}
+use Rattle.fsfs_layout.specs.Formats.{IsFormat}
+use Rattle.fsfs_layout.specs.declared.format_file.Format.{Format}
+use Rattle.fsfs_layout.specs.declared.format_file.Format.TheVariants.{Sharded}
+use Rattle.fsfs_layout.proofs.Files.{rev_line_reads, format_again}
+use Rattle.fsfs_look.specs.declared.look_error.LookError.TheVariants as errors
+use Rattle.fsfs_look.specs.declared.look_error.LookError.{LookError}
+use Rattle.fsfs_look.specs.Written.{Writes}
+use Rattle.fsfs_repo.specs.Opening.{small_texts, IsOpened}
 use Rattle.fsfs_repo.specs.Deciding.{Decides, IsOutside as IsOpenOutside}
-use Rattle.fsfs_repo.specs.FirstTree.{DecidesTree, IsTreeOutside, TreeBecause, HasLater}
 use Rattle.fsfs_repo.specs.declared.opening.Opened.{Opened}
 use Rattle.fsfs_repo.specs.declared.opening.OpenFault.{OpenFault}
 use Rattle.fsfs_repo.specs.declared.opening.OpenFault.TheVariants as opening
-use Rattle.fsfs_repo.specs.declared.first_tree.TreeFault.{TreeFault}
-use Rattle.fsfs_repo.specs.declared.first_tree.TreeFault.TheVariants as tree
-use Rattle.fsfs_top.specs.Faults.{fault_from_open, fault_from_tree, later_fault}
-use Rattle.fsfs_top.specs.Command.{PrintsTree, IsOutside, Agrees, DecidesShown, DecidesLook, ShownIsDecided, TreeIsDecided}
-use Rattle.fsfs_top.specs.declared.fault.Fault.{Fault}
-use Rattle.fsfs_top.specs.declared.fault.Fault.TheVariants.{Memory}
+use Rattle.fsfs_repo.specs.declared.place.DiskPlace.TheVariants.{Read}
+use Rattle.fsfs_texts.specs.Texts.{End, Whole, Refused}
+use Rattle.fsfs_texts.specs.declared.look_fault.LookFault.{LookFault}
+use Rattle.fsfs_top.specs.Looks.{TextOf, TextIn, looked_revision, LacksRevision, IsFaultOf, Looked, LooksInto, DoesNotOpen, IsOutside, Agrees, DecidesOpening, DecidesShown, DecidesLook, ShownIsDecided, LookIsDecided}
+use Rattle.fsfs_top.specs.declared.look.RevisionLook.{RevisionLook}
+use Rattle.fsfs_top.specs.declared.look.Printed.{Printed}
+use Rattle.fsfs_top.specs.declared.look.Printed.TheVariants.{Tree, Text}
+use Rattle.fsfs_texts.specs.Agreeing.{HasOneText, Agree}
+use Rattle.fsfs_texts.proofs.OneText.{tree_one, file_one}
+
+-- ---- what one opening says, every opening says
+
+some_same : {A : Type 0} (x y : A) → ◌≡◌ {A = Option A} (Some x) (Some y) → x ≡ y
+some_same x y e = cc
+
+sharded_same : (m n : ℕ) → ◌≡◌ {A = Result Format ℕ} (Ok (Sharded m)) (Ok (Sharded n)) → m ≡ n
+sharded_same m n e = cc
+
+pub one_youngest : (m : Files) (o p : Opened) → IsOpened (small_texts m) o → IsOpened (small_texts m) p → o.youngest ≡ p.youngest
+one_youngest m o p a b =
+    ok_is o.youngest p.youngest (sym (all_again rev_line_reads (small_texts m).current o.youngest a.youngest) ∙ all_again rev_line_reads (small_texts m).current p.youngest b.youngest)
+
+pub one_shard : (m : Files) (o p : Opened) → IsOpened (small_texts m) o → IsOpened (small_texts m) p → o.shard_size ≡ p.shard_size
+one_shard m o p a b =
+    let text = some_same a.format.0 b.format.0 (sym a.format.1.there ∙ b.format.1.there) in
+    let other = subst (λ (t : List ℕ). IsFormat t (Sharded p.shard_size)) (sym text) b.format.2 in
+    sharded_same o.shard_size p.shard_size (sym (format_again a.format.0 (Sharded o.shard_size) a.format.2) ∙ format_again a.format.0 (Sharded p.shard_size) other)
+
+-- the line of a revision is short
+line_is_short : (text : List ℕ) (n : ℕ) → IsRevLine text n → length text ≤ 64
+line_is_short text n line =
+    let digits : length line.digits ≤ 10 = subst (λ (t : List ℕ). length t ≤ 10) (sym (numeral_decimal line.digits n (omega (arith, line.fits)) line.numeral)) (length-decimal-le 10 n (omega arith) (omega (arith, line.fits)) (omega (arith, line.fits))) in
+    omega (arith, ap length line.parts, length-append line.digits (10 ∷ []), digits)
+
+-- the floor that the small files name is the one of reading
+pub opened_floor : (m : Files) (o : Opened) → IsOpened (small_texts m) o → floor_in o.shard_size m ≡ Ok o.min_unpacked_rev
+unfolding floor_in
+opened_floor m o is =
+    let text = text_in m MinUnpackedRev in
+    let line : IsRevLine text o.min_unpacked_rev = is.min_unpacked_rev.0 in
+    ap (floor_of o.shard_size) (take_all 64 text (line_is_short text o.min_unpacked_rev line))
+    ∙ floor_ok o.shard_size o.min_unpacked_rev text (all_again rev_line_reads text o.min_unpacked_rev line) is.min_unpacked_rev.1
 
 -- ---- failures of the outside
 
 outside_of_open : (why : OpenFault) → IsOpenOutside why → IsOutside (fault_from_open why)
-outside_of_open opening.NotRepo h = h
-outside_of_open (opening.OtherFormat number) h = h
-outside_of_open opening.Linear h = h
-outside_of_open (opening.Small small) h = h
-outside_of_open (opening.DiskFault place) h = h
-outside_of_open opening.Memory h = h
-
-outside_of_tree : (why : TreeFault) → IsTreeOutside why → IsOutside (fault_from_tree why)
-outside_of_tree (tree.NotOpened why) h = outside_of_open why h
-outside_of_tree tree.LaterYoungest h = h
-outside_of_tree (tree.Damaged damage) h = h
-outside_of_tree (tree.DiskFault place) h = h
-outside_of_tree tree.Memory h = h
+outside_of_open opening.NotRepo h = absurd h
+outside_of_open (opening.OtherFormat number) h = absurd h
+outside_of_open opening.Linear h = absurd h
+outside_of_open (opening.Small small) h = absurd h
+outside_of_open (opening.DiskFault place) h = inr (inl (place, refl))
+outside_of_open opening.Memory h = inr (inr (inr refl))
 
 open_agrees : (why want : OpenFault) → (why ≡ want) ⊎ IsOpenOutside why → Agrees (Some (fault_from_open want)) (Some (fault_from_open why))
 open_agrees why want (inl e) = inl (ap (λ x. Some (fault_from_open x)) (sym e))
 open_agrees why want (inr h) = inr (outside_of_open why h)
 
-tree_agrees : (why want : TreeFault) → (why ≡ want) ⊎ IsTreeOutside why → Agrees (Some (fault_from_tree want)) (Some (fault_from_tree why))
-tree_agrees why want (inl e) = inl (ap (λ x. Some (fault_from_tree x)) (sym e))
-tree_agrees why want (inr h) = inr (outside_of_tree why h)
+-- ---- an opening
 
--- ---- the small files
-
-opened_told : (m : Files) (o : Opened) → Decides (small_texts m) (Ok o) → DecidesShown m None
-opened_told m o d = record {
-  opened = λ p w. refl;
+opening_done : (m : Files) (o : Opened) (fault : Option Fault) → Decides (small_texts m) (Ok o) → DecidesOpening m fault
+opening_done m o fault d = record {
   none = λ w. absurd (d.none w);
   other = λ n w. absurd (d.other n w);
   linear = λ w. absurd (d.linear w);
 }
 
-opening_refused : (m : Files) (why : OpenFault) → Decides (small_texts m) (Err why) → DecidesShown m (Some (fault_from_open why))
+opening_refused : (m : Files) (why : OpenFault) → Decides (small_texts m) (Err why) → DecidesOpening m (Some (fault_from_open why))
 opening_refused m why d = record {
-  opened = λ p w. inr (outside_of_open why (d.opened p w));
   none = λ w. open_agrees why opening.NotRepo (d.none w);
   other = λ n w. open_agrees why (opening.OtherFormat n) (d.other n w);
   linear = λ w. open_agrees why opening.Linear (d.linear w);
 }
 
+opening_outside : (m : Files) (fault : Fault) → IsOutside fault → DecidesOpening m (Some fault)
+opening_outside m fault out = record { none = λ w. inr out; other = λ n w. inr out; linear = λ w. inr out }
+
+-- ---- the small files
+
+shown_done : (m : Files) (o : Opened) → Decides (small_texts m) (Ok o) → DecidesShown m None
+shown_done m o d = record { opening = opening_done m o None d; opened = λ p w. refl }
+
+shown_refused : (m : Files) (why : OpenFault) → Decides (small_texts m) (Err why) → DecidesShown m (Some (fault_from_open why))
+shown_refused m why d = record { opening = opening_refused m why d; opened = λ p w. inr (outside_of_open why (d.opened p w)) }
+
 pub shown_decided : (told at : Option Trace) (o : Opened) → told ≡ at → IfSome told (λ t. Decides (small_texts (files_now t)) (Ok o)) → ShownIsDecided at None
 shown_decided told at o same d = subst (λ x. ShownIsDecided x None) same (so told d) where
   so : (x : Option Trace) → IfSome x (λ t. Decides (small_texts (files_now t)) (Ok o)) → ShownIsDecided x None
   so None h = tt
-  so (Some t) h = opened_told (files_now t) o h
+  so (Some t) h = shown_done (files_now t) o h
 
-pub refusal_decided : (told at : Option Trace) (why : OpenFault) (fault : Fault) → told ≡ at → fault ≡ fault_from_open why → IfSome told (λ t. Decides (small_texts (files_now t)) (Err why)) → ShownIsDecided at (Some fault)
-refusal_decided told at why fault same from d = subst (λ f. ShownIsDecided at (Some f)) (sym from) (subst (λ x. ShownIsDecided x (Some (fault_from_open why))) same (so told d)) where
+pub shown_outside : (at : Option Trace) (fault : Fault) → IsOutside fault → ShownIsDecided at (Some fault)
+shown_outside None fault out = tt
+shown_outside (Some t) fault out = record { opening = opening_outside (files_now t) fault out; opened = λ p w. inr out }
+
+pub shown_refusal : (told at : Option Trace) (why : OpenFault) (fault : Fault) → told ≡ at → fault ≡ fault_from_open why → IfSome told (λ t. Decides (small_texts (files_now t)) (Err why)) → ShownIsDecided at (Some fault)
+shown_refusal told at why fault same from d = subst (λ f. ShownIsDecided at (Some f)) (sym from) (subst (λ x. ShownIsDecided x (Some (fault_from_open why))) same (so told d)) where
   so : (x : Option Trace) → IfSome x (λ t. Decides (small_texts (files_now t)) (Err why)) → ShownIsDecided x (Some (fault_from_open why))
   so None h = tt
-  so (Some t) h = opening_refused (files_now t) why h
+  so (Some t) h = shown_refused (files_now t) why h
 
--- ---- the tree
+-- ---- a revision
 
-tree_shown : (m : Files) → DecidesTree m (Ok tt) → DecidesLook m None
-tree_shown m d = record {
-  shown = λ w. refl;
-  none = λ w. absurd (d.none w);
-  other = λ n w. absurd (d.other n w);
-  linear = λ w. absurd (d.linear w);
-  later = λ w. absurd (d.later w);
-  damaged = λ x w. absurd (d.damaged x w);
+look_refused : (look : RevisionLook) (m : Files) (why : OpenFault) → Decides (small_texts m) (Err why) → DecidesLook look m (Some (fault_from_open why))
+look_refused look m why d = record {
+  opening = opening_refused m why d;
+  lacking = λ p rev w lacks. inr (outside_of_open why (d.opened p w));
+  whole = λ short p text w there is. inr (outside_of_open why (d.opened p w));
+  refused = λ short p text f w there is. inr (outside_of_open why (d.opened p w));
 }
 
-tree_refused : (m : Files) (why : TreeFault) → DecidesTree m (Err why) → DecidesLook m (Some (fault_from_tree why))
-tree_refused m why d = record {
-  shown = λ w. inr (outside_of_tree why (d.shown w));
-  none = λ w. tree_agrees why (tree.NotOpened opening.NotRepo) (d.none w);
-  other = λ n w. tree_agrees why (tree.NotOpened (opening.OtherFormat n)) (d.other n w);
-  linear = λ w. tree_agrees why (tree.NotOpened opening.Linear) (d.linear w);
-  later = λ w. tree_agrees why tree.LaterYoungest (d.later w);
-  damaged = λ x w. tree_agrees why (tree.Damaged x) (d.damaged x w);
+-- ---- a revision that was looked at
+
+one_text : (printed : Printed) (look : Look) (rev : ℕ) (path : Path) → HasOneText (TextOf printed look rev path)
+one_text (Tree ids) look rev path = tree_one look rev path ids
+one_text Text look rev path = file_one look rev path
+
+whole_or_refused : (a b : List ℕ) (why : LookFault) → Agree a Whole b (Refused why) → ⊥
+whole_or_refused a b why (inl (same, e)) = absurd cc
+whole_or_refused a b why (inr (inl (e, front))) = absurd cc
+whole_or_refused a b why (inr (inr (e, front))) = absurd cc
+
+refused_same : (why other : LookFault) → ◌≡◌ {A = End} (Refused why) (Refused other) → why ≡ other
+refused_same why other e = cc
+
+one_refusal : (a b : List ℕ) (why other : LookFault) → Agree a (Refused why) b (Refused other) → why ≡ other
+one_refusal a b why other (inl (same, e)) = refused_same why other e
+one_refusal a b why other (inr (inl (e, front))) = absurd cc
+one_refusal a b why other (inr (inr (e, front))) = absurd cc
+
+-- the text is by what every opening says
+pub same_text : (look : RevisionLook) (o p : Opened) (m : Files) (text : List ℕ) (end : End) → o.shard_size ≡ p.shard_size → o.youngest ≡ p.youngest → TextIn look p m text end → TextIn look o m text end
+same_text look o p m text end shard youngest is =
+    subst (λ (n : ℕ). TextOf look.printed (rev_bytes n m) (looked_revision look o) look.path text end) (sym shard)
+    (subst (λ (y : ℕ). TextOf look.printed (rev_bytes p.shard_size m) (unwrap_or look.revision y) look.path text end) (sym youngest) is)
+
+lacks_or_has : (look : RevisionLook) (o p : Opened) (rev : ℕ) → LacksRevision look o rev → o.youngest ≡ p.youngest → looked_revision look p ≤ p.youngest → ⊥
+lacks_or_has look o p rev lacks e there =
+    let named : looked_revision look p ≡ rev = ap (λ (r : Option ℕ). unwrap_or r p.youngest) lacks.named in
+    omega (arith, named, there, lacks.above, e)
+
+whole_agrees : (disk write : Type 0) (look : RevisionLook) (o : Opened) (m : Files) (old new : Option (List ℕ)) (r : Result (Unit {0}) LookError) (fault : Option Fault) → Writes (TextIn look o m) old new r → IsFaultOf disk write look.path r fault
+    → (text : List ℕ) → TextIn look o m text Whole → Agrees None fault
+whole_agrees disk write look o m old new (Ok done) fault w is text t = subst (Agrees None) (sym is) refl
+whole_agrees disk write look o m old new (Err (errors.Fault why)) fault w is text t =
+    absurd (whole_or_refused text w.0 why (one_text look.printed (rev_bytes o.shard_size m) (looked_revision look o) look.path text w.0 Whole (Refused why) t w.1))
+whole_agrees disk write look o m old new (Err errors.DiskFault) fault w is text t = subst (Agrees None) (sym is.1) (inr (inr (inl (Read, refl))))
+whole_agrees disk write look o m old new (Err errors.WriteFault) fault w is text t = subst (Agrees None) (sym is.1) (inr (inr (inr (inl refl))))
+whole_agrees disk write look o m old new (Err errors.OutOfMemory) fault w is text t = subst (Agrees None) (sym is) (inr (inr (inr (inr refl))))
+
+refused_agrees : (disk write : Type 0) (look : RevisionLook) (o : Opened) (m : Files) (old new : Option (List ℕ)) (r : Result (Unit {0}) LookError) (fault : Option Fault) → Writes (TextIn look o m) old new r → IsFaultOf disk write look.path r fault
+    → (text : List ℕ) (why : LookFault) → TextIn look o m text (Refused why) → Agrees (Some (fault_from_look look.path why)) fault
+refused_agrees disk write look o m old new (Ok done) fault w is text why t =
+    absurd (whole_or_refused w.0 text why (one_text look.printed (rev_bytes o.shard_size m) (looked_revision look o) look.path w.0 text Whole (Refused why) w.1 t))
+refused_agrees disk write look o m old new (Err (errors.Fault other)) fault w (inl is) text why t =
+    let same = one_refusal text w.0 why other (one_text look.printed (rev_bytes o.shard_size m) (looked_revision look o) look.path text w.0 (Refused why) (Refused other) t w.1) in
+    subst (Agrees (Some (fault_from_look look.path why))) (sym is) (inl (ap (λ (f : LookFault). Some (fault_from_look look.path f)) same))
+refused_agrees disk write look o m old new (Err (errors.Fault other)) fault w (inr is) text why t = subst (Agrees (Some (fault_from_look look.path why))) (sym is) (inr (inr (inr (inr refl))))
+refused_agrees disk write look o m old new (Err errors.DiskFault) fault w is text why t = subst (Agrees (Some (fault_from_look look.path why))) (sym is.1) (inr (inr (inl (Read, refl))))
+refused_agrees disk write look o m old new (Err errors.WriteFault) fault w is text why t = subst (Agrees (Some (fault_from_look look.path why))) (sym is.1) (inr (inr (inr (inl refl))))
+refused_agrees disk write look o m old new (Err errors.OutOfMemory) fault w is text why t = subst (Agrees (Some (fault_from_look look.path why))) (sym is) (inr (inr (inr (inr refl))))
+
+look_done : (disk write : Type 0) (look : RevisionLook) (m : Files) (o : Opened) (old new : Option (List ℕ)) (fault : Option Fault) → IsOpened (small_texts m) o → Decides (small_texts m) (Ok o) → LooksInto disk write look o (Some m) old new fault → DecidesLook look m fault
+look_done disk write look m o old new fault opened d (inl (rev, lacks, is, kept)) = subst (DecidesLook look m) (sym is) (record {
+  opening = opening_done m o (Some (NoRev rev o.youngest)) d;
+  lacking = λ p other w also.
+      let named = some_same other rev (sym also.named ∙ lacks.named) in
+      inl (λ i. Some (NoRev (named i) (one_youngest m p o w opened i)));
+  whole = λ short p text w there t. absurd (lacks_or_has look o p rev lacks (one_youngest m o p opened w) there);
+  refused = λ short p text why w there t. absurd (lacks_or_has look o p rev lacks (one_youngest m o p opened w) there);
+})
+look_done disk write look m o old new fault opened d (inr looked) = record {
+  opening = opening_done m o fault d;
+  lacking = λ p rev w lacks. absurd (lacks_or_has look p o rev lacks (one_youngest m p o w opened) looked.there);
+  whole = λ short p text w there t. whole_agrees disk write look o m old new looked.result fault (looked.writes short) looked.fault_is text (same_text look o p m text Whole (one_shard m o p opened w) (one_youngest m o p opened w) t);
+  refused = λ short p text why w there t. refused_agrees disk write look o m old new looked.result fault (looked.writes short) looked.fault_is text why (same_text look o p m text (Refused why) (one_shard m o p opened w) (one_youngest m o p opened w) t);
 }
 
-pub tree_decided : (told at : Option Trace) → told ≡ at → IfSome told (λ t. DecidesTree (files_now t) (Ok tt)) → TreeIsDecided at None
-tree_decided told at same d = subst (λ x. TreeIsDecided x None) same (so told d) where
-  so : (x : Option Trace) → IfSome x (λ t. DecidesTree (files_now t) (Ok tt)) → TreeIsDecided x None
+pub look_decided : (disk write : Type 0) (look : RevisionLook) (told at : Option Trace) (o : Opened) (old new : Option (List ℕ)) (fault : Option Fault) → told ≡ at → IfSome told (λ t. IsOpened (small_texts (files_now t)) o)
+    → IfSome told (λ t. Decides (small_texts (files_now t)) (Ok o)) → LooksInto disk write look o (option_map files_now told) old new fault → LookIsDecided look at fault
+look_decided disk write look told at o old new fault same opened d into = subst (λ x. LookIsDecided look x fault) same (so told opened d into) where
+  so : (x : Option Trace) → IfSome x (λ t. IsOpened (small_texts (files_now t)) o) → IfSome x (λ t. Decides (small_texts (files_now t)) (Ok o)) → LooksInto disk write look o (option_map files_now x) old new fault → LookIsDecided look x fault
+  so None a b c = tt
+  so (Some t) a b c = look_done disk write look (files_now t) o old new fault a b c
+
+pub look_refusal : (look : RevisionLook) (told at : Option Trace) (why : OpenFault) (fault : Fault) → told ≡ at → fault ≡ fault_from_open why → IfSome told (λ t. Decides (small_texts (files_now t)) (Err why)) → LookIsDecided look at (Some fault)
+look_refusal look told at why fault same from d = subst (λ f. LookIsDecided look at (Some f)) (sym from) (subst (λ x. LookIsDecided look x (Some (fault_from_open why))) same (so told d)) where
+  so : (x : Option Trace) → IfSome x (λ t. Decides (small_texts (files_now t)) (Err why)) → LookIsDecided look x (Some (fault_from_open why))
   so None h = tt
-  so (Some t) h = tree_shown (files_now t) h
+  so (Some t) h = look_refused look (files_now t) why h
 
-pub no_tree_decided : (told at : Option Trace) (why : TreeFault) (fault : Fault) → told ≡ at → fault ≡ fault_from_tree why → IfSome told (λ t. DecidesTree (files_now t) (Err why)) → TreeIsDecided at (Some fault)
-no_tree_decided told at why fault same from d = subst (λ f. TreeIsDecided at (Some f)) (sym from) (subst (λ x. TreeIsDecided x (Some (fault_from_tree why))) same (so told d)) where
-  so : (x : Option Trace) → IfSome x (λ t. DecidesTree (files_now t) (Err why)) → TreeIsDecided x (Some (fault_from_tree why))
-  so None h = tt
-  so (Some t) h = tree_refused (files_now t) why h
+pub look_outside : (look : RevisionLook) (at : Option Trace) (fault : Fault) → IsOutside fault → LookIsDecided look at (Some fault)
+look_outside look None fault out = tt
+look_outside look (Some t) fault out = record {
+  opening = opening_outside (files_now t) fault out;
+  lacking = λ p rev w lacks. inr out;
+  whole = λ short p text w there is. inr out;
+  refused = λ short p text f w there is. inr out;
+}
 
--- ---- why the tree was not printed
+-- want of memory before a repository is opened
+pub unopened : (told : Option Trace) → DoesNotOpen told opening.Memory
+unopened None = tt
+unopened (Some t) = λ o is. tt
 
-small_of : (told : Option Trace) (small : SmallFault) → IfSome told (λ t. IsRefused (small_texts (files_now t)) small) → IfSome told (λ t. IsRefused (small_texts (files_now t)) small ⊎ (HasLater (files_now t) × (small ≡ later_fault)))
-small_of None small h = tt
-small_of (Some t) small h = inl h
-
-later_of : (told : Option Trace) → IfSome told (λ t. HasLater (files_now t)) → IfSome told (λ t. IsRefused (small_texts (files_now t)) later_fault ⊎ (HasLater (files_now t) × (later_fault ≡ later_fault)))
-later_of None h = tt
-later_of (Some t) h = inr (h, refl)
-
-pub tree_not_printed : (mount disk write rose : Type 0) (told at : Option Trace) (old new : Option (List ℕ)) (why : TreeFault) (fault : Fault) → told ≡ at → fault ≡ fault_from_tree why → (rose → disk) → new ≡ old → TreeBecause rose told why
-    → PrintsTree mount disk write at old new (Some fault)
-tree_not_printed mount disk write rose told at old new why fault same from counted kept because =
-    subst (λ f. PrintsTree mount disk write at old new (Some f)) (sym from) (subst (λ x. PrintsTree mount disk write x old new (Some (fault_from_tree why))) same (by_why why because)) where
-      by_why : (why : TreeFault) → TreeBecause rose told why → PrintsTree mount disk write told old new (Some (fault_from_tree why))
-      by_why (tree.NotOpened opening.NotRepo) h = (h, kept)
-      by_why (tree.NotOpened (opening.OtherFormat number)) h = (h, kept)
-      by_why (tree.NotOpened opening.Linear) h = (h, kept)
-      by_why (tree.NotOpened (opening.Small small)) h = (small_of told small h, kept)
-      by_why (tree.NotOpened (opening.DiskFault place)) h = (counted h, kept)
-      by_why (tree.NotOpened opening.Memory) h = kept
-      by_why tree.LaterYoungest h = (later_of told h, kept)
-      by_why (tree.Damaged damage) h = (h, kept)
-      by_why (tree.DiskFault place) h = (counted h, kept)
-      by_why tree.Memory h = kept
-
--- ---- want of memory, before the disk was looked at
-
-pub memory_shown : (told : Option Trace) → ShownIsDecided told (Some Memory)
-memory_shown None = tt
-memory_shown (Some t) = record { opened = λ o w. inr tt; none = λ w. inr tt; other = λ n w. inr tt; linear = λ w. inr tt }
-
-pub memory_tree : (told : Option Trace) → TreeIsDecided told (Some Memory)
-memory_tree None = tt
-memory_tree (Some t) = record { shown = λ w. inr tt; none = λ w. inr tt; other = λ n w. inr tt; linear = λ w. inr tt; later = λ w. inr tt; damaged = λ d w. inr tt }
+-- and what an opening that was refused tells
+pub does_not_open : (told : Option Trace) (why : OpenFault) → IfSome told (λ t. Decides (small_texts (files_now t)) (Err why)) → DoesNotOpen told why
+does_not_open None why d = tt
+does_not_open (Some t) why d = λ o is. d.opened o is

@@ -1,209 +1,189 @@
 -- The replies of looks, from what a command did and printed.
-use Rattle.std.proofs.Common.{◌≡◌, ℕ, false, List, [], ◌∷◌, ◌++◌, ◌⊎◌, inl, inr, refl, sym, ap, subst, ◌∙◌, append-nil}
-use Rattle.std.specs.Prelude.{Option, Some, None, unwrap_or, decimal, codes, Ok, Err, Result}
-use Rattle.std.specs.FinMap.{empty, entries, put, entries-insert, len-entries, len-empty}
-use Rattle.std.specs.List.{flat_map}
-use Rattle.std.proofs.lemmas.List.{nil_from_length}
-use Rattle.fsfs_text.proofs.Readers.{all_again, ok_is}
-use Rattle.fsfs_layout.specs.Small.{IsRevLine, IsUuid}
-use Rattle.fsfs_layout.proofs.Files.{rev_line_reads, uuid_reads}
-use Rattle.fsfs_layout.proofs.Writing.{uuid_line as uuid_is_line}
+use Rattle.std.proofs.Common.{◌≡◌, ◌≤◌, ◌<◌, ℕ, Bool, false, List, [], ◌∷◌, ◌++◌, ◌⊎◌, inl, inr, refl, sym, ap, subst, ◌∙◌, append-nil, append_assoc, length, arith}
+use Rattle.std.specs.Prelude.{Option, Some, None, unwrap_or, decimal, codes, Ok, Err, Result, slice_get}
 use Rattle.fsfs_base.specs.Files.{Files}
-use Rattle.fsfs_repo.specs.NewRepositories.{HoldsCreated}
-use Rattle.fsfs_base.specs.Paths.{Path, path_cmp, path_cmp_total}
-use Rattle.fsfs_base.specs.Nodes.{Node, empty_node}
-use Rattle.fsfs_base.specs.declared.node.Kind.TheVariants.{Dir}
+use Rattle.fsfs_base.specs.Paths.{Path}
 use Rattle.fsfs_base.specs.Revisions.{Revision}
 use Rattle.fsfs_base.specs.Transactions.{last_of}
 use Rattle.fsfs_disk.specs.Trace.{Trace, files_now}
 use Rattle.fsfs_disk.specs.Fault.{Rose}
 use Rattle.fsfs_disk.specs.Streams.{Adds}
-use Rattle.fsfs_model.specs.Answers as model
-use Rattle.fsfs_model.specs.Answers.{Answer, Reply, prints, new_history, tree_line}
-use Rattle.fsfs_repo.specs.Opening.{small_texts, IsOpened}
-use Rattle.fsfs_repo.specs.FirstTree.{IsFirstTree}
+use Rattle.fsfs_faults.specs.Lines.{line_of, status_of}
+use Rattle.fsfs_faults.specs.Faults.{fault_from_open, fault_from_look}
+use Rattle.fsfs_faults.specs.declared.fault.Fault.{Fault}
+use Rattle.fsfs_faults.specs.declared.fault.Fault.TheVariants.{NotRepo, NoRev, MountFault, DiskFault, WriteFault, Memory}
+use Rattle.fsfs_fetch.specs.Kept.{HasShortFiles}
+use Rattle.fsfs_fetch.specs.RevBytes.{rev_bytes}
+use Rattle.fsfs_look.specs.declared.look_error.LookError.{LookError}
+use Rattle.fsfs_look.specs.declared.look_error.LookError.TheVariants as errors
+use Rattle.fsfs_look.specs.Written.{Writes, WritesFront}
+use Rattle.fsfs_model.specs.Answers.{Reply, prints, refuses, asked_revision, in_revision, of_revision}
+use Rattle.fsfs_output.specs.Output.{AddsFront, Prints}
+use Rattle.fsfs_repo.specs.Opening.{SmallTexts, small_texts, IsFsfs, IsOpened, IsNone}
+use Rattle.fsfs_repo.specs.OpenFaults.{OpensBecause}
+use Rattle.fsfs_repo.specs.Deciding.{IsOutside as IsOpenOutside}
+use Rattle.fsfs_repo.specs.declared.place.DiskPlace.TheVariants.{Read}
+use Rattle.fsfs_stands.specs.Files.{StandsFor}
 use Rattle.fsfs_repo.specs.declared.opening.Opened.{Opened}
-use Rattle.fsfs_repo.proofs.NewRepositoryLemmas.{new_repositories_show_their_tree}
-use Rattle.fsfs_top.specs.Answers.{answer_of, revision_line, uuid_line, shown_line, root_line}
-use Rattle.fsfs_top.specs.Output.{AddsFront, Prints}
-use Rattle.fsfs_words.specs.Words.{Asked, asked}
-use Rattle.fsfs_words.specs.Words as asked_
-use Rattle.fsfs_top.specs.Command.{asked_shown, AsksShown, AsksTree, Did, PrintsShown, PrintsTree, ShownIsDecided, TreeIsDecided, IsOutside, Agrees, Tells}
-use Rattle.fsfs_top.specs.Replies.{Gives, Replies}
-use Rattle.fsfs_top.specs.declared.fault.Fault.{Fault}
-use Rattle.fsfs_top.specs.declared.fault.Fault.TheVariants.{Usage, NotRepo, OtherFormat, Linear, Small, Corrupt, AlreadyRepo, MountFault, DiskFault, WriteFault, Memory}
+use Rattle.fsfs_repo.specs.declared.opening.OpenFault.{OpenFault}
+use Rattle.fsfs_repo.specs.declared.opening.OpenFault.TheVariants as opening
+use Rattle.fsfs_texts.specs.Agreeing.{IsFront}
+use Rattle.fsfs_texts.specs.Texts.{End, Whole, Refused, Stopped}
+use Rattle.fsfs_texts.specs.declared.look_fault.LookFault.{LookFault}
+use Rattle.fsfs_top.specs.Answers.{answer_of, shown_line}
+use Rattle.fsfs_top.specs.Command.{Tells}
+use Rattle.fsfs_top.specs.Looks.{TextOf, TextIn, looked_revision, LacksRevision, IsFaultOf, Looked, LooksInto, NotOpened, PrintsLine, PrintsShown, PrintsLook, IsOutside, Agrees, DecidesOpening, ShownIsDecided, LookIsDecided}
+use Rattle.fsfs_top.specs.Replies.{Gives}
+use Rattle.fsfs_top.specs.declared.look.RevisionLook.{RevisionLook}
 use Rattle.fsfs_top.specs.declared.output.Shown.{Shown}
-use Rattle.fsfs_top.specs.declared.output.Shown.TheVariants.{Youngest, Uuid}
-use Rattle.fsfs_top.proofs.LookLemmas.{memory_shown, memory_tree}
+use Rattle.fsfs_top.proofs.LookLemmas.{one_youngest, one_shard, same_text}
+use Rattle.fsfs_top.proofs.HistoryLemmas.{opened_of, stands_opens, last_is, there_is, there_is_none}
 use Rattle.fsfs_words.specs.declared.tool.Tool.{Tool}
 
--- ---- the words ask for one thing
+-- ---- first parts
 
-same_asked : (a b : Asked) → ◌≡◌ {A = Option Asked} (Some a) (Some b) → a ≡ b
-same_asked a b e = cc
-
-one_asked : (tool : Tool) (words : List (List ℕ)) (a b : Asked) → asked tool words ≡ Some a → asked tool words ≡ Some b → a ≡ b
-one_asked tool words a b x y = same_asked a b (sym x ∙ y)
-
-create_or_shown : (repos r : List ℕ) (shard : ℕ) (shown : Shown) → asked_.Create repos shard ≡ asked_shown shown r → ⊥
-create_or_shown repos r shard Youngest e = cc
-create_or_shown repos r shard Uuid e = cc
-
-tree_or_shown : (repos r : List ℕ) (path : Option (List ℕ)) (shown : Shown) → asked_.Tree repos None false path ≡ asked_shown shown r → ⊥
-tree_or_shown repos r path Youngest e = cc
-tree_or_shown repos r path Uuid e = cc
-
-create_or_tree : (repos r : List ℕ) (shard : ℕ) (path : Option (List ℕ)) → asked_.Create repos shard ≡ asked_.Tree r None false path → ⊥
-create_or_tree repos r shard path e = cc
-
-one_tree : (repos r : List ℕ) (p q : Option (List ℕ)) → asked_.Tree repos None false p ≡ asked_.Tree r None false q → repos ≡ r
-one_tree repos r p q e = cc
-
-one_shown : (shown other : Shown) (repos r : List ℕ) → asked_shown shown repos ≡ asked_shown other r → (shown ≡ other) × (repos ≡ r)
-one_shown Youngest Youngest repos r e = (refl, cc)
-one_shown Youngest Uuid repos r e = absurd cc
-one_shown Uuid Youngest repos r e = absurd cc
-one_shown Uuid Uuid repos r e = (refl, cc)
-
--- what a look at the tree did
-did_tree : (mount disk write : Type 0) (tool : Tool) (words : List (List ℕ)) (clock : Option ℕ) (dice : Option (List ℕ)) (at_old at_new : List ℕ → Option Trace) (old new : Option (List ℕ)) (fault : Option Fault) (repos : List ℕ)
-    → Did mount disk write tool words clock dice at_old at_new old new fault → AsksTree tool words repos → PrintsTree mount disk write (at_old repos) old new fault × TreeIsDecided (at_old repos) fault
-did_tree mount disk write tool words clock dice at_old at_new old new fault repos (inl create) asks =
-    absurd (create_or_tree create.0 repos create.1 asks.0 (one_asked tool words (asked_.Create create.0 create.1) (asked_.Tree repos None false asks.0) create.2 asks.1))
-did_tree mount disk write tool words clock dice at_old at_new old new fault repos (inr (inl shown)) asks =
-    absurd (tree_or_shown repos shown.1 asks.0 shown.0 (one_asked tool words (asked_.Tree repos None false asks.0) (asked_shown shown.0 shown.1) asks.1 shown.2))
-did_tree mount disk write tool words clock dice at_old at_new old new fault repos (inr (inr (inl tree))) asks =
-    let same = one_tree tree.0 repos tree.1.0 asks.0 (one_asked tool words (asked_.Tree tree.0 None false tree.1.0) (asked_.Tree repos None false asks.0) tree.1.1 asks.1) in
-    subst (λ (r : List ℕ). PrintsTree mount disk write (at_old r) old new fault × TreeIsDecided (at_old r) fault) same (tree.2, tree.3)
-did_tree mount disk write tool words clock dice at_old at_new old new fault repos (inr (inr (inr (inl none)))) asks = absurd (none.2.tree repos asks)
-did_tree mount disk write tool words clock dice at_old at_new old new fault repos (inr (inr (inr (inr memory)))) asks =
-    subst (λ (f : Option Fault). PrintsTree mount disk write (at_old repos) old new f × TreeIsDecided (at_old repos) f) (sym memory.0) (memory.1, memory_tree (at_old repos))
-
-did_shown : (shown : Shown) (mount disk write : Type 0) (tool : Tool) (words : List (List ℕ)) (clock : Option ℕ) (dice : Option (List ℕ)) (at_old at_new : List ℕ → Option Trace) (old new : Option (List ℕ)) (fault : Option Fault) (repos : List ℕ)
-    → Did mount disk write tool words clock dice at_old at_new old new fault → AsksShown shown tool words repos → PrintsShown shown mount disk write (at_old repos) old new fault × ShownIsDecided (at_old repos) fault
-did_shown shown mount disk write tool words clock dice at_old at_new old new fault repos (inl create) asks =
-    absurd (create_or_shown create.0 repos create.1 shown (one_asked tool words (asked_.Create create.0 create.1) (asked_shown shown repos) create.2 asks))
-did_shown shown mount disk write tool words clock dice at_old at_new old new fault repos (inr (inl look)) asks =
-    let same = one_shown look.0 shown look.1 repos (one_asked tool words (asked_shown look.0 look.1) (asked_shown shown repos) look.2 asks) in
-    subst (λ (s : Shown). PrintsShown s mount disk write (at_old repos) old new fault × ShownIsDecided (at_old repos) fault) same.0
-    (subst (λ (r : List ℕ). PrintsShown look.0 mount disk write (at_old r) old new fault × ShownIsDecided (at_old r) fault) same.1 (look.3, look.4))
-did_shown shown mount disk write tool words clock dice at_old at_new old new fault repos (inr (inr (inl tree))) asks =
-    absurd (tree_or_shown tree.0 repos tree.1.0 shown (one_asked tool words (asked_.Tree tree.0 None false tree.1.0) (asked_shown shown repos) tree.1.1 asks))
-did_shown shown mount disk write tool words clock dice at_old at_new old new fault repos (inr (inr (inr (inl none)))) asks = absurd (none.2.shown shown repos asks)
-did_shown shown mount disk write tool words clock dice at_old at_new old new fault repos (inr (inr (inr (inr memory)))) asks =
-    subst (λ (f : Option Fault). PrintsShown shown mount disk write (at_old repos) old new f × ShownIsDecided (at_old repos) f) (sym memory.0) (memory.1, memory_shown (at_old repos))
-
--- ---- the texts
-
-pub tree_of_a_new_history : (date : List ℕ) → (Answer model.Tree (Some (new_history date))).output ≡ root_line
-tree_of_a_new_history date =
-    let none : entries (empty {X = Node} {R = path_cmp}) ≡ [] = nil_from_length (entries (empty {X = Node} {R = path_cmp})) (sym (len-entries empty) ∙ len-empty path_cmp Node) in
-    let one = entries-insert path_cmp_total (empty {X = Node} {R = path_cmp}) [] (empty_node Dir) in
-    ap (λ (es : List (Path × Node)). flat_map tree_line es) (one ∙ ap (λ (es : List (Path × Node)). put path_cmp [] (empty_node Dir) es) none)
-
-adds_nothing : (old new : Option (List ℕ)) → new ≡ old → Adds old new []
+pub adds_nothing : (old new : Option (List ℕ)) → new ≡ old → Adds old new []
 adds_nothing None new e = tt
 adds_nothing (Some text) new e = e ∙ ap (λ (s : List ℕ). Some s) (sym (append-nil text))
 
--- ---- a look where the outside failed
+front_of_nothing : (old new : Option (List ℕ)) (text : List ℕ) → new ≡ old → AddsFront old new text
+front_of_nothing old new text e = ([], text, refl, adds_nothing old new e)
 
-failed_tree : (mount disk write told : Type 0) (at : Option Trace) (old new err_old err_new : Option (List ℕ)) (status : ℕ) (fault : Fault) (reply : Reply) → reply.output ≡ root_line → status ≡ answer_of (Some fault) → IsOutside fault
-    → PrintsTree mount disk write at old new (Some fault) → Gives status mount disk write told old new err_old err_new reply
-failed_tree mount disk write told at old new err_old err_new status Usage reply text is out h = absurd out
-failed_tree mount disk write told at old new err_old err_new status NotRepo reply text is out h = absurd out
-failed_tree mount disk write told at old new err_old err_new status (OtherFormat n) reply text is out h = absurd out
-failed_tree mount disk write told at old new err_old err_new status Linear reply text is out h = absurd out
-failed_tree mount disk write told at old new err_old err_new status (Small small) reply text is out h = absurd out
-failed_tree mount disk write told at old new err_old err_new status (Corrupt d) reply text is out h = absurd out
-failed_tree mount disk write told at old new err_old err_new status AlreadyRepo reply text is out h = absurd out
-failed_tree mount disk write told at old new err_old err_new status MountFault reply text is out h = inr (inl (is, inl h.0, ([], reply.output, refl, adds_nothing old new h.1)))
-failed_tree mount disk write told at old new err_old err_new status (DiskFault place) reply text is out h = inr (inl (is, inr (inl h.0), ([], reply.output, refl, adds_nothing old new h.1)))
-failed_tree mount disk write told at old new err_old err_new status WriteFault reply text is out h = inr (inl (is, inr (inr h.0), subst (λ (s : List ℕ). AddsFront old new s) (sym text) h.2))
-failed_tree mount disk write told at old new err_old err_new status Memory reply text is out h = inr (inr (is, h))
+-- a first part of a first part
+front_more : (old new : Option (List ℕ)) (text whole : List ℕ) → IsFront text whole → AddsFront old new text → AddsFront old new whole
+front_more old new text whole (rest, is) (front, left, parts, adds) = (front, left ++ rest, is ∙ ap (λ (t : List ℕ). t ++ rest) parts ∙ append_assoc front left rest, adds)
 
-same_youngest : (s : List ℕ) (n m : ℕ) → IsRevLine s n → IsRevLine s m → n ≡ m
-same_youngest s n m a b = ok_is n m (sym (all_again rev_line_reads s n a) ∙ all_again rev_line_reads s m b)
+whole_front : (old new : Option (List ℕ)) (text : List ℕ) → Adds old new text → AddsFront old new text
+whole_front old new text adds = (text, [], sym (append-nil text), adds)
 
-same_uuid : (s u v : List ℕ) → IsUuid s u → IsUuid s v → u ≡ v
-same_uuid s u v a b = ok_is u v (sym (all_again uuid_reads s u a) ∙ all_again uuid_reads s v b)
+same_front : (text whole : List ℕ) → text ≡ whole → IsFront text whole
+same_front text whole e = ([], sym e ∙ sym (append-nil text))
 
--- the revision that is printed is the one that the files name
-youngest_text : (t : Trace) (o : Opened) (h : List Revision) → IsOpened (small_texts (files_now t)) o → last_of h ≡ o.youngest → (p : Opened) → IsOpened (small_texts (files_now t)) p → shown_line Youngest p ≡ decimal (last_of h) ++ codes "\n"
-youngest_text t o h is last p named = ap revision_line (same_youngest (small_texts (files_now t)).current p.youngest o.youngest named.youngest is.youngest ∙ sym last)
+-- ---- a repository is there or not
 
--- and the identifier
-uuid_text : (t : Trace) (identifier : List ℕ) → IsUuid (small_texts (files_now t)).uuid identifier → (p : Opened) → IsOpened (small_texts (files_now t)) p → shown_line Uuid p ≡ identifier ++ codes "\n"
-uuid_text t identifier is p named = ap uuid_line (same_uuid (small_texts (files_now t)).uuid p.uuid identifier named.uuid is)
+none_or_some : (texts : SmallTexts) (format : List ℕ) → IsNone texts → IsFsfs texts format → ⊥
+none_or_some texts format (inl none) is = let e = sym none ∙ is.there in cc
+none_or_some texts format (inr other) is = other is.fs_type
 
--- the identifier of a new repository
-new_identifier : (m : Files) (date : List ℕ) (created : HoldsCreated m date) → IsUuid (small_texts m).uuid created.identifier
-new_identifier m date created =
-    uuid_is_line created.identifier (small_texts m).uuid created.characters created.one_line (ap (λ (o : Option (List ℕ)). unwrap_or o []) created.files.1.1.0)
+-- ---- a text and its end are those of a reply
 
-failed_shown : (shown : Shown) (mount disk write told : Type 0) (t : Trace) (text : List ℕ) (old new err_old err_new : Option (List ℕ)) (status : ℕ) (fault : Fault) → ((p : Opened) → IsOpened (small_texts (files_now t)) p → shown_line shown p ≡ text)
-    → status ≡ answer_of (Some fault) → IsOutside fault → PrintsShown shown mount disk write (Some t) old new (Some fault) → Gives status mount disk write told old new err_old err_new (prints text)
-failed_shown shown mount disk write told t text old new err_old err_new status Usage same s out p = absurd out
-failed_shown shown mount disk write told t text old new err_old err_new status NotRepo same s out p = absurd out
-failed_shown shown mount disk write told t text old new err_old err_new status (OtherFormat n) same s out p = absurd out
-failed_shown shown mount disk write told t text old new err_old err_new status Linear same s out p = absurd out
-failed_shown shown mount disk write told t text old new err_old err_new status (Small small) same s out p = absurd out
-failed_shown shown mount disk write told t text old new err_old err_new status (Corrupt d) same s out p = absurd out
-failed_shown shown mount disk write told t text old new err_old err_new status AlreadyRepo same s out p = absurd out
-failed_shown shown mount disk write told t text old new err_old err_new status MountFault same s out p = inr (inl (s, inl p.0, ([], text, refl, adds_nothing old new p.1)))
-failed_shown shown mount disk write told t text old new err_old err_new status (DiskFault place) same s out p = inr (inl (s, inr (inl p.0), ([], text, refl, adds_nothing old new p.1)))
-failed_shown shown mount disk write told t text old new err_old err_new status WriteFault same s out p = inr (inl (s, inr (inr p.0), subst (λ (x : List ℕ). AddsFront old new x) (same p.1.0 p.1.1) p.1.2))
-failed_shown shown mount disk write told t text old new err_old err_new status Memory same s out p = inr (inr (s, p))
+abbrev pub Fits : Tool → Path → Reply → List ℕ → End → Type 0
+Fits tool path reply text Whole = reply ≡ prints text
+Fits tool path reply text (Refused why) = (text ≡ []) × (reply ≡ refuses (line_of tool (fault_from_look path why)) (status_of (fault_from_look path why)))
+Fits tool path reply text Stopped = IsFront text reply.output
 
-given_shown : (shown : Shown) (mount disk write told : Type 0) (tool : Tool) (t : Trace) (o : Opened) (text : List ℕ) (old new err_old err_new : Option (List ℕ)) (status : ℕ) (fault : Option Fault) → IsOpened (small_texts (files_now t)) o
-    → ((p : Opened) → IsOpened (small_texts (files_now t)) p → shown_line shown p ≡ text)
-    → status ≡ answer_of fault → Tells err_old err_new told tool fault → PrintsShown shown mount disk write (Some t) old new fault → ShownIsDecided (Some t) fault → Gives status mount disk write told old new err_old err_new (prints text)
-given_shown shown mount disk write told tool t o text old new err_old err_new status None is same s tells p d =
-    inl (s, subst (λ (x : List ℕ). Adds old new x) (same p.0 p.1) p.2, inl (adds_nothing err_old err_new tells))
-given_shown shown mount disk write told tool t o text old new err_old err_new status (Some fault) is same s tells p d = by_fault (d.opened o is) where
-  by_fault : Agrees None (Some fault) → Gives status mount disk write told old new err_old err_new (prints text)
-  by_fault (inl e) = absurd cc
-  by_fault (inr out) = failed_shown shown mount disk write told t text old new err_old err_new status fault same s out p
+-- ---- where the outside failed
 
-given_tree : (mount disk write told : Type 0) (tool : Tool) (t : Trace) (date : List ℕ) (old new err_old err_new : Option (List ℕ)) (status : ℕ) (fault : Option Fault) → IsFirstTree (files_now t)
-    → status ≡ answer_of fault → Tells err_old err_new told tool fault → PrintsTree mount disk write (Some t) old new fault → TreeIsDecided (Some t) fault → Gives status mount disk write told old new err_old err_new (Answer model.Tree (Some (new_history date)))
-given_tree mount disk write told tool t date old new err_old err_new status None is s tells p d =
-    inl (s, subst (λ (x : List ℕ). Adds old new x) (sym (tree_of_a_new_history date)) p.1, inl (adds_nothing err_old err_new tells))
-given_tree mount disk write told tool t date old new err_old err_new status (Some fault) is s tells p d = by_fault (d.shown is) where
-  by_fault : Agrees None (Some fault) → Gives status mount disk write told old new err_old err_new (Answer model.Tree (Some (new_history date)))
-  by_fault (inl e) = absurd cc
-  by_fault (inr out) = failed_tree mount disk write told (Some t) old new err_old err_new status fault (Answer model.Tree (Some (new_history date))) (tree_of_a_new_history date) s out p
+module _ (status : ℕ) (mount disk write told : Type 0) (tool : Tool) (old new err_old err_new : Option (List ℕ)) where
+  Given : Reply → Type 0
+  Given = Gives status mount disk write told old new err_old err_new
 
--- the replies of a command
-pub replies : (mount disk write told : Type 0) (tool : Tool) (words : List (List ℕ)) (clock : Option ℕ) (dice : Option (List ℕ)) (at_old at_new : List ℕ → Option Trace) (old new err_old err_new : Option (List ℕ)) (status : ℕ) (fault : Option Fault)
-    → Did mount disk write tool words clock dice at_old at_new old new fault → status ≡ answer_of fault → Tells err_old err_new told tool fault
-    → Replies tool words at_old (Gives status mount disk write told old new err_old err_new)
-replies mount disk write told tool words clock dice at_old at_new old new err_old err_new status fault did s tells = record {
-  youngest = λ repos t o h asks here is last. shows Youngest repos t o (decimal (last_of h) ++ codes "\n") asks here is (youngest_text t o h is last);
-  uuid = λ repos t o asks here is. shows Uuid repos t o (o.uuid ++ codes "\n") asks here is (uuid_text t o.uuid is.uuid);
-  tree = λ repos t date asks here is. tree repos t date asks here is;
-  new_youngest = λ repos t date asks here holds.
-      let is = new_repositories_show_their_tree (files_now t) date holds in
-      shows Youngest repos t is.0.0 (decimal (last_of (new_history date)) ++ codes "\n") asks here is.0.1 (youngest_text t is.0.0 (new_history date) is.0.1 (sym is.0.2));
-  new_tree = λ repos t date asks here holds. tree repos t date asks here (new_repositories_show_their_tree (files_now t) date holds);
-  new_uuid = λ repos t date asks here holds.
-      let is = new_repositories_show_their_tree (files_now t) date holds in
-      shows Uuid repos t is.0.0 (holds.identifier ++ codes "\n") asks here is.0.1 (uuid_text t holds.identifier (new_identifier (files_now t) date holds));
-}
-  where
-    shows : (shown : Shown) (repos : List ℕ) (t : Trace) (o : Opened) (text : List ℕ) → AsksShown shown tool words repos → at_old repos ≡ Some t → IsOpened (small_texts (files_now t)) o
-        → ((p : Opened) → IsOpened (small_texts (files_now t)) p → shown_line shown p ≡ text) → Gives status mount disk write told old new err_old err_new (prints text)
-    shows shown repos t o text asks here is same =
-        let w = did_shown shown mount disk write tool words clock dice at_old at_new old new fault repos did asks in
-        given_shown shown mount disk write told tool t o text old new err_old err_new status fault is same s tells
-        (subst (λ (x : Option Trace). PrintsShown shown mount disk write x old new fault) here w.0) (subst (λ (x : Option Trace). ShownIsDecided x fault) here w.1)
+  -- what is known of the status and of the error output
+  Ended : Option Fault → Type 0
+  Ended fault = (status ≡ answer_of fault) × Tells err_old err_new told tool fault
 
-    tree : (repos : List ℕ) (t : Trace) (date : List ℕ) → AsksTree tool words repos → at_old repos ≡ Some t → IsFirstTree (files_now t) → Gives status mount disk write told old new err_old err_new (Answer model.Tree (Some (new_history date)))
-    tree repos t date asks here is =
-        let w = did_tree mount disk write tool words clock dice at_old at_new old new fault repos did asks in
-        given_tree mount disk write told tool t date old new err_old err_new status fault is s tells
-        (subst (λ (x : Option Trace). PrintsTree mount disk write x old new fault) here w.0) (subst (λ (x : Option Trace). TreeIsDecided x fault) here w.1)
+  moved : (f g : Option Fault) → f ≡ g → Ended f → Ended g
+  moved f g e is = subst Ended e is
 
--- a line about a fault was written, or a first part of it
-pub told_line : {E : Type 0} (old new : Option (List ℕ)) (text : List ℕ) (before now : ℕ) (r : Result (Unit {0}) E) → Prints old new text before now r → Adds old new text ⊎ (Rose before now × AddsFront old new text)
-told_line old new text before now (Ok done) p = inl p.whole
-told_line old new text before now (Err e) p = inr (p.failed, p.part)
+  mount_failed : (reply : Reply) → Ended (Some MountFault) → mount → new ≡ old → Given reply
+  mount_failed reply is m kept = inr (front_of_nothing old new reply.output kept, inl (is.0, inl m))
+
+  refused_line : (reply : Reply) (fault : Fault) → reply ≡ refuses (line_of tool fault) (status_of fault) → Ended (Some fault) → Adds old new [] → Given reply
+  refused_line reply fault is ends adds = subst Given (sym is) (inl (ends.0, adds, ends.1))
+
+  printed_text : (reply : Reply) (text : List ℕ) → reply ≡ prints text → Ended None → Adds old new text → Given reply
+  printed_text reply text is ends adds = subst Given (sym is) (inl (ends.0, adds, inl (adds_nothing err_old err_new ends.1)))
+
+  -- a repository that opens was not opened: the outside failed
+  outside_opening : (reply : Reply) (at : Option Trace) (why : OpenFault) → Ended (Some (fault_from_open why)) → new ≡ old → OpensBecause disk at why → IsOpenOutside why → Given reply
+  outside_opening reply at opening.NotRepo ends kept because out = absurd out
+  outside_opening reply at (opening.OtherFormat n) ends kept because out = absurd out
+  outside_opening reply at opening.Linear ends kept because out = absurd out
+  outside_opening reply at (opening.Small small) ends kept because out = absurd out
+  outside_opening reply at (opening.DiskFault place) ends kept because out = inr (front_of_nothing old new reply.output kept, inl (ends.0, inr (inl because)))
+  outside_opening reply at opening.Memory ends kept because out = inr (front_of_nothing old new reply.output kept, inr ends.0)
+
+  -- there is no repository
+  none_there : (reply : Reply) (t : Trace) (why : OpenFault) → reply ≡ refuses (line_of tool NotRepo) 1 → IsNone (small_texts (files_now t)) → Ended (Some (fault_from_open why)) → new ≡ old → OpensBecause disk (Some t) why → Given reply
+  none_there reply t opening.NotRepo is none ends kept because = refused_line reply NotRepo is ends (adds_nothing old new kept)
+  none_there reply t (opening.OtherFormat n) is none ends kept because = absurd (none_or_some (small_texts (files_now t)) because.0 none because.1)
+  none_there reply t opening.Linear is none ends kept because = absurd (none_or_some (small_texts (files_now t)) because.0 none because.1)
+  none_there reply t (opening.Small small) is none ends kept because = absurd (none_or_some (small_texts (files_now t)) because.0 none because.1)
+  none_there reply t (opening.DiskFault place) is none ends kept because = inr (front_of_nothing old new reply.output kept, inl (ends.0, inr (inl because)))
+  none_there reply t opening.Memory is none ends kept because = inr (front_of_nothing old new reply.output kept, inr ends.0)
+
+  pub no_shown : (shown : Shown) (reply : Reply) (t : Trace) (fault : Option Fault) → reply ≡ refuses (line_of tool NotRepo) 1 → IsNone (small_texts (files_now t)) → Ended fault → PrintsShown shown mount disk write (Some t) old new fault → Given reply
+  no_shown shown reply t fault is none ends (inl (inl (e, m, kept))) = mount_failed reply (moved fault (Some MountFault) e ends) m kept
+  no_shown shown reply t fault is none ends (inl (inr (why, e, because, unopened, kept))) = none_there reply t why is none (moved fault (Some (fault_from_open why)) e ends) kept because
+  no_shown shown reply t fault is none ends (inr (o, opens, line)) = absurd (none_or_some (small_texts (files_now t)) opens.format.0 none opens.format.1)
+
+  pub no_look : (look : RevisionLook) (reply : Reply) (t : Trace) (fault : Option Fault) → reply ≡ refuses (line_of tool NotRepo) 1 → IsNone (small_texts (files_now t)) → Ended fault → PrintsLook look mount disk write (Some t) old new fault → Given reply
+  no_look look reply t fault is none ends (inl (inl (e, m, kept))) = mount_failed reply (moved fault (Some MountFault) e ends) m kept
+  no_look look reply t fault is none ends (inl (inr (why, e, because, unopened, kept))) = none_there reply t why is none (moved fault (Some (fault_from_open why)) e ends) kept because
+  no_look look reply t fault is none ends (inr (o, opens, into)) = absurd (none_or_some (small_texts (files_now t)) opens.format.0 none opens.format.1)
+
+  -- ---- a look at the small files
+
+  pub given_shown : (shown : Shown) (t : Trace) (o : Opened) (text : List ℕ) (fault : Option Fault) → IsOpened (small_texts (files_now t)) o → ((p : Opened) → IsOpened (small_texts (files_now t)) p → shown_line shown p ≡ text)
+      → Ended fault → PrintsShown shown mount disk write (Some t) old new fault → Given (prints text)
+  given_shown shown t o text fault is same ends (inl (inl (e, m, kept))) = mount_failed (prints text) (moved fault (Some MountFault) e ends) m kept
+  given_shown shown t o text fault is same ends (inl (inr (why, e, because, unopened, kept))) =
+      outside_opening (prints text) (Some t) why (moved fault (Some (fault_from_open why)) e ends) kept because (unopened o is)
+  given_shown shown t o text fault is same ends (inr (p, opens, inl (e, adds))) = printed_text (prints text) text refl (moved fault None e ends) (subst (λ (x : List ℕ). Adds old new x) (same p opens) adds)
+  given_shown shown t o text fault is same ends (inr (p, opens, inr (e, rose, front))) =
+      inr (subst (λ (x : List ℕ). AddsFront old new x) (same p opens) front, inl ((moved fault (Some WriteFault) e ends).0, inr (inr rose)))
+
+  -- ---- a look at a revision
+
+  front_of : (path : Path) (reply : Reply) (text : List ℕ) (end : End) → Fits tool path reply text end → IsFront text reply.output
+  front_of path reply text Whole fit = same_front text reply.output (ap (λ (r : Reply). r.output) (sym fit))
+  front_of path reply text (Refused why) fit = (reply.output, ap (λ (t : List ℕ). t ++ reply.output) (sym fit.0))
+  front_of path reply text Stopped fit = fit
+
+  -- a look that ended so
+  ended_look : (R : List ℕ → End → Type 0) (path : Path) (reply : Reply) (r : Result (Unit {0}) LookError) (fault : Option Fault) → ((text : List ℕ) (end : End) → R text end → Fits tool path reply text end)
+      → Writes R old new r → IsFaultOf disk write path r fault → Ended fault → Given reply
+  ended_look R path reply (Ok done) fault fits (text, t, adds) is ends = printed_text reply text (fits text Whole t) (moved fault None is ends) adds
+  ended_look R path reply (Err (errors.Fault why)) fault fits (text, t, adds) (inl is) ends =
+      let fit = fits text (Refused why) t in
+      refused_line reply (fault_from_look path why) fit.1 (moved fault (Some (fault_from_look path why)) is ends) (subst (λ (x : List ℕ). Adds old new x) fit.0 adds)
+  ended_look R path reply (Err (errors.Fault why)) fault fits (text, t, adds) (inr is) ends =
+      inr (front_more old new text reply.output (front_of path reply text (Refused why) (fits text (Refused why) t)) (whole_front old new text adds), inr (moved fault (Some Memory) is ends).0)
+  ended_look R path reply (Err errors.DiskFault) fault fits (text, end, t, front) is ends =
+      inr (front_more old new text reply.output (front_of path reply text end (fits text end t)) front, inl ((moved fault (Some (DiskFault Read)) is.1 ends).0, inr (inl is.0)))
+  ended_look R path reply (Err errors.WriteFault) fault fits (text, end, t, front) is ends =
+      inr (front_more old new text reply.output (front_of path reply text end (fits text end t)) front, inl ((moved fault (Some WriteFault) is.1 ends).0, inr (inr is.0)))
+  ended_look R path reply (Err errors.OutOfMemory) fault fits (text, end, t, front) is ends =
+      inr (front_more old new text reply.output (front_of path reply text end (fits text end t)) front, inr (moved fault (Some Memory) is ends).0)
+
+  -- a look at a revision of a history, whose reply is by the revision
+  pub given_look : (look : RevisionLook) (t : Trace) (h : List Revision) (s : StandsFor (files_now t) h) (reply : Revision → Reply) (fault : Option Fault) → HasShortFiles (files_now t)
+      → ((rev : ℕ) (r : Revision) → rev ≡ asked_revision look.revision h → slice_get h rev ≡ Some r → (text : List ℕ) (end : End) → TextOf look.printed (rev_bytes s.shard_size (files_now t)) rev look.path text end → Fits tool look.path (reply r) text end)
+      → ((asked youngest : ℕ) → in_revision reply asked youngest None ≡ refuses (line_of tool (NoRev asked youngest)) 1)
+      → Ended fault → PrintsLook look mount disk write (Some t) old new fault → Given (of_revision look.revision h reply)
+  given_look look t h s reply fault short fits lacking ends (inl (inl (e, m, kept))) = mount_failed (of_revision look.revision h reply) (moved fault (Some MountFault) e ends) m kept
+  given_look look t h s reply fault short fits lacking ends (inl (inr (why, e, because, unopened, kept))) =
+      outside_opening (of_revision look.revision h reply) (Some t) why (moved fault (Some (fault_from_open why)) e ends) kept because (unopened (opened_of (files_now t) h s) (stands_opens (files_now t) h s))
+  given_look look t h s reply fault short fits lacking ends (inr (o, opens, inl (rev, lacks, is, kept))) =
+      let last : o.youngest ≡ last_of h = one_youngest (files_now t) o (opened_of (files_now t) h s) opens (stands_opens (files_now t) h s) ∙ sym (last_is (files_now t) h s) in
+      let named : asked_revision look.revision h ≡ rev = ap (λ (r : Option ℕ). unwrap_or r (last_of h)) lacks.named in
+      let above : length h ≤ rev = omega (arith, lacks.above, last, s.count, last_is (files_now t) h s) in
+      let none : slice_get h rev ≡ None = there_is_none h rev above in
+      let same : of_revision look.revision h reply ≡ in_revision reply rev o.youngest None =
+          ap (λ (a : ℕ). in_revision reply a (last_of h) (slice_get h a)) named ∙ ap (in_revision reply rev (last_of h)) none ∙ ap (λ (y : ℕ). in_revision reply rev y None) (sym last) in
+      refused_line (of_revision look.revision h reply) (NoRev rev o.youngest) (same ∙ lacking rev o.youngest) (moved fault (Some (NoRev rev o.youngest)) is ends) (adds_nothing old new kept)
+  given_look look t h s reply fault short fits lacking ends (inr (o, opens, inr looked)) =
+      let p = opened_of (files_now t) h s in
+      let popens = stands_opens (files_now t) h s in
+      let youngest = one_youngest (files_now t) p o popens opens in
+      let last = last_is (files_now t) h s in
+      let asked = asked_revision look.revision h in
+      let is : looked_revision look p ≡ asked = ap (λ (y : ℕ). unwrap_or look.revision y) (sym last) in
+      let also : looked_revision look o ≡ looked_revision look p = ap (λ (y : ℕ). unwrap_or look.revision y) (sym youngest) in
+      let there = there_is h asked (omega (arith, looked.there, also, is, youngest, s.count)) in
+      let same : of_revision look.revision h reply ≡ reply there.0 = ap (in_revision reply asked (last_of h)) there.1 in
+      subst Given (sym same) (ended_look (TextIn look o (files_now t)) look.path (reply there.0) looked.result fault
+      (λ text end x. fits asked there.0 refl there.1 text end
+          (subst (λ (n : ℕ). TextOf look.printed (rev_bytes s.shard_size (files_now t)) n look.path text end) is
+          (same_text look p o (files_now t) text end (one_shard (files_now t) p o popens opens) youngest x)))
+      (looked.writes short) looked.fault_is ends)

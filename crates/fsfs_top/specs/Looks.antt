@@ -1,5 +1,5 @@
 -- Looks at a repository: what they print, and why they print nothing or no more.
-use Rattle.std.specs.Prelude.{◌≡◌, ◌≤◌, ◌<◌, ◌⊎◌, ℕ, List, Option, Some, None, IfSome, unwrap_or, Result, Ok, Err}
+use Rattle.std.specs.Prelude.{◌≡◌, ◌≤◌, ◌<◌, ◌⊎◌, ℕ, List, Option, Some, None, IfSome, option_map, unwrap_or, Result, Ok, Err}
 use Rattle.fsfs_base.specs.Files.{Files}
 use Rattle.fsfs_base.specs.Paths.{Path}
 use Rattle.fsfs_book.specs.Told.{Look}
@@ -8,6 +8,7 @@ use Rattle.fsfs_disk.specs.Streams.{Adds}
 use Rattle.fsfs_faults.specs.Faults.{fault_from_open, fault_from_look}
 use Rattle.fsfs_faults.specs.declared.fault.Fault.{Fault}
 use Rattle.fsfs_faults.specs.declared.fault.Fault.TheVariants.{NotRepo, OtherFormat, Linear, NoRev, MountFault, DiskFault, WriteFault, Memory}
+use Rattle.fsfs_fetch.specs.Kept.{HasShortFiles}
 use Rattle.fsfs_fetch.specs.RevBytes.{rev_bytes}
 use Rattle.fsfs_look.specs.Written.{Writes}
 use Rattle.fsfs_look.specs.declared.look_error.LookError.{LookError}
@@ -15,6 +16,7 @@ use Rattle.fsfs_look.specs.declared.look_error.LookError.TheVariants as errors
 use Rattle.fsfs_output.specs.Output.{AddsFront}
 use Rattle.fsfs_repo.specs.Opening.{small_texts, IsOpened, IsNone, HasFormat, IsLinear}
 use Rattle.fsfs_repo.specs.OpenFaults.{OpensBecause}
+use Rattle.fsfs_repo.specs.Deciding.{IsOutside as IsOpenOutside}
 use Rattle.fsfs_repo.specs.declared.opening.Opened.{Opened}
 use Rattle.fsfs_repo.specs.declared.opening.OpenFault.{OpenFault}
 use Rattle.fsfs_repo.specs.declared.place.DiskPlace.{DiskPlace}
@@ -33,12 +35,16 @@ use Rattle.fsfs_top.specs.declared.output.Shown.{Shown}
 abbrev pub OpensAs : Option Trace → Opened → Type 0
 OpensAs told o = IfSome told (λ t. IsOpened (small_texts (files_now t)) o)
 
+-- the files don't open, unless the outside failed
+abbrev pub DoesNotOpen : Option Trace → OpenFault → Type 0
+DoesNotOpen told why = IfSome told (λ t. (o : Opened) → IsOpened (small_texts (files_now t)) o → IsOpenOutside why)
+
 -- Nothing was printed, since the path was not mounted or the repository there not opened. `mount` says that the host's count of mounts rose, `disk` that its count of
 -- disks' faults did.
 abbrev pub NotOpened : Type 0 → Type 0 → Option Trace → Option (List ℕ) → Option (List ℕ) → Option Fault → Type 0
 NotOpened mount disk told old new fault =
     ((fault ≡ Some MountFault) × mount × (new ≡ old))
-    ⊎ ((why : OpenFault) × (fault ≡ Some (fault_from_open why)) × OpensBecause disk told why × (new ≡ old))
+    ⊎ ((why : OpenFault) × (fault ≡ Some (fault_from_open why)) × OpensBecause disk told why × DoesNotOpen told why × (new ≡ old))
 
 -- ---- a look at the small files
 
@@ -79,22 +85,23 @@ IsFaultOf disk write path (Err errors.DiskFault) fault = disk × (fault ≡ Some
 IsFaultOf disk write path (Err errors.WriteFault) fault = write × (fault ≡ Some WriteFault)
 IsFaultOf disk write path (Err errors.OutOfMemory) fault = fault ≡ Some Memory
 
--- a revision of an opened repository was looked at: the whole text was printed, or all before what is refused; or where the look failed a first part
-pub record Looked (disk write : Type 0) (look : RevisionLook) (o : Opened) (told : Option Trace) (old new : Option (List ℕ)) (fault : Option Fault) : Type 0 where
+-- A revision of an opened repository was looked at: the whole text was printed, or all before what is refused; or where the look failed a first part. (No file has 2^64
+-- bytes or more.)
+pub record Looked (disk write : Type 0) (look : RevisionLook) (o : Opened) (files : Option Files) (old new : Option (List ℕ)) (fault : Option Fault) : Type 0 where
   pub there : looked_revision look o ≤ o.youngest
   pub result : Result (Unit {0}) LookError
-  pub writes : IfSome told (λ t. Writes (TextIn look o (files_now t)) old new result)
+  pub writes : IfSome files (λ m. HasShortFiles m → Writes (TextIn look o m) old new result)
   pub fault_is : IsFaultOf disk write look.path result fault
 
 -- or it has no such revision
-abbrev pub LooksInto : Type 0 → Type 0 → RevisionLook → Opened → Option Trace → Option (List ℕ) → Option (List ℕ) → Option Fault → Type 0
-LooksInto disk write look o told old new fault =
-    ((rev : ℕ) × LacksRevision look o rev × (fault ≡ Some (NoRev rev o.youngest)) × (new ≡ old)) ⊎ Looked disk write look o told old new fault
+abbrev pub LooksInto : Type 0 → Type 0 → RevisionLook → Opened → Option Files → Option (List ℕ) → Option (List ℕ) → Option Fault → Type 0
+LooksInto disk write look o files old new fault =
+    ((rev : ℕ) × LacksRevision look o rev × (fault ≡ Some (NoRev rev o.youngest)) × (new ≡ old)) ⊎ Looked disk write look o files old new fault
 
 -- what a look at a revision printed
 abbrev pub PrintsLook : RevisionLook → Type 0 → Type 0 → Type 0 → Option Trace → Option (List ℕ) → Option (List ℕ) → Option Fault → Type 0
 PrintsLook look mount disk write told old new fault =
-    NotOpened mount disk told old new fault ⊎ ((o : Opened) × OpensAs told o × LooksInto disk write look o told old new fault)
+    NotOpened mount disk told old new fault ⊎ ((o : Opened) × OpensAs told o × LooksInto disk write look o (option_map files_now told) old new fault)
 
 -- ---- the files decide what is answered
 
@@ -122,8 +129,8 @@ pub record DecidesShown (files : Files) (fault : Option Fault) : Type 0 where
 pub record DecidesLook (look : RevisionLook) (files : Files) (fault : Option Fault) : Type 0 where
   pub opening : DecidesOpening files fault
   pub lacking : (o : Opened) (rev : ℕ) → IsOpened (small_texts files) o → LacksRevision look o rev → Agrees (Some (NoRev rev o.youngest)) fault
-  pub whole : (o : Opened) (text : List ℕ) → IsOpened (small_texts files) o → looked_revision look o ≤ o.youngest → TextIn look o files text Whole → Agrees None fault
-  pub refused : (o : Opened) (text : List ℕ) (why : LookFault) → IsOpened (small_texts files) o → looked_revision look o ≤ o.youngest → TextIn look o files text (Refused why) → Agrees (Some (fault_from_look look.path why)) fault
+  pub whole : HasShortFiles files → (o : Opened) (text : List ℕ) → IsOpened (small_texts files) o → looked_revision look o ≤ o.youngest → TextIn look o files text Whole → Agrees None fault
+  pub refused : HasShortFiles files → (o : Opened) (text : List ℕ) (why : LookFault) → IsOpened (small_texts files) o → looked_revision look o ≤ o.youngest → TextIn look o files text (Refused why) → Agrees (Some (fault_from_look look.path why)) fault
 
 abbrev pub ShownIsDecided : Option Trace → Option Fault → Type 0
 ShownIsDecided told fault = IfSome told (λ t. DecidesShown (files_now t) fault)

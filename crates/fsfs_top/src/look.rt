@@ -95,9 +95,9 @@ fn look_into<D: Disk, O: Sink>(
     look: &RevisionLook,
     out: &mut O,
 ) -> (D, Result<(), Fault>)
-    requires { 0 < opened.now.shard_size }
-    ensures printed { IfSome (D.trace disk) (λ t. IsOpened (small_texts (files_now t)) opened.now)
-        → LooksInto (Rose (D.faults disk) (D.faults result.0)) (Rose (O.faults out.old) (O.faults out.new)) look.now opened.now (D.trace disk) (O.written out.old) (O.written out.new) (fault_of result.1) }
+    requires shards { 0 < opened.now.shard_size }
+    requires opened { IfSome (option_map files_now (D.trace disk)) (λ m. IsOpened (small_texts m) opened.now) }
+    ensures printed { LooksInto (Rose (D.faults disk) (D.faults result.0)) (Rose (O.faults out.old) (O.faults out.new)) look.now opened.now (option_map files_now (D.trace disk)) (O.written out.old) (O.written out.new) (fault_of result.1) }
     ensures same { D.trace result.0 ≡ D.trace disk }
     ensures mounted { D.mount_path result.0 ≡ D.mount_path disk }
     ensures later { D.faults disk ≤ D.faults result.0 }

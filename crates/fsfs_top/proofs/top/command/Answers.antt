@@ -1,8 +1,8 @@
 use Rattle.std.proofs.Common.{map, refl}
 use Rattle.std.specs.Prelude.{string_bytes, Some, None}
 use Rattle.fsfs_disk.specs.Fault.{Rose}
-use Rattle.fsfs_top.specs.Answers.{line_of}
-use Rattle.fsfs_top.proofs.ReplyLemmas.{replies, told_line}
+use Rattle.fsfs_faults.specs.Lines.{line_of}
+use Rattle.fsfs_top.proofs.Replying.{replies, told_line}
 use Rattle.fsfs_top.proofs.top.command.Goals as goal
 
 pub returns-in-Ok-clause-replies : goal.returns-in-Ok-clause-replies
@@ -11,7 +11,7 @@ returns-in-Ok-clause-replies g c =
     (Rose (g.O.Sink.faults c.args.out.now) (g.O.Sink.faults c.run.new.out)) (Rose (g.E.Sink.faults c.args.err.now) (g.E.Sink.faults c.args.err.now))
     c.args.tool (map string_bytes c.args.words.now) (g.C.Clock.next c.args.clock.now) (g.R.Dice.next c.args.dice.now) (g.H.Host.disk_at c.args.host.now) (g.H.Host.disk_at c.run.new.host)
     (g.O.Sink.written c.args.out.now) (g.O.Sink.written c.run.new.out) (g.E.Sink.written c.args.err.now) (g.E.Sink.written c.args.err.now)
-    0 None c.in-Ok.ensures.did refl refl
+    0 None c.in-Ok.ensures.did (refl, refl)
 
 pub returns-in-Err-clause-replies : goal.returns-in-Err-clause-replies
 returns-in-Err-clause-replies g c =
@@ -20,4 +20,4 @@ returns-in-Err-clause-replies g c =
     (Rose (g.O.Sink.faults c.args.out.now) (g.O.Sink.faults c.run.new.out)) (Rose (g.E.Sink.faults c.args.err.now) (g.E.Sink.faults c.print_fault.new.sink))
     c.args.tool (map string_bytes c.args.words.now) (g.C.Clock.next c.args.clock.now) (g.R.Dice.next c.args.dice.now) (g.H.Host.disk_at c.args.host.now) (g.H.Host.disk_at c.run.new.host)
     (g.O.Sink.written c.args.out.now) (g.O.Sink.written c.run.new.out) (g.E.Sink.written c.args.err.now) (g.E.Sink.written c.print_fault.new.sink)
-    c.status.result (Some c.in-Err.fault) c.in-Err.ensures.did c.status.ensures tells
+    c.status.result (Some c.in-Err.fault) c.in-Err.ensures.did (c.status.ensures, tells)

@@ -1,0 +1,106 @@
+-- The texts of looks, as the flat model prints them.
+use Rattle.std.proofs.Common.{◌≡◌, ℕ, Bool, List, [], ◌∷◌, ◌++◌, refl, sym, ap, subst, ◌∙◌, take, append-nil}
+use Rattle.std.specs.Prelude.{Option, Some, None, slice_get, codes, decimal}
+use Rattle.std.specs.FinMap.{FinMap, get}
+use Rattle.fsfs_base.specs.Files.{Files}
+use Rattle.fsfs_base.specs.Paths.{Path, path_cmp, path_text}
+use Rattle.fsfs_base.specs.Nodes.{Node, Content, Bytes, Closed}
+use Rattle.fsfs_base.specs.Revisions.{Revision}
+use Rattle.fsfs_base.specs.declared.node.Kind.{Kind}
+use Rattle.fsfs_base.specs.declared.node.Kind.TheVariants.{File, Dir}
+use Rattle.fsfs_faults.specs.Lines.{line_of, status_of}
+use Rattle.fsfs_faults.specs.Faults.{fault_from_look}
+use Rattle.fsfs_faults.specs.declared.fault.Fault.TheVariants as fault
+use Rattle.fsfs_fetch.specs.RevBytes.{rev_bytes, props_bytes}
+use Rattle.fsfs_model.specs.Answers.{Reply, Found, Stands, Lacking, Blocked, found_at, tree_text, tree_reply, node_reply, text_reply, prints, refuses, refuses_at, refuses_look, in_revision}
+use Rattle.fsfs_revision.specs.Damages.{place_of}
+use Rattle.fsfs_shows.specs.Shown.{Shows}
+use Rattle.fsfs_shows.specs.declared.wrong.Wrong.TheVariants as wrongs
+use Rattle.fsfs_stands.specs.Files.{StandsFor}
+use Rattle.fsfs_texts.specs.ByTree.{IsTreeOf, IsFileOf, IsContent, IsNotFoundAt, IsNotDirAt, AreShownIds}
+use Rattle.fsfs_texts.specs.Texts.{End, Whole, Refused, Stopped}
+use Rattle.fsfs_texts.specs.TreeTexts.{TreeText}
+use Rattle.fsfs_texts.specs.FileTexts.{FileText}
+use Rattle.fsfs_texts.specs.declared.look_fault.LookFault.{LookFault}
+use Rattle.fsfs_texts.specs.declared.look_fault.LookFault.TheVariants as faults
+use Rattle.fsfs_texts.proofs.TreeByTree.{trees_by_tree}
+use Rattle.fsfs_texts.proofs.FileByTree.{files_by_tree}
+use Rattle.fsfs_words.specs.declared.tool.Tool.{Tool}
+use Rattle.fsfs_words.specs.declared.tool.Tool.TheVariants.{Look}
+use Rattle.fsfs_top.proofs.ReplyLemmas.{Fits}
+
+abbrev LookFits : Path → Reply → List ℕ → End → Type 0
+LookFits = Fits Look
+
+-- ---- the lines about what isn't there
+
+not_found_line : (path at : Path) (why : LookFault) → IsNotFoundAt path at why → refuses_at (codes "NotFound") at ≡ refuses (line_of Look (fault_from_look path why)) (status_of (fault_from_look path why))
+not_found_line path at (faults.NotFound names) is = ap (refuses_at (codes "NotFound")) is
+not_found_line path at (faults.NotDir names) is = absurd is
+not_found_line path at faults.NotFile is = absurd is
+not_found_line path at (faults.Wrong w) is = absurd is
+
+not_dir_line : (path at : Path) (why : LookFault) → IsNotDirAt path at why → refuses_at (codes "NotDir") at ≡ refuses (line_of Look (fault_from_look path why)) (status_of (fault_from_look path why))
+not_dir_line path at (faults.NotFound names) is = absurd is
+not_dir_line path at (faults.NotDir names) is = ap (refuses_at (codes "NotDir")) is
+not_dir_line path at faults.NotFile is = absurd is
+not_dir_line path at (faults.Wrong w) is = absurd is
+
+not_file_line : (path : Path) → refuses_at (codes "NotFile") path ≡ refuses (line_of Look (fault_from_look path faults.NotFile)) (status_of (fault_from_look path faults.NotFile))
+not_file_line path = refl
+
+delta_line : (path : Path) (rev offset : ℕ) (why : LookFault) → why ≡ faults.Wrong (wrongs.Delta (place_of rev offset))
+    → refuses_look (codes "Delta " ++ decimal rev ++ 32 ∷ decimal offset) 3 ≡ refuses (line_of Look (fault_from_look path why)) (status_of (fault_from_look path why))
+delta_line path rev offset why is = subst (λ (w : LookFault). refuses_look (codes "Delta " ++ decimal rev ++ 32 ∷ decimal offset) 3 ≡ refuses (line_of Look (fault_from_look path w)) (status_of (fault_from_look path w))) (sym is) refl
+
+pub no_rev_line : (tool : Tool) (reply : Revision → Reply) (asked youngest : ℕ) → tool ≡ Look → in_revision reply asked youngest None ≡ refuses (line_of tool (fault.NoRev asked youngest)) 1
+no_rev_line tool reply asked youngest e = ap (λ (k : Tool). refuses (line_of k (fault.NoRev asked youngest)) 1) (sym e)
+
+nothing_of : (text : List ℕ) → text ≡ [] → (rest : List ℕ) × ([] ≡ text ++ rest)
+nothing_of text e = ([], sym e ∙ sym (append-nil text))
+
+-- ---- a tree
+
+tree_fits : (shown : Path → List ℕ) (path : Path) (tree : FinMap path_cmp Node) (found : Found) (text : List ℕ) (end : End) → IsTreeOf shown path tree found text end → LookFits path (tree_reply shown path tree found) text end
+tree_fits shown path tree (Stands node) text Whole is = ap prints (sym is)
+tree_fits shown path tree (Stands node) text (Refused why) is = absurd is
+tree_fits shown path tree (Stands node) text Stopped is = is
+tree_fits shown path tree (Lacking at) text Whole is = absurd is
+tree_fits shown path tree (Lacking at) text (Refused why) is = (is.0, not_found_line path at why is.1)
+tree_fits shown path tree (Lacking at) text Stopped is = nothing_of text is
+tree_fits shown path tree (Blocked at) text Whole is = absurd is
+tree_fits shown path tree (Blocked at) text (Refused why) is = (is.0, not_dir_line path at why is.1)
+tree_fits shown path tree (Blocked at) text Stopped is = nothing_of text is
+
+pub tree_is_by_tree : (files : Files) (h : List Revision) (s : StandsFor files h) (rev : ℕ) (r : Revision) (path : Path) (ids : Bool) (shown : Path → List ℕ) → slice_get h rev ≡ Some r → AreShownIds (rev_bytes s.shard_size files) rev ids shown
+    → (text : List ℕ) (end : End) → TreeText (rev_bytes s.shard_size files) rev path ids text end → LookFits path (tree_reply shown path r.tree (found_at (get r.tree) path)) text end
+tree_is_by_tree files h s rev r path ids shown there are text end is =
+    tree_fits shown path r.tree (found_at (get r.tree) path) text end
+    (trees_by_tree (rev_bytes s.shard_size files) rev r.tree path ids shown (s.history.each rev r there).tree are text end is)
+
+-- ---- the text of a file
+
+node_fits : (path : Path) (kind : Kind) (content : Content) (text : List ℕ) (end : End) → IsContent kind content text end → LookFits path (node_reply path kind content) text end
+node_fits path Dir content text Whole is = absurd is
+node_fits path Dir content text (Refused why) is = (is.0, subst (λ (w : LookFault). refuses_at (codes "NotFile") path ≡ refuses (line_of Look (fault_from_look path w)) (status_of (fault_from_look path w))) (sym is.1) (not_file_line path))
+node_fits path Dir content text Stopped is = nothing_of text is
+node_fits path File (Bytes bytes) text Whole is = ap prints (sym is)
+node_fits path File (Bytes bytes) text (Refused why) is = absurd is
+node_fits path File (Bytes bytes) text Stopped is = is
+node_fits path File (Closed rev offset) text Whole is = absurd is
+node_fits path File (Closed rev offset) text (Refused why) is = (is.0, delta_line path rev offset why is.1)
+node_fits path File (Closed rev offset) text Stopped is = nothing_of text is
+
+file_fits : (path : Path) (found : Found) (text : List ℕ) (end : End) → IsFileOf path found text end → LookFits path (text_reply path found) text end
+file_fits path (Stands node) text end is = node_fits path node.kind node.text text end is
+file_fits path (Lacking at) text Whole is = absurd is
+file_fits path (Lacking at) text (Refused why) is = (is.0, not_found_line path at why is.1)
+file_fits path (Lacking at) text Stopped is = nothing_of text is
+file_fits path (Blocked at) text Whole is = absurd is
+file_fits path (Blocked at) text (Refused why) is = (is.0, not_dir_line path at why is.1)
+file_fits path (Blocked at) text Stopped is = nothing_of text is
+
+pub file_is_by_tree : (files : Files) (h : List Revision) (s : StandsFor files h) (rev : ℕ) (r : Revision) (path : Path) → slice_get h rev ≡ Some r
+    → (text : List ℕ) (end : End) → FileText (rev_bytes s.shard_size files) rev path text end → LookFits path (text_reply path (found_at (get r.tree) path)) text end
+file_is_by_tree files h s rev r path there text end is =
+    file_fits path (found_at (get r.tree) path) text end (files_by_tree (rev_bytes s.shard_size files) rev (get r.tree) path (s.history.each rev r there).tree text end is)
