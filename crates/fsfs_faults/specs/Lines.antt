@@ -1,0 +1,126 @@
+-- The line that tells of a fault on the error output, and the status.
+use Rattle.std.specs.Prelude.{ℕ, List, [], ◌∷◌, ◌++◌, codes, decimal}
+use Rattle.hex.specs.Hex.{encode_lower}
+use Rattle.fsfs_base.specs.Paths.{path_text}
+use Rattle.fsfs_base.specs.declared.bad_path.PathFault.{PathFault}
+use Rattle.fsfs_base.specs.declared.bad_path.PathFault.TheVariants.{NotAbsolute, PathTooLong, TooDeep, EmptyName, Control, NameTooLong, Dot}
+use Rattle.fsfs_layout.specs.Names.{small_name}
+use Rattle.fsfs_repo.specs.declared.place.DiskPlace.{DiskPlace}
+use Rattle.fsfs_repo.specs.declared.place.DiskPlace.TheVariants.{OpenFirm, OpenRead, Read, CreatePut, CreateFirm, CreateRename, CreateLast}
+use Rattle.fsfs_revision.specs.declared.damage.RevOffset.{RevOffset}
+use Rattle.fsfs_revision.specs.declared.damage.What.{What}
+use Rattle.fsfs_revision.specs.declared.damage.What.TheVariants as damaged
+use Rattle.fsfs_shows.specs.declared.wrong.RepWhat.{RepWhat}
+use Rattle.fsfs_shows.specs.declared.wrong.RepWhat.TheVariants as rep
+use Rattle.fsfs_words.specs.Commands.{tool_name}
+use Rattle.fsfs_words.specs.declared.tool.Tool.{Tool}
+use Rattle.fsfs_faults.specs.declared.fault.Fault.{Fault}
+use Rattle.fsfs_faults.specs.declared.fault.Fault.TheVariants.{Usage, BadPath, NotFound, NotDir, NotFile, NoRev, AlreadyRepo, NotRepo, OtherFormat, Linear, Small, Corrupt, BadRep, Delta, MountFault, DiskFault, WriteFault, Memory}
+
+abbrev pub place_words : DiskPlace → List ℕ
+place_words OpenFirm = codes "OpenFirm"
+place_words OpenRead = codes "OpenRead"
+place_words Read = codes "Read"
+place_words CreatePut = codes "CreatePut"
+place_words CreateFirm = codes "CreateFirm"
+place_words CreateRename = codes "CreateRename"
+place_words CreateLast = codes "CreateLast"
+
+-- the name of a fault, with the place of a disk's fault; a damaged representation is told as a damaged revision is
+abbrev pub fault_name : Fault → List ℕ
+fault_name Usage = codes "Usage"
+fault_name (BadPath bad) = codes "BadPath"
+fault_name (NotFound path) = codes "NotFound"
+fault_name (NotDir path) = codes "NotDir"
+fault_name (NotFile path) = codes "NotFile"
+fault_name (NoRev asked youngest) = codes "NoRev"
+fault_name AlreadyRepo = codes "AlreadyRepo"
+fault_name NotRepo = codes "NotRepo"
+fault_name (OtherFormat number) = codes "OtherFormat"
+fault_name Linear = codes "Linear"
+fault_name (Small small) = codes "Small"
+fault_name (Corrupt damage) = codes "Corrupt"
+fault_name (BadRep damage) = codes "Corrupt"
+fault_name (Delta at) = codes "Delta"
+fault_name MountFault = codes "MountFault"
+fault_name (DiskFault place) = codes "DiskFault " ++ place_words place
+fault_name WriteFault = codes "WriteFault"
+fault_name Memory = codes "Memory"
+
+abbrev pub what_name : What → List ℕ
+what_name damaged.Trailer = codes "Trailer"
+what_name damaged.NodeRev = codes "NodeRev"
+what_name damaged.PlaceOrder = codes "PlaceOrder"
+what_name damaged.OtherId = codes "OtherId"
+what_name damaged.EntryKind = codes "EntryKind"
+what_name damaged.Header = codes "Header"
+what_name damaged.Missing = codes "Missing"
+
+abbrev pub why_name : PathFault → List ℕ
+why_name NotAbsolute = codes "NotAbsolute"
+why_name PathTooLong = codes "PathTooLong"
+why_name TooDeep = codes "TooDeep"
+why_name EmptyName = codes "EmptyName"
+why_name Control = codes "Control"
+why_name NameTooLong = codes "NameTooLong"
+why_name Dot = codes "Dot"
+
+-- a revision and an offset, a space before each
+abbrev pub at_values : RevOffset → List ℕ
+at_values at = (32 ∷ decimal at.rev) ++ 32 ∷ decimal at.offset
+
+-- what is damaged in a representation, with what is kept and what was found, a space before each
+abbrev pub rep_what_values : RepWhat → List ℕ
+rep_what_values rep.Header = codes " Header"
+rep_what_values rep.EndRep = codes " EndRep"
+rep_what_values (rep.Size kept found) = codes " Size" ++ ((32 ∷ decimal kept) ++ 32 ∷ decimal found)
+rep_what_values (rep.Md5 kept found) = codes " Md5" ++ (32 ∷ encode_lower kept.bytes) ++ (32 ∷ encode_lower found.bytes)
+rep_what_values (rep.Sha1 kept found) = codes " Sha1" ++ (32 ∷ encode_lower kept.bytes) ++ (32 ∷ encode_lower found.bytes)
+rep_what_values rep.Hash = codes " Hash"
+rep_what_values rep.BadName = codes " BadName"
+rep_what_values rep.EntryValue = codes " EntryValue"
+
+-- its values, a space before each
+abbrev pub fault_values : Fault → List ℕ
+fault_values Usage = []
+fault_values (BadPath bad) = (32 ∷ decimal bad.at) ++ codes " " ++ why_name bad.why
+fault_values (NotFound path) = 32 ∷ path_text path
+fault_values (NotDir path) = 32 ∷ path_text path
+fault_values (NotFile path) = 32 ∷ path_text path
+fault_values (NoRev asked youngest) = (32 ∷ decimal asked) ++ 32 ∷ decimal youngest
+fault_values AlreadyRepo = []
+fault_values NotRepo = []
+fault_values (OtherFormat number) = 32 ∷ decimal number
+fault_values Linear = []
+fault_values (Small small) = codes " " ++ small_name small.file ++ 32 ∷ decimal small.at
+fault_values (Corrupt damage) = at_values damage.at ++ codes " " ++ what_name damage.what
+fault_values (BadRep damage) = at_values damage.at ++ rep_what_values damage.what
+fault_values (Delta at) = at_values at
+fault_values MountFault = []
+fault_values (DiskFault place) = []
+fault_values WriteFault = []
+fault_values Memory = []
+
+-- the line about a fault on the error output
+abbrev pub line_of : Tool → Fault → List ℕ
+line_of tool fault = tool_name tool ++ codes ": " ++ fault_name fault ++ fault_values fault ++ codes "\n"
+
+abbrev pub status_of : Fault → ℕ
+status_of (NotFound path) = 1
+status_of (NotDir path) = 1
+status_of (NotFile path) = 1
+status_of (NoRev asked youngest) = 1
+status_of AlreadyRepo = 1
+status_of NotRepo = 1
+status_of Usage = 2
+status_of (BadPath bad) = 2
+status_of (Corrupt damage) = 3
+status_of (BadRep damage) = 3
+status_of (Delta at) = 3
+status_of (Small small) = 3
+status_of (OtherFormat number) = 3
+status_of Linear = 3
+status_of MountFault = 4
+status_of (DiskFault place) = 4
+status_of WriteFault = 4
+status_of Memory = 5

@@ -1,0 +1,11 @@
+//! Why a command didn't do what its words say: the fault, its words, its status, and its line.
+#![tactic(auto)]
+
+mod fault;
+mod line;
+mod output;
+
+pub use fault::Fault;
+pub use fsfs_words::Tool;
+pub use line::{fault_text, status, what_text};
+pub use output::print_fault;
