@@ -2,12 +2,12 @@
 ghost use Rattle.std.specs.Prelude.{◌≡◌, ◌≤◌, ◌∷◌, ◌++◌, length, decimal, codes};
 ghost use Rattle.hex.specs.Hex.{encode_lower, lower_digits};
 ghost use Rattle.std.specs.Prelude.{◌<◌, slice_index};
-ghost use Rattle.fsfs_faults.specs.Lines.{fault_name, what_name, why_name, at_values, rep_what_values, status_of};
+ghost use Rattle.fsfs_faults.specs.Lines.{place_words, fault_name, what_name, why_name, at_values, rep_what_values, status_of};
 ghost use Rattle.fsfs_faults.specs.Pieces.{fixed_values, head_of};
 
 use crate::fault::Fault;
 use arrayvec::ArrayString;
-use fsfs_base::PathFault;
+use fsfs_base::{HexDigest, PathFault};
 use fsfs_layout::names::small_file;
 use fsfs_repo::DiskPlace;
 use fsfs_revision::{RevOffset, What};
@@ -45,7 +45,7 @@ pub fn fault_text(fault: &Fault) -> &'static str
 
 // The name of a disk's fault, with its place.
 fn disk_fault_text(place: DiskPlace) -> &'static str
-    ensures { result.now ≡ fault_name (DiskFault place) }
+    ensures { result.now ≡ codes "DiskFault " ++ place_words place }
 {
     match place {
         DiskPlace::OpenFirm => "DiskFault OpenFirm",
@@ -138,6 +138,15 @@ fn hex_text(bytes: &[u8]) -> ArrayString<41>
     text
 }
 
+// A space, and the digits of a digest.
+fn digest_text<const N: usize>(digest: &HexDigest<N>) -> ArrayString<41>
+    requires { N ≤ 20 }
+    ensures { result.bytes ≡ 32 ∷ encode_lower digest.now.bytes }
+{
+    let bytes = digest.bytes;
+    hex_text(&bytes)
+}
+
 // What is damaged in a representation, with its values, a space before each.
 fn rep_what_text(what: &RepWhat) -> ArrayString<96>
     ensures { result.bytes ≡ rep_what_values what.now }
@@ -152,13 +161,13 @@ fn rep_what_text(what: &RepWhat) -> ArrayString<96>
         }
         RepWhat::Md5 { kept, found } => {
             text.push_str(" Md5");
-            text.push_str(hex_text(kept.bytes.as_slice()).as_str());
-            text.push_str(hex_text(found.bytes.as_slice()).as_str());
+            text.push_str(digest_text(kept).as_str());
+            text.push_str(digest_text(found).as_str());
         }
         RepWhat::Sha1 { kept, found } => {
             text.push_str(" Sha1");
-            text.push_str(hex_text(kept.bytes.as_slice()).as_str());
-            text.push_str(hex_text(found.bytes.as_slice()).as_str());
+            text.push_str(digest_text(kept).as_str());
+            text.push_str(digest_text(found).as_str());
         }
         RepWhat::Hash => text.push_str(" Hash"),
         RepWhat::BadName => text.push_str(" BadName"),

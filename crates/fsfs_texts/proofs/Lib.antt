@@ -1,0 +1,9 @@
+pub mod FoundAt
+pub mod FileByTree
+pub mod OneIdText
+pub mod EntryNames
+pub mod SortedEntries
+pub mod Blocks
+pub mod TreeByTree
+pub mod OneText
+pub mod Prefixes

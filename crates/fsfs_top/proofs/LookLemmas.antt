@@ -37,7 +37,7 @@ use Rattle.fsfs_top.specs.declared.look.RevisionLook.{RevisionLook}
 use Rattle.fsfs_top.specs.declared.look.Printed.{Printed}
 use Rattle.fsfs_top.specs.declared.look.Printed.TheVariants.{Tree, Text}
 use Rattle.fsfs_texts.specs.Agreeing.{HasOneText, Agree}
-use Rattle.fsfs_texts.proofs.OneText.{trees_have_one_text, files_have_one_text}
+use Rattle.fsfs_texts.proofs.OneText.{tree_one, file_one}
 
 -- ---- what one opening says, every opening says
 
@@ -142,8 +142,8 @@ look_refused look m why d = record {
 -- ---- a revision that was looked at
 
 one_text : (printed : Printed) (look : Look) (rev : ℕ) (path : Path) → HasOneText (TextOf printed look rev path)
-one_text (Tree ids) look rev path = trees_have_one_text look rev path ids
-one_text Text look rev path = files_have_one_text look rev path
+one_text (Tree ids) look rev path = tree_one look rev path ids
+one_text Text look rev path = file_one look rev path
 
 whole_or_refused : (a b : List ℕ) (why : LookFault) → Agree a Whole b (Refused why) → ⊥
 whole_or_refused a b why (inl (same, e)) = absurd cc

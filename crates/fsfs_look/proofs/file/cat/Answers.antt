@@ -2,11 +2,8 @@ use Rattle.std.proofs.Common.{◌≡◌, ◌≤◌, List, ℕ, Some, Ok, Err, []
 use Rattle.std.proofs.lemmas.Result.{err_from_is_err_and}
 use Rattle.fsfs_rep.specs.Frames.{rev_of}
 use Rattle.fsfs_rep.proofs.WholeLemmas.{keeps_trans}
-use Rattle.fsfs_revision.specs.declared.damage.RevOffset.{RevOffset}
-use Rattle.fsfs_dag.specs.Faults.{of_rep}
 use Rattle.fsfs_dag.specs.Views.{home_of}
 use Rattle.fsfs_dag.proofs.Reps.{rep_le}
-use Rattle.fsfs_look.specs.Errors.{of_read}
 use Rattle.fsfs_texts.specs.FileTexts.{MetFileText, FileText}
 use Rattle.fsfs_look.specs.Written.{Writes}
 use Rattle.fsfs_look.specs.declared.look_error.LookError.{LookError}
@@ -58,8 +55,7 @@ returns-clause-told g c = λ look knows.
     let home : rev_of rep ≤ (home_of v).rev = rep_le (home_of v) rep.rev rep.offset c.in-Some.ensures.before in
     let upto : rev_of rep ≤ c.args.rev = omega (arith, home, stands_within look c.args.rev c.args.path.now v met) in
     let known : told (rev_of rep) ≡ Some (look (rev_of rep)) = c.in_ok-found.ensures.kept.revs (rev_of rep) (look (rev_of rep)) (knows (rev_of rep) upto) in
-    let is = c.of_rep.ensures ∙ ap (λ (at : RevOffset). of_read (of_rep at c.in-Err.fault)) c.rep_place.ensures in
-    subst (λ (e : LookError). Writes (FileText look c.args.rev c.args.path.now) (g.S.Sink.written c.args.sink.now) (g.S.Sink.written c.args.sink.now) (Err e)) (sym is)
+    subst (λ (e : LookError). Writes (FileText look c.args.rev c.args.path.now) (g.S.Sink.written c.args.sink.now) (g.S.Sink.written c.args.sink.now) (Err e)) (sym c.of_fault.ensures)
     (file_wrong look c.args.rev c.args.path.now v met c.in-File.is rep c.in-Some.ensures.value told known (g.S.Sink.written c.args.sink.now) c.in-Err.fault c.in-Err.ensures.bytes c.in-Err.ensures.refused)
 
 pub returns-clause-kept : goal.returns-clause-kept

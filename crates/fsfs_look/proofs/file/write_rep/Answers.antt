@@ -4,11 +4,8 @@ use Rattle.std.proofs.lemmas.Result.{err_from_is_err_and}
 use Rattle.fsfs_disk.specs.Streams.{Adds}
 use Rattle.fsfs_disk.proofs.StreamLemmas.{adds_then}
 use Rattle.fsfs_noderev.specs.declared.rep.Rep.{Rep}
-use Rattle.fsfs_revision.specs.declared.damage.RevOffset.{RevOffset}
 use Rattle.fsfs_rep.specs.Frames.{text_of}
 use Rattle.fsfs_rep.proofs.WholeLemmas.{keeps_trans, told_later, fault_for, bytes_more}
-use Rattle.fsfs_dag.specs.Faults.{of_rep}
-use Rattle.fsfs_look.specs.Errors.{of_read}
 use Rattle.fsfs_look.proofs.FileLemmas.{whole_fails, front_of, front_more}
 use Rattle.fsfs_look.proofs.ProgressLemmas.{adds_nothing}
 use Rattle.fsfs_look.proofs.file.write_rep.Goals as goal
@@ -18,8 +15,7 @@ returns-in-Err-next-clause-told g c = λ bytes e whole.
     let inv = c.pieces.invariant in
     let told = told_later _ _ _ _ (Ok bytes) inv.kept inv.rep e in
     let fault = fault_for _ _ bytes _ inv.rep (c.in-Err-next.ensures.bytes bytes told (inv.read bytes e).0) in
-    let is = c.of_rep-in-Err-next.ensures ∙ ap (λ (at : RevOffset). of_read (of_rep at c.in-Err-next.fault)) c.rep_place-at.ensures in
-    rw is
+    rw c.of_fault-in-Err-next.ensures
     (whole_fails c.args.rep.now bytes whole (g.S.Sink.written c.args.sink.now) (g.S.Sink.written c.pieces.sink) c.in-Err-next.fault fault
     (front_of (text_of c.args.rep.now bytes) c.pieces.reader.done (g.S.Sink.written c.args.sink.now) (g.S.Sink.written c.pieces.sink) (inv.read bytes e).1))
 
@@ -68,8 +64,7 @@ returns-in-Err-finish-clause-told g c = λ bytes e whole.
     let inv = c.pieces.invariant in
     let told = told_later _ _ _ _ (Ok bytes) inv.kept inv.rep e in
     let fault = fault_for _ _ bytes _ inv.rep (c.in-Err-finish.ensures.bytes bytes told (inv.read bytes e).0) in
-    let is = c.of_rep-in-Err-finish.ensures ∙ ap (λ (at : RevOffset). of_read (of_rep at c.in-Err-finish.fault)) c.rep_place-at.ensures in
-    rw is
+    rw c.of_fault-in-Err-finish.ensures
     (whole_fails c.args.rep.now bytes whole (g.S.Sink.written c.args.sink.now) (g.S.Sink.written c.pieces.sink) c.in-Err-finish.fault fault
     (front_of (text_of c.args.rep.now bytes) c.pieces.reader.done (g.S.Sink.written c.args.sink.now) (g.S.Sink.written c.pieces.sink) (inv.read bytes e).1))
 

@@ -1,4 +1,4 @@
-use Rattle.std.proofs.Common.{subst, sym, rules}
+use Rattle.std.proofs.Common.{◌<◌, subst, sym, rules}
 use Rattle.fsfs_repo.specs.Opening.{IsFsfs}
 use Rattle.fsfs_repo.specs.OpenFaults.{texts_of}
 use Rattle.fsfs_layout.specs.Formats.{IsFormat}
@@ -41,3 +41,8 @@ returns-in-Err-clause-decided c =
     let is : IsFsfs (texts_of c.args.files.now) c.in-Some.format.items = search rules in
     decides_unread (texts_of c.args.files.now) c.in-Some.format.items c.in-Err.fault
     (record { is = is; only = λ g w. let e = c.in-Err.ensures.only g (subst (λ t. IsFormat t g) (sym c.deref.ensures.value) w) in cc })
+
+pub returns-in-Ok-clause-shards : goal.returns-in-Ok-clause-shards
+returns-in-Ok-clause-shards c =
+    subst (λ n. 0 < n) (sym c.in-Ok.ensures.opened.shards)
+    (shards_above c.deref.result.now c.in-Ok-Sharded.shard_size (subst (IsFormat c.deref.result.now) c.in-Ok-Sharded.field-0-is c.in-Ok-Sharded.ensures.found))
