@@ -74,10 +74,11 @@ fn a_repository_stays(rt: HostRuntime) -> Result<(), Fail> {
 fn a_failing_error_output_changes_no_status(rt: HostRuntime) -> Result<(), Fail> {
     let alloc = rt.alloc();
     let mut host = empty_host(alloc)?;
+    let out = MemSink::new(alloc);
     let err = MemSink::with_faults(alloc, vec![in alloc; 2]?);
-    let ran = run_into(alloc, Tool::Admin, &mut host, &["create"], err)?;
+    let ran = run_into(alloc, Tool::Admin, &mut host, &["create"], out, err)?;
     assert_eq!(rt; ran.status, 2);
-    assert_eq!(rt; ran.err.bytes(), b"svnadmin".as_slice());
+    assert_eq!(rt; ran.err.bytes(), b"svnadmin: Usage".as_slice());
     Ok(())
 }
 

@@ -6,6 +6,18 @@ mod commands;
 #[cfg(test)]
 mod create;
 #[cfg(test)]
+mod damage;
+#[cfg(test)]
+mod failing;
+#[cfg(test)]
 mod look;
 #[cfg(test)]
-mod tree;
+mod packed;
+#[cfg(test)]
+mod refusals;
+#[cfg(test)]
+mod repositories;
+#[cfg(test)]
+mod revisions;
+#[cfg(test)]
+mod trees;

@@ -1,58 +1,23 @@
 // The youngest revision of a repository, its identifier, and repositories that are not opened.
-use crate::commands::{Ran, empty_host, run};
-use fsfs_disk::{Disk, Name};
-use fsfs_memdisk::{MemDisk, MemHost};
-use fsfs_top::Tool;
-use std::alloc::{AllocError, Global};
+use crate::commands::{Answer, check, empty_host};
+use crate::repositories::{created, with_files};
 use std::test::Fail;
 
-// A host with a created repository at the path `R`.
-pub fn created(alloc: Global) -> Result<MemHost, AllocError> {
-    let mut host = empty_host(alloc)?;
-    run(
-        alloc,
-        Tool::Admin,
-        &mut host,
-        &["create", "R", "--shard", "2"],
-    )?;
-    Ok(host)
-}
-
-fn youngest(alloc: Global, host: &mut MemHost) -> Result<Ran, AllocError> {
-    run(alloc, Tool::Look, host, &["youngest", "R"])
-}
+const NEW: [Answer<'static>; 2] = [
+    (&["youngest", "R"], 0, "0\n", ""),
+    (
+        &["uuid", "R"],
+        0,
+        "00000000-0000-4000-8000-000000000000\n",
+        "",
+    ),
+];
 
 #[test]
-fn youngest_of_a_new_repository(rt: HostRuntime) -> Result<(), Fail> {
+fn the_youngest_revision_and_the_identifier(rt: HostRuntime) -> Result<(), Fail> {
     let alloc = rt.alloc();
     let mut host = created(alloc)?;
-    let ran = youngest(alloc, &mut host)?;
-    assert_eq!(rt; ran.status, 0);
-    assert_eq!(rt; ran.out.bytes(), b"0\n".as_slice());
-    assert_eq!(rt; ran.err.bytes(), b"".as_slice());
-    Ok(())
-}
-
-#[test]
-fn uuid_of_a_new_repository(rt: HostRuntime) -> Result<(), Fail> {
-    let alloc = rt.alloc();
-    let mut host = created(alloc)?;
-    let ran = run(alloc, Tool::Look, &mut host, &["uuid", "R"])?;
-    assert_eq!(rt; ran.status, 0);
-    assert_eq!(rt;
-        ran.out.bytes(),
-        b"00000000-0000-4000-8000-000000000000\n".as_slice()
-    );
-    assert_eq!(rt; ran.err.bytes(), b"".as_slice());
-    Ok(())
-}
-
-// The created repository's disk with one file put anew.
-pub fn with_file(alloc: Global, name: &Name, bytes: &[u8]) -> Result<MemDisk, Fail> {
-    let mut host = created(alloc)?;
-    let mut disk = host.take_disk("R").ok_or("no disk")?;
-    disk.put(name, bytes)?;
-    Ok(disk)
+    check(&rt, alloc, &mut host, &NEW)
 }
 
 // A file that is put anew, and what a look answers then.
@@ -108,28 +73,37 @@ const OTHERS: [(&str, &[u8], u8, &str); 14] = [
     ),
 ];
 
+// Looks of each kind.
+const LOOKS: [&[&str]; 5] = [
+    &["youngest", "R"],
+    &["uuid", "R"],
+    &["tree", "R"],
+    &["tree", "-r", "9", "--show-ids", "R", "/q"],
+    &["cat", "R", "/a"],
+];
+
 #[test]
 fn other_repositories(rt: HostRuntime) -> Result<(), Fail> {
     let alloc = rt.alloc();
-    for (name, bytes, status, line) in OTHERS {
-        assert!(rt; name.len() <= 128);
-        let disk = with_file(alloc, &Name::new(name), bytes)?;
-        let mut host = MemHost::new(alloc);
-        host.add_disk("R", disk)?;
-        let ran = youngest(alloc, &mut host)?;
-        assert_eq!(rt; ran.status, status);
-        assert_eq!(rt; ran.out.bytes(), b"".as_slice());
-        assert_eq!(rt; ran.err.bytes(), line.as_bytes());
+    for words in LOOKS {
+        for (name, bytes, status, line) in OTHERS {
+            let mut host = with_files(alloc, &[(name, bytes)], &[])?;
+            check(&rt, alloc, &mut host, &[(words, status, "", line)])?;
+        }
+        let mut host = with_files(alloc, &[], &["db/format"])?;
+        check(
+            &rt,
+            alloc,
+            &mut host,
+            &[(words, 1, "", "svnlook: NotRepo\n")],
+        )?;
+        let mut host = empty_host(alloc)?;
+        check(
+            &rt,
+            alloc,
+            &mut host,
+            &[(words, 1, "", "svnlook: NotRepo\n")],
+        )?;
     }
-    Ok(())
-}
-
-#[test]
-fn no_repository(rt: HostRuntime) -> Result<(), Fail> {
-    let alloc = rt.alloc();
-    let mut host = empty_host(alloc)?;
-    let ran = youngest(alloc, &mut host)?;
-    assert_eq!(rt; ran.status, 1);
-    assert_eq!(rt; ran.err.bytes(), b"svnlook: NotRepo\n".as_slice());
     Ok(())
 }
