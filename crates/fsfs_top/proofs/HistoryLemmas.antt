@@ -19,7 +19,7 @@ said_text : {X : Type 0} (files : Files) (name : List ℕ) (G : List ℕ → X �
 said_text files name G x w = subst (λ (t : List ℕ). G t x) (sym (ap (λ (o : Option (List ℕ)). unwrap_or o []) w.1)) w.2
 
 -- they open, as they say
-pub opened_of : (files : Files) (h : List Revision) → StandsFor files h → Opened
+abbrev pub opened_of : (files : Files) (h : List Revision) → StandsFor files h → Opened
 opened_of files h s = record {
   uuid = s.small.uuid.0;
   shard_size = s.shard_size;

@@ -1,5 +1,6 @@
 pub mod CommandLemmas
 pub mod LookLemmas
+pub mod LookingLemmas
 pub mod PathWords
 pub mod AskLemmas
 pub mod HistoryLemmas

@@ -75,11 +75,11 @@ Fits tool path reply text Stopped = IsFront text reply.output
 -- ---- where the outside failed
 
 module _ (status : ℕ) (mount disk write told : Type 0) (tool : Tool) (old new err_old err_new : Option (List ℕ)) where
-  Given : Reply → Type 0
+  abbrev pub Given : Reply → Type 0
   Given = Gives status mount disk write told old new err_old err_new
 
   -- what is known of the status and of the error output
-  Ended : Option Fault → Type 0
+  abbrev pub Ended : Option Fault → Type 0
   Ended fault = (status ≡ answer_of fault) × Tells err_old err_new told tool fault
 
   moved : (f g : Option Fault) → f ≡ g → Ended f → Ended g

@@ -61,7 +61,7 @@ new_identifier m date new = uuid_is_line new.identifier (small_texts m).uuid new
 
 module _ (mount disk write told : Type 0) (tool : Tool) (ws : List (List ℕ)) (clock : Option ℕ) (dice : Option (List ℕ)) (at_old at_new : List ℕ → Option Trace) (old new err_old err_new : Option (List ℕ)) (status : ℕ) (fault : Option Fault)
     (did : Did mount disk write tool ws clock dice at_old at_new old new fault) (ends : (status ≡ answer_of fault) × Tells err_old err_new told tool fault) where
-  Given : Reply → Type 0
+  abbrev pub Given : Reply → Type 0
   Given = Gives status mount disk write told old new err_old err_new
 
   -- what a look did where the disk tells

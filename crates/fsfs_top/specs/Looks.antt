@@ -77,7 +77,14 @@ pub record LacksRevision (look : RevisionLook) (o : Opened) (rev : ℕ) : Type 0
   pub named : look.revision ≡ Some rev
   pub above : o.youngest < rev
 
--- the fault of a look that ended so, or none; want of memory may come as what is refused is put into words
+-- the fault of a look at this path that failed so; want of memory may come as what is refused is put into words
+abbrev pub IsFaultAt : Path → LookError → Fault → Type 0
+IsFaultAt path (errors.Fault why) fault = (fault ≡ fault_from_look path why) ⊎ (fault ≡ Memory)
+IsFaultAt path errors.DiskFault fault = fault ≡ DiskFault Read
+IsFaultAt path errors.WriteFault fault = fault ≡ WriteFault
+IsFaultAt path errors.OutOfMemory fault = fault ≡ Memory
+
+-- the same with its cause; none of a look that was done
 abbrev pub IsFaultOf : Type 0 → Type 0 → Path → Result (Unit {0}) LookError → Option Fault → Type 0
 IsFaultOf disk write path (Ok done) fault = fault ≡ None
 IsFaultOf disk write path (Err (errors.Fault why)) fault = (fault ≡ Some (fault_from_look path why)) ⊎ (fault ≡ Some Memory)

@@ -7,7 +7,7 @@ ghost use Rattle.fsfs_faults.specs.declared.fault.Fault.TheVariants as faults;
 ghost use Rattle.fsfs_look.specs.Written.{Writes, HasDiskCause, HasSinkCause};
 ghost use Rattle.fsfs_repo.specs.Opening.{small_texts, IsOpened};
 ghost use Rattle.fsfs_top.specs.Command.{fault_of};
-ghost use Rattle.fsfs_top.specs.Looks.{TextOf, LacksRevision, LooksInto, PrintsLook, LookIsDecided, looked_revision, IsFaultOf};
+ghost use Rattle.fsfs_top.specs.Looks.{TextOf, LacksRevision, LooksInto, PrintsLook, LookIsDecided, looked_revision, IsFaultAt};
 
 use fsfs_base::FsPath;
 use fsfs_book::Book;
@@ -77,7 +77,7 @@ fn print_look<B: Book, O: Sink>(
 
 // The fault of a look at this path that ended so.
 fn fault_at(alloc: Global, path: &FsPath, error: LookError) -> Fault
-    ensures { (disk write : Type 0) → IfErr (Err error) (λ e. IfDisk e disk) → IfErr (Err error) (λ e. IfWrite e write) → IsFaultOf disk write path.now (Err error) (Some result) }
+    ensures { IsFaultAt path.now error result }
 {
     match error {
         LookError::OutOfMemory => Fault::Memory,

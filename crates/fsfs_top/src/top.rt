@@ -81,7 +81,7 @@ fn shown_at<H: Host, O: Sink>(
 
 // The look that an order for a tree is.
 fn look_of_tree(order: TreeOrder<'_>) -> RevisionLook
-    ensures { result ≡ record { printed = Tree order.show_ids; revision = order.revision; path = order.path } }
+    ensures { result ≡ record { printed = Tree order.entry.show_ids; revision = order.entry.revision; path = order.entry.path } }
 {
     let printed = Printed::Tree {
         show_ids: order.show_ids,
@@ -95,7 +95,7 @@ fn look_of_tree(order: TreeOrder<'_>) -> RevisionLook
 
 // The look that an order for a text is.
 fn look_of_cat(order: CatOrder<'_>) -> RevisionLook
-    ensures { result ≡ record { printed = Text; revision = order.revision; path = order.path } }
+    ensures { result ≡ record { printed = Text; revision = order.entry.revision; path = order.entry.path } }
 {
     RevisionLook {
         printed: Printed::Text,
@@ -127,14 +127,8 @@ fn run<H: Host, O: Sink, C: Clock, R: Dice>(
         Order::Create(order) => create_at(alloc, order.repos, order.shard, host, clock, dice),
         Order::Youngest(repos) => shown_at(alloc, Shown::Youngest, repos, host, out),
         Order::Uuid(repos) => shown_at(alloc, Shown::Uuid, repos, host, out),
-        Order::Tree(order) => {
-            let repos = order.repos;
-            look_at(alloc, repos, &look_of_tree(order), host, out)
-        }
-        Order::Cat(order) => {
-            let repos = order.repos;
-            look_at(alloc, repos, &look_of_cat(order), host, out)
-        }
+        Order::Tree(order) => look_at(alloc, order.repos, &look_of_tree(order), host, out),
+        Order::Cat(order) => look_at(alloc, order.repos, &look_of_cat(order), host, out),
     }
 }
 

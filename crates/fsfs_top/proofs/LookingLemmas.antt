@@ -1,0 +1,90 @@
+-- What a look printed and left, as the top call tells it.
+use Rattle.std.proofs.Common.{◌≡◌, ◌≤◌, ℕ, List, ◌⊎◌, inl, inr, refl, sym, ap, subst, ◌∙◌, arith}
+use Rattle.std.specs.Prelude.{Option, Some, None, IfSome, option_map, Result, Ok, Err}
+use Rattle.fsfs_base.specs.Files.{Files}
+use Rattle.fsfs_base.specs.Paths.{Path}
+use Rattle.fsfs_book.specs.Told.{Look, Knows, Telling}
+use Rattle.fsfs_disk.specs.Fault.{Rose}
+use Rattle.fsfs_disk.specs.Trace.{Trace, files_now}
+use Rattle.fsfs_faults.specs.Faults.{fault_from_open}
+use Rattle.fsfs_faults.specs.declared.fault.Fault.{Fault}
+use Rattle.fsfs_fetch.specs.Kept.{HasShortFiles}
+use Rattle.fsfs_fetch.specs.Owned.{TellsAll}
+use Rattle.fsfs_fetch.specs.RevBytes.{floor_in, rev_bytes}
+use Rattle.fsfs_look.specs.Written.{Writes, IfDisk, IfWrite}
+use Rattle.fsfs_look.specs.declared.look_error.LookError.{LookError}
+use Rattle.fsfs_look.specs.declared.look_error.LookError.TheVariants as errors
+use Rattle.fsfs_repo.specs.Opening.{small_texts, IsOpened}
+use Rattle.fsfs_repo.specs.OpenFaults.{OpensBecause}
+use Rattle.fsfs_repo.specs.Deciding.{Decides}
+use Rattle.fsfs_repo.specs.declared.opening.Opened.{Opened}
+use Rattle.fsfs_repo.specs.declared.opening.OpenFault.{OpenFault}
+use Rattle.fsfs_repo.specs.declared.opening.OpenFault.TheVariants as opening
+use Rattle.fsfs_top.specs.Looks.{TextOf, TextIn, looked_revision, IsFaultAt, IsFaultOf, Looked, LooksInto, NotOpened, PrintsLook, OpensAs}
+use Rattle.fsfs_top.specs.declared.look.RevisionLook.{RevisionLook}
+use Rattle.fsfs_top.proofs.LookLemmas.{opened_floor, does_not_open}
+
+-- ---- an opened repository
+
+-- what was written of a book over the disk is of the files
+pub into_writes : (trace : Option Trace) (look : RevisionLook) (o : Opened) (rev : ℕ) (telling : Telling) (old new : Option (List ℕ)) (r : Result (Unit {0}) LookError)
+    → IfSome (option_map files_now trace) (λ m. IsOpened (small_texts m) o)
+    → ((t : Trace) → trace ≡ Some t → floor_in o.shard_size (files_now t) ≡ Ok o.min_unpacked_rev → HasShortFiles (files_now t) → TellsAll o.youngest o.shard_size (files_now t) telling)
+    → rev ≡ looked_revision look o → rev ≤ o.youngest → ((bytes : Look) → Knows telling.revs rev bytes → Writes (TextOf look.printed bytes rev look.path) old new r)
+    → IfSome (option_map files_now trace) (λ m. HasShortFiles m → Writes (TextIn look o m) old new r)
+into_writes None look o rev telling old new r opened tells is le writes = tt
+into_writes (Some t) look o rev telling old new r opened tells is le writes = λ short.
+    let all = tells t refl (opened_floor (files_now t) o opened) short in
+    subst (λ (n : ℕ). Writes (TextOf look.printed (rev_bytes o.shard_size (files_now t)) n look.path) old new r) is
+    (writes (rev_bytes o.shard_size (files_now t)) (λ q below. all.revs q (omega (arith, below, le))))
+
+pub fault_with_cause : (disk write : Type 0) (path : Path) (e : LookError) (fault : Fault) → IsFaultAt path e fault → IfDisk e disk → IfWrite e write → IsFaultOf disk write path (Err e) (Some fault)
+fault_with_cause disk write path (errors.Fault why) fault (inl is) d w = inl (ap (λ (f : Fault). Some f) is)
+fault_with_cause disk write path (errors.Fault why) fault (inr is) d w = inr (ap (λ (f : Fault). Some f) is)
+fault_with_cause disk write path errors.DiskFault fault is d w = (d, ap (λ (f : Fault). Some f) is)
+fault_with_cause disk write path errors.WriteFault fault is d w = (w, ap (λ (f : Fault). Some f) is)
+fault_with_cause disk write path errors.OutOfMemory fault is d w = ap (λ (f : Fault). Some f) is
+
+-- a book's count of faults is that of the disk below it
+pub same_counts : (e : LookError) (before now old new : ℕ) → before ≡ old → now ≡ new → IfDisk e (Rose before now) → IfDisk e (Rose old new)
+same_counts e before now old new p q h = subst (λ (n : ℕ). IfDisk e (Rose n new)) p (subst (λ (n : ℕ). IfDisk e (Rose before n)) q h)
+
+-- ---- as the host counts it
+
+counted_fault : (rose disk write : Type 0) (path : Path) (r : Result (Unit {0}) LookError) (fault : Option Fault) → (rose → disk) → IsFaultOf rose write path r fault → IsFaultOf disk write path r fault
+counted_fault rose disk write path (Ok done) fault counted is = is
+counted_fault rose disk write path (Err (errors.Fault why)) fault counted is = is
+counted_fault rose disk write path (Err errors.DiskFault) fault counted is = (counted is.0, is.1)
+counted_fault rose disk write path (Err errors.WriteFault) fault counted is = is
+counted_fault rose disk write path (Err errors.OutOfMemory) fault counted is = is
+
+pub counted_look : (rose disk write : Type 0) (look : RevisionLook) (o : Opened) (files : Option Files) (old new : Option (List ℕ)) (fault : Option Fault) → (rose → disk) → LooksInto rose write look o files old new fault → LooksInto disk write look o files old new fault
+counted_look rose disk write look o files old new fault counted (inl lacks) = inl lacks
+counted_look rose disk write look o files old new fault counted (inr looked) =
+    inr (record { there = looked.there; result = looked.result; writes = looked.writes; fault_is = counted_fault rose disk write look.path looked.result fault counted looked.fault_is })
+
+-- a look at an opened repository, of the disk as the host had it
+pub look_now : (rose disk write : Type 0) (look : RevisionLook) (o : Opened) (told mid : Option Trace) (old new : Option (List ℕ)) (fault : Option Fault) → option_map files_now mid ≡ option_map files_now told → (rose → disk)
+    → LooksInto rose write look o (option_map files_now mid) old new fault → LooksInto disk write look o (option_map files_now told) old new fault
+look_now rose disk write look o told mid old new fault same counted into =
+    subst (λ (m : Option Files). LooksInto disk write look o m old new fault) same (counted_look rose disk write look o (option_map files_now mid) old new fault counted into)
+
+pub look_printed : (mount disk write : Type 0) (look : RevisionLook) (o : Opened) (told at : Option Trace) (old new : Option (List ℕ)) (fault : Option Fault) → told ≡ at → IfSome told (λ t. IsOpened (small_texts (files_now t)) o)
+    → LooksInto disk write look o (option_map files_now told) old new fault → PrintsLook look mount disk write at old new fault
+look_printed mount disk write look o told at old new fault same opened into = subst (λ (x : Option Trace). PrintsLook look mount disk write x old new fault) same (inr (o, opened, into))
+
+-- ---- a repository that was not opened
+
+counted_cause : (rose disk : Type 0) (told : Option Trace) (why : OpenFault) → (rose → disk) → OpensBecause rose told why → OpensBecause disk told why
+counted_cause rose disk told opening.NotRepo counted h = h
+counted_cause rose disk told (opening.OtherFormat number) counted h = h
+counted_cause rose disk told opening.Linear counted h = h
+counted_cause rose disk told (opening.Small small) counted h = h
+counted_cause rose disk told (opening.DiskFault place) counted h = counted h
+counted_cause rose disk told opening.Memory counted h = h
+
+pub open_refused : (mount disk rose : Type 0) (told at : Option Trace) (old new : Option (List ℕ)) (why : OpenFault) (fault : Fault) → told ≡ at → fault ≡ fault_from_open why → (rose → disk) → new ≡ old → OpensBecause rose told why
+    → IfSome told (λ t. Decides (small_texts (files_now t)) (Err why)) → NotOpened mount disk at old new (Some fault)
+open_refused mount disk rose told at old new why fault same from counted kept because decides =
+    subst (λ (x : Option Trace). NotOpened mount disk x old new (Some fault)) same
+    (inr (why, ap (λ (f : Fault). Some f) from, counted_cause rose disk told why counted because, does_not_open told why decides, kept))
