@@ -5,20 +5,16 @@ use Rattle.std.specs.Str.{bytes_eq}
 use Rattle.clap.specs.Words.{Row}
 use Rattle.fsfs_base.specs.Paths.{Path}
 use Rattle.fsfs_disk.specs.Trace.{Trace}
-use Rattle.fsfs_faults.specs.Faults.{fault_from_words}
 use Rattle.fsfs_faults.specs.declared.fault.Fault.{Fault}
 use Rattle.fsfs_faults.specs.declared.fault.Fault.TheVariants.{Memory}
 use Rattle.fsfs_repo.specs.declared.opening.OpenFault.TheVariants as opening
-use Rattle.fsfs_words.specs.Commands.{verb_named}
 use Rattle.fsfs_words.specs.Words.{Asked, asked, asked_by, taken, create_asked, shard_in, repos_in}
 use Rattle.fsfs_words.specs.Words as said
 use Rattle.fsfs_words.specs.Commands.{create_app}
-use Rattle.fsfs_words.specs.Readings.{Refuses, IsPathGiven, path_word}
+use Rattle.fsfs_words.specs.Readings.{IsPathGiven, path_word}
 use Rattle.fsfs_words.specs.declared.tool.Tool.{Tool}
 use Rattle.fsfs_words.specs.declared.tool.Tool.TheVariants.{Admin, Look, Jobs}
-use Rattle.fsfs_words.specs.declared.verb.Verb.{Verb}
 use Rattle.fsfs_words.specs.declared.verb.Verb.TheVariants as verb
-use Rattle.fsfs_words.specs.declared.fault.WordsFault.{WordsFault}
 use Rattle.fsfs_words.specs.declared.fault.WordsFault.TheVariants as words
 use Rattle.fsfs_top.specs.Command.{asked_shown, AsksCreate, AsksShown, AsksPrinted, AsksLook, Did}
 use Rattle.fsfs_top.specs.Looks.{PrintsShown, PrintsLook, ShownIsDecided, LookIsDecided}

@@ -1,9 +1,9 @@
 -- The texts of looks, as the flat model prints them.
-use Rattle.std.proofs.Common.{◌≡◌, ℕ, Bool, List, [], ◌∷◌, ◌++◌, refl, sym, ap, subst, ◌∙◌, take, append-nil}
-use Rattle.std.specs.Prelude.{Option, Some, None, slice_get, codes, decimal}
+use Rattle.std.proofs.Common.{◌≡◌, ℕ, Bool, List, [], ◌∷◌, ◌++◌, refl, sym, ap, subst, ◌∙◌, append-nil}
+use Rattle.std.specs.Prelude.{Some, None, slice_get, codes, decimal}
 use Rattle.std.specs.FinMap.{FinMap, get}
 use Rattle.fsfs_base.specs.Files.{Files}
-use Rattle.fsfs_base.specs.Paths.{Path, path_cmp, path_text}
+use Rattle.fsfs_base.specs.Paths.{Path, path_cmp}
 use Rattle.fsfs_base.specs.Nodes.{Node, Content, Bytes, Closed}
 use Rattle.fsfs_base.specs.Revisions.{Revision}
 use Rattle.fsfs_base.specs.declared.node.Kind.{Kind}
@@ -11,10 +11,9 @@ use Rattle.fsfs_base.specs.declared.node.Kind.TheVariants.{File, Dir}
 use Rattle.fsfs_faults.specs.Lines.{line_of, status_of}
 use Rattle.fsfs_faults.specs.Faults.{fault_from_look}
 use Rattle.fsfs_faults.specs.declared.fault.Fault.TheVariants as fault
-use Rattle.fsfs_fetch.specs.RevBytes.{rev_bytes, props_bytes}
-use Rattle.fsfs_model.specs.Answers.{Reply, Found, Stands, Lacking, Blocked, found_at, tree_text, tree_reply, node_reply, text_reply, prints, refuses, refuses_at, refuses_look, in_revision}
+use Rattle.fsfs_fetch.specs.RevBytes.{rev_bytes}
+use Rattle.fsfs_model.specs.Answers.{Reply, Found, Stands, Lacking, Blocked, found_at, tree_reply, node_reply, text_reply, prints, refuses, refuses_at, refuses_look, in_revision}
 use Rattle.fsfs_revision.specs.Damages.{place_of}
-use Rattle.fsfs_shows.specs.Shown.{Shows}
 use Rattle.fsfs_shows.specs.declared.wrong.Wrong.TheVariants as wrongs
 use Rattle.fsfs_stands.specs.Files.{StandsFor}
 use Rattle.fsfs_texts.specs.ByTree.{IsTreeOf, IsFileOf, IsContent, IsNotFoundAt, IsNotDirAt, AreShownIds}

@@ -1,6 +1,6 @@
 -- What the files decide of a look, as the top call tells it.
-use Rattle.std.proofs.Common.{◌≡◌, ◌≤◌, ◌<◌, ◌^◌, ℕ, List, [], ◌∷◌, ◌++◌, ◌⊎◌, length, take, inl, inr, refl, sym, ap, subst, ◌∙◌, arith}
-use Rattle.std.specs.Prelude.{Option, Some, None, IfSome, option_map, unwrap_or, Result, Ok, Err, codes, decimal}
+use Rattle.std.proofs.Common.{◌≡◌, ◌≤◌, ℕ, List, [], ◌∷◌, ◌⊎◌, length, inl, inr, refl, sym, ap, subst, ◌∙◌, arith}
+use Rattle.std.specs.Prelude.{Option, Some, None, IfSome, option_map, unwrap_or, Result, Ok, Err}
 use Rattle.std.proofs.lemmas.List.{take_all, length-append}
 use Rattle.std.proofs.lemmas.Fmt.{length-decimal-le}
 use Rattle.fsfs_text.proofs.Readers.{all_again, ok_is}
@@ -12,8 +12,7 @@ use Rattle.fsfs_book.specs.Told.{Look}
 use Rattle.fsfs_disk.specs.Trace.{Trace, files_now}
 use Rattle.fsfs_faults.specs.Faults.{fault_from_open, fault_from_look}
 use Rattle.fsfs_faults.specs.declared.fault.Fault.{Fault}
-use Rattle.fsfs_faults.specs.declared.fault.Fault.TheVariants.{NoRev, MountFault, DiskFault, WriteFault, Memory}
-use Rattle.fsfs_fetch.specs.Kept.{HasShortFiles}
+use Rattle.fsfs_faults.specs.declared.fault.Fault.TheVariants.{NoRev}
 use Rattle.fsfs_fetch.specs.RevBytes.{floor_of, floor_in, text_in, rev_bytes}
 use Rattle.fsfs_fetch.proofs.FloorLemmas.{floor_ok}
 use Rattle.fsfs_layout.specs.Small.{IsRevLine}
@@ -32,12 +31,13 @@ use Rattle.fsfs_repo.specs.declared.opening.OpenFault.TheVariants as opening
 use Rattle.fsfs_repo.specs.declared.place.DiskPlace.TheVariants.{Read}
 use Rattle.fsfs_texts.specs.Texts.{End, Whole, Refused}
 use Rattle.fsfs_texts.specs.declared.look_fault.LookFault.{LookFault}
-use Rattle.fsfs_top.specs.Looks.{TextOf, TextIn, looked_revision, LacksRevision, IsFaultOf, Looked, LooksInto, DoesNotOpen, IsOutside, Agrees, DecidesOpening, DecidesShown, DecidesLook, ShownIsDecided, LookIsDecided}
+use Rattle.fsfs_top.specs.Looks.{TextOf, TextIn, looked_revision, LacksRevision, IsFaultOf, LooksInto, DoesNotOpen, IsOutside, Agrees, DecidesOpening, DecidesShown, DecidesLook, ShownIsDecided, LookIsDecided}
 use Rattle.fsfs_top.specs.declared.look.RevisionLook.{RevisionLook}
 use Rattle.fsfs_top.specs.declared.look.Printed.{Printed}
 use Rattle.fsfs_top.specs.declared.look.Printed.TheVariants.{Tree, Text}
-use Rattle.fsfs_texts.specs.Agreeing.{HasOneText, Agree}
+use Rattle.fsfs_texts.specs.Agreeing.{HasOneText}
 use Rattle.fsfs_texts.proofs.OneText.{tree_one, file_one}
+use Rattle.fsfs_texts.proofs.Prefixes.{whole_or_refused, refusals_same}
 
 -- ---- what one opening says, every opening says
 
@@ -145,18 +145,8 @@ one_text : (printed : Printed) (look : Look) (rev : ℕ) (path : Path) → HasOn
 one_text (Tree ids) look rev path = tree_one look rev path ids
 one_text Text look rev path = file_one look rev path
 
-whole_or_refused : (a b : List ℕ) (why : LookFault) → Agree a Whole b (Refused why) → ⊥
-whole_or_refused a b why (inl (same, e)) = absurd cc
-whole_or_refused a b why (inr (inl (e, front))) = absurd cc
-whole_or_refused a b why (inr (inr (e, front))) = absurd cc
-
-refused_same : (why other : LookFault) → ◌≡◌ {A = End} (Refused why) (Refused other) → why ≡ other
-refused_same why other e = cc
-
-one_refusal : (a b : List ℕ) (why other : LookFault) → Agree a (Refused why) b (Refused other) → why ≡ other
-one_refusal a b why other (inl (same, e)) = refused_same why other e
-one_refusal a b why other (inr (inl (e, front))) = absurd cc
-one_refusal a b why other (inr (inr (e, front))) = absurd cc
+in_one : (look : RevisionLook) (o : Opened) (m : Files) → HasOneText (TextIn look o m)
+in_one look o m = one_text look.printed (rev_bytes o.shard_size m) (looked_revision look o) look.path
 
 -- the text is by what every opening says
 pub same_text : (look : RevisionLook) (o p : Opened) (m : Files) (text : List ℕ) (end : End) → o.shard_size ≡ p.shard_size → o.youngest ≡ p.youngest → TextIn look p m text end → TextIn look o m text end
@@ -173,7 +163,7 @@ whole_agrees : (disk write : Type 0) (look : RevisionLook) (o : Opened) (m : Fil
     → (text : List ℕ) → TextIn look o m text Whole → Agrees None fault
 whole_agrees disk write look o m old new (Ok done) fault w is text t = subst (Agrees None) (sym is) refl
 whole_agrees disk write look o m old new (Err (errors.Fault why)) fault w is text t =
-    absurd (whole_or_refused text w.0 why (one_text look.printed (rev_bytes o.shard_size m) (looked_revision look o) look.path text w.0 Whole (Refused why) t w.1))
+    absurd (whole_or_refused (TextIn look o m) (in_one look o m) text w.0 why t w.1)
 whole_agrees disk write look o m old new (Err errors.DiskFault) fault w is text t = subst (Agrees None) (sym is.1) (inr (inr (inl (Read, refl))))
 whole_agrees disk write look o m old new (Err errors.WriteFault) fault w is text t = subst (Agrees None) (sym is.1) (inr (inr (inr (inl refl))))
 whole_agrees disk write look o m old new (Err errors.OutOfMemory) fault w is text t = subst (Agrees None) (sym is) (inr (inr (inr (inr refl))))
@@ -181,9 +171,9 @@ whole_agrees disk write look o m old new (Err errors.OutOfMemory) fault w is tex
 refused_agrees : (disk write : Type 0) (look : RevisionLook) (o : Opened) (m : Files) (old new : Option (List ℕ)) (r : Result (Unit {0}) LookError) (fault : Option Fault) → Writes (TextIn look o m) old new r → IsFaultOf disk write look.path r fault
     → (text : List ℕ) (why : LookFault) → TextIn look o m text (Refused why) → Agrees (Some (fault_from_look look.path why)) fault
 refused_agrees disk write look o m old new (Ok done) fault w is text why t =
-    absurd (whole_or_refused w.0 text why (one_text look.printed (rev_bytes o.shard_size m) (looked_revision look o) look.path w.0 text Whole (Refused why) w.1 t))
+    absurd (whole_or_refused (TextIn look o m) (in_one look o m) w.0 text why w.1 t)
 refused_agrees disk write look o m old new (Err (errors.Fault other)) fault w (inl is) text why t =
-    let same = one_refusal text w.0 why other (one_text look.printed (rev_bytes o.shard_size m) (looked_revision look o) look.path text w.0 (Refused why) (Refused other) t w.1) in
+    let same = (refusals_same (TextIn look o m) (in_one look o m) text w.0 why other t w.1).1 in
     subst (Agrees (Some (fault_from_look look.path why))) (sym is) (inl (ap (λ (f : LookFault). Some (fault_from_look look.path f)) same))
 refused_agrees disk write look o m old new (Err (errors.Fault other)) fault w (inr is) text why t = subst (Agrees (Some (fault_from_look look.path why))) (sym is) (inr (inr (inr (inr refl))))
 refused_agrees disk write look o m old new (Err errors.DiskFault) fault w is text why t = subst (Agrees (Some (fault_from_look look.path why))) (sym is.1) (inr (inr (inl (Read, refl))))

@@ -1,5 +1,5 @@
 -- What a look printed and left, as the top call tells it.
-use Rattle.std.proofs.Common.{◌≡◌, ◌≤◌, ℕ, List, ◌⊎◌, inl, inr, refl, sym, ap, subst, ◌∙◌, arith}
+use Rattle.std.proofs.Common.{◌≡◌, ◌≤◌, ℕ, List, inl, inr, refl, ap, subst, arith}
 use Rattle.std.specs.Prelude.{Option, Some, None, IfSome, option_map, Result, Ok, Err}
 use Rattle.fsfs_base.specs.Files.{Files}
 use Rattle.fsfs_base.specs.Paths.{Path}
@@ -20,7 +20,7 @@ use Rattle.fsfs_repo.specs.Deciding.{Decides}
 use Rattle.fsfs_repo.specs.declared.opening.Opened.{Opened}
 use Rattle.fsfs_repo.specs.declared.opening.OpenFault.{OpenFault}
 use Rattle.fsfs_repo.specs.declared.opening.OpenFault.TheVariants as opening
-use Rattle.fsfs_top.specs.Looks.{TextOf, TextIn, looked_revision, IsFaultAt, IsFaultOf, Looked, LooksInto, NotOpened, PrintsLook, OpensAs}
+use Rattle.fsfs_top.specs.Looks.{TextOf, TextIn, looked_revision, IsFaultAt, IsFaultOf, LooksInto, NotOpened, PrintsLook}
 use Rattle.fsfs_top.specs.declared.look.RevisionLook.{RevisionLook}
 use Rattle.fsfs_top.proofs.LookLemmas.{opened_floor, does_not_open}
 

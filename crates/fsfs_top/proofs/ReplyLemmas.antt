@@ -1,12 +1,10 @@
 -- The replies of looks, from what a command did and printed.
-use Rattle.std.proofs.Common.{◌≡◌, ◌≤◌, ◌<◌, ℕ, Bool, false, List, [], ◌∷◌, ◌++◌, ◌⊎◌, inl, inr, refl, sym, ap, subst, ◌∙◌, append-nil, append_assoc, length, arith}
-use Rattle.std.specs.Prelude.{Option, Some, None, unwrap_or, decimal, codes, Ok, Err, Result, slice_get}
-use Rattle.fsfs_base.specs.Files.{Files}
+use Rattle.std.proofs.Common.{◌≡◌, ◌≤◌, ℕ, List, [], ◌++◌, inl, inr, refl, sym, ap, subst, ◌∙◌, append-nil, append_assoc, length, arith}
+use Rattle.std.specs.Prelude.{Option, Some, None, unwrap_or, Ok, Err, Result, slice_get}
 use Rattle.fsfs_base.specs.Paths.{Path}
 use Rattle.fsfs_base.specs.Revisions.{Revision}
 use Rattle.fsfs_base.specs.Transactions.{last_of}
 use Rattle.fsfs_disk.specs.Trace.{Trace, files_now}
-use Rattle.fsfs_disk.specs.Fault.{Rose}
 use Rattle.fsfs_disk.specs.Streams.{Adds}
 use Rattle.fsfs_faults.specs.Lines.{line_of, status_of}
 use Rattle.fsfs_faults.specs.Faults.{fault_from_open, fault_from_look}
@@ -16,9 +14,9 @@ use Rattle.fsfs_fetch.specs.Kept.{HasShortFiles}
 use Rattle.fsfs_fetch.specs.RevBytes.{rev_bytes}
 use Rattle.fsfs_look.specs.declared.look_error.LookError.{LookError}
 use Rattle.fsfs_look.specs.declared.look_error.LookError.TheVariants as errors
-use Rattle.fsfs_look.specs.Written.{Writes, WritesFront}
+use Rattle.fsfs_look.specs.Written.{Writes}
 use Rattle.fsfs_model.specs.Answers.{Reply, prints, refuses, asked_revision, in_revision, of_revision}
-use Rattle.fsfs_output.specs.Output.{AddsFront, Prints}
+use Rattle.fsfs_output.specs.Output.{AddsFront}
 use Rattle.fsfs_repo.specs.Opening.{SmallTexts, small_texts, IsFsfs, IsOpened, IsNone}
 use Rattle.fsfs_repo.specs.OpenFaults.{OpensBecause}
 use Rattle.fsfs_repo.specs.Deciding.{IsOutside as IsOpenOutside}
@@ -29,10 +27,9 @@ use Rattle.fsfs_repo.specs.declared.opening.OpenFault.{OpenFault}
 use Rattle.fsfs_repo.specs.declared.opening.OpenFault.TheVariants as opening
 use Rattle.fsfs_texts.specs.Agreeing.{IsFront}
 use Rattle.fsfs_texts.specs.Texts.{End, Whole, Refused, Stopped}
-use Rattle.fsfs_texts.specs.declared.look_fault.LookFault.{LookFault}
 use Rattle.fsfs_top.specs.Answers.{answer_of, shown_line}
 use Rattle.fsfs_top.specs.Command.{Tells}
-use Rattle.fsfs_top.specs.Looks.{TextOf, TextIn, looked_revision, LacksRevision, IsFaultOf, Looked, LooksInto, NotOpened, PrintsLine, PrintsShown, PrintsLook, IsOutside, Agrees, DecidesOpening, ShownIsDecided, LookIsDecided}
+use Rattle.fsfs_top.specs.Looks.{TextOf, TextIn, looked_revision, IsFaultOf, PrintsShown, PrintsLook}
 use Rattle.fsfs_top.specs.Replies.{Gives}
 use Rattle.fsfs_top.specs.declared.look.RevisionLook.{RevisionLook}
 use Rattle.fsfs_top.specs.declared.output.Shown.{Shown}
@@ -170,7 +167,7 @@ module _ (status : ℕ) (mount disk write told : Type 0) (tool : Tool) (old new 
       let above : length h ≤ rev = omega (arith, lacks.above, last, s.count, last_is (files_now t) h s) in
       let none : slice_get h rev ≡ None = there_is_none h rev above in
       let same : of_revision look.revision h reply ≡ in_revision reply rev o.youngest None =
-          ap (λ (a : ℕ). in_revision reply a (last_of h) (slice_get h a)) named ∙ ap (in_revision reply rev (last_of h)) none ∙ ap (λ (y : ℕ). in_revision reply rev y None) (sym last) in
+      ap (λ (a : ℕ). in_revision reply a (last_of h) (slice_get h a)) named ∙ ap (in_revision reply rev (last_of h)) none ∙ ap (λ (y : ℕ). in_revision reply rev y None) (sym last) in
       refused_line (of_revision look.revision h reply) (NoRev rev o.youngest) (same ∙ lacking rev o.youngest) (moved fault (Some (NoRev rev o.youngest)) is ends) (adds_nothing old new kept)
   given_look look t h s reply fault short fits lacking ends (inr (o, opens, inr looked)) =
       let p = opened_of (files_now t) h s in
@@ -184,6 +181,6 @@ module _ (status : ℕ) (mount disk write told : Type 0) (tool : Tool) (old new 
       let same : of_revision look.revision h reply ≡ reply there.0 = ap (in_revision reply asked (last_of h)) there.1 in
       subst Given (sym same) (ended_look (TextIn look o (files_now t)) look.path (reply there.0) looked.result fault
       (λ text end x. fits asked there.0 refl there.1 text end
-          (subst (λ (n : ℕ). TextOf look.printed (rev_bytes s.shard_size (files_now t)) n look.path text end) is
-          (same_text look p o (files_now t) text end (one_shard (files_now t) p o popens opens) youngest x)))
+      (subst (λ (n : ℕ). TextOf look.printed (rev_bytes s.shard_size (files_now t)) n look.path text end) is
+      (same_text look p o (files_now t) text end (one_shard (files_now t) p o popens opens) youngest x)))
       (looked.writes short) looked.fault_is ends)

@@ -1,6 +1,6 @@
 -- The replies of a command.
-use Rattle.std.proofs.Common.{◌≡◌, ℕ, Bool, false, List, [], ◌∷◌, ◌++◌, ◌⊎◌, inl, inr, refl, sym, ap, subst, ◌∙◌}
-use Rattle.std.specs.Prelude.{Option, Some, None, unwrap_or, decimal, codes, Ok, Err, Result}
+use Rattle.std.proofs.Common.{◌≡◌, ℕ, Bool, false, List, [], ◌++◌, ◌⊎◌, inl, inr, refl, sym, ap, subst, ◌∙◌}
+use Rattle.std.specs.Prelude.{Option, Some, unwrap_or, decimal, codes, Ok, Err, Result}
 use Rattle.std.specs.FinMap.{get}
 use Rattle.fsfs_text.proofs.Readers.{all_again, ok_is}
 use Rattle.fsfs_layout.specs.Small.{IsUuid}
@@ -83,7 +83,7 @@ module _ (mount disk write told : Type 0) (tool : Tool) (ws : List (List ℕ)) (
       let by_look : tool ≡ Look = printed_by_look (Tree ids) revision path tool ws repos asks in
       given_look status mount disk write told tool old new err_old err_new look t h stands reply fault short
       (λ rev r is there text end x. subst (λ (k : Tool). Fits k path (reply r) text end) (sym by_look)
-          (tree_is_by_tree (files_now t) h stands rev r path ids shown there (subst (λ (n : ℕ). AreShownIds (rev_bytes stands.shard_size (files_now t)) n ids shown) (sym is) are) text end x))
+      (tree_is_by_tree (files_now t) h stands rev r path ids shown there (subst (λ (n : ℕ). AreShownIds (rev_bytes stands.shard_size (files_now t)) n ids shown) (sym is) are) text end x))
       (λ asked youngest. no_rev_line tool reply asked youngest by_look)
       ends (look_did look repos t asks here)
 

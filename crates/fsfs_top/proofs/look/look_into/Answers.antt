@@ -1,10 +1,7 @@
-use Rattle.std.proofs.Common.{◌≡◌, ◌≤◌, refl, inr, sym, ap, subst, ◌∙◌}
+use Rattle.std.proofs.Common.{◌≤◌, refl, inr, subst}
 use Rattle.std.specs.Prelude.{Ok, Err, Result}
 use Rattle.fsfs_disk.specs.Fault.{Rose}
-use Rattle.fsfs_book.specs.Told.{Telling, Look, Knows}
-use Rattle.fsfs_look.specs.Written.{Writes, IfDisk}
 use Rattle.fsfs_look.specs.declared.look_error.LookError.{LookError}
-use Rattle.fsfs_top.specs.Looks.{looked_revision}
 use Rattle.fsfs_top.proofs.LookingLemmas.{into_writes, fault_with_cause, same_counts}
 use Rattle.fsfs_top.proofs.look.look_into.Goals as goal
 

@@ -1,4 +1,3 @@
-use Rattle.std.proofs.Common.{refl}
 use Rattle.fsfs_top.proofs.CommandLemmas.{same_files}
 use Rattle.fsfs_top.proofs.top.run.Goals as goal
 
