@@ -134,9 +134,9 @@ read_with_more bytes more v h =
           record {
             front = h.begins.front;
             text = h.begins.text;
-            parts = ap (λ (xs : List ℕ). xs ++ more) h.begins.parts ∙ append_assoc h.begins.front h.rest more
+            parts = ap (λ (xs : List ℕ). xs ++ more) h.begins.parts ∙ append_assoc h.begins.front h.rest more;
           };
-      means = h.means
+      means = h.means;
     }
 
 module _ (count : ℕ) (fits : count ≤ 65536) (at : RevOffset) (bytes seen : List ℕ) (is : seen ≡ take count bytes) where
