@@ -1,8 +1,8 @@
 -- What a book's answers say of a revision's length, its end and its node-revisions.
-use Rattle.std.proofs.Common.{◌≡◌, ℕ, ◌-◌, List, [], length, take, drop, true, false, Result, Ok, Err, refl, sym, ap, subst, ◌∙◌, arith, inl, inr, zero-add}
+use Rattle.std.proofs.Common.{◌≡◌, ℕ, ◌-◌, ◌≤◌, List, [], ◌++◌, length, take, drop, min, append_assoc, true, false, Result, Ok, Err, refl, sym, ap, subst, ◌∙◌, arith, inl, inr, zero-add}
 use Rattle.std.specs.Prelude.{Bool, ◌==◌, ◌&&◌}
 use Rattle.std.proofs.lemmas.Bool.Decides.{nat_tests}
-use Rattle.std.proofs.lemmas.List.{take-take, take_all, length-drop}
+use Rattle.std.proofs.lemmas.List.{take-take, take_all, take-append-drop, length-take, length-drop}
 use Rattle.fsfs_book.specs.declared.book.Refusal.{Refusal}
 use Rattle.fsfs_book.specs.declared.book.BookFault.TheVariants as books
 use Rattle.fsfs_book.specs.Told.{Look, size_read, part_read}
@@ -121,6 +121,44 @@ node_found look at seen v w h = (w.0, w.1, node_in at (drop at.offset w.0) seen 
 
 pub node_wrong : (look : Look) (at : RevOffset) (seen : List ℕ) (d : Damage) → WindowAt look at 65536 (Ok seen) → NodeRow at seen d → NodeAt look at (Err (wrongs.Damaged d))
 node_wrong look at seen d w h = inr (w.0, w.1, row_in at (drop at.offset w.0) seen w.2 d h)
+
+-- ---- a node-revision in a front of the window
+
+-- what is read stays so with more bytes behind it
+read_with_more : (bytes more : List ℕ) (v : NodeRev) → IsRead bytes v → IsRead (bytes ++ more) v
+read_with_more bytes more v h =
+    record {
+      fields = h.fields;
+      rest = h.rest ++ more;
+      begins =
+          record {
+            front = h.begins.front;
+            text = h.begins.text;
+            parts = ap (λ (xs : List ℕ). xs ++ more) h.begins.parts ∙ append_assoc h.begins.front h.rest more;
+          };
+      means = h.means;
+    }
+
+module _ (count : ℕ) (fits : count ≤ 65536) (at : RevOffset) (bytes seen : List ℕ) (is : seen ≡ take count bytes) where
+  front_length : length seen ≡ min count (length bytes)
+  front_length = ap length is ∙ length-take count bytes
+
+  front_whole : take 65536 seen ≡ seen
+  front_whole = take_all 65536 seen (omega (arith, fits, front_length))
+
+  front_of_window : take count (take 65536 bytes) ≡ seen
+  front_of_window = take-take count 65536 bytes fits ∙ sym is
+
+  front_and_more : seen ++ drop count (take 65536 bytes) ≡ take 65536 bytes
+  front_and_more = ap (λ (xs : List ℕ). xs ++ drop count (take 65536 bytes)) (sym front_of_window) ∙ take-append-drop count (take 65536 bytes)
+
+  node_in_front : (v : NodeRev) → IsNodeAt at seen v → IsNodeAt at bytes v
+  node_in_front v h =
+      let read = read_with_more seen (drop count (take 65536 bytes)) v (subst (λ (xs : List ℕ). IsRead xs v) front_whole h.0.0) in
+      ((subst (λ (xs : List ℕ). IsRead xs v) front_and_more read, h.0.1), h.1)
+
+pub node_found_in_front : (look : Look) (at : RevOffset) (count : ℕ) (seen : List ℕ) (v : NodeRev) → count ≤ 65536 → WindowAt look at count (Ok seen) → IsNodeAt at seen v → NodeAt look at (Ok v)
+node_found_in_front look at count seen v fits w h = (w.0, w.1, node_in_front count fits at (drop at.offset w.0) seen w.2 v h)
 
 -- ---- the end of a revision
 

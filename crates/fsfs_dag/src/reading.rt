@@ -24,6 +24,10 @@ use fsfs_revision::{
 use fsfs_shows::{ReadError, Wrong};
 use std::alloc::Global;
 
+// What is read first of a node-revision. But for its paths it has some hundreds of bytes, so that few are longer than this;
+// to clear and read the whole limit for each costs more than the reading itself.
+const USUAL_NODE_REV: usize = 1024;
+
 fn damaged(at: RevOffset, what: What) -> ReadError
     ensures { result ≡ of_revision (Damaged (record { at = at; what = what })) }
 {
@@ -85,8 +89,10 @@ fn root_place<B: Book>(book: &mut B, rev: u32) -> Result<RevOffset, ReadError>
     }
 }
 
-// The node-revision that stands at a place.
-fn node_read<B: Book>(alloc: Global, book: &mut B, at: RevOffset) -> Result<NodeRev, ReadError>
+// The node-revision that stands at a place, or why none does, of all the bytes that one may have. A function of its own, so
+// that their buffer is made only where it is wanted.
+#[inline(never)]
+fn node_in_whole<B: Book>(alloc: Global, book: &mut B, at: RevOffset) -> Result<NodeRev, ReadError>
     ensures told { (look : Look) → IsTold (B.told book.old) look at.rev → Answers (λ v. v) (NodeAt look at) result }
     ensures ordered { IfOk result (λ v. is_ordered at v ≡ true) }
     ensures kept { Keeps (B.told book.old) (B.told book.new) }
@@ -98,6 +104,23 @@ fn node_read<B: Book>(alloc: Global, book: &mut B, at: RevOffset) -> Result<Node
         Ok(node) => Ok(node),
         Err(RevisionError::OutOfMemory) => Err(ReadError::OutOfMemory),
         Err(RevisionError::Damaged(damage)) => Err(ReadError::Wrong(Wrong::Damaged(damage))),
+    }
+}
+
+// The node-revision that stands at a place. Bytes behind its text change nothing, so a front of them shows it, but what is
+// refused of a front may only be cut off: all the bytes decide.
+fn node_read<B: Book>(alloc: Global, book: &mut B, at: RevOffset) -> Result<NodeRev, ReadError>
+    ensures told { (look : Look) → IsTold (B.told book.old) look at.rev → Answers (λ v. v) (NodeAt look at) result }
+    ensures ordered { IfOk result (λ v. is_ordered at v ≡ true) }
+    ensures kept { Keeps (B.told book.old) (B.told book.new) }
+    ensures cause { HasCause (B.faults book.old) (B.faults book.new) result }
+{
+    let mut bytes = [0u8; USUAL_NODE_REV];
+    let count = window(book, at, &mut bytes)?;
+    match read_node_at(alloc, at, &bytes[..count]) {
+        Ok(node) => Ok(node),
+        Err(RevisionError::OutOfMemory) => Err(ReadError::OutOfMemory),
+        Err(RevisionError::Damaged(_)) => node_in_whole(alloc, book, at),
     }
 }
 

@@ -174,6 +174,38 @@ fn costs(rt: HostRuntime) -> Result<(), Fail> {
     Ok(())
 }
 
+// A root is read by the length and the end of its revision and one call more, and by two where it is long, as by a line of
+// an unknown name; a long one that is damaged is so all the same.
+#[test]
+fn long(rt: HostRuntime) -> Result<(), Fail> {
+    let alloc = rt.alloc();
+    let lines = EMPTY_COMMIT.get(..118).ok_or("too short")?;
+    let end = EMPTY_COMMIT.get(118..).ok_or("too short")?;
+    let mut long = Vec::from_slice(alloc, lines)?;
+    long.extend_from_slice(b"note: ")?;
+    for _ in 0..2000usize {
+        long.push(b'a')?;
+    }
+    let mut damaged_long = Vec::from_slice(alloc, long.as_slice())?;
+    long.extend_from_slice(b"\n")?;
+    long.extend_from_slice(end)?;
+    damaged_long.extend_from_slice(b"\nid: 0.0.r1/0\n")?;
+    damaged_long.extend_from_slice(end)?;
+    let root = at(Kind::Dir, 1, 0);
+    let table = [
+        (EMPTY_COMMIT, 3, Answer::Failed),
+        (EMPTY_COMMIT, 4, root),
+        (long.as_slice(), 4, Answer::Failed),
+        (long.as_slice(), 5, root),
+        (damaged_long.as_slice(), 5, damaged(1, 0, What::NodeRev)),
+    ];
+    for (bytes, failing, want) in table {
+        let mut book = book_of(alloc, &[bytes], &[failing])?;
+        assert_eq!(rt; answer_of(met(alloc, &mut book, 1, "/")), want);
+    }
+    Ok(())
+}
+
 // The text of a file in a sink, whole, or nothing where the sink fails.
 #[test]
 fn written(rt: HostRuntime) -> Result<(), Fail> {
