@@ -12,7 +12,7 @@ use Rattle.fsfs_book.specs.declared.book.BookFault.{BookFault}
 use Rattle.fsfs_book.specs.declared.book.BookFault.TheVariants.{Refused, Short, DiskFault, OutOfMemory}
 use Rattle.fsfs_fetch.specs.Views.{View, Later}
 use Rattle.fsfs_fetch.specs.Answers.{Stays, MayGo, IsFrontOf, FromFile, size_of_file, part_of_file}
-use Rattle.fsfs_fetch.proofs.ViewLemmas.{told_at, stays_later, stays_now, goes_later, goes_now}
+use Rattle.fsfs_fetch.proofs.ViewLemmas.{later_more, told_at, stays_later, stays_now, goes_later, goes_now}
 
 some_count : (n m : ℕ) → ◌≡◌ {A = Option ℕ} (Some n) (Some m) → n ≡ m
 some_count n m e = cc
@@ -146,27 +146,48 @@ part_same bytes file old new rev offset n same le read =
 some_bytes : (a b : List ℕ) → ◌≡◌ {A = Option (List ℕ)} (Some a) (Some b) → a ≡ b
 some_bytes a b e = cc
 
-part_of_result : (file at : Option (List ℕ)) (whole : List ℕ) (new_files : Option Files) (name : List ℕ) (m : Files) (rev offset : ℕ) (old new : List ℕ) (result : Result (Option ℕ) BookFault)
-    → new_files ≡ Some m → map.get m name ≡ at → (at ≡ file) ⊎ (at ≡ None) → file ≡ Some whole → offset ≤ length whole → IfOk result (IsRead at offset old new) → IfErr result (λ e. e ≡ DiskFault)
-    → FromFile {X = ℕ} {Y = List ℕ} file new_files name (λ n. take n new) (part_of_file rev offset (length old)) result
-part_of_result file at whole new_files name m rev offset old new (Err DiskFault) told here stands is le read failed = tt
-part_of_result file at whole new_files name m rev offset old new (Err OutOfMemory) told here stands is le read failed = tt
-part_of_result file at whole new_files name m rev offset old new (Err (Refused r)) told here stands is le read failed = cc
-part_of_result file at whole new_files name m rev offset old new (Err (Short r o)) told here stands is le read failed = cc
-part_of_result file None whole new_files name m rev offset old new (Ok None) told here stands is le read failed = (m, told, here)
-part_of_result file (Some b) whole new_files name m rev offset old new (Ok None) told here stands is le read failed = let h : ◌≡◌ {A = Option ℕ} None (Some (min (length old) (length b - offset))) = read.0 in cc
-part_of_result file None whole new_files name m rev offset old new (Ok (Some n)) told here stands is le read failed = let h : ◌≡◌ {A = Option ℕ} (Some n) None = read.0 in cc
-part_of_result file (Some b) whole new_files name m rev offset old new (Ok (Some n)) told here (inl same) is le read failed =
-    let e : b ≡ whole = some_bytes b whole (same ∙ is) in
-    (whole, is, part_same whole b old new rev offset n e le read)
-part_of_result file (Some b) whole new_files name m rev offset old new (Ok (Some n)) told here (inr none) is le read failed = let h : ◌≡◌ {A = Option (List ℕ)} (Some b) None = none in cc
+-- where a read found a file, the file stands and was read
+part_there : (file at : Option (List ℕ)) (offset count : ℕ) (old new : List ℕ) → (at ≡ file) ⊎ (at ≡ None) → IsRead at offset old new (Some count) → (bytes : List ℕ) × (file ≡ Some bytes) × IsRead (Some bytes) offset old new (Some count)
+part_there file None offset count old new stands read = let h : ◌≡◌ {A = Option ℕ} (Some count) None = read.0 in cc
+part_there file (Some bytes) offset count old new (inl same) read = (bytes, sym same, read)
+part_there file (Some bytes) offset count old new (inr none) read = let h : ◌≡◌ {A = Option (List ℕ)} (Some bytes) None = none in cc
 
-pub part_found : (u v w : View) (name : List ℕ) (file : Option (List ℕ)) (rev offset size : ℕ) (old new : List ℕ) (result : Result (Option ℕ) BookFault) → Later u v → Later v w → MayGo u name file
-    → IfSome v.files (λ m. IsSize (map.get m name) (Some size)) → offset ≤ size → IfSome w.files (λ m. IfOk result (IsRead (map.get m name) offset old new)) → IfErr result (λ e. e ≡ DiskFault)
-    → FromFile {X = ℕ} {Y = List ℕ} file w.files name (λ n. take n new) (part_of_file rev offset (length old)) result
-part_found u v w name file rev offset size old new result e f s h le read failed =
-    let p = has_size u v name file size e s h in
-    let t = goes_later v w name file f (goes_later u v name file e s) in
-    let Q : Files → Type 0 = λ m. IfOk result (IsRead (map.get m name) offset old new) in
-    let within : offset ≤ length p.0 = omega (arith, le, p.2) in
-    part_of_result file (map.get t.now name) p.0 w.files name t.now rev offset old new result t.told refl (goes_now w name file t) p.1 within (told_at w.files t.now Q t.told read) failed
+has_part : (v w : View) (name : List ℕ) (file : Option (List ℕ)) (offset count : ℕ) (old new : List ℕ) → Later v w → MayGo v name file → IfSome w.files (λ m. IsRead (map.get m name) offset old new (Some count))
+    → (bytes : List ℕ) × (file ≡ Some bytes) × IsRead (Some bytes) offset old new (Some count)
+has_part v w name file offset count old new e s h =
+    let t = goes_later v w name file e s in
+    let Q : Files → Type 0 = λ m. IsRead (map.get m name) offset old new (Some count) in
+    part_there file (map.get t.now name) offset count old new (goes_now w name file t) (told_at w.files t.now Q t.told h)
+
+within : (bytes old : List ℕ) (offset count : ℕ) → 0 < count → count ≡ min (length old) (length bytes - offset) → offset ≤ length bytes
+within bytes old offset count some is = omega (arith, some, is)
+
+-- a read that found bytes
+pub part_found : (v w : View) (name : List ℕ) (file : Option (List ℕ)) (rev offset count : ℕ) (old new : List ℕ) → Later v w → MayGo v name file → IfSome w.files (λ m. IsRead (map.get m name) offset old new (Some count)) → 0 < count
+    → FromFile {X = ℕ} {Y = List ℕ} file w.files name (λ n. take n new) (part_of_file rev offset (length old)) (Ok (Some count))
+part_found v w name file rev offset count old new e s h some =
+    let p = has_part v w name file offset count old new e s h in
+    let le = within p.0 old offset count some (some_count count (min (length old) (length p.0 - offset)) p.2.0) in
+    (p.0, p.1, part_same p.0 p.0 old new rev offset count refl le p.2)
+
+-- a read that found nothing more, up to the end
+pub end_found : (u v w : View) (name : List ℕ) (file : Option (List ℕ)) (rev offset count size : ℕ) (old new : List ℕ) → Later u v → Later v w → MayGo u name file → IfSome v.files (λ m. IsRead (map.get m name) offset old new (Some count))
+    → IfSome w.files (λ m. IsSize (map.get m name) (Some size)) → offset ≤ size → FromFile {X = ℕ} {Y = List ℕ} file w.files name (λ n. take n new) (part_of_file rev offset (length old)) (Ok (Some count))
+end_found u v w name file rev offset count size old new e f s read h le =
+    let p = has_part u v name file offset count old new e s read in
+    let q = has_size u w name file size (later_more u v w e f) s h in
+    let same : p.0 ≡ q.0 = some_bytes p.0 q.0 (sym p.1 ∙ q.1) in
+    let fits : offset ≤ length q.0 = omega (arith, le, q.2) in
+    (q.0, q.1, part_same q.0 p.0 old new rev offset count same fits p.2)
+
+none_there : (at : Option (List ℕ)) (offset : ℕ) (old new : List ℕ) → IsRead at offset old new None → at ≡ None
+none_there None offset old new read = refl
+none_there (Some bytes) offset old new read = let h : ◌≡◌ {A = Option ℕ} None (Some (min (length old) (length bytes - offset))) = read.0 in cc
+
+-- a read that found no file
+pub no_part : (v w : View) (name : List ℕ) (file : Option (List ℕ)) (rev offset : ℕ) (old new : List ℕ) → Later v w → MayGo v name file → IfSome w.files (λ m. IsRead (map.get m name) offset old new None)
+    → FromFile {X = ℕ} {Y = List ℕ} file w.files name (λ n. take n new) (part_of_file rev offset (length old)) (Ok None)
+no_part v w name file rev offset old new e s h =
+    let t = goes_later v w name file e s in
+    let Q : Files → Type 0 = λ m. IsRead (map.get m name) offset old new None in
+    (t.now, t.told, none_there (map.get t.now name) offset old new (told_at w.files t.now Q t.told h))

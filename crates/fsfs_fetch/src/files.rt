@@ -94,13 +94,20 @@ pub(crate) fn file_part<R: Reads>(
     ensures later { Later (R.view reads.old) (R.view reads.new) }
     ensures cause { HasCause (R.faults reads.old) (R.faults reads.new) result }
 {
+    let Some(count) = read_at(reads, name, offset, buffer)? else {
+        return Ok(None);
+    };
+    if count > 0 {
+        return Ok(Some(count));
+    }
+    // Nothing comes at the end of a file and past it alike.
     match size_at(reads, name)? {
         None => Ok(None),
         Some(size) => {
             if size < offset {
                 return Err(BookFault::Short { rev, offset });
             }
-            read_at(reads, name, offset, buffer)
+            Ok(Some(0))
         }
     }
 }

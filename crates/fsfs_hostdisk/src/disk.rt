@@ -3,6 +3,7 @@ ghost use Rattle.std.specs.Prelude.{◌≡◌, IfOk, string_bytes, None};
 
 use crate::faults::counted;
 use crate::folder::Folder;
+use crate::last_read::LastRead;
 use crate::writer::Writer;
 use fsfs_disk::{Disk, Failed, Name};
 use std::alloc::AllocGlobal;
@@ -17,10 +18,13 @@ use std::io;
 /// `put` never writes over the bytes of a file that has a name: it writes a new file beside, syncs it and renames it.
 /// Only an empty file put over an empty one leaves that standing, so a lock held on it stays held. `firm_names` syncs the
 /// folders whose names changed, and those in which folders were made, the one that holds the repository's own too.
+///
+/// The file that was read last stays open for the reads that follow. A change of names or files closes it.
 #[derive(Drop)]
 pub struct HostDisk<R: Files<File = File> + AllocGlobal + Drop> {
     folder: Folder<R>,
     writer: Writer,
+    last_read: LastRead,
     faults: u64,
 }
 
@@ -41,6 +45,7 @@ impl<R: Files<File = File> + AllocGlobal + Drop> HostDisk<R> {
         Ok(HostDisk {
             folder,
             writer,
+            last_read: LastRead::none(),
             faults: 0,
         })
     }
@@ -50,6 +55,7 @@ impl<R: Files<File = File> + AllocGlobal + Drop> HostDisk<R> {
         let HostDisk {
             folder,
             writer,
+            last_read: _,
             faults: _,
         } = self;
         writer.release(&folder);
@@ -79,26 +85,29 @@ impl<R: Files<File = File> + AllocGlobal + Drop> Disk for HostDisk<R> {
         offset: u64,
         buffer: &mut [u8],
     ) -> Result<Option<usize>, Failed> {
-        let found = self.folder.read(name.as_str(), offset, buffer);
+        let found = self.last_read.read(&self.folder, name, offset, buffer);
         counted(&mut self.faults, found)
     }
 
     fn size(&mut self, name: &Name) -> Result<Option<u64>, Failed> {
-        let found = self.folder.size(name.as_str());
+        let found = self.last_read.size(&self.folder, name);
         counted(&mut self.faults, found)
     }
 
     fn put(&mut self, name: &Name, bytes: &[u8]) -> Result<(), Failed> {
+        self.last_read.close();
         let done = self.writer.put(&self.folder, name.as_str(), bytes);
         counted(&mut self.faults, done)
     }
 
     fn rename(&mut self, from: &Name, to: &Name) -> Result<(), Failed> {
+        self.last_read.close();
         let done = self.writer.rename(&self.folder, from.as_str(), to.as_str());
         counted(&mut self.faults, done)
     }
 
     fn remove(&mut self, name: &Name) -> Result<bool, Failed> {
+        self.last_read.close();
         let was_there = self.writer.remove(&self.folder, name.as_str());
         counted(&mut self.faults, was_there)
     }

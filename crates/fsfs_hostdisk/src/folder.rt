@@ -1,5 +1,5 @@
 // A folder of the machine, and the files and folders below it by name.
-ghost use Rattle.std.specs.Prelude.{◌≡◌, ◌≤◌, length, IfOk, IfSome, string_bytes};
+ghost use Rattle.std.specs.Prelude.{◌≡◌, ◌≤◌, length, IfOk, string_bytes};
 
 use std::alloc::{AllocGlobal, Global};
 use std::fs::{File, Files, Metadata};
@@ -42,7 +42,7 @@ fn finished<T, F: Fn() -> io::Result<T> + Drop>(call: F) -> io::Result<T>
 }
 
 // Fills the buffer from an offset on, as far as the file goes, through interrupted calls and short reads.
-fn fill(file: &File, offset: u64, buffer: &mut [u8]) -> io::Result<usize>
+pub fn fill(file: &File, offset: u64, buffer: &mut [u8]) -> io::Result<usize>
     ensures { IfOk result (λ n. n ≤ length buffer.new) }
 {
     let mut filled = 0;
@@ -65,6 +65,19 @@ fn fill(file: &File, offset: u64, buffer: &mut [u8]) -> io::Result<usize>
 
 // The system takes offsets up to this; no file goes beyond.
 const MAX_OFFSET: u64 = 0x7fff_ffff_ffff_ffff;
+
+// The length of an open file. A folder is an error.
+pub fn file_length(file: &File) -> io::Result<u64> {
+    length_in(&finished(|| file.metadata())?)
+}
+
+fn length_in(found: &Metadata) -> io::Result<u64> {
+    if found.is_file() {
+        Ok(found.len())
+    } else {
+        Err(io::Error::from(ErrorKind::IsADirectory))
+    }
+}
 
 impl<R: Files<File = File> + AllocGlobal + Drop> Folder<R> {
     pub fn alloc(&self) -> Global {
@@ -104,17 +117,15 @@ impl<R: Files<File = File> + AllocGlobal + Drop> Folder<R> {
     // The length of a file. A folder in its place is an error.
     pub fn size(&self, name: &str) -> io::Result<Option<u64>> {
         match self.found(name)? {
-            Some(found) if found.is_file() => Ok(Some(found.len())),
-            Some(_) => Err(io::Error::from(ErrorKind::IsADirectory)),
+            Some(found) => Ok(Some(length_in(&found)?)),
             None => Ok(None),
         }
     }
 
-    pub fn read(&self, name: &str, offset: u64, buffer: &mut [u8]) -> io::Result<Option<usize>>
-        ensures { IfOk result (λ found. IfSome found (λ n. n ≤ length buffer.new)) }
-    {
+    // A file, open for reading.
+    pub fn open_to_read(&self, name: &str) -> io::Result<Option<File>> {
         match File::open(&self.rt, self.path_of(name)?) {
-            Ok(file) => Ok(Some(fill(&file, offset, buffer)?)),
+            Ok(file) => Ok(Some(file)),
             Err(error) if is_absent(&error) => Ok(None),
             Err(error) => Err(error),
         }

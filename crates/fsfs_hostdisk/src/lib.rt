@@ -7,6 +7,7 @@ mod arguments;
 mod disk;
 mod faults;
 mod folder;
+mod last_read;
 mod machine;
 mod once;
 mod standard;

@@ -15,6 +15,23 @@ fn write_repository(disk: &mut HostDisk<HostRuntime>) -> Result<(), Failed> {
     disk.firm_names()
 }
 
+// The file that was read last is read anew after each change.
+fn read_between_changes(disk: &mut HostDisk<HostRuntime>) -> Result<[Option<usize>; 5], Failed> {
+    let (name, other) = (Name::new("db/kept"), Name::new("db/other"));
+    let mut buffer = [0; 8];
+    disk.put(&name, b"one")?;
+    let first = disk.read(&name, 1, &mut buffer)?;
+    disk.put(&name, b"three")?;
+    let put = disk.read(&name, 1, &mut buffer)?;
+    disk.put(&other, b"fifteen")?;
+    let another = disk.read(&other, 1, &mut buffer)?;
+    disk.rename(&name, &other)?;
+    let renamed = disk.read(&other, 1, &mut buffer)?;
+    disk.remove(&other)?;
+    let removed = disk.read(&other, 1, &mut buffer)?;
+    Ok([first, put, another, renamed, removed])
+}
+
 #[test]
 fn real_folder(rt: HostRuntime) -> Result<(), Fail> {
     let temp = env::temp_dir(&rt)?;
@@ -41,7 +58,10 @@ fn real_folder(rt: HostRuntime) -> Result<(), Fail> {
     let mut buffer = [0; 8];
     assert_eq!(rt; disk.read(&current, 1, &mut buffer)?, Some(2));
     assert_eq!(rt; buffer, *b"7\n\0\0\0\0\0\0");
+    assert_eq!(rt; disk.size(&current)?, Some(3));
     assert_eq!(rt; disk.size(&Name::new("db/format-next"))?, None);
+    let found = read_between_changes(&mut disk)?;
+    assert_eq!(rt; found, [Some(2), Some(4), Some(6), Some(4), None]);
     assert!(rt; disk.remove(&current)?);
     assert!(rt; !disk.remove(&current)?);
     other.unmount(disk);
