@@ -6,3 +6,4 @@ pub mod ProgressLemmas
 pub mod FitLemmas
 pub mod EndLemmas
 pub mod FileLemmas
+pub mod PieceLemmas

@@ -1,5 +1,5 @@
 //! The text of a file.
-ghost use Rattle.std.specs.Prelude.{◌≡◌, ◌<◌, ℕ, List, Some, Ok, Err, IsSome, MatchResult, length};
+ghost use Rattle.std.specs.Prelude.{◌≡◌, ◌≤◌, ◌<◌, ◌+◌, ◌-◌, ◌^◌, min, ℕ, List, Some, Ok, Err, IsSome, IfOk, MatchResult, length, take, drop};
 ghost use Rattle.fsfs_book.specs.declared.book.Refusal.{Refusal};
 ghost use Rattle.fsfs_book.specs.Told.{Look, Knows, Keeps};
 ghost use Rattle.fsfs_rep.specs.Faults.{HasCause, IsRefusedFor};
@@ -49,7 +49,53 @@ fn check_rep<B: Book>(book: &mut B, rep: &Rep, piece: &mut [u8]) -> Result<(), R
     reader.finish(book)
 }
 
-// Reads a representation, writes its text, and checks it again.
+// Where a byte of the text stands, behind the line `PLAIN`. None is above the last number of a u64.
+fn position(rep: &Rep, done: u64) -> u64
+    ensures { rep.now.offset + 6 + done < 2 ^ 64 → result ≡ rep.now.offset + 6 + done }
+{
+    rep.offset.saturating_add(6).saturating_add(done)
+}
+
+// As many as fit in so much room.
+fn fitting(room: usize, left: u64) -> usize
+    ensures { result ≡ min room left }
+{
+    if left < room as u64 {
+        left as usize
+    } else {
+        room
+    }
+}
+
+// Reads the next bytes of a text into the beginning of the piece, and answers how many: at least one. They are not
+// digested.
+fn read_piece<B: Book>(
+    book: &mut B,
+    rep: &Rep,
+    done: u64,
+    piece: &mut [u8],
+) -> Result<usize, RepFault>
+    requires rev { IsSome rep.now.rev }
+    requires room { 0 < length piece.old }
+    requires left { done < rep.now.length }
+    ensures some { IfOk result (λ n. 0 < n) }
+    ensures count { IfOk result (λ n. n ≤ min (length piece.old) (rep.now.length - done)) }
+    ensures told { (bytes : List ℕ) → (B.told book.old).revs (rev_of rep.now) ≡ Some (Ok bytes) → IsWhole rep.now bytes
+        → MatchResult result (λ n. take n piece.new ≡ take n (drop done (text_of rep.now bytes))) (IsFaultOf rep.now bytes) }
+    ensures room { length piece.new ≡ length piece.old }
+    ensures kept { Keeps (B.told book.old) (B.told book.new) }
+    ensures cause { HasCause (B.faults book.old) (B.faults book.new) result }
+{
+    let Some(rev) = rep.rev else { unreachable!() };
+    let want = fitting(piece.len(), rep.length - done);
+    let count = book.read_rev(rev, position(rep, done), &mut piece[..want])?;
+    if count == 0 {
+        return Err(RepFault::NoTrailer);
+    }
+    Ok(count)
+}
+
+// Writes the text of a representation that was checked.
 fn write_rep<B: Book, S: Sink>(
     book: &mut B,
     rep: &Rep,
@@ -64,25 +110,21 @@ fn write_rep<B: Book, S: Sink>(
     ensures cause { HasDiskCause (B.faults book.old) (B.faults book.new) result }
     ensures sink { HasSinkCause (S.faults sink.old) (S.faults sink.new) result }
 {
-    let mut reader = match RepReader::begin(book, rep) {
-        Ok(reader) => reader,
-        Err(fault) => return Err(of_fault(rep, fault)),
-    };
-    'pieces: while reader.left() > 0 {
-        let count = match reader.next(book, piece) {
+    let length = rep.length;
+    let mut done: u64 = 0;
+    'pieces: while done < length {
+        let count = match read_piece(book, rep, done, piece) {
             Ok(count) => count,
             Err(fault) => return Err(of_fault(rep, fault)),
         };
         write_piece(sink, &piece[..count])?;
+        done += count as u64;
     }
-    match reader.finish(book) {
-        Ok(()) => Ok(()),
-        Err(fault) => Err(of_fault(rep, fault)),
-    }
+    Ok(())
 }
 
 /// Writes the text of the file at a path of a revision. All of it is read and its size and both digests are checked before
-/// the first byte is written; then it is read again.
+/// the first byte is written; then its bytes are read again, without digests.
 pub fn cat<B: Book, S: Sink>(
     alloc: Global,
     book: &mut B,
