@@ -50,7 +50,7 @@ fn length<B: Book>(book: &mut B, rev: u32) -> Result<u64, ReadError>
 }
 
 // Reads a revision's bytes from a place on, as many as there are and as fit; none past the end.
-fn window<B: Book>(book: &mut B, at: RevOffset, buffer: &mut [u8]) -> Result<usize, ReadError>
+pub(crate) fn window<B: Book>(book: &mut B, at: RevOffset, buffer: &mut [u8]) -> Result<usize, ReadError>
     ensures bound { IfOk result (λ n. n ≤ length buffer.new) }
     ensures told { (look : Look) → IsTold (B.told book.old) look at.rev → Answers (λ n. take n buffer.new) (WindowAt look at (length buffer.old)) result }
     ensures kept { Keeps (B.told book.old) (B.told book.new) }
@@ -92,7 +92,7 @@ fn root_place<B: Book>(book: &mut B, rev: u32) -> Result<RevOffset, ReadError>
 // The node-revision that stands at a place, or why none does, of all the bytes that one may have. A function of its own, so
 // that their buffer is made only where it is wanted.
 #[inline(never)]
-fn node_in_whole<B: Book>(alloc: Global, book: &mut B, at: RevOffset) -> Result<NodeRev, ReadError>
+pub(crate) fn node_in_whole<B: Book>(alloc: Global, book: &mut B, at: RevOffset) -> Result<NodeRev, ReadError>
     ensures told { (look : Look) → IsTold (B.told book.old) look at.rev → Answers (λ v. v) (NodeAt look at) result }
     ensures ordered { IfOk result (λ v. is_ordered at v ≡ true) }
     ensures kept { Keeps (B.told book.old) (B.told book.new) }
@@ -192,7 +192,7 @@ fn same_id(a: &NodeId, b: &NodeId) -> bool
 }
 
 // The node-revision, if it has the id that names it.
-fn with_id(id: NodeId, node: NodeRev) -> Result<NodeRev, ReadError>
+pub(crate) fn with_id(id: NodeId, node: NodeRev) -> Result<NodeRev, ReadError>
     ensures told { Answers (λ v. v) (HasId id node) result }
     ensures same { IfOk result (λ v. v ≡ node) }
     ensures quiet { IsQuiet result }
@@ -217,7 +217,7 @@ pub fn named_node<B: Book>(alloc: Global, book: &mut B, id: NodeId) -> Result<Pl
 }
 
 // The child, if it has the kind that its entry says.
-fn with_kind(entry: &Entry, child: PlacedNode) -> Result<PlacedNode, ReadError>
+pub(crate) fn with_kind(entry: &Entry, child: PlacedNode) -> Result<PlacedNode, ReadError>
     ensures told { Answers (λ found. found.node) (HasKind (entry_value entry.now) child.node) result }
     ensures same { IfOk result (λ found. found ≡ child) }
     ensures quiet { IsQuiet result }
