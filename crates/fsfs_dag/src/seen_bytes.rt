@@ -1,7 +1,7 @@
 //! The bytes that were read last, kept for the node-revisions that stand beside the one that was read.
 //!
 //! The nodes of a directory are mostly written in one revision, one behind the other and before the directory itself.
-ghost use Rattle.std.specs.Prelude.{◌≡◌, ℕ, true, take, Ok, IfOk, IfErr, IfSome};
+ghost use Rattle.std.specs.Prelude.{◌≡◌, ℕ, true, length, take, Ok, IfOk, IfErr, IfSome};
 ghost use Rattle.fsfs_book.specs.Told.{Look, Knows, Keeps};
 ghost use Rattle.fsfs_revision.specs.Nodes.{is_ordered};
 ghost use Rattle.fsfs_shows.specs.Readings.{Answers};
@@ -66,7 +66,7 @@ impl Seen {
 
     // Keeps a revision's bytes from a place on.
     fn read<B: Book>(&mut self, book: &mut B, at: RevOffset) -> Result<(), ReadError>
-        ensures told { (look : Look) → IsTold (B.told book.old) look at.rev → Answers (λ _. take self.new.count self.new.bytes) (WindowAt look at 8192) result }
+        ensures told { (look : Look) → IsTold (B.told book.old) look at.rev → Answers (λ _. take self.new.count self.new.bytes) (WindowAt look at (length self.old.bytes)) result }
         ensures seen { (look : Look) → IsTold (B.told book.old) look at.rev → IsSeen look self.new }
         ensures kept { Keeps (B.told book.old) (B.told book.new) }
         ensures cause { HasCause (B.faults book.old) (B.faults book.new) result }
@@ -80,8 +80,8 @@ impl Seen {
 
 // The node-revision at a place, if what is kept shows one. What is kept may end within it, so that its damage says nothing.
 fn node_kept(alloc: Global, at: RevOffset, seen: &Seen) -> Result<Option<NodeRev>, ReadError>
-    ensures told { (look : Look) → IsSeen look seen.now → IfOk result (IfSome (λ v. NodeAt look at (Ok v))) }
-    ensures ordered { IfOk result (IfSome (λ v. is_ordered at v ≡ true)) }
+    ensures told { (look : Look) → IsSeen look seen.now → IfOk result (λ found. IfSome found (λ v. NodeAt look at (Ok v))) }
+    ensures ordered { IfOk result (λ found. IfSome found (λ v. is_ordered at v ≡ true)) }
     ensures memory { IfErr result (λ e. e ≡ OutOfMemory) }
 {
     let Some(bytes) = seen.from_place(at) else {

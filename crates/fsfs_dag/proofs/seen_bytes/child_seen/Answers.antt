@@ -1,0 +1,15 @@
+use Rattle.std.proofs.lemmas.Result.{err_from_is_err_and}
+use Rattle.fsfs_shows.specs.Reading.{OfId, HasKind}
+use Rattle.fsfs_dag.specs.declared.node.PlacedNode.{PlacedNode}
+use Rattle.fsfs_dag.specs.Views.{entry_value}
+use Rattle.fsfs_dag.proofs.Steps.{stops, goes_on}
+use Rattle.fsfs_dag.proofs.seen_bytes.child_seen.Goals as goal
+
+pub returns-in_err-child-clause-told : goal.returns-in_err-child-clause-told
+returns-in_err-child-clause-told g c = λ look knows seen.
+    let p = err_from_is_err_and c.from_residual.result c.from_residual.ensures.1 in
+    rw (p.1, p.2) (stops (λ (found : PlacedNode). found.node) (λ (found : PlacedNode). found.node) c.in_err-child.field-0.0 (OfId look c.args.entry.now.id) (HasKind (entry_value c.args.entry.now)) (c.in_err-child.ensures.told look knows seen))
+
+pub returns-clause-told : goal.returns-clause-told
+returns-clause-told g c = λ look knows seen.
+    goes_on (λ (found : PlacedNode). found.node) c.with_kind.result (OfId look c.args.entry.now.id) (HasKind (entry_value c.args.entry.now)) c.in_ok-child.child.node (c.in_ok-child.ensures.told look knows seen) c.with_kind.ensures.told

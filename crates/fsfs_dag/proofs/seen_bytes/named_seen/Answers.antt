@@ -1,0 +1,53 @@
+use Rattle.std.proofs.Common.{Err, Ok, arith}
+use Rattle.std.proofs.lemmas.Result.{err_from_is_err_and}
+use Rattle.fsfs_book.specs.Told.{Look}
+use Rattle.fsfs_noderev.specs.declared.node_rev.NodeRev.{NodeRev}
+use Rattle.fsfs_revision.specs.declared.damage.RevOffset.{RevOffset}
+use Rattle.fsfs_shows.specs.Readings.{Answers}
+use Rattle.fsfs_shows.specs.Reading.{NodeAt, HasId, offset_of}
+use Rattle.fsfs_dag.specs.Seen.{IsSeen}
+use Rattle.fsfs_dag.specs.Told.{IsTold}
+use Rattle.fsfs_dag.specs.declared.node.PlacedNode.{PlacedNode}
+use Rattle.fsfs_dag.proofs.Steps.{stops, goes_on, err_as}
+use Rattle.fsfs_dag.proofs.Windows.{along}
+use Rattle.fsfs_dag.proofs.seen_bytes.named_seen.Goals as goal
+
+pub returns-in_err-read-clause-told : goal.returns-in_err-read-clause-told
+returns-in_err-read-clause-told g c = λ look knows seen.
+    let p = err_from_is_err_and c.from_residual.result c.from_residual.ensures.1 in
+    let e = c.in_err-read.field-0.0 in
+    let at = offset_of c.args.id.place in
+    let read = along (λ (a : RevOffset). (l : Look) → IsTold (g.B.Book.told c.args.book.now) l a.rev → IsSeen l c.args.seen.now → Answers (λ (v : NodeRev). v) (NodeAt l a) (Err e)) c.offset_of.result at c.offset_of.ensures c.in_err-read.ensures.told in
+    rw (p.1, p.2) (stops (λ (v : NodeRev). v) (λ (found : PlacedNode). found.node) e (NodeAt look at) (HasId c.args.id) (read look (knows at.rev (omega arith)) seen))
+
+pub returns-in_err-read-clause-seen : goal.returns-in_err-read-clause-seen
+returns-in_err-read-clause-seen g c = λ look knows seen.
+    let at = offset_of c.args.id.place in
+    along (λ (a : RevOffset). (l : Look) → IsTold (g.B.Book.told c.args.book.now) l a.rev → IsSeen l c.args.seen.now → IsSeen l c.node_seen.new.seen) c.offset_of.result at c.offset_of.ensures c.in_err-read.ensures.seen look (knows at.rev (omega arith)) seen
+
+pub returns-in_err-node-clause-told : goal.returns-in_err-node-clause-told
+returns-in_err-node-clause-told g c = λ look knows seen.
+    let p = err_from_is_err_and c.from_residual-in_err-node.result c.from_residual-in_err-node.ensures.1 in
+    let e = c.in_err-node.field-0.0 in
+    let v = c.in_ok-read.read in
+    let at = offset_of c.args.id.place in
+    let read = along (λ (a : RevOffset). (l : Look) → IsTold (g.B.Book.told c.args.book.now) l a.rev → IsSeen l c.args.seen.now → NodeAt l a (Ok v)) c.offset_of.result at c.offset_of.ensures c.in_ok-read.ensures.told in
+    let named = err_as (λ (u : NodeRev). u) (λ (found : PlacedNode). found.node) e (HasId c.args.id v) c.in_err-node.ensures.told in
+    rw (p.1, p.2) (goes_on (λ (found : PlacedNode). found.node) (Err e) (NodeAt look at) (HasId c.args.id) v (read look (knows at.rev (omega arith)) seen) named)
+
+pub returns-in_err-node-clause-seen : goal.returns-in_err-node-clause-seen
+returns-in_err-node-clause-seen g c = λ look knows seen.
+    let at = offset_of c.args.id.place in
+    along (λ (a : RevOffset). (l : Look) → IsTold (g.B.Book.told c.args.book.now) l a.rev → IsSeen l c.args.seen.now → IsSeen l c.node_seen.new.seen) c.offset_of.result at c.offset_of.ensures c.in_ok-read.ensures.seen look (knows at.rev (omega arith)) seen
+
+pub returns-clause-told : goal.returns-clause-told
+returns-clause-told g c = λ look knows seen.
+    let v = c.in_ok-read.read in
+    let at = offset_of c.args.id.place in
+    let read = along (λ (a : RevOffset). (l : Look) → IsTold (g.B.Book.told c.args.book.now) l a.rev → IsSeen l c.args.seen.now → NodeAt l a (Ok v)) c.offset_of.result at c.offset_of.ensures c.in_ok-read.ensures.told in
+    (v, read look (knows at.rev (omega arith)) seen, c.in_ok-node.ensures.told)
+
+pub returns-clause-seen : goal.returns-clause-seen
+returns-clause-seen g c = λ look knows seen.
+    let at = offset_of c.args.id.place in
+    along (λ (a : RevOffset). (l : Look) → IsTold (g.B.Book.told c.args.book.now) l a.rev → IsSeen l c.args.seen.now → IsSeen l c.node_seen.new.seen) c.offset_of.result at c.offset_of.ensures c.in_ok-read.ensures.seen look (knows at.rev (omega arith)) seen
