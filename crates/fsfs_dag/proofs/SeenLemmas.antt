@@ -30,7 +30,7 @@ module _ (look : Look) (seen : Seen) (at : RevOffset) (kept : List ℕ) (is : ke
       let place : seen.at.offset + skipped ≡ at.offset = omega (arith, after) in
       let part =
       take_rest kept skipped ∙ part_from count skipped (drop seen.at.offset w.0) kept (is ∙ w.2) within
-          ∙ ap (take (count - skipped)) (drop-drop skipped seen.at.offset w.0 ∙ ap (λ (n : ℕ). drop n w.0) place) in
+      ∙ ap (take (count - skipped)) (drop-drop skipped seen.at.offset w.0 ∙ ap (λ (n : ℕ). drop n w.0) place) in
       (count - skipped, (w.0, ap look same ∙ w.1, part))
 
   nothing : seen.count ≡ 0 → Part

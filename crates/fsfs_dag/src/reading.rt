@@ -50,7 +50,11 @@ fn length<B: Book>(book: &mut B, rev: u32) -> Result<u64, ReadError>
 }
 
 // Reads a revision's bytes from a place on, as many as there are and as fit; none past the end.
-pub(crate) fn window<B: Book>(book: &mut B, at: RevOffset, buffer: &mut [u8]) -> Result<usize, ReadError>
+pub(crate) fn window<B: Book>(
+    book: &mut B,
+    at: RevOffset,
+    buffer: &mut [u8],
+) -> Result<usize, ReadError>
     ensures bound { IfOk result (λ n. n ≤ length buffer.new) }
     ensures told { (look : Look) → IsTold (B.told book.old) look at.rev → Answers (λ n. take n buffer.new) (WindowAt look at (length buffer.old)) result }
     ensures kept { Keeps (B.told book.old) (B.told book.new) }
@@ -92,7 +96,11 @@ fn root_place<B: Book>(book: &mut B, rev: u32) -> Result<RevOffset, ReadError>
 // The node-revision that stands at a place, or why none does, of all the bytes that one may have. A function of its own, so
 // that their buffer is made only where it is wanted.
 #[inline(never)]
-pub(crate) fn node_in_whole<B: Book>(alloc: Global, book: &mut B, at: RevOffset) -> Result<NodeRev, ReadError>
+pub(crate) fn node_in_whole<B: Book>(
+    alloc: Global,
+    book: &mut B,
+    at: RevOffset,
+) -> Result<NodeRev, ReadError>
     ensures told { (look : Look) → IsTold (B.told book.old) look at.rev → Answers (λ v. v) (NodeAt look at) result }
     ensures ordered { IfOk result (λ v. is_ordered at v ≡ true) }
     ensures kept { Keeps (B.told book.old) (B.told book.new) }

@@ -1,6 +1,9 @@
 //! Readings of small revisions whose bytes are given by hand, whole and damaged.
 
-use crate::{Met, TextError, entries, entry_named, node_at, props, root_of, text_of, text_to};
+use crate::{
+    Met, Seen, TextError, child_seen, entries, entry_named, node_at, props, root_of, text_of,
+    text_to,
+};
 use fsfs_base::{FsPath, Kind};
 use fsfs_book::{Kept, MemBook, MemRev, Refusal};
 use fsfs_memdisk::MemSink;
@@ -203,6 +206,51 @@ fn long(rt: HostRuntime) -> Result<(), Fail> {
         let mut book = book_of(alloc, &[bytes], &[failing])?;
         assert_eq!(rt; answer_of(met(alloc, &mut book, 1, "/")), want);
     }
+    Ok(())
+}
+
+// What was read last shows a child again without a call of the book; a reading that fails leaves nothing of it.
+#[test]
+fn seen_again(rt: HostRuntime) -> Result<(), Fail> {
+    let alloc = rt.alloc();
+    let mut book = book_of(alloc, &[EMPTY_FILE], &[])?;
+    let root = root_of(alloc, &mut book, 1)?;
+    let below = entries(alloc, &mut book, &root)?;
+    let entry = entry_named(&below, "e").ok_or("no entry")?;
+    let mut once = book_of(alloc, &[EMPTY_FILE], &[2])?;
+    let mut seen = Seen::new();
+    for _ in 0..2usize {
+        let file = child_seen(alloc, &mut once, entry, &mut seen)?;
+        assert_eq!(rt; file.place(), RevOffset { rev: 1, offset: 13 });
+    }
+    let mut failing = book_of(alloc, &[EMPTY_FILE], &[1])?;
+    let mut nothing = Seen::new();
+    assert!(rt; child_seen(alloc, &mut failing, entry, &mut nothing).is_err());
+    assert!(rt; child_seen(alloc, &mut failing, entry, &mut nothing).is_ok());
+    Ok(())
+}
+
+// A child that is longer than what is kept costs two calls each time.
+#[test]
+fn seen_in_part(rt: HostRuntime) -> Result<(), Fail> {
+    let alloc = rt.alloc();
+    let mut book = book_of(alloc, &[FIRST_DIRECTORY], &[])?;
+    let root = root_of(alloc, &mut book, 1)?;
+    let below = entries(alloc, &mut book, &root)?;
+    let entry = entry_named(&below, "a").ok_or("no entry")?;
+    let mut long = Vec::from_slice(alloc, FIRST_DIRECTORY.get(..58).ok_or("too short")?)?;
+    long.extend_from_slice(b"note: ")?;
+    for _ in 0..9000usize {
+        long.push(b'a')?;
+    }
+    long.extend_from_slice(b"\n\n")?;
+    let mut long_book = book_of(alloc, &[long.as_slice()], &[5])?;
+    let mut seen = Seen::new();
+    for _ in 0..2usize {
+        let child = child_seen(alloc, &mut long_book, entry, &mut seen)?;
+        assert_eq!(rt; child.place(), RevOffset { rev: 1, offset: 0 });
+    }
+    assert!(rt; child_seen(alloc, &mut long_book, entry, &mut seen).is_err());
     Ok(())
 }
 
