@@ -4,8 +4,6 @@
 mod date;
 mod digest;
 mod prop_name;
-#[cfg(test)]
-mod text_tests;
 mod txn_name;
 
 pub use date::{read_date, write_date};
