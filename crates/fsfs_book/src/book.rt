@@ -44,9 +44,12 @@ pub enum BookFault {
 /// A book may tell, a revision at a time, what there is to read. What it has told stays true, and it may come to tell
 /// more. A book that tells nothing still names its refusals rightly and counts its faults.
 pub trait Book {
+    /// What can be said of what is below it, as a disk.
+    ghost Below: { Type 0 };
+
     /// What it tells: of each revision its bytes and the bytes of its property file, or why there are none; the youngest
-    /// revision, where that is known; and the disk that it reads, which no call changes.
-    ghost told: { Self → Telling };
+    /// revision, where that is known; and what is below it, which no call changes.
+    ghost told: { Self → Telling Below };
 
     /// How often the disk below it has failed. The count stops at the last number of a u64.
     ghost faults: { Self → ℕ };

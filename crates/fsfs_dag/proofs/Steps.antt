@@ -7,10 +7,10 @@ use Rattle.fsfs_shows.specs.declared.wrong.ReadError.TheVariants as errors
 use Rattle.fsfs_shows.specs.Readings.{AndThen, Answers}
 
 -- what is told stays told
-pub told_later : (old new : Telling) (look : Look) (rev : ℕ) → Keeps old new → old.revs rev ≡ Some (look rev) → new.revs rev ≡ Some (look rev)
+pub told_later : {Below : Type 0} (old new : Telling Below) (look : Look) (rev : ℕ) → Keeps old new → old.revs rev ≡ Some (look rev) → new.revs rev ≡ Some (look rev)
 told_later old new look rev kept told = kept.revs rev (look rev) told
 
-pub knows_later : (old new : Telling) (look : Look) (top : ℕ) → Keeps old new → Knows old.revs top look → Knows new.revs top look
+pub knows_later : {Below : Type 0} (old new : Telling Below) (look : Look) (top : ℕ) → Keeps old new → Knows old.revs top look → Knows new.revs top look
 knows_later old new look top kept knows r le = kept.revs r (look r) (knows r le)
 
 -- what is wrong in the first reading stops what follows

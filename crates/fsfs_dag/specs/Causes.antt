@@ -1,6 +1,6 @@
 -- Counts of faults, where a reading fails.
 use Rattle.std.specs.Prelude.{ℕ, ◌≤◌, Result, IfErr}
-use Rattle.fsfs_book.specs.Told.{Rose}
+use Rattle.fsfs_base.specs.Counts.{Rose}
 use Rattle.fsfs_shows.specs.declared.wrong.ReadError.{ReadError}
 use Rattle.fsfs_shows.specs.declared.wrong.ReadError.TheVariants as errors
 

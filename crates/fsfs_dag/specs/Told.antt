@@ -10,7 +10,7 @@ use Rattle.fsfs_shows.specs.Readings.{AndThen, IsDamage}
 use Rattle.fsfs_shows.specs.Reading.{BytesOf}
 
 -- what look says of the revision is what is told of it
-abbrev pub IsTold : Telling → Look → ℕ → Type 0
+abbrev pub IsTold : {Below : Type 0} → Telling Below → Look → ℕ → Type 0
 IsTold told look rev = told.revs rev ≡ Some (look rev)
 
 -- the length of a revision

@@ -106,7 +106,7 @@ pub popped : (look : Look) (ids : Bool) (R : List ℕ → End → Type 0) (befor
     → Progress R (LeftText look ids (left todo)) before lines old new → Progress R (Then (EntryText look ids next.level (entry_value next.entry)) (LeftText look ids (left rest))) before lines old new
 popped look ids R before lines old new todo rest next e p = subst (λ t. Progress R (LeftText look ids t) before lines old new) (ap left e ∙ left_push rest next) p
 
-pub knows_upto : (old new : Telling) (look : Look) (top upto : ℕ) → Keeps old new → upto ≤ top → Knows old.revs top look → Knows new.revs upto look
+pub knows_upto : {Below : Type 0} (old new : Telling Below) (look : Look) (top upto : ℕ) → Keeps old new → upto ≤ top → Knows old.revs top look → Knows new.revs upto look
 knows_upto old new look top upto kept le knows r lower = kept.revs r (look r) (knows r (omega (arith, lower, le)))
 
 pub child_read : (look : Look) (entry : Entry) (r : Result PlacedNode ReadError) (child : PlacedNode) → r ≡ Ok child → Answers (λ (found : PlacedNode). found.node) (OfEntry look entry) r → OfEntry look entry (Ok child.node)

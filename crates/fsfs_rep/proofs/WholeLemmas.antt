@@ -7,16 +7,8 @@ use Rattle.fsfs_rep.specs.declared.rep_fault.RepFault.{RepFault}
 use Rattle.fsfs_rep.specs.Frames.{rev_of, text_of, IsWhole, IsFaultOf, CarriesValues}
 use Rattle.fsfs_rep.proofs.ReadingLemmas.{take_more_of}
 
-pub keeps_trans : (a b c : Telling) → Keeps a b → Keeps b c → Keeps a c
-keeps_trans a b c first second = record {
-  revs = λ r read e. second.revs r read (first.revs r read e);
-  props = λ r read e. second.props r read (first.props r read e);
-  youngest = λ y e. second.youngest y (first.youngest y e);
-  below = second.below ∙ first.below;
-}
-
 -- what is told of a representation's revision, later
-pub told_later : (old new : Telling) (rep named : Rep) (read : Result (List ℕ) Refusal) → Keeps old new → named ≡ rep → old.revs (rev_of rep) ≡ Some read → new.revs (rev_of named) ≡ Some read
+pub told_later : {Below : Type 0} (old new : Telling Below) (rep named : Rep) (read : Result (List ℕ) Refusal) → Keeps old new → named ≡ rep → old.revs (rev_of rep) ≡ Some read → new.revs (rev_of named) ≡ Some read
 told_later old new rep named read kept same e = ap (λ (r : Rep). new.revs (rev_of r)) same ∙ kept.revs (rev_of rep) read e
 
 pub fault_for : (named rep : Rep) (bytes : List ℕ) (fault : RepFault) → named ≡ rep → IsFaultOf named bytes fault → IsFaultOf rep bytes fault

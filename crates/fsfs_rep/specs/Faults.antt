@@ -1,9 +1,10 @@
 -- Faults that come from the book.
 use Rattle.std.specs.Prelude.{◌≡◌, ◌≤◌, ℕ, Result, IfErr}
+use Rattle.fsfs_base.specs.Counts.{Rose}
 use Rattle.fsfs_book.specs.declared.book.Refusal.{Refusal}
 use Rattle.fsfs_book.specs.declared.book.BookFault.{BookFault}
 use Rattle.fsfs_book.specs.declared.book.BookFault.TheVariants as books
-use Rattle.fsfs_book.specs.Told.{Rose, IfDisk, IsRefusalOf}
+use Rattle.fsfs_book.specs.Told.{IfDisk, IsRefusalOf}
 use Rattle.fsfs_rep.specs.declared.rep_fault.RepFault.{RepFault}
 use Rattle.fsfs_rep.specs.declared.rep_fault.RepFault.TheVariants as faults
 use Rattle.fsfs_rep.specs.declared.rep_fault.RepError.{RepError}

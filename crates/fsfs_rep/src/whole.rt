@@ -1,7 +1,8 @@
 //! All bytes of a representation.
 ghost use Rattle.std.specs.Prelude.{◌≡◌, ◌≤◌, ℕ, List, Some, Ok, Err, IsSome, IfErr, MatchResult};
+ghost use Rattle.fsfs_base.specs.Counts.{Rose};
 ghost use Rattle.fsfs_book.specs.declared.book.Refusal.{Refusal};
-ghost use Rattle.fsfs_book.specs.Told.{Keeps, Rose};
+ghost use Rattle.fsfs_book.specs.Told.{Keeps};
 ghost use Rattle.fsfs_rep.specs.Faults.{IfFault, IfBookFails, IsRefusedFor, NamesRev};
 ghost use Rattle.fsfs_rep.specs.Frames.{rev_of, text_of, IsWhole, IsFaultOf, CarriesValues};
 

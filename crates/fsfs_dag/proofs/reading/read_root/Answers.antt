@@ -5,7 +5,7 @@ use Rattle.fsfs_revision.specs.declared.damage.RevOffset.{RevOffset}
 use Rattle.fsfs_dag.specs.declared.node.PlacedNode.{PlacedNode}
 use Rattle.fsfs_dag.proofs.Steps.{told_later}
 use Rattle.fsfs_dag.proofs.Windows.{root_no_end, root_no_node, root_found, root_wrong, placed_root}
-use Rattle.fsfs_rep.proofs.WholeLemmas.{keeps_trans}
+use Rattle.fsfs_book.proofs.Keeping.{keeps_trans}
 use Rattle.fsfs_dag.proofs.reading.read_root.Goals as goal
 
 pub returns-in_err-at-clause-told : goal.returns-in_err-at-clause-told

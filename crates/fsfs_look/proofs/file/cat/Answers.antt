@@ -1,7 +1,7 @@
 use Rattle.std.proofs.Common.{◌≡◌, ◌≤◌, Some, Ok, Err, refl, sym, subst, arith}
 use Rattle.std.proofs.lemmas.Result.{err_from_is_err_and}
 use Rattle.fsfs_rep.specs.Frames.{rev_of}
-use Rattle.fsfs_rep.proofs.WholeLemmas.{keeps_trans}
+use Rattle.fsfs_book.proofs.Keeping.{keeps_trans}
 use Rattle.fsfs_dag.specs.Views.{home_of}
 use Rattle.fsfs_dag.proofs.Reps.{rep_le}
 use Rattle.fsfs_texts.specs.FileTexts.{MetFileText, FileText}

@@ -4,7 +4,8 @@ use Rattle.std.proofs.lemmas.Result.{err_from_is_err_and}
 use Rattle.fsfs_disk.specs.Streams.{Adds}
 use Rattle.fsfs_disk.proofs.StreamLemmas.{adds_then}
 use Rattle.fsfs_rep.specs.Frames.{text_of, rev_of}
-use Rattle.fsfs_rep.proofs.WholeLemmas.{keeps_trans, bytes_more}
+use Rattle.fsfs_book.proofs.Keeping.{keeps_trans}
+use Rattle.fsfs_rep.proofs.WholeLemmas.{bytes_more}
 use Rattle.fsfs_look.proofs.FileLemmas.{whole_fails, front_of, front_more}
 use Rattle.fsfs_look.proofs.file.write_rep.Goals as goal
 

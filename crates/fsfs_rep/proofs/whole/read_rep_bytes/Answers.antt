@@ -3,7 +3,8 @@ use Rattle.fsfs_noderev.specs.declared.rep.Rep.{Rep}
 use Rattle.std.proofs.lemmas.Result.{err_from_is_err_and}
 use Rattle.std.proofs.lemmas.List.{take_all, length-take}
 use Rattle.fsfs_rep.specs.Frames.{text_of}
-use Rattle.fsfs_rep.proofs.WholeLemmas.{keeps_trans, told_later, fault_for, whole_for, values_for, bytes_more}
+use Rattle.fsfs_book.proofs.Keeping.{keeps_trans}
+use Rattle.fsfs_rep.proofs.WholeLemmas.{told_later, fault_for, whole_for, values_for, bytes_more}
 use Rattle.fsfs_rep.proofs.whole.read_rep_bytes.Goals as goal
 
 pub returns-in_err-count-clause-bytes : goal.returns-in_err-count-clause-bytes
