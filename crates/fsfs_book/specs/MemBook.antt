@@ -1,8 +1,8 @@
 -- What a book in memory tells.
 use Rattle.std.specs.Prelude.{ℕ, ◌+◌, ◌-◌, ◌^◌, min, Bool, nat_eq, List, length, slice_get, Option, Some, None, Result, Ok, Err}
 use Rattle.std.specs.List.{list_any}
-use Rattle.fsfs_book.specs.declared.book.Refusal.{Refusal}
-use Rattle.fsfs_book.specs.declared.book.Refusal.TheVariants.{NoRev, Missing, Small}
+use Rattle.fsfs_damage.specs.declared.wrong.Refusal.{Refusal}
+use Rattle.fsfs_damage.specs.declared.wrong.Refusal.TheVariants.{NoRev, Missing, Small}
 use Rattle.fsfs_book.specs.declared.mem_book.Kept.{Kept}
 use Rattle.fsfs_book.specs.declared.mem_book.Kept.TheVariants.{Bytes, Absent, Damaged}
 use Rattle.fsfs_book.specs.declared.mem_book.MemRev.{MemRev}

@@ -1,8 +1,10 @@
 -- What a book tells, and answers that agree with it.
 use Rattle.std.specs.Prelude.{◌≡◌, ℕ, ◌<◌, ◌≤◌, nat_lt, List, length, take, drop, Option, Some, Result, Ok, Err, IfErr, if◌then◌else◌}
-use Rattle.fsfs_base.specs.Counts.{Rose}
-use Rattle.fsfs_book.specs.declared.book.Refusal.{Refusal}
-use Rattle.fsfs_book.specs.declared.book.Refusal.TheVariants.{NoRev, Missing, Small}
+use Rattle.fsfs_base.specs.Counts as counts
+use Rattle.fsfs_damage.specs.declared.wrong.Refusal.{Refusal}
+use Rattle.fsfs_damage.specs.declared.wrong.Refusal.TheVariants.{NoRev, Missing, Small}
+use Rattle.fsfs_damage.specs.declared.wrong.Wrong.{Wrong}
+use Rattle.fsfs_damage.specs.declared.wrong.Wrong.TheVariants as wrongs
 use Rattle.fsfs_book.specs.declared.book.BookFault.{BookFault}
 use Rattle.fsfs_book.specs.declared.book.BookFault.TheVariants.{Refused, Short, DiskFault, OutOfMemory}
 
@@ -71,6 +73,16 @@ IfDisk (Refused refusal) P = Unit {0}
 IfDisk (Short rev offset) P = Unit {0}
 
 -- a count never falls, and rose where the disk failed
-pub record HasCause {T : Type 0} (before now : ℕ) (result : Result T BookFault) : Type 0 where
-  pub later : before ≤ now
-  pub failed : IfErr result (λ fault. IfDisk fault (Rose before now))
+abbrev pub HasCause : {T : Type 0} → ℕ → ℕ → Result T BookFault → Type 0
+HasCause before now result = counts.HasCause IfDisk before now result
+
+-- ---- what is told, as a reading
+
+-- look is what is told of the revision
+abbrev pub IsTold : {Below : Type 0} → Telling Below → Look → ℕ → Type 0
+IsTold told look rev = told.revs rev ≡ Some (look rev)
+
+-- the bytes of a revision
+abbrev pub BytesOf : Look → ℕ → Result (List ℕ) Wrong → Type 0
+BytesOf look rev (Ok bytes) = look rev ≡ Ok bytes
+BytesOf look rev (Err w) = (why : Refusal) × (look rev ≡ Err why) × (w ≡ wrongs.Refused why)

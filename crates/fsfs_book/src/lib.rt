@@ -8,5 +8,5 @@ mod mem_book;
 #[cfg(test)]
 mod tests;
 
-pub use book::{Book, BookFault, Refusal};
+pub use book::{Book, BookFault};
 pub use mem_book::{Kept, MemBook, MemRev};

@@ -2,12 +2,13 @@
 ghost use Rattle.std.specs.Prelude.{◌≡◌, ◌<◌, ◌≤◌, ◌-◌, ◌↔◌, Ok, Err, IsTrue, IsErr, IfOk, IfErr, OnErr, MatchResult, vec_len, length, take};
 ghost use Rattle.fsfs_base.specs.Counts.{Rose};
 ghost use Rattle.fsfs_book.specs.declared.book.BookFault.TheVariants.{Short, DiskFault};
-ghost use Rattle.fsfs_book.specs.declared.book.Refusal.TheVariants.{NoRev};
+ghost use Rattle.fsfs_damage.specs.declared.wrong.Refusal.TheVariants.{NoRev};
 ghost use Rattle.fsfs_book.specs.Told.{Gives, part_read, IsRefusalOf};
 ghost use Rattle.fsfs_book.specs.MemBook.{bytes_in, props_in, read_of, next_call, is_next_listed};
 
-use crate::book::{Book, BookFault, Refusal};
+use crate::book::{Book, BookFault};
 use fsfs_base::SmallFault;
+use fsfs_damage::Refusal;
 use std::alloc::Global;
 
 /// What stands where the bytes of a file are looked for.

@@ -1,7 +1,8 @@
 //! A small book of four revisions.
 
-use crate::{Book, BookFault, Kept, MemBook, MemRev, Refusal};
+use crate::{Book, BookFault, Kept, MemBook, MemRev};
 use fsfs_base::{SmallFault, SmallFile};
+use fsfs_damage::Refusal;
 use std::alloc::{AllocError, Global};
 use std::test::Fail;
 

@@ -2,10 +2,9 @@
 
 use crate::{Met, TextError, entries, entry_named, node_at, props, root_of, text_of, text_to};
 use fsfs_base::{FsPath, Kind};
-use fsfs_book::{Kept, MemBook, MemRev, Refusal};
+use fsfs_book::{Kept, MemBook, MemRev};
+use fsfs_damage::{Damage, ReadError, Refusal, RevOffset, What, Wrong};
 use fsfs_memdisk::MemSink;
-use fsfs_revision::{Damage, RevOffset, What};
-use fsfs_shows::{ReadError, Wrong};
 use std::alloc::{AllocError, Global};
 use std::test::Fail;
 

@@ -9,5 +9,5 @@ mod tests;
 
 pub use fault::Fault;
 pub use fsfs_words::Tool;
-pub use line::{fault_text, status, what_text};
+pub use line::{fault_text, status};
 pub use output::print_fault;

@@ -4,8 +4,8 @@ use Rattle.std.specs.Cmp.Lexicographic.{pointwise}
 use Rattle.std.specs.FinMap as map
 use Rattle.fsfs_base.specs.Files.{Files}
 use Rattle.fsfs_base.specs.declared.small_fault.SmallFault.{SmallFault}
-use Rattle.fsfs_book.specs.declared.book.Refusal.{Refusal}
-use Rattle.fsfs_book.specs.declared.book.Refusal.TheVariants.{NoRev}
+use Rattle.fsfs_damage.specs.declared.wrong.Refusal.{Refusal}
+use Rattle.fsfs_damage.specs.declared.wrong.Refusal.TheVariants.{NoRev}
 use Rattle.fsfs_book.specs.Told.{Telling}
 use Rattle.fsfs_fetch.specs.declared.manifests.KeptManifest.{KeptManifest}
 use Rattle.fsfs_fetch.specs.RevBytes.{rev_bytes, rev_file, props_bytes, manifest_in}

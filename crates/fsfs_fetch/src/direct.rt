@@ -2,7 +2,7 @@
 ghost use Rattle.std.specs.Prelude.{◌≡◌, ◌≤◌, ◌<◌, ℕ, List, Some, None, Ok, length, take, IfOk, IfErr, OnOk};
 ghost use Rattle.fsfs_base.specs.Files.{Files};
 ghost use Rattle.fsfs_book.specs.declared.book.BookFault.TheVariants.{Refused};
-ghost use Rattle.fsfs_book.specs.declared.book.Refusal.TheVariants.{NoRev};
+ghost use Rattle.fsfs_damage.specs.declared.wrong.Refusal.TheVariants.{NoRev};
 ghost use Rattle.fsfs_book.specs.Told.{HasCause, Gives, IsAbout, size_read, part_read};
 ghost use Rattle.fsfs_disk.specs.Trace.{Trace, files_now};
 ghost use Rattle.fsfs_fetch.specs.Owned.{TellsAll, state_of};
@@ -16,7 +16,8 @@ use crate::manifests::KeptManifest;
 use crate::owned::OwnedReads;
 use crate::packs::{packed_len, packed_part};
 use crate::reads::Reads;
-use fsfs_book::{Book, BookFault, Refusal};
+use fsfs_book::{Book, BookFault};
+use fsfs_damage::Refusal;
 use fsfs_disk::Disk;
 use fsfs_layout::names;
 use std::alloc::Global;

@@ -2,7 +2,8 @@
 
 use crate::{Direct, OwnedReads, disk_of, over_disk};
 use fsfs_base::{SmallFault, SmallFile};
-use fsfs_book::{Book, BookFault, Refusal};
+use fsfs_book::{Book, BookFault};
+use fsfs_damage::Refusal;
 use fsfs_disk::{Disk, Name};
 use fsfs_memdisk::MemDisk;
 use std::alloc::Global;

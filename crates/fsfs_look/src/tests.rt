@@ -2,10 +2,9 @@
 
 use crate::{LookError, cat, tree_text};
 use fsfs_base::FsPath;
-use fsfs_book::{Kept, MemBook, MemRev, Refusal};
+use fsfs_book::{Kept, MemBook, MemRev};
+use fsfs_damage::{Damage, Refusal, RepWhat, RevOffset, What, Wrong};
 use fsfs_memdisk::MemSink;
-use fsfs_revision::{Damage, RevOffset, What};
-use fsfs_shows::{RepWhat, Wrong};
 use fsfs_texts::LookFault;
 use std::alloc::{AllocError, Global};
 use std::test::Fail;
@@ -179,9 +178,9 @@ fn texts(rt: HostRuntime) -> Result<(), Fail> {
             Err(LookError::Fault(LookFault::Wrong(Wrong::Delta(found)))) => assert!(rt;
                 found == at
             ),
-            Err(LookError::Fault(LookFault::Wrong(Wrong::BadRep(damage)))) => {
+            Err(LookError::Fault(LookFault::Wrong(Wrong::Damaged(damage)))) => {
                 assert!(rt; damage.at == at);
-                assert!(rt; matches!(damage.what, RepWhat::Md5 { .. }));
+                assert!(rt; matches!(damage.what, What::Rep(RepWhat::Md5 { .. })));
             }
             Err(error) => return Err(error.into()),
         }

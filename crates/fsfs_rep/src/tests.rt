@@ -1,8 +1,9 @@
 //! Representations of small revisions, whole and damaged.
 
-use crate::{Digester, RepError, RepFault, RepReader, read_rep_bytes};
+use crate::{Digester, RepReader, read_rep_bytes};
 use fsfs_base::HexDigest;
-use fsfs_book::{BookFault, Kept, MemBook, MemRev, Refusal};
+use fsfs_book::{Kept, MemBook, MemRev};
+use fsfs_damage::{ReadError, Refusal, RepWhat, RevOffset, What, Wrong};
 use fsfs_noderev::{Rep, read_rep};
 use std::alloc::{AllocError, Global};
 use std::test::Fail;
@@ -21,19 +22,25 @@ fn book_of(alloc: Global, bytes: &[u8], failing: &[u64]) -> Result<MemBook, Allo
     Ok(MemBook::with_faults(revs, Vec::from_slice(alloc, failing)?))
 }
 
-fn read(alloc: Global, bytes: &[u8], rep: &Rep) -> Result<Vec<u8>, RepError> {
+fn read(alloc: Global, bytes: &[u8], rep: &Rep) -> Result<Vec<u8>, ReadError> {
     let mut book = book_of(alloc, bytes, &[])?;
     if rep.rev.is_none() {
-        return Err(RepError::OutOfMemory);
+        return Err(ReadError::OutOfMemory);
     }
     read_rep_bytes(alloc, &mut book, rep)
 }
 
-fn damaged(answer: Result<Vec<u8>, RepError>) -> Option<RepFault> {
-    match answer {
-        Err(RepError::Fault(fault)) => Some(fault),
-        _ => None,
-    }
+fn wrong(answer: Result<Vec<u8>, ReadError>) -> Option<ReadError> {
+    answer.err()
+}
+
+// Damage of the representation that begins at this place.
+fn bad(offset: u64, what: RepWhat) -> ReadError {
+    ReadError::damaged(RevOffset { rev: 1, offset }, What::Rep(what))
+}
+
+fn delta() -> ReadError {
+    ReadError::Wrong(Wrong::Delta(RevOffset { rev: 1, offset: 2 }))
 }
 
 #[test]
@@ -81,73 +88,87 @@ fn names_what_is_damaged(rt: HostRuntime) -> Result<(), Fail> {
         (
             b"xxPLAIN\naBcENDREP\n".as_slice(),
             ABC,
-            RepFault::Md5 {
-                kept: md5(b"900150983cd24fb0d6963f7d28e17f72"),
-                found: md5(b"dbbbbe4975e026e04a687871f296a2b2"),
-            },
+            bad(
+                2,
+                RepWhat::Md5 {
+                    kept: md5(b"900150983cd24fb0d6963f7d28e17f72"),
+                    found: md5(b"dbbbbe4975e026e04a687871f296a2b2"),
+                },
+            ),
         ),
-        (b"xxPLAIN\nabcENDREP".as_slice(), ABC, RepFault::NoTrailer),
+        (
+            b"xxPLAIN\nabcENDREP".as_slice(),
+            ABC,
+            bad(2, RepWhat::EndRep),
+        ),
         (
             b"xxPLAIN\nabcdENDREP\n".as_slice(),
             ABC,
-            RepFault::NoTrailer,
+            bad(2, RepWhat::EndRep),
         ),
-        (b"xxPLAIN\nab".as_slice(), ABC, RepFault::NoTrailer),
-        (b"xxPLAINabcENDREP\n".as_slice(), ABC, RepFault::NoHeader),
-        (b"x".as_slice(), ABC, RepFault::NoHeader),
-        // A delta, with a base or without.
+        (b"xxPLAIN\nab".as_slice(), ABC, bad(2, RepWhat::EndRep)),
         (
-            b"xxDELTA\nabcENDREP\n".as_slice(),
+            b"xxPLAINabcENDREP\n".as_slice(),
             ABC,
-            RepFault::Delta { rev: 1, offset: 2 },
+            bad(2, RepWhat::Header),
         ),
+        (b"x".as_slice(), ABC, bad(2, RepWhat::Header)),
+        // A delta, with a base or without.
+        (b"xxDELTA\nabcENDREP\n".as_slice(), ABC, delta()),
         (
             b"xxDELTA 2147483647 18446744073709551615 0\n".as_slice(),
             ABC,
-            RepFault::Delta { rev: 1, offset: 2 },
+            delta(),
         ),
         (
             b"xxDELTA 2147483648 0 0\n".as_slice(),
             ABC,
-            RepFault::NoHeader,
+            bad(2, RepWhat::Header),
         ),
-        (b"xxDELTA 0 017 4\n".as_slice(), ABC, RepFault::NoHeader),
-        (b"xxDELTA 0 17\n".as_slice(), ABC, RepFault::NoHeader),
+        (
+            b"xxDELTA 0 017 4\n".as_slice(),
+            ABC,
+            bad(2, RepWhat::Header),
+        ),
+        (b"xxDELTA 0 17\n".as_slice(), ABC, bad(2, RepWhat::Header)),
         // Numbers that are not those of the bytes.
         (
             b"xxPLAIN\nabcENDREP\n".as_slice(),
             b"1 2 3 4 900150983cd24fb0d6963f7d28e17f72".as_slice(),
-            RepFault::Size { kept: 4, found: 3 },
+            bad(2, RepWhat::Size { kept: 4, found: 3 }),
         ),
         (
             b"xxPLAIN\nabcENDREP\n".as_slice(),
             b"1 2 18446744073709551615 0 900150983cd24fb0d6963f7d28e17f72".as_slice(),
-            RepFault::NoTrailer,
+            bad(2, RepWhat::EndRep),
         ),
         (
             b"xxPLAIN\nabcENDREP\n".as_slice(),
             b"1 18446744073709551615 3 0 900150983cd24fb0d6963f7d28e17f72".as_slice(),
-            RepFault::NoHeader,
+            bad(u64::MAX, RepWhat::Header),
         ),
         // The MD5 agrees, and the SHA-1 does not.
         (
             b"xxPLAIN\nabcENDREP\n".as_slice(),
             b"1 2 3 0 900150983cd24fb0d6963f7d28e17f72 da39a3ee5e6b4b0d3255bfef95601890afd80709 0-0/_1".as_slice(),
-            RepFault::Sha1 {
-                kept: sha1(b"da39a3ee5e6b4b0d3255bfef95601890afd80709"),
-                found: sha1(b"a9993e364706816aba3e25717850c26c9cd0d89d"),
-            },
+            bad(
+                2,
+                RepWhat::Sha1 {
+                    kept: sha1(b"da39a3ee5e6b4b0d3255bfef95601890afd80709"),
+                    found: sha1(b"a9993e364706816aba3e25717850c26c9cd0d89d"),
+                },
+            ),
         ),
         // Another revision: one that is absent, and one that isn't there.
         (
             b"".as_slice(),
             b"0 2 3 0 900150983cd24fb0d6963f7d28e17f72".as_slice(),
-            RepFault::Book(BookFault::Refused(Refusal::Missing { rev: 0 })),
+            ReadError::Wrong(Wrong::Refused(Refusal::Missing { rev: 0 })),
         ),
         (
             b"".as_slice(),
             b"2 2 3 0 900150983cd24fb0d6963f7d28e17f72".as_slice(),
-            RepFault::Book(BookFault::Refused(Refusal::NoRev {
+            ReadError::Wrong(Wrong::Refused(Refusal::NoRev {
                 asked: 2,
                 youngest: 1,
             })),
@@ -155,8 +176,8 @@ fn names_what_is_damaged(rt: HostRuntime) -> Result<(), Fail> {
     ];
     for (bytes, text, want) in table {
         let rep = read_rep(text).ok_or("a representation")?;
-        let fault = damaged(read(rt.alloc(), bytes, &rep));
-        assert!(rt; fault == Some(want), "at {want:?}");
+        let error = wrong(read(rt.alloc(), bytes, &rep));
+        assert!(rt; error == Some(want), "at {want:?}");
     }
     Ok(())
 }
@@ -170,15 +191,15 @@ fn fails_with_the_book(rt: HostRuntime) -> Result<(), Fail> {
     }
     for call in 1..4u64 {
         let mut book = book_of(rt.alloc(), b"xxPLAIN\nabcENDREP\n", &[call])?;
-        let fault = damaged(read_rep_bytes(rt.alloc(), &mut book, &rep));
-        assert!(rt; fault == Some(RepFault::Book(BookFault::DiskFault)));
+        let error = wrong(read_rep_bytes(rt.alloc(), &mut book, &rep));
+        assert!(rt; error == Some(ReadError::DiskFault));
         assert!(rt; book.faults() == 1);
     }
     // A piece that could not be read is read at the next call.
     let mut book = book_of(rt.alloc(), b"xxPLAIN\nabcENDREP\n", &[2])?;
     let mut piece = [0u8; 8];
     let mut reader = RepReader::begin(&mut book, &rep)?;
-    assert!(rt; reader.next(&mut book, &mut piece) == Err(RepFault::Book(BookFault::DiskFault)));
+    assert!(rt; reader.next(&mut book, &mut piece) == Err(ReadError::DiskFault));
     assert!(rt; reader.next(&mut book, &mut piece) == Ok(3));
     assert!(rt; &piece[..3] == b"abc".as_slice());
     assert!(rt; reader.left() == 0);

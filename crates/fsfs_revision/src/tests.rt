@@ -1,8 +1,6 @@
 // Trailers and roots, worked out by hand.
-use crate::{
-    Damage, RevOffset, RevisionError, Trailer, What, put_trailer, read_root, read_tail,
-    read_trailer,
-};
+use crate::{Trailer, put_trailer, read_root, read_tail, read_trailer};
+use fsfs_damage::{ReadError, RevOffset, What};
 use std::test::Fail;
 
 // The bytes of a revision, and the two offsets of its trailer.
@@ -49,13 +47,7 @@ fn roots(rt: HostRuntime) -> Result<(), Fail> {
     let at = RevOffset { rev: 8, offset: 0 };
     match read_root(alloc, 8, root) {
         Ok(_) => assert!(rt; false),
-        Err(error) => assert_eq!(rt;
-            error,
-            RevisionError::Damaged(Damage {
-                at,
-                what: What::OtherId
-            })
-        ),
+        Err(error) => assert_eq!(rt; error, ReadError::damaged(at, What::OtherId)),
     }
     Ok(())
 }
