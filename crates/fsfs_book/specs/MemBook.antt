@@ -1,8 +1,8 @@
 -- What a book in memory tells.
 use Rattle.std.specs.Prelude.{ℕ, ◌+◌, ◌-◌, ◌^◌, min, Bool, nat_eq, List, length, slice_get, Option, Some, None, Result, Ok, Err}
 use Rattle.std.specs.List.{list_any}
-use Rattle.fsfs_book.specs.declared.book.Refusal.{Refusal}
-use Rattle.fsfs_book.specs.declared.book.Refusal.TheVariants.{NoRev, Missing, Small}
+use Rattle.fsfs_damage.specs.declared.wrong.Refusal.{Refusal}
+use Rattle.fsfs_damage.specs.declared.wrong.Refusal.TheVariants.{NoRev, Missing, Small}
 use Rattle.fsfs_book.specs.declared.mem_book.Kept.{Kept}
 use Rattle.fsfs_book.specs.declared.mem_book.Kept.TheVariants.{Bytes, Absent, Damaged}
 use Rattle.fsfs_book.specs.declared.mem_book.MemRev.{MemRev}
@@ -25,8 +25,8 @@ bytes_in revs rev = found_by (λ r. r.bytes) rev (length revs) (slice_get revs r
 abbrev pub props_in : List MemRev → Look
 props_in revs rev = found_by (λ r. r.props) rev (length revs) (slice_get revs rev)
 
-abbrev pub told_in : List MemRev → Telling
-told_in revs = record { revs = λ rev. Some (bytes_in revs rev); props = λ rev. Some (props_in revs rev); youngest = Some (length revs - 1); below = None }
+abbrev pub told_in : List MemRev → Telling (Unit {0})
+told_in revs = record { revs = λ rev. Some (bytes_in revs rev); props = λ rev. Some (props_in revs rev); youngest = Some (length revs - 1); below = tt }
 
 -- the number of the next call; the first is 1, and the count stops at the last number of a u64
 abbrev pub next_call : ℕ → ℕ

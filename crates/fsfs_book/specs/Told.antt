@@ -1,8 +1,10 @@
 -- What a book tells, and answers that agree with it.
-use Rattle.std.specs.Prelude.{◌≡◌, ℕ, ◌+◌, ◌-◌, ◌^◌, ◌<◌, ◌≤◌, min, nat_lt, List, length, take, drop, Option, Some, Result, Ok, Err, IfErr, if◌then◌else◌}
-use Rattle.fsfs_disk.specs.Trace.{Trace}
-use Rattle.fsfs_book.specs.declared.book.Refusal.{Refusal}
-use Rattle.fsfs_book.specs.declared.book.Refusal.TheVariants.{NoRev, Missing, Small}
+use Rattle.std.specs.Prelude.{◌≡◌, ℕ, ◌<◌, ◌≤◌, nat_lt, List, length, take, drop, Option, Some, Result, Ok, Err, IfErr, if◌then◌else◌}
+use Rattle.fsfs_base.specs.Counts as counts
+use Rattle.fsfs_damage.specs.declared.wrong.Refusal.{Refusal}
+use Rattle.fsfs_damage.specs.declared.wrong.Refusal.TheVariants.{NoRev, Missing, Small}
+use Rattle.fsfs_damage.specs.declared.wrong.Wrong.{Wrong}
+use Rattle.fsfs_damage.specs.declared.wrong.Wrong.TheVariants as wrongs
 use Rattle.fsfs_book.specs.declared.book.BookFault.{BookFault}
 use Rattle.fsfs_book.specs.declared.book.BookFault.TheVariants.{Refused, Short, DiskFault, OutOfMemory}
 
@@ -14,24 +16,20 @@ Look = ℕ → Result (List ℕ) Refusal
 abbrev pub Told : Type 0
 Told = ℕ → Option (Result (List ℕ) Refusal)
 
--- the disk below a book, as the disk tells: its trace, and the path that it was mounted for
-pub record Below : Type 0 where
-  pub trace : Option Trace
-  pub mount_path : List ℕ
-
--- all that a book tells: the bytes of revisions, those of their property files, the youngest revision, and the disk below
-pub record Telling : Type 0 where
+-- all that a book tells: the bytes of revisions, those of their property files, the youngest revision, and what is below
+-- it, in a type of its own
+pub record Telling (Below : Type 0) : Type 0 where
   pub revs : Told
   pub props : Told
   pub youngest : Option ℕ
-  pub below : Option Below
+  pub below : Below
 
 -- look is what is told of the revisions up to top
 abbrev pub Knows : Told → ℕ → Look → Type 0
 Knows told top look = (r : ℕ) → r ≤ top → told r ≡ Some (look r)
 
--- what was told stays true, and reading leaves the disk below as it is
-pub record Keeps (old new : Telling) : Type 0 where
+-- what was told stays true, and reading leaves what is below as it is
+pub record Keeps {Below : Type 0} (old new : Telling Below) : Type 0 where
   pub revs : (r : ℕ) (read : Result (List ℕ) Refusal) → old.revs r ≡ Some read → new.revs r ≡ Some read
   pub props : (r : ℕ) (read : Result (List ℕ) Refusal) → old.props r ≡ Some read → new.props r ≡ Some read
   pub youngest : (y : ℕ) → old.youngest ≡ Some y → new.youngest ≡ Some y
@@ -68,10 +66,6 @@ IsAbout rev offset (Short at past) = (at ≡ rev) × (past ≡ offset)
 IsAbout rev offset DiskFault = Unit {0}
 IsAbout rev offset OutOfMemory = Unit {0}
 
--- the count rose, or stands at its last value
-abbrev pub Rose : ℕ → ℕ → Type 0
-Rose before now = min (before + 1) (2 ^ 64 - 1) ≤ now
-
 abbrev pub IfDisk : BookFault → Type 0 → Type 0
 IfDisk DiskFault P = P
 IfDisk OutOfMemory P = Unit {0}
@@ -79,6 +73,16 @@ IfDisk (Refused refusal) P = Unit {0}
 IfDisk (Short rev offset) P = Unit {0}
 
 -- a count never falls, and rose where the disk failed
-pub record HasCause {T : Type 0} (before now : ℕ) (result : Result T BookFault) : Type 0 where
-  pub later : before ≤ now
-  pub failed : IfErr result (λ fault. IfDisk fault (Rose before now))
+abbrev pub HasCause : {T : Type 0} → ℕ → ℕ → Result T BookFault → Type 0
+HasCause before now result = counts.HasCause IfDisk before now result
+
+-- ---- what is told, as a reading
+
+-- look is what is told of the revision
+abbrev pub IsTold : {Below : Type 0} → Telling Below → Look → ℕ → Type 0
+IsTold told look rev = told.revs rev ≡ Some (look rev)
+
+-- the bytes of a revision
+abbrev pub BytesOf : Look → ℕ → Result (List ℕ) Wrong → Type 0
+BytesOf look rev (Ok bytes) = look rev ≡ Ok bytes
+BytesOf look rev (Err w) = (why : Refusal) × (look rev ≡ Err why) × (w ≡ wrongs.Refused why)

@@ -1,25 +1,11 @@
 //! What the readers of revisions ask of a store.
 ghost use Rattle.std.specs.Prelude.{◌≡◌, ◌≤◌, ◌<◌, ◌^◌, ℕ, List, Option, Some, Result, Ok, length, take, IfOk, IfErr, IfSome};
-ghost use Rattle.fsfs_book.specs.declared.book.Refusal.{Refusal};
+ghost use Rattle.fsfs_damage.specs.declared.wrong.Refusal.{Refusal};
 ghost use Rattle.fsfs_book.specs.declared.book.BookFault.TheVariants.{DiskFault};
 ghost use Rattle.fsfs_book.specs.Told.{Telling, Keeps, Gives, part_read, size_read, HasCause, IsAbout};
 
-use fsfs_base::SmallFault;
+use fsfs_damage::Refusal;
 use thiserror::Error;
-
-/// Why a book has no bytes of a revision.
-#[derive(Clone, Copy, Debug, PartialEq, Eq, Error)]
-pub enum Refusal {
-    /// The revision that was asked for is above the youngest.
-    #[error("there is no revision {asked}; the youngest is {youngest}")]
-    NoRev { asked: u32, youngest: u64 },
-    /// The revision's file is absent.
-    #[error("the file of revision {rev} is absent")]
-    Missing { rev: u32 },
-    /// The small file that says where the revision stands is not in its format.
-    #[error("a small file is damaged")]
-    Small(SmallFault),
-}
 
 /// A call of a book gave nothing.
 #[derive(Clone, Copy, Debug, PartialEq, Eq, Error)]
@@ -44,9 +30,12 @@ pub enum BookFault {
 /// A book may tell, a revision at a time, what there is to read. What it has told stays true, and it may come to tell
 /// more. A book that tells nothing still names its refusals rightly and counts its faults.
 pub trait Book {
+    /// What can be said of what is below it, as a disk.
+    ghost Below: { Type 0 };
+
     /// What it tells: of each revision its bytes and the bytes of its property file, or why there are none; the youngest
-    /// revision, where that is known; and the disk that it reads, which no call changes.
-    ghost told: { Self → Telling };
+    /// revision, where that is known; and what is below it, which no call changes.
+    ghost told: { Self → Telling Below };
 
     /// How often the disk below it has failed. The count stops at the last number of a u64.
     ghost faults: { Self → ℕ };

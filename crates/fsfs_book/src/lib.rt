@@ -6,5 +6,5 @@
 mod book;
 mod mem_book;
 
-pub use book::{Book, BookFault, Refusal};
+pub use book::{Book, BookFault};
 pub use mem_book::{Kept, MemBook, MemRev};

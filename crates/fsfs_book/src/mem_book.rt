@@ -1,12 +1,14 @@
 //! A book in memory, for tests and small tools. Calls whose numbers are listed fail.
 ghost use Rattle.std.specs.Prelude.{◌≡◌, ◌<◌, ◌≤◌, ◌-◌, ◌↔◌, Ok, Err, IsTrue, IsErr, IfOk, IfErr, OnErr, MatchResult, vec_len, length, take};
+ghost use Rattle.fsfs_base.specs.Counts.{Rose};
 ghost use Rattle.fsfs_book.specs.declared.book.BookFault.TheVariants.{Short, DiskFault};
-ghost use Rattle.fsfs_book.specs.declared.book.Refusal.TheVariants.{NoRev};
-ghost use Rattle.fsfs_book.specs.Told.{Gives, part_read, Rose, IsRefusalOf};
+ghost use Rattle.fsfs_damage.specs.declared.wrong.Refusal.TheVariants.{NoRev};
+ghost use Rattle.fsfs_book.specs.Told.{Gives, part_read, IsRefusalOf};
 ghost use Rattle.fsfs_book.specs.MemBook.{bytes_in, props_in, read_of, next_call, is_next_listed};
 
-use crate::book::{Book, BookFault, Refusal};
+use crate::book::{Book, BookFault};
 use fsfs_base::SmallFault;
+use fsfs_damage::Refusal;
 use std::alloc::Global;
 
 /// What stands where the bytes of a file are looked for.
@@ -26,7 +28,7 @@ pub struct MemRev {
     pub props: Kept,
 }
 
-/// A book in memory. It tells everything.
+/// A book in memory. It tells everything, and nothing is below it.
 #[derive(Drop)]
 pub struct MemBook {
     revs: Vec<MemRev>,
@@ -152,6 +154,8 @@ impl MemBook {
 impl Book for MemBook {
     ghost use Rattle.fsfs_book.specs.MemBook.{told_in};
     ghost use Rattle.fsfs_book.specs.MemBookLemmas.{length-bytes_in};
+
+    ghost Below = { Unit {0} };
 
     ghost told = { λ b. told_in b.revs.items };
 

@@ -11,7 +11,7 @@ use Rattle.fsfs_noderev.specs.declared.node_id.Place.TheVariants.{At, In}
 use Rattle.fsfs_noderev.specs.declared.node_id.NodeId.{NodeId}
 use Rattle.fsfs_noderev.proofs.Same.{b36_same, txn_same}
 use Rattle.fsfs_dag.specs.Same.{same_part, same_place, same_id}
-use Rattle.fsfs_dag.proofs.Windows.{both_hold}
+use Rattle.std.proofs.lemmas.Bool.{and_parts}
 
 equal : (m n : ℕ) → (m == n) ≡ true → m ≡ n
 equal m n h = grind (arith, nat_tests)
@@ -26,27 +26,27 @@ part_true (Old m) (Made n rev) h = absurd cc
 part_true (Made m made) (New n) h = absurd cc
 part_true (Made m made) (Old n) h = absurd cc
 part_true (Made m made) (Made n rev) h =
-    let two = both_hold (m.number == n.number) (made == rev) h in
+    let two = and_parts (m.number == n.number) (made == rev) h in
     let number = b36_same m n (equal m.number n.number two.0) in
     let revision = equal made rev two.1 in
     λ i. Made (number i) (revision i)
 
 place_true : (a b : Place) → same_place a b ≡ true → a ≡ b
 place_true (At rev offset) (At other place) h =
-    let two = both_hold (rev == other) (offset == place) h in
+    let two = and_parts (rev == other) (offset == place) h in
     let r = equal rev other two.0 in
     let o = equal offset place two.1 in
     λ i. At (r i) (o i)
 place_true (At rev offset) (In txn) h = absurd cc
 place_true (In txn) (At rev offset) h = absurd cc
 place_true (In txn) (In other) h =
-    let two = both_hold (txn.base == other.base) (txn.number.number == other.number.number) h in
+    let two = and_parts (txn.base == other.base) (txn.number.number == other.number.number) h in
     ap (λ (t : TxnName). In t) (txn_same txn other (equal txn.base other.base two.0) (b36_same txn.number other.number (equal txn.number.number other.number.number two.1)))
 
 pub id_true : (a b : NodeId) → same_id a b ≡ true → a ≡ b
 id_true a b h =
-    let rest = both_hold (same_part a.node b.node && same_part a.copy b.copy) (same_place a.place b.place) h in
-    let two = both_hold (same_part a.node b.node) (same_part a.copy b.copy) rest.0 in
+    let rest = and_parts (same_part a.node b.node && same_part a.copy b.copy) (same_place a.place b.place) h in
+    let two = and_parts (same_part a.node b.node) (same_part a.copy b.copy) rest.0 in
     let node = part_true a.node b.node two.0 in
     let copy = part_true a.copy b.copy two.1 in
     let place = place_true a.place b.place rest.1 in

@@ -5,12 +5,12 @@ use Rattle.std.specs.declared.vec.Vec.{Vec}
 use Rattle.std.specs.declared.alloc.Global.{Global}
 use Rattle.std.proofs.lemmas.List.{append-nil}
 use Rattle.fsfs_noderev.specs.declared.rep.Rep.{Rep}
-use Rattle.fsfs_revision.specs.declared.damage.RevOffset.{RevOffset}
-use Rattle.fsfs_shows.specs.declared.wrong.Wrong.{Wrong}
-use Rattle.fsfs_shows.specs.declared.wrong.ReadError.{ReadError}
-use Rattle.fsfs_shows.specs.declared.wrong.ReadError.TheVariants as errors
-use Rattle.fsfs_shows.specs.Readings.{Answers}
-use Rattle.fsfs_shows.specs.Reading.{Entry as EntryValue, IsEntry, AreEntries, FirstPairRow, EntriesIn, EntriesOf, ChildOf, OfNamed, OfEntry, named, offset_of}
+use Rattle.fsfs_damage.specs.declared.damage.RevOffset.{RevOffset}
+use Rattle.fsfs_damage.specs.declared.wrong.Wrong.{Wrong}
+use Rattle.fsfs_damage.specs.declared.wrong.ReadError.{ReadError}
+use Rattle.fsfs_damage.specs.declared.wrong.ReadError.TheVariants as errors
+use Rattle.fsfs_damage.specs.Readings.{Answers}
+use Rattle.fsfs_shows.specs.Reading.{Entry as EntryValue, IsEntry, AreEntries, EntryIn, FirstPairFails, EntriesIn, EntriesOf, ChildOf, OfNamed, OfEntry, named, offset_of}
 use Rattle.std.proofs.lemmas.Bool.Decides.{nat_tests}
 use Rattle.fsfs_base.specs.Paths.{Name, same_name}
 use Rattle.fsfs_book.specs.Told.{Look}
@@ -19,7 +19,7 @@ use Rattle.fsfs_noderev.specs.declared.node_id.Place.TheVariants as places
 use Rattle.fsfs_noderev.specs.declared.node_rev.NodeRev.{NodeRev}
 use Rattle.fsfs_revision.specs.Nodes.{is_before, place_before}
 use Rattle.fsfs_dag.specs.declared.directory.Entry.{Entry}
-use Rattle.fsfs_dag.specs.Views.{entry_value, entry_values, EntryIn, IsBefore, AreBefore}
+use Rattle.fsfs_dag.specs.Views.{entry_value, entry_values, IsBefore, AreBefore}
 use Rattle.fsfs_text.specs.Reading.{text_at}
 use Rattle.fsfs_text.proofs.Readers.{text_reads, ok_is}
 
@@ -60,13 +60,13 @@ before_push home (x ∷ items) entry all one = (all.0, before_push home items en
 -- some first pairs are these entries: whatever the rest is, the whole is so
 pub record AreSoFar (home : RevOffset) (rep : Rep) (pairs rest : List Pair) (items : List Entry) : Type 0 where
   pub found : (tail : List EntryValue) → AreEntries home rest tail → AreEntries home pairs (entry_values items ++ tail)
-  pub wrong : (w : Wrong) → FirstPairRow home rep rest w → FirstPairRow home rep pairs w
+  pub wrong : (w : Wrong) → FirstPairFails home rep rest w → FirstPairFails home rep pairs w
   pub before : AreBefore home items
 
 pub none_so_far : (home : RevOffset) (rep : Rep) (pairs rest : List Pair) (items : List Entry) → rest ≡ pairs → items ≡ [] → AreSoFar home rep pairs rest items
 none_so_far home rep pairs rest items all none = record {
   found = λ tail h. subst (λ (t : List Entry). AreEntries home pairs (entry_values t ++ tail)) (sym none) (subst (λ (p : List Pair). AreEntries home p tail) all h);
-  wrong = λ w h. subst (λ (p : List Pair). FirstPairRow home rep p w) all h;
+  wrong = λ w h. subst (λ (p : List Pair). FirstPairFails home rep p w) all h;
   before = subst (λ (t : List Entry). AreBefore home t) (sym none) tt;
 }
 
@@ -78,7 +78,7 @@ one_more home rep pairs left rest pair items new entry so is one before pushed =
     more = record {
       found = λ tail h. subst (λ (t : List EntryValue). AreEntries home pairs t) (sym (values_push items entry tail))
           (so.found (entry_value entry ∷ tail) (subst (λ (p : List Pair). AreEntries home p (entry_value entry ∷ tail)) (sym is) (one, h)));
-      wrong = λ w h. so.wrong w (subst (λ (p : List Pair). FirstPairRow home rep p w) (sym is) (inr (entry_value entry, one, h)));
+      wrong = λ w h. so.wrong w (subst (λ (p : List Pair). FirstPairFails home rep p w) (sym is) (inr (entry_value entry, one, h)));
       before = before_push home items entry so.before before;
     }
 
@@ -87,7 +87,7 @@ entries_seen v = entry_values v.items
 
 pub first_wrong : (home : RevOffset) (rep : Rep) (pairs left rest : List Pair) (pair : Pair) (items : List Entry) (e : ReadError)
     → AreSoFar home rep pairs left items → left ≡ pair ∷ rest → Answers entry_value (EntryIn home rep pair) (Err e) → Answers entries_seen (EntriesIn home rep pairs) (Err e)
-first_wrong home rep pairs left rest pair items (errors.Wrong w) so is h = so.wrong w (subst (λ (p : List Pair). FirstPairRow home rep p w) (sym is) (inl h))
+first_wrong home rep pairs left rest pair items (errors.Wrong w) so is h = so.wrong w (subst (λ (p : List Pair). FirstPairFails home rep p w) (sym is) (inl h))
 first_wrong home rep pairs left rest pair items errors.OutOfMemory so is h = tt
 first_wrong home rep pairs left rest pair items errors.DiskFault so is h = tt
 

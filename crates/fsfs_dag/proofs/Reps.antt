@@ -1,27 +1,22 @@
 -- What the readers of representations and of dumps answer, as readings.
 use Rattle.std.proofs.Common.{◌≡◌, ℕ, ◌≤◌, List, true, Option, Some, None, Result, Ok, Err, refl, sym, ap, subst, arith, inl, inr}
-use Rattle.std.specs.Prelude.{IsSome, unwrap_or}
+use Rattle.std.specs.Prelude.{IsSome, MatchResult, unwrap_or}
 use Rattle.std.proofs.lemmas.Bool.Decides.{nat_tests}
-use Rattle.fsfs_book.specs.declared.book.Refusal.{Refusal}
-use Rattle.fsfs_book.specs.declared.book.BookFault.TheVariants as books
+use Rattle.fsfs_damage.specs.declared.damage.RevOffset.{RevOffset}
+use Rattle.fsfs_damage.specs.declared.wrong.Refusal.{Refusal}
+use Rattle.fsfs_damage.specs.declared.wrong.Wrong.{Wrong}
+use Rattle.fsfs_damage.specs.declared.wrong.ReadError.{ReadError}
+use Rattle.fsfs_damage.specs.declared.wrong.ReadError.TheVariants as errors
+use Rattle.fsfs_damage.specs.Readings.{Answers}
+use Rattle.fsfs_damage.proofs.Answering.{err_as}
 use Rattle.fsfs_book.specs.Told.{Look}
 use Rattle.fsfs_noderev.specs.declared.rep.Rep.{Rep}
 use Rattle.fsfs_noderev.specs.declared.rep.Contents.{Contents}
 use Rattle.fsfs_noderev.specs.declared.rep.Contents.TheVariants as contents
-use Rattle.fsfs_rep.specs.Faults.{IfFault, IsRefusedFor}
-use Rattle.fsfs_rep.specs.Frames.{rev_of, text_of, IsWhole, IsFaultOf}
-use Rattle.fsfs_rep.specs.declared.rep_fault.RepFault.{RepFault}
-use Rattle.fsfs_rep.specs.declared.rep_fault.RepFault.TheVariants as faults
-use Rattle.fsfs_rep.specs.declared.rep_fault.RepError.{RepError}
-use Rattle.fsfs_rep.specs.declared.rep_fault.RepError.TheVariants as rep_errors
-use Rattle.fsfs_revision.specs.declared.damage.RevOffset.{RevOffset}
+use Rattle.fsfs_rep.specs.Faults.{IsRefusedFor}
+use Rattle.fsfs_rep.specs.Frames.{rev_of, text_of, IsWhole, IsTextOf, IsFaultOf}
 use Rattle.fsfs_revision.specs.Nodes.{is_before, rep_place_before}
-use Rattle.fsfs_shows.specs.declared.wrong.Wrong.{Wrong}
-use Rattle.fsfs_shows.specs.declared.wrong.Wrong.TheVariants as wrongs
-use Rattle.fsfs_shows.specs.declared.wrong.ReadError.{ReadError}
-use Rattle.fsfs_shows.specs.Readings.{Answers}
-use Rattle.fsfs_shows.specs.Reading.{RepAt, OfContents, rep_place}
-use Rattle.fsfs_dag.specs.Faults.{of_rep, of_rep_error}
+use Rattle.fsfs_shows.specs.Reading.{RepAt, OfContents}
 
 module _ (look : Look) (rep : Rep) where
   found_in : (read : Result (List ℕ) Refusal) (text : List ℕ) → look (rev_of rep) ≡ read → ((bytes : List ℕ) → read ≡ Ok bytes → (text ≡ text_of rep bytes) × IsWhole rep bytes) → ((why : Refusal) → read ≡ Err why → ⊥) → RepAt look rep (Ok text)
@@ -31,41 +26,20 @@ module _ (look : Look) (rep : Rep) where
   pub rep_found : (text : List ℕ) → ((bytes : List ℕ) → look (rev_of rep) ≡ Ok bytes → (text ≡ text_of rep bytes) × IsWhole rep bytes) → ((why : Refusal) → look (rev_of rep) ≡ Err why → ⊥) → RepAt look rep (Ok text)
   rep_found text found refused = found_in (look (rev_of rep)) text refl found refused
 
-  -- of bytes that are there
-  wrong_there : (bytes : List ℕ) (fault : RepFault) → look (rev_of rep) ≡ Ok bytes → IsFaultOf rep bytes fault → Answers (λ (t : List ℕ). t) (RepAt look rep) (Err (of_rep (rep_place rep) fault))
-  wrong_there bytes (faults.Book (books.Refused refusal)) is h = absurd h
-  wrong_there bytes (faults.Book (books.Short rev offset)) is h = absurd h
-  wrong_there bytes (faults.Book books.DiskFault) is h = tt
-  wrong_there bytes (faults.Book books.OutOfMemory) is h = tt
-  wrong_there bytes (faults.Delta rev offset) is h = inr (bytes, is, (refl, h.2))
-  wrong_there bytes faults.NoHeader is h = inr (bytes, is, (refl, h))
-  wrong_there bytes faults.NoTrailer is h = inr (bytes, is, (refl, h))
-  wrong_there bytes (faults.Size kept found) is h = inr (bytes, is, (refl, h))
-  wrong_there bytes (faults.Md5 kept found) is h = inr (bytes, is, (refl, h))
-  wrong_there bytes (faults.Sha1 kept found) is h = inr (bytes, is, (refl, h))
+  wrong_in : (read : Result (List ℕ) Refusal) (e : ReadError) → look (rev_of rep) ≡ read → ((bytes : List ℕ) → read ≡ Ok bytes → IsFaultOf rep bytes e) → ((why : Refusal) → read ≡ Err why → IsRefusedFor why e) → Answers (λ (t : List ℕ). t) (RepAt look rep) (Err e)
+  wrong_in (Ok bytes) (errors.Wrong w) is there without = inr (bytes, is, there bytes refl)
+  wrong_in (Err why) (errors.Wrong w) is there without = inl (why, is, without why refl)
+  wrong_in read errors.OutOfMemory is there without = tt
+  wrong_in read errors.DiskFault is there without = tt
 
-  -- of a revision without bytes
-  wrong_without : (why : Refusal) (fault : RepFault) → look (rev_of rep) ≡ Err why → IsRefusedFor why fault → Answers (λ (t : List ℕ). t) (RepAt look rep) (Err (of_rep (rep_place rep) fault))
-  wrong_without why (faults.Book (books.Refused refusal)) is h = inl (why, is, ap (λ (r : Refusal). wrongs.Refused r) h)
-  wrong_without why (faults.Book (books.Short rev offset)) is h = absurd h
-  wrong_without why (faults.Book books.DiskFault) is h = tt
-  wrong_without why (faults.Book books.OutOfMemory) is h = tt
-  wrong_without why (faults.Delta rev offset) is h = absurd h
-  wrong_without why faults.NoHeader is h = absurd h
-  wrong_without why faults.NoTrailer is h = absurd h
-  wrong_without why (faults.Size kept found) is h = absurd h
-  wrong_without why (faults.Md5 kept found) is h = absurd h
-  wrong_without why (faults.Sha1 kept found) is h = absurd h
+  pub rep_wrong : (e : ReadError) → ((bytes : List ℕ) → look (rev_of rep) ≡ Ok bytes → IsFaultOf rep bytes e) → ((why : Refusal) → look (rev_of rep) ≡ Err why → IsRefusedFor why e) → Answers (λ (t : List ℕ). t) (RepAt look rep) (Err e)
+  rep_wrong e there without = wrong_in (look (rev_of rep)) e refl there without
 
-  wrong_in : (read : Result (List ℕ) Refusal) (error : RepError) → look (rev_of rep) ≡ read → ((bytes : List ℕ) → read ≡ Ok bytes → IfFault (IsFaultOf rep bytes) error) → ((why : Refusal) → read ≡ Err why → IfFault (IsRefusedFor why) error)
-      → Answers (λ (t : List ℕ). t) (RepAt look rep) (Err (of_rep_error (rep_place rep) error))
-  wrong_in read rep_errors.OutOfMemory is there without = tt
-  wrong_in (Ok bytes) (rep_errors.Fault fault) is there without = wrong_there bytes fault is (there bytes refl)
-  wrong_in (Err why) (rep_errors.Fault fault) is there without = wrong_without why fault is (without why refl)
-
-  pub rep_wrong : (error : RepError) → ((bytes : List ℕ) → look (rev_of rep) ≡ Ok bytes → IfFault (IsFaultOf rep bytes) error) → ((why : Refusal) → look (rev_of rep) ≡ Err why → IfFault (IsRefusedFor why) error)
-      → Answers (λ (t : List ℕ). t) (RepAt look rep) (Err (of_rep_error (rep_place rep) error))
-  rep_wrong error there without = wrong_in (look (rev_of rep)) error refl there without
+  -- all that a reader answers
+  pub rep_read : {A : Type 0} (view : A → List ℕ) (result : Result A ReadError) → ((bytes : List ℕ) → look (rev_of rep) ≡ Ok bytes → MatchResult result (λ a. IsTextOf rep bytes (view a)) (IsFaultOf rep bytes))
+      → ((why : Refusal) → look (rev_of rep) ≡ Err why → MatchResult result (λ a. ⊥) (IsRefusedFor why)) → Answers view (RepAt look rep) result
+  rep_read view (Ok a) there without = rep_found (view a) there without
+  rep_read view (Err e) there without = err_as (λ (t : List ℕ). t) view e (RepAt look rep) (rep_wrong e there without)
 
 -- ---- what a node-revision names
 

@@ -1,42 +1,9 @@
--- Readings one after another.
-use Rattle.std.proofs.Common.{◌≡◌, ℕ, Some, Result, Ok, Err, inl, inr}
+-- What is told stays told.
+use Rattle.std.proofs.Common.{◌≡◌, ℕ, Some}
 use Rattle.fsfs_book.specs.Told.{Look, Telling, Knows, Keeps}
-use Rattle.fsfs_shows.specs.declared.wrong.Wrong.{Wrong}
-use Rattle.fsfs_shows.specs.declared.wrong.ReadError.{ReadError}
-use Rattle.fsfs_shows.specs.declared.wrong.ReadError.TheVariants as errors
-use Rattle.fsfs_shows.specs.Readings.{AndThen, Answers}
 
--- what is told stays told
-pub told_later : (old new : Telling) (look : Look) (rev : ℕ) → Keeps old new → old.revs rev ≡ Some (look rev) → new.revs rev ≡ Some (look rev)
+pub told_later : {Below : Type 0} (old new : Telling Below) (look : Look) (rev : ℕ) → Keeps old new → old.revs rev ≡ Some (look rev) → new.revs rev ≡ Some (look rev)
 told_later old new look rev kept told = kept.revs rev (look rev) told
 
-pub knows_later : (old new : Telling) (look : Look) (top : ℕ) → Keeps old new → Knows old.revs top look → Knows new.revs top look
+pub knows_later : {Below : Type 0} (old new : Telling Below) (look : Look) (top : ℕ) → Keeps old new → Knows old.revs top look → Knows new.revs top look
 knows_later old new look top kept knows r le = kept.revs r (look r) (knows r le)
-
--- what is wrong in the first reading stops what follows
-pub stops : {A X B Y : Type 0} (first : A → X) (second : B → Y) (e : ReadError) (R : Result X Wrong → Type 0) (S : X → Result Y Wrong → Type 0)
-    → Answers first R (Err e) → Answers second (AndThen R S) (Err e)
-stops first second (errors.Wrong w) R S h = inl h
-stops first second errors.OutOfMemory R S h = tt
-stops first second errors.DiskFault R S h = tt
-
--- a value that was read goes into what follows
-pub goes_on : {X B Y : Type 0} (second : B → Y) (result : Result B ReadError) (R : Result X Wrong → Type 0) (S : X → Result Y Wrong → Type 0) (x : X)
-    → R (Ok x) → Answers second (S x) result → Answers second (AndThen R S) result
-goes_on second (Ok y) R S x r s = (x, r, s)
-goes_on second (Err (errors.Wrong w)) R S x r s = inr (x, r, s)
-goes_on second (Err errors.OutOfMemory) R S x r s = tt
-goes_on second (Err errors.DiskFault) R S x r s = tt
-
--- an answer of one reading is one of another that has the same answers
-pub answers_as : {B Y : Type 0} (view : B → Y) (result : Result B ReadError) (R S : Result Y Wrong → Type 0) → ((r : Result Y Wrong) → R r → S r) → Answers view R result → Answers view S result
-answers_as view (Ok y) R S f h = f _ h
-answers_as view (Err (errors.Wrong w)) R S f h = f _ h
-answers_as view (Err errors.OutOfMemory) R S f h = tt
-answers_as view (Err errors.DiskFault) R S f h = tt
-
--- a failure answers whatever its value would be seen by
-pub err_as : {A B Y : Type 0} (first : A → Y) (second : B → Y) (e : ReadError) (R : Result Y Wrong → Type 0) → Answers first R (Err e) → Answers second R (Err e)
-err_as first second (errors.Wrong w) R h = h
-err_as first second errors.OutOfMemory R h = tt
-err_as first second errors.DiskFault R h = tt

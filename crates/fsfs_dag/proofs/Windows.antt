@@ -1,39 +1,33 @@
 -- What a book's answers say of a revision's length, its end and its node-revisions.
-use Rattle.std.proofs.Common.{◌≡◌, ℕ, ◌-◌, ◌≤◌, List, [], ◌++◌, length, take, drop, min, append_assoc, true, false, Result, Ok, Err, refl, sym, ap, subst, ◌∙◌, arith, inl, inr, zero-add}
-use Rattle.std.specs.Prelude.{Bool, ◌==◌, ◌&&◌}
+use Rattle.std.proofs.Common.{◌≡◌, ℕ, ◌-◌, ◌≤◌, List, [], ◌++◌, length, take, drop, min, append_assoc, true, Result, Ok, Err, refl, sym, ap, subst, ◌∙◌, arith, inl, inr, zero-add}
+use Rattle.std.specs.Prelude.{MatchResult, ◌==◌}
+use Rattle.std.proofs.lemmas.Bool.{and_parts}
 use Rattle.std.proofs.lemmas.Bool.Decides.{nat_tests}
 use Rattle.std.proofs.lemmas.List.{take-take, take_all, take-append-drop, length-take, length-drop}
-use Rattle.fsfs_book.specs.declared.book.Refusal.{Refusal}
+use Rattle.fsfs_damage.specs.declared.damage.RevOffset.{RevOffset}
+use Rattle.fsfs_damage.specs.declared.damage.What.TheVariants as what
+use Rattle.fsfs_damage.specs.declared.wrong.Refusal.{Refusal}
+use Rattle.fsfs_damage.specs.declared.wrong.Wrong.{Wrong}
+use Rattle.fsfs_damage.specs.declared.wrong.Wrong.TheVariants as wrongs
+use Rattle.fsfs_damage.specs.declared.wrong.ReadError.{ReadError}
+use Rattle.fsfs_damage.specs.declared.wrong.ReadError.TheVariants as errors
+use Rattle.fsfs_damage.specs.Damages.{place_of, damaged}
+use Rattle.fsfs_damage.specs.Readings.{AndThen, IfWrong, Answers}
 use Rattle.fsfs_book.specs.declared.book.BookFault.TheVariants as books
-use Rattle.fsfs_book.specs.Told.{Look, size_read, part_read}
+use Rattle.fsfs_book.specs.Told.{Look, BytesOf, size_read}
 use Rattle.fsfs_noderev.specs.NodeRevs.{IsRead}
 use Rattle.fsfs_noderev.specs.declared.node_rev.NodeRev.{NodeRev}
-use Rattle.fsfs_rep.proofs.WindowLemmas.{part_found, part_short, part_there, part_lacks, part_not_short, part_refused}
-use Rattle.fsfs_revision.specs.declared.damage.RevOffset.{RevOffset}
-use Rattle.fsfs_revision.specs.declared.damage.Damage.{Damage}
-use Rattle.fsfs_revision.specs.declared.damage.What.{What}
-use Rattle.fsfs_revision.specs.declared.damage.What.TheVariants as what
-use Rattle.fsfs_revision.specs.declared.trailer.Trailer.{Trailer}
-use Rattle.fsfs_revision.specs.Trailers.{EndsWith}
 use Rattle.fsfs_noderev.specs.declared.node_id.NodeId.{NodeId}
 use Rattle.fsfs_noderev.specs.declared.node_id.Place.{Place}
 use Rattle.fsfs_noderev.specs.declared.node_id.Place.TheVariants as places
-use Rattle.fsfs_revision.specs.Nodes.{IsNodeAt, is_root, is_ordered, is_own_place, is_directory}
-use Rattle.fsfs_revision.specs.Damages.{NodeRow, NodeWrong, NoRootRow, EndRow, place_of}
+use Rattle.fsfs_rep.specs.Faults.{IsRefusedFor}
+use Rattle.fsfs_revision.specs.declared.trailer.Trailer.{Trailer}
+use Rattle.fsfs_revision.specs.Trailers.{EndsWith}
+use Rattle.fsfs_revision.specs.Nodes.{Holds, IsNodeAt, is_root, is_ordered, is_own_place, is_directory}
+use Rattle.fsfs_revision.specs.Damages.{NodeIn, AsRoot, RootAt, RootIn}
 use Rattle.fsfs_revision.proofs.TrailerLemmas.{from_tail, in_tail}
-use Rattle.fsfs_shows.specs.declared.wrong.Wrong.{Wrong}
-use Rattle.fsfs_shows.specs.declared.wrong.Wrong.TheVariants as wrongs
-use Rattle.fsfs_shows.specs.declared.wrong.ReadError.{ReadError}
-use Rattle.fsfs_shows.specs.declared.wrong.ReadError.TheVariants as errors
-use Rattle.fsfs_shows.specs.Readings.{AndThen, Answers, IsDamage}
-use Rattle.fsfs_shows.specs.Reading.{BytesOf, NodeAt, RootIn, RootOf, offset_of}
+use Rattle.fsfs_shows.specs.Reading.{NodeAt, RootOf, offset_of}
 use Rattle.fsfs_dag.specs.Told.{LengthOf, WindowAt, EndOf}
-
--- both tests of a conjunction hold
-pub both_hold : (a b : Bool) → (a && b) ≡ true → (a ≡ true) × (b ≡ true)
-both_hold true true h = (refl, refl)
-both_hold true false h = absurd cc
-both_hold false b h = absurd cc
 
 -- ---- the length of a revision
 
@@ -60,27 +54,26 @@ length_not_short look rev at offset e = absurd (size_not_short (look rev) at off
 
 -- ---- a window
 
-seen_in : (read : Result (List ℕ) Refusal) (rev offset count : ℕ) (seen : List ℕ) → part_read rev offset count read ≡ Ok seen → (bytes : List ℕ) × (read ≡ Ok bytes) × (seen ≡ take count (drop offset bytes))
-seen_in (Ok bytes) rev offset count seen e = (bytes, refl, part_found rev offset count bytes seen e)
-seen_in (Err why) rev offset count seen e = absurd (part_lacks rev offset count why seen e)
+abbrev Window : Look → RevOffset → ℕ → List ℕ → Result ℕ ReadError → Type 0
+Window look at count buffer = Answers (λ n. take n buffer) (WindowAt look at count)
 
-refused_in : (read : Result (List ℕ) Refusal) (rev offset count : ℕ) (why : Refusal) → part_read rev offset count read ≡ Err (books.Refused why) → read ≡ Err why
-refused_in (Ok bytes) rev offset count why e = absurd (part_there rev offset count bytes why e)
-refused_in (Err other) rev offset count why e = ap (λ (r : Refusal). let x : Result (List ℕ) Refusal = Err r in x) (sym (part_refused rev offset count other why e))
+module _ (look : Look) (at : RevOffset) (count : ℕ) (buffer : List ℕ) where
+  abbrev Seen : List ℕ → Result ℕ ReadError → Type 0
+  Seen bytes result = MatchResult result (λ n. take n buffer ≡ take count (drop at.offset bytes)) (IfWrong (λ w. ⊥))
 
-short_in : (read : Result (List ℕ) Refusal) (rev offset count at past : ℕ) → part_read rev offset count read ≡ Err (books.Short at past) → (bytes : List ℕ) × (read ≡ Ok bytes) × ([] ≡ take count (drop offset bytes))
-short_in (Ok bytes) rev offset count at past e = (bytes, refl, part_short rev offset count bytes at past e)
-short_in (Err other) rev offset count at past e = absurd (part_not_short rev offset count other at past e)
+  abbrev Unseen : Refusal → Result ℕ ReadError → Type 0
+  Unseen why result = MatchResult result (λ n. ⊥) (IsRefusedFor why)
 
-module _ (look : Look) (at : RevOffset) (count : ℕ) where
-  pub window_found : (seen : List ℕ) → part_read at.rev at.offset count (look at.rev) ≡ Ok seen → WindowAt look at count (Ok seen)
-  window_found seen e = seen_in (look at.rev) at.rev at.offset count seen e
+  window_in : (read : Result (List ℕ) Refusal) (result : Result ℕ ReadError) → look at.rev ≡ read → ((bytes : List ℕ) → read ≡ Ok bytes → Seen bytes result) → ((why : Refusal) → read ≡ Err why → Unseen why result) → Window look at count buffer result
+  window_in (Ok bytes) (Ok n) is seen unseen = (bytes, is, seen bytes refl)
+  window_in (Ok bytes) (Err (errors.Wrong w)) is seen unseen = absurd (seen bytes refl)
+  window_in (Err why) (Ok n) is seen unseen = absurd (unseen why refl)
+  window_in (Err why) (Err (errors.Wrong w)) is seen unseen = (why, is, unseen why refl)
+  window_in read (Err errors.OutOfMemory) is seen unseen = tt
+  window_in read (Err errors.DiskFault) is seen unseen = tt
 
-  pub window_refused : (why : Refusal) → part_read at.rev at.offset count (look at.rev) ≡ Err (books.Refused why) → WindowAt look at count (Err (wrongs.Refused why))
-  window_refused why e = (why, refused_in (look at.rev) at.rev at.offset count why e, refl)
-
-  pub window_short : (rev past : ℕ) → part_read at.rev at.offset count (look at.rev) ≡ Err (books.Short rev past) → WindowAt look at count (Ok [])
-  window_short rev past e = short_in (look at.rev) at.rev at.offset count rev past e
+  pub window_read : (result : Result ℕ ReadError) → ((bytes : List ℕ) → look at.rev ≡ Ok bytes → Seen bytes result) → ((why : Refusal) → look at.rev ≡ Err why → Unseen why result) → Window look at count buffer result
+  window_read result seen unseen = window_in (look at.rev) result refl seen unseen
 
 -- no window: no bytes
 pub window_stops : {A B Y : Type 0} (first : A → List ℕ) (second : B → Y) (look : Look) (at : RevOffset) (count : ℕ) (e : ReadError) (S : List ℕ → Result Y Wrong → Type 0)
@@ -101,26 +94,23 @@ module _ (at : RevOffset) (bytes seen : List ℕ) (is : seen ≡ take 65536 byte
   window_same : take 65536 seen ≡ take 65536 bytes
   window_same = ap (take 65536) is ∙ take-take 65536 65536 bytes (omega arith)
 
-  node_in : (v : NodeRev) → IsNodeAt at seen v → IsNodeAt at bytes v
-  node_in v h = ((subst (λ (xs : List ℕ). IsRead xs v) window_same h.0.0, h.0.1), h.1)
+  holds_in : (v : NodeRev) → Holds seen v → Holds bytes v
+  holds_in v h = (subst (λ (xs : List ℕ). IsRead xs v) window_same h.0, h.1)
 
-  wrong_in : (w : What) → NodeWrong at seen w → NodeWrong at bytes w
-  wrong_in what.NodeRev none = λ v h. none v (subst (λ (xs : List ℕ). IsRead xs v) (sym window_same) h.0, h.1)
-  wrong_in what.PlaceOrder h = (h.0, (subst (λ (xs : List ℕ). IsRead xs h.0) window_same h.1.0, h.1.1), h.2)
-  wrong_in what.Trailer h = absurd h
-  wrong_in what.OtherId h = absurd h
-  wrong_in what.EntryKind h = absurd h
-  wrong_in what.Header h = absurd h
-  wrong_in what.Missing h = absurd h
+  holds_back : (v : NodeRev) → Holds bytes v → Holds seen v
+  holds_back v h = (subst (λ (xs : List ℕ). IsRead xs v) (sym window_same) h.0, h.1)
 
-  row_in : (d : Damage) → NodeRow at seen d → NodeRow at bytes d
-  row_in d h = (h.0, wrong_in d.what h.1)
+  node_in : (r : Result NodeRev Wrong) → NodeIn at seen r → NodeIn at bytes r
+  node_in (Ok v) h = (holds_in v h.0, h.1)
+  node_in (Err w) (inl a) = inl ((λ h. a.0 (h.0, holds_back h.0 h.1)), a.1)
+  node_in (Err w) (inr (held, inl a)) = inr ((held.0, holds_in held.0 held.1), inl ((λ h. a.0 (h.0, (holds_back h.0 h.1.0, h.1.1))), a.1))
+  node_in (Err w) (inr (held, inr (node, none))) = absurd none
 
-pub node_found : (look : Look) (at : RevOffset) (seen : List ℕ) (v : NodeRev) → WindowAt look at 65536 (Ok seen) → IsNodeAt at seen v → NodeAt look at (Ok v)
-node_found look at seen v w h = (w.0, w.1, node_in at (drop at.offset w.0) seen w.2 v h)
-
-pub node_wrong : (look : Look) (at : RevOffset) (seen : List ℕ) (d : Damage) → WindowAt look at 65536 (Ok seen) → NodeRow at seen d → NodeAt look at (Err (wrongs.Damaged d))
-node_wrong look at seen d w h = inr (w.0, w.1, row_in at (drop at.offset w.0) seen w.2 d h)
+pub node_seen : (look : Look) (at : RevOffset) (seen : List ℕ) (result : Result NodeRev ReadError) → WindowAt look at 65536 (Ok seen) → Answers (λ (v : NodeRev). v) (NodeIn at seen) result → Answers (λ (v : NodeRev). v) (NodeAt look at) result
+node_seen look at seen (Ok v) w h = (w.0, w.1, node_in at (drop at.offset w.0) seen w.2 (Ok v) h)
+node_seen look at seen (Err (errors.Wrong wrong)) w h = inr (w.0, w.1, node_in at (drop at.offset w.0) seen w.2 (Err wrong) h)
+node_seen look at seen (Err errors.OutOfMemory) w h = tt
+node_seen look at seen (Err errors.DiskFault) w h = tt
 
 -- ---- a node-revision in a front of the window
 
@@ -190,19 +180,13 @@ module _ (look : Look) (rev len cut : ℕ) (seen : List ℕ) (size : LengthOf lo
   pub end_found : (t : Trailer) → EndsWith cut seen t → EndOf look rev (Ok (place_of rev t.root))
   end_found t h = (size.0, size.1, (t, tail_ends size.0 seen cut t at_end part h, refl))
 
-  pub end_missing : ((t : Trailer) → EndsWith cut seen t → ⊥) → EndOf look rev (Err (wrongs.Damaged (record { at = place_of rev len; what = what.Trailer })))
-  end_missing none = inr (size.0, size.1, (ap (place_of rev) size.2, refl, λ t h. none t (tail_seen size.0 seen cut t at_end part h)))
+  pub end_missing : ((t : Trailer) → EndsWith cut seen t → ⊥) → EndOf look rev (Err (damaged (place_of rev len) what.Trailer))
+  end_missing none = inr (size.0, size.1, inl ((λ h. none h.0 (tail_seen size.0 seen cut h.0 at_end part h.1)), ap (λ (n : ℕ). damaged (place_of rev n) what.Trailer) size.2))
 
 -- ---- the root of a revision
 
-no_end : (rev : ℕ) (bytes : List ℕ) (w : Wrong) → IsDamage (EndRow rev bytes) w → RootIn rev bytes (Err w)
-no_end rev bytes (wrongs.Damaged d) h = inl h
-no_end rev bytes (wrongs.Refused why) h = absurd h
-no_end rev bytes (wrongs.BadRep d) h = absurd h
-no_end rev bytes (wrongs.Delta at) h = absurd h
-
 end_as_root : (look : Look) (rev : ℕ) (w : Wrong) → EndOf look rev (Err w) → RootOf look rev (Err w)
-end_as_root look rev w h = elim h [ inl a ↦ inl a | inr x ↦ inr (x.0, x.1, no_end rev x.0 w x.2) ]
+end_as_root look rev w h = elim h [ inl a ↦ inl a | inr x ↦ inr (x.0, x.1, inl x.2) ]
 
 pub root_no_end : {A B : Type 0} (first : A → RevOffset) (second : B → NodeRev) (look : Look) (rev : ℕ) (e : ReadError) → Answers first (EndOf look rev) (Err e) → Answers second (RootOf look rev) (Err e)
 root_no_end first second look rev (errors.Wrong w) h = end_as_root look rev w h
@@ -214,18 +198,18 @@ module _ (look : Look) (rev : ℕ) (at : RevOffset) (end : EndOf look rev (Ok at
   here : (P : RevOffset → Type 0) → P at → P (place_of rev end.2.0.root)
   here P h = subst P end.2.2 h
 
-  bad_in : (bytes : List ℕ) → look rev ≡ Ok bytes → (w : Wrong) → IsDamage (NodeRow (place_of rev end.2.0.root) (drop end.2.0.root bytes)) w → RootIn rev end.0 (Err w)
-  bad_in bytes e (wrongs.Damaged d) h =
-      inr (end.2.0, end.2.1, inl (subst (λ (xs : List ℕ). NodeRow (place_of rev end.2.0.root) (drop end.2.0.root xs) d) (one_bytes (look rev) bytes end.0 e end.1) h))
-  bad_in bytes e (wrongs.Refused why) h = absurd h
-  bad_in bytes e (wrongs.BadRep d) h = absurd h
-  bad_in bytes e (wrongs.Delta place) h = absurd h
+  in_root : (r : Result NodeRev Wrong) → RootAt (place_of rev end.2.0.root) (drop end.2.0.root end.0) r → RootOf look rev r
+  in_root (Ok v) h = (end.0, end.1, (end.2.0, end.2.1, h))
+  in_root (Err w) h = inr (end.0, end.1, inr (end.2.0, end.2.1, h))
+
+  node_here : (r : Result NodeRev Wrong) (bytes : List ℕ) → look rev ≡ Ok bytes → NodeIn (place_of rev end.2.0.root) (drop end.2.0.root bytes) r → NodeIn (place_of rev end.2.0.root) (drop end.2.0.root end.0) r
+  node_here r bytes e h = subst (λ (xs : List ℕ). NodeIn (place_of rev end.2.0.root) (drop end.2.0.root xs) r) (one_bytes (look rev) bytes end.0 e end.1) h
 
   no_node : (w : Wrong) → NodeAt look at (Err w) → RootOf look rev (Err w)
   no_node w h =
       elim (here (λ (a : RevOffset). NodeAt look a (Err w)) h) [
         | inl gone ↦ inl gone
-        | inr x ↦ inr (end.0, end.1, bad_in x.0 x.1 w x.2)
+        | inr x ↦ in_root (Err w) (inl (node_here (Err w) x.0 x.1 x.2))
       ]
 
   pub root_no_node : {A B : Type 0} (first : A → NodeRev) (second : B → NodeRev) (e : ReadError) → Answers first (NodeAt look at) (Err e) → Answers second (RootOf look rev) (Err e)
@@ -233,16 +217,17 @@ module _ (look : Look) (rev : ℕ) (at : RevOffset) (end : EndOf look rev (Ok at
   root_no_node first second errors.OutOfMemory h = tt
   root_no_node first second errors.DiskFault h = tt
 
-  node_here : (v : NodeRev) → NodeAt look at (Ok v) → IsNodeAt (place_of rev end.2.0.root) (drop end.2.0.root end.0) v
-  node_here v h =
-      let x = here (λ (a : RevOffset). NodeAt look a (Ok v)) h in
-      subst (λ (xs : List ℕ). IsNodeAt (place_of rev end.2.0.root) (drop end.2.0.root xs) v) (one_bytes (look rev) x.0 end.0 x.1 end.1) x.2
+  pub as_root_of : (v : NodeRev) (r : Result NodeRev Wrong) → NodeAt look at (Ok v) → AsRoot at v r → RootOf look rev r
+  as_root_of v r h row = by_answer r (here (λ (a : RevOffset). NodeAt look a (Ok v)) h) (here (λ (a : RevOffset). AsRoot a v r) row)
+    where
+      by_answer : (r : Result NodeRev Wrong) → NodeAt look (place_of rev end.2.0.root) (Ok v) → AsRoot (place_of rev end.2.0.root) v r → RootOf look rev r
+      by_answer (Ok root) x row = in_root (Ok root) (v, node_here (Ok v) x.0 x.1 x.2, row)
+      by_answer (Err w) x row = in_root (Err w) (inr (v, node_here (Ok v) x.0 x.1 x.2, row))
 
-  pub root_found : (v : NodeRev) → NodeAt look at (Ok v) → is_root at v ≡ true → RootOf look rev (Ok v)
-  root_found v h root = (end.0, end.1, (end.2.0, end.2.1, node_here v h, here (λ (a : RevOffset). is_root a v ≡ true) root))
-
-  pub root_wrong : (v : NodeRev) (d : Damage) → NodeAt look at (Ok v) → NoRootRow at v d → RootOf look rev (Err (wrongs.Damaged d))
-  root_wrong v d h row = inr (end.0, end.1, inr (end.2.0, end.2.1, inr (v, node_here v h, here (λ (a : RevOffset). NoRootRow a v d) row)))
+  pub no_root : {A B : Type 0} (first : A → NodeRev) (second : B → NodeRev) (v : NodeRev) (e : ReadError) → NodeAt look at (Ok v) → Answers first (AsRoot at v) (Err e) → Answers second (RootOf look rev) (Err e)
+  no_root first second v (errors.Wrong w) h row = as_root_of v (Err w) h row
+  no_root first second v errors.OutOfMemory h row = tt
+  no_root first second v errors.DiskFault h row = tt
 
 -- ---- places
 
@@ -253,13 +238,13 @@ own_place at v h = by_place v.id.place h
     by_place : (place : Place) → is_own_place at place ≡ true → offset_of place ≡ at
     by_place (places.In txn) e = absurd cc
     by_place (places.At rev offset) e =
-        let two = both_hold (rev == at.rev) (offset == at.offset) e in
+        let two = and_parts (rev == at.rev) (offset == at.offset) e in
         let r : rev ≡ at.rev = grind (arith, nat_tests) in
         let o : offset ≡ at.offset = grind (arith, nat_tests) in
         λ i. record { rev = r i; offset = o i }
 
 pub root_own : (at : RevOffset) (v : NodeRev) → is_root at v ≡ true → is_own_place at v.id.place ≡ true
-root_own at v h = (both_hold (is_own_place at v.id.place) (is_directory v.kind) h).0
+root_own at v h = (and_parts (is_own_place at v.id.place) (is_directory v.kind) h).0
 
 pub placed_root : (at : RevOffset) (v : NodeRev) → is_root at v ≡ true → is_ordered at v ≡ true → is_ordered (offset_of v.id.place) v ≡ true
 placed_root at v root h = subst (λ (a : RevOffset). is_ordered a v ≡ true) (sym (own_place at v (root_own at v root))) h

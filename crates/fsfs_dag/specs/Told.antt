@@ -1,17 +1,14 @@
 -- What a book tells of a revision, and what is read of it.
 use Rattle.std.specs.Prelude.{◌≡◌, ℕ, List, length, take, drop, Some, Result, Ok, Err}
-use Rattle.fsfs_book.specs.Told.{Look, Telling}
-use Rattle.fsfs_revision.specs.declared.damage.RevOffset.{RevOffset}
+use Rattle.fsfs_book.specs.Told.{Look, BytesOf}
+use Rattle.fsfs_damage.specs.declared.damage.RevOffset.{RevOffset}
 use Rattle.fsfs_revision.specs.declared.trailer.Trailer.{Trailer}
 use Rattle.fsfs_revision.specs.Trailers.{EndsWith}
-use Rattle.fsfs_revision.specs.Damages.{place_of, EndRow}
-use Rattle.fsfs_shows.specs.declared.wrong.Wrong.{Wrong}
-use Rattle.fsfs_shows.specs.Readings.{AndThen, IsDamage}
-use Rattle.fsfs_shows.specs.Reading.{BytesOf}
-
--- what look says of the revision is what is told of it
-abbrev pub IsTold : Telling → Look → ℕ → Type 0
-IsTold told look rev = told.revs rev ≡ Some (look rev)
+use Rattle.fsfs_damage.specs.Damages.{place_of}
+use Rattle.fsfs_revision.specs.Damages.{trailer_checks}
+use Rattle.fsfs_damage.specs.declared.wrong.Wrong.{Wrong}
+use Rattle.fsfs_damage.specs.Checks.{Judged}
+use Rattle.fsfs_damage.specs.Readings.{AndThen}
 
 -- the length of a revision
 abbrev pub LengthOf : Look → ℕ → Result ℕ Wrong → Type 0
@@ -25,8 +22,7 @@ WindowAt look at count (Err w) = BytesOf look at.rev (Err w)
 
 -- where the trailer says that the root stands
 abbrev pub EndIn : ℕ → List ℕ → Result RevOffset Wrong → Type 0
-EndIn rev bytes (Ok at) = (t : Trailer) × EndsWith 0 bytes t × (at ≡ place_of rev t.root)
-EndIn rev bytes (Err w) = IsDamage (EndRow rev bytes) w
+EndIn rev bytes = Judged (λ at. (t : Trailer) × EndsWith 0 bytes t × (at ≡ place_of rev t.root)) (trailer_checks rev bytes)
 
 abbrev pub EndOf : Look → ℕ → Result RevOffset Wrong → Type 0
 EndOf look rev = AndThen (BytesOf look rev) (EndIn rev)

@@ -1,13 +1,11 @@
 -- What the types of this crate are, apart from where they lie in memory.
-use Rattle.std.specs.Prelude.{◌≡◌, ℕ, List, map, true, Result, Ok, Err}
+use Rattle.std.specs.Prelude.{◌≡◌, List, map, true}
 use Rattle.std.specs.List.{AllByRecursion}
 use Rattle.std.specs.String.{string_bytes}
 use Rattle.fsfs_noderev.specs.declared.node_rev.NodeRev.{NodeRev}
-use Rattle.fsfs_noderev.specs.declared.rep.Rep.{Rep}
-use Rattle.fsfs_revision.specs.declared.damage.RevOffset.{RevOffset}
+use Rattle.fsfs_damage.specs.declared.damage.RevOffset.{RevOffset}
 use Rattle.fsfs_revision.specs.Nodes.{place_before}
-use Rattle.fsfs_shows.specs.declared.wrong.Wrong.{Wrong}
-use Rattle.fsfs_shows.specs.Reading.{Entry as EntryValue, IsEntry, PairRow, offset_of, Met as MetValue, Stands, Lacking, Blocked}
+use Rattle.fsfs_shows.specs.Reading.{Entry as EntryValue, offset_of, Met as MetValue, Stands, Lacking, Blocked}
 use Rattle.fsfs_dag.specs.declared.directory.Entry.{Entry}
 use Rattle.fsfs_dag.specs.declared.walk.Met.{Met}
 use Rattle.fsfs_dag.specs.declared.walk.Met.TheVariants as mets
@@ -21,11 +19,6 @@ entry_values entries = map entry_value entries
 -- where a node-revision stands
 abbrev pub home_of : NodeRev → RevOffset
 home_of v = offset_of v.id.place
-
--- what one pair of a directory's dump is
-abbrev pub EntryIn : RevOffset → Rep → List ℕ × List ℕ → Result EntryValue Wrong → Type 0
-EntryIn home rep pair (Ok entry) = IsEntry home pair entry
-EntryIn home rep pair (Err w) = PairRow home rep pair w
 
 -- the entry names a node-revision before this place
 abbrev pub IsBefore : RevOffset → Entry → Type 0

@@ -3,8 +3,8 @@ use Rattle.std.specs.Prelude.{◌≡◌, ◌≤◌, ℕ, List, Option, Result, O
 use Rattle.fsfs_disk.specs.Fault.{Rose}
 use Rattle.fsfs_disk.specs.Streams.{Adds}
 use Rattle.fsfs_output.specs.Output.{AddsFront}
-use Rattle.fsfs_shows.specs.declared.wrong.Wrong.{Wrong}
-use Rattle.fsfs_shows.specs.declared.wrong.ReadError.TheVariants as errors
+use Rattle.fsfs_damage.specs.declared.wrong.Wrong.{Wrong}
+use Rattle.fsfs_damage.specs.declared.wrong.ReadError.TheVariants as errors
 use Rattle.fsfs_dag.specs.declared.writing.TextError.{TextError}
 use Rattle.fsfs_dag.specs.declared.writing.TextError.TheVariants.{Unread, WriteFault}
 

@@ -1,26 +1,24 @@
 //! A node's properties and a file's text.
 ghost use Rattle.std.specs.Prelude.{◌≡◌, ℕ, Some, Ok, IsSome, IfErr};
 ghost use Rattle.fsfs_base.specs.declared.node.Kind.TheVariants.{File};
-ghost use Rattle.fsfs_book.specs.Told.{Look, Knows, Keeps};
+ghost use Rattle.fsfs_book.specs.Told.{Look, Knows, Keeps, IsTold};
 ghost use Rattle.fsfs_rep.specs.Frames.{rev_of};
-ghost use Rattle.fsfs_shows.specs.Readings.{Answers};
+ghost use Rattle.fsfs_damage.specs.Readings.{Answers};
 ghost use Rattle.fsfs_shows.specs.Reading.{RepAt, PairsIn, PairsAt, PropsOf, TextOf, StandsAt};
 ghost use Rattle.fsfs_base.specs.Nodes.{TreeFunction, Node};
 ghost use Rattle.fsfs_base.specs.Paths.{Path};
 ghost use Rattle.fsfs_shows.specs.Shown.{Shows};
 ghost use Rattle.fsfs_shows.specs.ByTree.{IsTextByTree};
-ghost use Rattle.fsfs_dag.specs.Causes.{HasCause, IsQuiet};
-ghost use Rattle.fsfs_dag.specs.Told.{IsTold};
+ghost use Rattle.fsfs_damage.specs.Causes.{HasCause, IsQuiet};
 ghost use Rattle.fsfs_dag.specs.Views.{home_of};
 
-use crate::faults::{bad_rep, of_rep_error, rep_place};
 use crate::node::PlacedNode;
 use fsfs_base::Pairs;
 use fsfs_book::Book;
+use fsfs_damage::{ReadError, RepWhat};
 use fsfs_hash::{HashError, read_hash};
 use fsfs_noderev::Rep;
-use fsfs_rep::read_rep_bytes;
-use fsfs_shows::{ReadError, RepWhat};
+use fsfs_rep::{bad_rep, read_rep_bytes};
 use std::alloc::Global;
 
 // The bytes of a representation.
@@ -30,10 +28,7 @@ fn rep_read<B: Book>(alloc: Global, book: &mut B, rep: &Rep) -> Result<Vec<u8>, 
     ensures kept { Keeps (B.told book.old) (B.told book.new) }
     ensures cause { HasCause (B.faults book.old) (B.faults book.new) result }
 {
-    match read_rep_bytes(alloc, book, rep) {
-        Ok(bytes) => Ok(bytes),
-        Err(error) => Err(of_rep_error(rep_place(rep), error)),
-    }
+    read_rep_bytes(alloc, book, rep)
 }
 
 // The pairs of the bytes of a representation.
@@ -44,7 +39,7 @@ fn hash_in(alloc: Global, rep: &Rep, bytes: &[u8]) -> Result<Pairs, ReadError>
     match read_hash(alloc, bytes) {
         Ok(pairs) => Ok(pairs),
         Err(HashError::OutOfMemory) => Err(ReadError::OutOfMemory),
-        Err(HashError::Fault(_)) => Err(bad_rep(rep_place(rep), RepWhat::Hash)),
+        Err(HashError::Fault(_)) => Err(bad_rep(rep, RepWhat::Hash)),
     }
 }
 

@@ -7,24 +7,23 @@ ghost use Rattle.fsfs_book.specs.Told.{Look, Knows, Keeps};
 ghost use Rattle.fsfs_noderev.specs.Fields.{IsIdText};
 ghost use Rattle.fsfs_noderev.specs.declared.node_id.NodeId.{NodeId};
 ghost use Rattle.fsfs_revision.specs.Nodes.{is_revision_id, place_before};
-ghost use Rattle.fsfs_shows.specs.Readings.{Answers};
-ghost use Rattle.fsfs_shows.specs.Reading.{EntriesIn, EntriesOf, IsEntryName, IsEntryValue, named, rep_place};
+ghost use Rattle.fsfs_damage.specs.Readings.{Answers};
+ghost use Rattle.fsfs_shows.specs.Reading.{EntryIn, EntriesIn, EntriesOf, IsEntryName, IsEntryValue, named, StandsAt};
 ghost use Rattle.fsfs_base.specs.Nodes.{TreeFunction};
 ghost use Rattle.fsfs_base.specs.Paths.{Path};
-ghost use Rattle.fsfs_shows.specs.Reading.{StandsAt};
 ghost use Rattle.fsfs_shows.specs.Shown.{Shows};
 ghost use Rattle.fsfs_shows.specs.ByTree.{AreEntriesByTree};
-ghost use Rattle.fsfs_dag.specs.Causes.{HasCause, IsQuiet};
-ghost use Rattle.fsfs_dag.specs.Views.{entry_value, entry_values, home_of, EntryIn, AreBefore, IsBefore};
+ghost use Rattle.fsfs_damage.specs.Causes.{HasCause, IsQuiet};
+ghost use Rattle.fsfs_dag.specs.Views.{entry_value, entry_values, home_of, AreBefore, IsBefore};
 
 use crate::contents::pairs_in;
-use crate::faults::{bad_rep, rep_place};
 use crate::node::PlacedNode;
 use fsfs_base::{Kind, Pairs, is_name};
 use fsfs_book::Book;
+use fsfs_damage::{ReadError, RepWhat, RevOffset, What};
 use fsfs_noderev::{NodeId, Place, Rep, read_id};
-use fsfs_revision::{Damage, RevOffset, What, is_before, is_revision_id};
-use fsfs_shows::{ReadError, RepWhat, Wrong};
+use fsfs_rep::bad_rep;
+use fsfs_revision::{is_before, is_revision_id};
 use fsfs_text::pieces::text;
 use std::alloc::Global;
 
@@ -95,15 +94,14 @@ fn entry_of(
     ensures before { IfOk result (IsBefore home) }
 {
     let Some(name) = name_of(name) else {
-        return Err(bad_rep(rep_place(rep), RepWhat::BadName));
+        return Err(bad_rep(rep, RepWhat::BadName));
     };
     let Some(target) = value_of(value) else {
-        return Err(bad_rep(rep_place(rep), RepWhat::EntryValue));
+        return Err(bad_rep(rep, RepWhat::EntryValue));
     };
     let (kind, id) = target;
     if !stands_before(home, id.place) {
-        let what = What::PlaceOrder;
-        return Err(ReadError::Wrong(Wrong::Damaged(Damage { at: home, what })));
+        return Err(ReadError::damaged(home, What::PlaceOrder));
     }
     match String::from_str(alloc, name) {
         Ok(name) => Ok(Entry { name, kind, id }),

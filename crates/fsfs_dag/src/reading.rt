@@ -1,38 +1,29 @@
 //! The node-revision at a place of a revision, and a revision's root.
 ghost use Rattle.std.specs.Prelude.{◌≡◌, ◌≤◌, ◌<◌, ◌^◌, ◌+◌, ℕ, [], true, length, take, IfOk};
 ghost use Rattle.fsfs_base.specs.Nodes.{TreeFunction};
-ghost use Rattle.fsfs_book.specs.Told.{Look, Knows, Keeps};
+ghost use Rattle.fsfs_book.specs.Told.{Look, Knows, Keeps, IsTold};
 ghost use Rattle.fsfs_revision.specs.Nodes.{is_ordered};
-ghost use Rattle.fsfs_revision.specs.declared.damage.RevisionError.TheVariants.{Damaged};
-ghost use Rattle.fsfs_shows.specs.Readings.{Answers, of_revision};
+ghost use Rattle.fsfs_damage.specs.Readings.{Answers};
 ghost use Rattle.fsfs_shows.specs.Reading.{NodeAt, RootOf, OfEntry, OfId, HasId, HasKind, Stands, offset_of};
 ghost use Rattle.fsfs_shows.specs.Shown.{Shows};
 ghost use Rattle.fsfs_shows.specs.ByTree.{IsMetByTree};
-ghost use Rattle.fsfs_dag.specs.Causes.{HasCause, IsQuiet};
-ghost use Rattle.fsfs_dag.specs.Told.{IsTold, LengthOf, WindowAt, EndOf};
+ghost use Rattle.fsfs_damage.specs.Causes.{HasCause, IsQuiet};
+ghost use Rattle.fsfs_dag.specs.Told.{LengthOf, WindowAt, EndOf};
 ghost use Rattle.fsfs_dag.specs.Same.{same_part, same_place, same_id};
 ghost use Rattle.fsfs_dag.specs.Views.{entry_value};
 
 use crate::directory::Entry;
-use crate::faults::offset_of;
 use crate::node::PlacedNode;
+use crate::places::offset_of;
 use fsfs_book::{Book, BookFault};
+use fsfs_damage::{ReadError, RevOffset, What, Wrong};
 use fsfs_noderev::{MAX_NODE_REV, NodeId, NodeRev, Part, Place};
-use fsfs_revision::{
-    Damage, RevOffset, RevisionError, TRAILER_LIMIT, What, check_root, read_node_at, read_tail,
-};
-use fsfs_shows::{ReadError, Wrong};
+use fsfs_revision::{TRAILER_LIMIT, as_root, read_node_at, read_tail};
 use std::alloc::Global;
 
 // What is read first of a node-revision. But for its paths it has some hundreds of bytes, so that few are longer than this;
 // to clear and read the whole limit for each costs more than the reading itself.
 const USUAL_NODE_REV: usize = 1024;
-
-fn damaged(at: RevOffset, what: What) -> ReadError
-    ensures { result ≡ of_revision (Damaged (record { at = at; what = what })) }
-{
-    ReadError::Wrong(Wrong::Damaged(Damage { at, what }))
-}
 
 // How long a revision is.
 fn length<B: Book>(book: &mut B, rev: u32) -> Result<u64, ReadError>
@@ -56,13 +47,7 @@ fn window<B: Book>(book: &mut B, at: RevOffset, buffer: &mut [u8]) -> Result<usi
     ensures kept { Keeps (B.told book.old) (B.told book.new) }
     ensures cause { HasCause (B.faults book.old) (B.faults book.new) result }
 {
-    match book.read_rev(at.rev, at.offset, buffer) {
-        Ok(count) => Ok(count),
-        Err(BookFault::Refused(refusal)) => Err(ReadError::Wrong(Wrong::Refused(refusal))),
-        Err(BookFault::Short { .. }) => Ok(0),
-        Err(BookFault::DiskFault) => Err(ReadError::DiskFault),
-        Err(BookFault::OutOfMemory) => Err(ReadError::OutOfMemory),
-    }
+    fsfs_rep::window(book, at.rev, at.offset, buffer)
 }
 
 // Where the trailer says that a revision's root stands.
@@ -85,7 +70,7 @@ fn root_place<B: Book>(book: &mut B, rev: u32) -> Result<RevOffset, ReadError>
             rev,
             offset: trailer.root,
         }),
-        None => Err(damaged(RevOffset { rev, offset: len }, What::Trailer)),
+        None => Err(ReadError::damaged(RevOffset { rev, offset: len }, What::Trailer)),
     }
 }
 
@@ -100,11 +85,7 @@ fn node_in_whole<B: Book>(alloc: Global, book: &mut B, at: RevOffset) -> Result<
 {
     let mut bytes = [0u8; MAX_NODE_REV];
     let count = window(book, at, &mut bytes)?;
-    match read_node_at(alloc, at, &bytes[..count]) {
-        Ok(node) => Ok(node),
-        Err(RevisionError::OutOfMemory) => Err(ReadError::OutOfMemory),
-        Err(RevisionError::Damaged(damage)) => Err(ReadError::Wrong(Wrong::Damaged(damage))),
-    }
+    read_node_at(alloc, at, &bytes[..count])
 }
 
 // The node-revision that stands at a place. Bytes behind its text change nothing, so a front of them shows it, but what is
@@ -119,8 +100,9 @@ fn node_read<B: Book>(alloc: Global, book: &mut B, at: RevOffset) -> Result<Node
     let count = window(book, at, &mut bytes)?;
     match read_node_at(alloc, at, &bytes[..count]) {
         Ok(node) => Ok(node),
-        Err(RevisionError::OutOfMemory) => Err(ReadError::OutOfMemory),
-        Err(RevisionError::Damaged(_)) => node_in_whole(alloc, book, at),
+        Err(ReadError::OutOfMemory) => Err(ReadError::OutOfMemory),
+        Err(ReadError::DiskFault) => Err(ReadError::DiskFault),
+        Err(ReadError::Wrong(_)) => node_in_whole(alloc, book, at),
     }
 }
 
@@ -131,11 +113,9 @@ fn read_root<B: Book>(alloc: Global, book: &mut B, rev: u32) -> Result<PlacedNod
     ensures cause { HasCause (B.faults book.old) (B.faults book.new) result }
 {
     let at = root_place(book, rev)?;
-    let node = node_read(alloc, book, at)?;
-    match check_root(at, &node) {
-        Ok(()) => Ok(PlacedNode { node }),
-        Err(damage) => Err(ReadError::Wrong(Wrong::Damaged(damage))),
-    }
+    let read = node_read(alloc, book, at)?;
+    let node = as_root(at, read)?;
+    Ok(PlacedNode { node })
 }
 
 /// The root of a revision: the node-revision that its trailer names. Trailer, NodeRev, PlaceOrder, OtherId and EntryKind
@@ -200,7 +180,7 @@ fn with_id(id: NodeId, node: NodeRev) -> Result<NodeRev, ReadError>
     if same_id(&node.id, &id) {
         Ok(node)
     } else {
-        Err(damaged(offset_of(id.place), What::OtherId))
+        Err(ReadError::damaged(offset_of(id.place), What::OtherId))
     }
 }
 
@@ -225,7 +205,7 @@ fn with_kind(entry: &Entry, child: PlacedNode) -> Result<PlacedNode, ReadError>
     if child.node.kind == entry.kind {
         Ok(child)
     } else {
-        Err(damaged(offset_of(entry.id.place), What::EntryKind))
+        Err(ReadError::damaged(offset_of(entry.id.place), What::EntryKind))
     }
 }
 

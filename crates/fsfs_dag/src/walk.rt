@@ -2,12 +2,12 @@
 ghost use Rattle.std.specs.Prelude.{◌≡◌, ◌≤◌, IfOk, IfSome, option_map};
 ghost use Rattle.fsfs_base.specs.declared.node.Kind.TheVariants.{Dir};
 ghost use Rattle.fsfs_book.specs.Told.{Look, Knows, Keeps};
-ghost use Rattle.fsfs_shows.specs.Readings.{Answers};
+ghost use Rattle.fsfs_damage.specs.Readings.{Answers};
 ghost use Rattle.fsfs_base.specs.Nodes.{TreeFunction};
 ghost use Rattle.fsfs_shows.specs.Reading.{ChildOf, MetAt};
 ghost use Rattle.fsfs_shows.specs.Shown.{Shows};
 ghost use Rattle.fsfs_shows.specs.ByTree.{IsMetByTree};
-ghost use Rattle.fsfs_dag.specs.Causes.{HasCause};
+ghost use Rattle.fsfs_damage.specs.Causes.{HasCause};
 ghost use Rattle.fsfs_dag.specs.Views.{home_of, met_value};
 
 use crate::directory::{entries, entry_named};
@@ -15,7 +15,7 @@ use crate::node::PlacedNode;
 use crate::reading::{child_of, root_of};
 use fsfs_base::{FsPath, Kind};
 use fsfs_book::Book;
-use fsfs_shows::ReadError;
+use fsfs_damage::ReadError;
 use std::alloc::Global;
 
 /// What stands at a path.

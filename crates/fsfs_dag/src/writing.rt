@@ -13,9 +13,9 @@ ghost use Rattle.fsfs_dag.specs.Writing.{Writes, HasCauses};
 use crate::contents::text_of;
 use crate::node::PlacedNode;
 use fsfs_book::Book;
+use fsfs_damage::ReadError;
 use fsfs_disk::Sink;
 use fsfs_output::print;
-use fsfs_shows::ReadError;
 use std::alloc::Global;
 use thiserror::Error;
 

@@ -1,9 +1,6 @@
--- Counts of faults. A count stops at the last number of a u64, and there every failure counts as risen.
-use Rattle.std.specs.Prelude.{ℕ, ◌+◌, ◌-◌, ◌^◌, ◌≤◌, min, Result, OnErr}
-
--- the count rose, or stands at its last value
-abbrev pub Rose : ℕ → ℕ → Type 0
-Rose before now = min (before + 1) (2 ^ 64 - 1) ≤ now
+-- Calls that fail, and the count of faults.
+use Rattle.std.specs.Prelude.{ℕ, ◌≤◌, Result, OnErr}
+pub use Rattle.fsfs_base.specs.Counts.{Rose}
 
 -- a count never falls, and rose where the call failed
 pub record HasCause {T E : Type 0} (before now : ℕ) (result : Result T E) : Type 0 where

@@ -1,20 +1,20 @@
 -- The fault that a command answers where the words were not read, or a creation, an opening or a look failed.
 use Rattle.std.specs.Prelude.{take}
 use Rattle.fsfs_base.specs.Paths.{Path}
-use Rattle.fsfs_book.specs.declared.book.Refusal.TheVariants as refusal
+use Rattle.fsfs_damage.specs.declared.wrong.Refusal.TheVariants as refusal
 use Rattle.fsfs_repo.specs.declared.creation.CreateFault.{CreateFault}
 use Rattle.fsfs_repo.specs.declared.creation.CreateFault.TheVariants as create
 use Rattle.fsfs_repo.specs.declared.opening.OpenFault.{OpenFault}
 use Rattle.fsfs_repo.specs.declared.opening.OpenFault.TheVariants as opening
-use Rattle.fsfs_revision.specs.declared.damage.What.TheVariants as damaged
-use Rattle.fsfs_shows.specs.declared.wrong.Wrong.{Wrong}
-use Rattle.fsfs_shows.specs.declared.wrong.Wrong.TheVariants as wrong
+use Rattle.fsfs_damage.specs.declared.damage.What.TheVariants as damaged
+use Rattle.fsfs_damage.specs.declared.wrong.Wrong.{Wrong}
+use Rattle.fsfs_damage.specs.declared.wrong.Wrong.TheVariants as wrong
 use Rattle.fsfs_texts.specs.declared.look_fault.LookFault.{LookFault}
 use Rattle.fsfs_texts.specs.declared.look_fault.LookFault.TheVariants as look
 use Rattle.fsfs_words.specs.declared.fault.WordsFault.{WordsFault}
 use Rattle.fsfs_words.specs.declared.fault.WordsFault.TheVariants as words
 use Rattle.fsfs_faults.specs.declared.fault.Fault.{Fault}
-use Rattle.fsfs_faults.specs.declared.fault.Fault.TheVariants.{Usage, BadPath, NotFound, NotDir, NotFile, NoRev, AlreadyRepo, NotRepo, OtherFormat, Linear, Small, Corrupt, BadRep, Delta, DiskFault, Memory}
+use Rattle.fsfs_faults.specs.declared.fault.Fault.TheVariants.{Usage, BadPath, NotFound, NotDir, NotFile, NoRev, AlreadyRepo, NotRepo, OtherFormat, Linear, Small, Corrupt, Delta, DiskFault, Memory}
 
 abbrev pub fault_from_words : WordsFault → Fault
 fault_from_words words.Usage = Usage
@@ -40,7 +40,6 @@ fault_from_wrong (wrong.Refused (refusal.NoRev asked youngest)) = NoRev asked yo
 fault_from_wrong (wrong.Refused (refusal.Missing rev)) = Corrupt (record { at = record { rev = rev; offset = 0 }; what = damaged.Missing })
 fault_from_wrong (wrong.Refused (refusal.Small small)) = Small small
 fault_from_wrong (wrong.Damaged damage) = Corrupt damage
-fault_from_wrong (wrong.BadRep damage) = BadRep damage
 fault_from_wrong (wrong.Delta at) = Delta at
 
 -- of a look at a path: where nothing was found or a file is no directory, the path down to there

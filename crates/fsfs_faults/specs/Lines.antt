@@ -7,15 +7,15 @@ use Rattle.fsfs_base.specs.declared.bad_path.PathFault.TheVariants.{NotAbsolute,
 use Rattle.fsfs_layout.specs.Names.{small_name}
 use Rattle.fsfs_repo.specs.declared.place.DiskPlace.{DiskPlace}
 use Rattle.fsfs_repo.specs.declared.place.DiskPlace.TheVariants.{OpenFirm, OpenRead, Read, CreatePut, CreateFirm, CreateRename, CreateLast}
-use Rattle.fsfs_revision.specs.declared.damage.RevOffset.{RevOffset}
-use Rattle.fsfs_revision.specs.declared.damage.What.{What}
-use Rattle.fsfs_revision.specs.declared.damage.What.TheVariants as damaged
-use Rattle.fsfs_shows.specs.declared.wrong.RepWhat.{RepWhat}
-use Rattle.fsfs_shows.specs.declared.wrong.RepWhat.TheVariants as rep
+use Rattle.fsfs_damage.specs.declared.damage.RevOffset.{RevOffset}
+use Rattle.fsfs_damage.specs.declared.damage.What.{What}
+use Rattle.fsfs_damage.specs.declared.damage.What.TheVariants as damaged
+use Rattle.fsfs_damage.specs.declared.damage.RepWhat.{RepWhat}
+use Rattle.fsfs_damage.specs.declared.damage.RepWhat.TheVariants as rep
 use Rattle.fsfs_words.specs.Commands.{tool_name}
 use Rattle.fsfs_words.specs.declared.tool.Tool.{Tool}
 use Rattle.fsfs_faults.specs.declared.fault.Fault.{Fault}
-use Rattle.fsfs_faults.specs.declared.fault.Fault.TheVariants.{Usage, BadPath, NotFound, NotDir, NotFile, NoRev, AlreadyRepo, NotRepo, OtherFormat, Linear, Small, Corrupt, BadRep, Delta, MountFault, DiskFault, WriteFault, Memory}
+use Rattle.fsfs_faults.specs.declared.fault.Fault.TheVariants.{Usage, BadPath, NotFound, NotDir, NotFile, NoRev, AlreadyRepo, NotRepo, OtherFormat, Linear, Small, Corrupt, Delta, MountFault, DiskFault, WriteFault, Memory}
 
 abbrev pub place_words : DiskPlace → List ℕ
 place_words OpenFirm = codes "OpenFirm"
@@ -26,7 +26,7 @@ place_words CreateFirm = codes "CreateFirm"
 place_words CreateRename = codes "CreateRename"
 place_words CreateLast = codes "CreateLast"
 
--- the name of a fault, with the place of a disk's fault; a damaged representation is told as a damaged revision is
+-- the name of a fault, with the place of a disk's fault
 abbrev pub fault_name : Fault → List ℕ
 fault_name Usage = codes "Usage"
 fault_name (BadPath bad) = codes "BadPath"
@@ -40,21 +40,11 @@ fault_name (OtherFormat number) = codes "OtherFormat"
 fault_name Linear = codes "Linear"
 fault_name (Small small) = codes "Small"
 fault_name (Corrupt damage) = codes "Corrupt"
-fault_name (BadRep damage) = codes "Corrupt"
 fault_name (Delta at) = codes "Delta"
 fault_name MountFault = codes "MountFault"
 fault_name (DiskFault place) = codes "DiskFault " ++ place_words place
 fault_name WriteFault = codes "WriteFault"
 fault_name Memory = codes "Memory"
-
-abbrev pub what_name : What → List ℕ
-what_name damaged.Trailer = codes "Trailer"
-what_name damaged.NodeRev = codes "NodeRev"
-what_name damaged.PlaceOrder = codes "PlaceOrder"
-what_name damaged.OtherId = codes "OtherId"
-what_name damaged.EntryKind = codes "EntryKind"
-what_name damaged.Header = codes "Header"
-what_name damaged.Missing = codes "Missing"
 
 abbrev pub why_name : PathFault → List ℕ
 why_name NotAbsolute = codes "NotAbsolute"
@@ -80,6 +70,16 @@ rep_what_values rep.Hash = codes " Hash"
 rep_what_values rep.BadName = codes " BadName"
 rep_what_values rep.EntryValue = codes " EntryValue"
 
+-- what is damaged in a revision
+abbrev pub what_values : What → List ℕ
+what_values damaged.Trailer = codes " Trailer"
+what_values damaged.NodeRev = codes " NodeRev"
+what_values damaged.PlaceOrder = codes " PlaceOrder"
+what_values damaged.OtherId = codes " OtherId"
+what_values damaged.EntryKind = codes " EntryKind"
+what_values (damaged.Rep kind) = rep_what_values kind
+what_values damaged.Missing = codes " Missing"
+
 -- its values, a space before each
 abbrev pub fault_values : Fault → List ℕ
 fault_values Usage = []
@@ -93,8 +93,7 @@ fault_values NotRepo = []
 fault_values (OtherFormat number) = 32 ∷ decimal number
 fault_values Linear = []
 fault_values (Small small) = codes " " ++ small_name small.file ++ 32 ∷ decimal small.at
-fault_values (Corrupt damage) = at_values damage.at ++ codes " " ++ what_name damage.what
-fault_values (BadRep damage) = at_values damage.at ++ rep_what_values damage.what
+fault_values (Corrupt damage) = at_values damage.at ++ what_values damage.what
 fault_values (Delta at) = at_values at
 fault_values MountFault = []
 fault_values (DiskFault place) = []
@@ -115,7 +114,6 @@ status_of NotRepo = 1
 status_of Usage = 2
 status_of (BadPath bad) = 2
 status_of (Corrupt damage) = 3
-status_of (BadRep damage) = 3
 status_of (Delta at) = 3
 status_of (Small small) = 3
 status_of (OtherFormat number) = 3

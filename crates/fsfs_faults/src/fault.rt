@@ -4,10 +4,8 @@ ghost use Rattle.fsfs_faults.specs.Faults.{fault_from_look};
 ghost use Rattle.fsfs_faults.specs.declared.fault.Fault.TheVariants.{Memory};
 
 use fsfs_base::{BadPath, FsPath, SmallFault};
-use fsfs_book::Refusal;
+use fsfs_damage::{Damage, Refusal, RevOffset, What, Wrong};
 use fsfs_repo::{CreateFault, DiskPlace, OpenFault};
-use fsfs_revision::{Damage, RevOffset, What};
-use fsfs_shows::{RepDamage, Wrong};
 use fsfs_texts::LookFault;
 use fsfs_words::WordsFault;
 use std::alloc::Global;
@@ -52,9 +50,6 @@ pub enum Fault {
     /// A revision is damaged.
     #[error("a revision is damaged")]
     Corrupt(Damage),
-    /// A representation is damaged.
-    #[error("a representation is damaged")]
-    BadRep(RepDamage),
     /// A representation is a delta, which is not read.
     #[error("a representation is a delta")]
     Delta(RevOffset),
@@ -138,7 +133,6 @@ impl From<Wrong> for Fault {
             }),
             Wrong::Refused(Refusal::Small(small)) => Fault::Small(small),
             Wrong::Damaged(damage) => Fault::Corrupt(damage),
-            Wrong::BadRep(damage) => Fault::BadRep(damage),
             Wrong::Delta(at) => Fault::Delta(at),
         }
     }

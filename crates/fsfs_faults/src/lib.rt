@@ -7,5 +7,5 @@ mod output;
 
 pub use fault::Fault;
 pub use fsfs_words::Tool;
-pub use line::{fault_text, status, what_text};
+pub use line::{fault_text, status};
 pub use output::print_fault;

@@ -1,16 +1,15 @@
 //! The words of a fault, its status, and its line but for a path.
 ghost use Rattle.std.specs.Prelude.{◌≡◌, ◌<◌, ◌≤◌, ◌∷◌, ◌++◌, length, slice_index, decimal, codes};
 ghost use Rattle.hex.specs.Hex.{encode_lower, lower_digits};
-ghost use Rattle.fsfs_faults.specs.Lines.{place_words, fault_name, what_name, why_name, at_values, rep_what_values, status_of};
+ghost use Rattle.fsfs_faults.specs.Lines.{place_words, fault_name, why_name, at_values, rep_what_values, what_values, status_of};
 ghost use Rattle.fsfs_faults.specs.Pieces.{fixed_values, head_of};
 
 use crate::fault::Fault;
 use arrayvec::ArrayString;
 use fsfs_base::{HexDigest, PathFault};
+use fsfs_damage::{RepWhat, RevOffset, What};
 use fsfs_layout::names::small_file;
 use fsfs_repo::DiskPlace;
-use fsfs_revision::{RevOffset, What};
-use fsfs_shows::RepWhat;
 use fsfs_words::Tool;
 use itoa::Buffer;
 
@@ -33,7 +32,6 @@ pub fn fault_text(fault: &Fault) -> &'static str
         Fault::Linear => "Linear",
         Fault::Small(_) => "Small",
         Fault::Corrupt(_) => "Corrupt",
-        Fault::BadRep(_) => "Corrupt",
         Fault::Delta(_) => "Delta",
         Fault::MountFault => "MountFault",
         Fault::DiskFault(place) => disk_fault_text(*place),
@@ -54,21 +52,6 @@ fn disk_fault_text(place: DiskPlace) -> &'static str
         DiskPlace::CreateFirm => "DiskFault CreateFirm",
         DiskPlace::CreateRename => "DiskFault CreateRename",
         DiskPlace::CreateLast => "DiskFault CreateLast",
-    }
-}
-
-/// The name of what is damaged in a revision, as it is printed.
-pub fn what_text(what: What) -> &'static str
-    ensures { result.now ≡ what_name what }
-{
-    match what {
-        What::Trailer => "Trailer",
-        What::NodeRev => "NodeRev",
-        What::PlaceOrder => "PlaceOrder",
-        What::OtherId => "OtherId",
-        What::EntryKind => "EntryKind",
-        What::Header => "Header",
-        What::Missing => "Missing",
     }
 }
 
@@ -175,6 +158,24 @@ fn rep_what_text(what: &RepWhat) -> ArrayString<96>
     text
 }
 
+// What is damaged in a revision, with its values, a space before each.
+fn what_text(what: &What) -> ArrayString<96>
+    ensures { result.bytes ≡ what_values what.now }
+{
+    let word = match what {
+        What::Rep(rep) => return rep_what_text(rep),
+        What::Trailer => " Trailer",
+        What::NodeRev => " NodeRev",
+        What::PlaceOrder => " PlaceOrder",
+        What::OtherId => " OtherId",
+        What::EntryKind => " EntryKind",
+        What::Missing => " Missing",
+    };
+    let mut text = ArrayString::new();
+    text.push_str(word);
+    text
+}
+
 // The values behind a fault's name, a space before each; of a path the space alone.
 fn fixed_values_text(fault: &Fault) -> ArrayString<192>
     ensures { result.bytes ≡ fixed_values fault.now }
@@ -198,12 +199,7 @@ fn fixed_values_text(fault: &Fault) -> ArrayString<192>
         }
         Fault::Corrupt(damage) => {
             text.push_str(at_text(damage.at).as_str());
-            text.push_str(" ");
-            text.push_str(what_text(damage.what));
-        }
-        Fault::BadRep(damage) => {
-            text.push_str(at_text(damage.at).as_str());
-            text.push_str(rep_what_text(&damage.what).as_str());
+            text.push_str(what_text(&damage.what).as_str());
         }
         Fault::Delta(at) => text.push_str(at_text(*at).as_str()),
         _ => {}
@@ -231,7 +227,7 @@ pub fn status(fault: &Fault) -> u8
         Fault::NotFound(_) | Fault::NotDir(_) | Fault::NotFile(_) => 1,
         Fault::NoRev { .. } | Fault::AlreadyRepo | Fault::NotRepo => 1,
         Fault::Usage | Fault::BadPath(_) => 2,
-        Fault::Corrupt(_) | Fault::BadRep(_) | Fault::Delta(_) => 3,
+        Fault::Corrupt(_) | Fault::Delta(_) => 3,
         Fault::Small(_) | Fault::OtherFormat(_) | Fault::Linear => 3,
         Fault::MountFault | Fault::DiskFault(_) | Fault::WriteFault => 4,
         Fault::Memory => 5,

@@ -3,7 +3,8 @@ use Rattle.std.proofs.Common.{◌≡◌, ◌≤◌, ℕ, List, Option, Some, Non
 use Rattle.std.specs.Prelude.{IfSome, IfErr, Result, Ok, Err, ◌⊎◌}
 use Rattle.fsfs_book.specs.declared.book.BookFault.{BookFault}
 use Rattle.fsfs_book.specs.declared.book.BookFault.TheVariants.{Refused, Short, DiskFault, OutOfMemory}
-use Rattle.fsfs_book.specs.Told.{HasCause, IfDisk, Rose}
+use Rattle.fsfs_base.specs.Counts.{Rose}
+use Rattle.fsfs_book.specs.Told.{HasCause, IfDisk}
 use Rattle.std.specs.FinMap as map
 use Rattle.fsfs_base.specs.Files.{Files}
 use Rattle.fsfs_fetch.specs.Views.{Reach, Ends, Grows, IsKnown, Extends, View, Follows, FilesLater, Later}

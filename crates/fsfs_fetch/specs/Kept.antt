@@ -4,12 +4,12 @@ use Rattle.std.specs.Cmp.Lexicographic.{pointwise}
 use Rattle.std.specs.FinMap as map
 use Rattle.fsfs_base.specs.Files.{Files}
 use Rattle.fsfs_base.specs.declared.small_fault.SmallFault.{SmallFault}
-use Rattle.fsfs_book.specs.declared.book.Refusal.{Refusal}
-use Rattle.fsfs_book.specs.declared.book.Refusal.TheVariants.{NoRev}
+use Rattle.fsfs_damage.specs.declared.wrong.Refusal.{Refusal}
+use Rattle.fsfs_damage.specs.declared.wrong.Refusal.TheVariants.{NoRev}
 use Rattle.fsfs_book.specs.Told.{Telling}
 use Rattle.fsfs_fetch.specs.declared.manifests.KeptManifest.{KeptManifest}
 use Rattle.fsfs_fetch.specs.RevBytes.{rev_bytes, rev_file, props_bytes, manifest_in}
-use Rattle.fsfs_fetch.specs.Views.{View, Reach, Ends, Grows, IsKnown, is_packed}
+use Rattle.fsfs_fetch.specs.Views.{DiskState, View, Reach, Ends, Grows, IsKnown, is_packed}
 
 abbrev pub are_offsets : List ℕ → Result (List ℕ) SmallFault → Bool
 are_offsets offsets (Err fault) = false
@@ -59,7 +59,7 @@ last_of (Ends youngest) = Some youngest
 last_of (Grows least) = None
 
 -- what a reader over a store tells, that keeps this floor and this manifest
-unfoldable pub telling : View → ℕ → Option KeptManifest → Telling
+unfoldable pub telling : View → ℕ → Option KeptManifest → Telling (Option DiskState)
 telling view floor kept = record {
   revs = λ rev. within view.reach rev (revs_in view.shard_size floor kept view.files rev);
   props = λ rev. within view.reach rev (props_in view.shard_size view.files rev);
@@ -72,7 +72,7 @@ abbrev pub HasShortFiles : Files → Type 0
 HasShortFiles files = (name bytes : List ℕ) → map.get files name ≡ Some bytes → length bytes < 2 ^ 64
 
 -- of each revision that there is, all is told that these files say
-pub record TellsFiles (view : View) (files : Files) (told : Telling) : Type 0 where
+pub record TellsFiles (view : View) (files : Files) {Below : Type 0} (told : Telling Below) : Type 0 where
   pub revs : (rev : ℕ) → IsKnown view.reach rev → told.revs rev ≡ Some (rev_bytes view.shard_size files rev)
   pub props : (rev : ℕ) → IsKnown view.reach rev → told.props rev ≡ Some (props_bytes view.shard_size files rev)
   pub youngest : told.youngest ≡ last_of view.reach

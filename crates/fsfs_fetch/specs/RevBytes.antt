@@ -9,8 +9,8 @@ use Rattle.fsfs_layout.specs.Names.{in_shard, in_pack, small_name}
 use Rattle.fsfs_layout.specs.Reading.{rev_line_at}
 use Rattle.fsfs_layout.specs.ManifestReading.{manifest_at}
 use Rattle.fsfs_fetch.specs.declared.packs.Section.{Section}
-use Rattle.fsfs_book.specs.declared.book.Refusal.{Refusal}
-use Rattle.fsfs_book.specs.declared.book.Refusal.TheVariants.{Missing, Small}
+use Rattle.fsfs_damage.specs.declared.wrong.Refusal.{Refusal}
+use Rattle.fsfs_damage.specs.declared.wrong.Refusal.TheVariants.{Missing, Small}
 
 -- the text of a small file; one that isn't there counts as empty
 abbrev pub text_in : Files → SmallFile → List ℕ

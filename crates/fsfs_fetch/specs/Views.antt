@@ -1,8 +1,8 @@
 -- What a store that is read tells, and how it may change while others write to it.
-use Rattle.std.specs.Prelude.{◌≡◌, ◌⊎◌, ◌≤◌, ℕ, ◌/◌, Bool, true, false, nat_lt, Option, Some, None, Result, Ok, Err}
+use Rattle.std.specs.Prelude.{◌≡◌, ◌⊎◌, ◌≤◌, ℕ, ◌/◌, Bool, true, false, nat_lt, List, Option, Some, None, Result, Ok, Err}
 use Rattle.fsfs_base.specs.Files.{Files}
 use Rattle.fsfs_base.specs.declared.small_fault.SmallFault.{SmallFault}
-use Rattle.fsfs_book.specs.Told.{Below}
+use Rattle.fsfs_disk.specs.Trace.{Trace}
 use Rattle.fsfs_fetch.specs.RevBytes.{rev_bytes, rev_file, props_file, floor_in, manifest_file, pack_in}
 
 -- which revisions there are: those up to the youngest, which stays the youngest, or at least those up to a number
@@ -24,13 +24,18 @@ Extends (Ends youngest) new = new ≡ Ends youngest
 Extends (Grows least) (Ends youngest) = least ≤ youngest
 Extends (Grows least) (Grows n) = least ≤ n
 
+-- the disk below a book, as the disk tells: its trace, and the path that it was mounted for
+pub record DiskState : Type 0 where
+  pub trace : Option Trace
+  pub mount_path : List ℕ
+
 -- what a store tells: the size of its shards, its revisions, its files as the last call met them, and the disk below it,
 -- where it tells these
 pub record View : Type 0 where
   pub shard_size : ℕ
   pub reach : Reach
   pub files : Option Files
-  pub below : Option Below
+  pub below : Option DiskState
 
 abbrev pub is_below : ℕ → Result ℕ SmallFault → Bool
 is_below rev (Err fault) = false

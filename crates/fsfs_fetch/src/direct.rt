@@ -2,10 +2,10 @@
 ghost use Rattle.std.specs.Prelude.{◌≡◌, ◌≤◌, ◌<◌, ℕ, List, Some, None, Ok, length, take, IfOk, IfErr, OnOk};
 ghost use Rattle.fsfs_base.specs.Files.{Files};
 ghost use Rattle.fsfs_book.specs.declared.book.BookFault.TheVariants.{Refused};
-ghost use Rattle.fsfs_book.specs.declared.book.Refusal.TheVariants.{NoRev};
+ghost use Rattle.fsfs_damage.specs.declared.wrong.Refusal.TheVariants.{NoRev};
 ghost use Rattle.fsfs_book.specs.Told.{HasCause, Gives, IsAbout, size_read, part_read};
 ghost use Rattle.fsfs_disk.specs.Trace.{Trace, files_now};
-ghost use Rattle.fsfs_fetch.specs.Owned.{TellsAll, below_of};
+ghost use Rattle.fsfs_fetch.specs.Owned.{TellsAll, state_of};
 ghost use Rattle.fsfs_fetch.specs.RevBytes.{rev_bytes, props_bytes, floor_in};
 ghost use Rattle.fsfs_fetch.specs.Views.{Later, IsYoungest, IsKnown};
 ghost use Rattle.fsfs_fetch.specs.Kept.{IsFoundAt, FindsAsWell, IsGoneAt, HasShortFiles, TellsFiles, telling};
@@ -16,7 +16,8 @@ use crate::manifests::KeptManifest;
 use crate::owned::OwnedReads;
 use crate::packs::{packed_len, packed_part};
 use crate::reads::Reads;
-use fsfs_book::{Book, BookFault, Refusal};
+use fsfs_book::{Book, BookFault};
+use fsfs_damage::Refusal;
 use fsfs_disk::Disk;
 use fsfs_layout::names;
 use std::alloc::Global;
@@ -80,7 +81,7 @@ pub fn over_disk<D: Disk>(
     ensures disk { result.reads.disk ≡ disk }
     ensures told { (t : Trace) → D.trace disk ≡ Some t → floor_in shard_size (files_now t) ≡ Ok floor → HasShortFiles (files_now t)
         → TellsAll youngest shard_size (files_now t) (⟦<Direct<OwnedReads<D>> as Book>⟧.told result) }
-    ensures below { (⟦<Direct<OwnedReads<D>> as Book>⟧.told result).below ≡ Some (below_of (D.trace disk) (D.mount_path disk)) }
+    ensures below { (⟦<Direct<OwnedReads<D>> as Book>⟧.told result).below ≡ Some (state_of (D.trace disk) (D.mount_path disk)) }
     ensures faults { ⟦<Direct<OwnedReads<D>> as Book>⟧.faults result ≡ D.faults disk }
 {
     Direct::new(alloc, OwnedReads::new(disk, youngest, shard_size), floor)
@@ -88,7 +89,7 @@ pub fn over_disk<D: Disk>(
 
 /// The disk again, which reading has left as it was.
 pub fn disk_of<D: Disk>(book: Direct<OwnedReads<D>>) -> D
-    ensures below { (⟦<Direct<OwnedReads<D>> as Book>⟧.told book).below ≡ Some (below_of (D.trace result) (D.mount_path result)) }
+    ensures below { (⟦<Direct<OwnedReads<D>> as Book>⟧.told book).below ≡ Some (state_of (D.trace result) (D.mount_path result)) }
     ensures faults { ⟦<Direct<OwnedReads<D>> as Book>⟧.faults book ≡ D.faults result }
 {
     book.into_reads().into_disk()
@@ -237,6 +238,10 @@ fn props_of<R: Reads>(
 
 impl<R: Reads> Book for Direct<R> {
     ghost use Rattle.fsfs_fetch.specs.KeptLemmas.{told_short};
+    ghost use Rattle.std.specs.Prelude.{Option};
+    ghost use Rattle.fsfs_fetch.specs.Views.{DiskState};
+
+    ghost Below = { Option DiskState };
 
     ghost told = { λ d. telling (R.view d.reads) d.floor d.kept };
 

@@ -11,7 +11,8 @@ use crate::files::read_at;
 use crate::manifests::KeptManifest;
 use crate::reads::Reads;
 use fsfs_base::{SmallFault, SmallFile};
-use fsfs_book::{BookFault, Refusal};
+use fsfs_book::BookFault;
+use fsfs_damage::Refusal;
 use fsfs_layout::names;
 use fsfs_text::decimals::decimal;
 

@@ -11,7 +11,8 @@ ghost use Rattle.fsfs_fetch.specs.Answers.{Stays, refused};
 
 use crate::files::load;
 use crate::reads::Reads;
-use fsfs_book::{BookFault, Refusal};
+use fsfs_book::BookFault;
+use fsfs_damage::Refusal;
 use fsfs_layout::{ManifestError, names, read_manifest};
 use std::alloc::Global;
 

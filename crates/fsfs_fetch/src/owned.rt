@@ -37,9 +37,9 @@ impl<D: Disk> OwnedReads<D> {
 }
 
 impl<D: Disk> Reads for OwnedReads<D> {
-    ghost use Rattle.fsfs_fetch.specs.Owned.{owned_view, below_of};
+    ghost use Rattle.fsfs_fetch.specs.Owned.{owned_view, state_of};
 
-    ghost view = { λ r. owned_view (below_of (D.trace r.disk) (D.mount_path r.disk)) r.youngest r.shard_size };
+    ghost view = { λ r. owned_view (state_of (D.trace r.disk) (D.mount_path r.disk)) r.youngest r.shard_size };
 
     ghost faults = { λ r. D.faults r.disk };
 

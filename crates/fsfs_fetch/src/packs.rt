@@ -11,7 +11,8 @@ ghost use Rattle.fsfs_fetch.specs.Answers.{as_book, Stays};
 use crate::files::{read_at, size_at};
 use crate::manifests::{KeptManifest, keep_manifest, offsets_of};
 use crate::reads::Reads;
-use fsfs_book::{BookFault, Refusal};
+use fsfs_book::BookFault;
+use fsfs_damage::Refusal;
 use fsfs_layout::names;
 use std::alloc::Global;
 

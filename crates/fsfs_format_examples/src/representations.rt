@@ -2,9 +2,10 @@
 use crate::format_changes::changed;
 use crate::formats::{EMPTY_FILE, FIRST_DIRECTORY, REVISION_0};
 use fsfs_base::HexDigest;
-use fsfs_book::{BookFault, Kept, MemBook, MemRev, Refusal};
+use fsfs_book::{Kept, MemBook, MemRev};
+use fsfs_damage::{Damage, ReadError, Refusal, RepWhat, What, Wrong};
 use fsfs_noderev::read_rep;
-use fsfs_rep::{Digester, RepError, RepFault, read_rep_bytes};
+use fsfs_rep::{Digester, read_rep_bytes};
 use std::alloc::{AllocError, Global};
 use std::test::Fail;
 
@@ -38,7 +39,7 @@ fn read(
     first: &[u8],
     second: &[u8],
     name: &[u8],
-) -> Result<Option<Vec<u8>>, RepError> {
+) -> Result<Option<Vec<u8>>, ReadError> {
     let mut book = book_of(alloc, first, second)?;
     let Some(rep) = read_rep(name) else {
         return Ok(None);
@@ -50,9 +51,19 @@ fn read(
     Ok(Some(bytes))
 }
 
-fn fault_of(alloc: Global, first: &[u8], second: &[u8], name: &[u8]) -> Option<RepFault> {
+// What is wrong with it.
+fn fault_of(alloc: Global, first: &[u8], second: &[u8], name: &[u8]) -> Option<RepWhat> {
     match read(alloc, first, second, name) {
-        Err(RepError::Fault(fault)) => Some(fault),
+        Err(
+            ReadError::Wrong(
+                Wrong::Damaged(
+                    Damage {
+                        what: What::Rep(what),
+                        ..
+                    },
+                ),
+            ),
+        ) => Some(what),
         _ => None,
     }
 }
@@ -125,11 +136,11 @@ fn have_their_digests(rt: HostRuntime) {
 
 // A revision that ends before the text begins has no header there, and one that ends before the representation does has
 // no end of it.
-fn cut_fault(end: usize, text: usize) -> RepFault {
+fn cut_fault(end: usize, text: usize) -> RepWhat {
     if end < text {
-        RepFault::NoHeader
+        RepWhat::Header
     } else {
-        RepFault::NoTrailer
+        RepWhat::EndRep
     }
 }
 
@@ -162,19 +173,19 @@ fn cut_in_revision_0(rt: HostRuntime) -> Result<(), Fail> {
 }
 
 // The byte of the header or of the end that is changed, and what it becomes.
-const FRAME: [(usize, u8, RepFault); 12] = [
-    (59, b'p', RepFault::NoHeader),
-    (60, b'I', RepFault::NoHeader),
-    (62, b'1', RepFault::NoHeader),
-    (63, b'n', RepFault::NoHeader),
-    (64, b' ', RepFault::NoHeader),
-    (64, b'K', RepFault::NoHeader),
-    (95, b'\n', RepFault::NoTrailer),
-    (96, b'n', RepFault::NoTrailer),
-    (97, b'\n', RepFault::NoTrailer),
-    (98, b'r', RepFault::NoTrailer),
-    (100, b'p', RepFault::NoTrailer),
-    (101, b' ', RepFault::NoTrailer),
+const FRAME: [(usize, u8, RepWhat); 12] = [
+    (59, b'p', RepWhat::Header),
+    (60, b'I', RepWhat::Header),
+    (62, b'1', RepWhat::Header),
+    (63, b'n', RepWhat::Header),
+    (64, b' ', RepWhat::Header),
+    (64, b'K', RepWhat::Header),
+    (95, b'\n', RepWhat::EndRep),
+    (96, b'n', RepWhat::EndRep),
+    (97, b'\n', RepWhat::EndRep),
+    (98, b'r', RepWhat::EndRep),
+    (100, b'p', RepWhat::EndRep),
+    (101, b' ', RepWhat::EndRep),
 ];
 
 #[test]
@@ -203,29 +214,24 @@ fn one_byte_of_the_text_changed(rt: HostRuntime) -> Result<(), Fail> {
         let bytes = changed(rt.alloc(), FIRST_DIRECTORY, at, byte)?;
         let found = md5(digits);
         let fault = fault_of(rt.alloc(), REVISION_0, &bytes, DIRECTORY_ENTRIES);
-        assert!(rt; fault == Some(RepFault::Md5 { kept, found }), "at {at}");
+        assert!(rt; fault == Some(RepWhat::Md5 { kept, found }), "at {at}");
     }
     Ok(())
 }
 
 // The byte of the name of the root's entries that is changed, what it becomes, and why they are not read.
-fn name_changes() -> [(usize, u8, RepFault); 9] {
+fn name_changes() -> [(usize, u8, RepWhat); 8] {
     let kept = md5(b"63880cd9dea1c72f787be697eaf2f7b4");
-    let ninth = Refusal::NoRev {
-        asked: 9,
-        youngest: 1,
-    };
     [
-        (0, b'0', RepFault::NoHeader),
-        (0, b'9', RepFault::Book(BookFault::Refused(ninth))),
-        (2, b'9', RepFault::NoHeader),
-        (3, b'8', RepFault::NoHeader),
-        (5, b'2', RepFault::NoTrailer),
-        (6, b'1', RepFault::NoTrailer),
+        (0, b'0', RepWhat::Header),
+        (2, b'9', RepWhat::Header),
+        (3, b'8', RepWhat::Header),
+        (5, b'2', RepWhat::EndRep),
+        (6, b'1', RepWhat::EndRep),
         (
             9,
             b'1',
-            RepFault::Size {
+            RepWhat::Size {
                 kept: 31,
                 found: 30,
             },
@@ -233,7 +239,7 @@ fn name_changes() -> [(usize, u8, RepFault); 9] {
         (
             11,
             b'7',
-            RepFault::Md5 {
+            RepWhat::Md5 {
                 kept: md5(b"73880cd9dea1c72f787be697eaf2f7b4"),
                 found: kept,
             },
@@ -241,7 +247,7 @@ fn name_changes() -> [(usize, u8, RepFault); 9] {
         (
             42,
             b'5',
-            RepFault::Md5 {
+            RepWhat::Md5 {
                 kept: md5(b"63880cd9dea1c72f787be697eaf2f7b5"),
                 found: kept,
             },
@@ -256,21 +262,28 @@ fn one_byte_of_the_name_changed(rt: HostRuntime) -> Result<(), Fail> {
         let found = fault_of(rt.alloc(), REVISION_0, FIRST_DIRECTORY, &name);
         assert!(rt; found == Some(fault), "at {at}");
     }
+    let ninth = Refusal::NoRev {
+        asked: 9,
+        youngest: 1,
+    };
+    let name = changed(rt.alloc(), DIRECTORY_ENTRIES, 0, b'9')?;
+    let found = read(rt.alloc(), REVISION_0, FIRST_DIRECTORY, &name);
+    assert!(rt; found.err() == Some(ReadError::Wrong(Wrong::Refused(ninth))));
     Ok(())
 }
 
 // The same of the empty text, which has both digests: its MD5 begins at 8, its SHA-1 at 41.
-fn empty_text_changes() -> [(usize, u8, RepFault); 6] {
+fn empty_text_changes() -> [(usize, u8, RepWhat); 6] {
     let first = md5(b"d41d8cd98f00b204e9800998ecf8427e");
     let second = sha1(b"da39a3ee5e6b4b0d3255bfef95601890afd80709");
     [
-        (2, b'1', RepFault::NoHeader),
-        (4, b'1', RepFault::NoTrailer),
-        (6, b'1', RepFault::Size { kept: 1, found: 0 }),
+        (2, b'1', RepWhat::Header),
+        (4, b'1', RepWhat::EndRep),
+        (6, b'1', RepWhat::Size { kept: 1, found: 0 }),
         (
             8,
             b'e',
-            RepFault::Md5 {
+            RepWhat::Md5 {
                 kept: md5(b"e41d8cd98f00b204e9800998ecf8427e"),
                 found: first,
             },
@@ -278,7 +291,7 @@ fn empty_text_changes() -> [(usize, u8, RepFault); 6] {
         (
             41,
             b'e',
-            RepFault::Sha1 {
+            RepWhat::Sha1 {
                 kept: sha1(b"ea39a3ee5e6b4b0d3255bfef95601890afd80709"),
                 found: second,
             },
@@ -286,7 +299,7 @@ fn empty_text_changes() -> [(usize, u8, RepFault); 6] {
         (
             80,
             b'8',
-            RepFault::Sha1 {
+            RepWhat::Sha1 {
                 kept: sha1(b"da39a3ee5e6b4b0d3255bfef95601890afd80708"),
                 found: second,
             },

@@ -3,7 +3,7 @@ use Rattle.std.proofs.Common.{◌≡◌, ℕ, List, [], ◌++◌, take, drop, Op
 use Rattle.std.proofs.lemmas.List.{take-append-drop}
 use Rattle.fsfs_base.specs.Paths.{Path}
 use Rattle.fsfs_base.specs.declared.node.Kind.TheVariants.{File, Dir}
-use Rattle.fsfs_book.specs.declared.book.Refusal.{Refusal}
+use Rattle.fsfs_damage.specs.declared.wrong.Refusal.{Refusal}
 use Rattle.fsfs_book.specs.Told.{Look, Told}
 use Rattle.fsfs_disk.specs.Streams.{Adds}
 use Rattle.fsfs_disk.proofs.StreamLemmas.{adds_then}
@@ -12,14 +12,11 @@ use Rattle.fsfs_noderev.specs.declared.rep.Contents.TheVariants as contents
 use Rattle.fsfs_noderev.specs.declared.node_rev.NodeRev.{NodeRev}
 use Rattle.fsfs_rep.specs.Faults.{IsRefusedFor}
 use Rattle.fsfs_rep.specs.Frames.{rev_of, text_of, IsWhole, IsFaultOf}
-use Rattle.fsfs_rep.specs.declared.rep_fault.RepFault.{RepFault}
-use Rattle.fsfs_rep.specs.declared.rep_fault.RepError.TheVariants as rep_errors
-use Rattle.fsfs_shows.specs.declared.wrong.ReadError.{ReadError}
-use Rattle.fsfs_shows.specs.declared.wrong.ReadError.TheVariants as reads
-use Rattle.fsfs_shows.specs.Readings.{Answers}
-use Rattle.fsfs_shows.specs.Reading.{RepAt, TextOf, MetAt, Stands, rep_place}
+use Rattle.fsfs_damage.specs.declared.wrong.ReadError.{ReadError}
+use Rattle.fsfs_damage.specs.declared.wrong.ReadError.TheVariants as reads
+use Rattle.fsfs_damage.specs.Readings.{Answers}
+use Rattle.fsfs_shows.specs.Reading.{RepAt, TextOf, MetAt, Stands}
 use Rattle.fsfs_shows.proofs.OneRep.{rep_at_one}
-use Rattle.fsfs_dag.specs.Faults.{of_rep}
 use Rattle.fsfs_dag.proofs.Reps.{rep_wrong, contents_some, contents_none}
 use Rattle.fsfs_look.specs.declared.look_error.LookError.{LookError}
 use Rattle.fsfs_look.specs.declared.look_error.LookError.TheVariants as errors
@@ -46,10 +43,8 @@ module _ (rep : Rep) (bytes : List ℕ) (whole : IsWhole rep bytes) (old new : O
   only_failures reads.OutOfMemory h front = front
   only_failures reads.DiskFault h front = front
 
-  pub whole_fails : (fault : RepFault) → IsFaultOf rep bytes fault → WritesFront (IsWholeText (text_of rep bytes)) old new → Writes (IsWholeText (text_of rep bytes)) old new (Err (of_read (of_rep (rep_place rep) fault)))
-  whole_fails fault h front =
-      only_failures (of_rep (rep_place rep) fault)
-      (rep_wrong Only rep (rep_errors.Fault fault) (λ b e. let same : bytes ≡ b = cc in subst (λ (x : List ℕ). IsFaultOf rep x fault) same h) (λ why e. absurd cc)) front
+  pub whole_fails : (e : ReadError) → IsFaultOf rep bytes e → WritesFront (IsWholeText (text_of rep bytes)) old new → Writes (IsWholeText (text_of rep bytes)) old new (Err (of_read e))
+  whole_fails e h front = only_failures e (rep_wrong Only rep e (λ b f. let same : bytes ≡ b = cc in subst (λ (x : List ℕ). IsFaultOf rep x e) same h) (λ why f. absurd cc)) front
 
 -- a first part of a text
 pub front_of : (text : List ℕ) (done : ℕ) (old new : Option (List ℕ)) → Adds old new (take done text) → WritesFront (IsWholeText text) old new
@@ -92,11 +87,10 @@ module _ (look : Look) (rev : ℕ) (path : Path) (v : NodeRev) (met : MetAt look
       told_as : (read : Result (List ℕ) Refusal) → look (rev_of rep) ≡ read → told (rev_of rep) ≡ Some read
       told_as read e = known ∙ ap (λ (r : Result (List ℕ) Refusal). Some r) e
 
-      pub file_wrong : (out : Option (List ℕ)) (fault : RepFault) → ((bytes : List ℕ) → told (rev_of rep) ≡ Some (Ok bytes) → IsFaultOf rep bytes fault) → ((why : Refusal) → told (rev_of rep) ≡ Some (Err why) → IsRefusedFor why fault)
-          → Writes (FileText look rev path) out out (Err (of_read (of_rep (rep_place rep) fault)))
-      file_wrong out fault there without =
-          file_fails out (of_rep (rep_place rep) fault)
-          (contents_some (λ (t : List ℕ). t) (Err (of_rep (rep_place rep) fault)) [] (RepAt look) v.text rep is (rep_wrong look rep (rep_errors.Fault fault) (λ bytes e. there bytes (told_as (Ok bytes) e)) (λ why e. without why (told_as (Err why) e))))
+      pub file_wrong : (out : Option (List ℕ)) (e : ReadError) → ((bytes : List ℕ) → told (rev_of rep) ≡ Some (Ok bytes) → IsFaultOf rep bytes e) → ((why : Refusal) → told (rev_of rep) ≡ Some (Err why) → IsRefusedFor why e)
+          → Writes (FileText look rev path) out out (Err (of_read e))
+      file_wrong out e there without =
+          file_fails out e (contents_some (λ (t : List ℕ). t) (Err e) [] (RepAt look) v.text rep is (rep_wrong look rep e (λ bytes f. there bytes (told_as (Ok bytes) f)) (λ why f. without why (told_as (Err why) f))))
 
       module _ (checked : (bytes : List ℕ) → told (rev_of rep) ≡ Some (Ok bytes) → IsWhole rep bytes) (had : (why : Refusal) → told (rev_of rep) ≡ Some (Err why) → ⊥) (old new : Option (List ℕ)) (r : Result (Unit {0}) LookError)
           (written : (bytes : List ℕ) → told (rev_of rep) ≡ Some (Ok bytes) → IsWhole rep bytes → Writes (IsWholeText (text_of rep bytes)) old new r) where

@@ -1,15 +1,11 @@
 -- A piece of a text that was checked, as a book gives it.
-use Rattle.std.proofs.Common.{◌≡◌, ℕ, ◌+◌, ◌-◌, ◌^◌, ◌≤◌, ◌<◌, List, ◌++◌, length, take, drop, Ok, Err, ap, subst, sym, ◌∙◌, arith}
+use Rattle.std.proofs.Common.{◌≡◌, ℕ, ◌+◌, ◌-◌, ◌^◌, ◌≤◌, ◌<◌, List, ◌++◌, length, take, drop, ap, subst, sym, ◌∙◌, arith}
 use Rattle.std.specs.Prelude.{codes, min}
 use Rattle.std.proofs.lemmas.List.{length-take, length-drop}
-use Rattle.fsfs_book.specs.declared.book.BookFault.{BookFault}
-use Rattle.fsfs_book.specs.declared.book.BookFault.TheVariants as books
-use Rattle.fsfs_book.specs.Told.{part_read, Gives}
 use Rattle.fsfs_noderev.specs.declared.rep.Rep.{Rep}
-use Rattle.fsfs_rep.specs.Frames.{text_of, IsWhole, IsFailure}
+use Rattle.fsfs_rep.specs.Frames.{text_of, IsWhole}
 use Rattle.fsfs_rep.proofs.HeaderLemmas.{stands_fits}
 use Rattle.fsfs_rep.proofs.ReadingLemmas.{piece_read}
-use Rattle.fsfs_rep.proofs.WindowLemmas.{part_found, part_short, part_there}
 
 -- the bytes reach beyond the text
 text_within : (rep : Rep) (bytes : List ℕ) → IsWhole rep bytes → rep.offset + 6 + rep.length < length bytes
@@ -17,7 +13,7 @@ text_within rep bytes whole =
     let ends = stands_fits (codes "ENDREP\n") (rep.offset + 6 + rep.length) bytes (omega arith) whole.framed.trailer in
     omega arith
 
-module _ (rep : Rep) (bytes : List ℕ) (whole : IsWhole rep bytes) (long : length bytes < 2 ^ 64) (rev done position want : ℕ) (buffer : List ℕ)
+module _ (rep : Rep) (bytes : List ℕ) (whole : IsWhole rep bytes) (long : length bytes < 2 ^ 64) (done position want : ℕ) (buffer : List ℕ)
     (left : done < rep.length) (some : 0 < length buffer) (at : rep.offset + 6 + done < 2 ^ 64 → position ≡ rep.offset + 6 + done) (fitting : want ≡ min (length buffer) (rep.length - done)) where
   here : position ≡ rep.offset + 6 + done
   here = at (omega (arith, text_within rep bytes whole))
@@ -25,18 +21,9 @@ module _ (rep : Rep) (bytes : List ℕ) (whole : IsWhole rep bytes) (long : leng
   room : length (take want buffer) ≡ want
   room = omega (arith, length-take want buffer)
 
-  -- the bytes that are asked for are there
-  pub only_fails : (view : ℕ → List ℕ) (fault : BookFault) → Gives view (Err fault) (part_read rev position (length (take want buffer)) (Ok bytes)) → IsFailure fault
-  only_fails view books.DiskFault h = tt
-  only_fails view books.OutOfMemory h = tt
-  only_fails view (books.Refused why) h = part_there rev position (length (take want buffer)) bytes why h
-  only_fails view (books.Short r o) h =
-      let none = part_short rev position (length (take want buffer)) bytes r o h in
-      absurd (omega (arith, ap length none, here, room, length-take (length (take want buffer)) (drop position bytes), length-drop position bytes, text_within rep bytes whole))
-
-  module _ (piece : List ℕ) (count : ℕ) (same : length piece ≡ length (take want buffer)) (bound : count ≤ length piece) (given : part_read rev position (length (take want buffer)) (Ok bytes) ≡ Ok (take count piece)) where
+  module _ (piece : List ℕ) (count : ℕ) (same : length piece ≡ length (take want buffer)) (bound : count ≤ length piece) (given : take count piece ≡ take (length (take want buffer)) (drop position bytes)) where
     window : take count piece ≡ take want (drop position bytes)
-    window = subst (λ (n : ℕ). take count piece ≡ take n (drop position bytes)) room (part_found rev position (length (take want buffer)) bytes (take count piece) given)
+    window = subst (λ (n : ℕ). take count piece ≡ take n (drop position bytes)) room given
 
     full : count ≡ want
     full = omega (arith, here, room, ap length window, length-take count piece, length-take want (drop position bytes), length-drop position bytes, text_within rep bytes whole)

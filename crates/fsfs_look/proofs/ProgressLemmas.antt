@@ -4,9 +4,9 @@ use Rattle.fsfs_book.specs.Told.{Look, Telling, Knows, Keeps}
 use Rattle.fsfs_disk.specs.Streams.{Adds}
 use Rattle.fsfs_disk.proofs.StreamLemmas.{adds_then}
 use Rattle.fsfs_noderev.specs.declared.node_rev.NodeRev.{NodeRev}
-use Rattle.fsfs_shows.specs.declared.wrong.ReadError.{ReadError}
-use Rattle.fsfs_shows.specs.declared.wrong.ReadError.TheVariants as reads
-use Rattle.fsfs_shows.specs.Readings.{Answers}
+use Rattle.fsfs_damage.specs.declared.wrong.ReadError.{ReadError}
+use Rattle.fsfs_damage.specs.declared.wrong.ReadError.TheVariants as reads
+use Rattle.fsfs_damage.specs.Readings.{Answers}
 use Rattle.fsfs_shows.specs.Reading.{Entry, OfEntry}
 use Rattle.fsfs_dag.specs.declared.node.PlacedNode.{PlacedNode}
 use Rattle.fsfs_look.specs.declared.look_error.LookError.{LookError}
@@ -106,7 +106,7 @@ pub popped : (look : Look) (ids : Bool) (R : List ℕ → End → Type 0) (befor
     → Progress R (LeftText look ids (left todo)) before lines old new → Progress R (Then (EntryText look ids next.level (entry_value next.entry)) (LeftText look ids (left rest))) before lines old new
 popped look ids R before lines old new todo rest next e p = subst (λ t. Progress R (LeftText look ids t) before lines old new) (ap left e ∙ left_push rest next) p
 
-pub knows_upto : (old new : Telling) (look : Look) (top upto : ℕ) → Keeps old new → upto ≤ top → Knows old.revs top look → Knows new.revs upto look
+pub knows_upto : {Below : Type 0} (old new : Telling Below) (look : Look) (top upto : ℕ) → Keeps old new → upto ≤ top → Knows old.revs top look → Knows new.revs upto look
 knows_upto old new look top upto kept le knows r lower = kept.revs r (look r) (knows r (omega (arith, lower, le)))
 
 pub child_read : (look : Look) (entry : Entry) (r : Result PlacedNode ReadError) (child : PlacedNode) → r ≡ Ok child → Answers (λ (found : PlacedNode). found.node) (OfEntry look entry) r → OfEntry look entry (Ok child.node)

@@ -3,9 +3,9 @@ use Rattle.std.proofs.Common.{◌≡◌, ℕ, ◌≤◌, ◌-◌, List, [], ◌�
 use Rattle.fsfs_base.specs.Paths.{Name, Path}
 use Rattle.fsfs_book.specs.Told.{Look}
 use Rattle.fsfs_model.specs.Answers.{last_name}
-use Rattle.fsfs_shows.specs.declared.wrong.ReadError.{ReadError}
-use Rattle.fsfs_shows.specs.declared.wrong.ReadError.TheVariants as reads
-use Rattle.fsfs_shows.specs.Readings.{Answers}
+use Rattle.fsfs_damage.specs.declared.wrong.ReadError.{ReadError}
+use Rattle.fsfs_damage.specs.declared.wrong.ReadError.TheVariants as reads
+use Rattle.fsfs_damage.specs.Readings.{Answers}
 use Rattle.fsfs_shows.specs.Reading.{MetAt}
 use Rattle.fsfs_dag.specs.declared.node.PlacedNode.{PlacedNode}
 use Rattle.fsfs_dag.specs.declared.walk.Met.{Met as Rust}

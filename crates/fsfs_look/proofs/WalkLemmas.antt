@@ -1,22 +1,20 @@
 -- The text of what is left to write.
-use Rattle.std.proofs.Common.{◌≡◌, ℕ, Bool, suc, List, [], ◌∷◌, ◌++◌, map, length, arith, Result, Ok, Err, refl, sym, ap, subst, ◌∙◌, append_assoc, inl, inr}
-use Rattle.std.specs.Prelude.{◌≢◌}
+use Rattle.std.proofs.Common.{◌≡◌, ℕ, Bool, suc, List, [], ◌∷◌, ◌++◌, map, length, arith, Result, Ok, Err, refl, sym, ap, subst, ◌∙◌, append_assoc, inl, inr, Vec, Global}
+use Rattle.std.specs.Prelude.{◌≢◌, OnOk, IfErr}
 use Rattle.std.proofs.lemmas.List.{reverse-append}
 use Rattle.fsfs_base.specs.Paths.{Name}
 use Rattle.fsfs_base.specs.declared.node.Kind.TheVariants.{File, Dir}
 use Rattle.fsfs_book.specs.Told.{Look}
 use Rattle.fsfs_noderev.specs.declared.node_rev.NodeRev.{NodeRev}
-use Rattle.fsfs_shows.specs.declared.wrong.Wrong.{Wrong}
+use Rattle.fsfs_damage.specs.declared.wrong.Wrong.{Wrong}
 use Rattle.fsfs_shows.specs.Reading.{Entry, EntriesOf, OfEntry}
 use Rattle.fsfs_dag.specs.declared.directory.Entry.{Entry as PlacedEntry}
 use Rattle.fsfs_dag.specs.Views.{entry_value, entry_values}
 use Rattle.fsfs_look.specs.declared.tree.Pending.{Pending}
 use Rattle.fsfs_texts.specs.declared.look_fault.LookFault.TheVariants as faults
-use Rattle.std.proofs.Common.{Vec, Global}
-use Rattle.std.specs.Prelude.{OnOk, IfErr}
-use Rattle.fsfs_shows.specs.declared.wrong.ReadError.{ReadError}
-use Rattle.fsfs_shows.specs.declared.wrong.ReadError.TheVariants as reads
-use Rattle.fsfs_shows.specs.Readings.{Answers}
+use Rattle.fsfs_damage.specs.declared.wrong.ReadError.{ReadError}
+use Rattle.fsfs_damage.specs.declared.wrong.ReadError.TheVariants as reads
+use Rattle.fsfs_damage.specs.Readings.{Answers}
 use Rattle.fsfs_look.specs.declared.look_error.LookError.{LookError}
 use Rattle.fsfs_look.specs.declared.look_error.LookError.TheVariants as errors
 use Rattle.fsfs_look.specs.Errors.{of_read}

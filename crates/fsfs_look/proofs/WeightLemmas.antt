@@ -4,8 +4,8 @@ use Rattle.std.proofs.Math.Nat.{one-le-pow, pow-le-pow_right, pow-suc, mul-le-mu
 use Rattle.std.proofs.lemmas.Bool.Decides.{nat_tests}
 use Rattle.fsfs_noderev.specs.declared.node_id.Place.{Place}
 use Rattle.fsfs_noderev.specs.declared.node_id.Place.TheVariants as places
-use Rattle.fsfs_revision.specs.declared.damage.RevOffset.{RevOffset}
-use Rattle.fsfs_revision.specs.Damages.{place_of}
+use Rattle.fsfs_damage.specs.declared.damage.RevOffset.{RevOffset}
+use Rattle.fsfs_damage.specs.Damages.{place_of}
 use Rattle.fsfs_revision.specs.Nodes.{is_before, place_before}
 use Rattle.fsfs_shows.specs.Reading.{offset_of}
 use Rattle.fsfs_dag.specs.declared.directory.Entry.{Entry}

@@ -1,6 +1,6 @@
 -- Why a walk over a tree ends: each entry weighs more than all that can stand in the directory that it names.
 use Rattle.std.specs.Prelude.{ℕ, ◌+◌, ◌-◌, ◌*◌, ◌^◌, min, List, [], ◌∷◌}
-use Rattle.fsfs_revision.specs.declared.damage.RevOffset.{RevOffset}
+use Rattle.fsfs_damage.specs.declared.damage.RevOffset.{RevOffset}
 use Rattle.fsfs_shows.specs.Reading.{offset_of}
 use Rattle.fsfs_look.specs.declared.tree.Pending.{Pending}
 

@@ -1,6 +1,6 @@
 -- What a look gave to a sink, and the causes of its failures.
-use Rattle.std.specs.Prelude.{ℕ, ◌≤◌, List, Option, Result, Ok, Err, IfErr}
-use Rattle.fsfs_disk.specs.Fault.{Rose}
+use Rattle.std.specs.Prelude.{ℕ, List, Option, Result, Ok, Err}
+use Rattle.fsfs_base.specs.Counts.{HasCause}
 use Rattle.fsfs_disk.specs.Streams.{Adds}
 use Rattle.fsfs_look.specs.declared.look_error.LookError.{LookError}
 use Rattle.fsfs_look.specs.declared.look_error.LookError.TheVariants as errors
@@ -34,11 +34,9 @@ IfWrite errors.DiskFault P = Unit {0}
 IfWrite (errors.Fault fault) P = Unit {0}
 
 -- a book's count of faults never falls, and rose where the disk failed
-pub record HasDiskCause {T : Type 0} (before now : ℕ) (result : Result T LookError) : Type 0 where
-  pub later : before ≤ now
-  pub failed : IfErr result (λ e. IfDisk e (Rose before now))
+abbrev pub HasDiskCause : {T : Type 0} → ℕ → ℕ → Result T LookError → Type 0
+HasDiskCause before now result = HasCause IfDisk before now result
 
 -- a sink's count of faults never falls, and rose where a write failed
-pub record HasSinkCause {T : Type 0} (before now : ℕ) (result : Result T LookError) : Type 0 where
-  pub later : before ≤ now
-  pub failed : IfErr result (λ e. IfWrite e (Rose before now))
+abbrev pub HasSinkCause : {T : Type 0} → ℕ → ℕ → Result T LookError → Type 0
+HasSinkCause before now result = HasCause IfWrite before now result

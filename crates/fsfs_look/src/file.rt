@@ -1,12 +1,10 @@
 //! The text of a file.
 ghost use Rattle.std.specs.Prelude.{◌≡◌, ◌≤◌, ◌<◌, ◌+◌, ◌-◌, ◌^◌, min, ℕ, List, Some, Ok, Err, IsSome, IfOk, MatchResult, length, take, drop};
-ghost use Rattle.fsfs_book.specs.declared.book.Refusal.{Refusal};
+ghost use Rattle.fsfs_damage.specs.declared.wrong.Refusal.{Refusal};
 ghost use Rattle.fsfs_book.specs.Told.{Look, Knows, Keeps};
-ghost use Rattle.fsfs_rep.specs.Faults.{HasCause, IsRefusedFor};
+ghost use Rattle.fsfs_damage.specs.Causes.{HasCause};
+ghost use Rattle.fsfs_rep.specs.Faults.{IsRefusedFor};
 ghost use Rattle.fsfs_rep.specs.Frames.{rev_of, text_of, IsWhole, IsFaultOf};
-ghost use Rattle.fsfs_shows.specs.Reading.{rep_place as place};
-ghost use Rattle.fsfs_dag.specs.Faults.{of_rep as rep_error};
-ghost use Rattle.fsfs_look.specs.Errors.{of_read};
 ghost use Rattle.fsfs_texts.specs.FileTexts.{FileText, IsWholeText};
 ghost use Rattle.fsfs_look.specs.Written.{Writes, HasDiskCause, HasSinkCause};
 
@@ -15,25 +13,18 @@ use crate::path::found_at;
 use crate::piece::write_piece;
 use fsfs_base::{FsPath, Kind};
 use fsfs_book::Book;
-use fsfs_dag::{of_rep, rep_place};
+use fsfs_damage::{ReadError, RepWhat};
 use fsfs_disk::Sink;
 use fsfs_noderev::Rep;
-use fsfs_rep::{RepFault, RepReader};
+use fsfs_rep::{RepReader, bad_rep, window};
 use fsfs_texts::LookFault;
 use std::alloc::Global;
 
 // How many bytes are read and written at a time.
 const PIECE: usize = 65536;
 
-// A fault of the representation.
-fn of_fault(rep: &Rep, fault: RepFault) -> LookError
-    ensures { result ≡ of_read (rep_error (place rep.now) fault) }
-{
-    LookError::from(of_rep(rep_place(rep), fault))
-}
-
 // Reads a representation to its end, and checks it.
-fn check_rep<B: Book>(book: &mut B, rep: &Rep, piece: &mut [u8]) -> Result<(), RepFault>
+fn check_rep<B: Book>(book: &mut B, rep: &Rep, piece: &mut [u8]) -> Result<(), ReadError>
     requires rev { IsSome rep.now.rev }
     requires room { 0 < length piece.old }
     ensures bytes { (bytes : List ℕ) → (B.told book.old).revs (rev_of rep.now) ≡ Some (Ok bytes) → MatchResult result (λ _. IsWhole rep.now bytes) (IsFaultOf rep.now bytes) }
@@ -74,7 +65,7 @@ fn read_piece<B: Book>(
     rep: &Rep,
     done: u64,
     piece: &mut [u8],
-) -> Result<usize, RepFault>
+) -> Result<usize, ReadError>
     requires rev { IsSome rep.now.rev }
     requires room { 0 < length piece.old }
     requires left { done < rep.now.length }
@@ -88,9 +79,9 @@ fn read_piece<B: Book>(
 {
     let Some(rev) = rep.rev else { unreachable!() };
     let want = fitting(piece.len(), rep.length - done);
-    let count = book.read_rev(rev, position(rep, done), &mut piece[..want])?;
+    let count = window(book, rev, position(rep, done), &mut piece[..want])?;
     if count == 0 {
-        return Err(RepFault::NoTrailer);
+        return Err(bad_rep(rep, RepWhat::EndRep));
     }
     Ok(count)
 }
@@ -115,7 +106,7 @@ fn write_rep<B: Book, S: Sink>(
     'pieces: while done < length {
         let count = match read_piece(book, rep, done, piece) {
             Ok(count) => count,
-            Err(fault) => return Err(of_fault(rep, fault)),
+            Err(error) => return Err(LookError::from(error)),
         };
         write_piece(sink, &piece[..count])?;
         done += count as u64;
@@ -146,7 +137,7 @@ pub fn cat<B: Book, S: Sink>(
                 let mut piece = [0u8; PIECE];
                 match check_rep(book, rep, &mut piece) {
                     Ok(()) => write_rep(book, rep, &mut piece, sink),
-                    Err(fault) => Err(of_fault(rep, fault)),
+                    Err(error) => Err(LookError::from(error)),
                 }
             }
         },

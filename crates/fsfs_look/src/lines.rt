@@ -7,9 +7,8 @@ ghost use Rattle.fsfs_look.specs.Lines.{PutsLine};
 
 use crate::look_error::LookError;
 use fsfs_base::Kind;
+use fsfs_damage::{Damage, RevOffset, What, Wrong};
 use fsfs_noderev::{NodeId, NodeRev, Part, Place, put_id};
-use fsfs_revision::{Damage, RevOffset, What};
-use fsfs_shows::Wrong;
 use fsfs_texts::LookFault;
 use std::alloc::AllocError;
 

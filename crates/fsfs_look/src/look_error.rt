@@ -1,7 +1,7 @@
 //! Why a look at a revision prints nothing, or no more.
 ghost use Rattle.std.specs.Prelude.{◌≡◌};
 
-use fsfs_shows::ReadError;
+use fsfs_damage::ReadError;
 use fsfs_texts::LookFault;
 use std::alloc::AllocError;
 use thiserror::Error;

@@ -1,11 +1,9 @@
 //! Lines of faults as the table of the README has them.
 use fsfs_base::{BadPath, FsPath, HexDigest, PathFault, SmallFault, SmallFile};
-use fsfs_book::Refusal;
 use fsfs_faults::{Fault, Tool, print_fault, status};
+use fsfs_damage::{Damage, Refusal, RepWhat, RevOffset, What, Wrong};
 use fsfs_memdisk::MemSink;
 use fsfs_repo::{CreateFault, DiskPlace, OpenFault};
-use fsfs_revision::{Damage, RevOffset, What};
-use fsfs_shows::{RepDamage, RepWhat, Wrong};
 use fsfs_texts::LookFault;
 use fsfs_words::WordsFault;
 use std::alloc::Global;
@@ -27,7 +25,10 @@ fn digest_of<const N: usize>(digits: &[u8]) -> Result<HexDigest<N>, Fail> {
 
 fn bad_rep(rev: u32, offset: u64, what: RepWhat) -> Fault {
     let at = RevOffset { rev, offset };
-    Fault::from(Wrong::BadRep(RepDamage { at, what }))
+    Fault::from(Wrong::Damaged(Damage {
+        at,
+        what: What::Rep(what),
+    }))
 }
 
 fn small(file: SmallFile, at: usize) -> SmallFault {

@@ -1,6 +1,7 @@
 //! A small book of four revisions, read as code reads any book.
 use fsfs_base::{SmallFault, SmallFile};
-use fsfs_book::{Book, BookFault, Kept, MemBook, MemRev, Refusal};
+use fsfs_book::{Book, BookFault, Kept, MemBook, MemRev};
+use fsfs_damage::Refusal;
 use std::alloc::{AllocError, Global};
 use std::test::Fail;
 

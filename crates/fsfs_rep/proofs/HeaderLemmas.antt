@@ -127,3 +127,22 @@ module _ (seen : List ℕ) (offset : ℕ) (bytes : List ℕ) (window : seen ≡ 
 -- a text that stands somewhere ends within the bytes
 pub stands_fits : (line : List ℕ) (offset : ℕ) (bytes : List ℕ) → 0 < length line → StandsAt line offset bytes → offset + length line ≤ length bytes
 stands_fits line offset bytes some stands = omega (arith, ap length stands, length-take (length line) (drop offset bytes), length-drop offset bytes)
+
+-- ---- no line is both
+
+pub head_same : (a b : ℕ) (s t : List ℕ) → a ∷ s ≡ b ∷ t → a ≡ b
+head_same a b s t e = cc
+
+begins_two : (bytes line rest : List ℕ) → take 6 bytes ≡ codes "PLAIN\n" → take (length line) bytes ≡ line → line ≡ 68 ∷ rest → ⊥
+begins_two [] line rest plain stands is = absurd cc
+begins_two (c ∷ bytes) line rest plain stands is =
+    let d : take (length (68 ∷ rest)) (c ∷ bytes) ≡ 68 ∷ rest = subst (λ (l : List ℕ). take (length l) (c ∷ bytes) ≡ l) is stands in
+    let first = head_same c 68 (take (length rest) bytes) rest d in
+    let other = head_same c 80 (take 5 bytes) (codes "LAIN\n") plain in
+    omega (arith, first, other)
+
+pub plain_or_delta : (offset : ℕ) (bytes : List ℕ) → HasPlainLine offset bytes → HasDeltaLine offset bytes → ⊥
+plain_or_delta offset bytes plain delta =
+    let w = delta.line_is in
+    let e : delta.line ≡ codes "DELTA" ++ w.second = w.parts ∙ ap (λ (f : List ℕ). f ++ w.second) w.first_is in
+    begins_two (drop offset bytes) delta.line (69 ∷ 76 ∷ 84 ∷ 65 ∷ w.second) plain delta.stands e

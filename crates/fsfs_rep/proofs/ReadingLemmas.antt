@@ -7,11 +7,7 @@ use Rattle.std.proofs.lemmas.List.{length-take, length-drop, take-append-drop, t
 use Rattle.std.proofs.Math.Seq.{take-append_seam}
 use Rattle.fsfs_text.proofs.Readers.{text_reads}
 use Rattle.fsfs_text.specs.Reading.{text_at}
-use Rattle.fsfs_noderev.specs.declared.rep.Rep.{Rep}
-use Rattle.fsfs_rep.specs.declared.rep_fault.RepFault.{RepFault}
-use Rattle.fsfs_rep.specs.declared.rep_fault.RepFault.TheVariants as faults
 use Rattle.fsfs_rep.specs.Headers.{StandsAt}
-use Rattle.fsfs_rep.specs.Frames.{text_of, IsFramed, Disagrees, IsFaultOf}
 use Rattle.fsfs_rep.proofs.HeaderLemmas.{stands_found, stands_not, stands_in, stands_within, stands_fits}
 
 -- what is told of the representation's revision
@@ -41,16 +37,6 @@ trailer_found seen rest position bytes window e =
     let w = stands_found (text_reads trailer) seen rest e in
     let here : StandsAt trailer 0 seen = subst (λ (line : List ℕ). StandsAt line 0 seen) w.1 w.2 in
     stands_in 7 trailer position bytes (subst (λ (s : List ℕ). StandsAt trailer 0 s) window here)
-
--- what was not as the representation says, once it was framed
-pub fault_of : (rep : Rep) (bytes : List ℕ) (fault : RepFault) → IsFramed rep bytes → Disagrees rep (text_of rep bytes) fault → IsFaultOf rep bytes fault
-fault_of rep bytes (faults.Size kept found) framed d = (framed, d)
-fault_of rep bytes (faults.Md5 kept found) framed d = (framed, d)
-fault_of rep bytes (faults.Sha1 kept found) framed d = (framed, d)
-fault_of rep bytes (faults.Book fault) framed d = absurd d
-fault_of rep bytes (faults.Delta rev offset) framed d = absurd d
-fault_of rep bytes faults.NoHeader framed d = absurd d
-fault_of rep bytes faults.NoTrailer framed d = absurd d
 
 pub take_more_of : (xs : List ℕ) (done want : ℕ) → take (done + want) xs ≡ take done xs ++ take want (drop done xs)
 take_more_of xs done want =

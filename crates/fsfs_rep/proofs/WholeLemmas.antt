@@ -1,25 +1,18 @@
 -- All bytes of a text, piece by piece.
 use Rattle.std.proofs.Common.{◌≡◌, ℕ, ◌+◌, List, ◌++◌, take, drop, Some, Result, sym, ap, subst, ◌∙◌}
-use Rattle.fsfs_book.specs.declared.book.Refusal.{Refusal}
+use Rattle.fsfs_damage.specs.declared.wrong.Refusal.{Refusal}
 use Rattle.fsfs_book.specs.Told.{Telling, Keeps}
 use Rattle.fsfs_noderev.specs.declared.rep.Rep.{Rep}
-use Rattle.fsfs_rep.specs.declared.rep_fault.RepFault.{RepFault}
-use Rattle.fsfs_rep.specs.Frames.{rev_of, text_of, IsWhole, IsFaultOf, CarriesValues}
+use Rattle.fsfs_damage.specs.declared.wrong.ReadError.{ReadError}
+use Rattle.fsfs_rep.specs.Faults.{IsAbout}
+use Rattle.fsfs_rep.specs.Frames.{rev_of, text_of, IsWhole, IsFaultOf}
 use Rattle.fsfs_rep.proofs.ReadingLemmas.{take_more_of}
 
-pub keeps_trans : (a b c : Telling) → Keeps a b → Keeps b c → Keeps a c
-keeps_trans a b c first second = record {
-  revs = λ r read e. second.revs r read (first.revs r read e);
-  props = λ r read e. second.props r read (first.props r read e);
-  youngest = λ y e. second.youngest y (first.youngest y e);
-  below = second.below ∙ first.below;
-}
-
 -- what is told of a representation's revision, later
-pub told_later : (old new : Telling) (rep named : Rep) (read : Result (List ℕ) Refusal) → Keeps old new → named ≡ rep → old.revs (rev_of rep) ≡ Some read → new.revs (rev_of named) ≡ Some read
+pub told_later : {Below : Type 0} (old new : Telling Below) (rep named : Rep) (read : Result (List ℕ) Refusal) → Keeps old new → named ≡ rep → old.revs (rev_of rep) ≡ Some read → new.revs (rev_of named) ≡ Some read
 told_later old new rep named read kept same e = ap (λ (r : Rep). new.revs (rev_of r)) same ∙ kept.revs (rev_of rep) read e
 
-pub fault_for : (named rep : Rep) (bytes : List ℕ) (fault : RepFault) → named ≡ rep → IsFaultOf named bytes fault → IsFaultOf rep bytes fault
+pub fault_for : (named rep : Rep) (bytes : List ℕ) (fault : ReadError) → named ≡ rep → IsFaultOf named bytes fault → IsFaultOf rep bytes fault
 fault_for named rep bytes fault same h = subst (λ (r : Rep). IsFaultOf r bytes fault) same h
 
 pub whole_for : (named rep : Rep) (bytes : List ℕ) → named ≡ rep → IsWhole named bytes → IsWhole rep bytes
@@ -34,5 +27,5 @@ bytes_more named rep bytes items piece done count now same is before next =
     ∙ ap (λ (t : List ℕ). take done text ++ t) (next ∙ ap (λ (r : Rep). take count (drop done (text_of r bytes))) same)
     ∙ sym (take_more_of text done count) ∙ ap (λ (n : ℕ). take n text) (sym is)
 
-pub values_for : (named rep : Rep) (fault : RepFault) → named ≡ rep → CarriesValues named fault → CarriesValues rep fault
-values_for named rep fault same h = subst (λ (r : Rep). CarriesValues r fault) same h
+pub about_for : (named rep : Rep) (e : ReadError) → named ≡ rep → IsAbout named e → IsAbout rep e
+about_for named rep e same h = subst (λ (r : Rep). IsAbout r e) same h

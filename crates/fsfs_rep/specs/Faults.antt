@@ -1,46 +1,41 @@
--- Faults that come from the book.
-use Rattle.std.specs.Prelude.{◌≡◌, ◌≤◌, ℕ, Result, IfErr}
-use Rattle.fsfs_book.specs.declared.book.Refusal.{Refusal}
-use Rattle.fsfs_book.specs.declared.book.BookFault.{BookFault}
-use Rattle.fsfs_book.specs.declared.book.BookFault.TheVariants as books
-use Rattle.fsfs_book.specs.Told.{Rose, IfDisk, IsRefusalOf}
-use Rattle.fsfs_rep.specs.declared.rep_fault.RepFault.{RepFault}
-use Rattle.fsfs_rep.specs.declared.rep_fault.RepFault.TheVariants as faults
-use Rattle.fsfs_rep.specs.declared.rep_fault.RepError.{RepError}
-use Rattle.fsfs_rep.specs.declared.rep_fault.RepError.TheVariants as errors
+-- What the readers of a representation answer where they have no bytes, or where they do not know the bytes.
+use Rattle.std.specs.Prelude.{◌≡◌, ◌≢◌, ℕ, Some}
+use Rattle.fsfs_damage.specs.declared.damage.What.{What}
+use Rattle.fsfs_damage.specs.declared.damage.What.TheVariants as what
+use Rattle.fsfs_damage.specs.declared.damage.RepWhat.TheVariants as repwhat
+use Rattle.fsfs_damage.specs.declared.wrong.Refusal.{Refusal}
+use Rattle.fsfs_damage.specs.declared.wrong.Wrong.{Wrong}
+use Rattle.fsfs_damage.specs.declared.wrong.Wrong.TheVariants as wrongs
+use Rattle.fsfs_damage.specs.declared.wrong.ReadError.{ReadError}
+use Rattle.fsfs_damage.specs.Readings.{IfWrong}
+use Rattle.fsfs_book.specs.Told.{IsRefusalOf}
+use Rattle.fsfs_noderev.specs.declared.rep.Rep.{Rep}
+use Rattle.fsfs_noderev.specs.declared.rep.Uniquifier.{Uniquifier}
+use Rattle.fsfs_rep.specs.Frames.{rev_of, rep_place}
 
--- the book answered this refusal, or the disk failed, or memory was wanting
-abbrev pub IsBookAnswer : Refusal → BookFault → Type 0
-IsBookAnswer why (books.Refused refusal) = refusal ≡ why
-IsBookAnswer why (books.Short rev offset) = ⊥
-IsBookAnswer why books.DiskFault = Unit {0}
-IsBookAnswer why books.OutOfMemory = Unit {0}
+-- the book answered this refusal, unless there was a failure
+abbrev pub IsRefusedFor : Refusal → ReadError → Type 0
+IsRefusedFor why = IfWrong (λ w. w ≡ wrongs.Refused why)
 
-abbrev pub IsRefusedFor : Refusal → RepFault → Type 0
-IsRefusedFor why (faults.Book fault) = IsBookAnswer why fault
-IsRefusedFor why fault = ⊥
+-- a refusal of this revision
+abbrev pub IsRefusedRev : ℕ → Wrong → Type 0
+IsRefusedRev rev (wrongs.Refused refusal) = IsRefusalOf rev refusal
+IsRefusedRev rev w = ⊥
 
--- a refusal of the book is of this revision
-abbrev pub IsBookFaultOf : ℕ → BookFault → Type 0
-IsBookFaultOf rev (books.Refused refusal) = IsRefusalOf rev refusal
-IsBookFaultOf rev (books.Short at offset) = ⊥
-IsBookFaultOf rev books.DiskFault = Unit {0}
-IsBookFaultOf rev books.OutOfMemory = Unit {0}
+-- the values that damage carries are the representation's, and what was found differs
+abbrev pub CarriesValues : Rep → What → Type 0
+CarriesValues rep (what.Rep (repwhat.Size kept found)) = (kept ≡ rep.size) × (found ≡ rep.length) × (kept ≢ found)
+CarriesValues rep (what.Rep (repwhat.Md5 kept found)) = (kept ≡ rep.md5) × (kept.bytes ≢ found.bytes)
+CarriesValues rep (what.Rep (repwhat.Sha1 kept found)) = ((u : Uniquifier) × (rep.unique ≡ Some u) × (kept ≡ u.sha1)) × (kept.bytes ≢ found.bytes)
+CarriesValues rep (what.Rep repwhat.Header) = Unit {0}
+CarriesValues rep (what.Rep repwhat.EndRep) = Unit {0}
+CarriesValues rep kind = ⊥
 
-abbrev pub NamesRev : ℕ → RepFault → Type 0
-NamesRev rev (faults.Book fault) = IsBookFaultOf rev fault
-NamesRev rev fault = Unit {0}
+-- whatever the book tells: a refusal is of the representation's revision, and damage or a delta is at its place
+abbrev pub IsWrongOf : Rep → Wrong → Type 0
+IsWrongOf rep (wrongs.Refused refusal) = IsRefusalOf (rev_of rep) refusal
+IsWrongOf rep (wrongs.Delta at) = at ≡ rep_place rep
+IsWrongOf rep (wrongs.Damaged d) = (d.at ≡ rep_place rep) × CarriesValues rep d.what
 
-abbrev pub IfBookFails : RepFault → Type 0 → Type 0
-IfBookFails (faults.Book fault) P = IfDisk fault P
-IfBookFails fault P = Unit {0}
-
--- the book's count of faults never falls, and rose where the disk failed
-pub record HasCause {T : Type 0} (before now : ℕ) (result : Result T RepFault) : Type 0 where
-  pub later : before ≤ now
-  pub failed : IfErr result (λ fault. IfBookFails fault (Rose before now))
-
--- a fact of the fault, where it isn't that memory was wanting
-abbrev pub IfFault : (RepFault → Type 0) → RepError → Type 0
-IfFault P (errors.Fault fault) = P fault
-IfFault P errors.OutOfMemory = Unit {0}
+abbrev pub IsAbout : Rep → ReadError → Type 0
+IsAbout rep = IfWrong (IsWrongOf rep)

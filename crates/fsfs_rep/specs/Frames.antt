@@ -1,14 +1,20 @@
 -- A representation in a revision's bytes: `PLAIN` and a newline, the text, `ENDREP` and a newline.
-use Rattle.std.specs.Prelude.{◌≡◌, ◌≢◌, ℕ, ◌+◌, List, take, drop, Some, IfSome, unwrap_or, codes}
+use Rattle.std.specs.Prelude.{◌≡◌, ◌≢◌, ℕ, ◌+◌, List, [], ◌∷◌, take, drop, Option, Some, None, IfSome, unwrap_or, Result, codes}
 use Rattle.md5.specs.Md5.{md5}
 use Rattle.sha1.specs.Sha1.{sha1}
+use Rattle.fsfs_damage.specs.declared.damage.RevOffset.{RevOffset}
+use Rattle.fsfs_damage.specs.declared.damage.RepWhat.{RepWhat}
+use Rattle.fsfs_damage.specs.declared.damage.RepWhat.TheVariants as repwhat
+use Rattle.fsfs_damage.specs.declared.damage.What.TheVariants as what
+use Rattle.fsfs_damage.specs.declared.wrong.Wrong.{Wrong}
+use Rattle.fsfs_damage.specs.declared.wrong.Wrong.TheVariants as wrongs
+use Rattle.fsfs_damage.specs.declared.wrong.ReadError.{ReadError}
+use Rattle.fsfs_damage.specs.Checks.{Check, must, must_not, FirstFails, Judged}
+use Rattle.fsfs_damage.specs.Damages.{place_of, damaged}
+use Rattle.fsfs_damage.specs.Readings.{IfWrong}
 use Rattle.fsfs_noderev.specs.declared.rep.Rep.{Rep}
 use Rattle.fsfs_noderev.specs.declared.rep.Uniquifier.{Uniquifier}
 use Rattle.fsfs_rep.specs.Headers.{StandsAt, HasPlainLine, HasDeltaLine}
-use Rattle.fsfs_rep.specs.declared.rep_fault.RepFault.{RepFault}
-use Rattle.fsfs_rep.specs.declared.rep_fault.RepFault.TheVariants as faults
-use Rattle.fsfs_book.specs.declared.book.BookFault.{BookFault}
-use Rattle.fsfs_book.specs.declared.book.BookFault.TheVariants as books
 
 -- the revision that it stands in
 abbrev pub rev_of : Rep → ℕ
@@ -46,33 +52,43 @@ pub record IsWhole (rep : Rep) (bytes : List ℕ) : Type 0 where
   pub framed : IsFramed rep bytes
   pub agrees : Agrees rep (text_of rep bytes)
 
--- the first thing in which it does not agree, with what is kept and what was found
-abbrev pub Disagrees : Rep → List ℕ → RepFault → Type 0
-Disagrees rep text (faults.Size kept found) = (kept ≡ rep.size) × (found ≡ rep.length) × (kept ≢ 0) × (kept ≢ found)
-Disagrees rep text (faults.Md5 kept found) = HasSize rep × (kept ≡ rep.md5) × (found.bytes ≡ md5 text) × (kept.bytes ≢ found.bytes)
-Disagrees rep text (faults.Sha1 kept found) =
-    HasSize rep × HasMd5 rep text × ((u : Uniquifier) × (rep.unique ≡ Some u) × (kept ≡ u.sha1)) × (found.bytes ≡ sha1 text) × (kept.bytes ≢ found.bytes)
-Disagrees rep text fault = ⊥
+-- ---- what is wrong with a representation, in the order of the checks
 
--- a book that has the bytes can only fail
-abbrev pub IsFailure : BookFault → Type 0
-IsFailure books.DiskFault = Unit {0}
-IsFailure books.OutOfMemory = Unit {0}
-IsFailure (books.Refused refusal) = ⊥
-IsFailure (books.Short rev offset) = ⊥
+-- where its header is to begin
+abbrev pub rep_place : Rep → RevOffset
+rep_place rep = place_of (rev_of rep) rep.offset
 
--- what a fault says of these bytes: the first thing that is wrong, in the order header, trailer, size, MD5, SHA-1
-abbrev pub IsFaultOf : Rep → List ℕ → RepFault → Type 0
-IsFaultOf rep bytes (faults.Delta rev offset) = (rep.rev ≡ Some rev) × (offset ≡ rep.offset) × HasDeltaLine rep.offset bytes
-IsFaultOf rep bytes faults.NoHeader = (¬ HasPlainLine rep.offset bytes) × (¬ HasDeltaLine rep.offset bytes)
-IsFaultOf rep bytes faults.NoTrailer = HasPlainLine rep.offset bytes × (¬ HasTrailer rep bytes)
-IsFaultOf rep bytes (faults.Book fault) = IsFailure fault
-IsFaultOf rep bytes fault = IsFramed rep bytes × Disagrees rep (text_of rep bytes) fault
+abbrev pub bad_rep : Rep → RepWhat → Wrong
+bad_rep rep kind = damaged (rep_place rep) (what.Rep kind)
 
--- whatever the book tells: the values that a fault carries are the representation's, and what was found differs
-abbrev pub CarriesValues : Rep → RepFault → Type 0
-CarriesValues rep (faults.Delta rev offset) = (rep.rev ≡ Some rev) × (offset ≡ rep.offset)
-CarriesValues rep (faults.Size kept found) = (kept ≡ rep.size) × (found ≡ rep.length) × (kept ≢ found)
-CarriesValues rep (faults.Md5 kept found) = (kept ≡ rep.md5) × (kept.bytes ≢ found.bytes)
-CarriesValues rep (faults.Sha1 kept found) = ((u : Uniquifier) × (rep.unique ≡ Some u) × (kept ≡ u.sha1)) × (kept.bytes ≢ found.bytes)
-CarriesValues rep fault = Unit {0}
+abbrev pub sha1_checks : Rep → Option Uniquifier → List ℕ → List Check
+sha1_checks rep None text = []
+sha1_checks rep (Some u) text = must (u.sha1.bytes ≡ sha1 text) (bad_rep rep (repwhat.Sha1 u.sha1 (record { bytes = sha1 text }))) ∷ []
+
+-- the text agrees with what the representation says of it
+abbrev pub text_checks : Rep → List ℕ → List Check
+text_checks rep text =
+    must (HasSize rep) (bad_rep rep (repwhat.Size rep.size rep.length))
+    ∷ must (HasMd5 rep text) (bad_rep rep (repwhat.Md5 rep.md5 (record { bytes = md5 text })))
+    ∷ sha1_checks rep rep.unique text
+
+abbrev pub rep_checks : Rep → List ℕ → List Check
+rep_checks rep bytes =
+    must_not (HasDeltaLine rep.offset bytes) (wrongs.Delta (rep_place rep))
+    ∷ must (HasPlainLine rep.offset bytes) (bad_rep rep repwhat.Header)
+    ∷ must (HasTrailer rep bytes) (bad_rep rep repwhat.EndRep)
+    ∷ text_checks rep (text_of rep bytes)
+
+abbrev pub IsTextOf : Rep → List ℕ → List ℕ → Type 0
+IsTextOf rep bytes text = (text ≡ text_of rep bytes) × IsWhole rep bytes
+
+-- its text, of the bytes of its revision
+abbrev pub RepIn : Rep → List ℕ → Result (List ℕ) Wrong → Type 0
+RepIn rep bytes = Judged (IsTextOf rep bytes) (rep_checks rep bytes)
+
+-- what an error says of these bytes, and of a text that stands between header and trailer
+abbrev pub IsFaultOf : Rep → List ℕ → ReadError → Type 0
+IsFaultOf rep bytes = IfWrong (FirstFails (rep_checks rep bytes))
+
+abbrev pub Disagrees : Rep → List ℕ → ReadError → Type 0
+Disagrees rep text = IfWrong (FirstFails (text_checks rep text))

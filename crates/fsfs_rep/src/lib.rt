@@ -5,12 +5,13 @@
 
 mod digester;
 mod header;
-mod rep_fault;
+mod place;
 mod rep_reader;
 mod whole;
-mod window;
+mod windows;
 
 pub use digester::Digester;
-pub use rep_fault::{RepError, RepFault};
+pub use place::{bad_rep, rep_place};
 pub use rep_reader::RepReader;
 pub use whole::read_rep_bytes;
+pub use windows::window;

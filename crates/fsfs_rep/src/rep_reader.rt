@@ -1,17 +1,18 @@
 //! A representation read piece by piece.
 ghost use Rattle.std.specs.Prelude.{◌≡◌, ◌≤◌, ◌<◌, ◌+◌, ◌-◌, ◌^◌, min, ℕ, List, Option, Some, Ok, Err, length, take, drop, IsSome, IfOk, IfErr, OnErr, MatchResult};
-ghost use Rattle.fsfs_book.specs.declared.book.Refusal.{Refusal};
+ghost use Rattle.fsfs_damage.specs.declared.wrong.Refusal.{Refusal};
 ghost use Rattle.fsfs_book.specs.Told.{Keeps};
-ghost use Rattle.fsfs_rep.specs.Faults.{HasCause, IsRefusedFor, NamesRev};
-ghost use Rattle.fsfs_rep.specs.Frames.{rev_of, text_of, Agrees, Disagrees, IsWhole, IsFaultOf, CarriesValues};
+ghost use Rattle.fsfs_damage.specs.Causes.{HasCause};
+ghost use Rattle.fsfs_rep.specs.Faults.{IsRefusedFor, IsAbout};
+ghost use Rattle.fsfs_rep.specs.Frames.{rev_of, text_of, Agrees, Disagrees, IsWhole, IsFaultOf};
 ghost use Rattle.fsfs_rep.specs.Seen.{HasSeen};
 
 use crate::digester::Digester;
 use crate::header::{HEADER_LEN, Header, header_of};
-use crate::rep_fault::RepFault;
-use crate::window::window;
-use fsfs_base::HexDigest;
+use crate::place::{bad_rep, rep_place};
+use crate::windows::window;
 use fsfs_book::Book;
+use fsfs_damage::{ReadError, RepWhat, Wrong};
 use fsfs_noderev::Rep;
 use fsfs_text::pieces::text;
 
@@ -35,30 +36,38 @@ fn behind(offset: u64, count: u64) -> u64
 }
 
 // The text is as the representation says.
-fn agree(rep: &Rep, digester: Digester) -> Result<(), RepFault>
-    ensures names { (rev : ℕ) → IfErr result (NamesRev rev) }
-    ensures values { IfErr result (CarriesValues rep.now) }
+fn agree(rep: &Rep, digester: Digester) -> Result<(), ReadError>
+    ensures about { IfErr result (IsAbout rep.now) }
     ensures cause { (before now : ℕ) → before ≤ now → HasCause before now result }
     ensures text { (text : List ℕ) → HasSeen digester text → MatchResult result (λ _. Agrees rep.now text) (Disagrees rep.now text) }
 {
     if rep.size != 0 && rep.size != rep.length {
-        return Err(RepFault::Size {
-            kept: rep.size,
-            found: rep.length,
-        });
+        return Err(bad_rep(
+            rep,
+            RepWhat::Size {
+                kept: rep.size,
+                found: rep.length,
+            },
+        ));
     }
     let (md5, sha1) = digester.finish();
     if rep.md5 != md5 {
-        return Err(RepFault::Md5 {
-            kept: rep.md5,
-            found: md5,
-        });
+        return Err(bad_rep(
+            rep,
+            RepWhat::Md5 {
+                kept: rep.md5,
+                found: md5,
+            },
+        ));
     }
     match &rep.unique {
-        Some(unique) if unique.sha1 != sha1 => Err(RepFault::Sha1 {
-            kept: unique.sha1,
-            found: sha1,
-        }),
+        Some(unique) if unique.sha1 != sha1 => Err(bad_rep(
+            rep,
+            RepWhat::Sha1 {
+                kept: unique.sha1,
+                found: sha1,
+            },
+        )),
         _ => Ok(()),
     }
 }
@@ -67,12 +76,11 @@ impl RepReader {
     ghost use Rattle.fsfs_rep.specs.Reading.{IsReading};
 
     /// Begins to read a representation of a revision: its header is read, and none of its text.
-    pub fn begin<B: Book>(book: &mut B, rep: &Rep) -> Result<RepReader, RepFault>
+    pub fn begin<B: Book>(book: &mut B, rep: &Rep) -> Result<RepReader, ReadError>
         requires { IsSome rep.now.rev }
         ensures bytes { (bytes : List ℕ) → (B.told book.old).revs (rev_of rep.now) ≡ Some (Ok bytes) → MatchResult result (λ reader. IsReading reader bytes) (IsFaultOf rep.now bytes) }
         ensures refused { (why : Refusal) → (B.told book.old).revs (rev_of rep.now) ≡ Some (Err why) → MatchResult result (λ _. ⊥) (IsRefusedFor why) }
-        ensures names { IfErr result (NamesRev (rev_of rep.now)) }
-        ensures values { IfErr result (CarriesValues rep.now) }
+        ensures about { IfErr result (IsAbout rep.now) }
         ensures rep { IfOk result (λ reader. reader.rep ≡ rep.now) }
         ensures done { IfOk result (λ reader. reader.done ≡ 0) }
 
@@ -88,11 +96,8 @@ impl RepReader {
                 done: 0,
                 digester: Digester::new(),
             }),
-            Header::Delta => Err(RepFault::Delta {
-                rev,
-                offset: rep.offset,
-            }),
-            Header::Other => Err(RepFault::NoHeader),
+            Header::Delta => Err(ReadError::Wrong(Wrong::Delta(rep_place(rep)))),
+            Header::Other => Err(bad_rep(rep, RepWhat::Header)),
         }
     }
 
@@ -112,12 +117,11 @@ impl RepReader {
 
     /// Reads the next bytes of the text into the beginning of the buffer, and answers how many: as many as are left and
     /// as fit. After an `Err` the reader is as it was, so the call can be made again.
-    pub fn next<B: Book>(&mut self, book: &mut B, buffer: &mut [u8]) -> Result<usize, RepFault>
+    pub fn next<B: Book>(&mut self, book: &mut B, buffer: &mut [u8]) -> Result<usize, ReadError>
         ensures count { IfOk result (λ n. n ≡ min (length buffer.old) (self.old.rep.length - self.old.done)) }
         ensures bytes { (bytes : List ℕ) → (B.told book.old).revs (rev_of self.old.rep) ≡ Some (Ok bytes) → IsReading self.old bytes → MatchResult result (λ n. IsReading self.new bytes × (take n buffer.new ≡ take n (drop self.old.done (text_of self.old.rep bytes)))) (IsFaultOf self.old.rep bytes) }
         ensures refused { (why : Refusal) → (B.told book.old).revs (rev_of self.old.rep) ≡ Some (Err why) → IfErr result (IsRefusedFor why) }
-        ensures names { IfErr result (NamesRev (rev_of self.old.rep)) }
-        ensures values { IfErr result (CarriesValues self.old.rep) }
+        ensures about { IfErr result (IsAbout self.old.rep) }
         ensures rep { self.new.rep ≡ self.old.rep }
         ensures done { IfOk result (λ n. self.new.done ≡ self.old.done + n) }
         ensures err { OnErr result (self.new ≡ self.old) }
@@ -136,7 +140,7 @@ impl RepReader {
         let piece = &mut buffer[..want];
         let count = window(book, rev, self.position(), piece)?;
         if count < want {
-            return Err(RepFault::NoTrailer);
+            return Err(bad_rep(&self.rep, RepWhat::EndRep));
         }
         self.digester.update(piece);
         self.done += want as u64;
@@ -144,12 +148,11 @@ impl RepReader {
     }
 
     /// Ends the reading: what follows the text is read, and the text is found to be as the representation says.
-    pub fn finish<B: Book>(self, book: &mut B) -> Result<(), RepFault>
+    pub fn finish<B: Book>(self, book: &mut B) -> Result<(), ReadError>
         requires { self.done ≡ self.rep.length }
         ensures bytes { (bytes : List ℕ) → (B.told book.old).revs (rev_of self.rep) ≡ Some (Ok bytes) → IsReading self bytes → MatchResult result (λ _. IsWhole self.rep bytes) (IsFaultOf self.rep bytes) }
         ensures refused { (why : Refusal) → (B.told book.old).revs (rev_of self.rep) ≡ Some (Err why) → MatchResult result (λ _. ⊥) (IsRefusedFor why) }
-        ensures names { IfErr result (NamesRev (rev_of self.rep)) }
-        ensures values { IfErr result (CarriesValues self.rep) }
+        ensures about { IfErr result (IsAbout self.rep) }
 
         ensures kept { Keeps (B.told book.old) (B.told book.new) }
         ensures cause { HasCause (B.faults book.old) (B.faults book.new) result }
@@ -164,7 +167,7 @@ impl RepReader {
                 let RepReader { rep, digester, .. } = self;
                 agree(&rep, digester)
             }
-            Err(_) => Err(RepFault::NoTrailer),
+            Err(_) => Err(bad_rep(&self.rep, RepWhat::EndRep)),
         }
     }
 }

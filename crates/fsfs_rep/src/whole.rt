@@ -1,13 +1,14 @@
 //! All bytes of a representation.
-ghost use Rattle.std.specs.Prelude.{◌≡◌, ◌≤◌, ℕ, List, Some, Ok, Err, IsSome, IfErr, MatchResult};
-ghost use Rattle.fsfs_book.specs.declared.book.Refusal.{Refusal};
-ghost use Rattle.fsfs_book.specs.Told.{Keeps, Rose};
-ghost use Rattle.fsfs_rep.specs.Faults.{IfFault, IfBookFails, IsRefusedFor, NamesRev};
-ghost use Rattle.fsfs_rep.specs.Frames.{rev_of, text_of, IsWhole, IsFaultOf, CarriesValues};
+ghost use Rattle.std.specs.Prelude.{◌≡◌, ℕ, List, Some, Ok, Err, IsSome, IfErr, MatchResult};
+ghost use Rattle.fsfs_damage.specs.declared.wrong.Refusal.{Refusal};
+ghost use Rattle.fsfs_damage.specs.Causes.{HasCause};
+ghost use Rattle.fsfs_book.specs.Told.{Keeps};
+ghost use Rattle.fsfs_rep.specs.Faults.{IsRefusedFor, IsAbout};
+ghost use Rattle.fsfs_rep.specs.Frames.{rev_of, IsTextOf, IsFaultOf};
 
-use crate::rep_fault::RepError;
 use crate::rep_reader::RepReader;
 use fsfs_book::Book;
+use fsfs_damage::ReadError;
 use fsfs_noderev::Rep;
 use std::alloc::Global;
 
@@ -16,16 +17,13 @@ const PIECE: usize = 8192;
 
 /// All bytes of a representation of a revision. Memory is taken as the bytes come, and not for the length that the
 /// representation claims; a caller that wants no more than so many bytes looks at that length first.
-pub fn read_rep_bytes<B: Book>(alloc: Global, book: &mut B, rep: &Rep) -> Result<Vec<u8>, RepError>
+pub fn read_rep_bytes<B: Book>(alloc: Global, book: &mut B, rep: &Rep) -> Result<Vec<u8>, ReadError>
     requires { IsSome rep.now.rev }
-    ensures bytes { (bytes : List ℕ) → (B.told book.old).revs (rev_of rep.now) ≡ Some (Ok bytes) → MatchResult result (λ text. (text.items ≡ text_of rep.now bytes) × IsWhole rep.now bytes) (IfFault (IsFaultOf rep.now bytes)) }
-    ensures refused { (why : Refusal) → (B.told book.old).revs (rev_of rep.now) ≡ Some (Err why) → MatchResult result (λ _. ⊥) (IfFault (IsRefusedFor why)) }
-    ensures names { IfErr result (IfFault (NamesRev (rev_of rep.now))) }
-    ensures values { IfErr result (IfFault (CarriesValues rep.now)) }
-
+    ensures bytes { (bytes : List ℕ) → (B.told book.old).revs (rev_of rep.now) ≡ Some (Ok bytes) → MatchResult result (λ text. IsTextOf rep.now bytes text.items) (IsFaultOf rep.now bytes) }
+    ensures refused { (why : Refusal) → (B.told book.old).revs (rev_of rep.now) ≡ Some (Err why) → MatchResult result (λ _. ⊥) (IsRefusedFor why) }
+    ensures about { IfErr result (IsAbout rep.now) }
     ensures kept { Keeps (B.told book.old) (B.told book.new) }
-    ensures later { B.faults book.old ≤ B.faults book.new }
-    ensures failed { IfErr result (IfFault (λ fault. IfBookFails fault (Rose (B.faults book.old) (B.faults book.new)))) }
+    ensures cause { HasCause (B.faults book.old) (B.faults book.new) result }
 {
     let mut reader = RepReader::begin(book, rep)?;
     let mut bytes = Vec::new(alloc);

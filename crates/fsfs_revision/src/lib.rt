@@ -4,12 +4,10 @@
 //! root's node-revision and of its changed paths. All offsets count from the beginning of the revision's own bytes.
 #![tactic(auto)]
 
-mod damage;
 mod node;
 mod root;
 mod trailer;
 
-pub use damage::{Damage, RevOffset, RevisionError, What};
 pub use node::{is_before, is_revision_id, read_node_at};
-pub use root::{check_root, read_root};
+pub use root::{as_root, read_root};
 pub use trailer::{TRAILER_LIMIT, Trailer, put_trailer, read_tail, read_trailer};

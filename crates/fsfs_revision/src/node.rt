@@ -1,11 +1,11 @@
 //! A node-revision that stands in a revision.
-ghost use Rattle.std.specs.Prelude.{◌≡◌, ℕ, IfOk, IfErr};
-ghost use Rattle.fsfs_noderev.specs.declared.node_rev.NodeRev.{NodeRev};
-ghost use Rattle.fsfs_revision.specs.Nodes.{is_lasting_part, is_revision_place, is_revision_id, is_some_rev, has_revision_pred, has_revision_rep, has_revision_root, is_of_revision, is_before as before, place_before, pred_before, rep_place_before, rep_before, source_before, rev_not_after, root_not_after, is_ordered, IsNodeAt};
-ghost use Rattle.fsfs_revision.specs.Damages.{NodeRow, IfDamaged, OnlyValue, OnlyDamage};
-ghost use Rattle.fsfs_revision.specs.declared.damage.Damage.{Damage};
+ghost use Rattle.std.specs.Prelude.{◌≡◌, true, IfOk};
+ghost use Rattle.fsfs_revision.specs.Nodes.{is_lasting_part, is_revision_place, is_revision_id, is_some_rev, has_revision_pred, has_revision_rep, has_revision_root, is_of_revision, is_before as before, place_before, pred_before, rep_place_before, rep_before, source_before, rev_not_after, root_not_after, is_ordered};
+ghost use Rattle.fsfs_damage.specs.Causes.{IsQuiet};
+ghost use Rattle.fsfs_damage.specs.Readings.{Answers};
+ghost use Rattle.fsfs_revision.specs.Damages.{NodeIn};
 
-use crate::damage::{Damage, RevOffset, RevisionError, What};
+use fsfs_damage::{ReadError, RevOffset, What};
 use fsfs_noderev::{
     Contents, CopyRoot, CopySource, NodeError, NodeId, NodeRev, Part, Place, read_noderev,
 };
@@ -137,30 +137,20 @@ fn is_ordered(at: RevOffset, node: &NodeRev) -> bool
 /// The node-revision that stands at a place of a revision, of the bytes from that place on; 65,536 of them are enough.
 /// It is NodeRev where none begins there, or one in a form that only a transaction has, and PlaceOrder where its predecessor
 /// or a representation isn't before it, its source isn't of an earlier revision, or its copy root is of a later one.
-pub fn read_node_at(alloc: Global, at: RevOffset, bytes: &[u8]) -> Result<NodeRev, RevisionError>
-    ensures found { IfOk result (IsNodeAt at bytes.now) }
-    ensures only { (v : NodeRev) → IsNodeAt at bytes.now v → OnlyValue v result }
-    ensures damage { IfErr result (IfDamaged (NodeRow at bytes.now)) }
-    ensures only_damage { (d : Damage) → NodeRow at bytes.now d → OnlyDamage d result }
+pub fn read_node_at(alloc: Global, at: RevOffset, bytes: &[u8]) -> Result<NodeRev, ReadError>
+    ensures read { Answers (λ v. v) (NodeIn at bytes.now) result }
+    ensures ordered { IfOk result (λ v. is_ordered at v ≡ true) }
+    ensures quiet { IsQuiet result }
 {
     match read_noderev(alloc, bytes) {
-        Err(NodeError::OutOfMemory) => Err(RevisionError::OutOfMemory),
-        Err(NodeError::Fault(_)) => Err(RevisionError::Damaged(Damage {
-            at,
-            what: What::NodeRev,
-        })),
+        Err(NodeError::OutOfMemory) => Err(ReadError::OutOfMemory),
+        Err(NodeError::Fault(_)) => Err(ReadError::damaged(at, What::NodeRev)),
         Ok(node) => {
             if !is_of_revision(&node) {
-                return Err(RevisionError::Damaged(Damage {
-                    at,
-                    what: What::NodeRev,
-                }));
+                return Err(ReadError::damaged(at, What::NodeRev));
             }
             if !is_ordered(at, &node) {
-                return Err(RevisionError::Damaged(Damage {
-                    at,
-                    what: What::PlaceOrder,
-                }));
+                return Err(ReadError::damaged(at, What::PlaceOrder));
             }
             Ok(node)
         }

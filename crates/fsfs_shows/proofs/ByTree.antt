@@ -8,13 +8,13 @@ use Rattle.fsfs_base.specs.declared.node.Kind.{Kind}
 use Rattle.fsfs_base.specs.declared.node.Kind.TheVariants.{File, Dir}
 use Rattle.fsfs_book.specs.Told.{Look}
 use Rattle.fsfs_noderev.specs.declared.node_rev.NodeRev.{NodeRev}
-use Rattle.fsfs_revision.specs.Damages.{place_of}
-use Rattle.fsfs_shows.specs.declared.wrong.Wrong.{Wrong}
-use Rattle.fsfs_shows.specs.declared.wrong.Wrong.TheVariants as wrongs
+use Rattle.fsfs_damage.specs.Damages.{place_of}
+use Rattle.fsfs_damage.specs.declared.wrong.Wrong.{Wrong}
+use Rattle.fsfs_damage.specs.declared.wrong.Wrong.TheVariants as wrongs
 use Rattle.fsfs_shows.specs.Reading.{Entry, named, TextOf, PropsOf, EntriesOf, OfNamed, ChildOf, Met, Stands, Lacking, Blocked, OrLacking, InDirectory, MetFrom, MetAt, StandsAt}
 use Rattle.fsfs_shows.specs.Shown.{IsTextOf, IsShown, IsShownAs, Shows}
 use Rattle.fsfs_shows.specs.ByTree.{LacksAt, IsBlockedAt, IsMetByTree, IsEntryByTree, AreEntriesByTree, IsTextByTree, IsReadByTree}
-use Rattle.fsfs_shows.proofs.OneStep.{ok_same}
+use Rattle.fsfs_damage.proofs.OneAnswer.{ok_same}
 use Rattle.fsfs_shows.proofs.OneNode.{root_of_one}
 use Rattle.fsfs_shows.proofs.OneEntry.{entries_one}
 use Rattle.fsfs_shows.proofs.OneWalk.{child_one, met_at_one, met_same, text_one, props_one}

@@ -34,7 +34,8 @@ use Rattle.fsfs_noderev.proofs.RepTexts.{contents_spells, number_spells}
 use Rattle.fsfs_noderev.proofs.Lengths.{reads_back}
 use Rattle.fsfs_rep.specs.Frames.{IsWhole}
 use Rattle.fsfs_revision.specs.Trailers.{trailer_at, EndsWith}
-use Rattle.fsfs_revision.specs.Damages.{IsRootOf, place_of}
+use Rattle.fsfs_revision.specs.Damages.{RootIn}
+use Rattle.fsfs_damage.specs.Damages.{place_of}
 use Rattle.fsfs_revision.specs.Nodes.{IsNodeAt}
 use Rattle.fsfs_revision.specs.declared.trailer.Trailer.{Trailer}
 use Rattle.fsfs_revision.proofs.TrailerLemmas.{trailer_reads}
@@ -44,9 +45,8 @@ use Rattle.fsfs_shows.specs.Shown.{IsShown, IsShownAs, Shows}
 use Rattle.fsfs_shows.specs.IdRules.{IsOf, IsChild, HasSuffix, Directory, IdRule}
 use Rattle.fsfs_shows.specs.FirstRevision.{first_bytes}
 use Rattle.fsfs_shows.specs.FirstDirectory.{directory_bytes, a_name, changed_root, added_directory, directory_tree}
-use Rattle.fsfs_shows.proofs.FirstRevision.{pair_of, zero_b36, path_is, zero_digit, root_node, nothing_below, the_root, first_rules}
-use Rattle.fsfs_shows.proofs.FirstRevision.{root_id as first_id, root as first_root}
-use Rattle.fsfs_shows.proofs.OneStep.{ok_same}
+use Rattle.fsfs_shows.proofs.FirstRevision.{pair_of, zero_b36, path_is, zero_digit, root_node, nothing_below, the_root, first_rules, root_id as first_id, root as first_root}
+use Rattle.fsfs_damage.proofs.OneAnswer.{ok_same}
 use Rattle.fsfs_shows.proofs.OneWalk.{of_id_one, met_same, stands_same}
 
 -- ---- fields
@@ -236,8 +236,8 @@ ends = record {
   changes = omega arith;
 }
 
-new_root_there : IsRootOf 1 directory_bytes root
-new_root_there = (trailer, ends, ((reads_back 65536 root_text root root_is (omega arith) (drop 226 directory_bytes), refl), refl), refl)
+new_root_there : RootIn 1 directory_bytes (Ok root)
+new_root_there = (trailer, ends, (root, ((reads_back 65536 root_text root root_is (omega arith) (drop 226 directory_bytes), refl), refl), (refl, refl)))
 
 -- ---- the root's entries
 

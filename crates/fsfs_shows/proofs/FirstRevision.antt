@@ -34,7 +34,8 @@ use Rattle.fsfs_noderev.proofs.RepTexts.{contents_spells}
 use Rattle.fsfs_noderev.proofs.Lengths.{reads_back}
 use Rattle.fsfs_rep.specs.Frames.{IsWhole}
 use Rattle.fsfs_revision.specs.Trailers.{trailer_at, EndsWith}
-use Rattle.fsfs_revision.specs.Damages.{IsRootOf, place_of}
+use Rattle.fsfs_revision.specs.Damages.{RootIn}
+use Rattle.fsfs_damage.specs.Damages.{place_of}
 use Rattle.fsfs_revision.specs.Nodes.{IsNodeAt}
 use Rattle.fsfs_revision.specs.declared.trailer.Trailer.{Trailer}
 use Rattle.fsfs_revision.proofs.TrailerLemmas.{trailer_reads}
@@ -165,8 +166,8 @@ trailer_ends = record {
 pub root_node : IsNodeAt (place_of 0 17) (drop 17 first_bytes) root
 root_node = ((reads_back 65536 root_text root root_is (omega arith) (codes "\n17 107\n"), refl), refl)
 
-root_there : IsRootOf 0 first_bytes root
-root_there = (trailer, trailer_ends, root_node, refl)
+root_there : RootIn 0 first_bytes (Ok root)
+root_there = (trailer, trailer_ends, (root, root_node, (refl, refl)))
 
 digest_of_end : md5 (codes "END\n") ≡ 45 ∷ 41 ∷ 119 ∷ 209 ∷ 201 ∷ 111 ∷ 72 ∷ 122 ∷ 190 ∷ 74 ∷ 30 ∷ 32 ∷ 45 ∷ 208 ∷ 59 ∷ 78 ∷ []
 unfolding block_words rounds compress hash_after digest_bytes md5

@@ -1,25 +1,22 @@
 -- A directory's entries are read in one way at most.
-use Rattle.std.proofs.Common.{◌≡◌, ℕ, List, [], ◌∷◌, ◌++◌, refl, sym, ap, subst, ◌∙◌, inl, inr, arith}
-use Rattle.std.specs.Prelude.{Ok, Err, true, false, codes}
+use Rattle.std.proofs.Common.{◌≡◌, ℕ, List, [], ◌∷◌, ◌++◌, refl, sym, subst, ◌∙◌, inl, inr, arith}
+use Rattle.std.specs.Prelude.{Ok, Err, codes}
 use Rattle.fsfs_base.specs.declared.node.Kind.{Kind}
 use Rattle.fsfs_base.specs.declared.node.Kind.TheVariants.{File, Dir}
+use Rattle.fsfs_damage.specs.declared.damage.RevOffset.{RevOffset}
+use Rattle.fsfs_damage.specs.declared.wrong.Wrong.{Wrong}
+use Rattle.fsfs_damage.specs.Readings.{HasOneAnswer}
+use Rattle.fsfs_damage.proofs.OneAnswer.{ok_ap, ok_no_err, err_ap, err_same, and_then_one, judged_one}
 use Rattle.fsfs_book.specs.Told.{Look}
 use Rattle.fsfs_noderev.specs.Fields.{IsIdText}
 use Rattle.fsfs_noderev.specs.declared.node_id.NodeId.{NodeId}
 use Rattle.fsfs_noderev.specs.declared.rep.Rep.{Rep}
 use Rattle.fsfs_noderev.specs.declared.node_rev.NodeRev.{NodeRev}
 use Rattle.fsfs_noderev.proofs.FieldTexts.{id_one}
-use Rattle.fsfs_revision.specs.Nodes.{place_before}
-use Rattle.fsfs_revision.specs.declared.damage.RevOffset.{RevOffset}
-use Rattle.fsfs_shows.specs.declared.wrong.RepWhat.{RepWhat}
-use Rattle.fsfs_shows.specs.declared.wrong.RepWhat.TheVariants as repwhat
-use Rattle.fsfs_shows.specs.declared.wrong.RepDamage.{RepDamage}
-use Rattle.fsfs_shows.specs.declared.wrong.Wrong.{Wrong}
-use Rattle.fsfs_shows.specs.declared.wrong.Wrong.TheVariants as wrongs
-use Rattle.fsfs_shows.specs.Readings.{HasOneAnswer}
-use Rattle.fsfs_shows.specs.Reading.{Pairs, PairsAt, Entry, kind_word, IsEntryName, IsEntryValue, IsEntry, BadPair, PairRow, AreEntries, FirstPairRow, EntriesIn, EntriesAt, EntriesOf, offset_of}
-use Rattle.fsfs_shows.proofs.OneStep.{ok_ap, err_ap, and_then_one, contents_one, same_damage}
-use Rattle.fsfs_shows.proofs.OneRep.{head_same, same_rep_damage, pairs_at_one}
+use Rattle.fsfs_rep.proofs.HeaderLemmas.{head_same}
+use Rattle.fsfs_shows.specs.Reading.{Pairs, PairsAt, Entry, kind_word, IsEntryName, IsEntryValue, IsEntry, pair_checks, EntryIn, AreEntries, FirstPairFails, EntriesIn, EntriesAt, EntriesOf, offset_of}
+use Rattle.fsfs_shows.proofs.OneStep.{contents_one}
+use Rattle.fsfs_shows.proofs.OneRep.{pairs_at_one}
 
 word_one : (k l : Kind) (t u : List ℕ) → kind_word k ++ t ≡ kind_word l ++ u → (k ≡ l) × (t ≡ u)
 word_one File File t u e = (refl, (let h : t ≡ u = cc in h))
@@ -38,56 +35,13 @@ entry_one home pair a b v w =
     let name = sym v.name ∙ w.name in
     λ i. record { name = name i; kind = same.0 i; id = same.1 i }
 
-bad_or_not : (pair : List ℕ × List ℕ) (x : RepWhat) (kind : Kind) (id : NodeId) → BadPair pair x → IsEntryName pair.0 → IsEntryValue pair.1 kind id → ⊥
-bad_or_not pair repwhat.BadName kind id a name value = a name
-bad_or_not pair repwhat.EntryValue kind id a name value = a.1 kind id value
-bad_or_not pair repwhat.Header kind id a name value = a
-bad_or_not pair repwhat.EndRep kind id a name value = a
-bad_or_not pair (repwhat.Size k f) kind id a name value = a
-bad_or_not pair (repwhat.Md5 k f) kind id a name value = a
-bad_or_not pair (repwhat.Sha1 k f) kind id a name value = a
-bad_or_not pair repwhat.Hash kind id a name value = a
-
-bad_one : (pair : List ℕ × List ℕ) (x y : RepWhat) → BadPair pair x → BadPair pair y → x ≡ y
-bad_one pair repwhat.BadName repwhat.BadName a b = refl
-bad_one pair repwhat.BadName repwhat.EntryValue a b = absurd (a b.0)
-bad_one pair repwhat.EntryValue repwhat.BadName a b = absurd (b a.0)
-bad_one pair repwhat.EntryValue repwhat.EntryValue a b = refl
-bad_one pair repwhat.Header y a b = absurd a
-bad_one pair repwhat.EndRep y a b = absurd a
-bad_one pair (repwhat.Size k f) y a b = absurd a
-bad_one pair (repwhat.Md5 k f) y a b = absurd a
-bad_one pair (repwhat.Sha1 k f) y a b = absurd a
-bad_one pair repwhat.Hash y a b = absurd a
-bad_one pair x repwhat.Header a b = absurd b
-bad_one pair x repwhat.EndRep a b = absurd b
-bad_one pair x (repwhat.Size k f) a b = absurd b
-bad_one pair x (repwhat.Md5 k f) a b = absurd b
-bad_one pair x (repwhat.Sha1 k f) a b = absurd b
-bad_one pair x repwhat.Hash a b = absurd b
+entry_in_one : (home : RevOffset) (rep : Rep) (pair : List ℕ × List ℕ) → HasOneAnswer (EntryIn home rep pair)
+entry_in_one home rep pair = judged_one (IsEntry home pair) (pair_checks home rep pair) (entry_one home pair)
+    (λ e v. (subst IsEntryName (sym v.name) v.name_is, ((e.kind, e.id, v.value_is), ((e, v), tt))))
 
 module _ (home : RevOffset) (rep : Rep) where
-  entry_or_row : (pair : List ℕ × List ℕ) (e : Entry) (w : Wrong) → IsEntry home pair e → PairRow home rep pair w → ⊥
-  entry_or_row pair e (wrongs.BadRep d) v row = bad_or_not pair d.what e.kind e.id row.1 (subst IsEntryName (sym v.name) v.name_is) v.value_is
-  entry_or_row pair e (wrongs.Damaged d) v row =
-      let m = row.2 in
-      let same = value_one pair.1 e.kind m.kind e.id m.id v.value_is m.value_is in
-      let no : true ≡ false = sym v.before ∙ ap (λ (id : NodeId). place_before home id.place) same.1 ∙ m.not_before in
-      absurd cc
-  entry_or_row pair e (wrongs.Refused why) v row = row
-  entry_or_row pair e (wrongs.Delta at) v row = row
-
-  pair_rows_agree : (pair : List ℕ × List ℕ) (v w : Wrong) → PairRow home rep pair v → PairRow home rep pair w → v ≡ w
-  pair_rows_agree pair (wrongs.BadRep d) (wrongs.BadRep e) a b = ap (λ (x : RepDamage). wrongs.BadRep x) (same_rep_damage d e (a.0 ∙ sym b.0) (bad_one pair d.what e.what a.1 b.1))
-  pair_rows_agree pair (wrongs.BadRep d) (wrongs.Damaged e) a b = absurd (bad_or_not pair d.what b.2.kind b.2.id a.1 b.2.name_is b.2.value_is)
-  pair_rows_agree pair (wrongs.BadRep d) (wrongs.Refused why) a b = absurd b
-  pair_rows_agree pair (wrongs.BadRep d) (wrongs.Delta at) a b = absurd b
-  pair_rows_agree pair (wrongs.Damaged d) (wrongs.BadRep e) a b = absurd (bad_or_not pair e.what a.2.kind a.2.id b.1 a.2.name_is a.2.value_is)
-  pair_rows_agree pair (wrongs.Damaged d) (wrongs.Damaged e) a b = ap (λ x. wrongs.Damaged x) (same_damage d e (a.0 ∙ sym b.0) (a.1 ∙ sym b.1))
-  pair_rows_agree pair (wrongs.Damaged d) (wrongs.Refused why) a b = absurd b
-  pair_rows_agree pair (wrongs.Damaged d) (wrongs.Delta at) a b = absurd b
-  pair_rows_agree pair (wrongs.Refused why) w a b = absurd a
-  pair_rows_agree pair (wrongs.Delta at) w a b = absurd a
+  entry_or_row : (pair : List ℕ × List ℕ) (e : Entry) (w : Wrong) → IsEntry home pair e → EntryIn home rep pair (Err w) → ⊥
+  entry_or_row pair e w v row = ok_no_err e w (entry_in_one home rep pair (Ok e) (Err w) v row)
 
   entries_same : (pairs : Pairs) (a b : List Entry) → AreEntries home pairs a → AreEntries home pairs b → a ≡ b
   entries_same [] [] [] v w = refl
@@ -100,15 +54,15 @@ module _ (home : RevOffset) (rep : Rep) where
       let rest = entries_same pairs a b v.1 w.1 in
       λ i. head i ∷ rest i
 
-  entries_or_row : (pairs : Pairs) (a : List Entry) (w : Wrong) → AreEntries home pairs a → FirstPairRow home rep pairs w → ⊥
+  entries_or_row : (pairs : Pairs) (a : List Entry) (w : Wrong) → AreEntries home pairs a → FirstPairFails home rep pairs w → ⊥
   entries_or_row [] a w v row = row
   entries_or_row (p ∷ pairs) [] w v row = v
   entries_or_row (p ∷ pairs) (e ∷ a) w v (inl row) = entry_or_row p e w v.0 row
   entries_or_row (p ∷ pairs) (e ∷ a) w v (inr later) = entries_or_row pairs a w v.1 later.2
 
-  first_rows_agree : (pairs : Pairs) (v w : Wrong) → FirstPairRow home rep pairs v → FirstPairRow home rep pairs w → v ≡ w
+  first_rows_agree : (pairs : Pairs) (v w : Wrong) → FirstPairFails home rep pairs v → FirstPairFails home rep pairs w → v ≡ w
   first_rows_agree [] v w a b = absurd a
-  first_rows_agree (p ∷ pairs) v w (inl a) (inl b) = pair_rows_agree p v w a b
+  first_rows_agree (p ∷ pairs) v w (inl a) (inl b) = err_same {X = Entry} v w (entry_in_one home rep p (Err v) (Err w) a b)
   first_rows_agree (p ∷ pairs) v w (inl a) (inr b) = absurd (entry_or_row p b.0 v b.1 a)
   first_rows_agree (p ∷ pairs) v w (inr a) (inl b) = absurd (entry_or_row p a.0 w a.1 b)
   first_rows_agree (p ∷ pairs) v w (inr a) (inr b) = first_rows_agree pairs v w a.2 b.2

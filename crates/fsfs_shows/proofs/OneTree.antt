@@ -8,12 +8,12 @@ use Rattle.fsfs_base.specs.declared.node.Kind.TheVariants.{File, Dir}
 use Rattle.fsfs_book.specs.Told.{Look}
 use Rattle.fsfs_noderev.specs.declared.node_id.NodeId.{NodeId}
 use Rattle.fsfs_noderev.specs.declared.node_rev.NodeRev.{NodeRev}
-use Rattle.fsfs_revision.specs.Damages.{place_of}
-use Rattle.fsfs_shows.specs.declared.wrong.Wrong.{Wrong}
+use Rattle.fsfs_damage.specs.Damages.{place_of}
+use Rattle.fsfs_damage.specs.declared.wrong.Wrong.{Wrong}
 use Rattle.fsfs_shows.specs.Reading.{OfId, Met, Stands, Lacking, Blocked, MetAt, StandsAt}
 use Rattle.fsfs_shows.specs.Chains.{own_rev, Chain, First, Breaks, Goes, copy_root_of, IsCopiedIn, contents_rev}
 use Rattle.fsfs_shows.specs.Shown.{IsTextOf, Nearest, source_by, IsOfCopy, IsSource, IsShown, IsShownAs, Shows}
-use Rattle.fsfs_shows.proofs.OneStep.{ok_same}
+use Rattle.fsfs_damage.proofs.OneAnswer.{ok_same}
 use Rattle.fsfs_shows.proofs.OneWalk.{text_one, props_one, of_id_one, met_same, stands_same}
 
 some_same : {A : Type 0} (x y : A) → (let o : Option A = Some x in o) ≡ Some y → x ≡ y

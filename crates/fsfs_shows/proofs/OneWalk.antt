@@ -7,10 +7,11 @@ use Rattle.fsfs_base.specs.declared.node.Kind.TheVariants.{File, Dir}
 use Rattle.fsfs_book.specs.Told.{Look}
 use Rattle.fsfs_noderev.specs.declared.node_id.NodeId.{NodeId}
 use Rattle.fsfs_noderev.specs.declared.node_rev.NodeRev.{NodeRev}
-use Rattle.fsfs_shows.specs.declared.wrong.Wrong.{Wrong}
-use Rattle.fsfs_shows.specs.Readings.{HasOneAnswer}
-use Rattle.fsfs_shows.specs.Reading.{offset_of, NodeAt, RootOf, RepAt, PairsAt, TextOf, PropsOf, OtherThan, HasId, OfId, Entry, OfOtherKind, HasKind, OfEntry, named, EntriesOf, OfNamed, ChildOf, Met, Stands, OrLacking, InDirectory, MetFrom, MetAt, StandsAt}
-use Rattle.fsfs_shows.proofs.OneStep.{ok_ap, err_ap, ok_same, and_then_one, contents_one, same_damage, damage_one, no_damage}
+use Rattle.fsfs_damage.specs.declared.wrong.Wrong.{Wrong}
+use Rattle.fsfs_damage.specs.Readings.{HasOneAnswer}
+use Rattle.fsfs_shows.specs.Reading.{offset_of, NodeAt, RootOf, RepAt, PairsAt, TextOf, PropsOf, HasId, id_checks, OfId, Entry, kind_checks, HasKind, OfEntry, named, EntriesOf, OfNamed, ChildOf, Met, Stands, OrLacking, InDirectory, MetFrom, MetAt, StandsAt}
+use Rattle.fsfs_damage.proofs.OneAnswer.{ok_ap, err_ap, ok_same, and_then_one, judged_one}
+use Rattle.fsfs_shows.proofs.OneStep.{contents_one}
 use Rattle.fsfs_shows.proofs.OneNode.{node_at_one, root_of_one}
 use Rattle.fsfs_shows.proofs.OneRep.{rep_at_one, pairs_at_one}
 use Rattle.fsfs_shows.proofs.OneEntry.{entries_one}
@@ -22,19 +23,13 @@ pub props_one : (look : Look) (v : NodeRev) → HasOneAnswer (PropsOf look v)
 props_one look v = contents_one [] (PairsAt look) (pairs_at_one look) v.props
 
 has_id_one : (id : NodeId) (u : NodeRev) → HasOneAnswer (HasId id u)
-has_id_one id u (Ok v) (Ok w) a b = ok_ap v w (a.0 ∙ sym b.0)
-has_id_one id u (Ok v) (Err e) a b = absurd (no_damage (OtherThan id u) (λ d row. row.2 a.1) e b)
-has_id_one id u (Err e) (Ok v) b a = absurd (no_damage (OtherThan id u) (λ d row. row.2 a.1) e b)
-has_id_one id u (Err e) (Err f) a b = err_ap e f (damage_one (OtherThan id u) (λ d g x y. same_damage d g (x.0 ∙ sym y.0) (x.1 ∙ sym y.1)) e f a b)
+has_id_one id u = judged_one (λ (v : NodeRev). (v ≡ u) × (u.id ≡ id)) (id_checks id u) (λ v w a b. a.0 ∙ sym b.0) (λ v a. (a.1, tt))
 
 pub of_id_one : (look : Look) (id : NodeId) → HasOneAnswer (OfId look id)
 of_id_one look id = and_then_one (NodeAt look (offset_of id.place)) (HasId id) (node_at_one look (offset_of id.place)) (has_id_one id)
 
 has_kind_one : (entry : Entry) (u : NodeRev) → HasOneAnswer (HasKind entry u)
-has_kind_one entry u (Ok v) (Ok w) a b = ok_ap v w (a.0 ∙ sym b.0)
-has_kind_one entry u (Ok v) (Err e) a b = absurd (no_damage (OfOtherKind entry u) (λ d row. row.2 a.1) e b)
-has_kind_one entry u (Err e) (Ok v) b a = absurd (no_damage (OfOtherKind entry u) (λ d row. row.2 a.1) e b)
-has_kind_one entry u (Err e) (Err f) a b = err_ap e f (damage_one (OfOtherKind entry u) (λ d g x y. same_damage d g (x.0 ∙ sym y.0) (x.1 ∙ sym y.1)) e f a b)
+has_kind_one entry u = judged_one (λ (v : NodeRev). (v ≡ u) × (u.kind ≡ entry.kind)) (kind_checks entry u) (λ v w a b. a.0 ∙ sym b.0) (λ v a. (a.1, tt))
 
 pub of_entry_one : (look : Look) (entry : Entry) → HasOneAnswer (OfEntry look entry)
 of_entry_one look entry = and_then_one (OfId look entry.id) (HasKind entry) (of_id_one look entry.id) (has_kind_one entry)

@@ -17,14 +17,14 @@ use Rattle.fsfs_noderev.specs.declared.rep.Contents.TheVariants as contents
 use Rattle.fsfs_noderev.specs.declared.node_rev.CopyRoot.{CopyRoot}
 use Rattle.fsfs_noderev.specs.declared.node_rev.NodeRev.{NodeRev}
 use Rattle.fsfs_revision.specs.Nodes.{place_before, pred_before, rep_place_before, rep_before, source_before, rev_not_after, root_not_after, is_ordered, is_own_place, is_directory}
-use Rattle.fsfs_revision.specs.Damages.{place_of}
-use Rattle.fsfs_revision.specs.declared.damage.RevOffset.{RevOffset}
-use Rattle.fsfs_shows.specs.declared.wrong.Wrong.{Wrong}
+use Rattle.fsfs_damage.specs.Damages.{place_of}
+use Rattle.fsfs_damage.specs.declared.damage.RevOffset.{RevOffset}
+use Rattle.fsfs_damage.specs.declared.wrong.Wrong.{Wrong}
 use Rattle.fsfs_shows.specs.Reading.{offset_of, RootOf, OfId, OfNamed, Pairs, Entry, AreEntries, EntriesAt, EntriesOf, OfContents, named, ChildOf, Met, Stands, Lacking, Blocked, OrLacking, InDirectory, MetFrom, MetAt, StandsAt}
 use Rattle.fsfs_shows.specs.Chains.{own_rev, Chain, First, Breaks, Goes, root_or_own, contents_rev}
 use Rattle.fsfs_shows.specs.Shown.{IsShown, IsShownAs, Shows}
 use Rattle.fsfs_shows.specs.TreeLaw.{IsSound}
-use Rattle.fsfs_shows.proofs.OneStep.{ok_same}
+use Rattle.fsfs_damage.proofs.OneAnswer.{ok_same}
 use Rattle.fsfs_shows.proofs.OneWalk.{met_same}
 
 -- ---- paths above

@@ -5,7 +5,7 @@ use Rattle.fsfs_base.specs.Paths.{Name, Path}
 use Rattle.fsfs_base.specs.declared.node.Kind.TheVariants.{Dir}
 use Rattle.fsfs_book.specs.Told.{Look}
 use Rattle.fsfs_noderev.specs.declared.node_rev.NodeRev.{NodeRev}
-use Rattle.fsfs_shows.specs.declared.wrong.Wrong.{Wrong}
+use Rattle.fsfs_damage.specs.declared.wrong.Wrong.{Wrong}
 use Rattle.fsfs_shows.specs.Reading.{RootOf, ChildOf, MetAt, StandsAt}
 
 -- the root of the revision is not had; or a directory stands above, and its child of the next name is not had

@@ -1,4 +1,3 @@
-pub mod Readings
 pub mod Reading
 pub mod Damaged
 pub mod Chains

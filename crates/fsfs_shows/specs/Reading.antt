@@ -3,14 +3,20 @@
 -- The libsvn_fs_fs structure file has the forms. The order of the checks is this project's profile: of a node-revision its form,
 -- what it names, its id, its kind; of a representation its header, its end, its size, its MD5, its SHA-1, its dump, and then
 -- entry by entry, in byte order of the names, the name, the value and the place. The last entry of a name counts.
-use Rattle.std.specs.Prelude.{◌≡◌, ◌≢◌, ◌⊎◌, ℕ, suc, true, false, List, [], ◌∷◌, ◌++◌, drop, Option, Some, None, Result, Ok, Err, if◌then◌else◌, codes}
+use Rattle.std.specs.Prelude.{◌≡◌, ◌⊎◌, ℕ, suc, true, List, [], ◌∷◌, ◌++◌, drop, Option, Some, None, Result, Ok, Err, if◌then◌else◌, codes}
 use Rattle.std.specs.Str.{IsUtf8}
 use Rattle.fsfs_base.specs.Paths.{Name, Path, same_name}
 use Rattle.fsfs_base.specs.PathTexts.{IsName}
 use Rattle.fsfs_base.specs.declared.node.Kind.{Kind}
 use Rattle.fsfs_base.specs.declared.node.Kind.TheVariants.{File, Dir}
-use Rattle.fsfs_book.specs.declared.book.Refusal.{Refusal}
-use Rattle.fsfs_book.specs.Told.{Look}
+use Rattle.fsfs_damage.specs.declared.damage.RevOffset.{RevOffset}
+use Rattle.fsfs_damage.specs.declared.damage.What.TheVariants as what
+use Rattle.fsfs_damage.specs.declared.damage.RepWhat.TheVariants as repwhat
+use Rattle.fsfs_damage.specs.declared.wrong.Wrong.{Wrong}
+use Rattle.fsfs_damage.specs.Checks.{Check, must, Judged}
+use Rattle.fsfs_damage.specs.Damages.{place_of, damaged}
+use Rattle.fsfs_damage.specs.Readings.{AndThen}
+use Rattle.fsfs_book.specs.Told.{Look, BytesOf}
 use Rattle.fsfs_noderev.specs.Fields.{IsIdText}
 use Rattle.fsfs_noderev.specs.declared.node_id.Place.{Place}
 use Rattle.fsfs_noderev.specs.declared.node_id.Place.TheVariants as places
@@ -20,42 +26,17 @@ use Rattle.fsfs_noderev.specs.declared.rep.Contents.{Contents}
 use Rattle.fsfs_noderev.specs.declared.rep.Contents.TheVariants as contents
 use Rattle.fsfs_noderev.specs.declared.node_rev.NodeRev.{NodeRev}
 use Rattle.fsfs_hash.specs.Dump.{IsDump}
-use Rattle.fsfs_rep.specs.Frames.{rev_of, text_of, IsWhole, IsFaultOf}
-use Rattle.fsfs_rep.specs.Headers.{HasDeltaLine}
-use Rattle.fsfs_rep.specs.declared.rep_fault.RepFault.TheVariants as faults
-use Rattle.fsfs_revision.specs.Damages.{NodeRow, IsRootOf, RootRow, place_of}
-use Rattle.fsfs_revision.specs.Nodes.{IsNodeAt, is_revision_id, place_before}
-use Rattle.fsfs_revision.specs.declared.damage.RevOffset.{RevOffset}
-use Rattle.fsfs_revision.specs.declared.damage.What.TheVariants as what
-use Rattle.fsfs_revision.specs.declared.damage.Damage.{Damage}
-use Rattle.fsfs_shows.specs.declared.wrong.RepWhat.{RepWhat}
-use Rattle.fsfs_shows.specs.declared.wrong.RepWhat.TheVariants as repwhat
-use Rattle.fsfs_shows.specs.declared.wrong.RepDamage.{RepDamage}
-use Rattle.fsfs_shows.specs.declared.wrong.Wrong.{Wrong}
-use Rattle.fsfs_shows.specs.declared.wrong.Wrong.TheVariants as wrongs
-use Rattle.fsfs_shows.specs.Readings.{AndThen, IsDamage, IsRepDamage}
-
--- ---- the bytes of a revision
-
-abbrev pub BytesOf : Look → ℕ → Result (List ℕ) Wrong → Type 0
-BytesOf look rev (Ok bytes) = look rev ≡ Ok bytes
-BytesOf look rev (Err w) = (why : Refusal) × (look rev ≡ Err why) × (w ≡ wrongs.Refused why)
+use Rattle.fsfs_rep.specs.Frames.{rev_of, bad_rep, RepIn}
+use Rattle.fsfs_revision.specs.Damages.{NodeIn, RootIn}
+use Rattle.fsfs_revision.specs.Nodes.{is_revision_id, place_before}
 
 -- ---- a node-revision
 
--- the node-revision at this place, of the bytes from there on
-abbrev pub NodeIn : RevOffset → List ℕ → Result NodeRev Wrong → Type 0
-NodeIn at bytes (Ok v) = IsNodeAt at bytes v
-NodeIn at bytes (Err w) = IsDamage (NodeRow at bytes) w
-
+-- the node-revision at this place
 abbrev pub NodeAt : Look → RevOffset → Result NodeRev Wrong → Type 0
 NodeAt look at = AndThen (BytesOf look at.rev) (λ bytes. NodeIn at (drop at.offset bytes))
 
 -- the root of a revision
-abbrev pub RootIn : ℕ → List ℕ → Result NodeRev Wrong → Type 0
-RootIn rev bytes (Ok v) = IsRootOf rev bytes v
-RootIn rev bytes (Err w) = IsDamage (RootRow rev bytes) w
-
 abbrev pub RootOf : Look → ℕ → Result NodeRev Wrong → Type 0
 RootOf look rev = AndThen (BytesOf look rev) (RootIn rev)
 
@@ -66,29 +47,7 @@ offset_of (places.In txn) = place_of 0 0
 
 -- ---- a representation
 
--- where its header is to begin
-abbrev pub rep_place : Rep → RevOffset
-rep_place rep = place_of (rev_of rep) rep.offset
-
--- what is wrong with a representation, of the bytes of its revision
-abbrev pub RepRow : Rep → List ℕ → RepWhat → Type 0
-RepRow rep bytes repwhat.Header = IsFaultOf rep bytes faults.NoHeader
-RepRow rep bytes repwhat.EndRep = IsFaultOf rep bytes faults.NoTrailer
-RepRow rep bytes (repwhat.Size kept found) = IsFaultOf rep bytes (faults.Size kept found)
-RepRow rep bytes (repwhat.Md5 kept found) = IsFaultOf rep bytes (faults.Md5 kept found)
-RepRow rep bytes (repwhat.Sha1 kept found) = IsFaultOf rep bytes (faults.Sha1 kept found)
-RepRow rep bytes repwhat.Hash = ⊥
-RepRow rep bytes repwhat.BadName = ⊥
-RepRow rep bytes repwhat.EntryValue = ⊥
-
--- its text, of the bytes of its revision
-abbrev pub RepIn : Rep → List ℕ → Result (List ℕ) Wrong → Type 0
-RepIn rep bytes (Ok text) = (text ≡ text_of rep bytes) × IsWhole rep bytes
-RepIn rep bytes (Err (wrongs.Delta at)) = (at ≡ rep_place rep) × HasDeltaLine rep.offset bytes
-RepIn rep bytes (Err (wrongs.BadRep d)) = (d.at ≡ rep_place rep) × RepRow rep bytes d.what
-RepIn rep bytes (Err (wrongs.Damaged d)) = ⊥
-RepIn rep bytes (Err (wrongs.Refused why)) = ⊥
-
+-- its text
 abbrev pub RepAt : Look → Rep → Result (List ℕ) Wrong → Type 0
 RepAt look rep = AndThen (BytesOf look (rev_of rep)) (RepIn rep)
 
@@ -97,13 +56,12 @@ RepAt look rep = AndThen (BytesOf look (rev_of rep)) (RepIn rep)
 abbrev pub Pairs : Type 0
 Pairs = List (List ℕ × List ℕ)
 
-abbrev pub HashRow : Rep → List ℕ → RepDamage → Type 0
-HashRow rep text d = (d.at ≡ rep_place rep) × (d.what ≡ repwhat.Hash) × ((pairs : Pairs) → IsDump text pairs → ⊥)
-
 -- the pairs of a representation's text
+abbrev pub hash_checks : Rep → List ℕ → List Check
+hash_checks rep text = must ((pairs : Pairs) × IsDump text pairs) (bad_rep rep repwhat.Hash) ∷ []
+
 abbrev pub PairsIn : Rep → List ℕ → Result Pairs Wrong → Type 0
-PairsIn rep text (Ok pairs) = IsDump text pairs
-PairsIn rep text (Err w) = IsRepDamage (HashRow rep text) w
+PairsIn rep text = Judged (IsDump text) (hash_checks rep text)
 
 abbrev pub PairsAt : Look → Rep → Result Pairs Wrong → Type 0
 PairsAt look rep = AndThen (RepAt look rep) (PairsIn rep)
@@ -152,26 +110,17 @@ pub record IsEntry (home : RevOffset) (pair : List ℕ × List ℕ) (entry : Ent
   -- what stands in a directory stands before it
   pub before : place_before home entry.id.place ≡ true
 
--- what is wrong with the name or the value of a pair of a directory's dump, in this order
-abbrev pub BadPair : List ℕ × List ℕ → RepWhat → Type 0
-BadPair pair repwhat.BadName = IsEntryName pair.0 → ⊥
-BadPair pair repwhat.EntryValue = IsEntryName pair.0 × ((kind : Kind) (id : NodeId) → IsEntryValue pair.1 kind id → ⊥)
-BadPair pair w = ⊥
+-- what is checked of a pair, in this order: a name or a value is wrong at the representation, a place at the directory's
+-- node-revision
+abbrev pub pair_checks : RevOffset → Rep → List ℕ × List ℕ → List Check
+pair_checks home rep pair =
+    must (IsEntryName pair.0) (bad_rep rep repwhat.BadName)
+    ∷ must ((kind : Kind) × (id : NodeId) × IsEntryValue pair.1 kind id) (bad_rep rep repwhat.EntryValue)
+    ∷ must ((entry : Entry) × IsEntry home pair entry) (damaged home what.PlaceOrder)
+    ∷ []
 
--- what stands in a directory isn't before it
-pub record IsMisplaced (home : RevOffset) (pair : List ℕ × List ℕ) : Type 0 where
-  pub kind : Kind
-  pub id : NodeId
-  pub name_is : IsEntryName pair.0
-  pub value_is : IsEntryValue pair.1 kind id
-  pub not_before : place_before home id.place ≡ false
-
--- the row of a pair: a name or a value at the representation, a place at the directory's node-revision
-abbrev pub PairRow : RevOffset → Rep → List ℕ × List ℕ → Wrong → Type 0
-PairRow home rep pair (wrongs.BadRep d) = (d.at ≡ rep_place rep) × BadPair pair d.what
-PairRow home rep pair (wrongs.Damaged d) = (d.at ≡ home) × (d.what ≡ what.PlaceOrder) × IsMisplaced home pair
-PairRow home rep pair (wrongs.Refused why) = ⊥
-PairRow home rep pair (wrongs.Delta at) = ⊥
+abbrev pub EntryIn : RevOffset → Rep → List ℕ × List ℕ → Result Entry Wrong → Type 0
+EntryIn home rep pair = Judged (IsEntry home pair) (pair_checks home rep pair)
 
 -- the pairs are these entries, one by one
 abbrev pub AreEntries : RevOffset → Pairs → List Entry → Type 0
@@ -180,14 +129,14 @@ AreEntries home [] (entry ∷ entries) = ⊥
 AreEntries home (pair ∷ pairs) [] = ⊥
 AreEntries home (pair ∷ pairs) (entry ∷ entries) = IsEntry home pair entry × AreEntries home pairs entries
 
--- the row of the first pair that is no entry
-abbrev pub FirstPairRow : RevOffset → Rep → Pairs → Wrong → Type 0
-FirstPairRow home rep [] w = ⊥
-FirstPairRow home rep (pair ∷ pairs) w = PairRow home rep pair w ⊎ ((entry : Entry) × IsEntry home pair entry × FirstPairRow home rep pairs w)
+-- what is wrong with the first pair that is no entry
+abbrev pub FirstPairFails : RevOffset → Rep → Pairs → Wrong → Type 0
+FirstPairFails home rep [] w = ⊥
+FirstPairFails home rep (pair ∷ pairs) w = EntryIn home rep pair (Err w) ⊎ ((entry : Entry) × IsEntry home pair entry × FirstPairFails home rep pairs w)
 
 abbrev pub EntriesIn : RevOffset → Rep → Pairs → Result (List Entry) Wrong → Type 0
 EntriesIn home rep pairs (Ok entries) = AreEntries home pairs entries
-EntriesIn home rep pairs (Err w) = FirstPairRow home rep pairs w
+EntriesIn home rep pairs (Err w) = FirstPairFails home rep pairs w
 
 abbrev pub EntriesAt : Look → RevOffset → Rep → Result (List Entry) Wrong → Type 0
 EntriesAt look home rep = AndThen (PairsAt look rep) (EntriesIn home rep)
@@ -198,24 +147,22 @@ EntriesOf look v = OfContents [] (EntriesAt look (offset_of v.id.place)) v.text
 
 -- ---- a node-revision that something names
 
-abbrev pub OtherThan : NodeId → NodeRev → Damage → Type 0
-OtherThan id u d = (d.at ≡ offset_of id.place) × (d.what ≡ what.OtherId) × (u.id ≢ id)
-
 -- it has the id that names it
+abbrev pub id_checks : NodeId → NodeRev → List Check
+id_checks id u = must (u.id ≡ id) (damaged (offset_of id.place) what.OtherId) ∷ []
+
 abbrev pub HasId : NodeId → NodeRev → Result NodeRev Wrong → Type 0
-HasId id u (Ok v) = (v ≡ u) × (u.id ≡ id)
-HasId id u (Err w) = IsDamage (OtherThan id u) w
+HasId id u = Judged (λ v. (v ≡ u) × (u.id ≡ id)) (id_checks id u)
 
 abbrev pub OfId : Look → NodeId → Result NodeRev Wrong → Type 0
 OfId look id = AndThen (NodeAt look (offset_of id.place)) (HasId id)
 
-abbrev pub OfOtherKind : Entry → NodeRev → Damage → Type 0
-OfOtherKind entry u d = (d.at ≡ offset_of entry.id.place) × (d.what ≡ what.EntryKind) × (u.kind ≢ entry.kind)
-
 -- it is a file where the entry says so, and a directory where it says so
+abbrev pub kind_checks : Entry → NodeRev → List Check
+kind_checks entry u = must (u.kind ≡ entry.kind) (damaged (offset_of entry.id.place) what.EntryKind) ∷ []
+
 abbrev pub HasKind : Entry → NodeRev → Result NodeRev Wrong → Type 0
-HasKind entry u (Ok v) = (v ≡ u) × (u.kind ≡ entry.kind)
-HasKind entry u (Err w) = IsDamage (OfOtherKind entry u) w
+HasKind entry u = Judged (λ v. (v ≡ u) × (u.kind ≡ entry.kind)) (kind_checks entry u)
 
 abbrev pub OfEntry : Look → Entry → Result NodeRev Wrong → Type 0
 OfEntry look entry = AndThen (OfId look entry.id) (HasKind entry)

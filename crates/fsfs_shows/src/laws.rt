@@ -4,8 +4,8 @@ ghost use Rattle.fsfs_base.specs.Paths.{Path, Name};
 ghost use Rattle.fsfs_base.specs.Nodes.{TreeFunction};
 ghost use Rattle.fsfs_book.specs.Told.{Look};
 ghost use Rattle.fsfs_noderev.specs.declared.node_rev.NodeRev.{NodeRev};
-ghost use Rattle.fsfs_revision.specs.declared.damage.RevOffset.{RevOffset};
-ghost use Rattle.fsfs_shows.specs.Readings.{HasOneAnswer};
+ghost use Rattle.fsfs_damage.specs.declared.damage.RevOffset.{RevOffset};
+ghost use Rattle.fsfs_damage.specs.Readings.{HasOneAnswer};
 ghost use Rattle.fsfs_shows.specs.Reading.{NodeAt, RootOf, TextOf, PropsOf, EntriesOf, ChildOf, MetAt};
 ghost use Rattle.fsfs_shows.specs.ByTree.{IsReadByTree};
 ghost use Rattle.fsfs_shows.specs.Damaged.{DamageIsFirst};
@@ -14,7 +14,7 @@ ghost use Rattle.fsfs_shows.specs.TreeLaw.{IsSound};
 ghost use Rattle.fsfs_shows.specs.FirstRevision.{first_bytes, first_tree};
 ghost use Rattle.fsfs_shows.specs.FirstDirectory.{directory_bytes, directory_tree};
 ghost use Rattle.fsfs_shows.specs.IdRules.{IdRule};
-ghost use Rattle.fsfs_shows.specs.declared.wrong.Wrong.{Wrong};
+ghost use Rattle.fsfs_damage.specs.declared.wrong.Wrong.{Wrong};
 
 /// Whatever the bytes are, a reading has one answer at most: one value, or one thing that is wrong first, at one place.
 pub fn readings_have_one_answer()

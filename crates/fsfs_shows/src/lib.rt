@@ -7,10 +7,8 @@
 #![tactic(auto)]
 
 mod laws;
-mod wrong;
 
 pub use laws::{
     a_directory_is_shown, damage_is_the_first, one_tree_is_shown, readings_answer_by_the_tree,
     readings_have_one_answer, shown_trees_are_sound, the_first_revision_shows_its_root,
 };
-pub use wrong::{ReadError, RepDamage, RepWhat, Wrong};

@@ -9,7 +9,7 @@ use Rattle.fsfs_base.specs.Revisions.{Revision}
 use Rattle.fsfs_base.specs.declared.node.Kind.{Kind}
 use Rattle.fsfs_base.specs.declared.change_map.Change.{Change}
 use Rattle.fsfs_book.specs.Told.{Look}
-use Rattle.fsfs_book.specs.declared.book.Refusal.{Refusal}
+use Rattle.fsfs_damage.specs.declared.wrong.Refusal.{Refusal}
 use Rattle.fsfs_hash.specs.Dump.{IsDump}
 use Rattle.fsfs_noderev.specs.declared.node_rev.NodeRev.{NodeRev}
 use Rattle.fsfs_layout.specs.Formats.{IsFormat}
@@ -23,7 +23,7 @@ use Rattle.fsfs_changes.specs.declared.item.ChangeItem.{ChangeItem}
 use Rattle.fsfs_changes.proofs.ItemLists.{items_one}
 use Rattle.fsfs_shows.proofs.OneNode.{end_one}
 use Rattle.fsfs_shows.proofs.OneRep.{dump_one}
-use Rattle.fsfs_shows.proofs.OneStep.{ok_same}
+use Rattle.fsfs_damage.proofs.OneAnswer.{ok_same}
 use Rattle.fsfs_shows.proofs.OneWalk.{of_id_one, stands_same}
 use Rattle.fsfs_shows.proofs.OneTree.{one_tree}
 use Rattle.fsfs_fetch.specs.RevBytes.{rev_bytes, props_bytes}

@@ -11,9 +11,9 @@ use Rattle.fsfs_hash.specs.Dump.{put, put_all}
 use Rattle.fsfs_noderev.specs.declared.rep.Contents.{Contents}
 use Rattle.fsfs_noderev.specs.declared.rep.Contents.TheVariants as contents
 use Rattle.fsfs_noderev.specs.declared.node_rev.NodeRev.{NodeRev}
-use Rattle.fsfs_revision.specs.declared.damage.RevOffset.{RevOffset}
+use Rattle.fsfs_damage.specs.declared.damage.RevOffset.{RevOffset}
 use Rattle.fsfs_shows.specs.Reading.{Pairs, Entry, named, AreEntries, OfContents, EntriesAt, EntriesOf, offset_of}
-use Rattle.fsfs_shows.proofs.OneStep.{ok_same}
+use Rattle.fsfs_damage.proofs.OneAnswer.{ok_same}
 
 -- each name is before those behind it
 abbrev pub NamesRise : List Entry → Type 0

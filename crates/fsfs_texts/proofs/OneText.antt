@@ -7,9 +7,9 @@ use Rattle.fsfs_base.specs.declared.node.Kind.TheVariants.{File, Dir}
 use Rattle.fsfs_book.specs.Told.{Look}
 use Rattle.fsfs_model.specs.Answers.{last_name, kind_mark}
 use Rattle.fsfs_noderev.specs.declared.node_rev.NodeRev.{NodeRev}
-use Rattle.fsfs_shows.specs.declared.wrong.Wrong.{Wrong}
+use Rattle.fsfs_damage.specs.declared.wrong.Wrong.{Wrong}
 use Rattle.fsfs_shows.specs.Reading.{Entry, EntriesOf, OfEntry, Met, Stands, Lacking, Blocked}
-use Rattle.fsfs_shows.proofs.OneStep.{ok_same, ok_no_err, err_same}
+use Rattle.fsfs_damage.proofs.OneAnswer.{ok_same, ok_no_err, err_same}
 use Rattle.fsfs_shows.proofs.OneEntry.{entries_one}
 use Rattle.fsfs_shows.proofs.OneWalk.{text_one, of_entry_one, met_at_one}
 use Rattle.fsfs_texts.specs.declared.look_fault.LookFault.TheVariants as faults

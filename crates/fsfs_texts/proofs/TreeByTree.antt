@@ -12,7 +12,7 @@ use Rattle.fsfs_book.specs.Told.{Look}
 use Rattle.fsfs_model.specs.Answers as answers
 use Rattle.fsfs_model.specs.Answers.{Found, found_at, last_name, kind_mark, tree_line, tree_text}
 use Rattle.fsfs_noderev.specs.declared.node_rev.NodeRev.{NodeRev}
-use Rattle.fsfs_shows.specs.declared.wrong.Wrong.{Wrong}
+use Rattle.fsfs_damage.specs.declared.wrong.Wrong.{Wrong}
 use Rattle.fsfs_shows.specs.Reading.{Entry, named, EntriesOf, OfEntry, OfNamed, ChildOf, Met, Stands, Lacking, Blocked, MetFrom, MetAt, StandsAt}
 use Rattle.fsfs_shows.specs.Shown.{Shows}
 use Rattle.fsfs_shows.proofs.ByTree.{by_tree}

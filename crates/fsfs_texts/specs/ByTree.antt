@@ -8,8 +8,8 @@ use Rattle.fsfs_base.specs.Nodes.{Node, Content, Bytes, Closed, TreeFunction}
 use Rattle.fsfs_book.specs.Told.{Look}
 use Rattle.fsfs_model.specs.Answers.{Found, Stands, Lacking, Blocked, found_at, tree_text}
 use Rattle.fsfs_noderev.specs.declared.node_rev.NodeRev.{NodeRev}
-use Rattle.fsfs_revision.specs.Damages.{place_of}
-use Rattle.fsfs_shows.specs.declared.wrong.Wrong.TheVariants as wrongs
+use Rattle.fsfs_damage.specs.Damages.{place_of}
+use Rattle.fsfs_damage.specs.declared.wrong.Wrong.TheVariants as wrongs
 use Rattle.fsfs_shows.specs.Reading.{StandsAt}
 use Rattle.fsfs_shows.specs.Shown.{Shows}
 use Rattle.fsfs_texts.specs.declared.look_fault.LookFault.{LookFault}

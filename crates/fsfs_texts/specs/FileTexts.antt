@@ -5,7 +5,7 @@ use Rattle.fsfs_base.specs.declared.node.Kind.{Kind}
 use Rattle.fsfs_base.specs.declared.node.Kind.TheVariants.{File, Dir}
 use Rattle.fsfs_book.specs.Told.{Look}
 use Rattle.fsfs_noderev.specs.declared.node_rev.NodeRev.{NodeRev}
-use Rattle.fsfs_shows.specs.declared.wrong.Wrong.{Wrong}
+use Rattle.fsfs_damage.specs.declared.wrong.Wrong.{Wrong}
 use Rattle.fsfs_shows.specs.Reading.{TextOf, Met, Stands, Lacking, Blocked}
 use Rattle.fsfs_texts.specs.declared.look_fault.LookFault.TheVariants as faults
 use Rattle.fsfs_texts.specs.Texts.{End, Whole, Refused, Stopped, Nothing, AtPath}

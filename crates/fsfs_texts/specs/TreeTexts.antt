@@ -8,7 +8,7 @@ use Rattle.fsfs_model.specs.Answers.{last_name, kind_mark}
 use Rattle.fsfs_noderev.specs.Fields.{IsIdText}
 use Rattle.fsfs_noderev.specs.declared.node_id.NodeId.{NodeId}
 use Rattle.fsfs_noderev.specs.declared.node_rev.NodeRev.{NodeRev}
-use Rattle.fsfs_shows.specs.declared.wrong.Wrong.{Wrong}
+use Rattle.fsfs_damage.specs.declared.wrong.Wrong.{Wrong}
 use Rattle.fsfs_shows.specs.Reading.{Entry, EntriesOf, OfEntry, Met, Stands, Lacking, Blocked}
 use Rattle.fsfs_texts.specs.declared.look_fault.LookFault.TheVariants as faults
 use Rattle.fsfs_texts.specs.Texts.{End, Whole, Refused, Stopped, Nothing, AtPath}

@@ -1,5 +1,5 @@
 //! Why a look at a revision prints nothing, or no more.
-use fsfs_shows::Wrong;
+use fsfs_damage::Wrong;
 use thiserror::Error;
 
 /// What the bytes of the revisions say against a look.

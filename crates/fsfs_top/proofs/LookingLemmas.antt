@@ -27,7 +27,7 @@ use Rattle.fsfs_top.proofs.LookLemmas.{opened_floor, does_not_open}
 -- ---- an opened repository
 
 -- what was written of a book over the disk is of the files
-pub into_writes : (trace : Option Trace) (look : RevisionLook) (o : Opened) (rev : ℕ) (telling : Telling) (old new : Option (List ℕ)) (r : Result (Unit {0}) LookError)
+pub into_writes : {Below : Type 0} (trace : Option Trace) (look : RevisionLook) (o : Opened) (rev : ℕ) (telling : Telling Below) (old new : Option (List ℕ)) (r : Result (Unit {0}) LookError)
     → IfSome (option_map files_now trace) (λ m. IsOpened (small_texts m) o)
     → ((t : Trace) → trace ≡ Some t → floor_in o.shard_size (files_now t) ≡ Ok o.min_unpacked_rev → HasShortFiles (files_now t) → TellsAll o.youngest o.shard_size (files_now t) telling)
     → rev ≡ looked_revision look o → rev ≤ o.youngest → ((bytes : Look) → Knows telling.revs rev bytes → Writes (TextOf look.printed bytes rev look.path) old new r)

@@ -1,8 +1,8 @@
 use Rattle.std.proofs.Common.{◌≡◌, ℕ, List, Ok, Result}
-use Rattle.fsfs_shows.specs.declared.wrong.Wrong.{Wrong}
+use Rattle.fsfs_damage.specs.declared.wrong.Wrong.{Wrong}
 use Rattle.fsfs_shows.specs.Reading.{PropsOf}
 use Rattle.fsfs_shows.proofs.ByTree.{by_tree}
-use Rattle.fsfs_dag.proofs.Steps.{answers_as}
+use Rattle.fsfs_damage.proofs.Answering.{answers_as}
 use Rattle.fsfs_dag.proofs.contents.props.Goals as goal
 
 pub returns-clause-shown : goal.returns-clause-shown

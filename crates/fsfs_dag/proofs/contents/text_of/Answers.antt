@@ -1,11 +1,11 @@
 use Rattle.std.proofs.Common.{ℕ, List, Result}
 use Rattle.std.specs.declared.vec.Vec.{Vec}
 use Rattle.std.specs.declared.alloc.Global.{Global}
-use Rattle.fsfs_shows.specs.declared.wrong.Wrong.{Wrong}
+use Rattle.fsfs_damage.specs.declared.wrong.Wrong.{Wrong}
 use Rattle.fsfs_shows.specs.Reading.{TextOf}
 use Rattle.fsfs_shows.specs.ByTree.{IsTextByTree}
 use Rattle.fsfs_shows.proofs.ByTree.{by_tree}
-use Rattle.fsfs_dag.proofs.Steps.{answers_as}
+use Rattle.fsfs_damage.proofs.Answering.{answers_as}
 use Rattle.fsfs_dag.proofs.contents.text_of.Goals as goal
 
 pub returns-clause-shown : goal.returns-clause-shown

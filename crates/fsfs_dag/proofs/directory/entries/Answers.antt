@@ -1,7 +1,7 @@
 use Rattle.fsfs_shows.specs.Reading.{EntriesOf}
 use Rattle.fsfs_shows.specs.ByTree.{AreEntriesByTree}
 use Rattle.fsfs_shows.proofs.ByTree.{by_tree}
-use Rattle.fsfs_dag.proofs.Steps.{answers_as}
+use Rattle.fsfs_damage.proofs.Answering.{answers_as}
 use Rattle.fsfs_dag.proofs.PairLemmas.{entries_seen}
 use Rattle.fsfs_dag.proofs.directory.entries.Goals as goal
 

@@ -4,9 +4,9 @@ use Rattle.std.specs.declared.alloc.Global.{Global}
 use Rattle.std.specs.Map.Iter.{deref_pair}
 use Rattle.std.proofs.lemmas.Map.Iter.{rest_more, rest_all}
 use Rattle.std.proofs.lemmas.Result.{err_from_is_err_and}
-use Rattle.fsfs_shows.specs.Readings.{Answers}
-use Rattle.fsfs_shows.specs.Reading.{IsEntry}
-use Rattle.fsfs_dag.specs.Views.{entry_value, EntryIn}
+use Rattle.fsfs_damage.specs.Readings.{Answers}
+use Rattle.fsfs_shows.specs.Reading.{IsEntry, EntryIn}
+use Rattle.fsfs_dag.specs.Views.{entry_value}
 use Rattle.fsfs_dag.proofs.PairLemmas.{Pair, pair_of, none_so_far, one_more, first_wrong, all_found, pushed}
 use Rattle.fsfs_dag.proofs.directory.entries_of.Goals as goal
 

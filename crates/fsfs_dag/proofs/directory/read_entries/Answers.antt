@@ -1,11 +1,11 @@
 use Rattle.std.proofs.Common.{[], List, Err, ap, subst}
 use Rattle.std.proofs.lemmas.Result.{err_from_is_err_and}
-use Rattle.fsfs_revision.specs.declared.damage.RevOffset.{RevOffset}
-use Rattle.fsfs_shows.specs.Readings.{Answers}
+use Rattle.fsfs_damage.specs.declared.damage.RevOffset.{RevOffset}
+use Rattle.fsfs_damage.specs.Readings.{Answers}
 use Rattle.fsfs_shows.specs.Reading.{PairsAt, EntriesIn, EntriesAt}
 use Rattle.fsfs_dag.specs.declared.directory.Entry.{Entry}
 use Rattle.fsfs_dag.specs.Views.{home_of, entry_values}
-use Rattle.fsfs_dag.proofs.Steps.{stops, goes_on}
+use Rattle.fsfs_damage.proofs.Answering.{stops, goes_on}
 use Rattle.fsfs_dag.proofs.PairLemmas.{Pair, entries_seen}
 use Rattle.fsfs_dag.proofs.Reps.{rep_le, contents_some, contents_none}
 use Rattle.fsfs_dag.proofs.directory.read_entries.Goals as goal

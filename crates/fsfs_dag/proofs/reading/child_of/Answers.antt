@@ -2,7 +2,7 @@ use Rattle.std.proofs.lemmas.Result.{err_from_is_err_and}
 use Rattle.fsfs_shows.specs.Reading.{OfId, HasKind}
 use Rattle.fsfs_dag.specs.declared.node.PlacedNode.{PlacedNode}
 use Rattle.fsfs_dag.specs.Views.{entry_value}
-use Rattle.fsfs_dag.proofs.Steps.{stops, goes_on}
+use Rattle.fsfs_damage.proofs.Answering.{stops, goes_on}
 use Rattle.fsfs_dag.proofs.reading.child_of.Goals as goal
 
 pub returns-in_err-child-clause-told : goal.returns-in_err-child-clause-told

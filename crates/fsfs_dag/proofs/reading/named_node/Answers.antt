@@ -2,12 +2,12 @@ use Rattle.std.proofs.Common.{Err, Ok, arith}
 use Rattle.std.proofs.lemmas.Result.{err_from_is_err_and}
 use Rattle.fsfs_book.specs.Told.{Look}
 use Rattle.fsfs_noderev.specs.declared.node_rev.NodeRev.{NodeRev}
-use Rattle.fsfs_revision.specs.declared.damage.RevOffset.{RevOffset}
-use Rattle.fsfs_shows.specs.Readings.{Answers}
+use Rattle.fsfs_damage.specs.declared.damage.RevOffset.{RevOffset}
+use Rattle.fsfs_damage.specs.Readings.{Answers}
 use Rattle.fsfs_shows.specs.Reading.{NodeAt, HasId, offset_of}
-use Rattle.fsfs_dag.specs.Told.{IsTold}
+use Rattle.fsfs_book.specs.Told.{IsTold}
 use Rattle.fsfs_dag.specs.declared.node.PlacedNode.{PlacedNode}
-use Rattle.fsfs_dag.proofs.Steps.{stops, goes_on, err_as}
+use Rattle.fsfs_damage.proofs.Answering.{stops, goes_on, err_as}
 use Rattle.fsfs_dag.proofs.Windows.{along}
 use Rattle.fsfs_dag.proofs.reading.named_node.Goals as goal
 

@@ -1,9 +1,9 @@
 use Rattle.std.proofs.Common.{ℕ, [], Result, Ok, Err, refl, inl}
 use Rattle.fsfs_base.specs.Nodes.{TreeFunction}
 use Rattle.fsfs_book.specs.Told.{Look}
-use Rattle.fsfs_shows.specs.declared.wrong.ReadError.{ReadError}
-use Rattle.fsfs_shows.specs.declared.wrong.ReadError.TheVariants as errors
-use Rattle.fsfs_shows.specs.Readings.{Answers}
+use Rattle.fsfs_damage.specs.declared.wrong.ReadError.{ReadError}
+use Rattle.fsfs_damage.specs.declared.wrong.ReadError.TheVariants as errors
+use Rattle.fsfs_damage.specs.Readings.{Answers}
 use Rattle.fsfs_shows.specs.Reading.{RootOf, Stands}
 use Rattle.fsfs_shows.specs.Shown.{Shows}
 use Rattle.fsfs_shows.specs.ByTree.{IsMetByTree}

@@ -1,10 +1,11 @@
-use Rattle.std.proofs.Common.{refl, sym, ◌∙◌, Err, subst, ap}
+use Rattle.std.proofs.Common.{refl, sym, ◌∙◌, Err, subst, ap, inl}
+use Rattle.fsfs_damage.specs.declared.damage.RevOffset.{RevOffset}
+use Rattle.fsfs_damage.specs.declared.damage.What.TheVariants.{OtherId}
+use Rattle.fsfs_damage.specs.declared.wrong.ReadError.{ReadError}
+use Rattle.fsfs_damage.specs.declared.wrong.ReadError.TheVariants.{Wrong}
+use Rattle.fsfs_damage.specs.Damages.{damaged}
+use Rattle.fsfs_damage.specs.Readings.{Answers}
 use Rattle.fsfs_noderev.specs.declared.node_rev.NodeRev.{NodeRev}
-use Rattle.fsfs_revision.specs.declared.damage.RevOffset.{RevOffset}
-use Rattle.fsfs_revision.specs.declared.damage.What.TheVariants.{OtherId}
-use Rattle.fsfs_revision.specs.declared.damage.RevisionError.TheVariants.{Damaged}
-use Rattle.fsfs_shows.specs.declared.wrong.ReadError.{ReadError}
-use Rattle.fsfs_shows.specs.Readings.{Answers, of_revision}
 use Rattle.fsfs_shows.specs.Reading.{HasId}
 use Rattle.fsfs_dag.proofs.IdLemmas.{id_true, id_false}
 use Rattle.fsfs_dag.proofs.reading.with_id.Goals as goal
@@ -14,5 +15,5 @@ returns-then-same_id-clause-told c = (refl, id_true c.args.node.id c.args.id (sy
 
 pub returns-else-same_id-clause-told : goal.returns-else-same_id-clause-told
 returns-else-same_id-clause-told c =
-    let is = c.damaged.ensures ∙ ap (λ (a : RevOffset). of_revision (Damaged (record { at = a; what = OtherId }))) c.offset_of.ensures in
-    subst (λ (e : ReadError). Answers (λ (v : NodeRev). v) (HasId c.args.id c.args.node) (Err e)) (sym is) (refl, refl, id_false c.args.node.id c.args.id (sym c.same_id.ensures ∙ c.if-same_id.false))
+    let is = c.damaged.ensures ∙ ap (λ (a : RevOffset). Wrong (damaged a OtherId)) c.offset_of.ensures in
+    subst (λ (e : ReadError). Answers (λ (v : NodeRev). v) (HasId c.args.id c.args.node) (Err e)) (sym is) (inl (id_false c.args.node.id c.args.id (sym c.same_id.ensures ∙ c.if-same_id.false), refl))

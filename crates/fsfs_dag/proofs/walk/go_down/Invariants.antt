@@ -1,7 +1,7 @@
 use Rattle.std.proofs.Common.{◌≡◌, ◌≤◌, drop, map, Result}
 use Rattle.std.specs.String.{string_bytes}
 use Rattle.fsfs_book.specs.Told.{Look, Knows, Keeps}
-use Rattle.fsfs_shows.specs.declared.wrong.Wrong.{Wrong}
+use Rattle.fsfs_damage.specs.declared.wrong.Wrong.{Wrong}
 use Rattle.fsfs_shows.specs.Reading.{MetFrom, MetAt, Met}
 use Rattle.fsfs_dag.specs.Views.{home_of}
 use Rattle.fsfs_dag.proofs.walk.go_down.Given as goal

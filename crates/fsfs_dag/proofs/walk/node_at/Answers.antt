@@ -2,7 +2,7 @@ use Rattle.fsfs_shows.specs.Reading.{MetAt}
 use Rattle.fsfs_shows.specs.ByTree.{IsMetByTree}
 use Rattle.fsfs_shows.proofs.ByTree.{by_tree}
 use Rattle.fsfs_dag.specs.Views.{met_value}
-use Rattle.fsfs_dag.proofs.Steps.{answers_as}
+use Rattle.fsfs_damage.proofs.Answering.{answers_as}
 use Rattle.fsfs_dag.proofs.walk.node_at.Goals as goal
 
 pub returns-clause-shown : goal.returns-clause-shown

@@ -1,7 +1,7 @@
 use Rattle.std.proofs.Common.{◌≡◌, ap, ◌∙◌}
 use Rattle.std.specs.Prelude.{Some}
 use Rattle.fsfs_disk.specs.Trace.{files_now}
-use Rattle.fsfs_fetch.specs.Owned.{below_of}
+use Rattle.fsfs_fetch.specs.Owned.{state_of}
 use Rattle.fsfs_fetch.proofs.OwnedLemmas.{owned_files, owned_floor, owned_tells}
 use Rattle.fsfs_fetch.proofs.direct.over_disk.Goals as goal
 
@@ -10,11 +10,11 @@ returns-clause-told g c = λ t told is short.
     let trace = g.D.Disk.trace c.new.result.disk in
     let path = g.D.Disk.mount_path c.new.result.disk in
     let there : trace ≡ Some t = ap g.D.Disk.trace c.new.ensures.disk ∙ told in
-    owned_tells (below_of trace path) c.new.result.youngest c.new.result.shard_size c.args.youngest c.args.shard_size (files_now t) _ c.new.ensures.youngest c.new.ensures.shard_size
+    owned_tells (state_of trace path) c.new.result.youngest c.new.result.shard_size c.args.youngest c.args.shard_size (files_now t) _ c.new.ensures.youngest c.new.ensures.shard_size
     (c.new-2.ensures.told (files_now t) (owned_files trace path c.new.result.youngest c.new.result.shard_size t there) (owned_floor c.new.result.shard_size c.args.shard_size c.args.floor (files_now t) c.new.ensures.shard_size is) short)
 
 pub returns-clause-below : goal.returns-clause-below
-returns-clause-below g c = c.new-2.ensures.below ∙ ap (λ d. Some (below_of (g.D.Disk.trace d) (g.D.Disk.mount_path d))) c.new.ensures.disk
+returns-clause-below g c = c.new-2.ensures.below ∙ ap (λ d. Some (state_of (g.D.Disk.trace d) (g.D.Disk.mount_path d))) c.new.ensures.disk
 
 pub returns-clause-faults : goal.returns-clause-faults
 returns-clause-faults g c = ap (λ r. g.D.Disk.faults r.disk) c.new-2.ensures.reads ∙ ap g.D.Disk.faults c.new.ensures.disk

@@ -4,7 +4,8 @@ use Rattle.std.proofs.lemmas.Result.{err_from_is_err_and}
 use Rattle.fsfs_disk.specs.Streams.{Adds}
 use Rattle.fsfs_disk.proofs.StreamLemmas.{adds_then}
 use Rattle.fsfs_rep.specs.Frames.{text_of, rev_of}
-use Rattle.fsfs_rep.proofs.WholeLemmas.{keeps_trans, bytes_more}
+use Rattle.fsfs_book.proofs.Keeping.{keeps_trans}
+use Rattle.fsfs_rep.proofs.WholeLemmas.{bytes_more}
 use Rattle.fsfs_look.proofs.FileLemmas.{whole_fails, front_of, front_more}
 use Rattle.fsfs_look.proofs.file.write_rep.Goals as goal
 
@@ -13,8 +14,8 @@ returns-in-Err-clause-told g c = λ bytes e whole.
     let inv = c.pieces.invariant in
     let rep = c.args.rep.now in
     let fault = c.in-Err.ensures.told bytes (inv.kept.revs (rev_of rep) (Ok bytes) e) whole in
-    rw c.of_fault.ensures
-    (whole_fails rep bytes whole (g.S.Sink.written c.args.sink.now) (g.S.Sink.written c.pieces.sink) c.in-Err.fault fault
+    rw c.from.ensures
+    (whole_fails rep bytes whole (g.S.Sink.written c.args.sink.now) (g.S.Sink.written c.pieces.sink) c.in-Err.error fault
     (front_of (text_of rep bytes) c.pieces.done (g.S.Sink.written c.args.sink.now) (g.S.Sink.written c.pieces.sink) (inv.read bytes e whole)))
 
 pub returns-in_err-write_piece-clause-told : goal.returns-in_err-write_piece-clause-told

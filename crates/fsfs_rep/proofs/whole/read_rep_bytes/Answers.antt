@@ -3,7 +3,8 @@ use Rattle.fsfs_noderev.specs.declared.rep.Rep.{Rep}
 use Rattle.std.proofs.lemmas.Result.{err_from_is_err_and}
 use Rattle.std.proofs.lemmas.List.{take_all, length-take}
 use Rattle.fsfs_rep.specs.Frames.{text_of}
-use Rattle.fsfs_rep.proofs.WholeLemmas.{keeps_trans, told_later, fault_for, whole_for, values_for, bytes_more}
+use Rattle.fsfs_book.proofs.Keeping.{keeps_trans}
+use Rattle.fsfs_rep.proofs.WholeLemmas.{told_later, fault_for, whole_for, about_for, bytes_more}
 use Rattle.fsfs_rep.proofs.whole.read_rep_bytes.Goals as goal
 
 pub returns-in_err-count-clause-bytes : goal.returns-in_err-count-clause-bytes
@@ -55,12 +56,12 @@ returns-clause-bytes g c = λ bytes e.
 pub returns-clause-kept : goal.returns-clause-kept
 returns-clause-kept g c = keeps_trans _ _ _ c.pieces.invariant.kept c.in_ok-finish.ensures.kept
 
-pub returns-in_err-count-clause-values : goal.returns-in_err-count-clause-values
-returns-in_err-count-clause-values g c =
+pub returns-in_err-count-clause-about : goal.returns-in_err-count-clause-about
+returns-in_err-count-clause-about g c =
     let p = err_from_is_err_and c.from_residual-in_err-count.result c.from_residual-in_err-count.ensures.1 in
-    rw (p.1, p.2) (values_for _ _ _ c.pieces.invariant.rep c.in_err-count.ensures.values)
+    rw (p.1, p.2) (about_for _ _ _ c.pieces.invariant.rep c.in_err-count.ensures.about)
 
-pub returns-in_err-finish-clause-values : goal.returns-in_err-finish-clause-values
-returns-in_err-finish-clause-values g c =
+pub returns-in_err-finish-clause-about : goal.returns-in_err-finish-clause-about
+returns-in_err-finish-clause-about g c =
     let p = err_from_is_err_and c.from_residual-in_err-finish.result c.from_residual-in_err-finish.ensures.1 in
-    rw (p.1, p.2) (values_for _ _ _ c.pieces.invariant.rep c.in_err-finish.ensures.values)
+    rw (p.1, p.2) (about_for _ _ _ c.pieces.invariant.rep c.in_err-finish.ensures.about)

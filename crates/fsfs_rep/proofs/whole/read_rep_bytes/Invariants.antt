@@ -1,5 +1,5 @@
 use Rattle.std.proofs.Common.{◌≡◌, ◌≤◌, ◌-◌, ℕ, List, Some, Ok, Err, take}
-use Rattle.fsfs_book.specs.declared.book.Refusal.{Refusal}
+use Rattle.fsfs_damage.specs.declared.wrong.Refusal.{Refusal}
 use Rattle.fsfs_book.specs.Told.{Keeps}
 use Rattle.fsfs_rep.specs.Frames.{rev_of, text_of}
 use Rattle.fsfs_rep.specs.Reading.{IsReading}

@@ -1,7 +1,8 @@
-use Rattle.std.proofs.Common.{◌≡◌, ℕ, ◌+◌, ◌<◌, ◌≤◌, List, length, take, drop, sym, subst, ◌∙◌, arith}
+use Rattle.std.proofs.Common.{◌≡◌, ℕ, ◌+◌, ◌<◌, ◌≤◌, List, length, take, drop, refl, sym, subst, ◌∙◌, arith}
 use Rattle.std.proofs.lemmas.List.{length-take}
 use Rattle.std.proofs.lemmas.Result.{err_from_is_err_and}
 use Rattle.fsfs_rep.specs.Seen.{HasSeen}
+use Rattle.fsfs_rep.proofs.FaultLemmas.{none_wrong, end_fault, about_rev, about_wrong}
 use Rattle.fsfs_rep.proofs.ReadingLemmas.{at_rev, text_ends, piece_within, piece_adds, piece_read}
 use Rattle.fsfs_rep.proofs.rep_reader.RepReader.next.Goals as goal
 
@@ -9,7 +10,7 @@ pub returns-in_err-count-clause-bytes : goal.returns-in_err-count-clause-bytes
 returns-in_err-count-clause-bytes g c = λ bytes e reading.
     let p = err_from_is_err_and c.from_residual.result c.from_residual.ensures.1 in
     let told = at_rev (g.B.Book.told c.args.book.now).revs c.args.self.now.rep.rev _ _ c.in-Some.is e in
-    rw (p.1, p.2) (c.in_err-count.ensures.bytes bytes told c.args.self.now.rep)
+    rw (p.1, p.2) (none_wrong _ _ (c.in_err-count.ensures.bytes bytes told))
 
 pub returns-in_err-count-clause-refused : goal.returns-in_err-count-clause-refused
 returns-in_err-count-clause-refused g c = λ why e.
@@ -26,10 +27,10 @@ returns-then-count-want-clause-bytes g c = λ bytes e reading.
     let at : c.position.result ≡ rep.offset + 6 + c.args.self.now.done = c.position.ensures (omega (arith, short, reading.within)) in
     let room : length (take want c.args.buffer.now) ≡ want = omega (arith, length-take want c.args.buffer.now, c.fitting-want.ensures) in
     let window = subst (λ (n : ℕ). take c.in_ok-count.count c.window.new.buffer ≡ take n (drop c.position.result bytes)) room (c.in_ok-count.ensures.bytes bytes told) in
-    (reading.header, text_ends rep.offset rep.length c.args.self.now.done c.position.result c.in_ok-count.count want c.window.new.buffer bytes c.in_ok-count.ensures.bound window c.if-count-want.true at (omega (arith, c.fitting-want.ensures, c.args.self.now.bounded)))
+    end_fault rep bytes _ c.bad_rep.ensures reading.header (text_ends rep.offset rep.length c.args.self.now.done c.position.result c.in_ok-count.count want c.window.new.buffer bytes c.in_ok-count.ensures.bound window c.if-count-want.true at (omega (arith, c.fitting-want.ensures, c.args.self.now.bounded)))
 
 pub returns-then-count-want-clause-refused : goal.returns-then-count-want-clause-refused
-returns-then-count-want-clause-refused g c = λ why e. c.in_ok-count.ensures.refused why (at_rev (g.B.Book.told c.args.book.now).revs c.args.self.now.rep.rev _ _ c.in-Some.is e)
+returns-then-count-want-clause-refused g c = λ why e. absurd (c.in_ok-count.ensures.refused why (at_rev (g.B.Book.told c.args.book.now).revs c.args.self.now.rep.rev _ _ c.in-Some.is e))
 
 pub returns-clause-bytes : goal.returns-clause-bytes
 returns-clause-bytes g c = λ bytes e reading.
@@ -57,7 +58,10 @@ returns-clause-bytes g c = λ bytes e reading.
       piece_read rep.offset rep.length done c.position.result count want piece bytes whole bound window enough at (drop want c.args.buffer.now) fits,
     )
 
-pub returns-in_err-count-clause-values : goal.returns-in_err-count-clause-values
-returns-in_err-count-clause-values g c =
+pub returns-in_err-count-clause-about : goal.returns-in_err-count-clause-about
+returns-in_err-count-clause-about g c =
     let p = err_from_is_err_and c.from_residual.result c.from_residual.ensures.1 in
-    rw (p.1, p.2) (c.in_err-count.ensures.values c.args.self.now.rep)
+    rw (p.1, p.2) (about_rev c.args.self.now.rep _ _ c.in-Some.is c.in_err-count.ensures.names)
+
+pub returns-then-count-want-clause-about : goal.returns-then-count-want-clause-about
+returns-then-count-want-clause-about g c = about_wrong c.args.self.now.rep _ _ c.bad_rep.ensures (refl, tt)

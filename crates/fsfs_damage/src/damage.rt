@@ -1,10 +1,41 @@
-// What is damaged in the bytes of a revision.
+//! Damage in the bytes of a revision.
+use fsfs_base::HexDigest;
 
 /// A place in the bytes of a revision.
 #[derive(Clone, Copy, Debug, PartialEq, Eq)]
 pub struct RevOffset {
     pub rev: u32,
     pub offset: u64,
+}
+
+/// What is wrong with a representation.
+#[derive(Clone, Copy, Debug, PartialEq, Eq)]
+pub enum RepWhat {
+    /// The line `PLAIN` isn't there, nor a delta's.
+    Header,
+    /// The line `ENDREP` doesn't follow behind so many bytes.
+    EndRep,
+    /// The size is not 0, and another than the length.
+    Size {
+        kept: u64,
+        found: u64,
+    },
+    /// The MD5 of the bytes is another.
+    Md5 {
+        kept: HexDigest<16>,
+        found: HexDigest<16>,
+    },
+    /// The SHA-1 of the bytes is another.
+    Sha1 {
+        kept: HexDigest<20>,
+        found: HexDigest<20>,
+    },
+    /// The bytes of a directory or a property list are no dump.
+    Hash,
+    /// An entry of a directory has a name that no path has.
+    BadName,
+    /// What an entry says is not `file` or `dir` and the id of a node-revision in a revision.
+    EntryValue,
 }
 
 /// What is wrong with the bytes of a revision.
@@ -20,8 +51,8 @@ pub enum What {
     OtherId,
     /// The node-revision there is a file where a directory is wanted, or the other way round.
     EntryKind,
-    /// No representation begins there.
-    Header,
+    /// The representation whose header is to begin there is damaged.
+    Rep(RepWhat),
     /// The file isn't there; the offset is 0.
     Missing,
 }
@@ -31,11 +62,4 @@ pub enum What {
 pub struct Damage {
     pub at: RevOffset,
     pub what: What,
-}
-
-/// Why a part of a revision was not read.
-#[derive(Clone, Copy, Debug, PartialEq, Eq)]
-pub enum RevisionError {
-    OutOfMemory,
-    Damaged(Damage),
 }

@@ -1,0 +1,16 @@
+//! Where node-revisions stand.
+ghost use Rattle.std.specs.Prelude.{◌≡◌};
+ghost use Rattle.fsfs_shows.specs.Reading.{offset_of};
+
+use fsfs_damage::RevOffset;
+use fsfs_noderev::Place;
+
+/// Where a node-revision stands by the place of its id.
+pub(crate) fn offset_of(place: Place) -> RevOffset
+    ensures { result ≡ offset_of place }
+{
+    match place {
+        Place::At(rev, offset) => RevOffset { rev, offset },
+        Place::In(_) => RevOffset { rev: 0, offset: 0 },
+    }
+}

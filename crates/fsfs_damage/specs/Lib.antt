@@ -1,0 +1,4 @@
+pub mod Damages
+pub mod Readings
+pub mod Checks
+pub mod Causes
