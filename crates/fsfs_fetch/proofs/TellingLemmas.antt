@@ -11,8 +11,8 @@ use Rattle.fsfs_book.specs.declared.book.BookFault.{BookFault}
 use Rattle.fsfs_book.specs.declared.book.BookFault.TheVariants.{Refused}
 use Rattle.fsfs_book.specs.Told.{Keeps, Gives}
 use Rattle.fsfs_fetch.specs.declared.manifests.KeptManifest.{KeptManifest}
-use Rattle.fsfs_fetch.specs.declared.packs.Section.{Section}
-use Rattle.fsfs_fetch.specs.RevBytes.{rev_bytes, rev_file, props_bytes, or_missing, by_floor, floor_in, packed_bytes, packed_section, pack_in, cut, cut_from}
+use Rattle.fsfs_rev_file.specs.declared.section.Section.{Section}
+use Rattle.fsfs_rev_file.specs.RevBytes.{rev_bytes, rev_file, props_bytes, or_missing, by_floor, floor_in, packed_bytes, packed_section, pack_in, cut, cut_from}
 use Rattle.fsfs_fetch.specs.Views.{Reach, Ends, Grows, IsKnown, IsYoungest, Extends, View, Later}
 use Rattle.fsfs_fetch.specs.Kept.{HasShortFiles, TellsFiles, telling, within, revs_in, props_in, is_short, is_right, last_of, IsFoundAt, FindsAsWell}
 use Rattle.fsfs_fetch.proofs.ViewLemmas.{next, known_later, some_files}

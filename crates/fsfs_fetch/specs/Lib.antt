@@ -1,4 +1,3 @@
-pub mod RevBytes
 pub mod Views
 pub mod Owned
 pub mod Kept

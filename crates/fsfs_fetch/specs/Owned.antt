@@ -3,7 +3,7 @@ use Rattle.std.specs.Prelude.{◌≡◌, ℕ, List, Option, Some, option_map}
 use Rattle.fsfs_base.specs.Files.{Files}
 use Rattle.fsfs_disk.specs.Trace.{Trace, files_now}
 use Rattle.fsfs_book.specs.Told.{Telling, Knows, Below}
-use Rattle.fsfs_fetch.specs.RevBytes.{rev_bytes, props_bytes}
+use Rattle.fsfs_rev_file.specs.RevBytes.{rev_bytes, props_bytes}
 use Rattle.fsfs_fetch.specs.Views.{View, Ends}
 
 abbrev pub owned_view : Below → ℕ → ℕ → View

@@ -3,7 +3,7 @@ ghost use Rattle.std.specs.Prelude.{◌≡◌, ◌≤◌, ◌<◌, ℕ, List, Ok
 ghost use Rattle.fsfs_text.specs.Reading.{Gives as GivesOrLeft};
 ghost use Rattle.fsfs_layout.specs.Reading.{rev_line_at};
 ghost use Rattle.fsfs_book.specs.Told.{HasCause, Gives, IsAbout};
-ghost use Rattle.fsfs_fetch.specs.RevBytes.{floor_of, floor_in};
+ghost use Rattle.fsfs_rev_file.specs.RevBytes.{floor_of, floor_in};
 ghost use Rattle.fsfs_fetch.specs.Views.{Later};
 ghost use Rattle.fsfs_fetch.specs.Answers.{refused};
 

@@ -26,7 +26,7 @@ use Rattle.fsfs_shows.proofs.OneRep.{dump_one}
 use Rattle.fsfs_shows.proofs.OneStep.{ok_same}
 use Rattle.fsfs_shows.proofs.OneWalk.{of_id_one, stands_same}
 use Rattle.fsfs_shows.proofs.OneTree.{one_tree}
-use Rattle.fsfs_fetch.specs.RevBytes.{rev_bytes, props_bytes}
+use Rattle.fsfs_rev_file.specs.RevBytes.{rev_bytes, props_bytes}
 use Rattle.fsfs_stands.specs.Changes.{HasItems, IsKindOf, Said, Named, There, NotThere, IsChangeOf, AreChangesOf}
 use Rattle.fsfs_stands.specs.History.{ShowsRevision, ShowsHistory}
 use Rattle.fsfs_stands.specs.Files.{Says}

@@ -9,7 +9,7 @@ use Rattle.fsfs_base.specs.Revisions.{Revision}
 use Rattle.fsfs_layout.specs.Formats.{IsFormat}
 use Rattle.fsfs_layout.specs.Small.{IsUuid, IsRevLine, IsMinUnpackedRev, IsBase36Line}
 use Rattle.fsfs_layout.specs.declared.format_file.Format.TheVariants.{Sharded}
-use Rattle.fsfs_fetch.specs.RevBytes.{rev_bytes, props_bytes}
+use Rattle.fsfs_rev_file.specs.RevBytes.{rev_bytes, props_bytes}
 use Rattle.fsfs_stands.specs.History.{ShowsHistory}
 
 -- a file has a text of this grammar, which says this value

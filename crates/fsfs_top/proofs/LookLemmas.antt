@@ -13,8 +13,8 @@ use Rattle.fsfs_disk.specs.Trace.{Trace, files_now}
 use Rattle.fsfs_faults.specs.Faults.{fault_from_open, fault_from_look}
 use Rattle.fsfs_faults.specs.declared.fault.Fault.{Fault}
 use Rattle.fsfs_faults.specs.declared.fault.Fault.TheVariants.{NoRev}
-use Rattle.fsfs_fetch.specs.RevBytes.{floor_of, floor_in, text_in, rev_bytes}
-use Rattle.fsfs_fetch.proofs.FloorLemmas.{floor_ok}
+use Rattle.fsfs_rev_file.specs.RevBytes.{floor_of, floor_in, text_in, rev_bytes}
+use Rattle.fsfs_rev_file.proofs.FloorLemmas.{floor_ok}
 use Rattle.fsfs_layout.specs.Small.{IsRevLine}
 use Rattle.fsfs_layout.specs.Formats.{IsFormat}
 use Rattle.fsfs_layout.specs.declared.format_file.Format.{Format}

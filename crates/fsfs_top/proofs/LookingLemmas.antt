@@ -10,7 +10,7 @@ use Rattle.fsfs_faults.specs.Faults.{fault_from_open}
 use Rattle.fsfs_faults.specs.declared.fault.Fault.{Fault}
 use Rattle.fsfs_fetch.specs.Kept.{HasShortFiles}
 use Rattle.fsfs_fetch.specs.Owned.{TellsAll}
-use Rattle.fsfs_fetch.specs.RevBytes.{floor_in, rev_bytes}
+use Rattle.fsfs_rev_file.specs.RevBytes.{floor_in, rev_bytes}
 use Rattle.fsfs_look.specs.Written.{Writes, IfDisk, IfWrite}
 use Rattle.fsfs_look.specs.declared.look_error.LookError.{LookError}
 use Rattle.fsfs_look.specs.declared.look_error.LookError.TheVariants as errors

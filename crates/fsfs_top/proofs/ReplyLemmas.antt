@@ -11,7 +11,7 @@ use Rattle.fsfs_faults.specs.Faults.{fault_from_open, fault_from_look}
 use Rattle.fsfs_faults.specs.declared.fault.Fault.{Fault}
 use Rattle.fsfs_faults.specs.declared.fault.Fault.TheVariants.{NotRepo, NoRev, MountFault, DiskFault, WriteFault, Memory}
 use Rattle.fsfs_fetch.specs.Kept.{HasShortFiles}
-use Rattle.fsfs_fetch.specs.RevBytes.{rev_bytes}
+use Rattle.fsfs_rev_file.specs.RevBytes.{rev_bytes}
 use Rattle.fsfs_look.specs.declared.look_error.LookError.{LookError}
 use Rattle.fsfs_look.specs.declared.look_error.LookError.TheVariants as errors
 use Rattle.fsfs_look.specs.Written.{Writes}

@@ -17,7 +17,7 @@ use Rattle.fsfs_faults.specs.Lines.{line_of}
 use Rattle.fsfs_faults.specs.declared.fault.Fault.{Fault}
 use Rattle.fsfs_faults.specs.declared.fault.Fault.TheVariants.{NotRepo}
 use Rattle.fsfs_fetch.specs.Kept.{HasShortFiles}
-use Rattle.fsfs_fetch.specs.RevBytes.{rev_bytes}
+use Rattle.fsfs_rev_file.specs.RevBytes.{rev_bytes}
 use Rattle.fsfs_model.specs.Answers as model
 use Rattle.fsfs_model.specs.Answers.{Answer, UuidAnswer, Reply, prints, refuses, refuses_look, tree_reply, text_reply, found_at, asked_revision, new_history}
 use Rattle.fsfs_output.specs.Output.{AddsFront, Prints}

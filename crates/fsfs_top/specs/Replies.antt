@@ -6,7 +6,7 @@ use Rattle.fsfs_base.specs.Transactions.{last_of}
 use Rattle.fsfs_disk.specs.Trace.{Trace, files_now}
 use Rattle.fsfs_disk.specs.Streams.{Adds}
 use Rattle.fsfs_fetch.specs.Kept.{HasShortFiles}
-use Rattle.fsfs_fetch.specs.RevBytes.{rev_bytes}
+use Rattle.fsfs_rev_file.specs.RevBytes.{rev_bytes}
 use Rattle.fsfs_model.specs.Answers.{Reply, Answer, UuidAnswer, asked_revision}
 use Rattle.fsfs_model.specs.Answers as model
 use Rattle.fsfs_output.specs.Output.{AddsFront}

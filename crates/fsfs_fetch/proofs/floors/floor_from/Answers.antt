@@ -1,7 +1,7 @@
 use Rattle.std.proofs.Common.{arith}
 use Rattle.fsfs_text.proofs.Readers.{all_exact}
 use Rattle.fsfs_layout.proofs.Files.{rev_line_reads}
-use Rattle.fsfs_fetch.proofs.FloorLemmas.{floor_ok, floor_inside, floor_bad}
+use Rattle.fsfs_rev_file.proofs.FloorLemmas.{floor_ok, floor_inside, floor_bad}
 use Rattle.fsfs_fetch.proofs.floors.floor_from.Goals as goal
 
 pub overflow_sub-text : goal.overflow_sub-text

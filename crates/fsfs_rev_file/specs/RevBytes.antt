@@ -8,7 +8,7 @@ use Rattle.fsfs_base.specs.declared.small_fault.SmallFault.{SmallFault}
 use Rattle.fsfs_layout.specs.Names.{in_shard, in_pack, small_name}
 use Rattle.fsfs_layout.specs.Reading.{rev_line_at}
 use Rattle.fsfs_layout.specs.ManifestReading.{manifest_at}
-use Rattle.fsfs_fetch.specs.declared.packs.Section.{Section}
+use Rattle.fsfs_rev_file.specs.declared.section.Section.{Section}
 use Rattle.fsfs_book.specs.declared.book.Refusal.{Refusal}
 use Rattle.fsfs_book.specs.declared.book.Refusal.TheVariants.{Missing, Small}
 
