@@ -6,3 +6,4 @@ pub mod Names
 pub mod ManifestReading
 pub mod Manifest
 pub mod FileNames
+pub mod CreatedFiles

@@ -14,9 +14,10 @@ use Rattle.fsfs_base.specs.declared.change_map.Change.{Change}
 use Rattle.fsfs_book.specs.Told.{Look}
 use Rattle.fsfs_hash.specs.Dump.{Field, Entry, IsDump}
 use Rattle.fsfs_noderev.proofs.RepTexts.{number_spells}
-use Rattle.fsfs_model.specs.CreatedFiles.{date_properties}
+use Rattle.fsfs_layout.specs.CreatedFiles.{date_properties}
 use Rattle.fsfs_shows.specs.Shown.{IsShownAs, Shows}
-use Rattle.fsfs_shows.specs.FirstRevision.{first_bytes, first_tree}
+use Rattle.fsfs_base.specs.FirstRevision.{first_bytes}
+use Rattle.fsfs_shows.specs.FirstRevision.{first_tree}
 use Rattle.fsfs_shows.proofs.FirstRevision.{first_shown, first_rules, trailer, trailer_ends}
 use Rattle.fsfs_stands.specs.Changes.{HasItems, AreChangesOf}
 use Rattle.fsfs_stands.specs.History.{ShowsRevision}

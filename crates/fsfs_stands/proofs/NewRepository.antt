@@ -14,8 +14,8 @@ use Rattle.fsfs_layout.proofs.Files.{rev_line_reads}
 use Rattle.fsfs_layout.proofs.Writing.{sharded_layout, our_format, uuid_line}
 use Rattle.fsfs_rev_file.specs.RevBytes.{floor_of, floor_in, or_missing, by_floor, rev_bytes, props_bytes}
 use Rattle.fsfs_rev_file.proofs.FloorLemmas.{floor_ok}
-use Rattle.fsfs_model.specs.CreatedFiles.{format_text, date_properties}
-use Rattle.fsfs_shows.specs.FirstRevision.{first_bytes}
+use Rattle.fsfs_layout.specs.CreatedFiles.{format_text, date_properties}
+use Rattle.fsfs_base.specs.FirstRevision.{first_bytes}
 use Rattle.fsfs_stands.specs.NewRepository.{NewRepositoriesStand}
 use Rattle.fsfs_stands.proofs.FirstHistory.{first_history}
 

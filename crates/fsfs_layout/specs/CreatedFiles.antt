@@ -7,6 +7,7 @@ use Rattle.uuid.specs.Parts.{with_version, with_variant}
 use Rattle.uuid.specs.declared.Variant.TheVariants.{RFC4122}
 use Rattle.uuid.specs.declared.Version.TheVariants.{Random}
 use Rattle.fsfs_base.specs.Files.{Files, NamedFile, lay_over}
+use Rattle.fsfs_base.specs.FirstRevision.{first_bytes}
 
 -- db/format: the format's number, and how many revisions a shard has
 abbrev pub format_text : ℕ → List ℕ
@@ -15,10 +16,6 @@ format_text shard = codes "4\nlayout sharded " ++ (decimal shard ++ codes "\n")
 -- the property list of revision 0: its date alone
 abbrev pub date_properties : List ℕ → List ℕ
 date_properties date = codes "K 8\nsvn:date\nV 27\n" ++ (date ++ codes "\nEND\n")
-
--- revision 0: the empty directory's representation at 0, its node-revision at 17, no changed paths, the trailer
-abbrev pub revision_zero : List ℕ
-revision_zero = codes "PLAIN\nEND\nENDREP\nid: 0.0.r0/17\ntype: dir\ncount: 0\ntext: 0 0 4 4 2d2977d1c96f487abe4a1e202dd03b4e\ncpath: /\n\n\n17 107\n"
 
 -- an identifier as text
 abbrev pub identifier_text : List ℕ → List ℕ
@@ -39,7 +36,7 @@ unpublished_files identifier date =
     ∷ (codes "db/min-unpacked-rev", codes "0\n")
     ∷ (codes "db/write-lock", [])
     ∷ (codes "db/txn-current-lock", [])
-    ∷ (codes "db/revs/0/0", revision_zero)
+    ∷ (codes "db/revs/0/0", first_bytes)
     ∷ (codes "db/revprops/0/0", date_properties date)
     ∷ []
 
