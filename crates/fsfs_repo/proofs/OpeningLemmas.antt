@@ -8,12 +8,18 @@ use Rattle.fsfs_text.proofs.Unique.{numeral_decimal}
 use Rattle.fsfs_disk.specs.Trace.{Trace, FailsAt, FirmNames, Done, Attempted, add_operation, files_now}
 use Rattle.fsfs_layout.specs.Formats.{IsCount, IsFormat}
 use Rattle.fsfs_layout.specs.declared.format_file.Format.TheVariants.{Linear, Sharded, Other}
-use Rattle.fsfs_layout.specs.Small.{IsUuid, IsRevLine, IsMinUnpackedRev, IsBase36Line, IsFaultOf, IsMinUnpackedFault}
+use Rattle.fsfs_layout.specs.Small.{IsUuid, IsRevLine, IsMinUnpackedRev, IsBase36Line, IsRefusedFile, IsMinUnpackedFault}
 use Rattle.fsfs_base.specs.declared.small_fault.SmallFile.TheVariants as file
 use Rattle.fsfs_repo.specs.Opening.{SmallTexts, small_texts, IsRefusedBehind, IsPastYoungest}
 use Rattle.fsfs_repo.specs.OpenFaults.{JudgedBecause, OpensBecause}
 use Rattle.fsfs_repo.specs.declared.opening.OpenFault.{OpenFault}
 use Rattle.fsfs_repo.specs.declared.opening.OpenFault.TheVariants as why_not
+
+pub refused_uuid : (n : ℕ) (s : SmallTexts) (u : List ℕ) (fault : SmallFault) → u ≡ s.uuid → IsRefusedFile file.Uuid IsUuid u fault → IsRefusedBehind n s fault
+refused_uuid n s u fault su iu = inl (subst (λ t. IsRefusedFile file.Uuid IsUuid t fault) su iu)
+
+pub refused_current : (n : ℕ) (s : SmallTexts) (u c uuid : List ℕ) (fault : SmallFault) → u ≡ s.uuid → IsUuid u uuid → c ≡ s.current → IsRefusedFile file.Current IsRevLine c fault → IsRefusedBehind n s fault
+refused_current n s u c uuid fault su iu sc ic = inr (uuid, subst (λ t. IsUuid t uuid) su iu, inl (subst (λ t. IsRefusedFile file.Current IsRevLine t fault) sc ic))
 
 pub refused_floor : (n : ℕ) (s : SmallTexts) (u c m uuid : List ℕ) (youngest : ℕ) (fault : SmallFault) → u ≡ s.uuid → IsUuid u uuid → c ≡ s.current → IsRevLine c youngest → m ≡ s.min_unpacked_rev → IsMinUnpackedFault n m fault
     → IsRefusedBehind n s fault
@@ -35,7 +41,7 @@ refused_past n s u c m uuid youngest floor fault su iu sc ic sm im past names pl
     inr (uuid, subst (λ t. IsUuid t uuid) su iu, inr (youngest, subst (λ t. IsRevLine t youngest) sc ic, inr (inl is)))
 
 pub refused_txn : (n : ℕ) (s : SmallTexts) (u c m x uuid : List ℕ) (youngest floor : ℕ) (fault : SmallFault) → u ≡ s.uuid → IsUuid u uuid → c ≡ s.current → IsRevLine c youngest → m ≡ s.min_unpacked_rev → IsMinUnpackedRev n m floor
-    → floor ≤ youngest + 1 → x ≡ s.txn_current → IsFaultOf file.TxnCurrent IsBase36Line x fault → IsRefusedBehind n s fault
+    → floor ≤ youngest + 1 → x ≡ s.txn_current → IsRefusedFile file.TxnCurrent IsBase36Line x fault → IsRefusedBehind n s fault
 refused_txn n s u c m x uuid youngest floor fault su iu sc ic sm im within sx ix =
     inr (
       uuid,
@@ -43,7 +49,7 @@ refused_txn n s u c m x uuid youngest floor fault su iu sc ic sm im within sx ix
       inr (
         youngest,
         subst (λ t. IsRevLine t youngest) sc ic,
-        inr (inr (floor, subst (λ t. IsMinUnpackedRev n t floor) sm im, within, subst (λ t. IsFaultOf file.TxnCurrent IsBase36Line t fault) sx ix)),
+        inr (inr (floor, subst (λ t. IsMinUnpackedRev n t floor) sm im, within, subst (λ t. IsRefusedFile file.TxnCurrent IsBase36Line t fault) sx ix)),
       ),
     )
 

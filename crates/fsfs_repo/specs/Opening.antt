@@ -6,7 +6,8 @@ use Rattle.fsfs_base.specs.Files.{Files}
 use Rattle.fsfs_base.specs.declared.small_fault.SmallFault.{SmallFault}
 use Rattle.fsfs_base.specs.declared.small_fault.SmallFile.TheVariants as file
 use Rattle.fsfs_layout.specs.Formats.{IsFormat, IsOurFormat}
-use Rattle.fsfs_layout.specs.Small.{IsUuid, IsRevLine, IsMinUnpackedRev, IsBase36Line, IsFaultOf, IsMinUnpackedFault}
+use Rattle.fsfs_layout.specs.Small.{IsUuid, IsRevLine, IsMinUnpackedRev, IsBase36Line, IsFaultOf, IsRefusedFile, IsMinUnpackedFault}
+use Rattle.fsfs_layout.specs.declared.format_file.Format.{Format}
 use Rattle.fsfs_layout.specs.declared.format_file.Format.TheVariants.{Linear, Sharded, Other}
 use Rattle.fsfs_repo.specs.declared.opening.Opened.{Opened}
 
@@ -69,16 +70,20 @@ pub record IsPastYoungest (shard_size : ℕ) (s : SmallTexts) (fault : SmallFaul
   pub names : fault.file ≡ file.MinUnpackedRev
   pub place : fault.at ≡ 0
 
+-- db/format is in no format, and the fault is at the first byte after which no text of ours goes on
+abbrev pub IsRefusedFormat : List ℕ → SmallFault → Type 0
+IsRefusedFormat text fault = ((format : Format) → IsFormat text format → ⊥) × IsFaultOf file.Format IsOurFormat text fault
+
 -- the first of the four files behind db/format that is refused, those before it being in their formats
 abbrev pub IsRefusedBehind : ℕ → SmallTexts → SmallFault → Type 0
 IsRefusedBehind shard_size s fault =
-    IsFaultOf file.Uuid IsUuid s.uuid fault
-    ⊎ ((uuid : List ℕ) × IsUuid s.uuid uuid × (IsFaultOf file.Current IsRevLine s.current fault
+    IsRefusedFile file.Uuid IsUuid s.uuid fault
+    ⊎ ((uuid : List ℕ) × IsUuid s.uuid uuid × (IsRefusedFile file.Current IsRevLine s.current fault
     ⊎ ((youngest : ℕ) × IsRevLine s.current youngest × (IsMinUnpackedFault shard_size s.min_unpacked_rev fault
     ⊎ (IsPastYoungest shard_size s fault
-    ⊎ ((floor : ℕ) × IsMinUnpackedRev shard_size s.min_unpacked_rev floor × (floor ≤ youngest + 1) × IsFaultOf file.TxnCurrent IsBase36Line s.txn_current fault))))))
+    ⊎ ((floor : ℕ) × IsMinUnpackedRev shard_size s.min_unpacked_rev floor × (floor ≤ youngest + 1) × IsRefusedFile file.TxnCurrent IsBase36Line s.txn_current fault))))))
 
 -- a small file is refused: db/format, or the first of the others
 abbrev pub IsRefused : SmallTexts → SmallFault → Type 0
 IsRefused s fault = (text : List ℕ) × IsFsfs s text
-    × (IsFaultOf file.Format IsOurFormat text fault ⊎ ((shard_size : ℕ) × IsFormat text (Sharded shard_size) × IsRefusedBehind shard_size s fault))
+    × (IsRefusedFormat text fault ⊎ ((shard_size : ℕ) × IsFormat text (Sharded shard_size) × IsRefusedBehind shard_size s fault))

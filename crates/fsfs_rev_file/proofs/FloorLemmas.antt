@@ -1,12 +1,15 @@
 -- The floor, from what its file says.
-use Rattle.std.proofs.Common.{◌≡◌, ◌≢◌, ℕ, ◌-◌, ◌%◌, List, length, refl, ap, ◌∙◌, arith, true, false}
-use Rattle.std.specs.Prelude.{Ok, Err, ◌==◌}
+use Rattle.std.proofs.Common.{◌≡◌, ◌≢◌, ℕ, ◌-◌, ◌%◌, List, length, refl, ap, ◌∙◌, inl, inr, arith, true, false}
+use Rattle.std.specs.Prelude.{Result, Ok, Err, ◌==◌}
 use Rattle.std.proofs.lemmas.Bool.Decides.{nat_tests}
 use Rattle.fsfs_base.specs.declared.small_fault.SmallFile.TheVariants.{MinUnpackedRev}
 use Rattle.fsfs_base.specs.declared.small_fault.SmallFault.{SmallFault}
+use Rattle.fsfs_text.proofs.Readers.{all_found, all_again, all_exact}
 use Rattle.fsfs_layout.specs.Reading.{rev_line_at}
+use Rattle.fsfs_layout.specs.Small.{IsRevLine, IsMinUnpackedRev, IsRefusedFile, IsInsideShard, IsMinUnpackedFault}
+use Rattle.fsfs_layout.proofs.Files.{rev_line_reads}
 use Rattle.fsfs_rev_file.specs.RevBytes.{placed, of_whole_shards, floor_of}
-use Rattle.fsfs_rev_file.proofs.ManifestLemmas.{fault_is}
+use Rattle.fsfs_rev_file.proofs.ManifestLemmas.{fault_same, fault_is}
 
 equal_numbers : (a b : ℕ) → a ≡ b → (a == b) ≡ true
 equal_numbers a b e = grind (arith, nat_tests)
@@ -14,14 +17,23 @@ equal_numbers a b e = grind (arith, nat_tests)
 other_number : (a b : ℕ) → a ≢ b → (a == b) ≡ false
 other_number a b ne = grind (arith, nat_tests)
 
-pub floor_ok : (n rev : ℕ) (text : List ℕ) → rev_line_at text ≡ Ok rev → rev % n ≡ 0 → floor_of n text ≡ Ok rev
+pub floor_ok : (n rev : ℕ) (text : List ℕ) → IsMinUnpackedRev n text rev → floor_of n text ≡ Ok rev
 unfolding floor_of
-floor_ok n rev text e whole = ap (λ r. of_whole_shards n (placed MinUnpackedRev text r)) e ∙ rw (equal_numbers (rev % n) 0 whole) refl
+floor_ok n rev text is = ap (λ r. of_whole_shards n (placed MinUnpackedRev text r)) (all_again rev_line_reads text rev is.0) ∙ rw (equal_numbers (rev % n) 0 is.1) refl
 
-pub floor_inside : (n rev : ℕ) (text : List ℕ) (fault : SmallFault) → rev_line_at text ≡ Ok rev → rev % n ≢ 0 → fault.file ≡ MinUnpackedRev → fault.at ≡ 0 → floor_of n text ≡ Err fault
+inside_err : (n : ℕ) (text : List ℕ) (fault : SmallFault) → IsInsideShard n text fault → floor_of n text ≡ Err fault
 unfolding floor_of
-floor_inside n rev text fault e inside file at = ap (λ r. of_whole_shards n (placed MinUnpackedRev text r)) e ∙ rw (other_number (rev % n) 0 inside) (ap (λ (f : SmallFault). Err f) (fault_is fault MinUnpackedRev 0 file at))
+inside_err n text fault w =
+    ap (λ r. of_whole_shards n (placed MinUnpackedRev text r)) (all_again rev_line_reads text w.number w.line)
+    ∙ rw (other_number (w.number % n) 0 w.inside) (ap (λ (f : SmallFault). Err f) (fault_is fault MinUnpackedRev 0 w.names w.place))
 
-pub floor_bad : (n left : ℕ) (text : List ℕ) (fault : SmallFault) → rev_line_at text ≡ Err left → fault.file ≡ MinUnpackedRev → fault.at ≡ length text - left → floor_of n text ≡ Err fault
+line_err : (n : ℕ) (text : List ℕ) (fault : SmallFault) → IsRefusedFile MinUnpackedRev IsRevLine text fault → (r : Result ℕ ℕ) → rev_line_at text ≡ r → of_whole_shards n (placed MinUnpackedRev text r) ≡ Err fault
+line_err n text fault w (Ok rev) e = absurd (w.0 rev (all_found rev_line_reads text rev e))
+line_err n text fault w (Err left) e =
+    let at : fault.at ≡ length text - left = fault_same IsRevLine text fault.at (length text - left) w.1.place (all_exact rev_line_reads text left e).1 in
+    ap (λ (f : SmallFault). Err f) (fault_is fault MinUnpackedRev (length text - left) w.1.names at)
+
+pub floor_err : (n : ℕ) (text : List ℕ) (fault : SmallFault) → IsMinUnpackedFault n text fault → floor_of n text ≡ Err fault
 unfolding floor_of
-floor_bad n left text fault e file at = ap (λ r. of_whole_shards n (placed MinUnpackedRev text r)) e ∙ ap (λ (f : SmallFault). Err f) (fault_is fault MinUnpackedRev (length text - left) file at)
+floor_err n text fault (inl w) = line_err n text fault w (rev_line_at text) refl
+floor_err n text fault (inr w) = inside_err n text fault w

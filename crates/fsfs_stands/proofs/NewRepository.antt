@@ -4,13 +4,11 @@ use Rattle.std.specs.Prelude.{Option, Some, Ok, unwrap_or, codes, decimal}
 use Rattle.std.specs.FinMap.{get}
 use Rattle.std.proofs.Math.Nat.{zero-mod, zero-div}
 use Rattle.fsfs_text.specs.Numeral.{IsNumber, IsNumeral, value_after}
-use Rattle.fsfs_text.proofs.Readers.{all_again}
 use Rattle.fsfs_text.proofs.Unique.{decimal_plain, numeral_decimal}
 use Rattle.fsfs_base.specs.Files.{Files}
 use Rattle.fsfs_layout.specs.Formats.{IsFormat}
 use Rattle.fsfs_layout.specs.Names.{in_shard}
 use Rattle.fsfs_layout.specs.declared.format_file.Format.TheVariants.{Sharded}
-use Rattle.fsfs_layout.proofs.Files.{rev_line_reads}
 use Rattle.fsfs_layout.proofs.Writing.{sharded_layout, our_format, uuid_line}
 use Rattle.fsfs_rev_file.specs.RevBytes.{floor_of, floor_in, or_missing, by_floor, rev_bytes, props_bytes}
 use Rattle.fsfs_rev_file.proofs.FloorLemmas.{floor_ok}
@@ -49,7 +47,7 @@ floor_is : (n : ℕ) (files : Files) → get files (codes "db/min-unpacked-rev")
 unfolding floor_in
 floor_is n files there =
     ap (λ (o : Option (List ℕ)). floor_of n (take 64 (unwrap_or o []))) there
-    ∙ floor_ok n 0 (codes "0\n") (all_again rev_line_reads (codes "0\n") 0 zero_line) (zero-mod n)
+    ∙ floor_ok n 0 (codes "0\n") (zero_line, zero-mod n)
 
 zero_text : decimal 0 ≡ codes "0"
 zero_text = sym (numeral_decimal (codes "0") 0 (omega arith) zero_digit)

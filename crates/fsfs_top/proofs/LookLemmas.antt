@@ -70,7 +70,7 @@ opened_floor m o is =
     let text = text_in m MinUnpackedRev in
     let line : IsRevLine text o.min_unpacked_rev = is.min_unpacked_rev.0 in
     ap (floor_of o.shard_size) (take_all 64 text (line_is_short text o.min_unpacked_rev line))
-    ∙ floor_ok o.shard_size o.min_unpacked_rev text (all_again rev_line_reads text o.min_unpacked_rev line) is.min_unpacked_rev.1
+    ∙ floor_ok o.shard_size o.min_unpacked_rev text is.min_unpacked_rev
 
 -- ---- failures of the outside
 
