@@ -7,3 +7,4 @@ pub mod ManifestReading
 pub mod Manifest
 pub mod FileNames
 pub mod CreatedFiles
+pub mod Opening

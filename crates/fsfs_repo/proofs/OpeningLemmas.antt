@@ -10,7 +10,7 @@ use Rattle.fsfs_layout.specs.Formats.{IsCount, IsFormat}
 use Rattle.fsfs_layout.specs.declared.format_file.Format.TheVariants.{Linear, Sharded, Other}
 use Rattle.fsfs_layout.specs.Small.{IsUuid, IsRevLine, IsMinUnpackedRev, IsBase36Line, IsRefusedFile, IsMinUnpackedFault}
 use Rattle.fsfs_base.specs.declared.small_fault.SmallFile.TheVariants as file
-use Rattle.fsfs_repo.specs.Opening.{SmallTexts, small_texts, IsRefusedBehind, IsPastYoungest}
+use Rattle.fsfs_layout.specs.Opening.{SmallTexts, small_texts, IsRefusedBehind, IsPastYoungest}
 use Rattle.fsfs_repo.specs.OpenFaults.{JudgedBecause, OpensBecause}
 use Rattle.fsfs_repo.specs.declared.opening.OpenFault.{OpenFault}
 use Rattle.fsfs_repo.specs.declared.opening.OpenFault.TheVariants as why_not

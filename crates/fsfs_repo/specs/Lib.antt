@@ -1,6 +1,5 @@
 pub mod NewFiles
 pub mod Creation
 pub mod WholeFile
-pub mod Opening
 pub mod OpenFaults
 pub mod Deciding

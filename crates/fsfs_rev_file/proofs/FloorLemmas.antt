@@ -1,14 +1,18 @@
 -- The floor, from what its file says.
-use Rattle.std.proofs.Common.{◌≡◌, ◌≢◌, ℕ, ◌-◌, ◌%◌, List, length, refl, ap, ◌∙◌, inl, inr, arith, true, false}
+use Rattle.std.proofs.Common.{◌≡◌, ◌≢◌, ◌≤◌, ℕ, ◌-◌, ◌%◌, List, [], ◌∷◌, length, take, refl, sym, ap, subst, ◌∙◌, inl, inr, arith, true, false}
 use Rattle.std.specs.Prelude.{Result, Ok, Err, ◌==◌}
 use Rattle.std.proofs.lemmas.Bool.Decides.{nat_tests}
 use Rattle.fsfs_base.specs.declared.small_fault.SmallFile.TheVariants.{MinUnpackedRev}
 use Rattle.fsfs_base.specs.declared.small_fault.SmallFault.{SmallFault}
+use Rattle.std.proofs.lemmas.List.{take_all, length-append}
+use Rattle.std.proofs.lemmas.Fmt.{length-decimal-le}
+use Rattle.fsfs_text.proofs.Unique.{numeral_decimal}
+use Rattle.fsfs_base.specs.Files.{Files}
 use Rattle.fsfs_text.proofs.Readers.{all_found, all_again, all_exact}
 use Rattle.fsfs_layout.specs.Reading.{rev_line_at}
 use Rattle.fsfs_layout.specs.Small.{IsRevLine, IsMinUnpackedRev, IsRefusedFile, IsInsideShard, IsMinUnpackedFault}
 use Rattle.fsfs_layout.proofs.Files.{rev_line_reads}
-use Rattle.fsfs_rev_file.specs.RevBytes.{placed, of_whole_shards, floor_of}
+use Rattle.fsfs_rev_file.specs.RevBytes.{placed, of_whole_shards, text_in, floor_of, floor_in}
 use Rattle.fsfs_rev_file.proofs.ManifestLemmas.{fault_same, fault_is}
 
 equal_numbers : (a b : ℕ) → a ≡ b → (a == b) ≡ true
@@ -37,3 +41,16 @@ pub floor_err : (n : ℕ) (text : List ℕ) (fault : SmallFault) → IsMinUnpack
 unfolding floor_of
 floor_err n text fault (inl w) = line_err n text fault w (rev_line_at text) refl
 floor_err n text fault (inr w) = inside_err n text fault w
+
+-- the line of a revision is short
+line_is_short : (text : List ℕ) (n : ℕ) → IsRevLine text n → length text ≤ 64
+line_is_short text n line =
+    let digits : length line.digits ≤ 10 = subst (λ (t : List ℕ). length t ≤ 10) (sym (numeral_decimal line.digits n (omega (arith, line.fits)) line.numeral)) (length-decimal-le 10 n (omega arith) (omega (arith, line.fits)) (omega (arith, line.fits))) in
+    omega (arith, ap length line.parts, length-append line.digits (10 ∷ []), digits)
+
+-- the floor of the files is that of the whole text
+pub floor_is : (n rev : ℕ) (files : Files) → IsMinUnpackedRev n (text_in files MinUnpackedRev) rev → floor_in n files ≡ Ok rev
+unfolding floor_in
+floor_is n rev files is =
+    let text = text_in files MinUnpackedRev in
+    ap (floor_of n) (take_all 64 text (line_is_short text rev is.0)) ∙ floor_ok n rev text is

@@ -6,6 +6,7 @@ use Rattle.fsfs_base.specs.declared.small_fault.SmallFile.{SmallFile}
 use Rattle.fsfs_base.specs.declared.small_fault.SmallFile.TheVariants.{MinUnpackedRev, Manifest}
 use Rattle.fsfs_base.specs.declared.small_fault.SmallFault.{SmallFault}
 use Rattle.fsfs_layout.specs.Names.{in_shard, in_pack, small_name}
+use Rattle.fsfs_layout.specs.Opening.{text_at}
 use Rattle.fsfs_layout.specs.Reading.{rev_line_at}
 use Rattle.fsfs_layout.specs.ManifestReading.{manifest_at}
 use Rattle.fsfs_rev_file.specs.declared.section.Section.{Section}
@@ -14,7 +15,7 @@ use Rattle.fsfs_book.specs.declared.book.Refusal.TheVariants.{Missing, Small}
 
 -- the text of a small file; one that isn't there counts as empty
 abbrev pub text_in : Files → SmallFile → List ℕ
-text_in files file = unwrap_or (map.get files (small_name file)) []
+text_in files file = text_at files (small_name file)
 
 -- what a small file says, or the place of its fault: reading tells how many bytes are left there
 abbrev pub placed : {X : Type 0} → SmallFile → List ℕ → Result X ℕ → Result X SmallFault

@@ -23,13 +23,13 @@ returns-in_err-next_txn-clause-refused c =
     c.deref.ensures.value c.in_ok-uuid.ensures.found c.deref-2.ensures.value c.in_ok-youngest.ensures.found c.deref-3.ensures.value c.in_ok-min_unpacked_rev.ensures.found (omega arith) c.deref-4.ensures.value (λ x w. c.in_err-next_txn.ensures.only x w, c.in_err-next_txn.ensures.fault))
 
 pub returns-in_err-uuid-clause-only : goal.returns-in_err-uuid-clause-only
-returns-in_err-uuid-clause-only c = λ o w. absurd (let h = c.in_err-uuid.ensures.only o.uuid (subst (λ t. IsUuid t o.uuid) (sym c.deref.ensures.value) w.uuid) in cc)
+returns-in_err-uuid-clause-only c = λ o e w. absurd (let h = c.in_err-uuid.ensures.only o.uuid (subst (λ t. IsUuid t o.uuid) (sym c.deref.ensures.value) w.uuid) in cc)
 
 pub returns-in_err-youngest-clause-only : goal.returns-in_err-youngest-clause-only
-returns-in_err-youngest-clause-only c = λ o w. absurd (let h = c.in_err-youngest.ensures.only o.youngest (subst (λ t. IsRevLine t o.youngest) (sym c.deref-2.ensures.value) w.youngest) in cc)
+returns-in_err-youngest-clause-only c = λ o e w. absurd (let h = c.in_err-youngest.ensures.only o.youngest (subst (λ t. IsRevLine t o.youngest) (sym c.deref-2.ensures.value) w.youngest) in cc)
 
 pub returns-in_err-next_txn-clause-only : goal.returns-in_err-next_txn-clause-only
-returns-in_err-next_txn-clause-only c = λ o w. absurd (c.in_err-next_txn.ensures.only o.next_txn.number (subst (λ t. IsBase36Line t o.next_txn.number) (sym c.deref-4.ensures.value) w.next_txn))
+returns-in_err-next_txn-clause-only c = λ o e w. absurd (c.in_err-next_txn.ensures.only o.next_txn.number (subst (λ t. IsBase36Line t o.next_txn.number) (sym c.deref-4.ensures.value) w.next_txn))
 
 pub returns-in_err-uuid-clause-refused : goal.returns-in_err-uuid-clause-refused
 returns-in_err-uuid-clause-refused c =

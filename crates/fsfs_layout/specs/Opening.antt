@@ -9,7 +9,7 @@ use Rattle.fsfs_layout.specs.Formats.{IsFormat, IsOurFormat}
 use Rattle.fsfs_layout.specs.Small.{IsUuid, IsRevLine, IsMinUnpackedRev, IsBase36Line, IsFaultOf, IsRefusedFile, IsMinUnpackedFault}
 use Rattle.fsfs_layout.specs.declared.format_file.Format.{Format}
 use Rattle.fsfs_layout.specs.declared.format_file.Format.TheVariants.{Linear, Sharded, Other}
-use Rattle.fsfs_repo.specs.declared.opening.Opened.{Opened}
+use Rattle.fsfs_layout.specs.declared.opened.Opened.{Opened}
 
 -- the bytes of the small files; an absent file counts as empty, but for `db/format`
 pub record SmallTexts : Type 0 where
@@ -43,14 +43,18 @@ pub record IsFsfs (s : SmallTexts) (format : List ℕ) : Type 0 where
 abbrev pub IsNone : SmallTexts → Type 0
 IsNone s = (s.format ≡ None) ⊎ (s.fs_type ≢ codes "fsfs\n")
 
--- what the small files of a sharded repository of format 4 say
-pub record IsOpened (s : SmallTexts) (o : Opened) : Type 0 where
-  pub format : (text : List ℕ) × IsFsfs s text × IsFormat text (Sharded o.shard_size)
+-- what the files behind `db/format` say, with shards of this size
+pub record IsOpenedBehind (s : SmallTexts) (o : Opened) : Type 0 where
   pub uuid : IsUuid s.uuid o.uuid
   pub youngest : IsRevLine s.current o.youngest
   pub min_unpacked_rev : IsMinUnpackedRev o.shard_size s.min_unpacked_rev o.min_unpacked_rev
   pub within : o.min_unpacked_rev ≤ o.youngest + 1
   pub next_txn : IsBase36Line s.txn_current o.next_txn.number
+
+-- what the small files of a sharded repository of format 4 say
+pub record IsOpened (s : SmallTexts) (o : Opened) : Type 0 where
+  pub format : (text : List ℕ) × IsFsfs s text × IsFormat text (Sharded o.shard_size)
+  pub behind : IsOpenedBehind s o
 
 -- it has this other format
 abbrev pub HasFormat : SmallTexts → ℕ → Type 0
