@@ -1,4 +1,3 @@
-pub mod Lacking
 pub mod Formats
 pub mod Small
 pub mod Reading

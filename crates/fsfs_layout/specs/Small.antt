@@ -5,7 +5,7 @@ use Rattle.fsfs_text.specs.Numeral.{IsNumber}
 use Rattle.fsfs_base.specs.declared.small_fault.SmallFile.{SmallFile}
 use Rattle.fsfs_base.specs.declared.small_fault.SmallFile.TheVariants.{MinUnpackedRev}
 use Rattle.fsfs_base.specs.declared.small_fault.SmallFault.{SmallFault}
-use Rattle.fsfs_layout.specs.Lacking.{Lacks}
+use Rattle.fsfs_text.specs.Cuts.{Lacks}
 
 -- `<revision>\n`
 abbrev pub IsRevLine : List ℕ → ℕ → Type 0

@@ -16,14 +16,11 @@ use Rattle.fsfs_rev_file.specs.RevBytes.{floor_in, or_missing, by_floor, rev_byt
 use Rattle.fsfs_rev_file.proofs.FloorLemmas.{floor_is}
 use Rattle.fsfs_layout.specs.CreatedFiles.{format_text, date_properties}
 use Rattle.fsfs_base.specs.FirstRevision.{first_bytes}
+use Rattle.fsfs_shows.proofs.FirstRevision.{zero_digit}
 use Rattle.fsfs_stands.specs.NewRepository.{NewRepositoriesStand}
 use Rattle.fsfs_stands.proofs.FirstHistory.{first_history}
 
 -- ---- the small files
-
-zero_digit : IsNumeral 10 (codes "0") 0
-unfolding value_after
-zero_digit = ((omega arith, tt), (λ e. refl), refl)
 
 zero_digit36 : IsNumeral 36 (codes "0") 0
 unfolding value_after

@@ -1,6 +1,7 @@
 -- The bytes show one history at most.
 use Rattle.std.proofs.Common.{◌≡◌, ℕ, suc, List, [], ◌∷◌, ◌++◌, drop, refl, sym, ap, subst, ◌∙◌}
 use Rattle.std.specs.Prelude.{Result, Ok, Option, Some, None, true, false, Contains}
+use Rattle.std.proofs.lemmas.Option.{same_Some}
 use Rattle.std.specs.FinMap.{FinMap, get}
 use Rattle.fsfs_base.specs.Files.{Files}
 use Rattle.fsfs_base.specs.Paths.{Path, path_cmp}
@@ -28,9 +29,6 @@ use Rattle.fsfs_stands.specs.Changes.{HasItems, IsKindOf, Said, Named, There, No
 use Rattle.fsfs_stands.specs.History.{ShowsRevision, ShowsHistory}
 use Rattle.fsfs_stands.specs.Same.{AreSame, OneHistoryIsShown, OneHistoryIsStoodFor}
 
-some_same : {A : Type 0} (x y : A) → (let o : Option A = Some x in o) ≡ Some y → x ≡ y
-some_same x y e = cc
-
 no_both : {A B : Type 0} (o : Option A) (x : A) → o ≡ Some x → o ≡ None → B
 no_both o x e f = let g = sym e ∙ f in absurd cc
 
@@ -57,7 +55,7 @@ has_items_one bytes a b v w =
 -- ---- the change of an item
 
 kind_one : {look : Look} {r : ℕ} {item : ChangeItem} {a b : Kind} → IsKindOf look r item a → IsKindOf look r item b → a ≡ b
-kind_one (Said k e) (Said l f) = some_same k l (sym e ∙ f)
+kind_one (Said k e) (Said l f) = same_Some k l (sym e ∙ f)
 kind_one {item = item} (Said k e) (Named u f i o) = no_both item.kind k e f
 kind_one {item = item} (Said k e) (There v f i o) = no_both item.kind k e f
 kind_one {item = item} (Said k e) (NotThere f i o) = no_both item.kind k e f
@@ -98,7 +96,7 @@ module _ (look : Look) (r : ℕ) (bytes : List ℕ) (a b : FinMap path_cmp Chang
       let y = w.each of.0 there in
       let here : get a p ≡ Some x.0 = subst (λ (q : Path). get a q ≡ Some x.0) of.2 x.2 in
       let other : get b p ≡ Some y.0 = subst (λ (q : Path). get b q ≡ Some y.0) of.2 y.2 in
-      let first = some_same x.0 c (sym here ∙ e) in
+      let first = same_Some x.0 c (sym here ∙ e) in
       let same = change_one look r of.0 x.0 y.0 x.1 y.1 in
       other ∙ ap (λ (z : Change). let o : Option Change = Some z in o) (sym same ∙ first)
 

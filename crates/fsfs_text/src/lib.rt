@@ -6,8 +6,11 @@ pub mod cuts;
 pub mod decimals;
 mod digits;
 pub mod pieces;
+mod read_error;
 #[cfg(test)]
 mod tests;
 
 pub use base36::{B36, next_b36, put_b36, read_b36, write_b36};
 pub use decimals::{put_dec, read_dec, write_dec};
+pub use digits::digit_of;
+pub use read_error::ReadError;

@@ -1,17 +1,19 @@
-//! Why reading stopped.
+//! Why a reader that needs memory stopped.
 ghost use Rattle.std.specs.Prelude.{◌≡◌};
 
 use std::alloc::{AllocError, AllocFailed};
 
+/// Why a reader stopped.
 #[derive(Clone, Copy, Debug, PartialEq, Eq)]
-pub(crate) enum ReadError {
+pub enum ReadError {
+    /// Memory was wanting.
     OutOfMemory,
-    /// How many bytes are left where no text of the form goes on.
+    /// How many bytes are left where no text of the grammar goes on.
     Left(usize),
 }
 
 impl From<AllocError> for ReadError {
-    ghost use Rattle.fsfs_hash.specs.declared.read_error.ReadError.TheVariants.{OutOfMemory};
+    ghost use Rattle.fsfs_text.specs.declared.read_error.ReadError.TheVariants.{OutOfMemory};
 
     ghost from_gives = { λ _ e. e ≡ OutOfMemory };
 
@@ -21,7 +23,7 @@ impl From<AllocError> for ReadError {
 }
 
 impl<T: Drop> From<AllocFailed<T>> for ReadError {
-    ghost use Rattle.fsfs_hash.specs.declared.read_error.ReadError.TheVariants.{OutOfMemory};
+    ghost use Rattle.fsfs_text.specs.declared.read_error.ReadError.TheVariants.{OutOfMemory};
 
     ghost from_gives = { λ _ e. e ≡ OutOfMemory };
 
@@ -31,7 +33,7 @@ impl<T: Drop> From<AllocFailed<T>> for ReadError {
 }
 
 impl From<usize> for ReadError {
-    ghost use Rattle.fsfs_hash.specs.declared.read_error.ReadError.TheVariants.{Left};
+    ghost use Rattle.fsfs_text.specs.declared.read_error.ReadError.TheVariants.{Left};
 
     ghost from_gives = { λ left e. e ≡ Left left };
 
