@@ -1,1 +1,2 @@
 pub mod RevBytes
+pub mod ByGrammar

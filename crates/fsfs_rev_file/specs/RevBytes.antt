@@ -5,7 +5,8 @@ use Rattle.fsfs_base.specs.Files.{Files}
 use Rattle.fsfs_base.specs.declared.small_fault.SmallFile.{SmallFile}
 use Rattle.fsfs_base.specs.declared.small_fault.SmallFile.TheVariants.{MinUnpackedRev, Manifest}
 use Rattle.fsfs_base.specs.declared.small_fault.SmallFault.{SmallFault}
-use Rattle.fsfs_layout.specs.Names.{in_shard, in_pack, small_name}
+use Rattle.fsfs_layout.specs.FileNames.{small_name}
+use Rattle.fsfs_layout.specs.Names.{in_shard, in_pack}
 use Rattle.fsfs_layout.specs.Opening.{text_at}
 use Rattle.fsfs_layout.specs.Reading.{rev_line_at}
 use Rattle.fsfs_layout.specs.ManifestReading.{manifest_at}
