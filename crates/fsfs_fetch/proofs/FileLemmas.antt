@@ -3,42 +3,19 @@ use Rattle.std.proofs.Common.{◌≡◌, ◌≤◌, ◌<◌, ℕ, ◌+◌, ◌-�
 use Rattle.std.specs.Prelude.{Option, Some, None, Result, Ok, Err, IfSome, IfOk, IfErr, unwrap_or, ◌⊎◌}
 use Rattle.std.proofs.lemmas.Grind.{common_steps}
 use Rattle.std.proofs.lemmas.Bool.Decides.{nat_tests}
-use Rattle.std.proofs.Math.Seq.{take-add}
 use Rattle.std.proofs.lemmas.List.{length-take, length-drop, take-append-le, take_all, length-append}
 use Rattle.std.specs.FinMap as map
 use Rattle.fsfs_base.specs.Files.{Files}
 use Rattle.fsfs_disk.specs.Trace.{IsRead, IsSize}
+use Rattle.fsfs_disk.proofs.WholeFiles.{IsFrontOf, read_bytes, front_more, whole_file, no_bytes}
 use Rattle.fsfs_book.specs.declared.book.BookFault.{BookFault}
 use Rattle.fsfs_book.specs.declared.book.BookFault.TheVariants.{Refused, Short, DiskFault, OutOfMemory}
 use Rattle.fsfs_fetch.specs.Views.{View, Later}
-use Rattle.fsfs_fetch.specs.Answers.{Stays, MayGo, IsFrontOf, FromFile, size_of_file, part_of_file}
+use Rattle.fsfs_fetch.specs.Answers.{Stays, MayGo, FromFile, size_of_file, part_of_file}
 use Rattle.fsfs_fetch.proofs.ViewLemmas.{later_more, told_at, stays_later, stays_now, goes_later, goes_now}
 
 some_count : (n m : ℕ) → ◌≡◌ {A = Option ℕ} (Some n) (Some m) → n ≡ m
 some_count n m e = cc
-
--- the bytes that one read puts in front of the buffer
-pub read_bytes : (bytes old : List ℕ) (offset n : ℕ) → n ≤ length bytes - offset → take n (take n (drop offset bytes) ++ drop n old) ≡ take n (drop offset bytes)
-read_bytes bytes old offset n le =
-    take-append-le n (take n (drop offset bytes)) (drop n old) (omega (arith, length-take n (drop offset bytes), length-drop offset bytes, le))
-    ∙ take_all n (take n (drop offset bytes)) (omega (arith, length-take n (drop offset bytes)))
-
-front_of : (bytes items old new : List ℕ) (offset count n : ℕ) → items ≡ take (length items) bytes → offset ≡ length items → n ≡ min (length old) (length bytes - offset) → new ≡ take n (drop offset bytes) ++ drop n old → n ≡ count
-    → items ++ take count new ≡ take (length (items ++ take count new)) bytes
-front_of bytes items old new offset count n front at is read same =
-    let le : n ≤ length bytes - offset = omega (arith, is) in
-    let got : take count new ≡ take n (drop offset bytes) = ap (λ k. take k new) (sym same) ∙ ap (take n) read ∙ read_bytes bytes old offset n le in
-    let here : items ≡ take offset bytes = front ∙ ap (λ k. take k bytes) (sym at) in
-    let whole : items ++ take count new ≡ take (offset + n) bytes = ap (λ xs. xs ++ take count new) here ∙ ap (λ xs. take offset bytes ++ xs) got ∙ sym (take-add offset n bytes) in
-    let count_is : length (items ++ take count new) ≡ offset + n =
-    length-append items (take count new) ∙ omega (arith, at, ap length got, length-take n (drop offset bytes), length-drop offset bytes, le) in
-    whole ∙ ap (λ k. take k bytes) (sym count_is)
-
-front_more : (file : Option (List ℕ)) (items old new : List ℕ) (offset count : ℕ) (found : Option ℕ) → IsFrontOf items file → offset ≡ length items → IsRead file offset old new found → found ≡ Some count
-    → IsFrontOf (items ++ take count new) file
-front_more None items old new offset count found front at read is = let h : None ≡ Some count = sym read.0 ∙ is in cc
-front_more (Some bytes) items old new offset count found front at read is =
-    front_of bytes items old new offset count (min (length old) (length bytes - offset)) front at refl read.1 (some_count (min (length old) (length bytes - offset)) count (sym read.0 ∙ is))
 
 -- what one call reads of a file that stays
 pub read_stays : (v w : View) (name : List ℕ) (file : Option (List ℕ)) (P : Option (List ℕ) → Type 0) → Later v w → Stays v name file → IfSome w.files (λ m. P (map.get m name)) → P file
@@ -53,26 +30,11 @@ more_of v w name items old new offset count found file e s read front at is =
     let P : Option (List ℕ) → Type 0 = λ f. IsRead f offset old new found in
     front_more file items old new offset count found front at (read_stays v w name file P e s read) is
 
--- a read of nothing into some room, behind all that there is
-no_more : (bytes items : List ℕ) (offset room n : ℕ) → 0 < room → items ≡ take (length items) bytes → offset ≡ length items → n ≡ min room (length bytes - offset) → n ≡ 0 → items ≡ bytes
-no_more bytes items offset room n some front at is none =
-    let all : length bytes ≤ length items = omega (arith, some, at, is, none) in
-    front ∙ take_all (length items) bytes all
-
-whole_file : (file : Option (List ℕ)) (items old new : List ℕ) (offset : ℕ) (found : Option ℕ) → 0 < length old → IsFrontOf items file → offset ≡ length items → IsRead file offset old new found → found ≡ Some 0 → items ≡ unwrap_or file []
-whole_file None items old new offset found some front at read is = front
-whole_file (Some bytes) items old new offset found some front at read is =
-    no_more bytes items offset (length old) (min (length old) (length bytes - offset)) some front at refl (some_count (min (length old) (length bytes - offset)) 0 (sym read.0 ∙ is))
-
 pub end_of : (v w : View) (name items old new : List ℕ) (offset : ℕ) (found : Option ℕ) (file : Option (List ℕ)) → Later v w → Stays v name file → IfSome w.files (λ m. IsRead (map.get m name) offset old new found)
     → 0 < length old → IsFrontOf items file → offset ≡ length items → found ≡ Some 0 → items ≡ unwrap_or file []
 end_of v w name items old new offset found file e s read some front at is =
     let P : Option (List ℕ) → Type 0 = λ f. IsRead f offset old new found in
     whole_file file items old new offset found some front at (read_stays v w name file P e s read) is
-
-no_bytes : (file : Option (List ℕ)) (offset : ℕ) (old new : List ℕ) (found : Option ℕ) → IsRead file offset old new found → found ≡ None → [] ≡ unwrap_or file []
-no_bytes None offset old new found read is = refl
-no_bytes (Some bytes) offset old new found read is = let h : ◌≡◌ {A = Option ℕ} (Some (min (length old) (length bytes - offset))) None = sym read.0 ∙ is in cc
 
 pub none_of : (v w : View) (name old new : List ℕ) (offset : ℕ) (found : Option ℕ) (file : Option (List ℕ)) → Later v w → Stays v name file → IfSome w.files (λ m. IsRead (map.get m name) offset old new found) → found ≡ None → [] ≡ unwrap_or file []
 none_of v w name old new offset found file e s read is =

@@ -9,7 +9,7 @@ use Rattle.fsfs_base.specs.declared.small_fault.SmallFault.{SmallFault}
 use Rattle.fsfs_disk.specs.Trace.{IsRead}
 use Rattle.fsfs_rev_file.specs.RevBytes.{floor_of, floor_in, text_in}
 use Rattle.fsfs_fetch.specs.Answers.{refused}
-use Rattle.fsfs_fetch.proofs.FileLemmas.{read_bytes}
+use Rattle.fsfs_disk.proofs.WholeFiles.{read_bytes}
 
 -- one call reads the first 64 bytes
 first_bytes : (file : Option (List ℕ)) (old new : List ℕ) (found : Option ℕ) → length old ≡ 64 → IsRead file 0 old new found → take (unwrap_or found 0) new ≡ take 64 (unwrap_or file [])

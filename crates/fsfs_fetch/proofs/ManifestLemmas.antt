@@ -1,12 +1,13 @@
 -- Manifests, as they are read and kept.
 use Rattle.std.proofs.Common.{◌≡◌, ◌≤◌, ◌<◌, ℕ, ◌+◌, ◌-◌, ◌/◌, List, ◌++◌, length, take, drop, refl, sym, ap, subst, ◌∙◌, arith, append_assoc, Bool, true, false, cond}
 use Rattle.std.specs.Prelude.{Option, Some, None, Result, Ok, Err, ◌==◌}
+use Rattle.std.proofs.lemmas.Bool.{eqb-true}
 use Rattle.std.specs.Cmp.Lexicographic.{same_text, nat_list_eq_equiv}
 use Rattle.std.proofs.lemmas.Bool.Decides.{nat_tests}
 use Rattle.fsfs_base.specs.Files.{Files}
 use Rattle.fsfs_base.specs.declared.small_fault.SmallFile.TheVariants.{Manifest}
 use Rattle.fsfs_base.specs.declared.small_fault.SmallFault.{SmallFault}
-use Rattle.fsfs_layout.specs.Names.{small_name}
+use Rattle.fsfs_layout.specs.FileNames.{small_name}
 use Rattle.fsfs_book.specs.declared.book.BookFault.{BookFault}
 use Rattle.fsfs_book.specs.declared.book.BookFault.TheVariants.{Refused, Short, DiskFault, OutOfMemory}
 use Rattle.fsfs_book.specs.Told.{Gives}
@@ -33,9 +34,6 @@ offsets_same offsets (Err f) e = cc
 pub same_offsets : (offsets : List ℕ) (r : Result (List ℕ) SmallFault) → r ≡ Ok offsets → are_offsets offsets r ≡ true
 same_offsets offsets r e = ap (are_offsets offsets) e ∙ nat_list_eq_equiv.refl offsets
 
-pub eq_true : (a b : ℕ) → (a == b) ≡ true → a ≡ b
-eq_true a b e = grind (arith, nat_tests)
-
 kept_ok : (n : ℕ) (m : Files) (kept : Option KeptManifest) (rev shard : ℕ) → fits n m kept rev ≡ true → rev / n ≡ shard → keeps_shard kept shard ≡ true → manifest_in n m shard ≡ Ok (kept_offsets kept)
 kept_ok n m None rev shard fit e is = cc
 kept_ok n m (Some kept) rev shard fit e is =
@@ -56,7 +54,7 @@ if_other false test f = refl
 pub read_serves : (n : ℕ) (m : Files) (rev shard : ℕ) (offsets : List ℕ) → (rev / n ≡ shard → manifest_in n m shard ≡ Ok offsets) → cond (shard == rev / n) (are_offsets offsets (manifest_in n m (rev / n))) true ≡ true
 read_serves n m rev shard offsets read =
     if_other (shard == rev / n) (are_offsets offsets (manifest_in n m (rev / n)))
-    (λ e. let same : rev / n ≡ shard = sym (eq_true shard (rev / n) e) in
+    (λ e. let same : rev / n ≡ shard = sym (eqb-true shard (rev / n) e) in
     let Q : ℕ → Type 0 = λ k. manifest_in n m k ≡ Ok offsets in
     same_offsets offsets (manifest_in n m (rev / n)) (subst Q (sym same) (read same)))
 

@@ -11,6 +11,7 @@ ghost use Rattle.fsfs_fetch.specs.Answers.{as_book, Stays};
 use crate::files::{read_at, size_at};
 use crate::manifests::{KeptManifest, keep_manifest, offsets_of};
 use crate::reads::Reads;
+use fsfs_base::fitting;
 use fsfs_book::{BookFault, Refusal};
 use fsfs_layout::names;
 use fsfs_rev_file::Section;
@@ -71,14 +72,6 @@ pub(crate) fn packed_len<R: Reads>(
     Ok(section.length)
 }
 
-// The lesser of what is left of a section from an offset on and the buffer's length.
-fn fitting(section: Section, offset: u64, room: usize) -> usize
-    requires { offset ≤ section.length }
-    ensures { result ≡ min (section.length - offset) room }
-{
-    (section.length - offset).min(room as u64) as usize
-}
-
 // A part of a section of a pack.
 fn section_part<R: Reads>(
     reads: &mut R,
@@ -97,7 +90,7 @@ fn section_part<R: Reads>(
     ensures cause { HasCause (R.faults reads.old) (R.faults reads.new) result }
 {
     let shard = rev / reads.shard_size();
-    let count = fitting(section, offset, buffer.len());
+    let count = fitting(buffer.len(), section.length - offset);
     match read_at(
         reads,
         &names::pack(shard),

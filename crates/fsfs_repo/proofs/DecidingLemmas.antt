@@ -1,6 +1,7 @@
 -- What the small files decide, by what `db/format` says.
 use Rattle.std.proofs.Common.{◌≡◌, ℕ, List, inl, inr, refl, sym, subst, ◌∙◌}
 use Rattle.std.specs.Prelude.{Option, Some, None, IfSome, Result, Ok, Err}
+use Rattle.std.proofs.lemmas.Option.{same_Some}
 use Rattle.fsfs_base.specs.declared.small_fault.SmallFault.{SmallFault}
 use Rattle.fsfs_disk.specs.Trace.{Trace, files_now}
 use Rattle.fsfs_layout.specs.Formats.{IsFormat}
@@ -18,9 +19,7 @@ pub record Has (s : SmallTexts) (text : List ℕ) (Says : Format → Type 0) : T
   pub only : (g : Format) → IsFormat text g → Says g
 
 same_text : (s : SmallTexts) (text other : List ℕ) → IsFsfs s text → IsFsfs s other → other ≡ text
-same_text s text other a b = some_is other text (sym b.there ∙ a.there) where
-  some_is : (x y : List ℕ) → ◌≡◌ {A = Option (List ℕ)} (Some x) (Some y) → x ≡ y
-  some_is x y e = cc
+same_text s text other a b = same_Some other text (sym b.there ∙ a.there)
 
 says : (s : SmallTexts) (text other : List ℕ) (Says : Format → Type 0) (g : Format) → Has s text Says → IsFsfs s other → IsFormat other g → Says g
 says s text other Says g h is w = h.only g (subst (λ (t : List ℕ). IsFormat t g) (same_text s text other h.is is) w)

@@ -1,6 +1,7 @@
 -- The refusals of an opening, from what each reader says of its bytes.
 use Rattle.std.proofs.Common.{◌≡◌, ◌≤◌, ◌<◌, ◌+◌, ℕ, zero, suc, List, [], ◌∷◌, ◌++◌, true, false, inl, inr, ⊎_elim, refl, sym, ap, subst, ◌∙◌, arith}
 use Rattle.std.specs.Prelude.{Option, Some, None, IfSome, Result, Ok, Err, IfErr, option_map}
+use Rattle.std.proofs.lemmas.Option.{same_Some}
 use Rattle.fsfs_base.specs.declared.small_fault.SmallFault.{SmallFault}
 use Rattle.fsfs_text.specs.Grammar.{begins}
 use Rattle.std.proofs.lemmas.Fmt.{decimal_digit}
@@ -101,9 +102,7 @@ all_because rose told s (Err why) is h = opens_because rose told s why is h
 pub same_texts : (old new : Option Trace) (s : SmallTexts) → option_map files_now new ≡ option_map files_now old → IfSome new (λ t. s ≡ small_texts (files_now t)) → IfSome old (λ t. s ≡ small_texts (files_now t))
 same_texts None new s is h = tt
 same_texts (Some t) None s is h = let bad : ◌≡◌ {A = Option _} None (Some (files_now t)) = is in cc
-same_texts (Some t) (Some u) s is h = h ∙ ap small_texts (some_is is) where
-  some_is : ◌≡◌ {A = Option _} (Some (files_now u)) (Some (files_now t)) → files_now u ≡ files_now t
-  some_is e = cc
+same_texts (Some t) (Some u) s is h = h ∙ ap small_texts (same_Some (files_now u) (files_now t) is)
 
 -- firm names are the same files, whichever way the call ended
 pub firm_same : (old new : Option Trace) → FailsAt FirmNames old new → option_map files_now new ≡ option_map files_now old

@@ -1,38 +1,9 @@
--- The pieces of a file that is read as a whole.
-use Rattle.std.proofs.Common.{◌≡◌, ◌≤◌, ℕ, ◌+◌, ◌-◌, List, ◌++◌, length, take, drop, min, refl, sym, ap, ◌∙◌, arith}
+-- The pieces of a file that is read as a whole, of what a disk tells.
+use Rattle.std.proofs.Common.{◌≡◌, ℕ, List, ◌++◌, length, take}
 use Rattle.std.specs.Prelude.{Option, Some, None, IfSome}
-use Rattle.std.proofs.Math.Seq.{take-add}
-use Rattle.std.proofs.lemmas.List.{length-take, length-drop, take-append-le, take_all, length-append}
 use Rattle.fsfs_disk.specs.Trace.{Trace, file_at, IsRead}
-use Rattle.fsfs_repo.specs.WholeFile.{IsFrontOf}
+use Rattle.fsfs_disk.proofs.WholeFiles.{IsFrontOf, front_more}
 
-same_count : (n m : ℕ) → ◌≡◌ {A = Option ℕ} (Some n) (Some m) → n ≡ m
-same_count n m e = cc
-
--- the bytes that one read puts in front of the buffer
-read_bytes : (bytes old : List ℕ) (offset n : ℕ) → n ≤ length bytes - offset → take n (take n (drop offset bytes) ++ drop n old) ≡ take n (drop offset bytes)
-read_bytes bytes old offset n le =
-    take-append-le n (take n (drop offset bytes)) (drop n old) (omega (arith, length-take n (drop offset bytes), length-drop offset bytes, le))
-    ∙ take_all n (take n (drop offset bytes)) (omega (arith, length-take n (drop offset bytes)))
-
-front_of : (bytes items old new : List ℕ) (offset count n : ℕ) → items ≡ take (length items) bytes → offset ≡ length items → n ≡ min (length old) (length bytes - offset) → new ≡ take n (drop offset bytes) ++ drop n old → n ≡ count
-    → items ++ take count new ≡ take (length (items ++ take count new)) bytes
-front_of bytes items old new offset count n front at is read same =
-    let le : n ≤ length bytes - offset = omega (arith, is) in
-    let got : take count new ≡ take n (drop offset bytes) = ap (λ k. take k new) (sym same) ∙ ap (take n) read ∙ read_bytes bytes old offset n le in
-    let here : items ≡ take offset bytes = front ∙ ap (λ k. take k bytes) (sym at) in
-    let whole : items ++ take count new ≡ take (offset + n) bytes = ap (λ xs. xs ++ take count new) here ∙ ap (λ xs. take offset bytes ++ xs) got ∙ sym (take-add offset n bytes) in
-    let count_is : length (items ++ take count new) ≡ offset + n =
-    length-append items (take count new) ∙ omega (arith, at, ap length got, length-take n (drop offset bytes), length-drop offset bytes, le) in
-    whole ∙ ap (λ k. take k bytes) (sym count_is)
-
-pub front_more : (file : Option (List ℕ)) (items old new : List ℕ) (offset count : ℕ) (found : Option ℕ) → IsFrontOf items file → offset ≡ length items → IsRead file offset old new found → found ≡ Some count
-    → IsFrontOf (items ++ take count new) file
-front_more None items old new offset count found front at read is = let h : None ≡ Some count = sym read.0 ∙ is in cc
-front_more (Some bytes) items old new offset count found front at read is =
-    front_of bytes items old new offset count (min (length old) (length bytes - offset)) front at refl read.1 (same_count (min (length old) (length bytes - offset)) count (sym read.0 ∙ is))
-
--- the same of what a disk tells
 pub told_more : (told : Option Trace) (name items old new : List ℕ) (offset count : ℕ) (found : Option ℕ) → IfSome told (λ t. IsFrontOf items (file_at t name)) → offset ≡ length items
     → IfSome told (λ t. IsRead (file_at t name) offset old new found) → found ≡ Some count → IfSome told (λ t. IsFrontOf (items ++ take count new) (file_at t name))
 told_more None name items old new offset count found front at read is = tt

@@ -1,5 +1,4 @@
--- A file read as a whole, piece by piece.
-use Rattle.std.specs.Prelude.{◌≡◌, ℕ, List, [], length, take, Option, Some, None}
+-- Why a file was not read as a whole.
 use Rattle.fsfs_repo.specs.declared.whole_file.FileFault.{FileFault}
 use Rattle.fsfs_repo.specs.declared.whole_file.FileFault.TheVariants.{Failed, Memory}
 
@@ -7,8 +6,3 @@ use Rattle.fsfs_repo.specs.declared.whole_file.FileFault.TheVariants.{Failed, Me
 abbrev pub IfFailed : Type 0 → FileFault → Type 0
 IfFailed P Failed = P
 IfFailed P Memory = Unit {0}
-
--- the first bytes of a file; nothing of one that isn't there
-abbrev pub IsFrontOf : List ℕ → Option (List ℕ) → Type 0
-IsFrontOf front None = front ≡ []
-IsFrontOf front (Some bytes) = front ≡ take (length front) bytes

@@ -1,7 +1,7 @@
 use Rattle.std.proofs.Common.{◌≡◌, ◌<◌, ℕ, length, sym, ap, subst, ◌∙◌, arith}
 use Rattle.std.specs.Prelude.{Some}
 use Rattle.std.proofs.lemmas.Grind.{common_steps}
-use Rattle.fsfs_fetch.specs.Answers.{IsFrontOf}
+use Rattle.fsfs_disk.proofs.WholeFiles.{IsFrontOf}
 use Rattle.fsfs_fetch.proofs.ViewLemmas.{later_more, stays_later}
 use Rattle.fsfs_fetch.proofs.FileLemmas.{more_of, end_of, none_of}
 use Rattle.fsfs_fetch.proofs.files.load.Goals as goal

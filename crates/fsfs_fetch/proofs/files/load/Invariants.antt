@@ -1,7 +1,8 @@
 use Rattle.std.proofs.Common.{◌≡◌, ◌≤◌, List, ℕ, length}
 use Rattle.std.specs.Prelude.{Option}
 use Rattle.fsfs_fetch.specs.Views.{Later}
-use Rattle.fsfs_fetch.specs.Answers.{Stays, IsFrontOf}
+use Rattle.fsfs_disk.proofs.WholeFiles.{IsFrontOf}
+use Rattle.fsfs_fetch.specs.Answers.{Stays}
 use Rattle.fsfs_fetch.proofs.files.load.Given as goal
 
 -- the bytes so far are the first of the file

@@ -2,7 +2,7 @@ use Rattle.std.proofs.Common.{◌≡◌, length, sym, subst, ◌∙◌, arith}
 use Rattle.std.proofs.lemmas.Grind.{common_steps}
 use Rattle.std.specs.Prelude.{IfSome}
 use Rattle.fsfs_disk.specs.Trace.{file_at, IsRead}
-use Rattle.fsfs_repo.specs.WholeFile.{IsFrontOf}
+use Rattle.fsfs_disk.proofs.WholeFiles.{IsFrontOf}
 use Rattle.fsfs_repo.proofs.WholeFileLemmas.{told_more}
 use Rattle.fsfs_repo.proofs.whole_file.read_file.Goals as goal
 

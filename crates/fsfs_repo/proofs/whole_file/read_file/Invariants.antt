@@ -1,7 +1,7 @@
 use Rattle.std.proofs.Common.{◌≡◌, ◌≤◌}
 use Rattle.std.specs.Prelude.{IfSome}
 use Rattle.fsfs_disk.specs.Trace.{file_at}
-use Rattle.fsfs_repo.specs.WholeFile.{IsFrontOf}
+use Rattle.fsfs_disk.proofs.WholeFiles.{IsFrontOf}
 use Rattle.fsfs_repo.proofs.whole_file.read_file.Given as goal
 
 -- the bytes so far are the first of the file
