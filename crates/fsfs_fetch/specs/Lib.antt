@@ -3,3 +3,4 @@ pub mod Owned
 pub mod Kept
 pub mod Answers
 pub mod KeptLemmas
+pub mod PartsLater
