@@ -11,6 +11,7 @@ mod node;
 mod pairs;
 mod path;
 mod path_text;
+mod room;
 mod small_fault;
 mod tree;
 
@@ -29,5 +30,6 @@ pub use node::{Kind, Node, Text};
 pub use pairs::Pairs;
 pub use path::FsPath;
 pub use path_text::is_name;
+pub use room::fitting;
 pub use small_fault::{SmallFault, SmallFile};
 pub use tree::Tree;

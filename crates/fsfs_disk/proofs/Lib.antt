@@ -1,3 +1,4 @@
 pub mod TraceLemmas
 pub mod CrashLemmas
 pub mod StreamLemmas
+pub mod WholeFiles

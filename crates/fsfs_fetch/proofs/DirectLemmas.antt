@@ -1,6 +1,8 @@
 -- What a reader finds by the floor and the manifest that it keeps.
 use Rattle.std.proofs.Common.{◌≡◌, ◌≤◌, ◌<◌, ℕ, ◌/◌, List, [], refl, sym, ap, subst, ◌∙◌, inl, inr, arith, Bool, true, false, cond, nat_lt}
 use Rattle.std.specs.Prelude.{Option, Some, None, Result, Ok, Err, IfSome, unwrap_or, ◌==◌, ◌&&◌, ◌⊎◌, codes}
+use Rattle.std.proofs.lemmas.Bool.{and_parts, lt-ltb, le-ltb}
+use Rattle.std.proofs.lemmas.Option.{same_Some}
 use Rattle.std.specs.Cmp.Lexicographic.{same_text, nat_list_eq_equiv}
 use Rattle.std.proofs.lemmas.Bool.Decides.{nat_tests}
 use Rattle.std.specs.FinMap as map
@@ -13,36 +15,26 @@ use Rattle.fsfs_book.specs.declared.book.BookFault.{BookFault}
 use Rattle.fsfs_book.specs.declared.book.BookFault.TheVariants.{Refused, Short, DiskFault, OutOfMemory}
 use Rattle.fsfs_book.specs.Told.{Gives, part_read, size_read}
 use Rattle.fsfs_fetch.specs.declared.manifests.KeptManifest.{KeptManifest}
-use Rattle.fsfs_fetch.specs.RevBytes.{floor_in, rev_bytes, packed_bytes, by_floor, or_missing, rev_file, props_file, props_bytes, manifest_of}
+use Rattle.fsfs_rev_file.specs.RevBytes.{floor_in, rev_bytes, packed_bytes, by_floor, or_missing, rev_file, props_file, props_bytes, manifest_of}
 use Rattle.fsfs_fetch.specs.Views.{Reach, IsKnown, View, Follows, Later, is_packed, is_below}
 use Rattle.fsfs_fetch.specs.Answers.{MayGo, FromFile, refused}
 use Rattle.fsfs_fetch.specs.Kept.{fits, agrees, is_right, are_offsets, IsPackedAt, ServesAsWell, IsFoundAt, FindsAsWell, IsGoneAt}
-use Rattle.fsfs_fetch.proofs.ViewLemmas.{next, told_at, known_later, some_files}
+use Rattle.fsfs_fetch.proofs.ViewLemmas.{next, told_at, known_later}
 use Rattle.fsfs_fetch.proofs.ManifestLemmas.{refused_ok}
 
 -- ---- the test of what is kept, taken apart and put together
-
-both : (a b : Bool) → (a && b) ≡ true → (a ≡ true) × (b ≡ true)
-both true b e = (refl, e)
-both false b e = cc
-
-lesser : (a b : ℕ) → a < b → nat_lt a b ≡ true
-lesser a b lt = grind (arith, nat_tests)
-
-not_lesser : (a b : ℕ) → b ≤ a → nat_lt a b ≡ false
-not_lesser a b le = grind (arith, nat_tests)
 
 pub right_below : (n : ℕ) (m : Files) (floor : ℕ) (kept : Option KeptManifest) (rev : ℕ) → rev < floor → is_right n m floor kept rev ≡ true → (is_packed n m rev ≡ true) × (fits n m kept rev ≡ true)
 unfolding is_right
 right_below n m floor kept rev lt e =
     let P : Bool → Type 0 = λ b. cond b (is_packed n m rev && fits n m kept rev) (agrees (rev_file n m rev) (rev_bytes n m rev)) ≡ true in
-    both (is_packed n m rev) (fits n m kept rev) (subst P (lesser rev floor lt) e)
+    and_parts (is_packed n m rev) (fits n m kept rev) (subst P (lt-ltb rev floor lt) e)
 
 pub right_above : (n : ℕ) (m : Files) (floor : ℕ) (kept : Option KeptManifest) (rev : ℕ) → floor ≤ rev → is_right n m floor kept rev ≡ true → agrees (rev_file n m rev) (rev_bytes n m rev) ≡ true
 unfolding is_right
 right_above n m floor kept rev le e =
     let P : Bool → Type 0 = λ b. cond b (is_packed n m rev && fits n m kept rev) (agrees (rev_file n m rev) (rev_bytes n m rev)) ≡ true in
-    subst P (not_lesser rev floor le) e
+    subst P (le-ltb rev floor le) e
 
 chosen : (b packed fit own : Bool) → (b ≡ true → (packed ≡ true) × (fit ≡ true)) → (b ≡ false → own ≡ true) → cond b (packed && fit) own ≡ true
 chosen true packed fit own f g = let h = f refl in rw (h.0, h.1) refl
@@ -109,7 +101,7 @@ own_agrees n m rev fresh None read e f = refl
 own_agrees n m rev fresh (Some bytes) read e f = ap (agrees (Some bytes)) f ∙ nat_list_eq_equiv.refl bytes
 
 by_floor_own : (n : ℕ) (m : Files) (rev floor : ℕ) (r : Result ℕ SmallFault) → r ≡ Ok floor → floor ≤ rev → by_floor n m rev r ≡ or_missing rev (rev_file n m rev)
-by_floor_own n m rev floor r e le = let past : nat_lt rev floor ≡ false = not_lesser rev floor le in ap (by_floor n m rev) e ∙ rw past refl
+by_floor_own n m rev floor r e le = let past : nat_lt rev floor ≡ false = le-ltb rev floor le in ap (by_floor n m rev) e ∙ rw past refl
 
 bytes_own : (n : ℕ) (m : Files) (rev floor : ℕ) → floor_in n m ≡ Ok floor → floor ≤ rev → rev_bytes n m rev ≡ or_missing rev (rev_file n m rev)
 unfolding rev_bytes
@@ -119,7 +111,7 @@ bytes_own n m rev floor e le = by_floor_own n m rev floor (floor_in n m) e le
 pub fresh_right : (n : ℕ) (m : Files) (rev floor : ℕ) → floor_in n m ≡ Ok floor → is_right n m floor None rev ≡ true
 fresh_right n m rev floor is =
     make_right n m floor None rev
-    (λ lt. (below_is n m rev floor is ∙ lesser rev floor lt, refl))
+    (λ lt. (below_is n m rev floor is ∙ lt-ltb rev floor lt, refl))
     (λ le. own_agrees n m rev floor (rev_file n m rev) (rev_bytes n m rev) refl (bytes_own n m rev floor is le))
 
 -- a floor that was read anew
@@ -152,7 +144,7 @@ bytes_packed n m rev e = by_floor_packed n m rev (floor_in n m) e
 pub bytes_gone : (n : ℕ) (m : Files) (rev floor : ℕ) → floor_in n m ≡ Ok floor → floor ≤ rev → rev_file n m rev ≡ None → rev_bytes n m rev ≡ Err (Missing rev)
 unfolding rev_bytes
 bytes_gone n m rev floor e le gone =
-    let past : nat_lt rev floor ≡ false = not_lesser rev floor le in
+    let past : nat_lt rev floor ≡ false = le-ltb rev floor le in
     ap (by_floor n m rev) e ∙ rw past (ap (or_missing rev) gone)
 
 pub bytes_fault : (n : ℕ) (m : Files) (rev : ℕ) (fault : SmallFault) → floor_in n m ≡ Err fault → rev_bytes n m rev ≡ Err (Small fault)
@@ -180,7 +172,7 @@ pub gone_at : (v w : View) (m : Files) (rev n : ℕ) (name : List ℕ) → Later
     → (new : Files) × (IsGoneAt w rev new) × (rev_bytes w.shard_size new rev ≡ rev_bytes v.shard_size m rev)
 gone_at v w m rev n name e told known same named p =
     let k = next v w m e told in
-    let one : k.files ≡ p.0 = some_files k.files p.0 (sym k.told ∙ p.1) in
+    let one : k.files ≡ p.0 = same_Some k.files p.0 (sym k.told ∙ p.1) in
     let is : in_shard (codes "db/revs") w.shard_size rev ≡ name = ap (λ j. in_shard (codes "db/revs") j rev) (e.size ∙ sym same) ∙ sym named in
     let gone : rev_file w.shard_size k.files rev ≡ None = ap (map.get k.files) is ∙ ap (λ f. map.get f name) one ∙ p.2 in
     (k.files, record { told = k.told; known = known_later v.reach w.reach rev e.reach known; gone = gone }, ap (λ j. rev_bytes j k.files rev) e.size ∙ k.follows.bytes rev known)
@@ -246,7 +238,7 @@ fresh_floor v w m rev fresh later p h =
 
 pub fresh_packed : (v w : View) (m : Files) (rev fresh : ℕ) (f : Fresh v w m rev fresh) → rev < fresh → (IsPackedAt w None rev f.new) × (packed_bytes w.shard_size f.new rev ≡ rev_bytes v.shard_size m rev)
 fresh_packed v w m rev fresh f lt =
-    let packed : is_packed w.shard_size f.new rev ≡ true = below_is w.shard_size f.new rev fresh f.floor ∙ lesser rev fresh lt in
+    let packed : is_packed w.shard_size f.new rev ≡ true = below_is w.shard_size f.new rev fresh f.floor ∙ lt-ltb rev fresh lt in
     (record { told = f.told; packed = packed; fits = refl }, sym (bytes_packed w.shard_size f.new rev packed) ∙ f.bytes)
 
 pub fresh_missing : (v w : View) (m : Files) (rev fresh : ℕ) (f : Fresh v w m rev fresh) → fresh ≤ rev → rev_bytes v.shard_size m rev ≡ Err (Missing rev)
@@ -333,7 +325,7 @@ pub props_gone : (v w : View) (m : Files) (rev n : ℕ) (name : List ℕ) → La
     → props_bytes v.shard_size m rev ≡ Err (Missing rev)
 props_gone v w m rev n name e told known same named p =
     let k = next v w m e told in
-    let one : k.files ≡ p.0 = some_files k.files p.0 (sym k.told ∙ p.1) in
+    let one : k.files ≡ p.0 = same_Some k.files p.0 (sym k.told ∙ p.1) in
     let is : in_shard (codes "db/revprops") v.shard_size rev ≡ name = ap (λ j. in_shard (codes "db/revprops") j rev) (sym same) ∙ sym named in
     let gone : props_file v.shard_size k.files rev ≡ None = ap (map.get k.files) is ∙ ap (λ f. map.get f name) one ∙ p.2 in
     ap (or_missing rev) (sym (k.follows.props rev known) ∙ gone)

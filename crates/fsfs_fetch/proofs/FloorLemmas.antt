@@ -1,33 +1,15 @@
 -- The floor, as it is read.
-use Rattle.std.proofs.Common.{◌≡◌, ◌≢◌, ℕ, ◌-◌, ◌%◌, List, [], length, take, min, refl, sym, ap, subst, ◌∙◌, arith, false}
-use Rattle.std.specs.Prelude.{Option, Some, None, Result, Ok, Err, IfSome, unwrap_or, ◌==◌, codes}
+use Rattle.std.proofs.Common.{◌≡◌, ℕ, ◌-◌, List, [], length, take, min, sym, ap, subst, ◌∙◌, arith}
+use Rattle.std.specs.Prelude.{Option, Some, None, Result, Ok, Err, IfSome, unwrap_or, codes}
 use Rattle.std.proofs.lemmas.List.{take_min}
-use Rattle.std.proofs.lemmas.Bool.Decides.{nat_tests}
 use Rattle.std.specs.FinMap as map
 use Rattle.fsfs_base.specs.Files.{Files}
 use Rattle.fsfs_base.specs.declared.small_fault.SmallFile.TheVariants.{MinUnpackedRev}
 use Rattle.fsfs_base.specs.declared.small_fault.SmallFault.{SmallFault}
 use Rattle.fsfs_disk.specs.Trace.{IsRead}
-use Rattle.fsfs_layout.specs.Reading.{rev_line_at}
-use Rattle.fsfs_fetch.specs.RevBytes.{placed, of_whole_shards, floor_of, floor_in, text_in}
+use Rattle.fsfs_rev_file.specs.RevBytes.{floor_of, floor_in, text_in}
 use Rattle.fsfs_fetch.specs.Answers.{refused}
-use Rattle.fsfs_fetch.proofs.FileLemmas.{read_bytes}
-use Rattle.fsfs_fetch.proofs.ManifestLemmas.{fault_is, true_eq}
-
-pub floor_ok : (n rev : ℕ) (text : List ℕ) → rev_line_at text ≡ Ok rev → rev % n ≡ 0 → floor_of n text ≡ Ok rev
-unfolding floor_of
-floor_ok n rev text e whole = ap (λ r. of_whole_shards n (placed MinUnpackedRev text r)) e ∙ rw (true_eq (rev % n) 0 whole) refl
-
-other_number : (a b : ℕ) → a ≢ b → (a == b) ≡ false
-other_number a b ne = grind (arith, nat_tests)
-
-pub floor_inside : (n rev : ℕ) (text : List ℕ) (fault : SmallFault) → rev_line_at text ≡ Ok rev → rev % n ≢ 0 → fault.file ≡ MinUnpackedRev → fault.at ≡ 0 → floor_of n text ≡ Err fault
-unfolding floor_of
-floor_inside n rev text fault e inside file at = ap (λ r. of_whole_shards n (placed MinUnpackedRev text r)) e ∙ rw (other_number (rev % n) 0 inside) (ap (λ (f : SmallFault). Err f) (fault_is fault MinUnpackedRev 0 file at))
-
-pub floor_bad : (n left : ℕ) (text : List ℕ) (fault : SmallFault) → rev_line_at text ≡ Err left → fault.file ≡ MinUnpackedRev → fault.at ≡ length text - left → floor_of n text ≡ Err fault
-unfolding floor_of
-floor_bad n left text fault e file at = ap (λ r. of_whole_shards n (placed MinUnpackedRev text r)) e ∙ ap (λ (f : SmallFault). Err f) (fault_is fault MinUnpackedRev (length text - left) file at)
+use Rattle.fsfs_disk.proofs.WholeFiles.{read_bytes}
 
 -- one call reads the first 64 bytes
 first_bytes : (file : Option (List ℕ)) (old new : List ℕ) (found : Option ℕ) → length old ≡ 64 → IsRead file 0 old new found → take (unwrap_or found 0) new ≡ take 64 (unwrap_or file [])

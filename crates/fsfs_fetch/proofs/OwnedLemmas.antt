@@ -4,7 +4,7 @@ use Rattle.std.specs.Prelude.{Option, Some, Ok, option_map}
 use Rattle.fsfs_base.specs.Files.{Files}
 use Rattle.fsfs_disk.specs.Trace.{Trace, files_now}
 use Rattle.fsfs_book.specs.Told.{Telling}
-use Rattle.fsfs_fetch.specs.RevBytes.{rev_bytes, props_bytes, floor_in}
+use Rattle.fsfs_rev_file.specs.RevBytes.{rev_bytes, props_bytes, floor_in}
 use Rattle.fsfs_fetch.specs.Kept.{TellsFiles}
 use Rattle.fsfs_fetch.specs.Views.{DiskState}
 use Rattle.fsfs_fetch.specs.Owned.{owned_view, state_of, TellsAll}

@@ -14,12 +14,13 @@ use Rattle.fsfs_book.specs.declared.book.BookFault.{BookFault}
 use Rattle.fsfs_book.specs.declared.book.BookFault.TheVariants.{Refused, Short, DiskFault, OutOfMemory}
 use Rattle.fsfs_book.specs.Told.{Gives, size_read, part_read}
 use Rattle.fsfs_fetch.specs.declared.manifests.KeptManifest.{KeptManifest}
-use Rattle.fsfs_fetch.specs.declared.packs.Section.{Section}
-use Rattle.fsfs_fetch.specs.RevBytes.{manifest_in, pack_in, section_at, section_of, packed_section, packed_bytes, cut, cut_from}
+use Rattle.fsfs_rev_file.specs.declared.section.Section.{Section}
+use Rattle.fsfs_rev_file.specs.RevBytes.{manifest_in, pack_in, section_at, section_of, packed_section, packed_bytes, cut, cut_from}
 use Rattle.fsfs_fetch.specs.Views.{View, Later}
 use Rattle.fsfs_fetch.specs.Answers.{Stays, refused, as_book}
 use Rattle.fsfs_fetch.specs.Kept.{IsPackedAt}
-use Rattle.fsfs_fetch.proofs.FileLemmas.{read_stays, read_bytes}
+use Rattle.fsfs_disk.proofs.WholeFiles.{read_bytes}
+use Rattle.fsfs_fetch.proofs.FileLemmas.{read_stays}
 use Rattle.fsfs_fetch.proofs.ViewLemmas.{stays_later}
 
 pub pack_stays : (view : View) (kept : Option KeptManifest) (rev : ℕ) (m : Files) → IsPackedAt view kept rev m → Stays view (in_pack (rev / view.shard_size) (codes "/pack")) (pack_in m (rev / view.shard_size))

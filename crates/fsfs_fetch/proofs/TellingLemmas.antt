@@ -1,6 +1,8 @@
 -- What a reader tells, taken apart and put together.
 use Rattle.std.proofs.Common.{◌≡◌, ◌≤◌, ◌<◌, ℕ, ◌^◌, ◌/◌, List, [], length, drop, refl, sym, ap, subst, ◌∙◌, inl, inr, arith, Bool, true, false, cond, nat_lt}
 use Rattle.std.specs.Prelude.{Option, Some, None, Result, Ok, Err, IfSome, ◌&&◌, ◌⊎◌}
+use Rattle.std.proofs.lemmas.Bool.{lt-ltb, le-ltb}
+use Rattle.std.proofs.lemmas.Option.{same_Some}
 use Rattle.std.proofs.lemmas.List.{length-take, length-drop}
 use Rattle.std.proofs.lemmas.Bool.Decides.{nat_tests}
 use Rattle.fsfs_base.specs.Files.{Files}
@@ -11,11 +13,11 @@ use Rattle.fsfs_book.specs.declared.book.BookFault.{BookFault}
 use Rattle.fsfs_book.specs.declared.book.BookFault.TheVariants.{Refused}
 use Rattle.fsfs_book.specs.Told.{Keeps, Gives}
 use Rattle.fsfs_fetch.specs.declared.manifests.KeptManifest.{KeptManifest}
-use Rattle.fsfs_fetch.specs.declared.packs.Section.{Section}
-use Rattle.fsfs_fetch.specs.RevBytes.{rev_bytes, rev_file, props_bytes, or_missing, by_floor, floor_in, packed_bytes, packed_section, pack_in, cut, cut_from}
+use Rattle.fsfs_rev_file.specs.declared.section.Section.{Section}
+use Rattle.fsfs_rev_file.specs.RevBytes.{rev_bytes, rev_file, props_bytes, or_missing, by_floor, floor_in, packed_bytes, packed_section, pack_in, cut, cut_from}
 use Rattle.fsfs_fetch.specs.Views.{Reach, Ends, Grows, IsKnown, IsYoungest, Extends, View, Later}
 use Rattle.fsfs_fetch.specs.Kept.{HasShortFiles, TellsFiles, telling, within, revs_in, props_in, is_short, is_right, last_of, IsFoundAt, FindsAsWell}
-use Rattle.fsfs_fetch.proofs.ViewLemmas.{next, known_later, some_files}
+use Rattle.fsfs_fetch.proofs.ViewLemmas.{next, known_later}
 use Rattle.fsfs_fetch.proofs.DirectLemmas.{found_later, fresh_right}
 
 -- a revision above the youngest
@@ -43,19 +45,13 @@ within_read : (reach : Reach) (rev : ℕ) (inner : Option (Result (List ℕ) Ref
 within_read (Ends y) rev inner read told = within_ends (nat_lt y rev) (Ends y) y rev inner read refl refl told
 within_read (Grows least) rev inner read told = inr (within_grows (nat_lt least rev) least rev inner read refl told)
 
-not_past : (a b : ℕ) → b ≤ a → nat_lt a b ≡ false
-not_past a b le = grind (arith, nat_tests)
-
-is_past : (a b : ℕ) → a < b → nat_lt a b ≡ true
-is_past a b lt = grind (arith, nat_tests)
-
 within_known : (reach : Reach) (rev : ℕ) (inner : Option (Result (List ℕ) Refusal)) → IsKnown reach rev → within reach rev inner ≡ inner
-within_known (Ends y) rev inner known = let e : nat_lt y rev ≡ false = not_past y rev known in rw e refl
-within_known (Grows least) rev inner known = let e : nat_lt least rev ≡ false = not_past least rev known in rw e refl
+within_known (Ends y) rev inner known = let e : nat_lt y rev ≡ false = le-ltb y rev known in rw e refl
+within_known (Grows least) rev inner known = let e : nat_lt least rev ≡ false = le-ltb least rev known in rw e refl
 
 within_past : (reach : Reach) (rev y : ℕ) (inner : Option (Result (List ℕ) Refusal)) → reach ≡ Ends y → y < rev → within reach rev inner ≡ Some (Err (NoRev rev y))
 within_past reach rev y inner e lt =
-    let past : nat_lt y rev ≡ true = is_past y rev lt in
+    let past : nat_lt y rev ≡ true = lt-ltb y rev lt in
     let P : (Option (Result (List ℕ) Refusal)) → Type 0 = λ o. cond (nat_lt y rev) (Some (Err (NoRev rev y))) inner ≡ o in
     ap (λ r. within r rev inner) e ∙ rw past refl
 
@@ -145,7 +141,7 @@ found_told : (v w : View) (f g : ℕ) (k l : Option KeptManifest) (rev : ℕ) (r
 found_told v w f g k l rev read e finds p =
     let q = finds p.files rev p.found in
     let n = next v w p.files e p.found.told in
-    let one : n.files ≡ q.0 = some_files n.files q.0 (sym n.told ∙ q.1.told) in
+    let one : n.files ≡ q.0 = same_Some n.files q.0 (sym n.told ∙ q.1.told) in
     let same : rev_bytes w.shard_size q.0 rev ≡ rev_bytes v.shard_size p.files rev =
     ap (λ m. rev_bytes w.shard_size m rev) (sym one) ∙ ap (λ j. rev_bytes j n.files rev) e.size ∙ n.follows.bytes rev p.found.known in
     tells_found w g l q.0 rev q.1 (ap is_short same ∙ p.short) ∙ ap (λ (r : Result (List ℕ) Refusal). Some r) (same ∙ p.bytes)
@@ -247,7 +243,7 @@ above_gives view F rev n read e f is same =
 -- ---- all is told with the floor of the files
 
 short_if : (bytes : List ℕ) → length bytes < 2 ^ 64 → is_short (Ok bytes) ≡ true
-short_if bytes lt = is_past (length bytes) 18446744073709551616 lt
+short_if bytes lt = lt-ltb (length bytes) 18446744073709551616 lt
 
 short_own : (rev : ℕ) (file : Option (List ℕ)) → ((bytes : List ℕ) → file ≡ Some bytes → length bytes < 2 ^ 64) → is_short (or_missing rev file) ≡ true
 short_own rev None f = refl

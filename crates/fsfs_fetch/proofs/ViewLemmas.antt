@@ -90,9 +90,6 @@ next v w m e told =
     let p = next_files v.shard_size v.reach m w.files (subst P told e.files) in
     record { files = p.0; told = p.1; follows = p.2 }
 
-pub some_files : (a b : Files) → ◌≡◌ {A = Option Files} (Some a) (Some b) → a ≡ b
-some_files a b e = cc
-
 pub told_at : (files : Option Files) (m : Files) (P : Files → Type 0) → files ≡ Some m → IfSome files P → P m
 told_at files m P e h = let Q : Option Files → Type 0 = λ o. IfSome o P in subst Q e h
 

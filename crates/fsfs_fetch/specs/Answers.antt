@@ -1,5 +1,5 @@
 -- Answers of reads of single files.
-use Rattle.std.specs.Prelude.{◌≡◌, ◌⊎◌, ℕ, List, [], take, length, Option, Some, None, Result, Ok, Err}
+use Rattle.std.specs.Prelude.{◌≡◌, ◌⊎◌, ℕ, List, length, Option, Some, None, Result, Ok, Err}
 use Rattle.std.specs.FinMap as map
 use Rattle.fsfs_base.specs.Files.{Files}
 use Rattle.fsfs_base.specs.declared.small_fault.SmallFault.{SmallFault}
@@ -21,11 +21,6 @@ pub record MayGo (view : View) (name : List ℕ) (file : Option (List ℕ)) : Ty
   pub now : Files
   pub told : view.files ≡ Some now
   pub later : (new : Files) → Follows view.shard_size view.reach now new → (map.get new name ≡ file) ⊎ (map.get new name ≡ None)
-
--- the first bytes of a file; nothing of one that isn't there
-abbrev pub IsFrontOf : List ℕ → Option (List ℕ) → Type 0
-IsFrontOf front None = front ≡ []
-IsFrontOf front (Some bytes) = front ≡ take (length front) bytes
 
 -- a failure of the disk, or want of memory
 abbrev pub OnlyMemory : BookFault → Type 0

@@ -8,8 +8,8 @@ use Rattle.fsfs_damage.specs.declared.wrong.Refusal.{Refusal}
 use Rattle.fsfs_damage.specs.declared.wrong.Refusal.TheVariants.{NoRev}
 use Rattle.fsfs_book.specs.Told.{Telling}
 use Rattle.fsfs_fetch.specs.declared.manifests.KeptManifest.{KeptManifest}
-use Rattle.fsfs_fetch.specs.RevBytes.{rev_bytes, rev_file, props_bytes, manifest_in}
 use Rattle.fsfs_fetch.specs.Views.{DiskState, View, Reach, Ends, Grows, IsKnown, is_packed}
+use Rattle.fsfs_rev_file.specs.RevBytes.{rev_bytes, rev_file, props_bytes, manifest_in}
 
 abbrev pub are_offsets : List ℕ → Result (List ℕ) SmallFault → Bool
 are_offsets offsets (Err fault) = false

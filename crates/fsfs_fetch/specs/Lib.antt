@@ -1,6 +1,6 @@
-pub mod RevBytes
 pub mod Views
 pub mod Owned
 pub mod Kept
 pub mod Answers
 pub mod KeptLemmas
+pub mod PartsLater

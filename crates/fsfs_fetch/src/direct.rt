@@ -6,7 +6,7 @@ ghost use Rattle.fsfs_damage.specs.declared.wrong.Refusal.TheVariants.{NoRev};
 ghost use Rattle.fsfs_book.specs.Told.{HasCause, Gives, IsAbout, size_read, part_read};
 ghost use Rattle.fsfs_disk.specs.Trace.{Trace, files_now};
 ghost use Rattle.fsfs_fetch.specs.Owned.{TellsAll, state_of};
-ghost use Rattle.fsfs_fetch.specs.RevBytes.{rev_bytes, props_bytes, floor_in};
+ghost use Rattle.fsfs_rev_file.specs.RevBytes.{rev_bytes, props_bytes, floor_in};
 ghost use Rattle.fsfs_fetch.specs.Views.{Later, IsYoungest, IsKnown};
 ghost use Rattle.fsfs_fetch.specs.Kept.{IsFoundAt, FindsAsWell, IsGoneAt, HasShortFiles, TellsFiles, telling};
 

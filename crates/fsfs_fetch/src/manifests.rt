@@ -2,9 +2,9 @@
 ghost use Rattle.std.specs.Prelude.{◌≡◌, ◌≤◌, ◌<◌, ◌/◌, ℕ, List, Option, IfErr, OnErr, true, unwrap_or, []};
 ghost use Rattle.fsfs_base.specs.Files.{Files};
 ghost use Rattle.fsfs_base.specs.declared.small_fault.SmallFile.TheVariants.{Manifest};
-ghost use Rattle.fsfs_layout.specs.Names.{small_name};
+ghost use Rattle.fsfs_layout.specs.FileNames.{small_name};
 ghost use Rattle.fsfs_book.specs.Told.{HasCause, Gives, IsAbout};
-ghost use Rattle.fsfs_fetch.specs.RevBytes.{manifest_of, manifest_in};
+ghost use Rattle.fsfs_rev_file.specs.RevBytes.{manifest_of, manifest_in};
 ghost use Rattle.fsfs_fetch.specs.Kept.{IsPackedAt, ServesAsWell, kept_offsets, keeps_shard};
 ghost use Rattle.fsfs_fetch.specs.Views.{Later, is_packed};
 ghost use Rattle.fsfs_fetch.specs.Answers.{Stays, refused};

@@ -3,7 +3,7 @@ ghost use Rattle.std.specs.Prelude.{◌≡◌, ◌≤◌, ◌<◌, ◌+◌, ◌-
 ghost use Rattle.fsfs_base.specs.Files.{Files};
 ghost use Rattle.fsfs_layout.specs.Names.{in_pack};
 ghost use Rattle.fsfs_book.specs.Told.{HasCause, Gives, IsAbout, size_read, part_read};
-ghost use Rattle.fsfs_fetch.specs.RevBytes.{section_at, packed_section as section_in_files, packed_bytes, cut};
+ghost use Rattle.fsfs_rev_file.specs.RevBytes.{section_at, packed_section as section_in_files, packed_bytes, cut};
 ghost use Rattle.fsfs_fetch.specs.Views.{Later};
 ghost use Rattle.fsfs_fetch.specs.Kept.{IsPackedAt, ServesAsWell};
 ghost use Rattle.fsfs_fetch.specs.Answers.{as_book, Stays};
@@ -13,15 +13,10 @@ use crate::manifests::{KeptManifest, keep_manifest, offsets_of};
 use crate::reads::Reads;
 use fsfs_book::BookFault;
 use fsfs_damage::Refusal;
+use fsfs_base::fitting;
 use fsfs_layout::names;
+use fsfs_rev_file::Section;
 use std::alloc::Global;
-
-/// A part of a file.
-#[derive(Clone, Copy)]
-pub(crate) struct Section {
-    pub start: u64,
-    pub length: u64,
-}
 
 // The part of a pack of this size from one offset to the next, no further than the pack goes.
 fn section_in(offsets: &[u64], index: u32, size: u64) -> Section
@@ -78,14 +73,6 @@ pub(crate) fn packed_len<R: Reads>(
     Ok(section.length)
 }
 
-// The lesser of what is left of a section from an offset on and the buffer's length.
-fn fitting(section: Section, offset: u64, room: usize) -> usize
-    requires { offset ≤ section.length }
-    ensures { result ≡ min (section.length - offset) room }
-{
-    (section.length - offset).min(room as u64) as usize
-}
-
 // A part of a section of a pack.
 fn section_part<R: Reads>(
     reads: &mut R,
@@ -104,7 +91,7 @@ fn section_part<R: Reads>(
     ensures cause { HasCause (R.faults reads.old) (R.faults reads.new) result }
 {
     let shard = rev / reads.shard_size();
-    let count = fitting(section, offset, buffer.len());
+    let count = fitting(buffer.len(), section.length - offset);
     match read_at(
         reads,
         &names::pack(shard),

@@ -1,11 +1,9 @@
 -- Reading a dump from left to right.
-use Rattle.std.specs.Prelude.{◌≡◌, ℕ, suc, List, [], ◌∷◌, length, map, Option, option_map, Result, Ok, Err}
+use Rattle.std.specs.Prelude.{ℕ, suc, List, [], ◌∷◌, length, map, Option, option_map, Result, Ok}
 use Rattle.std.specs.Borrow.{Bor}
 use Rattle.fsfs_text.specs.Reading.{◌>>=◌, text_at, bytes_at, until_at, whole}
 use Rattle.fsfs_text.specs.Numeral.{number_at}
 use Rattle.fsfs_hash.specs.Dump.{put_all}
-use Rattle.fsfs_hash.specs.declared.read_error.ReadError.{ReadError}
-use Rattle.fsfs_hash.specs.declared.read_error.ReadError.TheVariants as errors
 
 unfoldable pub field_at : ℕ → List ℕ → Result (List ℕ × List ℕ) ℕ
 field_at letter bytes =
@@ -17,15 +15,6 @@ entry_at bytes = field_at 75 bytes >>= λ k. field_at 86 k.1 >>= λ v. Ok ((k.0,
 -- n is how many steps may be made
 abbrev pub entries_at : ℕ → List ℕ → Result (List (List ℕ × List ℕ) × List ℕ) ℕ
 entries_at n bytes = until_at entry_at (text_at (69 ∷ 78 ∷ 68 ∷ 10 ∷ [])) 75 n bytes
-
--- what a function returned, seen by view, is what reading gives, unless memory ran out
-abbrev pub Fails : {Y : Type 0} → ReadError → Result Y ℕ → Type 0
-Fails errors.OutOfMemory read = Unit {0}
-Fails (errors.Left left) read = read ≡ Err left
-
-abbrev pub Gives : {X Y : Type 0} → (X → Y) → Result X ReadError → Result Y ℕ → Type 0
-Gives view (Ok x) read = read ≡ Ok (view x)
-Gives view (Err e) read = Fails e read
 
 -- entries without where they lie in memory
 abbrev pub views : List (Bor (List ℕ) × Bor (List ℕ)) → List (List ℕ × List ℕ)

@@ -1,19 +1,20 @@
 //! Reading a `children` file.
 ghost use Rattle.std.specs.Prelude.{◌≡◌, ◌+◌, ℕ, suc, length, List, IfOk, IfErr, OnOk, MatchResult, option_map};
-ghost use Rattle.fsfs_text.specs.Reading.{Gives as GivesLeft, many_at};
-ghost use Rattle.fsfs_hash.specs.Reading.{Gives, change_views};
+ghost use Rattle.fsfs_text.specs.Reading.{Gives, many_at};
+ghost use Rattle.fsfs_text.specs.ReadErrors.{GivesOrMemory};
+ghost use Rattle.fsfs_hash.specs.Reading.{change_views};
 ghost use Rattle.fsfs_hash.specs.Children.{change_at, change_all, children_at, IsChildren};
 ghost use Rattle.fsfs_hash.specs.Fault.{IsOutOfMemory, IsExact};
 
 use crate::dump::{begins_with, entries, entry, field, gather};
 use crate::hash_error::{HashError, HashFault};
-use crate::read_error::ReadError;
 use fsfs_base::Pairs;
+use fsfs_text::ReadError;
 use std::alloc::{AllocError, Global};
 
 #[tactic(auto, unfolding(crate::specs::Children::change_at))]
 fn change(bytes: &[u8]) -> Result<((&[u8], Option<&[u8]>), &[u8]), usize>
-    ensures { GivesLeft (λ p. ((p.0.0.now, option_map (λ v. v.now) p.0.1), p.1.now)) result (change_at bytes.now) }
+    ensures { Gives (λ p. ((p.0.0.now, option_map (λ v. v.now) p.0.1), p.1.now)) result (change_at bytes.now) }
 {
     if begins_with(b'D', bytes) {
         let (key, rest) = field(b'D', bytes)?;
@@ -26,7 +27,7 @@ fn change(bytes: &[u8]) -> Result<((&[u8], Option<&[u8]>), &[u8]), usize>
 
 /// The changes to the end of the bytes.
 fn changes(alloc: Global, bytes: &[u8]) -> Result<Vec<(&[u8], Option<&[u8]>)>, ReadError>
-    ensures { Gives (λ v. change_views v.items) result (many_at change_at (suc (length bytes.now)) bytes.now) }
+    ensures { GivesOrMemory (λ v. change_views v.items) result (many_at change_at (suc (length bytes.now)) bytes.now) }
 {
     let mut found = Vec::new(alloc);
     let mut rest = bytes;
@@ -65,7 +66,7 @@ fn lay_over(
 
 #[tactic(auto, unfolding(crate::specs::Children::children_at))]
 fn children(alloc: Global, bytes: &[u8]) -> Result<Pairs, ReadError>
-    ensures { Gives (λ pairs. pairs) result (children_at bytes.now) }
+    ensures { GivesOrMemory (λ pairs. pairs) result (children_at bytes.now) }
 {
     let (found, rest) = entries(alloc, bytes)?;
     let tail = changes(alloc, rest)?;

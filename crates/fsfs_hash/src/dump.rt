@@ -1,14 +1,15 @@
 //! Reading a whole dump.
 ghost use Rattle.std.specs.Prelude.{◌≡◌, ◌+◌, ℕ, suc, length, List, [], IfOk, IfErr, MatchResult};
 ghost use Rattle.fsfs_text.specs.Grammar.{begins};
-ghost use Rattle.fsfs_text.specs.Reading.{Gives as GivesLeft};
-ghost use Rattle.fsfs_hash.specs.Reading.{Gives, field_at, entry_at, entries_at, views, dump_at};
+ghost use Rattle.fsfs_text.specs.Reading.{Gives};
+ghost use Rattle.fsfs_text.specs.ReadErrors.{GivesOrMemory};
+ghost use Rattle.fsfs_hash.specs.Reading.{field_at, entry_at, entries_at, views, dump_at};
 ghost use Rattle.fsfs_hash.specs.Dump.{put_all, IsDump};
 ghost use Rattle.fsfs_hash.specs.Fault.{IsOutOfMemory, IsExact};
 
 use crate::hash_error::{HashError, HashFault};
-use crate::read_error::ReadError;
 use fsfs_base::Pairs;
+use fsfs_text::ReadError;
 use fsfs_text::decimals::decimal;
 use fsfs_text::pieces::{bytes_of, text};
 use std::alloc::{AllocError, Global};
@@ -16,7 +17,7 @@ use std::alloc::{AllocError, Global};
 /// Bytes behind their letter and their length, and what stands behind them.
 #[tactic(auto, unfolding(crate::specs::Reading::field_at))]
 pub(crate) fn field(letter: u8, bytes: &[u8]) -> Result<(&[u8], &[u8]), usize>
-    ensures { GivesLeft (λ p. (p.0.now, p.1.now)) result (field_at letter bytes.now) }
+    ensures { Gives (λ p. (p.0.now, p.1.now)) result (field_at letter bytes.now) }
 {
     let rest = text(&[letter, b' '], bytes)?;
     let (len, rest) = decimal(u64::MAX, b'\n', rest)?;
@@ -28,7 +29,7 @@ pub(crate) fn field(letter: u8, bytes: &[u8]) -> Result<(&[u8], &[u8]), usize>
 /// A key and its value, and what stands behind them.
 #[tactic(auto, unfolding(crate::specs::Reading::entry_at))]
 pub(crate) fn entry(bytes: &[u8]) -> Result<((&[u8], &[u8]), &[u8]), usize>
-    ensures { GivesLeft (λ p. ((p.0.0.now, p.0.1.now), p.1.now)) result (entry_at bytes.now) }
+    ensures { Gives (λ p. ((p.0.0.now, p.0.1.now), p.1.now)) result (entry_at bytes.now) }
 {
     let (key, rest) = field(b'K', bytes)?;
     let (value, rest) = field(b'V', rest)?;
@@ -49,7 +50,7 @@ pub(crate) fn entries(
     alloc: Global,
     bytes: &[u8],
 ) -> Result<(Vec<(&[u8], &[u8])>, &[u8]), ReadError>
-    ensures { Gives (λ p. (views p.0.items, p.1.now)) result (entries_at (suc (length bytes.now)) bytes.now) }
+    ensures { GivesOrMemory (λ p. (views p.0.items, p.1.now)) result (entries_at (suc (length bytes.now)) bytes.now) }
 {
     let mut found = Vec::new(alloc);
     let mut rest = bytes;
@@ -82,7 +83,7 @@ pub(crate) fn gather(alloc: Global, found: &[(&[u8], &[u8])]) -> Result<Pairs, A
 
 #[tactic(auto, unfolding(crate::specs::Reading::dump_at))]
 fn dump(alloc: Global, bytes: &[u8]) -> Result<Pairs, ReadError>
-    ensures { Gives (λ pairs. pairs) result (dump_at bytes.now) }
+    ensures { GivesOrMemory (λ pairs. pairs) result (dump_at bytes.now) }
 {
     let (found, rest) = entries(alloc, bytes)?;
     if !rest.is_empty() {

@@ -7,7 +7,6 @@
 mod children;
 mod dump;
 mod hash_error;
-mod read_error;
 mod writing;
 
 pub use children::read_children;

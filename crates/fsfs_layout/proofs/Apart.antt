@@ -8,16 +8,15 @@ use Rattle.std.proofs.lemmas.List.{append_cancel_left, append-nil}
 use Rattle.std.proofs.Math.Nat.{div-le_self}
 use Rattle.fsfs_text.specs.Numeral.{digit, value_after, IsNumeral}
 use Rattle.fsfs_text.specs.Base36.{base36}
-use Rattle.fsfs_text.proofs.Unique.{decimal_numeral, numeral_digits}
+use Rattle.fsfs_text.proofs.Unique.{AreDigits, decimal_numeral, numeral_digits}
 use Rattle.fsfs_text.proofs.Base36Texts.{base36_numeral}
 use Rattle.fsfs_fields.specs.TxnNames.{txn_text}
 use Rattle.fsfs_layout.specs.Names.{in_shard, in_pack}
-use Rattle.fsfs_layout.specs.FileNames.{OnlyFile, RepositoryFormat, Format, FormatNext, FsType, Uuid, Current, CurrentNext, MinUnpackedRev, MinUnpackedRevNext, TxnCurrent, TxnCurrentNext, TxnCurrentLock, WriteLock, Revisions, RevisionProps, Transactions, ProtoRevisions, only_name, RevsFile, Shard, Revision, PackFolder, Pack, Manifest, PropsFile, PropsShard, Props, TxnFile, Folder, Below, txn_file_end, ProtoFile, Texts, Lock, proto_file_end, File, Only, InRevs, InProps, OfTxn, OfProto, revs_name, props_name, file_name, FitsRevs, FitsProps, FitsFile, NamesAreApart}
+use Rattle.fsfs_layout.specs.FileNames.{only_name, RevsFile, Shard, Revision, PackFolder, Pack, Manifest, PropsFile, PropsShard, Props, TxnFile, Folder, Below, txn_file_end, ProtoFile, Texts, Lock, proto_file_end, File, Only, InRevs, InProps, OfTxn, OfProto, revs_name, props_name, file_name, FitsRevs, FitsProps, FitsFile, NamesAreApart}
+use Rattle.fsfs_layout.specs.declared.only_file.OnlyFile.{OnlyFile}
+use Rattle.fsfs_layout.specs.declared.only_file.OnlyFile.TheVariants.{RepositoryFormat, Format, FormatNext, FsType, Uuid, Current, CurrentNext, MinUnpackedRev, MinUnpackedRevNext, TxnCurrent, TxnCurrentNext, TxnCurrentLock, WriteLock, Revisions, RevisionProps, Transactions, ProtoRevisions}
 
 -- ---- numbers in names
-
-abbrev AreDigits : ℕ → List ℕ → Type 0
-AreDigits base = AllByRecursion (λ d. digit d < base)
 
 -- no digit stands first
 abbrev NoDigit : ℕ → List ℕ → Type 0

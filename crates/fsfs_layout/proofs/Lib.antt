@@ -4,3 +4,4 @@ pub mod Writing
 pub mod Offsets
 pub mod Manifests
 pub mod Apart
+pub mod OpeningLemmas

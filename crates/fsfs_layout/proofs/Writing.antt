@@ -10,7 +10,7 @@ use Rattle.fsfs_text.specs.Numeral.{digit, IsNumeral, IsNumber, value_after}
 use Rattle.fsfs_text.proofs.Unique.{numeral_decimal}
 use Rattle.fsfs_layout.specs.declared.format_file.Format.{Format}
 use Rattle.fsfs_layout.specs.declared.format_file.Format.TheVariants.{Linear, Sharded, Other}
-use Rattle.fsfs_layout.specs.Lacking.{Lacks}
+use Rattle.fsfs_text.specs.Cuts.{Lacks}
 use Rattle.fsfs_layout.specs.Small.{IsUuid}
 use Rattle.fsfs_layout.specs.Formats.{IsCount, IsLayout, IsFormat}
 

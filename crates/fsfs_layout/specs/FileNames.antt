@@ -2,28 +2,13 @@
 use Rattle.std.specs.Prelude.{◌≡◌, ◌<◌, ◌≤◌, ◌^◌, ℕ, List, ◌++◌, codes}
 use Rattle.std.specs.Fmt.{decimal}
 use Rattle.fsfs_fields.specs.TxnNames.{txn_text}
+use Rattle.fsfs_base.specs.declared.small_fault.SmallFile.{SmallFile}
+use Rattle.fsfs_base.specs.declared.small_fault.SmallFile.TheVariants as small
 use Rattle.fsfs_layout.specs.Names.{in_shard, in_pack}
+use Rattle.fsfs_layout.specs.declared.only_file.OnlyFile.{OnlyFile}
+use Rattle.fsfs_layout.specs.declared.only_file.OnlyFile.TheVariants.{RepositoryFormat, Format, FormatNext, FsType, Uuid, Current, CurrentNext, MinUnpackedRev, MinUnpackedRevNext, TxnCurrent, TxnCurrentNext, TxnCurrentLock, WriteLock, Revisions, RevisionProps, Transactions, ProtoRevisions}
 
--- what a repository has once
-pub data OnlyFile : Type 0 where
-  RepositoryFormat : OnlyFile
-  Format : OnlyFile
-  FormatNext : OnlyFile
-  FsType : OnlyFile
-  Uuid : OnlyFile
-  Current : OnlyFile
-  CurrentNext : OnlyFile
-  MinUnpackedRev : OnlyFile
-  MinUnpackedRevNext : OnlyFile
-  TxnCurrent : OnlyFile
-  TxnCurrentNext : OnlyFile
-  TxnCurrentLock : OnlyFile
-  WriteLock : OnlyFile
-  Revisions : OnlyFile
-  RevisionProps : OnlyFile
-  Transactions : OnlyFile
-  ProtoRevisions : OnlyFile
-
+-- the names of what a repository has once
 abbrev pub only_name : OnlyFile → List ℕ
 only_name RepositoryFormat = codes "format"
 only_name Format = codes "db/format"
@@ -99,6 +84,16 @@ file_name shard_size (InRevs f) = revs_name shard_size f
 file_name shard_size (InProps f) = props_name shard_size f
 file_name shard_size (OfTxn base number f) = codes "db/transactions/" ++ txn_text base number ++ txn_file_end f
 file_name shard_size (OfProto base number f) = codes "db/txn-protorevs/" ++ txn_text base number ++ proto_file_end f
+
+-- the name of a small file that can be damaged; of a transaction's `next-ids` the last part
+abbrev pub small_name : SmallFile → List ℕ
+small_name small.Format = only_name Format
+small_name small.Uuid = only_name Uuid
+small_name small.Current = only_name Current
+small_name small.MinUnpackedRev = only_name MinUnpackedRev
+small_name small.TxnCurrent = only_name TxnCurrent
+small_name small.NextIds = codes "next-ids"
+small_name (small.Manifest shard) = in_pack shard (codes "/manifest")
 
 -- shards and revisions of 32 bits, transactions within their limits
 abbrev pub FitsRevs : RevsFile → Type 0

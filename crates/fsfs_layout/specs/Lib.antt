@@ -1,4 +1,3 @@
-pub mod Lacking
 pub mod Formats
 pub mod Small
 pub mod Reading
@@ -6,3 +5,5 @@ pub mod Names
 pub mod ManifestReading
 pub mod Manifest
 pub mod FileNames
+pub mod CreatedFiles
+pub mod Opening

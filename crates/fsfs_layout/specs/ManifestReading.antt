@@ -1,9 +1,7 @@
 -- Reading a manifest from left to right. A number's front is refused as soon as no number from `low` to `limit` begins with it.
-use Rattle.std.specs.Prelude.{◌≡◌, ℕ, zero, suc, ◌+◌, ◌-◌, ◌*◌, List, [], ◌∷◌, length, Bool, true, false, Result, Ok, Err, nat_lt, nat_le, ◌==◌, ◌&&◌, if◌then◌else◌}
+use Rattle.std.specs.Prelude.{ℕ, zero, suc, ◌+◌, ◌-◌, ◌*◌, List, [], ◌∷◌, length, Bool, true, false, Result, Ok, Err, nat_lt, nat_le, ◌==◌, ◌&&◌, if◌then◌else◌}
 use Rattle.fsfs_text.specs.Reading.{◌>>=◌, text_at, whole}
 use Rattle.fsfs_text.specs.Numeral.{digit}
-use Rattle.fsfs_layout.specs.declared.read_error.ReadError.{ReadError}
-use Rattle.fsfs_layout.specs.declared.read_error.ReadError.TheVariants as errors
 
 -- whether one of the numbers from least to greatest, or one with up to so many digits behind one of them, is from low to limit
 unfoldable pub reaches_at : (limit digits low least greatest : ℕ) → Bool
@@ -42,12 +40,3 @@ lines_at shard_size bytes = text_at (48 ∷ 10 ∷ []) bytes >>= λ a. offsets_a
 
 abbrev pub manifest_at : ℕ → List ℕ → Result (List ℕ) ℕ
 manifest_at shard_size bytes = whole (lines_at shard_size bytes)
-
--- what a function returned, seen by view, is what reading gives, unless memory ran out
-abbrev pub Fails : {Y : Type 0} → ReadError → Result Y ℕ → Type 0
-Fails errors.OutOfMemory read = Unit {0}
-Fails (errors.Left left) read = read ≡ Err left
-
-abbrev pub GivesOrMemory : {X Y : Type 0} → (X → Y) → Result X ReadError → Result Y ℕ → Type 0
-GivesOrMemory view (Ok x) read = read ≡ Ok (view x)
-GivesOrMemory view (Err e) read = Fails e read

@@ -5,7 +5,7 @@ use Rattle.fsfs_text.specs.Numeral.{IsNumber}
 use Rattle.fsfs_base.specs.declared.small_fault.SmallFile.{SmallFile}
 use Rattle.fsfs_base.specs.declared.small_fault.SmallFile.TheVariants.{MinUnpackedRev}
 use Rattle.fsfs_base.specs.declared.small_fault.SmallFault.{SmallFault}
-use Rattle.fsfs_layout.specs.Lacking.{Lacks}
+use Rattle.fsfs_text.specs.Cuts.{Lacks}
 
 -- `<revision>\n`
 abbrev pub IsRevLine : List ℕ → ℕ → Type 0
@@ -36,6 +36,10 @@ pub record IsFaultOf {X : Type 0} (file : SmallFile) (G : List ℕ → X → Typ
   pub names : fault.file ≡ file
   pub place : IsFaultAt G bytes fault.at
 
+-- the text is none of the grammar, and the fault is where it goes wrong
+abbrev pub IsRefusedFile : {X : Type 0} → SmallFile → (List ℕ → X → Type 0) → List ℕ → SmallFault → Type 0
+IsRefusedFile {X} file G text fault = ((x : X) → G text x → ⊥) × IsFaultOf file G text fault
+
 -- a revision's line, but not of the first of a shard: the fault is at its beginning
 pub record IsInsideShard (shard_size : ℕ) (bytes : List ℕ) (fault : SmallFault) : Type 0 where
   pub number : ℕ
@@ -44,5 +48,6 @@ pub record IsInsideShard (shard_size : ℕ) (bytes : List ℕ) (fault : SmallFau
   pub names : fault.file ≡ MinUnpackedRev
   pub place : fault.at ≡ 0
 
+-- no revision's line, or one of a revision inside a shard
 abbrev pub IsMinUnpackedFault : ℕ → List ℕ → SmallFault → Type 0
-IsMinUnpackedFault shard_size bytes fault = IsFaultOf MinUnpackedRev IsRevLine bytes fault ⊎ IsInsideShard shard_size bytes fault
+IsMinUnpackedFault shard_size bytes fault = IsRefusedFile MinUnpackedRev IsRevLine bytes fault ⊎ IsInsideShard shard_size bytes fault

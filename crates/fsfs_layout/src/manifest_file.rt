@@ -3,13 +3,14 @@ ghost use Rattle.std.specs.Prelude.{◌≡◌, ◌≤◌, ◌<◌, ◌+◌, ◌*
 ghost use Rattle.std.specs.List.{flat_map};
 ghost use Rattle.fsfs_text.specs.Numeral.{digit};
 ghost use Rattle.fsfs_text.specs.Reading.{Gives};
+ghost use Rattle.fsfs_text.specs.ReadErrors.{GivesOrMemory};
 ghost use Rattle.fsfs_layout.specs.Manifest.{offset_line, DontFall, IsManifest, IsOutOfMemory, IsManifestError};
-ghost use Rattle.fsfs_layout.specs.ManifestReading.{GivesOrMemory, reaches_at, starts_at, follows_at, offset_rest_at, offset_at, lines_at, manifest_at};
+ghost use Rattle.fsfs_layout.specs.ManifestReading.{reaches_at, starts_at, follows_at, offset_rest_at, offset_at, lines_at, manifest_at};
 
-use crate::read_error::ReadError;
 use fsfs_base::{SmallFault, SmallFile};
 use fsfs_text::decimals::{decimal, put_decimal};
 use fsfs_text::pieces::text;
+use fsfs_text::{ReadError, digit_of};
 use std::alloc::{AllocError, Global};
 
 /// A manifest was not read.
@@ -21,17 +22,6 @@ pub enum ManifestError {
 
 /// The greatest number of 64 bits has so many digits.
 const DIGITS: u32 = 20;
-
-/// What a digit stands for; 10 or more for another byte.
-fn digit_of(c: u8) -> u64
-    ensures { result ≡ digit c }
-{
-    match c {
-        b'0'..=b'9' => (c - b'0') as u64,
-        b'a'..=b'z' => (c - b'a') as u64 + 10,
-        _ => 36,
-    }
-}
 
 /// Whether one of the numbers from `least` to `greatest`, or one with up to so many digits behind one of them,
 /// is a number of 64 bits from `low` on.

@@ -4,124 +4,125 @@ ghost use Rattle.std.specs.Prelude.{◌≡◌, ◌≤◌, ◌<◌, ◌+◌, ◌+
 ghost use Rattle.std.specs.Fmt.{decimal};
 ghost use Rattle.fsfs_text.specs.Base36.{glyph, last_digits};
 ghost use Rattle.fsfs_fields.specs.TxnNames.{txn_text};
-ghost use Rattle.fsfs_layout.specs.Names.{in_shard, in_pack, with_txn, small_name};
-ghost use Rattle.fsfs_layout.specs.FileNames.{NamesAreApart};
+ghost use Rattle.fsfs_layout.specs.Names.{in_shard, in_pack, with_txn};
+ghost use Rattle.fsfs_layout.specs.FileNames.{only_name, small_name, NamesAreApart};
 
+use crate::only_file::OnlyFile;
 use fsfs_base::{Name, SmallFile, TxnName};
 use itoa::Buffer;
 
 /// The file that says which version of the repository's own layout it has.
 pub fn repository_format() -> Name
-    ensures { result ≡ codes "format" }
+    ensures { result ≡ only_name OnlyFile.RepositoryFormat }
 {
-    Name::new("format")
+    OnlyFile::RepositoryFormat.name()
 }
 
 pub fn format() -> Name
-    ensures { result ≡ codes "db/format" }
+    ensures { result ≡ only_name OnlyFile.Format }
 {
-    Name::new("db/format")
+    OnlyFile::Format.name()
 }
 
 /// Where the new text of `db/format` is written first.
 pub fn format_next() -> Name
-    ensures { result ≡ codes "db/format-next" }
+    ensures { result ≡ only_name OnlyFile.FormatNext }
 {
-    Name::new("db/format-next")
+    OnlyFile::FormatNext.name()
 }
 
 pub fn fs_type() -> Name
-    ensures { result ≡ codes "db/fs-type" }
+    ensures { result ≡ only_name OnlyFile.FsType }
 {
-    Name::new("db/fs-type")
+    OnlyFile::FsType.name()
 }
 
 pub fn uuid() -> Name
-    ensures { result ≡ codes "db/uuid" }
+    ensures { result ≡ only_name OnlyFile.Uuid }
 {
-    Name::new("db/uuid")
+    OnlyFile::Uuid.name()
 }
 
 /// The file with the youngest revision.
 pub fn current() -> Name
-    ensures { result ≡ codes "db/current" }
+    ensures { result ≡ only_name OnlyFile.Current }
 {
-    Name::new("db/current")
+    OnlyFile::Current.name()
 }
 
 /// Where the new text of `db/current` is written first.
 pub fn current_next() -> Name
-    ensures { result ≡ codes "db/current-next" }
+    ensures { result ≡ only_name OnlyFile.CurrentNext }
 {
-    Name::new("db/current-next")
+    OnlyFile::CurrentNext.name()
 }
 
 /// The file with the oldest revision that isn't packed.
 pub fn min_unpacked_rev() -> Name
-    ensures { result ≡ codes "db/min-unpacked-rev" }
+    ensures { result ≡ only_name OnlyFile.MinUnpackedRev }
 {
-    Name::new("db/min-unpacked-rev")
+    OnlyFile::MinUnpackedRev.name()
 }
 
 /// Where the new text of `db/min-unpacked-rev` is written first.
 pub fn min_unpacked_rev_next() -> Name
-    ensures { result ≡ codes "db/min-unpacked-rev-next" }
+    ensures { result ≡ only_name OnlyFile.MinUnpackedRevNext }
 {
-    Name::new("db/min-unpacked-rev-next")
+    OnlyFile::MinUnpackedRevNext.name()
 }
 
 /// The file with the number that the next transaction gets.
 pub fn txn_current() -> Name
-    ensures { result ≡ codes "db/txn-current" }
+    ensures { result ≡ only_name OnlyFile.TxnCurrent }
 {
-    Name::new("db/txn-current")
+    OnlyFile::TxnCurrent.name()
 }
 
 /// Where the new text of `db/txn-current` is written first.
 pub fn txn_current_next() -> Name
-    ensures { result ≡ codes "db/txn-current-next" }
+    ensures { result ≡ only_name OnlyFile.TxnCurrentNext }
 {
-    Name::new("db/txn-current-next")
+    OnlyFile::TxnCurrentNext.name()
 }
 
 pub fn txn_current_lock() -> Name
-    ensures { result ≡ codes "db/txn-current-lock" }
+    ensures { result ≡ only_name OnlyFile.TxnCurrentLock }
 {
-    Name::new("db/txn-current-lock")
+    OnlyFile::TxnCurrentLock.name()
 }
 
 pub fn write_lock() -> Name
-    ensures { result ≡ codes "db/write-lock" }
+    ensures { result ≡ only_name OnlyFile.WriteLock }
 {
-    Name::new("db/write-lock")
+    OnlyFile::WriteLock.name()
 }
 
 /// The folder of the shards of revision files.
 pub fn revisions() -> Name
-    ensures { result ≡ codes "db/revs" }
+    ensures { result ≡ only_name OnlyFile.Revisions }
 {
-    Name::new("db/revs")
+    OnlyFile::Revisions.name()
 }
 
 /// The folder of the shards of revision property files.
 pub fn revision_props() -> Name
-    ensures { result ≡ codes "db/revprops" }
+    ensures { result ≡ only_name OnlyFile.RevisionProps }
 {
-    Name::new("db/revprops")
+    OnlyFile::RevisionProps.name()
 }
 
 /// The folder of the folders of transactions.
 pub fn transactions() -> Name
-    ensures { result ≡ codes "db/transactions" }
+    ensures { result ≡ only_name OnlyFile.Transactions }
 {
-    Name::new("db/transactions")
+    OnlyFile::Transactions.name()
 }
 
 /// The folder of the prototype revision files of transactions.
 pub fn proto_revisions() -> Name
-    ensures { result ≡ codes "db/txn-protorevs" }
+    ensures { result ≡ only_name OnlyFile.ProtoRevisions }
 {
-    Name::new("db/txn-protorevs")
+    OnlyFile::ProtoRevisions.name()
 }
 
 /// The folder of a shard's revision files.

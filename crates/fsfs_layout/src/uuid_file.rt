@@ -1,7 +1,7 @@
 //! `db/uuid`.
 ghost use Rattle.std.specs.Prelude.{◌≡◌, ℕ, List, length, ◌≤◌, IfOk, IfErr, OnOk, Ok};
 ghost use Rattle.fsfs_text.specs.Reading.{Gives};
-ghost use Rattle.fsfs_layout.specs.Lacking.{Lacks};
+ghost use Rattle.fsfs_text.specs.Cuts.{Lacks};
 ghost use Rattle.fsfs_layout.specs.Small.{IsUuid, IsFaultOf};
 ghost use Rattle.fsfs_layout.specs.Reading.{line_rest_at, line_bytes_at, uuid_at};
 
@@ -18,7 +18,7 @@ pub struct Uuid {
 
 impl Model for Uuid {
     ghost use Rattle.std.specs.Prelude.{◌≡◌, ℕ, List, length};
-    ghost use Rattle.fsfs_layout.specs.Lacking.{Lacks};
+    ghost use Rattle.fsfs_text.specs.Cuts.{Lacks};
 
     ghost Value = { List ℕ };
 

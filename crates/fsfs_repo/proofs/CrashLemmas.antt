@@ -10,7 +10,7 @@ use Rattle.fsfs_base.proofs.FileLemmas.{get_new, get_kept, apart_by, remove-inse
 use Rattle.fsfs_disk.specs.Trace.{Trace, Put, Rename, FirmNames, Done, IsImage, add_operation, files_now, Performs, FailsAt, FailsToPut}
 use Rattle.fsfs_disk.specs.Crash.{AllImages, IsFirm, Leaves, KeepsImages}
 use Rattle.fsfs_disk.proofs.CrashLemmas.{leaves_at, leaves_then, leaves_with, keeps_then, keeps_put, keeps_failed_put, keeps_firm, same_keeps, same_leaves, firm_after, Stable}
-use Rattle.fsfs_model.specs.CreatedFiles.{format_text, unpublished_files, created_over}
+use Rattle.fsfs_layout.specs.CreatedFiles.{format_text, unpublished_files, created_over}
 use Rattle.fsfs_repo.specs.Creation.{after_puts, after_firm, after_next, after_rename, after_publishing, after_creation, StopsInPuts, StopsPublishing, StopsAt, IsUnpublished, IsNoneOrWhole, IsStopped}
 use Rattle.fsfs_repo.specs.declared.place.DiskPlace.{DiskPlace}
 use Rattle.fsfs_repo.specs.declared.place.DiskPlace.TheVariants.{OpenFirm, OpenRead, Read, CreatePut, CreateFirm, CreateRename, CreateLast}

@@ -1,16 +1,15 @@
 -- What the small files decide, by what `db/format` says.
 use Rattle.std.proofs.Common.{◌≡◌, ℕ, List, inl, inr, refl, sym, subst, ◌∙◌}
 use Rattle.std.specs.Prelude.{Option, Some, None, IfSome, Result, Ok, Err}
+use Rattle.std.proofs.lemmas.Option.{same_Some}
 use Rattle.fsfs_base.specs.declared.small_fault.SmallFault.{SmallFault}
 use Rattle.fsfs_disk.specs.Trace.{Trace, files_now}
 use Rattle.fsfs_layout.specs.Formats.{IsFormat}
-use Rattle.fsfs_layout.specs.Small.{IsMinUnpackedRev}
 use Rattle.fsfs_layout.specs.declared.format_file.Format.{Format}
 use Rattle.fsfs_layout.specs.declared.format_file.Format.TheVariants.{Linear, Sharded, Other}
-use Rattle.fsfs_repo.specs.Opening.{SmallTexts, small_texts, IsFsfs, IsNone, IsOpened}
-use Rattle.fsfs_repo.specs.OpenFaults.{IsOpenedBehind}
+use Rattle.fsfs_layout.specs.Opening.{SmallTexts, small_texts, IsFsfs, IsNone, IsOpened, IsOpenedBehind}
 use Rattle.fsfs_repo.specs.Deciding.{Decides}
-use Rattle.fsfs_repo.specs.declared.opening.Opened.{Opened}
+use Rattle.fsfs_layout.specs.declared.opened.Opened.{Opened}
 use Rattle.fsfs_repo.specs.declared.opening.OpenFault.{OpenFault}
 use Rattle.fsfs_repo.specs.declared.opening.OpenFault.TheVariants as why_not
 
@@ -20,9 +19,7 @@ pub record Has (s : SmallTexts) (text : List ℕ) (Says : Format → Type 0) : T
   pub only : (g : Format) → IsFormat text g → Says g
 
 same_text : (s : SmallTexts) (text other : List ℕ) → IsFsfs s text → IsFsfs s other → other ≡ text
-same_text s text other a b = some_is other text (sym b.there ∙ a.there) where
-  some_is : (x y : List ℕ) → ◌≡◌ {A = Option (List ℕ)} (Some x) (Some y) → x ≡ y
-  some_is x y e = cc
+same_text s text other a b = same_Some other text (sym b.there ∙ a.there)
 
 says : (s : SmallTexts) (text other : List ℕ) (Says : Format → Type 0) (g : Format) → Has s text Says → IsFsfs s other → IsFormat other g → Says g
 says s text other Says g h is w = h.only g (subst (λ (t : List ℕ). IsFormat t g) (same_text s text other h.is is) w)
@@ -57,30 +54,21 @@ decides_unread s text fault h = record {
   linear = λ w. absurd (says s text w.0 (λ g. ⊥) Linear h w.1 w.2);
 }
 
--- shards: what the files behind say
-behind : (s : SmallTexts) (text : List ℕ) (n : ℕ) (o : Opened) → Has s text (λ g. Sharded n ≡ g) → IsOpened s o → IsOpenedBehind n s o
-behind s text n o h w =
-    let same : n ≡ o.shard_size = (let e = says s text w.format.0 (λ g. Sharded n ≡ g) (Sharded o.shard_size) h w.format.1 w.format.2 in cc) in
-    record {
-      shards = sym same;
-      uuid = w.uuid;
-      youngest = w.youngest;
-      min_unpacked_rev = subst (λ (k : ℕ). IsMinUnpackedRev k s.min_unpacked_rev o.min_unpacked_rev) (sym same) w.min_unpacked_rev;
-      within = w.within;
-      next_txn = w.next_txn;
-    }
+-- shards of the size that the format says
+shards : (s : SmallTexts) (text : List ℕ) (n : ℕ) (o : Opened) → Has s text (λ g. Sharded n ≡ g) → IsOpened s o → o.shard_size ≡ n
+shards s text n o h w = let e = says s text w.format.0 (λ g. Sharded n ≡ g) (Sharded o.shard_size) h w.format.1 w.format.2 in cc
 
-pub decides_opened : (s : SmallTexts) (text : List ℕ) (n : ℕ) (p : Opened) → Has s text (λ g. Sharded n ≡ g) → ((o : Opened) → IsOpenedBehind n s o → p.youngest ≡ o.youngest) → Decides s (Ok p)
+pub decides_opened : (s : SmallTexts) (text : List ℕ) (n : ℕ) (p : Opened) → Has s text (λ g. Sharded n ≡ g) → ((o : Opened) → o.shard_size ≡ n → IsOpenedBehind s o → p.youngest ≡ o.youngest) → Decides s (Ok p)
 decides_opened s text n p h only = record {
-  opened = λ o w. only o (behind s text n o h w);
+  opened = λ o w. only o (shards s text n o h w) w.behind;
   none = λ w. is_some s text h.is w;
   other = λ m w. let e = says s text w.0 (λ g. Sharded n ≡ g) (Other m) h w.1 w.2 in cc;
   linear = λ w. let e = says s text w.0 (λ g. Sharded n ≡ g) Linear h w.1 w.2 in cc;
 }
 
-pub decides_refused : (s : SmallTexts) (text : List ℕ) (n : ℕ) (fault : SmallFault) → Has s text (λ g. Sharded n ≡ g) → ((o : Opened) → IsOpenedBehind n s o → ⊥) → Decides s (Err (why_not.Small fault))
+pub decides_refused : (s : SmallTexts) (text : List ℕ) (n : ℕ) (fault : SmallFault) → Has s text (λ g. Sharded n ≡ g) → ((o : Opened) → o.shard_size ≡ n → IsOpenedBehind s o → ⊥) → Decides s (Err (why_not.Small fault))
 decides_refused s text n fault h only = record {
-  opened = λ o w. absurd (only o (behind s text n o h w));
+  opened = λ o w. absurd (only o (shards s text n o h w) w.behind);
   none = λ w. absurd (is_some s text h.is w);
   other = λ m w. absurd (let e = says s text w.0 (λ g. Sharded n ≡ g) (Other m) h w.1 w.2 in cc);
   linear = λ w. absurd (let e = says s text w.0 (λ g. Sharded n ≡ g) Linear h w.1 w.2 in cc);

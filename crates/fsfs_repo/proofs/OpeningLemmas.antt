@@ -1,6 +1,7 @@
 -- The refusals of an opening, from what each reader says of its bytes.
 use Rattle.std.proofs.Common.{◌≡◌, ◌≤◌, ◌<◌, ◌+◌, ℕ, zero, suc, List, [], ◌∷◌, ◌++◌, true, false, inl, inr, ⊎_elim, refl, sym, ap, subst, ◌∙◌, arith}
 use Rattle.std.specs.Prelude.{Option, Some, None, IfSome, Result, Ok, Err, IfErr, option_map}
+use Rattle.std.proofs.lemmas.Option.{same_Some}
 use Rattle.fsfs_base.specs.declared.small_fault.SmallFault.{SmallFault}
 use Rattle.fsfs_text.specs.Grammar.{begins}
 use Rattle.std.proofs.lemmas.Fmt.{decimal_digit}
@@ -8,12 +9,18 @@ use Rattle.fsfs_text.proofs.Unique.{numeral_decimal}
 use Rattle.fsfs_disk.specs.Trace.{Trace, FailsAt, FirmNames, Done, Attempted, add_operation, files_now}
 use Rattle.fsfs_layout.specs.Formats.{IsCount, IsFormat}
 use Rattle.fsfs_layout.specs.declared.format_file.Format.TheVariants.{Linear, Sharded, Other}
-use Rattle.fsfs_layout.specs.Small.{IsUuid, IsRevLine, IsMinUnpackedRev, IsBase36Line, IsFaultOf, IsMinUnpackedFault}
+use Rattle.fsfs_layout.specs.Small.{IsUuid, IsRevLine, IsMinUnpackedRev, IsBase36Line, IsRefusedFile, IsMinUnpackedFault}
 use Rattle.fsfs_base.specs.declared.small_fault.SmallFile.TheVariants as file
-use Rattle.fsfs_repo.specs.Opening.{SmallTexts, small_texts, IsRefusedBehind, IsPastYoungest}
+use Rattle.fsfs_layout.specs.Opening.{SmallTexts, small_texts, IsRefusedBehind, IsPastYoungest}
 use Rattle.fsfs_repo.specs.OpenFaults.{JudgedBecause, OpensBecause}
 use Rattle.fsfs_repo.specs.declared.opening.OpenFault.{OpenFault}
 use Rattle.fsfs_repo.specs.declared.opening.OpenFault.TheVariants as why_not
+
+pub refused_uuid : (n : ℕ) (s : SmallTexts) (u : List ℕ) (fault : SmallFault) → u ≡ s.uuid → IsRefusedFile file.Uuid IsUuid u fault → IsRefusedBehind n s fault
+refused_uuid n s u fault su iu = inl (subst (λ t. IsRefusedFile file.Uuid IsUuid t fault) su iu)
+
+pub refused_current : (n : ℕ) (s : SmallTexts) (u c uuid : List ℕ) (fault : SmallFault) → u ≡ s.uuid → IsUuid u uuid → c ≡ s.current → IsRefusedFile file.Current IsRevLine c fault → IsRefusedBehind n s fault
+refused_current n s u c uuid fault su iu sc ic = inr (uuid, subst (λ t. IsUuid t uuid) su iu, inl (subst (λ t. IsRefusedFile file.Current IsRevLine t fault) sc ic))
 
 pub refused_floor : (n : ℕ) (s : SmallTexts) (u c m uuid : List ℕ) (youngest : ℕ) (fault : SmallFault) → u ≡ s.uuid → IsUuid u uuid → c ≡ s.current → IsRevLine c youngest → m ≡ s.min_unpacked_rev → IsMinUnpackedFault n m fault
     → IsRefusedBehind n s fault
@@ -35,7 +42,7 @@ refused_past n s u c m uuid youngest floor fault su iu sc ic sm im past names pl
     inr (uuid, subst (λ t. IsUuid t uuid) su iu, inr (youngest, subst (λ t. IsRevLine t youngest) sc ic, inr (inl is)))
 
 pub refused_txn : (n : ℕ) (s : SmallTexts) (u c m x uuid : List ℕ) (youngest floor : ℕ) (fault : SmallFault) → u ≡ s.uuid → IsUuid u uuid → c ≡ s.current → IsRevLine c youngest → m ≡ s.min_unpacked_rev → IsMinUnpackedRev n m floor
-    → floor ≤ youngest + 1 → x ≡ s.txn_current → IsFaultOf file.TxnCurrent IsBase36Line x fault → IsRefusedBehind n s fault
+    → floor ≤ youngest + 1 → x ≡ s.txn_current → IsRefusedFile file.TxnCurrent IsBase36Line x fault → IsRefusedBehind n s fault
 refused_txn n s u c m x uuid youngest floor fault su iu sc ic sm im within sx ix =
     inr (
       uuid,
@@ -43,7 +50,7 @@ refused_txn n s u c m x uuid youngest floor fault su iu sc ic sm im within sx ix
       inr (
         youngest,
         subst (λ t. IsRevLine t youngest) sc ic,
-        inr (inr (floor, subst (λ t. IsMinUnpackedRev n t floor) sm im, within, subst (λ t. IsFaultOf file.TxnCurrent IsBase36Line t fault) sx ix)),
+        inr (inr (floor, subst (λ t. IsMinUnpackedRev n t floor) sm im, within, subst (λ t. IsRefusedFile file.TxnCurrent IsBase36Line t fault) sx ix)),
       ),
     )
 
@@ -95,9 +102,7 @@ all_because rose told s (Err why) is h = opens_because rose told s why is h
 pub same_texts : (old new : Option Trace) (s : SmallTexts) → option_map files_now new ≡ option_map files_now old → IfSome new (λ t. s ≡ small_texts (files_now t)) → IfSome old (λ t. s ≡ small_texts (files_now t))
 same_texts None new s is h = tt
 same_texts (Some t) None s is h = let bad : ◌≡◌ {A = Option _} None (Some (files_now t)) = is in cc
-same_texts (Some t) (Some u) s is h = h ∙ ap small_texts (some_is is) where
-  some_is : ◌≡◌ {A = Option _} (Some (files_now u)) (Some (files_now t)) → files_now u ≡ files_now t
-  some_is e = cc
+same_texts (Some t) (Some u) s is h = h ∙ ap small_texts (same_Some (files_now u) (files_now t) is)
 
 -- firm names are the same files, whichever way the call ended
 pub firm_same : (old new : Option Trace) → FailsAt FirmNames old new → option_map files_now new ≡ option_map files_now old

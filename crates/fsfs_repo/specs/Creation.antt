@@ -6,7 +6,7 @@ use Rattle.fsfs_fields.specs.Dates.{IsDateAt}
 use Rattle.fsfs_disk.specs.Trace.{Trace, add_operation, files_now, file_at, FailsAt, FailsToPut}
 use Rattle.fsfs_disk.specs.Trace.Operation.{Done}
 use Rattle.fsfs_disk.specs.Trace.Change.{Put, Rename, FirmNames}
-use Rattle.fsfs_model.specs.CreatedFiles.{unpublished_files, format_text, created_over}
+use Rattle.fsfs_layout.specs.CreatedFiles.{unpublished_files, format_text, created_over}
 use Rattle.fsfs_repo.specs.declared.creation.CreateFault.{CreateFault}
 use Rattle.fsfs_repo.specs.declared.creation.CreateFault.TheVariants.{AlreadyRepo, DiskFault, Memory}
 use Rattle.fsfs_repo.specs.declared.place.DiskPlace.{DiskPlace}

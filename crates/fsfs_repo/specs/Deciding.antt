@@ -1,8 +1,8 @@
 -- The small files decide what an opening answers: each of its answers comes wherever its cause is there.
 use Rattle.std.specs.Prelude.{◌≡◌, ℕ, Result, Ok, Err, ◌⊎◌}
-use Rattle.fsfs_repo.specs.Opening.{SmallTexts, IsOpened, IsNone, HasFormat, IsLinear}
+use Rattle.fsfs_layout.specs.Opening.{SmallTexts, IsOpened, IsNone, HasFormat, IsLinear}
 use Rattle.fsfs_repo.specs.OpenFaults.{IfOutside}
-use Rattle.fsfs_repo.specs.declared.opening.Opened.{Opened}
+use Rattle.fsfs_layout.specs.declared.opened.Opened.{Opened}
 use Rattle.fsfs_repo.specs.declared.opening.OpenFault.{OpenFault}
 use Rattle.fsfs_repo.specs.declared.opening.OpenFault.TheVariants.{NotRepo, OtherFormat, Linear}
 

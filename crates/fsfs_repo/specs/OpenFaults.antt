@@ -1,16 +1,13 @@
 -- Why a repository is not opened.
-use Rattle.std.specs.Prelude.{ℕ, Option, IfSome, option_map}
+use Rattle.std.specs.Prelude.{Option, IfSome, option_map}
 use Rattle.fsfs_disk.specs.Trace.{Trace, files_now}
-use Rattle.fsfs_layout.specs.Small.{IsUuid, IsRevLine, IsMinUnpackedRev, IsBase36Line}
-use Rattle.fsfs_repo.specs.Opening.{SmallTexts, small_texts, IsNone, HasFormat, IsLinear, IsRefused}
-use Rattle.fsfs_repo.specs.declared.opening.Opened.{Opened}
+use Rattle.fsfs_layout.specs.Opening.{SmallTexts, small_texts, IsNone, HasFormat, IsLinear, IsRefused}
 use Rattle.fsfs_repo.specs.declared.opening.SmallFiles.{SmallFiles}
 use Rattle.fsfs_repo.specs.declared.opening.OpenFault.{OpenFault}
 use Rattle.fsfs_repo.specs.declared.opening.OpenFault.TheVariants.{NotRepo, OtherFormat, Linear, Small, DiskFault, Memory}
-use Rattle.fsfs_repo.specs.declared.whole_file.FileFault.{FileFault}
-use Rattle.fsfs_repo.specs.declared.whole_file.FileFault.TheVariants as file
+use Rattle.fsfs_whole_file.specs.declared.file_fault.FileFault.{FileFault}
+use Rattle.fsfs_whole_file.specs.declared.file_fault.FileFault.TheVariants as file
 use Rattle.fsfs_repo.specs.declared.place.DiskPlace.TheVariants.{OpenRead}
-use Rattle.std.specs.Prelude.{◌≡◌, ◌≤◌, ◌+◌}
 
 abbrev pub texts_of : SmallFiles → SmallTexts
 texts_of s = record {
@@ -21,15 +18,6 @@ texts_of s = record {
   min_unpacked_rev = s.min_unpacked_rev.items;
   txn_current = s.txn_current.items;
 }
-
--- what the files behind db/format say
-pub record IsOpenedBehind (shard_size : ℕ) (s : SmallTexts) (o : Opened) : Type 0 where
-  pub shards : o.shard_size ≡ shard_size
-  pub uuid : IsUuid s.uuid o.uuid
-  pub youngest : IsRevLine s.current o.youngest
-  pub min_unpacked_rev : IsMinUnpackedRev shard_size s.min_unpacked_rev o.min_unpacked_rev
-  pub within : o.min_unpacked_rev ≤ o.youngest + 1
-  pub next_txn : IsBase36Line s.txn_current o.next_txn.number
 
 -- a fact for a fault of the disk; want of memory is free, and nothing else comes
 abbrev pub IfOutside : Type 0 → OpenFault → Type 0

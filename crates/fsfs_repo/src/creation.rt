@@ -3,7 +3,7 @@ ghost use Rattle.std.specs.Prelude.{◌≡◌, ◌≤◌, map, option_map, Some,
 ghost use Rattle.fsfs_disk.specs.Fault.{Rose};
 ghost use Rattle.fsfs_disk.specs.Trace.{Trace};
 ghost use Rattle.fsfs_disk.specs.Crash.{AllImages, Leaves};
-ghost use Rattle.fsfs_model.specs.CreatedFiles.{identifier_text};
+ghost use Rattle.fsfs_layout.specs.CreatedFiles.{identifier_text};
 ghost use Rattle.fsfs_repo.specs.NewFiles.{named};
 ghost use Rattle.fsfs_repo.specs.Creation.{after_puts, after_publishing, after_creation, StopsInPuts, StopsPublishing, StopsAt, HasRepository, IsNoRepository, IsUnpublished, IsCreated, IsNoneOrWhole, CreateFails};
 

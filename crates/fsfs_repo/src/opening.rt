@@ -2,34 +2,21 @@
 ghost use Rattle.std.specs.Prelude.{◌≡◌, ◌≤◌, ◌<◌, IfOk, IfErr, IfSome, MatchResult, option_map};
 ghost use Rattle.fsfs_disk.specs.Fault.{Rose};
 ghost use Rattle.fsfs_disk.specs.Trace.{files_now};
-ghost use Rattle.fsfs_repo.specs.Opening.{IsOpened, IsRefusedBehind, small_texts, text_at};
-ghost use Rattle.fsfs_repo.specs.OpenFaults.{texts_of, IsOpenedBehind, JudgedBecause, OpensBecause, IfOutside, outside_of};
+ghost use Rattle.fsfs_layout.specs.Opening.{IsOpened, IsOpenedBehind, IsRefusedBehind, small_texts, text_at};
+ghost use Rattle.fsfs_repo.specs.OpenFaults.{texts_of, JudgedBecause, OpensBecause, IfOutside, outside_of};
 ghost use Rattle.fsfs_repo.specs.Deciding.{Decides};
-ghost use Rattle.fsfs_repo.specs.declared.opening.Opened.{Opened};
+ghost use Rattle.fsfs_layout.specs.declared.opened.Opened.{Opened};
 
 use crate::place::DiskPlace;
-use crate::whole_file::{FileFault, read_file};
-use fsfs_base::{B36, SmallFault, SmallFile};
+use fsfs_base::{SmallFault, SmallFile};
 use fsfs_disk::{Disk, Name};
 use fsfs_layout::{
-    Format, Uuid, names, read_current, read_format, read_min_unpacked_rev, read_txn_current,
+    Format, Opened, names, read_current, read_format, read_min_unpacked_rev, read_txn_current,
     read_uuid,
 };
+use fsfs_whole_file::{FileFault, read_disk_file};
 use std::alloc::Global;
 use thiserror::Error;
-
-/// What the small files of a repository say.
-#[derive(Drop)]
-pub struct Opened {
-    pub uuid: Uuid,
-    /// How many revisions a shard has.
-    pub shard_size: u32,
-    pub youngest: u32,
-    /// The oldest revision that isn't packed: the first of a shard, at most the one that follows the youngest.
-    pub min_unpacked_rev: u32,
-    /// The number that the next transaction gets.
-    pub next_txn: B36,
-}
 
 /// Why a repository wasn't opened.
 #[derive(Clone, Copy, Debug, PartialEq, Eq, Error)]
@@ -73,7 +60,7 @@ fn text_of<D: Disk>(alloc: Global, disk: &mut D, name: &Name) -> Result<Vec<u8>,
     ensures later { D.faults disk.old ≤ D.faults disk.new }
     ensures failed { IfErr result (IfOutside (Rose (D.faults disk.old) (D.faults disk.new))) }
 {
-    match read_file(alloc, disk, name) {
+    match read_disk_file(alloc, disk, name) {
         Ok(Some(bytes)) => Ok(bytes),
         Ok(None) => Ok(Vec::new(alloc)),
         Err(fault) => Err(outside(fault)),
@@ -97,7 +84,7 @@ fn read_small_files<D: Disk>(alloc: Global, disk: &mut D) -> Result<SmallFiles, 
     ensures later { D.faults disk.old ≤ D.faults disk.new }
     ensures failed { IfErr result (IfOutside (Rose (D.faults disk.old) (D.faults disk.new))) }
 {
-    let format = match read_file(alloc, disk, &names::format()) {
+    let format = match read_disk_file(alloc, disk, &names::format()) {
         Ok(found) => found,
         Err(fault) => return Err(outside(fault)),
     };
@@ -119,8 +106,9 @@ fn read_small_files<D: Disk>(alloc: Global, disk: &mut D) -> Result<SmallFiles, 
 // What the files behind `db/format` say.
 fn judge_sharded(files: &SmallFiles, shard_size: u32) -> Result<Opened, SmallFault>
     requires { 0 < shard_size }
-    ensures opened { IfOk result (IsOpenedBehind shard_size (texts_of files.now)) }
-    ensures only { (o : Opened) → IsOpenedBehind shard_size (texts_of files.now) o → MatchResult result (λ p. p.youngest ≡ o.youngest) (λ _. ⊥) }
+    ensures shards { IfOk result (λ o. o.shard_size ≡ shard_size) }
+    ensures opened { IfOk result (IsOpenedBehind (texts_of files.now)) }
+    ensures only { (o : Opened) → o.shard_size ≡ shard_size → IsOpenedBehind (texts_of files.now) o → MatchResult result (λ p. p.youngest ≡ o.youngest) (λ _. ⊥) }
     ensures refused { IfErr result (IsRefusedBehind shard_size (texts_of files.now)) }
 {
     let uuid = read_uuid(&files.uuid)?;

@@ -43,7 +43,8 @@ use Rattle.fsfs_shows.specs.Reading.{EntriesOf, ChildOf, Met, Stands, Lacking, M
 use Rattle.fsfs_shows.specs.Chains.{own_rev, IsPred, First, copy_root_of, IsCopiedIn}
 use Rattle.fsfs_shows.specs.Shown.{IsShown, IsShownAs, Shows}
 use Rattle.fsfs_shows.specs.IdRules.{IsOf, IsChild, HasSuffix, IdRule}
-use Rattle.fsfs_shows.specs.FirstRevision.{first_bytes, first_tree}
+use Rattle.fsfs_base.specs.FirstRevision.{first_bytes}
+use Rattle.fsfs_shows.specs.FirstRevision.{first_tree}
 use Rattle.fsfs_shows.proofs.OneWalk.{met_same, stands_same}
 
 -- ---- bytes that lack one, by a test

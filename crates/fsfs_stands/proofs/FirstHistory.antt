@@ -1,6 +1,7 @@
 -- The bytes of revision 0 and its property file show the first history.
 use Rattle.std.proofs.Common.{◌≡◌, ℕ, zero, suc, List, [], ◌∷◌, ◌++◌, length, refl, sym, ap, subst, ◌∙◌, arith, append_assoc}
 use Rattle.std.specs.Prelude.{Option, Some, Ok, codes, slice_get, Contains}
+use Rattle.std.proofs.lemmas.Option.{same_Some}
 use Rattle.std.specs.FinMap.{get, empty, insert, get-empty, get-insert}
 use Rattle.jiff_core.specs.declared.civil.datetime.DateTime.{DateTime}
 use Rattle.fsfs_text.specs.Numeral.{IsNumber, numeral_at, plain_at}
@@ -14,9 +15,10 @@ use Rattle.fsfs_base.specs.declared.change_map.Change.{Change}
 use Rattle.fsfs_book.specs.Told.{Look}
 use Rattle.fsfs_hash.specs.Dump.{Field, Entry, IsDump}
 use Rattle.fsfs_noderev.proofs.RepTexts.{number_spells}
-use Rattle.fsfs_model.specs.CreatedFiles.{date_properties}
+use Rattle.fsfs_layout.specs.CreatedFiles.{date_properties}
 use Rattle.fsfs_shows.specs.Shown.{IsShownAs, Shows}
-use Rattle.fsfs_shows.specs.FirstRevision.{first_bytes, first_tree}
+use Rattle.fsfs_base.specs.FirstRevision.{first_bytes}
+use Rattle.fsfs_shows.specs.FirstRevision.{first_tree}
 use Rattle.fsfs_shows.proofs.FirstRevision.{first_shown, first_rules, trailer, trailer_ends}
 use Rattle.fsfs_stands.specs.Changes.{HasItems, AreChangesOf}
 use Rattle.fsfs_stands.specs.History.{ShowsRevision}
@@ -104,9 +106,6 @@ dump_is date size = record {
     parts : date_properties date ≡ (codes "K 8\nsvn:date\n" ++ (codes "V 27\n" ++ (date ++ 10 ∷ []))) ++ codes "END\n"
     parts = ap (λ (t : List ℕ). codes "K 8\nsvn:date\nV 27\n" ++ t) (sym (append_assoc date (10 ∷ []) (codes "END\n")))
 
-some_same : {A : Type 0} (x y : A) → (let o : Option A = Some x in o) ≡ Some y → x ≡ y
-some_same x y e = cc
-
 pub first_history : FirstHistoryIsShown
 first_history look props date dt dated is file = record { each = each; ids = first_rules look is }
   where
@@ -119,9 +118,9 @@ first_history look props date dt dated is file = record { each = each; ids = fir
       file = date_properties date;
       file_is = file;
       properties = dump_is date (date_length date dt dated);
-      dated = λ value e. (dt, subst (λ (t : List ℕ). IsDateText t dt) (some_same date value e) dated);
+      dated = λ value e. (dt, subst (λ (t : List ℕ). IsDateText t dt) (same_Some date value e) dated);
     }
 
     each : (r : ℕ) (revision : Revision) → slice_get (first_revision date ∷ []) r ≡ Some revision → ShowsRevision look props r revision
-    each zero revision e = subst (λ (x : Revision). ShowsRevision look props 0 x) (some_same (first_revision date) revision e) whole
+    each zero revision e = subst (λ (x : Revision). ShowsRevision look props 0 x) (same_Some (first_revision date) revision e) whole
     each (suc r) revision e = absurd cc

@@ -1,29 +1,26 @@
 -- The files of a new repository stand for the first history.
-use Rattle.std.proofs.Common.{◌≡◌, ◌≤◌, ℕ, List, [], ◌∷◌, ◌++◌, take, refl, sym, ap, ◌∙◌, arith}
+use Rattle.std.proofs.Common.{◌≡◌, ◌≤◌, ℕ, List, [], ◌∷◌, ◌++◌, refl, sym, ap, subst, ◌∙◌, arith}
 use Rattle.std.specs.Prelude.{Option, Some, Ok, unwrap_or, codes, decimal}
 use Rattle.std.specs.FinMap.{get}
 use Rattle.std.proofs.Math.Nat.{zero-mod, zero-div}
 use Rattle.fsfs_text.specs.Numeral.{IsNumber, IsNumeral, value_after}
-use Rattle.fsfs_text.proofs.Readers.{all_again}
 use Rattle.fsfs_text.proofs.Unique.{decimal_plain, numeral_decimal}
 use Rattle.fsfs_base.specs.Files.{Files}
 use Rattle.fsfs_layout.specs.Formats.{IsFormat}
+use Rattle.fsfs_layout.specs.Opening.{text_at}
+use Rattle.fsfs_layout.specs.Small.{IsUuid, IsRevLine, IsMinUnpackedRev, IsBase36Line}
 use Rattle.fsfs_layout.specs.Names.{in_shard}
 use Rattle.fsfs_layout.specs.declared.format_file.Format.TheVariants.{Sharded}
-use Rattle.fsfs_layout.proofs.Files.{rev_line_reads}
 use Rattle.fsfs_layout.proofs.Writing.{sharded_layout, our_format, uuid_line}
-use Rattle.fsfs_fetch.specs.RevBytes.{floor_of, floor_in, or_missing, by_floor, rev_bytes, props_bytes}
-use Rattle.fsfs_fetch.proofs.FloorLemmas.{floor_ok}
-use Rattle.fsfs_model.specs.CreatedFiles.{format_text, date_properties}
-use Rattle.fsfs_shows.specs.FirstRevision.{first_bytes}
+use Rattle.fsfs_rev_file.specs.RevBytes.{floor_in, or_missing, by_floor, rev_bytes, props_bytes}
+use Rattle.fsfs_rev_file.proofs.FloorLemmas.{floor_is}
+use Rattle.fsfs_layout.specs.CreatedFiles.{format_text, date_properties}
+use Rattle.fsfs_base.specs.FirstRevision.{first_bytes}
+use Rattle.fsfs_shows.proofs.FirstRevision.{zero_digit}
 use Rattle.fsfs_stands.specs.NewRepository.{NewRepositoriesStand}
 use Rattle.fsfs_stands.proofs.FirstHistory.{first_history}
 
 -- ---- the small files
-
-zero_digit : IsNumeral 10 (codes "0") 0
-unfolding value_after
-zero_digit = ((omega arith, tt), (λ e. refl), refl)
 
 zero_digit36 : IsNumeral 36 (codes "0") 0
 unfolding value_after
@@ -42,14 +39,11 @@ format_is n one most =
     our_format (codes "4\n") (format_text n) (Sharded n) refl
     (sharded_layout (codes "4\n") (codes "4\nlayout sharded ") (format_text n) n one most refl (record { text = decimal n ++ 10 ∷ []; text_is = number; parts = refl }))
 
--- ---- the bytes of revision 0
+-- a file that is there has its text
+says : {X : Type 0} (files : Files) (name text : List ℕ) (G : List ℕ → X → Type 0) (x : X) → get files name ≡ Some text → G text x → G (text_at files name) x
+says files name text G x there is = subst (λ (t : List ℕ). G t x) (sym (ap (λ (o : Option (List ℕ)). unwrap_or o []) there)) is
 
--- nothing is packed
-floor_is : (n : ℕ) (files : Files) → get files (codes "db/min-unpacked-rev") ≡ Some (codes "0\n") → floor_in n files ≡ Ok 0
-unfolding floor_in
-floor_is n files there =
-    ap (λ (o : Option (List ℕ)). floor_of n (take 64 (unwrap_or o []))) there
-    ∙ floor_ok n 0 (codes "0\n") (all_again rev_line_reads (codes "0\n") 0 zero_line) (zero-mod n)
+-- ---- the bytes of revision 0
 
 zero_text : decimal 0 ≡ codes "0"
 zero_text = sym (numeral_decimal (codes "0") 0 (omega arith) zero_digit)
@@ -76,21 +70,21 @@ pub new_repositories_stand : NewRepositoriesStand
 new_repositories_stand files date w =
     let h = w.new in
     let n = w.shard_size in
-    let floor = h.1.1.1.1.1.0 in
-    let bytes : rev_bytes n files 0 ≡ Ok first_bytes = rev_is n files first_bytes (floor_is n files floor) h.1.1.1.1.1.1.1.1.0 in
+    let uuid_text = w.identifier ++ codes "\n" in
+    let floor : IsMinUnpackedRev n (text_at files (codes "db/min-unpacked-rev")) 0 = says files (codes "db/min-unpacked-rev") (codes "0\n") (IsMinUnpackedRev n) 0 h.1.1.1.1.1.0 (zero_line, zero-mod n) in
+    let bytes : rev_bytes n files 0 ≡ Ok first_bytes = rev_is n files first_bytes (floor_is n 0 files floor) h.1.1.1.1.1.1.1.1.0 in
     let properties : props_bytes n files 0 ≡ Ok (date_properties date) = file_is files (codes "db/revprops") (date_properties date) n h.1.1.1.1.1.1.1.1.1.0 in
     record {
-      shard_size = n;
-      youngest = 0;
-      floor = 0;
+      opened = record { uuid = w.identifier; shard_size = n; youngest = 0; min_unpacked_rev = 0; next_txn = record { number = 0; small = omega arith } };
       small = record {
-        format = (format_text n, h.1.1.1.1.1.1.1.1.1.1.0, format_is n w.from_one w.most);
-        fs_type = h.1.0;
-        uuid = (w.identifier, (w.identifier ++ codes "\n", h.1.1.0, uuid_line w.identifier (w.identifier ++ codes "\n") w.characters w.one_line refl));
-        current = (codes "0\n", h.1.1.1.0, zero_line);
-        min_unpacked_rev = (codes "0\n", floor, (zero_line, zero-mod n));
-        txn_current = (0, (codes "0\n", h.1.1.1.1.0, zero_line36));
-        within = omega arith;
+        format = (format_text n, record { there = h.1.1.1.1.1.1.1.1.1.1.0; fs_type = ap (λ (o : Option (List ℕ)). unwrap_or o []) h.1.0 }, format_is n w.from_one w.most);
+        behind = record {
+          uuid = says files (codes "db/uuid") uuid_text IsUuid w.identifier h.1.1.0 (uuid_line w.identifier uuid_text w.characters w.one_line refl);
+          youngest = says files (codes "db/current") (codes "0\n") IsRevLine 0 h.1.1.1.0 zero_line;
+          min_unpacked_rev = floor;
+          within = omega arith;
+          next_txn = says files (codes "db/txn-current") (codes "0\n") IsBase36Line 0 h.1.1.1.1.0 zero_line36;
+        };
       };
       count = refl;
       history = first_history (rev_bytes n files) (props_bytes n files) date w.moment w.dated bytes properties;

@@ -1,8 +1,8 @@
 -- The bytes show one history at most.
 use Rattle.std.proofs.Common.{◌≡◌, ℕ, suc, List, [], ◌∷◌, ◌++◌, drop, refl, sym, ap, subst, ◌∙◌}
 use Rattle.std.specs.Prelude.{Result, Ok, Option, Some, None, true, false, Contains}
+use Rattle.std.proofs.lemmas.Option.{same_Some}
 use Rattle.std.specs.FinMap.{FinMap, get}
-use Rattle.fsfs_text.proofs.Readers.{all_again}
 use Rattle.fsfs_base.specs.Files.{Files}
 use Rattle.fsfs_base.specs.Paths.{Path, path_cmp}
 use Rattle.fsfs_base.specs.Revisions.{Revision}
@@ -12,10 +12,8 @@ use Rattle.fsfs_book.specs.Told.{Look}
 use Rattle.fsfs_damage.specs.declared.wrong.Refusal.{Refusal}
 use Rattle.fsfs_hash.specs.Dump.{IsDump}
 use Rattle.fsfs_noderev.specs.declared.node_rev.NodeRev.{NodeRev}
-use Rattle.fsfs_layout.specs.Formats.{IsFormat}
-use Rattle.fsfs_layout.specs.Small.{IsRevLine}
-use Rattle.fsfs_layout.specs.declared.format_file.Format.TheVariants.{Sharded}
-use Rattle.fsfs_layout.proofs.Files.{format_again, rev_line_reads}
+use Rattle.fsfs_layout.specs.Opening.{small_texts}
+use Rattle.fsfs_layout.proofs.OpeningLemmas.{one_youngest, one_shard}
 use Rattle.fsfs_revision.specs.Trailers.{IsTrailer}
 use Rattle.fsfs_revision.proofs.TrailerLemmas.{one_trailer}
 use Rattle.fsfs_changes.specs.Changes.{HasNewPath, AreRevisionChanges}
@@ -26,14 +24,10 @@ use Rattle.fsfs_shows.proofs.OneRep.{dump_one}
 use Rattle.fsfs_damage.proofs.OneAnswer.{ok_same}
 use Rattle.fsfs_shows.proofs.OneWalk.{of_id_one, stands_same}
 use Rattle.fsfs_shows.proofs.OneTree.{one_tree}
-use Rattle.fsfs_fetch.specs.RevBytes.{rev_bytes, props_bytes}
+use Rattle.fsfs_rev_file.specs.RevBytes.{rev_bytes, props_bytes}
 use Rattle.fsfs_stands.specs.Changes.{HasItems, IsKindOf, Said, Named, There, NotThere, IsChangeOf, AreChangesOf}
 use Rattle.fsfs_stands.specs.History.{ShowsRevision, ShowsHistory}
-use Rattle.fsfs_stands.specs.Files.{Says}
 use Rattle.fsfs_stands.specs.Same.{AreSame, OneHistoryIsShown, OneHistoryIsStoodFor}
-
-some_same : {A : Type 0} (x y : A) → (let o : Option A = Some x in o) ≡ Some y → x ≡ y
-some_same x y e = cc
 
 no_both : {A B : Type 0} (o : Option A) (x : A) → o ≡ Some x → o ≡ None → B
 no_both o x e f = let g = sym e ∙ f in absurd cc
@@ -61,7 +55,7 @@ has_items_one bytes a b v w =
 -- ---- the change of an item
 
 kind_one : {look : Look} {r : ℕ} {item : ChangeItem} {a b : Kind} → IsKindOf look r item a → IsKindOf look r item b → a ≡ b
-kind_one (Said k e) (Said l f) = some_same k l (sym e ∙ f)
+kind_one (Said k e) (Said l f) = same_Some k l (sym e ∙ f)
 kind_one {item = item} (Said k e) (Named u f i o) = no_both item.kind k e f
 kind_one {item = item} (Said k e) (There v f i o) = no_both item.kind k e f
 kind_one {item = item} (Said k e) (NotThere f i o) = no_both item.kind k e f
@@ -102,7 +96,7 @@ module _ (look : Look) (r : ℕ) (bytes : List ℕ) (a b : FinMap path_cmp Chang
       let y = w.each of.0 there in
       let here : get a p ≡ Some x.0 = subst (λ (q : Path). get a q ≡ Some x.0) of.2 x.2 in
       let other : get b p ≡ Some y.0 = subst (λ (q : Path). get b q ≡ Some y.0) of.2 y.2 in
-      let first = some_same x.0 c (sym here ∙ e) in
+      let first = same_Some x.0 c (sym here ∙ e) in
       let same = change_one look r of.0 x.0 y.0 x.1 y.1 in
       other ∙ ap (λ (z : Change). let o : Option Change = Some z in o) (sym same ∙ first)
 
@@ -134,28 +128,11 @@ one_history look props g h v w r a b e f = revision_same look props r a b (v.eac
 
 -- ---- files
 
-text_one : (files : Files) (name s t : List ℕ) → get files name ≡ Some s → get files name ≡ Some t → s ≡ t
-text_one files name s t e f = some_same s t (sym e ∙ f)
-
-rev_one : (files : Files) (name : List ℕ) (m n : ℕ) → Says files name IsRevLine m → Says files name IsRevLine n → m ≡ n
-rev_one files name m n v w =
-    let one = all_again rev_line_reads v.0 m v.2 in
-    let two = all_again rev_line_reads v.0 n (subst (λ (t : List ℕ). IsRevLine t n) (text_one files name w.0 v.0 w.1 v.1) w.2) in
-    let both = sym one ∙ two in
-    cc
-
-shard_one : (files : Files) (name : List ℕ) (m n : ℕ) → Says files name IsFormat (Sharded m) → Says files name IsFormat (Sharded n) → m ≡ n
-shard_one files name m n v w =
-    let one = format_again v.0 (Sharded m) v.2 in
-    let two = format_again v.0 (Sharded n) (subst (λ (t : List ℕ). IsFormat t (Sharded n)) (text_one files name w.0 v.0 w.1 v.1) w.2) in
-    let both = sym one ∙ two in
-    cc
-
 pub one_stood_for : OneHistoryIsStoodFor
 one_stood_for files g h v w =
-    let youngest = rev_one files _ v.youngest w.youngest v.small.current w.small.current in
-    let shard = shard_one files _ w.shard_size v.shard_size w.small.format v.small.format in
+    let youngest = one_youngest (small_texts files) v.opened w.opened v.small w.small in
+    let shard = one_shard (small_texts files) w.opened v.opened w.small v.small in
     let moved = subst (λ (n : ℕ). ShowsHistory (rev_bytes n files) (props_bytes n files) h) shard w.history in (
       v.count ∙ ap suc youngest ∙ sym w.count,
-      one_history (rev_bytes v.shard_size files) (props_bytes v.shard_size files) g h v.history moved,
+      one_history (rev_bytes v.opened.shard_size files) (props_bytes v.opened.shard_size files) g h v.history moved,
     )

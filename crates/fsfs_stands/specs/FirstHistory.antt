@@ -8,8 +8,8 @@ use Rattle.fsfs_base.specs.Revisions.{Revision}
 use Rattle.fsfs_base.specs.Transactions.{date_name}
 use Rattle.fsfs_base.specs.declared.node.Kind.TheVariants.{Dir}
 use Rattle.fsfs_book.specs.Told.{Look}
-use Rattle.fsfs_model.specs.CreatedFiles.{date_properties}
-use Rattle.fsfs_shows.specs.FirstRevision.{first_bytes}
+use Rattle.fsfs_layout.specs.CreatedFiles.{date_properties}
+use Rattle.fsfs_base.specs.FirstRevision.{first_bytes}
 use Rattle.fsfs_stands.specs.History.{ShowsHistory}
 
 -- `/` alone, no changed paths, the date

@@ -3,8 +3,8 @@ use Rattle.std.specs.Prelude.{◌≡◌, ◌≤◌, ℕ, List, [], ◌∷◌, le
 use Rattle.jiff_core.specs.declared.civil.datetime.DateTime.{DateTime}
 use Rattle.fsfs_fields.specs.Dates.{IsDateText}
 use Rattle.fsfs_base.specs.Files.{Files}
-use Rattle.fsfs_layout.specs.Lacking.{Lacks}
-use Rattle.fsfs_model.specs.CreatedFiles.{created_files, Holds}
+use Rattle.fsfs_text.specs.Cuts.{Lacks}
+use Rattle.fsfs_layout.specs.CreatedFiles.{created_files, Holds}
 use Rattle.fsfs_stands.specs.FirstHistory.{first_revision}
 use Rattle.fsfs_stands.specs.Files.{StandsFor}
 

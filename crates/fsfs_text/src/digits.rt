@@ -3,7 +3,7 @@ ghost use Rattle.std.specs.Prelude.{◌≡◌, ◌<◌};
 ghost use Rattle.fsfs_text.specs.Numeral.{digit};
 
 /// What a digit stands for; 36 for another byte.
-pub(crate) fn digit_of(c: u8) -> u64
+pub fn digit_of(c: u8) -> u64
     ensures { result ≡ digit c }
 {
     match c {

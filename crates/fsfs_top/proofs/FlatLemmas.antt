@@ -11,7 +11,7 @@ use Rattle.fsfs_base.specs.declared.node.Kind.TheVariants.{File, Dir}
 use Rattle.fsfs_faults.specs.Lines.{line_of, status_of}
 use Rattle.fsfs_faults.specs.Faults.{fault_from_look}
 use Rattle.fsfs_faults.specs.declared.fault.Fault.TheVariants as fault
-use Rattle.fsfs_fetch.specs.RevBytes.{rev_bytes}
+use Rattle.fsfs_rev_file.specs.RevBytes.{rev_bytes}
 use Rattle.fsfs_model.specs.Answers.{Reply, Found, Stands, Lacking, Blocked, found_at, tree_reply, node_reply, text_reply, prints, refuses, refuses_at, refuses_look, in_revision}
 use Rattle.fsfs_damage.specs.Damages.{place_of}
 use Rattle.fsfs_damage.specs.declared.wrong.Wrong.TheVariants as wrongs
@@ -71,11 +71,11 @@ tree_fits shown path tree (Blocked at) text Whole is = absurd is
 tree_fits shown path tree (Blocked at) text (Refused why) is = (is.0, not_dir_line path at why is.1)
 tree_fits shown path tree (Blocked at) text Stopped is = nothing_of text is
 
-pub tree_is_by_tree : (files : Files) (h : List Revision) (s : StandsFor files h) (rev : ℕ) (r : Revision) (path : Path) (ids : Bool) (shown : Path → List ℕ) → slice_get h rev ≡ Some r → AreShownIds (rev_bytes s.shard_size files) rev ids shown
-    → (text : List ℕ) (end : End) → TreeText (rev_bytes s.shard_size files) rev path ids text end → LookFits path (tree_reply shown path r.tree (found_at (get r.tree) path)) text end
+pub tree_is_by_tree : (files : Files) (h : List Revision) (s : StandsFor files h) (rev : ℕ) (r : Revision) (path : Path) (ids : Bool) (shown : Path → List ℕ) → slice_get h rev ≡ Some r → AreShownIds (rev_bytes s.opened.shard_size files) rev ids shown
+    → (text : List ℕ) (end : End) → TreeText (rev_bytes s.opened.shard_size files) rev path ids text end → LookFits path (tree_reply shown path r.tree (found_at (get r.tree) path)) text end
 tree_is_by_tree files h s rev r path ids shown there are text end is =
     tree_fits shown path r.tree (found_at (get r.tree) path) text end
-    (trees_by_tree (rev_bytes s.shard_size files) rev r.tree path ids shown (s.history.each rev r there).tree are text end is)
+    (trees_by_tree (rev_bytes s.opened.shard_size files) rev r.tree path ids shown (s.history.each rev r there).tree are text end is)
 
 -- ---- the text of a file
 
@@ -100,6 +100,6 @@ file_fits path (Blocked at) text (Refused why) is = (is.0, not_dir_line path at 
 file_fits path (Blocked at) text Stopped is = nothing_of text is
 
 pub file_is_by_tree : (files : Files) (h : List Revision) (s : StandsFor files h) (rev : ℕ) (r : Revision) (path : Path) → slice_get h rev ≡ Some r
-    → (text : List ℕ) (end : End) → FileText (rev_bytes s.shard_size files) rev path text end → LookFits path (text_reply path (found_at (get r.tree) path)) text end
+    → (text : List ℕ) (end : End) → FileText (rev_bytes s.opened.shard_size files) rev path text end → LookFits path (text_reply path (found_at (get r.tree) path)) text end
 file_is_by_tree files h s rev r path there text end is =
-    file_fits path (found_at (get r.tree) path) text end (files_by_tree (rev_bytes s.shard_size files) rev (get r.tree) path (s.history.each rev r there).tree text end is)
+    file_fits path (found_at (get r.tree) path) text end (files_by_tree (rev_bytes s.opened.shard_size files) rev (get r.tree) path (s.history.each rev r there).tree text end is)

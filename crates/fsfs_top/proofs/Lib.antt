@@ -3,7 +3,6 @@ pub mod LookLemmas
 pub mod LookingLemmas
 pub mod PathWords
 pub mod AskLemmas
-pub mod HistoryLemmas
 pub mod ReplyLemmas
 pub mod FlatLemmas
 pub mod Replying

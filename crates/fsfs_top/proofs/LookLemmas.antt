@@ -1,31 +1,21 @@
 -- What the files decide of a look, as the top call tells it.
 use Rattle.std.proofs.Common.{◌≡◌, ◌≤◌, ℕ, List, [], ◌∷◌, ◌⊎◌, length, inl, inr, refl, sym, ap, subst, ◌∙◌, arith}
 use Rattle.std.specs.Prelude.{Option, Some, None, IfSome, option_map, unwrap_or, Result, Ok, Err}
-use Rattle.std.proofs.lemmas.List.{take_all, length-append}
-use Rattle.std.proofs.lemmas.Fmt.{length-decimal-le}
-use Rattle.fsfs_text.proofs.Readers.{all_again, ok_is}
-use Rattle.fsfs_text.proofs.Unique.{numeral_decimal}
 use Rattle.fsfs_base.specs.Files.{Files}
 use Rattle.fsfs_base.specs.Paths.{Path}
-use Rattle.fsfs_base.specs.declared.small_fault.SmallFile.TheVariants.{MinUnpackedRev}
 use Rattle.fsfs_book.specs.Told.{Look}
 use Rattle.fsfs_disk.specs.Trace.{Trace, files_now}
 use Rattle.fsfs_faults.specs.Faults.{fault_from_open, fault_from_look}
 use Rattle.fsfs_faults.specs.declared.fault.Fault.{Fault}
 use Rattle.fsfs_faults.specs.declared.fault.Fault.TheVariants.{NoRev}
-use Rattle.fsfs_fetch.specs.RevBytes.{floor_of, floor_in, text_in, rev_bytes}
-use Rattle.fsfs_fetch.proofs.FloorLemmas.{floor_ok}
-use Rattle.fsfs_layout.specs.Small.{IsRevLine}
-use Rattle.fsfs_layout.specs.Formats.{IsFormat}
-use Rattle.fsfs_layout.specs.declared.format_file.Format.{Format}
-use Rattle.fsfs_layout.specs.declared.format_file.Format.TheVariants.{Sharded}
-use Rattle.fsfs_layout.proofs.Files.{rev_line_reads, format_again}
+use Rattle.fsfs_rev_file.specs.RevBytes.{rev_bytes}
+use Rattle.fsfs_layout.proofs.OpeningLemmas.{one_youngest, one_shard}
 use Rattle.fsfs_look.specs.declared.look_error.LookError.TheVariants as errors
 use Rattle.fsfs_look.specs.declared.look_error.LookError.{LookError}
 use Rattle.fsfs_look.specs.Written.{Writes}
-use Rattle.fsfs_repo.specs.Opening.{small_texts, IsOpened}
+use Rattle.fsfs_layout.specs.Opening.{small_texts, IsOpened}
 use Rattle.fsfs_repo.specs.Deciding.{Decides, IsOutside as IsOpenOutside}
-use Rattle.fsfs_repo.specs.declared.opening.Opened.{Opened}
+use Rattle.fsfs_layout.specs.declared.opened.Opened.{Opened}
 use Rattle.fsfs_repo.specs.declared.opening.OpenFault.{OpenFault}
 use Rattle.fsfs_repo.specs.declared.opening.OpenFault.TheVariants as opening
 use Rattle.fsfs_repo.specs.declared.place.DiskPlace.TheVariants.{Read}
@@ -38,39 +28,6 @@ use Rattle.fsfs_top.specs.declared.look.Printed.TheVariants.{Tree, Text}
 use Rattle.fsfs_texts.specs.Agreeing.{HasOneText}
 use Rattle.fsfs_texts.proofs.OneText.{tree_one, file_one}
 use Rattle.fsfs_texts.proofs.Prefixes.{whole_or_refused, refusals_same}
-
--- ---- what one opening says, every opening says
-
-some_same : {A : Type 0} (x y : A) → ◌≡◌ {A = Option A} (Some x) (Some y) → x ≡ y
-some_same x y e = cc
-
-sharded_same : (m n : ℕ) → ◌≡◌ {A = Result Format ℕ} (Ok (Sharded m)) (Ok (Sharded n)) → m ≡ n
-sharded_same m n e = cc
-
-pub one_youngest : (m : Files) (o p : Opened) → IsOpened (small_texts m) o → IsOpened (small_texts m) p → o.youngest ≡ p.youngest
-one_youngest m o p a b =
-    ok_is o.youngest p.youngest (sym (all_again rev_line_reads (small_texts m).current o.youngest a.youngest) ∙ all_again rev_line_reads (small_texts m).current p.youngest b.youngest)
-
-pub one_shard : (m : Files) (o p : Opened) → IsOpened (small_texts m) o → IsOpened (small_texts m) p → o.shard_size ≡ p.shard_size
-one_shard m o p a b =
-    let text = some_same a.format.0 b.format.0 (sym a.format.1.there ∙ b.format.1.there) in
-    let other = subst (λ (t : List ℕ). IsFormat t (Sharded p.shard_size)) (sym text) b.format.2 in
-    sharded_same o.shard_size p.shard_size (sym (format_again a.format.0 (Sharded o.shard_size) a.format.2) ∙ format_again a.format.0 (Sharded p.shard_size) other)
-
--- the line of a revision is short
-line_is_short : (text : List ℕ) (n : ℕ) → IsRevLine text n → length text ≤ 64
-line_is_short text n line =
-    let digits : length line.digits ≤ 10 = subst (λ (t : List ℕ). length t ≤ 10) (sym (numeral_decimal line.digits n (omega (arith, line.fits)) line.numeral)) (length-decimal-le 10 n (omega arith) (omega (arith, line.fits)) (omega (arith, line.fits))) in
-    omega (arith, ap length line.parts, length-append line.digits (10 ∷ []), digits)
-
--- the floor that the small files name is the one of reading
-pub opened_floor : (m : Files) (o : Opened) → IsOpened (small_texts m) o → floor_in o.shard_size m ≡ Ok o.min_unpacked_rev
-unfolding floor_in
-opened_floor m o is =
-    let text = text_in m MinUnpackedRev in
-    let line : IsRevLine text o.min_unpacked_rev = is.min_unpacked_rev.0 in
-    ap (floor_of o.shard_size) (take_all 64 text (line_is_short text o.min_unpacked_rev line))
-    ∙ floor_ok o.shard_size o.min_unpacked_rev text (all_again rev_line_reads text o.min_unpacked_rev line) is.min_unpacked_rev.1
 
 -- ---- failures of the outside
 
@@ -185,15 +142,15 @@ look_done disk write look m o old new fault opened d (inl (rev, lacks, is, kept)
   opening = opening_done m o (Some (NoRev rev o.youngest)) d;
   lacking = λ p other w also.
       let named = some_same other rev (sym also.named ∙ lacks.named) in
-      inl (λ i. Some (NoRev (named i) (one_youngest m p o w opened i)));
-  whole = λ short p text w there t. absurd (lacks_or_has look o p rev lacks (one_youngest m o p opened w) there);
-  refused = λ short p text why w there t. absurd (lacks_or_has look o p rev lacks (one_youngest m o p opened w) there);
+      inl (λ i. Some (NoRev (named i) (one_youngest (small_texts m) p o w opened i)));
+  whole = λ short p text w there t. absurd (lacks_or_has look o p rev lacks (one_youngest (small_texts m) o p opened w) there);
+  refused = λ short p text why w there t. absurd (lacks_or_has look o p rev lacks (one_youngest (small_texts m) o p opened w) there);
 })
 look_done disk write look m o old new fault opened d (inr looked) = record {
   opening = opening_done m o fault d;
-  lacking = λ p rev w lacks. absurd (lacks_or_has look p o rev lacks (one_youngest m p o w opened) looked.there);
-  whole = λ short p text w there t. whole_agrees disk write look o m old new looked.result fault (looked.writes short) looked.fault_is text (same_text look o p m text Whole (one_shard m o p opened w) (one_youngest m o p opened w) t);
-  refused = λ short p text why w there t. refused_agrees disk write look o m old new looked.result fault (looked.writes short) looked.fault_is text why (same_text look o p m text (Refused why) (one_shard m o p opened w) (one_youngest m o p opened w) t);
+  lacking = λ p rev w lacks. absurd (lacks_or_has look p o rev lacks (one_youngest (small_texts m) p o w opened) looked.there);
+  whole = λ short p text w there t. whole_agrees disk write look o m old new looked.result fault (looked.writes short) looked.fault_is text (same_text look o p m text Whole (one_shard (small_texts m) o p opened w) (one_youngest (small_texts m) o p opened w) t);
+  refused = λ short p text why w there t. refused_agrees disk write look o m old new looked.result fault (looked.writes short) looked.fault_is text why (same_text look o p m text (Refused why) (one_shard (small_texts m) o p opened w) (one_youngest (small_texts m) o p opened w) t);
 }
 
 pub look_decided : (disk write : Type 0) (look : RevisionLook) (told at : Option Trace) (o : Opened) (old new : Option (List ℕ)) (fault : Option Fault) → told ≡ at → IfSome told (λ t. IsOpened (small_texts (files_now t)) o)

@@ -10,19 +10,20 @@ use Rattle.fsfs_faults.specs.Faults.{fault_from_open}
 use Rattle.fsfs_faults.specs.declared.fault.Fault.{Fault}
 use Rattle.fsfs_fetch.specs.Kept.{HasShortFiles}
 use Rattle.fsfs_fetch.specs.Owned.{TellsAll}
-use Rattle.fsfs_fetch.specs.RevBytes.{floor_in, rev_bytes}
+use Rattle.fsfs_rev_file.specs.RevBytes.{floor_in, rev_bytes}
 use Rattle.fsfs_look.specs.Written.{Writes, IfDisk, IfWrite}
 use Rattle.fsfs_look.specs.declared.look_error.LookError.{LookError}
 use Rattle.fsfs_look.specs.declared.look_error.LookError.TheVariants as errors
-use Rattle.fsfs_repo.specs.Opening.{small_texts, IsOpened}
+use Rattle.fsfs_layout.specs.Opening.{small_texts, IsOpened}
 use Rattle.fsfs_repo.specs.OpenFaults.{OpensBecause}
 use Rattle.fsfs_repo.specs.Deciding.{Decides}
-use Rattle.fsfs_repo.specs.declared.opening.Opened.{Opened}
+use Rattle.fsfs_layout.specs.declared.opened.Opened.{Opened}
 use Rattle.fsfs_repo.specs.declared.opening.OpenFault.{OpenFault}
 use Rattle.fsfs_repo.specs.declared.opening.OpenFault.TheVariants as opening
 use Rattle.fsfs_top.specs.Looks.{TextOf, TextIn, looked_revision, IsFaultAt, IsFaultOf, LooksInto, NotOpened, PrintsLook}
 use Rattle.fsfs_top.specs.declared.look.RevisionLook.{RevisionLook}
-use Rattle.fsfs_top.proofs.LookLemmas.{opened_floor, does_not_open}
+use Rattle.fsfs_rev_file.proofs.FloorLemmas.{floor_is}
+use Rattle.fsfs_top.proofs.LookLemmas.{does_not_open}
 
 -- ---- an opened repository
 
@@ -34,7 +35,7 @@ pub into_writes : {Below : Type 0} (trace : Option Trace) (look : RevisionLook) 
     → IfSome (option_map files_now trace) (λ m. HasShortFiles m → Writes (TextIn look o m) old new r)
 into_writes None look o rev telling old new r opened tells is le writes = tt
 into_writes (Some t) look o rev telling old new r opened tells is le writes = λ short.
-    let all = tells t refl (opened_floor (files_now t) o opened) short in
+    let all = tells t refl (floor_is o.shard_size o.min_unpacked_rev (files_now t) opened.behind.min_unpacked_rev) short in
     subst (λ (n : ℕ). Writes (TextOf look.printed (rev_bytes o.shard_size (files_now t)) n look.path) old new r) is
     (writes (rev_bytes o.shard_size (files_now t)) (λ q below. all.revs q (omega (arith, below, le))))
 

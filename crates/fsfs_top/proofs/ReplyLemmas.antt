@@ -1,6 +1,8 @@
 -- The replies of looks, from what a command did and printed.
-use Rattle.std.proofs.Common.{◌≡◌, ◌≤◌, ℕ, List, [], ◌++◌, inl, inr, refl, sym, ap, subst, ◌∙◌, append-nil, append_assoc, length, arith}
+use Rattle.std.proofs.Common.{◌≡◌, ◌≤◌, ◌<◌, ℕ, List, [], ◌++◌, inl, inr, refl, sym, ap, subst, ◌∙◌, append-nil, append_assoc, length, arith}
 use Rattle.std.specs.Prelude.{Option, Some, None, unwrap_or, Ok, Err, Result, slice_get}
+use Rattle.std.proofs.lemmas.Option.{slice_get_cases, slice_get_past}
+use Rattle.fsfs_base.specs.Files.{Files}
 use Rattle.fsfs_base.specs.Paths.{Path}
 use Rattle.fsfs_base.specs.Revisions.{Revision}
 use Rattle.fsfs_base.specs.Transactions.{last_of}
@@ -11,18 +13,18 @@ use Rattle.fsfs_faults.specs.Faults.{fault_from_open, fault_from_look}
 use Rattle.fsfs_faults.specs.declared.fault.Fault.{Fault}
 use Rattle.fsfs_faults.specs.declared.fault.Fault.TheVariants.{NotRepo, NoRev, MountFault, DiskFault, WriteFault, Memory}
 use Rattle.fsfs_fetch.specs.Kept.{HasShortFiles}
-use Rattle.fsfs_fetch.specs.RevBytes.{rev_bytes}
+use Rattle.fsfs_rev_file.specs.RevBytes.{rev_bytes}
 use Rattle.fsfs_look.specs.declared.look_error.LookError.{LookError}
 use Rattle.fsfs_look.specs.declared.look_error.LookError.TheVariants as errors
 use Rattle.fsfs_look.specs.Written.{Writes}
 use Rattle.fsfs_model.specs.Answers.{Reply, prints, refuses, asked_revision, in_revision, of_revision}
 use Rattle.fsfs_output.specs.Output.{AddsFront}
-use Rattle.fsfs_repo.specs.Opening.{SmallTexts, small_texts, IsFsfs, IsOpened, IsNone}
+use Rattle.fsfs_layout.specs.Opening.{SmallTexts, small_texts, IsFsfs, IsOpened, IsNone}
 use Rattle.fsfs_repo.specs.OpenFaults.{OpensBecause}
 use Rattle.fsfs_repo.specs.Deciding.{IsOutside as IsOpenOutside}
 use Rattle.fsfs_repo.specs.declared.place.DiskPlace.TheVariants.{Read}
 use Rattle.fsfs_stands.specs.Files.{StandsFor}
-use Rattle.fsfs_repo.specs.declared.opening.Opened.{Opened}
+use Rattle.fsfs_layout.specs.declared.opened.Opened.{Opened}
 use Rattle.fsfs_repo.specs.declared.opening.OpenFault.{OpenFault}
 use Rattle.fsfs_repo.specs.declared.opening.OpenFault.TheVariants as opening
 use Rattle.fsfs_texts.specs.Agreeing.{IsFront}
@@ -33,8 +35,8 @@ use Rattle.fsfs_top.specs.Looks.{TextOf, TextIn, looked_revision, IsFaultOf, Pri
 use Rattle.fsfs_top.specs.Replies.{Gives}
 use Rattle.fsfs_top.specs.declared.look.RevisionLook.{RevisionLook}
 use Rattle.fsfs_top.specs.declared.output.Shown.{Shown}
-use Rattle.fsfs_top.proofs.LookLemmas.{one_youngest, one_shard, same_text}
-use Rattle.fsfs_top.proofs.HistoryLemmas.{opened_of, stands_opens, last_is, there_is, there_is_none}
+use Rattle.fsfs_layout.proofs.OpeningLemmas.{one_youngest, one_shard}
+use Rattle.fsfs_top.proofs.LookLemmas.{same_text}
 use Rattle.fsfs_words.specs.declared.tool.Tool.{Tool}
 
 -- ---- first parts
@@ -61,6 +63,15 @@ same_front text whole e = ([], sym e ∙ sym (append-nil text))
 none_or_some : (texts : SmallTexts) (format : List ℕ) → IsNone texts → IsFsfs texts format → ⊥
 none_or_some texts format (inl none) is = let e = sym none ∙ is.there in cc
 none_or_some texts format (inr other) is = other is.fs_type
+
+-- ---- the revisions of a history
+
+-- the last is the youngest
+pub last_is : (files : Files) (h : List Revision) (s : StandsFor files h) → last_of h ≡ s.opened.youngest
+last_is files h s = omega (arith, s.count)
+
+there_is : (h : List Revision) (r : ℕ) → r < length h → (x : Revision) × (slice_get h r ≡ Some x)
+there_is h r less = elim (slice_get_cases h r).1 [ inl w ↦ (w.0, w.2) | inr w ↦ absurd (omega (arith, less, w.0)) ]
 
 -- ---- a text and its end are those of a reply
 
@@ -155,24 +166,24 @@ module _ (status : ℕ) (mount disk write told : Type 0) (tool : Tool) (old new 
 
   -- a look at a revision of a history, whose reply is by the revision
   pub given_look : (look : RevisionLook) (t : Trace) (h : List Revision) (s : StandsFor (files_now t) h) (reply : Revision → Reply) (fault : Option Fault) → HasShortFiles (files_now t)
-      → ((rev : ℕ) (r : Revision) → rev ≡ asked_revision look.revision h → slice_get h rev ≡ Some r → (text : List ℕ) (end : End) → TextOf look.printed (rev_bytes s.shard_size (files_now t)) rev look.path text end → Fits tool look.path (reply r) text end)
+      → ((rev : ℕ) (r : Revision) → rev ≡ asked_revision look.revision h → slice_get h rev ≡ Some r → (text : List ℕ) (end : End) → TextOf look.printed (rev_bytes s.opened.shard_size (files_now t)) rev look.path text end → Fits tool look.path (reply r) text end)
       → ((asked youngest : ℕ) → in_revision reply asked youngest None ≡ refuses (line_of tool (NoRev asked youngest)) 1)
       → Ended fault → PrintsLook look mount disk write (Some t) old new fault → Given (of_revision look.revision h reply)
   given_look look t h s reply fault short fits lacking ends (inl (inl (e, m, kept))) = mount_failed (of_revision look.revision h reply) (moved fault (Some MountFault) e ends) m kept
   given_look look t h s reply fault short fits lacking ends (inl (inr (why, e, because, unopened, kept))) =
-      outside_opening (of_revision look.revision h reply) (Some t) why (moved fault (Some (fault_from_open why)) e ends) kept because (unopened (opened_of (files_now t) h s) (stands_opens (files_now t) h s))
+      outside_opening (of_revision look.revision h reply) (Some t) why (moved fault (Some (fault_from_open why)) e ends) kept because (unopened s.opened s.small)
   given_look look t h s reply fault short fits lacking ends (inr (o, opens, inl (rev, lacks, is, kept))) =
-      let last : o.youngest ≡ last_of h = one_youngest (files_now t) o (opened_of (files_now t) h s) opens (stands_opens (files_now t) h s) ∙ sym (last_is (files_now t) h s) in
+      let last : o.youngest ≡ last_of h = one_youngest (small_texts (files_now t)) o s.opened opens s.small ∙ sym (last_is (files_now t) h s) in
       let named : asked_revision look.revision h ≡ rev = ap (λ (r : Option ℕ). unwrap_or r (last_of h)) lacks.named in
       let above : length h ≤ rev = omega (arith, lacks.above, last, s.count, last_is (files_now t) h s) in
-      let none : slice_get h rev ≡ None = there_is_none h rev above in
+      let none : slice_get h rev ≡ None = slice_get_past h rev above in
       let same : of_revision look.revision h reply ≡ in_revision reply rev o.youngest None =
       ap (λ (a : ℕ). in_revision reply a (last_of h) (slice_get h a)) named ∙ ap (in_revision reply rev (last_of h)) none ∙ ap (λ (y : ℕ). in_revision reply rev y None) (sym last) in
       refused_line (of_revision look.revision h reply) (NoRev rev o.youngest) (same ∙ lacking rev o.youngest) (moved fault (Some (NoRev rev o.youngest)) is ends) (adds_nothing old new kept)
   given_look look t h s reply fault short fits lacking ends (inr (o, opens, inr looked)) =
-      let p = opened_of (files_now t) h s in
-      let popens = stands_opens (files_now t) h s in
-      let youngest = one_youngest (files_now t) p o popens opens in
+      let p = s.opened in
+      let popens = s.small in
+      let youngest = one_youngest (small_texts (files_now t)) p o popens opens in
       let last = last_is (files_now t) h s in
       let asked = asked_revision look.revision h in
       let is : looked_revision look p ≡ asked = ap (λ (y : ℕ). unwrap_or look.revision y) (sym last) in
@@ -181,6 +192,6 @@ module _ (status : ℕ) (mount disk write told : Type 0) (tool : Tool) (old new 
       let same : of_revision look.revision h reply ≡ reply there.0 = ap (in_revision reply asked (last_of h)) there.1 in
       subst Given (sym same) (ended_look (TextIn look o (files_now t)) look.path (reply there.0) looked.result fault
       (λ text end x. fits asked there.0 refl there.1 text end
-      (subst (λ (n : ℕ). TextOf look.printed (rev_bytes s.shard_size (files_now t)) n look.path text end) is
-      (same_text look p o (files_now t) text end (one_shard (files_now t) p o popens opens) youngest x)))
+      (subst (λ (n : ℕ). TextOf look.printed (rev_bytes s.opened.shard_size (files_now t)) n look.path text end) is
+      (same_text look p o (files_now t) text end (one_shard (small_texts (files_now t)) p o popens opens) youngest x)))
       (looked.writes short) looked.fault_is ends)

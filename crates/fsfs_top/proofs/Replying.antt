@@ -2,9 +2,7 @@
 use Rattle.std.proofs.Common.{◌≡◌, ℕ, Bool, false, List, [], ◌++◌, ◌⊎◌, inl, inr, refl, sym, ap, subst, ◌∙◌}
 use Rattle.std.specs.Prelude.{Option, Some, unwrap_or, decimal, codes, Ok, Err, Result}
 use Rattle.std.specs.FinMap.{get}
-use Rattle.fsfs_text.proofs.Readers.{all_again, ok_is}
 use Rattle.fsfs_layout.specs.Small.{IsUuid}
-use Rattle.fsfs_layout.proofs.Files.{uuid_reads}
 use Rattle.fsfs_layout.proofs.Writing.{uuid_line as uuid_is_line}
 use Rattle.fsfs_base.specs.Files.{Files}
 use Rattle.fsfs_base.specs.Paths.{Path}
@@ -17,12 +15,12 @@ use Rattle.fsfs_faults.specs.Lines.{line_of}
 use Rattle.fsfs_faults.specs.declared.fault.Fault.{Fault}
 use Rattle.fsfs_faults.specs.declared.fault.Fault.TheVariants.{NotRepo}
 use Rattle.fsfs_fetch.specs.Kept.{HasShortFiles}
-use Rattle.fsfs_fetch.specs.RevBytes.{rev_bytes}
+use Rattle.fsfs_rev_file.specs.RevBytes.{rev_bytes}
 use Rattle.fsfs_model.specs.Answers as model
 use Rattle.fsfs_model.specs.Answers.{Answer, UuidAnswer, Reply, prints, refuses, refuses_look, tree_reply, text_reply, found_at, asked_revision, new_history}
 use Rattle.fsfs_output.specs.Output.{AddsFront, Prints}
-use Rattle.fsfs_repo.specs.Opening.{small_texts, IsOpened, IsNone}
-use Rattle.fsfs_repo.specs.declared.opening.Opened.{Opened}
+use Rattle.fsfs_layout.specs.Opening.{small_texts, IsOpened, IsNone}
+use Rattle.fsfs_layout.specs.declared.opened.Opened.{Opened}
 use Rattle.fsfs_stands.specs.Files.{StandsFor}
 use Rattle.fsfs_stands.specs.NewRepository.{HoldsNew}
 use Rattle.fsfs_stands.proofs.NewRepository.{new_repositories_stand}
@@ -37,23 +35,19 @@ use Rattle.fsfs_top.specs.declared.look.RevisionLook.{RevisionLook}
 use Rattle.fsfs_top.specs.declared.output.Shown.{Shown}
 use Rattle.fsfs_top.specs.declared.output.Shown.TheVariants.{Youngest, Uuid}
 use Rattle.fsfs_top.proofs.AskLemmas.{did_look, did_shown, printed_by_look, shown_by_look}
-use Rattle.fsfs_top.proofs.LookLemmas.{one_youngest}
-use Rattle.fsfs_top.proofs.HistoryLemmas.{opened_of, stands_opens, last_is}
+use Rattle.fsfs_layout.proofs.OpeningLemmas.{one_youngest, same_uuid}
 use Rattle.fsfs_top.proofs.FlatLemmas.{tree_is_by_tree, file_is_by_tree, no_rev_line}
-use Rattle.fsfs_top.proofs.ReplyLemmas.{given_shown, given_look, no_shown, no_look, Fits}
+use Rattle.fsfs_top.proofs.ReplyLemmas.{last_is, given_shown, given_look, no_shown, no_look, Fits}
 use Rattle.fsfs_words.specs.declared.tool.Tool.{Tool}
 use Rattle.fsfs_words.specs.declared.tool.Tool.TheVariants.{Look}
 
-same_uuid : (s u v : List ℕ) → IsUuid s u → IsUuid s v → u ≡ v
-same_uuid s u v a b = ok_is u v (sym (all_again uuid_reads s u a) ∙ all_again uuid_reads s v b)
-
 -- the revision that is printed is the one that the files name
 youngest_text : (m : Files) (o : Opened) (h : List Revision) → IsOpened (small_texts m) o → last_of h ≡ o.youngest → (p : Opened) → IsOpened (small_texts m) p → shown_line Youngest p ≡ decimal (last_of h) ++ codes "\n"
-youngest_text m o h is last p named = ap revision_line (one_youngest m p o named is ∙ sym last)
+youngest_text m o h is last p named = ap revision_line (one_youngest (small_texts m) p o named is ∙ sym last)
 
 -- and the identifier
 uuid_text : (m : Files) (identifier : List ℕ) → IsUuid (small_texts m).uuid identifier → (p : Opened) → IsOpened (small_texts m) p → shown_line Uuid p ≡ identifier ++ codes "\n"
-uuid_text m identifier is p named = ap uuid_line (same_uuid (small_texts m).uuid p.uuid identifier named.uuid is)
+uuid_text m identifier is p named = ap uuid_line (same_uuid (small_texts m).uuid p.uuid identifier named.behind.uuid is)
 
 -- the identifier of a new repository
 new_identifier : (m : Files) (date : List ℕ) (new : HoldsNew m date) → IsUuid (small_texts m).uuid new.identifier
@@ -76,14 +70,14 @@ module _ (mount disk write told : Type 0) (tool : Tool) (ws : List (List ℕ)) (
   shows shown repos t o text asks here is same = given_shown status mount disk write told tool old new err_old err_new shown t o text fault is same ends (shown_did shown repos t asks here)
 
   tree : (repos : List ℕ) (t : Trace) (h : List Revision) (revision : Option ℕ) (ids : Bool) (path : Path) (shown : Path → List ℕ) → AsksPrinted (Tree ids) revision path tool ws repos → at_old repos ≡ Some t
-      → HasShortFiles (files_now t) → (stands : StandsFor (files_now t) h) → AreShownIds (rev_bytes stands.shard_size (files_now t)) (asked_revision revision h) ids shown → Given (Answer (model.Tree revision shown path) (Some h))
+      → HasShortFiles (files_now t) → (stands : StandsFor (files_now t) h) → AreShownIds (rev_bytes stands.opened.shard_size (files_now t)) (asked_revision revision h) ids shown → Given (Answer (model.Tree revision shown path) (Some h))
   tree repos t h revision ids path shown asks here short stands are =
       let look : RevisionLook = record { printed = Tree ids; revision = revision; path = path } in
       let reply : Revision → Reply = λ r. tree_reply shown path r.tree (found_at (get r.tree) path) in
       let by_look : tool ≡ Look = printed_by_look (Tree ids) revision path tool ws repos asks in
       given_look status mount disk write told tool old new err_old err_new look t h stands reply fault short
       (λ rev r is there text end x. subst (λ (k : Tool). Fits k path (reply r) text end) (sym by_look)
-      (tree_is_by_tree (files_now t) h stands rev r path ids shown there (subst (λ (n : ℕ). AreShownIds (rev_bytes stands.shard_size (files_now t)) n ids shown) (sym is) are) text end x))
+      (tree_is_by_tree (files_now t) h stands rev r path ids shown there (subst (λ (n : ℕ). AreShownIds (rev_bytes stands.opened.shard_size (files_now t)) n ids shown) (sym is) are) text end x))
       (λ asked youngest. no_rev_line tool reply asked youngest by_look)
       ends (look_did look repos t asks here)
 
@@ -113,7 +107,7 @@ module _ (mount disk write told : Type 0) (tool : Tool) (ws : List (List ℕ)) (
   pub replies : Replies tool ws at_old Given
   replies = record {
     youngest = λ repos t o h asks here is last. shows Youngest repos t o (decimal (last_of h) ++ codes "\n") asks here is (youngest_text (files_now t) o h is last);
-    uuid = λ repos t o asks here is. shows Uuid repos t o (o.uuid ++ codes "\n") asks here is (uuid_text (files_now t) o.uuid is.uuid);
+    uuid = λ repos t o asks here is. shows Uuid repos t o (o.uuid ++ codes "\n") asks here is (uuid_text (files_now t) o.uuid is.behind.uuid);
     tree = tree;
     cat = cat;
     no_youngest = λ repos t asks here none. no_shown_at Youngest repos t asks here none;
@@ -122,14 +116,12 @@ module _ (mount disk write told : Type 0) (tool : Tool) (ws : List (List ℕ)) (
     no_cat = λ repos t revision path asks here none. no_look_at Text revision path repos t asks here none;
     new_youngest = λ repos t date asks here holds.
         let stands = new_repositories_stand (files_now t) date holds in
-        let o = opened_of (files_now t) (new_history date) stands in
-        let is = stands_opens (files_now t) (new_history date) stands in
-        shows Youngest repos t o (decimal (last_of (new_history date)) ++ codes "\n") asks here is (youngest_text (files_now t) o (new_history date) is (last_is (files_now t) (new_history date) stands));
+        shows Youngest repos t stands.opened (decimal (last_of (new_history date)) ++ codes "\n") asks here stands.small (youngest_text (files_now t) stands.opened (new_history date) stands.small (last_is (files_now t) (new_history date) stands));
     new_tree = λ repos t date revision path asks here short holds.
         tree repos t (new_history date) revision false path (λ p. []) asks here short (new_repositories_stand (files_now t) date holds) (λ p v stands. refl);
     new_uuid = λ repos t date asks here holds.
         let stands = new_repositories_stand (files_now t) date holds in
-        shows Uuid repos t (opened_of (files_now t) (new_history date) stands) (holds.identifier ++ codes "\n") asks here (stands_opens (files_now t) (new_history date) stands) (uuid_text (files_now t) holds.identifier (new_identifier (files_now t) date holds));
+        shows Uuid repos t stands.opened (holds.identifier ++ codes "\n") asks here stands.small (uuid_text (files_now t) holds.identifier (new_identifier (files_now t) date holds));
   }
 
 -- a line about a fault was written, or a first part of it

@@ -8,7 +8,7 @@ use Rattle.fsfs_faults.specs.Faults.{fault_from_create, fault_from_words}
 use Rattle.fsfs_faults.specs.Lines.{line_of}
 use Rattle.fsfs_faults.specs.declared.fault.Fault.{Fault}
 use Rattle.fsfs_faults.specs.declared.fault.Fault.TheVariants.{MountFault}
-use Rattle.fsfs_model.specs.CreatedFiles.{identifier_text, random_identifier}
+use Rattle.fsfs_layout.specs.CreatedFiles.{identifier_text, random_identifier}
 use Rattle.fsfs_output.specs.Output.{AddsFront}
 use Rattle.fsfs_repo.specs.Creation.{CreateFails, IsCreated, IsNoneOrWhole, IsNoRepository}
 use Rattle.fsfs_repo.specs.declared.creation.CreateFault.{CreateFault}

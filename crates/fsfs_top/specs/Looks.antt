@@ -9,15 +9,15 @@ use Rattle.fsfs_faults.specs.Faults.{fault_from_open, fault_from_look}
 use Rattle.fsfs_faults.specs.declared.fault.Fault.{Fault}
 use Rattle.fsfs_faults.specs.declared.fault.Fault.TheVariants.{NotRepo, OtherFormat, Linear, NoRev, MountFault, DiskFault, WriteFault, Memory}
 use Rattle.fsfs_fetch.specs.Kept.{HasShortFiles}
-use Rattle.fsfs_fetch.specs.RevBytes.{rev_bytes}
+use Rattle.fsfs_rev_file.specs.RevBytes.{rev_bytes}
 use Rattle.fsfs_look.specs.Written.{Writes}
 use Rattle.fsfs_look.specs.declared.look_error.LookError.{LookError}
 use Rattle.fsfs_look.specs.declared.look_error.LookError.TheVariants as errors
 use Rattle.fsfs_output.specs.Output.{AddsFront}
-use Rattle.fsfs_repo.specs.Opening.{small_texts, IsOpened, IsNone, HasFormat, IsLinear}
+use Rattle.fsfs_layout.specs.Opening.{small_texts, IsOpened, IsNone, HasFormat, IsLinear}
 use Rattle.fsfs_repo.specs.OpenFaults.{OpensBecause}
 use Rattle.fsfs_repo.specs.Deciding.{IsOutside as IsOpenOutside}
-use Rattle.fsfs_repo.specs.declared.opening.Opened.{Opened}
+use Rattle.fsfs_layout.specs.declared.opened.Opened.{Opened}
 use Rattle.fsfs_repo.specs.declared.opening.OpenFault.{OpenFault}
 use Rattle.fsfs_repo.specs.declared.place.DiskPlace.{DiskPlace}
 use Rattle.fsfs_repo.specs.declared.place.DiskPlace.TheVariants.{Read}

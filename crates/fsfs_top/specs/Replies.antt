@@ -6,12 +6,12 @@ use Rattle.fsfs_base.specs.Transactions.{last_of}
 use Rattle.fsfs_disk.specs.Trace.{Trace, files_now}
 use Rattle.fsfs_disk.specs.Streams.{Adds}
 use Rattle.fsfs_fetch.specs.Kept.{HasShortFiles}
-use Rattle.fsfs_fetch.specs.RevBytes.{rev_bytes}
+use Rattle.fsfs_rev_file.specs.RevBytes.{rev_bytes}
 use Rattle.fsfs_model.specs.Answers.{Reply, Answer, UuidAnswer, asked_revision}
 use Rattle.fsfs_model.specs.Answers as model
 use Rattle.fsfs_output.specs.Output.{AddsFront}
-use Rattle.fsfs_repo.specs.Opening.{small_texts, IsOpened, IsNone}
-use Rattle.fsfs_repo.specs.declared.opening.Opened.{Opened}
+use Rattle.fsfs_layout.specs.Opening.{small_texts, IsOpened, IsNone}
+use Rattle.fsfs_layout.specs.declared.opened.Opened.{Opened}
 use Rattle.fsfs_stands.specs.Files.{StandsFor}
 use Rattle.fsfs_stands.specs.NewRepository.{HoldsNew}
 use Rattle.fsfs_texts.specs.ByTree.{AreShownIds}
@@ -41,7 +41,7 @@ pub record Replies (tool : Tool) (words : List (List ℕ)) (at : List ℕ → Op
   pub uuid : (repos : List ℕ) (t : Trace) (o : Opened) → AsksShown Uuid tool words repos → at repos ≡ Some t → IsOpened (small_texts (files_now t)) o → Given (UuidAnswer (Some o.uuid))
   -- of the history that the files stand for, where none has 2^64 bytes or more; the ids that are shown are those of the node-revisions at the paths
   pub tree : (repos : List ℕ) (t : Trace) (h : List Revision) (revision : Option ℕ) (ids : Bool) (path : Path) (shown : Path → List ℕ) → AsksPrinted (Tree ids) revision path tool words repos → at repos ≡ Some t
-      → HasShortFiles (files_now t) → (stands : StandsFor (files_now t) h) → AreShownIds (rev_bytes stands.shard_size (files_now t)) (asked_revision revision h) ids shown → Given (Answer (model.Tree revision shown path) (Some h))
+      → HasShortFiles (files_now t) → (stands : StandsFor (files_now t) h) → AreShownIds (rev_bytes stands.opened.shard_size (files_now t)) (asked_revision revision h) ids shown → Given (Answer (model.Tree revision shown path) (Some h))
   pub cat : (repos : List ℕ) (t : Trace) (h : List Revision) (revision : Option ℕ) (path : Path) → AsksPrinted Text revision path tool words repos → at repos ≡ Some t
       → HasShortFiles (files_now t) → StandsFor (files_now t) h → Given (Answer (model.Cat revision path) (Some h))
   -- where there is no repository

@@ -5,7 +5,7 @@ ghost use Rattle.fsfs_disk.specs.Fault.{Rose};
 ghost use Rattle.fsfs_disk.specs.Trace.{files_now};
 ghost use Rattle.fsfs_faults.specs.declared.fault.Fault.TheVariants as faults;
 ghost use Rattle.fsfs_look.specs.Written.{Writes, HasDiskCause, HasSinkCause};
-ghost use Rattle.fsfs_repo.specs.Opening.{small_texts, IsOpened};
+ghost use Rattle.fsfs_layout.specs.Opening.{small_texts, IsOpened};
 ghost use Rattle.fsfs_top.specs.Command.{fault_of};
 ghost use Rattle.fsfs_top.specs.Looks.{TextOf, LacksRevision, LooksInto, PrintsLook, LookIsDecided, looked_revision, IsFaultAt};
 
@@ -15,7 +15,8 @@ use fsfs_disk::{Disk, Host, Sink};
 use fsfs_faults::Fault;
 use fsfs_fetch::{disk_of, over_disk};
 use fsfs_look::{LookError, cat, tree_text};
-use fsfs_repo::{DiskPlace, Opened, open};
+use fsfs_layout::Opened;
+use fsfs_repo::{DiskPlace, open};
 use std::alloc::Global;
 
 /// What is printed of a revision.

@@ -6,7 +6,7 @@ use arrayvec::ArrayString;
 use fsfs_disk::{Failed, Sink};
 use fsfs_layout::Uuid;
 use fsfs_output::print;
-use fsfs_repo::Opened;
+use fsfs_layout::Opened;
 use itoa::Buffer;
 
 /// Writes a revision's number and the end of the line.

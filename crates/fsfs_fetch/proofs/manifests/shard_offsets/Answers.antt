@@ -1,7 +1,8 @@
 use Rattle.std.proofs.Common.{◌≡◌, [], sym, subst}
 use Rattle.std.specs.Prelude.{unwrap_or}
 use Rattle.fsfs_fetch.specs.Answers.{Stays}
-use Rattle.fsfs_fetch.proofs.ManifestLemmas.{manifest_ok, manifest_err, manifest_told}
+use Rattle.fsfs_rev_file.proofs.ManifestLemmas.{manifest_ok, manifest_err}
+use Rattle.fsfs_fetch.proofs.ManifestLemmas.{manifest_told}
 use Rattle.fsfs_fetch.proofs.manifests.shard_offsets.Goals as goal
 
 pub returns-in-Ok-clause-told : goal.returns-in-Ok-clause-told

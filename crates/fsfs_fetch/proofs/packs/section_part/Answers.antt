@@ -22,4 +22,4 @@ returns-in-Some-clause-told g c = λ pack s within.
     let P : Option (List ℕ) → Type 0 = λ f. IsRead f at sub c.read_at.new.buffer (Some c.in-Some.found) in
     let read = read_stays v w c.pack.result (Some pack) P c.in_ok-read_at.ensures.later t h in
     let long : length sub ≡ count = length-take count c.args.buffer.now ∙ omega (arith, c.fitting-count.ensures) in
-    section_part_ok pack c.args.buffer.now sub c.read_at.new.buffer _ c.args.rev c.args.offset at count c.in-Some.found c.args.section c.requires.within within refl c.fitting-count.ensures long read c.read_at.auto.buffer refl
+    section_part_ok pack c.args.buffer.now sub c.read_at.new.buffer _ c.args.rev c.args.offset at count c.in-Some.found c.args.section c.requires.within within refl (omega (arith, c.fitting-count.ensures)) long read c.read_at.auto.buffer refl

@@ -30,4 +30,4 @@ pub returns-in-Err-clause-only : goal.returns-in-Err-clause-only
 returns-in-Err-clause-only c = λ n g. absurd (never rev_line_reads c.args.bytes.now n c.in-Err.left g.0 c.in-Err.ensures)
 
 pub returns-in-Err-clause-fault : goal.returns-in-Err-clause-fault
-returns-in-Err-clause-fault c = inl (record { names = refl; place = (all_exact rev_line_reads c.args.bytes.now c.in-Err.left c.in-Err.ensures).1 })
+returns-in-Err-clause-fault c = inl (λ n g. never rev_line_reads c.args.bytes.now n c.in-Err.left g c.in-Err.ensures, record { names = refl; place = (all_exact rev_line_reads c.args.bytes.now c.in-Err.left c.in-Err.ensures).1 })

@@ -1,5 +1,5 @@
-use Rattle.std.proofs.Common.{◌<◌, subst, sym, rules}
-use Rattle.fsfs_repo.specs.Opening.{IsFsfs}
+use Rattle.std.proofs.Common.{◌<◌, subst, sym, rules, inl}
+use Rattle.fsfs_layout.specs.Opening.{IsFsfs, IsRefusedFormat}
 use Rattle.fsfs_repo.specs.OpenFaults.{texts_of}
 use Rattle.fsfs_layout.specs.Formats.{IsFormat}
 use Rattle.fsfs_repo.proofs.DecidingLemmas.{decides_other, decides_linear, decides_unread, decides_opened, decides_refused}
@@ -44,5 +44,10 @@ returns-in-Err-clause-decided c =
 
 pub returns-in-Ok-clause-shards : goal.returns-in-Ok-clause-shards
 returns-in-Ok-clause-shards c =
-    subst (λ n. 0 < n) (sym c.in-Ok.ensures.opened.shards)
+    subst (λ n. 0 < n) (sym c.in-Ok.ensures.shards)
     (shards_above c.deref.result.now c.in-Ok-Sharded.shard_size (subst (IsFormat c.deref.result.now) c.in-Ok-Sharded.field-0-is c.in-Ok-Sharded.ensures.found))
+
+pub returns-in-Err-clause-refused : goal.returns-in-Err-clause-refused
+returns-in-Err-clause-refused c =
+    let is : IsFsfs (texts_of c.args.files.now) c.in-Some.format.items = search rules in
+    (c.in-Some.format.items, is, inl (subst (λ t. IsRefusedFormat t c.in-Err.fault) c.deref.ensures.value (λ g w. (let e = c.in-Err.ensures.only g w in cc), c.in-Err.ensures.fault)))

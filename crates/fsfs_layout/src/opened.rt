@@ -1,0 +1,17 @@
+//! What the small files of a repository say together.
+
+use crate::uuid_file::Uuid;
+use fsfs_base::B36;
+
+/// What the small files of a repository say.
+#[derive(Drop)]
+pub struct Opened {
+    pub uuid: Uuid,
+    /// How many revisions a shard has.
+    pub shard_size: u32,
+    pub youngest: u32,
+    /// The oldest revision that isn't packed: the first of a shard, at most the one that follows the youngest.
+    pub min_unpacked_rev: u32,
+    /// The number that the next transaction gets.
+    pub next_txn: B36,
+}

@@ -1,0 +1,2 @@
+pub mod RevBytes
+pub mod ByGrammar
