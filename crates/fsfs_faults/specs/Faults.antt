@@ -2,8 +2,8 @@
 use Rattle.std.specs.Prelude.{take}
 use Rattle.fsfs_base.specs.Paths.{Path}
 use Rattle.fsfs_book.specs.declared.book.Refusal.TheVariants as refusal
-use Rattle.fsfs_repo.specs.declared.creation.CreateFault.{CreateFault}
-use Rattle.fsfs_repo.specs.declared.creation.CreateFault.TheVariants as create
+use Rattle.fsfs_create.specs.declared.creation.CreateFault.{CreateFault}
+use Rattle.fsfs_create.specs.declared.creation.CreateFault.TheVariants as create
 use Rattle.fsfs_repo.specs.declared.opening.OpenFault.{OpenFault}
 use Rattle.fsfs_repo.specs.declared.opening.OpenFault.TheVariants as opening
 use Rattle.fsfs_revision.specs.declared.damage.What.TheVariants as damaged

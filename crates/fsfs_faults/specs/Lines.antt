@@ -5,8 +5,8 @@ use Rattle.fsfs_base.specs.Paths.{path_text}
 use Rattle.fsfs_base.specs.declared.bad_path.PathFault.{PathFault}
 use Rattle.fsfs_base.specs.declared.bad_path.PathFault.TheVariants.{NotAbsolute, PathTooLong, TooDeep, EmptyName, Control, NameTooLong, Dot}
 use Rattle.fsfs_layout.specs.Names.{small_name}
-use Rattle.fsfs_repo.specs.declared.place.DiskPlace.{DiskPlace}
-use Rattle.fsfs_repo.specs.declared.place.DiskPlace.TheVariants.{OpenFirm, OpenRead, Read, CreatePut, CreateFirm, CreateRename, CreateLast}
+use Rattle.fsfs_places.specs.declared.place.DiskPlace.{DiskPlace}
+use Rattle.fsfs_places.specs.declared.place.DiskPlace.TheVariants.{OpenFirm, OpenRead, Read, CreatePut, CreateFirm, CreateRename, CreateLast}
 use Rattle.fsfs_revision.specs.declared.damage.RevOffset.{RevOffset}
 use Rattle.fsfs_revision.specs.declared.damage.What.{What}
 use Rattle.fsfs_revision.specs.declared.damage.What.TheVariants as damaged

@@ -5,7 +5,9 @@ ghost use Rattle.fsfs_faults.specs.declared.fault.Fault.TheVariants.{Memory};
 
 use fsfs_base::{BadPath, FsPath, SmallFault};
 use fsfs_book::Refusal;
-use fsfs_repo::{CreateFault, DiskPlace, OpenFault};
+use fsfs_create::CreateFault;
+use fsfs_places::DiskPlace;
+use fsfs_repo::OpenFault;
 use fsfs_revision::{Damage, RevOffset, What};
 use fsfs_shows::{RepDamage, Wrong};
 use fsfs_texts::LookFault;

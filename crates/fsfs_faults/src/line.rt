@@ -8,7 +8,7 @@ use crate::fault::Fault;
 use arrayvec::ArrayString;
 use fsfs_base::{HexDigest, PathFault};
 use fsfs_layout::names::small_file;
-use fsfs_repo::DiskPlace;
+use fsfs_places::DiskPlace;
 use fsfs_revision::{RevOffset, What};
 use fsfs_shows::RepWhat;
 use fsfs_words::Tool;

@@ -3,8 +3,10 @@
 use crate::{Fault, Tool, print_fault, status};
 use fsfs_base::{BadPath, FsPath, HexDigest, PathFault, SmallFault, SmallFile};
 use fsfs_book::Refusal;
+use fsfs_create::CreateFault;
 use fsfs_memdisk::MemSink;
-use fsfs_repo::{CreateFault, DiskPlace, OpenFault};
+use fsfs_places::DiskPlace;
+use fsfs_repo::OpenFault;
 use fsfs_revision::{Damage, RevOffset, What};
 use fsfs_shows::{RepDamage, RepWhat, Wrong};
 use fsfs_texts::LookFault;

@@ -1,5 +1,3 @@
-pub mod NewFiles
-pub mod Creation
 pub mod WholeFile
 pub mod Opening
 pub mod OpenFaults

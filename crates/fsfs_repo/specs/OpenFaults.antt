@@ -9,7 +9,7 @@ use Rattle.fsfs_repo.specs.declared.opening.OpenFault.{OpenFault}
 use Rattle.fsfs_repo.specs.declared.opening.OpenFault.TheVariants.{NotRepo, OtherFormat, Linear, Small, DiskFault, Memory}
 use Rattle.fsfs_repo.specs.declared.whole_file.FileFault.{FileFault}
 use Rattle.fsfs_repo.specs.declared.whole_file.FileFault.TheVariants as file
-use Rattle.fsfs_repo.specs.declared.place.DiskPlace.TheVariants.{OpenRead}
+use Rattle.fsfs_places.specs.declared.place.DiskPlace.TheVariants.{OpenRead}
 use Rattle.std.specs.Prelude.{◌≡◌, ◌≤◌, ◌+◌}
 
 abbrev pub texts_of : SmallFiles → SmallTexts

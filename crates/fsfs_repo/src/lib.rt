@@ -1,14 +1,8 @@
-//! A repository over one owned disk: it is created, and opened.
+//! A repository over one owned disk: it is opened.
 #![tactic(auto)]
 
-mod creation;
-mod initial;
 mod opening;
-mod place;
 mod whole_file;
 
-pub use creation::{CreateFault, create};
-pub use initial::{NewFile, created_files, format_text};
 pub use opening::{OpenFault, Opened, open};
-pub use place::DiskPlace;
 pub use whole_file::{FileFault, read_file};

@@ -7,7 +7,6 @@ ghost use Rattle.fsfs_repo.specs.OpenFaults.{texts_of, IsOpenedBehind, JudgedBec
 ghost use Rattle.fsfs_repo.specs.Deciding.{Decides};
 ghost use Rattle.fsfs_repo.specs.declared.opening.Opened.{Opened};
 
-use crate::place::DiskPlace;
 use crate::whole_file::{FileFault, read_file};
 use fsfs_base::{B36, SmallFault, SmallFile};
 use fsfs_disk::{Disk, Name};
@@ -15,6 +14,7 @@ use fsfs_layout::{
     Format, Uuid, names, read_current, read_format, read_min_unpacked_rev, read_txn_current,
     read_uuid,
 };
+use fsfs_places::DiskPlace;
 use std::alloc::Global;
 use thiserror::Error;
 

@@ -28,7 +28,7 @@ use Rattle.fsfs_repo.specs.Deciding.{Decides, IsOutside as IsOpenOutside}
 use Rattle.fsfs_repo.specs.declared.opening.Opened.{Opened}
 use Rattle.fsfs_repo.specs.declared.opening.OpenFault.{OpenFault}
 use Rattle.fsfs_repo.specs.declared.opening.OpenFault.TheVariants as opening
-use Rattle.fsfs_repo.specs.declared.place.DiskPlace.TheVariants.{Read}
+use Rattle.fsfs_places.specs.declared.place.DiskPlace.TheVariants.{Read}
 use Rattle.fsfs_texts.specs.Texts.{End, Whole, Refused}
 use Rattle.fsfs_texts.specs.declared.look_fault.LookFault.{LookFault}
 use Rattle.fsfs_top.specs.Looks.{TextOf, TextIn, looked_revision, LacksRevision, IsFaultOf, LooksInto, DoesNotOpen, IsOutside, Agrees, DecidesOpening, DecidesShown, DecidesLook, ShownIsDecided, LookIsDecided}

@@ -19,8 +19,8 @@ use Rattle.fsfs_repo.specs.OpenFaults.{OpensBecause}
 use Rattle.fsfs_repo.specs.Deciding.{IsOutside as IsOpenOutside}
 use Rattle.fsfs_repo.specs.declared.opening.Opened.{Opened}
 use Rattle.fsfs_repo.specs.declared.opening.OpenFault.{OpenFault}
-use Rattle.fsfs_repo.specs.declared.place.DiskPlace.{DiskPlace}
-use Rattle.fsfs_repo.specs.declared.place.DiskPlace.TheVariants.{Read}
+use Rattle.fsfs_places.specs.declared.place.DiskPlace.{DiskPlace}
+use Rattle.fsfs_places.specs.declared.place.DiskPlace.TheVariants.{Read}
 use Rattle.fsfs_texts.specs.Texts.{End, Whole, Refused}
 use Rattle.fsfs_texts.specs.TreeTexts.{TreeText}
 use Rattle.fsfs_texts.specs.FileTexts.{FileText}

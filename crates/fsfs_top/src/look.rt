@@ -15,7 +15,8 @@ use fsfs_disk::{Disk, Host, Sink};
 use fsfs_faults::Fault;
 use fsfs_fetch::{disk_of, over_disk};
 use fsfs_look::{LookError, cat, tree_text};
-use fsfs_repo::{DiskPlace, Opened, open};
+use fsfs_places::DiskPlace;
+use fsfs_repo::{Opened, open};
 use std::alloc::Global;
 
 /// What is printed of a revision.

@@ -3,7 +3,7 @@ ghost use Rattle.std.specs.Prelude.{◌≡◌, ◌≢◌, ◌≤◌, ℕ, List, 
 ghost use Rattle.fsfs_disk.specs.Fault.{Rose};
 ghost use Rattle.fsfs_disk.specs.Trace.{Trace, files_now};
 ghost use Rattle.fsfs_disk.specs.Crash.{AllImages, Leaves};
-ghost use Rattle.fsfs_repo.specs.Creation.{IsUnpublished, HasRepository};
+ghost use Rattle.fsfs_create.specs.Creation.{IsUnpublished, HasRepository};
 ghost use Rattle.fsfs_top.specs.Answers.{answer_of};
 ghost use Rattle.fsfs_top.specs.Command.{AsksCreate, Created, Did, IsNoneOrCreated, Tells, fault_of};
 ghost use Rattle.fsfs_top.specs.Looks.{PrintsShown, ShownIsDecided};
@@ -13,9 +13,10 @@ ghost use Rattle.fsfs_faults.specs.declared.fault.Fault.{Fault};
 
 use crate::look::{Printed, RevisionLook, look_at};
 use crate::output::{Shown, print_shown};
+use fsfs_create::create;
 use fsfs_disk::{Clock, Dice, Gate, Host, Sink, Source};
 use fsfs_faults::{Fault, print_fault, status};
-use fsfs_repo::{create, open};
+use fsfs_repo::open;
 use fsfs_words::{CatOrder, Order, Tool, TreeOrder, read_words};
 use std::alloc::Global;
 use uuid::Builder;

@@ -1,10 +1,10 @@
 use Rattle.std.proofs.Common.{◌≡◌, map, ap, ◌∙◌, arith}
 use Rattle.fsfs_disk.specs.Fault.{Rose}
-use Rattle.fsfs_repo.specs.NewFiles.{named}
+use Rattle.fsfs_create.specs.NewFiles.{named}
 use Rattle.fsfs_model.specs.CreatedFiles.{identifier_text, unpublished_files, format_text}
-use Rattle.fsfs_repo.proofs.CrashLemmas.{leaves_done, leaves_stopped, leaves_whole, ended_so, stopped_so, is_stopped}
-use Rattle.fsfs_repo.proofs.CreatedFilesLemmas.{created_files_now, not_there, not_both, no_format}
-use Rattle.fsfs_repo.proofs.creation.create.Goals as goal
+use Rattle.fsfs_create.proofs.CrashLemmas.{leaves_done, leaves_stopped, leaves_whole, ended_so, stopped_so, is_stopped}
+use Rattle.fsfs_create.proofs.CreatedFilesLemmas.{created_files_now, not_there, not_both, no_format}
+use Rattle.fsfs_create.proofs.creation.create.Goals as goal
 
 pub returns-in-Ok-clause-created : goal.returns-in-Ok-clause-created
 returns-in-Ok-clause-created g c =

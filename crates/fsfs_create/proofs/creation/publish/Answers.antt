@@ -1,7 +1,7 @@
 use Rattle.std.proofs.Common.{rules}
 use Rattle.fsfs_disk.specs.Trace.{Performs, Put}
 use Rattle.fsfs_disk.proofs.TraceLemmas.{file_at-put}
-use Rattle.fsfs_repo.proofs.creation.publish.Goals as goal
+use Rattle.fsfs_create.proofs.creation.publish.Goals as goal
 
 pub rename-requires : goal.rename-requires
 rename-requires g c =

@@ -1,7 +1,7 @@
 use Rattle.std.proofs.Common.{◌≡◌, ◌≤◌, map, option_map, take}
-use Rattle.fsfs_repo.specs.NewFiles.{named}
-use Rattle.fsfs_repo.specs.Creation.{after_puts}
-use Rattle.fsfs_repo.proofs.creation.put_all.Given as goal
+use Rattle.fsfs_create.specs.NewFiles.{named}
+use Rattle.fsfs_create.specs.Creation.{after_puts}
+use Rattle.fsfs_create.proofs.creation.put_all.Given as goal
 
 -- the files so far were put
 abbrev pub invariant-loop-file : goal.invariant-loop-file

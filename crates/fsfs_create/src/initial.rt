@@ -1,6 +1,6 @@
 // The files of a new repository.
 ghost use Rattle.std.specs.Prelude.{◌≡◌, ◌≤◌, ◌++◌, ◌∷◌, [], map, length, IfOk, OnOk};
-ghost use Rattle.fsfs_repo.specs.NewFiles.{named};
+ghost use Rattle.fsfs_create.specs.NewFiles.{named};
 ghost use Rattle.fsfs_model.specs.CreatedFiles.{unpublished_files, format_text as format_of, date_properties, identifier_text as text_of_identifier};
 
 use fsfs_base::write_dec;

@@ -11,10 +11,10 @@ use Rattle.fsfs_disk.specs.Trace.{Trace, Put, Rename, FirmNames, Done, IsImage, 
 use Rattle.fsfs_disk.specs.Crash.{AllImages, IsFirm, Leaves, KeepsImages}
 use Rattle.fsfs_disk.proofs.CrashLemmas.{leaves_at, leaves_then, leaves_with, keeps_then, keeps_put, keeps_failed_put, keeps_firm, same_keeps, same_leaves, firm_after, Stable}
 use Rattle.fsfs_model.specs.CreatedFiles.{format_text, unpublished_files, created_over}
-use Rattle.fsfs_repo.specs.Creation.{after_puts, after_firm, after_next, after_rename, after_publishing, after_creation, StopsInPuts, StopsPublishing, StopsAt, IsUnpublished, IsNoneOrWhole, IsStopped}
-use Rattle.fsfs_repo.specs.declared.place.DiskPlace.{DiskPlace}
-use Rattle.fsfs_repo.specs.declared.place.DiskPlace.TheVariants.{OpenFirm, OpenRead, Read, CreatePut, CreateFirm, CreateRename, CreateLast}
-use Rattle.fsfs_repo.proofs.CreatedFilesLemmas.{lacks, first_apart, lacks_rest, files_now-after_publishing, files_now-after_creation}
+use Rattle.fsfs_create.specs.Creation.{after_puts, after_firm, after_next, after_rename, after_publishing, after_creation, StopsInPuts, StopsPublishing, StopsAt, IsUnpublished, IsNoneOrWhole, IsStopped}
+use Rattle.fsfs_places.specs.declared.place.DiskPlace.{DiskPlace}
+use Rattle.fsfs_places.specs.declared.place.DiskPlace.TheVariants.{OpenFirm, OpenRead, Read, CreatePut, CreateFirm, CreateRename, CreateLast}
+use Rattle.fsfs_create.proofs.CreatedFilesLemmas.{lacks, first_apart, lacks_rest, files_now-after_publishing, files_now-after_creation}
 
 -- another file makes no repository
 unpublished_put : (name : List ℕ) → (name ≡ codes "db/format" → ⊥) → (m : Files) (any : List ℕ) → IsUnpublished m → IsUnpublished (insert m name any)

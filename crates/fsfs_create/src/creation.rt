@@ -4,13 +4,13 @@ ghost use Rattle.fsfs_disk.specs.Fault.{Rose};
 ghost use Rattle.fsfs_disk.specs.Trace.{Trace};
 ghost use Rattle.fsfs_disk.specs.Crash.{AllImages, Leaves};
 ghost use Rattle.fsfs_model.specs.CreatedFiles.{identifier_text};
-ghost use Rattle.fsfs_repo.specs.NewFiles.{named};
-ghost use Rattle.fsfs_repo.specs.Creation.{after_puts, after_publishing, after_creation, StopsInPuts, StopsPublishing, StopsAt, HasRepository, IsNoRepository, IsUnpublished, IsCreated, IsNoneOrWhole, CreateFails};
+ghost use Rattle.fsfs_create.specs.NewFiles.{named};
+ghost use Rattle.fsfs_create.specs.Creation.{after_puts, after_publishing, after_creation, StopsInPuts, StopsPublishing, StopsAt, HasRepository, IsNoRepository, IsUnpublished, IsCreated, IsNoneOrWhole, CreateFails};
 
 use crate::initial::{NewFile, created_files, format_text};
-use crate::place::DiskPlace;
 use fsfs_base::write_date;
 use fsfs_disk::{Disk, Failed, Name};
+use fsfs_places::DiskPlace;
 use std::alloc::{AllocError, Global};
 use thiserror::Error;
 use uuid::Uuid;
@@ -30,7 +30,7 @@ pub enum CreateFault {
 }
 
 impl From<AllocError> for CreateFault {
-    ghost use Rattle.fsfs_repo.specs.declared.creation.CreateFault.TheVariants.{Memory};
+    ghost use Rattle.fsfs_create.specs.declared.creation.CreateFault.TheVariants.{Memory};
 
     ghost from_gives = { λ _ e. e ≡ Memory };
 

@@ -8,7 +8,7 @@ use Rattle.fsfs_base.specs.Files.{Files, NamedFile, lay_over}
 use Rattle.fsfs_base.proofs.FileLemmas.{insert-remove, renamed_put, apart_by}
 use Rattle.fsfs_disk.specs.Trace.{Trace, files_now, file_at, IsSize}
 use Rattle.fsfs_model.specs.CreatedFiles.{format_text, unpublished_files, created_over}
-use Rattle.fsfs_repo.specs.Creation.{after_puts, after_publishing, after_creation, IsNoRepository, HasRepository}
+use Rattle.fsfs_create.specs.Creation.{after_puts, after_publishing, after_creation, IsNoRepository, HasRepository}
 
 -- none of the files has this name
 abbrev pub lacks : List ℕ → List NamedFile → Bool

@@ -1,10 +1,10 @@
 use Rattle.std.proofs.Common.{◌+◌, arith, map, option_map, take, drop, sym, subst, ap, ◌∙◌}
 use Rattle.fsfs_base.proofs.ResultLemmas.{on_err_always}
 use Rattle.fsfs_disk.specs.Trace.{Put, Performs, FailsToPut}
-use Rattle.fsfs_repo.specs.NewFiles.{named}
-use Rattle.fsfs_repo.specs.Creation.{after_puts}
-use Rattle.fsfs_repo.proofs.CreationLemmas.{puts_more, parts_at, taken_more}
-use Rattle.fsfs_repo.proofs.creation.put_all.Goals as goal
+use Rattle.fsfs_create.specs.NewFiles.{named}
+use Rattle.fsfs_create.specs.Creation.{after_puts}
+use Rattle.fsfs_create.proofs.CreationLemmas.{puts_more, parts_at, taken_more}
+use Rattle.fsfs_create.proofs.creation.put_all.Goals as goal
 
 pub returns-in_err-put-clause-stopped : goal.returns-in_err-put-clause-stopped
 returns-in_err-put-clause-stopped g c =

@@ -1,0 +1,3 @@
+pub mod CreationLemmas
+pub mod CreatedFilesLemmas
+pub mod CrashLemmas
