@@ -156,7 +156,7 @@ leaves_stopped CreateRename files format old new lack at all =
 leaves_stopped CreateLast files format old new lack at all =
     leaves_from_firm files format old new lack all (λ firm is f a. leaves_publishing CreateLast format firm new (subst (λ o. StopsPublishing CreateLast format o new) (sym is) at) f a)
 
-last_done : (files : List NamedFile) (format : List ℕ) (old new firm : Option Trace) → new ≡ option_map (after_creation files format) old → firm ≡ option_map (after_firm files) old → Performs FirmNames (option_map (after_rename format) firm) new
+pub last_done : (files : List NamedFile) (format : List ℕ) (old new firm : Option Trace) → new ≡ option_map (after_creation files format) old → firm ≡ option_map (after_firm files) old → Performs FirmNames (option_map (after_rename format) firm) new
 last_done files format None new firm is at = is ∙ ap (λ o. option_map (add_operation (Done FirmNames)) (option_map (after_rename format) o)) (sym at)
 last_done files format (Some t) new firm is at = is ∙ ap (λ o. option_map (add_operation (Done FirmNames)) (option_map (after_rename format) o)) (sym at)
 

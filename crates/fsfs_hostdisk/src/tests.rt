@@ -1,10 +1,14 @@
+ghost use Rattle.std.specs.Prelude.{◌≡◌, IsTrue, OnOk};
+
 use crate::{HostDisk, Machine};
 use fsfs_disk::{Disk, Failed, Host, Name};
 use std::test::Fail;
 use std::{env, fs, process};
 
 // What a creation does, in little.
-fn write_repository(disk: &mut HostDisk<HostRuntime>) -> Result<(), Failed> {
+fn write_repository(disk: &mut HostDisk<HostRuntime>) -> Result<(), Failed>
+    requires { IsTrue disk.old.writes }
+{
     let next = Name::new("db/format-next");
     disk.make_folder(&Name::new("db/revs/0"))?;
     disk.put(&Name::new("db/write-lock"), b"")?;
@@ -16,7 +20,10 @@ fn write_repository(disk: &mut HostDisk<HostRuntime>) -> Result<(), Failed> {
 }
 
 // The file that was read last is read anew after each change.
-fn read_between_changes(disk: &mut HostDisk<HostRuntime>) -> Result<[Option<usize>; 5], Failed> {
+fn read_between_changes(disk: &mut HostDisk<HostRuntime>) -> Result<[Option<usize>; 5], Failed>
+    requires { IsTrue disk.old.writes }
+    ensures { OnOk result (disk.new.writes ≡ disk.old.writes) }
+{
     let (name, other) = (Name::new("db/kept"), Name::new("db/other"));
     let mut buffer = [0; 8];
     disk.put(&name, b"one")?;

@@ -3,7 +3,7 @@ ghost use Rattle.std.specs.Prelude.{◌≡◌, ◌≤◌, ◌<◌, IfOk, IfErr, 
 ghost use Rattle.fsfs_disk.specs.Fault.{Rose};
 ghost use Rattle.fsfs_disk.specs.Trace.{files_now};
 ghost use Rattle.fsfs_repo.specs.Opening.{IsOpened, IsRefusedBehind, small_texts, text_at};
-ghost use Rattle.fsfs_repo.specs.OpenFaults.{texts_of, IsOpenedBehind, JudgedBecause, OpensBecause, IfOutside, outside_of};
+ghost use Rattle.fsfs_repo.specs.OpenFaults.{texts_of, IsOpenedBehind, JudgedBecause, OpensBecause, IfUnread, outside_of};
 ghost use Rattle.fsfs_repo.specs.Deciding.{Decides};
 ghost use Rattle.fsfs_repo.specs.declared.opening.Opened.{Opened};
 
@@ -71,7 +71,7 @@ fn text_of<D: Disk>(alloc: Global, disk: &mut D, name: &Name) -> Result<Vec<u8>,
     ensures same { D.trace disk.new ≡ D.trace disk.old }
     ensures mounted { D.mount_path disk.new ≡ D.mount_path disk.old }
     ensures later { D.faults disk.old ≤ D.faults disk.new }
-    ensures failed { IfErr result (IfOutside (Rose (D.faults disk.old) (D.faults disk.new))) }
+    ensures failed { IfErr result (IfUnread (Rose (D.faults disk.old) (D.faults disk.new))) }
 {
     match read_file(alloc, disk, name) {
         Ok(Some(bytes)) => Ok(bytes),
@@ -95,7 +95,7 @@ fn read_small_files<D: Disk>(alloc: Global, disk: &mut D) -> Result<SmallFiles, 
     ensures same { D.trace disk.new ≡ D.trace disk.old }
     ensures mounted { D.mount_path disk.new ≡ D.mount_path disk.old }
     ensures later { D.faults disk.old ≤ D.faults disk.new }
-    ensures failed { IfErr result (IfOutside (Rose (D.faults disk.old) (D.faults disk.new))) }
+    ensures failed { IfErr result (IfUnread (Rose (D.faults disk.old) (D.faults disk.new))) }
 {
     let format = match read_file(alloc, disk, &names::format()) {
         Ok(found) => found,

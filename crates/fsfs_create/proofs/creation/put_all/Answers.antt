@@ -27,5 +27,6 @@ loop-file-preserved g c =
       done = puts_more (map named (take i c.args.files.now)) (named file) (told c.args.disk.now) (told c.loop-file.disk) (told c.put.new.self) c.loop-file.invariant.done put
           ∙ ap (λ files. option_map (after_puts files) (told c.args.disk.now)) (sym (taken_more c.args.files.now i file c.loop-file-test.true c.file-item.is));
       mounted = grind arith;
+      right = c.put.ensures.right ∙ c.loop-file.invariant.right;
       later = grind arith;
     }
