@@ -14,7 +14,8 @@ use Rattle.fsfs_model.specs.CreatedFiles.{format_text, unpublished_files, create
 use Rattle.fsfs_create.specs.Creation.{after_puts, after_firm, after_next, after_rename, after_publishing, after_creation, StopsInPuts, StopsPublishing, StopsAt, IsUnpublished, IsNoneOrWhole, IsStopped}
 use Rattle.fsfs_places.specs.declared.place.DiskPlace.{DiskPlace}
 use Rattle.fsfs_places.specs.declared.place.DiskPlace.TheVariants.{OpenFirm, OpenRead, Read, CreatePut, CreateFirm, CreateRename, CreateLast}
-use Rattle.fsfs_create.proofs.CreatedFilesLemmas.{lacks, first_apart, lacks_rest, files_now-after_publishing, files_now-after_creation}
+use Rattle.fsfs_create.proofs.CreatedFilesLemmas.{files_now-after_publishing, files_now-after_creation}
+use Rattle.fsfs_layout.proofs.NamedFiles.{lacks, first_apart, lacks_rest}
 
 -- another file makes no repository
 unpublished_put : (name : List ℕ) → (name ≡ codes "db/format" → ⊥) → (m : Files) (any : List ℕ) → IsUnpublished m → IsUnpublished (insert m name any)

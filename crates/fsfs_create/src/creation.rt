@@ -7,10 +7,10 @@ ghost use Rattle.fsfs_model.specs.CreatedFiles.{identifier_text};
 ghost use Rattle.fsfs_create.specs.NewFiles.{named};
 ghost use Rattle.fsfs_create.specs.Creation.{after_puts, after_publishing, after_creation, StopsInPuts, StopsPublishing, StopsAt, HasRepository, IsNoRepository, IsUnpublished, IsCreated, IsNoneOrWhole, CreateFails};
 
-use crate::initial::{NewFile, created_files, format_text};
+use crate::initial::{NewFile, created_files};
 use fsfs_base::write_date;
 use fsfs_disk::{Disk, Failed};
-use fsfs_layout::names;
+use fsfs_layout::{Format, names, write_format};
 use fsfs_places::DiskPlace;
 use std::alloc::{AllocError, Global};
 use thiserror::Error;
@@ -113,6 +113,8 @@ pub fn create<D: Disk>(
     shard: u32,
     moment: u64,
 ) -> Result<(), CreateFault>
+    requires from_one { 1 ≤ shard }
+    requires most { shard ≤ 2_147_483_647 }
     requires moment { moment ≤ 4_102_444_799_999_999 }
     requires right { IsTrue (D.may_write disk.old) }
 
@@ -141,8 +143,8 @@ pub fn create<D: Disk>(
         Ok(None) => {}
     }
     let date = write_date(alloc, moment)?;
-    let files = created_files(alloc, identifier, &date)?;
-    let format = format_text(alloc, shard)?;
+    let files = created_files(alloc, identifier, shard, &date)?;
+    let format = write_format(alloc, &Format::Sharded(shard))?;
     match write_files(disk, &files, &format) {
         Ok(()) => Ok(()),
         Err(place) => Err(CreateFault::DiskFault(place)),

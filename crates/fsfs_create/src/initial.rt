@@ -1,10 +1,13 @@
 // The files of a new repository.
-ghost use Rattle.std.specs.Prelude.{◌≡◌, ◌≤◌, ◌++◌, ◌∷◌, [], map, length, IfOk, OnOk};
+ghost use Rattle.std.specs.Prelude.{◌≡◌, ◌<◌, ◌++◌, ◌∷◌, [], map, IfOk, OnOk};
 ghost use Rattle.fsfs_create.specs.NewFiles.{named};
-ghost use Rattle.fsfs_model.specs.CreatedFiles.{unpublished_files, format_text as format_of, date_properties, identifier_text as text_of_identifier};
+ghost use Rattle.fsfs_model.specs.CreatedFiles.{unpublished_files, date_properties, identifier_text as text_of_identifier};
 
-use fsfs_base::write_dec;
+use fsfs_base::B36;
 use fsfs_disk::Name;
+use fsfs_layout::{
+    Uuid as Identifier, names, write_current, write_min_unpacked_rev, write_txn_current, write_uuid,
+};
 use std::alloc::{AllocError, Global};
 use uuid::Uuid;
 
@@ -16,27 +19,22 @@ pub struct NewFile {
 }
 
 // Adds a file to a list.
-fn add(alloc: Global, files: &mut Vec<NewFile>, name: &str, bytes: &[u8]) -> Result<(), AllocError>
-    requires { length name.now ≤ 128 }
-    ensures { OnOk result (map named files.new.items ≡ map named files.old.items ++ (name.now, bytes.now) ∷ []) }
+fn add(files: &mut Vec<NewFile>, name: Name, bytes: Vec<u8>) -> Result<(), AllocError>
+    ensures { OnOk result (map named files.new.items ≡ map named files.old.items ++ (name, bytes.items) ∷ []) }
 {
-    let bytes = Vec::from_slice(alloc, bytes)?;
-    files.push(NewFile {
-        name: Name::new(name),
-        bytes,
-    })?;
+    files.push(NewFile { name, bytes })?;
     Ok(())
 }
 
-// The text of `db/uuid`.
-fn identifier_line(alloc: Global, identifier: Uuid) -> Result<Vec<u8>, AllocError>
-    ensures { IfOk result (λ t. t.items ≡ text_of_identifier identifier ++ 10 ∷ []) }
+// The identifier as `db/uuid` has it.
+fn identifier_of(identifier: Uuid) -> Identifier
+    ensures { result ≡ text_of_identifier identifier }
 {
     let mut buffer = Uuid::encode_buffer();
     let text = identifier.hyphenated().encode_lower(&mut buffer);
-    let mut out = Vec::from_slice(alloc, text.as_bytes())?;
-    out.push(b'\n')?;
-    Ok(out)
+    let mut bytes = [0; 36];
+    bytes.copy_from_slice(text.as_bytes());
+    Identifier::new(bytes)
 }
 
 // The property list of revision 0.
@@ -49,37 +47,35 @@ fn properties(alloc: Global, date: &[u8]) -> Result<Vec<u8>, AllocError>
     Ok(out)
 }
 
-/// The text of `db/format`: format 4, sharded.
-pub fn format_text(alloc: Global, shard: u32) -> Result<Vec<u8>, AllocError>
-    ensures { IfOk result (λ t. t.items ≡ format_of shard) }
-{
-    let mut out = Vec::from_slice(alloc, b"4\nlayout sharded ")?;
-    out.extend_from_slice(&write_dec(alloc, shard as u64)?)?;
-    out.push(b'\n')?;
-    Ok(out)
-}
-
-/// All files of a new repository but `db/format`, from its identifier and the text of its date.
+/// All files of a new repository but `db/format`, from its identifier, the size of a shard and the text of its date.
 pub fn created_files(
     alloc: Global,
     identifier: Uuid,
+    shard: u32,
     date: &[u8],
 ) -> Result<Vec<NewFile>, AllocError>
+    requires { 0 < shard }
     ensures { IfOk result (λ files. map named files.items ≡ unpublished_files (text_of_identifier identifier) date.now) }
 {
+    let version = Vec::from_slice(alloc, b"5\n")?;
+    let fs_type = Vec::from_slice(alloc, b"fsfs\n")?;
+    let uuid = write_uuid(alloc, &identifier_of(identifier))?;
+    let current = write_current(alloc, 0)?;
+    let txn_current = write_txn_current(alloc, &B36 { number: 0 })?;
+    let floor = write_min_unpacked_rev(alloc, shard, 0)?;
+    let revision = Vec::from_slice(alloc, REVISION_ZERO)?;
+    let props = properties(alloc, date)?;
     let mut files = Vec::new(alloc);
-    add(alloc, &mut files, "format", b"5\n")?;
-    add(alloc, &mut files, "db/fs-type", b"fsfs\n")?;
-    let uuid = identifier_line(alloc, identifier)?;
-    add(alloc, &mut files, "db/uuid", &uuid)?;
-    add(alloc, &mut files, "db/current", b"0\n")?;
-    add(alloc, &mut files, "db/txn-current", b"0\n")?;
-    add(alloc, &mut files, "db/min-unpacked-rev", b"0\n")?;
-    add(alloc, &mut files, "db/write-lock", b"")?;
-    add(alloc, &mut files, "db/txn-current-lock", b"")?;
-    add(alloc, &mut files, "db/revs/0/0", REVISION_ZERO)?;
-    let properties = properties(alloc, date)?;
-    add(alloc, &mut files, "db/revprops/0/0", &properties)?;
+    add(&mut files, names::repository_format(), version)?;
+    add(&mut files, names::fs_type(), fs_type)?;
+    add(&mut files, names::uuid(), uuid)?;
+    add(&mut files, names::current(), current)?;
+    add(&mut files, names::txn_current(), txn_current)?;
+    add(&mut files, names::min_unpacked_rev(), floor)?;
+    add(&mut files, names::write_lock(), Vec::new(alloc))?;
+    add(&mut files, names::txn_current_lock(), Vec::new(alloc))?;
+    add(&mut files, names::revision(shard, 0), revision)?;
+    add(&mut files, names::props(shard, 0), props)?;
     Ok(files)
 }
 

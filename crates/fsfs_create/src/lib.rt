@@ -5,4 +5,3 @@ mod creation;
 mod initial;
 
 pub use creation::{CreateFault, create};
-pub use initial::{NewFile, created_files, format_text};

@@ -17,7 +17,7 @@ returns-in-Ok-clause-created g c =
     let date = c.in_ok-date.date.items in
     let id = identifier_text c.args.identifier in
     let files : map named c.deref-2.result.now ≡ unpublished_files id date = ap (map named) c.deref-2.ensures.value ∙ c.in_ok-files.ensures ∙ ap (unpublished_files id) c.deref.ensures.value in
-    let format : c.deref-3.result.now ≡ format_text c.args.shard = c.deref-3.ensures.value ∙ c.in_ok-format.ensures in
+    let format : c.deref-3.result.now ≡ format_text c.args.shard = c.deref-3.ensures.value ∙ c.in_ok-format.ensures.text in
     let done = ended_so c.args.shard id date (map named c.deref-2.result.now) c.deref-3.result.now old (told c.size.new.self) new files format c.in-Ok-None.ensures.same c.in-Ok.ensures.done in
     (date, c.in_ok-date.ensures, created_files_now c.args.shard id date old new done)
 
@@ -35,7 +35,7 @@ returns-in-Ok-clause-any_moment g c = λ all.
     let date = c.in_ok-date.date.items in
     let id = identifier_text c.args.identifier in
     let files : map named c.deref-2.result.now ≡ unpublished_files id date = ap (map named) c.deref-2.ensures.value ∙ c.in_ok-files.ensures ∙ ap (unpublished_files id) c.deref.ensures.value in
-    let format : c.deref-3.result.now ≡ format_text c.args.shard = c.deref-3.ensures.value ∙ c.in_ok-format.ensures in
+    let format : c.deref-3.result.now ≡ format_text c.args.shard = c.deref-3.ensures.value ∙ c.in_ok-format.ensures.text in
     let done = ended_so c.args.shard id date (map named c.deref-2.result.now) c.deref-3.result.now old (told c.size.new.self) new files format c.in-Ok-None.ensures.same c.in-Ok.ensures.done in
     leaves_whole c.args.shard id date c.args.moment old new c.in_ok-date.ensures (leaves_done (unpublished_files id date) (format_text c.args.shard) old new (no_format id date) done all)
 
@@ -48,7 +48,7 @@ returns-clause-refused g c =
     let date = c.in_ok-date.date.items in
     let id = identifier_text c.args.identifier in
     let files : map named c.deref-2.result.now ≡ unpublished_files id date = ap (map named) c.deref-2.ensures.value ∙ c.in_ok-files.ensures ∙ ap (unpublished_files id) c.deref.ensures.value in
-    let format : c.deref-3.result.now ≡ format_text c.args.shard = c.deref-3.ensures.value ∙ c.in_ok-format.ensures in
+    let format : c.deref-3.result.now ≡ format_text c.args.shard = c.deref-3.ensures.value ∙ c.in_ok-format.ensures.text in
     let stopped = stopped_so c.in-Err-write_files.place c.args.shard id date (map named c.deref-2.result.now) c.deref-3.result.now old (told c.size.new.self) new files format c.in-Ok-None.ensures.same c.in-Err-write_files.ensures.stopped in
     (rose, is_stopped c.in-Err-write_files.place c.args.shard id date c.args.moment old new c.in_ok-date.ensures stopped)
 
@@ -63,7 +63,7 @@ returns-clause-any_moment g c = λ all.
     let date = c.in_ok-date.date.items in
     let id = identifier_text c.args.identifier in
     let files : map named c.deref-2.result.now ≡ unpublished_files id date = ap (map named) c.deref-2.ensures.value ∙ c.in_ok-files.ensures ∙ ap (unpublished_files id) c.deref.ensures.value in
-    let format : c.deref-3.result.now ≡ format_text c.args.shard = c.deref-3.ensures.value ∙ c.in_ok-format.ensures in
+    let format : c.deref-3.result.now ≡ format_text c.args.shard = c.deref-3.ensures.value ∙ c.in_ok-format.ensures.text in
     let stopped = stopped_so c.in-Err-write_files.place c.args.shard id date (map named c.deref-2.result.now) c.deref-3.result.now old (told c.size.new.self) new files format c.in-Ok-None.ensures.same c.in-Err-write_files.ensures.stopped in
     leaves_whole c.args.shard id date c.args.moment old new c.in_ok-date.ensures
     (leaves_stopped c.in-Err-write_files.place (unpublished_files id date) (format_text c.args.shard) old new (no_format id date) stopped all)
@@ -76,7 +76,7 @@ returns-in-Ok-clause-firm g c =
     let date = c.in_ok-date.date.items in
     let id = identifier_text c.args.identifier in
     let files : map named c.deref-2.result.now ≡ unpublished_files id date = ap (map named) c.deref-2.ensures.value ∙ c.in_ok-files.ensures ∙ ap (unpublished_files id) c.deref.ensures.value in
-    let format : c.deref-3.result.now ≡ format_text c.args.shard = c.deref-3.ensures.value ∙ c.in_ok-format.ensures in
+    let format : c.deref-3.result.now ≡ format_text c.args.shard = c.deref-3.ensures.value ∙ c.in_ok-format.ensures.text in
     let done = ended_so c.args.shard id date (map named c.deref-2.result.now) c.deref-3.result.now old (told c.size.new.self) new files format c.in-Ok-None.ensures.same c.in-Ok.ensures.done in
     let firm = option_map (after_firm (unpublished_files id date)) old in
     firm_after (option_map (after_rename (format_text c.args.shard)) firm) new (last_done (unpublished_files id date) (format_text c.args.shard) old new firm done refl)
