@@ -1,4 +1,4 @@
-ghost use Rattle.std.specs.Prelude.{◌≡◌, IsTrue, OnOk};
+ghost use Rattle.std.specs.Prelude.{◌≡◌, IsTrue};
 
 use crate::{HostDisk, Machine};
 use fsfs_disk::{Disk, Failed, Host, Name};
@@ -7,7 +7,7 @@ use std::{env, fs, process};
 
 // What a creation does, in little.
 fn write_repository(disk: &mut HostDisk<HostRuntime>) -> Result<(), Failed>
-    requires { IsTrue disk.old.writes }
+    requires { IsTrue (⟦<HostDisk<HostRuntime> as Disk>⟧.may_write disk.old) }
 {
     let next = Name::new("db/format-next");
     disk.make_folder(&Name::new("db/revs/0"))?;
@@ -21,8 +21,8 @@ fn write_repository(disk: &mut HostDisk<HostRuntime>) -> Result<(), Failed>
 
 // The file that was read last is read anew after each change.
 fn read_between_changes(disk: &mut HostDisk<HostRuntime>) -> Result<[Option<usize>; 5], Failed>
-    requires { IsTrue disk.old.writes }
-    ensures { OnOk result (disk.new.writes ≡ disk.old.writes) }
+    requires { IsTrue (⟦<HostDisk<HostRuntime> as Disk>⟧.may_write disk.old) }
+    ensures { ⟦<HostDisk<HostRuntime> as Disk>⟧.may_write disk.new ≡ ⟦<HostDisk<HostRuntime> as Disk>⟧.may_write disk.old }
 {
     let (name, other) = (Name::new("db/kept"), Name::new("db/other"));
     let mut buffer = [0; 8];
