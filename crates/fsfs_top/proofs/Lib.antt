@@ -7,3 +7,4 @@ pub mod HistoryLemmas
 pub mod ReplyLemmas
 pub mod FlatLemmas
 pub mod Replying
+pub mod Making
