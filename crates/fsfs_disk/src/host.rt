@@ -1,5 +1,5 @@
 // A host: a disk for each path.
-ghost use Rattle.std.specs.Prelude.{◌≡◌, ◌≢◌, ◌≤◌, ◌+◌, ◌-◌, ◌^◌, ℕ, List, Option, Some, min, IfOk, OnOk, OnErr};
+ghost use Rattle.std.specs.Prelude.{◌≡◌, ◌≢◌, ◌≤◌, ◌+◌, ◌-◌, ◌^◌, ℕ, List, Option, Some, min, IfOk, OnOk, OnErr, IsTrue};
 ghost use Rattle.fsfs_disk.specs.Fault.{HasCause};
 ghost use Rattle.fsfs_disk.specs.Trace.{Trace};
 
@@ -27,11 +27,13 @@ pub trait Host {
     /// How often the disks failed that it took back.
     ghost disk_faults: { Self → ℕ };
 
-    /// Hands out the disk of a path, with a count of faults of 0. Where `writes` is set no other writer has it at the same time.
+    /// Hands out the disk of a path, with a count of faults of 0. Where `writes` is set its files may be changed, and no other
+    /// writer has it at the same time.
     fn mount(&mut self, path: &str, writes: bool) -> Result<Self::Mounted, MountFault>
         ensures disk { IfOk result (λ d. Self.Mounted.trace d ≡ disk_at self.old path.now) }
         ensures path { IfOk result (λ d. Self.Mounted.mount_path d ≡ path.now) }
         ensures new { IfOk result (λ d. Self.Mounted.faults d ≡ 0) }
+        ensures right { IfOk result (λ d. IsTrue writes → IsTrue (Self.Mounted.may_write d)) }
         ensures out { OnOk result (is_mounted self.new path.now) }
         ensures others { (p : List ℕ) → p ≢ path.now → disk_at self.new p ≡ disk_at self.old p }
         ensures err { OnErr result (disk_at self.new path.now ≡ disk_at self.old path.now) }

@@ -1,11 +1,15 @@
 //! A real folder: what a mount leaves, and what is read of it.
+ghost use Rattle.std.specs.Prelude.{◌≡◌, IsTrue};
+
 use fsfs_disk::{Disk, Failed, Host, Name};
 use fsfs_hostdisk::{HostDisk, Machine};
 use std::test::Fail;
 use std::{env, fs, process};
 
 // What a creation does, in little.
-fn write_repository(disk: &mut HostDisk<HostRuntime>) -> Result<(), Failed> {
+fn write_repository(disk: &mut HostDisk<HostRuntime>) -> Result<(), Failed>
+    requires { IsTrue (⟦<HostDisk<HostRuntime> as Disk>⟧.may_write disk.old) }
+{
     let next = Name::new("db/format-next");
     disk.make_folder(&Name::new("db/revs/0"))?;
     disk.put(&Name::new("db/write-lock"), b"")?;
@@ -17,7 +21,10 @@ fn write_repository(disk: &mut HostDisk<HostRuntime>) -> Result<(), Failed> {
 }
 
 // The file that was read last is read anew after each change.
-fn read_between_changes(disk: &mut HostDisk<HostRuntime>) -> Result<[Option<usize>; 5], Failed> {
+fn read_between_changes(disk: &mut HostDisk<HostRuntime>) -> Result<[Option<usize>; 5], Failed>
+    requires { IsTrue (⟦<HostDisk<HostRuntime> as Disk>⟧.may_write disk.old) }
+    ensures { ⟦<HostDisk<HostRuntime> as Disk>⟧.may_write disk.new ≡ ⟦<HostDisk<HostRuntime> as Disk>⟧.may_write disk.old }
+{
     let (name, other) = (Name::new("db/kept"), Name::new("db/other"));
     let mut buffer = [0; 8];
     disk.put(&name, b"one")?;

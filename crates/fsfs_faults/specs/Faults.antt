@@ -1,9 +1,9 @@
 -- The fault that a command answers where the words were not read, or a creation, an opening or a look failed.
-use Rattle.std.specs.Prelude.{take}
+use Rattle.std.specs.Prelude.{◌≡◌, ◌⊎◌, take}
 use Rattle.fsfs_base.specs.Paths.{Path}
 use Rattle.fsfs_damage.specs.declared.wrong.Refusal.TheVariants as refusal
-use Rattle.fsfs_repo.specs.declared.creation.CreateFault.{CreateFault}
-use Rattle.fsfs_repo.specs.declared.creation.CreateFault.TheVariants as create
+use Rattle.fsfs_create.specs.declared.creation.CreateFault.{CreateFault}
+use Rattle.fsfs_create.specs.declared.creation.CreateFault.TheVariants as create
 use Rattle.fsfs_repo.specs.declared.opening.OpenFault.{OpenFault}
 use Rattle.fsfs_repo.specs.declared.opening.OpenFault.TheVariants as opening
 use Rattle.fsfs_damage.specs.declared.damage.What.TheVariants as damaged
@@ -48,3 +48,10 @@ fault_from_look path (look.NotFound names) = NotFound (take names path)
 fault_from_look path (look.NotDir names) = NotDir (take names path)
 fault_from_look path look.NotFile = NotFile path
 fault_from_look path (look.Wrong wrong) = fault_from_wrong wrong
+
+-- the same, but for want of memory where a path is made for the fault
+abbrev pub IsFromLook : Path → LookFault → Fault → Type 0
+IsFromLook path (look.NotFound names) fault = (fault ≡ fault_from_look path (look.NotFound names)) ⊎ (fault ≡ Memory)
+IsFromLook path (look.NotDir names) fault = (fault ≡ fault_from_look path (look.NotDir names)) ⊎ (fault ≡ Memory)
+IsFromLook path look.NotFile fault = (fault ≡ fault_from_look path look.NotFile) ⊎ (fault ≡ Memory)
+IsFromLook path (look.Wrong wrong) fault = fault ≡ fault_from_wrong wrong

@@ -5,13 +5,13 @@ use Rattle.fsfs_base.specs.Paths.{path_text}
 use Rattle.fsfs_base.specs.declared.bad_path.PathFault.{PathFault}
 use Rattle.fsfs_base.specs.declared.bad_path.PathFault.TheVariants.{NotAbsolute, PathTooLong, TooDeep, EmptyName, Control, NameTooLong, Dot}
 use Rattle.fsfs_layout.specs.FileNames.{small_name}
-use Rattle.fsfs_repo.specs.declared.place.DiskPlace.{DiskPlace}
-use Rattle.fsfs_repo.specs.declared.place.DiskPlace.TheVariants.{OpenFirm, OpenRead, Read, CreatePut, CreateFirm, CreateRename, CreateLast}
 use Rattle.fsfs_damage.specs.declared.damage.RevOffset.{RevOffset}
 use Rattle.fsfs_damage.specs.declared.damage.What.{What}
 use Rattle.fsfs_damage.specs.declared.damage.What.TheVariants as damaged
 use Rattle.fsfs_damage.specs.declared.damage.RepWhat.{RepWhat}
 use Rattle.fsfs_damage.specs.declared.damage.RepWhat.TheVariants as rep
+use Rattle.fsfs_places.specs.declared.place.DiskPlace.{DiskPlace}
+use Rattle.fsfs_places.specs.declared.place.DiskPlace.TheVariants.{OpenFirm, OpenRead, Read, CreatePut, CreateFirm, CreateRename, CreateLast}
 use Rattle.fsfs_words.specs.Commands.{tool_name}
 use Rattle.fsfs_words.specs.declared.tool.Tool.{Tool}
 use Rattle.fsfs_faults.specs.declared.fault.Fault.{Fault}

@@ -1,11 +1,11 @@
 //! What a command answers but success.
-ghost use Rattle.std.specs.Prelude.{◌≡◌, ◌⊎◌};
-ghost use Rattle.fsfs_faults.specs.Faults.{fault_from_look};
-ghost use Rattle.fsfs_faults.specs.declared.fault.Fault.TheVariants.{Memory};
+ghost use Rattle.fsfs_faults.specs.Faults.{IsFromLook};
 
 use fsfs_base::{BadPath, FsPath, SmallFault};
 use fsfs_damage::{Damage, Refusal, RevOffset, What, Wrong};
-use fsfs_repo::{CreateFault, DiskPlace, OpenFault};
+use fsfs_repo::OpenFault;
+use fsfs_create::CreateFault;
+use fsfs_places::DiskPlace;
 use fsfs_texts::LookFault;
 use fsfs_words::WordsFault;
 use std::alloc::Global;
@@ -141,7 +141,7 @@ impl From<Wrong> for Fault {
 impl Fault {
     /// The fault of a look at this path: where nothing was found or a file is no directory, the path down to there.
     pub fn of_look(alloc: Global, path: &FsPath, fault: LookFault) -> Fault
-        ensures { (result ≡ fault_from_look path.now fault) ⊎ (result ≡ Memory) }
+        ensures { IsFromLook path.now fault result }
     {
         match fault {
             LookFault::NotFound { names } => match path.prefix(alloc, names.min(path.depth())) {

@@ -9,7 +9,7 @@ use arrayvec::ArrayString;
 use fsfs_base::{HexDigest, PathFault};
 use fsfs_damage::{RepWhat, RevOffset, What};
 use fsfs_layout::names::small_file;
-use fsfs_repo::DiskPlace;
+use fsfs_places::DiskPlace;
 use fsfs_words::Tool;
 use itoa::Buffer;
 

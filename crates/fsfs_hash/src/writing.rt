@@ -1,7 +1,7 @@
 //! Writing dumps, and records of a `children` file.
 ghost use Rattle.std.specs.Prelude.{◌≡◌, ℕ, List, OnOk, IfOk};
 ghost use Rattle.fsfs_text.specs.Grammar.{Appends};
-ghost use Rattle.fsfs_hash.specs.Dump.{Field, Entry, IsDump, put};
+ghost use Rattle.fsfs_hash.specs.Dump.{Field, Entry, Entries, IsDump, put};
 ghost use Rattle.fsfs_hash.specs.Children.{IsChildren, without};
 
 use fsfs_base::Pairs;
@@ -41,7 +41,8 @@ pub fn drop_entry(out: &mut Vec<u8>, name: &[u8]) -> Result<(), AllocError>
 
 /// The dump of the pairs, keys in byte order.
 pub fn write_hash(alloc: Global, pairs: &Pairs) -> Result<Vec<u8>, AllocError>
-    ensures { IfOk result (λ v. IsDump v.items pairs.now) }
+    ensures dump { IfOk result (λ v. IsDump v.items pairs.now) }
+    ensures in_order { IfOk result (λ v. Entries v.items pairs.now) }
 {
     let map = pairs.as_map();
     let _count = map.len();

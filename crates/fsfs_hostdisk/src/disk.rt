@@ -23,6 +23,8 @@ use std::io;
 #[derive(Drop)]
 pub struct HostDisk<R: Files<File = File> + AllocGlobal + Drop> {
     folder: Folder<R>,
+    // It was mounted to write.
+    writes: bool,
     writer: Writer,
     last_read: LastRead,
     faults: u64,
@@ -33,6 +35,7 @@ impl<R: Files<File = File> + AllocGlobal + Drop> HostDisk<R> {
     pub(crate) fn open(rt: R, path: String, writes: bool) -> io::Result<HostDisk<R>>
         ensures faults { IfOk result (λ disk. disk.faults ≡ 0) }
         ensures path { IfOk result (λ disk. disk.folder.path ≡ path) }
+        ensures writes { IfOk result (λ disk. disk.writes ≡ writes) }
     {
         let mut writer = Writer::new(rt.alloc());
         let folder = Folder { rt, path };
@@ -44,6 +47,7 @@ impl<R: Files<File = File> + AllocGlobal + Drop> HostDisk<R> {
         }
         Ok(HostDisk {
             folder,
+            writes,
             writer,
             last_read: LastRead::none(),
             faults: 0,
@@ -54,6 +58,7 @@ impl<R: Files<File = File> + AllocGlobal + Drop> HostDisk<R> {
     pub(crate) fn close(self) {
         let HostDisk {
             folder,
+            writes: _,
             writer,
             last_read: _,
             faults: _,
@@ -76,6 +81,8 @@ impl<R: Files<File = File> + AllocGlobal + Drop> Disk for HostDisk<R> {
     ghost trace = { λ _. None };
 
     ghost mount_path = { λ disk. string_bytes disk.folder.path };
+
+    ghost may_write = { λ disk. disk.writes };
 
     ghost faults = { λ disk. disk.faults };
 

@@ -47,6 +47,7 @@ fn open<R: Files<File = File> + AllocGlobal + Clone + Drop>(
 ) -> io::Result<HostDisk<R>>
     ensures faults { IfOk result (λ disk. disk.faults ≡ 0) }
     ensures path { IfOk result (λ disk. string_bytes disk.folder.path ≡ path.now) }
+    ensures writes { IfOk result (λ disk. disk.writes ≡ writes) }
 {
     if path.is_empty() || mounted.iter().any(|other| other.as_str() == path) {
         return Err(io::Error::from(ErrorKind::ResourceBusy));

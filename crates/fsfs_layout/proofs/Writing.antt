@@ -25,6 +25,10 @@ decimal_line a b n none lt w =
     let is = appended none w in
     is.parts ∙ ap (λ (t : List ℕ). t ++ 10 ∷ []) (numeral_decimal is.digits n lt is.numeral)
 
+-- the same behind other bytes
+pub decimal_line_after : (a b : List ℕ) (n : ℕ) → n < 2 ^ 64 → Appends (IsNumber 10 18446744073709551615 10) a b n → b ≡ a ++ (decimal n ++ 10 ∷ [])
+decimal_line_after a b n lt w = w.parts ∙ ap (λ (t : List ℕ). a ++ t) (w.text_is.parts ∙ ap (λ (t : List ℕ). t ++ 10 ∷ []) (numeral_decimal w.text_is.digits n lt w.text_is.numeral))
+
 -- the text of a number from 1 doesn't begin with 0
 not_zero : (digits : List ℕ) (n : ℕ) → 1 ≤ n → IsNumeral 10 digits n → begins 48 (digits ++ 10 ∷ []) ≡ false
 unfolding value_after

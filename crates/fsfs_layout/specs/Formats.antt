@@ -1,5 +1,5 @@
 -- What `db/format` says.
-use Rattle.std.specs.Prelude.{◌≡◌, ◌≢◌, ◌≤◌, ℕ, List, [], ◌∷◌, ◌⊎◌, codes}
+use Rattle.std.specs.Prelude.{◌≡◌, ◌≢◌, ◌≤◌, ℕ, List, [], ◌∷◌, ◌++◌, ◌⊎◌, codes, decimal}
 use Rattle.fsfs_text.specs.Grammar.{Then, IsText, Mapped, Either, Maybe, Except, Begins}
 use Rattle.fsfs_text.specs.Numeral.{IsNumber}
 use Rattle.fsfs_layout.specs.declared.format_file.Format.{Format}
@@ -35,3 +35,9 @@ abbrev pub HasText : Format → Type 0
 HasText Linear = Unit {0}
 HasText (Sharded n) = (1 ≤ n) × (n ≤ 2147483647)
 HasText (Other n) = n ≢ 4
+
+-- as it is written: behind format 4 there is always a layout
+abbrev pub written_format : Format → List ℕ
+written_format Linear = codes "4\nlayout linear\n"
+written_format (Sharded n) = codes "4\nlayout sharded " ++ (decimal n ++ codes "\n")
+written_format (Other n) = decimal n ++ codes "\n"

@@ -2,7 +2,7 @@
 ghost use Rattle.std.specs.Prelude.{◌≡◌, IfOk, IfErr, Ok};
 ghost use Rattle.fsfs_text.specs.Reading.{Gives};
 ghost use Rattle.fsfs_layout.specs.declared.format_file.Format.{Format};
-ghost use Rattle.fsfs_layout.specs.Formats.{IsOurFormat, IsFormat, HasText};
+ghost use Rattle.fsfs_layout.specs.Formats.{IsOurFormat, IsFormat, HasText, written_format};
 ghost use Rattle.fsfs_layout.specs.Small.{IsFaultOf};
 ghost use Rattle.fsfs_layout.specs.Reading.{count_at, layout_at, our_format_at, format_at};
 
@@ -103,7 +103,8 @@ pub fn read_format(bytes: &[u8]) -> Result<Format, SmallFault>
 /// The bytes of `db/format`: the number's line, and behind a 4 the layout's.
 pub fn write_format(alloc: Global, format: &Format) -> Result<Vec<u8>, AllocError>
     requires { HasText format.now }
-    ensures { IfOk result (λ v. IsFormat v.items format.now) }
+    ensures grammar { IfOk result (λ v. IsFormat v.items format.now) }
+    ensures text { IfOk result (λ v. v.items ≡ written_format format.now) }
 {
     let mut out = Vec::new(alloc);
     match *format {

@@ -1,5 +1,5 @@
 //! `db/uuid`.
-ghost use Rattle.std.specs.Prelude.{◌≡◌, ℕ, List, length, ◌≤◌, IfOk, IfErr, OnOk, Ok};
+ghost use Rattle.std.specs.Prelude.{◌≡◌, ℕ, List, [], ◌∷◌, ◌++◌, length, ◌≤◌, IfOk, IfErr, OnOk, Ok};
 ghost use Rattle.fsfs_text.specs.Reading.{Gives};
 ghost use Rattle.fsfs_text.specs.Cuts.{Lacks};
 ghost use Rattle.fsfs_layout.specs.Small.{IsUuid, IsFaultOf};
@@ -106,7 +106,8 @@ pub fn read_uuid(bytes: &[u8]) -> Result<Uuid, SmallFault>
 
 /// The bytes of `db/uuid`.
 pub fn write_uuid(alloc: Global, uuid: &Uuid) -> Result<Vec<u8>, AllocError>
-    ensures { IfOk result (λ v. IsUuid v.items uuid.now) }
+    ensures grammar { IfOk result (λ v. IsUuid v.items uuid.now) }
+    ensures text { IfOk result (λ v. v.items ≡ uuid.now ++ 10 ∷ []) }
 {
     let mut out = Vec::from_slice(alloc, uuid.as_bytes())?;
     out.push(b'\n')?;

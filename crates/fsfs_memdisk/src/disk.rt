@@ -187,12 +187,15 @@ fn copy_from(bytes: &[u8], offset: u64, buffer: &mut [u8]) -> usize
 }
 
 impl Disk for MemDisk {
-    ghost use Rattle.std.specs.Prelude.{Some, string_bytes};
+    ghost use Rattle.std.specs.Prelude.{Some, string_bytes, true};
     ghost use Rattle.fsfs_memdisk.specs.MemDisk.{trace_of};
 
     ghost trace = { λ d. Some (trace_of d) };
 
     ghost mount_path = { λ d. string_bytes d.mount_path };
+
+    // In memory there is no lock to hold.
+    ghost may_write = { λ _. true };
 
     ghost faults = { λ d. d.faults.count };
 

@@ -2,8 +2,10 @@
 use fsfs_base::{BadPath, FsPath, HexDigest, PathFault, SmallFault, SmallFile};
 use fsfs_faults::{Fault, Tool, print_fault, status};
 use fsfs_damage::{Damage, Refusal, RepWhat, RevOffset, What, Wrong};
+use fsfs_create::CreateFault;
 use fsfs_memdisk::MemSink;
-use fsfs_repo::{CreateFault, DiskPlace, OpenFault};
+use fsfs_repo::OpenFault;
+use fsfs_places::DiskPlace;
 use fsfs_texts::LookFault;
 use fsfs_words::WordsFault;
 use std::alloc::Global;

@@ -1,4 +1,2 @@
-pub mod NewFiles
-pub mod Creation
 pub mod OpenFaults
 pub mod Deciding

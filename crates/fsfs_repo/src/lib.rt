@@ -1,12 +1,6 @@
-//! A repository over one owned disk: it is created, and opened.
+//! A repository over one owned disk: it is opened.
 #![tactic(auto)]
 
-mod creation;
-mod initial;
 mod opening;
-mod place;
 
-pub use creation::{CreateFault, create};
-pub use initial::{NewFile, created_files, format_text};
 pub use opening::{OpenFault, open};
-pub use place::DiskPlace;

@@ -3,11 +3,10 @@ ghost use Rattle.std.specs.Prelude.{◌≡◌, ◌≤◌, ◌<◌, IfOk, IfErr, 
 ghost use Rattle.fsfs_disk.specs.Fault.{Rose};
 ghost use Rattle.fsfs_disk.specs.Trace.{files_now};
 ghost use Rattle.fsfs_layout.specs.Opening.{IsOpened, IsOpenedBehind, IsRefusedBehind, small_texts, text_at};
-ghost use Rattle.fsfs_repo.specs.OpenFaults.{texts_of, JudgedBecause, OpensBecause, IfOutside, outside_of};
+ghost use Rattle.fsfs_repo.specs.OpenFaults.{texts_of, JudgedBecause, OpensBecause, outside_of, IfUnread};
 ghost use Rattle.fsfs_repo.specs.Deciding.{Decides};
 ghost use Rattle.fsfs_layout.specs.declared.opened.Opened.{Opened};
 
-use crate::place::DiskPlace;
 use fsfs_base::{SmallFault, SmallFile};
 use fsfs_disk::{Disk, Name};
 use fsfs_layout::{
@@ -15,6 +14,7 @@ use fsfs_layout::{
     read_uuid,
 };
 use fsfs_whole_file::{FileFault, read_disk_file};
+use fsfs_places::DiskPlace;
 use std::alloc::Global;
 use thiserror::Error;
 
@@ -58,7 +58,7 @@ fn text_of<D: Disk>(alloc: Global, disk: &mut D, name: &Name) -> Result<Vec<u8>,
     ensures same { D.trace disk.new ≡ D.trace disk.old }
     ensures mounted { D.mount_path disk.new ≡ D.mount_path disk.old }
     ensures later { D.faults disk.old ≤ D.faults disk.new }
-    ensures failed { IfErr result (IfOutside (Rose (D.faults disk.old) (D.faults disk.new))) }
+    ensures failed { IfErr result (IfUnread (Rose (D.faults disk.old) (D.faults disk.new))) }
 {
     match read_disk_file(alloc, disk, name) {
         Ok(Some(bytes)) => Ok(bytes),
@@ -82,7 +82,7 @@ fn read_small_files<D: Disk>(alloc: Global, disk: &mut D) -> Result<SmallFiles, 
     ensures same { D.trace disk.new ≡ D.trace disk.old }
     ensures mounted { D.mount_path disk.new ≡ D.mount_path disk.old }
     ensures later { D.faults disk.old ≤ D.faults disk.new }
-    ensures failed { IfErr result (IfOutside (Rose (D.faults disk.old) (D.faults disk.new))) }
+    ensures failed { IfErr result (IfUnread (Rose (D.faults disk.old) (D.faults disk.new))) }
 {
     let format = match read_disk_file(alloc, disk, &names::format()) {
         Ok(found) => found,

@@ -1,3 +1,4 @@
 pub mod OneHistory
 pub mod FirstHistory
 pub mod NewRepository
+pub mod Creations

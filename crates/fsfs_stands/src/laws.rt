@@ -1,6 +1,6 @@
 //! The laws of histories. Each of these functions does nothing: what it ensures is proved once for all bytes.
 ghost use Rattle.fsfs_stands.specs.FirstHistory.{FirstHistoryIsShown};
-ghost use Rattle.fsfs_stands.specs.NewRepository.{NewRepositoriesStand};
+ghost use Rattle.fsfs_stands.specs.NewRepository.{CreationsHoldNew, NewRepositoriesStand};
 ghost use Rattle.fsfs_stands.specs.Same.{OneHistoryIsShown, OneHistoryIsStoodFor};
 
 /// The bytes of revisions and their property files show one history at most of so many revisions, and files stand for one at
@@ -19,4 +19,9 @@ pub fn the_first_history_is_shown()
 /// identifier and the size of a shard.
 pub fn new_repositories_stand()
     ensures { NewRepositoriesStand }
+{}
+
+/// A creation makes of any files those of a new repository, with the date of its moment.
+pub fn creations_hold_new()
+    ensures { CreationsHoldNew }
 {}

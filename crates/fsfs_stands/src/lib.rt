@@ -6,4 +6,6 @@
 
 mod laws;
 
-pub use laws::{new_repositories_stand, one_history_is_shown, the_first_history_is_shown};
+pub use laws::{
+    creations_hold_new, new_repositories_stand, one_history_is_shown, the_first_history_is_shown,
+};

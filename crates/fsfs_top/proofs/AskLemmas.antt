@@ -1,12 +1,13 @@
 -- The words ask for one thing.
 use Rattle.std.proofs.Common.{◌≡◌, ℕ, Bool, true, false, List, [], ◌∷◌, ◌⊎◌, inl, inr, refl, sym, ap, subst, ◌∙◌}
-use Rattle.std.specs.Prelude.{Option, Some, None, codes, option_map, option_and_then, if◌then◌else◌}
+use Rattle.std.specs.Prelude.{Option, Some, None, IfSome, codes, option_map, option_and_then, unwrap_or, if◌then◌else◌}
 use Rattle.std.specs.Str.{bytes_eq}
 use Rattle.clap.specs.Words.{Row}
 use Rattle.fsfs_base.specs.Paths.{Path}
 use Rattle.fsfs_disk.specs.Trace.{Trace}
 use Rattle.fsfs_faults.specs.declared.fault.Fault.{Fault}
 use Rattle.fsfs_faults.specs.declared.fault.Fault.TheVariants.{Memory}
+use Rattle.fsfs_create.specs.declared.creation.CreateFault.TheVariants as create
 use Rattle.fsfs_repo.specs.declared.opening.OpenFault.TheVariants as opening
 use Rattle.fsfs_words.specs.Words.{Asked, asked, asked_by, taken, create_asked, shard_in, repos_in}
 use Rattle.fsfs_words.specs.Words as said
@@ -16,7 +17,7 @@ use Rattle.fsfs_words.specs.declared.tool.Tool.{Tool}
 use Rattle.fsfs_words.specs.declared.tool.Tool.TheVariants.{Admin, Look, Jobs}
 use Rattle.fsfs_words.specs.declared.verb.Verb.TheVariants as verb
 use Rattle.fsfs_words.specs.declared.fault.WordsFault.TheVariants as words
-use Rattle.fsfs_top.specs.Command.{asked_shown, AsksCreate, AsksShown, AsksPrinted, AsksLook, Did}
+use Rattle.fsfs_top.specs.Command.{asked_shown, AsksCreate, AsksShown, AsksPrinted, AsksLook, Drawn, Created, Did}
 use Rattle.fsfs_top.specs.Looks.{PrintsShown, PrintsLook, ShownIsDecided, LookIsDecided}
 use Rattle.fsfs_top.specs.declared.look.Printed.{Printed}
 use Rattle.fsfs_top.specs.declared.look.Printed.TheVariants.{Tree, Text}
@@ -113,11 +114,25 @@ shown_word : (shown : Shown) (repos word : List ℕ) → path_word (asked_shown 
 shown_word Youngest repos word e = cc
 shown_word Uuid repos word e = cc
 
--- ---- what a look did
+-- ---- what a command did
+
+create_parts : (r s : List ℕ) (m n : ℕ) → said.Create r m ≡ said.Create s n → (r ≡ s) × (m ≡ n)
+create_parts r s m n e = (cc, cc)
+
+no_word : (word : List ℕ) → ◌≡◌ {A = Option (List ℕ)} None (Some word) → ⊥
+no_word word e = cc
+
+as_told : {X : Type 0} (told : Option X) (x : X) → IfSome told (λ t. unwrap_or told x ≡ t)
+as_told None x = tt
+as_told (Some t) x = refl
+
+-- what is drawn where nothing was
+some_draw : (clock : Option ℕ) (dice : Option (List ℕ)) → Drawn clock dice
+some_draw clock dice = record { moment = unwrap_or clock 0; bits = unwrap_or dice []; moment_is = as_told clock 0; bits_are = as_told dice [] }
 
 module _ (mount disk write : Type 0) (tool : Tool) (ws : List (List ℕ)) (clock : Option ℕ) (dice : Option (List ℕ)) (at_old at_new : List ℕ → Option Trace) (old new : Option (List ℕ)) (fault : Option Fault) where
   pub did_look : (look : RevisionLook) (repos : List ℕ) → Did mount disk write tool ws clock dice at_old at_new old new fault → AsksLook look tool ws repos → PrintsLook look mount disk write (at_old repos) old new fault × LookIsDecided look (at_old repos) fault
-  did_look look repos (inl create) asks = absurd (printed_not_create look.printed look.revision look.path tool ws repos create.0 create.1 asks create.2)
+  did_look look repos (inl made) asks = absurd (printed_not_create look.printed look.revision look.path tool ws repos made.0 made.1 asks made.2)
   did_look look repos (inr (inl shown)) asks = absurd (printed_not_shown look.printed look.revision look.path tool ws repos shown.1 shown.0 asks shown.2)
   did_look look repos (inr (inr (inl other))) asks =
       let same = one_look other.0 look tool ws other.1 repos other.2 asks in
@@ -131,7 +146,7 @@ module _ (mount disk write : Type 0) (tool : Tool) (ws : List (List ℕ)) (clock
       (inl (inr (opening.Memory, is, tt, unopened (at_old repos), kept)), subst (LookIsDecided look (at_old repos)) (sym is) (look_outside look (at_old repos) Memory (inr (inr (inr refl)))))
 
   pub did_shown : (shown : Shown) (repos : List ℕ) → Did mount disk write tool ws clock dice at_old at_new old new fault → AsksShown shown tool ws repos → PrintsShown shown mount disk write (at_old repos) old new fault × ShownIsDecided (at_old repos) fault
-  did_shown shown repos (inl create) asks = absurd (create_or_shown create.0 repos create.1 shown (one_asked tool ws (said.Create create.0 create.1) (asked_shown shown repos) create.2 asks))
+  did_shown shown repos (inl made) asks = absurd (create_or_shown made.0 repos made.1 shown (one_asked tool ws (said.Create made.0 made.1) (asked_shown shown repos) made.2 asks))
   did_shown shown repos (inr (inl other)) asks =
       let same = one_shown other.0 shown other.1 repos (one_asked tool ws (asked_shown other.0 other.1) (asked_shown shown repos) other.2 asks) in
       subst (λ (s : Shown). PrintsShown s mount disk write (at_old repos) old new fault × ShownIsDecided (at_old repos) fault) same.0
@@ -142,6 +157,17 @@ module _ (mount disk write : Type 0) (tool : Tool) (ws : List (List ℕ)) (clock
       absurd (shown_word shown repos refuses.2.0 (ap path_word (one_asked tool ws (asked_shown shown repos) refuses.0 asks refuses.1) ∙ refuses.2.1))
   did_shown shown repos (inr (inr (inr (words.Memory, is, refuses, kept, files)))) asks =
       (inl (inr (opening.Memory, is, tt, unopened (at_old repos), kept)), subst (ShownIsDecided (at_old repos)) (sym is) (shown_outside (at_old repos) Memory (inr (inr (inr refl)))))
+
+  pub did_create : (repos : List ℕ) (shard : ℕ) → Did mount disk write tool ws clock dice at_old at_new old new fault → AsksCreate tool ws repos shard → Created mount disk shard clock dice (at_old repos) (at_new repos) fault × (new ≡ old)
+  did_create repos shard (inl made) asks =
+      let same = create_parts made.0 repos made.1 shard (one_asked tool ws (said.Create made.0 made.1) (said.Create repos shard) made.2 asks) in
+      (subst (λ (r : List ℕ). Created mount disk shard clock dice (at_old r) (at_new r) fault) same.0 (subst (λ (n : ℕ). Created mount disk n clock dice (at_old made.0) (at_new made.0) fault) same.1 made.3), made.4)
+  did_create repos shard (inr (inl other)) asks = absurd (create_or_shown repos other.1 shard other.0 (one_asked tool ws (said.Create repos shard) (asked_shown other.0 other.1) asks other.2))
+  did_create repos shard (inr (inr (inl look))) asks = absurd (printed_not_create look.0.printed look.0.revision look.0.path tool ws look.1 repos shard look.2 asks)
+  did_create repos shard (inr (inr (inr (words.Usage, is, refuses, kept, files)))) asks = absurd (none_asked tool ws (said.Create repos shard) refuses asks)
+  did_create repos shard (inr (inr (inr (words.BadPath bad, is, refuses, kept, files)))) asks =
+      absurd (no_word refuses.2.0 (ap path_word (one_asked tool ws (said.Create repos shard) refuses.0 asks refuses.1) ∙ refuses.2.1))
+  did_create repos shard (inr (inr (inr (words.Memory, is, refuses, kept, files)))) asks = (inr (inl (create.Memory, is, (some_draw clock dice, files repos))), kept)
 
 -- ---- only one program looks
 

@@ -11,11 +11,11 @@ use Rattle.fsfs_disk.specs.Trace.{Trace, files_now}
 use Rattle.fsfs_disk.specs.Crash.{AllImages, Leaves}
 use Rattle.fsfs_disk.proofs.CrashLemmas.{leaves_with}
 use Rattle.fsfs_layout.specs.CreatedFiles.{identifier_text, random_identifier}
-use Rattle.fsfs_repo.specs.Creation.{IsCreated, IsNoneOrWhole, IsUnpublished, IsNoRepository, CreateFails}
 use Rattle.fsfs_layout.specs.Opening.{small_texts, IsOpened}
 use Rattle.fsfs_layout.specs.declared.opened.Opened.{Opened}
-use Rattle.fsfs_repo.specs.declared.creation.CreateFault.{CreateFault}
-use Rattle.fsfs_repo.specs.declared.creation.CreateFault.TheVariants as create
+use Rattle.fsfs_create.specs.Creation.{IsCreated, IsNoneOrWhole, IsUnpublished, IsNoRepository, CreateFails}
+use Rattle.fsfs_create.specs.declared.creation.CreateFault.{CreateFault}
+use Rattle.fsfs_create.specs.declared.creation.CreateFault.TheVariants as create
 use Rattle.fsfs_faults.specs.Faults.{fault_from_create}
 use Rattle.fsfs_faults.specs.declared.fault.Fault.{Fault}
 use Rattle.fsfs_top.specs.Command.{Drawn, Created, IsNoneOrCreated}

@@ -6,3 +6,4 @@ pub mod AskLemmas
 pub mod ReplyLemmas
 pub mod FlatLemmas
 pub mod Replying
+pub mod Making

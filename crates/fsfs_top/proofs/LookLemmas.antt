@@ -1,13 +1,13 @@
 -- What the files decide of a look, as the top call tells it.
-use Rattle.std.proofs.Common.{◌≡◌, ◌≤◌, ℕ, List, [], ◌∷◌, ◌⊎◌, length, inl, inr, refl, sym, ap, subst, ◌∙◌, arith}
+use Rattle.std.proofs.Common.{◌≡◌, ◌≤◌, ℕ, List, [], ◌∷◌, ◌⊎◌, ⊎_elim, length, inl, inr, refl, sym, ap, subst, ◌∙◌, arith}
 use Rattle.std.specs.Prelude.{Option, Some, None, IfSome, option_map, unwrap_or, Result, Ok, Err}
 use Rattle.fsfs_base.specs.Files.{Files}
 use Rattle.fsfs_base.specs.Paths.{Path}
 use Rattle.fsfs_book.specs.Told.{Look}
 use Rattle.fsfs_disk.specs.Trace.{Trace, files_now}
-use Rattle.fsfs_faults.specs.Faults.{fault_from_open, fault_from_look}
+use Rattle.fsfs_faults.specs.Faults.{fault_from_open, fault_from_look, IsFromLook}
 use Rattle.fsfs_faults.specs.declared.fault.Fault.{Fault}
-use Rattle.fsfs_faults.specs.declared.fault.Fault.TheVariants.{NoRev}
+use Rattle.fsfs_faults.specs.declared.fault.Fault.TheVariants.{NoRev, Memory}
 use Rattle.fsfs_rev_file.specs.RevBytes.{rev_bytes}
 use Rattle.fsfs_layout.proofs.OpeningLemmas.{one_youngest, one_shard}
 use Rattle.fsfs_look.specs.declared.look_error.LookError.TheVariants as errors
@@ -18,9 +18,10 @@ use Rattle.fsfs_repo.specs.Deciding.{Decides, IsOutside as IsOpenOutside}
 use Rattle.fsfs_layout.specs.declared.opened.Opened.{Opened}
 use Rattle.fsfs_repo.specs.declared.opening.OpenFault.{OpenFault}
 use Rattle.fsfs_repo.specs.declared.opening.OpenFault.TheVariants as opening
-use Rattle.fsfs_repo.specs.declared.place.DiskPlace.TheVariants.{Read}
+use Rattle.fsfs_places.specs.declared.place.DiskPlace.TheVariants.{Read}
 use Rattle.fsfs_texts.specs.Texts.{End, Whole, Refused}
 use Rattle.fsfs_texts.specs.declared.look_fault.LookFault.{LookFault}
+use Rattle.fsfs_texts.specs.declared.look_fault.LookFault.TheVariants as refusal
 use Rattle.fsfs_top.specs.Looks.{TextOf, TextIn, looked_revision, LacksRevision, IsFaultOf, LooksInto, DoesNotOpen, IsOutside, Agrees, DecidesOpening, DecidesShown, DecidesLook, ShownIsDecided, LookIsDecided}
 use Rattle.fsfs_top.specs.declared.look.RevisionLook.{RevisionLook}
 use Rattle.fsfs_top.specs.declared.look.Printed.{Printed}
@@ -116,6 +117,13 @@ lacks_or_has look o p rev lacks e there =
     let named : looked_revision look p ≡ rev = ap (λ (r : Option ℕ). unwrap_or r p.youngest) lacks.named in
     omega (arith, named, there, lacks.above, e)
 
+-- the fault of a look is what it was refused for, or want of memory
+pub look_or_memory : (path : Path) (why : LookFault) (fault : Fault) → IsFromLook path why fault → (fault ≡ fault_from_look path why) ⊎ (fault ≡ Memory)
+look_or_memory path (refusal.NotFound names) fault h = h
+look_or_memory path (refusal.NotDir names) fault h = h
+look_or_memory path refusal.NotFile fault h = h
+look_or_memory path (refusal.Wrong wrong) fault h = inl h
+
 whole_agrees : (disk write : Type 0) (look : RevisionLook) (o : Opened) (m : Files) (old new : Option (List ℕ)) (r : Result (Unit {0}) LookError) (fault : Option Fault) → Writes (TextIn look o m) old new r → IsFaultOf disk write look.path r fault
     → (text : List ℕ) → TextIn look o m text Whole → Agrees None fault
 whole_agrees disk write look o m old new (Ok done) fault w is text t = subst (Agrees None) (sym is) refl
@@ -129,10 +137,12 @@ refused_agrees : (disk write : Type 0) (look : RevisionLook) (o : Opened) (m : F
     → (text : List ℕ) (why : LookFault) → TextIn look o m text (Refused why) → Agrees (Some (fault_from_look look.path why)) fault
 refused_agrees disk write look o m old new (Ok done) fault w is text why t =
     absurd (whole_or_refused (TextIn look o m) (in_one look o m) w.0 text why w.1 t)
-refused_agrees disk write look o m old new (Err (errors.Fault other)) fault w (inl is) text why t =
+refused_agrees disk write look o m old new (Err (errors.Fault other)) fault w (told, is, from) text why t =
     let same = (refusals_same (TextIn look o m) (in_one look o m) text w.0 why other t w.1).1 in
-    subst (Agrees (Some (fault_from_look look.path why))) (sym is) (inl (ap (λ (f : LookFault). Some (fault_from_look look.path f)) same))
-refused_agrees disk write look o m old new (Err (errors.Fault other)) fault w (inr is) text why t = subst (Agrees (Some (fault_from_look look.path why))) (sym is) (inr (inr (inr (inr refl))))
+    let Want : Option Fault → Type 0 = Agrees (Some (fault_from_look look.path why)) in
+    subst Want (sym is)
+    (⊎_elim (λ e. subst Want (ap (λ (f : Fault). Some f) (sym e)) (inl (ap (λ (f : LookFault). Some (fault_from_look look.path f)) same)))
+    (λ e. subst Want (ap (λ (f : Fault). Some f) (sym e)) (inr (inr (inr (inr refl))))) (look_or_memory look.path other told from))
 refused_agrees disk write look o m old new (Err errors.DiskFault) fault w is text why t = subst (Agrees (Some (fault_from_look look.path why))) (sym is.1) (inr (inr (inl (Read, refl))))
 refused_agrees disk write look o m old new (Err errors.WriteFault) fault w is text why t = subst (Agrees (Some (fault_from_look look.path why))) (sym is.1) (inr (inr (inr (inl refl))))
 refused_agrees disk write look o m old new (Err errors.OutOfMemory) fault w is text why t = subst (Agrees (Some (fault_from_look look.path why))) (sym is) (inr (inr (inr (inr refl))))

@@ -40,8 +40,7 @@ into_writes (Some t) look o rev telling old new r opened tells is le writes = λ
     (writes (rev_bytes o.shard_size (files_now t)) (λ q below. all.revs q (omega (arith, below, le))))
 
 pub fault_with_cause : (disk write : Type 0) (path : Path) (e : LookError) (fault : Fault) → IsFaultAt path e fault → IfDisk e disk → IfWrite e write → IsFaultOf disk write path (Err e) (Some fault)
-fault_with_cause disk write path (errors.Fault why) fault (inl is) d w = inl (ap (λ (f : Fault). Some f) is)
-fault_with_cause disk write path (errors.Fault why) fault (inr is) d w = inr (ap (λ (f : Fault). Some f) is)
+fault_with_cause disk write path (errors.Fault why) fault is d w = (fault, refl, is)
 fault_with_cause disk write path errors.DiskFault fault is d w = (d, ap (λ (f : Fault). Some f) is)
 fault_with_cause disk write path errors.WriteFault fault is d w = (w, ap (λ (f : Fault). Some f) is)
 fault_with_cause disk write path errors.OutOfMemory fault is d w = ap (λ (f : Fault). Some f) is
@@ -81,7 +80,7 @@ counted_cause rose disk told opening.NotRepo counted h = h
 counted_cause rose disk told (opening.OtherFormat number) counted h = h
 counted_cause rose disk told opening.Linear counted h = h
 counted_cause rose disk told (opening.Small small) counted h = h
-counted_cause rose disk told (opening.DiskFault place) counted h = counted h
+counted_cause rose disk told (opening.DiskFault place) counted h = (counted h.0, h.1)
 counted_cause rose disk told opening.Memory counted h = h
 
 pub open_refused : (mount disk rose : Type 0) (told at : Option Trace) (old new : Option (List ℕ)) (why : OpenFault) (fault : Fault) → told ≡ at → fault ≡ fault_from_open why → (rose → disk) → new ≡ old → OpensBecause rose told why

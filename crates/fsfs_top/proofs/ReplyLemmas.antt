@@ -1,8 +1,9 @@
 -- The replies of looks, from what a command did and printed.
-use Rattle.std.proofs.Common.{◌≡◌, ◌≤◌, ◌<◌, ℕ, List, [], ◌++◌, inl, inr, refl, sym, ap, subst, ◌∙◌, append-nil, append_assoc, length, arith}
-use Rattle.std.specs.Prelude.{Option, Some, None, unwrap_or, Ok, Err, Result, slice_get}
+use Rattle.std.proofs.Common.{◌≡◌, ◌≤◌, ◌<◌, ℕ, List, [], ◌++◌, inl, inr, refl, sym, ap, subst, ◌∙◌, append-nil, append_assoc, length, arith, ⊎_elim}
+use Rattle.std.specs.Prelude.{Option, Some, None, unwrap_or, Ok, Err, Result, slice_get, is_some, true, codes}
 use Rattle.std.proofs.lemmas.Option.{slice_get_cases, slice_get_past}
 use Rattle.fsfs_base.specs.Files.{Files}
+use Rattle.std.specs.FinMap.{get}
 use Rattle.fsfs_base.specs.Paths.{Path}
 use Rattle.fsfs_base.specs.Revisions.{Revision}
 use Rattle.fsfs_base.specs.Transactions.{last_of}
@@ -11,7 +12,7 @@ use Rattle.fsfs_disk.specs.Streams.{Adds}
 use Rattle.fsfs_faults.specs.Lines.{line_of, status_of}
 use Rattle.fsfs_faults.specs.Faults.{fault_from_open, fault_from_look}
 use Rattle.fsfs_faults.specs.declared.fault.Fault.{Fault}
-use Rattle.fsfs_faults.specs.declared.fault.Fault.TheVariants.{NotRepo, NoRev, MountFault, DiskFault, WriteFault, Memory}
+use Rattle.fsfs_faults.specs.declared.fault.Fault.TheVariants.{AlreadyRepo, NotRepo, NoRev, MountFault, DiskFault, WriteFault, Memory}
 use Rattle.fsfs_fetch.specs.Kept.{HasShortFiles}
 use Rattle.fsfs_rev_file.specs.RevBytes.{rev_bytes}
 use Rattle.fsfs_look.specs.declared.look_error.LookError.{LookError}
@@ -22,7 +23,10 @@ use Rattle.fsfs_output.specs.Output.{AddsFront}
 use Rattle.fsfs_layout.specs.Opening.{SmallTexts, small_texts, IsFsfs, IsOpened, IsNone}
 use Rattle.fsfs_repo.specs.OpenFaults.{OpensBecause}
 use Rattle.fsfs_repo.specs.Deciding.{IsOutside as IsOpenOutside}
-use Rattle.fsfs_repo.specs.declared.place.DiskPlace.TheVariants.{Read}
+use Rattle.fsfs_create.specs.Creation.{IsUnpublished}
+use Rattle.fsfs_create.specs.declared.creation.CreateFault.TheVariants as create
+use Rattle.fsfs_places.specs.declared.place.DiskPlace.{DiskPlace}
+use Rattle.fsfs_places.specs.declared.place.DiskPlace.TheVariants.{Read}
 use Rattle.fsfs_stands.specs.Files.{StandsFor}
 use Rattle.fsfs_layout.specs.declared.opened.Opened.{Opened}
 use Rattle.fsfs_repo.specs.declared.opening.OpenFault.{OpenFault}
@@ -30,13 +34,13 @@ use Rattle.fsfs_repo.specs.declared.opening.OpenFault.TheVariants as opening
 use Rattle.fsfs_texts.specs.Agreeing.{IsFront}
 use Rattle.fsfs_texts.specs.Texts.{End, Whole, Refused, Stopped}
 use Rattle.fsfs_top.specs.Answers.{answer_of, shown_line}
-use Rattle.fsfs_top.specs.Command.{Tells}
+use Rattle.fsfs_top.specs.Command.{Created, Tells}
 use Rattle.fsfs_top.specs.Looks.{TextOf, TextIn, looked_revision, IsFaultOf, PrintsShown, PrintsLook}
 use Rattle.fsfs_top.specs.Replies.{Gives}
 use Rattle.fsfs_top.specs.declared.look.RevisionLook.{RevisionLook}
 use Rattle.fsfs_top.specs.declared.output.Shown.{Shown}
 use Rattle.fsfs_layout.proofs.OpeningLemmas.{one_youngest, one_shard}
-use Rattle.fsfs_top.proofs.LookLemmas.{same_text}
+use Rattle.fsfs_top.proofs.LookLemmas.{same_text, look_or_memory}
 use Rattle.fsfs_words.specs.declared.tool.Tool.{Tool}
 
 -- ---- first parts
@@ -73,6 +77,10 @@ last_is files h s = omega (arith, s.count)
 there_is : (h : List Revision) (r : ℕ) → r < length h → (x : Revision) × (slice_get h r ≡ Some x)
 there_is h r less = elim (slice_get_cases h r).1 [ inl w ↦ (w.0, w.2) | inr w ↦ absurd (omega (arith, less, w.0)) ]
 
+no_some : (file : Option (List ℕ)) → file ≡ None → is_some file ≡ true → ⊥
+no_some None e h = cc
+no_some (Some bytes) e h = cc
+
 -- ---- a text and its end are those of a reply
 
 abbrev pub Fits : Tool → Path → Reply → List ℕ → End → Type 0
@@ -108,7 +116,7 @@ module _ (status : ℕ) (mount disk write told : Type 0) (tool : Tool) (old new 
   outside_opening reply at (opening.OtherFormat n) ends kept because out = absurd out
   outside_opening reply at opening.Linear ends kept because out = absurd out
   outside_opening reply at (opening.Small small) ends kept because out = absurd out
-  outside_opening reply at (opening.DiskFault place) ends kept because out = inr (front_of_nothing old new reply.output kept, inl (ends.0, inr (inl because)))
+  outside_opening reply at (opening.DiskFault place) ends kept because out = inr (front_of_nothing old new reply.output kept, inl (ends.0, inr (inl because.0)))
   outside_opening reply at opening.Memory ends kept because out = inr (front_of_nothing old new reply.output kept, inr ends.0)
 
   -- there is no repository
@@ -117,7 +125,7 @@ module _ (status : ℕ) (mount disk write told : Type 0) (tool : Tool) (old new 
   none_there reply t (opening.OtherFormat n) is none ends kept because = absurd (none_or_some (small_texts (files_now t)) because.0 none because.1)
   none_there reply t opening.Linear is none ends kept because = absurd (none_or_some (small_texts (files_now t)) because.0 none because.1)
   none_there reply t (opening.Small small) is none ends kept because = absurd (none_or_some (small_texts (files_now t)) because.0 none because.1)
-  none_there reply t (opening.DiskFault place) is none ends kept because = inr (front_of_nothing old new reply.output kept, inl (ends.0, inr (inl because)))
+  none_there reply t (opening.DiskFault place) is none ends kept because = inr (front_of_nothing old new reply.output kept, inl (ends.0, inr (inl because.0)))
   none_there reply t opening.Memory is none ends kept because = inr (front_of_nothing old new reply.output kept, inr ends.0)
 
   pub no_shown : (shown : Shown) (reply : Reply) (t : Trace) (fault : Option Fault) → reply ≡ refuses (line_of tool NotRepo) 1 → IsNone (small_texts (files_now t)) → Ended fault → PrintsShown shown mount disk write (Some t) old new fault → Given reply
@@ -129,6 +137,31 @@ module _ (status : ℕ) (mount disk write told : Type 0) (tool : Tool) (old new 
   no_look look reply t fault is none ends (inl (inl (e, m, kept))) = mount_failed reply (moved fault (Some MountFault) e ends) m kept
   no_look look reply t fault is none ends (inl (inr (why, e, because, unopened, kept))) = none_there reply t why is none (moved fault (Some (fault_from_open why)) e ends) kept because
   no_look look reply t fault is none ends (inr (o, opens, into)) = absurd (none_or_some (small_texts (files_now t)) opens.format.0 none opens.format.1)
+
+  -- ---- a creation
+
+  failed_create : (reply : Reply) (place : DiskPlace) (fault : Option Fault) → fault ≡ Some (DiskFault place) → Ended fault → disk → new ≡ old → Given reply
+  failed_create reply place fault is ends rose kept = inr (front_of_nothing old new reply.output kept, inl ((moved fault (Some (DiskFault place)) is ends).0, inr (inl rose)))
+
+  starved : (reply : Reply) (fault : Option Fault) → fault ≡ Some Memory → Ended fault → new ≡ old → Given reply
+  starved reply fault is ends kept = inr (front_of_nothing old new reply.output kept, inr (moved fault (Some Memory) is ends).0)
+
+  -- where there is no repository
+  pub given_create : (shard : ℕ) (clock : Option ℕ) (dice : Option (List ℕ)) (t : Trace) (after : Option Trace) (fault : Option Fault) → IsUnpublished (files_now t) → Ended fault → Created mount disk shard clock dice (Some t) after fault → new ≡ old → Given (prints [])
+  given_create shard clock dice t after fault none ends (inl (e, m, same)) kept = mount_failed (prints []) (moved fault (Some MountFault) e ends) m kept
+  given_create shard clock dice t after fault none ends (inr (inl (create.AlreadyRepo, e, (d, there)))) kept = absurd (no_some (get (files_now t) (codes "db/format")) none there.0)
+  given_create shard clock dice t after fault none ends (inr (inl (create.DiskFault place, e, (d, why)))) kept = failed_create (prints []) place fault e ends why.0 kept
+  given_create shard clock dice t after fault none ends (inr (inl (create.Memory, e, (d, why)))) kept = starved (prints []) fault e ends kept
+  given_create shard clock dice t after fault none ends (inr (inr (e, absent, made))) kept = printed_text (prints []) [] refl (moved fault None e ends) (adds_nothing old new kept)
+
+  -- and where there is one
+  pub given_again : (shard : ℕ) (clock : Option ℕ) (dice : Option (List ℕ)) (t : Trace) (after : Option Trace) (fault : Option Fault) (reply : Reply) → reply ≡ refuses (line_of tool AlreadyRepo) 1 → (text : List ℕ) → get (files_now t) (codes "db/format") ≡ Some text
+      → Ended fault → Created mount disk shard clock dice (Some t) after fault → new ≡ old → Given reply
+  given_again shard clock dice t after fault reply is text there ends (inl (e, m, same)) kept = mount_failed reply (moved fault (Some MountFault) e ends) m kept
+  given_again shard clock dice t after fault reply is text there ends (inr (inl (create.AlreadyRepo, e, (d, why)))) kept = refused_line reply AlreadyRepo is (moved fault (Some AlreadyRepo) e ends) (adds_nothing old new kept)
+  given_again shard clock dice t after fault reply is text there ends (inr (inl (create.DiskFault place, e, (d, why)))) kept = failed_create reply place fault e ends why.0 kept
+  given_again shard clock dice t after fault reply is text there ends (inr (inl (create.Memory, e, (d, why)))) kept = starved reply fault e ends kept
+  given_again shard clock dice t after fault reply is text there ends (inr (inr (e, absent, made))) kept = absurd (let h = sym absent ∙ there in cc)
 
   -- ---- a look at the small files
 
@@ -152,11 +185,12 @@ module _ (status : ℕ) (mount disk write told : Type 0) (tool : Tool) (old new 
   ended_look : (R : List ℕ → End → Type 0) (path : Path) (reply : Reply) (r : Result (Unit {0}) LookError) (fault : Option Fault) → ((text : List ℕ) (end : End) → R text end → Fits tool path reply text end)
       → Writes R old new r → IsFaultOf disk write path r fault → Ended fault → Given reply
   ended_look R path reply (Ok done) fault fits (text, t, adds) is ends = printed_text reply text (fits text Whole t) (moved fault None is ends) adds
-  ended_look R path reply (Err (errors.Fault why)) fault fits (text, t, adds) (inl is) ends =
+  ended_look R path reply (Err (errors.Fault why)) fault fits (text, t, adds) (said, is, from) ends =
       let fit = fits text (Refused why) t in
-      refused_line reply (fault_from_look path why) fit.1 (moved fault (Some (fault_from_look path why)) is ends) (subst (λ (x : List ℕ). Adds old new x) fit.0 adds)
-  ended_look R path reply (Err (errors.Fault why)) fault fits (text, t, adds) (inr is) ends =
-      inr (front_more old new text reply.output (front_of path reply text (Refused why) (fits text (Refused why) t)) (whole_front old new text adds), inr (moved fault (Some Memory) is ends).0)
+      let Here : Fault → Type 0 = λ f. Ended (Some f) in
+      let here : Here said = moved fault (Some said) is ends in
+      ⊎_elim (λ e. refused_line reply (fault_from_look path why) fit.1 (subst Here e here) (subst (λ (x : List ℕ). Adds old new x) fit.0 adds))
+      (λ e. inr (front_more old new text reply.output (front_of path reply text (Refused why) fit) (whole_front old new text adds), inr (subst Here e here).0)) (look_or_memory path why said from)
   ended_look R path reply (Err errors.DiskFault) fault fits (text, end, t, front) is ends =
       inr (front_more old new text reply.output (front_of path reply text end (fits text end t)) front, inl ((moved fault (Some (DiskFault Read)) is.1 ends).0, inr (inl is.0)))
   ended_look R path reply (Err errors.WriteFault) fault fits (text, end, t, front) is ends =

@@ -1,4 +1,4 @@
--- The replies of a command.
+-- The replies of a command, and what a creation leaves.
 use Rattle.std.proofs.Common.{◌≡◌, ℕ, Bool, false, List, [], ◌++◌, ◌⊎◌, inl, inr, refl, sym, ap, subst, ◌∙◌}
 use Rattle.std.specs.Prelude.{Option, Some, unwrap_or, decimal, codes, Ok, Err, Result}
 use Rattle.std.specs.FinMap.{get}
@@ -13,7 +13,7 @@ use Rattle.fsfs_disk.specs.Fault.{Rose}
 use Rattle.fsfs_disk.specs.Streams.{Adds}
 use Rattle.fsfs_faults.specs.Lines.{line_of}
 use Rattle.fsfs_faults.specs.declared.fault.Fault.{Fault}
-use Rattle.fsfs_faults.specs.declared.fault.Fault.TheVariants.{NotRepo}
+use Rattle.fsfs_faults.specs.declared.fault.Fault.TheVariants.{AlreadyRepo, NotRepo}
 use Rattle.fsfs_fetch.specs.Kept.{HasShortFiles}
 use Rattle.fsfs_rev_file.specs.RevBytes.{rev_bytes}
 use Rattle.fsfs_model.specs.Answers as model
@@ -26,7 +26,7 @@ use Rattle.fsfs_stands.specs.NewRepository.{HoldsNew}
 use Rattle.fsfs_stands.proofs.NewRepository.{new_repositories_stand}
 use Rattle.fsfs_texts.specs.ByTree.{AreShownIds}
 use Rattle.fsfs_top.specs.Answers.{answer_of, revision_line, uuid_line, shown_line}
-use Rattle.fsfs_top.specs.Command.{AsksShown, AsksPrinted, Did, Tells}
+use Rattle.fsfs_top.specs.Command.{AsksCreate, AsksShown, AsksPrinted, Created, Did, Tells}
 use Rattle.fsfs_top.specs.Looks.{PrintsShown, PrintsLook}
 use Rattle.fsfs_top.specs.Replies.{Gives, Replies}
 use Rattle.fsfs_top.specs.declared.look.Printed.{Printed}
@@ -34,12 +34,13 @@ use Rattle.fsfs_top.specs.declared.look.Printed.TheVariants.{Tree, Text}
 use Rattle.fsfs_top.specs.declared.look.RevisionLook.{RevisionLook}
 use Rattle.fsfs_top.specs.declared.output.Shown.{Shown}
 use Rattle.fsfs_top.specs.declared.output.Shown.TheVariants.{Youngest, Uuid}
-use Rattle.fsfs_top.proofs.AskLemmas.{did_look, did_shown, printed_by_look, shown_by_look}
+use Rattle.fsfs_top.proofs.AskLemmas.{did_look, did_shown, printed_by_look, shown_by_look, did_create}
 use Rattle.fsfs_layout.proofs.OpeningLemmas.{one_youngest, same_uuid}
 use Rattle.fsfs_top.proofs.FlatLemmas.{tree_is_by_tree, file_is_by_tree, no_rev_line}
-use Rattle.fsfs_top.proofs.ReplyLemmas.{last_is, given_shown, given_look, no_shown, no_look, Fits}
+use Rattle.fsfs_top.proofs.ReplyLemmas.{last_is, given_shown, given_look, no_shown, no_look, Fits, given_create, given_again}
 use Rattle.fsfs_words.specs.declared.tool.Tool.{Tool}
-use Rattle.fsfs_words.specs.declared.tool.Tool.TheVariants.{Look}
+use Rattle.fsfs_words.specs.declared.tool.Tool.TheVariants.{Admin, Look}
+use Rattle.fsfs_words.proofs.CreateLemmas.{creates_by_admin}
 
 -- the revision that is printed is the one that the files name
 youngest_text : (m : Files) (o : Opened) (h : List Revision) → IsOpened (small_texts m) o → last_of h ≡ o.youngest → (p : Opened) → IsOpened (small_texts m) p → shown_line Youngest p ≡ decimal (last_of h) ++ codes "\n"
@@ -104,8 +105,22 @@ module _ (mount disk write told : Type 0) (tool : Tool) (ws : List (List ℕ)) (
       let look : RevisionLook = record { printed = printed; revision = revision; path = path } in
       no_look status mount disk write told tool old new err_old err_new look (refuses_look (codes "NotRepo") 1) t fault (none_line (printed_by_look printed revision path tool ws repos asks)) none ends (look_did look repos t asks here)
 
+  create_at : (repos : List ℕ) (shard : ℕ) (t : Trace) → AsksCreate tool ws repos shard → at_old repos ≡ Some t → Created mount disk shard clock dice (Some t) (at_new repos) fault × (new ≡ old)
+  create_at repos shard t asks here = subst (λ (x : Option Trace). Created mount disk shard clock dice x (at_new repos) fault × (new ≡ old)) here (did_create mount disk write tool ws clock dice at_old at_new old new fault repos shard did asks)
+
+  created_again : (repos : List ℕ) (shard : ℕ) (t : Trace) (h : List Revision) → AsksCreate tool ws repos shard → at_old repos ≡ Some t → StandsFor (files_now t) h → Given (Answer model.Create (Some h))
+  created_again repos shard t h asks here stands =
+      let by_admin : tool ≡ Admin = (creates_by_admin tool ws repos shard asks).0 in
+      let made = create_at repos shard t asks here in
+      given_again status mount disk write told tool old new err_old err_new shard clock dice t (at_new repos) fault (refuses (codes "svnadmin: AlreadyRepo\n") 1)
+      (ap (λ (k : Tool). refuses (line_of k AlreadyRepo) 1) (sym by_admin)) stands.small.format.0 stands.small.format.1 ends made.0 made.1
+
   pub replies : Replies tool ws at_old Given
   replies = record {
+    create = λ repos shard t asks here none.
+        let made = create_at repos shard t asks here in
+        given_create status mount disk write told tool old new err_old err_new shard clock dice t (at_new repos) fault none ends made.0 made.1;
+    create_again = created_again;
     youngest = λ repos t o h asks here is last. shows Youngest repos t o (decimal (last_of h) ++ codes "\n") asks here is (youngest_text (files_now t) o h is last);
     uuid = λ repos t o asks here is. shows Uuid repos t o (o.uuid ++ codes "\n") asks here is (uuid_text (files_now t) o.uuid is.behind.uuid);
     tree = tree;

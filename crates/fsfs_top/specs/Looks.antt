@@ -5,7 +5,7 @@ use Rattle.fsfs_base.specs.Paths.{Path}
 use Rattle.fsfs_book.specs.Told.{Look}
 use Rattle.fsfs_disk.specs.Trace.{Trace, files_now}
 use Rattle.fsfs_disk.specs.Streams.{Adds}
-use Rattle.fsfs_faults.specs.Faults.{fault_from_open, fault_from_look}
+use Rattle.fsfs_faults.specs.Faults.{fault_from_open, fault_from_look, IsFromLook}
 use Rattle.fsfs_faults.specs.declared.fault.Fault.{Fault}
 use Rattle.fsfs_faults.specs.declared.fault.Fault.TheVariants.{NotRepo, OtherFormat, Linear, NoRev, MountFault, DiskFault, WriteFault, Memory}
 use Rattle.fsfs_fetch.specs.Kept.{HasShortFiles}
@@ -19,8 +19,8 @@ use Rattle.fsfs_repo.specs.OpenFaults.{OpensBecause}
 use Rattle.fsfs_repo.specs.Deciding.{IsOutside as IsOpenOutside}
 use Rattle.fsfs_layout.specs.declared.opened.Opened.{Opened}
 use Rattle.fsfs_repo.specs.declared.opening.OpenFault.{OpenFault}
-use Rattle.fsfs_repo.specs.declared.place.DiskPlace.{DiskPlace}
-use Rattle.fsfs_repo.specs.declared.place.DiskPlace.TheVariants.{Read}
+use Rattle.fsfs_places.specs.declared.place.DiskPlace.{DiskPlace}
+use Rattle.fsfs_places.specs.declared.place.DiskPlace.TheVariants.{Read}
 use Rattle.fsfs_texts.specs.Texts.{End, Whole, Refused}
 use Rattle.fsfs_texts.specs.TreeTexts.{TreeText}
 use Rattle.fsfs_texts.specs.FileTexts.{FileText}
@@ -77,9 +77,9 @@ pub record LacksRevision (look : RevisionLook) (o : Opened) (rev : ℕ) : Type 0
   pub named : look.revision ≡ Some rev
   pub above : o.youngest < rev
 
--- the fault of a look at this path that failed so; want of memory may come as what is refused is put into words
+-- the fault of a look at this path that failed so; want of memory may come where a path is made for it
 abbrev pub IsFaultAt : Path → LookError → Fault → Type 0
-IsFaultAt path (errors.Fault why) fault = (fault ≡ fault_from_look path why) ⊎ (fault ≡ Memory)
+IsFaultAt path (errors.Fault why) fault = IsFromLook path why fault
 IsFaultAt path errors.DiskFault fault = fault ≡ DiskFault Read
 IsFaultAt path errors.WriteFault fault = fault ≡ WriteFault
 IsFaultAt path errors.OutOfMemory fault = fault ≡ Memory
@@ -87,7 +87,7 @@ IsFaultAt path errors.OutOfMemory fault = fault ≡ Memory
 -- the same with its cause; none of a look that was done
 abbrev pub IsFaultOf : Type 0 → Type 0 → Path → Result (Unit {0}) LookError → Option Fault → Type 0
 IsFaultOf disk write path (Ok done) fault = fault ≡ None
-IsFaultOf disk write path (Err (errors.Fault why)) fault = (fault ≡ Some (fault_from_look path why)) ⊎ (fault ≡ Some Memory)
+IsFaultOf disk write path (Err (errors.Fault why)) fault = (told : Fault) × (fault ≡ Some told) × IsFromLook path why told
 IsFaultOf disk write path (Err errors.DiskFault) fault = disk × (fault ≡ Some (DiskFault Read))
 IsFaultOf disk write path (Err errors.WriteFault) fault = write × (fault ≡ Some WriteFault)
 IsFaultOf disk write path (Err errors.OutOfMemory) fault = fault ≡ Some Memory

@@ -1,10 +1,12 @@
--- The replies of looks, as the flat model answers them.
-use Rattle.std.specs.Prelude.{◌≡◌, ◌⊎◌, ℕ, Bool, false, List, [], Option, Some, None}
+-- The replies of commands, as the flat model answers them.
+use Rattle.std.specs.Prelude.{◌≡◌, ◌⊎◌, ℕ, Bool, false, List, [], Option, Some, None, IfSome}
 use Rattle.fsfs_base.specs.Paths.{Path}
 use Rattle.fsfs_base.specs.Revisions.{Revision}
 use Rattle.fsfs_base.specs.Transactions.{last_of}
+use Rattle.fsfs_fields.specs.Dates.{IsDateAt}
 use Rattle.fsfs_disk.specs.Trace.{Trace, files_now}
 use Rattle.fsfs_disk.specs.Streams.{Adds}
+use Rattle.fsfs_create.specs.Creation.{IsUnpublished}
 use Rattle.fsfs_fetch.specs.Kept.{HasShortFiles}
 use Rattle.fsfs_rev_file.specs.RevBytes.{rev_bytes}
 use Rattle.fsfs_model.specs.Answers.{Reply, Answer, UuidAnswer, asked_revision}
@@ -15,7 +17,7 @@ use Rattle.fsfs_layout.specs.declared.opened.Opened.{Opened}
 use Rattle.fsfs_stands.specs.Files.{StandsFor}
 use Rattle.fsfs_stands.specs.NewRepository.{HoldsNew}
 use Rattle.fsfs_texts.specs.ByTree.{AreShownIds}
-use Rattle.fsfs_top.specs.Command.{AsksShown, AsksPrinted}
+use Rattle.fsfs_top.specs.Command.{AsksCreate, AsksShown, AsksPrinted}
 use Rattle.fsfs_top.specs.declared.look.Printed.TheVariants.{Tree, Text}
 use Rattle.fsfs_top.specs.declared.output.Shown.TheVariants.{Youngest, Uuid}
 use Rattle.fsfs_words.specs.declared.tool.Tool.{Tool}
@@ -32,8 +34,11 @@ Gives status mount disk write told old new err_old err_new reply =
     GivesWhole reply status told old new err_old err_new
     ⊎ (AddsFront old new reply.output × (((status ≡ 4) × (mount ⊎ (disk ⊎ write))) ⊎ (status ≡ 5)))
 
--- the replies of looks at repositories, of the files that the disks of paths have
+-- the replies of creations, and of looks at repositories, of the files that the disks of paths have
 pub record Replies (tool : Tool) (words : List (List ℕ)) (at : List ℕ → Option Trace) (Given : Reply → Type 0) : Type 0 where
+  -- of a creation where there is no repository, and where one stands for a history
+  pub create : (repos : List ℕ) (shard : ℕ) (t : Trace) → AsksCreate tool words repos shard → at repos ≡ Some t → IsUnpublished (files_now t) → Given (Answer model.Create None)
+  pub create_again : (repos : List ℕ) (shard : ℕ) (t : Trace) (h : List Revision) → AsksCreate tool words repos shard → at repos ≡ Some t → StandsFor (files_now t) h → Given (Answer model.Create (Some h))
   -- of any history that ends with the revision that the files name
   pub youngest : (repos : List ℕ) (t : Trace) (o : Opened) (h : List Revision) → AsksShown Youngest tool words repos → at repos ≡ Some t → IsOpened (small_texts (files_now t)) o → last_of h ≡ o.youngest
       → Given (Answer model.Youngest (Some h))
@@ -56,3 +61,9 @@ pub record Replies (tool : Tool) (words : List (List ℕ)) (at : List ℕ → Op
   pub new_tree : (repos : List ℕ) (t : Trace) (date : List ℕ) (revision : Option ℕ) (path : Path) → AsksPrinted (Tree false) revision path tool words repos → at repos ≡ Some t → HasShortFiles (files_now t) → HoldsNew (files_now t) date
       → Given (Answer (model.Tree revision (λ p. []) path) (Some (model.new_history date)))
   pub new_uuid : (repos : List ℕ) (t : Trace) (date : List ℕ) → AsksShown Uuid tool words repos → at repos ≡ Some t → (new : HoldsNew (files_now t) date) → Given (UuidAnswer (Some new.identifier))
+
+-- the files at the path where a repository is made stand for the history of revision 0, with the date of the moment that the clock gave, where it tells
+abbrev pub MadeStands : Tool → List (List ℕ) → Option ℕ → (List ℕ → Option Trace) → Type 0
+MadeStands tool words clock at =
+    (repos : List ℕ) (shard : ℕ) (t : Trace) → AsksCreate tool words repos shard → at repos ≡ Some t
+    → (moment : ℕ) × (date : List ℕ) × IfSome clock (λ c. moment ≡ c) × IsDateAt moment date × StandsFor (files_now t) (model.new_history date)

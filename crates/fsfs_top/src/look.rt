@@ -16,7 +16,8 @@ use fsfs_faults::Fault;
 use fsfs_fetch::{disk_of, over_disk};
 use fsfs_look::{LookError, cat, tree_text};
 use fsfs_layout::Opened;
-use fsfs_repo::{DiskPlace, open};
+use fsfs_repo::open;
+use fsfs_places::DiskPlace;
 use std::alloc::Global;
 
 /// What is printed of a revision.

@@ -1,21 +1,22 @@
 // The top call.
-ghost use Rattle.std.specs.Prelude.{◌≡◌, ◌≢◌, ◌≤◌, ℕ, List, map, string_bytes, Option, Some, IfSome, IfNone, option_map};
+ghost use Rattle.std.specs.Prelude.{◌≡◌, ◌≢◌, ◌≤◌, ℕ, List, map, string_bytes, Option, Some, IfSome, IfNone, OnOk, option_map};
 ghost use Rattle.fsfs_disk.specs.Fault.{Rose};
 ghost use Rattle.fsfs_disk.specs.Trace.{Trace, files_now};
-ghost use Rattle.fsfs_disk.specs.Crash.{AllImages, Leaves};
-ghost use Rattle.fsfs_repo.specs.Creation.{IsUnpublished, HasRepository};
+ghost use Rattle.fsfs_disk.specs.Crash.{AllImages, IsFirm, Leaves};
+ghost use Rattle.fsfs_create.specs.Creation.{IsUnpublished, HasRepository};
 ghost use Rattle.fsfs_top.specs.Answers.{answer_of};
 ghost use Rattle.fsfs_top.specs.Command.{AsksCreate, Created, Did, IsNoneOrCreated, Tells, fault_of};
 ghost use Rattle.fsfs_top.specs.Looks.{PrintsShown, ShownIsDecided};
-ghost use Rattle.fsfs_top.specs.Replies.{Replies, Gives};
+ghost use Rattle.fsfs_top.specs.Replies.{Replies, Gives, MadeStands};
 ghost use Rattle.fsfs_top.specs.declared.look.Printed.TheVariants.{Tree, Text};
 ghost use Rattle.fsfs_faults.specs.declared.fault.Fault.{Fault};
 
 use crate::look::{Printed, RevisionLook, look_at};
 use crate::output::{Shown, print_shown};
+use fsfs_create::create;
 use fsfs_disk::{Clock, Dice, Gate, Host, Sink, Source};
 use fsfs_faults::{Fault, print_fault, status};
-use fsfs_repo::{create, open};
+use fsfs_repo::open;
 use fsfs_words::{CatOrder, Order, Tool, TreeOrder, read_words};
 use std::alloc::Global;
 use uuid::Builder;
@@ -29,11 +30,13 @@ fn create_at<H: Host, C: Clock, R: Dice>(
     clock: &mut C,
     dice: &mut R,
 ) -> Result<(), Fault>
+    requires { (1 ≤ shard) × (shard ≤ 100_000) }
     ensures created { Created (Rose (H.mount_faults host.old) (H.mount_faults host.new)) (Rose (H.disk_faults host.old) (H.disk_faults host.new))
         shard (C.next clock.old) (R.next dice.old) (H.disk_at host.old repos.now) (H.disk_at host.new repos.now) (fault_of result) }
     ensures there_same { (t : Trace) → H.disk_at host.old repos.now ≡ Some t → HasRepository t → H.disk_at host.new repos.now ≡ H.disk_at host.old repos.now }
     ensures any_moment { AllImages (H.disk_at host.old repos.now) IsUnpublished
         → Leaves (H.disk_at host.old repos.now) (H.disk_at host.new repos.now) (IsNoneOrCreated shard (C.next clock.old) (R.next dice.old) (H.disk_at host.old repos.now)) }
+    ensures firm { OnOk result (IsFirm (H.disk_at host.new repos.now)) }
     ensures others { (path : List ℕ) → path ≢ repos.now → H.disk_at host.new path ≡ H.disk_at host.old path }
 {
     let mut disk = match host.mount(repos, true) {
@@ -122,6 +125,7 @@ fn run<H: Host, O: Sink, C: Clock, R: Dice>(
         → Leaves (H.disk_at host.old repos) (H.disk_at host.new repos) (IsNoneOrCreated shard (C.next clock.old) (R.next dice.old) (H.disk_at host.old repos)) }
     ensures others { (path : List ℕ) → ((shard : ℕ) → AsksCreate tool (map string_bytes words.now) path shard → ⊥)
         → option_map files_now (H.disk_at host.new path) ≡ option_map files_now (H.disk_at host.old path) }
+    ensures firm { (repos : List ℕ) (shard : ℕ) → AsksCreate tool (map string_bytes words.now) repos shard → OnOk result (IsFirm (H.disk_at host.new repos)) }
 {
     match read_words(alloc, tool, words)? {
         Order::Create(order) => create_at(alloc, order.repos, order.shard, host, clock, dice),
@@ -152,7 +156,7 @@ pub fn command<H: Host, I: Source, O: Sink, E: Sink, C: Clock, R: Dice, G: Gate>
         × Did (Rose (H.mount_faults host.old) (H.mount_faults host.new)) (Rose (H.disk_faults host.old) (H.disk_faults host.new)) (Rose (O.faults out.old) (O.faults out.new))
         tool (map string_bytes words.now) (C.next clock.old) (R.next dice.old) (H.disk_at host.old) (H.disk_at host.new) (O.written out.old) (O.written out.new) fault }
 
-    // Looks give the replies of the flat model: the youngest revision, of any history that ends with it, the identifier, and
+    // Commands give the replies of the flat model: nothing where a repository is made, the youngest revision, of any history that ends with it, the identifier, and
     // trees and texts of the history that the files stand for.
     ensures replies { Replies tool (map string_bytes words.now) (H.disk_at host.old) (Gives result
         (Rose (H.mount_faults host.old) (H.mount_faults host.new)) (Rose (H.disk_faults host.old) (H.disk_faults host.new)) (Rose (O.faults out.old) (O.faults out.new)) (Rose (E.faults err.old) (E.faults err.new))
@@ -165,6 +169,10 @@ pub fn command<H: Host, I: Source, O: Sink, E: Sink, C: Clock, R: Dice, G: Gate>
     // A crash at any moment of a creation leaves no repository at the path, or the whole new one.
     ensures any_moment { (repos : List ℕ) (shard : ℕ) → AsksCreate tool (map string_bytes words.now) repos shard → AllImages (H.disk_at host.old repos) IsUnpublished
         → Leaves (H.disk_at host.old repos) (H.disk_at host.new repos) (IsNoneOrCreated shard (C.next clock.old) (R.next dice.old) (H.disk_at host.old repos)) }
+
+    // A repository that was made stands for the history of revision 0, and is firm.
+    ensures made { result ≡ 0 → MadeStands tool (map string_bytes words.now) (C.next clock.old) (H.disk_at host.new) }
+    ensures firm { (repos : List ℕ) (shard : ℕ) → AsksCreate tool (map string_bytes words.now) repos shard → result ≡ 0 → IsFirm (H.disk_at host.new repos) }
 
     // No file changes but at a path at which a repository is to be made.
     ensures others { (path : List ℕ) → ((shard : ℕ) → AsksCreate tool (map string_bytes words.now) path shard → ⊥)

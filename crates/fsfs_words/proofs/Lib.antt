@@ -4,3 +4,4 @@ pub mod TakenLemmas
 pub mod ReadLemmas
 pub mod ChainLemmas
 pub mod CommandLemmas
+pub mod CreateLemmas

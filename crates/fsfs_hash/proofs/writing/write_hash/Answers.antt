@@ -16,8 +16,8 @@ loop-key-preserved c = λ tail w.
     let whole = c.loop-key.invariant (a.text ++ tail) more in
     subst (λ (t : List ℕ). Entries t c.args.pairs.now) (sym (append_assoc c.loop-key.out.items a.text tail) ∙ ap (λ (t : List ℕ). t ++ tail) (sym a.parts)) whole
 
-pub returns : goal.returns
-returns c =
+pub returns-clause-dump : goal.returns-clause-dump
+returns-clause-dump c =
     let none : c.loop-key.key-iterator ≡ [] = rest_all deref_pair c.loop-key.key-iterator c.next.new.self c.next.result c.in-None.is c.next.ensures.steps in
     let last : Entries (69 ∷ 78 ∷ 68 ∷ 10 ∷ []) (map pair_of c.loop-key.key-iterator) = rw none (tt, refl) in
     let whole = c.loop-key.invariant (69 ∷ 78 ∷ 68 ∷ 10 ∷ []) last in
@@ -27,3 +27,10 @@ returns c =
       inner_is = subst (λ (t : List ℕ). Entries t c.args.pairs.now) (sym c.in_ok-extend_from_slice.ensures.items) whole;
       value_is = sym (subst (λ (p : List (List ℕ × List ℕ)). put_all [] p ≡ p) c.as_map-map.ensures same);
     }
+
+pub returns-clause-in_order : goal.returns-clause-in_order
+returns-clause-in_order c =
+    let none : c.loop-key.key-iterator ≡ [] = rest_all deref_pair c.loop-key.key-iterator c.next.new.self c.next.result c.in-None.is c.next.ensures.steps in
+    let last : Entries (69 ∷ 78 ∷ 68 ∷ 10 ∷ []) (map pair_of c.loop-key.key-iterator) = rw none (tt, refl) in
+    let whole = c.loop-key.invariant (69 ∷ 78 ∷ 68 ∷ 10 ∷ []) last in
+    subst (λ (t : List ℕ). Entries t c.args.pairs.now) (sym c.in_ok-extend_from_slice.ensures.items) whole

@@ -1,7 +1,8 @@
-use Rattle.std.proofs.Common.{map, refl}
+use Rattle.std.proofs.Common.{◌∙◌, map, refl, sym}
 use Rattle.std.specs.Prelude.{string_bytes, Some, None}
 use Rattle.fsfs_disk.specs.Fault.{Rose}
 use Rattle.fsfs_faults.specs.Lines.{line_of}
+use Rattle.fsfs_top.proofs.Making.{made_stands, no_zero}
 use Rattle.fsfs_top.proofs.Replying.{replies, told_line}
 use Rattle.fsfs_top.proofs.top.command.Goals as goal
 
@@ -21,3 +22,16 @@ returns-in-Err-clause-replies g c =
     c.args.tool (map string_bytes c.args.words.now) (g.C.Clock.next c.args.clock.now) (g.R.Dice.next c.args.dice.now) (g.H.Host.disk_at c.args.host.now) (g.H.Host.disk_at c.run.new.host)
     (g.O.Sink.written c.args.out.now) (g.O.Sink.written c.run.new.out) (g.E.Sink.written c.args.err.now) (g.E.Sink.written c.print_fault.new.sink)
     c.status.result (Some c.in-Err.fault) c.in-Err.ensures.did (c.status.ensures, tells)
+
+pub returns-in-Ok-clause-made : goal.returns-in-Ok-clause-made
+returns-in-Ok-clause-made g c = λ done.
+    made_stands (Rose (g.H.Host.mount_faults c.args.host.now) (g.H.Host.mount_faults c.run.new.host)) (Rose (g.H.Host.disk_faults c.args.host.now) (g.H.Host.disk_faults c.run.new.host))
+    (Rose (g.O.Sink.faults c.args.out.now) (g.O.Sink.faults c.run.new.out))
+    c.args.tool (map string_bytes c.args.words.now) (g.C.Clock.next c.args.clock.now) (g.R.Dice.next c.args.dice.now) (g.H.Host.disk_at c.args.host.now) (g.H.Host.disk_at c.run.new.host)
+    (g.O.Sink.written c.args.out.now) (g.O.Sink.written c.run.new.out) c.in-Ok.ensures.did
+
+pub returns-in-Err-clause-made : goal.returns-in-Err-clause-made
+returns-in-Err-clause-made g c = λ zero. absurd (no_zero c.in-Err.fault (sym c.status.ensures ∙ zero))
+
+pub returns-in-Ok-clause-firm : goal.returns-in-Ok-clause-firm
+returns-in-Ok-clause-firm g c = λ repos shard asks zero. c.in-Ok.ensures.firm repos shard asks

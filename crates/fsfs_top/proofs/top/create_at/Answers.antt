@@ -1,4 +1,5 @@
-use Rattle.std.proofs.Common.{◌≡◌, ◌∙◌, ap, sym, arith}
+use Rattle.std.proofs.Common.{◌≡◌, ◌∙◌, ap, sym, subst, refl, arith}
+use Rattle.fsfs_disk.specs.Crash.{IsFirm}
 use Rattle.fsfs_disk.specs.Fault.{Rose}
 use Rattle.fsfs_layout.specs.CreatedFiles.{random_identifier}
 use Rattle.fsfs_top.proofs.CommandLemmas.{drawn, created_done, created_failed, leaves_created}
@@ -48,3 +49,19 @@ returns-in-Err-made-clause-any_moment g c =
     let back : g.H.Host.disk_at c.unmount.new.self c.args.repos.now ≡ told c.create-made.new.disk = ap (g.H.Host.disk_at c.unmount.new.self) (sym path) ∙ c.unmount.ensures.back in
     leaves_created c.args.shard (g.C.Clock.next c.args.clock.now) (g.R.Dice.next c.args.dice.now) d c.into_uuid-identifier.result (told c.in-Ok.disk) (told c.create-made.new.disk)
     (g.H.Host.disk_at c.args.host.now c.args.repos.now) (g.H.Host.disk_at c.unmount.new.self c.args.repos.now) named c.in-Ok.ensures.disk back c.create-made.ensures.any_moment
+
+pub returns-in-Ok-made-clause-firm : goal.returns-in-Ok-made-clause-firm
+returns-in-Ok-made-clause-firm g c =
+    let told = g.H.Mounted.Disk.trace in
+    let path : g.H.Mounted.Disk.mount_path c.create-made.new.disk ≡ c.args.repos.now = c.create-made.ensures.mounted ∙ c.in-Ok.ensures.path in
+    let back : g.H.Host.disk_at c.unmount.new.self c.args.repos.now ≡ told c.create-made.new.disk = ap (g.H.Host.disk_at c.unmount.new.self) (sym path) ∙ c.unmount.ensures.back in
+    subst IsFirm (sym back) c.in-Ok-made.ensures.firm
+
+pub create-made-requires-clause-from_one : goal.create-made-requires-clause-from_one
+create-made-requires-clause-from_one g c = c.requires.0
+
+pub create-made-requires-clause-most : goal.create-made-requires-clause-most
+create-made-requires-clause-most g c = omega (arith, c.requires.1)
+
+pub create-made-requires-clause-right : goal.create-made-requires-clause-right
+create-made-requires-clause-right g c = c.in-Ok.ensures.right refl

@@ -1,3 +1,8 @@
+use Rattle.std.proofs.Common.{◌≡◌, map, rules}
+use Rattle.std.specs.Prelude.{Some, string_bytes}
+use Rattle.fsfs_words.specs.Words as said
+use Rattle.fsfs_words.specs.Words.{asked}
+use Rattle.fsfs_words.proofs.CreateLemmas.{creates_by_admin}
 use Rattle.fsfs_top.proofs.CommandLemmas.{same_files}
 use Rattle.fsfs_top.proofs.top.run.Goals as goal
 
@@ -16,3 +21,8 @@ returns-in-Tree-clause-others g c = λ path none.
 pub returns-in-Cat-clause-others : goal.returns-in-Cat-clause-others
 returns-in-Cat-clause-others g c = λ path none.
     same_files (g.H.Host.disk_at c.args.host.now) (g.H.Host.disk_at c.look_at-in-Cat.new.host) c.in-Cat.order.repos.now path c.look_at-in-Cat.ensures.same c.look_at-in-Cat.ensures.others
+
+pub create_at-requires : goal.create_at-requires
+create_at-requires g c =
+    let a : asked c.args.tool (map string_bytes c.args.words.now) ≡ Some (said.Create c.in-Create.order.repos.now c.in-Create.order.shard) = search rules in
+    (creates_by_admin c.args.tool (map string_bytes c.args.words.now) c.in-Create.order.repos.now c.in-Create.order.shard a).1

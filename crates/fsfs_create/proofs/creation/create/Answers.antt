@@ -1,10 +1,13 @@
-use Rattle.std.proofs.Common.{◌≡◌, map, ap, ◌∙◌, arith}
+use Rattle.std.proofs.Common.{◌≡◌, map, ap, ◌∙◌, arith, refl}
+use Rattle.std.specs.Prelude.{option_map}
+use Rattle.fsfs_disk.proofs.CrashLemmas.{firm_after}
+use Rattle.fsfs_create.specs.Creation.{after_firm, after_rename}
 use Rattle.fsfs_disk.specs.Fault.{Rose}
-use Rattle.fsfs_repo.specs.NewFiles.{named}
 use Rattle.fsfs_layout.specs.CreatedFiles.{identifier_text, unpublished_files, format_text}
-use Rattle.fsfs_repo.proofs.CrashLemmas.{leaves_done, leaves_stopped, leaves_whole, ended_so, stopped_so, is_stopped}
-use Rattle.fsfs_repo.proofs.CreatedFilesLemmas.{created_files_now, not_there, not_both, no_format}
-use Rattle.fsfs_repo.proofs.creation.create.Goals as goal
+use Rattle.fsfs_create.specs.NewFiles.{named}
+use Rattle.fsfs_create.proofs.CrashLemmas.{last_done, leaves_done, leaves_stopped, leaves_whole, ended_so, stopped_so, is_stopped}
+use Rattle.fsfs_create.proofs.CreatedFilesLemmas.{created_files_now, not_there, not_both, no_format}
+use Rattle.fsfs_create.proofs.creation.create.Goals as goal
 
 pub returns-in-Ok-clause-created : goal.returns-in-Ok-clause-created
 returns-in-Ok-clause-created g c =
@@ -14,15 +17,15 @@ returns-in-Ok-clause-created g c =
     let date = c.in_ok-date.date.items in
     let id = identifier_text c.args.identifier in
     let files : map named c.deref-2.result.now ≡ unpublished_files id date = ap (map named) c.deref-2.ensures.value ∙ c.in_ok-files.ensures ∙ ap (unpublished_files id) c.deref.ensures.value in
-    let format : c.deref-3.result.now ≡ format_text c.args.shard = c.deref-3.ensures.value ∙ c.in_ok-format.ensures in
+    let format : c.deref-3.result.now ≡ format_text c.args.shard = c.deref-3.ensures.value ∙ c.in_ok-format.ensures.text in
     let done = ended_so c.args.shard id date (map named c.deref-2.result.now) c.deref-3.result.now old (told c.size.new.self) new files format c.in-Ok-None.ensures.same c.in-Ok.ensures.done in
     (date, c.in_ok-date.ensures, created_files_now c.args.shard id date old new done)
 
 pub returns-in-Ok-clause-fresh : goal.returns-in-Ok-clause-fresh
-returns-in-Ok-clause-fresh g c = not_there (g.D.Disk.trace c.args.disk.now) c.new.result c.in-Ok-None.field-0 c.new.ensures c.in-Ok-None.field-0-is c.in-Ok-None.ensures.length
+returns-in-Ok-clause-fresh g c = not_there (g.D.Disk.trace c.args.disk.now) c.format.result c.in-Ok-None.field-0 c.format.ensures c.in-Ok-None.field-0-is c.in-Ok-None.ensures.length
 
 pub returns-in-Ok-clause-there_same : goal.returns-in-Ok-clause-there_same
-returns-in-Ok-clause-there_same g c = λ t is here. absurd (not_both (g.D.Disk.trace c.args.disk.now) t (not_there (g.D.Disk.trace c.args.disk.now) c.new.result c.in-Ok-None.field-0 c.new.ensures c.in-Ok-None.field-0-is c.in-Ok-None.ensures.length) is here)
+returns-in-Ok-clause-there_same g c = λ t is here. absurd (not_both (g.D.Disk.trace c.args.disk.now) t (not_there (g.D.Disk.trace c.args.disk.now) c.format.result c.in-Ok-None.field-0 c.format.ensures c.in-Ok-None.field-0-is c.in-Ok-None.ensures.length) is here)
 
 pub returns-in-Ok-clause-any_moment : goal.returns-in-Ok-clause-any_moment
 returns-in-Ok-clause-any_moment g c = λ all.
@@ -32,7 +35,7 @@ returns-in-Ok-clause-any_moment g c = λ all.
     let date = c.in_ok-date.date.items in
     let id = identifier_text c.args.identifier in
     let files : map named c.deref-2.result.now ≡ unpublished_files id date = ap (map named) c.deref-2.ensures.value ∙ c.in_ok-files.ensures ∙ ap (unpublished_files id) c.deref.ensures.value in
-    let format : c.deref-3.result.now ≡ format_text c.args.shard = c.deref-3.ensures.value ∙ c.in_ok-format.ensures in
+    let format : c.deref-3.result.now ≡ format_text c.args.shard = c.deref-3.ensures.value ∙ c.in_ok-format.ensures.text in
     let done = ended_so c.args.shard id date (map named c.deref-2.result.now) c.deref-3.result.now old (told c.size.new.self) new files format c.in-Ok-None.ensures.same c.in-Ok.ensures.done in
     leaves_whole c.args.shard id date c.args.moment old new c.in_ok-date.ensures (leaves_done (unpublished_files id date) (format_text c.args.shard) old new (no_format id date) done all)
 
@@ -45,12 +48,12 @@ returns-clause-refused g c =
     let date = c.in_ok-date.date.items in
     let id = identifier_text c.args.identifier in
     let files : map named c.deref-2.result.now ≡ unpublished_files id date = ap (map named) c.deref-2.ensures.value ∙ c.in_ok-files.ensures ∙ ap (unpublished_files id) c.deref.ensures.value in
-    let format : c.deref-3.result.now ≡ format_text c.args.shard = c.deref-3.ensures.value ∙ c.in_ok-format.ensures in
+    let format : c.deref-3.result.now ≡ format_text c.args.shard = c.deref-3.ensures.value ∙ c.in_ok-format.ensures.text in
     let stopped = stopped_so c.in-Err-write_files.place c.args.shard id date (map named c.deref-2.result.now) c.deref-3.result.now old (told c.size.new.self) new files format c.in-Ok-None.ensures.same c.in-Err-write_files.ensures.stopped in
     (rose, is_stopped c.in-Err-write_files.place c.args.shard id date c.args.moment old new c.in_ok-date.ensures stopped)
 
 pub returns-clause-there_same : goal.returns-clause-there_same
-returns-clause-there_same g c = λ t is here. absurd (not_both (g.D.Disk.trace c.args.disk.now) t (not_there (g.D.Disk.trace c.args.disk.now) c.new.result c.in-Ok-None.field-0 c.new.ensures c.in-Ok-None.field-0-is c.in-Ok-None.ensures.length) is here)
+returns-clause-there_same g c = λ t is here. absurd (not_both (g.D.Disk.trace c.args.disk.now) t (not_there (g.D.Disk.trace c.args.disk.now) c.format.result c.in-Ok-None.field-0 c.format.ensures c.in-Ok-None.field-0-is c.in-Ok-None.ensures.length) is here)
 
 pub returns-clause-any_moment : goal.returns-clause-any_moment
 returns-clause-any_moment g c = λ all.
@@ -60,7 +63,20 @@ returns-clause-any_moment g c = λ all.
     let date = c.in_ok-date.date.items in
     let id = identifier_text c.args.identifier in
     let files : map named c.deref-2.result.now ≡ unpublished_files id date = ap (map named) c.deref-2.ensures.value ∙ c.in_ok-files.ensures ∙ ap (unpublished_files id) c.deref.ensures.value in
-    let format : c.deref-3.result.now ≡ format_text c.args.shard = c.deref-3.ensures.value ∙ c.in_ok-format.ensures in
+    let format : c.deref-3.result.now ≡ format_text c.args.shard = c.deref-3.ensures.value ∙ c.in_ok-format.ensures.text in
     let stopped = stopped_so c.in-Err-write_files.place c.args.shard id date (map named c.deref-2.result.now) c.deref-3.result.now old (told c.size.new.self) new files format c.in-Ok-None.ensures.same c.in-Err-write_files.ensures.stopped in
     leaves_whole c.args.shard id date c.args.moment old new c.in_ok-date.ensures
     (leaves_stopped c.in-Err-write_files.place (unpublished_files id date) (format_text c.args.shard) old new (no_format id date) stopped all)
+
+pub returns-in-Ok-clause-firm : goal.returns-in-Ok-clause-firm
+returns-in-Ok-clause-firm g c =
+    let told = g.D.Disk.trace in
+    let old = told c.args.disk.now in
+    let new = told c.write_files.new.disk in
+    let date = c.in_ok-date.date.items in
+    let id = identifier_text c.args.identifier in
+    let files : map named c.deref-2.result.now ≡ unpublished_files id date = ap (map named) c.deref-2.ensures.value ∙ c.in_ok-files.ensures ∙ ap (unpublished_files id) c.deref.ensures.value in
+    let format : c.deref-3.result.now ≡ format_text c.args.shard = c.deref-3.ensures.value ∙ c.in_ok-format.ensures.text in
+    let done = ended_so c.args.shard id date (map named c.deref-2.result.now) c.deref-3.result.now old (told c.size.new.self) new files format c.in-Ok-None.ensures.same c.in-Ok.ensures.done in
+    let firm = option_map (after_firm (unpublished_files id date)) old in
+    firm_after (option_map (after_rename (format_text c.args.shard)) firm) new (last_done (unpublished_files id date) (format_text c.args.shard) old new firm done refl)

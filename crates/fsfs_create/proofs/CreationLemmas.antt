@@ -7,9 +7,9 @@ use Rattle.fsfs_base.specs.Files.{NamedFile}
 use Rattle.fsfs_disk.specs.Trace.{Trace, add_operation, Performs}
 use Rattle.fsfs_disk.specs.Trace.Operation.{Done}
 use Rattle.fsfs_disk.specs.Trace.Change.{Put}
-use Rattle.fsfs_repo.specs.NewFiles.{named}
-use Rattle.fsfs_repo.specs.Creation.{after_puts}
-use Rattle.fsfs_repo.specs.declared.initial.NewFile.{NewFile}
+use Rattle.fsfs_create.specs.NewFiles.{named}
+use Rattle.fsfs_create.specs.Creation.{after_puts}
+use Rattle.fsfs_create.specs.declared.initial.NewFile.{NewFile}
 
 pub after_puts-append : (files : List NamedFile) (file : NamedFile) (t : Trace) → after_puts (files ++ file ∷ []) t ≡ add_operation (Done (Put file.0 file.1)) (after_puts files t)
 after_puts-append [] file t = refl

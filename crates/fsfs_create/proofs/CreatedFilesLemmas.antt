@@ -1,34 +1,13 @@
 -- What the writing of a new repository makes of the files.
 use Rattle.std.proofs.Common.{◌≡◌, ℕ, List, [], ◌∷◌, ◌++◌, Bool, true, false, refl, sym, ap, subst, ◌∙◌}
-use Rattle.std.specs.Prelude.{Option, Some, None, IfSome, option_map, codes, not, ◌&&◌, length, is_some}
-use Rattle.std.specs.Ordering.{nat_cmp, is_eq}
-use Rattle.std.specs.Cmp.Lexicographic.{slice_cmp}
+use Rattle.std.specs.Prelude.{Option, Some, None, IfSome, option_map, codes, length, is_some}
 use Rattle.std.specs.FinMap.{insert, remove}
 use Rattle.fsfs_base.specs.Files.{Files, NamedFile, lay_over}
-use Rattle.fsfs_base.proofs.FileLemmas.{insert-remove, renamed_put, apart_by}
+use Rattle.fsfs_base.proofs.FileLemmas.{insert-remove, renamed_put}
 use Rattle.fsfs_disk.specs.Trace.{Trace, files_now, file_at, IsSize}
 use Rattle.fsfs_layout.specs.CreatedFiles.{format_text, unpublished_files, created_over}
-use Rattle.fsfs_repo.specs.Creation.{after_puts, after_publishing, after_creation, IsNoRepository, HasRepository}
-
--- none of the files has this name
-abbrev pub lacks : List ℕ → List NamedFile → Bool
-lacks name [] = true
-lacks name (file ∷ files) = not (is_eq (slice_cmp nat_cmp file.0 name)) && lacks name files
-
-pub first_of : (a b : Bool) → (not a && b) ≡ true → a ≡ false
-first_of true b h = cc
-first_of false b h = refl
-
-pub rest_of : (a b : Bool) → (not a && b) ≡ true → b ≡ true
-rest_of true b h = cc
-rest_of false b h = h
-
--- the first file has another name
-pub first_apart : (name : List ℕ) (file : NamedFile) (files : List NamedFile) → lacks name (file ∷ files) ≡ true → file.0 ≡ name → ⊥
-first_apart name file files h = apart_by file.0 name (first_of (is_eq (slice_cmp nat_cmp file.0 name)) (lacks name files) h)
-
-pub lacks_rest : (name : List ℕ) (file : NamedFile) (files : List NamedFile) → lacks name (file ∷ files) ≡ true → lacks name files ≡ true
-lacks_rest name file files h = rest_of (is_eq (slice_cmp nat_cmp file.0 name)) (lacks name files) h
+use Rattle.fsfs_layout.proofs.NamedFiles.{lacks, first_apart, lacks_rest}
+use Rattle.fsfs_create.specs.Creation.{after_puts, after_publishing, after_creation, IsNoRepository, HasRepository}
 
 files_now-after_puts : (files : List NamedFile) (t : Trace) → files_now (after_puts files t) ≡ lay_over files (files_now t)
 files_now-after_puts [] t = refl

@@ -11,10 +11,11 @@ use Rattle.fsfs_disk.specs.Trace.{Trace, Put, Rename, FirmNames, Done, IsImage, 
 use Rattle.fsfs_disk.specs.Crash.{AllImages, IsFirm, Leaves, KeepsImages}
 use Rattle.fsfs_disk.proofs.CrashLemmas.{leaves_at, leaves_then, leaves_with, keeps_then, keeps_put, keeps_failed_put, keeps_firm, same_keeps, same_leaves, firm_after, Stable}
 use Rattle.fsfs_layout.specs.CreatedFiles.{format_text, unpublished_files, created_over}
-use Rattle.fsfs_repo.specs.Creation.{after_puts, after_firm, after_next, after_rename, after_publishing, after_creation, StopsInPuts, StopsPublishing, StopsAt, IsUnpublished, IsNoneOrWhole, IsStopped}
-use Rattle.fsfs_repo.specs.declared.place.DiskPlace.{DiskPlace}
-use Rattle.fsfs_repo.specs.declared.place.DiskPlace.TheVariants.{OpenFirm, OpenRead, Read, CreatePut, CreateFirm, CreateRename, CreateLast}
-use Rattle.fsfs_repo.proofs.CreatedFilesLemmas.{lacks, first_apart, lacks_rest, files_now-after_publishing, files_now-after_creation}
+use Rattle.fsfs_create.specs.Creation.{after_puts, after_firm, after_next, after_rename, after_publishing, after_creation, StopsInPuts, StopsPublishing, StopsAt, IsUnpublished, IsNoneOrWhole, IsStopped}
+use Rattle.fsfs_places.specs.declared.place.DiskPlace.{DiskPlace}
+use Rattle.fsfs_places.specs.declared.place.DiskPlace.TheVariants.{OpenFirm, OpenRead, Read, CreatePut, CreateFirm, CreateRename, CreateLast}
+use Rattle.fsfs_create.proofs.CreatedFilesLemmas.{files_now-after_publishing, files_now-after_creation}
+use Rattle.fsfs_layout.proofs.NamedFiles.{lacks, first_apart, lacks_rest}
 
 -- another file makes no repository
 unpublished_put : (name : List ℕ) → (name ≡ codes "db/format" → ⊥) → (m : Files) (any : List ℕ) → IsUnpublished m → IsUnpublished (insert m name any)
@@ -156,7 +157,7 @@ leaves_stopped CreateRename files format old new lack at all =
 leaves_stopped CreateLast files format old new lack at all =
     leaves_from_firm files format old new lack all (λ firm is f a. leaves_publishing CreateLast format firm new (subst (λ o. StopsPublishing CreateLast format o new) (sym is) at) f a)
 
-last_done : (files : List NamedFile) (format : List ℕ) (old new firm : Option Trace) → new ≡ option_map (after_creation files format) old → firm ≡ option_map (after_firm files) old → Performs FirmNames (option_map (after_rename format) firm) new
+pub last_done : (files : List NamedFile) (format : List ℕ) (old new firm : Option Trace) → new ≡ option_map (after_creation files format) old → firm ≡ option_map (after_firm files) old → Performs FirmNames (option_map (after_rename format) firm) new
 last_done files format None new firm is at = is ∙ ap (λ o. option_map (add_operation (Done FirmNames)) (option_map (after_rename format) o)) (sym at)
 last_done files format (Some t) new firm is at = is ∙ ap (λ o. option_map (add_operation (Done FirmNames)) (option_map (after_rename format) o)) (sym at)
 

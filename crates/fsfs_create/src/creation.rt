@@ -1,16 +1,17 @@
 // Making a repository on a disk.
-ghost use Rattle.std.specs.Prelude.{◌≡◌, ◌≤◌, map, option_map, Some, OnOk, OnErr, IfErr};
+ghost use Rattle.std.specs.Prelude.{◌≡◌, ◌≤◌, map, option_map, Some, OnOk, OnErr, IfErr, IsTrue};
 ghost use Rattle.fsfs_disk.specs.Fault.{Rose};
 ghost use Rattle.fsfs_disk.specs.Trace.{Trace};
-ghost use Rattle.fsfs_disk.specs.Crash.{AllImages, Leaves};
+ghost use Rattle.fsfs_disk.specs.Crash.{AllImages, Leaves, IsFirm};
 ghost use Rattle.fsfs_layout.specs.CreatedFiles.{identifier_text};
-ghost use Rattle.fsfs_repo.specs.NewFiles.{named};
-ghost use Rattle.fsfs_repo.specs.Creation.{after_puts, after_publishing, after_creation, StopsInPuts, StopsPublishing, StopsAt, HasRepository, IsNoRepository, IsUnpublished, IsCreated, IsNoneOrWhole, CreateFails};
+ghost use Rattle.fsfs_create.specs.NewFiles.{named};
+ghost use Rattle.fsfs_create.specs.Creation.{after_puts, after_publishing, after_creation, StopsInPuts, StopsPublishing, StopsAt, HasRepository, IsNoRepository, IsUnpublished, IsCreated, IsNoneOrWhole, CreateFails};
 
-use crate::initial::{NewFile, created_files, format_text};
-use crate::place::DiskPlace;
+use crate::initial::{NewFile, created_files};
 use fsfs_base::write_date;
-use fsfs_disk::{Disk, Failed, Name};
+use fsfs_disk::{Disk, Failed};
+use fsfs_layout::{Format, names, write_format};
+use fsfs_places::DiskPlace;
 use std::alloc::{AllocError, Global};
 use thiserror::Error;
 use uuid::Uuid;
@@ -30,7 +31,7 @@ pub enum CreateFault {
 }
 
 impl From<AllocError> for CreateFault {
-    ghost use Rattle.fsfs_repo.specs.declared.creation.CreateFault.TheVariants.{Memory};
+    ghost use Rattle.fsfs_create.specs.declared.creation.CreateFault.TheVariants.{Memory};
 
     ghost from_gives = { λ _ e. e ≡ Memory };
 
@@ -41,22 +42,26 @@ impl From<AllocError> for CreateFault {
 
 // Makes the folders of a repository.
 fn make_folders<D: Disk>(disk: &mut D) -> Result<(), Failed>
+    requires { IsTrue (D.may_write disk.old) }
     ensures same { D.trace disk.new ≡ D.trace disk.old }
     ensures mounted { D.mount_path disk.new ≡ D.mount_path disk.old }
+    ensures right { D.may_write disk.new ≡ D.may_write disk.old }
     ensures later { D.faults disk.old ≤ D.faults disk.new }
     ensures failed { OnErr result (Rose (D.faults disk.old) (D.faults disk.new)) }
 {
-    disk.make_folder(&Name::new("db/revs/0"))?;
-    disk.make_folder(&Name::new("db/revprops/0"))?;
-    disk.make_folder(&Name::new("db/transactions"))?;
-    disk.make_folder(&Name::new("db/txn-protorevs"))
+    disk.make_folder(&names::shard(0))?;
+    disk.make_folder(&names::props_shard(0))?;
+    disk.make_folder(&names::transactions())?;
+    disk.make_folder(&names::proto_revisions())
 }
 
 // Puts files, in order.
 fn put_all<D: Disk>(disk: &mut D, files: &[NewFile]) -> Result<(), Failed>
+    requires { IsTrue (D.may_write disk.old) }
     ensures done { OnOk result (D.trace disk.new ≡ option_map (after_puts (map named files.now)) (D.trace disk.old)) }
     ensures stopped { OnErr result (StopsInPuts (map named files.now) (D.trace disk.old) (D.trace disk.new)) }
     ensures mounted { D.mount_path disk.new ≡ D.mount_path disk.old }
+    ensures right { D.may_write disk.new ≡ D.may_write disk.old }
     ensures later { D.faults disk.old ≤ D.faults disk.new }
     ensures failed { OnErr result (Rose (D.faults disk.old) (D.faults disk.new)) }
 {
@@ -68,24 +73,28 @@ fn put_all<D: Disk>(disk: &mut D, files: &[NewFile]) -> Result<(), Failed>
 
 // Lets the files be a repository, by one change of names.
 fn publish<D: Disk>(disk: &mut D, format: &[u8]) -> Result<(), DiskPlace>
+    requires { IsTrue (D.may_write disk.old) }
     ensures done { OnOk result (D.trace disk.new ≡ option_map (after_publishing format.now) (D.trace disk.old)) }
     ensures stopped { IfErr result (λ place. StopsPublishing place format.now (D.trace disk.old) (D.trace disk.new)) }
     ensures mounted { D.mount_path disk.new ≡ D.mount_path disk.old }
+    ensures right { D.may_write disk.new ≡ D.may_write disk.old }
     ensures later { D.faults disk.old ≤ D.faults disk.new }
     ensures failed { OnErr result (Rose (D.faults disk.old) (D.faults disk.new)) }
 {
-    let next = Name::new("db/format-next");
+    let next = names::format_next();
     disk.put(&next, format).map_err(|_| DiskPlace::CreatePut)?;
-    disk.rename(&next, &Name::new("db/format"))
+    disk.rename(&next, &names::format())
         .map_err(|_| DiskPlace::CreateRename)?;
     disk.firm_names().map_err(|_| DiskPlace::CreateLast)
 }
 
 // Writes all files of a repository.
 fn write_files<D: Disk>(disk: &mut D, files: &[NewFile], format: &[u8]) -> Result<(), DiskPlace>
+    requires { IsTrue (D.may_write disk.old) }
     ensures done { OnOk result (D.trace disk.new ≡ option_map (after_creation (map named files.now) format.now) (D.trace disk.old)) }
     ensures stopped { IfErr result (λ place. StopsAt place (map named files.now) format.now (D.trace disk.old) (D.trace disk.new)) }
     ensures mounted { D.mount_path disk.new ≡ D.mount_path disk.old }
+    ensures right { D.may_write disk.new ≡ D.may_write disk.old }
     ensures later { D.faults disk.old ≤ D.faults disk.new }
     ensures failed { OnErr result (Rose (D.faults disk.old) (D.faults disk.new)) }
 {
@@ -104,10 +113,17 @@ pub fn create<D: Disk>(
     shard: u32,
     moment: u64,
 ) -> Result<(), CreateFault>
-    requires { moment ≤ 4_102_444_799_999_999 }
+    requires from_one { 1 ≤ shard }
+    requires most { shard ≤ 2_147_483_647 }
+    requires moment { moment ≤ 4_102_444_799_999_999 }
+    requires right { IsTrue (D.may_write disk.old) }
 
     ensures created { OnOk result (IsCreated shard (identifier_text identifier) moment (D.trace disk.old) (D.trace disk.new)) }
     ensures fresh { OnOk result (IsNoRepository (D.trace disk.old)) }
+
+    // The new repository is firm.
+    ensures firm { OnOk result (IsFirm (D.trace disk.new)) }
+
     ensures refused { IfErr result (CreateFails (Rose (D.faults disk.old) (D.faults disk.new)) shard (identifier_text identifier) moment (D.trace disk.old) (D.trace disk.new)) }
 
     // A repository that is there stays as it is, whatever is answered.
@@ -118,16 +134,17 @@ pub fn create<D: Disk>(
         → Leaves (D.trace disk.old) (D.trace disk.new) (IsNoneOrWhole shard (identifier_text identifier) moment (D.trace disk.old)) }
 
     ensures mounted { D.mount_path disk.new ≡ D.mount_path disk.old }
+    ensures right { D.may_write disk.new ≡ D.may_write disk.old }
     ensures later { D.faults disk.old ≤ D.faults disk.new }
 {
-    match disk.size(&Name::new("db/format")) {
+    match disk.size(&names::format()) {
         Err(_) => return Err(CreateFault::DiskFault(DiskPlace::Read)),
         Ok(Some(_)) => return Err(CreateFault::AlreadyRepo),
         Ok(None) => {}
     }
     let date = write_date(alloc, moment)?;
-    let files = created_files(alloc, identifier, &date)?;
-    let format = format_text(alloc, shard)?;
+    let files = created_files(alloc, identifier, shard, &date)?;
+    let format = write_format(alloc, &Format::Sharded(shard))?;
     match write_files(disk, &files, &format) {
         Ok(()) => Ok(()),
         Err(place) => Err(CreateFault::DiskFault(place)),

@@ -1,10 +1,10 @@
 use Rattle.std.proofs.Common.{◌+◌, arith, map, option_map, take, drop, sym, subst, ap, ◌∙◌}
 use Rattle.fsfs_base.proofs.ResultLemmas.{on_err_always}
 use Rattle.fsfs_disk.specs.Trace.{Put, Performs, FailsToPut}
-use Rattle.fsfs_repo.specs.NewFiles.{named}
-use Rattle.fsfs_repo.specs.Creation.{after_puts}
-use Rattle.fsfs_repo.proofs.CreationLemmas.{puts_more, parts_at, taken_more}
-use Rattle.fsfs_repo.proofs.creation.put_all.Goals as goal
+use Rattle.fsfs_create.specs.NewFiles.{named}
+use Rattle.fsfs_create.specs.Creation.{after_puts}
+use Rattle.fsfs_create.proofs.CreationLemmas.{puts_more, parts_at, taken_more}
+use Rattle.fsfs_create.proofs.creation.put_all.Goals as goal
 
 pub returns-in_err-put-clause-stopped : goal.returns-in_err-put-clause-stopped
 returns-in_err-put-clause-stopped g c =
@@ -27,5 +27,6 @@ loop-file-preserved g c =
       done = puts_more (map named (take i c.args.files.now)) (named file) (told c.args.disk.now) (told c.loop-file.disk) (told c.put.new.self) c.loop-file.invariant.done put
           ∙ ap (λ files. option_map (after_puts files) (told c.args.disk.now)) (sym (taken_more c.args.files.now i file c.loop-file-test.true c.file-item.is));
       mounted = grind arith;
+      right = c.put.ensures.right ∙ c.loop-file.invariant.right;
       later = grind arith;
     }

@@ -1,0 +1,29 @@
+-- The names and the texts of the first files.
+use Rattle.std.proofs.Common.{◌≡◌, ℕ, List, [], ◌∷◌, ◌++◌, ap, ◌∙◌, arith}
+use Rattle.std.specs.Prelude.{codes, decimal}
+use Rattle.std.proofs.Math.Nat.{zero-div}
+use Rattle.std.proofs.lemmas.Fmt.{decimal_digit}
+use Rattle.fsfs_text.proofs.Numerals.{numeral_one}
+use Rattle.fsfs_text.proofs.Unique.{numeral_same}
+use Rattle.fsfs_base.specs.Files.{NamedFile}
+use Rattle.fsfs_layout.specs.Names.{in_shard}
+use Rattle.fsfs_layout.specs.Small.{IsBase36Line}
+
+-- a file more
+pub added : (old new want : List NamedFile) (name bytes n b : List ℕ) → new ≡ old ++ (name, bytes) ∷ [] → old ≡ want → name ≡ n → bytes ≡ b → new ≡ want ++ (n, b) ∷ []
+added old new want name bytes n b is same e f = is ∙ (λ i. same i ++ (e i, f i) ∷ [])
+
+zero_text : decimal 0 ≡ codes "0"
+zero_text = decimal_digit 0 (omega arith)
+
+pub zero_line : (text : List ℕ) → text ≡ decimal 0 ++ 10 ∷ [] → text ≡ codes "0\n"
+zero_line text is = is ∙ ap (λ (t : List ℕ). t ++ 10 ∷ []) zero_text
+
+pub zero_line36 : (text : List ℕ) → IsBase36Line text 0 → text ≡ codes "0\n"
+zero_line36 text w = w.parts ∙ ap (λ (t : List ℕ). t ++ 10 ∷ []) (numeral_same 36 (omega arith) (omega arith) w.digits (codes "0") 0 w.numeral (numeral_one 36 48 (omega arith)))
+
+-- whatever the size of a shard, revision 0 is in shard 0
+pub first_name : (folder name : List ℕ) (n : ℕ) → name ≡ in_shard folder n 0 → name ≡ folder ++ 47 ∷ codes "0" ++ 47 ∷ codes "0"
+first_name folder name n is =
+    is ∙ ap (λ (k : ℕ). folder ++ 47 ∷ decimal k ++ 47 ∷ decimal 0) (zero-div n)
+    ∙ ap (λ (t : List ℕ). folder ++ 47 ∷ t ++ 47 ∷ t) zero_text

@@ -1,0 +1,4 @@
+pub mod CreationLemmas
+pub mod CreatedFilesLemmas
+pub mod CrashLemmas
+pub mod InitialLemmas

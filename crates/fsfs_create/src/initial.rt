@@ -1,0 +1,83 @@
+// The files of a new repository.
+ghost use Rattle.std.specs.Prelude.{◌≡◌, ◌<◌, ◌++◌, ◌∷◌, [], map, IfOk, OnOk};
+ghost use Rattle.fsfs_create.specs.NewFiles.{named};
+ghost use Rattle.fsfs_model.specs.CreatedFiles.{unpublished_files, date_properties, identifier_text as text_of_identifier};
+
+use fsfs_base::B36;
+use fsfs_disk::Name;
+use fsfs_layout::{
+    Uuid as Identifier, names, write_current, write_min_unpacked_rev, write_txn_current, write_uuid,
+};
+use std::alloc::{AllocError, Global};
+use uuid::Uuid;
+
+/// A file to be written.
+#[derive(Drop)]
+pub struct NewFile {
+    pub name: Name,
+    pub bytes: Vec<u8>,
+}
+
+// Adds a file to a list.
+fn add(files: &mut Vec<NewFile>, name: Name, bytes: Vec<u8>) -> Result<(), AllocError>
+    ensures { OnOk result (map named files.new.items ≡ map named files.old.items ++ (name, bytes.items) ∷ []) }
+{
+    files.push(NewFile { name, bytes })?;
+    Ok(())
+}
+
+// The identifier as `db/uuid` has it.
+fn identifier_of(identifier: Uuid) -> Identifier
+    ensures { result ≡ text_of_identifier identifier }
+{
+    let mut buffer = Uuid::encode_buffer();
+    let text = identifier.hyphenated().encode_lower(&mut buffer);
+    let mut bytes = [0; 36];
+    bytes.copy_from_slice(text.as_bytes());
+    Identifier::new(bytes)
+}
+
+// The property list of revision 0.
+fn properties(alloc: Global, date: &[u8]) -> Result<Vec<u8>, AllocError>
+    ensures { IfOk result (λ t. t.items ≡ date_properties date.now) }
+{
+    let mut out = Vec::from_slice(alloc, b"K 8\nsvn:date\nV 27\n")?;
+    out.extend_from_slice(date)?;
+    out.extend_from_slice(b"\nEND\n")?;
+    Ok(out)
+}
+
+/// All files of a new repository but `db/format`, from its identifier, the size of a shard and the text of its date.
+pub fn created_files(
+    alloc: Global,
+    identifier: Uuid,
+    shard: u32,
+    date: &[u8],
+) -> Result<Vec<NewFile>, AllocError>
+    requires { 0 < shard }
+    ensures { IfOk result (λ files. map named files.items ≡ unpublished_files (text_of_identifier identifier) date.now) }
+{
+    let version = Vec::from_slice(alloc, b"5\n")?;
+    let fs_type = Vec::from_slice(alloc, b"fsfs\n")?;
+    let uuid = write_uuid(alloc, &identifier_of(identifier))?;
+    let current = write_current(alloc, 0)?;
+    let txn_current = write_txn_current(alloc, &B36 { number: 0 })?;
+    let floor = write_min_unpacked_rev(alloc, shard, 0)?;
+    let revision = Vec::from_slice(alloc, REVISION_ZERO)?;
+    let props = properties(alloc, date)?;
+    let mut files = Vec::new(alloc);
+    add(&mut files, names::repository_format(), version)?;
+    add(&mut files, names::fs_type(), fs_type)?;
+    add(&mut files, names::uuid(), uuid)?;
+    add(&mut files, names::current(), current)?;
+    add(&mut files, names::txn_current(), txn_current)?;
+    add(&mut files, names::min_unpacked_rev(), floor)?;
+    add(&mut files, names::write_lock(), Vec::new(alloc))?;
+    add(&mut files, names::txn_current_lock(), Vec::new(alloc))?;
+    add(&mut files, names::revision(shard, 0), revision)?;
+    add(&mut files, names::props(shard, 0), props)?;
+    Ok(files)
+}
+
+const REVISION_ZERO: &[u8] =
+    b"PLAIN\nEND\nENDREP\nid: 0.0.r0/17\ntype: dir\ncount: 0\ntext: 0 0 4 4 2d2977d1c96f487abe4a1e202dd03b4e\ncpath: /\n\n\n17 107\n";

@@ -1,0 +1,7 @@
+//! Making a repository on a disk.
+#![tactic(auto)]
+
+mod creation;
+mod initial;
+
+pub use creation::{CreateFault, create};

@@ -1,9 +1,0 @@
-use Rattle.std.proofs.Common.{rules}
-use Rattle.fsfs_disk.specs.Trace.{Performs, Put}
-use Rattle.fsfs_disk.proofs.TraceLemmas.{file_at-put}
-use Rattle.fsfs_repo.proofs.creation.publish.Goals as goal
-
-pub rename-requires : goal.rename-requires
-rename-requires g c =
-    let performed : Performs (Put c.new-next.result c.args.format.now) (g.D.Disk.trace c.args.disk.now) (g.D.Disk.trace c.put.new.self) = search rules in
-    file_at-put (g.D.Disk.trace c.args.disk.now) (g.D.Disk.trace c.put.new.self) c.new-next.result c.args.format.now performed

@@ -1,0 +1,63 @@
+-- What a creation that was done leaves stands for the history of revision 0.
+use Rattle.std.proofs.Common.{◌≡◌, ◌≤◌, ℕ, List, inl, inr, ap, sym, subst, ◌∙◌, arith}
+use Rattle.std.specs.Prelude.{Option, Some, None, IfSome, option_map}
+use Rattle.fsfs_fields.specs.Dates.{IsDateAt}
+use Rattle.fsfs_base.specs.Files.{Files}
+use Rattle.fsfs_disk.specs.Trace.{Trace, files_now}
+use Rattle.fsfs_faults.specs.Lines.{status_of}
+use Rattle.fsfs_faults.specs.declared.fault.Fault.{Fault}
+use Rattle.fsfs_faults.specs.declared.fault.Fault.TheVariants.{Usage, BadPath, NotFound, NotDir, NotFile, NoRev, AlreadyRepo, NotRepo, OtherFormat, Linear, Small, Corrupt, BadRep, Delta, MountFault, DiskFault, WriteFault, Memory}
+use Rattle.fsfs_model.specs.Answers.{new_history}
+use Rattle.fsfs_model.specs.CreatedFiles.{created_over, identifier_text, random_identifier}
+use Rattle.fsfs_stands.specs.Files.{StandsFor}
+use Rattle.fsfs_stands.specs.NewRepository.{HoldsNew}
+use Rattle.fsfs_stands.proofs.Creations.{creations_hold_new}
+use Rattle.fsfs_stands.proofs.NewRepository.{new_repositories_stand}
+use Rattle.fsfs_top.specs.Command.{Created, Did, identifier_of}
+use Rattle.fsfs_top.specs.Replies.{MadeStands}
+use Rattle.fsfs_top.proofs.AskLemmas.{did_create}
+use Rattle.fsfs_words.specs.declared.tool.Tool.{Tool}
+use Rattle.fsfs_words.proofs.CreateLemmas.{creates_by_admin}
+
+-- the files that are told are made of others
+made_of : (f : Files → Files) (old : Option Files) (m : Files) → ◌≡◌ {A = Option Files} (Some m) (option_map f old) → (was : Files) × (m ≡ f was)
+made_of f None m e = absurd cc
+made_of f (Some was) m e = (was, cc)
+
+-- a fault has a status
+pub no_zero : (fault : Fault) → status_of fault ≡ 0 → ⊥
+no_zero Usage e = omega arith
+no_zero (BadPath bad) e = omega arith
+no_zero (NotFound path) e = omega arith
+no_zero (NotDir path) e = omega arith
+no_zero (NotFile path) e = omega arith
+no_zero (NoRev asked youngest) e = omega arith
+no_zero AlreadyRepo e = omega arith
+no_zero NotRepo e = omega arith
+no_zero (OtherFormat number) e = omega arith
+no_zero Linear e = omega arith
+no_zero (Small small) e = omega arith
+no_zero (Corrupt damage) e = omega arith
+no_zero (BadRep damage) e = omega arith
+no_zero (Delta at) e = omega arith
+no_zero MountFault e = omega arith
+no_zero (DiskFault place) e = omega arith
+no_zero WriteFault e = omega arith
+no_zero Memory e = omega arith
+
+no_fault : (fault : Fault) → ◌≡◌ {A = Option Fault} None (Some fault) → ⊥
+no_fault fault e = cc
+
+module _ (mount disk write : Type 0) (tool : Tool) (ws : List (List ℕ)) (clock : Option ℕ) (dice : Option (List ℕ)) (at_old at_new : List ℕ → Option Trace) (old new : Option (List ℕ)) (did : Did mount disk write tool ws clock dice at_old at_new old new None) where
+  pub made_stands : MadeStands tool ws clock at_new
+  made_stands repos shard t asks here = so (did_create mount disk write tool ws clock dice at_old at_new old new None repos shard did asks).0 where
+    size : (1 ≤ shard) × (shard ≤ 100_000)
+    size = (creates_by_admin tool ws repos shard asks).1
+
+    so : Created mount disk shard clock dice (at_old repos) (at_new repos) None → (moment : ℕ) × (date : List ℕ) × IfSome clock (λ c. moment ≡ c) × IsDateAt moment date × StandsFor (files_now t) (new_history date)
+    so (inl (e, m, same)) = absurd (no_fault _ e)
+    so (inr (inl (why, e, rest))) = absurd (no_fault _ e)
+    so (inr (inr (e, absent, (d, (date, dated, files))))) =
+        let is = made_of (created_over shard (identifier_of clock dice d) date) (option_map files_now (at_old repos)) (files_now t) (sym (ap (option_map files_now) here) ∙ files) in
+        let holds = creations_hold_new shard d.moment (random_identifier d.bits) date is.0 size.0 (omega (arith, size.1)) dated in
+        (d.moment, date, d.moment_is, dated, new_repositories_stand (files_now t) date (subst (λ (m : Files). HoldsNew m date) (sym is.1) holds))
