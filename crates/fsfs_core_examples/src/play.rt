@@ -1,0 +1,173 @@
+// A whole text of runs, and its blocks.
+use crate::line::{Block, Line};
+use crate::player::{Named, Player, steps_of};
+use crate::step::calls_the_disk;
+use anyhow::Result;
+use std::alloc::{AllocError, Global};
+
+// Runs that begin alike: all that can be named, the lines of each before the block, and those of the block.
+#[derive(Clone, Copy)]
+struct Trials<'a> {
+    named: &'a [Named<'a>],
+    before: &'a [&'a str],
+    block: &'a [&'a str],
+}
+
+impl Trials<'_> {
+    // What the block prints after these steps, and after the next has failed.
+    fn told(
+        self,
+        alloc: Global,
+        steps: &[&str],
+        failing: Option<&str>,
+    ) -> Result<String, AllocError> {
+        let mut player = Player::new(alloc)?;
+        for line in self.before {
+            player.play(self.named, line)?;
+        }
+        player.out.clear();
+        let done = player.run(steps);
+        player.told("steps", done)?;
+        if let Some(line) = failing {
+            let failed = player.fail(line);
+            player.told(line, failed)?;
+        }
+        for line in self.block {
+            player.play(self.named, line)?;
+        }
+        Ok(player.out)
+    }
+
+    // Plays the block after each of these steps. What is printed of steps beside one another that give the same is printed
+    // once.
+    fn after(self, alloc: Global, out: &mut String, steps: &[&str]) -> Result<(), AllocError> {
+        let mut last = String::new(alloc);
+        for (at, line) in steps.iter().enumerate() {
+            let done = steps.get(..at.saturating_add(1)).unwrap_or(steps);
+            let told = self.told(alloc, done, None)?;
+            if told.as_str() != last.as_str() {
+                write!(out, "after {line}\n{told}")?;
+                last = told;
+            }
+        }
+        Ok(())
+    }
+
+    // The same, where each of these steps that calls the disk fails in each way.
+    fn faults(self, alloc: Global, out: &mut String, steps: &[&str]) -> Result<(), AllocError> {
+        let mut last = String::new(alloc);
+        for (at, line) in steps.iter().enumerate() {
+            if !calls_the_disk(line) {
+                continue;
+            }
+            let done = steps.get(..at).unwrap_or(steps);
+            for way in ["before", "after", "torn"] {
+                let failing = format!(in alloc; "{line} {way}")?;
+                let told = self.told(alloc, done, Some(failing.as_str()))?;
+                if told.as_str() != last.as_str() {
+                    write!(out, "fault {failing}\n{told}")?;
+                    last = told;
+                }
+            }
+        }
+        Ok(())
+    }
+}
+
+// Plays a block of runs in which the steps of this name are done in part.
+fn play_trials(
+    alloc: Global,
+    out: &mut String,
+    trials: Trials<'_>,
+    name: &str,
+    faults: bool,
+) -> Result<(), AllocError> {
+    match steps_of(trials.named, name) {
+        Ok(steps) if faults => trials.faults(alloc, out, steps),
+        Ok(steps) => trials.after(alloc, out, steps),
+        Err(error) => writeln!(out, "? {name}: {error}"),
+    }
+}
+
+// Where a run begins, and its first block.
+#[derive(Clone, Copy)]
+struct Run {
+    first: usize,
+    block: Option<usize>,
+}
+
+// Ends a block that began at this line, and ends at that: gives its steps their name, or plays it.
+fn end_block<'a>(
+    alloc: Global,
+    out: &mut String,
+    lines: &'a [&'a str],
+    named: &mut Vec<Named<'a>>,
+    run: Run,
+    block: (Block<'a>, usize, usize),
+) -> Result<(), AllocError> {
+    let (what, start, end) = block;
+    let body = lines.get(start.saturating_add(1)..end).unwrap_or(&[]);
+    let (name, faults) = match what {
+        Block::Steps(name) => {
+            named.push(Named { name, steps: body })?;
+            return Ok(());
+        }
+        Block::After(name) => (name, false),
+        Block::Faults(name) => (name, true),
+    };
+    let before = lines
+        .get(run.first..run.block.unwrap_or(start))
+        .unwrap_or(&[]);
+    let word = if faults { "faults" } else { "after" };
+    writeln!(out, "{word} {name}")?;
+    let trials = Trials {
+        named: named.as_slice(),
+        before,
+        block: body,
+    };
+    play_trials(alloc, out, trials, name, faults)?;
+    writeln!(out, "end")
+}
+
+/// What is printed of a text of runs.
+pub fn transcript_of(alloc: Global, text: &str) -> Result<String, AllocError> {
+    let lines: Vec<&str> = text.lines().collect(alloc)?;
+    let lines = lines.as_slice();
+    let mut named = Vec::new(alloc);
+    let mut player = Player::new(alloc)?;
+    let mut run = Run {
+        first: 0,
+        block: None,
+    };
+    let mut begun: Option<(Block<'_>, usize)> = None;
+    for (at, line) in lines.iter().enumerate() {
+        match (Line::read(line), begun) {
+            (Line::Run(name), None) => {
+                player.begin(name)?;
+                run = Run {
+                    first: at.saturating_add(1),
+                    block: None,
+                };
+            }
+            (Line::Begin(block), None) => begun = Some((block, at)),
+            (Line::End, Some((block, start))) => {
+                end_block(
+                    alloc,
+                    &mut player.out,
+                    lines,
+                    &mut named,
+                    run,
+                    (block, start, at),
+                )?;
+                run.block = run.block.or(Some(start));
+                begun = None;
+            }
+            (_, Some(_)) => {}
+            (_, None) => player.play(&named, line)?,
+        }
+    }
+    if begun.is_some() {
+        player.out.push_str("? the last block does not end\n")?;
+    }
+    Ok(player.out)
+}
