@@ -1,11 +1,9 @@
 // One run of a program.
-use fsfs_escapes::bytes_of;
 use crate::files::{Files, disk_with};
 use crate::line::Place;
 use anyhow::{Result, anyhow, bail};
-use fsfs_memdisk::{
-    FixedClock, FixedDice, MemDisk, MemHost, MemSink, MemSource, NoGate,
-};
+use fsfs_escapes::bytes_of;
+use fsfs_memdisk::{FixedClock, FixedDice, MemDisk, MemHost, MemSink, MemSource, NoGate};
 use fsfs_top::{Tool, command};
 use std::alloc::{AllocError, Global};
 
@@ -103,5 +101,10 @@ pub fn run(alloc: Global, line: &str, files: &Files, given: &Given) -> Result<Ra
     let Some(disk) = host.take_disk("R") else {
         return Err(anyhow!("the disk is still mounted"));
     };
-    Ok(Ran { status, out, err, disk })
+    Ok(Ran {
+        status,
+        out,
+        err,
+        disk,
+    })
 }

@@ -1,8 +1,8 @@
 // The lines of an example that make and change files.
-use fsfs_escapes::bytes_of;
 use crate::files::Files;
 use crate::line::FileLine;
 use anyhow::{Result, bail};
+use fsfs_escapes::bytes_of;
 use std::alloc::Global;
 
 // The bytes of a file that is there.

@@ -61,6 +61,7 @@ fn play_each(stage: &mut Stage, block: Block<'_>, place: Place) -> Result<(), Al
         }
     }
     stage.whole = Whole::NotAsked;
+    stage.files = files;
     write!(stage.out, "then\n{whole}end\n")
 }
 

@@ -1,11 +1,11 @@
 // What the lines of an example work on.
-use fsfs_escapes::bytes_of;
 use crate::command::{Given, Ran, run};
 use crate::edit::edit;
 use crate::files::{Files, calls_since, copy_of, files_of};
 use crate::line::{Line, Place};
 use crate::transcript::{put_changes, put_file, put_files, put_run};
 use anyhow::{Result, bail};
+use fsfs_escapes::bytes_of;
 use fsfs_memdisk::MemDisk;
 use std::alloc::{AllocError, Global};
 use std::collections::BTreeMap;

@@ -1,7 +1,7 @@
 // What is printed of a run.
-use fsfs_escapes::put_lines;
 use crate::command::Ran;
 use crate::files::Files;
+use fsfs_escapes::put_lines;
 use md5::{Digest, Md5};
 use std::alloc::AllocError;
 
