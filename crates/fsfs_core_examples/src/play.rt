@@ -96,34 +96,32 @@ struct Run {
     block: Option<usize>,
 }
 
-// Ends a block that began at this line, and ends at that: gives its steps their name, or plays it.
+// Ends a block whose first line begins it, and whose other lines are these: gives its steps their name, or plays it.
 fn end_block<'a>(
     alloc: Global,
     out: &mut String,
-    lines: &'a [&'a str],
     named: &mut Vec<Named<'a>>,
-    run: Run,
-    block: (Block<'a>, usize, usize),
+    before: &[&str],
+    block: &'a [&'a str],
 ) -> Result<(), AllocError> {
-    let (what, start, end) = block;
-    let body = lines.get(start.saturating_add(1)..end).unwrap_or(&[]);
-    let (name, faults) = match what {
-        Block::Steps(name) => {
-            named.push(Named { name, steps: body })?;
+    let Some((first, lines)) = block.split_first() else {
+        return Ok(());
+    };
+    let (name, faults) = match Line::read(first) {
+        Line::Begin(Block::After(name)) => (name, false),
+        Line::Begin(Block::Faults(name)) => (name, true),
+        Line::Begin(Block::Steps(name)) => {
+            named.push(Named { name, steps: lines })?;
             return Ok(());
         }
-        Block::After(name) => (name, false),
-        Block::Faults(name) => (name, true),
+        _ => return Ok(()),
     };
-    let before = lines
-        .get(run.first..run.block.unwrap_or(start))
-        .unwrap_or(&[]);
     let word = if faults { "faults" } else { "after" };
     writeln!(out, "{word} {name}")?;
     let trials = Trials {
         named: named.as_slice(),
         before,
-        block: body,
+        block: lines,
     };
     play_trials(alloc, out, trials, name, faults)?;
     writeln!(out, "end")
@@ -135,31 +133,23 @@ pub fn transcript_of(alloc: Global, text: &str) -> Result<String, AllocError> {
     let lines = lines.as_slice();
     let mut named = Vec::new(alloc);
     let mut player = Player::new(alloc)?;
-    let mut run = Run {
-        first: 0,
-        block: None,
-    };
-    let mut begun: Option<(Block<'_>, usize)> = None;
+    // The first line of the run, that of its first block, and that of the block that is read.
+    let mut run = 0;
+    let mut first_block: Option<usize> = None;
+    let mut begun: Option<usize> = None;
     for (at, line) in lines.iter().enumerate() {
         match (Line::read(line), begun) {
             (Line::Run(name), None) => {
                 player.begin(name)?;
-                run = Run {
-                    first: at.saturating_add(1),
-                    block: None,
-                };
+                run = at.saturating_add(1);
+                first_block = None;
             }
-            (Line::Begin(block), None) => begun = Some((block, at)),
-            (Line::End, Some((block, start))) => {
-                end_block(
-                    alloc,
-                    &mut player.out,
-                    lines,
-                    &mut named,
-                    run,
-                    (block, start, at),
-                )?;
-                run.block = run.block.or(Some(start));
+            (Line::Begin(_), None) => begun = Some(at),
+            (Line::End, Some(start)) => {
+                let before = lines.get(run..first_block.unwrap_or(start)).unwrap_or(&[]);
+                let block = lines.get(start..at).unwrap_or(&[]);
+                end_block(alloc, &mut player.out, &mut named, before, block)?;
+                first_block = first_block.or(Some(start));
                 begun = None;
             }
             (_, Some(_)) => {}
