@@ -127,10 +127,8 @@ fn end_block<'a>(
     writeln!(out, "end")
 }
 
-/// What is printed of a text of runs.
-pub fn transcript_of(alloc: Global, text: &str) -> Result<String, AllocError> {
-    let lines: Vec<&str> = text.lines().collect(alloc)?;
-    let lines = lines.as_slice();
+// What is printed of these lines.
+fn play_lines<'a>(alloc: Global, lines: &'a [&'a str]) -> Result<String, AllocError> {
     let mut named = Vec::new(alloc);
     let mut player = Player::new(alloc)?;
     // The first line of the run, that of its first block, and that of the block that is read.
@@ -160,4 +158,10 @@ pub fn transcript_of(alloc: Global, text: &str) -> Result<String, AllocError> {
         player.out.push_str("? the last block does not end\n")?;
     }
     Ok(player.out)
+}
+
+/// What is printed of a text of runs.
+pub fn transcript_of(alloc: Global, text: &str) -> Result<String, AllocError> {
+    let lines: Vec<&str> = text.lines().collect(alloc)?;
+    play_lines(alloc, &lines)
 }
