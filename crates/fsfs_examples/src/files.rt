@@ -1,0 +1,59 @@
+// The files of a repository, and disks with them.
+use anyhow::{Result, anyhow, bail};
+use fsfs_disk::{Disk, Failed, Name};
+use fsfs_memdisk::MemDisk;
+use std::alloc::{AllocError, Global};
+use std::collections::BTreeMap;
+
+/// The bytes of each file, by its name.
+pub type Files = BTreeMap<String, Vec<u8>>;
+
+fn name_of(text: &str) -> Result<Name> {
+    if text.len() > 128 {
+        bail!("too long a name");
+    }
+    Ok(Name::new(text))
+}
+
+/// A disk with these files, all of them firm, whose calls with these numbers fail; the first call after this is 1.
+pub fn disk_with(alloc: Global, files: &Files, failing: &[u64]) -> Result<MemDisk> {
+    let before = (files.len() as u64).saturating_add(1);
+    let mut calls = Vec::new(alloc);
+    for call in failing {
+        calls.push(call.saturating_add(before))?;
+    }
+    let mut disk = MemDisk::with_faults(alloc, calls);
+    for (name, bytes) in files.iter() {
+        disk.put(&name_of(name.as_str())?, bytes)
+            .map_err(|_: Failed| anyhow!("no such disk"))?;
+    }
+    disk.firm_names()
+        .map_err(|_: Failed| anyhow!("no such disk"))?;
+    Ok(disk)
+}
+
+/// How many calls a disk has had since it was made with so many files.
+pub fn calls_since(disk: &MemDisk, files: usize) -> u64 {
+    disk.calls()
+        .saturating_sub((files as u64).saturating_add(1))
+}
+
+/// The files of a disk.
+pub fn files_of(alloc: Global, disk: &MemDisk) -> Result<Files, AllocError> {
+    let mut files = BTreeMap::new(alloc);
+    for (name, bytes) in disk.files(alloc)? {
+        let name = String::from_str(alloc, name)?;
+        files.insert(name, Vec::from_slice(alloc, bytes)?)?;
+    }
+    Ok(files)
+}
+
+/// The same files once more.
+pub fn copy_of(alloc: Global, files: &Files) -> Result<Files, AllocError> {
+    let mut copy = BTreeMap::new(alloc);
+    for (name, bytes) in files.iter() {
+        let name = String::from_str(alloc, name.as_str())?;
+        copy.insert(name, Vec::from_slice(alloc, bytes)?)?;
+    }
+    Ok(copy)
+}

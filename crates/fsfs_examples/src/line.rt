@@ -1,0 +1,148 @@
+// The lines of a text of examples.
+use anyhow::{Result, bail};
+
+/// Where a call fails.
+#[derive(Clone, Copy, Debug, PartialEq, Eq)]
+pub enum Place {
+    /// A call of the disk.
+    Disk,
+    /// A write of the output.
+    Output,
+    /// A write of the error output.
+    Errors,
+}
+
+impl Place {
+    fn read(word: &str) -> Result<Place> {
+        match word {
+            "disk" => Ok(Place::Disk),
+            "output" => Ok(Place::Output),
+            "errors" => Ok(Place::Errors),
+            _ => bail!("no place of a failing call"),
+        }
+    }
+
+    pub fn word(self) -> &'static str {
+        match self {
+            Place::Disk => "disk",
+            Place::Output => "output",
+            Place::Errors => "errors",
+        }
+    }
+}
+
+/// What a line does to the files. The texts in it are as they are written, with their escapes.
+#[derive(Drop)]
+pub enum FileLine<'a> {
+    /// Begins a file anew; the bytes that follow are its.
+    New(&'a str),
+    /// Goes on with a file that is there.
+    More(&'a str),
+    /// Bytes, and a newline.
+    Whole(&'a str),
+    /// Bytes.
+    Cut(&'a str),
+    /// Bytes, so many times.
+    Times(u32, &'a str),
+    /// Takes a file away.
+    Absent(&'a str),
+    /// Puts bytes in the place of those at this offset.
+    At(usize, &'a str),
+    /// Leaves so many bytes.
+    First(usize),
+}
+
+/// A line.
+#[derive(Drop)]
+pub enum Line<'a> {
+    Nothing,
+    /// Begins an example, with no files.
+    Example(&'a str),
+    /// Takes the files that were kept under a name.
+    Like(&'a str),
+    /// Keeps the files under a name.
+    Keep(&'a str),
+    OfFile(FileLine<'a>),
+    /// The moment at which commands run.
+    Moment(u64),
+    /// What the dice show.
+    Dice(&'a str),
+    /// These calls of the next command fail.
+    Failing(Place, &'a str),
+    /// Runs a command.
+    Run(&'a str),
+    /// Stops the machine: of the changes of the last command that are not firm, these are left.
+    Crash(&'a str),
+    /// Prints all files.
+    Files,
+    /// Prints one file.
+    Show(&'a str),
+    /// Prints the files that the last command changed.
+    Changes,
+    /// Prints how many files there are.
+    Count,
+    /// Begins a block that is run with each call failing in turn.
+    Each(Place),
+    /// Ends it.
+    End,
+}
+
+fn split(line: &str) -> (&str, &str) {
+    line.split_once(' ').unwrap_or((line, ""))
+}
+
+impl<'a> FileLine<'a> {
+    fn read(line: &'a str) -> Result<FileLine<'a>> {
+        if let Some(text) = line.strip_prefix('|') {
+            return Ok(FileLine::Whole(text));
+        }
+        if let Some(text) = line.strip_prefix(':') {
+            return Ok(FileLine::Cut(text));
+        }
+        let (word, rest) = split(line);
+        match word {
+            "@" => Ok(FileLine::New(rest)),
+            "+" => Ok(FileLine::More(rest)),
+            "-" => Ok(FileLine::Absent(rest)),
+            "times" => {
+                let (count, text) = split(rest);
+                Ok(FileLine::Times(count.parse::<u32>()?, text))
+            }
+            "at" => {
+                let (at, text) = split(rest);
+                Ok(FileLine::At(at.parse::<usize>()?, text))
+            }
+            "first" => Ok(FileLine::First(rest.parse::<usize>()?)),
+            _ => bail!("no such line"),
+        }
+    }
+}
+
+impl<'a> Line<'a> {
+    pub fn read(line: &'a str) -> Result<Line<'a>> {
+        if line.is_empty() || line.starts_with('#') {
+            return Ok(Line::Nothing);
+        }
+        let (word, rest) = split(line);
+        match word {
+            "==" => Ok(Line::Example(rest)),
+            "like" => Ok(Line::Like(rest)),
+            "keep" => Ok(Line::Keep(rest)),
+            "$" => Ok(Line::Run(rest)),
+            "failing" => {
+                let (place, calls) = split(rest);
+                Ok(Line::Failing(Place::read(place)?, calls))
+            }
+            "crash" => Ok(Line::Crash(rest)),
+            "files" => Ok(Line::Files),
+            "show" => Ok(Line::Show(rest)),
+            "changes" => Ok(Line::Changes),
+            "count" => Ok(Line::Count),
+            "each" => Ok(Line::Each(Place::read(rest)?)),
+            "end" => Ok(Line::End),
+            "moment" => Ok(Line::Moment(rest.parse::<u64>()?)),
+            "dice" => Ok(Line::Dice(rest)),
+            _ => Ok(Line::OfFile(FileLine::read(line)?)),
+        }
+    }
+}

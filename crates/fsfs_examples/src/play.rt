@@ -1,0 +1,91 @@
+// A whole text of examples, and its blocks.
+use crate::files::{Files, copy_of};
+use crate::line::{Line, Place};
+use crate::stage::{Stage, Whole};
+use std::alloc::{AllocError, Global};
+use std::mem;
+
+/// So many calls of a block's first command can fail in turn.
+const MOST_CALLS: u64 = 4096;
+
+/// The lines of a block, and the number of the first.
+#[derive(Clone, Copy)]
+struct Block<'a> {
+    first: usize,
+    lines: &'a [&'a str],
+}
+
+// Runs a block over these files, where a call of the first command fails or none does. What it prints.
+fn play_block(
+    stage: &mut Stage,
+    block: Block<'_>,
+    files: &Files,
+    place: Place,
+    call: Option<u64>,
+) -> Result<String, AllocError> {
+    let alloc = stage.alloc;
+    stage.files = copy_of(alloc, files)?;
+    stage.given.place = place;
+    stage.given.calls = Vec::new(alloc);
+    if let Some(call) = call {
+        stage.given.calls.push(call)?;
+    }
+    let out = mem::replace(&mut stage.out, String::new(alloc));
+    for (at, line) in block.lines.iter().enumerate() {
+        stage.play(block.first.saturating_add(at), line)?;
+    }
+    Ok(mem::replace(&mut stage.out, out))
+}
+
+// Runs a block with each call of its first command failing in turn, and then with none. What is printed of calls beside
+// one another that give the same is printed once.
+fn play_each(stage: &mut Stage, block: Block<'_>, place: Place) -> Result<(), AllocError> {
+    let files = copy_of(stage.alloc, &stage.files)?;
+    let word = place.word();
+    writeln!(stage.out, "each {word}")?;
+    stage.whole = Whole::Asked;
+    let whole = play_block(stage, block, &files, place, None)?;
+    let mut last = String::new(stage.alloc);
+    for call in 1..=MOST_CALLS {
+        let told = play_block(stage, block, &files, place, Some(call))?;
+        let is_past = match place {
+            Place::Disk => stage.calls < call,
+            _ => told.as_str() == whole.as_str(),
+        };
+        if is_past {
+            break;
+        }
+        if told.as_str() != last.as_str() {
+            write!(stage.out, "from {call}\n{told}")?;
+            last = told;
+        }
+    }
+    stage.whole = Whole::NotAsked;
+    stage.files = files;
+    write!(stage.out, "then\n{whole}end\n")
+}
+
+/// What is printed of a text of examples.
+pub fn transcript_of(alloc: Global, text: &str) -> Result<String, AllocError> {
+    let lines: Vec<&str> = text.lines().collect(alloc)?;
+    let mut stage = Stage::new(alloc);
+    let mut begun: Option<(Place, usize)> = None;
+    for (at, line) in lines.iter().enumerate() {
+        let number = at.saturating_add(1);
+        match (Line::read(line), begun) {
+            (Ok(Line::Each(place)), None) => begun = Some((place, number)),
+            (Ok(Line::End), Some((place, start))) => {
+                let lines = lines.get(start..at).unwrap_or(&[]);
+                let first = start.saturating_add(1);
+                play_each(&mut stage, Block { first, lines }, place)?;
+                begun = None;
+            }
+            (_, Some(_)) => {}
+            (_, None) => stage.play(number, line)?,
+        }
+    }
+    if begun.is_some() {
+        writeln!(stage.out, "? the last block does not end")?;
+    }
+    Ok(stage.out)
+}

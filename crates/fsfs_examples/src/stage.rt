@@ -1,0 +1,225 @@
+// What the lines of an example work on.
+use crate::command::{Given, Ran, run};
+use crate::edit::edit;
+use crate::files::{Files, calls_since, copy_of, files_of};
+use crate::line::{Line, Place};
+use crate::transcript::{put_changes, put_file, put_files, put_run};
+use anyhow::{Result, bail};
+use fsfs_escapes::bytes_of;
+use fsfs_memdisk::MemDisk;
+use std::alloc::{AllocError, Global};
+use std::collections::BTreeMap;
+use std::mem;
+
+/// So many changes of one command can be left by a stop.
+const MOST_CHANGES: usize = 4096;
+
+/// What is known of the output of a block's first command where no call fails.
+#[derive(Drop)]
+pub enum Whole {
+    NotAsked,
+    Asked,
+    Known(Vec<u8>),
+}
+
+/// The files, what the next command is given, and what has been printed.
+#[derive(Drop)]
+pub struct Stage {
+    pub alloc: Global,
+    kept: BTreeMap<String, Files>,
+    pub files: Files,
+    // The files before the last command.
+    before: Files,
+    // The name of the file that bytes go to.
+    open: String,
+    pub given: Given,
+    // The disk as the last command left it.
+    disk: Option<MemDisk>,
+    /// How many calls of the disk the last command made in which a call was to fail.
+    pub calls: u64,
+    pub whole: Whole,
+    pub out: String,
+}
+
+impl Stage {
+    pub fn new(alloc: Global) -> Stage {
+        Stage {
+            alloc,
+            kept: BTreeMap::new(alloc),
+            files: BTreeMap::new(alloc),
+            before: BTreeMap::new(alloc),
+            open: String::new(alloc),
+            given: Given::new(alloc),
+            disk: None,
+            calls: 0,
+            whole: Whole::NotAsked,
+            out: String::new(alloc),
+        }
+    }
+
+    /// Does what a line says. Where that can't be done, its number is printed, and why.
+    pub fn play(&mut self, number: usize, line: &str) -> Result<(), AllocError> {
+        let done = match Line::read(line) {
+            Ok(line) => self.act(line),
+            Err(error) => Err(error),
+        };
+        match done {
+            Ok(()) => Ok(()),
+            Err(error) => writeln!(self.out, "? {number}: {error}"),
+        }
+    }
+
+    fn act(&mut self, line: Line<'_>) -> Result<()> {
+        match line {
+            Line::Nothing => Ok(()),
+            Line::Example(name) => self.begin(name),
+            Line::Like(name) => self.take_over(name),
+            Line::Keep(name) => self.keep(name),
+            Line::OfFile(line) => edit(self.alloc, &mut self.files, &mut self.open, line),
+            Line::Moment(moment) => {
+                self.given.moment = moment;
+                Ok(())
+            }
+            Line::Dice(text) => self.throw(text),
+            Line::Failing(place, calls) => self.fail(place, calls),
+            Line::Run(line) => self.run(line),
+            Line::Crash(picks) => self.crash(picks),
+            Line::Files => Ok(put_files(&mut self.out, &self.files)?),
+            Line::Show(name) => Ok(put_file(&mut self.out, &self.files, name)?),
+            Line::Changes => Ok(put_changes(&mut self.out, &self.before, &self.files)?),
+            Line::Count => self.count(),
+            Line::Each(_) => bail!("a block in a block"),
+            Line::End => bail!("no block ends here"),
+        }
+    }
+
+    fn begin(&mut self, name: &str) -> Result<()> {
+        self.files = BTreeMap::new(self.alloc);
+        self.before = BTreeMap::new(self.alloc);
+        self.open = String::new(self.alloc);
+        self.given = Given::new(self.alloc);
+        self.disk = None;
+        writeln!(self.out, "== {name}")?;
+        Ok(())
+    }
+
+    fn take_over(&mut self, name: &str) -> Result<()> {
+        match self.kept.get(name) {
+            Some(files) => self.files = copy_of(self.alloc, files)?,
+            None => bail!("nothing is kept under this name"),
+        }
+        Ok(())
+    }
+
+    fn keep(&mut self, name: &str) -> Result<()> {
+        let name = String::from_str(self.alloc, name)?;
+        let files = copy_of(self.alloc, &self.files)?;
+        self.kept.insert(name, files)?;
+        Ok(())
+    }
+
+    fn count(&mut self) -> Result<()> {
+        let count = self.files.len();
+        writeln!(self.out, "{count} files")?;
+        Ok(())
+    }
+
+    fn throw(&mut self, text: &str) -> Result<()> {
+        let bytes = bytes_of(self.alloc, text)?;
+        if bytes.len() != 16 {
+            bail!("dice show 16 bytes");
+        }
+        self.given.dice.copy_from_slice(&bytes);
+        Ok(())
+    }
+
+    fn fail(&mut self, place: Place, calls: &str) -> Result<()> {
+        self.given.calls = numbers_of(self.alloc, calls)?;
+        self.given.place = place;
+        let word = place.word();
+        writeln!(self.out, "failing {word} {calls}")?;
+        Ok(())
+    }
+
+    // Runs a command over the files.
+    fn run(&mut self, line: &str) -> Result<()> {
+        writeln!(self.out, "$ {line}")?;
+        let ran = run(self.alloc, line, &self.files, &self.given)?;
+        if let Whole::Asked = &self.whole {
+            self.whole = Whole::Known(Vec::from_slice(self.alloc, ran.out.bytes())?);
+        }
+        let is_first_part = is_first_part(&self.whole, &self.given, &ran);
+        put_run(&mut self.out, &ran, is_first_part)?;
+        self.leave(ran.disk)?;
+        Ok(())
+    }
+
+    // Goes on with what a command left.
+    fn leave(&mut self, disk: MemDisk) -> Result<(), AllocError> {
+        if !self.given.calls.is_empty() {
+            self.calls = calls_since(&disk, self.files.len());
+        }
+        self.given.calls = Vec::new(self.alloc);
+        let files = files_of(self.alloc, &disk)?;
+        self.before = mem::replace(&mut self.files, files);
+        self.disk = Some(disk);
+        Ok(())
+    }
+
+    // Stops the machine after the last command.
+    fn crash(&mut self, picks: &str) -> Result<()> {
+        let Some(disk) = self.disk.take() else {
+            bail!("no command before this");
+        };
+        let picked = picks_of(self.alloc, picks, self.before.len())?;
+        let left = disk.crash(&picked)?;
+        self.files = files_of(self.alloc, &left)?;
+        writeln!(self.out, "crash {picks}")?;
+        Ok(())
+    }
+}
+
+// Whether the output of a run in which a call failed is a first part of the whole, and that is all that can be known of it.
+// Where the output itself failed before anything was written, it is known that nothing was.
+fn is_first_part(whole: &Whole, given: &Given, ran: &Ran) -> bool {
+    if given.calls.is_empty() || ran.status == 0 {
+        return false;
+    }
+    if given.place == Place::Output && ran.out.bytes().is_empty() {
+        return false;
+    }
+    match whole {
+        Whole::Known(whole) => {
+            !whole.is_empty() && whole.as_slice().starts_with(ran.out.bytes())
+        }
+        _ => false,
+    }
+}
+
+// Numbers with a space between each two.
+fn numbers_of(alloc: Global, text: &str) -> Result<Vec<u64>> {
+    let mut numbers = Vec::new(alloc);
+    for number in text.split(' ') {
+        numbers.push(number.parse::<u64>()?)?;
+    }
+    Ok(numbers)
+}
+
+// Which changes are left of a command over so many files: `none`, `all`, or those with these numbers, the first being 1.
+fn picks_of(alloc: Global, text: &str, files: usize) -> Result<Vec<bool>> {
+    // The disk was made by a change for each file and one that made them firm.
+    let before = files.saturating_add(1);
+    let all = before.saturating_add(MOST_CHANGES);
+    let mut picks = vec![in alloc; text == "all"; all]?;
+    if text == "all" || text == "none" {
+        return Ok(picks);
+    }
+    for number in numbers_of(alloc, text)? {
+        let at = usize::try_from(number)?.saturating_add(files);
+        match picks.get_mut(at) {
+            Some(pick) if number > 0 => *pick = true,
+            _ => bail!("no such change"),
+        }
+    }
+    Ok(picks)
+}
