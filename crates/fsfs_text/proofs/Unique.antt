@@ -12,7 +12,7 @@ use Rattle.fsfs_text.proofs.Numerals.{value_grows, numeral_one, numeral_push, di
 pub digit_same : (c d : ℕ) → digit c < 36 → digit c ≡ digit d → c ≡ d
 digit_same c d lt e = grind (arith, nat_tests)
 
-abbrev AreDigits : ℕ → List ℕ → Type 0
+abbrev pub AreDigits : ℕ → List ℕ → Type 0
 AreDigits base = AllByRecursion (λ d. digit d < base)
 
 -- as many digits, behind what went before, that stand for the same number
