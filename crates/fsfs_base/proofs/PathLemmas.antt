@@ -45,7 +45,7 @@ covers-antisym (x ∷ q) (y ∷ p) h g =
 pub covers-length : (q p : Path) → covers q p ≡ true → length q ≤ length p
 covers-length [] p h = omega arith
 covers-length (x ∷ q) [] h = absurd (false≢true h)
-covers-length (x ∷ q) (y ∷ p) h = let r = covers-length q p (and_parts _ _ h).1 in omega arith
+covers-length (x ∷ q) (y ∷ p) h = let r = covers-length q p (and_parts (same_name x y) (covers q p) h).1 in omega (arith, r)
 
 pub covers-longer : (q x : Path) → covers q (q ++ x) ≡ true
 covers-longer [] x = refl
