@@ -1,43 +1,8 @@
 -- Prefixes of paths.
-use Rattle.std.proofs.Common.{◌≡◌, Bool, true, false, ◌&&◌, ◌||◌, [], ◌∷◌, refl, sym, ◌∙◌, ap, subst, inl, inr, ◌⊎◌}
-use mathlib.Core.Bool.{false≢true}
+use Rattle.std.proofs.Common.{◌≡◌, ◌≤◌, true, [], ◌∷◌, ◌++◌, length, drop, refl, sym, ◌∙◌, ap, subst, inl, inr, ◌⊎◌, arith}
+use Rattle.std.proofs.lemmas.Bool.{and_from, and_parts, false≢true}
 use Rattle.std.specs.Cmp.Lexicographic.{nat_list_eq_equiv, bytes_decides}
 use Rattle.fsfs_base.specs.Paths.{Path, Name, same_name, covers}
-
-pub both_true : (a b : Bool) → a ≡ true → b ≡ true → (a && b) ≡ true
-both_true true b p q = q
-both_true false b p q = p
-
-pub first_true : (a b : Bool) → (a && b) ≡ true → a ≡ true
-first_true true b p = refl
-first_true false b p = p
-
-pub second_true : (a b : Bool) → (a && b) ≡ true → b ≡ true
-second_true true b p = p
-second_true false b p = absurd (false≢true p)
-
-pub either_left : (a b : Bool) → a ≡ true → (a || b) ≡ true
-either_left true b p = refl
-either_left false b p = absurd (false≢true p)
-
-pub either_right : (a b : Bool) → b ≡ true → (a || b) ≡ true
-either_right true b p = refl
-either_right false b p = p
-
-pub either_case : (a b : Bool) → (a || b) ≡ true → (a ≡ true) ⊎ (b ≡ true)
-either_case true b p = inl refl
-either_case false b p = inr p
-
-pub cases : (b : Bool) → (b ≡ true) ⊎ (b ≡ false)
-cases true = inl refl
-cases false = inr refl
-
-pub not_both : (b : Bool) → b ≡ true → b ≡ false → ⊥
-not_both b t f = false≢true (sym f ∙ t)
-
-pub not_true : (b : Bool) → (b ≡ true → ⊥) → b ≡ false
-not_true true h = absurd (h refl)
-not_true false h = refl
 
 pub same_name-refl : (x : Name) → same_name x x ≡ true
 same_name-refl x = nat_list_eq_equiv.refl x
@@ -47,14 +12,14 @@ same_name-is x y h = (bytes_decides x y).0 h
 
 pub covers-refl : (p : Path) → covers p p ≡ true
 covers-refl [] = refl
-covers-refl (x ∷ p) = both_true _ _ (same_name-refl x) (covers-refl p)
+covers-refl (x ∷ p) = and_from _ _ (same_name-refl x) (covers-refl p)
 
 pub covers-trans : (q p r : Path) → covers q p ≡ true → covers p r ≡ true → covers q r ≡ true
 covers-trans [] p r h g = refl
 covers-trans (x ∷ q) [] r h g = absurd (false≢true h)
 covers-trans (x ∷ q) (y ∷ p) [] h g = absurd (false≢true g)
 covers-trans (x ∷ q) (y ∷ p) (z ∷ r) h g =
-    both_true _ _ (subst (λ v. same_name x v ≡ true) (same_name-is y z (first_true _ _ g)) (first_true _ _ h)) (covers-trans q p r (second_true _ _ h) (second_true _ _ g))
+    and_from _ _ (subst (λ v. same_name x v ≡ true) (same_name-is y z (and_parts _ _ g).0) (and_parts _ _ h).0) (covers-trans q p r (and_parts _ _ h).1 (and_parts _ _ g).1)
 
 -- of two paths at or above one path, one is at or above the other
 pub covers-either : (q g p : Path) → covers q p ≡ true → covers g p ≡ true → (covers q g ≡ true) ⊎ (covers g q ≡ true)
@@ -62,11 +27,11 @@ covers-either [] g p h k = inl refl
 covers-either (x ∷ q) [] p h k = inr refl
 covers-either (x ∷ q) (y ∷ g) [] h k = absurd (false≢true h)
 covers-either (x ∷ q) (y ∷ g) (z ∷ p) h k =
-    let xz : x ≡ z = same_name-is x z (first_true _ _ h) in
-    let yz : y ≡ z = same_name-is y z (first_true _ _ k) in
-    elim (covers-either q g p (second_true _ _ h) (second_true _ _ k)) [
-      | inl w ↦ inl (both_true _ _ (subst (λ v. same_name x v ≡ true) (xz ∙ sym yz) (same_name-refl x)) w)
-      | inr w ↦ inr (both_true _ _ (subst (λ v. same_name y v ≡ true) (yz ∙ sym xz) (same_name-refl y)) w)
+    let xz : x ≡ z = same_name-is x z (and_parts _ _ h).0 in
+    let yz : y ≡ z = same_name-is y z (and_parts _ _ k).0 in
+    elim (covers-either q g p (and_parts _ _ h).1 (and_parts _ _ k).1) [
+      | inl w ↦ inl (and_from _ _ (subst (λ v. same_name x v ≡ true) (xz ∙ sym yz) (same_name-refl x)) w)
+      | inr w ↦ inr (and_from _ _ (subst (λ v. same_name y v ≡ true) (yz ∙ sym xz) (same_name-refl y)) w)
     ]
 
 pub covers-antisym : (q p : Path) → covers q p ≡ true → covers p q ≡ true → q ≡ p
@@ -74,8 +39,20 @@ covers-antisym [] [] h g = refl
 covers-antisym [] (y ∷ p) h g = absurd (false≢true g)
 covers-antisym (x ∷ q) [] h g = absurd (false≢true h)
 covers-antisym (x ∷ q) (y ∷ p) h g =
-    ap (λ v. v ∷ q) (same_name-is x y (first_true _ _ h)) ∙ ap (λ v. y ∷ v) (covers-antisym q p (second_true _ _ h) (second_true _ _ g))
+    ap (λ v. v ∷ q) (same_name-is x y (and_parts _ _ h).0) ∙ ap (λ v. y ∷ v) (covers-antisym q p (and_parts _ _ h).1 (and_parts _ _ g).1)
 
-pub other_side : (a b : Bool) → (a && b) ≡ false → b ≡ true → a ≡ false
-other_side true b h e = absurd (not_both _ e h)
-other_side false b h e = refl
+-- what is at or above a path has no more names
+pub covers-length : (q p : Path) → covers q p ≡ true → length q ≤ length p
+covers-length [] p h = omega arith
+covers-length (x ∷ q) [] h = absurd (false≢true h)
+covers-length (x ∷ q) (y ∷ p) h = let r = covers-length q p (and_parts (same_name x y) (covers q p) h).1 in omega (arith, r)
+
+pub covers-longer : (q x : Path) → covers q (q ++ x) ≡ true
+covers-longer [] x = refl
+covers-longer (y ∷ q) x = and_from _ _ (same_name-refl y) (covers-longer q x)
+
+-- a path is what covers it, and the names after that
+pub split_at : (q p : Path) → covers q p ≡ true → q ++ drop (length q) p ≡ p
+split_at [] p h = refl
+split_at (x ∷ q) [] h = absurd (false≢true h)
+split_at (x ∷ q) (y ∷ p) h = λ i. same_name-is x y (and_parts _ _ h).0 i ∷ split_at q p (and_parts _ _ h).1 i

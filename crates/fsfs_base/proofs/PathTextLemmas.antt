@@ -1,6 +1,7 @@
 -- Names between slashes: read exactly, refused exactly.
 use Rattle.std.proofs.Common.{◌≡◌, ◌≢◌, ℕ, suc, ◌+◌, ◌<◌, ◌≤◌, Bool, true, false, ◌||◌, not, cond, eqb, ltb, leb, List, [], ◌∷◌, ◌++◌, length, Option, Some, None, refl, sym, ap, subst, ◌∙◌, append_assoc, arith, inl, inr, ◌⊎◌, map, take, get_or}
-use Rattle.std.proofs.lemmas.Bool.{ltb-true, ltb-false, leb-true, leb-false, lt-leb, le-ltb, eqb-true, eqb-false, ne_eqb}
+use Rattle.std.proofs.lemmas.Option.{same_Some}
+use Rattle.std.proofs.lemmas.Bool.{ltb-true, ltb-false, leb-true, leb-false, lt-leb, le-ltb, eqb-true, eqb-false, ne_eqb, not-true}
 use Rattle.std.proofs.lemmas.List.{nil_from_length, length-append, take_more, take_all, append-nil, map-append}
 use Rattle.std.specs.List.{AllByRecursion, position, slice_split, onto_first, list_any}
 use Rattle.fsfs_text.proofs.Readers.{chosen}
@@ -79,11 +80,8 @@ record Faulty (above at : ℕ) (name : Name) (bad : BadPath) : Type 0 where
 abbrev fault_here : ℕ → PathFault → BadPath
 fault_here at why = record { at = at; why = why }
 
-some_is : (x y : BadPath) → Some x ≡ Some y → x ≡ y
-some_is x y e = cc
-
 faulty : (above at offset : ℕ) (name : Name) (why : PathFault) (bad : BadPath) → Some (fault_here (at + offset) why) ≡ Some bad → IsNameFault above name offset why → Faulty above at name bad
-faulty above at offset name why bad e is = let same = some_is (fault_here (at + offset) why) bad e in subst (Faulty above at name) same (record { offset = offset; at_is = refl; fault = is })
+faulty above at offset name why bad e is = let same = same_Some (fault_here (at + offset) why) bad e in subst (Faulty above at name) same (record { offset = offset; at_is = refl; fault = is })
 
 faulty_here : (above at : ℕ) (name : Name) (why : PathFault) (bad : BadPath) → Some (fault_here at why) ≡ Some bad → IsNameFault above name 0 why → Faulty above at name bad
 faulty_here above at name why bad e is = let zeroed : at + 0 ≡ at = omega arith in faulty above at 0 name why bad (ap (λ (k : ℕ). Some (fault_here k why)) zeroed ∙ e) is
@@ -216,7 +214,7 @@ names_pass above at (name ∷ names) good deep = rw (name_passes above at name (
 
 -- ---- a text behind a path
 
-names_whole : (names : Path) → AllByRecursion IsName names → AllByRecursion HasNoSlash names
+pub names_whole : (names : Path) → AllByRecursion IsName names → AllByRecursion HasNoSlash names
 names_whole [] good = tt
 names_whole (x ∷ p) good = (good.0.no_slash, names_whole p good.1)
 
@@ -283,6 +281,12 @@ root_only [] is e = refl
 root_only ([] ∷ p) is e = absurd (is.names.0.some refl)
 root_only ((c ∷ x) ∷ p) is e = absurd cc
 
+-- a text has one path at most
+pub path_by_text : (p q : Path) → IsPath p → IsPath q → path_text p ≡ path_text q → p ≡ q
+path_by_text [] q a b e = root_only q b (sym e)
+path_by_text (x ∷ p) [] a b e = sym (root_only (x ∷ p) a e)
+path_by_text (x ∷ p) (y ∷ q) a b e = names_text_injective (x ∷ p) (y ∷ q) (names_whole (x ∷ p) a.names) (names_whole (y ∷ q) b.names) e
+
 pub joined_path : (above : Path) (text : List ℕ) (path : Path) → above ≡ [] → IsJoined above text path → IsPath path × (path_text path ≡ 47 ∷ text)
 joined_path above text path root w = go w.names (w.path_is ∙ ap (λ (p : Path). p ++ w.names) root) w.text_is w.good
   where
@@ -340,11 +344,7 @@ pub name_taken_back : (name : Name) → IsName name → (list_any (λ b. eqb b 4
 name_taken_back name is = (no_slash_found name is.no_slash, name_passes 0 0 name (omega arith) is)
 
 pub name_is_taken : (name : Name) (slash : Bool) → slash ≡ list_any (λ b. eqb b 47) name → None ≡ name_fault_at 0 0 name → (not slash ≡ true → IsName name) × (IsName name → not slash ≡ true)
-name_is_taken name slash is e = (λ t. name_taken name (sym is ∙ off slash t) (sym e), λ w. ap not (is ∙ (name_taken_back name w).0))
-  where
-    off : (b : Bool) → not b ≡ true → b ≡ false
-    off true t = absurd cc
-    off false t = refl
+name_is_taken name slash is e = (λ t. name_taken name (sym is ∙ not-true slash t) (sym e), λ w. ap not (is ∙ (name_taken_back name w).0))
 
 pub name_is_refused : (name : Name) (bad : BadPath) → Some bad ≡ name_fault_at 0 0 name → IsName name → ⊥
 name_is_refused name bad e w = let h = e ∙ (name_taken_back name w).1 in cc

@@ -1,23 +1,24 @@
 -- Items are read exactly, and the bytes begin with one item at most.
 use Rattle.std.proofs.Common.{◌≡◌, ℕ, ◌<◌, true, List, [], ◌∷◌, ◌++◌, length, Option, Some, None, refl, sym, ap, subst, ◌∙◌, append_assoc, arith, inl, inr}
+use Rattle.std.proofs.lemmas.Option.{same_Some}
 use Rattle.std.specs.Prelude.{is_some}
 use Rattle.std.proofs.lemmas.List.{length-append}
 use Rattle.fsfs_text.specs.Grammar.{Begins}
 use Rattle.fsfs_text.specs.Cuts.{Lacks, IsCutOf, cut, and_then}
-use Rattle.fsfs_text.proofs.CutLemmas.{cut_found, cut_again}
-use Rattle.fsfs_text.proofs.Spelling.{bound, some_is}
+use Rattle.fsfs_text.proofs.Readers.{chosen}
+use Rattle.fsfs_text.proofs.CutLemmas.{cut_found, cut_again, two_lack}
+use Rattle.fsfs_text.proofs.Spelling.{bound}
 use Rattle.fsfs_noderev.specs.Ids.{id_value}
 use Rattle.fsfs_noderev.specs.Fields.{IsIdText, IsPathText, IsSourceText}
 use Rattle.fsfs_noderev.specs.declared.node_rev.CopySource.{CopySource}
-use Rattle.fsfs_noderev.proofs.IdTexts.{pick}
 use Rattle.fsfs_noderev.proofs.Same.{id_same}
 use Rattle.fsfs_noderev.proofs.FieldTexts.{path_one, source_one}
-use Rattle.fsfs_noderev.proofs.Lines10.{id_line, path_line, source_line}
+use Rattle.fsfs_noderev.proofs.OneLine.{id_line, path_line, source_line}
 use Rattle.fsfs_changes.specs.Words.{IsFlagText, IsActionAndKind, flags_fit}
 use Rattle.fsfs_changes.specs.Items.{IsFirstLine, IsSecondLine, IsItem}
 use Rattle.fsfs_changes.specs.Reading.{HeadValue, IsHead, head_at, lines_at, checked, item_at}
 use Rattle.fsfs_changes.specs.declared.item.ChangeItem.{ChangeItem}
-use Rattle.fsfs_changes.proofs.WordTexts.{flag_lacks, action_and_kind_line, two_lack}
+use Rattle.fsfs_changes.proofs.WordTexts.{flag_lacks, action_and_kind_line}
 use Rattle.fsfs_changes.proofs.HeadTexts.{head_spells}
 
 abbrev pub value : ChangeItem → List ℕ → HeadValue
@@ -47,7 +48,7 @@ lines_found : (bytes : List ℕ) (l : List ℕ × (List ℕ × List ℕ)) → li
 lines_found bytes l e =
     let p = bound (cut 10 bytes) (λ p. and_then (cut 10 p.1) (λ q. let r : Option (List ℕ × (List ℕ × List ℕ)) = Some (p.0, (q.0, q.1)) in r)) l e in
     let q = bound (cut 10 p.0.1) (λ q. let r : Option (List ℕ × (List ℕ × List ℕ)) = Some (p.0.0, (q.0, q.1)) in r) l p.2 in
-    let same = some_is {A = List ℕ × (List ℕ × List ℕ)} (p.0.0, (q.0.0, q.0.1)) l q.2 in
+    let same = same_Some {A = List ℕ × (List ℕ × List ℕ)} (p.0.0, (q.0.0, q.0.1)) l q.2 in
     subst (λ (m : List ℕ × (List ℕ × List ℕ)). bytes ≡ m.0 ++ 10 ∷ (m.1.0 ++ 10 ∷ m.1.1)) same
     ((cut_found 10 bytes p.0.0 p.0.1 p.1).parts ∙ ap (λ (t : List ℕ). p.0.0 ++ 10 ∷ t) (cut_found 10 p.0.1 q.0.0 q.0.1 q.1).parts)
 
@@ -95,8 +96,8 @@ unfolding item_at
 head_found bytes x e =
     let b = bound (lines_at bytes) (λ l. and_then (head_at l.0) (λ h. checked h l.1)) x e in
     let d = bound (head_at b.0.0) (λ h. checked h b.0.1) x b.2 in
-    elim (pick (flags_fit d.0.1.0.0 d.0.1.1.0 d.0.1.1.1.0) (Some (d.0, b.0.1)) None x d.2) [
-      | inl v ↦ subst (λ (y : Found). IsFoundHead bytes y) (some_is {A = Found} (d.0, b.0.1) x v.1)
+    elim (chosen (flags_fit d.0.1.0.0 d.0.1.1.0 d.0.1.1.1.0) (Some (d.0, b.0.1)) None (Some x) d.2) [
+      | inl v ↦ subst (λ (y : Found). IsFoundHead bytes y) (same_Some {A = Found} (d.0, b.0.1) x v.1)
           (record { first = b.0.0; head = head_spells.found b.0.0 d.0 d.1; flags = v.0; parts = lines_found bytes b.0 b.1 })
       | inr v ↦ absurd (no v.1)
     ]
@@ -133,7 +134,7 @@ pub item_one : (bytes : List ℕ) (a b : ChangeItem) (r s : List ℕ) → Begins
 item_one bytes a b r s v w =
     let one = shown bytes a r v in
     let two = shown bytes b s w in
-    let e = some_is {A = Found} (value a one.path, (one.source, r)) (value b two.path, (two.source, s)) (sym one.read ∙ two.read) in
+    let e = same_Some {A = Found} (value a one.path, (one.source, r)) (value b two.path, (two.source, s)) (sym one.read ∙ two.read) in
     let id : a.id ≡ b.id = id_same a.id b.id (ap (λ (x : Found). x.0.0) e) in
     let path_text : one.path ≡ two.path = ap (λ (x : Found). x.0.1.1.1.1) e in
     let path : a.path ≡ b.path = path_one two.path a.path b.path (subst (λ (t : List ℕ). IsPathText t a.path) path_text one.path_is) two.path_is in
@@ -170,7 +171,7 @@ not_some o e some = let f = sym (ap is_some e) ∙ some in absurd cc
 pub seen : (bytes : List ℕ) (v : Found) (item : ChangeItem) (rest : List ℕ) → (let o : Option Found = Some v in o) ≡ item_at bytes → Begins IsItem bytes item rest → IsPathText v.0.1.1.1.1 item.path × IsSecondLine v.1.0 item.source
 seen bytes v item rest e w =
     let s = shown bytes item rest w in
-    let same = some_is {A = Found} v (value item s.path, (s.source, rest)) (e ∙ s.read) in
+    let same = same_Some {A = Found} v (value item s.path, (s.source, rest)) (e ∙ s.read) in
     (subst (λ (x : Found). IsPathText x.0.1.1.1.1 item.path) (sym same) s.path_is, subst (λ (x : Found). IsSecondLine x.1.0 item.source) (sym same) s.source_is)
 
 pub unseen : (bytes : List ℕ) (item : ChangeItem) (rest : List ℕ) → (let o : Option Found = None in o) ≡ item_at bytes → Begins IsItem bytes item rest → ⊥

@@ -1,6 +1,6 @@
 -- A set of paths' texts tells which paths came before.
 use Rattle.std.proofs.Common.{◌≡◌, ℕ, Bool, true, false, cond, ◌||◌, List, [], ◌∷◌, ◌++◌, refl, sym, ap, subst, ◌∙◌}
-use Rattle.std.specs.Prelude.{not}
+use Rattle.std.proofs.lemmas.Bool.{true≢false}
 use Rattle.std.specs.List.{AllByRecursion, list_any}
 use Rattle.std.specs.Ordering.{nat_cmp, is_eq}
 use Rattle.std.specs.Cmp.{eq_by_cmp_equiv}
@@ -53,17 +53,14 @@ same_is a b e = (bytes_eq-Decides a b).0 (sym (is_eq-slice_cmp a b) ∙ e)
 is_same : (a b : List ℕ) → a ≡ b → same_text a b ≡ true
 is_same a b e = is_eq-slice_cmp a b ∙ (bytes_eq-Decides a b).1 e
 
-true_not_false : {X : Type 0} → true ≡ false → X
-true_not_false e = absurd cc
-
 -- where no item has the text, the path is a new one
 pub is_new : (items : List ChangeItem) (item : ChangeItem) (key : List ℕ) → path_text item.path ≡ key → any_has key items ≡ false → HasNewPath items item
 is_new [] item key e none = tt
 is_new (x ∷ xs) item key e none = go (is_new xs item key e) (same_text key (path_text x.path)) refl none
   where
     go : (any_has key xs ≡ false → HasNewPath xs item) → (t : Bool) → same_text key (path_text x.path) ≡ t → (t || any_has key xs) ≡ false → HasNewPath (x ∷ xs) item
-    go more true is none = true_not_false none
-    go more false is none = ((λ same. true_not_false (sym (is_same key (path_text x.path) (sym e ∙ sym (ap path_text same))) ∙ is)), more none)
+    go more true is none = absurd (true≢false none)
+    go more false is none = ((λ same. true≢false (sym (is_same key (path_text x.path) (sym e ∙ sym (ap path_text same))) ∙ is)), more none)
 
 -- an item's path is one that has a text
 abbrev pub HasPathText : ChangeItem → Type 0
@@ -76,7 +73,7 @@ path_same a b v w e =
 
 -- where an item has the text, its path is the same
 pub is_old : (items : List ChangeItem) (item : ChangeItem) (key : List ℕ) → AllByRecursion HasPathText items → HasPathText item → path_text item.path ≡ key → any_has key items ≡ true → ¬ HasNewPath items item
-is_old [] item key all one e some new = true_not_false (sym some)
+is_old [] item key all one e some new = true≢false (sym some)
 is_old (x ∷ xs) item key all one e some new = go (λ more. is_old xs item key all.1 one e more new.1) (same_text key (path_text x.path)) refl some
   where
     go : (any_has key xs ≡ true → ⊥) → (t : Bool) → same_text key (path_text x.path) ≡ t → (t || any_has key xs) ≡ true → ⊥
@@ -93,12 +90,3 @@ pub refused_twice : (bytes : List ℕ) (items : List ChangeItem) (rest : List �
 refused_twice bytes items rest item after key v w e some other behind u new =
     let same = item_one rest other item behind after u w in
     is_old items item key (texts_of HasNewPath [] v.front items v.before) (item_path w.front item w.text) e some (subst (λ (x : ChangeItem). HasNewPath items x) same.0 new)
-
--- what adding a text to the set tells
-pub added_new : (b there : Bool) → b ≡ not there → b ≡ true → there ≡ false
-added_new b true e is = true_not_false (sym is ∙ e)
-added_new b false e is = refl
-
-pub added_old : (b there : Bool) → b ≡ not there → b ≡ false → there ≡ true
-added_old b true e is = refl
-added_old b false e is = true_not_false (sym e ∙ is)

@@ -1,17 +1,18 @@
 -- The words of the first line are read exactly, and lack the bytes that end them.
 use Rattle.std.proofs.Common.{◌≡◌, ℕ, Bool, true, false, cond, eqb, List, [], ◌∷◌, Option, Some, None, refl, sym, ap, subst, ◌∙◌, inl, inr}
+use Rattle.std.proofs.lemmas.Option.{same_Some}
 use Rattle.std.specs.Prelude.{codes}
 use Rattle.std.specs.Str.{bytes_eq}
 use Rattle.std.proofs.lemmas.Slice.Eq.{bytes_eq-Decides}
-use Rattle.fsfs_text.specs.Cuts.{Lacks, IsCutOf, cut, and_then}
-use Rattle.fsfs_text.proofs.CutLemmas.{cut_found, cut_again, lacks_from}
-use Rattle.fsfs_text.proofs.Spelling.{Spells, bound, some_is}
+use Rattle.fsfs_text.specs.Cuts.{Lacks, cut, and_then}
+use Rattle.fsfs_text.proofs.Readers.{chosen}
+use Rattle.fsfs_text.proofs.CutLemmas.{cut_found, cut_again, two_lack, cut_lacking}
+use Rattle.fsfs_text.proofs.Spelling.{Spells, bound}
 use Rattle.fsfs_base.specs.declared.node.Kind.{Kind}
 use Rattle.fsfs_base.specs.declared.node.Kind.TheVariants.{File, Dir}
 use Rattle.fsfs_base.specs.declared.change_map.Action.{Action}
 use Rattle.fsfs_base.specs.declared.change_map.Action.TheVariants.{Add, Delete, Replace, Modify}
 use Rattle.fsfs_noderev.specs.Fields.{IsKindText}
-use Rattle.fsfs_noderev.proofs.IdTexts.{pick}
 use Rattle.fsfs_changes.specs.Words.{IsFlagText, IsActionText, IsActionAndKind}
 use Rattle.fsfs_changes.specs.Reading.{flag_at, action_at, kind_at, split_action, action_and_kind_at}
 
@@ -19,8 +20,8 @@ use Rattle.fsfs_changes.specs.Reading.{flag_at, action_at, kind_at, split_action
 
 -- a text is the word, or is read otherwise
 word : {X : Type 0} (P : X → Type 0) (text given : List ℕ) (x y : X) (other : Option X) → (text ≡ given → P x) → (other ≡ Some y → P y) → cond (bytes_eq text given) (Some x) other ≡ Some y → P y
-word P text given x y other here there e = elim (pick (bytes_eq text given) (Some x) other y e) [
-  | inl w ↦ subst P (some_is x y w.1) (here ((bytes_eq-Decides text given).0 w.0))
+word P text given x y other here there e = elim (chosen (bytes_eq text given) (Some x) other (Some y) e) [
+  | inl w ↦ subst P (same_Some x y w.1) (here ((bytes_eq-Decides text given).0 w.0))
   | inr w ↦ there w.1
 ]
 
@@ -111,10 +112,6 @@ kind_lacks : (c : ℕ) → clean c (codes "file") ≡ true → clean c (codes "d
 kind_lacks c one two text File w = given_lacks c text (codes "file") one w
 kind_lacks c one two text Dir w = given_lacks c text (codes "dir") two w
 
--- two parts and the byte between them
-pub two_lack : {X Y : Type 0} (c sep : ℕ) (G : List ℕ → X → Type 0) (H : List ℕ → Y → Type 0) → eqb sep c ≡ false → ((t : List ℕ) (x : X) → G t x → Lacks c t) → ((t : List ℕ) (y : Y) → H t y → Lacks c t) → (text : List ℕ) (p : X × Y) → IsCutOf sep G H text p → Lacks c text
-two_lack c sep G H other first second text p w = subst (λ (t : List ℕ). Lacks c t) (sym w.4) (lacks_from c w.0 (sep ∷ w.1) (first w.0 p.0 w.2) (other, second w.1 p.1 w.3))
-
 both_lack : (c : ℕ) → AreClean c → eqb 45 c ≡ false → clean c (codes "file") ≡ true → clean c (codes "dir") ≡ true → (text : List ℕ) (p : Action × Option Kind) → IsActionAndKind text p → Lacks c text
 both_lack c ok other one two text (action, None) w = action_lacks c ok text action w
 both_lack c ok other one two text (action, Some kind) w = two_lack c 45 IsActionText IsKindText other (action_lacks c ok) (kind_lacks c one two) text (action, kind) w
@@ -127,18 +124,14 @@ action_and_kind_line = both_lack 10 (record { add = refl; delete = refl; replace
 
 -- ---- an action and a kind
 
-cut_lacking : (c : ℕ) (t : List ℕ) → Lacks c t → cut c t ≡ None
-cut_lacking c [] lacks = refl
-cut_lacking c (b ∷ bs) lacks = rw (lacks.0, cut_lacking c bs lacks.1) refl
-
 split_found : (text : List ℕ) (o : Option (List ℕ × List ℕ)) → cut 45 text ≡ o → (p : Action × Option Kind) → split_action text o ≡ Some p → IsActionAndKind text p
 split_found text None is p e =
     let b = bound (action_at text) (λ action. let r : Option (Action × Option Kind) = Some (action, None) in r) p e in
-    subst (λ (q : Action × Option Kind). IsActionAndKind text q) (some_is {A = Action × Option Kind} (b.0, None) p b.2) (action_spells.found text b.0 b.1)
+    subst (λ (q : Action × Option Kind). IsActionAndKind text q) (same_Some {A = Action × Option Kind} (b.0, None) p b.2) (action_spells.found text b.0 b.1)
 split_found text (Some q) is p e =
     let b = bound (action_at q.0) (λ action. and_then (kind_at q.1) (λ kind. let r : Option (Action × Option Kind) = Some (action, Some kind) in r)) p e in
     let d = bound (kind_at q.1) (λ kind. let r : Option (Action × Option Kind) = Some (b.0, Some kind) in r) p b.2 in
-    subst (λ (q : Action × Option Kind). IsActionAndKind text q) (some_is {A = Action × Option Kind} (b.0, Some d.0) p d.2)
+    subst (λ (q : Action × Option Kind). IsActionAndKind text q) (same_Some {A = Action × Option Kind} (b.0, Some d.0) p d.2)
     (q.0, q.1, action_spells.found q.0 b.0 b.1, kind_spells.found q.1 d.0 d.1, (cut_found 45 text q.0 q.1 is).parts)
 
 both_found : (text : List ℕ) (p : Action × Option Kind) → action_and_kind_at text ≡ Some p → IsActionAndKind text p

@@ -3,9 +3,10 @@ use Rattle.std.proofs.Common.{◌≡◌, ◌<◌, ◌+◌, ℕ, zero, suc, true,
 use Rattle.std.specs.Prelude.{◌≢◌, All}
 use Rattle.std.proofs.lemmas.List.{take_more}
 use Rattle.fsfs_text.specs.Grammar.{Appends}
-use Rattle.fsfs_noderev.specs.Ids.{PartValue, New, Old, Made, PlaceValue, At, In, IdValue, IsPart, IsPlace, IsId, FitsPart, FitsPlace, FitsId, id_value}
+use Rattle.fsfs_noderev.specs.Ids.{id_value}
 use Rattle.fsfs_noderev.specs.Writing.{FitsSource}
 use Rattle.fsfs_noderev.specs.declared.node_rev.CopySource.{CopySource}
+use Rattle.fsfs_noderev.proofs.Fitting.{id_fits}
 use Rattle.fsfs_changes.specs.Words.{flags_fit}
 use Rattle.fsfs_changes.specs.Items.{IsFirstLine, IsSecondLine, IsItem, HasText}
 use Rattle.fsfs_changes.specs.Changes.{IsAny, AreChanges}
@@ -31,18 +32,6 @@ written_more {a} {b} items k item lt is before w =
     subst (λ (t : List ℕ). AreChanges t (take (k + 1) items)) (sym w.parts) (subst (λ (xs : List ChangeItem). AreChanges (a ++ w.text) xs) (sym same) more)
 
 -- ---- what was read can be written, if it has a kind
-
-part_fits : (t : List ℕ) (p : PartValue) → IsPart t p → FitsPart p
-part_fits t (New n) w = tt
-part_fits t (Old n) w = tt
-part_fits t (Made n rev) w = w.3.1
-
-place_fits : (t : List ℕ) (p : PlaceValue) → IsPlace t p → FitsPlace p
-place_fits t (At rev offset) w = w.1.2.1
-place_fits t (In base n) w = tt
-
-id_fits : (t : List ℕ) (v : IdValue) → IsId t v → FitsId v
-id_fits t v w = record { node = part_fits w.0 v.node w.2; copy = part_fits w.3.0 v.copy w.3.2; place = place_fits w.3.1 v.place w.3.3 }
 
 source_fits : (t : List ℕ) (s : Option CopySource) → IsSecondLine t s → FitsSource s
 source_fits t None w = tt

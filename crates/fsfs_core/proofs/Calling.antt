@@ -1,7 +1,15 @@
 -- A call of a section goes on where it was due; an edit is found where its transaction stands.
-use Rattle.std.proofs.Common.{◌≡◌, ◌<◌, ◌≤◌, ℕ, suc, zero, List, [], ◌∷◌, ◌++◌, length, Bool, true, false, cond, inl, inr, refl, sym, ap, subst, ◌∙◌, arith, get_or}
+use Rattle.std.proofs.Common.{◌≡◌, ◌<◌, ◌≤◌, ℕ, List, [], ◌∷◌, ◌++◌, length, Bool, true, false, cond, inl, inr, refl, sym, ap, subst, ◌∙◌, arith, get_or}
+use Rattle.std.proofs.lemmas.Option.{slice_get-get_or, slice_get_past, MatchOption-at_none, MatchOption-at_some}
+use Rattle.std.proofs.lemmas.Bool.{and_from}
 use Rattle.std.specs.Prelude.{Option, Some, None, slice_get, Result, Ok, Err, IfOk, IfSome, MatchOption, MatchResult, is_some, nat_le, nat_lt, ◌&&◌, ◌↔◌}
 use Rattle.std.specs.FinMap.{FinMap, get}
+use Rattle.jiff_core.specs.declared.civil.datetime.DateTime.{DateTime}
+use Rattle.std.specs.Map.{lookup}
+use Rattle.std.specs.BTreeMap.{is_at}
+use Rattle.std.specs.Cmp.Lexicographic.{slice_cmp}
+use Rattle.std.specs.Ordering.{nat_cmp}
+use Rattle.fsfs_fields.specs.Dates.{IsDateText}
 use Rattle.fsfs_base.specs.declared.edit.Edit.{Edit}
 use Rattle.fsfs_base.specs.declared.mark.Mark.{Mark}
 use Rattle.fsfs_base.specs.Paths.{Path, path_cmp}
@@ -10,14 +18,6 @@ use Rattle.fsfs_base.specs.Edits.{accepts, applied, mark_of, within_limits}
 use Rattle.fsfs_base.specs.Landing.{land, NoClash, IsFirstClash}
 use Rattle.fsfs_base.specs.Revisions.{Revision, tree_of}
 use Rattle.fsfs_base.specs.Transactions.{IsDated, IsNext, date_name, last_of}
-use Rattle.fsfs_fields.specs.Dates.{IsDateText}
-use Rattle.jiff_core.specs.declared.civil.datetime.DateTime.{DateTime}
-use Rattle.std.specs.Map.{lookup}
-use Rattle.std.specs.BTreeMap.{is_at}
-use Rattle.std.specs.Cmp.Lexicographic.{slice_cmp}
-use Rattle.std.specs.Ordering.{nat_cmp}
-use Rattle.fsfs_model.proofs.PathLemmas.{both_true}
-use Rattle.fsfs_world.proofs.Growing.{revisions_length}
 use Rattle.fsfs_world.specs.declared.contents.Change.{Change}
 use Rattle.fsfs_world.specs.declared.contents.Name.TheVariants.{Rev}
 use Rattle.fsfs_world.specs.declared.contents.Change.TheVariants.{Put}
@@ -34,6 +34,7 @@ use Rattle.fsfs_world.specs.declared.machine.Outcome.{Outcome}
 use Rattle.fsfs_world.specs.declared.machine.Outcome.TheVariants as outcome
 use Rattle.fsfs_world.specs.Machine.{World, did, barred, at_place, held_by, inside, is_due, due, called_by, called, edited, EditsIf, Edits, merged, MergesIf, Merges, revisions, created, recorded, file_of, at_call, answer, without_place, entry_of, Adds, AdoptsTxn}
 use Rattle.fsfs_world.specs.Kept.{Kept}
+use Rattle.fsfs_world.proofs.Growing.{revisions_length}
 use Rattle.fsfs_world.proofs.Created.{created_kept}
 
 free_due : (w : World) (s : Section) → due (record w { lock = Free }) s ≡ due w s
@@ -73,26 +74,15 @@ pub call_goes_on : {E : Type 0} (r : Result Outcome E) (w u v : World) (p : ℕ)
 call_goes_on (Ok o) w u v p place went s change held is due_here found e = e ∙ goes_on w u p place went s change held is due_here found
 call_goes_on (Err x) w u v p place went s change held is due_here found e = tt
 
--- what stands at a place
-pub stands_at : {A : Type 0} (xs : List A) (p : ℕ) (d : A) → p < length xs → slice_get xs p ≡ Some (get_or xs p d)
-stands_at [] p d less = absurd (omega (arith, less))
-stands_at (x ∷ xs) zero d less = refl
-stands_at (x ∷ xs) (suc p) d less = stands_at xs p d (omega (arith, less))
-
-pub nothing_at : {A : Type 0} (xs : List A) (p : ℕ) → length xs ≤ p → slice_get xs p ≡ None
-nothing_at [] p le = refl
-nothing_at (x ∷ xs) zero le = absurd (omega (arith, le))
-nothing_at (x ∷ xs) (suc p) le = nothing_at xs p (omega (arith, le))
-
 pub edit_none : (w : World) (t : ℕ) (edit : Edit) → length w.txns ≤ t → Edits w t edit (slice_get w.txns t) (did w outcome.Barred)
-edit_none w t edit le = subst (λ o. Edits w t edit o (did w outcome.Barred)) (sym (nothing_at w.txns t le)) refl
+edit_none w t edit le = subst (λ o. Edits w t edit o (did w outcome.Barred)) (sym (slice_get_past w.txns t le)) refl
 
 pub edit_refused : (w : World) (t : ℕ) (edit : Edit) (d : Txn) (h : List Revision) → t < length w.txns → h ≡ revisions w.history
     → false ≡ (accepts edit (tree_of h) (last_of h) (get (get_or w.txns t d).tree) && within_limits edit (get_or w.txns t d).tree)
     → Edits w t edit (slice_get w.txns t) (did w outcome.Barred)
 edit_refused w t edit d h less here refused =
     let x : Txn = get_or w.txns t d in
-    subst (λ o. Edits w t edit o (did w outcome.Barred)) (sym (stands_at w.txns t d less))
+    subst (λ o. Edits w t edit o (did w outcome.Barred)) (sym (slice_get-get_or w.txns t d less))
     (subst (λ b. EditsIf w t edit (get_or w.txns t d) b (did w outcome.Barred)) (refused ∙ ap (λ z. accepts edit (tree_of z) (last_of z) (get (get_or w.txns t d).tree) && within_limits edit (get_or w.txns t d).tree) here) refl)
 
 pub edit_found : (w v : World) (t : ℕ) (edit : Edit) (x : Txn) (h : List Revision) (tree : FinMap path_cmp Node) (mark : Mark) → slice_get w.txns t ≡ Some x → h ≡ revisions w.history
@@ -114,7 +104,7 @@ in_range w a head le less = let e : length (revisions w.history) ≡ length w.hi
     let f : nat_le a head ≡ true = grind (arith, le) in
     let more : head < length w.history = omega (arith, e, less) in
     let g : nat_lt head (length w.history) ≡ true = grind (arith, more) in
-    both_true _ _ f g
+    and_from _ _ f g
 
 -- what landing a transaction on a head gives
 abbrev pub Lands : Txn → FinMap path_cmp Node → FinMap path_cmp Node → ℕ → Result (FinMap path_cmp Node) Path → Type 0
@@ -169,16 +159,6 @@ pub created_along : {T E : Type 0} (world : T → World) (r : Result T E) (prope
 created_along world (Ok s) properties bytes e = created_kept (world s) properties bytes e
 created_along world (Err x) properties bytes e = tt
 
--- where there is none
-pub none_of : {A : Type 0} (o : Option A) (P : Type 0) (Q : A → Type 0) → o ≡ None → MatchOption o P Q → P
-none_of None P Q e m = m
-none_of (Some x) P Q e m = absurd cc
-
--- where there is one
-some_of : {A : Type 0} (o : Option A) (P : Type 0) (Q : A → Type 0) (x : A) → o ≡ Some x → MatchOption o P Q → Q x
-some_of None P Q x e m = absurd cc
-some_of (Some y) P Q x e m = subst Q (let f : y ≡ x = cc in f) m
-
 -- the revision that a commit would add, or none
 abbrev pub Finds : List Revision → ℕ → Txn → List (List ℕ × List ℕ) → Option Revision → Type 0
 Finds h p x properties o = MatchOption o ((next : Revision) → IsDated properties → IsNext h (entry_of p x properties) next → ⊥) (λ next. IsDated properties × IsNext h (entry_of p x properties) next)
@@ -188,7 +168,7 @@ pub adopts_none : (w : World) (p t : ℕ) (properties : List (List ℕ × List �
     → AdoptsTxn w p t properties bytes went (slice_get w.txns t) (did w outcome.Barred)
 adopts_none w p t properties bytes went x h o there here none found =
     subst (λ z. AdoptsTxn w p t properties bytes went z (did w outcome.Barred)) (sym there)
-    (inr ((λ next adds. none_of o _ _ none found next adds.0 (subst (λ z. IsNext z (entry_of p x properties) next) (sym here) adds.1)), refl))
+    (inr ((λ next adds. MatchOption-at_none _ _ none found next adds.0 (subst (λ z. IsNext z (entry_of p x properties) next) (sym here) adds.1)), refl))
 
 pub adopts_some : {E : Type 0} (r : Result Outcome E) (w u v : World) (p t : ℕ) (properties : List (List ℕ × List ℕ)) (bytes : List ℕ) (went : Went) (x y : Txn) (h : List Revision) (o : Option Revision) (coming : Coming)
     → slice_get w.txns t ≡ Some x → slice_get w.txns t ≡ Some y → h ≡ revisions w.history → o ≡ Some coming.revision → Finds h p x properties o
@@ -198,7 +178,7 @@ pub adopts_some : {E : Type 0} (r : Result Outcome E) (w u v : World) (p t : ℕ
 adopts_some (Err _) w u v p t properties bytes went x y h o coming there again here found_is found entry brought rest e = tt
 adopts_some (Ok a) w u v p t properties bytes went x y h o coming there again here found_is found entry brought rest e =
     let same : x ≡ y = (let f : Some x ≡ Some y = sym there ∙ again in cc) in
-    let m : IsDated properties × IsNext h (entry_of p x properties) coming.revision = some_of o _ _ coming.revision found_is found in
+    let m : IsDated properties × IsNext h (entry_of p x properties) coming.revision = MatchOption-at_some _ _ coming.revision found_is found in
     let adds : Adds w.history (entry_of p x properties) coming.revision = (m.0, subst (λ z. IsNext z (entry_of p x properties) coming.revision) here m.1) in
     subst (λ z. AdoptsTxn w p t properties bytes went z (did v a)) (sym there)
     (inl (

@@ -1,12 +1,8 @@
 -- The text of a path that is printed name by name.
-use Rattle.std.proofs.Common.{◌≡◌, ◌+◌, ◌<◌, ℕ, List, [], ◌∷◌, ◌++◌, false, length, map, take, drop, get_or, refl, sym, ap, ◌∙◌}
+use Rattle.std.proofs.Common.{◌≡◌, ◌+◌, ◌<◌, ℕ, List, ◌∷◌, ◌++◌, length, map, take, drop, get_or, sym, ap, ◌∙◌}
 use Rattle.std.proofs.lemmas.List.{take-append-drop, map-append}
-use Rattle.fsfs_base.specs.Paths.{Name, Path, names_text, path_text, is_root}
+use Rattle.fsfs_base.specs.Paths.{Name, names_text}
 use Rattle.fsfs_base.proofs.PathTextLemmas.{names_text-append, text_more}
-
-pub text_of_names : (path : Path) → is_root path ≡ false → names_text path ≡ path_text path
-text_of_names [] e = absurd cc
-text_of_names (x ∷ path) e = refl
 
 -- the names before one, that one, and those behind it
 pub text_around : {A : Type 0} (f : A → Name) (names : List A) (k : ℕ) (d : A) → k < length names

@@ -1,14 +1,14 @@
 -- Hexadecimal digits in lower case read and written back are the same.
-use Rattle.std.proofs.Common.{◌≡◌, ℕ, zero, suc, ◌+◌, ◌*◌, ◌/◌, ◌%◌, ◌<◌, Bool, true, false, ◌&&◌, ◌||◌, eqb, ltb, cond, List, [], ◌∷◌, length, slice_index, Option, Some, None, Result, Ok, Err, refl, sym, ap, subst, ◌∙◌, arith, inl, inr}
-use Rattle.std.proofs.lemmas.Bool.{and_parts, eqb-true, cases_lt}
+use Rattle.std.proofs.Common.{◌≡◌, ℕ, zero, suc, ◌+◌, ◌*◌, ◌/◌, ◌%◌, ◌<◌, Bool, true, false, ◌&&◌, eqb, ltb, cond, List, [], ◌∷◌, length, slice_index, Option, Some, None, Result, Ok, Err, refl, sym, ap, subst, ◌∙◌, arith, inl, inr}
+use Rattle.std.proofs.lemmas.Bool.{and_parts, eqb-true, cases_lt, or_parts}
 use Rattle.std.proofs.lemmas.Bool.Decides.{nat_tests}
 use Rattle.std.specs.List.{list_any}
 use Rattle.std.specs.Prelude.{MatchResult}
 use Rattle.hex.specs.Hex.{IsBytes, decode_pairs, decode_sized, hex_digit_value, value_at, pair_value, digit_or_error, encode_lower, encode_with, lower_digits, ◌>>=◌}
 use Rattle.hex.specs.declared.error.FromHexError.{FromHexError}
 use Rattle.hex.specs.declared.error.FromHexError.TheVariants.{OddLength, InvalidStringLength}
-use Rattle.fsfs_text.proofs.Readers.{chosen}
 use Rattle.hex.proofs.HexLemmas.{decode_sized-encode_lower}
+use Rattle.fsfs_text.proofs.Readers.{chosen}
 use Rattle.fsfs_fields.specs.Digests.{is_capital, IsDigestText}
 
 -- ---- the table of digits
@@ -48,10 +48,6 @@ digit_ok : (c i : ℕ) (o : Option ℕ) (v : ℕ) → digit_or_error c i o ≡ O
 digit_ok c i (Some w) v e = let same : w ≡ v = cc in ap (λ (k : ℕ). Some k) same
 digit_ok c i None v e = absurd cc
 
-either_false : (a b : Bool) → (a || b) ≡ false → (a ≡ false) × (b ≡ false)
-either_false true b e = absurd cc
-either_false false b e = (refl, e)
-
 record IsDecoded (text bytes : List ℕ) : Type 0 where
   pub size : length text ≡ 2 * length bytes
   pub bytes_are : IsBytes bytes
@@ -63,8 +59,8 @@ decoded i [] [] small e = record { size = refl; bytes_are = λ k. omega arith; t
 decoded i [] (b ∷ bytes) small e = absurd cc
 decoded i (c ∷ []) bytes small e = absurd cc
 decoded i (c ∷ d ∷ text) bytes small e =
-    let low = either_false (is_capital c) (list_any is_capital (d ∷ text)) small in
-    let lower = either_false (is_capital d) (list_any is_capital text) low.1 in
+    let low = or_parts (is_capital c) (list_any is_capital (d ∷ text)) small in
+    let lower = or_parts (is_capital d) (list_any is_capital text) low.1 in
     let pair = bind_ok (pair_value c d i) (λ byte. decode_pairs (i + 2) text >>= λ bytes. Ok (byte ∷ bytes)) bytes e in
     let high = bind_ok (value_at c i) (λ h. value_at d (i + 1) >>= λ l. Ok (h * 16 + l)) pair.0 pair.1 in
     let under = bind_ok (value_at d (i + 1)) (λ l. Ok (high.0 * 16 + l)) pair.0 high.2 in

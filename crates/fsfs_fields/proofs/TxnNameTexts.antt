@@ -1,11 +1,15 @@
 -- The names of transactions are read exactly.
-use Rattle.std.proofs.Common.{◌≡◌, ℕ, ◌<◌, ◌^◌, ◌≤◌, List, [], ◌∷◌, ◌++◌, Option, Some, None, refl, sym, ap, ◌∙◌, append_assoc, arith}
+use Rattle.std.proofs.Common.{◌≡◌, ℕ, ◌<◌, ◌^◌, ◌≤◌, List, [], ◌∷◌, ◌++◌, Option, Some, None, refl, sym, ap, subst, ◌∙◌, append_assoc, arith}
+use Rattle.std.specs.Coded.{le_prop}
+use Rattle.std.proofs.lemmas.Option.{same_Some}
 use Rattle.std.specs.Prelude.{IfSome, IsSomeAnd, option_map}
+use Rattle.fsfs_text.specs.declared.base36.B36.{B36}
+use Rattle.fsfs_text.specs.Grammar.{Appends}
 use Rattle.fsfs_text.specs.Base36.{base36}
 use Rattle.fsfs_text.specs.Numeral.{AppendsNumeral}
 use Rattle.fsfs_text.proofs.Unique.{decimal_plain, appended_decimal}
 use Rattle.fsfs_text.proofs.Base36Texts.{base36_numeral, appended_base36}
-use Rattle.fsfs_text.proofs.Spelling.{Spells, some_is, cut_spells, numeral_spells, plain_lacks}
+use Rattle.fsfs_text.proofs.Spelling.{Spells, cut_spells, numeral_spells, plain_lacks}
 use Rattle.fsfs_fields.specs.declared.txn_name.TxnName.{TxnName}
 use Rattle.fsfs_fields.specs.TxnNames.{IsTxnName, txn_text, txn_name_at}
 
@@ -24,7 +28,7 @@ pub name_only : (text : List ℕ) (r : Option TxnName) → option_map (λ t. (t.
     → (base number : ℕ) → IsTxnName text (base, number) → IsSomeAnd r (λ t. (t.base ≡ base) × (t.number.number ≡ number))
 name_only text None e base number w = let f = e ∙ txn_name_spells.again text (base, number) w in absurd cc
 name_only text (Some t) e base number w =
-    let same = some_is {A = ℕ × ℕ} (t.base, t.number.number) (base, number) (e ∙ txn_name_spells.again text (base, number) w) in
+    let same = same_Some {A = ℕ × ℕ} (t.base, t.number.number) (base, number) (e ∙ txn_name_spells.again text (base, number) w) in
     (ap (λ (p : ℕ × ℕ). p.0) same, ap (λ (p : ℕ × ℕ). p.1) same)
 
 pub name_put : (a b c d : List ℕ) (base number : ℕ) → base < 2 ^ 64 → number < 170581728179578208256 → AppendsNumeral 10 a b base → c ≡ b ++ 45 ∷ [] → AppendsNumeral 36 c d number → d ≡ a ++ txn_text base number
@@ -32,3 +36,14 @@ name_put a b c d base number wide small first dash last =
     let one = appended_decimal a b base wide first in
     let two = appended_base36 c d number small last in
     two ∙ ap (λ (t : List ℕ). t ++ base36 number) (dash ∙ ap (λ (t : List ℕ). t ++ 45 ∷ []) one) ∙ simp append_assoc
+
+pub appends_txn : {a b : List ℕ} (base number : ℕ) → base ≤ 2147483647 → number < 170581728179578208256 → b ≡ a ++ txn_text base number → Appends IsTxnName a b (base, number)
+appends_txn base number revision small e = record { text = txn_text base number; text_is = txn_text_is base number revision small; parts = e }
+
+-- names with the same numbers are the same
+pub txn_same : (a b : TxnName) → a.base ≡ b.base → a.number ≡ b.number → a ≡ b
+txn_same a b e f = go b.base e b.revision ∙ ap (λ (n : B36). let x : TxnName = record { base = b.base; number = n; revision = b.revision } in x) f
+  where
+    go : (k : ℕ) → a.base ≡ k → (q : k ≤ 2147483647) → a ≡ (let x : TxnName = record { base = k; number = a.number; revision = q } in x)
+    go k e = subst (λ (k : ℕ). (q : k ≤ 2147483647) → a ≡ (let x : TxnName = record { base = k; number = a.number; revision = q } in x)) e
+        (λ q. ap (λ (s : a.base ≤ 2147483647). let x : TxnName = record { base = a.base; number = a.number; revision = s } in x) (le_prop a.revision q))

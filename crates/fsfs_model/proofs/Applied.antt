@@ -1,8 +1,8 @@
 -- What each edit does to the paths of a tree.
-use Rattle.std.proofs.Common.{◌≡◌, ℕ, suc, ◌-◌, Bool, true, false, cond, not, ◌&&◌, List, [], ◌∷◌, refl, sym, ◌∙◌, ap, subst, inl, inr, Option, Some, None, length, take, drop, ◌++◌, ◌≤◌, arith}
+use Rattle.std.proofs.Common.{◌≡◌, ℕ, suc, ◌-◌, true, false, cond, not, ◌&&◌, List, [], ◌∷◌, refl, sym, ◌∙◌, ap, subst, inl, inr, Option, Some, None, length, take, ◌++◌, ◌≤◌, arith}
 use Rattle.std.specs.Prelude.{is_some}
 use mathlib.Core.Bool.{false≢true}
-use Rattle.std.proofs.lemmas.Bool.{leb-true}
+use Rattle.std.proofs.lemmas.Bool.{leb-true, and_from, cases_Bool, false_from_ne_true, and_parts, both_ways, not-true}
 use Rattle.std.proofs.lemmas.List.{append-nil}
 use Rattle.fsfs_base.specs.declared.mark.What.TheVariants.{Make, Gone}
 use Rattle.fsfs_base.specs.declared.edit.Edit.{Edit}
@@ -10,9 +10,9 @@ use Rattle.fsfs_base.specs.declared.edit.Edit.TheVariants.{MakeDir, MakeFile, De
 use Rattle.fsfs_base.specs.declared.node.Kind.TheVariants.{File, Dir}
 use Rattle.fsfs_base.specs.Paths.{Path, covers, is_above, same_path, same_name}
 use Rattle.fsfs_base.specs.Nodes.{Node, TreeFunction, empty_node}
-use Rattle.fsfs_model.proofs.Bases.{IsClosed, ChangesPaths}
 use Rattle.fsfs_base.specs.Edits.{without, with_node, with_copy, copied_node, with_text, with_prop, bytes_of, rest_after, can_make, parent, is_dir_node, is_file_node, accepts, applied, mark_of}
-use Rattle.fsfs_model.proofs.PathLemmas.{both_true, first_true, second_true, cases, not_both, not_true, covers-refl, covers-trans, covers-antisym, covers-either, same_name-is, same_name-refl}
+use Rattle.fsfs_base.proofs.PathLemmas.{covers-refl, covers-trans, covers-antisym, covers-either, same_name-is, same_name-refl}
+use Rattle.fsfs_model.proofs.Bases.{IsClosed, ChangesPaths}
 
 module _ (t : TreeFunction) (p : Path) where
   pub left : (q : Path) → covers p q ≡ false → is_some (without t p q) ≡ is_some (t q)
@@ -25,40 +25,36 @@ module _ (t : TreeFunction) (p : Path) where
   deleted h = (h, away, left)
 
   pub deleted_closed : IsClosed t → IsClosed (without t p)
-  deleted_closed c q x k h = elim (cases (covers p q)) [
-    | inl w ↦ absurd (not_both _ h (away x (covers-trans p q x w k)))
-    | inr out ↦ left q out ∙ c q x k (elim (cases (covers p x)) [ inl w ↦ absurd (not_both _ h (away x w)) | inr w ↦ sym (left x w) ∙ h ])
+  deleted_closed c q x k h = elim (cases_Bool (covers p q)) [
+    | inl w ↦ absurd (both_ways _ (away x (covers-trans p q x w k)) h)
+    | inr out ↦ left q out ∙ c q x k (elim (cases_Bool (covers p x)) [ inl w ↦ absurd (both_ways _ (away x w) h) | inr w ↦ sym (left x w) ∙ h ])
   ]
 
 pub same_path-is : (q p : Path) → same_path q p ≡ true → q ≡ p
 same_path-is [] [] h = refl
 same_path-is [] (y ∷ p) h = absurd (false≢true h)
 same_path-is (x ∷ q) [] h = absurd (false≢true h)
-same_path-is (x ∷ q) (y ∷ p) h = λ i. same_name-is x y (first_true _ _ h) i ∷ same_path-is q p (second_true _ _ h) i
+same_path-is (x ∷ q) (y ∷ p) h = λ i. same_name-is x y (and_parts _ _ h).0 i ∷ same_path-is q p (and_parts _ _ h).1 i
 
 pub same_path-refl : (p : Path) → same_path p p ≡ true
 same_path-refl [] = refl
-same_path-refl (x ∷ p) = both_true _ _ (same_name-refl x) (same_path-refl p)
+same_path-refl (x ∷ p) = and_from _ _ (same_name-refl x) (same_path-refl p)
 
 -- what is above a path is at or above its parent
 pub in_parent : (q p : Path) → covers q p ≡ true → covers p q ≡ false → covers q (parent p) ≡ true
 in_parent [] p c n = refl
 in_parent (x ∷ q) [] c n = absurd (false≢true c)
-in_parent (x ∷ []) (y ∷ []) c n = absurd (not_both (same_name y x && true) (both_true (same_name y x) true (turned x y (first_true (same_name x y) true c)) refl) n)
+in_parent (x ∷ []) (y ∷ []) c n = absurd (both_ways (same_name y x && true) n (and_from (same_name y x) true (turned x y (and_parts (same_name x y) true c).0) refl))
   where
     turned : (x y : List ℕ) → same_name x y ≡ true → same_name y x ≡ true
     turned x y h = subst (λ v. same_name v x ≡ true) (same_name-is x y h) (same_name-refl x)
-in_parent (x ∷ w ∷ q) (y ∷ []) c n = absurd (false≢true (second_true (same_name x y) false c))
+in_parent (x ∷ w ∷ q) (y ∷ []) c n = absurd (false≢true (and_parts (same_name x y) false c).1)
 in_parent (x ∷ q) (y ∷ z ∷ p) c n =
     let e : suc (suc (length p)) - 1 ≡ suc (suc (length p) - 1) = omega arith in
-    let same : same_name x y ≡ true = first_true _ _ c in
+    let same : same_name x y ≡ true = (and_parts _ _ c).0 in
     let back : same_name y x ≡ true = subst (λ v. same_name v x ≡ true) (same_name-is x y same) (same_name-refl x) in
-    let rest : covers q (parent (z ∷ p)) ≡ true = in_parent q (z ∷ p) (second_true _ _ c) (not_true _ (λ h. not_both (same_name y x && covers (z ∷ p) q) (both_true _ _ back h) n)) in
-    subst (λ k. covers (x ∷ q) (take k (y ∷ z ∷ p)) ≡ true) (sym e) (both_true _ _ same rest)
-
-pub negated : (b : Bool) → not b ≡ true → b ≡ false
-negated true h = absurd (false≢true h)
-negated false h = refl
+    let rest : covers q (parent (z ∷ p)) ≡ true = in_parent q (z ∷ p) (and_parts _ _ c).1 (false_from_ne_true _ (λ h. both_ways (same_name y x && covers (z ∷ p) q) n (and_from _ _ back h))) in
+    subst (λ k. covers (x ∷ q) (take k (y ∷ z ∷ p)) ≡ true) (sym e) (and_from _ _ same rest)
 
 pub dir_there : (o : Option Node) → is_dir_node o ≡ true → is_some o ≡ true
 dir_there None h = h
@@ -66,24 +62,24 @@ dir_there (Some n) h = refl
 
 module _ (t : TreeFunction) (p : Path) (c : IsClosed t) (can : can_make t p ≡ true) where
   pub free : is_some (t p) ≡ false
-  free = negated _ (second_true _ _ (first_true _ _ can))
+  free = not-true _ (and_parts _ _ (and_parts _ _ can).0).1
 
   pub above : (q : Path) → is_above q p ≡ true → is_some (t q) ≡ true
-  above q h = c q (parent p) (in_parent q p (first_true _ _ h) (negated _ (second_true _ _ h))) (dir_there (t (parent p)) (second_true _ _ can))
+  above q h = c q (parent p) (in_parent q p (and_parts _ _ h).0 (not-true _ (and_parts _ _ h).1)) (dir_there (t (parent p)) (and_parts _ _ can).1)
 
 module _ (t : TreeFunction) (p : Path) (o : Option Node) where
   elsewhere : (q : Path) → same_path q p ≡ false → is_some (with_node t p o q) ≡ is_some (t q)
   elsewhere q h = ap (λ b. is_some (cond b o (t q))) h
 
   apart : (q : Path) → covers p q ≡ false → same_path q p ≡ false
-  apart q h = not_true _ (λ k. not_both _ (subst (λ v. covers p v ≡ true) (sym (same_path-is q p k)) (covers-refl p)) h)
+  apart q h = false_from_ne_true _ (λ k. both_ways _ h (subst (λ v. covers p v ≡ true) (sym (same_path-is q p k)) (covers-refl p)))
 
   there : is_some (with_node t p o p) ≡ is_some o
   there = ap (λ b. is_some (cond b o (t p))) (same_path-refl p)
 
   -- a node that is changed in its place
   pub in_place : is_some o ≡ is_some (t p) → (q : Path) → is_some (with_node t p o q) ≡ is_some (t q)
-  in_place same q = elim (cases (same_path q p)) [
+  in_place same q = elim (cases_Bool (same_path q p)) [
     | inl w ↦ ap (λ v. is_some (with_node t p o v)) (same_path-is q p w) ∙ there ∙ same ∙ ap (λ v. is_some (t v)) (sym (same_path-is q p w))
     | inr w ↦ elsewhere q w
   ]
@@ -96,11 +92,11 @@ module _ (t : TreeFunction) (p : Path) (n : Node) (c : IsClosed t) (can : can_ma
   made = (free t p c can, there t p (Some n), above t p c can, λ q h. elsewhere t p (Some n) q (apart t p (Some n) q h))
 
   pub made_closed : IsClosed (with_node t p (Some n))
-  made_closed q x k h = elim (cases (same_path q p)) [
+  made_closed q x k h = elim (cases_Bool (same_path q p)) [
     | inl same ↦ ap (λ b. is_some (cond b (Some n) (t q))) same
-    | inr other ↦ elsewhere t p (Some n) q other ∙ (elim (cases (same_path x p)) [
-      | inl new ↦ above t p c can q (subst (λ v. is_above q v ≡ true) (same_path-is x p new) (both_true _ _ k (elim (cases (covers x q)) as (λ _. not (covers x q) ≡ true) [
-        | inl back ↦ absurd (not_both _ (subst (λ v. same_path v p ≡ true) (sym (covers-antisym q x k back)) new) other)
+    | inr other ↦ elsewhere t p (Some n) q other ∙ (elim (cases_Bool (same_path x p)) [
+      | inl new ↦ above t p c can q (subst (λ v. is_above q v ≡ true) (same_path-is x p new) (and_from _ _ k (elim (cases_Bool (covers x q)) as (λ _. not (covers x q) ≡ true) [
+        | inl back ↦ absurd (both_ways _ other (subst (λ v. same_path v p ≡ true) (sym (covers-antisym q x k back)) new))
         | inr out ↦ ap not out
       ])))
       | inr old ↦ c q x k (sym (elsewhere t p (Some n) x old) ∙ h)
@@ -111,11 +107,11 @@ pub covers_rest : (to q x : Path) → covers to q ≡ true → covers q x ≡ tr
 covers_rest [] q x h k = k
 covers_rest (w ∷ to) [] x h k = absurd (false≢true h)
 covers_rest (w ∷ to) (y ∷ q) [] h k = absurd (false≢true k)
-covers_rest (w ∷ to) (y ∷ q) (z ∷ x) h k = covers_rest to q x (second_true _ _ h) (second_true _ _ k)
+covers_rest (w ∷ to) (y ∷ q) (z ∷ x) h k = covers_rest to q x (and_parts _ _ h).1 (and_parts _ _ k).1
 
 pub covers_front : (f a b : Path) → covers a b ≡ true → covers (f ++ a) (f ++ b) ≡ true
 covers_front [] a b h = h
-covers_front (x ∷ f) a b h = both_true _ _ (same_name-refl x) (covers_front f a b h)
+covers_front (x ∷ f) a b h = and_from _ _ (same_name-refl x) (covers_front f a b h)
 
 pub nothing_after : (p : Path) → rest_after p p ≡ []
 nothing_after [] = refl
@@ -144,16 +140,16 @@ module _ (t : TreeFunction) (r : ℕ) (of : TreeFunction) (from to : Path) (c : 
   )
 
   pub copied_closed : IsClosed copy
-  copied_closed q x k h = elim (cases (covers to x)) [
-    | inr out ↦ outside q (not_true _ (λ w. not_both _ (covers-trans to q x w k) out)) ∙ c q x k (sym (outside x out) ∙ h)
-    | inl w ↦ elim (cases (covers to q)) [
+  copied_closed q x k h = elim (cases_Bool (covers to x)) [
+    | inr out ↦ outside q (false_from_ne_true _ (λ w. both_ways _ out (covers-trans to q x w k))) ∙ c q x k (sym (outside x out) ∙ h)
+    | inl w ↦ elim (cases_Bool (covers to q)) [
       | inl v ↦ below q v ∙ co (from ++ rest_after to q) (from ++ rest_after to x) (covers_front from _ _ (covers_rest to q x v k)) (sym (below x w) ∙ h)
-      | inr v ↦ outside q v ∙ above t to c can q (both_true _ _ (under q x k w v) (ap not v))
+      | inr v ↦ outside q v ∙ above t to c can q (and_from _ _ (under q x k w v) (ap not v))
     ]
   ]
     where
       under : (q x : Path) → covers q x ≡ true → covers to x ≡ true → covers to q ≡ false → covers q to ≡ true
-      under q x k w v = elim (covers-either q to x k w) [ inl y ↦ y | inr y ↦ absurd (not_both _ y v) ]
+      under q x k w v = elim (covers-either q to x k w) [ inl y ↦ y | inr y ↦ absurd (both_ways _ v y) ]
 
 pub with_text_some : (text : List ℕ) (o : Option Node) → is_some (with_text text o) ≡ is_some o
 with_text_some text None = refl
@@ -172,11 +168,11 @@ pub edit_changes : (edit : Edit) (tree : ℕ → TreeFunction) (last : ℕ) (t :
     → ChangesPaths (mark_of edit tree t).what (mark_of edit tree t).path t (applied edit tree t) × IsClosed (applied edit tree t)
 edit_changes (MakeDir path) tree last t c co h = (made t path (empty_node Dir) c h, made_closed t path (empty_node Dir) c h)
 edit_changes (MakeFile path) tree last t c co h = (made t path (empty_node File) c h, made_closed t path (empty_node File) c h)
-edit_changes (Delete path) tree last t c co h = (deleted t path (second_true _ _ h), deleted_closed t path c)
+edit_changes (Delete path) tree last t c co h = (deleted t path (and_parts _ _ h).1, deleted_closed t path c)
 edit_changes (Copy rev from to) tree last t c co h =
-    let older = co rev (leb-true rev last (second_true _ _ (first_true _ _ h))) in
-    let can = first_true _ _ (first_true _ _ h) in
-    (copied t rev (tree rev) from to c older can (second_true _ _ h), copied_closed t rev (tree rev) from to c older can (second_true _ _ h))
+    let older = co rev (leb-true rev last (and_parts _ _ (and_parts _ _ h).0).1) in
+    let can = (and_parts _ _ (and_parts _ _ h).0).0 in
+    (copied t rev (tree rev) from to c older can (and_parts _ _ h).1, copied_closed t rev (tree rev) from to c older can (and_parts _ _ h).1)
 edit_changes (PutText path text) tree last t c co h =
     let same = with_text_some text.items (t path) in
     ((file_there (t path) h, in_place t path (with_text text.items (t path)) same), placed_closed t path (with_text text.items (t path)) same c)

@@ -1,5 +1,7 @@
 -- At one path: the clashes at the second head are the same from the base as from the first head.
 use Rattle.std.proofs.Common.{◌≡◌, ℕ, ◌<◌, ◌≤◌, Bool, true, false, ◌&&◌, ◌||◌, not, refl, sym, ◌∙◌, ap, subst, inl, inr, ◌⊎◌, Option, Some, None, arith}
+use Rattle.std.proofs.lemmas.Option.{same_Some}
+use Rattle.std.proofs.lemmas.Bool.{cases_Bool, and_parts, both_ways, not-false, not-true, or_parts, leb-true, and_right}
 use Rattle.std.specs.Prelude.{is_some, nat_lt, nat_le}
 use Rattle.std.proofs.lemmas.Bool.Decides.{nat_tests}
 use borrow.Author.Tests.{ltb-true, ltb-false, lt-ltb}
@@ -9,8 +11,8 @@ use Rattle.fsfs_base.specs.declared.mark.Effects.{Effects}
 use Rattle.fsfs_base.specs.Landing.{landed_at, held_by_head, touched_by_head, props_changed_by_head, clashes_at}
 use Rattle.fsfs_base.specs.Edits.{is_dir}
 use Rattle.fsfs_base.specs.Histories.{IsOrdered}
+use Rattle.fsfs_model.proofs.Tests.{other_false}
 use Rattle.fsfs_model.proofs.Bases.{IsOlder}
-use Rattle.fsfs_model.proofs.PathLemmas.{first_true, second_true, cases, not_both}
 
 -- what IsLater says at one path
 pub record IsLaterAt (base : ℕ) (b s : Option Node) : Type 0 where
@@ -25,35 +27,9 @@ same_lt b h z le f = grind (arith, nat_tests)
 same_le : (b h z : ℕ) → b ≤ h → (z ≤ h → z ≤ b) → nat_le z b ≡ nat_le z h
 same_le b h z le f = grind (arith, nat_tests)
 
-le_from : (z b : ℕ) → nat_le z b ≡ true → z ≤ b
-le_from z b h = grind (arith, nat_tests)
-
-Some-inj : (x y : Node) → Some x ≡ Some y → x ≡ y
-Some-inj x y e = cc
-
 -- what only the clashes at a path where both sides have a node depend on
 tests_of : (touched_h kept_h away props_changed h_dressed : Bool) → Bool
 tests_of touched_h kept_h away props_changed h_dressed = touched_h && (away || not kept_h || props_changed || h_dressed)
-
-unfalse : (b : Bool) → not b ≡ false → b ≡ true
-unfalse true h = refl
-unfalse false h = absurd (false≢true (sym h))
-
-untrue : (b : Bool) → not b ≡ true → b ≡ false
-untrue true h = absurd (false≢true h)
-untrue false h = refl
-
-pub other_false : (b c : Bool) → (b && c) ≡ false → b ≡ true → c ≡ false
-other_false true c h e = h
-other_false false c h e = absurd (false≢true e)
-
-pub both_false : (b c : Bool) → (b || c) ≡ false → (b ≡ false) × (c ≡ false)
-both_false true c h = absurd (false≢true (sym h))
-both_false false c h = (refl, h)
-
-and_false : (b : Bool) → (b && false) ≡ false
-and_false true = refl
-and_false false = refl
 
 -- equal tests, where the second head either touched the directory or left it held and bare
 joined : (t1 t2 d1 d2 g k w : Bool) → t1 ≡ true → d1 ≡ true → d2 ≡ true → g ≡ false → ((t2 ≡ true) ⊎ ((k ≡ true) × (w ≡ false)))
@@ -70,11 +46,11 @@ module _ (base h1 : ℕ) (le : base ≤ h1) where
       clashes_at base d (Some x) s2 t ≡ clashes_at h1 d (Some x) s2 t1
   as_before c g r w m x None t t1 old ord l = refl
   as_before c g r w m x (Some z) t t1 old ord l =
-      let last_changed : nat_lt base z.last_changed ≡ nat_lt h1 z.last_changed = same_lt base h1 z.last_changed le (λ b. subst (λ v. v.last_changed ≤ base) (sym (Some-inj z x (l.kept z refl b))) old) in
+      let last_changed : nat_lt base z.last_changed ≡ nat_lt h1 z.last_changed = same_lt base h1 z.last_changed le (λ b. subst (λ v. v.last_changed ≤ base) (sym (same_Some z x (l.kept z refl b))) old) in
       let added : nat_le z.added base ≡ nat_le z.added h1 = same_le base h1 z.added le (λ b. let o = l.older z refl b in
-      let e : x ≡ o.0 = Some-inj x o.0 o.1 in omega (arith, o.2.added, ap (λ v. v.added) e, ord.added, ord.props_changed)) in
+      let e : x ≡ o.0 = same_Some x o.0 o.1 in omega (arith, o.2.added, ap (λ v. v.added) e, ord.added, ord.props_changed)) in
       let props_changed : nat_lt base z.props_changed ≡ nat_lt h1 z.props_changed = same_lt base h1 z.props_changed le (λ b. let o = l.same_props z refl b in
-      let e : x ≡ o.0 = Some-inj x o.0 o.1 in omega (arith, o.2, ap (λ v. v.props_changed) e, ord.props_changed)) in
+      let e : x ≡ o.0 = same_Some x o.0 o.1 in omega (arith, o.2, ap (λ v. v.props_changed) e, ord.props_changed)) in
       λ i. c && last_changed i && (not (is_dir x.kind) || not (not g && added i) || w || props_changed i)
 
   -- both touched the directory x, which is y now, and neither props_changed it
@@ -85,18 +61,18 @@ module _ (base h1 : ℕ) (le : base ≤ h1) where
   both_touched gone x y None kind last_changed added props_changed dir g l = joined true true _ _ gone false false refl dir (ap is_dir kind ∙ dir) g (inl refl)
   both_touched gone x y (Some z) kind last_changed added props_changed dir g l =
       let same_born : nat_le z.added base ≡ nat_le z.added h1 = same_le base h1 z.added le (λ b. let o = l.older z refl b in
-      let e : y ≡ o.0 = Some-inj y o.0 o.1 in let k : y.added ≤ base = le_from y.added base added in omega (arith, o.2.added, ap (λ v. v.added) e, k)) in
+      let e : y ≡ o.0 = same_Some y o.0 o.1 in let k : y.added ≤ base = leb-true y.added base added in omega (arith, o.2.added, ap (λ v. v.added) e, k)) in
       let same_dressed : nat_lt base z.props_changed ≡ nat_lt h1 z.props_changed = same_lt base h1 z.props_changed le (λ b. let o = l.same_props z refl b in
-      let e : y ≡ o.0 = Some-inj y o.0 o.1 in let k : y.props_changed ≤ base = ltb-false base y.props_changed props_changed in omega (arith, o.2, ap (λ v. v.props_changed) e, k)) in
-      let after : (nat_lt h1 z.last_changed ≡ true) ⊎ ((nat_le z.added h1 ≡ true) × (nat_lt h1 z.props_changed ≡ false)) = elim (cases (nat_lt h1 z.last_changed)) [
+      let e : y ≡ o.0 = same_Some y o.0 o.1 in let k : y.props_changed ≤ base = ltb-false base y.props_changed props_changed in omega (arith, o.2, ap (λ v. v.props_changed) e, k)) in
+      let after : (nat_lt h1 z.last_changed ≡ true) ⊎ ((nat_le z.added h1 ≡ true) × (nat_lt h1 z.props_changed ≡ false)) = elim (cases_Bool (nat_lt h1 z.last_changed)) [
         | inl w ↦ inl w
         | inr w ↦
-            let e : z ≡ y = Some-inj z y (l.kept z refl (ltb-false h1 z.last_changed w)) in
+            let e : z ≡ y = same_Some z y (l.kept z refl (ltb-false h1 z.last_changed w)) in
             inr (sym same_born ∙ ap (λ v. nat_le v.added base) e ∙ added, sym same_dressed ∙ ap (λ v. nat_lt base v.props_changed) e ∙ props_changed)
       ] in
-      let touched : nat_lt base z.last_changed ≡ true = elim (cases (nat_lt h1 z.last_changed)) [
+      let touched : nat_lt base z.last_changed ≡ true = elim (cases_Bool (nat_lt h1 z.last_changed)) [
         | inl w ↦ lt-ltb base z.last_changed (let k : h1 < z.last_changed = ltb-true h1 z.last_changed w in omega arith)
-        | inr w ↦ ap (λ v. nat_lt base v.last_changed) (Some-inj z y (l.kept z refl (ltb-false h1 z.last_changed w))) ∙ last_changed
+        | inr w ↦ ap (λ v. nat_lt base v.last_changed) (same_Some z y (l.kept z refl (ltb-false h1 z.last_changed w))) ∙ last_changed
       ] in
       (λ i. nat_lt base z.last_changed && (not (is_dir x.kind) || not (not gone && same_born i) || false || same_dressed i))
       ∙ joined (nat_lt base z.last_changed) (nat_lt h1 z.last_changed) (is_dir x.kind) (is_dir y.kind) gone (nat_le z.added h1) (nat_lt h1 z.props_changed) touched dir (ap is_dir kind ∙ dir) g after
@@ -112,8 +88,8 @@ module _ (base h1 : ℕ) (le : base ≤ h1) where
   clash_in false true r w m a s1 s2 t n q b l1 l2 = absurd (false≢true (sym (q refl).0))
   clash_in false false true w m a s1 s2 t n q b l1 l2 = absurd (false≢true (sym (q refl).1))
   clash_in false false false w m (Some x) (Some y) s2 t n q b l1 l2 = refl
-  clash_in false false false w m (Some x) None s2 t n q b l1 l2 = sym (and_false (is_some s2))
-  clash_in false false false w m None (Some y) s2 None n q b l1 l2 = and_false (is_some s2)
+  clash_in false false false w m (Some x) None s2 t n q b l1 l2 = sym (and_right (is_some s2) false refl)
+  clash_in false false false w m None (Some y) s2 None n q b l1 l2 = and_right (is_some s2) false refl
   clash_in false false false w m None (Some y) s2 (Some v) n q b l1 l2 = absurd (false≢true (sym n))
   clash_in false false false w m None None s2 None n q b l1 l2 = refl
   clash_in false false false w m None None s2 (Some v) n q b l1 l2 = refl
@@ -125,23 +101,23 @@ module _ (base h1 : ℕ) (le : base ≤ h1) where
       away true g w = refl
       away false true w = refl
       away false false w = refl
-  clash_in true g r w m (Some x) (Some y) s2 t n q b l1 l2 = elim (cases (nat_lt base y.last_changed)) [
+  clash_in true g r w m (Some x) (Some y) s2 t n q b l1 l2 = elim (cases_Bool (nat_lt base y.last_changed)) [
     | inr old ↦
         let d : Effects = record { touched = true; deleted = g; rewritten = r; props_changed = w } in
-        let e : y ≡ x = Some-inj y x (l1.kept y refl (ltb-false base y.last_changed old)) in
+        let e : y ≡ x = same_Some y x (l1.kept y refl (ltb-false base y.last_changed old)) in
         subst (λ v. clashes_at base d (Some v) s2 t ≡ clashes_at h1 d (Some y) s2 (landed_at m d (Some x) (Some y) t)) e
         (as_before true g r w m y s2 t (landed_at m d (Some x) (Some y) t) (ltb-false base y.last_changed old) (l1.ordered y refl) l2)
     | inl last_changed ↦
-        let f1 = both_false _ _ (other_false _ _ n last_changed) in
-        let f2 = both_false _ _ f1.0 in
-        let f3 = both_false _ _ f2.0 in
-        let holds : (not g && nat_le y.added base) ≡ true = unfalse _ f3.1 in
-        let added : nat_le y.added base ≡ true = second_true _ _ holds in
-        let o = l1.older y refl (le_from y.added base added) in
-        let kind : y.kind ≡ x.kind = sym o.2.kind ∙ sym (ap (λ v. v.kind) (Some-inj x o.0 o.1)) in
+        let f1 = or_parts _ _ (other_false _ _ n last_changed) in
+        let f2 = or_parts _ _ f1.0 in
+        let f3 = or_parts _ _ f2.0 in
+        let holds : (not g && nat_le y.added base) ≡ true = not-false _ f3.1 in
+        let added : nat_le y.added base ≡ true = (and_parts _ _ holds).1 in
+        let o = l1.older y refl (leb-true y.added base added) in
+        let kind : y.kind ≡ x.kind = sym o.2.kind ∙ sym (ap (λ v. v.kind) (same_Some x o.0 o.1)) in
         subst (λ v. (touched_by_head base s2 && (not (is_dir x.kind) || not (not g && held_by_head base s2) || v || props_changed_by_head base s2))
         ≡ (touched_by_head h1 s2 && (not (is_dir y.kind) || not (not g && held_by_head h1 s2) || v || props_changed_by_head h1 s2))) (sym f2.1)
-        (both_touched g x y s2 kind last_changed added f1.1 (unfalse _ f3.0) (untrue _ (first_true _ _ holds)) l2)
+        (both_touched g x y s2 kind last_changed added f1.1 (not-false _ f3.0) (not-true _ (and_parts _ _ holds).0) l2)
   ]
 
 nothing_in : (touched gone rewritten props_changed : Bool) (m : ℕ) (a t : Option Node) → gone ≡ false → rewritten ≡ false → (is_some a ≡ false → is_some t ≡ false)
@@ -158,8 +134,8 @@ nothing d m a t = nothing_in d.touched d.deleted d.rewritten d.props_changed m a
 
 -- a path that the transaction did not touch clashes only where it brings a node that the first head lacks
 pub clash_means : (h1 : ℕ) (d : Effects) (s1 s2 t1 : Option Node) → clashes_at h1 d s1 s2 t1 ≡ true → d.touched ≡ false → (is_some t1 ≡ true) × (s1 ≡ None)
-clash_means h1 d None s2 t1 h u = (second_true _ _ h, refl)
-clash_means h1 d (Some y) s2 t1 h u = absurd (not_both _ (first_true _ _ (first_true _ _ h)) u)
+clash_means h1 d None s2 t1 h u = ((and_parts _ _ h).1, refl)
+clash_means h1 d (Some y) s2 t1 h u = absurd (both_ways _ u (and_parts _ _ (and_parts _ _ h).0).0)
 
 pub clash_twice_at : (base h1 : ℕ) → base ≤ h1 → (d : Effects) (m : ℕ) (a s1 s2 t : Option Node) → clashes_at base d a s1 t ≡ false
     → (d.touched ≡ false → (d.deleted ≡ false) × (d.rewritten ≡ false)) → (is_some a ≡ false → d.touched ≡ false)

@@ -1,5 +1,6 @@
 -- What a transaction kept of its base it kept with kind and source, and with its properties where it didn't set them.
-use Rattle.std.proofs.Common.{◌≡◌, ℕ, ◌≤◌, Bool, true, false, cond, not, ◌&&◌, ◌++◌, List, [], ◌∷◌, refl, sym, ◌∙◌, ap, subst, inl, inr, ◌⊎◌, Option, Some, None}
+use Rattle.std.proofs.Common.{◌≡◌, true, false, not, ◌++◌, List, [], ◌∷◌, refl, sym, ◌∙◌, ap, subst, inl, inr, ◌⊎◌, Option, Some, None}
+use Rattle.std.proofs.lemmas.Bool.{and_from, cases_Bool, false_from_ne_true, both_ways}
 use Rattle.std.specs.Prelude.{is_some}
 use mathlib.Core.Bool.{false≢true}
 use Rattle.fsfs_base.specs.declared.mark.What.{What}
@@ -10,11 +11,12 @@ use Rattle.fsfs_base.specs.Paths.{Path, covers, same_path}
 use Rattle.fsfs_base.specs.Nodes.{Node, TreeFunction}
 use Rattle.fsfs_base.specs.Edits.{is_file_node}
 use Rattle.fsfs_base.specs.Marks.{outer, made, made_after, effects, any_covers, is_make, changes_props}
+use Rattle.fsfs_base.proofs.PathLemmas.{covers-refl, covers-trans}
 use Rattle.fsfs_model.specs.Laws.{In}
 use Rattle.fsfs_model.proofs.Bases.{IsClosed, DescribesBase}
-use Rattle.fsfs_model.proofs.Applied.{same_path-is, same_path-refl}
-use Rattle.fsfs_model.proofs.PathLemmas.{both_true, cases, not_both, not_true, covers-refl, covers-trans, found, found_in}
-use Rattle.fsfs_model.proofs.Walk.{gone_by, gone_from, gone_down}
+use Rattle.fsfs_model.proofs.Applied.{same_path-is}
+use Rattle.fsfs_model.proofs.Tests.{found, found_in}
+use Rattle.fsfs_model.proofs.MergeWalk.{gone_by, gone_from, gone_down, gone_make}
 use Rattle.fsfs_model.proofs.Owns.{In-left, In-right, In-filtered, made_push, make_adds, longer, in_outer, from_outer, new_outer, gone_stays, in_base}
 
 -- m is what is left of the base's node n
@@ -37,9 +39,6 @@ kept_all t = record {
   again = λ p h. absurd (false≢true h);
 }
 
-gone_make : (k : What) → k ≡ Gone → is_make k ≡ true → ⊥
-gone_make k e f = false≢true (sym (ap is_make e) ∙ f)
-
 text_make : (k : What) → k ≡ Text → is_make k ≡ true → ⊥
 text_make k e f = false≢true (sym (ap is_make e) ∙ f)
 
@@ -50,7 +49,7 @@ gone_prop : Gone ≡ Prop → ⊥
 gone_prop e = cc
 
 sets_props : (k : What) (p q : Path) → k ≡ Prop → covers p q ≡ true → covers q p ≡ true → changes_props k p q ≡ true
-sets_props Prop p q e c d = both_true _ _ c d
+sets_props Prop p q e c d = and_from _ _ c d
 sets_props Text p q e c d = cc
 sets_props Gone p q e c d = cc
 sets_props (Make src) p q e c d = cc
@@ -66,7 +65,7 @@ module _ (base t u : TreeFunction) (marks : List Mark) (m : Mark) (cb : IsClosed
   after = longer base t u marks m cb ct is
 
   deleted_was : (p : Path) → (effects after p).deleted ≡ false → (effects marks p).deleted ≡ false
-  deleted_was p h = not_true _ (λ k. not_both _ (gone_stays base t u marks m cb ct is p k) h)
+  deleted_was p h = false_from_ne_true _ (λ k. both_ways _ h (gone_stays base t u marks m cb ct is p k))
 
   props_stay : (p : Path) → (effects marks p).props_changed ≡ true → (effects after p).props_changed ≡ true
   props_stay p h =
@@ -74,16 +73,16 @@ module _ (base t u : TreeFunction) (marks : List Mark) (m : Mark) (cb : IsClosed
       found_in (λ x. changes_props x.what x.path p) (outer after) f.0 (in_outer base t u marks m cb ct is f.0 f.1) f.2
 
   kept_on : (p : Path) (n x : Node) → IsKept (effects marks p) n x → IsKept (effects after p) n x
-  kept_on p n x k = record { kind = k.kind; source = k.source; properties = λ h. k.properties (not_true _ (λ w. not_both _ (props_stay p w) h)) }
+  kept_on p n x k = record { kind = k.kind; source = k.source; properties = λ h. k.properties (false_from_ne_true _ (λ w. both_ways _ h (props_stay p w))) }
 
   left_alone : (p : Path) (n : Node) → base p ≡ Some n → (effects after p).deleted ≡ false → u p ≡ t p → (x : Node) × (u p ≡ Some x) × IsKept (effects after p) n x
   left_alone p n e del same = let k = keeps.same p n e (deleted_was p del) in (k.0, same ∙ k.1, kept_on p n k.0 k.2)
 
   -- what is kept of the base is below nothing made
   not_made : (p : Path) (n : Node) → base p ≡ Some n → (effects marks p).deleted ≡ false → any_covers (made marks) p ≡ false
-  not_made p n e del = not_true _ (λ h. let f = found (λ v. covers v p) (made marks) h in elim (is.new f.0 f.1) [
-    | inl none ↦ not_both _ (cb f.0 p f.2 (ap is_some e)) none
-    | inr g ↦ not_both _ (gone_down marks f.0 p f.2 g) del
+  not_made p n e del = false_from_ne_true _ (λ h. let f = found (λ v. covers v p) (made marks) h in elim (is.new f.0 f.1) [
+    | inl none ↦ both_ways _ none (cb f.0 p f.2 (ap is_some e))
+    | inr g ↦ both_ways _ del (gone_down marks f.0 p f.2 g)
   ])
 
   pub gone_back : (p : Path) → (m.what ≡ Gone → covers m.path p ≡ true → ⊥) → (effects after p).deleted ≡ true → (effects marks p).deleted ≡ true
@@ -106,17 +105,17 @@ module _ (base t u : TreeFunction) (marks : List Mark) (m : Mark) (cb : IsClosed
           by (Some n) h = refl
 
       here : any_covers (made marks) m.path ≡ false → is_file_node (t m.path) ≡ true → (o : Option Node) → base m.path ≡ o → is_file_node (base m.path) ≡ true
-      here out h None e = absurd (not_both _ (in_base base t u marks m cb ct is m.path (there h) out) (ap is_some e))
+      here out h None e = absurd (both_ways _ (ap is_some e) (in_base base t u marks m cb ct is m.path (there h) out))
       here out h (Some n) e =
-          let del : (effects marks m.path).deleted ≡ false = not_true _ (λ k. not_both _ (keeps.again m.path k (there h)) out) in
+          let del : (effects marks m.path).deleted ≡ false = false_from_ne_true _ (λ k. both_ways _ out (keeps.again m.path k (there h))) in
           let k = keeps.same m.path n e del in
           file_is (base m.path) (t m.path) n k.0 e k.1 k.2.kind h
 
   pub put_content : is_make m.what ≡ true → is_some (t m.path) ≡ false → ((q : Path) → covers m.path q ≡ false → u q ≡ t q) → KeepsContent base u after
   put_content mk none out = record {
-    same = λ p n e del. left_alone p n e del (out p (not_true _ (λ h. (let k = keeps.same p n e (deleted_was p del) in not_both _ (ct m.path p h (ap is_some k.1)) none))));
+    same = λ p n e del. left_alone p n e del (out p (false_from_ne_true _ (λ h. (let k = keeps.same p n e (deleted_was p del) in both_ways _ none (ct m.path p h (ap is_some k.1))))));
     files = still_files (λ e. absurd (text_make m.what e mk));
-    again = λ p h some. elim (cases (covers m.path p)) [
+    again = λ p h some. elim (cases_Bool (covers m.path p)) [
       | inl below ↦ found_in (λ v. covers v p) (made after) m.path (subst (λ v. In v m.path) (sym at) (In-right (made marks) (m.path ∷ []) m.path (inl refl))) below
       | inr beside ↦
           let f = found (λ v. covers v p) (made marks) (keeps.again p (gone_back p (λ e. absurd (gone_make m.what e mk)) h) (sym (ap is_some (out p beside)) ∙ some)) in
@@ -129,16 +128,16 @@ module _ (base t u : TreeFunction) (marks : List Mark) (m : Mark) (cb : IsClosed
 
   pub taken_content : m.what ≡ Gone → ((q : Path) → covers m.path q ≡ true → is_some (u q) ≡ false) → ((q : Path) → covers m.path q ≡ false → u q ≡ t q) → KeepsContent base u after
   taken_content gone none out = record {
-    same = λ p n e del. left_alone p n e del (out p (not_true _ (λ h. elim (cases (any_covers (made marks) m.path)) [
-      | inr outermost ↦ not_both _ (gone_from after m p (new_outer base t u marks m cb ct is outermost) gone h) del
+    same = λ p n e del. left_alone p n e del (out p (false_from_ne_true _ (λ h. elim (cases_Bool (any_covers (made marks) m.path)) [
+      | inr outermost ↦ both_ways _ del (gone_from after m p (new_outer base t u marks m cb ct is outermost) gone h)
       | inl inner ↦ (let f = found (λ v. covers v m.path) (made marks) inner in
-          not_both _ (found_in (λ v. covers v p) (made marks) f.0 f.1 (covers-trans f.0 m.path p f.2 h)) (not_made p n e (deleted_was p del)))
+          both_ways _ (not_made p n e (deleted_was p del)) (found_in (λ v. covers v p) (made marks) f.0 f.1 (covers-trans f.0 m.path p f.2 h)))
     ])));
     files = still_files (λ e. absurd (gone_text (sym gone ∙ e)));
     again = λ p h some.
-        let beside : covers m.path p ≡ false = not_true _ (λ w. not_both _ some (none p w)) in
-        let f = found (λ v. covers v p) (made marks) (keeps.again p (gone_back p (λ e w. not_both _ w beside) h) (sym (ap is_some (out p beside)) ∙ some)) in
-        let free : not (covers m.path f.0) ≡ true = ap not (not_true _ (λ w. not_both _ (covers-trans m.path f.0 p w f.2) beside)) in
+        let beside : covers m.path p ≡ false = false_from_ne_true _ (λ w. both_ways _ (none p w) some) in
+        let f = found (λ v. covers v p) (made marks) (keeps.again p (gone_back p (λ e w. both_ways _ beside w) h) (sym (ap is_some (out p beside)) ∙ some)) in
+        let free : not (covers m.path f.0) ≡ true = ap not (false_from_ne_true _ (λ w. both_ways _ beside (covers-trans m.path f.0 p w f.2))) in
         found_in (λ v. covers v p) (made after) f.0 (subst (λ v. In v f.0) (sym at) (In-filtered (λ v. not (covers m.path v)) (made marks) f.0 f.1 free)) f.2;
   }
     where
@@ -150,7 +149,7 @@ module _ (base t u : TreeFunction) (marks : List Mark) (m : Mark) (cb : IsClosed
       → ((q : Path) → is_some (u q) ≡ is_some (t q))
       → KeepsContent base u after
   changed_content what file out changed dom = record {
-    same = λ p n e del. elim (cases (same_path p m.path)) [
+    same = λ p n e del. elim (cases_Bool (same_path p m.path)) [
       | inr other ↦ left_alone p n e del (out p other)
       | inl here ↦ at_path p n e del (same_path-is p m.path here)
     ];
@@ -176,11 +175,11 @@ module _ (base t u : TreeFunction) (marks : List Mark) (m : Mark) (cb : IsClosed
               kind = y.2 ∙ k.2.kind;
               source = y.3 ∙ k.2.source;
               properties = λ h. elim y.4 [
-                | inr same ↦ same ∙ k.2.properties (not_true _ (λ w. not_both _ (props_stay p w) h))
+                | inr same ↦ same ∙ k.2.properties (false_from_ne_true _ (λ w. both_ways _ h (props_stay p w)))
                 | inl prop ↦
                     let outermost : any_covers (made marks) m.path ≡ false = subst (λ v. any_covers (made marks) v ≡ false) here (not_made p n e (deleted_was p del)) in
                     let sets : changes_props m.what m.path p ≡ true = subst (λ v. changes_props m.what m.path v ≡ true) (sym here) (sets_props m.what m.path m.path prop (covers-refl m.path) (covers-refl m.path)) in
-                    absurd (not_both _ (found_in (λ x. changes_props x.what x.path p) (outer after) m (new_outer base t u marks m cb ct is outermost) sets) h)
+                    absurd (both_ways _ h (found_in (λ x. changes_props x.what x.path p) (outer after) m (new_outer base t u marks m cb ct is outermost) sets))
               ];
             },
           )

@@ -1,7 +1,7 @@
 -- What stands above a path is a directory, and edits leave it so.
-use Rattle.std.proofs.Common.{◌≡◌, ℕ, ◌≤◌, Bool, true, false, cond, not, ◌&&◌, ◌++◌, List, [], ◌∷◌, refl, sym, ◌∙◌, ap, subst, inl, inr, Option, Some, None}
+use Rattle.std.proofs.Common.{◌≡◌, ℕ, ◌≤◌, true, false, cond, not, ◌++◌, List, [], ◌∷◌, refl, sym, ◌∙◌, ap, subst, inl, inr, Option, Some, None}
 use Rattle.std.specs.Prelude.{is_some}
-use Rattle.std.proofs.lemmas.Bool.{leb-true}
+use Rattle.std.proofs.lemmas.Bool.{leb-true, and_from, cases_Bool, false_from_ne_true, and_parts, both_ways, not-true}
 use mathlib.Core.Bool.{false≢true}
 use Rattle.fsfs_base.specs.declared.edit.Edit.{Edit}
 use Rattle.fsfs_base.specs.declared.edit.Edit.TheVariants.{MakeDir, MakeFile, Delete, Copy, PutText, SetProp}
@@ -11,9 +11,9 @@ use Rattle.fsfs_base.specs.Paths.{Path, covers, is_above, is_root, same_path, sa
 use Rattle.fsfs_base.specs.Nodes.{Node, TreeFunction, empty_node}
 use Rattle.fsfs_base.specs.Edits.{is_dir, is_dir_node, without, with_node, with_copy, copied_node, with_text, with_prop, bytes_of, rest_after, can_make, parent, accepts, applied}
 use Rattle.fsfs_base.specs.Histories.{IsTree}
+use Rattle.fsfs_base.proofs.PathLemmas.{covers-refl, covers-trans, covers-antisym, covers-either, same_name-is, same_name-refl}
 use Rattle.fsfs_model.proofs.Bases.{IsClosed}
-use Rattle.fsfs_model.proofs.Applied.{same_path-is, same_path-refl, in_parent, negated, free, above, left, away, covers_rest, covers_front, nothing_after, copied_some, with_text_some, with_prop_some}
-use Rattle.fsfs_model.proofs.PathLemmas.{both_true, first_true, second_true, cases, not_both, not_true, covers-refl, covers-trans, covers-antisym, covers-either, same_name-is, same_name-refl}
+use Rattle.fsfs_model.proofs.Applied.{same_path-is, in_parent, above, left, away, covers_rest, covers_front, copied_some, with_text_some, with_prop_some, dir_there}
 
 pub record HasDirs (t : TreeFunction) : Type 0 where
   pub root : is_dir_node (t []) ≡ true
@@ -39,15 +39,11 @@ tree_from t has = record {
   above = λ q p ab h. dir_node (t q) (has.above q p ab h);
 }
 
-pub dir_some : (o : Option Node) → is_dir_node o ≡ true → is_some o ≡ true
-dir_some None h = h
-dir_some (Some n) h = refl
-
 -- a tree with directories above each path is closed
 pub closed_from : (t : TreeFunction) → HasDirs t → IsClosed t
-closed_from t has q p c h = elim (cases (covers p q)) [
+closed_from t has q p c h = elim (cases_Bool (covers p q)) [
   | inl back ↦ subst (λ v. is_some (t v) ≡ true) (sym (covers-antisym q p c back)) h
-  | inr apart ↦ dir_some (t q) (has.above q p (both_true _ _ c (ap not apart)) h)
+  | inr apart ↦ dir_there (t q) (has.above q p (and_from _ _ c (ap not apart)) h)
 ]
 
 at_root : (t : TreeFunction) (p : Path) (o : Option Node) → is_root p ≡ false → is_dir_node (with_node t p o []) ≡ is_dir_node (t [])
@@ -56,16 +52,16 @@ at_root t (y ∷ p) o h = refl
 
 module _ (t : TreeFunction) (p : Path) (has : HasDirs t) (can : can_make t p ≡ true) where
   not_root : is_root p ≡ false
-  not_root = negated _ (first_true _ _ (first_true _ _ can))
+  not_root = not-true _ (and_parts _ _ (and_parts _ _ can).0).0
 
   -- what is above the new path is a directory
   pub new_above : (q : Path) → is_above q p ≡ true → is_dir_node (t q) ≡ true
   new_above q ab =
-      let up : covers q (parent p) ≡ true = in_parent q p (first_true _ _ ab) (negated _ (second_true _ _ ab)) in
-      let dir : is_dir_node (t (parent p)) ≡ true = second_true _ _ can in
-      elim (cases (covers (parent p) q)) [
+      let up : covers q (parent p) ≡ true = in_parent q p (and_parts _ _ ab).0 (not-true _ (and_parts _ _ ab).1) in
+      let dir : is_dir_node (t (parent p)) ≡ true = (and_parts _ _ can).1 in
+      elim (cases_Bool (covers (parent p) q)) [
         | inl back ↦ subst (λ v. is_dir_node (t v) ≡ true) (sym (covers-antisym q (parent p) up back)) dir
-        | inr apart ↦ has.above q (parent p) (both_true _ _ up (ap not apart)) (dir_some _ dir)
+        | inr apart ↦ has.above q (parent p) (and_from _ _ up (ap not apart)) (dir_there _ dir)
       ]
 
   other : (n : Option Node) (q : Path) → same_path q p ≡ false → is_dir_node (with_node t p n q) ≡ is_dir_node (t q)
@@ -74,15 +70,15 @@ module _ (t : TreeFunction) (p : Path) (has : HasDirs t) (can : can_make t p ≡
   pub made_dirs : (n : Option Node) → HasDirs (with_node t p n)
   made_dirs n = record {
     root = at_root t p n not_root ∙ has.root;
-    above = λ q x ab h. elim (cases (same_path x p)) [
+    above = λ q x ab h. elim (cases_Bool (same_path x p)) [
       | inl here ↦
           let e : x ≡ p = same_path-is x p here in
           let up : is_above q p ≡ true = subst (λ v. is_above q v ≡ true) e ab in
-          other n q (not_true _ (λ k. not_both _ (subst (λ v. covers p v ≡ true) (sym (same_path-is q p k)) (covers-refl p)) (negated _ (second_true _ _ up)))) ∙ new_above q up
+          other n q (false_from_ne_true _ (λ k. both_ways _ (not-true _ (and_parts _ _ up).1) (subst (λ v. covers p v ≡ true) (sym (same_path-is q p k)) (covers-refl p)))) ∙ new_above q up
       | inr there ↦
           let in_t : is_some (t x) ≡ true = sym (ap (λ b. is_some (cond b n (t x))) there) ∙ h in
-          elim (cases (same_path q p)) [
-            | inl k ↦ absurd (not_both _ (closed_from t has p x (subst (λ v. covers v x ≡ true) (same_path-is q p k) (first_true _ _ ab)) in_t) (negated _ (second_true _ _ (first_true _ _ can))))
+          elim (cases_Bool (same_path q p)) [
+            | inl k ↦ absurd (both_ways _ (not-true _ (and_parts _ _ (and_parts _ _ can).0).1) (closed_from t has p x (subst (λ v. covers v x ≡ true) (same_path-is q p k) (and_parts _ _ ab).0) in_t))
             | inr k ↦ other n q k ∙ has.above q x ab in_t
           ]
     ];
@@ -92,10 +88,10 @@ pub deleted_dirs : (t : TreeFunction) (p : Path) → HasDirs t → is_root p ≡
 deleted_dirs t [] has n = absurd (false≢true (sym n))
 deleted_dirs t (y ∷ p) has n = record {
   root = has.root;
-  above = λ q x ab h. elim (cases (covers (y ∷ p) x)) [
-    | inl w ↦ absurd (not_both _ h (away t (y ∷ p) x w))
+  above = λ q x ab h. elim (cases_Bool (covers (y ∷ p) x)) [
+    | inl w ↦ absurd (both_ways _ (away t (y ∷ p) x w) h)
     | inr out ↦
-        ap (λ b. is_dir_node (cond b None (t q))) (not_true _ (λ w. not_both _ (covers-trans (y ∷ p) q x w (first_true _ _ ab)) out))
+        ap (λ b. is_dir_node (cond b None (t q))) (false_from_ne_true _ (λ w. both_ways _ out (covers-trans (y ∷ p) q x w (and_parts _ _ ab).0)))
         ∙ has.above q x ab (sym (left t (y ∷ p) x out) ∙ h)
   ];
 }
@@ -106,16 +102,16 @@ copied_dir r f (Some n) = refl
 
 covers_back : (f a b : Path) → covers (f ++ a) (f ++ b) ≡ true → covers a b ≡ true
 covers_back [] a b h = h
-covers_back (x ∷ f) a b h = covers_back f a b (second_true _ _ h)
+covers_back (x ∷ f) a b h = covers_back f a b (and_parts _ _ h).1
 
 covers_joined : (to q x : Path) → covers to q ≡ true → covers to x ≡ true → covers (rest_after to q) (rest_after to x) ≡ true → covers q x ≡ true
 covers_joined [] q x h k r = r
 covers_joined (w ∷ to) [] x h k r = absurd (false≢true h)
 covers_joined (w ∷ to) (y ∷ q) [] h k r = absurd (false≢true k)
 covers_joined (w ∷ to) (y ∷ q) (z ∷ x) h k r =
-    let wy : w ≡ y = same_name-is w y (first_true _ _ h) in
-    let wz : w ≡ z = same_name-is w z (first_true _ _ k) in
-    both_true _ _ (subst (λ v. same_name y v ≡ true) (sym wy ∙ wz) (same_name-refl y)) (covers_joined to q x (second_true _ _ h) (second_true _ _ k) r)
+    let wy : w ≡ y = same_name-is w y (and_parts _ _ h).0 in
+    let wz : w ≡ z = same_name-is w z (and_parts _ _ k).0 in
+    and_from _ _ (subst (λ v. same_name y v ≡ true) (sym wy ∙ wz) (same_name-refl y)) (covers_joined to q x (and_parts _ _ h).1 (and_parts _ _ k).1 r)
 
 module _ (t : TreeFunction) (r : ℕ) (of : TreeFunction) (from to : Path) (has : HasDirs t) (dirs : HasDirs of) (can : can_make t to ≡ true) where
   under : (q : Path) → covers to q ≡ true → is_dir_node (with_copy t r of from to q) ≡ is_dir_node (of (from ++ rest_after to q))
@@ -132,15 +128,15 @@ module _ (t : TreeFunction) (r : ℕ) (of : TreeFunction) (from to : Path) (has 
 
   pub copied_dirs : HasDirs (with_copy t r of from to)
   copied_dirs = record {
-    root = beside [] (top to (negated _ (first_true _ _ (first_true _ _ can)))) ∙ has.root;
-    above = λ q x ab h. elim (cases (covers to x)) [
-      | inr out ↦ beside q (not_true _ (λ w. not_both _ (covers-trans to q x w (first_true _ _ ab)) out)) ∙ has.above q x ab (sym (outside x out) ∙ h)
-      | inl w ↦ elim (cases (covers to q)) [
-        | inl v ↦ under q v ∙ dirs.above (from ++ rest_after to q) (from ++ rest_after to x) (both_true _ _
-            (covers_front from _ _ (covers_rest to q x v (first_true _ _ ab)))
-            (ap not (not_true _ (λ k. not_both _ (covers_joined to x q w v (covers_back from _ _ k)) (negated _ (second_true _ _ ab))))))
+    root = beside [] (top to (not-true _ (and_parts _ _ (and_parts _ _ can).0).0)) ∙ has.root;
+    above = λ q x ab h. elim (cases_Bool (covers to x)) [
+      | inr out ↦ beside q (false_from_ne_true _ (λ w. both_ways _ out (covers-trans to q x w (and_parts _ _ ab).0))) ∙ has.above q x ab (sym (outside x out) ∙ h)
+      | inl w ↦ elim (cases_Bool (covers to q)) [
+        | inl v ↦ under q v ∙ dirs.above (from ++ rest_after to q) (from ++ rest_after to x) (and_from _ _
+            (covers_front from _ _ (covers_rest to q x v (and_parts _ _ ab).0))
+            (ap not (false_from_ne_true _ (λ k. both_ways _ (not-true _ (and_parts _ _ ab).1) (covers_joined to x q w v (covers_back from _ _ k))))))
             (sym (there x w) ∙ h)
-        | inr v ↦ beside q v ∙ new_above t to has can q (both_true _ _ (up q x (first_true _ _ ab) w v) (ap not v))
+        | inr v ↦ beside q v ∙ new_above t to has can q (and_from _ _ (up q x (and_parts _ _ ab).0 w v) (ap not v))
       ]
     ];
   }
@@ -150,7 +146,7 @@ module _ (t : TreeFunction) (r : ℕ) (of : TreeFunction) (from to : Path) (has 
       top (y ∷ p) h = refl
 
       up : (q x : Path) → covers q x ≡ true → covers to x ≡ true → covers to q ≡ false → covers q to ≡ true
-      up q x k w v = elim (covers-either q to x k w) [ inl y ↦ y | inr y ↦ absurd (not_both _ y v) ]
+      up q x k w v = elim (covers-either q to x k w) [ inl y ↦ y | inr y ↦ absurd (both_ways _ v y) ]
 
 -- a node that is changed in its place
 pub placed_dirs : (t : TreeFunction) (p : Path) (o : Option Node) → is_dir_node o ≡ is_dir_node (t p) → is_some o ≡ is_some (t p) → HasDirs t → HasDirs (with_node t p o)
@@ -160,13 +156,13 @@ placed_dirs t p o d s has = record {
 }
   where
     dir : (q : Path) → is_dir_node (with_node t p o q) ≡ is_dir_node (t q)
-    dir q = elim (cases (same_path q p)) [
+    dir q = elim (cases_Bool (same_path q p)) [
       | inl w ↦ ap (λ b. is_dir_node (cond b o (t q))) w ∙ d ∙ ap (λ v. is_dir_node (t v)) (sym (same_path-is q p w))
       | inr w ↦ ap (λ b. is_dir_node (cond b o (t q))) w
     ]
 
     some : (q : Path) → is_some (with_node t p o q) ≡ is_some (t q)
-    some q = elim (cases (same_path q p)) [
+    some q = elim (cases_Bool (same_path q p)) [
       | inl w ↦ ap (λ b. is_some (cond b o (t q))) w ∙ s ∙ ap (λ v. is_some (t v)) (sym (same_path-is q p w))
       | inr w ↦ ap (λ b. is_some (cond b o (t q))) w
     ]
@@ -182,7 +178,7 @@ prop_dir name value (Some n) = refl
 pub edit_dirs : (edit : Edit) (tree : ℕ → TreeFunction) (last : ℕ) (t : TreeFunction) → HasDirs t → ((r : ℕ) → r ≤ last → HasDirs (tree r)) → accepts edit tree last t ≡ true → HasDirs (applied edit tree t)
 edit_dirs (MakeDir path) tree last t has dirs h = made_dirs t path has h (Some (empty_node Dir))
 edit_dirs (MakeFile path) tree last t has dirs h = made_dirs t path has h (Some (empty_node File))
-edit_dirs (Delete path) tree last t has dirs h = deleted_dirs t path has (negated _ (first_true _ _ h))
-edit_dirs (Copy rev from to) tree last t has dirs h = copied_dirs t rev (tree rev) from to has (dirs rev (leb-true rev last (second_true _ _ (first_true _ _ h)))) (first_true _ _ (first_true _ _ h))
+edit_dirs (Delete path) tree last t has dirs h = deleted_dirs t path has (not-true _ (and_parts _ _ h).0)
+edit_dirs (Copy rev from to) tree last t has dirs h = copied_dirs t rev (tree rev) from to has (dirs rev (leb-true rev last (and_parts _ _ (and_parts _ _ h).0).1)) (and_parts _ _ (and_parts _ _ h).0).0
 edit_dirs (PutText path text) tree last t has dirs h = placed_dirs t path (with_text text.items (t path)) (text_dir text.items (t path)) (with_text_some text.items (t path)) has
 edit_dirs (SetProp path name value) tree last t has dirs h = placed_dirs t path (with_prop name (bytes_of value) (t path)) (prop_dir name (bytes_of value) (t path)) (with_prop_some name (bytes_of value) (t path)) has

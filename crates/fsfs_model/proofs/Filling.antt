@@ -1,12 +1,11 @@
 -- A map from paths that is filled path by path.
-use Rattle.std.proofs.Common.{◌≡◌, List, ◌∷◌, Bool, true, false, cond, ◌||◌, refl, sym, ap, subst, ◌∙◌, ◌⊎◌, inl, inr, Option, Some, None}
-use Rattle.std.specs.Prelude.{is_some}
+use Rattle.std.proofs.Common.{◌≡◌, List, ◌∷◌, Bool, true, false, cond, ◌||◌, sym, ap, subst, ◌∙◌, ◌⊎◌, inl, inr, Option, Some, None}
+use Rattle.std.proofs.lemmas.Bool.{cases_Bool}
 use Rattle.std.specs.List.{list_any}
 use Rattle.std.specs.Ordering.{eq_by_cmp}
 use Rattle.std.specs.Cmp.{Equal-is}
 use Rattle.std.specs.FinMap.{FinMap, get, insert, empty, get-empty, get-insert}
 use Rattle.fsfs_base.specs.Paths.{Path, path_cmp, path_cmp_total}
-use Rattle.fsfs_model.proofs.PathLemmas.{cases}
 use Rattle.fsfs_base.proofs.TreeLemmas.{exact_paths}
 
 abbrev pub Map : Type 0 → Type 0
@@ -17,7 +16,7 @@ abbrev pub IsFilling : {X : Type 0} → (Path → Option X) → Map X → List P
 IsFilling f m rest q = (get m q ≡ f q) ⊎ ((get m q ≡ None) × (list_any (eq_by_cmp path_cmp q) rest ≡ true))
 
 pub start : {X : Type 0} (f : Path → Option X) (m : Map X) (keys : List Path) → m ≡ empty → ((q : Path) → list_any (eq_by_cmp path_cmp q) keys ≡ false → f q ≡ None) → (q : Path) → IsFilling f m keys q
-start f m keys e outside q = elim (cases (list_any (eq_by_cmp path_cmp q) keys)) [
+start f m keys e outside q = elim (cases_Bool (list_any (eq_by_cmp path_cmp q) keys)) [
   | inl w ↦ inr (ap (λ m. get m q) e ∙ get-empty path_cmp q, w)
   | inr w ↦ inl (ap (λ m. get m q) e ∙ get-empty path_cmp q ∙ sym (outside q w))
 ]
@@ -29,7 +28,7 @@ left_over : (b c : Bool) → b ≡ false → (b || c) ≡ true → c ≡ true
 left_over b c h e = subst (λ v. (v || c) ≡ true) h e
 
 pub put : {X : Type 0} (f : Path → Option X) (m : Map X) (p : Path) (rest left : List Path) (n : X) → left ≡ p ∷ rest → f p ≡ Some n → (q : Path) → IsFilling f m left q → IsFilling f (insert m p n) rest q
-put f m p rest left n e h q w = elim (cases (eq_by_cmp path_cmp q p)) [
+put f m p rest left n e h q w = elim (cases_Bool (eq_by_cmp path_cmp q p)) [
   | inl same ↦ inl (now ∙ ap (λ b. cond b (Some n) (get m q)) same ∙ sym h ∙ ap f (sym (same_path_is q p same)))
   | inr other ↦ elim w [
     | inl done ↦ inl (now ∙ ap (λ b. cond b (Some n) (get m q)) other ∙ done)
@@ -42,14 +41,7 @@ put f m p rest left n e h q w = elim (cases (eq_by_cmp path_cmp q p)) [
 
 pub skip : {X : Type 0} (f : Path → Option X) (m : Map X) (p : Path) (rest left : List Path) → left ≡ p ∷ rest → f p ≡ None → (q : Path) → IsFilling f m left q → IsFilling f m rest q
 skip f m p rest left e h q (inl done) = inl done
-skip f m p rest left e h q (inr (none, more)) = elim (cases (eq_by_cmp path_cmp q p)) [
+skip f m p rest left e h q (inr (none, more)) = elim (cases_Bool (eq_by_cmp path_cmp q p)) [
   | inl same ↦ inl (none ∙ sym h ∙ ap f (sym (same_path_is q p same)))
   | inr other ↦ inr (none, left_over _ _ other (subst (λ xs. list_any (eq_by_cmp path_cmp q) xs ≡ true) e more))
 ]
-
-pub none_of : {A : Type 0} (o : Option A) → is_some o ≡ false → o ≡ None
-none_of None h = refl
-none_of (Some x) h = absurd (differ h)
-  where
-    differ : true ≡ false → ⊥
-    differ e = cc

@@ -1,5 +1,6 @@
 -- What the folded changes of a committed transaction tell of the new revision.
-use Rattle.std.proofs.Common.{◌≡◌, ◌∙◌, ℕ, suc, ◌-◌, ◌≤◌, sym, ap, refl, subst, Some, None, Option, List, [], ◌∷◌, ◌++◌, length, Bool, true, false, cond, not, inl, inr, ◌⊎◌, arith, append_assoc}
+use Rattle.std.proofs.Common.{◌≡◌, ◌∙◌, ℕ, ◌-◌, sym, ap, refl, subst, Some, None, Option, List, [], ◌∷◌, ◌++◌, length, true, false, inl, inr, ◌⊎◌, arith}
+use Rattle.std.proofs.lemmas.Bool.{cases_Bool, false_from_ne_true, and_parts, both_ways, not-true}
 use Rattle.std.specs.Prelude.{is_some}
 use Rattle.std.specs.FinMap.{get}
 use mathlib.Core.Bool.{false≢true}
@@ -10,28 +11,26 @@ use Rattle.fsfs_base.specs.declared.change_map.Change.{Change}
 use Rattle.fsfs_base.specs.declared.change_map.Folded.{Folded}
 use Rattle.fsfs_base.specs.declared.change_map.Action.{Action}
 use Rattle.fsfs_base.specs.declared.change_map.Action.TheVariants.{Add, Delete, Replace, Modify}
-use Rattle.fsfs_base.specs.declared.node.Kind.{Kind}
 use Rattle.fsfs_base.specs.Paths.{Path, covers, is_above, same_path}
 use Rattle.fsfs_base.specs.Nodes.{Node, TreeFunction}
-use Rattle.fsfs_base.specs.Marks.{outer, made, effects, is_make}
+use Rattle.fsfs_base.specs.Marks.{made, effects, is_make}
 use Rattle.fsfs_base.specs.Edits.{applied, mark_of}
-use Rattle.fsfs_base.specs.Landing.{land, NoClash}
+use Rattle.fsfs_base.specs.Landing.{land}
 use Rattle.fsfs_base.specs.Folding.{fold, fold_from, fold_mark, joined, change_in}
 use Rattle.fsfs_base.specs.Histories.{AreRevisions, IsHistory}
 use Rattle.fsfs_base.specs.Revisions.{Revision, tree_of}
 use Rattle.fsfs_base.specs.Transactions.{IsTransaction, Begun, Edited, Landed, Entry, IsEntry, IsNext, last_of}
+use Rattle.fsfs_base.proofs.ResultLemmas.{none_of}
+use Rattle.fsfs_base.proofs.PathLemmas.{covers-refl, covers-trans, covers-either}
 use Rattle.fsfs_model.specs.Laws.{In, AreSameNodes, leaves, FoldingTells}
 use Rattle.fsfs_model.proofs.Bases.{IsClosed, DescribesBase, ChangesPaths}
-use Rattle.fsfs_model.proofs.Applied.{edit_changes, same_path-is, same_path-refl, negated}
-use Rattle.fsfs_model.proofs.PathLemmas.{both_true, first_true, second_true, cases, not_both, not_true, covers-refl, covers-trans, covers-either}
-use Rattle.fsfs_model.proofs.Filling.{none_of}
-use Rattle.fsfs_model.proofs.Walk.{Premises, region, touched_in_base, touched_made, touched_up, gone_down}
+use Rattle.fsfs_model.proofs.Applied.{edit_changes, same_path-is}
+use Rattle.fsfs_model.proofs.MergeWalk.{Premises, region, touched_in_base, touched_made, touched_up, gone_down}
 use Rattle.fsfs_model.proofs.LandedAt.{lacks, in_head, missing, comes, all_three, own_has, head_only, not_gone_new}
-use Rattle.fsfs_model.proofs.Law.{sound, premises, closed}
-use Rattle.fsfs_model.proofs.Origins.{Origin, Head, Changed, Own, IsSameNode, origin}
-use Rattle.fsfs_model.proofs.LandedContents.{there}
+use Rattle.fsfs_model.proofs.TwoMergesLaw.{sound, premises, closed}
+use Rattle.fsfs_model.proofs.Origins.{Origin, Head, Changed, Own, origin}
 use Rattle.fsfs_model.proofs.Folds.{said_of, FoldTells, tells_nothing, put_tells, taken_tells, changed_tells}
-use Rattle.fsfs_model.proofs.Joined.{says, adds, makes, deletes, modifies, says_some, adds_makes, tells_not_adds, deletes_tells, add_adds, delete_undoes, modify_keeps, fold_push, fold_here, fold_beside, fold_other}
+use Rattle.fsfs_model.proofs.Joined.{says, adds, deletes, modifies, says_some, adds_makes, tells_not_adds, deletes_tells, delete_undoes, modify_keeps, fold_here, fold_beside, fold_other}
 
 -- ---- landings
 
@@ -40,12 +39,12 @@ module _ (base : ℕ) (a s t : TreeFunction) (marks : List Mark) (is : Premises 
   new = land a s t marks n
 
   not_there : (p : Path) → says deletes (said_of marks p) ≡ true → is_some (land a s t marks n p) ≡ true → ⊥
-  not_there p h some = elim (cases (is_some (a p))) [
-    | inl in_a ↦ not_both _ (own_has n (effects marks p) (a p) (s p) (t p) in_a (is.own.lost p in_a none) some) none
+  not_there p h some = elim (cases_Bool (is_some (a p))) [
+    | inl in_a ↦ both_ways _ none (own_has n (effects marks p) (a p) (s p) (t p) in_a (is.own.lost p in_a none) some)
     | inr not_a ↦ (let s_p = head_only n (effects marks p) (a p) (s p) (t p) not_a none some in
         elim (tell.known p (says_some deletes _ h) (tells_not_adds _ (deletes_tells _ h))) [
-          | inr u ↦ not_both _ (touched_in_base base a s t marks is p u) not_a
-          | inl x ↦ made_above x.0 x.1 (first_true _ _ x.2) not_a s_p
+          | inr u ↦ both_ways _ not_a (touched_in_base base a s t marks is p u)
+          | inl x ↦ made_above x.0 x.1 (and_parts _ _ x.2).0 not_a s_p
         ])
   ]
     where
@@ -60,47 +59,47 @@ module _ (base : ℕ) (a s t : TreeFunction) (marks : List Mark) (is : Premises 
         | inr g ↦ gone x c not_a s_p g
         | inl not_x ↦ elim (lacks (effects marks x) (a x) (s x) (t x) (region base a s t marks is x) not_x (is.own.kept x i)) [
           | inr g ↦ gone x c not_a s_p g
-          | inl no_x ↦ not_both _ (is.closed_head x p c s_p) no_x
+          | inl no_x ↦ both_ways _ no_x (is.closed_head x p c s_p)
         ]
       ]
 
   -- what the landing lacks, nothing is said below
   quiet_below : (y p : Path) → is_some (land a s t marks n y) ≡ false → is_above y p ≡ true → is_some (said_of marks p) ≡ true → ⊥
-  quiet_below y p lacking ab h = elim (cases (is_some (t y))) [
-    | inr none ↦ not_both _ h (ap is_some (tell.silent y p none ab))
-    | inl t_y ↦ elim (cases (is_some (a y))) [
-      | inr not_a ↦ not_both _ (comes n (effects marks y) (a y) (s y) (t y) t_y (inl not_a)) lacking
-      | inl a_y ↦ elim (cases (effects marks y).deleted) [
-        | inl g ↦ not_both _ (comes n (effects marks y) (a y) (s y) (t y) t_y (inr g)) lacking
-        | inr kept ↦ elim (cases (is_some (s y))) [
-          | inl s_y ↦ not_both _ (all_three n (effects marks y) (a y) (s y) (t y) a_y s_y t_y) lacking
-          | inr not_s ↦ said a_y kept (not_true _ (λ u. not_both _ (in_head (effects marks y) (a y) (s y) (t y) (region base a s t marks is y) u a_y) not_s))
+  quiet_below y p lacking ab h = elim (cases_Bool (is_some (t y))) [
+    | inr none ↦ both_ways _ (ap is_some (tell.silent y p none ab)) h
+    | inl t_y ↦ elim (cases_Bool (is_some (a y))) [
+      | inr not_a ↦ both_ways _ lacking (comes n (effects marks y) (a y) (s y) (t y) t_y (inl not_a))
+      | inl a_y ↦ elim (cases_Bool (effects marks y).deleted) [
+        | inl g ↦ both_ways _ lacking (comes n (effects marks y) (a y) (s y) (t y) t_y (inr g))
+        | inr kept ↦ elim (cases_Bool (is_some (s y))) [
+          | inl s_y ↦ both_ways _ lacking (all_three n (effects marks y) (a y) (s y) (t y) a_y s_y t_y)
+          | inr not_s ↦ said a_y kept (false_from_ne_true _ (λ u. both_ways _ not_s (in_head (effects marks y) (a y) (s y) (t y) (region base a s t marks is y) u a_y)))
         ]
       ]
     ]
   ]
     where
       above : covers y p ≡ true
-      above = first_true _ _ ab
+      above = (and_parts _ _ ab).0
 
       made_at : (x : Path) → In (made marks) x → covers x p ≡ true → is_some (a y) ≡ true → (effects marks y).deleted ≡ false → (effects marks y).touched ≡ false → ⊥
       made_at x i c a_y kept un =
           let m = is.own.top x i in
           let up : covers m.0.path y ≡ true → ⊥ = λ w. elim m.4 [
-            | inl none ↦ not_both _ (is.closed_base m.0.path y w a_y) none
-            | inr g ↦ not_both _ (gone_down marks m.0.path y w g) kept
+            | inl none ↦ both_ways _ none (is.closed_base m.0.path y w a_y)
+            | inr g ↦ both_ways _ kept (gone_down marks m.0.path y w g)
           ] in
           elim (covers-either y m.0.path p above (covers-trans m.0.path x p m.3 c)) [
             | inr w ↦ up w
-            | inl w ↦ not_both _ (touched_made marks m.0 y m.1 m.2 w (not_true _ up)) un
+            | inl w ↦ both_ways _ un (touched_made marks m.0 y m.1 m.2 w (false_from_ne_true _ up))
           ]
 
       said : is_some (a y) ≡ true → (effects marks y).deleted ≡ false → (effects marks y).touched ≡ false → ⊥
-      said a_y kept un = elim (cases (says adds (said_of marks p))) [
+      said a_y kept un = elim (cases_Bool (says adds (said_of marks p))) [
         | inl added ↦ made_at p (tell.said_made p (adds_makes _ added)) (covers-refl p) a_y kept un
         | inr other ↦ elim (tell.known p h other) [
-          | inr u ↦ not_both _ (touched_up marks y p above u) un
-          | inl x ↦ made_at x.0 x.1 (first_true _ _ x.2) a_y kept un
+          | inr u ↦ both_ways _ un (touched_up marks y p above u)
+          | inl x ↦ made_at x.0 x.1 (and_parts _ _ x.2).0 a_y kept un
         ]
       ]
 
@@ -108,8 +107,8 @@ module _ (base : ℕ) (a s t : TreeFunction) (marks : List Mark) (is : Premises 
   landed_tells = record {
     made_said = tell.made_said;
     said_made = tell.said_made;
-    absent = λ p h. not_true _ (not_there p h);
-    silent = λ q p lacking ab. none_of _ (not_true _ (quiet_below q p lacking ab));
+    absent = λ p h. false_from_ne_true _ (not_there p h);
+    silent = λ q p lacking ab. none_of _ (false_from_ne_true _ (quiet_below q p lacking ab));
     known = tell.known;
     gone_told = tell.gone_told;
     rewritten_told = tell.rewritten_told;
@@ -217,7 +216,7 @@ still_added : (o : Option Folded) (m : Mark) (p : Path) → leaves m.what m.path
 still_added o m p l h = by m.what refl l
   where
     at : (k : What) → m.what ≡ k → modifies k ≡ true → says adds (fold_mark p o m) ≡ true
-    at k e md = elim (cases (same_path m.path p)) [
+    at k e md = elim (cases_Bool (same_path m.path p)) [
       | inr w ↦ ap (says adds) (fold_other p o m w (λ g. false≢true (sym (ap modifies (sym e ∙ g)) ∙ md))) ∙ h
       | inl w ↦ subst (λ v. says adds (fold_mark v o m) ≡ true) (same_path-is m.path p w)
           (ap (says adds) (fold_here o m) ∙ ap (λ v. says adds (joined o m.kind v)) e ∙ modify_keeps adds o m.kind k md refl (adds_not_deletes o h) ∙ h)
@@ -226,8 +225,8 @@ still_added o m p l h = by m.what refl l
     by : (k : What) → m.what ≡ k → leaves k m.path p ≡ true → says adds (fold_mark p o m) ≡ true
     by Text e l = at Text e refl
     by Prop e l = at Prop e refl
-    by (Make src) e l = ap (says adds) (fold_other p o m (negated _ l) (λ g. false≢true (sym (ap is_make (sym e ∙ g)) ∙ refl))) ∙ h
-    by Gone e l = ap (says adds) (fold_beside p o m (not_true _ (λ k. not_both _ (subst (λ v. covers m.path v ≡ true) (same_path-is m.path p k) (covers-refl m.path)) (negated _ l))) (negated _ l)) ∙ h
+    by (Make src) e l = ap (says adds) (fold_other p o m (not-true _ l) (λ g. false≢true (sym (ap is_make (sym e ∙ g)) ∙ refl))) ∙ h
+    by Gone e l = ap (says adds) (fold_beside p o m (false_from_ne_true _ (λ k. both_ways _ (not-true _ l) (subst (λ v. covers m.path v ≡ true) (same_path-is m.path p k) (covers-refl m.path)))) (not-true _ l)) ∙ h
 
 added_on : (o : Option Folded) (ms : List Mark) (p : Path) → ((m : Mark) → In ms m → leaves m.what m.path p ≡ true) → says adds o ≡ true → says adds (fold_from p o ms) ≡ true
 added_on o [] p l h = h

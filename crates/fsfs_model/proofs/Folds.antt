@@ -1,6 +1,7 @@
 -- What the folded changes of a transaction tell of its tree.
-use Rattle.std.proofs.Common.{◌≡◌, ◌∙◌, sym, ap, refl, subst, Some, None, Option, List, [], ◌∷◌, ◌++◌, Bool, true, false, cond, not, inl, inr, ◌⊎◌}
-use Rattle.std.specs.Prelude.{is_some, ℕ}
+use Rattle.std.proofs.Common.{◌≡◌, ◌∙◌, sym, ap, refl, subst, None, Option, List, [], ◌∷◌, ◌++◌, Bool, true, false, not, inl, inr, ◌⊎◌}
+use Rattle.std.proofs.lemmas.Bool.{and_from, cases_Bool, or_cases, or_left, or_right, false_from_ne_true, and_parts, both_ways, not-true}
+use Rattle.std.specs.Prelude.{is_some}
 use mathlib.Core.Bool.{false≢true}
 use Rattle.fsfs_base.specs.declared.mark.Mark.{Mark}
 use Rattle.fsfs_base.specs.declared.mark.What.{What}
@@ -12,13 +13,14 @@ use Rattle.fsfs_base.specs.Paths.{Path, covers, is_above, same_path}
 use Rattle.fsfs_base.specs.Nodes.{TreeFunction}
 use Rattle.fsfs_base.specs.Marks.{outer, made, made_after, effects, any_covers, is_make, touches, is_rewritten}
 use Rattle.fsfs_base.specs.Folding.{fold_from, fold_mark, joined}
+use Rattle.fsfs_base.proofs.PathLemmas.{covers-refl, covers-trans, covers-antisym, covers-either}
 use Rattle.fsfs_model.specs.Laws.{In}
 use Rattle.fsfs_model.proofs.Bases.{IsClosed, DescribesBase}
-use Rattle.fsfs_model.proofs.Applied.{same_path-is, same_path-refl, negated}
-use Rattle.fsfs_model.proofs.PathLemmas.{both_true, first_true, second_true, cases, not_both, not_true, covers-refl, covers-trans, covers-antisym, covers-either, found, found_in, either_case, either_left, either_right}
-use Rattle.fsfs_model.proofs.Walk.{gone_by, gone_from, gone_down, touched_below, rewritten_by}
-use Rattle.fsfs_model.proofs.Owns.{In-append, In-left, In-right, In-filter, In-filtered, made_push, make_adds, longer, in_outer, from_outer, new_outer, gone_stays, in_base}
-use Rattle.fsfs_model.proofs.Joined.{says, adds, makes, deletes, tells, modifies, says_some, adds_makes, tells_not_adds, deletes_tells, add_makes, add_adds, add_tells, add_not_deletes, delete_undoes, delete_deletes, delete_not_makes, modify_some, modify_keeps, fold_push, fold_here, fold_beside, fold_other, fold_below, fold_nothing}
+use Rattle.fsfs_model.proofs.Applied.{same_path-is, same_path-refl}
+use Rattle.fsfs_model.proofs.Tests.{found, found_in}
+use Rattle.fsfs_model.proofs.MergeWalk.{gone_by, gone_from, touched_below, rewritten_by}
+use Rattle.fsfs_model.proofs.Owns.{In-append, In-left, In-right, In-filter, In-filtered, made_push, make_adds, longer, in_outer, from_outer, new_outer}
+use Rattle.fsfs_model.proofs.Joined.{says, adds, makes, deletes, tells, modifies, says_some, adds_makes, tells_not_adds, deletes_tells, add_makes, add_adds, add_tells, add_not_deletes, delete_undoes, delete_deletes, delete_not_makes, modify_some, modify_keeps, fold_push, fold_here, fold_beside, fold_other, fold_below}
 
 -- what is said of a path
 abbrev pub said_of : List Mark → Path → Option Folded
@@ -67,10 +69,10 @@ module _ (base t u : TreeFunction) (marks : List Mark) (m : Mark) (cb : IsClosed
   made_there p h = is.kept p (tell.said_made p h)
 
   touched_stays : (p : Path) → (effects marks p).touched ≡ true → (effects after p).touched ≡ true
-  touched_stays p h = elim (either_case _ _ h) [
-    | inl w ↦ either_left _ _ w
+  touched_stays p h = elim (or_cases _ _ h) [
+    | inl w ↦ or_left _ _ w
     | inr w ↦ let f = found (λ x. touches x.what x.path p) (outer marks) w in
-        either_right _ _ (found_in (λ x. touches x.what x.path p) (outer after) f.0 (in_outer base t u marks m cb ct is f.0 f.1) f.2)
+        or_right _ _ (found_in (λ x. touches x.what x.path p) (outer after) f.0 (in_outer base t u marks m cb ct is f.0 f.1) f.2)
   ]
 
   gone_was : (p : Path) → (effects after p).deleted ≡ true → ((effects marks p).deleted ≡ true) ⊎ ((m.what ≡ Gone) × (covers m.path p ≡ true) × (any_covers (made marks) m.path ≡ false))
@@ -98,7 +100,7 @@ module _ (base t u : TreeFunction) (marks : List Mark) (m : Mark) (cb : IsClosed
     other q h = now q ∙ fold_other q (said_of marks q) m h not_gone
 
     not_made : says makes (said_of marks m.path) ≡ false
-    not_made = not_true _ (λ h. not_both _ (made_there m.path h) none)
+    not_made = false_from_ne_true _ (λ h. both_ways _ none (made_there m.path h))
 
     made_now : (k : What) → is_make k ≡ true → says makes (joined (said_of marks m.path) m.kind k) ≡ true
     made_now (Make src) e = add_makes (said_of marks m.path) m.kind src
@@ -125,40 +127,40 @@ module _ (base t u : TreeFunction) (marks : List Mark) (m : Mark) (cb : IsClosed
     kept_now Prop e = absurd (false≢true e)
 
     some_stays : (q : Path) → is_some (said_of marks q) ≡ true → is_some (said_of after q) ≡ true
-    some_stays q h = elim (cases (same_path m.path q)) [
+    some_stays q h = elim (cases_Bool (same_path m.path q)) [
       | inr w ↦ ap is_some (other q w) ∙ h
       | inl w ↦ subst (λ v. is_some (said_of after v) ≡ true) (at q w) (says_some makes _ (ap (says makes) here ∙ made_now m.what mk))
     ]
 
     pub put_tells : FoldTells u after
     put_tells = record {
-      made_said = λ p i. elim (cases (same_path m.path p)) [
+      made_said = λ p i. elim (cases_Bool (same_path m.path p)) [
         | inl w ↦ subst (λ v. says makes (said_of after v) ≡ true) (at p w) (ap (says makes) here ∙ made_now m.what mk)
         | inr w ↦ elim (In-append (made marks) (m.path ∷ []) p (subst (λ v. In v p) made_is i)) [
           | inl old ↦ ap (says makes) (other p w) ∙ tell.made_said p old
-          | inr new ↦ elim new [ inl e ↦ absurd (not_both _ (subst (λ v. same_path m.path v ≡ true) e (same_path-refl m.path)) w) | inr x ↦ absurd x ]
+          | inr new ↦ elim new [ inl e ↦ absurd (both_ways _ w (subst (λ v. same_path m.path v ≡ true) e (same_path-refl m.path))) | inr x ↦ absurd x ]
         ]
       ];
-      said_made = λ p h. elim (cases (same_path m.path p)) [
+      said_made = λ p h. elim (cases_Bool (same_path m.path p)) [
         | inl w ↦ subst (λ v. In v p) (sym made_is) (In-right (made marks) (m.path ∷ []) p (inl (at p w)))
         | inr w ↦ subst (λ v. In v p) (sym made_is) (In-left (made marks) (m.path ∷ []) p (tell.said_made p (sym (ap (says makes) (other p w)) ∙ h)))
       ];
-      absent = λ p h. elim (cases (same_path m.path p)) [
-        | inl w ↦ absurd (not_both _ (subst (λ v. says deletes (said_of after v) ≡ true) (sym (at p w)) h) (ap (says deletes) here ∙ kept_now m.what mk))
-        | inr w ↦ (let old = sym (ap (says deletes) (other p w)) ∙ h in elim (cases (covers m.path p)) [
+      absent = λ p h. elim (cases_Bool (same_path m.path p)) [
+        | inl w ↦ absurd (both_ways _ (ap (says deletes) here ∙ kept_now m.what mk) (subst (λ v. says deletes (said_of after v) ≡ true) (sym (at p w)) h))
+        | inr w ↦ (let old = sym (ap (says deletes) (other p w)) ∙ h in elim (cases_Bool (covers m.path p)) [
           | inr beside ↦ out p beside ∙ tell.absent p old
-          | inl below ↦ absurd (not_both _ (says_some deletes _ old) (ap is_some (tell.silent m.path p none (both_true _ _ below (ap not (not_true _ (λ k. not_both _ (subst (λ v. same_path m.path v ≡ true) (covers-antisym m.path p below k) (same_path-refl m.path)) w)))))))
+          | inl below ↦ absurd (both_ways _ (ap is_some (tell.silent m.path p none (and_from _ _ below (ap not (false_from_ne_true _ (λ k. both_ways _ w (subst (λ v. same_path m.path v ≡ true) (covers-antisym m.path p below k) (same_path-refl m.path)))))))) (says_some deletes _ old))
         ])
       ];
-      silent = λ q p lacking ab. elim (cases (same_path m.path p)) [
-        | inl w ↦ absurd (let above = subst (λ v. is_above q v ≡ true) (sym (at p w)) ab in not_both _ (out q (negated _ (second_true _ _ above)) ∙ up q above) lacking)
-        | inr w ↦ other p w ∙ (elim (cases (covers m.path q)) [
+      silent = λ q p lacking ab. elim (cases_Bool (same_path m.path p)) [
+        | inl w ↦ absurd (let above = subst (λ v. is_above q v ≡ true) (sym (at p w)) ab in both_ways _ lacking (out q (not-true _ (and_parts _ _ above).1) ∙ up q above))
+        | inr w ↦ other p w ∙ (elim (cases_Bool (covers m.path q)) [
           | inr beside ↦ tell.silent q p (sym (out q beside) ∙ lacking) ab
-          | inl below ↦ tell.silent m.path p none (both_true _ _ (covers-trans m.path q p below (first_true _ _ ab))
-              (ap not (not_true _ (λ k. not_both _ (covers-trans p m.path q k below) (negated _ (second_true _ _ ab))))))
+          | inl below ↦ tell.silent m.path p none (and_from _ _ (covers-trans m.path q p below (and_parts _ _ ab).0)
+              (ap not (false_from_ne_true _ (λ k. both_ways _ (not-true _ (and_parts _ _ ab).1) (covers-trans p m.path q k below)))))
         ])
       ];
-      known = λ p h a. elim (cases (same_path m.path p)) [
+      known = λ p h a. elim (cases_Bool (same_path m.path p)) [
         | inr w ↦ more p (tell.known p (sym (ap is_some (other p w)) ∙ h) (sym (ap (says adds) (other p w)) ∙ a))
         | inl w ↦ more p (subst (λ v. ((x : Path) × In (made marks) x × (is_above x v ≡ true)) ⊎ ((effects marks v).touched ≡ true)) (at p w)
             (was_deleted (subst (λ v. says adds (said_of after v) ≡ false) (sym (at p w)) a)))
@@ -174,7 +176,7 @@ module _ (base t u : TreeFunction) (marks : List Mark) (m : Mark) (cb : IsClosed
     }
       where
         tells_on : (q : Path) → says tells (said_of marks q) ≡ true → says tells (said_of after q) ≡ true
-        tells_on q h = elim (cases (same_path m.path q)) [
+        tells_on q h = elim (cases_Bool (same_path m.path q)) [
           | inr w ↦ ap (says tells) (other q w) ∙ h
           | inl w ↦ subst (λ v. says tells (said_of after v) ≡ true) (at q w) (ap (says tells) here ∙ told_now m.what mk (subst (λ v. says tells (said_of marks v) ≡ true) (sym (at q w)) h))
         ]
@@ -184,8 +186,8 @@ module _ (base t u : TreeFunction) (marks : List Mark) (m : Mark) (cb : IsClosed
         more p (inr w) = inr (touched_stays p w)
 
         was_deleted : says adds (said_of after m.path) ≡ false → ((x : Path) × In (made marks) x × (is_above x m.path ≡ true)) ⊎ ((effects marks m.path).touched ≡ true)
-        was_deleted a = elim (cases (says deletes (said_of marks m.path))) [
-          | inr w ↦ absurd (not_both _ (ap (says adds) here ∙ added_now m.what mk w) a)
+        was_deleted a = elim (cases_Bool (says deletes (said_of marks m.path))) [
+          | inr w ↦ absurd (both_ways _ a (ap (says adds) here ∙ added_now m.what mk w))
           | inl w ↦ tell.known m.path (says_some deletes _ w) (tells_not_adds _ (deletes_tells _ w))
         ]
 
@@ -198,13 +200,13 @@ module _ (base t u : TreeFunction) (marks : List Mark) (m : Mark) (cb : IsClosed
   -- ---- what a mark says of a path that is there and below nothing made
   seen : is_make m.what ≡ false → is_some (t m.path) ≡ true → says adds (said_of marks m.path) ≡ false
       → ((x : Path) × In (made marks) x × (is_above x m.path ≡ true)) ⊎ ((effects after m.path).touched ≡ true)
-  seen mk some a = elim (cases (is_some (said_of marks m.path))) [
+  seen mk some a = elim (cases_Bool (is_some (said_of marks m.path))) [
     | inl w ↦ elim (tell.known m.path w a) [ inl x ↦ inl x | inr x ↦ inr (touched_stays m.path x) ]
-    | inr w ↦ elim (cases (any_covers (made marks) m.path)) [
-      | inr outermost ↦ inr (touched_below after m m.path (new_outer base t u marks m cb ct is outermost) (λ e. not_both _ e mk) (covers-refl m.path))
-      | inl inner ↦ (let f = found (λ v. covers v m.path) (made marks) inner in elim (cases (covers m.path f.0)) [
-        | inr apart ↦ inl (f.0, f.1, both_true _ _ f.2 (ap not apart))
-        | inl back ↦ absurd (not_both _ (says_some makes _ (tell.made_said m.path (subst (λ v. In (made marks) v) (covers-antisym f.0 m.path f.2 back) f.1))) w)
+    | inr w ↦ elim (cases_Bool (any_covers (made marks) m.path)) [
+      | inr outermost ↦ inr (touched_below after m m.path (new_outer base t u marks m cb ct is outermost) (λ e. both_ways _ mk e) (covers-refl m.path))
+      | inl inner ↦ (let f = found (λ v. covers v m.path) (made marks) inner in elim (cases_Bool (covers m.path f.0)) [
+        | inr apart ↦ inl (f.0, f.1, and_from _ _ f.2 (ap not apart))
+        | inl back ↦ absurd (both_ways _ w (says_some makes _ (tell.made_said m.path (subst (λ v. In (made marks) v) (covers-antisym f.0 m.path f.2 back) f.1))))
       ])
     ]
   ]
@@ -218,7 +220,7 @@ module _ (base t u : TreeFunction) (marks : List Mark) (m : Mark) (cb : IsClosed
     made_left = made_push [] marks m ∙ ap (λ k. made_after (made marks) k m.path) gone
 
     apart : (q : Path) → covers m.path q ≡ false → same_path m.path q ≡ false
-    apart q h = not_true _ (λ k. not_both _ (subst (λ v. covers m.path v ≡ true) (at q k) (covers-refl m.path)) h)
+    apart q h = false_from_ne_true _ (λ k. both_ways _ h (subst (λ v. covers m.path v ≡ true) (at q k) (covers-refl m.path)))
 
     beside : (q : Path) → covers m.path q ≡ false → said_of after q ≡ said_of marks q
     beside q h = now q ∙ fold_beside q (said_of marks q) m (apart q h) h
@@ -236,12 +238,12 @@ module _ (base t u : TreeFunction) (marks : List Mark) (m : Mark) (cb : IsClosed
     told_above : says adds (said_of marks m.path) ≡ true → (effects marks m.path).deleted ≡ true → (q : Path) × (covers q m.path ≡ true) × (says tells (said_of after q) ≡ true)
     told_above a g =
         let q = tell.gone_told m.path g in
-        (q.0, q.1, ap (says tells) (beside q.0 (not_true _ (λ k. not_both _ (subst (λ v. says adds (said_of marks v) ≡ true) (covers-antisym m.path q.0 k q.1) a) (tells_not_adds _ q.2)))) ∙ q.2)
+        (q.0, q.1, ap (says tells) (beside q.0 (false_from_ne_true _ (λ k. both_ways _ (tells_not_adds _ q.2) (subst (λ v. says adds (said_of marks v) ≡ true) (covers-antisym m.path q.0 k q.1) a)))) ∙ q.2)
 
     -- an add of what the base has stands where the base's node is gone
     undone : (p : Path) → says adds (said_of marks m.path) ≡ true → covers m.path p ≡ true → is_some (base p) ≡ true → (effects marks m.path).deleted ≡ true
     undone p a c h = elim (is.new m.path (tell.said_made m.path (adds_makes _ a))) [
-      | inl none ↦ absurd (not_both _ (cb m.path p c h) none)
+      | inl none ↦ absurd (both_ways _ none (cb m.path p c h))
       | inr g ↦ g
     ]
 
@@ -249,9 +251,9 @@ module _ (base t u : TreeFunction) (marks : List Mark) (m : Mark) (cb : IsClosed
     told_here a = ap (says tells) here_gone ∙ deletes_tells _ (delete_deletes (said_of marks m.path) m.kind a)
 
     gone_still : (p : Path) → (effects marks p).deleted ≡ true → (q : Path) × (covers q p ≡ true) × (says tells (said_of after q) ≡ true)
-    gone_still p g = let q = tell.gone_told p g in elim (cases (covers m.path q.0)) [
+    gone_still p g = let q = tell.gone_told p g in elim (cases_Bool (covers m.path q.0)) [
       | inr w ↦ (q.0, q.1, ap (says tells) (beside q.0 w) ∙ q.2)
-      | inl w ↦ (let c = covers-trans m.path q.0 p w q.1 in elim (cases (says adds (said_of marks m.path))) [
+      | inl w ↦ (let c = covers-trans m.path q.0 p w q.1 in elim (cases_Bool (says adds (said_of marks m.path))) [
         | inr a ↦ (m.path, c, told_here a)
         | inl a ↦ (let x = told_above a (above p a c g) in (x.0, covers-trans x.0 m.path p x.1 c, x.2))
       ])
@@ -264,9 +266,9 @@ module _ (base t u : TreeFunction) (marks : List Mark) (m : Mark) (cb : IsClosed
         ]
 
     rewritten_still : (p : Path) → (effects marks p).rewritten ≡ true → (q : Path) × (covers q p ≡ true) × (is_some (said_of after q) ≡ true)
-    rewritten_still p h = let q = tell.rewritten_told p h in elim (cases (covers m.path q.0)) [
+    rewritten_still p h = let q = tell.rewritten_told p h in elim (cases_Bool (covers m.path q.0)) [
       | inr w ↦ (q.0, q.1, ap is_some (beside q.0 w) ∙ q.2)
-      | inl w ↦ (let c = covers-trans m.path q.0 p w q.1 in elim (cases (says adds (said_of marks m.path))) [
+      | inl w ↦ (let c = covers-trans m.path q.0 p w q.1 in elim (cases_Bool (says adds (said_of marks m.path))) [
         | inr a ↦ (m.path, c, says_some tells _ (told_here a))
         | inl a ↦
             (let k = rewritten_by marks p h in
@@ -279,36 +281,36 @@ module _ (base t u : TreeFunction) (marks : List Mark) (m : Mark) (cb : IsClosed
     pub taken_tells : FoldTells u after
     taken_tells = record {
       made_said = λ p i. let old = In-filter (λ v. not (covers m.path v)) (made marks) p (subst (λ v. In v p) made_left i) in
-          ap (says makes) (beside p (negated _ old.1)) ∙ tell.made_said p old.0;
-      said_made = λ p h. elim (cases (covers m.path p)) [
+          ap (says makes) (beside p (not-true _ old.1)) ∙ tell.made_said p old.0;
+      said_made = λ p h. elim (cases_Bool (covers m.path p)) [
         | inr w ↦ keeps_made p (tell.said_made p (sym (ap (says makes) (beside p w)) ∙ h)) w
-        | inl w ↦ elim (cases (same_path m.path p)) [
-          | inr k ↦ absurd (not_both _ h (ap (says makes) (under p w k)))
-          | inl k ↦ absurd (not_both _ (subst (λ v. says makes (said_of after v) ≡ true) (sym (at p k)) h) (ap (says makes) here_gone ∙ delete_not_makes (said_of marks m.path) m.kind))
+        | inl w ↦ elim (cases_Bool (same_path m.path p)) [
+          | inr k ↦ absurd (both_ways _ (ap (says makes) (under p w k)) h)
+          | inl k ↦ absurd (both_ways _ (ap (says makes) here_gone ∙ delete_not_makes (said_of marks m.path) m.kind) (subst (λ v. says makes (said_of after v) ≡ true) (sym (at p k)) h))
         ]
       ];
-      absent = λ p h. elim (cases (covers m.path p)) [
+      absent = λ p h. elim (cases_Bool (covers m.path p)) [
         | inl w ↦ away p w
         | inr w ↦ out p w ∙ tell.absent p (sym (ap (says deletes) (beside p w)) ∙ h)
       ];
-      silent = λ q p lacking ab. elim (cases (covers m.path p)) [
-        | inr w ↦ beside p w ∙ tell.silent q p (sym (out q (not_true (covers m.path q) (λ k. not_both (covers m.path p) (covers-trans m.path q p k (first_true (covers q p) (not (covers p q)) ab)) w))) ∙ lacking) ab
-        | inl w ↦ under p w (not_true (same_path m.path p) (λ k. at_top q p lacking ab k))
+      silent = λ q p lacking ab. elim (cases_Bool (covers m.path p)) [
+        | inr w ↦ beside p w ∙ tell.silent q p (sym (out q (false_from_ne_true (covers m.path q) (λ k. both_ways (covers m.path p) w (covers-trans m.path q p k (and_parts (covers q p) (not (covers p q)) ab).0)))) ∙ lacking) ab
+        | inl w ↦ under p w (false_from_ne_true (same_path m.path p) (λ k. at_top q p lacking ab k))
       ];
-      known = λ p h a. elim (cases (covers m.path p)) [
+      known = λ p h a. elim (cases_Bool (covers m.path p)) [
         | inr w ↦ elim (tell.known p (sym (ap is_some (beside p w)) ∙ h) (sym (ap (says adds) (beside p w)) ∙ a)) [
           | inr x ↦ inr (touched_stays p x)
-          | inl x ↦ inl (x.0, keeps_made x.0 x.1 (not_true _ (λ k. not_both _ (covers-trans m.path x.0 p k (first_true _ _ x.2)) w)), x.2)
+          | inl x ↦ inl (x.0, keeps_made x.0 x.1 (false_from_ne_true _ (λ k. both_ways _ w (covers-trans m.path x.0 p k (and_parts _ _ x.2).0))), x.2)
         ]
-        | inl w ↦ elim (cases (same_path m.path p)) [
-          | inr k ↦ absurd (not_both _ h (ap is_some (under p w k)))
+        | inl w ↦ elim (cases_Bool (same_path m.path p)) [
+          | inr k ↦ absurd (both_ways _ (ap is_some (under p w k)) h)
           | inl k ↦ subst (λ v. ((x : Path) × In (made after) x × (is_above x v ≡ true)) ⊎ ((effects after v).touched ≡ true)) (at p k)
               (known_here (subst (λ v. is_some (said_of after v) ≡ true) (sym (at p k)) h))
         ]
       ];
       gone_told = λ p h. elim (gone_was p h) [
         | inl w ↦ gone_still p w
-        | inr w ↦ (m.path, w.1, told_here (not_true _ (λ a. not_both _ (found_in (λ v. covers v m.path) (made marks) m.path (tell.said_made m.path (adds_makes _ a)) (covers-refl m.path)) w.2)))
+        | inr w ↦ (m.path, w.1, told_here (false_from_ne_true _ (λ a. both_ways _ w.2 (found_in (λ v. covers v m.path) (made marks) m.path (tell.said_made m.path (adds_makes _ a)) (covers-refl m.path)))))
       ];
       rewritten_told = λ p h. elim (rewritten_was p h) [
         | inl w ↦ rewritten_still p w
@@ -319,14 +321,14 @@ module _ (base t u : TreeFunction) (marks : List Mark) (m : Mark) (cb : IsClosed
         at_top : (q p : Path) → is_some (u q) ≡ false → is_above q p ≡ true → same_path m.path p ≡ true → ⊥
         at_top q p lacking ab k =
             let above : is_above q m.path ≡ true = subst (λ v. is_above q v ≡ true) (sym (at p k)) ab in
-            not_both (is_some (u q)) (out q (negated (covers m.path q) (second_true (covers q m.path) (not (covers m.path q)) above)) ∙ ct q m.path (first_true (covers q m.path) (not (covers m.path q)) above) some) lacking
+            both_ways (is_some (u q)) lacking (out q (not-true (covers m.path q) (and_parts (covers q m.path) (not (covers m.path q)) above).1) ∙ ct q m.path (and_parts (covers q m.path) (not (covers m.path q)) above).0 some)
 
         known_here : is_some (said_of after m.path) ≡ true → ((x : Path) × In (made after) x × (is_above x m.path ≡ true)) ⊎ ((effects after m.path).touched ≡ true)
-        known_here h = elim (cases (says adds (said_of marks m.path))) [
-          | inl a ↦ absurd (not_both _ h (ap is_some (here_gone ∙ delete_undoes (said_of marks m.path) m.kind a)))
+        known_here h = elim (cases_Bool (says adds (said_of marks m.path))) [
+          | inl a ↦ absurd (both_ways _ (ap is_some (here_gone ∙ delete_undoes (said_of marks m.path) m.kind a)) h)
           | inr a ↦ elim (seen not_gone_make some a) [
             | inr x ↦ inr x
-            | inl x ↦ inl (x.0, keeps_made x.0 x.1 (negated _ (second_true _ _ x.2)), x.2)
+            | inl x ↦ inl (x.0, keeps_made x.0 x.1 (not-true _ (and_parts _ _ x.2).1), x.2)
           ]
         ]
 
@@ -357,17 +359,17 @@ module _ (base t u : TreeFunction) (marks : List Mark) (m : Mark) (cb : IsClosed
     elsewhere q h = now q ∙ fold_other q (said_of marks q) m h no_gone
 
     not_deleted : says deletes (said_of marks m.path) ≡ false
-    not_deleted = not_true _ (λ h. not_both _ some (tell.absent m.path h))
+    not_deleted = false_from_ne_true _ (λ h. both_ways _ (tell.absent m.path h) some)
 
     -- what is said of any path has the action that it had, but where nothing was said
     same_action : (test : Action → Bool) → test Modify ≡ false → (q : Path) → says test (said_of after q) ≡ says test (said_of marks q)
-    same_action test n q = elim (cases (same_path m.path q)) [
+    same_action test n q = elim (cases_Bool (same_path m.path q)) [
       | inr w ↦ ap (says test) (elsewhere q w)
       | inl w ↦ subst (λ v. says test (said_of after v) ≡ says test (said_of marks v)) (at q w) (ap (says test) here ∙ modify_keeps test (said_of marks m.path) m.kind m.what changes n not_deleted)
     ]
 
     still_some : (q : Path) → is_some (said_of marks q) ≡ true → is_some (said_of after q) ≡ true
-    still_some q h = elim (cases (same_path m.path q)) [
+    still_some q h = elim (cases_Bool (same_path m.path q)) [
       | inr w ↦ ap is_some (elsewhere q w) ∙ h
       | inl w ↦ subst (λ v. is_some (said_of after v) ≡ true) (at q w) some_here
     ]
@@ -380,11 +382,11 @@ module _ (base t u : TreeFunction) (marks : List Mark) (m : Mark) (cb : IsClosed
       made_said = λ p i. same_action makes refl p ∙ tell.made_said p (subst (λ v. In v p) made_same i);
       said_made = λ p h. subst (λ v. In v p) (sym made_same) (tell.said_made p (sym (same_action makes refl p) ∙ h));
       absent = λ p h. dom p ∙ tell.absent p (sym (same_action deletes refl p) ∙ h);
-      silent = λ q p lacking ab. elim (cases (same_path m.path p)) [
+      silent = λ q p lacking ab. elim (cases_Bool (same_path m.path p)) [
         | inr w ↦ elsewhere p w ∙ tell.silent q p (sym (dom q) ∙ lacking) ab
-        | inl w ↦ absurd (not_both _ (dom q ∙ ct q m.path (first_true _ _ (subst (λ v. is_above q v ≡ true) (sym (at p w)) ab)) some) lacking)
+        | inl w ↦ absurd (both_ways _ lacking (dom q ∙ ct q m.path (and_parts _ _ (subst (λ v. is_above q v ≡ true) (sym (at p w)) ab)).0 some))
       ];
-      known = λ p h a. let old = sym (same_action adds refl p) ∙ a in elim (cases (same_path m.path p)) [
+      known = λ p h a. let old = sym (same_action adds refl p) ∙ a in elim (cases_Bool (same_path m.path p)) [
         | inr w ↦ keep p (elim (tell.known p (sym (ap is_some (elsewhere p w)) ∙ h) old) [ inl x ↦ inl x | inr x ↦ inr (touched_stays p x) ])
         | inl w ↦ keep p (subst (λ v. ((x : Path) × In (made marks) x × (is_above x v ≡ true)) ⊎ ((effects after v).touched ≡ true)) (at p w)
             (seen no_make some (subst (λ v. says adds (said_of marks v) ≡ false) (sym (at p w)) old)))
@@ -404,7 +406,7 @@ module _ (base t u : TreeFunction) (marks : List Mark) (m : Mark) (cb : IsClosed
         keep p (inr x) = inr x
 
         at_or_above : (k : What) (q p : Path) → is_rewritten k q p ≡ true → covers q p ≡ true
-        at_or_above Text q p h = first_true _ _ h
-        at_or_above Prop q p h = first_true _ _ h
+        at_or_above Text q p h = (and_parts _ _ h).0
+        at_or_above Prop q p h = (and_parts _ _ h).0
         at_or_above Gone q p h = absurd (false≢true h)
         at_or_above (Make src) q p h = absurd (false≢true h)

@@ -1,25 +1,26 @@
 -- At one path: what a landing leaves.
 use Rattle.std.proofs.Common.{◌≡◌, ℕ, Bool, true, false, ◌||◌, refl, sym, ◌∙◌, ap, Option, Some, None, inl, inr, ◌⊎◌}
+use Rattle.std.proofs.lemmas.Bool.{both_ways}
 use Rattle.std.specs.Prelude.{is_some}
 use mathlib.Core.Bool.{false≢true}
 use Rattle.fsfs_base.specs.Nodes.{Node}
 use Rattle.fsfs_base.specs.declared.mark.Effects.{Effects}
 use Rattle.fsfs_base.specs.Landing.{landed_at}
-use Rattle.fsfs_model.proofs.PathLemmas.{not_both, other_side}
+use Rattle.fsfs_model.proofs.Tests.{other_side}
 use Rattle.fsfs_model.proofs.TwiceAt.{Region, Same, Quiet, New, Common, no_base, no_head, said}
 
 -- what the transaction has and the base lacks, the head lacks too, or the base's is gone
 pub lacks : (d : Effects) (a s t : Option Node) → Region d a s t → is_some a ≡ false → is_some t ≡ true → (is_some s ≡ false) ⊎ (d.deleted ≡ true)
 lacks d a s t (Same e) n h = inl (ap is_some e ∙ n)
-lacks d a s t (Quiet u g r q) n h = absurd (not_both _ h (q n))
+lacks d a s t (Quiet u g r q) n h = absurd (both_ways _ (q n) h)
 lacks d a s t (New m g r b) n h = inl (other_side _ _ b h)
-lacks d a s t (Common m b g) n h = absurd (not_both _ m n)
+lacks d a s t (Common m b g) n h = absurd (both_ways _ n m)
 
 -- what the transaction touched in the base is in the head
 pub in_head : (d : Effects) (a s t : Option Node) → Region d a s t → d.touched ≡ true → is_some a ≡ true → is_some s ≡ true
 in_head d a s t (Same e) u h = ap is_some e ∙ h
-in_head d a s t (Quiet f g r q) u h = absurd (not_both _ u f)
-in_head d a s t (New m g r b) u h = absurd (not_both _ h m)
+in_head d a s t (Quiet f g r q) u h = absurd (both_ways _ f u)
+in_head d a s t (New m g r b) u h = absurd (both_ways _ m h)
 in_head d a s t (Common m b g) u h = b
 
 module _ (m : ℕ) where

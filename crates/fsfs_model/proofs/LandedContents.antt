@@ -1,8 +1,8 @@
 -- A landing without a clash keeps directories, contents and sources.
-use Rattle.std.proofs.Common.{◌≡◌, ℕ, ◌≤◌, Bool, true, false, not, ◌||◌, List, [], refl, sym, ◌∙◌, ap, subst, inl, inr, ◌⊎◌, Option, Some, None}
+use Rattle.std.proofs.Common.{◌≡◌, ℕ, true, false, List, [], refl, sym, ◌∙◌, ap, subst, inl, inr, ◌⊎◌, Option, Some, None}
+use Rattle.std.proofs.lemmas.Option.{same_Some}
 use Rattle.std.specs.Prelude.{is_some}
-use Rattle.std.specs.Option.{unwrap_or}
-use Rattle.std.proofs.lemmas.Bool.{leb-true}
+use Rattle.std.proofs.lemmas.Bool.{leb-true, and_from, cases_Bool, false_from_ne_true, and_parts, both_ways, or_parts, not-true, not-false}
 use borrow.Author.Tests.{ltb-false}
 use mathlib.Core.Bool.{false≢true}
 use Rattle.fsfs_base.specs.declared.mark.What.{What}
@@ -12,26 +12,17 @@ use Rattle.fsfs_base.specs.declared.mark.Effects.{Effects}
 use Rattle.fsfs_base.specs.Paths.{Path, covers, is_above}
 use Rattle.fsfs_base.specs.Nodes.{Node, TreeFunction}
 use Rattle.fsfs_base.specs.Edits.{is_dir, is_dir_node, is_file_node}
-use Rattle.fsfs_base.specs.Marks.{outer, made, effects, any_covers, is_make, is_rewritten, changes_props}
-use Rattle.fsfs_base.specs.Landing.{land, goes_on, reached, clashes_at, touched_by_head, held_by_head}
-use Rattle.fsfs_model.specs.Laws.{In}
-use Rattle.fsfs_model.proofs.Bases.{IsClosed}
-use Rattle.fsfs_model.proofs.PathLemmas.{both_true, first_true, second_true, cases, not_both, not_true, covers-refl, covers-trans, covers-antisym, covers-either, found, found_in}
-use Rattle.fsfs_model.proofs.Walk.{Premises, region, go, reached_or, quiet_side, unclashed, unnegated, made_top, touched_below, touched_made, touched_up, gone_down, goes_head}
-use Rattle.fsfs_model.proofs.ClashAt.{both_false}
+use Rattle.fsfs_base.specs.Marks.{outer, effects, is_make, is_rewritten, changes_props}
+use Rattle.fsfs_base.specs.Landing.{land, goes_on, clashes_at, touched_by_head, held_by_head}
+use Rattle.fsfs_base.proofs.PathLemmas.{covers-refl, covers-antisym, covers-either}
+use Rattle.fsfs_model.proofs.Tests.{found, found_in, other_false}
+use Rattle.fsfs_model.proofs.MergeWalk.{Premises, region, go, reached_or, quiet_side, made_top, touched_below, touched_made, touched_up, gone_down}
 use Rattle.fsfs_model.proofs.TwiceAt.{Region}
 use Rattle.fsfs_model.proofs.LandedAt.{lacks, has, all_three, newer, own_has, head_only, not_gone_new}
 use Rattle.fsfs_model.proofs.Landed.{landed_closed}
-use Rattle.fsfs_model.proofs.Directories.{HasDirs, closed_from}
+use Rattle.fsfs_model.proofs.Directories.{HasDirs}
 use Rattle.fsfs_model.proofs.Contents.{KeepsContent, IsKept}
 use Rattle.fsfs_model.proofs.Origins.{Origin, Head, Changed, Own, IsSameNode, origin}
-
-unnot : (b : Bool) → not b ≡ false → b ≡ true
-unnot true h = refl
-unnot false h = absurd (false≢true (sym h))
-
-pub some_is : (x y : Node) → Some x ≡ Some y → x ≡ y
-some_is x y e = ap (λ o. unwrap_or o x) e
 
 pub there : (o : Option Node) → is_some o ≡ true → (n : Node) × (o ≡ Some n)
 there None h = absurd (false≢true h)
@@ -44,8 +35,8 @@ rewritten_what Gone q p h = absurd (false≢true h)
 rewritten_what (Make src) q p h = absurd (false≢true h)
 
 rewritten_where : (k : What) (q p : Path) → is_rewritten k q p ≡ true → (covers q p ≡ true) × (covers p q ≡ true)
-rewritten_where Text q p h = (first_true _ _ h, second_true _ _ h)
-rewritten_where Prop q p h = (first_true _ _ h, second_true _ _ h)
+rewritten_where Text q p h = ((and_parts _ _ h).0, (and_parts _ _ h).1)
+rewritten_where Prop q p h = ((and_parts _ _ h).0, (and_parts _ _ h).1)
 rewritten_where Gone q p h = absurd (false≢true h)
 rewritten_where (Make src) q p h = absurd (false≢true h)
 
@@ -56,7 +47,7 @@ prop_changes Gone q p e h = absurd (false≢true h)
 prop_changes (Make src) q p e h = absurd (false≢true h)
 
 text_rewrites : (k : What) (q : Path) → k ≡ Text → is_rewritten k q q ≡ true
-text_rewrites Text q e = both_true _ _ (covers-refl q) (covers-refl q)
+text_rewrites Text q e = and_from _ _ (covers-refl q) (covers-refl q)
 text_rewrites Prop q e = cc
 text_rewrites Gone q e = cc
 text_rewrites (Make src) q e = cc
@@ -68,18 +59,18 @@ not_make k (inr e) f = false≢true (sym (ap is_make e) ∙ f)
 -- without a clash at a path that the walk comes to: the head left it alone, or both hold it, a directory whose properties neither set
 settled_at : (base : ℕ) (d : Effects) (n : Node) (s t : Option Node) → clashes_at base d (Some n) s t ≡ false → d.touched ≡ true
     → (touched_by_head base s ≡ false) ⊎ ((goes_on base d (Some n) s ≡ true) × (is_dir n.kind ≡ true) × (d.props_changed ≡ false))
-settled_at base d n s t clear u = elim (cases (touched_by_head base s)) [
+settled_at base d n s t clear u = elim (cases_Bool (touched_by_head base s)) [
   | inr f ↦ inl f
   | inl w ↦
-      let rest = not_true _ (λ h. not_both _ (both_true _ _ (both_true _ _ u w) h) clear) in
-      let one = both_false _ _ rest in
-      let two = both_false _ _ one.0 in
-      let three = both_false _ _ two.0 in
-      inr (unnot _ three.1, unnot _ three.0, two.1)
+      let rest = false_from_ne_true _ (λ h. both_ways _ clear (and_from _ _ (and_from _ _ u w) h)) in
+      let one = or_parts _ _ rest in
+      let two = or_parts _ _ one.0 in
+      let three = or_parts _ _ two.0 in
+      inr (not-false _ three.1, not-false _ three.0, two.1)
 ]
 
 file_not_dir : (n : Node) → is_file_node (Some n) ≡ true → is_dir n.kind ≡ true → ⊥
-file_not_dir n h d = not_both _ d (unnegated _ h)
+file_not_dir n h d = both_ways _ (not-true _ h) d
 
 module _ (base : ℕ) (a s t : TreeFunction) (marks : List Mark) (is : Premises base a s t marks) (keeps : KeepsContent a t marks) where
   at : (p : Path) → Region (effects marks p) (a p) (s p) (t p)
@@ -95,7 +86,7 @@ module _ (base : ℕ) (a s t : TreeFunction) (marks : List Mark) (is : Premises 
   settled : (p : Path) (n : Node) → a p ≡ Some n → (effects marks p).touched ≡ true
       → (s p ≡ a p) ⊎ ((goes_on base (effects marks p) (a p) (s p) ≡ true) × (is_dir n.kind ≡ true) × ((effects marks p).props_changed ≡ false))
   settled p n e u = elim (reached_or (go base a s marks) p) [
-    | inl r ↦ elim (settled_at base (effects marks p) n (s p) (t p) (subst (λ o. clashes_at base (effects marks p) o (s p) (t p) ≡ false) e (unclashed _ _ (is.clear p) r)) u) [
+    | inl r ↦ elim (settled_at base (effects marks p) n (s p) (t p) (subst (λ o. clashes_at base (effects marks p) o (s p) (t p) ≡ false) e (other_false _ _ (is.clear p) r)) u) [
       | inl f ↦ inl (head_left p p (covers-refl p) f)
       | inr w ↦ inr (subst (λ o. goes_on base (effects marks p) o (s p) ≡ true) (sym e) w.0, w.1, w.2)
     ]
@@ -103,9 +94,9 @@ module _ (base : ℕ) (a s t : TreeFunction) (marks : List Mark) (is : Premises 
         let q = early.place in
         let some = there (a q) (is.closed_base q p early.covered (ap is_some e)) in
         elim (quiet_side base (effects marks q) some.0 (s q) (t q)
-        (subst (λ o. clashes_at base (effects marks q) o (s q) (t q) ≡ false) some.1 (unclashed _ _ (is.clear q) early.comes))
+        (subst (λ o. clashes_at base (effects marks q) o (s q) (t q) ≡ false) some.1 (other_false _ _ (is.clear q) early.comes))
         (subst (λ o. goes_on base (effects marks q) o (s q) ≡ false) some.1 early.stops)) [
-          | inl un ↦ absurd (not_both _ (touched_up marks q p early.covered u) un)
+          | inl un ↦ absurd (both_ways _ un (touched_up marks q p early.covered u))
           | inr un ↦ inl (head_left q p early.covered un)
         ]
   ]
@@ -113,9 +104,9 @@ module _ (base : ℕ) (a s t : TreeFunction) (marks : List Mark) (is : Premises 
   -- what both hold is of one kind and source
   older : (p : Path) (n v : Node) → a p ≡ Some n → s p ≡ Some v → goes_on base (effects marks p) (a p) (s p) ≡ true → v.kind ≡ n.kind
   older p n v e f h =
-      let held : held_by_head base (s p) ≡ true = second_true _ _ h in
+      let held : held_by_head base (s p) ≡ true = (and_parts _ _ h).1 in
       let o = is.later.older p v f (leb-true v.added base (subst (λ o. held_by_head base o ≡ true) f held)) in
-      sym (o.2.kind) ∙ ap (λ v. v.kind) (some_is o.0 n (sym o.1 ∙ e))
+      sym (o.2.kind) ∙ ap (λ v. v.kind) (same_Some o.0 n (sym o.1 ∙ e))
 
   -- what the transaction rewrote, the head left alone
   pub rewritten_left : (p : Path) → (effects marks p).rewritten ≡ true → s p ≡ a p
@@ -129,15 +120,15 @@ module _ (base : ℕ) (a s t : TreeFunction) (marks : List Mark) (is : Premises 
         | inl same ↦ same
         | inr w ↦ elim what [
           | inl text ↦ absurd (file_not_dir some.0 (subst (λ o. is_file_node o ≡ true) some.1 (subst (λ v. is_file_node (a v) ≡ true) here (keeps.files f.0 f.1 text))) w.1)
-          | inr prop ↦ absurd (not_both _ (found_in (λ m. changes_props m.what m.path p) (outer marks) f.0 f.1 (prop_changes f.0.what f.0.path p prop f.2)) w.2)
+          | inr prop ↦ absurd (both_ways _ w.2 (found_in (λ m. changes_props m.what m.path p) (outer marks) f.0 f.1 (prop_changes f.0.what f.0.path p prop f.2)))
         ]
       ]
 
   -- what stands where the base's node is gone, the transaction has
   gone_own : (n : ℕ) (p : Path) → (effects marks p).deleted ≡ true → is_some (land a s t marks n p) ≡ true → is_some (t p) ≡ true
-  gone_own n p g h = elim (cases (is_some (t p))) [
+  gone_own n p g h = elim (cases_Bool (is_some (t p))) [
     | inl w ↦ w
-    | inr none ↦ elim (cases (is_some (a p))) [
+    | inr none ↦ elim (cases_Bool (is_some (a p))) [
       | inl w ↦ own_has n (effects marks p) (a p) (s p) (t p) w g h
       | inr w ↦ absurd (not_gone_new (effects marks p) (a p) (s p) (t p) (at p) w (head_only n (effects marks p) (a p) (s p) (t p) w none h) g)
     ]
@@ -152,7 +143,7 @@ module _ (base : ℕ) (a s t : TreeFunction) (marks : List Mark) (is : Premises 
   changed_node p x e in_a del re =
       let n = there (a p) in_a in
       let k = keeps.same p n.0 n.1 del in
-      (n.0, rewritten_left p re ∙ n.1, subst (λ z. IsKept (effects marks p) n.0 z) (some_is k.0 x (sym k.1 ∙ e)) k.2)
+      (n.0, rewritten_left p re ∙ n.1, subst (λ z. IsKept (effects marks p) n.0 z) (same_Some k.0 x (sym k.1 ∙ e)) k.2)
 
   pub landed_content : (n : ℕ) → KeepsContent s (land a s t marks n) marks
   landed_content n = record {
@@ -163,7 +154,7 @@ module _ (base : ℕ) (a s t : TreeFunction) (marks : List Mark) (is : Premises 
   }
     where
       comes : (p : Path) (v : Node) → s p ≡ Some v → (effects marks p).deleted ≡ false → is_some (land a s t marks n p) ≡ true
-      comes p v e del = elim (cases (is_some (a p))) [
+      comes p v e del = elim (cases_Bool (is_some (a p))) [
         | inr none ↦ newer n (effects marks p) (a p) (s p) (t p) none (ap is_some e)
         | inl some ↦ (let m = there (a p) some in let k = keeps.same p m.0 m.1 del in all_three n (effects marks p) (a p) (s p) (t p) some (ap is_some e) (ap is_some k.1))
       ]
@@ -178,15 +169,15 @@ module _ (base : ℕ) (a s t : TreeFunction) (marks : List Mark) (is : Premises 
       here p v e del y = by (origin_at n p y.0 y.1)
         where
           by : Origin n (effects marks p) (a p) (s p) (t p) y.0 → (y : Node) × (land a s t marks n p ≡ Some y) × IsKept (effects marks p) v y
-          by (Head x f alt k) = (y.0, y.1, same_kept (effects marks p) v y.0 (subst (λ z. IsSameNode y.0 z) (some_is x v (sym f ∙ e)) k))
+          by (Head x f alt k) = (y.0, y.1, same_kept (effects marks p) v y.0 (subst (λ z. IsSameNode y.0 z) (same_Some x v (sym f ∙ e)) k))
           by (Changed x f in_a g re k) =
               let c = changed_node p x f in_a g re in
-              (y.0, y.1, through (effects marks p) v x y.0 (subst (λ z. IsKept (effects marks p) z x) (some_is c.0 v (sym c.1 ∙ e)) c.2) k)
+              (y.0, y.1, through (effects marks p) v x y.0 (subst (λ z. IsKept (effects marks p) z x) (same_Some c.0 v (sym c.1 ∙ e)) c.2) k)
           by (Own x f alt b r c k) = elim alt [
-            | inr g ↦ absurd (not_both _ g del)
+            | inr g ↦ absurd (both_ways _ del g)
             | inl none ↦ elim (lacks (effects marks p) (a p) (s p) (t p) (at p) none (ap is_some f)) [
-              | inl w ↦ absurd (not_both _ (ap is_some e) w)
-              | inr g ↦ absurd (not_both _ g del)
+              | inl w ↦ absurd (both_ways _ w (ap is_some e))
+              | inr g ↦ absurd (both_ways _ del g)
             ]
           ]
 
@@ -202,57 +193,57 @@ module _ (base : ℕ) (a s t : TreeFunction) (marks : List Mark) (is : Premises 
       where
         by : {y : Node} → Origin n (effects marks p) (a p) (s p) (t p) y → is_some (s p) ≡ true
         by (Head x f alt k) = ap is_some f
-        by (Changed x f in_a g re k) = absurd (not_both _ (ap is_some f) none)
-        by (Own x f alt b r c k) = absurd (not_both _ (ap is_some f) none)
+        by (Changed x f in_a g re k) = absurd (both_ways _ none (ap is_some f))
+        by (Own x f alt b r c k) = absurd (both_ways _ none (ap is_some f))
 
     -- above something that the transaction brings, it touched what it held
     touched_above : (q p : Path) → covers q p ≡ true → is_some (a p) ≡ false → is_some (t p) ≡ true → is_some (a q) ≡ true → (effects marks q).deleted ≡ false → (effects marks q).touched ≡ true
     touched_above q p c none in_t in_a del =
         let m = made_top base a s t marks is p none in_t in
         let up : covers m.0.path q ≡ true → ⊥ = λ w. elim m.4 [
-          | inl z ↦ not_both _ (is.closed_base m.0.path q w in_a) z
-          | inr g ↦ not_both _ (gone_down marks m.0.path q w g) del
+          | inl z ↦ both_ways _ z (is.closed_base m.0.path q w in_a)
+          | inr g ↦ both_ways _ del (gone_down marks m.0.path q w g)
         ] in
         elim (covers-either q m.0.path p c m.3) [
           | inr w ↦ absurd (up w)
-          | inl w ↦ touched_made marks m.0 q m.1 m.2 w (not_true _ up)
+          | inl w ↦ touched_made marks m.0 q m.1 m.2 w (false_from_ne_true _ up)
         ]
 
     dir_above : (q p : Path) (y : Node) → is_above q p ≡ true → is_some (land a s t marks n p) ≡ true → Origin n (effects marks q) (a q) (s q) (t q) y → is_dir_node (Some y) ≡ true
-    dir_above q p y ab h (Head x f (inr (none_a, none_t)) k) = elim (cases (is_some (s p))) [
+    dir_above q p y ab h (Head x f (inr (none_a, none_t)) k) = elim (cases_Bool (is_some (s p))) [
       | inl in_s ↦ dir_of y x k (subst (λ o. is_dir_node o ≡ true) f (head.above q p ab in_s))
-      | inr none ↦ absurd (not_both _ (is.closed_own q p (first_true _ _ ab) (from_own p none h).1) none_t)
+      | inr none ↦ absurd (both_ways _ none_t (is.closed_own q p (and_parts _ _ ab).0 (from_own p none h).1))
     ]
-    dir_above q p y ab h (Head x f (inl (in_a, del, re)) k) = elim (cases (is_some (s p))) [
+    dir_above q p y ab h (Head x f (inl (in_a, del, re)) k) = elim (cases_Bool (is_some (s p))) [
       | inl in_s ↦ dir_of y x k (subst (λ o. is_dir_node o ≡ true) f (head.above q p ab in_s))
       | inr none ↦
           let new = from_own p none h in
           let m = there (a q) in_a in
           let kept = keeps.same q m.0 m.1 del in
           let dir : is_dir m.0.kind ≡ true = sym (ap is_dir kept.2.kind) ∙ subst (λ o. is_dir_node o ≡ true) kept.1 (own.above q p ab new.1) in
-          dir_of y x k (elim (settled q m.0 m.1 (touched_above q p (first_true _ _ ab) new.0 new.1 in_a del)) [
-            | inl same ↦ ap (λ v. is_dir v.kind) (some_is x m.0 (sym f ∙ same ∙ m.1)) ∙ dir
+          dir_of y x k (elim (settled q m.0 m.1 (touched_above q p (and_parts _ _ ab).0 new.0 new.1 in_a del)) [
+            | inl same ↦ ap (λ v. is_dir v.kind) (same_Some x m.0 (sym f ∙ same ∙ m.1)) ∙ dir
             | inr w ↦ ap is_dir (older q m.0 x m.1 f w.0) ∙ dir
           ])
     ]
-    dir_above q p y ab h (Changed x f in_a del re k) = dir_of y x k (elim (cases (is_some (t p))) [
+    dir_above q p y ab h (Changed x f in_a del re k) = dir_of y x k (elim (cases_Bool (is_some (t p))) [
       | inl in_t ↦ subst (λ o. is_dir_node o ≡ true) f (own.above q p ab in_t)
       | inr none ↦
           let c = changed_node q x f in_a del re in
           ap is_dir c.2.kind ∙ subst (λ o. is_dir_node o ≡ true) c.1 (head.above q p ab (from_head p none h))
     ])
-    dir_above q p y ab h (Own x f alt b r c k) = dir_of y x k (elim (cases (is_some (t p))) [
+    dir_above q p y ab h (Own x f alt b r c k) = dir_of y x k (elim (cases_Bool (is_some (t p))) [
       | inl in_t ↦ subst (λ o. is_dir_node o ≡ true) f (own.above q p ab in_t)
       | inr none ↦ absurd (never none alt)
     ])
       where
         gone : is_some (t p) ≡ false → (effects marks q).deleted ≡ true → ⊥
-        gone none g = not_both _ (gone_own n p (gone_down marks q p (first_true _ _ ab) g) h) none
+        gone none g = both_ways _ none (gone_own n p (gone_down marks q p (and_parts _ _ ab).0 g) h)
 
         never : is_some (t p) ≡ false → (is_some (a q) ≡ false) ⊎ ((effects marks q).deleted ≡ true) → ⊥
         never none (inr g) = gone none g
         never none (inl none_a) = elim (lacks (effects marks q) (a q) (s q) (t q) (at q) none_a (ap is_some f)) [
-          | inl none_s ↦ not_both _ (is.closed_head q p (first_true _ _ ab) (from_head p none h)) none_s
+          | inl none_s ↦ both_ways _ none_s (is.closed_head q p (and_parts _ _ ab).0 (from_head p none h))
           | inr g ↦ gone none g
         ]
 
@@ -260,7 +251,7 @@ module _ (base : ℕ) (a s t : TreeFunction) (marks : List Mark) (is : Premises 
     landed_dirs = record {
       root = root;
       above = λ q p ab h.
-          let y = there (land a s t marks n q) (landed_closed base a s t marks is n q p (first_true _ _ ab) h) in
+          let y = there (land a s t marks n q) (landed_closed base a s t marks is n q p (and_parts _ _ ab).0 h) in
           ap is_dir_node y.1 ∙ dir_above q p y.0 ab h (origin_at n q y.0 y.1);
     }
       where

@@ -1,14 +1,12 @@
 -- What a history says of any two of its revisions.
 use Rattle.std.proofs.Common.{◌≡◌, ℕ, zero, suc, ◌<◌, ◌≤◌, true, not, refl, sym, ◌∙◌, ap, subst, inl, inr, ◌⊎◌, Option, Some, None, arith}
+use Rattle.std.proofs.lemmas.Bool.{and_from, cases_Bool}
 use Rattle.std.specs.Prelude.{is_some}
 use Rattle.fsfs_base.specs.Paths.{Path, covers, is_above}
 use Rattle.fsfs_base.specs.Nodes.{Node, TreeFunction}
 use Rattle.fsfs_base.specs.Histories.{IsRevision, AreRevisions}
+use Rattle.fsfs_base.proofs.PathLemmas.{covers-antisym}
 use Rattle.fsfs_model.proofs.Bases.{IsLater}
-use Rattle.fsfs_model.proofs.PathLemmas.{both_true, cases, covers-antisym}
-
-Some-inj : (x y : Node) → Some x ≡ Some y → x ≡ y
-Some-inj x y e = cc
 
 -- each revision is later than itself
 itself : (b : ℕ) (t : TreeFunction) → IsLater b t t
@@ -20,9 +18,9 @@ itself b t = record {
 
 -- what was not changed in revision r stands as before, with all below it
 kept_once : (r : ℕ) (tree : ℕ → TreeFunction) (p s : TreeFunction) → IsRevision r tree p s → (q x : Path) (n : Node) → s q ≡ Some n → n.last_changed < r → covers q x ≡ true → s x ≡ p x
-kept_once r tree p s is q x n e h c = elim (cases (covers x q)) [
+kept_once r tree p s is q x n e h c = elim (cases_Bool (covers x q)) [
   | inl back ↦ subst (λ v. s v ≡ p v) (covers-antisym q x c back) (e ∙ sym (is.last_changed q n e h))
-  | inr apart ↦ by (both_true _ _ c (subst (λ b. not b ≡ true) (sym apart) refl)) (s x) refl (p x) refl
+  | inr apart ↦ by (and_from _ _ c (subst (λ b. not b ≡ true) (sym apart) refl)) (s x) refl (p x) refl
 ]
   where
     by : is_above q x ≡ true → (o : Option Node) → s x ≡ o → (u : Option Node) → p x ≡ u → s x ≡ p x

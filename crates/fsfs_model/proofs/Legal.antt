@@ -1,23 +1,22 @@
 -- What commits add to a history makes a history, and a path's history ends.
-use Rattle.std.proofs.Common.{◌≡◌, ℕ, zero, suc, ◌+◌, ◌-◌, ◌<◌, ◌≤◌, Bool, true, false, cond, List, [], ◌∷◌, ◌++◌, length, refl, sym, ◌∙◌, ap, subst, inl, inr, ◌⊎◌, Option, Some, None, arith, length-append}
+use Rattle.std.proofs.Common.{◌≡◌, ℕ, zero, suc, ◌+◌, ◌-◌, ◌<◌, ◌≤◌, true, cond, List, [], ◌∷◌, ◌++◌, length, refl, sym, ◌∙◌, ap, subst, inl, inr, ◌⊎◌, Option, Some, None, arith, length-append}
+use Rattle.std.proofs.lemmas.Bool.{cases_Bool, cases_lt}
 use Rattle.std.specs.Prelude.{is_some, slice_get, nat_lt}
 use Rattle.std.proofs.lemmas.Option.{slice_get_past}
-use borrow.Author.Tests.{ltb-true, ltb-false}
+use borrow.Author.Tests.{ltb-true}
 use mathlib.Core.Bool.{false≢true}
 use Rattle.std.specs.FinMap.{get}
-use Rattle.fsfs_base.specs.declared.mark.Mark.{Mark}
 use Rattle.fsfs_base.specs.Paths.{Path}
 use Rattle.fsfs_base.specs.Nodes.{Node, TreeFunction}
 use Rattle.fsfs_base.specs.Landing.{land, NoClash}
-use Rattle.fsfs_base.specs.Histories.{IsTree, IsRevision, AreRevisions, IsHistory}
-use Rattle.fsfs_base.specs.PathHistories.{history_within, path_history, points_at, go_on, leads_to}
+use Rattle.fsfs_base.specs.Histories.{IsRevision, AreRevisions, IsHistory}
+use Rattle.fsfs_base.specs.PathHistories.{history_within, points_at, go_on, leads_to}
 use Rattle.fsfs_base.specs.Revisions.{Revision, node_in, tree_of}
 use Rattle.fsfs_base.specs.Transactions.{IsTransaction, Landed, Entry, IsEntry, IsNext, IsLegal, last_of}
 use Rattle.fsfs_model.specs.Laws.{In, LandingLeavesATree, CommitsMakeAHistory, PathHistoriesEnd}
 use Rattle.fsfs_model.proofs.Directories.{tree_from}
 use Rattle.fsfs_model.proofs.NextHistory.{whole, next_revision, at_most, source_before}
-use Rattle.fsfs_model.proofs.LandedContents.{there, some_is}
-use Rattle.fsfs_model.proofs.Walks.{Falls, history_falls, path_history-step}
+use Rattle.fsfs_model.proofs.PathHistories.{Falls, history_falls, path_history-step}
 
 pub landing_leaves_a_tree : LandingLeavesATree
 landing_leaves_a_tree = record {
@@ -118,18 +117,12 @@ commits_make_a_history = record { next = next_history; legal = legal_history }
 
 -- ---- the history of a path
 
-none_some : {A : Type 0} (x : A) → None ≡ Some x → ⊥
-none_some x e = false≢true (ap is_some e)
-
 module _ (h : List Revision) (is : IsHistory h) where
   beyond : (r : ℕ) (p : Path) → is.last < r → tree_of h r p ≡ None
   beyond r p lt = ap (λ o. node_in o p) (slice_get_past h r (let c = is.counted in omega (arith, c, lt)))
 
   within : (r : ℕ) (p : Path) → is_some (tree_of h r p) ≡ true → r ≤ is.last
-  within r p some = elim (lt_or is.last r) [ inr le ↦ le | inl lt ↦ absurd (false≢true (sym (ap is_some (beyond r p lt)) ∙ some)) ]
-    where
-      lt_or : (x y : ℕ) → (x < y) ⊎ (y ≤ x)
-      lt_or x y = grind arith
+  within r p some = elim (cases_lt is.last r) [ inr le ↦ le | inl lt ↦ absurd (false≢true (sym (ap is_some (beyond r p lt)) ∙ some)) ]
 
   falling : Falls (tree_of h)
   falling = history_falls (tree_of h) is.last is.revisions beyond
@@ -146,16 +139,12 @@ module _ (h : List Revision) (is : IsHistory h) where
       lt_or_eq x y h = grind arith
 
   leads_on : (r : ℕ) (p : Path) (n : Node) (to : ℕ × Path) → r ≤ is.last → tree_of h r p ≡ Some n → leads_to p n ≡ Some to → is_some (tree_of h to.0 to.1) ≡ true
-  leads_on r p n to le e h1 = elim (cases (nat_lt n.added n.last_changed)) [
+  leads_on r p n to le e h1 = elim (cases_Bool (nat_lt n.added n.last_changed)) [
     | inl w ↦ (let at : (n.last_changed - 1, p) ≡ to = pair _ _ (sym (ap (λ b. cond b (Some (n.last_changed - 1, p)) n.source) w) ∙ h1) in
         subst (λ v. is_some (tree_of h v.0 v.1) ≡ true) at (earlier r n.last_changed le (at_most (tree_of h) is.last r is.revisions le p n e) e (ltb-true n.added n.last_changed w) refl))
     | inr w ↦ (source_before (tree_of h) is.last r is.revisions le p n to.0 to.1 e (sym (ap (λ b. cond b (Some (n.last_changed - 1, p)) n.source) w) ∙ h1)).1
   ]
     where
-      cases : (b : Bool) → (b ≡ true) ⊎ (b ≡ false)
-      cases true = inl refl
-      cases false = inr refl
-
       pair : (x y : ℕ × Path) → Some x ≡ Some y → x ≡ y
       pair x y e = cc
 

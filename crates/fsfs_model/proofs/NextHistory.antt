@@ -1,33 +1,31 @@
 -- The revision that a committed transaction adds follows those before it.
-use Rattle.std.proofs.Common.{◌≡◌, ℕ, zero, suc, ◌+◌, ◌-◌, ◌<◌, ◌≤◌, Bool, true, false, cond, not, List, [], ◌∷◌, ◌++◌, length, refl, sym, ◌∙◌, ap, subst, inl, inr, ◌⊎◌, Option, Some, None, arith}
-use Rattle.std.specs.Prelude.{is_some, slice_get}
+use Rattle.std.proofs.Common.{◌≡◌, ℕ, zero, suc, ◌+◌, ◌-◌, ◌<◌, ◌≤◌, true, false, cond, List, [], ◌∷◌, ◌++◌, refl, sym, ◌∙◌, ap, subst, inl, inr, Option, Some, None, arith}
+use Rattle.std.proofs.lemmas.Option.{same_Some, none-some}
+use Rattle.std.specs.Prelude.{is_some}
 use mathlib.Core.Bool.{false≢true}
-use Rattle.std.proofs.lemmas.Bool.{leb-true}
-use Rattle.std.specs.FinMap.{get}
+use Rattle.std.proofs.lemmas.Bool.{leb-true, cases_Bool, false_from_ne_true, and_parts, both_ways, not-true}
 use Rattle.fsfs_base.specs.declared.mark.Mark.{Mark}
-use Rattle.fsfs_base.specs.declared.mark.Effects.{Effects}
 use Rattle.fsfs_base.specs.declared.edit.Edit.{Edit}
 use Rattle.fsfs_base.specs.declared.edit.Edit.TheVariants.{MakeDir, MakeFile, Delete, Copy, PutText, SetProp}
-use Rattle.fsfs_base.specs.declared.mark.What.TheVariants.{Make, Gone, Text, Prop}
+use Rattle.fsfs_base.specs.declared.mark.What.TheVariants.{Gone, Text, Prop}
 use Rattle.fsfs_base.specs.declared.node.Kind.{Kind}
 use Rattle.fsfs_base.specs.declared.node.Kind.TheVariants.{File, Dir}
 use Rattle.fsfs_base.specs.Paths.{Path, covers, is_above, is_root, same_path}
 use Rattle.fsfs_base.specs.Nodes.{Node, TreeFunction, empty_node, Bytes}
 use Rattle.fsfs_base.specs.Marks.{effects}
-use Rattle.fsfs_base.specs.Edits.{accepts, applied, mark_of, without, with_node, with_copy, copied_node, with_text, with_prop, bytes_of, rest_after, is_dir_node, changed_props}
+use Rattle.fsfs_base.specs.Edits.{accepts, applied, mark_of, with_node, copied_node, with_text, with_prop, bytes_of, rest_after, is_dir_node, changed_props}
 use Rattle.fsfs_base.specs.Landing.{land, NoClash}
-use Rattle.fsfs_base.specs.Histories.{IsTree, IsRevision, AreRevisions, IsOrdered}
+use Rattle.fsfs_base.specs.Histories.{IsRevision, AreRevisions, IsOrdered}
 use Rattle.fsfs_base.specs.Transactions.{IsTransaction, Begun, Edited, Landed}
+use Rattle.fsfs_base.proofs.PathLemmas.{covers-refl}
 use Rattle.fsfs_model.proofs.Bases.{IsClosed, DescribesBase}
-use Rattle.fsfs_model.proofs.PathLemmas.{both_true, first_true, second_true, cases, not_both, not_true, covers-refl}
-use Rattle.fsfs_model.proofs.Applied.{same_path-is, same_path-refl, negated, away, free, edit_changes}
-use Rattle.fsfs_model.proofs.Walk.{Premises}
-use Rattle.fsfs_model.proofs.Later.{later}
-use Rattle.fsfs_model.proofs.Law.{IsSound, sound, premises, ordered, rooted}
+use Rattle.fsfs_model.proofs.Applied.{same_path-is, same_path-refl, away, free, edit_changes}
+use Rattle.fsfs_model.proofs.MergeWalk.{Premises}
+use Rattle.fsfs_model.proofs.TwoMergesLaw.{IsSound, sound, premises, ordered, rooted}
 use Rattle.fsfs_model.proofs.Directories.{HasDirs, dirs_from, tree_from, closed_from, edit_dirs}
 use Rattle.fsfs_model.proofs.Contents.{KeepsContent, IsKept, kept_all, put_content, taken_content, changed_content, gone_back}
-use Rattle.fsfs_model.proofs.Origins.{Origin, Head, Changed, Own, IsSameNode, origin}
-use Rattle.fsfs_model.proofs.LandedContents.{landed_content, landed_dirs, changed_node, there, some_is}
+use Rattle.fsfs_model.proofs.Origins.{Origin, Head, Changed, Own, origin}
+use Rattle.fsfs_model.proofs.LandedContents.{landed_content, landed_dirs, changed_node, there}
 use Rattle.fsfs_model.proofs.ShapeAt.{Shape, Fresh, From, pick, shape, since_touched, held}
 use Rattle.fsfs_model.proofs.Next.{next_ordered, next_at_most, next_since, next_taken, next_below_since, next_below_added}
 
@@ -35,12 +33,9 @@ use Rattle.fsfs_model.proofs.Next.{next_ordered, next_at_most, next_since, next_
 abbrev pub SourcesStand : (ℕ → TreeFunction) → ℕ → TreeFunction → Type 0
 SourcesStand tree last t = (p : Path) (x : Node) (from : ℕ) (f : Path) → t p ≡ Some x → x.source ≡ Some (from, f) → (from ≤ last) × (is_some (tree from f) ≡ true)
 
-none_some : {A : Type 0} (x : A) → None ≡ Some x → ⊥
-none_some x e = false≢true (ap is_some e)
-
 first_node : (tree : ℕ → TreeFunction) (last : ℕ) → AreRevisions tree last → (p : Path) (x : Node) → tree 0 p ≡ Some x → x ≡ empty_node Dir
-first_node tree last is [] x e = some_is x (empty_node Dir) (sym e ∙ is.first)
-first_node tree last is (y ∷ p) x e = absurd (none_some x (sym (is.alone y p) ∙ e))
+first_node tree last is [] x e = same_Some x (empty_node Dir) (sym e ∙ is.first)
+first_node tree last is (y ∷ p) x e = absurd (none-some x (sym (is.alone y p) ∙ e))
 
 first_dirs : (tree : ℕ → TreeFunction) (last : ℕ) → AreRevisions tree last → HasDirs (tree 0)
 first_dirs tree last is = record { root = top; above = up }
@@ -51,7 +46,7 @@ first_dirs tree last is = record { root = top; above = up }
     up : (q p : Path) → is_above q p ≡ true → is_some (tree 0 p) ≡ true → is_dir_node (tree 0 q) ≡ true
     up [] p ab h = top
     up (x ∷ q) [] ab h = absurd (false≢true ab)
-    up (x ∷ q) (y ∷ p) ab h = absurd (not_both _ h (ap is_some (is.alone y p)))
+    up (x ∷ q) (y ∷ p) ab h = absurd (both_ways _ (ap is_some (is.alone y p)) h)
 
 dirs : (tree : ℕ → TreeFunction) (last r : ℕ) → AreRevisions tree last → r ≤ last → HasDirs (tree r)
 dirs tree last zero is le = first_dirs tree last is
@@ -60,7 +55,7 @@ dirs tree last (suc r) is le = dirs_from (tree (suc r)) (is.next r (omega arith)
 -- a source is of a revision before the one in which the node was added
 pub source_before : (tree : ℕ → TreeFunction) (last r : ℕ) → AreRevisions tree last → r ≤ last → (p : Path) (x : Node) (from : ℕ) (f : Path) → tree r p ≡ Some x → x.source ≡ Some (from, f)
     → (from < x.added) × (is_some (tree from f) ≡ true)
-source_before tree last zero is le p x from f e h = absurd (none_some (from, f) (sym (ap (λ v. v.source) (first_node tree last is p x e)) ∙ h))
+source_before tree last zero is le p x from f e h = absurd (none-some (from, f) (sym (ap (λ v. v.source) (first_node tree last is p x e)) ∙ h))
 source_before tree last (suc r) is le p x from f e h = (is.next r (omega arith)).source p f x from e h
 
 pub at_most : (tree : ℕ → TreeFunction) (last r : ℕ) → AreRevisions tree last → r ≤ last → (p : Path) (x : Node) → tree r p ≡ Some x → x.last_changed ≤ r
@@ -86,7 +81,7 @@ sources tree last r is le p x from f e h =
 -- ---- edits
 
 out_node : (t : TreeFunction) (p : Path) (o : Option Node) (q : Path) → covers p q ≡ false → with_node t p o q ≡ t q
-out_node t p o q h = ap (λ b. cond b o (t q)) (not_true _ (λ k. not_both _ (subst (λ v. covers p v ≡ true) (sym (same_path-is q p k)) (covers-refl p)) h))
+out_node t p o q h = ap (λ b. cond b o (t q)) (false_from_ne_true _ (λ k. both_ways _ h (subst (λ v. covers p v ≡ true) (sym (same_path-is q p k)) (covers-refl p))))
 
 beside : (t : TreeFunction) (p : Path) (o : Option Node) (q : Path) → same_path q p ≡ false → with_node t p o q ≡ t q
 beside t p o q h = ap (λ b. cond b o (t q)) h
@@ -99,7 +94,7 @@ module _ (tree : ℕ → TreeFunction) (last : ℕ) (base t : TreeFunction) (mar
   edit_content (MakeDir path) h = put_content base t (applied (MakeDir path) tree t) marks (mark_of (MakeDir path) tree t) cb ct is keeps refl (free t path ct h) (out_node t path (Some (empty_node Dir)))
   edit_content (MakeFile path) h = put_content base t (applied (MakeFile path) tree t) marks (mark_of (MakeFile path) tree t) cb ct is keeps refl (free t path ct h) (out_node t path (Some (empty_node File)))
   edit_content (Delete path) h = taken_content base t (applied (Delete path) tree t) marks (mark_of (Delete path) tree t) cb ct is keeps refl (away t path) (λ q out. ap (λ b. cond b None (t q)) out)
-  edit_content (Copy rev from to) h = put_content base t (applied (Copy rev from to) tree t) marks (mark_of (Copy rev from to) tree t) cb ct is keeps refl (free t to ct (first_true _ _ (first_true _ _ h)))
+  edit_content (Copy rev from to) h = put_content base t (applied (Copy rev from to) tree t) marks (mark_of (Copy rev from to) tree t) cb ct is keeps refl (free t to ct (and_parts _ _ (and_parts _ _ h).0).0)
       (λ q out. ap (λ b. cond b (copied_node rev (from ++ rest_after to q) (tree rev (from ++ rest_after to q))) (t q)) out)
   edit_content (PutText path text) h = changed_content base t (applied (PutText path text) tree t) marks (mark_of (PutText path text) tree t) cb ct is keeps (inl refl) (λ e. h) (beside t path (with_text text.items (t path)))
       (λ x e. (record x { text = Bytes text.items }, at_path t path (with_text text.items (t path)) ∙ ap (with_text text.items) e, refl, refl, inr refl))
@@ -113,35 +108,35 @@ module _ (tree : ℕ → TreeFunction) (last : ℕ) (base t : TreeFunction) (mar
 
 module _ (tree : ℕ → TreeFunction) (last : ℕ) (t : TreeFunction) (known : SourcesStand tree last t) where
   placed_sources : (p : Path) (o : Option Node) → ((x : Node) (from : ℕ) (f : Path) → o ≡ Some x → x.source ≡ Some (from, f) → (from ≤ last) × (is_some (tree from f) ≡ true)) → SourcesStand tree last (with_node t p o)
-  placed_sources p o new q x from f e h = elim (cases (same_path q p)) [
+  placed_sources p o new q x from f e h = elim (cases_Bool (same_path q p)) [
     | inl here ↦ new x from f (sym (ap (λ b. cond b o (t q)) here) ∙ e) h
     | inr other ↦ known q x from f (sym (ap (λ b. cond b o (t q)) other) ∙ e) h
   ]
 
   no_source : (k : Kind) (x : Node) (from : ℕ) (f : Path) → Some (empty_node k) ≡ Some x → x.source ≡ Some (from, f) → (from ≤ last) × (is_some (tree from f) ≡ true)
-  no_source k x from f e h = absurd (none_some (from, f) (ap (λ v. v.source) (some_is (empty_node k) x e) ∙ h))
+  no_source k x from f e h = absurd (none-some (from, f) (ap (λ v. v.source) (same_Some (empty_node k) x e) ∙ h))
 
   changed_source : (o u : Option Node) → ((n : Node) → o ≡ Some n → (y : Node) × (u ≡ Some y) × (y.source ≡ n.source)) → (o ≡ None → u ≡ None) → (x : Node) → u ≡ Some x → (n : Node) × (o ≡ Some n) × (x.source ≡ n.source)
-  changed_source None u some none x e = absurd (none_some x (sym (none refl) ∙ e))
-  changed_source (Some n) u some none x e = let y = some n refl in (n, refl, ap (λ v. v.source) (some_is x y.0 (sym e ∙ y.1)) ∙ y.2)
+  changed_source None u some none x e = absurd (none-some x (sym (none refl) ∙ e))
+  changed_source (Some n) u some none x e = let y = some n refl in (n, refl, ap (λ v. v.source) (same_Some x y.0 (sym e ∙ y.1)) ∙ y.2)
 
   edit_sources : (edit : Edit) → accepts edit tree last t ≡ true → SourcesStand tree last (applied edit tree t)
   edit_sources (MakeDir path) h = placed_sources path (Some (empty_node Dir)) (no_source Dir)
   edit_sources (MakeFile path) h = placed_sources path (Some (empty_node File)) (no_source File)
-  edit_sources (Delete path) h = λ q x from f e k. elim (cases (covers path q)) [
-    | inl w ↦ absurd (not_both _ (ap is_some e) (away t path q w))
+  edit_sources (Delete path) h = λ q x from f e k. elim (cases_Bool (covers path q)) [
+    | inl w ↦ absurd (both_ways _ (away t path q w) (ap is_some e))
     | inr w ↦ known q x from f (sym (ap (λ b. cond b None (t q)) w) ∙ e) k
   ]
-  edit_sources (Copy rev from to) h = λ q x r f e k. elim (cases (covers to q)) [
+  edit_sources (Copy rev from to) h = λ q x r f e k. elim (cases_Bool (covers to q)) [
     | inr w ↦ known q x r f (sym (ap (λ b. cond b (copied_node rev (from ++ rest_after to q) (tree rev (from ++ rest_after to q))) (t q)) w) ∙ e) k
     | inl w ↦ copied q x r f (tree rev (from ++ rest_after to q)) refl (sym (ap (λ b. cond b (copied_node rev (from ++ rest_after to q) (tree rev (from ++ rest_after to q))) (t q)) w) ∙ e) k
   ]
     where
       copied : (q : Path) (x : Node) (r : ℕ) (f : Path) (o : Option Node) → tree rev (from ++ rest_after to q) ≡ o → copied_node rev (from ++ rest_after to q) o ≡ Some x → x.source ≡ Some (r, f) → (r ≤ last) × (is_some (tree r f) ≡ true)
-      copied q x r f None at e k = absurd (none_some _ e)
+      copied q x r f None at e k = absurd (none-some _ e)
       copied q x r f (Some n) at e k =
-          let same : (rev, from ++ rest_after to q) ≡ (r, f) = some_pair _ _ (ap (λ v. v.source) (some_is _ x e) ∙ k) in
-          (subst (λ v. v.0 ≤ last) same (leb-true rev last (second_true _ _ (first_true _ _ h))), subst (λ v. is_some (tree v.0 v.1) ≡ true) same (ap is_some at))
+          let same : (rev, from ++ rest_after to q) ≡ (r, f) = some_pair _ _ (ap (λ v. v.source) (same_Some _ x e) ∙ k) in
+          (subst (λ v. v.0 ≤ last) same (leb-true rev last (and_parts _ _ (and_parts _ _ h).0).1), subst (λ v. is_some (tree v.0 v.1) ≡ true) same (ap is_some at))
         where
           some_pair : (x y : ℕ × Path) → Some x ≡ Some y → x ≡ y
           some_pair x y e = cc
@@ -154,7 +149,7 @@ module _ (tree : ℕ → TreeFunction) (last : ℕ) (t : TreeFunction) (known : 
 
 module _ (base t u : TreeFunction) (marks : List Mark) (m : Mark) (cb : IsClosed base) (ct : IsClosed t) (is : DescribesBase base t marks) (keeps : KeepsContent base t marks) where
   root_stays : (m.what ≡ Gone → is_root m.path ≡ false) → (effects marks []).deleted ≡ false → (effects (marks ++ m ∷ []) []).deleted ≡ false
-  root_stays not_root old = not_true _ (λ k. not_both _ (gone_back base t u marks m cb ct is keeps [] (λ e c. by m.path (not_root e) c) k) old)
+  root_stays not_root old = false_from_ne_true _ (λ k. both_ways _ old (gone_back base t u marks m cb ct is keeps [] (λ e c. by m.path (not_root e) c) k))
     where
       by : (p : Path) → is_root p ≡ false → covers p [] ≡ true → ⊥
       by [] n c = false≢true (sym n)
@@ -163,7 +158,7 @@ module _ (base t u : TreeFunction) (marks : List Mark) (m : Mark) (cb : IsClosed
 gone_only : (edit : Edit) (tree : ℕ → TreeFunction) (last : ℕ) (t : TreeFunction) → accepts edit tree last t ≡ true → (mark_of edit tree t).what ≡ Gone → is_root (mark_of edit tree t).path ≡ false
 gone_only (MakeDir path) tree last t h e = cc
 gone_only (MakeFile path) tree last t h e = cc
-gone_only (Delete path) tree last t h e = negated _ (first_true _ _ h)
+gone_only (Delete path) tree last t h e = not-true _ (and_parts _ _ h).0
 gone_only (Copy rev from to) tree last t h e = cc
 gone_only (PutText path text) tree last t h e = cc
 gone_only (SetProp path name value) tree last t h e = cc
@@ -243,7 +238,7 @@ module _ (tree : ℕ → TreeFunction) (last b : ℕ) (t : TreeFunction) (marks 
       by (Fresh x r z) = absurd (omega arith)
       by (From u g x r z) = elim (pick (effects marks p).props_changed (suc last) u.props_changed) [
         | inl k ↦ absurd (let y = k.1 in omega (arith, r, y, lt))
-        | inr k ↦ (k.0, ap (λ n. n.props_changed) (some_is v u (sym f ∙ g)) ∙ sym (r ∙ k.1))
+        | inr k ↦ (k.0, ap (λ n. n.props_changed) (same_Some v u (sym f ∙ g)) ∙ sym (r ∙ k.1))
       ]
 
   -- a node that was not added is the head's but for what was changed of it
@@ -262,7 +257,7 @@ module _ (tree : ℕ → TreeFunction) (last b : ℕ) (t : TreeFunction) (marks 
     where
       by : (v : Node) → tree last p ≡ Some v → Shape (suc last) (effects marks p) (tree last p) y → v.added ≡ y.added
       by v f (Fresh x r z) = absurd (omega arith)
-      by v f (From u g x r z) = ap (λ n. n.added) (some_is v u (sym f ∙ g)) ∙ sym x
+      by v f (From u g x r z) = ap (λ n. n.added) (same_Some v u (sym f ∙ g)) ∙ sym x
 
   next_props : (p : Path) (y : Node) → new p ≡ Some y → y.props_changed < suc last → (v : Node) × (tree last p ≡ Some v) × (v.properties ≡ y.properties) × (v.props_changed ≡ y.props_changed)
   next_props p y e lt =
@@ -283,7 +278,7 @@ module _ (tree : ℕ → TreeFunction) (last b : ℕ) (t : TreeFunction) (marks 
         where
           numbers : (v : Node) → tree last p ≡ Some v → from < v.added → v.added ≤ v.props_changed → v.props_changed ≤ v.last_changed → v.last_changed ≤ last → Shape (suc last) (effects marks p) (tree last p) y → from < y.added
           numbers v g lt o1 o2 m (Fresh x r z) = omega arith
-          numbers v g lt o1 o2 m (From u k x r z) = let same = ap (λ n. n.added) (some_is v u (sym g ∙ k)) in omega (arith, same, x, lt)
+          numbers v g lt o1 o2 m (From u k x r z) = let same = ap (λ n. n.added) (same_Some v u (sym g ∙ k)) in omega (arith, same, x, lt)
 
       by : Origin (suc last) (effects marks p) (tree b p) (tree last p) (t p) y → (from < y.added) × (is_some (tree from f) ≡ true)
       by (Head x g alt k) = of_head x g (sym k.source ∙ h)

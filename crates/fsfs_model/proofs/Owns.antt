@@ -1,5 +1,6 @@
 -- What the marks say of the base stays true over edits.
 use Rattle.std.proofs.Common.{◌≡◌, Bool, true, false, not, cond, if◌then◌else◌, List, [], ◌∷◌, ◌++◌, refl, sym, ◌∙◌, ap, subst, inl, inr, ◌⊎◌, None}
+use Rattle.std.proofs.lemmas.Bool.{cases_Bool, false_from_ne_true, and_parts, both_ways}
 use Rattle.std.specs.Prelude.{is_some}
 use Rattle.std.specs.List.{filter}
 use mathlib.Core.Bool.{false≢true}
@@ -9,10 +10,11 @@ use Rattle.fsfs_base.specs.declared.mark.Mark.{Mark}
 use Rattle.fsfs_base.specs.Paths.{Path, covers, is_above}
 use Rattle.fsfs_base.specs.Nodes.{TreeFunction}
 use Rattle.fsfs_base.specs.Marks.{is_make, effects, outer, outer_from, made, made_by, made_after, any_covers}
-use Rattle.fsfs_model.proofs.Bases.{IsClosed, DescribesBase, ChangesPaths}
+use Rattle.fsfs_base.proofs.PathLemmas.{covers-refl, covers-trans}
 use Rattle.fsfs_model.specs.Laws.{In}
-use Rattle.fsfs_model.proofs.PathLemmas.{first_true, cases, not_both, not_true, covers-refl, covers-trans, found, found_in}
-use Rattle.fsfs_model.proofs.Walk.{gone_by, gone_from, gone_down}
+use Rattle.fsfs_model.proofs.Bases.{IsClosed, DescribesBase, ChangesPaths}
+use Rattle.fsfs_model.proofs.Tests.{found, found_in}
+use Rattle.fsfs_model.proofs.MergeWalk.{gone_by, gone_from, gone_down}
 
 -- ---- membership
 
@@ -46,7 +48,7 @@ In-filtered p (y ∷ xs) x i h = by (λ w. In-filtered p xs x w h) (p y) refl i
     by : (In xs x → In (filter p xs) x) → (b : Bool) → p y ≡ b → In (y ∷ xs) x → In (cond b (y ∷ filter p xs) (filter p xs)) x
     by rec true e (inl q) = inl q
     by rec true e (inr w) = inr (rec w)
-    by rec false e (inl q) = absurd (not_both (p y) (ap p q ∙ h) e)
+    by rec false e (inl q) = absurd (both_ways (p y) e (ap p q ∙ h))
     by rec false e (inr w) = rec w
 
 -- ---- one more mark
@@ -107,9 +109,9 @@ module _ (base t u : TreeFunction) (marks : List Mark) (m : Mark) (cb : IsClosed
 
   -- what stands in the tree and is below nothing made is in the base
   pub in_base : (p : Path) → is_some (t p) ≡ true → any_covers (made marks) p ≡ false → is_some (base p) ≡ true
-  in_base p h n = elim (cases (is_some (base p))) [
+  in_base p h n = elim (cases_Bool (is_some (base p))) [
     | inl w ↦ w
-    | inr w ↦ let q = is.own p w h in absurd (not_both _ (found_in (λ v. covers v p) (made marks) q.0 q.1 q.2) n)
+    | inr w ↦ let q = is.own p w h in absurd (both_ways _ n (found_in (λ v. covers v p) (made marks) q.0 q.1 q.2))
   ]
 
   raised : (q : Path) → In (made marks) q
@@ -150,16 +152,16 @@ module _ (base t u : TreeFunction) (marks : List Mark) (m : Mark) (cb : IsClosed
     new = λ q i. stays q (is.new q (left q i).0);
     top = λ q i. raised q (left q i).0;
     own = λ p lacks has.
-        let out : covers m.path p ≡ false = not_true _ (λ h. not_both _ has (none p h)) in
+        let out : covers m.path p ≡ false = false_from_ne_true _ (λ h. both_ways _ (none p h) has) in
         let q = is.own p lacks (sym (outside p out) ∙ has) in
-        (q.0, subst (λ v. In v q.0) (sym at) (In-filtered (λ v. not (covers m.path v)) (made marks) q.0 q.1 (unmade _ (λ h. not_both _ (covers-trans m.path q.0 p h q.2) out))), q.2);
-    lost = λ p has lacks. elim (cases (covers m.path p)) [
+        (q.0, subst (λ v. In v q.0) (sym at) (In-filtered (λ v. not (covers m.path v)) (made marks) q.0 q.1 (unmade _ (λ h. both_ways _ out (covers-trans m.path q.0 p h q.2)))), q.2);
+    lost = λ p has lacks. elim (cases_Bool (covers m.path p)) [
       | inr out ↦ gone_stays p (is.lost p has (sym (outside p out) ∙ lacks))
-      | inl below ↦ elim (cases (any_covers (made marks) m.path)) [
+      | inl below ↦ elim (cases_Bool (any_covers (made marks) m.path)) [
         | inr outermost ↦ gone_from longer m p (new_outer outermost) e below
         | inl inner ↦ (let f = found (λ v. covers v m.path) (made marks) inner in
             elim (is.new f.0 f.1) [
-              | inl n ↦ absurd (not_both _ (cb f.0 p (covers-trans f.0 m.path p f.2 below) has) n)
+              | inl n ↦ absurd (both_ways _ n (cb f.0 p (covers-trans f.0 m.path p f.2 below) has))
               | inr g ↦ gone_stays p (gone_down marks f.0 p (covers-trans f.0 m.path p f.2 below) g)
             ])
       ]
@@ -190,28 +192,28 @@ module _ (base t u : TreeFunction) (marks : List Mark) (m : Mark) (cb : IsClosed
     placed = λ x q i k a. elim (from_outer x i) [
       | inl w ↦ is.placed x q w k a
       | inr w ↦ in_base q (above q (subst (λ v. is_above q v.path ≡ true) (sym w.0) a))
-          (not_true _ (λ h. let f = found (λ v. covers v q) (made marks) h in
-          not_both _ (found_in (λ v. covers v m.path) (made marks) f.0 f.1 (covers-trans f.0 q m.path f.2 (first_true _ _ (subst (λ v. is_above q v.path ≡ true) (sym w.0) a)))) w.1))
+          (false_from_ne_true _ (λ h. let f = found (λ v. covers v q) (made marks) h in
+          both_ways _ w.1 (found_in (λ v. covers v m.path) (made marks) f.0 f.1 (covers-trans f.0 q m.path f.2 (and_parts _ _ (subst (λ v. is_above q v.path ≡ true) (sym w.0) a)).0))))
     ];
     kept = λ q i. elim (which q i) [
-      | inl w ↦ outside q (not_true _ (λ h. not_both _ (ct m.path q h (is.kept q w)) none)) ∙ is.kept q w
+      | inl w ↦ outside q (false_from_ne_true _ (λ h. both_ways _ none (ct m.path q h (is.kept q w)))) ∙ is.kept q w
       | inr w ↦ subst (λ v. is_some (u v) ≡ true) w some
     ];
     new = λ q i. elim (which q i) [ inl w ↦ stays q (is.new q w) | inr w ↦ subst (λ v. (is_some (base v) ≡ false) ⊎ ((effects longer v).deleted ≡ true)) w here ];
     top = λ q i. elim (which q i) [
       | inl w ↦ raised q w
       | inr w ↦ subst (λ v. (x : Mark) × In (outer longer) x × (is_make x.what ≡ true) × (covers x.path v ≡ true) × ((is_some (base x.path) ≡ false) ⊎ ((effects longer x.path).deleted ≡ true))) w
-          (elim (cases (any_covers (made marks) m.path)) [
+          (elim (cases_Bool (any_covers (made marks) m.path)) [
             | inr outermost ↦ (m, new_outer outermost, e, covers-refl m.path, here)
             | inl inner ↦ (let f = found (λ v. covers v m.path) (made marks) inner in let x = raised f.0 f.1 in (x.0, x.1, x.2, covers-trans x.0.path f.0 m.path x.3 f.2, x.4))
           ])
     ];
-    own = λ p lacks has. elim (cases (covers m.path p)) [
+    own = λ p lacks has. elim (cases_Bool (covers m.path p)) [
       | inl below ↦ (m.path, subst (λ v. In v m.path) (sym at) (In-right (made marks) (m.path ∷ []) m.path (inl refl)), below)
       | inr out ↦ (let q = is.own p lacks (sym (outside p out) ∙ has) in (q.0, subst (λ v. In v q.0) (sym at) (In-left (made marks) (m.path ∷ []) q.0 q.1), q.2))
     ];
-    lost = λ p has lacks. gone_stays p (is.lost p has (elim (cases (covers m.path p)) [
-      | inl below ↦ not_true _ (λ h. not_both _ (ct m.path p below h) none)
+    lost = λ p has lacks. gone_stays p (is.lost p has (elim (cases_Bool (covers m.path p)) [
+      | inl below ↦ false_from_ne_true _ (λ h. both_ways _ none (ct m.path p below h))
       | inr out ↦ sym (outside p out) ∙ lacks
     ]));
   }
@@ -223,4 +225,4 @@ module _ (base t u : TreeFunction) (marks : List Mark) (m : Mark) (cb : IsClosed
       which q i = elim (In-append (made marks) (m.path ∷ []) q (subst (λ v. In v q) at i)) [ inl w ↦ inl w | inr w ↦ elim w [ inl x ↦ inr x | inr x ↦ absurd x ] ]
 
       here : (is_some (base m.path) ≡ false) ⊎ ((effects longer m.path).deleted ≡ true)
-      here = elim (cases (is_some (base m.path))) [ inr n ↦ inl n | inl h ↦ inr (gone_stays m.path (is.lost m.path h none)) ]
+      here = elim (cases_Bool (is_some (base m.path))) [ inr n ↦ inl n | inl h ↦ inr (gone_stays m.path (is.lost m.path h none)) ]

@@ -1,7 +1,7 @@
 -- At one path: where the numbers of a landed node come from.
 use Rattle.std.proofs.Common.{◌≡◌, ℕ, suc, ◌≤◌, Bool, true, false, cond, refl, sym, ◌∙◌, ap, subst, Option, Some, None, arith, inl, inr, ◌⊎◌}
+use Rattle.std.proofs.lemmas.Option.{same_Some, none-some}
 use Rattle.std.specs.Prelude.{is_some}
-use Rattle.std.specs.Option.{unwrap_or}
 use mathlib.Core.Bool.{false≢true}
 use Rattle.fsfs_base.specs.Nodes.{Node}
 use Rattle.fsfs_base.specs.declared.mark.Effects.{Effects}
@@ -14,17 +14,11 @@ pub data Shape (n : ℕ) (d : Effects) (s : Option Node) (x : Node) : Type 0 whe
   Fresh : x.added ≡ n → x.props_changed ≡ n → x.last_changed ≡ n → Shape n d s x
   From : (v : Node) → s ≡ Some v → x.added ≡ v.added → x.props_changed ≡ cond d.props_changed n v.props_changed → x.last_changed ≡ cond d.touched n v.last_changed → Shape n d s x
 
-some_is : {A : Type 0} (x y : A) → Some x ≡ Some y → x ≡ y
-some_is x y e = ap (λ o. unwrap_or o x) e
-
-none_some : {A : Type 0} (x : A) → None ≡ Some x → ⊥
-none_some x e = false≢true (ap is_some e)
-
 shape_by : (n : ℕ) (d : Effects) (own : Bool) (s o : Option Node) (x : Node) → numbered_some n d own s o ≡ Some x → Shape n d s x
-shape_by n d own s None x e = absurd (none_some x e)
-shape_by n d true s (Some y) x e = let k = some_is _ _ e in Fresh (sym (ap (λ v. v.added) k)) (sym (ap (λ v. v.props_changed) k)) (sym (ap (λ v. v.last_changed) k))
-shape_by n d false None (Some y) x e = let k = some_is _ _ e in Fresh (sym (ap (λ v. v.added) k)) (sym (ap (λ v. v.props_changed) k)) (sym (ap (λ v. v.last_changed) k))
-shape_by n d false (Some v) (Some y) x e = let k = some_is _ _ e in From v refl (sym (ap (λ v. v.added) k)) (sym (ap (λ v. v.props_changed) k)) (sym (ap (λ v. v.last_changed) k))
+shape_by n d own s None x e = absurd (none-some x e)
+shape_by n d true s (Some y) x e = let k = same_Some _ _ e in Fresh (sym (ap (λ v. v.added) k)) (sym (ap (λ v. v.props_changed) k)) (sym (ap (λ v. v.last_changed) k))
+shape_by n d false None (Some y) x e = let k = same_Some _ _ e in Fresh (sym (ap (λ v. v.added) k)) (sym (ap (λ v. v.props_changed) k)) (sym (ap (λ v. v.last_changed) k))
+shape_by n d false (Some v) (Some y) x e = let k = same_Some _ _ e in From v refl (sym (ap (λ v. v.added) k)) (sym (ap (λ v. v.props_changed) k)) (sym (ap (λ v. v.last_changed) k))
 
 pub shape : (n : ℕ) (d : Effects) (a s t : Option Node) (x : Node) → landed_at n d a s t ≡ Some x → Shape n d s x
 shape n d a s t x e = shape_by n d _ s (chosen d a s t) x e
@@ -58,8 +52,8 @@ since_touched n d s x u (From v e b r c) = c ∙ ap (λ k. cond k n v.last_chang
 -- a node of the transaction's own that the base lacks, or that stands where the base's is gone, is fresh
 fresh_in : (n : ℕ) (c g r w : Bool) (a s t : Option Node) (x : Node) → landed_at n (said c g r w) a s t ≡ Some x → is_some t ≡ true → ((is_some a ≡ false) ⊎ (g ≡ true)) → (x.added ≡ n) × (x.last_changed ≡ n)
 fresh_in n c g r w a s None x e h k = absurd (false≢true h)
-fresh_in n c g r w None s (Some t) x e h k = let q = some_is _ _ e in (sym (ap (λ v. v.added) q), sym (ap (λ v. v.last_changed) q))
-fresh_in n c true r w (Some a) s (Some t) x e h k = let q = some_is _ _ e in (sym (ap (λ v. v.added) q), sym (ap (λ v. v.last_changed) q))
+fresh_in n c g r w None s (Some t) x e h k = let q = same_Some _ _ e in (sym (ap (λ v. v.added) q), sym (ap (λ v. v.last_changed) q))
+fresh_in n c true r w (Some a) s (Some t) x e h k = let q = same_Some _ _ e in (sym (ap (λ v. v.added) q), sym (ap (λ v. v.last_changed) q))
 fresh_in n c false r w (Some a) s (Some t) x e h (inl m) = absurd (false≢true (sym m))
 fresh_in n c false r w (Some a) s (Some t) x e h (inr m) = absurd (false≢true m)
 
@@ -73,18 +67,18 @@ same_in n g false true a s t x e hr hw old = absurd (false≢true (sym hw))
 same_in n g false false a None None x e hr hw old = absurd (nothing_comes g a e)
   where
     nothing_comes : (g : Bool) (a : Option Node) → landed_at n (said false g false false) a None None ≡ Some x → ⊥
-    nothing_comes true None e = none_some x e
-    nothing_comes true (Some a) e = none_some x e
-    nothing_comes false None e = none_some x e
-    nothing_comes false (Some a) e = none_some x e
+    nothing_comes true None e = none-some x e
+    nothing_comes true (Some a) e = none-some x e
+    nothing_comes false None e = none-some x e
+    nothing_comes false (Some a) e = none-some x e
 same_in n true false false None (Some v) None x e hr hw old = e
-same_in n true false false (Some a) (Some v) None x e hr hw old = absurd (none_some x e)
+same_in n true false false (Some a) (Some v) None x e hr hw old = absurd (none-some x e)
 same_in n false false false None (Some v) None x e hr hw old = e
 same_in n false false false (Some a) (Some v) None x e hr hw old = e
 same_in n true false false a s (Some t) x e hr hw old = absurd (old (fresh_in n false true false false a s (Some t) x e refl (inr refl)).1)
 same_in n false false false None s (Some t) x e hr hw old = absurd (old (fresh_in n false false false false None s (Some t) x e refl (inl refl)).1)
 same_in n false false false (Some a) (Some v) (Some t) x e hr hw old = e
-same_in n false false false (Some a) None (Some t) x e hr hw old = absurd (none_some x e)
+same_in n false false false (Some a) None (Some t) x e hr hw old = absurd (none-some x e)
 
 pub same_head : (n : ℕ) (d : Effects) (a s t : Option Node) (x : Node) → landed_at n d a s t ≡ Some x → d.touched ≡ false → d.rewritten ≡ false → d.props_changed ≡ false → (x.last_changed ≡ n → ⊥) → s ≡ Some x
 same_head n d a s t x e hc hr hw old = same_in n d.deleted d.rewritten d.props_changed a s t x (subst (λ k. landed_at n (said k d.deleted d.rewritten d.props_changed) a s t ≡ Some x) hc e) hr hw old
@@ -93,11 +87,11 @@ same_head n d a s t x e hc hr hw old = same_in n d.deleted d.rewritten d.props_c
 held_in : (n : ℕ) (c g r w : Bool) (a : Option Node) (v : Node) (t : Option Node) (x : Node) → landed_at n (said c g r w) a (Some v) t ≡ Some x → g ≡ false → ((is_some a ≡ true) ⊎ (is_some t ≡ false))
     → (x.added ≡ v.added) × (x.last_changed ≡ cond c n v.last_changed)
 held_in n c true r w a v t x e hg h = absurd (false≢true (sym hg))
-held_in n c false true w (Some a) v None x e hg h = absurd (none_some x e)
-held_in n c false true w (Some a) v (Some t) x e hg h = let q = some_is _ _ e in (sym (ap (λ k. k.added) q), sym (ap (λ k. k.last_changed) q))
-held_in n c false false w (Some a) v None x e hg h = let q = some_is _ _ e in (sym (ap (λ k. k.added) q), sym (ap (λ k. k.last_changed) q))
-held_in n c false false w (Some a) v (Some t) x e hg h = let q = some_is _ _ e in (sym (ap (λ k. k.added) q), sym (ap (λ k. k.last_changed) q))
-held_in n c false r w None v None x e hg h = let q = some_is _ _ e in (sym (ap (λ k. k.added) q), sym (ap (λ k. k.last_changed) q))
+held_in n c false true w (Some a) v None x e hg h = absurd (none-some x e)
+held_in n c false true w (Some a) v (Some t) x e hg h = let q = same_Some _ _ e in (sym (ap (λ k. k.added) q), sym (ap (λ k. k.last_changed) q))
+held_in n c false false w (Some a) v None x e hg h = let q = same_Some _ _ e in (sym (ap (λ k. k.added) q), sym (ap (λ k. k.last_changed) q))
+held_in n c false false w (Some a) v (Some t) x e hg h = let q = same_Some _ _ e in (sym (ap (λ k. k.added) q), sym (ap (λ k. k.last_changed) q))
+held_in n c false r w None v None x e hg h = let q = same_Some _ _ e in (sym (ap (λ k. k.added) q), sym (ap (λ k. k.last_changed) q))
 held_in n c false r w None v (Some t) x e hg (inl h) = absurd (false≢true h)
 held_in n c false r w None v (Some t) x e hg (inr h) = absurd (false≢true (sym h))
 

@@ -3,10 +3,10 @@ use Rattle.std.proofs.Common.{◌≤◌, ℕ, List, [], ◌∷◌, Option, Some,
 use Rattle.std.specs.Prelude.{IfOk}
 use Rattle.fsfs_base.specs.Paths.{Path}
 use Rattle.fsfs_base.specs.PathTexts.{IsPath}
-use Rattle.fsfs_noderev.specs.Ids.{PartValue, PlaceValue, New, Old, Made, At, In, IsPart, IsPlace, FitsPart, FitsPlace, FitsId, id_value}
+use Rattle.fsfs_noderev.specs.Ids.{PartValue, PlaceValue, IdValue, New, Old, Made, At, In, IsPart, IsPlace, IsId, FitsPart, FitsPlace, FitsId, id_value}
 use Rattle.fsfs_noderev.specs.Reps.{ContentsValue, IsRevOrNone, AreContents, FitsRev, FitsContents, contents_value}
 use Rattle.fsfs_noderev.specs.Reps as reps
-use Rattle.fsfs_noderev.specs.Fields.{IsIdText, AreContentsText, IsSourceText, IsRootText, Puts, nothing}
+use Rattle.fsfs_noderev.specs.Fields.{AreContentsText, IsSourceText, IsRootText, Puts, nothing}
 use Rattle.fsfs_noderev.specs.NodeRevs.{Takes, IsRead}
 use Rattle.fsfs_noderev.specs.Writing.{FitsIds, FitsOptional, FitsSource, FitsRoot, HasText}
 use Rattle.fsfs_noderev.specs.declared.fields.Fields.{Fields}
@@ -28,10 +28,8 @@ place_fits : (text : List ℕ) (place : PlaceValue) → IsPlace text place → F
 place_fits text (At rev offset) w = w.1.2.1
 place_fits text (In base n) w = tt
 
-id_fits : (text : List ℕ) (id : NodeId) → IsIdText text id → FitsId (id_value id)
-id_fits text id w =
-    let v = id_value id in
-    record { node = part_fits w.0 v.node w.2; copy = part_fits w.3.0 v.copy w.3.2; place = place_fits w.3.1 v.place w.3.3 }
+pub id_fits : (text : List ℕ) (id : IdValue) → IsId text id → FitsId id
+id_fits text id w = record { node = part_fits w.0 id.node w.2; copy = part_fits w.3.0 id.copy w.3.2; place = place_fits w.3.1 id.place w.3.3 }
 
 rev_fits : (text : List ℕ) (rev : Option ℕ) → IsRevOrNone text rev → FitsRev rev
 rev_fits text None w = tt
@@ -67,9 +65,9 @@ record Fit (f : Fields) : Type 0 where
 
 put_fits : (field : Option Field) (value : List ℕ) (s t : Fields) → Puts field value s t → Fit s → Fit t
 put_fits None value s t w k = subst (λ (f : Fields). Fit f) (sym w) k
-put_fits (Some Id) value s t w k = subst (λ (f : Fields). Fit f) (sym w.3) (record { id = id_fits value w.1 w.2; predecessor = k.predecessor; text = k.text; props = k.props; created_path = k.created_path; copy_from = k.copy_from; copy_root = k.copy_root })
+put_fits (Some Id) value s t w k = subst (λ (f : Fields). Fit f) (sym w.3) (record { id = id_fits value (id_value w.1) w.2; predecessor = k.predecessor; text = k.text; props = k.props; created_path = k.created_path; copy_from = k.copy_from; copy_root = k.copy_root })
 put_fits (Some NodeKind) value s t w k = subst (λ (f : Fields). Fit f) (sym w.3) (record { id = k.id; predecessor = k.predecessor; text = k.text; props = k.props; created_path = k.created_path; copy_from = k.copy_from; copy_root = k.copy_root })
-put_fits (Some Predecessor) value s t w k = subst (λ (f : Fields). Fit f) (sym w.3) (record { id = k.id; predecessor = id_fits value w.1 w.2; text = k.text; props = k.props; created_path = k.created_path; copy_from = k.copy_from; copy_root = k.copy_root })
+put_fits (Some Predecessor) value s t w k = subst (λ (f : Fields). Fit f) (sym w.3) (record { id = k.id; predecessor = id_fits value (id_value w.1) w.2; text = k.text; props = k.props; created_path = k.created_path; copy_from = k.copy_from; copy_root = k.copy_root })
 put_fits (Some Count) value s t w k = subst (λ (f : Fields). Fit f) (sym w.3) (record { id = k.id; predecessor = k.predecessor; text = k.text; props = k.props; created_path = k.created_path; copy_from = k.copy_from; copy_root = k.copy_root })
 put_fits (Some Text) value s t w k = subst (λ (f : Fields). Fit f) (sym w.3) (record { id = k.id; predecessor = k.predecessor; text = contents_fits value w.1 w.2; props = k.props; created_path = k.created_path; copy_from = k.copy_from; copy_root = k.copy_root })
 put_fits (Some Props) value s t w k = subst (λ (f : Fields). Fit f) (sym w.3) (record { id = k.id; predecessor = k.predecessor; text = k.text; props = contents_fits value w.1 w.2; created_path = k.created_path; copy_from = k.copy_from; copy_root = k.copy_root })

@@ -1,11 +1,10 @@
 pub mod IdTexts
 pub mod RepTexts
-pub mod Appending
 pub mod Same
 pub mod FieldTexts
 pub mod LineTexts
 pub mod Taking
-pub mod Lines10
+pub mod OneLine
 pub mod Writes
 pub mod Lengths
 pub mod Fitting

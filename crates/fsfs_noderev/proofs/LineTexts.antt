@@ -1,10 +1,11 @@
 -- Lines are read one by one.
 use Rattle.std.proofs.Common.{◌≡◌, ℕ, ◌<◌, Bool, true, false, cond, eqb, List, [], ◌∷◌, ◌++◌, length, Option, Some, None, refl, sym, ap, subst, ◌∙◌, append_assoc, arith}
+use Rattle.std.proofs.lemmas.Option.{some_pair_parts}
 use Rattle.std.specs.Prelude.{◌≢◌}
 use Rattle.std.proofs.lemmas.Bool.{eqb-true}
 use Rattle.std.proofs.lemmas.List.{length-append}
 use Rattle.fsfs_text.specs.Cuts.{Lacks, cut, and_then}
-use Rattle.fsfs_text.proofs.CutLemmas.{cut_found, cut_again, lacks_parts, lacks_from, some_pair}
+use Rattle.fsfs_text.proofs.CutLemmas.{cut_found, cut_again, lacks_parts, lacks_from}
 use Rattle.fsfs_noderev.specs.Lines.{IsPair, line, spaced, pair_at}
 
 -- what was read as a pair
@@ -22,7 +23,7 @@ spaced_found (c ∷ name) (b ∷ bs) pair e = go (eqb b 32) refl e
     filled e = cc
 
     go : (t : Bool) → eqb b 32 ≡ t → cond t (Some (c ∷ name, bs)) None ≡ Some pair → IsSpaced (c ∷ name) (b ∷ bs) pair
-    go true same e = let p = some_pair (c ∷ name) bs pair.0 pair.1 e in record { filled = filled; name_is = p.0; rest_is = rw (p.1, eqb-true b 32 same) refl }
+    go true same e = let p = some_pair_parts (c ∷ name) pair.0 bs pair.1 e in record { filled = filled; name_is = p.0; rest_is = rw (p.1, eqb-true b 32 same) refl }
     go false same e = absurd cc
 
 pub pair_found : (text : List ℕ) (pair : List ℕ × List ℕ) → Lacks 10 text → pair_at text ≡ Some pair → IsPair pair × (text ≡ pair.0 ++ 58 ∷ 32 ∷ pair.1)

@@ -1,6 +1,7 @@
 -- Representations are read exactly.
 use Rattle.std.proofs.Common.{◌≡◌, ℕ, zero, suc, ◌<◌, ◌/◌, ◌%◌, Bool, true, false, cond, eqb, List, [], ◌∷◌, Option, Some, None, Result, Ok, Err, refl, sym, ap, subst, ◌∙◌, arith, inl, inr}
-use Rattle.std.specs.Prelude.{IfSome, IsSomeAnd, option_map, codes}
+use Rattle.std.proofs.lemmas.Option.{same_Some}
+use Rattle.std.specs.Prelude.{codes}
 use Rattle.std.specs.List.{list_any}
 use Rattle.std.specs.Str.{bytes_eq}
 use Rattle.std.proofs.lemmas.Slice.Eq.{bytes_eq-Decides}
@@ -10,15 +11,16 @@ use Rattle.hex.specs.Hex.{IsBytes, lower_digits, encode_with, encode_lower, deco
 use Rattle.hex.specs.declared.error.FromHexError.{FromHexError}
 use Rattle.fsfs_text.specs.Numeral.{IsPlain}
 use Rattle.fsfs_text.specs.Cuts.{Lacks, cut, and_then, parts_at}
-use Rattle.fsfs_text.proofs.CutLemmas.{cut_found, cut_again, lacks_from}
-use Rattle.fsfs_text.proofs.Spelling.{Spells, bound, some_is, numeral_spells, cut_spells, plain_lacks}
+use Rattle.fsfs_text.proofs.Readers.{chosen}
+use Rattle.fsfs_text.proofs.CutLemmas.{cut_found, cut_again, lacks_from, cut_lacking}
+use Rattle.fsfs_text.proofs.Spelling.{Spells, bound, numeral_spells, cut_spells, plain_lacks}
 use Rattle.fsfs_fields.specs.Digests.{is_capital, IsDigestText}
-use Rattle.fsfs_fields.proofs.DigestTexts.{digest_found, digest_again}
 use Rattle.fsfs_fields.specs.TxnNames.{IsTxnName, txn_name_at}
+use Rattle.fsfs_fields.proofs.DigestTexts.{digest_found, digest_again}
 use Rattle.fsfs_fields.proofs.TxnNameTexts.{txn_name_spells}
 use Rattle.fsfs_noderev.specs.Ids.{IsRev, IsNumber64, b36_at, rev_at, number_at}
 use Rattle.fsfs_noderev.specs.Reps.{UniquifierValue, RepValue, ContentsValue, Own, At, IsRevOrNone, IsMarked, IsUnique, AreDigests, IsRep, AreContents, rev_or_none_at, result_ok, digest_at, marked_at, unique_at, split_digests, digests_at, rep_at, contents_at}
-use Rattle.fsfs_noderev.proofs.IdTexts.{b36_spells, rev_spells, pick}
+use Rattle.fsfs_noderev.proofs.IdTexts.{b36_spells, rev_spells}
 
 pub number_spells : Spells IsNumber64 number_at
 number_spells = numeral_spells 10 18446744073709551615 (omega arith)
@@ -27,13 +29,13 @@ number_spells = numeral_spells 10 18446744073709551615 (omega arith)
 
 digest_at_found : (n : ℕ) (text bytes : List ℕ) → digest_at n text ≡ Some bytes → IsDigestText n text bytes
 unfolding digest_at
-digest_at_found n text bytes e = elim (pick (list_any is_capital text) None (result_ok (decode_sized text n)) bytes e) [
+digest_at_found n text bytes e = elim (chosen (list_any is_capital text) None (result_ok (decode_sized text n)) (Some bytes) e) [
   | inl w ↦ absurd cc
   | inr w ↦ digest_found n text bytes w.0 (ok (decode_sized text n) w.1)
 ]
   where
     ok : (r : Result (List ℕ) FromHexError) → result_ok r ≡ Some bytes → r ≡ Ok bytes
-    ok (Ok y) e = ap (λ (z : List ℕ). Ok z) (some_is y bytes e)
+    ok (Ok y) e = ap (λ (z : List ℕ). Ok z) (same_Some y bytes e)
     ok (Err d) e = absurd cc
 
 digest_at_again : (n : ℕ) (text bytes : List ℕ) → IsDigestText n text bytes → digest_at n text ≡ Some bytes
@@ -69,24 +71,14 @@ encode_lacks c ok (b ∷ bytes) is =
 pub digest_lacks : (n c : ℕ) → first_lack c 16 ≡ true → (text bytes : List ℕ) → IsDigestText n text bytes → Lacks c text
 digest_lacks n c ok text bytes w = subst (λ (t : List ℕ). Lacks c t) (sym w.text_is) (encode_lacks c ok bytes w.bytes_are)
 
--- a reader by its clauses is the function
-pub spelled_back : {X Y : Type 0} {G : List ℕ → Y → Type 0} {r : List ℕ → Option Y} (view : X → Y) → Spells G r → (text : List ℕ) (o : Option X)
-    → IfSome o (λ x. G text (view x)) → ((y : Y) → G text y → IsSomeAnd o (λ x. view x ≡ y)) → option_map view o ≡ r text
-spelled_back view spells text (Some x) found only = sym (spells.again text (view x) found)
-spelled_back {X} {Y} {G} {r} view spells text None found only = go (r text) refl
-  where
-    go : (o : Option Y) → r text ≡ o → None ≡ r text
-    go None e = sym e
-    go (Some y) e = absurd (only y (spells.found text y e))
-
 -- ---- a revision or none
 
 rev_or_none_found : (text : List ℕ) (o : Option ℕ) → rev_or_none_at text ≡ Some o → IsRevOrNone text o
-rev_or_none_found text o e = elim (pick (bytes_eq text (codes "-1")) (Some None) (and_then (rev_at text) (λ rev. Some (Some rev))) o e) [
-  | inl w ↦ subst (λ (q : Option ℕ). IsRevOrNone text q) (some_is {A = Option ℕ} None o w.1) ((bytes_eq-Decides text (codes "-1")).0 w.0)
+rev_or_none_found text o e = elim (chosen (bytes_eq text (codes "-1")) (Some None) (and_then (rev_at text) (λ rev. Some (Some rev))) (Some o) e) [
+  | inl w ↦ subst (λ (q : Option ℕ). IsRevOrNone text q) (same_Some {A = Option ℕ} None o w.1) ((bytes_eq-Decides text (codes "-1")).0 w.0)
   | inr w ↦
       let d = bound (rev_at text) (λ rev. Some (Some rev)) o w.1 in
-      subst (λ (q : Option ℕ). IsRevOrNone text q) (some_is {A = Option ℕ} (Some d.0) o d.2) (rev_spells.found text d.0 d.1)
+      subst (λ (q : Option ℕ). IsRevOrNone text q) (same_Some {A = Option ℕ} (Some d.0) o d.2) (rev_spells.found text d.0 d.1)
 ]
 
 -- a number is not `-1`
@@ -113,7 +105,7 @@ rev_or_none_lacks text (Some rev) w = plain_lacks 10 2147483647 32 (omega arith)
 marked_found : (text : List ℕ) (n : ℕ) → marked_at text ≡ Some n → IsMarked text n
 unfolding marked_at
 marked_found [] n e = absurd cc
-marked_found (b ∷ bs) n e = elim (pick (eqb b 95) (b36_at bs) None n e) [
+marked_found (b ∷ bs) n e = elim (chosen (eqb b 95) (b36_at bs) None (Some n) e) [
   | inl w ↦ (bs, b36_spells.found bs n w.1, rw (eqb-true b 95 w.0) refl)
   | inr w ↦ absurd cc
 ]
@@ -134,7 +126,7 @@ unique_spells =
     record {
       found = λ text u e.
           let b = bound (parts_at 32 (digest_at 20) (λ t. parts_at 47 txn_name_at marked_at t) text) (λ p. Some (record { sha1 = p.0; base = p.1.0.0; txn = p.1.0.1; number = p.1.1 })) u e in
-          subst (λ (q : UniquifierValue). IsUnique text q) (some_is (let x : UniquifierValue = record { sha1 = b.0.0; base = b.0.1.0.0; txn = b.0.1.0.1; number = b.0.1.1 } in x) u b.2) (outer.found text b.0 b.1);
+          subst (λ (q : UniquifierValue). IsUnique text q) (same_Some (let x : UniquifierValue = record { sha1 = b.0.0; base = b.0.1.0.0; txn = b.0.1.0.1; number = b.0.1.1 } in x) u b.2) (outer.found text b.0 b.1);
       again = λ text u w. rw (outer.again text (u.sha1, ((u.base, u.txn), u.number)) w) refl;
     }
 
@@ -143,10 +135,6 @@ unique_spells =
 abbrev Digests : Type 0
 Digests = List ℕ × Option UniquifierValue
 
-cut_nothing : (c : ℕ) (t : List ℕ) → Lacks c t → cut c t ≡ None
-cut_nothing c [] lacks = refl
-cut_nothing c (b ∷ bs) lacks = rw (lacks.0, cut_nothing c bs lacks.1) refl
-
 digests_found : (text : List ℕ) (d : Digests) → digests_at text ≡ Some d → AreDigests text d
 unfolding digests_at
 digests_found text d e = go (cut 32 text) refl e
@@ -154,16 +142,16 @@ digests_found text d e = go (cut 32 text) refl e
     go : (o : Option (List ℕ × List ℕ)) → cut 32 text ≡ o → split_digests text o ≡ Some d → AreDigests text d
     go None is e =
         let b = bound (digest_at 16 text) (λ md5. Some (md5, None)) d e in
-        subst (λ (q : Digests). AreDigests text q) (some_is {A = Digests} (b.0, None) d b.2) (digest_at_found 16 text b.0 b.1)
+        subst (λ (q : Digests). AreDigests text q) (same_Some {A = Digests} (b.0, None) d b.2) (digest_at_found 16 text b.0 b.1)
     go (Some p) is e =
         let b = bound (digest_at 16 p.0) (λ md5. and_then (unique_at p.1) (λ u. Some (md5, Some u))) d e in
         let u = bound (unique_at p.1) (λ u. Some (b.0, Some u)) d b.2 in
         let w = cut_found 32 text p.0 p.1 is in
-        subst (λ (q : Digests). AreDigests text q) (some_is {A = Digests} (b.0, Some u.0) d u.2) (p.0, p.1, digest_at_found 16 p.0 b.0 b.1, unique_spells.found p.1 u.0 u.1, w.parts)
+        subst (λ (q : Digests). AreDigests text q) (same_Some {A = Digests} (b.0, Some u.0) d u.2) (p.0, p.1, digest_at_found 16 p.0 b.0 b.1, unique_spells.found p.1 u.0 u.1, w.parts)
 
 digests_again : (text : List ℕ) (d : Digests) → AreDigests text d → digests_at text ≡ Some d
 unfolding digests_at
-digests_again text (md5, None) w = rw (cut_nothing 32 text (digest_lacks 16 32 refl text md5 w), digest_at_again 16 text md5 w) refl
+digests_again text (md5, None) w = rw (cut_lacking 32 text (digest_lacks 16 32 refl text md5 w), digest_at_again 16 text md5 w) refl
 digests_again text (md5, Some u) w =
     let e : cut 32 text ≡ Some (w.0, w.1) = ap (cut 32) w.4 ∙ cut_again 32 w.0 w.1 (digest_lacks 16 32 refl w.0 md5 w.2) in
     rw (e, digest_at_again 16 w.0 md5 w.2, unique_spells.again w.1 u w.3) refl
@@ -184,17 +172,17 @@ rep_spells =
       found = λ text r e.
           let b = bound (parts_at 32 rev_or_none_at (λ t. parts_at 32 number_at (λ t. parts_at 32 number_at (λ t. parts_at 32 number_at digests_at t) t) t) text)
           (λ p. Some (record { rev = p.0; offset = p.1.0; length = p.1.1.0; size = p.1.1.1.0; md5 = p.1.1.1.1.0; unique = p.1.1.1.1.1 })) r e in
-          subst (λ (q : RepValue). IsRep text q) (some_is (let x : RepValue = record { rev = b.0.0; offset = b.0.1.0; length = b.0.1.1.0; size = b.0.1.1.1.0; md5 = b.0.1.1.1.1.0; unique = b.0.1.1.1.1.1 } in x) r b.2) (four.found text b.0 b.1);
+          subst (λ (q : RepValue). IsRep text q) (same_Some (let x : RepValue = record { rev = b.0.0; offset = b.0.1.0; length = b.0.1.1.0; size = b.0.1.1.1.0; md5 = b.0.1.1.1.1.0; unique = b.0.1.1.1.1.1 } in x) r b.2) (four.found text b.0 b.1);
       again = λ text r w. rw (four.again text (r.rev, (r.offset, (r.length, (r.size, (r.md5, r.unique))))) w) refl;
     }
 
 contents_found : (text : List ℕ) (k : ContentsValue) → contents_at text ≡ Some k → AreContents text k
 unfolding contents_at
-contents_found text k e = elim (pick (bytes_eq text (codes "-1")) (Some Own) (and_then (rep_at text) (λ r. Some (At r))) k e) [
-  | inl w ↦ subst (λ (q : ContentsValue). AreContents text q) (some_is Own k w.1) ((bytes_eq-Decides text (codes "-1")).0 w.0)
+contents_found text k e = elim (chosen (bytes_eq text (codes "-1")) (Some Own) (and_then (rep_at text) (λ r. Some (At r))) (Some k) e) [
+  | inl w ↦ subst (λ (q : ContentsValue). AreContents text q) (same_Some Own k w.1) ((bytes_eq-Decides text (codes "-1")).0 w.0)
   | inr w ↦
       let d = bound (rep_at text) (λ r. Some (At r)) k w.1 in
-      subst (λ (q : ContentsValue). AreContents text q) (some_is (At d.0) k d.2) (rep_spells.found text d.0 d.1)
+      subst (λ (q : ContentsValue). AreContents text q) (same_Some (At d.0) k d.2) (rep_spells.found text d.0 d.1)
 ]
 
 contents_again : (text : List ℕ) (k : ContentsValue) → AreContents text k → contents_at text ≡ Some k

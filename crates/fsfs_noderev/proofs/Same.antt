@@ -1,9 +1,10 @@
 -- Values that have the same numbers are the same.
-use Rattle.std.proofs.Common.{◌≡◌, ℕ, ◌<◌, ◌≤◌, Option, Some, None, refl, ap, subst, ◌∙◌}
+use Rattle.std.proofs.Common.{◌≡◌, Option, Some, None, refl, ap}
 use Rattle.std.specs.Prelude.{option_map}
-use Rattle.std.specs.Coded.{le_prop}
 use Rattle.fsfs_text.specs.declared.base36.B36.{B36}
+use Rattle.fsfs_text.proofs.Base36Texts.{b36_same}
 use Rattle.fsfs_fields.specs.declared.txn_name.TxnName.{TxnName}
+use Rattle.fsfs_fields.proofs.TxnNameTexts.{txn_same}
 use Rattle.fsfs_noderev.specs.declared.node_id.Part.{Part}
 use Rattle.fsfs_noderev.specs.declared.node_id.Part.TheVariants as part
 use Rattle.fsfs_noderev.specs.declared.node_id.Place.{Place}
@@ -15,20 +16,6 @@ use Rattle.fsfs_noderev.specs.declared.rep.Contents.{Contents}
 use Rattle.fsfs_noderev.specs.declared.rep.Contents.TheVariants as contents
 use Rattle.fsfs_noderev.specs.Ids.{IdValue, part_value, place_value, id_value}
 use Rattle.fsfs_noderev.specs.Reps.{UniquifierValue, RepValue, unique_value, rep_value, contents_value}
-
-pub b36_same : (a b : B36) → a.number ≡ b.number → a ≡ b
-b36_same a b e = go b.number e b.small
-  where
-    go : (k : ℕ) → a.number ≡ k → (q : k < 170581728179578208256) → a ≡ (let x : B36 = record { number = k; small = q } in x)
-    go k e = subst (λ (k : ℕ). (q : k < 170581728179578208256) → a ≡ (let x : B36 = record { number = k; small = q } in x)) e
-        (λ q. ap (λ (s : a.number < 170581728179578208256). let x : B36 = record { number = a.number; small = s } in x) (le_prop a.small q))
-
-pub txn_same : (a b : TxnName) → a.base ≡ b.base → a.number ≡ b.number → a ≡ b
-txn_same a b e f = go b.base e b.revision ∙ ap (λ (n : B36). let x : TxnName = record { base = b.base; number = n; revision = b.revision } in x) f
-  where
-    go : (k : ℕ) → a.base ≡ k → (q : k ≤ 2147483647) → a ≡ (let x : TxnName = record { base = k; number = a.number; revision = q } in x)
-    go k e = subst (λ (k : ℕ). (q : k ≤ 2147483647) → a ≡ (let x : TxnName = record { base = k; number = a.number; revision = q } in x)) e
-        (λ q. ap (λ (s : a.base ≤ 2147483647). let x : TxnName = record { base = a.base; number = a.number; revision = s } in x) (le_prop a.revision q))
 
 part_same : (a b : Part) → part_value a ≡ part_value b → a ≡ b
 part_same (part.New n) (part.New m) e = let f : n.number ≡ m.number = cc in ap (λ (x : B36). part.New x) (b36_same n m f)

@@ -1,11 +1,12 @@
 -- Lines are taken in one way at most.
 use Rattle.std.proofs.Common.{◌≡◌, ◌<◌, ◌≤◌, ℕ, List, [], ◌∷◌, ◌++◌, length, Option, Some, None, refl, sym, ap, subst, ◌∙◌, append_assoc, arith, inl, inr}
+use Rattle.std.proofs.lemmas.Option.{some_pair_parts, same_Some}
 use Rattle.std.specs.List.{flat_map}
 use Rattle.std.proofs.lemmas.List.{length-append, nil_from_length, append-nil}
 use Rattle.fsfs_text.specs.Grammar.{Begins}
 use Rattle.fsfs_text.specs.Cuts.{Lacks, cut}
-use Rattle.fsfs_text.proofs.CutLemmas.{cut_found, cut_again, cut_none, some_pair}
-use Rattle.fsfs_text.proofs.Spelling.{some_is}
+use Rattle.fsfs_text.proofs.Spelling.{IsOne}
+use Rattle.fsfs_text.proofs.CutLemmas.{cut_found, cut_again, cut_none}
 use Rattle.fsfs_noderev.specs.Ids.{IsNumber64}
 use Rattle.fsfs_noderev.specs.Lines.{IsPair, line, pair_at}
 use Rattle.fsfs_noderev.specs.Fields.{field_named, IsIdText, IsKindText, AreContentsText, IsPathText, IsSourceText, IsRootText, IsYes, Sets, Puts, Bars, Refuses, nothing}
@@ -17,7 +18,7 @@ use Rattle.fsfs_noderev.specs.declared.node_rev.Field.TheVariants.{Id, NodeKind,
 use Rattle.fsfs_noderev.specs.declared.node_rev.Which.{Which}
 use Rattle.fsfs_noderev.specs.declared.node_rev.Which.TheVariants.{BadLine, NoEnd}
 use Rattle.fsfs_noderev.specs.declared.node_rev.NodeRev.{NodeRev}
-use Rattle.fsfs_noderev.proofs.FieldTexts.{IsOne, id_one, kind_one, number_one, contents_one, path_one, source_one, root_one, yes_one}
+use Rattle.fsfs_noderev.proofs.FieldTexts.{id_one, kind_one, number_one, contents_one, path_one, source_one, root_one, yes_one}
 use Rattle.fsfs_noderev.proofs.LineTexts.{pair_found, pair_again, line_parts, line_cut}
 
 abbrev Pair : Type 0
@@ -64,12 +65,12 @@ puts_clash (Some MergeinfoHere) value s t which v b = bars_clash IsYes value s.m
 
 line_same : (p q : Pair) (a b : List ℕ) → IsPair p → IsPair q → line p ++ a ≡ line q ++ b → (p ≡ q) × (a ≡ b)
 line_same p q a b is_p is_q e =
-    let s = some_pair _ a _ b (sym (line_cut p a is_p) ∙ ap (cut 10) e ∙ line_cut q b is_q) in
-    (some_is p q (sym (pair_again p is_p) ∙ ap pair_at s.0 ∙ pair_again q is_q), s.1)
+    let s = some_pair_parts _ _ a b (sym (line_cut p a is_p) ∙ ap (cut 10) e ∙ line_cut q b is_q) in
+    (same_Some p q (sym (pair_again p is_p) ∙ ap pair_at s.0 ∙ pair_again q is_q), s.1)
 
 line_not_end : (p : Pair) (a b : List ℕ) → IsPair p → line p ++ a ≡ 10 ∷ b → ⊥
 line_not_end p a b is e =
-    let s = some_pair _ a [] b (sym (line_cut p a is) ∙ ap (cut 10) e) in
+    let s = some_pair_parts _ [] a b (sym (line_cut p a is) ∙ ap (cut 10) e) in
     omega (arith, ap length s.0, length-append p.0 (58 ∷ 32 ∷ p.1))
 
 -- ---- many lines
@@ -95,10 +96,10 @@ lacks_no_end (x ∷ a) b lacks = lacks_no_end a b lacks.1
 refused_not : (ms : List Pair) (s u : Fields) (rest b : List ℕ) (left : ℕ) (which : Which) → Takes s ms u → rest ≡ flat_map line ms ++ 10 ∷ b → IsRefused s rest left which → ⊥
 refused_not ms s u rest b left which w e (inl r) = lacks_no_end (flat_map line ms) b (subst (λ (t : List ℕ). Lacks 10 t) e r.lacks)
 refused_not [] s u rest b left which w e (inr (inl r)) =
-    let p = some_pair r.text r.more [] b (sym (cut_again 10 r.text r.more r.lacks) ∙ ap (cut 10) (sym r.parts ∙ e)) in
+    let p = some_pair_parts r.text [] r.more b (sym (cut_again 10 r.text r.more r.lacks) ∙ ap (cut 10) (sym r.parts ∙ e)) in
     r.filled p.0
 refused_not (m ∷ ms) s u rest b left which w e (inr (inl r)) =
-    let p = some_pair r.text r.more _ (flat_map line ms ++ 10 ∷ b) (sym (cut_again 10 r.text r.more r.lacks) ∙ ap (cut 10) (sym r.parts ∙ e ∙ regroup m ms (10 ∷ b)) ∙ line_cut m (flat_map line ms ++ 10 ∷ b) w.0) in
+    let p = some_pair_parts r.text _ r.more (flat_map line ms ++ 10 ∷ b) (sym (cut_again 10 r.text r.more r.lacks) ∙ ap (cut 10) (sym r.parts ∙ e ∙ regroup m ms (10 ∷ b)) ∙ line_cut m (flat_map line ms ++ 10 ∷ b) w.0) in
     r.no_pair m w.0 p.0
 refused_not [] s u rest b left which w e (inr (inr r)) = line_not_end r.pair r.more b r.is_pair (sym r.parts ∙ e)
 refused_not (m ∷ ms) s u rest b left which w e (inr (inr r)) =
@@ -195,9 +196,9 @@ fields_same bytes s t a b v w = (both_end v.0 w.0 nothing s t a b v.1 w.1 (sym v
 
 means_same : (s : Fields) (m n : NodeRev) → Means s m → Means s n → m ≡ n
 means_same s m n v w =
-    let id = some_is m.id n.id (sym v.id ∙ w.id) in
-    let kind = some_is m.kind n.kind (sym v.kind ∙ w.kind) in
-    let created_path = some_is m.created_path n.created_path (sym v.created_path ∙ w.created_path) in
+    let id = same_Some m.id n.id (sym v.id ∙ w.id) in
+    let kind = same_Some m.kind n.kind (sym v.kind ∙ w.kind) in
+    let created_path = same_Some m.created_path n.created_path (sym v.created_path ∙ w.created_path) in
     let predecessor = v.predecessor ∙ sym w.predecessor in
     let count = v.count ∙ sym w.count in
     let text = v.text ∙ sym w.text in

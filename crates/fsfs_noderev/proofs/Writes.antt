@@ -16,7 +16,7 @@ use Rattle.fsfs_noderev.specs.declared.rep.Contents.{Contents}
 use Rattle.fsfs_noderev.specs.declared.node_rev.CopySource.{CopySource}
 use Rattle.fsfs_noderev.specs.declared.node_rev.CopyRoot.{CopyRoot}
 use Rattle.fsfs_noderev.specs.declared.node_rev.NodeRev.{NodeRev}
-use Rattle.fsfs_noderev.proofs.Lines10.{OneLine, number_line, id_line, kind_line, contents_line, path_line, source_line, root_line}
+use Rattle.fsfs_noderev.proofs.OneLine.{OneLine, number_line, id_line, kind_line, contents_line, path_line, source_line, root_line}
 
 abbrev Pair : Type 0
 Pair = List ℕ × List ℕ

@@ -1,8 +1,10 @@
 -- The text of a number in base 36 is its only one.
 use Rattle.std.proofs.Common.{◌≡◌, ℕ, zero, suc, ◌+◌, ◌*◌, ◌/◌, ◌%◌, ◌^◌, ◌<◌, ◌≤◌, Bool, true, false, cond, eqb, List, [], ◌∷◌, ◌++◌, length, refl, ap, subst, ◌∙◌, arith}
+use Rattle.std.specs.Coded.{le_prop}
 use Rattle.std.proofs.lemmas.Bool.{eqb-true, eqb-false, eq-eqb}
 use Rattle.std.proofs.lemmas.Bool.Decides.{nat_tests}
 use Rattle.std.proofs.lemmas.List.{length-append}
+use Rattle.fsfs_text.specs.declared.base36.B36.{B36}
 use Rattle.fsfs_text.specs.Numeral.{digit, IsNumeral, AppendsNumeral}
 use Rattle.fsfs_text.specs.Base36.{glyph, last_digits, base36}
 use Rattle.fsfs_text.proofs.Numerals.{numeral_one, numeral_push}
@@ -50,3 +52,11 @@ numeral_base36 text n lt w = numeral_same 36 (omega arith) (omega arith) text (b
 
 pub appended_base36 : (old new : List ℕ) (n : ℕ) → n < 170581728179578208256 → AppendsNumeral 36 old new n → new ≡ old ++ base36 n
 appended_base36 old new n lt w = w.parts ∙ ap (λ (ds : List ℕ). old ++ ds) (numeral_base36 w.digits n lt w.numeral)
+
+-- numbers of one value are the same
+pub b36_same : (a b : B36) → a.number ≡ b.number → a ≡ b
+b36_same a b e = go b.number e b.small
+  where
+    go : (k : ℕ) → a.number ≡ k → (q : k < 170581728179578208256) → a ≡ (let x : B36 = record { number = k; small = q } in x)
+    go k e = subst (λ (k : ℕ). (q : k < 170581728179578208256) → a ≡ (let x : B36 = record { number = k; small = q } in x)) e
+        (λ q. ap (λ (s : a.number < 170581728179578208256). let x : B36 = record { number = a.number; small = s } in x) (le_prop a.small q))

@@ -330,9 +330,6 @@ pub read_found : (base limit : ℕ) (text : List ℕ) (r : Option ℕ) → r ≡
 read_found base limit text None e = tt
 read_found base limit text (Some n) e = numeral_found base limit text n (sym e)
 
-pub some_same : (x y : ℕ) → Some x ≡ Some y → x ≡ y
-some_same x y e = cc
-
 -- a number of one digit
 pub number_some : (base limit end c : ℕ) → digit c < base → digit c ≤ limit → IsNumber base limit end (c ∷ end ∷ []) (digit c)
 number_some base limit end c is fits = record { digits = c ∷ []; numeral = numeral_one base c is; fits = fits; parts = refl }

@@ -1,5 +1,6 @@
 -- The entries of a tree at a path and below it, in the order of their paths: the node at the path, and behind it those of each child.
 use Rattle.std.proofs.Common.{◌≡◌, Bool, true, false, cond, ◌&&◌, not, T, List, [], ◌∷◌, ◌++◌, Option, Some, None, is_some, refl, sym, ap, subst, ◌∙◌, append_assoc, append-nil, drop, length, Ordering, Less, Equal, Greater, is_eq, flat_map}
+use Rattle.std.proofs.lemmas.Bool.{and_from, false_from_ne_true, and_parts, both_ways}
 use Rattle.std.specs.List.{AllByRecursion}
 use Rattle.std.specs.Option.{option_or}
 use Rattle.std.specs.Ordering.{eq_by_cmp, ordering_then}
@@ -12,8 +13,7 @@ use Rattle.fsfs_base.specs.Nodes.{Node}
 use Rattle.fsfs_base.specs.Histories.{IsTree}
 use Rattle.fsfs_base.specs.declared.node.Kind.TheVariants.{File, Dir}
 use Rattle.fsfs_base.proofs.TreeLemmas.{exact_paths}
-use Rattle.fsfs_base.proofs.PathLemmas.{both_true, first_true, second_true, not_both, not_true, same_name-refl, covers-refl, covers-antisym}
-use Rattle.fsfs_model.proofs.PathLemmas.{covers-longer, split_at}
+use Rattle.fsfs_base.proofs.PathLemmas.{same_name-refl, covers-refl, covers-antisym, covers-longer, split_at}
 use Rattle.fsfs_shows.specs.Reading.{Entry, named}
 use Rattle.fsfs_shows.specs.ByTree.{IsEntryByTree}
 use Rattle.fsfs_texts.proofs.SortedEntries.{both_hold, all_append, IsBelow, below_is, sorted_append, find_append, keys_found}
@@ -34,16 +34,16 @@ no_front [] x rest = refl
 no_front (y ∷ p) x rest = not_either (same_name y y) (covers (p ++ x ∷ rest) p) (no_front p x rest)
 
 longer_is_below : (p : Path) (x : Name) (rest : Path) → is_above p (p ++ x ∷ rest) ≡ true
-longer_is_below p x rest = both_true (covers p (p ++ x ∷ rest)) (not (covers (p ++ x ∷ rest) p)) (covers-longer p (x ∷ rest)) (no_front p x rest)
+longer_is_below p x rest = and_from (covers p (p ++ x ∷ rest)) (not (covers (p ++ x ∷ rest) p)) (covers-longer p (x ∷ rest)) (no_front p x rest)
 
 -- a path below another is that one with a name and more behind it
 below_is_longer : (p q : Path) → is_above p q ≡ true → (x : Name) × (rest : Path) × (q ≡ p ++ x ∷ rest)
-below_is_longer p q above = by (drop (length p) q) (split_at p q (first_true (covers p q) (not (covers q p)) above))
+below_is_longer p q above = by (drop (length p) q) (split_at p q (and_parts (covers p q) (not (covers q p)) above).0)
   where
     by : (rest : Path) → p ++ rest ≡ q → (x : Name) × (rest : Path) × (q ≡ p ++ x ∷ rest)
     by [] e =
         let same : p ≡ q = sym (append-nil p) ∙ e in
-        absurd (not_both (covers q p) (subst (λ (x : Path). covers x p ≡ true) same (covers-refl p)) (not_is (covers q p) (second_true (covers p q) (not (covers q p)) above)))
+        absurd (both_ways (covers q p) (not_is (covers q p) (and_parts (covers p q) (not (covers q p)) above).1) (subst (λ (x : Path). covers x p ≡ true) same (covers-refl p)))
     by (x ∷ rest) e = (x, rest, sym e)
 
 before_longer : (p : Path) (x : Name) (rest : Path) → path_cmp p (p ++ x ∷ rest) ≡ Less
@@ -94,8 +94,8 @@ module _ (tree : FinMap path_cmp Node) where
     where
       by : (b c d : Bool) → eq_by_cmp path_cmp q p ≡ b → covers p q ≡ c → covers q p ≡ d → below ≡ cond (c && not d) (get tree q) None → cond b (Some n) below ≡ cond c (get tree q) None
       by true true d e f g h = sym (ap (get tree) (exact_paths q p (tied_is (path_cmp q p) e)) ∙ there)
-      by true false d e f g h = absurd (not_both (covers p q) (subst (λ (x : Path). covers p x ≡ true) (sym (exact_paths q p (tied_is (path_cmp q p) e))) (covers-refl p)) f)
-      by false true true e f g h = absurd (not_both (eq_by_cmp path_cmp q p) (subst (λ (x : Path). eq_by_cmp path_cmp x p ≡ true) (covers-antisym p q f g) (ap is_eq (tied_itself path_cmp_total p))) e)
+      by true false d e f g h = absurd (both_ways (covers p q) f (subst (λ (x : Path). covers p x ≡ true) (sym (exact_paths q p (tied_is (path_cmp q p) e))) (covers-refl p)))
+      by false true true e f g h = absurd (both_ways (eq_by_cmp path_cmp q p) e (subst (λ (x : Path). eq_by_cmp path_cmp x p ≡ true) (covers-antisym p q f g) (ap is_eq (tied_itself path_cmp_total p))))
       by false true false e f g h = h
       by false false d e f g h = h
 
@@ -150,9 +150,9 @@ module _ (tree : FinMap path_cmp Node) where
   child_key p a q under = let r = drop (length (p ++ a ∷ [])) q in (r, sym (split_at (p ++ a ∷ []) q under) ∙ append_assoc p (a ∷ []) r)
 
   outside : (p q : Path) (a : Name) → is_above p q ≡ false → covers (p ++ a ∷ []) q ≡ false
-  outside p q a apart = not_true (covers (p ++ a ∷ []) q) (λ under.
+  outside p q a apart = false_from_ne_true (covers (p ++ a ∷ []) q) (λ under.
       let r = child_key p a q under in
-      not_both (is_above p q) (subst (λ (x : Path). is_above p x ≡ true) (sym r.1) (longer_is_below p a r.0)) apart)
+      both_ways (is_above p q) apart (subst (λ (x : Path). is_above p x ≡ true) (sym r.1) (longer_is_below p a r.0)))
 
   find_outside : (p q : Path) → is_above p q ≡ false → (es : List Entry) → find path_cmp q (children p es) ≡ None
   find_outside p q apart [] = refl

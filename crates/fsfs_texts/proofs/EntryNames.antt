@@ -1,17 +1,18 @@
 -- The names of a directory's entries rise by their bytes, so that each stands there once.
 use Rattle.std.proofs.Common.{◌≡◌, ℕ, Bool, false, if◌then◌else◌, List, [], ◌∷◌, Option, Some, None, Ok, refl, sym, ap, subst, ◌∙◌, Ordering, Less, Equal, Greater}
+use Rattle.std.proofs.lemmas.Bool.{false_from_ne_true}
 use Rattle.std.specs.List.{AllByRecursion}
 use Rattle.std.specs.Ordering.{ordering_reverse}
 use Rattle.std.specs.Cmp.{tied_itself}
 use Rattle.std.specs.Cmp.Lexicographic.{nat_list_cmp_total}
 use Rattle.fsfs_base.specs.Paths.{Name, name_cmp, same_name}
-use Rattle.fsfs_base.proofs.PathLemmas.{not_true, same_name-refl, same_name-is}
+use Rattle.fsfs_base.proofs.PathLemmas.{same_name-refl, same_name-is}
 use Rattle.fsfs_book.specs.Told.{Look}
-use Rattle.fsfs_hash.specs.Dump.{put, put_all}
 use Rattle.fsfs_noderev.specs.declared.rep.Contents.{Contents}
 use Rattle.fsfs_noderev.specs.declared.rep.Contents.TheVariants as contents
 use Rattle.fsfs_noderev.specs.declared.node_rev.NodeRev.{NodeRev}
 use Rattle.fsfs_damage.specs.declared.damage.RevOffset.{RevOffset}
+use Rattle.fsfs_hash.specs.Dump.{put, put_all}
 use Rattle.fsfs_shows.specs.Reading.{Pairs, Entry, named, AreEntries, OfContents, EntriesAt, EntriesOf, offset_of}
 use Rattle.fsfs_damage.proofs.OneAnswer.{ok_same}
 
@@ -83,7 +84,7 @@ entries_rise look v es of = contents_rise look (offset_of v.id.place) v.text es 
 -- ---- each name leads to its entry
 
 other_name : (a b : Name) → name_cmp a b ≡ Less → same_name a b ≡ false
-other_name a b lt = not_true (same_name a b) (λ same.
+other_name a b lt = false_from_ne_true (same_name a b) (λ same.
     let tie : name_cmp a b ≡ Equal = subst (λ (x : Name). name_cmp a x ≡ Equal) (same_name-is a b same) (tied_itself nat_list_cmp_total a) in
     let e : Less ≡ Equal = sym lt ∙ tie in
     cc)

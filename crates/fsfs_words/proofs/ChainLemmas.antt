@@ -1,13 +1,14 @@
 -- The arguments that have to be there have a value wherever a command takes words.
 use Rattle.std.proofs.Common.{◌≡◌, ℕ, zero, suc, ◌<◌, List, [], ◌∷◌, ◌++◌, length, map, Bool, true, false, not, ◌&&◌, is_some, refl, sym, ap, subst, ◌∙◌, inl, inr, arith, All, slice_index, slice_index_or, codes, Option}
+use Rattle.std.proofs.lemmas.Bool.{and_parts}
 use Rattle.std.specs.Str.{bytes_eq}
-use Rattle.clap.specs.Built.{AddsArg, AddsInTurn, FitsChain, HasDistinctIds, IsAuto, TakesValue}
+use Rattle.clap.specs.Built.{AddsArg, AddsInTurn, FitsChain, HasDistinctIds, TakesValue}
 use Rattle.clap.specs.Words.{found_of, first_value}
 use Rattle.clap.specs.declared.builder.arg.Arg.{Arg}
 use Rattle.clap.specs.declared.builder.command.Command.{Command}
 use Rattle.clap.proofs.CallerLemmas.{required_in_chain}
 use Rattle.clap.proofs.WalkLemmas.{first_value-rows}
-use Rattle.fsfs_words.specs.Chains.{Fits, NeedsValue, IsChain, HasValue}
+use Rattle.fsfs_words.specs.Chains.{Fits, IsChain, HasValue}
 
 adds_more : (start c d : Command) (xs : List Arg) (a : Arg) → AddsInTurn AddsArg start xs c → AddsArg c a d → AddsInTurn AddsArg start (xs ++ a ∷ []) d
 adds_more start c d [] a h added = (d, subst (λ (x : Command). AddsArg x a d) (sym h) added, refl)
@@ -23,7 +24,7 @@ chain_more c d xs a chain added = record {
   adds = adds_more chain.start c d xs a chain.adds added;
 }
 
--- ---- no two ids are one
+-- ---- no and_parts ids are one
 
 abbrev apart : List ℕ → List (List ℕ) → Bool
 apart id [] = true
@@ -38,11 +39,6 @@ three false false true h = (λ e. absurd cc, λ e. absurd cc, refl)
 three false false false h = absurd cc
 three false true c h = absurd cc
 three true b c h = absurd cc
-
-two : (a b : Bool) → (a && b) ≡ true → (a ≡ true) × (b ≡ true)
-two true true h = (refl, refl)
-two true false h = absurd cc
-two false b h = absurd cc
 
 apart_at : (id : List ℕ) (xs : List Arg) (k : ℕ) (d : Arg) → apart id (map (λ (a : Arg). a.id.now) xs) ≡ true → k < length xs
     → (bytes_eq (slice_index_or xs k d).id.now id ≡ true → ⊥) × (bytes_eq id (slice_index_or xs k d).id.now ≡ true → ⊥)
@@ -62,7 +58,7 @@ distinct_more x xs h rest (suc j) (suc k) d e lj lk same = ap suc (rest j k d e 
 distinct : (xs : List Arg) → all_apart (map (λ (a : Arg). a.id.now) xs) ≡ true → HasDistinctIds xs
 distinct [] h = λ j k d e lj lk same. absurd (omega arith)
 distinct (x ∷ xs) h =
-    let p = two (apart x.id.now (map (λ (a : Arg). a.id.now) xs)) (all_apart (map (λ (a : Arg). a.id.now) xs)) h in
+    let p = and_parts (apart x.id.now (map (λ (a : Arg). a.id.now) xs)) (all_apart (map (λ (a : Arg). a.id.now) xs)) h in
     distinct_more x xs p.0 (distinct xs p.1)
 
 -- ---- each argument fits

@@ -1,6 +1,6 @@
 -- Numbers among the words.
 use Rattle.std.proofs.Common.{◌≡◌, ℕ, ◌<◌, ◌≤◌, ◌^◌, List, length, Bool, true, false, cond, decimal, ◌&&◌, ap, subst, refl, sym, ◌∙◌, arith, rules, nat_lt, nat_le}
-use Rattle.std.specs.Prelude.{Option, Some, None, Result, Ok, Err}
+use Rattle.std.specs.Prelude.{Option, Some, None, Result, Ok}
 use Rattle.std.specs.Char.{is_ascii_digit}
 use Rattle.std.specs.List.{list_all}
 use Rattle.std.specs.Str.Parse.{ParsesUnsigned, digits_value}
@@ -75,9 +75,3 @@ no_shard text not = by_value (shard_of text) refl where
   by_value : (o : Option ℕ) → shard_of text ≡ o → shard_of text ≡ None
   by_value None e = e
   by_value (Some n) e = absurd (not n (shard_found text n e))
-
-pub same_number : (n m : ℕ) → ◌≡◌ {A = Option ℕ} (Some n) (Some m) → n ≡ m
-same_number n m e = cc
-
-pub none_some : (n : ℕ) → ◌≡◌ {A = Option ℕ} None (Some n) → ⊥
-none_some n e = cc

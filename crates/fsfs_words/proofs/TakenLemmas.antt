@@ -1,6 +1,7 @@
 -- What clap answers, and what it finds in the words.
-use Rattle.std.proofs.Common.{◌≡◌, ◌≢◌, ℕ, List, [], ◌∷◌, Bool, true, false, cond, ◌&&◌, ◌⊎◌, inl, inr, refl, sym, ap, ◌∙◌, arith}
-use Rattle.std.specs.Prelude.{Option, Some, None}
+use Rattle.std.proofs.Common.{◌≡◌, ℕ, List, [], ◌∷◌, Bool, true, false, cond, ◌⊎◌, inl, inr, refl, sym, ap, ◌∙◌, arith}
+use Rattle.std.proofs.lemmas.Bool.{and_parts}
+use Rattle.std.specs.Prelude.{Some, None}
 use Rattle.clap.specs.Words.{App, Row, fault_of, matches_of, is_simple, is_simple_and_free, IsAmong, Kinds}
 use Rattle.clap.specs.Faults.{is_free_app}
 use Rattle.clap.specs.Simple.{built}
@@ -11,12 +12,8 @@ use Rattle.clap.proofs.OnLiterals.{clap_on_literals}
 use Rattle.fsfs_words.specs.Commands.{create_app, youngest_app, uuid_app, tree_app, cat_app}
 use Rattle.fsfs_words.specs.Words.{taken}
 
-left_true : (a b : Bool) → (a && b) ≡ true → a ≡ true
-left_true true b h = refl
-left_true false b h = h
-
 pub is_simple_too : (app : App) → is_simple_and_free app ≡ true → is_simple app ≡ true
-is_simple_too app h = left_true (is_simple app) (is_free_app (built app)) h
+is_simple_too app h = (and_parts (is_simple app) (is_free_app (built app)) h).0
 
 pub taken_some : (app : App) (words : List (List ℕ)) (rows : List Row) → fault_of app words ≡ [] → rows ≡ matches_of app words → taken app words ≡ Some rows
 unfolding taken

@@ -1,7 +1,7 @@
 -- Transactions and the history, as one more revision comes.
 use Rattle.std.proofs.Common.{◌≡◌, ◌<◌, ◌≤◌, ◌+◌, ℕ, suc, zero, List, [], ◌∷◌, ◌++◌, length, true, refl, sym, ap, subst, arith, length-append, take, drop}
 use Rattle.std.specs.Prelude.{Some, None, slice_get, is_some, nat_le, ◌&&◌}
-use Rattle.std.proofs.lemmas.Bool.{leb-true}
+use Rattle.std.proofs.lemmas.Bool.{leb-true, and_from, and_parts}
 use Rattle.std.specs.FinMap.{get}
 use Rattle.fsfs_base.specs.declared.mark.Mark.{Mark}
 use Rattle.fsfs_base.specs.declared.mark.What.TheVariants.{Make}
@@ -11,7 +11,6 @@ use Rattle.fsfs_base.specs.Edits.{can_make, with_copy, kind_of_node}
 use Rattle.fsfs_base.specs.Landing.{land, NoClash}
 use Rattle.fsfs_base.specs.Revisions.{Revision, node_in, tree_of}
 use Rattle.fsfs_base.specs.Transactions.{IsTransaction, Begun, Edited, Landed, last_of}
-use Rattle.fsfs_model.proofs.PathLemmas.{both_true, first_true, second_true}
 use Rattle.fsfs_world.specs.declared.machine.Recorded.{Recorded}
 use Rattle.fsfs_world.specs.declared.machine.Txn.{Txn}
 use Rattle.fsfs_world.specs.declared.machine.Coming.{Coming}
@@ -28,14 +27,14 @@ goes_on tree other last more le same _ _ _ (Edited b t marks (Delete path) was o
 goes_on tree other last more le same _ _ _ (Edited b t marks (PutText path text) was ok) = Edited b t marks (PutText path text) (goes_on tree other last more le same b t marks was) ok
 goes_on tree other last more le same _ _ _ (Edited b t marks (SetProp path name value) was ok) = Edited b t marks (SetProp path name value) (goes_on tree other last more le same b t marks was) ok
 goes_on tree other last more le same _ _ _ (Edited b t marks (Copy rev from to) was ok) =
-    let first : (can_make t to && nat_le rev last) ≡ true = first_true _ _ ok in
-    let made : can_make t to ≡ true = first_true _ _ first in
-    let in_range : rev ≤ last = leb-true rev last (second_true _ _ first) in
+    let first : (can_make t to && nat_le rev last) ≡ true = (and_parts _ _ ok).0 in
+    let made : can_make t to ≡ true = (and_parts _ _ first).0 in
+    let in_range : rev ≤ last = leb-true rev last (and_parts _ _ first).1 in
     let e : tree rev ≡ other rev = same rev in_range in
-    let there : is_some (other rev from) ≡ true = subst (λ f. is_some (f from) ≡ true) e (second_true _ _ ok) in
+    let there : is_some (other rev from) ≡ true = subst (λ f. is_some (f from) ≡ true) e (and_parts _ _ ok).1 in
     let below : nat_le rev more ≡ true = grind (arith, le, in_range) in
     subst (λ f. IsTransaction other more b (with_copy t rev f from to) (marks ++ record { path = to; kind = kind_of_node (f from); what = Make (Some (rev, from)) } ∷ [])) (sym e)
-    (Edited b t marks (Copy rev from to) (goes_on tree other last more le same b t marks was) (both_true _ _ (both_true _ _ made below) there))
+    (Edited b t marks (Copy rev from to) (goes_on tree other last more le same b t marks was) (and_from _ _ (and_from _ _ made below) there))
 goes_on tree other last more le same _ _ _ (Landed b h n t marks was up in_range clear) =
     let base : tree b ≡ other b = same b (omega (arith, up, in_range)) in
     let head : tree h ≡ other h = same h in_range in

@@ -1,5 +1,5 @@
 -- Each call of a section keeps it.
-use Rattle.std.proofs.Common.{◌≡◌, ◌⊎◌, ◌<◌, ◌≤◌, ◌+◌, ℕ, suc, zero, List, [], ◌∷◌, length, inl, inr, ⊎_elim, refl, sym, ap, subst, ◌∙◌, arith}
+use Rattle.std.proofs.Common.{◌≡◌, ◌⊎◌, ◌<◌, ◌+◌, ℕ, suc, zero, List, [], ◌∷◌, length, inl, inr, ⊎_elim, refl, sym, ap, subst, ◌∙◌, arith}
 use Rattle.std.specs.Prelude.{Option, Some, None, IfSome, slice_get}
 use Rattle.std.specs.FinMap.{get}
 use Rattle.fsfs_base.specs.Revisions.{tree_of}
@@ -15,42 +15,21 @@ use Rattle.fsfs_world.specs.declared.machine.Coming.{Coming}
 use Rattle.fsfs_world.specs.declared.machine.Drawn.{Drawn}
 use Rattle.fsfs_world.specs.declared.machine.Place.{Place}
 use Rattle.fsfs_world.specs.declared.machine.Place.TheVariants.{RenameCurrent, FirmCurrent}
-use Rattle.fsfs_world.specs.declared.machine.Pass.{Pass}
 use Rattle.fsfs_world.specs.declared.machine.Section.{Section}
 use Rattle.fsfs_world.specs.declared.machine.Section.TheVariants.{Begun, CountRead, CountPut, CountRenamed, RevPut, PropsPut, RevFirm, CurrentPut, CurrentRenamed, CurrentFirm, Doubtful, Over}
 use Rattle.fsfs_world.specs.declared.machine.Lock.TheVariants.{Held}
 use Rattle.fsfs_world.specs.declared.machine.Went.{Went}
 use Rattle.fsfs_world.specs.declared.machine.Went.TheVariants.{Fine, Before, After, Torn}
 use Rattle.fsfs_world.specs.Disk.{Disk, found, IsImage}
-use Rattle.fsfs_world.specs.Machine.{World, disk_after, learns, at_call, rename_of, due, after, spoiled, called_by, revisions, with_next, at_place, begun_txn, tree_in}
-use Rattle.fsfs_world.specs.Kept.{StandsFor, StandsIn, AllBelow, CountsOn, Knows, coming_in, Follows, IsSeen, AreSeen, Carries, FloorIs, Kept}
+use Rattle.fsfs_world.specs.Machine.{World, disk_after, learns, at_call, rename_of, due, after, spoiled, called_by, revisions, with_next, begun_txn, tree_in}
+use Rattle.fsfs_world.specs.Kept.{StandsFor, StandsIn, CountsOn, Knows, coming_in, Follows, Carries, FloorIs, Kept}
+use Rattle.fsfs_world.proofs.KeptParts.{no_less, learnt, Steady, steady, keeps_turn}
 use Rattle.fsfs_world.proofs.Images.{Each, each_put, each_rename, each_firm, read_is_image}
 use Rattle.fsfs_world.proofs.Standing.{same_again, past_props, stands_next, not_alone}
 use Rattle.fsfs_world.proofs.Growing.{revisions_length}
 use Rattle.fsfs_world.proofs.Benches.{apart_given}
 use Rattle.fsfs_world.proofs.Given.{given_more, named_append, named_given}
 use Rattle.fsfs_world.proofs.Whose.{there_at, whose_at}
-
--- numbers below a less number are below a greater
-pub no_less : (given : List ℕ) (a b : ℕ) → a ≤ b → AllBelow a given → AllBelow b given
-no_less [] a b le below = tt
-no_less (g ∷ gs) a b le below = (omega (arith, le, below.0), no_less gs a b le below.1)
-
--- a pass that has seen no more than there is
-pub seen_at : (n f : ℕ) (xs : List Pass) (p : ℕ) (g : Pass → Pass) → ((x : Pass) → IsSeen n f x → IsSeen n f (g x)) → AreSeen n f xs → AreSeen n f (at_place xs p g)
-seen_at n f [] p g h s = tt
-seen_at n f (x ∷ xs) zero g h s = (h x s.0, s.1)
-seen_at n f (x ∷ xs) (suc p) g h s = (s.0, seen_at n f xs p g h s.1)
-
-pub learnt : (n f : ℕ) (xs : List Pass) (p : ℕ) (place : Place) (went : Went) → AreSeen n f xs → AreSeen n f (at_place xs p (learns n place went))
-learnt n f xs p place went = seen_at n f xs p (learns n place went) (λ x s. record { seen = omega arith; least = s.least; mine = no_less x.mine x.seen n s.seen s.mine; floor = s.floor })
-
--- the counter and the floor of an image
-abbrev pub Steady : World → Disk → Type 0
-Steady w m = CountsOn w.given m × FloorIs w.floor m
-
-pub steady : (w : World) → Kept w → Each w.disk (Steady w)
-steady w k m i = (k.counts m i, k.floors m i)
 
 -- the holder's call, from what its ends leave
 pub keeps_call : (w : World) (p : ℕ) (place : Place) (s : Section) (change : Change) (after spoiled : Section) (went : Went)
@@ -69,10 +48,10 @@ pub keeps_call : (w : World) (p : ℕ) (place : Place) (s : Section) (change : C
 keeps_call w p place s change after spoiled went k carries ill_carries stands counts knows next ill ill_counts ill_knows ill_next = by_end went ill ill_counts
   where
     by_end : (went : Went) → Each (disk_after went change w.disk) (StandsIn w.floor w.history spoiled) → Each (disk_after went change w.disk) (Steady w) → Kept (at_call w p place change after spoiled went)
-    by_end Fine ill ill_counts = record { young = k.young; seen = learnt (length w.history) w.floor w.passes p place Fine k.seen; history = k.history; transactions = k.transactions; stands = stands; floor = k.floor; floors = λ m i. (counts m i).1; counts = λ m i. (counts m i).0; once = k.once; labels = k.labels; named = k.named; apart = k.apart; benches = k.benches; knows = knows; next = next; whose = whose_at w.opening w.history w.since w.passes p (learns (length w.history) place Fine) (λ x. refl) k.whose; holder = (there_at w.passes p p (learns (length w.history) place Fine) k.holder.0, carries) }
-    by_end Before ill ill_counts = record { young = k.young; seen = learnt (length w.history) w.floor w.passes p place Before k.seen; history = k.history; transactions = k.transactions; stands = ill; floor = k.floor; floors = λ m i. (ill_counts m i).1; counts = λ m i. (ill_counts m i).0; once = k.once; labels = k.labels; named = k.named; apart = k.apart; benches = k.benches; knows = ill_knows _; next = ill_next; whose = whose_at w.opening w.history w.since w.passes p (learns (length w.history) place Before) (λ x. refl) k.whose; holder = (there_at w.passes p p (learns (length w.history) place Before) k.holder.0, ill_carries) }
-    by_end After ill ill_counts = record { young = k.young; seen = learnt (length w.history) w.floor w.passes p place After k.seen; history = k.history; transactions = k.transactions; stands = ill; floor = k.floor; floors = λ m i. (ill_counts m i).1; counts = λ m i. (ill_counts m i).0; once = k.once; labels = k.labels; named = k.named; apart = k.apart; benches = k.benches; knows = ill_knows _; next = ill_next; whose = whose_at w.opening w.history w.since w.passes p (learns (length w.history) place After) (λ x. refl) k.whose; holder = (there_at w.passes p p (learns (length w.history) place After) k.holder.0, ill_carries) }
-    by_end (Torn any) ill ill_counts = record { young = k.young; seen = learnt (length w.history) w.floor w.passes p place (Torn any) k.seen; history = k.history; transactions = k.transactions; stands = ill; floor = k.floor; floors = λ m i. (ill_counts m i).1; counts = λ m i. (ill_counts m i).0; once = k.once; labels = k.labels; named = k.named; apart = k.apart; benches = k.benches; knows = ill_knows _; next = ill_next; whose = whose_at w.opening w.history w.since w.passes p (learns (length w.history) place (Torn any)) (λ x. refl) k.whose; holder = (there_at w.passes p p (learns (length w.history) place (Torn any)) k.holder.0, ill_carries) }
+    by_end Fine ill ill_counts = keeps_turn w p place Fine s after (change ∷ w.disk) k carries stands counts knows next
+    by_end Before ill ill_counts = keeps_turn w p place Before s spoiled (disk_after Before change w.disk) k ill_carries ill ill_counts (ill_knows _) ill_next
+    by_end After ill ill_counts = keeps_turn w p place After s spoiled (disk_after After change w.disk) k ill_carries ill ill_counts (ill_knows _) ill_next
+    by_end (Torn any) ill ill_counts = keeps_turn w p place (Torn any) s spoiled (disk_after (Torn any) change w.disk) k ill_carries ill ill_counts (ill_knows _) ill_next
 
 -- what a failed call leaves
 pub each_failed : (went : Went) (change : Change) (d : Disk) (P : Disk → Type 0) → Each d P → Each (change ∷ d) P → ((n : Name) (c any : Contents) → change ≡ Put n c → Each (Put n any ∷ d) P) → Each (disk_after went change d) P

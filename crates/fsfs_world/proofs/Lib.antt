@@ -4,7 +4,11 @@ pub mod Growing
 pub mod Whose
 pub mod Given
 pub mod Benches
+pub mod KeptParts
 pub mod Keeps
+pub mod Moves
+pub mod Answering
+pub mod Ends
 pub mod Steps
 pub mod Running
 pub mod Created

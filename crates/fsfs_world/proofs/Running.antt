@@ -1,5 +1,5 @@
 -- Each run keeps it.
-use Rattle.std.proofs.Common.{◌≡◌, ◌+◌, ◌-◌, ℕ, suc, zero, List, [], ◌∷◌, ◌++◌, length, true, false, cond, inl, inr, ⊎_elim, refl, sym, ap, subst, ◌∙◌, arith, append_assoc, append-nil}
+use Rattle.std.proofs.Common.{◌≡◌, ◌+◌, ◌-◌, ℕ, suc, zero, List, [], ◌∷◌, ◌++◌, length, ⊎_elim, refl, sym, ap, subst, ◌∙◌, arith, append_assoc, append-nil}
 use Rattle.std.specs.Prelude.{Some, None, slice_get}
 use Rattle.fsfs_base.specs.Transactions.{Entry, IsLegal}
 use Rattle.fsfs_world.specs.declared.machine.Recorded.{Recorded}
@@ -10,9 +10,9 @@ use Rattle.fsfs_world.specs.declared.machine.Step.{Step}
 use Rattle.fsfs_world.specs.declared.machine.Step.TheVariants as step
 use Rattle.fsfs_world.specs.Machine.{World, recorded, revisions, Runs}
 use Rattle.fsfs_world.specs.Kept.{IsSeen, Kept, Grows, Names, SeenStays, RunsKeep}
-use Rattle.fsfs_world.proofs.Images.{Each}
+use Rattle.fsfs_world.proofs.Answering.{seen_of, some_at}
 use Rattle.fsfs_world.proofs.Growing.{revisions_next}
-use Rattle.fsfs_world.proofs.Steps.{seen_of, some_at, step_moves}
+use Rattle.fsfs_world.proofs.Steps.{step_moves}
 
 legal_after : (a b c : List Recorded) (es : List Entry) → Grows a b → IsLegal (revisions b) es (revisions c) → (all : List Entry) × IsLegal (revisions a) all (revisions c)
 legal_after a b c es g l = ⊎_elim (λ e. (es, subst (λ z. IsLegal (revisions z) es (revisions c)) e l))

@@ -1,13 +1,10 @@
 -- Images of a disk are read as images of the machine's.
 use Rattle.std.proofs.Common.{◌≡◌, ℕ, List, ◌∷◌, Bool, true, false, cond, inl, inr, ⊎_elim, refl, sym, ap, subst, ◌∙◌}
 use Rattle.std.specs.Prelude.{Some, None}
-use Rattle.std.specs.FinMap.{get, insert, remove, get-insert, get-remove, slice_cmp-IsAntisymmetric, nat_cmp-IsAntisymmetric}
-use Rattle.std.specs.declared.cmp.Ordering.TheVariants.{Less, Equal, Greater}
-use Rattle.std.specs.Cmp.{tied_itself}
-use Rattle.std.specs.Cmp.Lexicographic.{slice_cmp, nat_list_cmp_total}
-use Rattle.std.specs.Ordering.{nat_cmp, is_eq}
+use Rattle.std.specs.FinMap.{get, insert, remove}
 use Rattle.fsfs_base.specs.Files.{Files, renamed}
-use Rattle.fsfs_disk.specs.Trace.{Operation, Done, Attempted, files_after, TornBy}
+use Rattle.fsfs_base.proofs.FileLemmas.{get_new, get_kept, get_gone, get_left}
+use Rattle.fsfs_disk.specs.Trace.{Operation, files_after, TornBy}
 use Rattle.fsfs_disk.specs.Trace as real
 use Rattle.fsfs_world.specs.declared.contents.Name.{Name}
 use Rattle.fsfs_world.specs.declared.contents.Contents.{Contents}
@@ -15,30 +12,6 @@ use Rattle.fsfs_world.specs.declared.contents.Contents.TheVariants.{Junk}
 use Rattle.fsfs_world.specs.declared.contents.Change.TheVariants.{Put, Rename, Remove, Firm}
 use Rattle.fsfs_world.specs.Disk.{Disk, found, same_name, IsImage}
 use Rattle.fsfs_world.specs.Shown.{IsReading, AtName, AreRead, Shows, Start, Putting, Adopting, Renaming, Removing, Firming, Attempting, Beside, ImagesAreShown}
-
--- the test of two names, as a choice
-at_same : {X : Type 0} (k : List ℕ) (x y : X) → cond (is_eq (slice_cmp nat_cmp k k)) x y ≡ x
-at_same k x y = ap (λ r. cond (is_eq r) x y) (tied_itself nat_list_cmp_total k)
-
-at_other : {X : Type 0} (q k : List ℕ) (x y : X) → (q ≡ k → ⊥) → cond (is_eq (slice_cmp nat_cmp q k)) x y ≡ y
-at_other q k x y apart =
-    elim (slice_cmp nat_cmp q k) as (λ r. slice_cmp nat_cmp q k ≡ r → cond (is_eq r) x y ≡ y) [
-      | Less ↦ λ p. refl
-      | Equal ↦ λ p. absurd (apart (slice_cmp-IsAntisymmetric nat_cmp-IsAntisymmetric q k p))
-      | Greater ↦ λ p. refl
-    ] refl
-
-get_new : (m : Files) (k v : List ℕ) → get (insert m k v) k ≡ Some v
-get_new m k v = get-insert nat_list_cmp_total m k v k ∙ at_same k (Some v) (get m k)
-
-get_kept : (m : Files) (k v q : List ℕ) → (q ≡ k → ⊥) → get (insert m k v) q ≡ get m q
-get_kept m k v q apart = get-insert nat_list_cmp_total m k v q ∙ at_other q k (Some v) (get m q) apart
-
-get_gone : (m : Files) (k : List ℕ) → get (remove m k) k ≡ None
-get_gone m k = get-remove nat_list_cmp_total m k k ∙ at_same k None (get m k)
-
-get_left : (m : Files) (k q : List ℕ) → (q ≡ k → ⊥) → get (remove m k) q ≡ get m q
-get_left m k q apart = get-remove nat_list_cmp_total m k q ∙ at_other q k None (get m q) apart
 
 module _ (names : Name → List ℕ) (reads : List ℕ → Contents → Bool) (is : IsReading names reads) where
   read_put : (m : Files) (d : Disk) (n : Name) (bytes : List ℕ) (c : Contents) → AreRead names reads m d → reads bytes c ≡ true → AreRead names reads (insert m (names n) bytes) (Put n c ∷ d)

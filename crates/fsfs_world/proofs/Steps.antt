@@ -1,6 +1,7 @@
 -- Each step keeps it.
-use Rattle.std.proofs.Common.{◌≡◌, ◌<◌, ◌≤◌, ◌+◌, ◌-◌, ◌^◌, ◌==◌, ℕ, suc, zero, List, [], ◌∷◌, ◌++◌, length, Bool, true, false, cond, inl, inr, ⊎_elim, refl, sym, ap, subst, ◌∙◌, arith, length-append, take, append_assoc, append-nil}
-use Rattle.std.specs.Prelude.{Option, Some, None, IfSome, slice_get, nat_lt, nat_le, max, not, ◌&&◌, ◌||◌}
+use Rattle.std.proofs.Common.{◌≡◌, ◌<◌, ◌≤◌, ◌+◌, ◌-◌, ◌^◌, ◌==◌, ℕ, suc, List, [], ◌∷◌, ◌++◌, length, Bool, true, false, cond, inl, inr, ⊎_elim, refl, sym, ap, subst, ◌∙◌, arith, length-append, ◌⊎◌}
+use Rattle.std.proofs.lemmas.Bool.{and_parts, both_ways}
+use Rattle.std.specs.Prelude.{Option, Some, None, slice_get, nat_lt, nat_le, max, not, ◌&&◌}
 use Rattle.std.specs.FinMap.{FinMap, get}
 use Rattle.fsfs_base.specs.declared.edit.Edit.{Edit}
 use Rattle.fsfs_base.specs.Paths.{Path, path_cmp}
@@ -9,12 +10,11 @@ use Rattle.fsfs_base.specs.Edits.{accepts, applied, mark_of, within_limits}
 use Rattle.fsfs_base.specs.Landing.{land, NoClash}
 use Rattle.fsfs_base.specs.Revisions.{Revision, tree_of}
 use Rattle.fsfs_base.specs.Histories.{IsHistory}
-use Rattle.fsfs_base.specs.Transactions.{Entry, IsTransaction, Edited, Landed, IsEntry, IsNext, IsLegal, last_of}
-use Rattle.fsfs_world.specs.declared.contents.Name.TheVariants.{Current, Counter, Floor, Rev, Props}
+use Rattle.fsfs_base.specs.Transactions.{Entry, IsTransaction, Edited, Landed, IsEntry, IsNext, last_of}
+use Rattle.fsfs_world.specs.declared.contents.Name.TheVariants.{Counter, Floor, Rev, Props}
 use Rattle.fsfs_world.specs.declared.contents.Contents.{Contents}
 use Rattle.fsfs_world.specs.declared.contents.Contents.TheVariants.{RevFile, PropsFile, Number, Junk}
 use Rattle.fsfs_world.specs.declared.contents.Change.{Change}
-use Rattle.fsfs_world.specs.declared.contents.Change.TheVariants.{Firm}
 use Rattle.fsfs_world.specs.declared.machine.Recorded.{Recorded}
 use Rattle.fsfs_world.specs.declared.machine.Txn.{Txn}
 use Rattle.fsfs_world.specs.declared.machine.Coming.{Coming}
@@ -24,40 +24,28 @@ use Rattle.fsfs_world.specs.declared.machine.Place.TheVariants as place
 use Rattle.fsfs_world.specs.declared.machine.Drawn.{Drawn}
 use Rattle.fsfs_world.specs.declared.machine.Pass.{Pass}
 use Rattle.fsfs_world.specs.declared.machine.Section.{Section}
-use Rattle.fsfs_world.specs.declared.machine.Section.TheVariants.{Begun, CountRead, CountPut, CountRenamed, RevPut, PropsPut, RevFirm, CurrentPut, CurrentRenamed, CurrentFirm, Doubtful, Over}
+use Rattle.fsfs_world.specs.declared.machine.Section.TheVariants.{Begun, CountRead, CountPut, CountRenamed, RevPut, PropsPut, RevFirm, CurrentPut, CurrentFirm, Doubtful, Over}
 use Rattle.fsfs_world.specs.declared.machine.Lock.{Lock}
 use Rattle.fsfs_world.specs.declared.machine.Lock.TheVariants.{Free, Held, Stuck, Down, DownDoubtful}
 use Rattle.fsfs_world.specs.declared.machine.Went.{Went}
 use Rattle.fsfs_world.specs.declared.machine.Went.TheVariants.{Fine, Before, After, Torn}
-use Rattle.fsfs_world.specs.declared.machine.Outcome.{Outcome}
 use Rattle.fsfs_world.specs.declared.machine.Outcome.TheVariants as outcome
 use Rattle.fsfs_world.specs.declared.machine.Step.{Step}
 use Rattle.fsfs_world.specs.declared.machine.Step.TheVariants as step
-use Rattle.fsfs_world.specs.Disk.{Disk, found, shown, left}
-use Rattle.std.proofs.lemmas.List.{take_all}
-use Rattle.fsfs_model.proofs.Legal.{commits_make_a_history}
-use Rattle.fsfs_model.proofs.PathLemmas.{first_true, second_true}
-use Rattle.fsfs_world.specs.Machine.{World, Did, did, barred, disk_after, either, answer, learns, labels_left, labelled, unlabelled, begun_txn, is_outside, made, purged, purged_spent, listed, label_dropped, due, gives as gives_name, called_by, called, recorded, revisions, with_next, at_place, is_up, is_due, file_of, inside, held_by, is_begun, has_begun_by, number_of, count_read, counted, drawn, entry_of, IsComing, adopted, AdoptsTxn, Adopts, without_place, edited, EditsIf, Edits, merged, MergesIf, Merges, let_go, stuck_at, reveals, revealed, taken, looked, is_known, range_of, turned, has_read, properties_in, has_read_props, raised, sees_floor, floor_read, down, ends, revision_in, read_one, read_back, opened, named, open_at, split_off, joined, join_with, is_there, Happens, Runs}
-use Rattle.fsfs_world.specs.Kept.{HasAll, StandsFor, StandsForEither, StandsIn, Stands, AllBelow, CountsOn, KnowsAt, coming, Follows, IsSeen, AreSeen, AreTransactions, Whose, IsHolder, FloorIs, Kept, Grows, Names, IsIn, AllGiven, AreNamed, AreApart, HaveLabels, GivesBytes, GivesProps, GivesNames, IsPurged, Gives, StepsKeep, SeenStays, RunsKeep}
-use Rattle.fsfs_world.proofs.Images.{Each, each_firm, read_is_image, left_is_image}
+use Rattle.fsfs_world.specs.Disk.{Disk, found, shown}
+use Rattle.fsfs_world.specs.Machine.{World, Did, did, barred, either, answer, learns, labelled, unlabelled, begun_txn, is_outside, made, purged, purged_spent, listed, label_dropped, due, gives as gives_name, called_by, called, recorded, revisions, with_next, at_place, is_up, is_due, file_of, inside, held_by, is_begun, has_begun_by, number_of, count_read, counted, drawn, entry_of, IsComing, adopted, AdoptsTxn, Adopts, without_place, edited, EditsIf, Edits, merged, MergesIf, Merges, let_go, stuck_at, reveals, revealed, taken, looked, is_known, range_of, turned, has_read, properties_in, has_read_props, raised, sees_floor, floor_read, ends, named, split_off, joined, join_with, is_there, Happens}
+use Rattle.fsfs_world.specs.Kept.{StandsFor, StandsIn, AllBelow, Follows, IsSeen, AreSeen, AreTransactions, Whose, IsHolder, Kept, Names, IsIn, AllGiven, AreNamed, AreApart, HaveLabels, StepsKeep}
+use Rattle.fsfs_world.proofs.Ends.{next_is_history, ends_keeps, crash_keeps, open_down_keeps}
+use Rattle.fsfs_world.proofs.KeptParts.{no_less, seen_at, Steady, steady, keeps_lock, keeps_passes, keeps_txns, keeps_turn}
+use Rattle.fsfs_world.proofs.Moves.{Moves, stays, moved, along, if_moves, unless_up}
+use Rattle.fsfs_world.proofs.Answering.{gives, seen_of}
+use Rattle.fsfs_world.proofs.Images.{Each, read_is_image}
 use Rattle.fsfs_world.proofs.Standing.{shown_again, past_rev, same_number}
-use Rattle.fsfs_world.proofs.Benches.{apart_at, apart_spent, apart_purged, apart_dropped, apart_made, have_without_place, have_at, have_purged, have_dropped, have_made, none_apart}
-use Rattle.fsfs_world.proofs.Given.{given_labelled, given_unlabelled, given_left, gone, named_more, named_without, named_at}
+use Rattle.fsfs_world.proofs.Benches.{apart_at, apart_spent, apart_purged, apart_dropped, apart_made, have_without_place, have_at, have_purged, have_dropped, have_made}
+use Rattle.fsfs_world.proofs.Given.{given_labelled, given_unlabelled, named_more, named_without, named_at}
 use Rattle.fsfs_world.proofs.Growing.{transactions_append, transactions_go_on, transactions_at, transaction_at, transactions_without, revisions_length, revisions_next}
-use Rattle.fsfs_world.proofs.Keeps.{no_less, seen_at, learnt, keeps_put, keeps_called, begun_is}
+use Rattle.fsfs_world.proofs.Keeps.{keeps_put, keeps_called, begun_is}
 use Rattle.fsfs_world.proofs.Whose.{length_at, there_at, whose_at, whose_next, whose_split}
-
--- a step from w to v
-pub record Moves (w v : World) : Type 0 where
-  pub kept : Kept v
-  pub grows : Grows w.history v.history
-  pub names : Names w.given v.given
-
-stays : (w : World) → Kept w → Moves w w
-stays w k = record { kept = k; grows = inl refl; names = inl refl }
-
-moved : (w v : World) → Kept v → v.history ≡ w.history → v.given ≡ w.given → Moves w v
-moved w v k h g = record { kept = k; grows = inl h; names = inl g }
 
 -- what is done with a section of the pass that holds the lock
 keeps_inside : (w : World) (p : ℕ) (f : Section → Did) (lock : Lock) → w.lock ≡ lock → Kept w
@@ -107,17 +95,20 @@ count_keeps w p b went k is less at = by_end went
     below : AllBelow k w.given
     below = subst (λ n. AllBelow n w.given) (same_number (found w.disk Counter) read.0 k read.1 is) read.2
 
+    held : Each w.disk (Steady w)
+    held = steady (record w { lock = Held p Begun }) at
+
     by_end : (went : Went) → Kept (count_read w p b went k)
-    by_end Fine = record { young = at.young; seen = learnt (length w.history) w.floor w.passes p TxnRead Fine at.seen; history = at.history; transactions = at.transactions; stands = at.stands; floor = at.floor; floors = at.floors; counts = at.counts; once = at.once; labels = at.labels; named = at.named; apart = at.apart; benches = at.benches; knows = (less, below, refl); next = tt; whose = whose_at w.opening w.history w.since w.passes p (learns (length w.history) TxnRead Fine) (λ x. refl) at.whose; holder = (there_at w.passes p p (learns (length w.history) TxnRead Fine) at.holder.0, tt) }
-    by_end Before = record { young = at.young; seen = learnt (length w.history) w.floor w.passes p TxnRead Before at.seen; history = at.history; transactions = at.transactions; stands = at.stands; floor = at.floor; floors = at.floors; counts = at.counts; once = at.once; labels = at.labels; named = at.named; apart = at.apart; benches = at.benches; knows = tt; next = tt; whose = whose_at w.opening w.history w.since w.passes p (learns (length w.history) TxnRead Before) (λ x. refl) at.whose; holder = (there_at w.passes p p (learns (length w.history) TxnRead Before) at.holder.0, tt) }
-    by_end After = record { young = at.young; seen = learnt (length w.history) w.floor w.passes p TxnRead After at.seen; history = at.history; transactions = at.transactions; stands = at.stands; floor = at.floor; floors = at.floors; counts = at.counts; once = at.once; labels = at.labels; named = at.named; apart = at.apart; benches = at.benches; knows = tt; next = tt; whose = whose_at w.opening w.history w.since w.passes p (learns (length w.history) TxnRead After) (λ x. refl) at.whose; holder = (there_at w.passes p p (learns (length w.history) TxnRead After) at.holder.0, tt) }
-    by_end (Torn any) = record { young = at.young; seen = learnt (length w.history) w.floor w.passes p TxnRead (Torn any) at.seen; history = at.history; transactions = at.transactions; stands = at.stands; floor = at.floor; floors = at.floors; counts = at.counts; once = at.once; labels = at.labels; named = at.named; apart = at.apart; benches = at.benches; knows = tt; next = tt; whose = whose_at w.opening w.history w.since w.passes p (learns (length w.history) TxnRead (Torn any)) (λ x. refl) at.whose; holder = (there_at w.passes p p (learns (length w.history) TxnRead (Torn any)) at.holder.0, tt) }
+    by_end Fine = keeps_turn w p TxnRead Fine Begun (CountRead (record { name = k; next = k + 1; base = b })) w.disk at tt at.stands held (less, below, refl) tt
+    by_end Before = keeps_turn w p TxnRead Before Begun Over w.disk at tt at.stands held tt tt
+    by_end After = keeps_turn w p TxnRead After Begun Over w.disk at tt at.stands held tt tt
+    by_end (Torn any) = keeps_turn w p TxnRead (Torn any) Begun Over w.disk at tt at.stands held tt tt
 
 counted_keeps : (w : World) (p b : ℕ) (went : Went) (o : Option Contents) → found w.disk Counter ≡ o → Kept w → Kept (record w { lock = Held p Begun }) → Moves w (counted w p b went (number_of o)).world
 counted_keeps w p b went None is k at = stays w k
 counted_keeps w p b went (Some (Number n)) is k at =
     elim (nat_lt b (length w.history) && nat_lt n (2 ^ 64 - 1)) as (λ t. (nat_lt b (length w.history) && nat_lt n (2 ^ 64 - 1)) ≡ t → Moves w (cond t (did (count_read w p b went n) (answer went)) (barred w)).world) [
-      | true ↦ λ e. let f : nat_lt b (length w.history) ≡ true = first_true _ _ e in let less : b < length w.history = grind (arith, f) in
+      | true ↦ λ e. let f : nat_lt b (length w.history) ≡ true = (and_parts _ _ e).0 in let less : b < length w.history = grind (arith, f) in
           moved w (count_read w p b went n) (count_keeps w p b went n is less at) refl refl
       | false ↦ λ e. stays w k
     ] refl
@@ -135,7 +126,8 @@ adopted_keeps : (w : World) (p t : ℕ) (txn : Txn) (e : Entry) (bytes : List �
     → slice_get w.txns t ≡ Some txn → e.pass ≡ p → IsComing w.history e bytes x → Kept (record w { lock = Held p Begun }) → Kept (adopted w p t txn.name went x)
 adopted_keeps w p t txn e bytes went x was there mine is at =
     let less : World = record w { txns = without_place w.txns t; spent = w.spent ++ txn.name ∷ [] } in
-    let k : Kept (record less { lock = Held p Begun }) = record { young = at.young; seen = at.seen; history = at.history; transactions = transactions_without (revisions w.history) w.txns t at.transactions; stands = at.stands; floor = at.floor; floors = at.floors; counts = at.counts; once = at.once; labels = at.labels; named = at.named; apart = apart_spent w.given w.named w.txns w.spent t txn there at.apart; benches = λ up. have_without_place w.labels w.txns t (at.benches refl); knows = tt; next = tt; whose = at.whose; holder = at.holder } in
+    let k : Kept (record less { lock = Held p Begun }) = keeps_txns (record w { lock = Held p Begun }) w.labels w.named (without_place w.txns t) (w.spent ++ txn.name ∷ []) at at.labels at.named
+    (transactions_without (revisions w.history) w.txns t at.transactions) (apart_spent w.given w.named w.txns w.spent t txn there at.apart) (λ up. have_without_place w.labels w.txns t (at.benches refl)) in
     let follows : Follows w.history x = subst (λ z. IsEntry (revisions w.history) z × IsNext (revisions w.history) z x.revision) (sym is.entry) (record { transaction = was; dated = is.adds.0 }, is.adds.1) in
     keeps_put less p PutRev Begun (Rev (length w.history)) (file_of (recorded x)) (RevPut x) went k (ap (λ z. z.pass) is.entry ∙ mine)
     (λ m i. i) (λ m any i. past_rev w.floor m w.history any i) (λ m i. i) (λ m any i. i) (shown_again w.floor w.disk (length w.history) (file_of (recorded x)) at.floor) follows
@@ -166,7 +158,7 @@ adopts_keep w p t properties bytes went true d is k e =
 
 -- edits and merges
 with_txns : (w : World) (txns : List Txn) → AreTransactions (revisions w.history) txns → AreApart w.given w.named txns w.spent → (is_up w.lock ≡ true → HaveLabels w.labels txns) → Kept w → Moves w (record w { txns = txns })
-with_txns w txns t apart benches k = moved w (record w { txns = txns }) (record { young = k.young; seen = k.seen; history = k.history; transactions = t; stands = k.stands; floor = k.floor; floors = k.floors; counts = k.counts; once = k.once; labels = k.labels; named = k.named; apart = apart; benches = benches; knows = k.knows; next = k.next; whose = k.whose; holder = k.holder }) refl refl
+with_txns w txns t apart benches k = moved w (record w { txns = txns }) (keeps_txns w w.labels w.named txns w.spent k k.labels k.named t apart benches) refl refl
 
 edits_if_keep : (w : World) (t : ℕ) (edit : Edit) (x : Txn) (b : Bool) (d : Did) → slice_get w.txns t ≡ Some x
     → (accepts edit (tree_of (revisions w.history)) (last_of (revisions w.history)) (get x.tree) && within_limits edit x.tree) ≡ b → Kept w → EditsIf w t edit x b d → Moves w d.world
@@ -177,7 +169,7 @@ edits_if_keep w t edit x true d is ok k e =
     let fun : get e.0 ≡ applied edit (tree_of h) (get x.tree) = (λ i q. e.1 q i) in
     let new : IsTransaction (tree_of h) (last_of h) x.base (get e.0) (x.marks ++ mark_of edit (tree_of h) (get x.tree) ∷ []) =
     subst (λ f. IsTransaction (tree_of h) (last_of h) x.base f (x.marks ++ mark_of edit (tree_of h) (get x.tree) ∷ [])) (sym fun)
-    (Edited x.base (get x.tree) x.marks edit was (first_true _ _ ok)) in
+    (Edited x.base (get x.tree) x.marks edit was (and_parts _ _ ok).0) in
     subst (λ z. Moves w z.world) (sym e.2) (with_txns w (at_place w.txns t (edited e.0 (mark_of edit (tree_of (revisions w.history)) (get x.tree)))) (transactions_at h w.txns t x (edited e.0 (mark_of edit (tree_of (revisions w.history)) (get x.tree))) is new k.transactions)
     (apart_at w.given w.named w.txns w.spent t (edited e.0 (mark_of edit (tree_of (revisions w.history)) (get x.tree))) (λ y. refl) k.apart) (λ up. have_at w.labels w.txns t (edited e.0 (mark_of edit (tree_of (revisions w.history)) (get x.tree))) (λ y. refl) (k.benches up)) k)
 
@@ -197,10 +189,10 @@ merges_if_keep w t head x true d is ok k e = ⊎_elim on_clear (λ c. subst (λ 
     was = transaction_at h w.txns t x is k.transactions
 
     up : x.base ≤ head
-    up = let f : nat_le x.base head ≡ true = first_true (nat_le x.base head) (nat_lt head (length w.history)) ok in grind (arith, f)
+    up = let f : nat_le x.base head ≡ true = (and_parts (nat_le x.base head) (nat_lt head (length w.history)) ok).0 in grind (arith, f)
 
     in_range : head ≤ last_of h
-    in_range = let f : nat_lt head (length w.history) ≡ true = second_true (nat_le x.base head) (nat_lt head (length w.history)) ok in let less : head < length w.history = grind (arith, f) in omega (arith, less, revisions_length w.history)
+    in_range = let f : nat_lt head (length w.history) ≡ true = (and_parts (nat_le x.base head) (nat_lt head (length w.history)) ok).1 in let less : head < length w.history = grind (arith, f) in omega (arith, less, revisions_length w.history)
 
     on_clear : NoClash x.base (tree_of h x.base) (tree_of h head) (get x.tree) x.marks
         × (tree : FinMap path_cmp Node)
@@ -219,7 +211,7 @@ merges_keep w t head (Some x) d is k e = merges_if_keep w t head x _ d is refl k
 
 -- the words
 with_passes : (w : World) (passes : List Pass) → AreSeen (length w.history) w.floor passes → Whose w.opening w.history w.since passes → IsHolder (length passes) w.lock → Kept w → Moves w (record w { passes = passes })
-with_passes w passes s whose holder k = moved w (record w { passes = passes }) (record { young = k.young; seen = s; history = k.history; transactions = k.transactions; stands = k.stands; floor = k.floor; floors = k.floors; counts = k.counts; once = k.once; labels = k.labels; named = k.named; apart = k.apart; benches = k.benches; knows = k.knows; next = k.next; whose = whose; holder = holder }) refl refl
+with_passes w passes s whose holder k = moved w (record w { passes = passes }) (keeps_passes w passes k s whose holder) refl refl
 
 -- the holder is there still, where there are no fewer passes
 holder_stays : (n m : ℕ) (lock : Lock) → n ≤ m → IsHolder n lock → IsHolder m lock
@@ -235,7 +227,7 @@ with_pass w p f seen same k =
     (holder_stays (length w.passes) (length (at_place w.passes p f)) w.lock (omega (arith, e)) k.holder) k
 
 taken_keeps : (w : World) (p : ℕ) (lock : Lock) → p < length w.passes → w.lock ≡ lock → Kept (record w { lock = lock }) → Kept w → Moves w (taken w p lock).world
-taken_keeps w p Free there is at k = moved w (record w { lock = Held p Begun }) (record { young = at.young; seen = at.seen; history = at.history; transactions = at.transactions; stands = at.stands; floor = at.floor; floors = at.floors; counts = at.counts; once = at.once; labels = at.labels; named = at.named; apart = at.apart; benches = at.benches; knows = tt; next = tt; whose = at.whose; holder = (there, tt) }) refl refl
+taken_keeps w p Free there is at k = moved w (record w { lock = Held p Begun }) (keeps_lock w Free (Held p Begun) at (λ up. refl) (λ m s. s) tt tt (there, tt)) refl refl
 taken_keeps w p (Stuck place x) there is at k = with_pass w p (λ y. record y { stuck = Some place }) (λ y s. record { seen = s.seen; least = s.least; mine = s.mine; floor = s.floor }) (λ y. refl) k
 taken_keeps w p lock there is at k = stays w k
 
@@ -244,7 +236,7 @@ lock_keeps w p true is k = taken_keeps w p w.lock (let there : p < length w.pass
 lock_keeps w p false is k = stays w k
 
 freed : (w : World) (p : ℕ) (s : Section) → Kept (record w { lock = Held p s }) → ((m : Disk) → StandsIn w.floor w.history s m → StandsFor w.floor m w.history) → Moves w (record w { lock = Free })
-freed w p s at plain = moved w (record w { lock = Free }) (record { young = at.young; seen = at.seen; history = at.history; transactions = at.transactions; stands = λ m i. plain m (at.stands m i); floor = at.floor; floors = at.floors; counts = at.counts; once = at.once; labels = at.labels; named = at.named; apart = at.apart; benches = at.benches; knows = tt; next = tt; whose = at.whose; holder = tt }) refl refl
+freed w p s at plain = moved w (record w { lock = Free }) (keeps_lock w (Held p s) Free at (λ up. refl) plain tt tt tt) refl refl
 
 let_go_keeps : (w : World) (p : ℕ) (s : Section) → Kept w → Kept (record w { lock = Held p s }) → Moves w (let_go w s).world
 let_go_keeps w p Begun k at = freed w p Begun at (λ m i. i)
@@ -259,7 +251,7 @@ let_go_keeps w p Over k at = freed w p Over at (λ m i. i)
 let_go_keeps w p s k at = stays w k
 
 stuck_keeps : (w : World) (p : ℕ) (s : Section) → Kept w → Kept (record w { lock = Held p s }) → Moves w (stuck_at w s).world
-stuck_keeps w p (Doubtful place x) k at = moved w (record w { lock = Stuck place x }) (record { young = at.young; seen = at.seen; history = at.history; transactions = at.transactions; stands = at.stands; floor = at.floor; floors = at.floors; counts = at.counts; once = at.once; labels = at.labels; named = at.named; apart = at.apart; benches = at.benches; knows = tt; next = at.next; whose = at.whose; holder = tt }) refl refl
+stuck_keeps w p (Doubtful place x) k at = moved w (record w { lock = Stuck place x }) (keeps_lock w (Held p (Doubtful place x)) (Stuck place x) at (λ up. refl) (λ m s. s) tt at.next tt) refl refl
 stuck_keeps w p s k at = stays w k
 
 seen_more : (n m f : ℕ) (xs : List Pass) → n ≤ m → AreSeen n f xs → AreSeen m f xs
@@ -269,9 +261,6 @@ seen_more n m f (x ∷ xs) le s = let one : IsSeen n f x = s.0 in (record { seen
 below_append : (xs : List ℕ) (a n : ℕ) → AllBelow n xs → a < n → AllBelow n (xs ++ a ∷ [])
 below_append [] a n s less = (less, tt)
 below_append (x ∷ xs) a n s less = (s.0, below_append xs a n s.1 less)
-
-next_is_history : (h : List Recorded) (x : Coming) → IsHistory (revisions h) → Follows h x → IsHistory (revisions (with_next h x))
-next_is_history h x is f = subst (λ z. IsHistory z) (sym (revisions_next h x)) (commits_make_a_history.next (revisions h) x.entry x.revision is f.0 f.1)
 
 some_revision : (h : List Recorded) → IsHistory (revisions h) → 0 < length (revisions h)
 some_revision h is = let e : length (revisions h) ≡ suc is.last = is.counted in omega (arith, e)
@@ -313,13 +302,8 @@ revealed_keeps w p s k at = stays w k
 
 look_keeps : (w : World) (p : ℕ) (b : Bool) → (is_there w p && is_up w.lock) ≡ b → Kept w → Moves w (cond b (looked w p) (barred w)).world
 look_keeps w p false is k = stays w k
-look_keeps w p true is k = let last : w.young + 1 ≡ length w.history = k.young (second_true _ _ is) in
+look_keeps w p true is k = let last : w.young + 1 ≡ length w.history = k.young (and_parts _ _ is).1 in
     with_pass w p (λ x. record x { least = w.young }) (λ x s. record { seen = s.seen; least = omega (arith, last); mine = s.mine; floor = s.floor }) (λ x. refl) k
-
-pub seen_of : (n f : ℕ) (xs : List Pass) (p : ℕ) (x : Pass) → AreSeen n f xs → slice_get xs p ≡ Some x → IsSeen n f x
-seen_of n f [] p x s e = let g : None ≡ Some x = e in absurd cc
-seen_of n f (y ∷ ys) zero x s e = let g : y ≡ x = (let h : Some y ≡ Some x = e in cc) in subst (λ z. IsSeen n f z) g s.0
-seen_of n f (y ∷ ys) (suc p) x s e = seen_of n f ys p x s.1 e
 
 seen_append : (n f : ℕ) (xs : List Pass) (x : Pass) → AreSeen n f xs → IsSeen n f x → AreSeen n f (xs ++ x ∷ [])
 seen_append n f [] x s a = (a, tt)
@@ -376,223 +360,20 @@ join_keeps w p q (Some y) e k = let s : IsSeen (length w.history) w.floor y = se
       floor = omega (arith, t.floor, s.floor);
     }) (λ x. refl) k
 
--- an end of the object: nothing of the words is left
-down_stands : (f : ℕ) (h : List Recorded) (lock : Lock) (m : Disk) → Stands f h lock m → Stands f h (down lock) m
-down_stands f h Free m s = s
-down_stands f h (Stuck place x) m s = s.0
-down_stands f h Down m s = s
-down_stands f h (DownDoubtful x) m s = s
-down_stands f h (Held p Begun) m s = s
-down_stands f h (Held p (CountRead x)) m s = s
-down_stands f h (Held p (CountPut x)) m s = s
-down_stands f h (Held p (CountRenamed x)) m s = s
-down_stands f h (Held p (RevPut x)) m s = s
-down_stands f h (Held p (PropsPut x)) m s = s
-down_stands f h (Held p (RevFirm x)) m s = s.0
-down_stands f h (Held p (CurrentPut x)) m s = s.0
-down_stands f h (Held p (CurrentRenamed x)) m s = s.0
-down_stands f h (Held p (CurrentFirm x)) m s = inr s
-down_stands f h (Held p (Doubtful place x)) m s = s.0
-down_stands f h (Held p Over) m s = s
-
-pub record IsDown (f : ℕ) (h : List Recorded) (given : List ℕ) (lock : Lock) (d : Disk) : Type 0 where
-  pub up : is_up lock ≡ false
-  pub knows : KnowsAt f h given lock d
-  pub next : IfSome (coming lock) (Follows h)
-  pub holder : IsHolder 0 lock
-
-down_next : (f : ℕ) (h : List Recorded) (given : List ℕ) (lock : Lock) (d : Disk) → IfSome (coming lock) (Follows h) → IsDown f h given (down lock) d
-down_next f h given Free d n = record { up = refl; knows = tt; next = tt; holder = tt }
-down_next f h given (Stuck place x) d n = record { up = refl; knows = tt; next = n; holder = tt }
-down_next f h given Down d n = record { up = refl; knows = tt; next = tt; holder = tt }
-down_next f h given (DownDoubtful x) d n = record { up = refl; knows = tt; next = n; holder = tt }
-down_next f h given (Held p (CurrentRenamed x)) d n = record { up = refl; knows = tt; next = n; holder = tt }
-down_next f h given (Held p (CurrentFirm x)) d n = record { up = refl; knows = tt; next = n; holder = tt }
-down_next f h given (Held p (Doubtful place x)) d n = record { up = refl; knows = tt; next = n; holder = tt }
-down_next f h given (Held p s) d n = record { up = refl; knows = tt; next = tt; holder = tt }
-
-not_up : (b : Bool) (A : Type 0) → b ≡ false → b ≡ true → A
-not_up b A e f = let g : false ≡ true = sym e ∙ f in absurd cc
-
--- a mark of firmness changes no file
-firm_stands : (f : ℕ) (h : List Recorded) (lock : Lock) (m : Disk) → Stands f h lock m → Stands f h lock (Firm ∷ m)
-firm_stands f h Free m s = s
-firm_stands f h (Stuck place x) m s = s
-firm_stands f h Down m s = s
-firm_stands f h (DownDoubtful x) m s = s
-firm_stands f h (Held p Begun) m s = s
-firm_stands f h (Held p (CountRead x)) m s = s
-firm_stands f h (Held p (CountPut x)) m s = s
-firm_stands f h (Held p (CountRenamed x)) m s = s
-firm_stands f h (Held p (RevPut x)) m s = s
-firm_stands f h (Held p (PropsPut x)) m s = s
-firm_stands f h (Held p (RevFirm x)) m s = s
-firm_stands f h (Held p (CurrentPut x)) m s = s
-firm_stands f h (Held p (CurrentRenamed x)) m s = s
-firm_stands f h (Held p (CurrentFirm x)) m s = s
-firm_stands f h (Held p (Doubtful place x)) m s = s
-firm_stands f h (Held p Over) m s = s
-
-ends_keeps : (w : World) (d : Disk) (labels : List ℕ) → Kept w → Each d (Stands w.floor w.history w.lock) → Each d (CountsOn w.given) → Each d (FloorIs w.floor) → AllGiven w.given labels → Moves w (record (ends w) { disk = d; labels = labels })
-ends_keeps w d labels k stands counts floors given = let n = down_next w.floor w.history w.given w.lock d k.next in moved w (record (ends w) { disk = d; labels = labels }) (record {
-  young = λ up. not_up (is_up (down w.lock)) _ n.up up;
-  seen = tt;
-  history = k.history;
-  transactions = tt;
-  stands = λ m i. down_stands w.floor w.history w.lock m (stands m i);
-  floor = k.floor;
-  floors = floors;
-  counts = counts;
-  once = k.once;
-  labels = given;
-  named = tt;
-  apart = none_apart w.given;
-  benches = λ up. not_up (is_up (down w.lock)) _ n.up up;
-  knows = n.knows;
-  next = n.next;
-  whose = record { legal = ap revisions (take_all (length w.history) w.history (omega arith)); count = omega arith; carriers = tt; mine = tt };
-  holder = n.holder;
-}) refl refl
-
-crash_keeps : (w : World) (picks labels : List Bool) → Kept w → Moves w (record (ends w) { disk = Firm ∷ left picks w.disk; labels = labels_left labels w.labels })
-crash_keeps w picks labels k = let i = left_is_image picks w.disk in
-    ends_keeps w (Firm ∷ left picks w.disk) (labels_left labels w.labels) k
-    (each_firm (left picks w.disk) (Stands w.floor w.history w.lock) (firm_stands w.floor w.history w.lock (left picks w.disk) (k.stands (left picks w.disk) i)))
-    (each_firm (left picks w.disk) (CountsOn w.given) (k.counts (left picks w.disk) i))
-    (each_firm (left picks w.disk) (FloorIs w.floor) (k.floors (left picks w.disk) i))
-    (given_left w.given labels w.labels k.labels)
-
--- what the files show
-pub some_at : (h : List Recorded) (n : ℕ) → n < length h → (x : Recorded) × (slice_get h n ≡ Some x)
-some_at [] n less = absurd (omega (arith, less))
-some_at (y ∷ ys) zero less = (y, refl)
-some_at (y ∷ ys) (suc n) less = some_at ys n (omega (arith, less))
-
-take_one : (h : List Recorded) (n : ℕ) (x : Recorded) → slice_get h n ≡ Some x → take (suc n) h ≡ take n h ++ x ∷ []
-take_one [] n x e = let f : None ≡ Some x = e in absurd cc
-take_one (y ∷ ys) zero x e = let f : Some y ≡ Some x = e in let g : y ≡ x = cc in ap (λ z. z ∷ []) g
-take_one (y ∷ ys) (suc n) x e = ap (λ zs. y ∷ zs) (take_one ys n x e)
-
-reads : (f : ℕ) (d : Disk) (h : List Recorded) (n : ℕ) → HasAll f d h → n ≤ length h → read_back f d n ≡ Some (take n h)
-reads f d h zero all le = refl
-reads f d h (suc n) all le =
-    let at = some_at h n (omega (arith, le)) in
-    let x = at.0 in
-    let files = all n x at.1 in
-    ap (λ o. read_one o (revision_in (shown f d n) (found d (Props n)))) (reads f d h n all (omega (arith, le)))
-    ∙ ap (λ o. read_one (Some (take n h)) (revision_in o (found d (Props n)))) files.0
-    ∙ ap (λ o. read_one (Some (take n h)) (revision_in (Some (file_of x)) o)) files.1
-    ∙ ap (λ l. Some l) (sym (take_one h n x at.1))
-
--- an opening goes on from what the files stand for
-opened_keeps : (w : World) (h : List Recorded) (k : ℕ) → StandsFor w.floor w.disk h → IsHistory (revisions h) → Grows w.history h → k + 1 ≡ length h → Kept w → Moves w (opened w k w.floor (Some h)).world
-opened_keeps w h k s is g last kept = record {
-  kept = record {
-    young = λ up. last;
-    seen = (record { seen = omega (arith, last); least = omega (arith, last); mine = tt; floor = omega arith }, tt);
-    history = is;
-    transactions = tt;
-    stands = each_firm w.disk (λ m. StandsFor w.floor m h) s;
-    floor = kept.floor;
-    floors = each_firm w.disk (FloorIs w.floor) (kept.floors w.disk (read_is_image w.disk));
-    counts = each_firm w.disk (CountsOn w.given) (kept.counts w.disk (read_is_image w.disk));
-    once = kept.once;
-    labels = kept.labels;
-    named = tt;
-    apart = none_apart w.given;
-    benches = λ up. tt;
-    knows = tt;
-    next = tt;
-    whose = record { legal = ap revisions (take_all (k + 1) h (omega (arith, last))); count = omega (arith, last); carriers = tt; mine = (refl, tt) };
-    holder = tt;
-  };
-  grows = g;
-  names = inl refl;
-}
-
-named_keeps : (w : World) (h : List Recorded) (k : ℕ) → StandsFor w.floor w.disk h → IsHistory (revisions h) → Grows w.history h → k + 1 ≡ length h → Kept w → Moves w (named w (Some k) (Some w.floor)).world
-named_keeps w h k s is g last kept =
-    let back : read_back w.floor w.disk (k + 1) ≡ Some h = reads w.floor w.disk h (k + 1) s.0 (omega (arith, last)) ∙ ap (λ n. Some (take n h)) last ∙ ap (λ z. Some z) (take_all (length h) h (omega arith)) in
-    elim (nat_lt k (2 ^ 64 - 1)) as (λ b. Moves w (cond b (opened w k w.floor (read_back w.floor w.disk (k + 1))) (did w outcome.Missing)).world) [
-      | true ↦ subst (λ o. Moves w (opened w k w.floor o).world) (sym back) (opened_keeps w h k s is g last kept)
-      | false ↦ stays w kept
-    ]
-
-open_keeps : (w : World) (went : Went) (h : List Recorded) → StandsFor w.floor w.disk h → IsHistory (revisions h) → Grows w.history h → Moves w (record w { disk = disk_after went Firm w.disk }) → Kept w → Moves w (open_at w went).world
-open_keeps w Fine h s is g ill k =
-    subst (λ o. Moves w (named w (number_of (found w.disk Current)) (number_of o)).world) (sym (k.floors w.disk (read_is_image w.disk)))
-    (subst (λ o. Moves w (named w (number_of o) (Some w.floor)).world) (sym s.1.1) (named_keeps w h s.1.0 s is g s.1.2 k))
-open_keeps w Before h s is g ill k = ill
-open_keeps w After h s is g ill k = ill
-open_keeps w (Torn any) h s is g ill k = ill
-
-firmed : (w : World) (went : Went) → Kept w → KnowsAt w.floor w.history w.given w.lock (disk_after went Firm w.disk) → Moves w (record w { disk = disk_after went Firm w.disk })
-firmed w went k knows = moved w (record w { disk = disk_after went Firm w.disk }) (record {
-  young = k.young;
-  seen = k.seen;
-  history = k.history;
-  transactions = k.transactions;
-  stands = both went (Stands w.floor w.history w.lock) k.stands (firm_stands w.floor w.history w.lock w.disk (k.stands w.disk (read_is_image w.disk)));
-  floor = k.floor;
-  floors = both went (FloorIs w.floor) k.floors (k.floors w.disk (read_is_image w.disk));
-  counts = both went (CountsOn w.given) k.counts (k.counts w.disk (read_is_image w.disk));
-  once = k.once;
-  labels = k.labels;
-  named = k.named;
-  apart = k.apart;
-  benches = k.benches;
-  knows = knows;
-  next = k.next;
-  whose = k.whose;
-  holder = k.holder;
-}) refl refl
-  where
-    both : (went : Went) (P : Disk → Type 0) → Each w.disk P → P (Firm ∷ w.disk) → Each (disk_after went Firm w.disk) P
-    both Fine P all now = each_firm w.disk P now
-    both After P all now = each_firm w.disk P now
-    both Before P all now = all
-    both (Torn any) P all now = all
-
-open_down_keeps : (w : World) (went : Went) (lock : Lock) → w.lock ≡ lock → Kept w → Moves w (cond (is_up lock) (barred w) (open_at w went)).world
-open_down_keeps w went Free is k = stays w k
-open_down_keeps w went (Held p s) is k = stays w k
-open_down_keeps w went (Stuck place x) is k = stays w k
-open_down_keeps w went Down is k =
-    let s : StandsFor w.floor w.disk w.history = subst (λ l. Stands w.floor w.history l w.disk) is (k.stands w.disk (read_is_image w.disk)) in
-    let knows : KnowsAt w.floor w.history w.given w.lock (disk_after went Firm w.disk) = subst (λ l. KnowsAt w.floor w.history w.given l (disk_after went Firm w.disk)) (sym is) tt in
-    open_keeps w went w.history s k.history (inl refl) (firmed w went k knows) k
-open_down_keeps w went (DownDoubtful x) is k =
-    let s : StandsForEither w.floor w.disk w.history x = subst (λ l. Stands w.floor w.history l w.disk) is (k.stands w.disk (read_is_image w.disk)) in
-    let knows : KnowsAt w.floor w.history w.given w.lock (disk_after went Firm w.disk) = subst (λ l. KnowsAt w.floor w.history w.given l (disk_after went Firm w.disk)) (sym is) tt in
-    let next : Follows w.history x = subst (λ l. IfSome (coming l) (Follows w.history)) is k.next in
-    ⊎_elim (λ a. open_keeps w went w.history a k.history (inl refl) (firmed w went k knows) k)
-    (λ b. open_keeps w went (with_next w.history x) b (next_is_history w.history x k.history next) (inr (x, next, refl)) (firmed w went k knows) k) s
-
-along : (w : World) (d e : Did) → d ≡ e → Moves w e.world → Moves w d.world
-along w d e is m = subst (λ z. Moves w z.world) (sym is) m
-
-if_moves : (w : World) (b : Bool) (d : Did) → Kept w → Moves w d.world → Moves w (cond b d (barred w)).world
-if_moves w true d k m = m
-if_moves w false d k m = stays w k
-
-unless_up : (w : World) (b : Bool) (d : Did) → Kept w → Moves w d.world → Moves w (cond b (barred w) d).world
-unless_up w true d k m = stays w k
-unless_up w false d k m = m
-
 -- labels
 with_labels : (w : World) (labels : List ℕ) → AllGiven w.given labels → (is_up w.lock ≡ true → HaveLabels labels w.txns) → Kept w → Moves w (record w { labels = labels })
-with_labels w labels given benches k = moved w (record w { labels = labels }) (record { young = k.young; seen = k.seen; history = k.history; transactions = k.transactions; stands = k.stands; floor = k.floor; floors = k.floors; counts = k.counts; once = k.once; labels = given; named = k.named; apart = k.apart; benches = benches; knows = k.knows; next = k.next; whose = k.whose; holder = k.holder }) refl refl
+with_labels w labels given benches k = moved w (record w { labels = labels }) (keeps_txns w labels w.named w.txns w.spent k given k.named k.transactions k.apart benches) refl refl
 
 label_keeps : (w : World) (name : ℕ) (went : Went) (b : Bool) → is_up w.lock ≡ b → Kept w → Moves w (cond b (barred w) (label_dropped w name went)).world
 label_keeps w name went true is k = stays w k
-label_keeps w name went false is k = with_labels w (unlabelled went name w.labels) (given_unlabelled w.given w.labels went name k.labels) (λ up. not_up (is_up w.lock) _ is up) k
+label_keeps w name went false is k = with_labels w (unlabelled went name w.labels) (given_unlabelled w.given w.labels went name k.labels) (λ up. absurd (both_ways (is_up w.lock) is up)) k
 
 -- the same with other transactions, and a pass's turn after it
 with_parts : (w : World) (labels : List ℕ) (named : List Drawn) (txns : List Txn) (spent : List ℕ) (p : ℕ) (at : Place) (went : Went) → AllGiven w.given labels → AreNamed (length w.history) w.given named
     → AreTransactions (revisions w.history) txns → AreApart w.given named txns spent → (is_up w.lock ≡ true → HaveLabels labels txns) → Kept w → Moves w (turned (record w { labels = labels; named = named; txns = txns; spent = spent }) p at went)
 with_parts w labels named txns spent p at went given are t apart benches k =
     let v : World = record w { labels = labels; named = named; txns = txns; spent = spent } in
-    let turned_keeps = turn_keeps v p at went (record { young = k.young; seen = k.seen; history = k.history; transactions = t; stands = k.stands; floor = k.floor; floors = k.floors; counts = k.counts; once = k.once; labels = given; named = are; apart = apart; benches = benches; knows = k.knows; next = k.next; whose = k.whose; holder = k.holder }) in
+    let turned_keeps = turn_keeps v p at went (keeps_txns w labels named txns spent k given are t apart benches) in
     record { kept = turned_keeps.kept; grows = inl refl; names = inl refl }
 
 made_txns : (w : World) (went : Went) (x : Drawn) → x.base < length w.history → AreTransactions (revisions w.history) w.txns → AreTransactions (revisions w.history) (either went (w.txns ++ begun_txn w.history x ∷ []) w.txns)
@@ -646,136 +427,6 @@ step_moves w (step.ListLabels went) d is k = along w d _ is (unless_up w (is_up 
 step_moves w (step.DropLabel name went) d is k = along w d _ is (label_keeps w name went (is_up w.lock) refl k)
 step_moves w (step.Crash picks labels) d is k = along w d _ is (crash_keeps w picks labels k)
 step_moves w (step.Open went) d is k = along w d _ is (open_down_keeps w went w.lock refl k)
-
--- whatever is under way, an image has each revision's files
-get_before : (h : List Recorded) (y : Recorded) (r : ℕ) (x : Recorded) → slice_get h r ≡ Some x → slice_get (h ++ y ∷ []) r ≡ Some x
-get_before [] y r x e = let f : None ≡ Some x = e in absurd cc
-get_before (z ∷ h) y zero x e = e
-get_before (z ∷ h) y (suc r) x e = get_before h y r x e
-
-either_all : (f : ℕ) (m : Disk) (h : List Recorded) (x : Coming) → StandsForEither f m h x → HasAll f m h
-either_all f m h x s = ⊎_elim (λ a. a.0) (λ b r y e. b.0 r y (get_before h (recorded x) r y e)) s
-
-pub has_all : (f : ℕ) (h : List Recorded) (lock : Lock) (m : Disk) → Stands f h lock m → HasAll f m h
-has_all f h Free m s = s.0
-has_all f h (Stuck place x) m s = either_all f m h x s.0
-has_all f h Down m s = s.0
-has_all f h (DownDoubtful x) m s = either_all f m h x s
-has_all f h (Held p Begun) m s = s.0
-has_all f h (Held p (CountRead x)) m s = s.0
-has_all f h (Held p (CountPut x)) m s = s.0
-has_all f h (Held p (CountRenamed x)) m s = s.0
-has_all f h (Held p (RevPut x)) m s = s.0
-has_all f h (Held p (PropsPut x)) m s = s.0
-has_all f h (Held p (RevFirm x)) m s = s.0.0
-has_all f h (Held p (CurrentPut x)) m s = s.0.0
-has_all f h (Held p (CurrentRenamed x)) m s = either_all f m h x s.0
-has_all f h (Held p (CurrentFirm x)) m s = either_all f m h x (inr s)
-has_all f h (Held p (Doubtful place x)) m s = either_all f m h x s.0
-has_all f h (Held p Over) m s = s.0
-
--- what a pass knows of is in the history
-known_less : (n f r : ℕ) (x : Pass) → IsSeen n f x → is_known x r ≡ true → r < n
-known_less n f r x s e = let a : x.seen ≤ n = s.seen in let b : x.least < n = s.least in by_case (nat_lt r x.seen) refl
-  where
-    by_case : (b : Bool) → nat_lt r x.seen ≡ b → r < n
-    by_case true is = let less : r < x.seen = grind (arith, is) in omega (arith, less, s.seen)
-    by_case false is =
-        let f : nat_le r x.least ≡ true = subst (λ b. (b || nat_le r x.least) ≡ true) is e in
-        let le : r ≤ x.least = grind (arith, f) in omega (arith, le, s.least)
-
-read_gives : (w : World) (p r offset size : ℕ) (went : Went) (o : Option Pass) → slice_get w.passes p ≡ o → Kept w → GivesBytes w.history r offset size (has_read w p r offset size went o).outcome
-read_gives w p r offset size went None is k = tt
-read_gives w p r offset size went (Some x) is k = elim (is_known x r) as (λ b. is_known x r ≡ b → GivesBytes w.history r offset size (cond b (did (turned w p Read went) (either went (range_of offset size (shown x.floor w.disk r)) outcome.Failed)) (barred w)).outcome) [
-  | true ↦ λ e. by_end went (known_less (length w.history) w.floor r x seen e)
-  | false ↦ λ e. tt
-] refl
-  where
-    seen : IsSeen (length w.history) w.floor x
-    seen = seen_of (length w.history) w.floor w.passes p x k.seen is
-
-    same_floor : w.floor ≡ x.floor
-    same_floor = omega (arith, seen.floor, k.floor)
-
-    by_end : (went : Went) → r < length w.history → GivesBytes w.history r offset size (either went (range_of offset size (shown x.floor w.disk r)) outcome.Failed)
-    by_end Fine less =
-        let at = some_at w.history r less in
-        let file : shown w.floor w.disk r ≡ Some (file_of at.0) = (has_all w.floor w.history w.lock w.disk (k.stands w.disk (read_is_image w.disk)) r at.0 at.1).0 in
-        let here : shown x.floor w.disk r ≡ Some (file_of at.0) = subst (λ f. shown f w.disk r ≡ Some (file_of at.0)) same_floor file in
-        subst (λ o. GivesBytes w.history r offset size (range_of offset size o)) (sym here) (at.0, at.1, refl)
-    by_end Before less = tt
-    by_end After less = tt
-    by_end (Torn any) less = tt
-
-props_give : (w : World) (p r : ℕ) (went : Went) (o : Option Pass) → slice_get w.passes p ≡ o → Kept w → GivesProps w.history r (has_read_props w p r went o).outcome
-props_give w p r went None is k = tt
-props_give w p r went (Some x) is k = elim (is_known x r) as (λ b. is_known x r ≡ b → GivesProps w.history r (cond b (did (turned w p Read went) (either went (properties_in (found w.disk (Props r))) outcome.Failed)) (barred w)).outcome) [
-  | true ↦ λ e. by_end went (known_less (length w.history) w.floor r x (seen_of (length w.history) w.floor w.passes p x k.seen is) e)
-  | false ↦ λ e. tt
-] refl
-  where
-    by_end : (went : Went) → r < length w.history → GivesProps w.history r (either went (properties_in (found w.disk (Props r))) outcome.Failed)
-    by_end Fine less =
-        let at = some_at w.history r less in
-        let file : found w.disk (Props r) ≡ Some (PropsFile at.0.revision.properties) = (has_all w.floor w.history w.lock w.disk (k.stands w.disk (read_is_image w.disk)) r at.0 at.1).1 in
-        subst (λ o. GivesProps w.history r (properties_in o)) (sym file) (at.0, at.1, refl)
-    by_end Before less = tt
-    by_end After less = tt
-    by_end (Torn any) less = tt
-
-names_given : (w : World) (went : Went) → Kept w → GivesNames w.given (listed w went)
-names_given w Fine k = k.labels
-names_given w Before k = tt
-names_given w After k = tt
-names_given w (Torn any) k = tt
-
--- what a purge leaves
-purge_gives : (w v : World) (went : Went) (name : ℕ) → v.labels ≡ unlabelled went name w.labels → IsPurged name (did v (answer went))
-purge_gives w v Fine name is = λ e i. gone name w.labels (subst (λ l. IsIn name l) is i)
-purge_gives w v Before name is = λ e i. let f : outcome.Failed ≡ outcome.Done = e in absurd cc
-purge_gives w v After name is = λ e i. let f : outcome.Failed ≡ outcome.Done = e in absurd cc
-purge_gives w v (Torn any) name is = λ e i. let f : outcome.Failed ≡ outcome.Done = e in absurd cc
-
--- where it was barred, it says that nothing was done
-barred_purges : (w : World) (name : ℕ) → IsPurged name (barred w)
-barred_purges w name = λ e i. let f : outcome.Barred ≡ outcome.Done = e in absurd cc
-
-if_purges : (w : World) (b : Bool) (name : ℕ) (d : Did) → IsPurged name d → IsPurged name (cond b d (barred w))
-if_purges w true name d g = g
-if_purges w false name d g = barred_purges w name
-
-txn_purges : (w : World) (p t : ℕ) (went : Went) (b : Bool) (o : Option Txn) → IfSome o (λ x. IsPurged x.name (cond b (purged w p t went o) (barred w)))
-txn_purges w p t went b None = tt
-txn_purges w p t went b (Some x) = if_purges w b x.name (purged w p t went (Some x)) (purge_gives w (purged w p t went (Some x)).world went x.name refl)
-
-spent_purges : (w : World) (p n : ℕ) (went : Went) (b : Bool) (o : Option ℕ) → IfSome o (λ name. IsPurged name (cond b (purged_spent w p n went o) (barred w)))
-spent_purges w p n went b None = tt
-spent_purges w p n went b (Some name) = if_purges w b name (purged_spent w p n went (Some name)) (purge_gives w (purged_spent w p n went (Some name)).world went name refl)
-
-drop_purges : (w : World) (name : ℕ) (went : Went) (b : Bool) → IsPurged name (cond b (barred w) (label_dropped w name went))
-drop_purges w name went true = barred_purges w name
-drop_purges w name Fine false = λ e i. gone name w.labels i
-drop_purges w name Before false = λ e i. let f : outcome.Failed ≡ outcome.Done = e in absurd cc
-drop_purges w name After false = λ e i. let f : outcome.Failed ≡ outcome.Done = e in absurd cc
-drop_purges w name (Torn any) false = λ e i. let f : outcome.Failed ≡ outcome.Done = e in absurd cc
-
-txns_listed : (w : World) (p : ℕ) (went : Went) (b : Bool) → Kept w → GivesNames w.given (cond b (did (turned w p place.List went) (listed w went)) (barred w)).outcome
-txns_listed w p went true k = names_given w went k
-txns_listed w p went false k = tt
-
-labels_listed : (w : World) (went : Went) (b : Bool) → Kept w → GivesNames w.given (cond b (barred w) (did w (listed w went))).outcome
-labels_listed w went true k = tt
-labels_listed w went false k = names_given w went k
-
-gives : (w : World) (s : Step) (d : Did) → Happens w s d → Kept w → Gives w s d
-gives w (step.Read p r offset size went) d is k = subst (λ z. GivesBytes w.history r offset size z.outcome) (sym is) (read_gives w p r offset size went (slice_get w.passes p) refl k)
-gives w (step.ReadProps p r went) d is k = subst (λ z. GivesProps w.history r z.outcome) (sym is) (props_give w p r went (slice_get w.passes p) refl k)
-gives w (step.ListTxns p went) d is k = subst (λ z. GivesNames w.given z.outcome) (sym is) (txns_listed w p went (is_there w p) k)
-gives w (step.ListLabels went) d is k = subst (λ z. GivesNames w.given z.outcome) (sym is) (labels_listed w went (is_up w.lock) k)
-gives w (step.Purge p t went) d is k = subst (λ z. IfSome (slice_get w.txns t) (λ x. IsPurged x.name z)) (sym is) (txn_purges w p t went (is_there w p && is_outside p w.lock) (slice_get w.txns t))
-gives w (step.PurgeSpent p n went) d is k = subst (λ z. IfSome (slice_get w.spent n) (λ name. IsPurged name z)) (sym is) (spent_purges w p n went (is_there w p && is_outside p w.lock) (slice_get w.spent n))
-gives w (step.DropLabel name went) d is k = subst (λ z. IsPurged name z) (sym is) (drop_purges w name went (is_up w.lock))
-gives w s d is k = tt
 
 pub step_keeps : StepsKeep
 step_keeps w s d is k = let m = step_moves w s d is k in record { kept = m.kept; grows = m.grows; names = m.names; gives = gives w s d is k }

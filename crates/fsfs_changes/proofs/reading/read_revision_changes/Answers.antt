@@ -1,4 +1,5 @@
 use Rattle.std.proofs.Common.{◌≡◌, true, false, List, [], refl, sym, ap, subst, ◌∙◌, arith}
+use Rattle.std.proofs.lemmas.Bool.{not-true, not-false}
 use Rattle.std.specs.Ordering.{nat_cmp}
 use Rattle.std.specs.Cmp.Lexicographic.{slice_cmp}
 use Rattle.std.specs.BTreeSet as set
@@ -6,7 +7,7 @@ use Rattle.fsfs_changes.specs.Changes.{HasNewPath}
 use Rattle.fsfs_changes.specs.declared.item.ChangeItem.{ChangeItem}
 use Rattle.fsfs_changes.proofs.ItemTexts.{not_some}
 use Rattle.fsfs_changes.proofs.ItemLists.{HasItems, items_one, has_more, has_all, has_fault, fault_clash}
-use Rattle.fsfs_changes.proofs.PathSets.{any_has, texts_more, is_new, refused_twice, added_new, added_old}
+use Rattle.fsfs_changes.proofs.PathSets.{any_has, texts_more, is_new, refused_twice}
 use Rattle.fsfs_changes.proofs.reading.read_revision_changes.Goals as goal
 
 pub returns-in-None-clause-only : goal.returns-in-None-clause-only
@@ -22,7 +23,7 @@ pub returns-then-not-branch-clause-only : goal.returns-then-not-branch-clause-on
 returns-then-not-branch-clause-only c = λ items w.
     let found = rw c.in-Some.is at c.in_ok-next_item.ensures.found in
     let next = c.in-Some.field-0 in
-    let there : any_has next.path.now c.data.items.items ≡ true = sym (c.data.invariant.1 next.path.now) ∙ added_old c.in_ok-insert-in-Some.field-0 _ c.in_ok-insert-in-Some.ensures.added c.if-not-branch.true in
+    let there : any_has next.path.now c.data.items.items ≡ true = sym (c.data.invariant.1 next.path.now) ∙ not-false _ (sym c.in_ok-insert-in-Some.ensures.added ∙ c.if-not-branch.true) in
     fault_clash HasNewPath c.args.bytes.now _ items (has_fault HasNewPath c.args.bytes.now c.data.items.items c.data.rest.now _ c.data.invariant.0 (grind (arith, c.is_empty.ensures, c.data-test.true))
     (refused_twice c.args.bytes.now c.data.items.items c.data.rest.now next.item next.rest.now next.path.now c.data.invariant.0 found.0 found.1 there) refl) w
 
@@ -30,7 +31,7 @@ pub returns-then-not-branch-clause-fault : goal.returns-then-not-branch-clause-f
 returns-then-not-branch-clause-fault c =
     let found = rw c.in-Some.is at c.in_ok-next_item.ensures.found in
     let next = c.in-Some.field-0 in
-    let there : any_has next.path.now c.data.items.items ≡ true = sym (c.data.invariant.1 next.path.now) ∙ added_old c.in_ok-insert-in-Some.field-0 _ c.in_ok-insert-in-Some.ensures.added c.if-not-branch.true in
+    let there : any_has next.path.now c.data.items.items ≡ true = sym (c.data.invariant.1 next.path.now) ∙ not-false _ (sym c.in_ok-insert-in-Some.ensures.added ∙ c.if-not-branch.true) in
     has_fault HasNewPath c.args.bytes.now c.data.items.items c.data.rest.now _ c.data.invariant.0 (grind (arith, c.is_empty.ensures, c.data-test.true))
     (refused_twice c.args.bytes.now c.data.items.items c.data.rest.now next.item next.rest.now next.path.now c.data.invariant.0 found.0 found.1 there) refl
 
@@ -39,7 +40,7 @@ data-preserved c =
     let found = rw c.in-Some.is at c.in_ok-next_item.ensures.found in
     let next = c.in-Some.field-0 in
     let items = c.data.items.items in
-    let none : any_has next.path.now items ≡ false = sym (c.data.invariant.1 next.path.now) ∙ added_new c.in_ok-insert-in-Some.field-0 _ c.in_ok-insert-in-Some.ensures.added c.if-not-branch.false in
+    let none : any_has next.path.now items ≡ false = sym (c.data.invariant.1 next.path.now) ∙ not-true _ (sym c.in_ok-insert-in-Some.ensures.added ∙ c.if-not-branch.false) in
     let more = has_more HasNewPath c.args.bytes.now items c.data.rest.now next.item next.rest.now c.data.invariant.0 found.0 (is_new items next.item next.path.now found.1 none) in
     let texts = texts_more (λ q. set.contains_by (λ k. slice_cmp nat_cmp q k.now) c.data.paths) (λ q. set.contains_by (λ k. slice_cmp nat_cmp q k.now) c.insert.new.self) items next.item next.path.now found.1 c.data.invariant.1
     (λ q. c.in_ok-insert-in-Some.ensures.updates.0 (record { ref_ptr = (0, 0); now = q })) in

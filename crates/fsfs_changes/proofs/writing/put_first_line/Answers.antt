@@ -1,5 +1,5 @@
+use Rattle.fsfs_text.proofs.Appending.{appends_cut, appends_as}
 use Rattle.fsfs_noderev.specs.Fields.{IsIdText}
-use Rattle.fsfs_noderev.proofs.Appending.{appends_cut, appends_as}
 use Rattle.fsfs_changes.proofs.writing.put_first_line.Goals as goal
 
 pub returns : goal.returns

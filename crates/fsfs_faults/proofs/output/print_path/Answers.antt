@@ -2,12 +2,12 @@ use Rattle.std.proofs.Common.{◌≡◌, ◌∷◌, ◌++◌, ◌+◌, List, ℕ
 use Rattle.std.specs.Prelude.{Err}
 use Rattle.std.specs.String.{string_bytes}
 use Rattle.fsfs_base.specs.Paths.{names_text, path_text}
-use Rattle.fsfs_base.proofs.PathTextLemmas.{text_more}
-use Rattle.fsfs_disk.proofs.StreamLemmas.{adds_then}
+use Rattle.fsfs_base.proofs.PathTextLemmas.{text_more, shown_names}
 use Rattle.fsfs_disk.specs.Streams.{Adds}
+use Rattle.fsfs_disk.proofs.StreamLemmas.{adds_then}
 use Rattle.fsfs_output.specs.Output.{Prints}
 use Rattle.fsfs_output.proofs.OutputLemmas.{printed_more, printed_less, passed_on}
-use Rattle.fsfs_faults.proofs.PathLemmas.{text_of_names, text_around}
+use Rattle.fsfs_faults.proofs.PathLemmas.{text_around}
 use Rattle.fsfs_faults.proofs.output.print_path.Goals as goal
 
 pub returns-in_err-print_name : goal.returns-in_err-print_name
@@ -29,7 +29,7 @@ returns-in_err-print_name g c =
     let piece = subst (λ (t : List ℕ). Prints mid new (47 ∷ t) then_ now (Err e)) is c.in_err-print_name.ensures.printed in
     let more = printed_more old mid new front (47 ∷ text_of (get_or names i name)) before then_ now (Err e) c.loop-name.invariant.written c.loop-name.invariant.later piece in
     let less = printed_less old new (front ++ 47 ∷ text_of (get_or names i name)) behind before now (Err e) refl more in
-    let whole = text_around text_of names i name (omega arith) ∙ ap names_text c.names-name-items.ensures ∙ text_of_names c.args.path.now (sym c.is_root.ensures ∙ c.if-is_root.false) in
+    let whole = text_around text_of names i name (omega arith) ∙ ap names_text c.names-name-items.ensures ∙ shown_names c.args.path.now (sym c.is_root.ensures ∙ c.if-is_root.false) in
     let line = subst (λ (t : List ℕ). Prints old new t before now (Err e)) whole less in
     record { printed = passed_on old new (path_text c.args.path.now) before now (Err e) c.from_residual.result refl c.from_residual.ensures.0 line }
 

@@ -1,14 +1,11 @@
-use Rattle.std.proofs.Common.{◌≡◌, ◌∙◌, ◌++◌, ◌||◌, sym, ap, subst, drop, length, Bool, true, false, cond, inl, inr, ◌⊎◌, arith}
-use Rattle.std.specs.List.{list_any}
+use Rattle.std.proofs.Common.{◌≡◌, ◌∙◌, ◌++◌, sym, ap, drop, length, true, cond, arith}
 use Rattle.std.specs.Ordering.{eq_by_cmp}
 use Rattle.std.specs.BTreeSet as set
 use Rattle.std.specs.Map.Iter.{deref}
 use Rattle.std.proofs.lemmas.Map.Iter.{rest_more}
-use Rattle.std.specs.Prelude.{is_some}
-use Rattle.fsfs_base.specs.Paths.{Path, path_cmp, covers}
+use Rattle.fsfs_base.specs.Paths.{Path, path_cmp}
 use Rattle.fsfs_base.specs.Edits.{rest_after}
-use Rattle.fsfs_model.proofs.Filling.{same_path_is}
-use Rattle.fsfs_model.proofs.PathLemmas.{covers-length, covers-longer, split_at, after_front, either_case, cases, not_both}
+use Rattle.fsfs_base.proofs.PathLemmas.{covers-length}
 use Rattle.fsfs_model.proofs.Copying.{put_there, added_or_left, skipped}
 use Rattle.fsfs_model.proofs.apply.add_copied.Goals as goal
 

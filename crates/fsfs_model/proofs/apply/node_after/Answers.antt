@@ -1,5 +1,5 @@
-use Rattle.std.proofs.Common.{◌≡◌, ◌∙◌, sym, arith}
-use Rattle.fsfs_model.proofs.PathLemmas.{covers-length}
+use Rattle.std.proofs.Common.{sym, arith}
+use Rattle.fsfs_base.proofs.PathLemmas.{covers-length}
 use Rattle.fsfs_model.proofs.apply.node_after.Goals as goal
 
 pub moved-requires : goal.moved-requires

@@ -1,23 +1,23 @@
-use Rattle.std.proofs.Common.{◌≡◌, ◌∙◌, sym, ap, subst, Some, None, Bool, true, false}
-use Rattle.std.specs.Prelude.{is_some}
+use Rattle.std.proofs.Common.{◌≡◌, ◌∙◌, sym, ap, subst, Some, None, false}
+use Rattle.std.proofs.lemmas.Bool.{false_from_ne_true, both_ways}
 use Rattle.std.specs.List.{list_any}
 use Rattle.std.specs.Ordering.{eq_by_cmp}
 use Rattle.std.specs.FinMap as map
 use Rattle.std.specs.BTreeSet as set
 use Rattle.std.specs.Map.Iter.{deref}
 use Rattle.std.proofs.lemmas.Map.Iter.{rest_more}
-use Rattle.fsfs_base.specs.Paths.{Path, path_cmp}
+use Rattle.fsfs_base.specs.Paths.{path_cmp}
 use Rattle.fsfs_base.specs.Nodes.{TreeFunction}
 use Rattle.fsfs_base.specs.Edits.{applied}
 use Rattle.fsfs_base.specs.Revisions.{tree_of}
-use Rattle.fsfs_model.proofs.PathLemmas.{not_both, not_true}
-use Rattle.fsfs_model.proofs.Filling.{IsFilling, start, put, skip, none_of}
+use Rattle.fsfs_base.proofs.ResultLemmas.{none_of}
+use Rattle.fsfs_model.proofs.Filling.{IsFilling, start, put, skip}
 use Rattle.fsfs_model.proofs.apply.tree_after.Goals as goal
 
 pub loop-path-init : goal.loop-path-init
 loop-path-init c = start (applied c.args.edit.now (tree_of c.args.history.now) (map.get c.args.own.now)) c.new-tree.result c.into_iter-path-iterator.result c.new-tree.ensures (λ q out.
     let nowhere : set.contains path_cmp c.in_ok-all.all q ≡ false = ap (list_any (eq_by_cmp path_cmp q)) (sym c.into_iter-path-iterator.ensures.into_iter_gives.0) ∙ out in
-    none_of _ (not_true _ (λ h. not_both _ (c.in_ok-all.ensures q h) nowhere)))
+    none_of _ (false_from_ne_true _ (λ h. both_ways _ nowhere (c.in_ok-all.ensures q h))))
 
 pub loop-path-preserved-in_ok-insert : goal.loop-path-preserved-in_ok-insert
 loop-path-preserved-in_ok-insert c = λ q.

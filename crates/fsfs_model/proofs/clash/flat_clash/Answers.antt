@@ -6,7 +6,7 @@ use Rattle.fsfs_base.specs.declared.mark.Mark.{Mark}
 use Rattle.fsfs_base.specs.Paths.{Path}
 use Rattle.fsfs_base.specs.Marks.{effects_by}
 use Rattle.fsfs_base.specs.Landing.{goes_on, clashes_at, reached, is_clash, IsFirstClash}
-use Rattle.fsfs_model.proofs.Walking.{searched, fails_before, still_rising}
+use Rattle.fsfs_model.proofs.PathSearch.{searched, fails_before, still_rising}
 use Rattle.fsfs_model.proofs.clash.flat_clash.Goals as goal
 
 pub returns-then-branch : goal.returns-then-branch

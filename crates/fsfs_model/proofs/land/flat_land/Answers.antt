@@ -1,4 +1,5 @@
 use Rattle.std.proofs.Common.{◌≡◌, ◌∙◌, sym, ap, subst, Some, None, ◌||◌}
+use Rattle.std.proofs.lemmas.Bool.{or_parts}
 use Rattle.std.specs.Prelude.{is_some}
 use Rattle.std.specs.List.{list_any}
 use Rattle.std.specs.Ordering.{eq_by_cmp}
@@ -9,15 +10,15 @@ use Rattle.fsfs_base.specs.Paths.{path_cmp}
 use Rattle.fsfs_base.specs.Nodes.{TreeFunction}
 use Rattle.fsfs_base.specs.Marks.{effects, effects_by}
 use Rattle.fsfs_base.specs.Landing.{land, landed_at}
-use Rattle.fsfs_model.proofs.ClashAt.{both_false}
-use Rattle.fsfs_model.proofs.Filling.{IsFilling, start, put, skip, none_of}
+use Rattle.fsfs_base.proofs.ResultLemmas.{none_of}
+use Rattle.fsfs_model.proofs.Filling.{IsFilling, start, put, skip}
 use Rattle.fsfs_model.proofs.land.flat_land.Goals as goal
 
 pub loop-path-init : goal.loop-path-init
 loop-path-init c = start (land (map.get c.args.base.now) (map.get c.args.head.now) (map.get c.args.own.now) c.args.marks.now c.args.n) c.new-tree.result c.into_iter-path-iterator.result c.new-tree.ensures (λ q out.
     let nowhere = sym (c.in_ok-all.ensures q) ∙ ap (list_any (eq_by_cmp path_cmp q)) (sym c.into_iter-path-iterator.ensures.into_iter_gives.0) ∙ out in
-    let two = both_false (is_some (map.get c.args.base.now q) || is_some (map.get c.args.head.now q)) (is_some (map.get c.args.own.now q)) nowhere in
-    let one = both_false (is_some (map.get c.args.base.now q)) (is_some (map.get c.args.head.now q)) two.0 in
+    let two = or_parts (is_some (map.get c.args.base.now q) || is_some (map.get c.args.head.now q)) (is_some (map.get c.args.own.now q)) nowhere in
+    let one = or_parts (is_some (map.get c.args.base.now q)) (is_some (map.get c.args.head.now q)) two.0 in
     λ i. landed_at c.args.n (effects c.args.marks.now q) (none_of _ one.0 i) (none_of _ one.1 i) (none_of _ two.1 i))
 
 pub loop-path-preserved-in_ok-insert : goal.loop-path-preserved-in_ok-insert

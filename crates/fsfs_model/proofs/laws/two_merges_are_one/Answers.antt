@@ -1,4 +1,4 @@
-use Rattle.fsfs_model.proofs.Law.{two_merges_are_one}
+use Rattle.fsfs_model.proofs.TwoMergesLaw.{two_merges_are_one}
 use Rattle.fsfs_model.proofs.laws.two_merges_are_one.Goals as goal
 
 pub returns : goal.returns

@@ -1,12 +1,11 @@
 use Rattle.std.proofs.Common.{Option, Some, sym, subst, ◌∙◌}
+use Rattle.std.proofs.lemmas.Option.{same_Some}
 use Rattle.std.specs.Prelude.{IfSome}
+use Rattle.fsfs_text.proofs.CutLemmas.{cut_found, two_none, two_parts}
 use Rattle.fsfs_base.specs.Paths.{Path}
-use Rattle.fsfs_text.proofs.CutLemmas.{cut_found}
-use Rattle.fsfs_text.proofs.Spelling.{some_is}
 use Rattle.fsfs_noderev.specs.Reps.{IsRevOrNone}
 use Rattle.fsfs_noderev.specs.Fields.{IsPathText}
 use Rattle.fsfs_noderev.proofs.RepTexts.{rev_or_none_spells, rev_or_none_lacks}
-use Rattle.fsfs_noderev.proofs.FieldTexts.{two_none, two_parts}
 use Rattle.fsfs_noderev.proofs.fields.root_of.Goals as goal
 
 pub returns-in-None-clause-only : goal.returns-in-None-clause-only
@@ -36,6 +35,6 @@ returns-in-Some-2-clause-found c = (
 pub returns-in-Some-2-clause-only : goal.returns-in-Some-2-clause-only
 returns-in-Some-2-clause-only c = λ s w.
     let p = two_parts IsRevOrNone IsPathText 32 c.args.text.now c.in-Some.front.now c.in-Some.rest.now (s.rev, s.path) rev_or_none_lacks c.in-Some.ensures w in
-    let rev = some_is c.in-Some-rev_or_none.rev s.rev (c.in-Some-rev_or_none.ensures ∙ rev_or_none_spells.again c.in-Some.front.now s.rev p.0) in
-    let path = some_is c.in-Some-2.path s.path (sym c.in-Some-2.is ∙ c.in_ok-path_of-in-Some-rev_or_none.ensures.only s.path p.1) in
+    let rev = same_Some c.in-Some-rev_or_none.rev s.rev (c.in-Some-rev_or_none.ensures ∙ rev_or_none_spells.again c.in-Some.front.now s.rev p.0) in
+    let path = same_Some c.in-Some-2.path s.path (sym c.in-Some-2.is ∙ c.in_ok-path_of-in-Some-rev_or_none.ensures.only s.path p.1) in
     λ i. Some (record { rev = rev i; path = path i })

@@ -1,8 +1,9 @@
 use Rattle.std.proofs.Common.{refl, sym, subst, arith}
 use Rattle.fsfs_text.specs.Grammar.{Appends}
+use Rattle.fsfs_text.proofs.Appending.{appends_marked}
+use Rattle.fsfs_fields.proofs.TxnNameTexts.{appends_txn}
 use Rattle.fsfs_noderev.specs.Ids.{In, place_value, IsPlace}
 use Rattle.fsfs_noderev.specs.declared.node_id.Place.{Place}
-use Rattle.fsfs_noderev.proofs.Appending.{appends_marked, appends_txn}
 use Rattle.fsfs_noderev.proofs.node_id.put_place.Goals as goal
 
 pub returns-in_ok-put_txn_name-in-In : goal.returns-in_ok-put_txn_name-in-In

@@ -1,5 +1,6 @@
+use Rattle.fsfs_text.proofs.Spelling.{spelled, spelled_only}
 use Rattle.fsfs_noderev.specs.Ids.{id_value}
-use Rattle.fsfs_noderev.proofs.IdTexts.{id_spells, spelled, spelled_only}
+use Rattle.fsfs_noderev.proofs.IdTexts.{id_spells}
 use Rattle.fsfs_noderev.proofs.node_id.read_id.Goals as goal
 
 pub returns-clause-found : goal.returns-clause-found

@@ -1,5 +1,5 @@
+use Rattle.fsfs_text.proofs.Spelling.{spelled, spelled_only}
 use Rattle.fsfs_noderev.specs.Reps.{contents_value}
-use Rattle.fsfs_noderev.proofs.IdTexts.{spelled, spelled_only}
 use Rattle.fsfs_noderev.proofs.RepTexts.{contents_spells}
 use Rattle.fsfs_noderev.proofs.rep.read_contents.Goals as goal
 

@@ -1,5 +1,6 @@
 use Rattle.std.proofs.Common.{sym, ◌∙◌, arith}
-use Rattle.fsfs_text.proofs.Numerals.{numeral_found, numeral_again, some_same}
+use Rattle.std.proofs.lemmas.Option.{same_Some}
+use Rattle.fsfs_text.proofs.Numerals.{numeral_found, numeral_again}
 use Rattle.fsfs_text.proofs.base36.read_b36.Goals as goal
 
 pub invariant_of-result : goal.invariant_of-result
@@ -14,4 +15,4 @@ pub returns-in-Some-clause-found : goal.returns-in-Some-clause-found
 returns-in-Some-clause-found c = numeral_found 36 170581728179578208255 c.args.text.now c.in-Some.number (sym c.in-Some.ensures)
 
 pub returns-in-Some-clause-only : goal.returns-in-Some-clause-only
-returns-in-Some-clause-only c = λ n w. some_same c.in-Some.number n (c.in-Some.ensures ∙ numeral_again 36 170581728179578208255 c.args.text.now n (omega arith) w)
+returns-in-Some-clause-only c = λ n w. same_Some c.in-Some.number n (c.in-Some.ensures ∙ numeral_again 36 170581728179578208255 c.args.text.now n (omega arith) w)

@@ -1,17 +1,14 @@
 -- At the end no step is left, so the invariant speaks of all outcomes.
-use Rattle.std.proofs.Common.{◌≡◌, ◌++◌, List, [], ◌∷◌, length, refl, subst, sym, append-nil, arith}
+use Rattle.std.proofs.Common.{◌≡◌, ◌++◌, [], length, refl, subst, sym, append-nil, arith}
+use Rattle.std.proofs.lemmas.List.{nil_from_length}
 use Rattle.fsfs_world.specs.Machine.{Runs}
 use Rattle.fsfs_core.specs.State.{world_of}
 use Rattle.fsfs_core.proofs.state.State.run_all.Goals as goal
-
-no_more : {A : Type 0} (xs : List A) → length xs ≡ 0 → xs ≡ []
-no_more [] e = refl
-no_more (x ∷ xs) e = absurd (omega (arith, e))
 
 pub returns : goal.returns
 returns c =
     let v = world_of c.loop-step.self in
     let no_length : length c.loop-step.steps.items ≡ 0 = omega (arith, c.in_default.ensures.cases.0, c.loop-step.steps.ok.0) in
-    let over : c.loop-step.steps.items ≡ [] = no_more c.loop-step.steps.items no_length in
+    let over : c.loop-step.steps.items ≡ [] = nil_from_length c.loop-step.steps.items no_length in
     let all : Runs (world_of c.args.self.now) c.args.steps.items (c.loop-step.outcomes.items ++ []) v = c.loop-step.invariant [] v (subst (λ xs. Runs v xs [] v) (sym over) (refl, refl)) in
     subst (λ os. Runs (world_of c.args.self.now) c.args.steps.items os v) (append-nil _) all

@@ -1,5 +1,5 @@
 use Rattle.std.proofs.Common.{refl, sym, ◌∙◌, inr}
-use Rattle.fsfs_noderev.proofs.FieldTexts.{none_of}
+use Rattle.fsfs_base.proofs.ResultLemmas.{none_of}
 use Rattle.fsfs_noderev.proofs.fields.Fields.set_copy_root.Goals as goal
 
 pub returns-in-None-clause-err : goal.returns-in-None-clause-err

@@ -1,38 +1,40 @@
 -- The law of two merges, over a history and a transaction.
-use Rattle.std.proofs.Common.{◌≡◌, ℕ, zero, suc, ◌≤◌, true, not, List, [], ◌∷◌, ◌++◌, refl, sym, ◌∙◌, ap, subst, inl, inr, arith, Some}
+use Rattle.std.proofs.Common.{◌≡◌, ℕ, zero, suc, ◌≤◌, true, not, List, [], ◌∷◌, ◌++◌, refl, sym, ◌∙◌, ap, subst, inl, inr, arith}
+use Rattle.std.proofs.lemmas.Option.{same_Some}
+use Rattle.std.proofs.lemmas.Bool.{and_from, cases_Bool, both_ways}
 use Rattle.std.specs.Prelude.{is_some}
 use mathlib.Core.Bool.{false≢true}
 use Rattle.fsfs_base.specs.declared.mark.What.{What}
 use Rattle.fsfs_base.specs.declared.mark.What.TheVariants.{Make, Gone, Text, Prop}
 use Rattle.fsfs_base.specs.declared.mark.Mark.{Mark}
 use Rattle.fsfs_base.specs.Paths.{covers}
-use Rattle.fsfs_base.specs.Nodes.{Node, TreeFunction, empty_node}
+use Rattle.fsfs_base.specs.Nodes.{TreeFunction, empty_node}
 use Rattle.fsfs_base.specs.declared.node.Kind.TheVariants.{Dir}
 use Rattle.fsfs_base.specs.Edits.{applied, mark_of}
-use Rattle.fsfs_model.proofs.Applied.{edit_changes}
 use Rattle.fsfs_base.specs.Marks.{is_make, made, made_after}
 use Rattle.fsfs_base.specs.Landing.{NoClash}
 use Rattle.fsfs_base.specs.Histories.{AreRevisions, IsTree, IsOrdered, AreOrdered}
-use Rattle.fsfs_model.proofs.Bases.{IsClosed, DescribesBase, ChangesPaths}
 use Rattle.fsfs_base.specs.Transactions.{IsTransaction, Begun, Edited, Landed}
+use Rattle.fsfs_base.proofs.PathLemmas.{covers-antisym}
 use Rattle.fsfs_model.specs.Laws.{TwoMergesAreOne}
-use Rattle.fsfs_model.proofs.PathLemmas.{both_true, cases, covers-antisym, not_both}
-use Rattle.fsfs_model.proofs.Walk.{Premises}
+use Rattle.fsfs_model.proofs.Applied.{edit_changes}
+use Rattle.fsfs_model.proofs.Bases.{IsClosed, DescribesBase, ChangesPaths}
+use Rattle.fsfs_model.proofs.MergeWalk.{Premises}
 use Rattle.fsfs_model.proofs.Later.{later}
 use Rattle.fsfs_model.proofs.Owns.{taken, put, as_was}
 use Rattle.fsfs_model.proofs.Landed.{landed_own, landed_closed}
 use Rattle.fsfs_model.proofs.TwoMerges.{land_twice, clash_twice}
 
 tree_closed : (t : TreeFunction) → IsTree t → IsClosed t
-tree_closed t is q p c h = elim (cases (covers p q)) [
+tree_closed t is q p c h = elim (cases_Bool (covers p q)) [
   | inl back ↦ subst (λ v. is_some (t v) ≡ true) (sym (covers-antisym q p c back)) h
-  | inr apart ↦ (let n = is.above q p (both_true _ _ c (subst (λ b. not b ≡ true) (sym apart) refl)) h in ap is_some n.1)
+  | inr apart ↦ (let n = is.above q p (and_from _ _ c (subst (λ b. not b ≡ true) (sym apart) refl)) h in ap is_some n.1)
 ]
 
 first_closed : (tree : ℕ → TreeFunction) (last : ℕ) → AreRevisions tree last → IsClosed (tree 0)
 first_closed tree last is [] p c h = ap is_some is.first
 first_closed tree last is (x ∷ q) [] c h = absurd (false≢true c)
-first_closed tree last is (x ∷ q) (y ∷ p) c h = absurd (not_both _ h (ap is_some (is.alone y p)))
+first_closed tree last is (x ∷ q) (y ∷ p) c h = absurd (both_ways _ (ap is_some (is.alone y p)) h)
 
 pub closed : (tree : ℕ → TreeFunction) (last r : ℕ) → AreRevisions tree last → r ≤ last → IsClosed (tree r)
 closed tree last zero is le = first_closed tree last is
@@ -42,12 +44,9 @@ pub rooted : (tree : ℕ → TreeFunction) (last r : ℕ) → AreRevisions tree 
 rooted tree last zero is le = ap is_some is.first
 rooted tree last (suc r) is le = ap is_some (is.next r (omega arith)).is_tree.root.1
 
-Some-inj : (x y : Node) → Some x ≡ Some y → x ≡ y
-Some-inj x y e = cc
-
 first_ordered : (tree : ℕ → TreeFunction) (last : ℕ) → AreRevisions tree last → AreOrdered (tree 0)
-first_ordered tree last is [] n e = subst IsOrdered (Some-inj (empty_node Dir) n (sym is.first ∙ e)) (record { added = omega arith; props_changed = omega arith })
-first_ordered tree last is (x ∷ q) n e = absurd (not_both _ (ap is_some e) (ap is_some (is.alone x q)))
+first_ordered tree last is [] n e = subst IsOrdered (same_Some (empty_node Dir) n (sym is.first ∙ e)) (record { added = omega arith; props_changed = omega arith })
+first_ordered tree last is (x ∷ q) n e = absurd (both_ways _ (ap is_some (is.alone x q)) (ap is_some e))
 
 pub ordered : (tree : ℕ → TreeFunction) (last r : ℕ) → AreRevisions tree last → r ≤ last → AreOrdered (tree r)
 ordered tree last zero is le = first_ordered tree last is
@@ -61,8 +60,8 @@ bare t = record {
   kept = λ q i. absurd i;
   new = λ q i. absurd i;
   top = λ q i. absurd i;
-  own = λ p none h. absurd (not_both _ h none);
-  lost = λ p h none. absurd (not_both _ h none);
+  own = λ p none h. absurd (both_ways _ none h);
+  lost = λ p h none. absurd (both_ways _ none h);
 }
 
 edited : (base t u : TreeFunction) (marks : List Mark) (m : Mark) (k : What) → m.what ≡ k → IsClosed base → IsClosed t → DescribesBase base t marks → ChangesPaths k m.path t u → DescribesBase base u (marks ++ m ∷ [])

@@ -1,28 +1,26 @@
--- No value of a field has an end of a line.
-use Rattle.std.proofs.Common.{◌≡◌, ◌≤◌, ◌+◌, ℕ, suc, Bool, true, false, cond, not, eqb, List, [], ◌∷◌, length, Some, None, refl, sym, ap, subst, ◌∙◌, arith}
+-- No value of a field has an end of a line: each stands on one line.
+use Rattle.std.proofs.Common.{◌≡◌, ◌≤◌, ◌+◌, ℕ, suc, Bool, true, false, cond, not, List, [], ◌∷◌, length, Some, None, refl, sym, ap, subst, ◌∙◌, arith}
 use Rattle.std.specs.Prelude.{nat_lt}
 use Rattle.std.specs.List.{AllByRecursion, position, position_or_len}
 use Rattle.std.proofs.lemmas.Bool.{ne_eqb, ltb-false}
 use Rattle.fsfs_text.specs.Cuts.{Lacks, IsCutOf}
-use Rattle.fsfs_text.proofs.CutLemmas.{lacks_from}
+use Rattle.fsfs_text.proofs.CutLemmas.{lacks_from, two_lack}
 use Rattle.fsfs_text.proofs.Spelling.{plain_lacks}
 use Rattle.fsfs_fields.specs.Digests.{IsDigestText}
 use Rattle.fsfs_fields.specs.TxnNames.{IsTxnName}
 use Rattle.fsfs_base.specs.Paths.{Path, path_text, names_text}
 use Rattle.fsfs_base.specs.PathTexts.{IsPath, IsName, is_control}
 use Rattle.fsfs_base.specs.declared.node.Kind.TheVariants as kinds
-use Rattle.fsfs_noderev.specs.Ids.{New, Old, Made, At, In, IsB36, IsRev, IsNumber64, IsPart, IsPlace, id_value}
-use Rattle.fsfs_noderev.specs.Reps.{UniquifierValue, RepValue, IsRevOrNone, IsMarked, IsUnique, AreDigests, IsRep, AreContents, ContentsValue, contents_value}
+use Rattle.fsfs_noderev.specs.Ids.{IsB36, IsRev, IsNumber64, id_value}
+use Rattle.fsfs_noderev.specs.Reps.{IsRevOrNone, IsMarked, IsUnique, AreDigests, IsRep, AreContents, contents_value}
 use Rattle.fsfs_noderev.specs.Reps as reps
 use Rattle.fsfs_noderev.specs.Fields.{IsIdText, IsKindText, AreContentsText, IsPathText, IsSourceText, IsRootText, IsYes}
+use Rattle.fsfs_noderev.proofs.IdTexts.{id_lacks}
 use Rattle.fsfs_noderev.proofs.RepTexts.{digest_lacks}
 
 -- no text of G has an end of a line
 abbrev pub OneLine : {X : Type 0} → (List ℕ → X → Type 0) → Type 0
 OneLine {X} G = (text : List ℕ) (x : X) → G text x → Lacks 10 text
-
-cut_line : {X Y : Type 0} (G : List ℕ → X → Type 0) (H : List ℕ → Y → Type 0) (c : ℕ) → eqb c 10 ≡ false → OneLine G → OneLine H → (text : List ℕ) (p : X × Y) → IsCutOf c G H text p → Lacks 10 text
-cut_line G H c other first second text p w = subst (λ (t : List ℕ). Lacks 10 t) (sym w.4) (lacks_from 10 w.0 (c ∷ w.1) (first w.0 p.0 w.2) (other, second w.1 p.1 w.3))
 
 rev_line : OneLine IsRev
 rev_line = plain_lacks 10 2147483647 10 (omega arith)
@@ -33,22 +31,11 @@ number_line = plain_lacks 10 18446744073709551615 10 (omega arith)
 b36_line : OneLine IsB36
 b36_line = plain_lacks 36 170581728179578208255 10 (omega arith)
 
-part_line : OneLine IsPart
-part_line text (New n) w = subst (λ (t : List ℕ). Lacks 10 t) (sym w.2) (refl, b36_line w.0 n w.1)
-part_line text (Old n) w = b36_line text n w
-part_line text (Made n rev) w = subst (λ (t : List ℕ). Lacks 10 t) (sym w.4) (lacks_from 10 w.0 (45 ∷ w.1) (b36_line w.0 n w.2) (refl, rev_line w.1 rev w.3))
-
 txn_line : OneLine IsTxnName
-txn_line text p w = subst (λ (t : List ℕ). Lacks 10 t) (sym w.4) (lacks_from 10 w.0 (45 ∷ w.1) (rev_line w.0 p.0 w.2) (refl, b36_line w.1 p.1 w.3))
-
-place_line : OneLine IsPlace
-place_line text (At rev offset) w = subst (λ (t : List ℕ). Lacks 10 t) (sym w.2) (refl, cut_line IsRev IsNumber64 47 refl rev_line number_line w.0 (rev, offset) w.1)
-place_line text (In base n) w = subst (λ (t : List ℕ). Lacks 10 t) (sym w.2) (refl, txn_line w.0 (base, n) w.1)
+txn_line = two_lack 10 45 IsRev IsB36 refl rev_line b36_line
 
 pub id_line : OneLine IsIdText
-id_line text id w =
-    let v = id_value id in
-    cut_line IsPart (IsCutOf 46 IsPart IsPlace) 46 refl part_line (cut_line IsPart IsPlace 46 refl part_line place_line) text (v.node, (v.copy, v.place)) w
+id_line text id w = id_lacks 10 (record { above = omega arith; underscore = refl; dash = refl; dot = refl; slash = refl; r = refl; t = refl }) text (id_value id) w
 
 pub kind_line : OneLine IsKindText
 kind_line text kinds.File w = subst (λ (t : List ℕ). Lacks 10 t) (sym w) (refl, (refl, (refl, (refl, tt))))
@@ -65,18 +52,18 @@ marked_line : OneLine IsMarked
 marked_line text n w = subst (λ (t : List ℕ). Lacks 10 t) (sym w.2) (refl, b36_line w.0 n w.1)
 
 unique_line : OneLine IsUnique
-unique_line text u w = cut_line (IsDigestText 20) (IsCutOf 47 IsTxnName IsMarked) 32 refl (digest_line 20) (cut_line IsTxnName IsMarked 47 refl txn_line marked_line) text (u.sha1, ((u.base, u.txn), u.number)) w
+unique_line text u w = two_lack 10 32 (IsDigestText 20) (IsCutOf 47 IsTxnName IsMarked) refl (digest_line 20) (two_lack 10 47 IsTxnName IsMarked refl txn_line marked_line) text (u.sha1, ((u.base, u.txn), u.number)) w
 
 digests_line : OneLine AreDigests
 digests_line text (md5, None) w = digest_line 16 text md5 w
-digests_line text (md5, Some u) w = cut_line (IsDigestText 16) IsUnique 32 refl (digest_line 16) unique_line text (md5, u) w
+digests_line text (md5, Some u) w = two_lack 10 32 (IsDigestText 16) IsUnique refl (digest_line 16) unique_line text (md5, u) w
 
 rep_line : OneLine IsRep
 rep_line text r w =
-    let one : OneLine (IsCutOf 32 IsNumber64 AreDigests) = cut_line IsNumber64 AreDigests 32 refl number_line digests_line in
-    let two : OneLine (IsCutOf 32 IsNumber64 (IsCutOf 32 IsNumber64 AreDigests)) = cut_line IsNumber64 (IsCutOf 32 IsNumber64 AreDigests) 32 refl number_line one in
-    let three : OneLine (IsCutOf 32 IsNumber64 (IsCutOf 32 IsNumber64 (IsCutOf 32 IsNumber64 AreDigests))) = cut_line IsNumber64 (IsCutOf 32 IsNumber64 (IsCutOf 32 IsNumber64 AreDigests)) 32 refl number_line two in
-    cut_line IsRevOrNone (IsCutOf 32 IsNumber64 (IsCutOf 32 IsNumber64 (IsCutOf 32 IsNumber64 AreDigests))) 32 refl rev_or_none_line three text (r.rev, (r.offset, (r.length, (r.size, (r.md5, r.unique))))) w
+    let one : OneLine (IsCutOf 32 IsNumber64 AreDigests) = two_lack 10 32 IsNumber64 AreDigests refl number_line digests_line in
+    let two : OneLine (IsCutOf 32 IsNumber64 (IsCutOf 32 IsNumber64 AreDigests)) = two_lack 10 32 IsNumber64 (IsCutOf 32 IsNumber64 AreDigests) refl number_line one in
+    let three : OneLine (IsCutOf 32 IsNumber64 (IsCutOf 32 IsNumber64 (IsCutOf 32 IsNumber64 AreDigests))) = two_lack 10 32 IsNumber64 (IsCutOf 32 IsNumber64 (IsCutOf 32 IsNumber64 AreDigests)) refl number_line two in
+    two_lack 10 32 IsRevOrNone (IsCutOf 32 IsNumber64 (IsCutOf 32 IsNumber64 (IsCutOf 32 IsNumber64 AreDigests))) refl rev_or_none_line three text (r.rev, (r.offset, (r.length, (r.size, (r.md5, r.unique))))) w
 
 values_line : OneLine AreContents
 values_line text reps.Own w = subst (λ (t : List ℕ). Lacks 10 t) (sym w) (refl, (refl, tt))
@@ -116,10 +103,10 @@ pub path_line : OneLine IsPathText
 path_line text p w = subst (λ (t : List ℕ). Lacks 10 t) w.text_is (path_text_line p w.path_is)
 
 pub source_line : OneLine IsSourceText
-source_line text s w = cut_line IsRev IsPathText 32 refl rev_line path_line text (s.rev, s.path) w
+source_line text s w = two_lack 10 32 IsRev IsPathText refl rev_line path_line text (s.rev, s.path) w
 
 pub root_line : OneLine IsRootText
-root_line text r w = cut_line IsRevOrNone IsPathText 32 refl rev_or_none_line path_line text (r.rev, r.path) w
+root_line text r w = two_lack 10 32 IsRevOrNone IsPathText refl rev_or_none_line path_line text (r.rev, r.path) w
 
 pub yes_line : OneLine IsYes
 yes_line text x w = subst (λ (t : List ℕ). Lacks 10 t) (sym w) (refl, tt)
