@@ -2,7 +2,8 @@
 use Rattle.std.proofs.Common.{ℕ, List, Some, refl, sym, ap, subst, arith}
 use Rattle.fsfs_text.specs.Cuts.{Lacks, IsCutOf}
 use Rattle.fsfs_text.proofs.Spelling.{Spells, some_is, cut_spells, plain_lacks}
-use Rattle.fsfs_noderev.specs.Ids.{PartValue, New, Old, Made, PlaceValue, At, In, IdValue, IsB36, IsRev, IsNumber64, IsPart, IsPlace, IsId}
+use Rattle.fsfs_fields.specs.RevNums.{IsRev}
+use Rattle.fsfs_noderev.specs.Ids.{PartValue, New, Old, Made, PlaceValue, At, In, IdValue, IsB36, IsNumber64, IsPart, IsPlace, IsId}
 use Rattle.fsfs_noderev.proofs.IdTexts.{id_spells}
 use Rattle.fsfs_changes.specs.Reading.{IsRest, IsHead, head_at}
 use Rattle.fsfs_changes.proofs.WordTexts.{flag_spells, action_and_kind_spells, flag_lacks, action_and_kind_lacks_space, two_lack}

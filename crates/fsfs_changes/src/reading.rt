@@ -2,7 +2,7 @@
 ghost use Rattle.std.specs.Prelude.{◌≡◌, ℕ, List, Option, Some, IsSome, IfSome, IsSomeAnd, IfOk, IfErr, MatchResult};
 ghost use Rattle.fsfs_text.specs.Grammar.{Begins};
 ghost use Rattle.fsfs_base.specs.Paths.{Path, path_text};
-ghost use Rattle.fsfs_noderev.specs.Ids.{rev_at};
+ghost use Rattle.fsfs_fields.specs.RevNums.{rev_at};
 ghost use Rattle.fsfs_noderev.specs.Fields.{IsPathText, IsSourceText};
 ghost use Rattle.fsfs_noderev.specs.declared.node_rev.CopySource.{CopySource};
 ghost use Rattle.fsfs_changes.specs.Items.{IsSecondLine, IsItem};

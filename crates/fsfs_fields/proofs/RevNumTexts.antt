@@ -12,8 +12,8 @@ pub rev_spells : Spells IsRev rev_at
 rev_spells = numeral_spells 10 last_rev (omega arith)
 
 -- a revision's text has digits alone
-pub rev_lacks : (c : ℕ) → 10 ≤ digit c → (t : List ℕ) (rev : ℕ) → IsRev t rev → Lacks c t
-rev_lacks c high = plain_lacks 10 last_rev c high
+pub rev_text_lacks : (c : ℕ) → 10 ≤ digit c → (t : List ℕ) (rev : ℕ) → IsRev t rev → Lacks c t
+rev_text_lacks c high = plain_lacks 10 last_rev c high
 
 -- the text of a revision is the one that std prints
 pub rev_decimal : (text : List ℕ) (rev : ℕ) → IsRev text rev → text ≡ decimal rev

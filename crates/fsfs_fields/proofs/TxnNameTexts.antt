@@ -8,12 +8,12 @@ use Rattle.fsfs_text.proofs.Unique.{decimal_plain}
 use Rattle.fsfs_text.proofs.Base36Texts.{base36_numeral, appended_base36}
 use Rattle.fsfs_text.proofs.Spelling.{Spells, some_is, cut_spells, numeral_spells}
 use Rattle.fsfs_fields.specs.RevNums.{last_rev, IsRev}
-use Rattle.fsfs_fields.proofs.RevNumTexts.{rev_spells, rev_lacks, appended_rev}
+use Rattle.fsfs_fields.proofs.RevNumTexts.{rev_spells, rev_text_lacks, appended_rev}
 use Rattle.fsfs_fields.specs.declared.txn_name.TxnName.{TxnName}
 use Rattle.fsfs_fields.specs.TxnNames.{IsTxnName, txn_text, txn_name_at}
 
 pub txn_name_spells : Spells IsTxnName txn_name_at
-txn_name_spells = cut_spells 45 (rev_lacks 45 (omega arith)) rev_spells (numeral_spells 36 170581728179578208255 (omega arith))
+txn_name_spells = cut_spells 45 (rev_text_lacks 45 (omega arith)) rev_spells (numeral_spells 36 170581728179578208255 (omega arith))
 
 -- what is written is in the grammar
 pub txn_text_is : (base number : ℕ) → base ≤ last_rev → number < 170581728179578208256 → IsTxnName (txn_text base number) (base, number)

@@ -3,9 +3,9 @@ use Rattle.std.specs.Prelude.{IfSome}
 use Rattle.fsfs_base.specs.Paths.{Path}
 use Rattle.fsfs_text.proofs.CutLemmas.{cut_found}
 use Rattle.fsfs_text.proofs.Spelling.{some_is}
-use Rattle.fsfs_noderev.specs.Ids.{IsRev}
+use Rattle.fsfs_fields.specs.RevNums.{IsRev}
 use Rattle.fsfs_noderev.specs.Fields.{IsPathText}
-use Rattle.fsfs_noderev.proofs.IdTexts.{rev_spells}
+use Rattle.fsfs_fields.proofs.RevNumTexts.{rev_spells}
 use Rattle.fsfs_noderev.proofs.FieldTexts.{two_none, two_parts, rev_lacks}
 use Rattle.fsfs_changes.proofs.reading.source_of.Goals as goal
 
