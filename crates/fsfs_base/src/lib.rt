@@ -12,8 +12,6 @@ mod pairs;
 mod path;
 mod path_text;
 mod small_fault;
-#[cfg(test)]
-mod text_tests;
 mod tree;
 
 pub use bad_path::{BadPath, PathError, PathFault};

@@ -5,8 +5,6 @@
 
 mod book;
 mod mem_book;
-#[cfg(test)]
-mod tests;
 
 pub use book::{Book, BookFault, Refusal};
 pub use mem_book::{Kept, MemBook, MemRev};

@@ -14,6 +14,3 @@ pub use change_error::{ChangeError, ChangeFault};
 pub use item::ChangeItem;
 pub use reading::{read_changes, read_item, read_revision_changes};
 pub use writing::{put_item, write_changes};
-
-#[cfg(test)]
-mod tests;

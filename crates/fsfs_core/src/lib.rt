@@ -7,8 +7,6 @@ mod labels;
 mod openings;
 mod reads;
 mod state;
-#[cfg(test)]
-mod tests;
 mod txns;
 
 pub use fsfs_world::{

@@ -4,8 +4,6 @@
 mod fault;
 mod line;
 mod output;
-#[cfg(test)]
-mod tests;
 
 pub use fault::Fault;
 pub use fsfs_words::Tool;

@@ -15,6 +15,3 @@ mod reads;
 pub use direct::{Direct, disk_of, over_disk};
 pub use owned::OwnedReads;
 pub use reads::Reads;
-
-#[cfg(test)]
-mod tests;

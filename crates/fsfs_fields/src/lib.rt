@@ -5,8 +5,6 @@ mod date;
 mod digest;
 mod prop_name;
 mod rev_num;
-#[cfg(test)]
-mod text_tests;
 mod txn_name;
 
 pub use date::{read_date, write_date};

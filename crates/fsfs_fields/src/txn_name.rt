@@ -1,6 +1,7 @@
 //! The names of transactions.
-ghost use Rattle.std.specs.Prelude.{◌≡◌, ℕ, IfSome, IsSomeAnd, OnOk, IfOk, option_map, ◌++◌};
-ghost use Rattle.fsfs_fields.specs.TxnNames.{IsTxnName, txn_text, txn_name_at};
+ghost use Rattle.std.specs.Prelude.{◌≡◌, ℕ, IfSome, IsSomeAnd, OnOk, IfOk, option_map};
+ghost use Rattle.fsfs_text.specs.Grammar.{Appends};
+ghost use Rattle.fsfs_fields.specs.TxnNames.{IsTxnName, txn_name_at};
 
 use crate::rev_num::RevNum;
 use fsfs_text::B36;
@@ -36,7 +37,7 @@ pub fn read_txn_name(text: &[u8]) -> Option<TxnName>
 
 /// Writes a transaction's name at the end.
 pub fn put_txn_name(out: &mut Vec<u8>, name: &TxnName) -> Result<(), AllocError>
-    ensures { OnOk result (out.new.items ≡ out.old.items ++ txn_text name.now.base name.now.number.number) }
+    ensures { OnOk result (Appends IsTxnName out.old.items out.new.items (name.now.base, name.now.number.number)) }
 {
     name.base.put(out)?;
     out.push(b'-')?;

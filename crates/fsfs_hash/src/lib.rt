@@ -14,6 +14,3 @@ pub use children::read_children;
 pub use dump::read_hash;
 pub use hash_error::{HashError, HashFault};
 pub use writing::{add_entry, drop_entry, write_hash};
-
-#[cfg(test)]
-mod tests;

@@ -18,6 +18,3 @@ pub use disk::HostDisk;
 pub use machine::Machine;
 pub use once::{OpenGate, SystemClock, SystemDice};
 pub use standard::{StreamSink, StreamSource};
-
-#[cfg(test)]
-mod tests;

@@ -19,6 +19,3 @@ pub use next_ids_file::{NextIds, read_next_ids, write_next_ids};
 pub use rev_files::{read_current, read_min_unpacked_rev, write_current, write_min_unpacked_rev};
 pub use txn_current_file::{read_txn_current, write_txn_current};
 pub use uuid_file::{Uuid, read_uuid, write_uuid};
-
-#[cfg(test)]
-mod tests;

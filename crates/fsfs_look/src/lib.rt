@@ -8,8 +8,6 @@ mod lines;
 mod look_error;
 mod path;
 mod piece;
-#[cfg(test)]
-mod tests;
 mod tree;
 
 pub use file::cat;

@@ -12,6 +12,3 @@ mod streams;
 pub use disk::MemDisk;
 pub use host::MemHost;
 pub use streams::{FixedClock, FixedDice, MemSink, MemSource, NoGate};
-
-#[cfg(test)]
-mod tests;

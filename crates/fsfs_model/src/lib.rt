@@ -7,8 +7,6 @@ mod fold;
 mod history;
 mod land;
 mod laws;
-#[cfg(test)]
-mod tests;
 
 pub use apply::{flat_apply, flat_mark};
 pub use clash::flat_clash;

@@ -16,6 +16,3 @@ pub use node_rev::{CopyRoot, CopySource, Field, NodeFault, NodeRev, Which};
 pub use reading::{MAX_NODE_REV, NodeError, read_noderev};
 pub use rep::{Contents, Rep, Uniquifier, put_contents, put_rep, read_contents, read_rep};
 pub use writing::write_noderev;
-
-#[cfg(test)]
-mod tests;

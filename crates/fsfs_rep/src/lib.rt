@@ -7,8 +7,6 @@ mod digester;
 mod header;
 mod rep_fault;
 mod rep_reader;
-#[cfg(test)]
-mod tests;
 mod whole;
 mod window;
 

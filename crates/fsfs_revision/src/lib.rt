@@ -7,8 +7,6 @@
 mod damage;
 mod node;
 mod root;
-#[cfg(test)]
-mod tests;
 mod trailer;
 
 pub use damage::{Damage, RevOffset, RevisionError, What};

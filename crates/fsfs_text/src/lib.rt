@@ -6,8 +6,6 @@ pub mod cuts;
 pub mod decimals;
 mod digits;
 pub mod pieces;
-#[cfg(test)]
-mod tests;
 
 pub use base36::{B36, next_b36, put_b36, read_b36, write_b36};
 pub use decimals::{put_dec, read_dec, write_dec};

@@ -8,8 +8,6 @@ mod path_word;
 mod read;
 mod revision;
 mod shard;
-#[cfg(test)]
-mod tests;
 mod tool;
 mod verb;
 

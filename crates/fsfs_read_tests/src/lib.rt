@@ -1,0 +1,15 @@
+//! Tests of reading: books, representations, nodes and looks over small revisions.
+#![tactic(auto)]
+
+#[cfg(test)]
+mod book;
+#[cfg(test)]
+mod dag;
+#[cfg(test)]
+mod fetch;
+#[cfg(test)]
+mod look;
+#[cfg(test)]
+mod rep;
+#[cfg(test)]
+mod revisions;
