@@ -1,6 +1,6 @@
 // Runs of the machine, from tables of steps.
 use crate::steps::{Do, How, Names, Want, is_answer, path_of, step_of};
-use fsfs_base::{Pairs, Text};
+use fsfs_base::{Pairs, RevNum, Text};
 use fsfs_core::{Bytes, Outcome, Place, State, Step};
 use std::alloc::{AllocError, Global};
 use std::collections::VecDeque;
@@ -59,7 +59,7 @@ pub fn done(alloc: Global, state: &mut State, acts: &[Do]) -> Result<(), Fail> {
 }
 
 /// A begin on this base, by the first pass.
-pub fn begin(alloc: Global, state: &mut State, base: u32) -> Result<(), Fail> {
+pub fn begin(alloc: Global, state: &mut State, base: u16) -> Result<(), Fail> {
     let acts = [
         Do::TakeLock(0),
         Do::Draw(0, base, How::Fine),
@@ -99,9 +99,9 @@ pub fn ends_at(state: &State, young: u64) -> bool {
 }
 
 /// Whether anything stands at this path in a revision.
-pub fn has(alloc: Global, state: &State, rev: u32, names: Names) -> Result<bool, AllocError> {
+pub fn has(alloc: Global, state: &State, rev: u16, names: Names) -> Result<bool, AllocError> {
     let path = path_of(alloc, names)?;
-    match state.history().get(rev) {
+    match state.history().get(RevNum::from(rev)) {
         Some(revision) => Ok(revision.tree.get(&path).is_some()),
         None => Ok(false),
     }
@@ -111,12 +111,12 @@ pub fn has(alloc: Global, state: &State, rev: u32, names: Names) -> Result<bool,
 pub fn has_text(
     alloc: Global,
     state: &State,
-    rev: u32,
+    rev: u16,
     names: Names,
     text: &[u8],
 ) -> Result<bool, AllocError> {
     let path = path_of(alloc, names)?;
-    match state.history().get(rev) {
+    match state.history().get(RevNum::from(rev)) {
         Some(revision) => match revision.tree.get(&path) {
             Some(node) => Ok(match &node.text {
                 Text::Bytes(bytes) => bytes.as_slice() == text,

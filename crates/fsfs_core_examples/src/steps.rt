@@ -1,5 +1,5 @@
 // Steps as the tables write them, and their answers.
-use fsfs_base::{Edit, FsPath, Pairs, PropName};
+use fsfs_base::{Edit, FsPath, Pairs, PropName, RevNum};
 use fsfs_core::{Bytes, Contents, Outcome, Picks, Place, Step, Went};
 use std::alloc::{AllocError, Global};
 use std::test::Fail;
@@ -34,7 +34,7 @@ pub enum Do {
     GiveLock(u64),
     StickLock(u64),
     /// On this base.
-    Draw(u64, u32, How),
+    Draw(u64, u16, How),
     /// The transaction at this place, with these bytes of its revision file.
     PutRev(u64, u64, &'static [u8], How),
     Call(u64, Place, How),
@@ -47,7 +47,7 @@ pub enum Do {
     Join(u64, u64),
     /// Of the transaction at this place.
     Edit(u64, Work),
-    Merge(u64, u32),
+    Merge(u64, u16),
     /// Of the name at this place.
     MakeBench(u64, u64, How),
     ListTxns(u64),
@@ -162,7 +162,8 @@ fn crash(alloc: Global, newest: bool, next: bool) -> Result<Step, AllocError> {
     })
 }
 
-fn draw(pass: u64, base: u32, how: How) -> Step {
+fn draw(pass: u64, base: u16, how: How) -> Step {
+    let base = RevNum::from(base);
     let went = went(how);
     Step::Draw { pass, base, went }
 }
@@ -233,7 +234,10 @@ pub fn step_of(alloc: Global, act: Do) -> Result<Step, Fail> {
         Do::Split(pass) => Step::Split { pass },
         Do::Join(pass, other) => Step::Join { pass, other },
         Do::Edit(txn, work) => edit(alloc, txn, work)?,
-        Do::Merge(txn, head) => Step::Merge { txn, head },
+        Do::Merge(txn, head) => Step::Merge {
+            txn,
+            head: RevNum::from(head),
+        },
         Do::MakeBench(pass, name, how) => make_bench(pass, name, how),
         Do::ListTxns(pass) => list_txns(pass),
         Do::Purge(pass, txn, how) => purge(pass, txn, how),

@@ -111,12 +111,12 @@ fn shows(alloc: Global, state: &mut State, young: u64) -> Result<bool, Fail> {
 
 // A commit goes on, as the revision after the youngest.
 fn goes_on(alloc: Global, state: &mut State, young: u64) -> Result<bool, Fail> {
-    begin(alloc, state, u32::try_from(young)?)?;
+    begin(alloc, state, u16::try_from(young)?)?;
     done(alloc, state, &[Do::Edit(0, Work::MakeDir(&["b"]))])?;
     commit(alloc, state, 0, b"more")?;
     let next = young.saturating_add(1);
-    let made = has(alloc, state, u32::try_from(next)?, &["b"])?;
-    let kept = has(alloc, state, u32::try_from(next)?, &["a"])?;
+    let made = has(alloc, state, u16::try_from(next)?, &["b"])?;
+    let kept = has(alloc, state, u16::try_from(next)?, &["a"])?;
     Ok(ends_at(state, next) && made && kept == (young == 1))
 }
 

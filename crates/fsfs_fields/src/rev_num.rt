@@ -30,6 +30,17 @@ impl Model for RevNum {
     ghost inverse = { λ n. record { number = n } };
 }
 
+/// Every number of 16 bits is a revision's.
+impl From<u16> for RevNum {
+    ghost from_gives = { λ number rev. rev ≡ number };
+
+    fn from(number: u16) -> RevNum {
+        RevNum {
+            number: number as u32,
+        }
+    }
+}
+
 impl RevNum {
     /// The first revision.
     pub const ZERO: RevNum = RevNum { number: 0 };
@@ -65,6 +76,19 @@ impl RevNum {
         if self.number < LAST {
             Some(RevNum {
                 number: self.number + 1,
+            })
+        } else {
+            None
+        }
+    }
+
+    /// The revision before it; none before the first.
+    pub fn previous(self) -> Option<RevNum>
+        ensures { MatchOption result (self ≡ 0) (λ rev. self ≡ rev + 1) }
+    {
+        if self.number > 0 {
+            Some(RevNum {
+                number: self.number - 1,
             })
         } else {
             None
