@@ -164,7 +164,9 @@ fn empty_file(rt: HostRuntime) -> Result<(), Fail> {
         assert!(rt; false, "a text");
         return Ok(());
     };
-    assert!(rt; text.rev == Some(RevNum::from(1)) && text.offset == 0 && text.length == 0 && text.size == 0);
+    assert!(rt;
+        text.rev == Some(RevNum::from(1)) && text.offset == 0 && text.length == 0 && text.size == 0
+    );
     let unique = text.unique.ok_or("a SHA-1")?;
     assert!(rt; unique.txn.base == RevNum::ZERO && unique.txn.number.number == 0);
     assert_eq!(rt; unique.number.number, 1);

@@ -2,7 +2,8 @@
 ghost use Rattle.std.specs.Prelude.{◌<◌};
 
 use fsfs_base::{
-    ChangeMap, Edit, FsPath, History, Kind, Mark, Node, Pairs, PropName, RevNum, Revision, Text, Tree,
+    ChangeMap, Edit, FsPath, History, Kind, Mark, Node, Pairs, PropName, RevNum, Revision, Text,
+    Tree,
 };
 use fsfs_model::{flat_apply, flat_clash, flat_fold, flat_history, flat_land, flat_mark};
 use std::alloc::{AllocError, Global};
@@ -278,7 +279,9 @@ fn copies(rt: HostRuntime) -> Result<(), Fail> {
     let b = in_root(alloc, "b")?;
     let points = flat_history(alloc, &with_copy(alloc)?, RevNum::from(2), &b)?;
     assert_eq!(rt; points.len(), 2);
-    assert!(rt; points[0] == (RevNum::from(2), b) && points[1] == (RevNum::from(1), in_root(alloc, "a")?));
+    assert!(rt;
+        points[0] == (RevNum::from(2), b) && points[1] == (RevNum::from(1), in_root(alloc, "a")?)
+    );
     let (found, landed) = rewritten(alloc)?;
     assert!(rt; found.is_none());
     assert_eq!(rt; last_changed(&landed, &below(alloc, "b", "x")?), 4);

@@ -1,5 +1,5 @@
 -- Values that have the same numbers are the same.
-use Rattle.std.proofs.Common.{◌≡◌, ℕ, ◌<◌, ◌≤◌, Option, Some, None, refl, ap, subst, ◌∙◌}
+use Rattle.std.proofs.Common.{◌≡◌, ℕ, ◌<◌, Option, Some, None, refl, ap, subst}
 use Rattle.std.specs.Prelude.{option_map}
 use Rattle.std.specs.Coded.{le_prop}
 use Rattle.fsfs_text.specs.declared.base36.B36.{B36}
