@@ -5,7 +5,7 @@ ghost use Rattle.fsfs_changes.specs.Items.{HasText};
 
 use crate::timing::{ROUNDS, micros_of, print_speed};
 use anyhow::{Result, bail};
-use fsfs_base::{Action, B36, FsPath, Kind, PathError, RevNum};
+use fsfs_base::{Action, B36, FsPath, Kind, PathError};
 use fsfs_changes::{ChangeItem, read_changes, read_revision_changes, write_changes};
 use fsfs_noderev::{NodeId, Part, Place};
 use std::alloc::{AllocError, Global};
@@ -27,9 +27,9 @@ fn made_item(alloc: Global, k: u32) -> Result<ChangeItem, PathError>
     let text = made_path(alloc, k)?;
     Ok(ChangeItem {
         id: NodeId {
-            node: Part::Made(B36 { number: k as u128 }, RevNum::from(7)),
+            node: Part::Made(B36 { number: k as u128 }, 7),
             copy: Part::Old(B36 { number: 0 }),
-            place: Place::At(RevNum::from(7), k as u64 * 100),
+            place: Place::At(7, k as u64 * 100),
         },
         action: Action::Modify,
         kind: Some(Kind::File),

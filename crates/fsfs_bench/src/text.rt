@@ -1,7 +1,7 @@
 //! The text of a file, as a plain representation.
 use crate::timing::{ROUNDS, micros_of, print_speed};
 use anyhow::{Result, bail};
-use fsfs_base::{B36, RevNum, TxnName};
+use fsfs_base::{B36, TxnName};
 use fsfs_book::{Kept, MemBook, MemRev};
 use fsfs_noderev::{Rep, Uniquifier};
 use fsfs_rep::{Digester, RepReader};
@@ -20,17 +20,14 @@ fn rep_of(text: &[u8]) -> Rep {
     let number = B36 { number: 0 };
     let length = text.len() as u64;
     Rep {
-        rev: Some(RevNum::ZERO),
+        rev: Some(0),
         offset: 0,
         length,
         size: length,
         md5,
         unique: Some(Uniquifier {
             sha1,
-            txn: TxnName {
-                base: RevNum::ZERO,
-                number,
-            },
+            txn: TxnName { base: 0, number },
             number,
         }),
     }

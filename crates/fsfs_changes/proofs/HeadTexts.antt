@@ -2,9 +2,7 @@
 use Rattle.std.proofs.Common.{ℕ, List, Some, refl, sym, ap, subst, arith}
 use Rattle.fsfs_text.specs.Cuts.{Lacks, IsCutOf}
 use Rattle.fsfs_text.proofs.Spelling.{Spells, some_is, cut_spells, plain_lacks}
-use Rattle.fsfs_fields.specs.RevNums.{IsRev}
-use Rattle.fsfs_fields.proofs.RevNumTexts.{rev_text_lacks}
-use Rattle.fsfs_noderev.specs.Ids.{PartValue, New, Old, Made, PlaceValue, At, In, IdValue, IsB36, IsNumber64, IsPart, IsPlace, IsId}
+use Rattle.fsfs_noderev.specs.Ids.{PartValue, New, Old, Made, PlaceValue, At, In, IdValue, IsB36, IsRev, IsNumber64, IsPart, IsPlace, IsId}
 use Rattle.fsfs_noderev.proofs.IdTexts.{id_spells}
 use Rattle.fsfs_changes.specs.Reading.{IsRest, IsHead, head_at}
 use Rattle.fsfs_changes.proofs.WordTexts.{flag_spells, action_and_kind_spells, flag_lacks, action_and_kind_lacks_space, two_lack}
@@ -15,7 +13,7 @@ b36_lacks : (t : List ℕ) (n : ℕ) → IsB36 t n → Lacks 32 t
 b36_lacks = plain_lacks 36 170581728179578208255 32 (omega arith)
 
 rev_lacks : (t : List ℕ) (n : ℕ) → IsRev t n → Lacks 32 t
-rev_lacks = rev_text_lacks 32 (omega arith)
+rev_lacks = plain_lacks 10 2147483647 32 (omega arith)
 
 number_lacks : (t : List ℕ) (n : ℕ) → IsNumber64 t n → Lacks 32 t
 number_lacks = plain_lacks 10 18446744073709551615 32 (omega arith)

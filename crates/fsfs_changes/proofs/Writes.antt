@@ -3,6 +3,7 @@ use Rattle.std.proofs.Common.{◌≡◌, ◌<◌, ◌+◌, ℕ, zero, suc, true,
 use Rattle.std.specs.Prelude.{◌≢◌, All}
 use Rattle.std.proofs.lemmas.List.{take_more}
 use Rattle.fsfs_text.specs.Grammar.{Appends}
+use Rattle.fsfs_noderev.specs.Ids.{PartValue, New, Old, Made, PlaceValue, At, In, IdValue, IsPart, IsPlace, IsId, FitsPart, FitsPlace, FitsId, id_value}
 use Rattle.fsfs_noderev.specs.Writing.{FitsSource}
 use Rattle.fsfs_noderev.specs.declared.node_rev.CopySource.{CopySource}
 use Rattle.fsfs_changes.specs.Words.{flags_fit}
@@ -31,14 +32,27 @@ written_more {a} {b} items k item lt is before w =
 
 -- ---- what was read can be written, if it has a kind
 
+part_fits : (t : List ℕ) (p : PartValue) → IsPart t p → FitsPart p
+part_fits t (New n) w = tt
+part_fits t (Old n) w = tt
+part_fits t (Made n rev) w = w.3.1
+
+place_fits : (t : List ℕ) (p : PlaceValue) → IsPlace t p → FitsPlace p
+place_fits t (At rev offset) w = w.1.2.1
+place_fits t (In base n) w = tt
+
+id_fits : (t : List ℕ) (v : IdValue) → IsId t v → FitsId v
+id_fits t v w = record { node = part_fits w.0 v.node w.2; copy = part_fits w.3.0 v.copy w.3.2; place = place_fits w.3.1 v.place w.3.3 }
+
 source_fits : (t : List ℕ) (s : Option CopySource) → IsSecondLine t s → FitsSource s
 source_fits t None w = tt
-source_fits t (Some s) w = w.3.path_is
+source_fits t (Some s) w = (w.2.1, w.3.path_is)
 
 pub has_text : (text : List ℕ) (item : ChangeItem) → IsItem text item → item.kind ≢ None → HasText item
 has_text text item w kind =
     let f = w.first_is in
     record {
+      id = id_fits f.0 (id_value item.id) f.2;
       kind = kind;
       flags = w.flags;
       path = f.3.3.3.3.path_is;

@@ -11,6 +11,7 @@ ghost use Rattle.fsfs_changes.specs.Changes.{AreChanges, AreRevisionChanges, Hav
 use crate::item::ChangeItem;
 use fsfs_base::{Action, FsPath, Kind};
 use fsfs_noderev::{CopySource, put_id};
+use fsfs_text::decimals::put_dec;
 use std::alloc::{AllocError, Global};
 
 fn put_flag(out: &mut Vec<u8>, flag: bool) -> Result<(), AllocError>
@@ -96,7 +97,7 @@ fn put_second_line(
     match source {
         None => Ok(()),
         Some(source) => {
-            source.rev.put(out)?;
+            put_dec(out, source.rev as u64)?;
             out.push(b' ')?;
             put_path(alloc, out, &source.path)?;
             Ok(())

@@ -1,16 +1,20 @@
 -- The names of transactions are read exactly.
-use Rattle.std.proofs.Common.{◌≡◌, ℕ, ◌<◌, List, [], ◌∷◌, ◌++◌, Option, Some, None, refl, sym, ap, ◌∙◌, append_assoc, arith}
+use Rattle.std.proofs.Common.{◌≡◌, ℕ, ◌<◌, ◌^◌, ◌≤◌, List, [], ◌∷◌, ◌++◌, Option, Some, None, refl, sym, ap, ◌∙◌, append_assoc, arith}
 use Rattle.std.specs.Prelude.{IfSome, IsSomeAnd, option_map}
-use Rattle.fsfs_text.specs.Grammar.{Appends}
+use Rattle.fsfs_text.specs.Base36.{base36}
 use Rattle.fsfs_text.specs.Numeral.{AppendsNumeral}
-use Rattle.fsfs_text.proofs.Spelling.{Spells, some_is, cut_spells, numeral_spells}
-use Rattle.fsfs_fields.specs.RevNums.{IsRev}
-use Rattle.fsfs_fields.proofs.RevNumTexts.{rev_spells, rev_text_lacks}
+use Rattle.fsfs_text.proofs.Unique.{decimal_plain, appended_decimal}
+use Rattle.fsfs_text.proofs.Base36Texts.{base36_numeral, appended_base36}
+use Rattle.fsfs_text.proofs.Spelling.{Spells, some_is, cut_spells, numeral_spells, plain_lacks}
 use Rattle.fsfs_fields.specs.declared.txn_name.TxnName.{TxnName}
-use Rattle.fsfs_fields.specs.TxnNames.{IsTxnName, txn_name_at}
+use Rattle.fsfs_fields.specs.TxnNames.{IsTxnName, txn_text, txn_name_at}
 
 pub txn_name_spells : Spells IsTxnName txn_name_at
-txn_name_spells = cut_spells 45 (rev_text_lacks 45 (omega arith)) rev_spells (numeral_spells 36 170581728179578208255 (omega arith))
+txn_name_spells = cut_spells 45 (plain_lacks 10 2147483647 45 (omega arith)) (numeral_spells 10 2147483647 (omega arith)) (numeral_spells 36 170581728179578208255 (omega arith))
+
+-- what is written is in the grammar
+pub txn_text_is : (base number : ℕ) → base ≤ 2147483647 → number < 170581728179578208256 → IsTxnName (txn_text base number) (base, number)
+txn_text_is base number revision small = (_, _, decimal_plain 2147483647 base revision (omega arith), (base36_numeral number small, omega arith), refl)
 
 pub name_found : (text : List ℕ) (r : Option TxnName) → option_map (λ t. (t.base, t.number.number)) r ≡ txn_name_at text → IfSome r (λ t. IsTxnName text (t.base, t.number.number))
 name_found text None e = tt
@@ -23,12 +27,8 @@ name_only text (Some t) e base number w =
     let same = some_is {A = ℕ × ℕ} (t.base, t.number.number) (base, number) (e ∙ txn_name_spells.again text (base, number) w) in
     (ap (λ (p : ℕ × ℕ). p.0) same, ap (λ (p : ℕ × ℕ). p.1) same)
 
--- what is written is in the grammar
-pub name_put : (a b c d : List ℕ) (base number : ℕ) → number < 170581728179578208256 → Appends IsRev a b base → c ≡ b ++ 45 ∷ [] → AppendsNumeral 36 c d number → Appends IsTxnName a d (base, number)
-name_put a b c d base number small first dash last =
-    let front : c ≡ (a ++ first.text) ++ 45 ∷ [] = dash ∙ ap (λ (t : List ℕ). t ++ 45 ∷ []) first.parts in
-    record {
-      text = first.text ++ 45 ∷ last.digits;
-      text_is = (first.text, last.digits, first.text_is, (last.numeral, omega (arith, small)), refl);
-      parts = last.parts ∙ ap (λ (t : List ℕ). t ++ last.digits) front ∙ simp append_assoc;
-    }
+pub name_put : (a b c d : List ℕ) (base number : ℕ) → base < 2 ^ 64 → number < 170581728179578208256 → AppendsNumeral 10 a b base → c ≡ b ++ 45 ∷ [] → AppendsNumeral 36 c d number → d ≡ a ++ txn_text base number
+name_put a b c d base number wide small first dash last =
+    let one = appended_decimal a b base wide first in
+    let two = appended_base36 c d number small last in
+    two ∙ ap (λ (t : List ℕ). t ++ base36 number) (dash ∙ ap (λ (t : List ℕ). t ++ 45 ∷ []) one) ∙ simp append_assoc

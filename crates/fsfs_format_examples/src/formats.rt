@@ -1,5 +1,5 @@
 // The bytes of the worked examples: what their pieces say, and the same bytes written again.
-use fsfs_base::{B36, HexDigest, Kind, Pairs, RevNum};
+use fsfs_base::{B36, HexDigest, Kind, Pairs};
 use fsfs_hash::{HashError, HashFault, read_hash, write_hash};
 use fsfs_layout::{
     Format, read_current, read_format, read_manifest, read_min_unpacked_rev, read_next_ids,
@@ -64,28 +64,28 @@ fn value<'a>(pairs: &'a Pairs, name: &[u8]) -> &'a [u8] {
 const ZERO: Part = Part::Old(B36 { number: 0 });
 
 // The id of the root that stands here.
-fn root_id(rev: u16, offset: u64) -> NodeId {
+fn root_id(rev: u32, offset: u64) -> NodeId {
     NodeId {
         node: ZERO,
         copy: ZERO,
-        place: Place::At(RevNum::from(rev), offset),
+        place: Place::At(rev, offset),
     }
 }
 
 // The id of the first node of revision 1.
 pub(crate) fn made_id(offset: u64) -> NodeId {
     NodeId {
-        node: Part::Made(B36 { number: 0 }, RevNum::from(1)),
+        node: Part::Made(B36 { number: 0 }, 1),
         copy: ZERO,
-        place: Place::At(RevNum::from(1), offset),
+        place: Place::At(1, offset),
     }
 }
 
 // A directory's representation: its dump of so many bytes, and no more than its MD5.
-fn entries(rev: u16, offset: u64, size: u64, md5: &[u8]) -> Option<Contents> {
+fn entries(rev: u32, offset: u64, size: u64, md5: &[u8]) -> Option<Contents> {
     let md5 = HexDigest::<16>::read(md5)?;
     Some(Contents::At(Rep {
-        rev: Some(RevNum::from(rev)),
+        rev: Some(rev),
         offset,
         length: size,
         size,
@@ -108,7 +108,7 @@ fn is_next_root(node: &NodeRev, offset: u64) -> bool {
 
 fn has_first_copy_root(node: &NodeRev) -> bool {
     match &node.copy_root {
-        Some(root) => root.rev == Some(RevNum::ZERO) && root.path.is_root(),
+        Some(root) => root.rev == Some(0) && root.path.is_root(),
         None => false,
     }
 }
@@ -164,11 +164,9 @@ fn empty_file(rt: HostRuntime) -> Result<(), Fail> {
         assert!(rt; false, "a text");
         return Ok(());
     };
-    assert!(rt;
-        text.rev == Some(RevNum::from(1)) && text.offset == 0 && text.length == 0 && text.size == 0
-    );
+    assert!(rt; text.rev == Some(1) && text.offset == 0 && text.length == 0 && text.size == 0);
     let unique = text.unique.ok_or("a SHA-1")?;
-    assert!(rt; unique.txn.base == RevNum::ZERO && unique.txn.number.number == 0);
+    assert!(rt; unique.txn.base == 0 && unique.txn.number.number == 0);
     assert_eq!(rt; unique.number.number, 1);
     assert_eq!(rt;
         unique.sha1.write(alloc)?.as_slice(),

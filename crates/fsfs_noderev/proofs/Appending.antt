@@ -1,8 +1,10 @@
 -- Texts that are written at the end, part by part.
-use Rattle.std.proofs.Common.{◌≡◌, ℕ, ◌≤◌, List, [], ◌∷◌, ◌++◌, ap, ◌∙◌, append_assoc, refl}
+use Rattle.std.proofs.Common.{◌≡◌, ℕ, ◌<◌, ◌≤◌, List, [], ◌∷◌, ◌++◌, ap, ◌∙◌, append_assoc, refl}
 use Rattle.fsfs_text.specs.Grammar.{Appends}
 use Rattle.fsfs_text.specs.Numeral.{IsPlain, AppendsNumeral}
 use Rattle.fsfs_text.specs.Cuts.{IsCutOf}
+use Rattle.fsfs_fields.specs.TxnNames.{IsTxnName, txn_text}
+use Rattle.fsfs_fields.proofs.TxnNameTexts.{txn_text_is}
 
 -- a text of G, a byte, and a text of H
 pub appends_cut : {X Y : Type 0} {G : List ℕ → X → Type 0} {H : List ℕ → Y → Type 0} {a b c d : List ℕ} {x : X} {y : Y} (sep : ℕ)
@@ -23,3 +25,6 @@ appends_marked {X} {Y} {G} {H} {a} {b} {c} mark first w is =
 
 pub appends_plain : {a b : List ℕ} (base limit n : ℕ) → n ≤ limit → AppendsNumeral base a b n → Appends (IsPlain base limit) a b n
 appends_plain base limit n fits w = record { text = w.digits; text_is = (w.numeral, fits); parts = w.parts }
+
+pub appends_txn : {a b : List ℕ} (base number : ℕ) → base ≤ 2147483647 → number < 170581728179578208256 → b ≡ a ++ txn_text base number → Appends IsTxnName a b (base, number)
+appends_txn base number revision small e = record { text = txn_text base number; text_is = txn_text_is base number revision small; parts = e }

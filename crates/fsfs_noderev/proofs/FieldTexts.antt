@@ -4,17 +4,15 @@ use Rattle.std.specs.Prelude.{is_some}
 use Rattle.std.specs.List.{AllByRecursion}
 use Rattle.fsfs_text.specs.Cuts.{Lacks, IsCutOf, cut}
 use Rattle.fsfs_text.proofs.CutLemmas.{cut_again, some_pair}
-use Rattle.fsfs_text.proofs.Spelling.{Spells, some_is}
+use Rattle.fsfs_text.proofs.Spelling.{Spells, some_is, plain_lacks}
 use Rattle.fsfs_base.specs.Paths.{Path, path_text}
 use Rattle.fsfs_base.specs.PathTexts.{IsPath, IsName, HasNoSlash}
 use Rattle.fsfs_base.proofs.PathTextLemmas.{root_only, names_text_injective}
 use Rattle.fsfs_base.specs.declared.node.Kind.TheVariants as kinds
-use Rattle.fsfs_fields.specs.RevNums.{IsRev}
-use Rattle.fsfs_noderev.specs.Ids.{IsNumber64, id_value}
+use Rattle.fsfs_noderev.specs.Ids.{IsRev, IsNumber64, id_value}
 use Rattle.fsfs_noderev.specs.Reps.{IsRevOrNone, contents_value}
 use Rattle.fsfs_noderev.specs.Fields.{IsIdText, IsKindText, AreContentsText, IsPathText, IsSourceText, IsRootText, IsYes}
-use Rattle.fsfs_fields.proofs.RevNumTexts.{rev_spells, rev_text_lacks}
-use Rattle.fsfs_noderev.proofs.IdTexts.{id_spells}
+use Rattle.fsfs_noderev.proofs.IdTexts.{id_spells, rev_spells}
 use Rattle.fsfs_noderev.proofs.RepTexts.{contents_spells, number_spells, rev_or_none_spells, rev_or_none_lacks}
 use Rattle.fsfs_noderev.proofs.Same.{id_same, contents_same}
 
@@ -33,7 +31,7 @@ two_parts G H c text front rest p lacks e w =
     (subst (λ (t : List ℕ). G t p.0) (sym s.0) w.2, subst (λ (t : List ℕ). H t p.1) (sym s.1) w.3)
 
 pub rev_lacks : (t : List ℕ) (n : ℕ) → IsRev t n → Lacks 32 t
-rev_lacks = rev_text_lacks 32 (omega arith)
+rev_lacks = plain_lacks 10 2147483647 32 (omega arith)
 
 -- ---- one value
 

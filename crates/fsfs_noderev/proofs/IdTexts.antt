@@ -8,21 +8,22 @@ use Rattle.fsfs_text.specs.Cuts.{Lacks, IsCutOf, cut, and_then, parts_at}
 use Rattle.fsfs_text.proofs.CutLemmas.{cut_found, cut_again, lacks_from}
 use Rattle.fsfs_text.proofs.Spelling.{Spells, bound, some_is, numeral_spells, cut_spells, plain_lacks}
 use Rattle.fsfs_fields.specs.TxnNames.{txn_name_at}
-use Rattle.fsfs_fields.proofs.RevNumTexts.{rev_spells, rev_text_lacks}
 use Rattle.fsfs_fields.proofs.TxnNameTexts.{txn_name_spells}
-use Rattle.fsfs_fields.specs.RevNums.{IsRev, rev_at}
-use Rattle.fsfs_noderev.specs.Ids.{PartValue, New, Old, Made, PlaceValue, At, In, IdValue, IsB36, IsNumber64, IsPart, IsPlace, IsId, b36_at, number_at, old_at, part_at, place_at, id_at}
+use Rattle.fsfs_noderev.specs.Ids.{PartValue, New, Old, Made, PlaceValue, At, In, IdValue, IsB36, IsRev, IsNumber64, IsPart, IsPlace, IsId, b36_at, rev_at, number_at, old_at, part_at, place_at, id_at}
 
 part_lacks : (t : List ℕ) (p : PartValue) → IsPart t p → Lacks 46 t
 part_lacks t (New n) w = subst (λ (x : List ℕ). Lacks 46 x) (sym w.2) (refl, plain_lacks 36 170581728179578208255 46 (omega arith) w.0 n w.1)
 part_lacks t (Old n) w = plain_lacks 36 170581728179578208255 46 (omega arith) t n w
 part_lacks t (Made n rev) w =
-    subst (λ (x : List ℕ). Lacks 46 x) (sym w.4) (lacks_from 46 w.0 (45 ∷ w.1) (plain_lacks 36 170581728179578208255 46 (omega arith) w.0 n w.2) (refl, rev_text_lacks 46 (omega arith) w.1 rev w.3))
+    subst (λ (x : List ℕ). Lacks 46 x) (sym w.4) (lacks_from 46 w.0 (45 ∷ w.1) (plain_lacks 36 170581728179578208255 46 (omega arith) w.0 n w.2) (refl, plain_lacks 10 2147483647 46 (omega arith) w.1 rev w.3))
 
 -- ---- parts
 
 pub b36_spells : Spells IsB36 b36_at
 b36_spells = numeral_spells 36 170581728179578208255 (omega arith)
+
+pub rev_spells : Spells IsRev rev_at
+rev_spells = numeral_spells 10 2147483647 (omega arith)
 
 old_found : (t : List ℕ) (o : Option (List ℕ × List ℕ)) → cut 45 t ≡ o → (p : PartValue) → old_at t o ≡ Some p → IsPart t p
 old_found t None is p e =
@@ -84,7 +85,7 @@ part_spells = record { found = part_found; again = part_again }
 -- ---- places and ids
 
 at_spells : Spells (IsCutOf 47 IsRev (IsNumber64)) (parts_at 47 rev_at number_at)
-at_spells = cut_spells 47 (rev_text_lacks 47 (omega arith)) rev_spells (numeral_spells 10 18446744073709551615 (omega arith))
+at_spells = cut_spells 47 (plain_lacks 10 2147483647 47 (omega arith)) rev_spells (numeral_spells 10 18446744073709551615 (omega arith))
 
 place_found : (t : List ℕ) (p : PlaceValue) → place_at t ≡ Some p → IsPlace t p
 unfolding place_at

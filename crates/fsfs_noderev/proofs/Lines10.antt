@@ -8,12 +8,10 @@ use Rattle.fsfs_text.proofs.CutLemmas.{lacks_from}
 use Rattle.fsfs_text.proofs.Spelling.{plain_lacks}
 use Rattle.fsfs_fields.specs.Digests.{IsDigestText}
 use Rattle.fsfs_fields.specs.TxnNames.{IsTxnName}
-use Rattle.fsfs_fields.proofs.RevNumTexts.{rev_text_lacks}
 use Rattle.fsfs_base.specs.Paths.{Path, path_text, names_text}
 use Rattle.fsfs_base.specs.PathTexts.{IsPath, IsName, is_control}
 use Rattle.fsfs_base.specs.declared.node.Kind.TheVariants as kinds
-use Rattle.fsfs_fields.specs.RevNums.{IsRev}
-use Rattle.fsfs_noderev.specs.Ids.{New, Old, Made, At, In, IsB36, IsNumber64, IsPart, IsPlace, id_value}
+use Rattle.fsfs_noderev.specs.Ids.{New, Old, Made, At, In, IsB36, IsRev, IsNumber64, IsPart, IsPlace, id_value}
 use Rattle.fsfs_noderev.specs.Reps.{UniquifierValue, RepValue, IsRevOrNone, IsMarked, IsUnique, AreDigests, IsRep, AreContents, ContentsValue, contents_value}
 use Rattle.fsfs_noderev.specs.Reps as reps
 use Rattle.fsfs_noderev.specs.Fields.{IsIdText, IsKindText, AreContentsText, IsPathText, IsSourceText, IsRootText, IsYes}
@@ -27,7 +25,7 @@ cut_line : {X Y : Type 0} (G : List ℕ → X → Type 0) (H : List ℕ → Y �
 cut_line G H c other first second text p w = subst (λ (t : List ℕ). Lacks 10 t) (sym w.4) (lacks_from 10 w.0 (c ∷ w.1) (first w.0 p.0 w.2) (other, second w.1 p.1 w.3))
 
 rev_line : OneLine IsRev
-rev_line = rev_text_lacks 10 (omega arith)
+rev_line = plain_lacks 10 2147483647 10 (omega arith)
 
 pub number_line : OneLine IsNumber64
 number_line = plain_lacks 10 18446744073709551615 10 (omega arith)

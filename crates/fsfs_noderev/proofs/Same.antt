@@ -1,5 +1,5 @@
 -- Values that have the same numbers are the same.
-use Rattle.std.proofs.Common.{◌≡◌, ℕ, ◌<◌, Option, Some, None, refl, ap, subst}
+use Rattle.std.proofs.Common.{◌≡◌, ℕ, ◌<◌, ◌≤◌, Option, Some, None, refl, ap, subst, ◌∙◌}
 use Rattle.std.specs.Prelude.{option_map}
 use Rattle.std.specs.Coded.{le_prop}
 use Rattle.fsfs_text.specs.declared.base36.B36.{B36}
@@ -24,7 +24,11 @@ b36_same a b e = go b.number e b.small
         (λ q. ap (λ (s : a.number < 170581728179578208256). let x : B36 = record { number = a.number; small = s } in x) (le_prop a.small q))
 
 pub txn_same : (a b : TxnName) → a.base ≡ b.base → a.number ≡ b.number → a ≡ b
-txn_same a b e f = λ i. record { base = e i; number = f i }
+txn_same a b e f = go b.base e b.revision ∙ ap (λ (n : B36). let x : TxnName = record { base = b.base; number = n; revision = b.revision } in x) f
+  where
+    go : (k : ℕ) → a.base ≡ k → (q : k ≤ 2147483647) → a ≡ (let x : TxnName = record { base = k; number = a.number; revision = q } in x)
+    go k e = subst (λ (k : ℕ). (q : k ≤ 2147483647) → a ≡ (let x : TxnName = record { base = k; number = a.number; revision = q } in x)) e
+        (λ q. ap (λ (s : a.base ≤ 2147483647). let x : TxnName = record { base = a.base; number = a.number; revision = s } in x) (le_prop a.revision q))
 
 part_same : (a b : Part) → part_value a ≡ part_value b → a ≡ b
 part_same (part.New n) (part.New m) e = let f : n.number ≡ m.number = cc in ap (λ (x : B36). part.New x) (b36_same n m f)

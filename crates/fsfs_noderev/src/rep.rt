@@ -1,10 +1,11 @@
 //! Where a text, a property list or a directory stands.
-ghost use Rattle.std.specs.Prelude.{◌≡◌, ℕ, List, option_map, IfSome, IsSomeAnd, IfOk, OnOk, codes};
+ghost use Rattle.std.specs.Prelude.{◌≡◌, ◌≤◌, ℕ, List, option_map, IfSome, IsSomeAnd, IfOk, OnOk, codes};
 ghost use Rattle.fsfs_text.specs.Grammar.{Appends};
 ghost use Rattle.fsfs_fields.specs.Digests.{IsDigestText};
-ghost use Rattle.fsfs_noderev.specs.Reps.{RepValue, ContentsValue, unique_value, rep_value, contents_value, IsRevOrNone, IsMarked, IsUnique, AreDigests, IsRep, AreContents, rev_or_none_at, digest_at, marked_at, unique_at, digests_at, rep_at, contents_at};
+ghost use Rattle.fsfs_noderev.specs.Reps.{RepValue, ContentsValue, unique_value, rep_value, contents_value, IsRevOrNone, IsMarked, IsUnique, AreDigests, IsRep, AreContents, FitsRev, FitsContents, rev_or_none_at, digest_at, marked_at, unique_at, digests_at, rep_at, contents_at};
 
-use fsfs_base::{HexDigest, RevNum, TxnName, plain_txn_name, put_txn_name};
+use crate::node_id::rev_of;
+use fsfs_base::{HexDigest, TxnName, plain_txn_name, put_txn_name};
 use fsfs_text::B36;
 use fsfs_text::base36::{plain_base36, put_b36};
 use fsfs_text::cuts::cut_at;
@@ -24,7 +25,7 @@ pub struct Uniquifier {
 #[derive(Clone, Copy, Debug, PartialEq, Eq)]
 pub struct Rep {
     /// The revision; none where the text stands in the prototype file of a transaction.
-    pub rev: Option<RevNum>,
+    pub rev: Option<u32>,
     /// Where its header begins, from the beginning of the revision's own bytes.
     pub offset: u64,
     /// How many bytes stand between header and trailer.
@@ -43,13 +44,13 @@ pub enum Contents {
     At(Rep),
 }
 
-pub(crate) fn rev_or_none(text: &[u8]) -> Option<Option<RevNum>>
+pub(crate) fn rev_or_none(text: &[u8]) -> Option<Option<u32>>
     ensures { result ≡ rev_or_none_at text.now }
 {
     if text == b"-1".as_slice() {
         return Some(None);
     }
-    let rev = RevNum::plain(text)?;
+    let rev = rev_of(text)?;
     Some(Some(rev))
 }
 
@@ -154,7 +155,8 @@ pub fn read_contents(text: &[u8]) -> Option<Contents>
     contents_of(text)
 }
 
-pub(crate) fn put_rev_or_none(out: &mut Vec<u8>, rev: Option<RevNum>) -> Result<(), AllocError>
+pub(crate) fn put_rev_or_none(out: &mut Vec<u8>, rev: Option<u32>) -> Result<(), AllocError>
+    requires { FitsRev rev }
     ensures { OnOk result (Appends IsRevOrNone out.old.items out.new.items rev) }
 {
     match rev {
@@ -163,7 +165,7 @@ pub(crate) fn put_rev_or_none(out: &mut Vec<u8>, rev: Option<RevNum>) -> Result<
             Ok(())
         }
         Some(rev) => {
-            rev.put(out)?;
+            put_dec(out, rev as u64)?;
             Ok(())
         }
     }
@@ -213,6 +215,7 @@ fn put_digests(alloc: Global, out: &mut Vec<u8>, rep: &Rep) -> Result<(), AllocE
 
 /// Writes a representation's text at the end.
 pub fn put_rep(alloc: Global, out: &mut Vec<u8>, rep: &Rep) -> Result<(), AllocError>
+    requires { FitsRev rep.now.rev }
     ensures { OnOk result (Appends IsRep out.old.items out.new.items (rep_value rep.now)) }
 {
     put_rev_or_none(out, rep.rev)?;
@@ -229,6 +232,7 @@ pub fn put_rep(alloc: Global, out: &mut Vec<u8>, rep: &Rep) -> Result<(), AllocE
 
 /// Writes at the end where a value stands.
 pub fn put_contents(alloc: Global, out: &mut Vec<u8>, contents: &Contents) -> Result<(), AllocError>
+    requires { FitsContents (contents_value contents.now) }
     ensures { OnOk result (Appends AreContents out.old.items out.new.items (contents_value contents.now)) }
 {
     match contents {
