@@ -1,39 +1,31 @@
-//! The text of a file, as a plain representation.
-use crate::timing::{ROUNDS, micros_of, print_speed};
+//! A text as a plain representation, in a book of one revision.
 use anyhow::{Result, bail};
-use fsfs_base::{B36, TxnName};
 use fsfs_book::{Kept, MemBook, MemRev};
-use fsfs_noderev::{Rep, Uniquifier};
+use fsfs_noderev::{Rep, read_rep};
 use fsfs_rep::{Digester, RepReader};
 use std::alloc::{AllocError, Global};
-use std::fs;
-use std::rt::{Clock, Files};
-use std::time::Instant;
 
+// How many bytes are read at a time.
 const PIECE: usize = 65536;
 
-/// The representation of the text at the beginning of revision 0, with both digests.
-fn rep_of(text: &[u8]) -> Rep {
+// A representation of this name, with both digests, at the beginning of revision 0.
+fn rep_of(alloc: Global, text: &[u8]) -> Result<Rep> {
     let mut digester = Digester::new();
     digester.update(text);
     let (md5, sha1) = digester.finish();
-    let number = B36 { number: 0 };
-    let length = text.len() as u64;
-    Rep {
-        rev: Some(0),
-        offset: 0,
-        length,
-        size: length,
-        md5,
-        unique: Some(Uniquifier {
-            sha1,
-            txn: TxnName { base: 0, number },
-            number,
-        }),
+    let size = text.len();
+    let mut name = format!(in alloc; "0 0 {size} {size} ")?.into_bytes();
+    name.extend_from_slice(&md5.write(alloc)?)?;
+    name.push(b' ')?;
+    name.extend_from_slice(&sha1.write(alloc)?)?;
+    name.extend_from_slice(b" 0-0/_0")?;
+    match read_rep(&name) {
+        Some(rep) => Ok(rep),
+        None => bail!("the representation has no name"),
     }
 }
 
-/// A book of one revision, which is the representation alone.
+// A book of one revision, which is the representation alone.
 fn book_of(alloc: Global, text: &[u8]) -> Result<MemBook, AllocError> {
     let mut bytes = Vec::with_capacity(alloc, text.len().saturating_add(13))?;
     bytes.extend_from_slice(b"PLAIN\n")?;
@@ -47,49 +39,40 @@ fn book_of(alloc: Global, text: &[u8]) -> Result<MemBook, AllocError> {
     Ok(MemBook::new(alloc, revs))
 }
 
-/// Reads the whole representation, and answers how many bytes came.
-fn read(book: &mut MemBook, rep: &Rep, piece: &mut [u8]) -> Result<u64> {
-    if rep.rev.is_none() {
-        bail!("no revision");
+#[derive(Drop)]
+pub(crate) struct Text {
+    book: MemBook,
+    rep: Rep,
+    piece: Vec<u8>,
+}
+
+impl Text {
+    pub(crate) fn new(alloc: Global, text: &[u8]) -> Result<Text> {
+        Ok(Text {
+            book: book_of(alloc, text)?,
+            rep: rep_of(alloc, text)?,
+            piece: vec![in alloc; 0u8; PIECE]?,
+        })
     }
-    let mut reader = RepReader::begin(book, rep)?;
-    let mut done = 0u64;
-    for _ in 0..u64::MAX {
-        let count = reader.next(book, piece)?;
-        if count == 0 {
-            break;
+
+    /// Reads the whole representation, with its digests, and answers how many bytes came.
+    pub(crate) fn read(&mut self) -> Result<usize> {
+        if self.rep.rev.is_none() {
+            bail!("no revision");
         }
-        done = done.saturating_add(count as u64);
+        let mut reader = RepReader::begin(&mut self.book, &self.rep)?;
+        let mut done = 0usize;
+        for _ in 0..u64::MAX {
+            let count = reader.next(&mut self.book, &mut self.piece)?;
+            if count == 0 {
+                break;
+            }
+            done = done.saturating_add(count);
+        }
+        if reader.left() != 0 {
+            bail!("the representation isn't read to its end");
+        }
+        reader.finish(&mut self.book)?;
+        Ok(done)
     }
-    if reader.left() != 0 {
-        bail!("the representation isn't read to its end");
-    }
-    reader.finish(book)?;
-    Ok(done)
-}
-
-/// Times the reading of the file's text, with its digests.
-pub(crate) fn time<R: Clock + Files + Print + AllocGlobal>(rt: &R, path: &str) -> Result<()> {
-    let text = fs::read(rt, path)?;
-    let rep = rep_of(&text);
-    let mut book = book_of(rt.alloc(), &text)?;
-    let mut piece = vec![in rt.alloc(); 0u8; PIECE]?;
-    let mut quickest = u64::MAX;
-    for _ in 0..ROUNDS {
-        let start = Instant::now(rt)?;
-        let _count = read(&mut book, &rep, &mut piece)?;
-        quickest = quickest.min(micros_of(start.elapsed(rt)?));
-    }
-    print_speed(rt, "representation read", text.len(), quickest)?;
-    Ok(())
-}
-
-/// Reads a short text.
-pub(crate) fn check<R: Print + AllocGlobal>(rt: &R) -> Result<()> {
-    let text = b"abc";
-    let mut book = book_of(rt.alloc(), text)?;
-    let mut piece = [0u8; 2];
-    let count = read(&mut book, &rep_of(text), &mut piece)?;
-    println!(rt; "representation: {count} bytes")?;
-    Ok(())
 }

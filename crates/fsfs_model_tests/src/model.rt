@@ -129,26 +129,51 @@ fn directory(alloc: Global, name: &str) -> Result<Edit, AllocError> {
     Ok(Edit::MakeDir { path })
 }
 
-// Two edits of revision 1, and where they conflict.
+// An edit of revision 1.
+#[derive(Clone, Copy)]
+enum Change {
+    FileInA(&'static str),
+    NoA,
+    Color,
+    Directory,
+}
+
+fn edit_of(alloc: Global, change: Change) -> Result<Edit, Fail> {
+    match change {
+        Change::FileInA(name) => Ok(file(alloc, name)?),
+        Change::NoA => Ok(Edit::Delete {
+            path: in_root(alloc, "a")?,
+        }),
+        Change::Color => Ok(property(alloc, PropName::parse(alloc, "color")?)?),
+        Change::Directory => Ok(directory(alloc, "f")?),
+    }
+}
+
+// The path at which two edits conflict; empty where they don't.
+fn conflict(alloc: Global, one: Change, two: Change) -> Result<String, Fail> {
+    let one = edit_of(alloc, one)?;
+    let two = edit_of(alloc, two)?;
+    let (found, _) = two_edits(alloc, &one, &two)?;
+    match found {
+        None => Ok(String::new(alloc)),
+        Some(path) => Ok(path.text(alloc)?),
+    }
+}
+
 #[test]
 fn conflicts(rt: HostRuntime) -> Result<(), Fail> {
-    let alloc = rt.alloc();
-    let removed = Edit::Delete {
-        path: in_root(alloc, "a")?,
-    };
-    let color = property(alloc, PropName::parse(alloc, "color")?)?;
-    let entry = directory(alloc, "f")?;
-    let (x, y) = (file(alloc, "x")?, file(alloc, "y")?);
     let table = [
-        (&x, &y, None),
-        (&x, &x, Some(below(alloc, "a", "x")?)),
-        (&removed, &y, Some(in_root(alloc, "a")?)),
-        (&color, &entry, Some(FsPath::root(alloc))),
-        (&entry, &color, Some(FsPath::root(alloc))),
+        (Change::FileInA("x"), Change::FileInA("y"), ""),
+        (Change::FileInA("x"), Change::FileInA("x"), "/a/x"),
+        (Change::NoA, Change::FileInA("y"), "/a"),
+        (Change::Color, Change::Directory, "/"),
+        (Change::Directory, Change::Color, "/"),
     ];
-    for (one, two, want) in table {
-        let (found, _) = two_edits(alloc, one, two)?;
-        assert!(rt; found == want);
+    for (one, two, path) in table {
+        assert!(rt;
+            conflict(rt.alloc(), one, two)?.as_str() == path,
+            "at {path}"
+        );
     }
     Ok(())
 }
