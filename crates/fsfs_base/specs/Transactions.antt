@@ -8,6 +8,7 @@ use Rattle.std.specs.Cmp.Lexicographic.{slice_cmp}
 use Rattle.std.specs.Ordering.{nat_cmp}
 use Rattle.jiff_core.specs.declared.civil.datetime.DateTime.{DateTime}
 use Rattle.fsfs_fields.specs.Dates.{IsDateText}
+use Rattle.fsfs_fields.specs.RevNums.{last_rev}
 use Rattle.fsfs_base.specs.declared.edit.Edit.{Edit}
 use Rattle.fsfs_base.specs.declared.mark.Mark.{Mark}
 use Rattle.fsfs_base.specs.Paths.{Path, path_cmp}
@@ -55,7 +56,7 @@ pub record IsEntry (h : List Revision) (e : Entry) : Type 0 where
 pub record IsNext (h : List Revision) (e : Entry) (next : Revision) : Type 0 where
   pub based : e.base < length h
   pub clear : NoClash e.base (tree_of h e.base) (tree_of h (last_of h)) (get e.tree) e.marks
-  pub limit : length h ≤ 2147483647
+  pub limit : length h ≤ last_rev
   pub tree : (p : Path) → get next.tree p ≡ land (tree_of h e.base) (tree_of h (last_of h)) (get e.tree) e.marks (length h) p
   pub changes : (p : Path) → get next.changes p ≡ fold e.marks p
   pub properties : next.properties ≡ e.properties

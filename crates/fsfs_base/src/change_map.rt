@@ -6,6 +6,7 @@ ghost use Rattle.fsfs_base.specs.Paths.{Path, path_cmp};
 
 use crate::node::Kind;
 use crate::path::FsPath;
+use fsfs_fields::RevNum;
 use std::alloc::{AllocError, Global};
 use std::collections::BTreeMap;
 use std::marker::Model;
@@ -28,7 +29,7 @@ pub struct Change {
     pub text_changed: bool,
     pub props_changed: bool,
     /// The revision and path that it was copied from.
-    pub source: Option<(u32, FsPath)>,
+    pub source: Option<(RevNum, FsPath)>,
 }
 
 impl Clone for Change {

@@ -1,6 +1,6 @@
 //! The edits of a transaction.
 use crate::path::FsPath;
-use fsfs_fields::PropName;
+use fsfs_fields::{PropName, RevNum};
 
 /// One edit of a transaction, with its arguments.
 #[derive(Debug, Drop)]
@@ -19,7 +19,7 @@ pub enum Edit {
     },
     /// Puts at `to` what stands at and below `from` in revision `rev`.
     Copy {
-        rev: u32,
+        rev: RevNum,
         from: FsPath,
         to: FsPath,
     },

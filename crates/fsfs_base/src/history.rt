@@ -5,6 +5,7 @@ ghost use Rattle.std.specs.Option.{option_copied};
 use crate::change_map::ChangeMap;
 use crate::pairs::Pairs;
 use crate::tree::Tree;
+use fsfs_fields::RevNum;
 use std::alloc::{AllocError, Global};
 use std::marker::Model;
 
@@ -64,10 +65,10 @@ impl History {
     }
 
     /// The revision of this number.
-    pub fn get(&self, rev: u32) -> Option<&Revision>
+    pub fn get(&self, rev: RevNum) -> Option<&Revision>
         ensures { option_copied result ≡ slice_get self.now rev }
     {
-        self.revisions.get(rev as usize)
+        self.revisions.get(rev.get() as usize)
     }
 
     /// Adds the next revision.

@@ -19,7 +19,7 @@ pub use bad_path::{BadPath, PathError, PathFault};
 pub use change_map::{Action, Change, ChangeMap, Folded};
 pub use edit::Edit;
 pub use fsfs_fields::{
-    BadPropName, HexDigest, PropName, PropNameError, TxnName, plain_txn_name, put_txn_name,
+    BadPropName, HexDigest, PropName, PropNameError, RevNum, TxnName, plain_txn_name, put_txn_name,
     read_date, read_txn_name, write_date,
 };
 pub use fsfs_text::{B36, next_b36, read_b36, read_dec, write_b36, write_dec};

@@ -6,13 +6,14 @@ ghost use Rattle.fsfs_base.specs.Marks.{any_covers, made_after, outer, touches, 
 
 use crate::node::Kind;
 use crate::path::FsPath;
+use fsfs_fields::RevNum;
 use std::alloc::{AllocError, Global};
 
 /// What an accepted edit did at its path.
 #[derive(Debug, Drop)]
 pub enum What {
     /// A node was put there: a new one, or a copy of the revision and path that are named.
-    Make(Option<(u32, FsPath)>),
+    Make(Option<(RevNum, FsPath)>),
     /// What stood there was taken away, with all below it.
     Gone,
     /// The file's text was replaced.

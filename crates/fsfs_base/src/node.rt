@@ -3,6 +3,7 @@ ghost use Rattle.std.specs.Prelude.{◌≡◌};
 
 use crate::pairs::Pairs;
 use crate::path::FsPath;
+use fsfs_fields::RevNum;
 use std::alloc::{AllocError, Global};
 use std::marker::Model;
 
@@ -17,7 +18,7 @@ pub enum Kind {
 #[derive(Debug, Drop)]
 pub enum Text {
     Bytes(Vec<u8>),
-    Closed { rev: u32, offset: u64 },
+    Closed { rev: RevNum, offset: u64 },
 }
 
 /// One node of a tree.
@@ -27,13 +28,13 @@ pub struct Node {
     pub text: Text,
     pub properties: Pairs,
     /// The revision and path that it was copied from.
-    pub source: Option<(u32, FsPath)>,
+    pub source: Option<(RevNum, FsPath)>,
     /// The revision in which it came to stand at its path.
-    pub added: u32,
+    pub added: RevNum,
     /// The last revision in which its properties were set.
-    pub props_changed: u32,
+    pub props_changed: RevNum,
     /// The last revision in which it or anything below it was changed.
-    pub last_changed: u32,
+    pub last_changed: RevNum,
 }
 
 impl Model for Node {

@@ -5,6 +5,7 @@ ghost use Rattle.fsfs_world.specs.Machine.{did, barred, answer, is_there, taken,
 ghost use Rattle.fsfs_core.specs.State.{world_of};
 
 use crate::state::State;
+use fsfs_base::RevNum;
 use fsfs_world::files::{change_made, find, find_number, is_fine};
 use fsfs_world::passes::{find_stuck, learn, reveal_by, see_least};
 use fsfs_world::section::{
@@ -253,7 +254,7 @@ impl State {
     }
 
     // `TxnRead`.
-    pub(crate) fn draw(&mut self, p: u64, base: u32, went: Went) -> Result<Outcome, AllocError>
+    pub(crate) fn draw(&mut self, p: u64, base: RevNum, went: Went) -> Result<Outcome, AllocError>
         ensures { IfOk result (λ o. did (world_of self.new) o ≡ inside (world_of self.old) (drawn (world_of self.old) p base went) (held_by p self.old.lock)) }
     {
         if !self.has_begun(p) {
@@ -262,7 +263,7 @@ impl State {
         match find_number(&self.disk, &Name::Counter) {
             None => Ok(Outcome::Barred),
             Some(name) => {
-                if (base as u64) < self.count() && name < u64::MAX {
+                if (base.get() as u64) < self.count() && name < u64::MAX {
                     self.end_read(p, drawn_section(name, name + 1, base, &went), &went)?;
                     Ok(answer_of(&went))
                 } else {

@@ -5,7 +5,7 @@ ghost use Rattle.fsfs_core.specs.State.{world_of};
 
 use crate::state::State;
 use crate::txns::{land_on, next_of, tree_at};
-use fsfs_base::{Edit, Pairs};
+use fsfs_base::{Edit, Pairs, RevNum};
 use fsfs_model::{flat_apply, flat_mark};
 use fsfs_world::files::is_fine;
 use fsfs_world::section::answer_of;
@@ -114,7 +114,7 @@ impl State {
         }
     }
 
-    pub(crate) fn merge(&mut self, t: u64, head: u32) -> Result<Outcome, AllocError>
+    pub(crate) fn merge(&mut self, t: u64, head: RevNum) -> Result<Outcome, AllocError>
         ensures { IfOk result (λ o. Merges (world_of self.old) t head (slice_get self.old.txns.items t) (did (world_of self.new) o)) }
     {
         let at = t as usize;

@@ -1,19 +1,20 @@
 //! Transactions: their trees and marks, and what committing them adds.
 ghost use Rattle.std.specs.Prelude.{◌≡◌, ◌+◌, ◌<◌, ◌≤◌, ◌++◌, ◌∷◌, [], length, slice_get, List, ℕ, OnOk, OnErr, IfOk, IfSome, MatchOption, MatchResult, Some, None, IsTrue, ◌↔◌};
 ghost use Rattle.std.specs.FinMap as finmap;
+ghost use Rattle.fsfs_fields.specs.RevNums.{last_rev};
 ghost use Rattle.fsfs_base.specs.Paths.{Path};
 ghost use Rattle.fsfs_base.specs.Landing.{land, NoClash, IsFirstClash};
 ghost use Rattle.fsfs_base.specs.Revisions.{Revision as Stands, tree_of};
 ghost use Rattle.fsfs_base.specs.Transactions.{IsDated, IsNext, last_of};
 ghost use Rattle.fsfs_world.specs.Machine.{tree_in, entry_of};
 
-use fsfs_base::{FsPath, History, Pairs, Revision, Tree, read_date};
+use fsfs_base::{FsPath, History, Pairs, RevNum, Revision, Tree, read_date};
 use fsfs_model::{flat_clash, flat_fold, flat_land};
 use fsfs_world::Txn;
 use std::alloc::{AllocError, Global};
 
 /// The tree of a revision that there is.
-pub fn tree_at(history: &History, rev: u32) -> Option<&Tree>
+pub fn tree_at(history: &History, rev: RevNum) -> Option<&Tree>
     ensures { MatchOption result (length history.now ≤ rev) (λ tree. (rev < length history.now) × (finmap.get tree.now ≡ tree_of history.now rev)) }
 {
     match history.get(rev) {
@@ -23,7 +24,7 @@ pub fn tree_at(history: &History, rev: u32) -> Option<&Tree>
 }
 
 /// A copy of the tree of a revision, empty where there is none.
-pub fn base_tree(alloc: Global, history: &History, rev: u32) -> Result<Tree, AllocError>
+pub fn base_tree(alloc: Global, history: &History, rev: RevNum) -> Result<Tree, AllocError>
     ensures { IfOk result (λ tree. tree ≡ tree_in (slice_get history.now rev)) }
 {
     match history.get(rev) {
@@ -49,7 +50,7 @@ pub fn land_on(
     txn: &Txn,
     base: &Tree,
     head: &Tree,
-    n: u32,
+    n: RevNum,
 ) -> Result<Result<Tree, FsPath>, AllocError>
     ensures { IfOk result (λ landed. MatchResult landed
         (λ tree. NoClash txn.now.base (finmap.get base.now) (finmap.get head.now) (finmap.get txn.now.tree) txn.now.marks
@@ -67,17 +68,18 @@ pub fn land_on(
 fn next_tree(alloc: Global, history: &History, txn: &Txn) -> Result<Option<Tree>, AllocError>
     ensures { IfOk result (λ o. MatchOption o
         ((p : ℕ) (properties : List (List ℕ × List ℕ)) (next : Stands) → IsNext history.now (entry_of p txn.now properties) next → ⊥)
-        (λ tree. (txn.now.base < length history.now) × (length history.now ≤ 2147483647)
+        (λ tree. (txn.now.base < length history.now) × (length history.now ≤ last_rev)
         × NoClash txn.now.base (tree_of history.now txn.now.base) (tree_of history.now (last_of history.now)) (finmap.get txn.now.tree) txn.now.marks
         × ((q : Path) → finmap.get tree q ≡ land (tree_of history.now txn.now.base) (tree_of history.now (last_of history.now)) (finmap.get txn.now.tree) txn.now.marks (length history.now) q))) }
 {
-    let count = history.count();
-    if count > 2147483647 {
+    let Some(next) = RevNum::new(history.count() as u64) else {
         return Ok(None);
-    }
-    let last = count.saturating_sub(1) as u32;
+    };
+    let Some(last) = next.previous() else {
+        return Ok(None);
+    };
     match (tree_at(history, txn.base), tree_at(history, last)) {
-        (Some(base), Some(head)) => match land_on(alloc, txn, base, head, count as u32)? {
+        (Some(base), Some(head)) => match land_on(alloc, txn, base, head, next)? {
             Ok(tree) => Ok(Some(tree)),
             Err(_) => Ok(None),
         },

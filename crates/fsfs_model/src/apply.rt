@@ -10,7 +10,9 @@ ghost use Rattle.fsfs_base.specs.Revisions.{tree_of};
 ghost use Rattle.fsfs_base.specs.Transactions.{last_of};
 
 use crate::history::node_at;
-use fsfs_base::{Edit, FsPath, History, Kind, Mark, Node, Pairs, PropName, Text, Tree, What};
+use fsfs_base::{
+    Edit, FsPath, History, Kind, Mark, Node, Pairs, PropName, RevNum, Text, Tree, What,
+};
 use std::alloc::{AllocError, Global};
 use std::collections::BTreeSet;
 
@@ -70,7 +72,7 @@ fn accepts(alloc: Global, edit: &Edit, history: &History, own: &Tree) -> Result<
         Edit::Delete { path } => Ok(!path.is_root() && own.get(path).is_some()),
         Edit::Copy { rev, from, to } => Ok(
             can_make(alloc, own, to)?
-                && *rev as usize <= history.count().saturating_sub(1)
+                && rev.get() as usize <= history.count().saturating_sub(1)
                 && node_at(history, *rev, from).is_some(),
         ),
         Edit::PutText { path, .. } => Ok(is_file(own.get(path))),
@@ -118,9 +120,9 @@ fn new_node(alloc: Global, kind: Kind) -> Node
         text: Text::Bytes(Vec::new(alloc)),
         properties: Pairs::new(alloc),
         source: None,
-        added: 0,
-        props_changed: 0,
-        last_changed: 0,
+        added: RevNum::ZERO,
+        props_changed: RevNum::ZERO,
+        last_changed: RevNum::ZERO,
     }
 }
 
@@ -164,7 +166,7 @@ fn with_prop(
 }
 
 // A copy of what stands at a path of a revision.
-fn copied(history: &History, rev: u32, from: FsPath) -> Result<Option<Node>, AllocError>
+fn copied(history: &History, rev: RevNum, from: FsPath) -> Result<Option<Node>, AllocError>
     ensures { IfOk result (λ node. node ≡ copied_node rev from (tree_of history.now rev from)) }
 {
     match node_at(history, rev, &from) {
@@ -211,7 +213,7 @@ fn node_after(
 fn add_copied(
     alloc: Global,
     history: &History,
-    rev: u32,
+    rev: RevNum,
     from: &FsPath,
     to: &FsPath,
     all: &mut BTreeSet<FsPath>,

@@ -7,10 +7,10 @@ ghost use Rattle.fsfs_base.specs.Marks.{effects_by};
 ghost use Rattle.fsfs_base.specs.Landing.{goes_on, touched_by_head, props_changed_by_head, clashes_at, reached, NoClash, IsFirstClash};
 
 use crate::land::all_paths;
-use fsfs_base::{Effects, FsPath, Kind, Mark, Node, Tree, effects_at, outer_marks};
+use fsfs_base::{Effects, FsPath, Kind, Mark, Node, RevNum, Tree, effects_at, outer_marks};
 use std::alloc::{AllocError, Global};
 
-fn touched_by_head(b: u32, head: Option<&Node>) -> bool
+fn touched_by_head(b: RevNum, head: Option<&Node>) -> bool
     ensures { result ≡ touched_by_head b (option_copied head.entry) }
 {
     match head {
@@ -19,7 +19,7 @@ fn touched_by_head(b: u32, head: Option<&Node>) -> bool
     }
 }
 
-fn props_changed_by_head(b: u32, head: Option<&Node>) -> bool
+fn props_changed_by_head(b: RevNum, head: Option<&Node>) -> bool
     ensures { result ≡ props_changed_by_head b (option_copied head.entry) }
 {
     match head {
@@ -29,7 +29,7 @@ fn props_changed_by_head(b: u32, head: Option<&Node>) -> bool
 }
 
 // Whether both sides hold the path, so that the walk goes on below it.
-fn goes_on(b: u32, effects: Effects, base: Option<&Node>, head: Option<&Node>) -> bool
+fn goes_on(b: RevNum, effects: Effects, base: Option<&Node>, head: Option<&Node>) -> bool
     ensures { result ≡ goes_on b effects (option_copied base.entry) (option_copied head.entry) }
 {
     base.is_some()
@@ -41,7 +41,7 @@ fn goes_on(b: u32, effects: Effects, base: Option<&Node>, head: Option<&Node>) -
 }
 
 fn clashes_at(
-    b: u32,
+    b: RevNum,
     effects: Effects,
     base: Option<&Node>,
     head: Option<&Node>,
@@ -69,7 +69,7 @@ fn clashes_at(
 // Whether every path above this one goes on.
 fn is_reached(
     alloc: Global,
-    b: u32,
+    b: RevNum,
     base: &Tree,
     head: &Tree,
     outer: &[Mark],
@@ -93,7 +93,7 @@ fn is_reached(
 
 fn is_clash(
     alloc: Global,
-    b: u32,
+    b: RevNum,
     base: &Tree,
     head: &Tree,
     own: &Tree,
@@ -111,7 +111,7 @@ fn is_clash(
 /// The least path at which the transaction on revision `b` and the head clash.
 pub fn flat_clash(
     alloc: Global,
-    b: u32,
+    b: RevNum,
     base: &Tree,
     head: &Tree,
     own: &Tree,

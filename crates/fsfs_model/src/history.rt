@@ -5,11 +5,11 @@ ghost use Rattle.std.specs.FinMap as map;
 ghost use Rattle.fsfs_base.specs.Revisions.{tree_of};
 ghost use Rattle.fsfs_base.specs.PathHistories.{path_history, leads_to};
 
-use fsfs_base::{FsPath, History, Node};
+use fsfs_base::{FsPath, History, Node, RevNum};
 use std::alloc::{AllocError, Global};
 
 // What stands at a path of a revision.
-pub(crate) fn node_at<'a>(history: &'a History, rev: u32, path: &FsPath) -> Option<&'a Node>
+pub(crate) fn node_at<'a>(history: &'a History, rev: RevNum, path: &FsPath) -> Option<&'a Node>
     ensures { option_copied result ≡ tree_of history.now rev path.now }
 {
     match history.get(rev) {
@@ -19,13 +19,13 @@ pub(crate) fn node_at<'a>(history: &'a History, rev: u32, path: &FsPath) -> Opti
 }
 
 // Where a point leads.
-fn next_point(path: &FsPath, node: &Node) -> Result<Option<(u32, FsPath)>, AllocError>
+fn next_point(path: &FsPath, node: &Node) -> Result<Option<(RevNum, FsPath)>, AllocError>
     ensures { IfOk result (λ next. next ≡ leads_to path.now node.now) }
 {
-    if node.added < node.last_changed {
-        return Ok(Some((node.last_changed - 1, path.clone()?)));
+    match node.last_changed.previous() {
+        Some(before) if node.added <= before => Ok(Some((before, path.clone()?))),
+        _ => node.source.clone(),
     }
-    Ok(node.source.clone()?)
 }
 
 /// The history of a path from a revision on, newest first: the revisions in which it, or anything below it, was changed, and
@@ -33,13 +33,13 @@ fn next_point(path: &FsPath, node: &Node) -> Result<Option<(u32, FsPath)>, Alloc
 pub fn flat_history(
     alloc: Global,
     history: &History,
-    rev: u32,
+    rev: RevNum,
     path: &FsPath,
-) -> Result<Vec<(u32, FsPath)>, AllocError>
+) -> Result<Vec<(RevNum, FsPath)>, AllocError>
     ensures { IfOk result (λ points. points.items ≡ path_history (tree_of history.now) rev path.now) }
 {
     let mut points = Vec::new(alloc);
-    let mut left = rev as u64 + 1;
+    let mut left = rev.get() as u64 + 1;
     let mut rev = rev;
     let mut path = path.clone()?;
     while left > 0 {

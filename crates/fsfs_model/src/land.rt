@@ -6,12 +6,12 @@ ghost use Rattle.std.specs.FinMap as map;
 ghost use Rattle.fsfs_base.specs.Paths.{Path, path_cmp};
 ghost use Rattle.fsfs_base.specs.Landing.{numbered, landed_at, land};
 
-use fsfs_base::{Effects, FsPath, Mark, Node, Tree, effects_at, outer_marks};
+use fsfs_base::{Effects, FsPath, Mark, Node, RevNum, Tree, effects_at, outer_marks};
 use std::alloc::{AllocError, Global};
 use std::collections::BTreeSet;
 
 // The numbers of a node that comes into revision n.
-fn number(n: u32, effects: Effects, is_own: bool, head: Option<&Node>, node: &mut Node)
+fn number(n: RevNum, effects: Effects, is_own: bool, head: Option<&Node>, node: &mut Node)
     ensures { node.new ≡ numbered n effects is_own (option_copied head.entry) node.old }
 {
     match head {
@@ -38,7 +38,7 @@ fn number(n: u32, effects: Effects, is_own: bool, head: Option<&Node>, node: &mu
 
 // What stands at a path after the landing.
 fn land_node(
-    n: u32,
+    n: RevNum,
     effects: Effects,
     base: Option<&Node>,
     head: Option<&Node>,
@@ -87,7 +87,7 @@ pub fn flat_land(
     head: &Tree,
     own: &Tree,
     marks: &[Mark],
-    n: u32,
+    n: RevNum,
 ) -> Result<Tree, AllocError>
     ensures { IfOk result (λ tree. (p : Path) → map.get tree p ≡ land (map.get base.now) (map.get head.now) (map.get own.now) marks.now n p) }
 {

@@ -2,7 +2,8 @@
 ghost use Rattle.std.specs.Prelude.{◌<◌};
 
 use fsfs_base::{
-    ChangeMap, Edit, FsPath, History, Kind, Mark, Node, Pairs, PropName, Revision, Text, Tree,
+    ChangeMap, Edit, FsPath, History, Kind, Mark, Node, Pairs, PropName, RevNum, Revision, Text,
+    Tree,
 };
 use fsfs_model::{flat_apply, flat_clash, flat_fold, flat_history, flat_land, flat_mark};
 use std::alloc::{AllocError, Global};
@@ -40,14 +41,15 @@ fn one_edit(alloc: Global, base: &Tree, change: &Edit) -> Result<Work, AllocErro
 }
 
 // The revision that a transaction makes of its base.
-fn committed(alloc: Global, base: &Tree, work: &Work, n: u32) -> Result<Tree, AllocError> {
+fn committed(alloc: Global, base: &Tree, work: &Work, n: u16) -> Result<Tree, AllocError> {
+    let n = RevNum::from(n);
     flat_land(alloc, base, base, &work.own, &work.marks, n)
 }
 
 // The clash of the second transaction on revision b with the first's commit, and its landing on that.
 fn merged(
     alloc: Global,
-    b: u32,
+    b: u16,
     base: &Tree,
     one: &Work,
     two: &Work,
@@ -55,8 +57,9 @@ fn merged(
     requires { b < 100 }
 {
     let head = committed(alloc, base, one, b + 1)?;
-    let found = flat_clash(alloc, b, base, &head, &two.own, &two.marks)?;
-    let landed = flat_land(alloc, base, &head, &two.own, &two.marks, b + 2)?;
+    let found = flat_clash(alloc, RevNum::from(b), base, &head, &two.own, &two.marks)?;
+    let after = RevNum::from(b + 2);
+    let landed = flat_land(alloc, base, &head, &two.own, &two.marks, after)?;
     Ok((found, landed))
 }
 
@@ -68,9 +71,9 @@ fn first(alloc: Global) -> Result<Tree, AllocError> {
         text: Text::Bytes(Vec::new(alloc)),
         properties: Pairs::new(alloc),
         source: None,
-        added: 0,
-        props_changed: 0,
-        last_changed: 0,
+        added: RevNum::ZERO,
+        props_changed: RevNum::ZERO,
+        last_changed: RevNum::ZERO,
     };
     tree.insert(FsPath::root(alloc), root)?;
     Ok(tree)
@@ -238,7 +241,11 @@ fn with_file(alloc: Global) -> Result<(History, Tree), AllocError> {
 fn copy(alloc: Global, from: &str, to: &str) -> Result<Edit, AllocError> {
     let from = in_root(alloc, from)?;
     let to = in_root(alloc, to)?;
-    Ok(Edit::Copy { rev: 1, from, to })
+    Ok(Edit::Copy {
+        rev: RevNum::from(1),
+        from,
+        to,
+    })
 }
 
 // The history up to revision 2, in which `/a` is copied to `/b`.
@@ -287,7 +294,7 @@ fn rewritten(alloc: Global) -> Result<(Option<FsPath>, Tree), AllocError> {
 fn last_changed(tree: &Tree, path: &FsPath) -> u32 {
     match tree.get(path) {
         None => 0,
-        Some(node) => node.last_changed,
+        Some(node) => node.last_changed.get(),
     }
 }
 
@@ -295,9 +302,11 @@ fn last_changed(tree: &Tree, path: &FsPath) -> u32 {
 fn copies(rt: HostRuntime) -> Result<(), Fail> {
     let alloc = rt.alloc();
     let b = in_root(alloc, "b")?;
-    let points = flat_history(alloc, &with_copy(alloc)?, 2, &b)?;
+    let points = flat_history(alloc, &with_copy(alloc)?, RevNum::from(2), &b)?;
     assert_eq!(rt; points.len(), 2);
-    assert!(rt; points[0] == (2, b) && points[1] == (1, in_root(alloc, "a")?));
+    assert!(rt;
+        points[0] == (RevNum::from(2), b) && points[1] == (RevNum::from(1), in_root(alloc, "a")?)
+    );
     let (found, landed) = rewritten(alloc)?;
     assert!(rt; found.is_none());
     assert_eq!(rt; last_changed(&landed, &below(alloc, "b", "x")?), 4);

@@ -3,7 +3,7 @@ ghost use Rattle.std.specs.Prelude.{◌≡◌};
 ghost use Rattle.fsfs_world.specs.Machine.{entry_of};
 
 use crate::contents::{Bytes, Contents};
-use fsfs_base::{Edit, FsPath, Mark, Pairs, Revision, Tree};
+use fsfs_base::{Edit, FsPath, Mark, Pairs, RevNum, Revision, Tree};
 use std::marker::Model;
 
 /// A revision of the history, and the bytes beside it: those of its revision file.
@@ -49,7 +49,7 @@ impl Model for Marks {
 /// A transaction: its name, the revision that it stands on, its tree and marks, and how often it was merged.
 pub struct Txn {
     pub name: u64,
-    pub base: u32,
+    pub base: RevNum,
     pub tree: Tree,
     pub marks: Marks,
     pub landings: u64,
@@ -93,7 +93,7 @@ impl Txn {
 #[derive(Drop)]
 pub struct Entry {
     pub pass: u64,
-    pub base: u32,
+    pub base: RevNum,
     pub tree: Tree,
     pub marks: Marks,
     pub properties: Pairs,
@@ -115,7 +115,7 @@ impl Model for Entry {
 pub struct Drawn {
     pub name: u64,
     pub next: u64,
-    pub base: u32,
+    pub base: RevNum,
 }
 
 /// The revision that a section is about to add, the entry that it lands, and its bytes.
@@ -273,7 +273,7 @@ pub enum Step {
     /// `TxnRead`, the first call of a begin on this base.
     Draw {
         pass: u64,
-        base: u32,
+        base: RevNum,
         went: Went,
     },
     /// `PutRev`, the first call of a commit: the bytes are those of the revision file.
@@ -330,7 +330,7 @@ pub enum Step {
     /// Lands the transaction on this revision.
     Merge {
         txn: u64,
-        head: u32,
+        head: RevNum,
     },
     /// `MakeBench`, a begin's last call, of one of the names that are given and have no bench yet.
     MakeBench {

@@ -3,7 +3,7 @@ ghost use Rattle.std.specs.Prelude.{◌≡◌, ◌+◌, ◌++◌, ◌∷◌, [],
 ghost use Rattle.fsfs_world.specs.Machine.{at_place, edited, merged};
 
 use crate::machine::{Marks, Txn};
-use fsfs_base::{Mark, Tree};
+use fsfs_base::{Mark, RevNum, Tree};
 use std::alloc::{AllocError, Global};
 
 impl Marks {
@@ -45,7 +45,7 @@ pub fn set_edited(txns: &mut Vec<Txn>, t: u64, tree: Tree, mark: Mark) -> Result
 
 /// The transaction on its new base.
 #[tactic(auto, using(crate::proofs::OnePlace::set_at_place, crate::proofs::OnePlace::no_place))]
-pub fn set_merged(txns: &mut Vec<Txn>, t: u64, tree: Tree, head: u32)
+pub fn set_merged(txns: &mut Vec<Txn>, t: u64, tree: Tree, head: RevNum)
     ensures { txns.new.items ≡ at_place txns.old.items t (merged tree head) }
 {
     let at = t as usize;

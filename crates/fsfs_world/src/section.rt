@@ -4,6 +4,7 @@ ghost use Rattle.fsfs_world.specs.Machine.{either, is_due, is_quiet, is_up, is_o
 
 use crate::files::is_fine;
 use crate::machine::{Drawn, Lock, Outcome, Place, Section, Went};
+use fsfs_base::RevNum;
 
 /// Whether the lock may be given here.
 pub fn is_quiet_section(section: &Section) -> bool
@@ -69,7 +70,7 @@ pub fn next_section(section: Section, went: &Went) -> Section
 }
 
 /// Where the section is after the counter was read.
-pub fn drawn_section(name: u64, next: u64, base: u32, went: &Went) -> Section
+pub fn drawn_section(name: u64, next: u64, base: RevNum, went: &Went) -> Section
     ensures { result ≡ either went.now (Section.CountRead (record { name = name; next = next; base = base })) Section.Over }
 {
     if is_fine(went) {
