@@ -27,11 +27,11 @@ goes_on tree other last more le same _ _ _ (Edited b t marks (Delete path) was o
 goes_on tree other last more le same _ _ _ (Edited b t marks (PutText path text) was ok) = Edited b t marks (PutText path text) (goes_on tree other last more le same b t marks was) ok
 goes_on tree other last more le same _ _ _ (Edited b t marks (SetProp path name value) was ok) = Edited b t marks (SetProp path name value) (goes_on tree other last more le same b t marks was) ok
 goes_on tree other last more le same _ _ _ (Edited b t marks (Copy rev from to) was ok) =
-    let first : (can_make t to && nat_le rev last) ≡ true = (and_parts _ _ ok).0 in
-    let made : can_make t to ≡ true = (and_parts _ _ first).0 in
-    let in_range : rev ≤ last = leb-true rev last (and_parts _ _ first).1 in
+    let first : (can_make t to && nat_le rev last) ≡ true = (and_parts (can_make t to && nat_le rev last) (is_some (tree rev from)) ok).0 in
+    let made : can_make t to ≡ true = (and_parts (can_make t to) (nat_le rev last) first).0 in
+    let in_range : rev ≤ last = leb-true rev last (and_parts (can_make t to) (nat_le rev last) first).1 in
     let e : tree rev ≡ other rev = same rev in_range in
-    let there : is_some (other rev from) ≡ true = subst (λ f. is_some (f from) ≡ true) e (and_parts _ _ ok).1 in
+    let there : is_some (other rev from) ≡ true = subst (λ f. is_some (f from) ≡ true) e (and_parts (can_make t to && nat_le rev last) (is_some (tree rev from)) ok).1 in
     let below : nat_le rev more ≡ true = grind (arith, le, in_range) in
     subst (λ f. IsTransaction other more b (with_copy t rev f from to) (marks ++ record { path = to; kind = kind_of_node (f from); what = Make (Some (rev, from)) } ∷ [])) (sym e)
     (Edited b t marks (Copy rev from to) (goes_on tree other last more le same b t marks was) (and_from _ _ (and_from _ _ made below) there))

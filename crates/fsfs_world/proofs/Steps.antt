@@ -302,7 +302,7 @@ revealed_keeps w p s k at = stays w k
 
 look_keeps : (w : World) (p : ℕ) (b : Bool) → (is_there w p && is_up w.lock) ≡ b → Kept w → Moves w (cond b (looked w p) (barred w)).world
 look_keeps w p false is k = stays w k
-look_keeps w p true is k = let last : w.young + 1 ≡ length w.history = k.young (and_parts _ _ is).1 in
+look_keeps w p true is k = let last : w.young + 1 ≡ length w.history = k.young (and_parts (is_there w p) (is_up w.lock) is).1 in
     with_pass w p (λ x. record x { least = w.young }) (λ x s. record { seen = s.seen; least = omega (arith, last); mine = s.mine; floor = s.floor }) (λ x. refl) k
 
 seen_append : (n f : ℕ) (xs : List Pass) (x : Pass) → AreSeen n f xs → IsSeen n f x → AreSeen n f (xs ++ x ∷ [])
