@@ -101,7 +101,7 @@ fn end_block<'a>(
     alloc: Global,
     out: &mut String,
     named: &mut Vec<Named<'a>>,
-    before: &[&str],
+    before: &'a [&'a str],
     block: &'a [&'a str],
 ) -> Result<(), AllocError> {
     let Some((first, lines)) = block.split_first() else {
