@@ -5,125 +5,100 @@ use crate::step::calls_the_disk;
 use anyhow::Result;
 use std::alloc::{AllocError, Global};
 
-// Runs that begin alike: all that can be named, the lines of each before the block, and those of the block.
-#[derive(Clone, Copy)]
-struct Trials<'a> {
-    named: &'a [Named<'a>],
-    before: &'a [&'a str],
-    block: &'a [&'a str],
+// What a block prints in a run with these lines before it, after these steps, and after the next has failed.
+fn told(
+    alloc: Global,
+    named: &[Named<'_>],
+    before: &[&str],
+    block: &[&str],
+    steps: &[&str],
+    failing: Option<&str>,
+) -> Result<String, AllocError> {
+    let mut player = Player::new(alloc)?;
+    for line in before {
+        player.play(named, line)?;
+    }
+    player.out.clear();
+    let done = player.run(steps);
+    player.told("steps", done)?;
+    if let Some(line) = failing {
+        let failed = player.fail(line);
+        player.told(line, failed)?;
+    }
+    for line in block {
+        player.play(named, line)?;
+    }
+    Ok(player.out)
 }
 
-impl Trials<'_> {
-    // What the block prints after these steps, and after the next has failed.
-    fn told(
-        self,
-        alloc: Global,
-        steps: &[&str],
-        failing: Option<&str>,
-    ) -> Result<String, AllocError> {
-        let mut player = Player::new(alloc)?;
-        for line in self.before {
-            player.play(self.named, line)?;
+// Plays a block after each of these steps. What is printed of steps beside one another that give the same is printed once.
+fn play_after(
+    alloc: Global,
+    out: &mut String,
+    named: &[Named<'_>],
+    before: &[&str],
+    block: &[&str],
+    steps: &[&str],
+) -> Result<(), AllocError> {
+    let mut last = String::new(alloc);
+    for (at, line) in steps.iter().enumerate() {
+        let done = steps.get(..at.saturating_add(1)).unwrap_or(steps);
+        let told = told(alloc, named, before, block, done, None)?;
+        if told.as_str() != last.as_str() {
+            write!(out, "after {line}\n{told}")?;
+            last = told;
         }
-        player.out.clear();
-        let done = player.run(steps);
-        player.told("steps", done)?;
-        if let Some(line) = failing {
-            let failed = player.fail(line);
-            player.told(line, failed)?;
-        }
-        for line in self.block {
-            player.play(self.named, line)?;
-        }
-        Ok(player.out)
     }
+    Ok(())
+}
 
-    // Plays the block after each of these steps. What is printed of steps beside one another that give the same is printed
-    // once.
-    fn after(self, alloc: Global, out: &mut String, steps: &[&str]) -> Result<(), AllocError> {
-        let mut last = String::new(alloc);
-        for (at, line) in steps.iter().enumerate() {
-            let done = steps.get(..at.saturating_add(1)).unwrap_or(steps);
-            let told = self.told(alloc, done, None)?;
+// The same, where each of these steps that calls the disk fails in each way.
+fn play_faults(
+    alloc: Global,
+    out: &mut String,
+    named: &[Named<'_>],
+    before: &[&str],
+    block: &[&str],
+    steps: &[&str],
+) -> Result<(), AllocError> {
+    let mut last = String::new(alloc);
+    for (at, line) in steps.iter().enumerate() {
+        if !calls_the_disk(line) {
+            continue;
+        }
+        let done = steps.get(..at).unwrap_or(steps);
+        for way in ["before", "after", "torn"] {
+            let failing = format!(in alloc; "{line} {way}")?;
+            let told = told(alloc, named, before, block, done, Some(failing.as_str()))?;
             if told.as_str() != last.as_str() {
-                write!(out, "after {line}\n{told}")?;
+                write!(out, "fault {failing}\n{told}")?;
                 last = told;
             }
         }
-        Ok(())
     }
-
-    // The same, where each of these steps that calls the disk fails in each way.
-    fn faults(self, alloc: Global, out: &mut String, steps: &[&str]) -> Result<(), AllocError> {
-        let mut last = String::new(alloc);
-        for (at, line) in steps.iter().enumerate() {
-            if !calls_the_disk(line) {
-                continue;
-            }
-            let done = steps.get(..at).unwrap_or(steps);
-            for way in ["before", "after", "torn"] {
-                let failing = format!(in alloc; "{line} {way}")?;
-                let told = self.told(alloc, done, Some(failing.as_str()))?;
-                if told.as_str() != last.as_str() {
-                    write!(out, "fault {failing}\n{told}")?;
-                    last = told;
-                }
-            }
-        }
-        Ok(())
-    }
+    Ok(())
 }
 
-// Plays a block of runs in which the steps of this name are done in part.
-fn play_trials(
+// Plays a block whose first line is this one, and whose other lines are those.
+fn play_block(
     alloc: Global,
     out: &mut String,
-    trials: Trials<'_>,
-    name: &str,
-    faults: bool,
-) -> Result<(), AllocError> {
-    match steps_of(trials.named, name) {
-        Ok(steps) if faults => trials.faults(alloc, out, steps),
-        Ok(steps) => trials.after(alloc, out, steps),
-        Err(error) => writeln!(out, "? {name}: {error}"),
-    }
-}
-
-// Where a run begins, and its first block.
-#[derive(Clone, Copy)]
-struct Run {
-    first: usize,
-    block: Option<usize>,
-}
-
-// Ends a block whose first line begins it, and whose other lines are these: gives its steps their name, or plays it.
-fn end_block<'a>(
-    alloc: Global,
-    out: &mut String,
-    named: &mut Vec<Named<'a>>,
+    named: &[Named<'_>],
     before: &[&str],
-    block: &'a [&'a str],
+    first: &str,
+    block: &[&str],
 ) -> Result<(), AllocError> {
-    let Some((first, lines)) = block.split_first() else {
-        return Ok(());
-    };
     let (name, faults) = match Line::read(first) {
         Line::Begin(Block::After(name)) => (name, false),
         Line::Begin(Block::Faults(name)) => (name, true),
-        Line::Begin(Block::Steps(name)) => {
-            named.push(Named { name, steps: lines })?;
-            return Ok(());
-        }
         _ => return Ok(()),
     };
-    let word = if faults { "faults" } else { "after" };
-    writeln!(out, "{word} {name}")?;
-    let trials = Trials {
-        named: named.as_slice(),
-        before,
-        block: lines,
-    };
-    play_trials(alloc, out, trials, name, faults)?;
+    writeln!(out, "{first}")?;
+    match steps_of(named, name) {
+        Ok(steps) if faults => play_faults(alloc, out, named, before, block, steps)?,
+        Ok(steps) => play_after(alloc, out, named, before, block, steps)?,
+        Err(error) => writeln!(out, "? {name}: {error}")?,
+    }
     writeln!(out, "end")
 }
 
@@ -146,7 +121,15 @@ fn play_lines<'a>(alloc: Global, lines: &'a [&'a str]) -> Result<String, AllocEr
             (Line::End, Some(start)) => {
                 let before = lines.get(run..first_block.unwrap_or(start)).unwrap_or(&[]);
                 let block = lines.get(start..at).unwrap_or(&[]);
-                end_block(alloc, &mut player.out, &mut named, before, block)?;
+                if let Some((first, block)) = block.split_first() {
+                    match Line::read(first) {
+                        Line::Begin(Block::Steps(name)) => named.push(Named {
+                            name,
+                            steps: block,
+                        })?,
+                        _ => play_block(alloc, &mut player.out, &named, before, first, block)?,
+                    }
+                }
                 first_block = first_block.or(Some(start));
                 begun = None;
             }
