@@ -6,7 +6,7 @@ ghost use Rattle.fsfs_world.specs.Machine.{Happens, Runs, did, created, stuck_pl
 ghost use Rattle.fsfs_world.specs.Kept.{Kept, Keeps, RunKeeps};
 ghost use Rattle.fsfs_core.specs.State.{world_of};
 
-use fsfs_base::{ChangeMap, FsPath, History, Kind, Node, Pairs, Revision, Text, Tree};
+use fsfs_base::{ChangeMap, FsPath, History, Kind, Node, Pairs, RevNum, Revision, Text, Tree};
 use fsfs_world::{
     Bytes, Change, Contents, Drawn, Entry, Line, Lock, Name, Outcome, Pass, Place, Step, Txn,
 };
@@ -46,9 +46,9 @@ fn first_tree(alloc: Global) -> Result<Tree, AllocError>
         text: Text::Bytes(Vec::new(alloc)),
         properties: Pairs::new(alloc),
         source: None,
-        added: 0,
-        props_changed: 0,
-        last_changed: 0,
+        added: RevNum::ZERO,
+        props_changed: RevNum::ZERO,
+        last_changed: RevNum::ZERO,
     };
     tree.insert(FsPath::root(alloc), root)?;
     Ok(tree)

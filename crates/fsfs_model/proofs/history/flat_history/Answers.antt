@@ -12,4 +12,8 @@ loop-left-preserved-in-None-2 c =
     (omega arith) (sym c.in-Some.ensures) (c.in_ok-push-in-Some.ensures.items ∙ (λ i. c.loop-left.points.items ++ ((c.node.view_is i).last_changed, c.in_ok-clone-in-Some.ensures.cases i) ∷ [])) c.in_ok-next_point-in-Some.ensures c.loop-left.invariant
 
 pub loop-left-preserved : goal.loop-left-preserved
-loop-left-preserved c = ?
+loop-left-preserved c =
+    let w = ap (λ o. c.push.new.self.items ++ go_on (λ to. history_within (c.loop-left.left - 1) (tree_of c.args.history.now) to.0 to.1) o) (sym c.in-Some-2.is)
+    ∙ one_point c.loop-left.points.items c.push.new.self.items (path_history (tree_of c.args.history.now) c.args.rev c.args.path.now) c.loop-left.left (tree_of c.args.history.now) c.loop-left.rev c.loop-left.path c.in-Some.node.now c.in_ok-next_point-in-Some.field-0
+    (omega arith) (sym c.in-Some.ensures) (c.in_ok-push-in-Some.ensures.items ∙ (λ i. c.loop-left.points.items ++ ((c.node.view_is i).last_changed, c.in_ok-clone-in-Some.ensures.cases i) ∷ [])) c.in_ok-next_point-in-Some.ensures c.loop-left.invariant in
+    first_of (search (w, c.in-Some-2.from-is, c.in-Some-2.source-is), grind (arith, w, c.in-Some-2.from-is, c.in-Some-2.source-is))
