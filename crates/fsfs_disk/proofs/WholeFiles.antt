@@ -1,6 +1,7 @@
 -- A file that is read as a whole, piece by piece.
 use Rattle.std.proofs.Common.{◌≡◌, ◌≤◌, ◌<◌, ℕ, ◌+◌, ◌-◌, List, [], ◌++◌, length, take, drop, min, refl, sym, ap, ◌∙◌, arith}
-use Rattle.std.specs.Prelude.{Option, Some, None, unwrap_or}
+use Rattle.std.specs.Prelude.{Option, Some, None}
+use Rattle.std.proofs.lemmas.Option.{same_Some}
 use Rattle.std.proofs.Math.Seq.{take-add}
 use Rattle.std.proofs.lemmas.List.{length-take, length-drop, take-append-le, take_all, length-append}
 use Rattle.fsfs_disk.specs.Trace.{IsRead}
@@ -9,9 +10,6 @@ use Rattle.fsfs_disk.specs.Trace.{IsRead}
 abbrev pub IsFrontOf : List ℕ → Option (List ℕ) → Type 0
 IsFrontOf front None = front ≡ []
 IsFrontOf front (Some bytes) = front ≡ take (length front) bytes
-
-same_count : (n m : ℕ) → ◌≡◌ {A = Option ℕ} (Some n) (Some m) → n ≡ m
-same_count n m e = cc
 
 -- the bytes that one read puts in front of the buffer
 pub read_bytes : (bytes old : List ℕ) (offset n : ℕ) → n ≤ length bytes - offset → take n (take n (drop offset bytes) ++ drop n old) ≡ take n (drop offset bytes)
@@ -34,7 +32,7 @@ pub front_more : (file : Option (List ℕ)) (items old new : List ℕ) (offset c
     → IsFrontOf (items ++ take count new) file
 front_more None items old new offset count found front at read is = let h : None ≡ Some count = sym read.0 ∙ is in cc
 front_more (Some bytes) items old new offset count found front at read is =
-    front_of bytes items old new offset count (min (length old) (length bytes - offset)) front at refl read.1 (same_count (min (length old) (length bytes - offset)) count (sym read.0 ∙ is))
+    front_of bytes items old new offset count (min (length old) (length bytes - offset)) front at refl read.1 (same_Some (min (length old) (length bytes - offset)) count (sym read.0 ∙ is))
 
 -- a read of nothing into some room, behind all that there is
 no_more : (bytes items : List ℕ) (offset room n : ℕ) → 0 < room → items ≡ take (length items) bytes → offset ≡ length items → n ≡ min room (length bytes - offset) → n ≡ 0 → items ≡ bytes
@@ -43,12 +41,12 @@ no_more bytes items offset room n some front at is none =
     front ∙ take_all (length items) bytes all
 
 -- a file is read as a whole where a read gives nothing
-pub whole_file : (file : Option (List ℕ)) (items old new : List ℕ) (offset : ℕ) (found : Option ℕ) → 0 < length old → IsFrontOf items file → offset ≡ length items → IsRead file offset old new found → found ≡ Some 0 → items ≡ unwrap_or file []
-whole_file None items old new offset found some front at read is = front
+pub whole_file : (file : Option (List ℕ)) (items old new : List ℕ) (offset : ℕ) (found : Option ℕ) → 0 < length old → IsFrontOf items file → offset ≡ length items → IsRead file offset old new found → found ≡ Some 0 → Some items ≡ file
+whole_file None items old new offset found some front at read is = let h : None ≡ Some 0 = sym read.0 ∙ is in cc
 whole_file (Some bytes) items old new offset found some front at read is =
-    no_more bytes items offset (length old) (min (length old) (length bytes - offset)) some front at refl (same_count (min (length old) (length bytes - offset)) 0 (sym read.0 ∙ is))
+    ap (λ (b : List ℕ). Some b) (no_more bytes items offset (length old) (min (length old) (length bytes - offset)) some front at refl (same_Some (min (length old) (length bytes - offset)) 0 (sym read.0 ∙ is)))
 
--- a read of a file that is not there
-pub no_bytes : (file : Option (List ℕ)) (offset : ℕ) (old new : List ℕ) (found : Option ℕ) → IsRead file offset old new found → found ≡ None → [] ≡ unwrap_or file []
-no_bytes None offset old new found read is = refl
-no_bytes (Some bytes) offset old new found read is = let h : ◌≡◌ {A = Option ℕ} (Some (min (length old) (length bytes - offset))) None = sym read.0 ∙ is in cc
+-- a read finds no file where there is none
+pub no_file : (file : Option (List ℕ)) (offset : ℕ) (old new : List ℕ) (found : Option ℕ) → IsRead file offset old new found → found ≡ None → None ≡ file
+no_file None offset old new found read is = refl
+no_file (Some bytes) offset old new found read is = let h : ◌≡◌ {A = Option ℕ} (Some (min (length old) (length bytes - offset))) None = sym read.0 ∙ is in cc

@@ -1,21 +1,19 @@
 -- Reads of single files.
 use Rattle.std.proofs.Common.{◌≡◌, ◌≤◌, ◌<◌, ℕ, ◌+◌, ◌-◌, List, [], ◌++◌, length, take, drop, min, refl, sym, ap, subst, ◌∙◌, inl, inr, arith, nat_lt, false, true}
 use Rattle.std.specs.Prelude.{Option, Some, None, Result, Ok, Err, IfSome, IfOk, IfErr, unwrap_or, ◌⊎◌}
+use Rattle.std.proofs.lemmas.Option.{same_Some}
 use Rattle.std.proofs.lemmas.Grind.{common_steps}
 use Rattle.std.proofs.lemmas.Bool.Decides.{nat_tests}
 use Rattle.std.proofs.lemmas.List.{length-take, length-drop, take-append-le, take_all, length-append}
 use Rattle.std.specs.FinMap as map
 use Rattle.fsfs_base.specs.Files.{Files}
 use Rattle.fsfs_disk.specs.Trace.{IsRead, IsSize}
-use Rattle.fsfs_disk.proofs.WholeFiles.{IsFrontOf, read_bytes, front_more, whole_file, no_bytes}
+use Rattle.fsfs_disk.proofs.WholeFiles.{read_bytes}
 use Rattle.fsfs_book.specs.declared.book.BookFault.{BookFault}
 use Rattle.fsfs_book.specs.declared.book.BookFault.TheVariants.{Refused, Short, DiskFault, OutOfMemory}
 use Rattle.fsfs_fetch.specs.Views.{View, Later}
 use Rattle.fsfs_fetch.specs.Answers.{Stays, MayGo, FromFile, size_of_file, part_of_file}
-use Rattle.fsfs_fetch.proofs.ViewLemmas.{later_more, told_at, stays_later, stays_now, goes_later, goes_now}
-
-some_count : (n m : ℕ) → ◌≡◌ {A = Option ℕ} (Some n) (Some m) → n ≡ m
-some_count n m e = cc
+use Rattle.fsfs_fetch.specs.ViewLemmas.{later_more, told_at, stays_later, stays_now, goes_later, goes_now}
 
 -- what one call reads of a file that stays
 pub read_stays : (v w : View) (name : List ℕ) (file : Option (List ℕ)) (P : Option (List ℕ) → Type 0) → Later v w → Stays v name file → IfSome w.files (λ m. P (map.get m name)) → P file
@@ -24,23 +22,6 @@ read_stays v w name file P e s h =
     let Q : Files → Type 0 = λ m. P (map.get m name) in
     subst P (stays_now w name file t) (told_at w.files t.now Q t.told h)
 
-pub more_of : (v w : View) (name items old new : List ℕ) (offset count : ℕ) (found : Option ℕ) (file : Option (List ℕ)) → Later v w → Stays v name file → IfSome w.files (λ m. IsRead (map.get m name) offset old new found)
-    → IsFrontOf items file → offset ≡ length items → found ≡ Some count → IsFrontOf (items ++ take count new) file
-more_of v w name items old new offset count found file e s read front at is =
-    let P : Option (List ℕ) → Type 0 = λ f. IsRead f offset old new found in
-    front_more file items old new offset count found front at (read_stays v w name file P e s read) is
-
-pub end_of : (v w : View) (name items old new : List ℕ) (offset : ℕ) (found : Option ℕ) (file : Option (List ℕ)) → Later v w → Stays v name file → IfSome w.files (λ m. IsRead (map.get m name) offset old new found)
-    → 0 < length old → IsFrontOf items file → offset ≡ length items → found ≡ Some 0 → items ≡ unwrap_or file []
-end_of v w name items old new offset found file e s read some front at is =
-    let P : Option (List ℕ) → Type 0 = λ f. IsRead f offset old new found in
-    whole_file file items old new offset found some front at (read_stays v w name file P e s read) is
-
-pub none_of : (v w : View) (name old new : List ℕ) (offset : ℕ) (found : Option ℕ) (file : Option (List ℕ)) → Later v w → Stays v name file → IfSome w.files (λ m. IsRead (map.get m name) offset old new found) → found ≡ None → [] ≡ unwrap_or file []
-none_of v w name old new offset found file e s read is =
-    let P : Option (List ℕ) → Type 0 = λ f. IsRead f offset old new found in
-    no_bytes file offset old new found (read_stays v w name file P e s read) is
-
 -- ---- a file that may go
 
 -- the size of a file, or that it isn't there
@@ -48,7 +29,7 @@ found_size : (file at : Option (List ℕ)) (new : Option Files) (name : List ℕ
 found_size file None new name m None told here stands is = (m, told, here)
 found_size file None new name m (Some n) told here stands is = let h : ◌≡◌ {A = Option ℕ} (Some n) None = is in cc
 found_size file (Some bytes) new name m None told here stands is = let h : ◌≡◌ {A = Option ℕ} None (Some (length bytes)) = is in cc
-found_size file (Some bytes) new name m (Some n) told here (inl same) is = (bytes, sym same, ap (λ (k : ℕ). Ok k) (sym (some_count n (length bytes) is)))
+found_size file (Some bytes) new name m (Some n) told here (inl same) is = (bytes, sym same, ap (λ (k : ℕ). Ok k) (sym (same_Some n (length bytes) is)))
 found_size file (Some bytes) new name m (Some n) told here (inr none) is = cc
 
 pub size_found : (v w : View) (name : List ℕ) (file : Option (List ℕ)) (size : Option ℕ) → Later v w → MayGo v name file → IfSome w.files (λ m. IsSize (map.get m name) size) → FromFile {X = ℕ} {Y = ℕ} file w.files name (λ n. n) size_of_file (Ok size)
@@ -75,7 +56,7 @@ size_of_result v w name file result e s h failed =
 -- where the size of a file was found, the file stands and has that size
 sized : (file at : Option (List ℕ)) (size : ℕ) → (at ≡ file) ⊎ (at ≡ None) → IsSize at (Some size) → (bytes : List ℕ) × (file ≡ Some bytes) × (size ≡ length bytes)
 sized file None size stands is = let h : ◌≡◌ {A = Option ℕ} (Some size) None = is in cc
-sized file (Some bytes) size (inl same) is = (bytes, sym same, some_count size (length bytes) is)
+sized file (Some bytes) size (inl same) is = (bytes, sym same, same_Some size (length bytes) is)
 sized file (Some bytes) size (inr none) is = let h : ◌≡◌ {A = Option (List ℕ)} (Some bytes) None = none in cc
 
 pub has_size : (v w : View) (name : List ℕ) (file : Option (List ℕ)) (size : ℕ) → Later v w → MayGo v name file → IfSome w.files (λ m. IsSize (map.get m name) (Some size)) → (bytes : List ℕ) × (file ≡ Some bytes) × (size ≡ length bytes)
@@ -98,15 +79,12 @@ take_lesser n m xs is = grind (arith, common_steps, take_all)
 part_same : (bytes file old new : List ℕ) (rev offset n : ℕ) → file ≡ bytes → offset ≤ length bytes → IsRead (Some file) offset old new (Some n) → part_of_file rev offset (length old) bytes ≡ Ok (take n new)
 part_same bytes file old new rev offset n same le read =
     let k : ℕ = min (length old) (length file - offset) in
-    let n_is : n ≡ k = some_count n k read.0 in
+    let n_is : n ≡ k = same_Some n k read.0 in
     let not_past : nat_lt (length bytes) offset ≡ false = grind (arith, nat_tests) in
     let got : take n new ≡ take k (drop offset file) = ap (λ j. take j new) n_is ∙ ap (take k) read.1 ∙ read_bytes file old offset k (omega arith) in
     let cut : take k (drop offset file) ≡ take (length old) (drop offset file) = take_lesser (length old) (length file - offset) (drop offset file) (length-drop offset file) in
     let whole : take (length old) (drop offset bytes) ≡ take n new = ap (λ xs. take (length old) (drop offset xs)) (sym same) ∙ sym cut ∙ sym got in
     rw not_past (ap (λ (xs : List ℕ). Ok xs) whole)
-
-some_bytes : (a b : List ℕ) → ◌≡◌ {A = Option (List ℕ)} (Some a) (Some b) → a ≡ b
-some_bytes a b e = cc
 
 -- where a read found a file, the file stands and was read
 part_there : (file at : Option (List ℕ)) (offset count : ℕ) (old new : List ℕ) → (at ≡ file) ⊎ (at ≡ None) → IsRead at offset old new (Some count) → (bytes : List ℕ) × (file ≡ Some bytes) × IsRead (Some bytes) offset old new (Some count)
@@ -129,7 +107,7 @@ pub part_found : (v w : View) (name : List ℕ) (file : Option (List ℕ)) (rev 
     → FromFile {X = ℕ} {Y = List ℕ} file w.files name (λ n. take n new) (part_of_file rev offset (length old)) (Ok (Some count))
 part_found v w name file rev offset count old new e s h some =
     let p = has_part v w name file offset count old new e s h in
-    let le = within p.0 old offset count some (some_count count (min (length old) (length p.0 - offset)) p.2.0) in
+    let le = within p.0 old offset count some (same_Some count (min (length old) (length p.0 - offset)) p.2.0) in
     (p.0, p.1, part_same p.0 p.0 old new rev offset count refl le p.2)
 
 -- a read that found nothing more, up to the end
@@ -138,7 +116,7 @@ pub end_found : (u v w : View) (name : List ℕ) (file : Option (List ℕ)) (rev
 end_found u v w name file rev offset count size old new e f s read h le =
     let p = has_part u v name file offset count old new e s read in
     let q = has_size u w name file size (later_more u v w e f) s h in
-    let same : p.0 ≡ q.0 = some_bytes p.0 q.0 (sym p.1 ∙ q.1) in
+    let same : p.0 ≡ q.0 = same_Some p.0 q.0 (sym p.1 ∙ q.1) in
     let fits : offset ≤ length q.0 = omega (arith, le, q.2) in
     (q.0, q.1, part_same q.0 p.0 old new rev offset count same fits p.2)
 

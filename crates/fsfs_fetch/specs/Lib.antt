@@ -3,3 +3,5 @@ pub mod Owned
 pub mod Kept
 pub mod Answers
 pub mod KeptLemmas
+pub mod ViewLemmas
+pub mod PartsLater

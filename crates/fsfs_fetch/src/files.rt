@@ -8,9 +8,11 @@ ghost use Rattle.fsfs_book.specs.Told.{HasCause, IsAbout};
 ghost use Rattle.fsfs_fetch.specs.Views.{Later};
 ghost use Rattle.fsfs_fetch.specs.Answers.{Stays, MayGo, FromFile, part_of_file, size_of_file, OnlyMemory};
 
+use crate::parts::StoreParts;
 use crate::reads::Reads;
 use fsfs_book::BookFault;
 use fsfs_disk::Name;
+use fsfs_whole_file::{FileFault, read_file};
 use std::alloc::Global;
 
 pub(crate) fn read_at<R: Reads>(
@@ -54,20 +56,12 @@ pub(crate) fn load<R: Reads>(
     ensures later { Later (R.view reads.old) (R.view reads.new) }
     ensures cause { HasCause (R.faults reads.old) (R.faults reads.new) result }
 {
-    let mut bytes = Vec::new(alloc);
-    let mut piece = [0; 4096];
-    for _ in 0..u64::MAX {
-        match read_at(reads, name, bytes.len() as u64, &mut piece)? {
-            None => return Ok(Vec::new(alloc)),
-            Some(0) => return Ok(bytes),
-            Some(count) => {
-                let Ok(()) = bytes.extend_from_slice(&piece[..count]) else {
-                    return Err(BookFault::OutOfMemory);
-                };
-            }
-        }
+    match read_file(alloc, &mut StoreParts { reads }, name) {
+        Ok(Some(bytes)) => Ok(bytes),
+        Ok(None) => Ok(Vec::new(alloc)),
+        Err(FileFault::Failed) => Err(BookFault::DiskFault),
+        Err(FileFault::Memory) => Err(BookFault::OutOfMemory),
     }
-    Err(BookFault::OutOfMemory)
 }
 
 // The size of a revision's own file. `None`: there is no such file.

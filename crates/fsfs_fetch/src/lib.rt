@@ -10,6 +10,7 @@ mod floors;
 mod manifests;
 mod owned;
 mod packs;
+mod parts;
 mod reads;
 
 pub use direct::{Direct, disk_of, over_disk};

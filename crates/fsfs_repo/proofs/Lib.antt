@@ -1,6 +1,5 @@
 pub mod CreationLemmas
 pub mod CreatedFilesLemmas
 pub mod CrashLemmas
-pub mod WholeFileLemmas
 pub mod OpeningLemmas
 pub mod DecidingLemmas

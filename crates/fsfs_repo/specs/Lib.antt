@@ -1,5 +1,4 @@
 pub mod NewFiles
 pub mod Creation
-pub mod WholeFile
 pub mod OpenFaults
 pub mod Deciding

@@ -5,8 +5,8 @@ use Rattle.fsfs_layout.specs.Opening.{SmallTexts, small_texts, IsNone, HasFormat
 use Rattle.fsfs_repo.specs.declared.opening.SmallFiles.{SmallFiles}
 use Rattle.fsfs_repo.specs.declared.opening.OpenFault.{OpenFault}
 use Rattle.fsfs_repo.specs.declared.opening.OpenFault.TheVariants.{NotRepo, OtherFormat, Linear, Small, DiskFault, Memory}
-use Rattle.fsfs_repo.specs.declared.whole_file.FileFault.{FileFault}
-use Rattle.fsfs_repo.specs.declared.whole_file.FileFault.TheVariants as file
+use Rattle.fsfs_whole_file.specs.declared.file_fault.FileFault.{FileFault}
+use Rattle.fsfs_whole_file.specs.declared.file_fault.FileFault.TheVariants as file
 use Rattle.fsfs_repo.specs.declared.place.DiskPlace.TheVariants.{OpenRead}
 
 abbrev pub texts_of : SmallFiles → SmallTexts

@@ -5,10 +5,8 @@ mod creation;
 mod initial;
 mod opening;
 mod place;
-mod whole_file;
 
 pub use creation::{CreateFault, create};
 pub use initial::{NewFile, created_files, format_text};
 pub use opening::{OpenFault, open};
 pub use place::DiskPlace;
-pub use whole_file::{FileFault, read_file};

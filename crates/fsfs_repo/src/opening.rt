@@ -8,13 +8,13 @@ ghost use Rattle.fsfs_repo.specs.Deciding.{Decides};
 ghost use Rattle.fsfs_layout.specs.declared.opened.Opened.{Opened};
 
 use crate::place::DiskPlace;
-use crate::whole_file::{FileFault, read_file};
 use fsfs_base::{SmallFault, SmallFile};
 use fsfs_disk::{Disk, Name};
 use fsfs_layout::{
     Format, Opened, names, read_current, read_format, read_min_unpacked_rev, read_txn_current,
     read_uuid,
 };
+use fsfs_whole_file::{FileFault, read_disk_file};
 use std::alloc::Global;
 use thiserror::Error;
 
@@ -60,7 +60,7 @@ fn text_of<D: Disk>(alloc: Global, disk: &mut D, name: &Name) -> Result<Vec<u8>,
     ensures later { D.faults disk.old ≤ D.faults disk.new }
     ensures failed { IfErr result (IfOutside (Rose (D.faults disk.old) (D.faults disk.new))) }
 {
-    match read_file(alloc, disk, name) {
+    match read_disk_file(alloc, disk, name) {
         Ok(Some(bytes)) => Ok(bytes),
         Ok(None) => Ok(Vec::new(alloc)),
         Err(fault) => Err(outside(fault)),
@@ -84,7 +84,7 @@ fn read_small_files<D: Disk>(alloc: Global, disk: &mut D) -> Result<SmallFiles, 
     ensures later { D.faults disk.old ≤ D.faults disk.new }
     ensures failed { IfErr result (IfOutside (Rose (D.faults disk.old) (D.faults disk.new))) }
 {
-    let format = match read_file(alloc, disk, &names::format()) {
+    let format = match read_disk_file(alloc, disk, &names::format()) {
         Ok(found) => found,
         Err(fault) => return Err(outside(fault)),
     };

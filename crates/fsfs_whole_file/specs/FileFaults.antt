@@ -1,6 +1,6 @@
 -- Why a file was not read as a whole.
-use Rattle.fsfs_repo.specs.declared.whole_file.FileFault.{FileFault}
-use Rattle.fsfs_repo.specs.declared.whole_file.FileFault.TheVariants.{Failed, Memory}
+use Rattle.fsfs_whole_file.specs.declared.file_fault.FileFault.{FileFault}
+use Rattle.fsfs_whole_file.specs.declared.file_fault.FileFault.TheVariants.{Failed, Memory}
 
 -- a fact for a failure of the disk
 abbrev pub IfFailed : Type 0 → FileFault → Type 0
