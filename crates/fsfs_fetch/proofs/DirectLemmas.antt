@@ -19,7 +19,7 @@ use Rattle.fsfs_rev_file.specs.RevBytes.{floor_in, rev_bytes, packed_bytes, by_f
 use Rattle.fsfs_fetch.specs.Views.{Reach, IsKnown, View, Follows, Later, is_packed, is_below}
 use Rattle.fsfs_fetch.specs.Answers.{MayGo, FromFile, refused}
 use Rattle.fsfs_fetch.specs.Kept.{fits, agrees, is_right, are_offsets, IsPackedAt, ServesAsWell, IsFoundAt, FindsAsWell, IsGoneAt}
-use Rattle.fsfs_fetch.proofs.ViewLemmas.{next, told_at, known_later}
+use Rattle.fsfs_fetch.specs.ViewLemmas.{next, told_at, known_later}
 use Rattle.fsfs_fetch.proofs.ManifestLemmas.{refused_ok}
 
 -- ---- the test of what is kept, taken apart and put together

@@ -13,7 +13,7 @@ use Rattle.fsfs_book.specs.declared.book.BookFault.{BookFault}
 use Rattle.fsfs_book.specs.declared.book.BookFault.TheVariants.{Refused, Short, DiskFault, OutOfMemory}
 use Rattle.fsfs_fetch.specs.Views.{View, Later}
 use Rattle.fsfs_fetch.specs.Answers.{Stays, MayGo, FromFile, size_of_file, part_of_file}
-use Rattle.fsfs_fetch.proofs.ViewLemmas.{later_more, told_at, stays_later, stays_now, goes_later, goes_now}
+use Rattle.fsfs_fetch.specs.ViewLemmas.{later_more, told_at, stays_later, stays_now, goes_later, goes_now}
 
 -- what one call reads of a file that stays
 pub read_stays : (v w : View) (name : List ℕ) (file : Option (List ℕ)) (P : Option (List ℕ) → Type 0) → Later v w → Stays v name file → IfSome w.files (λ m. P (map.get m name)) → P file

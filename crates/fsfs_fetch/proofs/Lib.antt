@@ -1,4 +1,3 @@
-pub mod ViewLemmas
 pub mod FileLemmas
 pub mod ManifestLemmas
 pub mod PackLemmas

@@ -21,7 +21,7 @@ use Rattle.fsfs_fetch.specs.Answers.{Stays, refused, as_book}
 use Rattle.fsfs_fetch.specs.Kept.{IsPackedAt}
 use Rattle.fsfs_disk.proofs.WholeFiles.{read_bytes}
 use Rattle.fsfs_fetch.proofs.FileLemmas.{read_stays}
-use Rattle.fsfs_fetch.proofs.ViewLemmas.{stays_later}
+use Rattle.fsfs_fetch.specs.ViewLemmas.{stays_later}
 
 pub pack_stays : (view : View) (kept : Option KeptManifest) (rev : ℕ) (m : Files) → IsPackedAt view kept rev m → Stays view (in_pack (rev / view.shard_size) (codes "/pack")) (pack_in m (rev / view.shard_size))
 pack_stays view kept rev m p = record { now = m; told = p.told; later = λ new f. f.pack rev p.packed }

@@ -17,7 +17,7 @@ use Rattle.fsfs_rev_file.specs.declared.section.Section.{Section}
 use Rattle.fsfs_rev_file.specs.RevBytes.{rev_bytes, rev_file, props_bytes, or_missing, by_floor, floor_in, packed_bytes, packed_section, pack_in, cut, cut_from}
 use Rattle.fsfs_fetch.specs.Views.{Reach, Ends, Grows, IsKnown, IsYoungest, Extends, View, Later}
 use Rattle.fsfs_fetch.specs.Kept.{HasShortFiles, TellsFiles, telling, within, revs_in, props_in, is_short, is_right, last_of, IsFoundAt, FindsAsWell}
-use Rattle.fsfs_fetch.proofs.ViewLemmas.{next, known_later}
+use Rattle.fsfs_fetch.specs.ViewLemmas.{next, known_later}
 use Rattle.fsfs_fetch.proofs.DirectLemmas.{found_later, fresh_right}
 
 -- a revision above the youngest

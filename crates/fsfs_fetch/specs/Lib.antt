@@ -4,3 +4,4 @@ pub mod Kept
 pub mod Answers
 pub mod KeptLemmas
 pub mod PartsLater
+pub mod ViewLemmas

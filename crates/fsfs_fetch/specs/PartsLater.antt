@@ -3,7 +3,7 @@ use Rattle.std.specs.Prelude.{◌≡◌, ℕ, List, Option}
 use Rattle.std.proofs.Common.{refl, ◌∙◌}
 use Rattle.fsfs_fetch.specs.Views.{View, Later}
 use Rattle.fsfs_fetch.specs.Answers.{Stays}
-use Rattle.fsfs_fetch.proofs.ViewLemmas.{later_same, later_more, stays_later}
+use Rattle.fsfs_fetch.specs.ViewLemmas.{later_same, later_more, stays_later}
 
 -- the store behind a reference after some calls, and it is the same reference
 pub record IsAfterCalls (old new : View) (old_reference new_reference : ℕ) : Type 0 where

@@ -2,7 +2,7 @@ use Rattle.std.proofs.Common.{◌≡◌, ℕ, length, Some, subst, arith}
 use Rattle.std.specs.Prelude.{IfSome}
 use Rattle.std.specs.FinMap as map
 use Rattle.fsfs_disk.specs.Trace.{IsRead, IsSize}
-use Rattle.fsfs_fetch.proofs.ViewLemmas.{later_more}
+use Rattle.fsfs_fetch.specs.ViewLemmas.{later_more}
 use Rattle.fsfs_fetch.proofs.FileLemmas.{no_part, size_found, past_end, end_found}
 use Rattle.fsfs_fetch.proofs.files.file_part.Goals as goal
 

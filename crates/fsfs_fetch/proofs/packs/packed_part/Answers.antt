@@ -1,6 +1,6 @@
 use Rattle.std.proofs.Common.{ℕ, take, arith}
 use Rattle.std.proofs.lemmas.Result.{err_from_is_err_and}
-use Rattle.fsfs_fetch.proofs.ViewLemmas.{later_more, cause_from}
+use Rattle.fsfs_fetch.specs.ViewLemmas.{later_more, cause_from}
 use Rattle.fsfs_fetch.proofs.PackLemmas.{part_stops, part_past, is_section, pack_of, part_whole}
 use Rattle.fsfs_fetch.proofs.packs.packed_part.Goals as goal
 

@@ -3,7 +3,7 @@ use Rattle.std.specs.Prelude.{IfSome}
 use Rattle.std.proofs.lemmas.Result.{err_from_is_err_and}
 use Rattle.std.specs.FinMap as map
 use Rattle.fsfs_disk.specs.Trace.{IsSize}
-use Rattle.fsfs_fetch.proofs.ViewLemmas.{later_more}
+use Rattle.fsfs_fetch.specs.ViewLemmas.{later_more}
 use Rattle.fsfs_fetch.proofs.PackLemmas.{section_is, missing_is, section_stops, shard_is}
 use Rattle.fsfs_fetch.specs.Kept.{kept_offsets}
 use Rattle.fsfs_fetch.proofs.packs.packed_section.Goals as goal
