@@ -86,7 +86,7 @@ module _ (look : Look) where
   child_fits v name u fits (entries, read, h) = let k = child_named v name entries (named name entries) u refl h in entry_fits look k.0 u k.2
 
   pub stands_fits : (rev : ℕ) (path : Path) (v : NodeRev) → MetAt look rev path (Ok (Stands v)) → HasIdText v
-  stands_fits rev path v (root, (bytes, has, (t, ends, node, is)), h) = from_all HasIdText child_fits path root 0 v (is_read_fits _ root node.0.0) h
+  stands_fits rev path v (root, (bytes, has, (t, ends, (n, node, (same, is)))), h) = from_all HasIdText child_fits path root 0 v (subst (λ (x : NodeRev). HasIdText x) (sym same) (is_read_fits _ n node.0.0)) h
 
   child_within : (top : ℕ) (v : NodeRev) (name : Name) (u : NodeRev) → (home_of v).rev ≤ top → ChildOf look v name (Ok (Some u)) → (home_of u).rev ≤ top
   child_within top v name u le (entries, read, h) =
@@ -101,5 +101,6 @@ module _ (look : Look) where
   root_within rev offset v (places.In txn) h = absurd cc
 
   pub stands_within : (rev : ℕ) (path : Path) (v : NodeRev) → MetAt look rev path (Ok (Stands v)) → (home_of v).rev ≤ rev
-  stands_within rev path v (root, (bytes, has, (t, ends, node, is)), h) =
-      from_all (λ n. (home_of n).rev ≤ rev) (child_within rev) path root 0 v (root_within rev t.root root root.id.place (both (is_own_place (place_of rev t.root) root.id.place) (is_directory root.kind) is).0) h
+  stands_within rev path v (root, (bytes, has, (t, ends, (n, node, (same, is)))), h) =
+      let within = root_within rev t.root n n.id.place (both (is_own_place (place_of rev t.root) n.id.place) (is_directory n.kind) is).0 in
+      from_all (λ n. (home_of n).rev ≤ rev) (child_within rev) path root 0 v (subst (λ (x : NodeRev). (home_of x).rev ≤ rev) (sym same) within) h

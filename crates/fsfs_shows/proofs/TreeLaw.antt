@@ -114,9 +114,12 @@ is_dir Dir h = refl
 root_home : (look : Look) (rev : ℕ) (v : NodeRev) → RootOf look rev (Ok v) → IsHome v × (own_rev v ≡ rev) × (v.kind ≡ Dir)
 root_home look rev v w =
     let at = place_of rev w.2.0.root in
-    let both = and_parts (is_own_place at v.id.place) (is_directory v.kind) w.2.3 in
-    let here = own_place at v.id.place both.0 in
-    (parts_of (offset_of v.id.place) v (subst (λ (x : RevOffset). is_ordered x v ≡ true) (sym here) w.2.2.1), ap (λ (x : RevOffset). x.rev) here, is_dir v.kind both.1)
+    let n = w.2.2.0 in
+    let both = and_parts (is_own_place at n.id.place) (is_directory n.kind) w.2.2.2.1 in
+    let here = own_place at n.id.place both.0 in
+    let h : IsHome n × (own_rev n ≡ rev) × (n.kind ≡ Dir) =
+    (parts_of (offset_of n.id.place) n (subst (λ (x : RevOffset). is_ordered x n ≡ true) (sym here) w.2.2.1.1), ap (λ (x : RevOffset). x.rev) here, is_dir n.kind both.1) in
+    subst (λ (x : NodeRev). IsHome x × (own_rev x ≡ rev) × (x.kind ≡ Dir)) (sym w.2.2.2.0) h
 
 named_before : (home : RevOffset) (name : Name) (pairs : Pairs) (entries : List Entry) (e : Entry) → AreEntries home pairs entries → named name entries ≡ Some e → place_before home e.id.place ≡ true
 named_before home name [] [] e w is = absurd cc
