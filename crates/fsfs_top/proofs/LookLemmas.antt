@@ -1,6 +1,7 @@
 -- What the files decide of a look, as the top call tells it.
 use Rattle.std.proofs.Common.{◌≡◌, ◌≤◌, ℕ, List, [], ◌∷◌, ◌⊎◌, ⊎_elim, length, inl, inr, refl, sym, ap, subst, ◌∙◌, arith}
 use Rattle.std.specs.Prelude.{Option, Some, None, IfSome, option_map, unwrap_or, Result, Ok, Err}
+use Rattle.std.proofs.lemmas.Option.{same_Some}
 use Rattle.fsfs_base.specs.Files.{Files}
 use Rattle.fsfs_base.specs.Paths.{Path}
 use Rattle.fsfs_book.specs.Told.{Look}
@@ -151,7 +152,7 @@ look_done : (disk write : Type 0) (look : RevisionLook) (m : Files) (o : Opened)
 look_done disk write look m o old new fault opened d (inl (rev, lacks, is, kept)) = subst (DecidesLook look m) (sym is) (record {
   opening = opening_done m o (Some (NoRev rev o.youngest)) d;
   lacking = λ p other w also.
-      let named = some_same other rev (sym also.named ∙ lacks.named) in
+      let named = same_Some other rev (sym also.named ∙ lacks.named) in
       inl (λ i. Some (NoRev (named i) (one_youngest (small_texts m) p o w opened i)));
   whole = λ short p text w there t. absurd (lacks_or_has look o p rev lacks (one_youngest (small_texts m) o p opened w) there);
   refused = λ short p text why w there t. absurd (lacks_or_has look o p rev lacks (one_youngest (small_texts m) o p opened w) there);

@@ -4,9 +4,8 @@ ghost use Rattle.fsfs_top.specs.Answers.{revision_line, uuid_line, shown_line};
 
 use arrayvec::ArrayString;
 use fsfs_disk::{Failed, Sink};
-use fsfs_layout::Uuid;
+use fsfs_layout::{Opened, Uuid};
 use fsfs_output::print;
-use fsfs_layout::Opened;
 use itoa::Buffer;
 
 /// Writes a revision's number and the end of the line.
