@@ -1,7 +1,7 @@
 // The files of a new repository.
 ghost use Rattle.std.specs.Prelude.{◌≡◌, ◌<◌, ◌++◌, ◌∷◌, [], map, IfOk, OnOk};
 ghost use Rattle.fsfs_create.specs.NewFiles.{named};
-ghost use Rattle.fsfs_model.specs.CreatedFiles.{unpublished_files, date_properties, identifier_text as text_of_identifier};
+ghost use Rattle.fsfs_layout.specs.CreatedFiles.{unpublished_files, date_properties, identifier_text as text_of_identifier};
 
 use fsfs_base::B36;
 use fsfs_disk::Name;

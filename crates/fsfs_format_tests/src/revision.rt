@@ -1,10 +1,8 @@
 //! Trailers and roots, worked out by hand.
 use fsfs_base::Kind;
+use fsfs_damage::{Damage, RevOffset, What};
 use fsfs_noderev::read_id;
-use fsfs_revision::{
-    Damage, RevOffset, RevisionError, Trailer, What, put_trailer, read_root, read_tail,
-    read_trailer,
-};
+use fsfs_revision::{RevisionError, Trailer, put_trailer, read_root, read_tail, read_trailer};
 use std::test::Fail;
 
 // The bytes of a revision, and the two offsets of its trailer.

@@ -5,8 +5,8 @@ use fsfs_book::MemBook;
 use fsfs_dag::{
     Met, PlacedNode, TextError, entries, entry_named, node_at, props, root_of, text_of, text_to,
 };
+use fsfs_damage::RevOffset;
 use fsfs_memdisk::MemSink;
-use fsfs_revision::RevOffset;
 use std::alloc::Global;
 use std::test::Fail;
 

@@ -3,10 +3,10 @@ use crate::revisions::{
     EMPTY_FILE, FIRST_DIRECTORY, MADE_1, MADE_2, MADE_3, SHORT_TEXT, book_of, path_of,
 };
 use fsfs_base::HexDigest;
+use fsfs_damage::{RepWhat, RevOffset, Wrong};
 use fsfs_look::{LookError, cat, tree_text};
 use fsfs_memdisk::MemSink;
-use fsfs_revision::RevOffset;
-use fsfs_shows::{RepDamage, RepWhat, Wrong};
+use fsfs_shows::RepDamage;
 use fsfs_texts::LookFault;
 use std::test::Fail;
 

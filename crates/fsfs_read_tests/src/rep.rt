@@ -1,6 +1,7 @@
 //! Digests of known texts, and representations of small revisions, whole and damaged.
 use fsfs_base::HexDigest;
-use fsfs_book::{BookFault, Kept, MemBook, MemRev, Refusal};
+use fsfs_book::{BookFault, Kept, MemBook, MemRev};
+use fsfs_damage::Refusal;
 use fsfs_noderev::read_rep;
 use fsfs_rep::{Digester, RepError, RepFault, RepReader, read_rep_bytes};
 use std::alloc::{AllocError, Global};

@@ -13,8 +13,8 @@ use fsfs_layout::{
     Format, Opened, names, read_current, read_format, read_min_unpacked_rev, read_txn_current,
     read_uuid,
 };
-use fsfs_whole_file::{FileFault, read_disk_file};
 use fsfs_places::DiskPlace;
+use fsfs_whole_file::{FileFault, read_disk_file};
 use std::alloc::Global;
 use thiserror::Error;
 

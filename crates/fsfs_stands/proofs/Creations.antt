@@ -7,7 +7,7 @@ use Rattle.fsfs_base.specs.Files.{Files, NamedFile, lay_over}
 use Rattle.fsfs_layout.proofs.Identifiers.{identifier_length, identifier_lacks}
 use Rattle.fsfs_layout.proofs.NamedFiles.{lacks, get_laid, are_apart}
 use Rattle.fsfs_base.proofs.FileLemmas.{get_new}
-use Rattle.fsfs_model.specs.CreatedFiles.{created_files, identifier_text, Holds}
+use Rattle.fsfs_layout.specs.CreatedFiles.{created_files, identifier_text, Holds}
 use Rattle.fsfs_stands.specs.NewRepository.{CreationsHoldNew}
 
 -- files laid over others are there, where no two of them have one name

@@ -5,7 +5,7 @@ use Rattle.fsfs_fields.specs.Dates.{IsDateAt, IsDateText}
 use Rattle.fsfs_base.specs.Files.{Files}
 use Rattle.fsfs_text.specs.Cuts.{Lacks}
 use Rattle.fsfs_layout.specs.CreatedFiles.{created_files, Holds}
-use Rattle.fsfs_model.specs.CreatedFiles.{created_over, identifier_text}
+use Rattle.fsfs_layout.specs.CreatedFiles.{created_over, identifier_text}
 use Rattle.fsfs_stands.specs.FirstHistory.{first_revision}
 use Rattle.fsfs_stands.specs.Files.{StandsFor}
 

@@ -14,10 +14,10 @@ use fsfs_book::Book;
 use fsfs_disk::{Disk, Host, Sink};
 use fsfs_faults::Fault;
 use fsfs_fetch::{disk_of, over_disk};
-use fsfs_look::{LookError, cat, tree_text};
 use fsfs_layout::Opened;
-use fsfs_repo::open;
+use fsfs_look::{LookError, cat, tree_text};
 use fsfs_places::DiskPlace;
+use fsfs_repo::open;
 use std::alloc::Global;
 
 /// What is printed of a revision.

@@ -1,10 +1,11 @@
 use Rattle.std.proofs.Common.{◌≡◌, ◌∙◌, ◌++◌, ◌∷◌, [], List, ℕ, map, ap}
 use Rattle.std.specs.Prelude.{codes}
 use Rattle.fsfs_base.specs.Files.{NamedFile}
-use Rattle.fsfs_model.specs.CreatedFiles.{identifier_text, revision_zero, date_properties}
+use Rattle.fsfs_layout.specs.CreatedFiles.{identifier_text, date_properties}
 use Rattle.fsfs_create.specs.NewFiles.{named}
 use Rattle.fsfs_create.proofs.InitialLemmas.{added, zero_line, zero_line36, first_name}
 use Rattle.fsfs_create.proofs.initial.created_files.Goals as goal
+use Rattle.fsfs_base.specs.FirstRevision.{first_bytes}
 
 pub returns : goal.returns
 returns c =
@@ -25,6 +26,6 @@ returns c =
     let k7 = added _ _ w6 _ _ (codes "db/write-lock") ([]) c.in_ok-add-7.ensures k6 c.write_lock.ensures c.new.ensures.items in
     let w8 : List NamedFile = w7 ++ (codes "db/txn-current-lock", []) ∷ [] in
     let k8 = added _ _ w7 _ _ (codes "db/txn-current-lock") ([]) c.in_ok-add-8.ensures k7 c.txn_current_lock.ensures c.new-2.ensures.items in
-    let w9 : List NamedFile = w8 ++ (codes "db/revs/0/0", revision_zero) ∷ [] in
-    let k9 = added _ _ w8 _ _ (codes "db/revs/0/0") (revision_zero) c.in_ok-add-9.ensures k8 (first_name (codes "db/revs") _ c.args.shard c.revision.ensures) c.in_ok-revision.ensures.items in
+    let w9 : List NamedFile = w8 ++ (codes "db/revs/0/0", first_bytes) ∷ [] in
+    let k9 = added _ _ w8 _ _ (codes "db/revs/0/0") (first_bytes) c.in_ok-add-9.ensures k8 (first_name (codes "db/revs") _ c.args.shard c.revision.ensures) c.in_ok-revision.ensures.items in
     added _ _ w9 _ _ (codes "db/revprops/0/0") (date_properties c.args.date.now) c.in_ok-add-10.ensures k9 (first_name (codes "db/revprops") _ c.args.shard c.props.ensures) c.in_ok-props.ensures
