@@ -1,7 +1,6 @@
 pub mod FileLemmas
 pub mod PathLemmas
 pub mod ClonedLists
-pub mod TreeLemmas
 pub mod PairLemmas
 pub mod PathTextLemmas
 pub mod ResultLemmas

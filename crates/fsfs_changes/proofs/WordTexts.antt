@@ -8,10 +8,10 @@ use Rattle.fsfs_text.specs.Cuts.{Lacks, cut, and_then}
 use Rattle.fsfs_text.proofs.Readers.{chosen}
 use Rattle.fsfs_text.proofs.CutLemmas.{cut_found, cut_again, two_lack, cut_lacking}
 use Rattle.fsfs_text.proofs.Spelling.{Spells, bound}
-use Rattle.fsfs_base.specs.declared.node.Kind.{Kind}
-use Rattle.fsfs_base.specs.declared.node.Kind.TheVariants.{File, Dir}
-use Rattle.fsfs_base.specs.declared.change_map.Action.{Action}
-use Rattle.fsfs_base.specs.declared.change_map.Action.TheVariants.{Add, Delete, Replace, Modify}
+use Rattle.fsfs_base.specs.declared.kind.Kind.{Kind}
+use Rattle.fsfs_base.specs.declared.kind.Kind.TheVariants.{File, Dir}
+use Rattle.fsfs_base.specs.declared.action.Action.{Action}
+use Rattle.fsfs_base.specs.declared.action.Action.TheVariants.{Add, Delete, Replace, Modify}
 use Rattle.fsfs_noderev.specs.Fields.{IsKindText}
 use Rattle.fsfs_changes.specs.Words.{IsFlagText, IsActionText, IsActionAndKind}
 use Rattle.fsfs_changes.specs.Reading.{flag_at, action_at, kind_at, split_action, action_and_kind_at}

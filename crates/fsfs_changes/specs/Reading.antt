@@ -2,10 +2,10 @@
 use Rattle.std.specs.Prelude.{◌≡◌, ℕ, Bool, true, false, List, Option, Some, None, if◌then◌else◌, codes}
 use Rattle.std.specs.Str.{bytes_eq}
 use Rattle.fsfs_text.specs.Cuts.{IsCutOf, cut, and_then, parts_at}
-use Rattle.fsfs_base.specs.declared.node.Kind.{Kind}
-use Rattle.fsfs_base.specs.declared.node.Kind.TheVariants.{File, Dir}
-use Rattle.fsfs_base.specs.declared.change_map.Action.{Action}
-use Rattle.fsfs_base.specs.declared.change_map.Action.TheVariants.{Add, Delete, Replace, Modify}
+use Rattle.fsfs_base.specs.declared.kind.Kind.{Kind}
+use Rattle.fsfs_base.specs.declared.kind.Kind.TheVariants.{File, Dir}
+use Rattle.fsfs_base.specs.declared.action.Action.{Action}
+use Rattle.fsfs_base.specs.declared.action.Action.TheVariants.{Add, Delete, Replace, Modify}
 use Rattle.fsfs_noderev.specs.Ids.{IdValue, IsId, id_at, id_value}
 use Rattle.fsfs_changes.specs.Words.{IsFlagText, IsActionAndKind, flags_fit}
 use Rattle.fsfs_changes.specs.declared.lines.Head.{Head}

@@ -10,14 +10,15 @@ use Rattle.std.specs.BTreeMap.{is_at}
 use Rattle.std.specs.Cmp.Lexicographic.{slice_cmp}
 use Rattle.std.specs.Ordering.{nat_cmp}
 use Rattle.fsfs_fields.specs.Dates.{IsDateText}
-use Rattle.fsfs_base.specs.declared.edit.Edit.{Edit}
-use Rattle.fsfs_base.specs.declared.mark.Mark.{Mark}
+use Rattle.fsfs_flat.specs.declared.edit.Edit.{Edit}
+use Rattle.fsfs_flat.specs.declared.mark.Mark.{Mark}
 use Rattle.fsfs_base.specs.Paths.{Path, path_cmp}
-use Rattle.fsfs_base.specs.Nodes.{Node}
-use Rattle.fsfs_base.specs.Edits.{accepts, applied, mark_of, within_limits}
-use Rattle.fsfs_base.specs.Landing.{land, NoClash, IsFirstClash}
-use Rattle.fsfs_base.specs.Revisions.{Revision, tree_of}
-use Rattle.fsfs_base.specs.Transactions.{IsDated, IsNext, date_name, last_of}
+use Rattle.fsfs_tree.specs.Nodes.{Node}
+use Rattle.fsfs_flat.specs.Edits.{accepts, applied, mark_of, within_limits}
+use Rattle.fsfs_flat.specs.Landing.{land, NoClash, IsFirstClash}
+use Rattle.fsfs_tree.specs.Revisions.{Revision, tree_of}
+use Rattle.fsfs_tree.specs.Dated.{IsDated, date_name, last_of}
+use Rattle.fsfs_flat.specs.Transactions.{IsNext}
 use Rattle.fsfs_world.specs.declared.contents.Change.{Change}
 use Rattle.fsfs_world.specs.declared.contents.Name.TheVariants.{Rev}
 use Rattle.fsfs_world.specs.declared.contents.Change.TheVariants.{Put}

@@ -5,7 +5,8 @@ ghost use Rattle.fsfs_core.specs.State.{world_of};
 
 use crate::state::State;
 use crate::txns::{land_on, next_of, tree_at};
-use fsfs_base::{Edit, Pairs, RevNum};
+use fsfs_base::{Pairs, RevNum};
+use fsfs_flat::Edit;
 use fsfs_model::{flat_apply, flat_mark};
 use fsfs_world::files::is_fine;
 use fsfs_world::section::answer_of;

@@ -5,7 +5,7 @@ ghost use Rattle.fsfs_world.specs.Machine.{did, barred, is_up, ends, revision_in
 ghost use Rattle.fsfs_core.specs.State.{world_of};
 
 use crate::state::State;
-use fsfs_base::Revision;
+use fsfs_tree::Revision;
 use fsfs_world::files::{change_made, find, find_number, find_rev, is_fine, what_is_left};
 use fsfs_world::labels::pick_labels;
 use fsfs_world::section::{is_lock_up, lock_down};

@@ -3,13 +3,15 @@ ghost use Rattle.std.specs.Prelude.{◌≡◌, ◌+◌, ◌<◌, ◌≤◌, ◌+
 ghost use Rattle.std.specs.FinMap as finmap;
 ghost use Rattle.fsfs_fields.specs.RevNums.{last_rev};
 ghost use Rattle.fsfs_base.specs.Paths.{Path};
-ghost use Rattle.fsfs_base.specs.Landing.{land, NoClash, IsFirstClash};
-ghost use Rattle.fsfs_base.specs.Revisions.{Revision as Stands, tree_of};
-ghost use Rattle.fsfs_base.specs.Transactions.{IsDated, IsNext, last_of};
+ghost use Rattle.fsfs_flat.specs.Landing.{land, NoClash, IsFirstClash};
+ghost use Rattle.fsfs_tree.specs.Revisions.{Revision as Stands, tree_of};
+ghost use Rattle.fsfs_tree.specs.Dated.{IsDated, last_of};
+ghost use Rattle.fsfs_flat.specs.Transactions.{IsNext};
 ghost use Rattle.fsfs_world.specs.Machine.{tree_in, entry_of};
 
-use fsfs_base::{FsPath, History, Pairs, RevNum, Revision, Tree, read_date};
+use fsfs_base::{FsPath, Pairs, RevNum, read_date};
 use fsfs_model::{flat_clash, flat_fold, flat_land};
+use fsfs_tree::{History, Revision, Tree};
 use fsfs_world::Txn;
 use std::alloc::{AllocError, Global};
 

@@ -1,7 +1,8 @@
 // What a step answers, and which history stands, as lines write them.
 use anyhow::Result;
-use fsfs_base::{FsPath, Text};
+use fsfs_base::FsPath;
 use fsfs_core::{Bytes, Numbers, Outcome, State};
+use fsfs_tree::Text;
 use std::alloc::{AllocError, Global};
 use std::collections::BTreeSet;
 

@@ -1,7 +1,8 @@
 // Runs of the machine, from tables of steps.
 use crate::steps::{Do, How, Names, Want, is_answer, path_of, step_of};
-use fsfs_base::{Pairs, RevNum, Text};
+use fsfs_base::{Pairs, RevNum};
 use fsfs_core::{Bytes, Outcome, Place, State, Step};
+use fsfs_tree::Text;
 use std::alloc::{AllocError, Global};
 use std::collections::VecDeque;
 use std::test::Fail;

@@ -1,8 +1,9 @@
 // The steps of the machine as lines write them.
 use crate::words::Words;
 use anyhow::{Result, bail};
-use fsfs_base::{Edit, Pairs, PropName};
+use fsfs_base::{Pairs, PropName};
 use fsfs_core::{Bytes, Picks, Step, Went};
+use fsfs_flat::Edit;
 use std::alloc::Global;
 
 /// So many labels come through a stop.

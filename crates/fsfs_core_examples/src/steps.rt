@@ -1,6 +1,7 @@
 // Steps as the tables write them, and their answers.
-use fsfs_base::{Edit, FsPath, Pairs, PropName, RevNum};
+use fsfs_base::{FsPath, Pairs, PropName, RevNum};
 use fsfs_core::{Bytes, Contents, Outcome, Picks, Place, Step, Went};
+use fsfs_flat::Edit;
 use std::alloc::{AllocError, Global};
 use std::test::Fail;
 

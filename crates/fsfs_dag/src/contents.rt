@@ -1,11 +1,11 @@
 //! A node's properties and a file's text.
 ghost use Rattle.std.specs.Prelude.{◌≡◌, ℕ, Some, Ok, IsSome, IfErr};
-ghost use Rattle.fsfs_base.specs.declared.node.Kind.TheVariants.{File};
+ghost use Rattle.fsfs_base.specs.declared.kind.Kind.TheVariants.{File};
 ghost use Rattle.fsfs_book.specs.Told.{Look, Knows, Keeps, IsTold};
 ghost use Rattle.fsfs_rep.specs.Frames.{rev_of};
 ghost use Rattle.fsfs_damage.specs.Readings.{Answers};
 ghost use Rattle.fsfs_shows.specs.Reading.{RepAt, PairsIn, PairsAt, PropsOf, TextOf, StandsAt};
-ghost use Rattle.fsfs_base.specs.Nodes.{TreeFunction, Node};
+ghost use Rattle.fsfs_tree.specs.Nodes.{TreeFunction, Node};
 ghost use Rattle.fsfs_base.specs.Paths.{Path};
 ghost use Rattle.fsfs_shows.specs.Shown.{Shows};
 ghost use Rattle.fsfs_shows.specs.ByTree.{IsTextByTree};

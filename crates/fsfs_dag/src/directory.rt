@@ -1,15 +1,15 @@
 //! The entries of a directory.
 ghost use Rattle.std.specs.Prelude.{◌≡◌, ◌++◌, ℕ, List, true, Some, None, IsSome, IfSome, IfOk, map, MatchOption, option_map};
 ghost use Rattle.std.specs.String.{string_bytes};
-ghost use Rattle.fsfs_base.specs.declared.node.Kind.{Kind};
-ghost use Rattle.fsfs_base.specs.declared.node.Kind.TheVariants.{Dir};
+ghost use Rattle.fsfs_base.specs.declared.kind.Kind.{Kind};
+ghost use Rattle.fsfs_base.specs.declared.kind.Kind.TheVariants.{Dir};
 ghost use Rattle.fsfs_book.specs.Told.{Look, Knows, Keeps};
 ghost use Rattle.fsfs_noderev.specs.Fields.{IsIdText};
 ghost use Rattle.fsfs_noderev.specs.declared.node_id.NodeId.{NodeId};
 ghost use Rattle.fsfs_revision.specs.Nodes.{is_revision_id, place_before};
 ghost use Rattle.fsfs_damage.specs.Readings.{Answers};
 ghost use Rattle.fsfs_shows.specs.Reading.{EntryIn, EntriesIn, EntriesOf, IsEntryName, IsEntryValue, named, StandsAt};
-ghost use Rattle.fsfs_base.specs.Nodes.{TreeFunction};
+ghost use Rattle.fsfs_tree.specs.Nodes.{TreeFunction};
 ghost use Rattle.fsfs_base.specs.Paths.{Path};
 ghost use Rattle.fsfs_shows.specs.Shown.{Shows};
 ghost use Rattle.fsfs_shows.specs.ByTree.{AreEntriesByTree};

@@ -1,6 +1,6 @@
 //! The node-revision at a place of a revision, and a revision's root.
 ghost use Rattle.std.specs.Prelude.{◌≡◌, ◌≤◌, ◌<◌, ◌^◌, ◌+◌, ℕ, [], true, length, take, IfOk};
-ghost use Rattle.fsfs_base.specs.Nodes.{TreeFunction};
+ghost use Rattle.fsfs_tree.specs.Nodes.{TreeFunction};
 ghost use Rattle.fsfs_book.specs.Told.{Look, Knows, Keeps, IsTold};
 ghost use Rattle.fsfs_revision.specs.Nodes.{is_ordered};
 ghost use Rattle.fsfs_damage.specs.Readings.{Answers};

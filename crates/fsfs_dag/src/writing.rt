@@ -1,8 +1,8 @@
 //! A file's text, written into a sink.
 ghost use Rattle.std.specs.Prelude.{◌≡◌, ℕ, Some};
 ghost use Rattle.fsfs_base.specs.Paths.{Path};
-ghost use Rattle.fsfs_base.specs.Nodes.{Node, TreeFunction};
-ghost use Rattle.fsfs_base.specs.declared.node.Kind.TheVariants.{File};
+ghost use Rattle.fsfs_tree.specs.Nodes.{Node, TreeFunction};
+ghost use Rattle.fsfs_base.specs.declared.kind.Kind.TheVariants.{File};
 ghost use Rattle.fsfs_book.specs.Told.{Look, Knows, Keeps};
 ghost use Rattle.fsfs_shows.specs.Reading.{StandsAt, TextOf};
 ghost use Rattle.fsfs_shows.specs.Shown.{Shows};

@@ -6,8 +6,8 @@ use Rattle.fsfs_book.specs.Told.{Look}
 use Rattle.fsfs_noderev.specs.NodeRevs.{IsRead}
 use Rattle.fsfs_noderev.specs.declared.node_rev.NodeRev.{NodeRev}
 use Rattle.fsfs_noderev.proofs.Fitting.{all_fit}
-use Rattle.fsfs_base.specs.declared.node.Kind.{Kind}
-use Rattle.fsfs_base.specs.declared.node.Kind.TheVariants.{File, Dir}
+use Rattle.fsfs_base.specs.declared.kind.Kind.{Kind}
+use Rattle.fsfs_base.specs.declared.kind.Kind.TheVariants.{File, Dir}
 use Rattle.fsfs_shows.specs.Reading.{Entry, OfEntry, named, OfNamed, ChildOf, OrLacking, InDirectory, MetFrom, MetAt, Stands, Pairs, AreEntries, EntriesAt, OfContents, offset_of}
 use Rattle.std.proofs.lemmas.Bool.Decides.{nat_tests}
 use Rattle.std.specs.List.{AllByRecursion}

@@ -3,7 +3,7 @@ use Rattle.std.proofs.Common.{◌≡◌, ℕ, Bool, suc, List, [], ◌∷◌, �
 use Rattle.std.specs.Prelude.{◌≢◌, OnOk, IfErr}
 use Rattle.std.proofs.lemmas.List.{reverse-append}
 use Rattle.fsfs_base.specs.Paths.{Name}
-use Rattle.fsfs_base.specs.declared.node.Kind.TheVariants.{File, Dir}
+use Rattle.fsfs_base.specs.declared.kind.Kind.TheVariants.{File, Dir}
 use Rattle.fsfs_book.specs.Told.{Look}
 use Rattle.fsfs_noderev.specs.declared.node_rev.NodeRev.{NodeRev}
 use Rattle.fsfs_damage.specs.declared.wrong.Wrong.{Wrong}

@@ -6,7 +6,7 @@ use Rattle.std.specs.Ordering.{eq_by_cmp}
 use Rattle.std.specs.Cmp.{Equal-is}
 use Rattle.std.specs.FinMap.{FinMap, get, insert, empty, get-empty, get-insert}
 use Rattle.fsfs_base.specs.Paths.{Path, path_cmp, path_cmp_total}
-use Rattle.fsfs_base.proofs.TreeLemmas.{exact_paths}
+use Rattle.fsfs_tree.proofs.TreeLemmas.{exact_paths}
 
 abbrev pub Map : Type 0 → Type 0
 Map X = FinMap path_cmp X

@@ -4,22 +4,23 @@ use Rattle.std.proofs.lemmas.Bool.{cases_Bool, false_from_ne_true, and_parts, bo
 use Rattle.std.specs.Prelude.{is_some}
 use Rattle.std.specs.FinMap.{get}
 use mathlib.Core.Bool.{false≢true}
-use Rattle.fsfs_base.specs.declared.mark.Mark.{Mark}
-use Rattle.fsfs_base.specs.declared.mark.What.{What}
-use Rattle.fsfs_base.specs.declared.mark.What.TheVariants.{Make, Gone, Text, Prop}
-use Rattle.fsfs_base.specs.declared.change_map.Change.{Change}
-use Rattle.fsfs_base.specs.declared.change_map.Folded.{Folded}
-use Rattle.fsfs_base.specs.declared.change_map.Action.{Action}
-use Rattle.fsfs_base.specs.declared.change_map.Action.TheVariants.{Add, Delete, Replace, Modify}
+use Rattle.fsfs_flat.specs.declared.mark.Mark.{Mark}
+use Rattle.fsfs_flat.specs.declared.mark.What.{What}
+use Rattle.fsfs_flat.specs.declared.mark.What.TheVariants.{Make, Gone, Text, Prop}
+use Rattle.fsfs_tree.specs.declared.change_map.Change.{Change}
+use Rattle.fsfs_flat.specs.declared.folded.Folded.{Folded}
+use Rattle.fsfs_base.specs.declared.action.Action.{Action}
+use Rattle.fsfs_base.specs.declared.action.Action.TheVariants.{Add, Delete, Replace, Modify}
 use Rattle.fsfs_base.specs.Paths.{Path, covers, is_above, same_path}
-use Rattle.fsfs_base.specs.Nodes.{Node, TreeFunction}
-use Rattle.fsfs_base.specs.Marks.{made, effects, is_make}
-use Rattle.fsfs_base.specs.Edits.{applied, mark_of}
-use Rattle.fsfs_base.specs.Landing.{land}
-use Rattle.fsfs_base.specs.Folding.{fold, fold_from, fold_mark, joined, change_in}
-use Rattle.fsfs_base.specs.Histories.{AreRevisions, IsHistory}
-use Rattle.fsfs_base.specs.Revisions.{Revision, tree_of}
-use Rattle.fsfs_base.specs.Transactions.{IsTransaction, Begun, Edited, Landed, Entry, IsEntry, IsNext, last_of}
+use Rattle.fsfs_tree.specs.Nodes.{Node, TreeFunction}
+use Rattle.fsfs_flat.specs.Marks.{made, effects, is_make}
+use Rattle.fsfs_flat.specs.Edits.{applied, mark_of}
+use Rattle.fsfs_flat.specs.Landing.{land}
+use Rattle.fsfs_flat.specs.Folding.{fold, fold_from, fold_mark, joined, change_in}
+use Rattle.fsfs_flat.specs.Histories.{AreRevisions, IsHistory}
+use Rattle.fsfs_tree.specs.Revisions.{Revision, tree_of}
+use Rattle.fsfs_flat.specs.Transactions.{IsTransaction, Begun, Edited, Landed, Entry, IsEntry, IsNext}
+use Rattle.fsfs_tree.specs.Dated.{last_of}
 use Rattle.fsfs_base.proofs.ResultLemmas.{none_of}
 use Rattle.fsfs_base.proofs.PathLemmas.{covers-refl, covers-trans, covers-either}
 use Rattle.fsfs_model.specs.Laws.{In, AreSameNodes, leaves, FoldingTells}

@@ -7,12 +7,13 @@ use borrow.Author.Tests.{ltb-true}
 use mathlib.Core.Bool.{false≢true}
 use Rattle.std.specs.FinMap.{get}
 use Rattle.fsfs_base.specs.Paths.{Path}
-use Rattle.fsfs_base.specs.Nodes.{Node, TreeFunction}
-use Rattle.fsfs_base.specs.Landing.{land, NoClash}
-use Rattle.fsfs_base.specs.Histories.{IsRevision, AreRevisions, IsHistory}
-use Rattle.fsfs_base.specs.PathHistories.{history_within, points_at, go_on, leads_to}
-use Rattle.fsfs_base.specs.Revisions.{Revision, node_in, tree_of}
-use Rattle.fsfs_base.specs.Transactions.{IsTransaction, Landed, Entry, IsEntry, IsNext, IsLegal, last_of}
+use Rattle.fsfs_tree.specs.Nodes.{Node, TreeFunction}
+use Rattle.fsfs_flat.specs.Landing.{land, NoClash}
+use Rattle.fsfs_flat.specs.Histories.{IsRevision, AreRevisions, IsHistory}
+use Rattle.fsfs_flat.specs.PathHistories.{history_within, points_at, go_on, leads_to}
+use Rattle.fsfs_tree.specs.Revisions.{Revision, node_in, tree_of}
+use Rattle.fsfs_flat.specs.Transactions.{IsTransaction, Landed, Entry, IsEntry, IsNext, IsLegal}
+use Rattle.fsfs_tree.specs.Dated.{last_of}
 use Rattle.fsfs_model.specs.Laws.{In, LandingLeavesATree, CommitsMakeAHistory, PathHistoriesEnd}
 use Rattle.fsfs_model.proofs.Directories.{tree_from}
 use Rattle.fsfs_model.proofs.NextHistory.{whole, next_revision, at_most, source_before}

@@ -4,19 +4,20 @@ use Rattle.std.proofs.lemmas.Option.{same_Some, none-some}
 use Rattle.std.specs.Prelude.{is_some}
 use mathlib.Core.Bool.{false≢true}
 use Rattle.std.proofs.lemmas.Bool.{leb-true, cases_Bool, false_from_ne_true, and_parts, both_ways, not-true}
-use Rattle.fsfs_base.specs.declared.mark.Mark.{Mark}
-use Rattle.fsfs_base.specs.declared.edit.Edit.{Edit}
-use Rattle.fsfs_base.specs.declared.edit.Edit.TheVariants.{MakeDir, MakeFile, Delete, Copy, PutText, SetProp}
-use Rattle.fsfs_base.specs.declared.mark.What.TheVariants.{Gone, Text, Prop}
-use Rattle.fsfs_base.specs.declared.node.Kind.{Kind}
-use Rattle.fsfs_base.specs.declared.node.Kind.TheVariants.{File, Dir}
+use Rattle.fsfs_flat.specs.declared.mark.Mark.{Mark}
+use Rattle.fsfs_flat.specs.declared.edit.Edit.{Edit}
+use Rattle.fsfs_flat.specs.declared.edit.Edit.TheVariants.{MakeDir, MakeFile, Delete, Copy, PutText, SetProp}
+use Rattle.fsfs_flat.specs.declared.mark.What.TheVariants.{Gone, Text, Prop}
+use Rattle.fsfs_base.specs.declared.kind.Kind.{Kind}
+use Rattle.fsfs_base.specs.declared.kind.Kind.TheVariants.{File, Dir}
 use Rattle.fsfs_base.specs.Paths.{Path, covers, is_above, is_root, same_path}
-use Rattle.fsfs_base.specs.Nodes.{Node, TreeFunction, empty_node, Bytes}
-use Rattle.fsfs_base.specs.Marks.{effects}
-use Rattle.fsfs_base.specs.Edits.{accepts, applied, mark_of, with_node, copied_node, with_text, with_prop, bytes_of, rest_after, is_dir_node, changed_props}
-use Rattle.fsfs_base.specs.Landing.{land, NoClash}
-use Rattle.fsfs_base.specs.Histories.{IsRevision, AreRevisions, IsOrdered}
-use Rattle.fsfs_base.specs.Transactions.{IsTransaction, Begun, Edited, Landed}
+use Rattle.fsfs_tree.specs.Nodes.{Node, TreeFunction, empty_node, Bytes}
+use Rattle.fsfs_flat.specs.Marks.{effects}
+use Rattle.fsfs_flat.specs.Edits.{accepts, applied, mark_of, with_node, copied_node, with_text, with_prop, bytes_of, rest_after, is_dir_node, changed_props}
+use Rattle.fsfs_flat.specs.Landing.{land, NoClash}
+use Rattle.fsfs_flat.specs.Histories.{IsRevision, AreRevisions}
+use Rattle.fsfs_tree.specs.Trees.{IsOrdered}
+use Rattle.fsfs_flat.specs.Transactions.{IsTransaction, Begun, Edited, Landed}
 use Rattle.fsfs_base.proofs.PathLemmas.{covers-refl}
 use Rattle.fsfs_model.proofs.Bases.{IsClosed, DescribesBase}
 use Rattle.fsfs_model.proofs.Applied.{same_path-is, same_path-refl, away, free, edit_changes}

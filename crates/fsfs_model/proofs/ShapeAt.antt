@@ -3,10 +3,10 @@ use Rattle.std.proofs.Common.{◌≡◌, ℕ, suc, ◌≤◌, Bool, true, false,
 use Rattle.std.proofs.lemmas.Option.{same_Some, none-some}
 use Rattle.std.specs.Prelude.{is_some}
 use mathlib.Core.Bool.{false≢true}
-use Rattle.fsfs_base.specs.Nodes.{Node}
-use Rattle.fsfs_base.specs.declared.mark.Effects.{Effects}
-use Rattle.fsfs_base.specs.Landing.{landed_at, numbered_some, chosen}
-use Rattle.fsfs_base.specs.Histories.{IsOrdered}
+use Rattle.fsfs_tree.specs.Nodes.{Node}
+use Rattle.fsfs_flat.specs.declared.mark.Effects.{Effects}
+use Rattle.fsfs_flat.specs.Landing.{landed_at, numbered_some, chosen}
+use Rattle.fsfs_tree.specs.Trees.{IsOrdered}
 use Rattle.fsfs_model.proofs.TwiceAt.{said}
 
 -- all three are new, or they come from the head's node

@@ -6,11 +6,11 @@ use Rattle.std.specs.Cmp.{both_ways as same_tests}
 use borrow.Author.Tests.{ltb-false}
 use mathlib.Core.Bool.{false≢true}
 use Rattle.fsfs_base.specs.Paths.{Path}
-use Rattle.fsfs_base.specs.Nodes.{Node, TreeFunction}
-use Rattle.fsfs_base.specs.declared.mark.Mark.{Mark}
-use Rattle.fsfs_base.specs.Marks.{effects}
-use Rattle.fsfs_base.specs.Landing.{land, landed_at, is_clash, clashes_at, goes_on, held_by_head, touched_by_head, reached}
-use Rattle.fsfs_base.specs.Histories.{AreOrdered}
+use Rattle.fsfs_tree.specs.Nodes.{Node, TreeFunction}
+use Rattle.fsfs_flat.specs.declared.mark.Mark.{Mark}
+use Rattle.fsfs_flat.specs.Marks.{effects}
+use Rattle.fsfs_flat.specs.Landing.{land, landed_at, is_clash, clashes_at, goes_on, held_by_head, touched_by_head, reached}
+use Rattle.fsfs_tree.specs.Trees.{AreOrdered}
 use Rattle.fsfs_base.proofs.PathLemmas.{covers-refl}
 use Rattle.fsfs_model.proofs.Tests.{other_false}
 use Rattle.fsfs_model.proofs.Bases.{IsLater, IsOlder}

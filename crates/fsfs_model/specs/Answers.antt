@@ -3,12 +3,12 @@
 use Rattle.std.specs.Prelude.{ℕ, List, [], ◌∷◌, ◌++◌, ◌-◌, replicate, length, Option, Some, None, unwrap_or, codes, decimal, slice_get}
 use Rattle.std.specs.List.{flat_map}
 use Rattle.std.specs.FinMap.{FinMap, empty, insert, get, entries, retain_keys}
-use Rattle.fsfs_base.specs.declared.node.Kind.{Kind}
-use Rattle.fsfs_base.specs.declared.node.Kind.TheVariants.{File, Dir}
+use Rattle.fsfs_base.specs.declared.kind.Kind.{Kind}
+use Rattle.fsfs_base.specs.declared.kind.Kind.TheVariants.{File, Dir}
 use Rattle.fsfs_base.specs.Paths.{Path, path_cmp, path_text, covers}
-use Rattle.fsfs_base.specs.Nodes.{Node, Content, Bytes, Closed, TreeFunction, empty_node}
-use Rattle.fsfs_base.specs.Revisions.{Revision}
-use Rattle.fsfs_base.specs.Transactions.{last_of, date_name}
+use Rattle.fsfs_tree.specs.Nodes.{Node, Content, Bytes, Closed, TreeFunction, empty_node}
+use Rattle.fsfs_tree.specs.Revisions.{Revision}
+use Rattle.fsfs_tree.specs.Dated.{last_of, date_name}
 
 -- a command
 pub data Command : Type 0 where

@@ -1,20 +1,22 @@
 -- The laws of the flat model.
 use Rattle.std.specs.FinMap.{get}
 use Rattle.std.specs.Prelude.{◌≡◌, ℕ, ◌<◌, ◌≤◌, Bool, true, not, List, ◌⊎◌, [], ◌∷◌, ◌++◌, Option, Some, None, is_some, if◌then◌else◌}
-use Rattle.fsfs_base.specs.declared.mark.Mark.{Mark}
-use Rattle.fsfs_base.specs.declared.mark.What.{What}
-use Rattle.fsfs_base.specs.declared.mark.What.TheVariants.{Make, Gone, Text, Prop}
-use Rattle.fsfs_base.specs.declared.change_map.Change.{Change}
-use Rattle.fsfs_base.specs.declared.change_map.Action.TheVariants.{Delete}
+use Rattle.fsfs_flat.specs.declared.mark.Mark.{Mark}
+use Rattle.fsfs_flat.specs.declared.mark.What.{What}
+use Rattle.fsfs_flat.specs.declared.mark.What.TheVariants.{Make, Gone, Text, Prop}
+use Rattle.fsfs_tree.specs.declared.change_map.Change.{Change}
+use Rattle.fsfs_base.specs.declared.action.Action.TheVariants.{Delete}
 use Rattle.fsfs_base.specs.Paths.{Path, covers, is_above, same_path}
-use Rattle.fsfs_base.specs.Nodes.{Node, TreeFunction}
-use Rattle.fsfs_base.specs.Marks.{outer, made, made_after, any_covers, is_make}
-use Rattle.fsfs_base.specs.Folding.{fold}
-use Rattle.fsfs_base.specs.Landing.{land, is_clash, NoClash}
-use Rattle.fsfs_base.specs.Histories.{IsTree, AreRevisions, IsHistory}
-use Rattle.fsfs_base.specs.PathHistories.{path_history, leads_to, go_on}
-use Rattle.fsfs_base.specs.Revisions.{Revision, tree_of}
-use Rattle.fsfs_base.specs.Transactions.{IsTransaction, Entry, IsEntry, IsNext, IsLegal, last_of}
+use Rattle.fsfs_tree.specs.Nodes.{Node, TreeFunction}
+use Rattle.fsfs_flat.specs.Marks.{outer, made, made_after, any_covers, is_make}
+use Rattle.fsfs_flat.specs.Folding.{fold}
+use Rattle.fsfs_flat.specs.Landing.{land, is_clash, NoClash}
+use Rattle.fsfs_tree.specs.Trees.{IsTree}
+use Rattle.fsfs_flat.specs.Histories.{AreRevisions, IsHistory}
+use Rattle.fsfs_flat.specs.PathHistories.{path_history, leads_to, go_on}
+use Rattle.fsfs_tree.specs.Revisions.{Revision, tree_of}
+use Rattle.fsfs_flat.specs.Transactions.{IsTransaction, Entry, IsEntry, IsNext, IsLegal}
+use Rattle.fsfs_tree.specs.Dated.{last_of}
 
 -- x is in the list
 abbrev pub In : {A : Type 0} → List A → A → Type 0

@@ -3,16 +3,17 @@ ghost use Rattle.std.specs.Prelude.{◌≡◌, ◌&&◌, ◌++◌, nat_lt, true,
 ghost use Rattle.std.specs.BTreeSet as set;
 ghost use Rattle.std.specs.FinMap as map;
 ghost use Rattle.std.specs.Option.{option_copied};
-ghost use Rattle.fsfs_base.specs.Edits.{accepts, applied, can_make, within_limits, is_dir_node, is_file_node, with_text, with_prop, changed_props, bytes_of, fits_value, copied_node, rest_after, parent, entry_count, kind_of_node, mark_of};
-ghost use Rattle.fsfs_base.specs.Nodes.{empty_node, TreeFunction};
+ghost use Rattle.fsfs_flat.specs.Edits.{accepts, applied, can_make, within_limits, is_dir_node, is_file_node, with_text, with_prop, changed_props, bytes_of, fits_value, copied_node, rest_after, parent, kind_of_node, mark_of};
+ghost use Rattle.fsfs_tree.specs.Entries.{entry_count};
+ghost use Rattle.fsfs_tree.specs.Nodes.{empty_node, TreeFunction};
 ghost use Rattle.fsfs_base.specs.Paths.{Path, path_cmp, covers};
-ghost use Rattle.fsfs_base.specs.Revisions.{tree_of};
-ghost use Rattle.fsfs_base.specs.Transactions.{last_of};
+ghost use Rattle.fsfs_tree.specs.Revisions.{tree_of};
+ghost use Rattle.fsfs_tree.specs.Dated.{last_of};
 
 use crate::history::node_at;
-use fsfs_base::{
-    Edit, FsPath, History, Kind, Mark, Node, Pairs, PropName, RevNum, Text, Tree, What,
-};
+use fsfs_base::{FsPath, Kind, Pairs, PropName, RevNum};
+use fsfs_flat::{Edit, Mark, What};
+use fsfs_tree::{History, Node, Text, Tree};
 use std::alloc::{AllocError, Global};
 use std::collections::BTreeSet;
 

@@ -2,10 +2,11 @@
 ghost use Rattle.std.specs.Prelude.{◌≡◌, IfOk, IsSome};
 ghost use Rattle.std.specs.Option.{option_copied};
 ghost use Rattle.std.specs.FinMap as map;
-ghost use Rattle.fsfs_base.specs.Revisions.{tree_of};
-ghost use Rattle.fsfs_base.specs.PathHistories.{path_history, leads_to};
+ghost use Rattle.fsfs_tree.specs.Revisions.{tree_of};
+ghost use Rattle.fsfs_flat.specs.PathHistories.{path_history, leads_to};
 
-use fsfs_base::{FsPath, History, Node, RevNum};
+use fsfs_base::{FsPath, RevNum};
+use fsfs_tree::{History, Node};
 use std::alloc::{AllocError, Global};
 
 // What stands at a path of a revision.

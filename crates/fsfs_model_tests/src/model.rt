@@ -1,11 +1,10 @@
 //! Two transactions on one base, the first committed and the second merged; and copies.
 ghost use Rattle.std.specs.Prelude.{◌<◌};
 
-use fsfs_base::{
-    ChangeMap, Edit, FsPath, History, Kind, Mark, Node, Pairs, PropName, RevNum, Revision, Text,
-    Tree,
-};
+use fsfs_base::{FsPath, Kind, Pairs, PropName, RevNum};
+use fsfs_flat::{Edit, Mark};
 use fsfs_model::{flat_apply, flat_clash, flat_fold, flat_history, flat_land, flat_mark};
+use fsfs_tree::{ChangeMap, History, Node, Revision, Text, Tree};
 use std::alloc::{AllocError, Global};
 use std::test::Fail;
 

@@ -3,7 +3,7 @@ use Rattle.std.proofs.Common.{◌≡◌, ℕ, List, refl, sym, ap, ◌∙◌, ar
 use Rattle.fsfs_text.specs.Cuts.{Lacks, IsCutOf, cut}
 use Rattle.fsfs_text.proofs.CutLemmas.{cut_again, two_parts}
 use Rattle.fsfs_text.proofs.Spelling.{plain_lacks, IsOne, spells_one}
-use Rattle.fsfs_base.specs.declared.node.Kind.TheVariants as kinds
+use Rattle.fsfs_base.specs.declared.kind.Kind.TheVariants as kinds
 use Rattle.fsfs_base.proofs.PathTextLemmas.{path_by_text}
 use Rattle.fsfs_noderev.specs.Ids.{IsRev, IsNumber64, id_value}
 use Rattle.fsfs_noderev.specs.Reps.{IsRevOrNone, contents_value}

@@ -13,7 +13,7 @@ use Rattle.fsfs_text.proofs.Unique.{numeral_decimal}
 use Rattle.fsfs_text.proofs.Base36Texts.{numeral_base36, length-last_digits}
 use Rattle.fsfs_fields.specs.Digests.{IsDigestText}
 use Rattle.fsfs_fields.specs.TxnNames.{IsTxnName}
-use Rattle.fsfs_base.specs.declared.node.Kind.TheVariants as kinds
+use Rattle.fsfs_base.specs.declared.kind.Kind.TheVariants as kinds
 use Rattle.fsfs_noderev.specs.Ids.{New, Old, Made, At, In, IsB36, IsRev, IsNumber64, IsPart, IsPlace, id_value}
 use Rattle.fsfs_noderev.specs.Reps.{IsRevOrNone, IsMarked, IsUnique, AreDigests, IsRep, AreContents, contents_value}
 use Rattle.fsfs_noderev.specs.Reps as reps

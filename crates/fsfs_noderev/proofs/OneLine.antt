@@ -10,7 +10,7 @@ use Rattle.fsfs_fields.specs.Digests.{IsDigestText}
 use Rattle.fsfs_fields.specs.TxnNames.{IsTxnName}
 use Rattle.fsfs_base.specs.Paths.{Path, path_text, names_text}
 use Rattle.fsfs_base.specs.PathTexts.{IsPath, IsName, is_control}
-use Rattle.fsfs_base.specs.declared.node.Kind.TheVariants as kinds
+use Rattle.fsfs_base.specs.declared.kind.Kind.TheVariants as kinds
 use Rattle.fsfs_noderev.specs.Ids.{IsB36, IsRev, IsNumber64, id_value}
 use Rattle.fsfs_noderev.specs.Reps.{IsRevOrNone, IsMarked, IsUnique, AreDigests, IsRep, AreContents, contents_value}
 use Rattle.fsfs_noderev.specs.Reps as reps

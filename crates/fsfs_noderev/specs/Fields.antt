@@ -4,8 +4,8 @@ use Rattle.std.specs.Str.{bytes_eq, IsUtf8}
 use Rattle.fsfs_text.specs.Cuts.{IsCutOf}
 use Rattle.fsfs_base.specs.Paths.{Path, path_text}
 use Rattle.fsfs_base.specs.PathTexts.{IsPath}
-use Rattle.fsfs_base.specs.declared.node.Kind.{Kind}
-use Rattle.fsfs_base.specs.declared.node.Kind.TheVariants as kinds
+use Rattle.fsfs_base.specs.declared.kind.Kind.{Kind}
+use Rattle.fsfs_base.specs.declared.kind.Kind.TheVariants as kinds
 use Rattle.fsfs_noderev.specs.Ids.{IsId, IsRev, IsNumber64, id_value}
 use Rattle.fsfs_noderev.specs.Reps.{IsRevOrNone, AreContents, contents_value}
 use Rattle.fsfs_noderev.specs.declared.node_id.NodeId.{NodeId}

@@ -1,7 +1,7 @@
 //! The fields of a node-revision, as its lines say them one after another.
 ghost use Rattle.std.specs.Prelude.{◌≡◌, ℕ, List, Option, Some, IfOk, IfErr, OnOk, IfSome, IsSomeAnd, MatchOption};
 ghost use Rattle.fsfs_base.specs.Paths.{Path};
-ghost use Rattle.fsfs_base.specs.declared.node.Kind.{Kind};
+ghost use Rattle.fsfs_base.specs.declared.kind.Kind.{Kind};
 ghost use Rattle.fsfs_noderev.specs.declared.node_rev.CopySource.{CopySource};
 ghost use Rattle.fsfs_noderev.specs.declared.node_rev.CopyRoot.{CopyRoot};
 ghost use Rattle.fsfs_noderev.specs.declared.node_id.NodeId.{NodeId};

@@ -3,9 +3,9 @@ use Rattle.std.proofs.Common.{◌≡◌, ℕ, suc, ◌+◌, List, [], ◌∷◌,
 use Rattle.std.proofs.lemmas.List.{length-append}
 use Rattle.std.specs.Prelude.{Result, Ok, Err, Option, Some, None, IsSomeAnd}
 use Rattle.fsfs_base.specs.Paths.{Name, Path}
-use Rattle.fsfs_base.specs.Nodes.{Node, Content, Bytes, Closed, TreeFunction}
-use Rattle.fsfs_base.specs.declared.node.Kind.{Kind}
-use Rattle.fsfs_base.specs.declared.node.Kind.TheVariants.{File, Dir}
+use Rattle.fsfs_tree.specs.Nodes.{Node, Content, Bytes, Closed, TreeFunction}
+use Rattle.fsfs_base.specs.declared.kind.Kind.{Kind}
+use Rattle.fsfs_base.specs.declared.kind.Kind.TheVariants.{File, Dir}
 use Rattle.fsfs_book.specs.Told.{Look}
 use Rattle.fsfs_noderev.specs.declared.node_rev.NodeRev.{NodeRev}
 use Rattle.fsfs_damage.specs.Damages.{place_of}

@@ -10,7 +10,7 @@ use Rattle.fsfs_text.specs.Numeral.{numeral_at, plain_at, number_at, digits_at}
 use Rattle.fsfs_text.proofs.Readers.{all_found}
 use Rattle.fsfs_base.specs.Paths.{Name, Path, same_name}
 use Rattle.fsfs_base.specs.PathTexts.{IsName}
-use Rattle.fsfs_base.specs.declared.node.Kind.TheVariants.{Dir}
+use Rattle.fsfs_base.specs.declared.kind.Kind.TheVariants.{Dir}
 use Rattle.fsfs_base.proofs.PathLemmas.{same_name-is}
 use Rattle.fsfs_book.specs.Told.{Look}
 use Rattle.fsfs_hash.specs.Dump.{IsDump}

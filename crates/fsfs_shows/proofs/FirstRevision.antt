@@ -12,8 +12,8 @@ use Rattle.fsfs_text.specs.Cuts.{Lacks}
 use Rattle.fsfs_text.specs.declared.base36.B36.{B36}
 use Rattle.fsfs_text.proofs.Readers.{all_found}
 use Rattle.fsfs_base.specs.Paths.{Name, Path}
-use Rattle.fsfs_base.specs.Nodes.{empty_node}
-use Rattle.fsfs_base.specs.declared.node.Kind.TheVariants.{Dir}
+use Rattle.fsfs_tree.specs.Nodes.{empty_node}
+use Rattle.fsfs_base.specs.declared.kind.Kind.TheVariants.{Dir}
 use Rattle.fsfs_book.specs.Told.{Look}
 use Rattle.fsfs_hash.specs.Dump.{IsDump}
 use Rattle.fsfs_noderev.specs.Ids.{id_at, part_at, place_at, IsNumber64, part_value, Old}

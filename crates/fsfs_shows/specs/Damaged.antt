@@ -2,7 +2,7 @@
 -- in which order it is looked for, are the `Err` cases of the readings.
 use Rattle.std.specs.Prelude.{◌≡◌, ◌↔◌, ℕ, take, drop, ◌∷◌, Err}
 use Rattle.fsfs_base.specs.Paths.{Name, Path}
-use Rattle.fsfs_base.specs.declared.node.Kind.TheVariants.{Dir}
+use Rattle.fsfs_base.specs.declared.kind.Kind.TheVariants.{Dir}
 use Rattle.fsfs_book.specs.Told.{Look}
 use Rattle.fsfs_noderev.specs.declared.node_rev.NodeRev.{NodeRev}
 use Rattle.fsfs_damage.specs.declared.wrong.Wrong.{Wrong}

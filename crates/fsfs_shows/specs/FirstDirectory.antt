@@ -1,8 +1,8 @@
 -- The bytes of a revision 1 that made the directory `/a`, and the tree that they show.
 use Rattle.std.specs.Prelude.{ℕ, List, [], ◌∷◌, Some, None, if◌then◌else◌, codes}
 use Rattle.fsfs_base.specs.Paths.{Name, same_name}
-use Rattle.fsfs_base.specs.Nodes.{Node, TreeFunction, empty_node}
-use Rattle.fsfs_base.specs.declared.node.Kind.TheVariants.{Dir}
+use Rattle.fsfs_tree.specs.Nodes.{Node, TreeFunction, empty_node}
+use Rattle.fsfs_base.specs.declared.kind.Kind.TheVariants.{Dir}
 
 -- the node-revision of `/a`, the root's entries, the root's node-revision, the changed path, the trailer
 abbrev pub directory_bytes : List ℕ

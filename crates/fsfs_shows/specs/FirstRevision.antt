@@ -1,7 +1,7 @@
 -- The tree that the bytes of revision 0 of a new repository show.
 use Rattle.std.specs.Prelude.{[], ◌∷◌, Some, None}
-use Rattle.fsfs_base.specs.Nodes.{TreeFunction, empty_node}
-use Rattle.fsfs_base.specs.declared.node.Kind.TheVariants.{Dir}
+use Rattle.fsfs_tree.specs.Nodes.{TreeFunction, empty_node}
+use Rattle.fsfs_base.specs.declared.kind.Kind.TheVariants.{Dir}
 
 -- `/` alone, without properties and source, all numbers 0
 abbrev pub first_tree : TreeFunction

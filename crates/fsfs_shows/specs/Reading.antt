@@ -7,8 +7,8 @@ use Rattle.std.specs.Prelude.{◌≡◌, ◌⊎◌, ℕ, suc, true, List, [], �
 use Rattle.std.specs.Str.{IsUtf8}
 use Rattle.fsfs_base.specs.Paths.{Name, Path, same_name}
 use Rattle.fsfs_base.specs.PathTexts.{IsName}
-use Rattle.fsfs_base.specs.declared.node.Kind.{Kind}
-use Rattle.fsfs_base.specs.declared.node.Kind.TheVariants.{File, Dir}
+use Rattle.fsfs_base.specs.declared.kind.Kind.{Kind}
+use Rattle.fsfs_base.specs.declared.kind.Kind.TheVariants.{File, Dir}
 use Rattle.fsfs_damage.specs.declared.damage.RevOffset.{RevOffset}
 use Rattle.fsfs_damage.specs.declared.damage.What.TheVariants as what
 use Rattle.fsfs_damage.specs.declared.damage.RepWhat.TheVariants as repwhat

@@ -5,9 +5,9 @@
 -- path. (The node-revisions are those of the libsvn_fs_fs structure file; the numbers are this project's profile.)
 use Rattle.std.specs.Prelude.{◌≡◌, ◌≢◌, ◌≤◌, ◌<◌, ◌⊎◌, ◌++◌, ℕ, max, [], take, drop, length, Option, Some, None, Ok, Err, IsSomeAnd, if◌then◌else◌}
 use Rattle.fsfs_base.specs.Paths.{Path, covers}
-use Rattle.fsfs_base.specs.Nodes.{Node, Content, Bytes, Closed, TreeFunction}
-use Rattle.fsfs_base.specs.declared.node.Kind.{Kind}
-use Rattle.fsfs_base.specs.declared.node.Kind.TheVariants.{File, Dir}
+use Rattle.fsfs_tree.specs.Nodes.{Node, Content, Bytes, Closed, TreeFunction}
+use Rattle.fsfs_base.specs.declared.kind.Kind.{Kind}
+use Rattle.fsfs_base.specs.declared.kind.Kind.TheVariants.{File, Dir}
 use Rattle.fsfs_book.specs.Told.{Look}
 use Rattle.fsfs_noderev.specs.declared.node_rev.CopySource.{CopySource}
 use Rattle.fsfs_noderev.specs.declared.node_rev.NodeRev.{NodeRev}

@@ -1,8 +1,8 @@
 -- What holds of every tree that bytes show.
 use Rattle.std.specs.Prelude.{◌≡◌, ◌≤◌, ℕ, Some}
 use Rattle.fsfs_base.specs.Paths.{Path}
-use Rattle.fsfs_base.specs.Nodes.{Node, TreeFunction}
-use Rattle.fsfs_base.specs.Histories.{IsTree, AreOrdered}
+use Rattle.fsfs_tree.specs.Nodes.{Node, TreeFunction}
+use Rattle.fsfs_tree.specs.Trees.{IsTree, AreOrdered}
 
 -- `/` is a directory, and so is all that stands above something; the numbers of each node are in order, and none is above the
 -- revision's

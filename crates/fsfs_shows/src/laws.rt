@@ -1,7 +1,7 @@
 //! The laws of reading. Each of these functions does nothing: what it ensures is proved once for all bytes.
 ghost use Rattle.std.specs.Prelude.{◌≡◌, ℕ, Ok};
 ghost use Rattle.fsfs_base.specs.Paths.{Path, Name};
-ghost use Rattle.fsfs_base.specs.Nodes.{TreeFunction};
+ghost use Rattle.fsfs_tree.specs.Nodes.{TreeFunction};
 ghost use Rattle.fsfs_book.specs.Told.{Look};
 ghost use Rattle.fsfs_noderev.specs.declared.node_rev.NodeRev.{NodeRev};
 ghost use Rattle.fsfs_damage.specs.declared.damage.RevOffset.{RevOffset};

@@ -7,11 +7,11 @@ use Rattle.jiff_core.specs.declared.civil.datetime.DateTime.{DateTime}
 use Rattle.fsfs_text.specs.Numeral.{IsNumber, numeral_at, plain_at}
 use Rattle.fsfs_fields.specs.Dates.{IsDateText}
 use Rattle.fsfs_base.specs.Paths.{Path, path_cmp, path_cmp_total}
-use Rattle.fsfs_base.specs.Nodes.{Node, empty_node}
-use Rattle.fsfs_base.specs.Revisions.{Revision}
-use Rattle.fsfs_base.specs.Transactions.{date_name}
-use Rattle.fsfs_base.specs.declared.node.Kind.TheVariants.{Dir}
-use Rattle.fsfs_base.specs.declared.change_map.Change.{Change}
+use Rattle.fsfs_tree.specs.Nodes.{Node, empty_node}
+use Rattle.fsfs_tree.specs.Revisions.{Revision}
+use Rattle.fsfs_tree.specs.Dated.{date_name}
+use Rattle.fsfs_base.specs.declared.kind.Kind.TheVariants.{Dir}
+use Rattle.fsfs_tree.specs.declared.change_map.Change.{Change}
 use Rattle.fsfs_book.specs.Told.{Look}
 use Rattle.fsfs_hash.specs.Dump.{Field, Entry, IsDump}
 use Rattle.fsfs_noderev.proofs.RepTexts.{number_spells}

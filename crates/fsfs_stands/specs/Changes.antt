@@ -5,10 +5,10 @@
 use Rattle.std.specs.Prelude.{◌≡◌, ◌≢◌, ℕ, true, false, List, drop, Contains, Some, None, option_map, Ok}
 use Rattle.std.specs.FinMap.{FinMap, get}
 use Rattle.fsfs_base.specs.Paths.{Path, path_cmp}
-use Rattle.fsfs_base.specs.declared.node.Kind.{Kind}
-use Rattle.fsfs_base.specs.declared.node.Kind.TheVariants.{File}
-use Rattle.fsfs_base.specs.declared.change_map.Action.TheVariants.{Delete}
-use Rattle.fsfs_base.specs.declared.change_map.Change.{Change}
+use Rattle.fsfs_base.specs.declared.kind.Kind.{Kind}
+use Rattle.fsfs_base.specs.declared.kind.Kind.TheVariants.{File}
+use Rattle.fsfs_base.specs.declared.action.Action.TheVariants.{Delete}
+use Rattle.fsfs_tree.specs.declared.change_map.Change.{Change}
 use Rattle.fsfs_book.specs.Told.{Look}
 use Rattle.fsfs_noderev.specs.declared.node_rev.NodeRev.{NodeRev}
 use Rattle.fsfs_revision.specs.Nodes.{is_revision_id}

@@ -4,7 +4,7 @@
 -- of a revision stand in a file of their own, or below the floor in the pack of their shard.
 use Rattle.std.specs.Prelude.{◌≡◌, suc, List, length}
 use Rattle.fsfs_base.specs.Files.{Files}
-use Rattle.fsfs_base.specs.Revisions.{Revision}
+use Rattle.fsfs_tree.specs.Revisions.{Revision}
 use Rattle.fsfs_layout.specs.Opening.{small_texts, IsOpened}
 use Rattle.fsfs_layout.specs.declared.opened.Opened.{Opened}
 use Rattle.fsfs_rev_file.specs.RevBytes.{rev_bytes, props_bytes}

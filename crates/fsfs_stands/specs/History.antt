@@ -1,8 +1,8 @@
 -- Which history the bytes of revisions and of their property files show.
 use Rattle.std.specs.Prelude.{◌≡◌, ℕ, List, Some, Ok, slice_get}
 use Rattle.std.specs.FinMap.{get}
-use Rattle.fsfs_base.specs.Revisions.{Revision}
-use Rattle.fsfs_base.specs.Transactions.{IsDated, last_of}
+use Rattle.fsfs_tree.specs.Revisions.{Revision}
+use Rattle.fsfs_tree.specs.Dated.{IsDated, last_of}
 use Rattle.fsfs_book.specs.Told.{Look}
 use Rattle.fsfs_hash.specs.Dump.{IsDump}
 use Rattle.fsfs_shows.specs.Shown.{Shows}

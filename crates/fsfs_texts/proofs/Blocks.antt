@@ -9,10 +9,10 @@ use Rattle.std.specs.Cmp.Lexicographic.{nat_list_cmp_total}
 use Rattle.std.specs.FinMap.{FinMap, get, entries, entries_sorted, retain_keys, get-entries, get-retain_keys}
 use Rattle.std.specs.FinMap.Entries.{find, is_sorted, below_all, same_entries}
 use Rattle.fsfs_base.specs.Paths.{Name, Path, name_cmp, path_cmp, path_cmp_total, same_name, covers, is_above}
-use Rattle.fsfs_base.specs.Nodes.{Node}
-use Rattle.fsfs_base.specs.Histories.{IsTree}
-use Rattle.fsfs_base.specs.declared.node.Kind.TheVariants.{File, Dir}
-use Rattle.fsfs_base.proofs.TreeLemmas.{exact_paths}
+use Rattle.fsfs_tree.specs.Nodes.{Node}
+use Rattle.fsfs_tree.specs.Trees.{IsTree}
+use Rattle.fsfs_base.specs.declared.kind.Kind.TheVariants.{File, Dir}
+use Rattle.fsfs_tree.proofs.TreeLemmas.{exact_paths}
 use Rattle.fsfs_base.proofs.PathLemmas.{same_name-refl, covers-refl, covers-antisym, covers-longer, split_at}
 use Rattle.fsfs_shows.specs.Reading.{Entry, named}
 use Rattle.fsfs_shows.specs.ByTree.{IsEntryByTree}

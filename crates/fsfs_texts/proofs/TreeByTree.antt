@@ -4,10 +4,10 @@ use Rattle.std.specs.Prelude.{Ok, Err, Option, Some, codes}
 use Rattle.std.specs.FinMap.{FinMap, get}
 use Rattle.std.specs.List.{AllByRecursion}
 use Rattle.std.proofs.lemmas.Grind.{flat_map-append}
-use Rattle.fsfs_base.specs.Histories.{IsTree}
+use Rattle.fsfs_tree.specs.Trees.{IsTree}
 use Rattle.fsfs_base.specs.Paths.{Name, Path, path_cmp}
-use Rattle.fsfs_base.specs.Nodes.{Node}
-use Rattle.fsfs_base.specs.declared.node.Kind.TheVariants.{File, Dir}
+use Rattle.fsfs_tree.specs.Nodes.{Node}
+use Rattle.fsfs_base.specs.declared.kind.Kind.TheVariants.{File, Dir}
 use Rattle.fsfs_book.specs.Told.{Look}
 use Rattle.fsfs_model.specs.Answers as answers
 use Rattle.fsfs_model.specs.Answers.{Found, found_at, last_name, kind_mark, tree_line, tree_text}

@@ -1,10 +1,10 @@
 -- What looks print where the bytes show a flat tree: they print by the tree.
 use Rattle.std.specs.Prelude.{◌≡◌, ℕ, Bool, List, [], take}
 use Rattle.std.specs.FinMap.{FinMap, get}
-use Rattle.fsfs_base.specs.declared.node.Kind.{Kind}
-use Rattle.fsfs_base.specs.declared.node.Kind.TheVariants.{File, Dir}
+use Rattle.fsfs_base.specs.declared.kind.Kind.{Kind}
+use Rattle.fsfs_base.specs.declared.kind.Kind.TheVariants.{File, Dir}
 use Rattle.fsfs_base.specs.Paths.{Path, path_cmp}
-use Rattle.fsfs_base.specs.Nodes.{Node, Content, Bytes, Closed, TreeFunction}
+use Rattle.fsfs_tree.specs.Nodes.{Node, Content, Bytes, Closed, TreeFunction}
 use Rattle.fsfs_book.specs.Told.{Look}
 use Rattle.fsfs_model.specs.Answers.{Found, Stands, Lacking, Blocked, found_at, tree_text}
 use Rattle.fsfs_noderev.specs.declared.node_rev.NodeRev.{NodeRev}

@@ -2,7 +2,7 @@
 -- Subversion's own `svnlook tree`, also with its `--show-ids`.)
 use Rattle.std.specs.Prelude.{◌≡◌, ◌≢◌, ℕ, suc, Bool, true, false, List, [], ◌∷◌, ◌++◌, replicate, Ok, Err, codes}
 use Rattle.fsfs_base.specs.Paths.{Name, Path}
-use Rattle.fsfs_base.specs.declared.node.Kind.TheVariants.{File, Dir}
+use Rattle.fsfs_base.specs.declared.kind.Kind.TheVariants.{File, Dir}
 use Rattle.fsfs_book.specs.Told.{Look}
 use Rattle.fsfs_model.specs.Answers.{last_name, kind_mark}
 use Rattle.fsfs_noderev.specs.Fields.{IsIdText}

@@ -4,10 +4,10 @@ use Rattle.std.specs.Prelude.{Some, None, slice_get, codes, decimal}
 use Rattle.std.specs.FinMap.{FinMap, get}
 use Rattle.fsfs_base.specs.Files.{Files}
 use Rattle.fsfs_base.specs.Paths.{Path, path_cmp}
-use Rattle.fsfs_base.specs.Nodes.{Node, Content, Bytes, Closed}
-use Rattle.fsfs_base.specs.Revisions.{Revision}
-use Rattle.fsfs_base.specs.declared.node.Kind.{Kind}
-use Rattle.fsfs_base.specs.declared.node.Kind.TheVariants.{File, Dir}
+use Rattle.fsfs_tree.specs.Nodes.{Node, Content, Bytes, Closed}
+use Rattle.fsfs_tree.specs.Revisions.{Revision}
+use Rattle.fsfs_base.specs.declared.kind.Kind.{Kind}
+use Rattle.fsfs_base.specs.declared.kind.Kind.TheVariants.{File, Dir}
 use Rattle.fsfs_faults.specs.Lines.{line_of, status_of}
 use Rattle.fsfs_faults.specs.Faults.{fault_from_look}
 use Rattle.fsfs_faults.specs.declared.fault.Fault.TheVariants as fault

@@ -5,8 +5,8 @@ use Rattle.std.proofs.lemmas.Option.{slice_get_cases, slice_get_past}
 use Rattle.fsfs_base.specs.Files.{Files}
 use Rattle.std.specs.FinMap.{get}
 use Rattle.fsfs_base.specs.Paths.{Path}
-use Rattle.fsfs_base.specs.Revisions.{Revision}
-use Rattle.fsfs_base.specs.Transactions.{last_of}
+use Rattle.fsfs_tree.specs.Revisions.{Revision}
+use Rattle.fsfs_tree.specs.Dated.{last_of}
 use Rattle.fsfs_disk.specs.Trace.{Trace, files_now}
 use Rattle.fsfs_disk.specs.Streams.{Adds}
 use Rattle.fsfs_faults.specs.Lines.{line_of, status_of}

@@ -2,10 +2,10 @@
 use Rattle.std.proofs.Common.{◌≡◌, ℕ, suc, zero, List, [], ◌∷◌, refl, sym, subst, ◌∙◌, arith}
 use Rattle.std.specs.Prelude.{Some, None}
 use Rattle.std.specs.FinMap.{empty, get-insert, get-empty}
-use Rattle.fsfs_base.specs.declared.node.Kind.TheVariants.{Dir}
+use Rattle.fsfs_base.specs.declared.kind.Kind.TheVariants.{Dir}
 use Rattle.fsfs_base.specs.Paths.{path_cmp, path_cmp_total}
-use Rattle.fsfs_base.specs.Nodes.{empty_node}
-use Rattle.fsfs_base.specs.Histories.{IsHistory}
+use Rattle.fsfs_tree.specs.Nodes.{empty_node}
+use Rattle.fsfs_flat.specs.Histories.{IsHistory}
 use Rattle.fsfs_world.specs.declared.contents.Name.TheVariants.{Current, Counter, Floor, Rev, Props}
 use Rattle.fsfs_world.specs.declared.contents.Contents.TheVariants.{PropsFile, Number}
 use Rattle.fsfs_world.specs.declared.contents.Change.TheVariants.{Put}

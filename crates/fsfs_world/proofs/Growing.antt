@@ -3,14 +3,15 @@ use Rattle.std.proofs.Common.{◌≡◌, ◌<◌, ◌≤◌, ◌+◌, ℕ, suc, 
 use Rattle.std.specs.Prelude.{Some, None, slice_get, is_some, nat_le, ◌&&◌}
 use Rattle.std.proofs.lemmas.Bool.{leb-true, and_from, and_parts}
 use Rattle.std.specs.FinMap.{get}
-use Rattle.fsfs_base.specs.declared.mark.Mark.{Mark}
-use Rattle.fsfs_base.specs.declared.mark.What.TheVariants.{Make}
-use Rattle.fsfs_base.specs.declared.edit.Edit.TheVariants.{MakeDir, MakeFile, Delete, Copy, PutText, SetProp}
-use Rattle.fsfs_base.specs.Nodes.{TreeFunction}
-use Rattle.fsfs_base.specs.Edits.{can_make, with_copy, kind_of_node}
-use Rattle.fsfs_base.specs.Landing.{land, NoClash}
-use Rattle.fsfs_base.specs.Revisions.{Revision, node_in, tree_of}
-use Rattle.fsfs_base.specs.Transactions.{IsTransaction, Begun, Edited, Landed, last_of}
+use Rattle.fsfs_flat.specs.declared.mark.Mark.{Mark}
+use Rattle.fsfs_flat.specs.declared.mark.What.TheVariants.{Make}
+use Rattle.fsfs_flat.specs.declared.edit.Edit.TheVariants.{MakeDir, MakeFile, Delete, Copy, PutText, SetProp}
+use Rattle.fsfs_tree.specs.Nodes.{TreeFunction}
+use Rattle.fsfs_flat.specs.Edits.{can_make, with_copy, kind_of_node}
+use Rattle.fsfs_flat.specs.Landing.{land, NoClash}
+use Rattle.fsfs_tree.specs.Revisions.{Revision, node_in, tree_of}
+use Rattle.fsfs_flat.specs.Transactions.{IsTransaction, Begun, Edited, Landed}
+use Rattle.fsfs_tree.specs.Dated.{last_of}
 use Rattle.fsfs_world.specs.declared.machine.Recorded.{Recorded}
 use Rattle.fsfs_world.specs.declared.machine.Txn.{Txn}
 use Rattle.fsfs_world.specs.declared.machine.Coming.{Coming}

@@ -2,8 +2,9 @@
 use Rattle.std.proofs.Common.{◌≡◌, ◌⊎◌, ◌<◌, ◌+◌, ℕ, suc, zero, List, [], ◌∷◌, length, inl, inr, ⊎_elim, refl, sym, ap, subst, ◌∙◌, arith}
 use Rattle.std.specs.Prelude.{Option, Some, None, IfSome, slice_get}
 use Rattle.std.specs.FinMap.{get}
-use Rattle.fsfs_base.specs.Revisions.{tree_of}
-use Rattle.fsfs_base.specs.Transactions.{IsTransaction, Begun as BegunTxn, last_of}
+use Rattle.fsfs_tree.specs.Revisions.{tree_of}
+use Rattle.fsfs_flat.specs.Transactions.{IsTransaction, Begun as BegunTxn}
+use Rattle.fsfs_tree.specs.Dated.{last_of}
 use Rattle.fsfs_world.specs.declared.contents.Name.{Name}
 use Rattle.fsfs_world.specs.declared.contents.Name.TheVariants.{Current, CurrentNext, Counter, CounterNext, Props}
 use Rattle.fsfs_world.specs.declared.contents.Contents.{Contents}

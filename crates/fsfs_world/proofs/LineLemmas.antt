@@ -1,6 +1,6 @@
 -- Revisions with the bytes beside them.
 use Rattle.std.proofs.Common.{◌≡◌, ◌+◌, ℕ, suc, List, [], ◌∷◌, ◌++◌, length, refl, sym, ap, ◌∙◌, arith, length-append}
-use Rattle.fsfs_base.specs.Revisions.{Revision}
+use Rattle.fsfs_tree.specs.Revisions.{Revision}
 use Rattle.fsfs_world.specs.Machine.{revisions}
 use Rattle.fsfs_world.specs.Lines.{recorded_with}
 

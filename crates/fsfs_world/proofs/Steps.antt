@@ -3,14 +3,15 @@ use Rattle.std.proofs.Common.{◌≡◌, ◌<◌, ◌≤◌, ◌+◌, ◌-◌, �
 use Rattle.std.proofs.lemmas.Bool.{and_parts, both_ways}
 use Rattle.std.specs.Prelude.{Option, Some, None, slice_get, nat_lt, nat_le, max, not, ◌&&◌}
 use Rattle.std.specs.FinMap.{FinMap, get}
-use Rattle.fsfs_base.specs.declared.edit.Edit.{Edit}
+use Rattle.fsfs_flat.specs.declared.edit.Edit.{Edit}
 use Rattle.fsfs_base.specs.Paths.{Path, path_cmp}
-use Rattle.fsfs_base.specs.Nodes.{Node}
-use Rattle.fsfs_base.specs.Edits.{accepts, applied, mark_of, within_limits}
-use Rattle.fsfs_base.specs.Landing.{land, NoClash}
-use Rattle.fsfs_base.specs.Revisions.{Revision, tree_of}
-use Rattle.fsfs_base.specs.Histories.{IsHistory}
-use Rattle.fsfs_base.specs.Transactions.{Entry, IsTransaction, Edited, Landed, IsEntry, IsNext, last_of}
+use Rattle.fsfs_tree.specs.Nodes.{Node}
+use Rattle.fsfs_flat.specs.Edits.{accepts, applied, mark_of, within_limits}
+use Rattle.fsfs_flat.specs.Landing.{land, NoClash}
+use Rattle.fsfs_tree.specs.Revisions.{Revision, tree_of}
+use Rattle.fsfs_flat.specs.Histories.{IsHistory}
+use Rattle.fsfs_flat.specs.Transactions.{Entry, IsTransaction, Edited, Landed, IsEntry, IsNext}
+use Rattle.fsfs_tree.specs.Dated.{last_of}
 use Rattle.fsfs_world.specs.declared.contents.Name.TheVariants.{Counter, Floor, Rev, Props}
 use Rattle.fsfs_world.specs.declared.contents.Contents.{Contents}
 use Rattle.fsfs_world.specs.declared.contents.Contents.TheVariants.{RevFile, PropsFile, Number, Junk}

@@ -1,7 +1,7 @@
 -- Whose entry a revision carries, as passes learn and revisions come.
 use Rattle.std.proofs.Common.{◌≡◌, ◌<◌, ◌≤◌, ◌+◌, ◌==◌, ℕ, suc, zero, List, [], ◌∷◌, ◌++◌, length, true, false, cond, refl, sym, ap, subst, ◌∙◌, arith, length-append, take}
-use Rattle.fsfs_base.specs.Revisions.{Revision}
-use Rattle.fsfs_base.specs.Transactions.{Entry, IsEntry, IsNext, IsLegal}
+use Rattle.fsfs_tree.specs.Revisions.{Revision}
+use Rattle.fsfs_flat.specs.Transactions.{Entry, IsEntry, IsNext, IsLegal}
 use Rattle.fsfs_world.specs.declared.machine.Recorded.{Recorded}
 use Rattle.fsfs_world.specs.declared.machine.Coming.{Coming}
 use Rattle.fsfs_world.specs.declared.machine.Pass.{Pass}

@@ -1,9 +1,10 @@
 -- What holds after each step.
 use Rattle.std.specs.Prelude.{◌≡◌, ◌⊎◌, ◌<◌, ◌≤◌, ◌+◌, ◌==◌, if◌then◌else◌, ℕ, List, [], ◌∷◌, ◌++◌, length, take, drop, true, Option, Some, None, IfSome, slice_get}
 use Rattle.std.specs.FinMap.{get}
-use Rattle.fsfs_base.specs.Revisions.{Revision, tree_of}
-use Rattle.fsfs_base.specs.Histories.{IsHistory}
-use Rattle.fsfs_base.specs.Transactions.{Entry, IsTransaction, IsEntry, IsNext, IsLegal, last_of}
+use Rattle.fsfs_tree.specs.Revisions.{Revision, tree_of}
+use Rattle.fsfs_flat.specs.Histories.{IsHistory}
+use Rattle.fsfs_flat.specs.Transactions.{Entry, IsTransaction, IsEntry, IsNext, IsLegal}
+use Rattle.fsfs_tree.specs.Dated.{last_of}
 use Rattle.fsfs_world.specs.declared.contents.Name.TheVariants.{Current, CurrentNext, Counter, CounterNext, Floor, Props}
 use Rattle.fsfs_world.specs.declared.contents.Contents.TheVariants.{PropsFile, Number}
 use Rattle.fsfs_world.specs.declared.machine.Recorded.{Recorded}

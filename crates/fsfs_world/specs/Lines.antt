@@ -2,8 +2,8 @@
 use Rattle.std.specs.Prelude.{ℕ, List, [], ◌∷◌}
 use Rattle.std.proofs.Common.{refl}
 use Rattle.std.specs.Coded.{Coded, code_by, coded×, coded_ℕ, coded_list}
-use Rattle.fsfs_base.specs.Codes.{coded_revision}
-use Rattle.fsfs_base.specs.Revisions.{Revision}
+use Rattle.fsfs_tree.specs.Codes.{coded_revision}
+use Rattle.fsfs_tree.specs.Revisions.{Revision}
 use Rattle.fsfs_world.specs.declared.machine.Recorded.{Recorded}
 
 abbrev pub recorded_with : List Revision → List (List ℕ) → List Recorded

@@ -2,15 +2,16 @@
 use Rattle.std.specs.Prelude.{◌≡◌, ◌⊎◌, ◌==◌, ◌+◌, ◌-◌, ◌&&◌, ◌||◌, ◌^◌, not, nat_lt, nat_le, max, min, ℕ, suc, zero, List, [], ◌∷◌, ◌++◌, length, map, take, drop, Bool, true, false, Option, Some, None, if◌then◌else◌, slice_get}
 use Rattle.std.specs.FinMap.{FinMap, get}
 use Rattle.std.specs.FinMap as finmap
-use Rattle.fsfs_base.specs.declared.edit.Edit.{Edit}
-use Rattle.fsfs_base.specs.declared.mark.Mark.{Mark}
-use Rattle.fsfs_base.specs.declared.node.Kind.TheVariants.{Dir}
+use Rattle.fsfs_flat.specs.declared.edit.Edit.{Edit}
+use Rattle.fsfs_flat.specs.declared.mark.Mark.{Mark}
+use Rattle.fsfs_base.specs.declared.kind.Kind.TheVariants.{Dir}
 use Rattle.fsfs_base.specs.Paths.{Path, path_cmp}
-use Rattle.fsfs_base.specs.Nodes.{Node, empty_node}
-use Rattle.fsfs_base.specs.Edits.{accepts, applied, mark_of, within_limits}
-use Rattle.fsfs_base.specs.Landing.{land, NoClash, IsFirstClash}
-use Rattle.fsfs_base.specs.Revisions.{Revision, tree_of}
-use Rattle.fsfs_base.specs.Transactions.{Entry, IsNext, IsDated, last_of}
+use Rattle.fsfs_tree.specs.Nodes.{Node, empty_node}
+use Rattle.fsfs_flat.specs.Edits.{accepts, applied, mark_of, within_limits}
+use Rattle.fsfs_flat.specs.Landing.{land, NoClash, IsFirstClash}
+use Rattle.fsfs_tree.specs.Revisions.{Revision, tree_of}
+use Rattle.fsfs_flat.specs.Transactions.{Entry, IsNext}
+use Rattle.fsfs_tree.specs.Dated.{IsDated, last_of}
 use Rattle.fsfs_world.specs.declared.contents.Name.{Name}
 use Rattle.fsfs_world.specs.declared.contents.Name.TheVariants.{Current, CurrentNext, Counter, CounterNext, Floor, Rev, Props}
 use Rattle.fsfs_world.specs.declared.contents.Contents.{Contents}

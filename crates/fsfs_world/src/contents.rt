@@ -1,7 +1,8 @@
 //! What a disk holds, in the words of the machine.
 ghost use Rattle.std.specs.Prelude.{◌≡◌, take, drop, IfOk};
 
-use fsfs_base::{ChangeMap, Pairs, Tree};
+use fsfs_base::Pairs;
+use fsfs_tree::{ChangeMap, Tree};
 use std::alloc::{AllocError, Global};
 use std::marker::Model;
 

@@ -3,7 +3,7 @@ ghost use Rattle.std.specs.Prelude.{◌≡◌, ◌++◌, ◌∷◌, [], length, 
 ghost use Rattle.fsfs_world.specs.Machine.{revisions};
 
 use crate::contents::Bytes;
-use fsfs_base::{History, Revision};
+use fsfs_tree::{History, Revision};
 use std::alloc::{AllocError, Global};
 use std::marker::Model;
 

@@ -3,7 +3,9 @@ ghost use Rattle.std.specs.Prelude.{◌≡◌};
 ghost use Rattle.fsfs_world.specs.Machine.{entry_of};
 
 use crate::contents::{Bytes, Contents};
-use fsfs_base::{Edit, FsPath, Mark, Pairs, RevNum, Revision, Tree};
+use fsfs_base::{FsPath, Pairs, RevNum};
+use fsfs_flat::{Edit, Mark};
+use fsfs_tree::{Revision, Tree};
 use std::marker::Model;
 
 /// A revision of the history, and the bytes beside it: those of its revision file.
@@ -39,7 +41,7 @@ pub struct Marks {
 
 impl Model for Marks {
     ghost use Rattle.std.specs.Prelude.{List};
-    ghost use Rattle.fsfs_base.specs.declared.mark.Mark.{Mark};
+    ghost use Rattle.fsfs_flat.specs.declared.mark.Mark.{Mark};
 
     ghost Value = { List Mark };
 
@@ -100,7 +102,7 @@ pub struct Entry {
 }
 
 impl Model for Entry {
-    ghost use Rattle.fsfs_base.specs.Transactions.{Entry};
+    ghost use Rattle.fsfs_flat.specs.Transactions.{Entry};
     ghost use Rattle.fsfs_world.specs.Codes.{coded_entry};
 
     ghost Value = { Entry };

@@ -1,5 +1,5 @@
 use Rattle.std.proofs.Common.{ℕ, [], Result, Ok, Err, refl, inl}
-use Rattle.fsfs_base.specs.Nodes.{TreeFunction}
+use Rattle.fsfs_tree.specs.Nodes.{TreeFunction}
 use Rattle.fsfs_book.specs.Told.{Look}
 use Rattle.fsfs_damage.specs.declared.wrong.ReadError.{ReadError}
 use Rattle.fsfs_damage.specs.declared.wrong.ReadError.TheVariants as errors

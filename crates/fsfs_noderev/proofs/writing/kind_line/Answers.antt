@@ -1,7 +1,7 @@
 use Rattle.std.proofs.Common.{refl, sym, subst}
 use Rattle.std.specs.Prelude.{codes}
 use Rattle.fsfs_text.specs.Grammar.{Appends}
-use Rattle.fsfs_base.specs.declared.node.Kind.{Kind}
+use Rattle.fsfs_base.specs.declared.kind.Kind.{Kind}
 use Rattle.fsfs_noderev.specs.Fields.{IsKindText}
 use Rattle.fsfs_noderev.specs.Writing.{IsLineOf}
 use Rattle.fsfs_noderev.proofs.writing.kind_line.Goals as goal

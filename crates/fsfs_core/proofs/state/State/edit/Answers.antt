@@ -4,9 +4,9 @@ use Rattle.std.proofs.lemmas.Option.{slice_get-get_or}
 use Rattle.std.specs.Prelude.{slice_get, is_some, IfSome, ◌&&◌}
 use Rattle.std.specs.FinMap.{get}
 use Rattle.fsfs_base.specs.Paths.{Path}
-use Rattle.fsfs_base.specs.Edits.{accepts, applied, within_limits}
-use Rattle.fsfs_base.specs.Revisions.{tree_of}
-use Rattle.fsfs_base.specs.Transactions.{last_of}
+use Rattle.fsfs_flat.specs.Edits.{accepts, applied, within_limits}
+use Rattle.fsfs_tree.specs.Revisions.{tree_of}
+use Rattle.fsfs_tree.specs.Dated.{last_of}
 use Rattle.fsfs_core.specs.State.{world_of}
 use Rattle.fsfs_core.proofs.Calling.{edit_found}
 use Rattle.fsfs_core.proofs.state.State.edit.Goals as goal

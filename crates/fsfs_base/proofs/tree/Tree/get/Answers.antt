@@ -1,7 +1,0 @@
-use Rattle.std.proofs.Common.{sym, ◌∙◌, ap}
-use Rattle.std.specs.FinMap as map
-use Rattle.fsfs_base.proofs.TreeLemmas.{get_is}
-use Rattle.fsfs_base.proofs.tree.Tree.get.Goals as goal
-
-pub returns : goal.returns
-returns c = c.get.ensures.value ∙ sym (get_is c.self.inside.nodes.entries c.args.path.now) ∙ ap (λ m. map.get m c.args.path.now) c.self.view_is
