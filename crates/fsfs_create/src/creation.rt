@@ -1,6 +1,6 @@
 // Making a repository on a disk.
 ghost use Rattle.std.specs.Prelude.{◌≡◌, ◌≤◌, map, option_map, Some, OnOk, OnErr, IfErr, IsTrue};
-ghost use Rattle.fsfs_disk.specs.Fault.{Rose};
+ghost use Rattle.fsfs_base.specs.Failures.{Rose};
 ghost use Rattle.fsfs_disk.specs.Trace.{Trace};
 ghost use Rattle.fsfs_disk.specs.Crash.{AllImages, Leaves, IsFirm};
 ghost use Rattle.fsfs_layout.specs.CreatedFiles.{identifier_text};
@@ -8,8 +8,8 @@ ghost use Rattle.fsfs_create.specs.NewFiles.{named};
 ghost use Rattle.fsfs_create.specs.Creation.{after_puts, after_publishing, after_creation, StopsInPuts, StopsPublishing, StopsAt, HasRepository, IsNoRepository, IsUnpublished, IsCreated, IsNoneOrWhole, CreateFails};
 
 use crate::initial::{NewFile, created_files};
-use fsfs_base::write_date;
-use fsfs_disk::{Disk, Failed};
+use fsfs_base::{Failed, write_date};
+use fsfs_disk::Disk;
 use fsfs_layout::{Format, names, write_format};
 use fsfs_places::DiskPlace;
 use std::alloc::{AllocError, Global};

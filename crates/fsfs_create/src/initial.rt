@@ -3,8 +3,7 @@ ghost use Rattle.std.specs.Prelude.{◌≡◌, ◌<◌, ◌++◌, ◌∷◌, [],
 ghost use Rattle.fsfs_create.specs.NewFiles.{named};
 ghost use Rattle.fsfs_layout.specs.CreatedFiles.{unpublished_files, date_properties, identifier_text as text_of_identifier};
 
-use fsfs_base::B36;
-use fsfs_disk::Name;
+use fsfs_base::{B36, Name};
 use fsfs_layout::{
     Uuid as Identifier, names, write_current, write_min_unpacked_rev, write_txn_current, write_uuid,
 };

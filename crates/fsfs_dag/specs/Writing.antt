@@ -1,8 +1,8 @@
 -- What writing a text leaves of a sink.
 use Rattle.std.specs.Prelude.{◌≡◌, ◌≤◌, ℕ, List, Option, Result, Ok, Err, IfErr}
-use Rattle.fsfs_disk.specs.Fault.{Rose}
-use Rattle.fsfs_disk.specs.Streams.{Adds}
-use Rattle.fsfs_output.specs.Output.{AddsFront}
+use Rattle.fsfs_base.specs.Failures.{Rose}
+use Rattle.fsfs_streams.specs.Streams.{Adds}
+use Rattle.fsfs_streams.specs.Output.{AddsFront}
 use Rattle.fsfs_damage.specs.declared.wrong.Wrong.{Wrong}
 use Rattle.fsfs_damage.specs.declared.wrong.ReadError.TheVariants as errors
 use Rattle.fsfs_dag.specs.declared.writing.TextError.{TextError}

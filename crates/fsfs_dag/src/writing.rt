@@ -14,8 +14,7 @@ use crate::contents::text_of;
 use crate::node::PlacedNode;
 use fsfs_book::Book;
 use fsfs_damage::ReadError;
-use fsfs_disk::Sink;
-use fsfs_output::print;
+use fsfs_streams::{Sink, print};
 use std::alloc::Global;
 use thiserror::Error;
 

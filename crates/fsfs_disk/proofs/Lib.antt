@@ -1,4 +1,3 @@
 pub mod TraceLemmas
 pub mod CrashLemmas
-pub mod StreamLemmas
 pub mod WholeFiles

@@ -1,4 +1,2 @@
-pub mod Fault
 pub mod Trace
-pub mod Streams
 pub mod Crash

@@ -1,15 +1,9 @@
 // A disk: files by name, and what a crash may leave of them.
 ghost use Rattle.std.specs.Prelude.{◌≡◌, ◌≤◌, ℕ, Bool, List, Option, length, IfOk, IfSome, OnOk, OnErr, IsSome, IsTrue};
-ghost use Rattle.fsfs_disk.specs.Fault.{HasCause};
+ghost use Rattle.fsfs_base.specs.Failures.{HasCause};
 ghost use Rattle.fsfs_disk.specs.Trace.{Trace, Change, Put, Rename, Remove, FirmNames, files_now, file_at, Performs, FailsAt, FailsToPut, IsRead, IsSize, IsThere, PerformsIfThere};
 
-use fsfs_base::Name;
-use thiserror::Error;
-
-/// A call of the outside failed, and the count of faults of the object that it was made on rose.
-#[derive(Clone, Copy, Debug, PartialEq, Eq, Error)]
-#[error("the call failed")]
-pub struct Failed;
+use fsfs_base::{Failed, Name};
 
 /// The files of one repository, below its folder. The crash model is this project's profile: a change of names
 /// stays pending until `firm_names`, and a crash may leave each pending change or not; files that have names are firm.

@@ -1,6 +1,6 @@
 // A host: a disk for each path.
 ghost use Rattle.std.specs.Prelude.{◌≡◌, ◌≢◌, ◌≤◌, ◌+◌, ◌-◌, ◌^◌, ℕ, List, Option, Some, min, IfOk, OnOk, OnErr, IsTrue};
-ghost use Rattle.fsfs_disk.specs.Fault.{HasCause};
+ghost use Rattle.fsfs_base.specs.Failures.{HasCause};
 ghost use Rattle.fsfs_disk.specs.Trace.{Trace};
 
 use crate::disk::Disk;

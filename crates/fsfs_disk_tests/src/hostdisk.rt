@@ -1,7 +1,8 @@
 //! A real folder: what a mount leaves, and what is read of it.
 ghost use Rattle.std.specs.Prelude.{◌≡◌, IsTrue};
 
-use fsfs_disk::{Disk, Failed, Host, Name};
+use fsfs_base::{Failed, Name};
+use fsfs_disk::{Disk, Host};
 use fsfs_hostdisk::{HostDisk, Machine};
 use std::test::Fail;
 use std::{env, fs, process};

@@ -1,5 +1,6 @@
 //! The disk in memory: what a crash leaves, and that the calls that are listed fail and no others.
-use fsfs_disk::{Disk, Name};
+use fsfs_base::Name;
+use fsfs_disk::Disk;
 use fsfs_memdisk::MemDisk;
 use std::alloc::Global;
 use std::test::Fail;

@@ -1,6 +1,7 @@
 // The files of a repository, and disks with them.
 use anyhow::{Result, anyhow, bail};
-use fsfs_disk::{Disk, Failed, Name};
+use fsfs_base::{Failed, Name};
+use fsfs_disk::Disk;
 use fsfs_memdisk::MemDisk;
 use std::alloc::{AllocError, Global};
 use std::collections::BTreeMap;

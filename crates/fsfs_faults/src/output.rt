@@ -1,15 +1,14 @@
 //! Printing the line of a fault. It takes no memory.
 ghost use Rattle.std.specs.Prelude.{◌≡◌, ◌∷◌};
 ghost use Rattle.fsfs_base.specs.Paths.{path_text};
-ghost use Rattle.fsfs_output.specs.Output.{Prints};
+ghost use Rattle.fsfs_streams.specs.Output.{Prints};
 ghost use Rattle.fsfs_faults.specs.Lines.{line_of};
 ghost use Rattle.fsfs_faults.specs.Pieces.{path_values};
 
 use crate::fault::Fault;
 use crate::line::head_text;
-use fsfs_base::FsPath;
-use fsfs_disk::{Failed, Sink};
-use fsfs_output::print;
+use fsfs_base::{Failed, FsPath};
+use fsfs_streams::{Sink, print};
 use fsfs_words::Tool;
 
 // Writes a name with a `/` before it.

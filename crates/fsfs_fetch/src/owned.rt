@@ -2,7 +2,8 @@
 ghost use Rattle.std.specs.Prelude.{◌≡◌, ◌<◌};
 
 use crate::reads::Reads;
-use fsfs_disk::{Disk, Failed, Name};
+use fsfs_base::{Failed, Name};
+use fsfs_disk::Disk;
 
 /// A disk that nobody else writes to, with the youngest revision of its repository and the size of its shards.
 #[derive(Drop)]

@@ -1,7 +1,7 @@
 //! The parts of the files of a store that is read.
 
 use crate::reads::Reads;
-use fsfs_disk::{Failed, Name};
+use fsfs_base::{Failed, Name};
 use fsfs_whole_file::Parts;
 
 /// The parts of the files of a store. A file is told that stays as it is.

@@ -1,11 +1,11 @@
 //! What a store of revisions is read through.
 ghost use Rattle.std.specs.Prelude.{◌≡◌, ◌≤◌, ◌<◌, ℕ, length, IfOk, IfSome};
 ghost use Rattle.std.specs.FinMap.{get};
-ghost use Rattle.fsfs_disk.specs.Fault.{HasCause};
+ghost use Rattle.fsfs_base.specs.Failures.{HasCause};
 ghost use Rattle.fsfs_disk.specs.Trace.{IsRead, IsSize};
 ghost use Rattle.fsfs_fetch.specs.Views.{View, Later, IsYoungest};
 
-use fsfs_disk::{Failed, Name};
+use fsfs_base::{Failed, Name};
 
 /// A store of revisions that is read: the files of a repository, of which others may make more, and pack some, between
 /// two calls. Each call meets the files of one moment.

@@ -1,8 +1,8 @@
 // Counts of failed calls.
 ghost use Rattle.std.specs.Prelude.{◌≡◌, ◌≤◌, ◌↔◌, Ok, IsOk, IfOk, OnErr};
-ghost use Rattle.fsfs_disk.specs.Fault.{Rose};
+ghost use Rattle.fsfs_base.specs.Failures.{Rose};
 
-use fsfs_disk::Failed;
+use fsfs_base::Failed;
 use std::io;
 
 // The answer of a call, with its failure counted.

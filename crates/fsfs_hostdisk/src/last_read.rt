@@ -2,7 +2,7 @@
 ghost use Rattle.std.specs.Prelude.{◌≤◌, length, IfOk, IfSome};
 
 use crate::folder::{Folder, file_length, fill};
-use fsfs_disk::Name;
+use fsfs_base::Name;
 use std::alloc::AllocGlobal;
 use std::fs::{File, Files};
 use std::io;

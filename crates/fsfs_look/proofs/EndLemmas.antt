@@ -2,8 +2,8 @@
 use Rattle.std.proofs.Common.{◌≡◌, ℕ, Bool, List, [], ◌++◌, Option, Result, Ok, Err, refl, sym, ap, subst, ◌∙◌, append_assoc, append-nil, inl, inr}
 use Rattle.fsfs_base.specs.Paths.{Name, Path}
 use Rattle.fsfs_book.specs.Told.{Look}
-use Rattle.fsfs_disk.specs.Streams.{Adds}
-use Rattle.fsfs_disk.proofs.StreamLemmas.{adds_then}
+use Rattle.fsfs_streams.specs.Streams.{Adds}
+use Rattle.fsfs_streams.proofs.StreamLemmas.{adds_then}
 use Rattle.fsfs_model.specs.Answers.{last_name}
 use Rattle.fsfs_noderev.specs.declared.node_rev.NodeRev.{NodeRev}
 use Rattle.fsfs_shows.specs.Reading.{MetAt, Met, Stands, Lacking, Blocked}
@@ -11,7 +11,7 @@ use Rattle.fsfs_look.specs.declared.look_error.LookError.{LookError}
 use Rattle.fsfs_look.specs.declared.look_error.LookError.TheVariants as errors
 use Rattle.fsfs_texts.specs.declared.look_fault.LookFault.TheVariants as faults
 use Rattle.fsfs_look.specs.declared.tree.Pending.{Pending}
-use Rattle.fsfs_output.specs.Output.{AddsFront}
+use Rattle.fsfs_streams.specs.Output.{AddsFront}
 use Rattle.fsfs_look.specs.Paths.{IsFound}
 use Rattle.fsfs_texts.specs.Texts.{End, Whole, Refused, Stopped, AtPath}
 use Rattle.fsfs_texts.specs.TreeTexts.{NodeText, TreeText}

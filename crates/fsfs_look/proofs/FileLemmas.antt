@@ -5,8 +5,8 @@ use Rattle.fsfs_base.specs.Paths.{Path}
 use Rattle.fsfs_base.specs.declared.kind.Kind.TheVariants.{File, Dir}
 use Rattle.fsfs_damage.specs.declared.wrong.Refusal.{Refusal}
 use Rattle.fsfs_book.specs.Told.{Look, Told}
-use Rattle.fsfs_disk.specs.Streams.{Adds}
-use Rattle.fsfs_disk.proofs.StreamLemmas.{adds_then}
+use Rattle.fsfs_streams.specs.Streams.{Adds}
+use Rattle.fsfs_streams.proofs.StreamLemmas.{adds_then}
 use Rattle.fsfs_noderev.specs.declared.rep.Rep.{Rep}
 use Rattle.fsfs_noderev.specs.declared.rep.Contents.TheVariants as contents
 use Rattle.fsfs_noderev.specs.declared.node_rev.NodeRev.{NodeRev}
@@ -22,7 +22,7 @@ use Rattle.fsfs_look.specs.declared.look_error.LookError.{LookError}
 use Rattle.fsfs_look.specs.declared.look_error.LookError.TheVariants as errors
 use Rattle.fsfs_texts.specs.declared.look_fault.LookFault.TheVariants as faults
 use Rattle.fsfs_look.specs.Errors.{of_read}
-use Rattle.fsfs_output.specs.Output.{AddsFront}
+use Rattle.fsfs_streams.specs.Output.{AddsFront}
 use Rattle.fsfs_texts.specs.Texts.{End, Whole, Refused, Stopped}
 use Rattle.fsfs_texts.specs.FileTexts.{KindText, FileText, IsWholeText}
 use Rattle.fsfs_look.specs.Written.{Writes, WritesFront}

@@ -1,8 +1,8 @@
 -- How far a text was written.
 use Rattle.std.proofs.Common.{◌≡◌, ℕ, Bool, ◌≤◌, List, [], ◌∷◌, ◌++◌, Option, Some, None, Result, Ok, Err, sym, ap, subst, ◌∙◌, append_assoc, append-nil, arith}
 use Rattle.fsfs_book.specs.Told.{Look, Telling, Knows, Keeps}
-use Rattle.fsfs_disk.specs.Streams.{Adds}
-use Rattle.fsfs_disk.proofs.StreamLemmas.{adds_then}
+use Rattle.fsfs_streams.specs.Streams.{Adds}
+use Rattle.fsfs_streams.proofs.StreamLemmas.{adds_then}
 use Rattle.fsfs_noderev.specs.declared.node_rev.NodeRev.{NodeRev}
 use Rattle.fsfs_damage.specs.declared.wrong.ReadError.{ReadError}
 use Rattle.fsfs_damage.specs.declared.wrong.ReadError.TheVariants as reads
@@ -14,7 +14,7 @@ use Rattle.fsfs_look.specs.declared.look_error.LookError.TheVariants as errors
 use Rattle.fsfs_texts.specs.declared.look_fault.LookFault.TheVariants as faults
 use Rattle.fsfs_look.specs.declared.tree.Pending.{Pending}
 use Rattle.fsfs_look.specs.Errors.{of_read}
-use Rattle.fsfs_output.specs.Output.{AddsFront}
+use Rattle.fsfs_streams.specs.Output.{AddsFront}
 use Rattle.fsfs_texts.specs.Texts.{End, Whole, Refused, Stopped}
 use Rattle.fsfs_texts.specs.TreeTexts.{EntryText}
 use Rattle.fsfs_look.specs.Walks.{left, Then, LeftText, Puts, Joins, JoinsSome, Walks}

@@ -3,7 +3,7 @@ use Rattle.std.specs.Prelude.{◌≡◌, ◌≢◌, ◌≤◌, ◌⊎◌, ℕ, B
 use Rattle.std.specs.List.{AllByRecursion}
 use Rattle.fsfs_base.specs.Paths.{Name}
 use Rattle.fsfs_book.specs.Told.{Look}
-use Rattle.fsfs_disk.specs.Streams.{Adds}
+use Rattle.fsfs_streams.specs.Streams.{Adds}
 use Rattle.fsfs_noderev.specs.declared.node_rev.NodeRev.{NodeRev}
 use Rattle.fsfs_shows.specs.Reading.{Entry, offset_of}
 use Rattle.fsfs_dag.specs.Views.{entry_value}
@@ -11,7 +11,7 @@ use Rattle.fsfs_dag.specs.declared.directory.Entry.{Entry as PlacedEntry}
 use Rattle.fsfs_look.specs.declared.tree.Pending.{Pending}
 use Rattle.fsfs_look.specs.declared.look_error.LookError.{LookError}
 use Rattle.fsfs_look.specs.declared.look_error.LookError.TheVariants as errors
-use Rattle.fsfs_output.specs.Output.{AddsFront}
+use Rattle.fsfs_streams.specs.Output.{AddsFront}
 use Rattle.fsfs_texts.specs.Texts.{End, Whole, Refused, Stopped, Nothing}
 use Rattle.fsfs_texts.specs.TreeTexts.{NodeText, EntryText}
 

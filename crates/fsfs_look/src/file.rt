@@ -14,9 +14,9 @@ use crate::piece::write_piece;
 use fsfs_base::{FsPath, Kind};
 use fsfs_book::Book;
 use fsfs_damage::{ReadError, RepWhat};
-use fsfs_disk::Sink;
 use fsfs_noderev::Rep;
 use fsfs_rep::{RepReader, bad_rep, window};
+use fsfs_streams::Sink;
 use fsfs_texts::LookFault;
 use std::alloc::Global;
 

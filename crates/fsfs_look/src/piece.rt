@@ -1,13 +1,12 @@
 //! Writing a part of a look.
 ghost use Rattle.std.specs.Prelude.{◌≡◌, OnOk, OnErr, IfErr};
-ghost use Rattle.fsfs_disk.specs.Streams.{Adds};
-ghost use Rattle.fsfs_output.specs.Output.{AddsFront};
+ghost use Rattle.fsfs_streams.specs.Streams.{Adds};
+ghost use Rattle.fsfs_streams.specs.Output.{AddsFront};
 ghost use Rattle.fsfs_look.specs.declared.look_error.LookError.TheVariants.{WriteFault};
 ghost use Rattle.fsfs_look.specs.Written.{HasSinkCause};
 
 use crate::look_error::LookError;
-use fsfs_disk::Sink;
-use fsfs_output::print;
+use fsfs_streams::{Sink, print};
 
 /// Writes a part of a look, or after a failure a first part of it.
 pub(crate) fn write_piece<S: Sink>(sink: &mut S, text: &[u8]) -> Result<(), LookError>

@@ -1,7 +1,7 @@
 // A disk in memory. It keeps its operations, so that it can tell what a crash may leave.
 ghost use Rattle.std.specs.Prelude.{◌≡◌, ◌≤◌, ◌-◌, ◌++◌, min, length, take, drop, map as each, OnOk, OnErr, IfOk, Some, None, MatchOption, string_bytes};
 ghost use Rattle.std.specs.FinMap as map;
-ghost use Rattle.fsfs_disk.specs.Fault.{HasCause};
+ghost use Rattle.fsfs_base.specs.Failures.{HasCause};
 ghost use Rattle.fsfs_disk.specs.Trace.{file_at, files_now, files_after, changed, IsImage, Performs, FailsAt};
 ghost use Rattle.fsfs_disk.specs.Crash.{IsFirm};
 ghost use Rattle.fsfs_memdisk.specs.PickedImage.{picked_image};
@@ -11,7 +11,8 @@ use crate::crash::image;
 use crate::faults::Faults;
 use crate::files::MemFiles;
 use crate::operations::{MemChange, MemFile, MemOperation};
-use fsfs_disk::{Disk, Failed, Name};
+use fsfs_base::{Failed, Name};
+use fsfs_disk::Disk;
 use std::alloc::{AllocError, Global};
 use std::collections::VecDeque;
 

@@ -1,8 +1,8 @@
 // Which calls of an object in memory fail.
 ghost use Rattle.std.specs.Prelude.{◌≡◌, ◌↔◌, ◌≤◌, IsTrue, IsErr};
-ghost use Rattle.fsfs_disk.specs.Fault.{HasCause, Rose};
+ghost use Rattle.fsfs_base.specs.Failures.{HasCause, Rose};
 
-use fsfs_disk::Failed;
+use fsfs_base::Failed;
 
 /// The numbers of the calls that are to fail, the first call being 1, how many calls there were, and how often one failed.
 #[derive(Drop)]

@@ -1,9 +1,9 @@
 //! Reads over a disk in memory: revisions in files of their own, and the first shard packed.
 use crate::revisions::{FIRST_DIRECTORY, REVISION_0};
-use fsfs_base::{SmallFault, SmallFile};
+use fsfs_base::{Name, SmallFault, SmallFile};
 use fsfs_book::{Book, BookFault};
 use fsfs_damage::Refusal;
-use fsfs_disk::{Disk, Name};
+use fsfs_disk::Disk;
 use fsfs_fetch::{Direct, OwnedReads, disk_of, over_disk};
 use fsfs_memdisk::MemDisk;
 use std::alloc::Global;

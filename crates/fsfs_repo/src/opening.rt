@@ -1,14 +1,14 @@
 // Opening a repository: what its small files say.
 ghost use Rattle.std.specs.Prelude.{◌≡◌, ◌≤◌, ◌<◌, IfOk, IfErr, IfSome, MatchResult, option_map};
-ghost use Rattle.fsfs_disk.specs.Fault.{Rose};
+ghost use Rattle.fsfs_base.specs.Failures.{Rose};
 ghost use Rattle.fsfs_disk.specs.Trace.{files_now};
 ghost use Rattle.fsfs_layout.specs.Opening.{IsOpened, IsOpenedBehind, IsRefusedBehind, small_texts, text_at};
 ghost use Rattle.fsfs_repo.specs.OpenFaults.{texts_of, JudgedBecause, OpensBecause, outside_of, IfUnread};
 ghost use Rattle.fsfs_repo.specs.Deciding.{Decides};
 ghost use Rattle.fsfs_layout.specs.declared.opened.Opened.{Opened};
 
-use fsfs_base::{SmallFault, SmallFile};
-use fsfs_disk::{Disk, Name};
+use fsfs_base::{Name, SmallFault, SmallFile};
+use fsfs_disk::Disk;
 use fsfs_layout::{
     Format, Opened, names, read_current, read_format, read_min_unpacked_rev, read_txn_current,
     read_uuid,

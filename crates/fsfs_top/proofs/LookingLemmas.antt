@@ -4,7 +4,7 @@ use Rattle.std.specs.Prelude.{Option, Some, None, IfSome, option_map, Result, Ok
 use Rattle.fsfs_base.specs.Files.{Files}
 use Rattle.fsfs_base.specs.Paths.{Path}
 use Rattle.fsfs_book.specs.Told.{Look, Knows, Telling}
-use Rattle.fsfs_disk.specs.Fault.{Rose}
+use Rattle.fsfs_base.specs.Failures.{Rose}
 use Rattle.fsfs_disk.specs.Trace.{Trace, files_now}
 use Rattle.fsfs_faults.specs.Faults.{fault_from_open}
 use Rattle.fsfs_faults.specs.declared.fault.Fault.{Fault}

@@ -9,8 +9,8 @@ use Rattle.fsfs_base.specs.Paths.{Path}
 use Rattle.fsfs_tree.specs.Revisions.{Revision}
 use Rattle.fsfs_tree.specs.Dated.{last_of}
 use Rattle.fsfs_disk.specs.Trace.{Trace, files_now}
-use Rattle.fsfs_disk.specs.Fault.{Rose}
-use Rattle.fsfs_disk.specs.Streams.{Adds}
+use Rattle.fsfs_base.specs.Failures.{Rose}
+use Rattle.fsfs_streams.specs.Streams.{Adds}
 use Rattle.fsfs_faults.specs.Lines.{line_of}
 use Rattle.fsfs_faults.specs.declared.fault.Fault.{Fault}
 use Rattle.fsfs_faults.specs.declared.fault.Fault.TheVariants.{AlreadyRepo, NotRepo}
@@ -18,7 +18,7 @@ use Rattle.fsfs_fetch.specs.Kept.{HasShortFiles}
 use Rattle.fsfs_rev_file.specs.RevBytes.{rev_bytes}
 use Rattle.fsfs_model.specs.Answers as model
 use Rattle.fsfs_model.specs.Answers.{Answer, UuidAnswer, Reply, prints, refuses, refuses_look, tree_reply, text_reply, found_at, asked_revision, new_history}
-use Rattle.fsfs_output.specs.Output.{AddsFront, Prints}
+use Rattle.fsfs_streams.specs.Output.{AddsFront, Prints}
 use Rattle.fsfs_layout.specs.Opening.{small_texts, IsOpened, IsNone}
 use Rattle.fsfs_layout.specs.declared.opened.Opened.{Opened}
 use Rattle.fsfs_stands.specs.Files.{StandsFor}

@@ -4,7 +4,7 @@ use Rattle.fsfs_base.specs.Files.{Files}
 use Rattle.fsfs_base.specs.Paths.{Path}
 use Rattle.fsfs_book.specs.Told.{Look}
 use Rattle.fsfs_disk.specs.Trace.{Trace, files_now}
-use Rattle.fsfs_disk.specs.Streams.{Adds}
+use Rattle.fsfs_streams.specs.Streams.{Adds}
 use Rattle.fsfs_faults.specs.Faults.{fault_from_open, fault_from_look, IsFromLook}
 use Rattle.fsfs_faults.specs.declared.fault.Fault.{Fault}
 use Rattle.fsfs_faults.specs.declared.fault.Fault.TheVariants.{NotRepo, OtherFormat, Linear, NoRev, MountFault, DiskFault, WriteFault, Memory}
@@ -13,7 +13,7 @@ use Rattle.fsfs_rev_file.specs.RevBytes.{rev_bytes}
 use Rattle.fsfs_look.specs.Written.{Writes}
 use Rattle.fsfs_look.specs.declared.look_error.LookError.{LookError}
 use Rattle.fsfs_look.specs.declared.look_error.LookError.TheVariants as errors
-use Rattle.fsfs_output.specs.Output.{AddsFront}
+use Rattle.fsfs_streams.specs.Output.{AddsFront}
 use Rattle.fsfs_layout.specs.Opening.{small_texts, IsOpened, IsNone, HasFormat, IsLinear}
 use Rattle.fsfs_repo.specs.OpenFaults.{OpensBecause}
 use Rattle.fsfs_repo.specs.Deciding.{IsOutside as IsOpenOutside}

@@ -5,13 +5,13 @@ use Rattle.fsfs_tree.specs.Revisions.{Revision}
 use Rattle.fsfs_tree.specs.Dated.{last_of}
 use Rattle.fsfs_fields.specs.Dates.{IsDateAt}
 use Rattle.fsfs_disk.specs.Trace.{Trace, files_now}
-use Rattle.fsfs_disk.specs.Streams.{Adds}
+use Rattle.fsfs_streams.specs.Streams.{Adds}
 use Rattle.fsfs_create.specs.Creation.{IsUnpublished}
 use Rattle.fsfs_fetch.specs.Kept.{HasShortFiles}
 use Rattle.fsfs_rev_file.specs.RevBytes.{rev_bytes}
 use Rattle.fsfs_model.specs.Answers.{Reply, Answer, UuidAnswer, asked_revision}
 use Rattle.fsfs_model.specs.Answers as model
-use Rattle.fsfs_output.specs.Output.{AddsFront}
+use Rattle.fsfs_streams.specs.Output.{AddsFront}
 use Rattle.fsfs_layout.specs.Opening.{small_texts, IsOpened, IsNone}
 use Rattle.fsfs_layout.specs.declared.opened.Opened.{Opened}
 use Rattle.fsfs_stands.specs.Files.{StandsFor}

@@ -1,7 +1,7 @@
 // Looks at a revision of a repository.
 ghost use Rattle.std.specs.Prelude.{◌≡◌, ◌≢◌, ◌≤◌, ◌<◌, ◌⊎◌, ℕ, List, Some, IfOk, IfErr, IfSome, option_map};
 ghost use Rattle.fsfs_book.specs.Told.{Look, Knows, Keeps};
-ghost use Rattle.fsfs_disk.specs.Fault.{Rose};
+ghost use Rattle.fsfs_base.specs.Failures.{Rose};
 ghost use Rattle.fsfs_disk.specs.Trace.{files_now};
 ghost use Rattle.fsfs_faults.specs.declared.fault.Fault.TheVariants as faults;
 ghost use Rattle.fsfs_look.specs.Written.{Writes, HasDiskCause, HasSinkCause};
@@ -11,13 +11,14 @@ ghost use Rattle.fsfs_top.specs.Looks.{TextOf, LacksRevision, LooksInto, PrintsL
 
 use fsfs_base::FsPath;
 use fsfs_book::Book;
-use fsfs_disk::{Disk, Host, Sink};
+use fsfs_disk::{Disk, Host};
 use fsfs_faults::Fault;
 use fsfs_fetch::{disk_of, over_disk};
 use fsfs_layout::Opened;
 use fsfs_look::{LookError, cat, tree_text};
 use fsfs_places::DiskPlace;
 use fsfs_repo::open;
+use fsfs_streams::Sink;
 use std::alloc::Global;
 
 /// What is printed of a revision.

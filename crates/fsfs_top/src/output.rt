@@ -1,11 +1,11 @@
 // Printing what the small files of a repository say.
-ghost use Rattle.fsfs_output.specs.Output.{Prints};
+ghost use Rattle.fsfs_streams.specs.Output.{Prints};
 ghost use Rattle.fsfs_top.specs.Answers.{revision_line, uuid_line, shown_line};
 
 use arrayvec::ArrayString;
-use fsfs_disk::{Failed, Sink};
+use fsfs_base::Failed;
 use fsfs_layout::{Opened, Uuid};
-use fsfs_output::print;
+use fsfs_streams::{Sink, print};
 use itoa::Buffer;
 
 /// Writes a revision's number and the end of the line.

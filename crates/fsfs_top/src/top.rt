@@ -1,6 +1,6 @@
 // The top call.
 ghost use Rattle.std.specs.Prelude.{◌≡◌, ◌≢◌, ◌≤◌, ℕ, List, map, string_bytes, Option, Some, IfSome, IfNone, OnOk, option_map};
-ghost use Rattle.fsfs_disk.specs.Fault.{Rose};
+ghost use Rattle.fsfs_base.specs.Failures.{Rose};
 ghost use Rattle.fsfs_disk.specs.Trace.{Trace, files_now};
 ghost use Rattle.fsfs_disk.specs.Crash.{AllImages, IsFirm, Leaves};
 ghost use Rattle.fsfs_create.specs.Creation.{IsUnpublished, HasRepository};
@@ -14,9 +14,10 @@ ghost use Rattle.fsfs_faults.specs.declared.fault.Fault.{Fault};
 use crate::look::{Printed, RevisionLook, look_at};
 use crate::output::{Shown, print_shown};
 use fsfs_create::create;
-use fsfs_disk::{Clock, Dice, Gate, Host, Sink, Source};
+use fsfs_disk::Host;
 use fsfs_faults::{Fault, print_fault, status};
 use fsfs_repo::open;
+use fsfs_streams::{Clock, Dice, Gate, Sink, Source};
 use fsfs_words::{CatOrder, Order, Tool, TreeOrder, read_words};
 use std::alloc::Global;
 use uuid::Builder;

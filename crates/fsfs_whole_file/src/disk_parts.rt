@@ -1,13 +1,14 @@
 //! The files of a disk.
 ghost use Rattle.std.specs.Prelude.{◌≡◌, ◌≤◌, IfOk, IfErr, IfSome, option_map};
-ghost use Rattle.fsfs_disk.specs.Fault.{Rose};
+ghost use Rattle.fsfs_base.specs.Failures.{Rose};
 ghost use Rattle.fsfs_disk.specs.Trace.{file_at};
 ghost use Rattle.fsfs_whole_file.specs.FileFaults.{IfFailed};
 
 use crate::file_fault::FileFault;
 use crate::parts::Parts;
 use crate::whole_file::read_file;
-use fsfs_disk::{Disk, Failed, Name};
+use fsfs_base::{Failed, Name};
+use fsfs_disk::Disk;
 use std::alloc::Global;
 
 /// The parts of the files of a disk.

@@ -1,7 +1,7 @@
 //! Why a file was not read.
 ghost use Rattle.std.specs.Prelude.{◌≡◌};
 
-use fsfs_disk::Failed;
+use fsfs_base::Failed;
 use std::alloc::AllocError;
 
 /// Why a file was not read.

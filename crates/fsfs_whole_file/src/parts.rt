@@ -1,9 +1,9 @@
 //! What a file is read through, a part at a time.
 ghost use Rattle.std.specs.Prelude.{◌≡◌, ◌≤◌, ℕ, List, Option, length, IfOk, IfSome};
-ghost use Rattle.fsfs_disk.specs.Fault.{HasCause};
+ghost use Rattle.fsfs_base.specs.Failures.{HasCause};
 ghost use Rattle.fsfs_disk.specs.Trace.{IsRead};
 
-use fsfs_disk::{Failed, Name};
+use fsfs_base::{Failed, Name};
 
 /// What gives parts of files. It may tell of a file what it is, and what it tells stays true.
 pub trait Parts {

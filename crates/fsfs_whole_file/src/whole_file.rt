@@ -1,11 +1,11 @@
 //! A file read as a whole.
 ghost use Rattle.std.specs.Prelude.{◌≡◌, ◌≤◌, List, Option, ℕ, IfOk, IfErr, option_map};
-ghost use Rattle.fsfs_disk.specs.Fault.{Rose};
+ghost use Rattle.fsfs_base.specs.Failures.{Rose};
 ghost use Rattle.fsfs_whole_file.specs.FileFaults.{IfFailed};
 
 use crate::file_fault::FileFault;
 use crate::parts::Parts;
-use fsfs_disk::Name;
+use fsfs_base::Name;
 use std::alloc::Global;
 
 /// All bytes of a file. `None`: there is no such file.

@@ -3,7 +3,7 @@
 
 use fsfs_faults::{Fault, print_fault, status};
 use fsfs_hostdisk::{Machine, OpenGate, StreamSink, StreamSource, SystemClock, SystemDice, words};
-use fsfs_output::print;
+use fsfs_streams::print;
 use fsfs_top::{Tool, command};
 use std::process::ExitCode;
 

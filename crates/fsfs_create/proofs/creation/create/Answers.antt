@@ -2,7 +2,7 @@ use Rattle.std.proofs.Common.{◌≡◌, map, ap, ◌∙◌, arith, refl}
 use Rattle.std.specs.Prelude.{option_map}
 use Rattle.fsfs_disk.proofs.CrashLemmas.{firm_after}
 use Rattle.fsfs_create.specs.Creation.{after_firm, after_rename}
-use Rattle.fsfs_disk.specs.Fault.{Rose}
+use Rattle.fsfs_base.specs.Failures.{Rose}
 use Rattle.fsfs_layout.specs.CreatedFiles.{identifier_text, unpublished_files, format_text}
 use Rattle.fsfs_create.specs.NewFiles.{named}
 use Rattle.fsfs_create.proofs.CrashLemmas.{last_done, leaves_done, leaves_stopped, leaves_whole, ended_so, stopped_so, is_stopped}

@@ -1,9 +1,9 @@
 use Rattle.std.proofs.Common.{◌≡◌, ◌++◌, ◌≤◌, ℕ, List, refl, subst, ◌∙◌, arith}
 use Rattle.std.specs.Prelude.{codes, Err}
-use Rattle.fsfs_disk.specs.Streams.{Adds}
-use Rattle.fsfs_disk.proofs.StreamLemmas.{adds_then}
-use Rattle.fsfs_output.specs.Output.{Prints}
-use Rattle.fsfs_output.proofs.OutputLemmas.{printed_more, printed_less, passed_on}
+use Rattle.fsfs_streams.specs.Streams.{Adds}
+use Rattle.fsfs_streams.proofs.StreamLemmas.{adds_then}
+use Rattle.fsfs_streams.specs.Output.{Prints}
+use Rattle.fsfs_streams.proofs.OutputLemmas.{printed_more, printed_less, passed_on}
 use Rattle.fsfs_faults.specs.Lines.{line_of}
 use Rattle.fsfs_faults.specs.Pieces.{head_of, path_values}
 use Rattle.fsfs_faults.proofs.LineLemmas.{line_in_pieces}

@@ -1,7 +1,7 @@
 use Rattle.std.proofs.Common.{◌∷◌, refl, subst}
 use Rattle.std.specs.Prelude.{codes, Err}
-use Rattle.fsfs_output.specs.Output.{Prints}
-use Rattle.fsfs_output.proofs.OutputLemmas.{printed_more, printed_less, passed_on}
+use Rattle.fsfs_streams.specs.Output.{Prints}
+use Rattle.fsfs_streams.proofs.OutputLemmas.{printed_more, printed_less, passed_on}
 use Rattle.fsfs_faults.proofs.output.print_name.Goals as goal
 
 pub returns-in_err-print : goal.returns-in_err-print

@@ -3,10 +3,10 @@ use Rattle.std.specs.Prelude.{Err}
 use Rattle.std.specs.String.{string_bytes}
 use Rattle.fsfs_base.specs.Paths.{names_text, path_text}
 use Rattle.fsfs_base.proofs.PathTextLemmas.{text_more, shown_names}
-use Rattle.fsfs_disk.specs.Streams.{Adds}
-use Rattle.fsfs_disk.proofs.StreamLemmas.{adds_then}
-use Rattle.fsfs_output.specs.Output.{Prints}
-use Rattle.fsfs_output.proofs.OutputLemmas.{printed_more, printed_less, passed_on}
+use Rattle.fsfs_streams.specs.Streams.{Adds}
+use Rattle.fsfs_streams.proofs.StreamLemmas.{adds_then}
+use Rattle.fsfs_streams.specs.Output.{Prints}
+use Rattle.fsfs_streams.proofs.OutputLemmas.{printed_more, printed_less, passed_on}
 use Rattle.fsfs_faults.proofs.PathLemmas.{text_around}
 use Rattle.fsfs_faults.proofs.output.print_path.Goals as goal
 

@@ -1,7 +1,7 @@
 use Rattle.std.proofs.Common.{◌≤◌, map, take, Global}
 use Rattle.std.specs.String.{string_bytes}
 use Rattle.fsfs_base.specs.Paths.{names_text}
-use Rattle.fsfs_disk.specs.Streams.{Adds}
+use Rattle.fsfs_streams.specs.Streams.{Adds}
 use Rattle.fsfs_faults.proofs.output.print_path.Given as goal
 
 -- the names so far were written

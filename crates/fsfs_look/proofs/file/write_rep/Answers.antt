@@ -1,8 +1,8 @@
 use Rattle.std.proofs.Common.{◌≤◌, ◌+◌, Ok, length, take, drop, refl, subst, arith, rules}
 use Rattle.std.proofs.lemmas.List.{take_all, length-take}
 use Rattle.std.proofs.lemmas.Result.{err_from_is_err_and}
-use Rattle.fsfs_disk.specs.Streams.{Adds}
-use Rattle.fsfs_disk.proofs.StreamLemmas.{adds_then}
+use Rattle.fsfs_streams.specs.Streams.{Adds}
+use Rattle.fsfs_streams.proofs.StreamLemmas.{adds_then}
 use Rattle.fsfs_rep.specs.Frames.{text_of, rev_of}
 use Rattle.fsfs_book.proofs.Keeping.{keeps_trans}
 use Rattle.fsfs_rep.proofs.WholeLemmas.{bytes_more}

@@ -1,6 +1,6 @@
 use Rattle.std.proofs.Common.{◌≡◌, ◌≤◌, ◌-◌, ℕ, List, Some, Ok, length, take}
 use Rattle.fsfs_book.specs.Told.{Keeps}
-use Rattle.fsfs_disk.specs.Streams.{Adds}
+use Rattle.fsfs_streams.specs.Streams.{Adds}
 use Rattle.fsfs_rep.specs.Frames.{rev_of, text_of, IsWhole}
 use Rattle.fsfs_look.proofs.file.write_rep.Given as goal
 

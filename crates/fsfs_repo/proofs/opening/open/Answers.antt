@@ -1,7 +1,7 @@
 use Rattle.std.proofs.Common.{◌≡◌, option_map}
 use Rattle.fsfs_disk.specs.Trace.{files_now, FirmNames}
 use Rattle.fsfs_disk.proofs.TraceLemmas.{ended}
-use Rattle.fsfs_disk.specs.Fault.{Rose}
+use Rattle.fsfs_base.specs.Failures.{Rose}
 use Rattle.fsfs_repo.specs.OpenFaults.{texts_of}
 use Rattle.fsfs_repo.proofs.OpeningLemmas.{all_because, same_texts, firm_same}
 use Rattle.fsfs_repo.proofs.DecidingLemmas.{decides_now}

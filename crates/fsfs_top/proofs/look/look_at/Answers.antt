@@ -1,5 +1,5 @@
 use Rattle.std.proofs.Common.{inl, refl, arith}
-use Rattle.fsfs_disk.specs.Fault.{Rose}
+use Rattle.fsfs_base.specs.Failures.{Rose}
 use Rattle.fsfs_top.specs.Command.{fault_of}
 use Rattle.fsfs_top.proofs.LookLemmas.{look_decided, look_refusal}
 use Rattle.fsfs_top.proofs.LookingLemmas.{look_now, look_printed, open_refused}

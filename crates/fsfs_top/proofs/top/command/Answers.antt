@@ -1,6 +1,6 @@
 use Rattle.std.proofs.Common.{◌∙◌, map, refl, sym}
 use Rattle.std.specs.Prelude.{string_bytes, Some, None}
-use Rattle.fsfs_disk.specs.Fault.{Rose}
+use Rattle.fsfs_base.specs.Failures.{Rose}
 use Rattle.fsfs_faults.specs.Lines.{line_of}
 use Rattle.fsfs_top.proofs.Making.{made_stands, no_zero}
 use Rattle.fsfs_top.proofs.Replying.{replies, told_line}

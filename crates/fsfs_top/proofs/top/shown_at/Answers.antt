@@ -1,5 +1,5 @@
 use Rattle.std.proofs.Common.{inl, inr, refl, arith}
-use Rattle.fsfs_disk.specs.Fault.{Rose}
+use Rattle.fsfs_base.specs.Failures.{Rose}
 use Rattle.fsfs_top.proofs.CommandLemmas.{opens_as}
 use Rattle.fsfs_top.proofs.LookLemmas.{shown_decided, shown_refusal}
 use Rattle.fsfs_top.proofs.LookingLemmas.{open_refused}

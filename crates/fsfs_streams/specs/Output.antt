@@ -1,7 +1,7 @@
 -- What writing a text does to a sink.
 use Rattle.std.specs.Prelude.{◌≡◌, ◌≤◌, ℕ, List, ◌++◌, Option, Result, OnOk, OnErr}
-use Rattle.fsfs_disk.specs.Fault.{Rose}
-use Rattle.fsfs_disk.specs.Streams.{Adds}
+use Rattle.fsfs_base.specs.Failures.{Rose}
+use Rattle.fsfs_streams.specs.Streams.{Adds}
 
 -- a first part of the text was added
 abbrev pub AddsFront : Option (List ℕ) → Option (List ℕ) → List ℕ → Type 0

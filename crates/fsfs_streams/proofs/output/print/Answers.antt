@@ -2,11 +2,11 @@ use Rattle.std.proofs.Common.{◌≡◌, ◌≤◌, ℕ, ◌+◌, ◌-◌, List,
 use Rattle.std.specs.Prelude.{Option}
 use Rattle.std.proofs.Math.Seq.{take-add}
 use Rattle.std.proofs.lemmas.List.{drop-drop, length-drop, take_all}
-use Rattle.fsfs_disk.specs.Fault.{Rose}
-use Rattle.fsfs_disk.specs.Streams.{Adds}
-use Rattle.fsfs_disk.proofs.StreamLemmas.{adds_then}
-use Rattle.fsfs_output.proofs.OutputLemmas.{printed_front}
-use Rattle.fsfs_output.proofs.output.print.Goals as goal
+use Rattle.fsfs_base.specs.Failures.{Rose}
+use Rattle.fsfs_streams.specs.Streams.{Adds}
+use Rattle.fsfs_streams.proofs.StreamLemmas.{adds_then}
+use Rattle.fsfs_streams.proofs.OutputLemmas.{printed_front}
+use Rattle.fsfs_streams.proofs.output.print.Goals as goal
 
 went_on : (old mid new : Option (List ℕ)) (text rest : List ℕ) (k n : ℕ) → rest ≡ drop k text → Adds old mid (take k text) → Adds mid new (take n rest)
     → (j : ℕ) × (drop n rest ≡ drop j text) × Adds old new (take j text)

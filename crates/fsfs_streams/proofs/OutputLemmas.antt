@@ -2,10 +2,10 @@
 use Rattle.std.proofs.Common.{◌≡◌, ◌≤◌, ℕ, List, ◌++◌, refl, ap, sym, subst, ◌∙◌, take, drop, append_assoc, arith}
 use Rattle.std.proofs.lemmas.List.{take-append-drop}
 use Rattle.std.specs.Prelude.{Option, Result, Ok, Err, IsErr}
-use Rattle.fsfs_disk.specs.Fault.{Rose}
-use Rattle.fsfs_disk.specs.Streams.{Adds}
-use Rattle.fsfs_disk.proofs.StreamLemmas.{adds_then}
-use Rattle.fsfs_output.specs.Output.{AddsFront, Prints}
+use Rattle.fsfs_base.specs.Failures.{Rose}
+use Rattle.fsfs_streams.specs.Streams.{Adds}
+use Rattle.fsfs_streams.proofs.StreamLemmas.{adds_then}
+use Rattle.fsfs_streams.specs.Output.{AddsFront, Prints}
 
 -- one piece more
 pub printed_more : {E : Type 0} (old mid new : Option (List ℕ)) (text piece : List ℕ) (before then_ now : ℕ) (r : Result (Unit {0}) E)

@@ -1,6 +1,6 @@
 use Rattle.std.proofs.Common.{◌≡◌, ◌≤◌, ℕ, take, drop, length}
-use Rattle.fsfs_disk.specs.Streams.{Adds}
-use Rattle.fsfs_output.proofs.output.print.Given as goal
+use Rattle.fsfs_streams.specs.Streams.{Adds}
+use Rattle.fsfs_streams.proofs.output.print.Given as goal
 
 -- so many bytes of the text were written, and the rest is left
 abbrev pub invariant-loop-rest : goal.invariant-loop-rest

@@ -1,9 +1,10 @@
 //! Writing a whole text.
 ghost use Rattle.std.specs.Prelude.{◌≡◌, ◌≤◌, ℕ, Option, Some, take, length};
-ghost use Rattle.fsfs_disk.specs.Fault.{Rose};
-ghost use Rattle.fsfs_output.specs.Output.{Prints};
+ghost use Rattle.fsfs_base.specs.Failures.{Rose};
+ghost use Rattle.fsfs_streams.specs.Output.{Prints};
 
-use fsfs_disk::{Failed, Sink};
+use crate::streams::Sink;
+use fsfs_base::Failed;
 
 /// Writes a text, or after a failure a first part of it. A sink may take fewer bytes at a time than it is given.
 pub fn print<S: Sink>(sink: &mut S, text: &[u8]) -> Result<(), Failed>
