@@ -4,6 +4,7 @@
 mod action;
 mod bad_path;
 mod failed;
+mod faults;
 mod kind;
 mod name;
 mod pairs;
@@ -15,6 +16,7 @@ mod small_fault;
 pub use action::Action;
 pub use bad_path::{BadPath, PathError, PathFault};
 pub use failed::Failed;
+pub use faults::Faults;
 pub use fsfs_fields::{
     BadPropName, HexDigest, PropName, PropNameError, RevNum, TxnName, plain_txn_name, put_txn_name,
     read_date, read_txn_name, write_date,

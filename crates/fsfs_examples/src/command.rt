@@ -3,7 +3,8 @@ use crate::files::{Files, disk_with};
 use crate::line::Place;
 use anyhow::{Result, anyhow, bail};
 use fsfs_escapes::bytes_of;
-use fsfs_memdisk::{FixedClock, FixedDice, MemDisk, MemHost, MemSink, MemSource, NoGate};
+use fsfs_memdisk::{MemDisk, MemHost};
+use fsfs_memstreams::{FixedClock, FixedDice, MemSink, MemSource, NoGate};
 use fsfs_top::{Tool, command};
 use std::alloc::{AllocError, Global};
 

@@ -8,10 +8,9 @@ ghost use Rattle.fsfs_memdisk.specs.PickedImage.{picked_image};
 ghost use Rattle.fsfs_memdisk.specs.Stored.{operations_of, change_of};
 
 use crate::crash::image;
-use crate::faults::Faults;
 use crate::files::MemFiles;
 use crate::operations::{MemChange, MemFile, MemOperation};
-use fsfs_base::{Failed, Name};
+use fsfs_base::{Failed, Faults, Name};
 use fsfs_disk::Disk;
 use std::alloc::{AllocError, Global};
 use std::collections::VecDeque;

@@ -1,14 +1,12 @@
-//! The outside kept in memory: disks, a host that has them, streams, a clock and dice. It tells all that it has.
+//! Disks kept in memory, and a host that has them. They tell all that they have, fail at the calls that are listed, and leave any
+//! image of a crash.
 #![tactic(auto)]
 
 mod crash;
 mod disk;
-mod faults;
 mod files;
 mod host;
 mod operations;
-mod streams;
 
 pub use disk::MemDisk;
 pub use host::MemHost;
-pub use streams::{FixedClock, FixedDice, MemSink, MemSource, NoGate};

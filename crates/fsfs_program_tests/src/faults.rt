@@ -3,7 +3,7 @@ use fsfs_base::{BadPath, FsPath, HexDigest, PathFault, SmallFault, SmallFile};
 use fsfs_create::CreateFault;
 use fsfs_damage::{Damage, Refusal, RepWhat, RevOffset, What, Wrong};
 use fsfs_faults::{Fault, Tool, print_fault, status};
-use fsfs_memdisk::MemSink;
+use fsfs_memstreams::MemSink;
 use fsfs_places::DiskPlace;
 use fsfs_repo::OpenFault;
 use fsfs_texts::LookFault;

@@ -6,7 +6,7 @@ use fsfs_dag::{
     Met, PlacedNode, TextError, entries, entry_named, node_at, props, root_of, text_of, text_to,
 };
 use fsfs_damage::RevOffset;
-use fsfs_memdisk::MemSink;
+use fsfs_memstreams::MemSink;
 use std::alloc::Global;
 use std::test::Fail;
 

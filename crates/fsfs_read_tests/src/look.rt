@@ -5,7 +5,7 @@ use crate::revisions::{
 use fsfs_base::HexDigest;
 use fsfs_damage::{RepWhat, RevOffset, Wrong};
 use fsfs_look::{LookError, cat, tree_text};
-use fsfs_memdisk::MemSink;
+use fsfs_memstreams::MemSink;
 use fsfs_shows::RepDamage;
 use fsfs_texts::LookFault;
 use std::test::Fail;

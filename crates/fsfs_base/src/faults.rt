@@ -2,7 +2,7 @@
 ghost use Rattle.std.specs.Prelude.{◌≡◌, ◌↔◌, ◌≤◌, IsTrue, IsErr};
 ghost use Rattle.fsfs_base.specs.Failures.{HasCause, Rose};
 
-use fsfs_base::Failed;
+use crate::failed::Failed;
 
 /// The numbers of the calls that are to fail, the first call being 1, how many calls there were, and how often one failed.
 #[derive(Drop)]
@@ -13,7 +13,7 @@ pub struct Faults {
 }
 
 impl Faults {
-    ghost use Rattle.fsfs_memdisk.specs.Faults.{next_call, is_next_listed};
+    ghost use Rattle.fsfs_base.specs.Faults.{next_call, is_next_listed};
 
     pub fn new(failing: Vec<u64>) -> Faults
         ensures failing { result.failing ≡ failing }

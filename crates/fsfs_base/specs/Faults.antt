@@ -1,7 +1,7 @@
 -- Which calls fail.
 use Rattle.std.specs.Prelude.{ℕ, ◌+◌, ◌-◌, ◌^◌, min, Bool, nat_eq}
 use Rattle.std.specs.List.{list_any}
-use Rattle.fsfs_memdisk.specs.declared.faults.Faults.{Faults}
+use Rattle.fsfs_base.specs.declared.faults.Faults.{Faults}
 
 -- the number of the next call; the first is 1, and the count stops at the last number of a u64
 abbrev pub next_call : Faults → ℕ
