@@ -4,7 +4,7 @@ use Rattle.fsfs_base.specs.Paths.{Name, Path}
 use Rattle.fsfs_book.specs.Told.{Look}
 use Rattle.fsfs_streams.specs.Streams.{Adds}
 use Rattle.fsfs_streams.proofs.StreamLemmas.{adds_then}
-use Rattle.fsfs_model.specs.Answers.{last_name}
+use Rattle.fsfs_answers.specs.Answers.{last_name}
 use Rattle.fsfs_noderev.specs.declared.node_rev.NodeRev.{NodeRev}
 use Rattle.fsfs_shows.specs.Reading.{MetAt, Met, Stands, Lacking, Blocked}
 use Rattle.fsfs_look.specs.declared.look_error.LookError.{LookError}

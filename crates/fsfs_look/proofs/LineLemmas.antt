@@ -2,7 +2,7 @@
 use Rattle.std.proofs.Common.{◌≡◌, ◌++◌, ℕ, Bool, List, ap, refl, ◌∙◌, append_assoc, replicate}
 use Rattle.std.specs.Prelude.{codes}
 use Rattle.fsfs_base.specs.Paths.{Name}
-use Rattle.fsfs_model.specs.Answers.{kind_mark}
+use Rattle.fsfs_answers.specs.Answers.{kind_mark}
 use Rattle.fsfs_noderev.specs.declared.node_rev.NodeRev.{NodeRev}
 use Rattle.fsfs_texts.specs.TreeTexts.{IsShownId, IsLine}
 

@@ -2,7 +2,7 @@
 use Rattle.std.proofs.Common.{◌≡◌, ℕ, ◌≤◌, ◌-◌, List, [], ◌∷◌, length, get_or, map, Result, Ok, Err, refl, subst, arith}
 use Rattle.fsfs_base.specs.Paths.{Name, Path}
 use Rattle.fsfs_book.specs.Told.{Look}
-use Rattle.fsfs_model.specs.Answers.{last_name}
+use Rattle.fsfs_answers.specs.Answers.{last_name}
 use Rattle.fsfs_damage.specs.declared.wrong.ReadError.{ReadError}
 use Rattle.fsfs_damage.specs.declared.wrong.ReadError.TheVariants as reads
 use Rattle.fsfs_damage.specs.Readings.{Answers}

@@ -2,7 +2,7 @@
 ghost use Rattle.std.specs.Prelude.{◌≡◌, ◌++◌, ◌↔◌, ℕ, List, true, replicate, OnOk, codes};
 ghost use Rattle.fsfs_noderev.specs.Ids.{FitsPart, FitsPlace, FitsId, part_value, place_value, id_value};
 ghost use Rattle.fsfs_noderev.specs.Fields.{IsIdText};
-ghost use Rattle.fsfs_model.specs.Answers.{kind_mark};
+ghost use Rattle.fsfs_answers.specs.Answers.{kind_mark};
 ghost use Rattle.fsfs_look.specs.Lines.{PutsLine};
 
 use crate::look_error::LookError;

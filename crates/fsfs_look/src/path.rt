@@ -1,6 +1,6 @@
 //! The node at a path of a revision, or the fault that names a part of the path.
 ghost use Rattle.fsfs_book.specs.Told.{Look, Knows, Keeps};
-ghost use Rattle.fsfs_model.specs.Answers.{last_name as last};
+ghost use Rattle.fsfs_answers.specs.Answers.{last_name as last};
 ghost use Rattle.std.specs.Prelude.{◌≡◌, ℕ};
 ghost use Rattle.fsfs_look.specs.Paths.{IsFound};
 ghost use Rattle.fsfs_look.specs.Written.{HasDiskCause, HasSinkCause};

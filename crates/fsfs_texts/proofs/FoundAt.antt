@@ -6,8 +6,8 @@ use Rattle.fsfs_tree.specs.Nodes.{Node, TreeFunction}
 use Rattle.fsfs_base.specs.declared.kind.Kind.{Kind}
 use Rattle.fsfs_base.specs.declared.kind.Kind.TheVariants.{File, Dir}
 use Rattle.fsfs_book.specs.Told.{Look}
-use Rattle.fsfs_model.specs.Answers as answers
-use Rattle.fsfs_model.specs.Answers.{Found, through, found_from, found_at}
+use Rattle.fsfs_answers.specs.Answers as answers
+use Rattle.fsfs_answers.specs.Answers.{Found, through, found_from, found_at}
 use Rattle.fsfs_noderev.specs.declared.node_rev.NodeRev.{NodeRev}
 use Rattle.fsfs_damage.specs.declared.wrong.Wrong.{Wrong}
 use Rattle.fsfs_shows.specs.Reading.{ChildOf, Met, Stands, Lacking, Blocked, OrLacking, InDirectory, MetFrom, MetAt, StandsAt}

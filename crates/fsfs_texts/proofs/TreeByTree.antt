@@ -9,8 +9,8 @@ use Rattle.fsfs_base.specs.Paths.{Name, Path, path_cmp}
 use Rattle.fsfs_tree.specs.Nodes.{Node}
 use Rattle.fsfs_base.specs.declared.kind.Kind.TheVariants.{File, Dir}
 use Rattle.fsfs_book.specs.Told.{Look}
-use Rattle.fsfs_model.specs.Answers as answers
-use Rattle.fsfs_model.specs.Answers.{Found, found_at, last_name, kind_mark, tree_line, tree_text}
+use Rattle.fsfs_answers.specs.Answers as answers
+use Rattle.fsfs_answers.specs.Answers.{Found, found_at, last_name, kind_mark, tree_line, tree_text}
 use Rattle.fsfs_noderev.specs.declared.node_rev.NodeRev.{NodeRev}
 use Rattle.fsfs_damage.specs.declared.wrong.Wrong.{Wrong}
 use Rattle.fsfs_shows.specs.Reading.{Entry, named, EntriesOf, OfEntry, OfNamed, ChildOf, Met, Stands, Lacking, Blocked, MetFrom, MetAt, StandsAt}

@@ -6,7 +6,7 @@ use Rattle.fsfs_base.specs.declared.kind.Kind.TheVariants.{File, Dir}
 use Rattle.fsfs_base.specs.Paths.{Path, path_cmp}
 use Rattle.fsfs_tree.specs.Nodes.{Node, Content, Bytes, Closed, TreeFunction}
 use Rattle.fsfs_book.specs.Told.{Look}
-use Rattle.fsfs_model.specs.Answers.{Found, Stands, Lacking, Blocked, found_at, tree_text}
+use Rattle.fsfs_answers.specs.Answers.{Found, Stands, Lacking, Blocked, found_at, tree_text}
 use Rattle.fsfs_noderev.specs.declared.node_rev.NodeRev.{NodeRev}
 use Rattle.fsfs_damage.specs.Damages.{place_of}
 use Rattle.fsfs_damage.specs.declared.wrong.Wrong.TheVariants as wrongs

@@ -4,7 +4,7 @@ use Rattle.std.specs.Prelude.{◌≡◌, ◌≢◌, ℕ, suc, Bool, true, false,
 use Rattle.fsfs_base.specs.Paths.{Name, Path}
 use Rattle.fsfs_base.specs.declared.kind.Kind.TheVariants.{File, Dir}
 use Rattle.fsfs_book.specs.Told.{Look}
-use Rattle.fsfs_model.specs.Answers.{last_name, kind_mark}
+use Rattle.fsfs_answers.specs.Answers.{last_name, kind_mark}
 use Rattle.fsfs_noderev.specs.Fields.{IsIdText}
 use Rattle.fsfs_noderev.specs.declared.node_id.NodeId.{NodeId}
 use Rattle.fsfs_noderev.specs.declared.node_rev.NodeRev.{NodeRev}

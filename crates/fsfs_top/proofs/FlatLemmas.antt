@@ -12,7 +12,7 @@ use Rattle.fsfs_faults.specs.Lines.{line_of, status_of}
 use Rattle.fsfs_faults.specs.Faults.{fault_from_look}
 use Rattle.fsfs_faults.specs.declared.fault.Fault.TheVariants as fault
 use Rattle.fsfs_rev_file.specs.RevBytes.{rev_bytes}
-use Rattle.fsfs_model.specs.Answers.{Reply, Found, Stands, Lacking, Blocked, found_at, tree_reply, node_reply, text_reply, prints, refuses, refuses_at, refuses_look, in_revision}
+use Rattle.fsfs_answers.specs.Answers.{Reply, Found, Stands, Lacking, Blocked, found_at, tree_reply, node_reply, text_reply, prints, refuses, refuses_at, refuses_look, in_revision}
 use Rattle.fsfs_damage.specs.Damages.{place_of}
 use Rattle.fsfs_damage.specs.declared.wrong.Wrong.TheVariants as wrongs
 use Rattle.fsfs_stands.specs.Files.{StandsFor}

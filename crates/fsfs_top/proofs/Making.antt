@@ -7,7 +7,7 @@ use Rattle.fsfs_disk.specs.Trace.{Trace, files_now}
 use Rattle.fsfs_faults.specs.Lines.{status_of}
 use Rattle.fsfs_faults.specs.declared.fault.Fault.{Fault}
 use Rattle.fsfs_faults.specs.declared.fault.Fault.TheVariants.{Usage, BadPath, NotFound, NotDir, NotFile, NoRev, AlreadyRepo, NotRepo, OtherFormat, Linear, Small, Corrupt, BadRep, Delta, MountFault, DiskFault, WriteFault, Memory}
-use Rattle.fsfs_model.specs.Answers.{new_history}
+use Rattle.fsfs_answers.specs.Answers.{new_history}
 use Rattle.fsfs_layout.specs.CreatedFiles.{created_over, identifier_text, random_identifier}
 use Rattle.fsfs_stands.specs.Files.{StandsFor}
 use Rattle.fsfs_stands.specs.NewRepository.{HoldsNew}

@@ -18,7 +18,7 @@ use Rattle.fsfs_rev_file.specs.RevBytes.{rev_bytes}
 use Rattle.fsfs_look.specs.declared.look_error.LookError.{LookError}
 use Rattle.fsfs_look.specs.declared.look_error.LookError.TheVariants as errors
 use Rattle.fsfs_look.specs.Written.{Writes}
-use Rattle.fsfs_model.specs.Answers.{Reply, prints, refuses, asked_revision, in_revision, of_revision}
+use Rattle.fsfs_answers.specs.Answers.{Reply, prints, refuses, asked_revision, in_revision, of_revision}
 use Rattle.fsfs_streams.specs.Output.{AddsFront}
 use Rattle.fsfs_layout.specs.Opening.{SmallTexts, small_texts, IsFsfs, IsOpened, IsNone}
 use Rattle.fsfs_repo.specs.OpenFaults.{OpensBecause}

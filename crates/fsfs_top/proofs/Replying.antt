@@ -16,8 +16,8 @@ use Rattle.fsfs_faults.specs.declared.fault.Fault.{Fault}
 use Rattle.fsfs_faults.specs.declared.fault.Fault.TheVariants.{AlreadyRepo, NotRepo}
 use Rattle.fsfs_fetch.specs.Kept.{HasShortFiles}
 use Rattle.fsfs_rev_file.specs.RevBytes.{rev_bytes}
-use Rattle.fsfs_model.specs.Answers as model
-use Rattle.fsfs_model.specs.Answers.{Answer, UuidAnswer, Reply, prints, refuses, refuses_look, tree_reply, text_reply, found_at, asked_revision, new_history}
+use Rattle.fsfs_answers.specs.Answers as model
+use Rattle.fsfs_answers.specs.Answers.{Answer, UuidAnswer, Reply, prints, refuses, refuses_look, tree_reply, text_reply, found_at, asked_revision, new_history}
 use Rattle.fsfs_streams.specs.Output.{AddsFront, Prints}
 use Rattle.fsfs_layout.specs.Opening.{small_texts, IsOpened, IsNone}
 use Rattle.fsfs_layout.specs.declared.opened.Opened.{Opened}

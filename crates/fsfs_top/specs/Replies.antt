@@ -9,8 +9,8 @@ use Rattle.fsfs_streams.specs.Streams.{Adds}
 use Rattle.fsfs_create.specs.Creation.{IsUnpublished}
 use Rattle.fsfs_fetch.specs.Kept.{HasShortFiles}
 use Rattle.fsfs_rev_file.specs.RevBytes.{rev_bytes}
-use Rattle.fsfs_model.specs.Answers.{Reply, Answer, UuidAnswer, asked_revision}
-use Rattle.fsfs_model.specs.Answers as model
+use Rattle.fsfs_answers.specs.Answers.{Reply, Answer, UuidAnswer, asked_revision}
+use Rattle.fsfs_answers.specs.Answers as model
 use Rattle.fsfs_streams.specs.Output.{AddsFront}
 use Rattle.fsfs_layout.specs.Opening.{small_texts, IsOpened, IsNone}
 use Rattle.fsfs_layout.specs.declared.opened.Opened.{Opened}
