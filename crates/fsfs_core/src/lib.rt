@@ -12,6 +12,5 @@ mod txns;
 pub use fsfs_world::{
     Bytes, Change, Coming, Contents, Drawn, Entry, Line, Lock, Marks, Name, Numbers, Outcome, Pass,
     Picks, Place, Places, Recorded, Section, Step, Txn, Went, every_run_keeps_one_history,
-    images_are_shown,
 };
 pub use state::State;

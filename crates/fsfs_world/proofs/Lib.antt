@@ -12,6 +12,5 @@ pub mod Ends
 pub mod Steps
 pub mod Running
 pub mod Created
-pub mod Showing
 pub mod LineLemmas
 pub mod OnePlace

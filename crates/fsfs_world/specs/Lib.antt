@@ -2,5 +2,4 @@ pub mod Codes
 pub mod Disk
 pub mod Machine
 pub mod Kept
-pub mod Shown
 pub mod Lines

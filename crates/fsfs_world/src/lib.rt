@@ -19,4 +19,4 @@ pub use machine::{
     Section, Step, Txn, Went,
 };
 pub use marks::{set_edited, set_merged};
-pub use theorem::{every_run_keeps_one_history, images_are_shown};
+pub use theorem::every_run_keeps_one_history;

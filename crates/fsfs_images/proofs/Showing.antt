@@ -11,7 +11,7 @@ use Rattle.fsfs_world.specs.declared.contents.Contents.{Contents}
 use Rattle.fsfs_world.specs.declared.contents.Contents.TheVariants.{Junk}
 use Rattle.fsfs_world.specs.declared.contents.Change.TheVariants.{Put, Rename, Remove, Firm}
 use Rattle.fsfs_world.specs.Disk.{Disk, found, same_name, IsImage}
-use Rattle.fsfs_world.specs.Shown.{IsReading, AtName, AreRead, Shows, Start, Putting, Adopting, Renaming, Removing, Firming, Attempting, Beside, ImagesAreShown}
+use Rattle.fsfs_images.specs.Shown.{IsReading, AtName, AreRead, Shows, Start, Putting, Adopting, Renaming, Removing, Firming, Attempting, Beside, ImagesAreShown}
 
 module _ (names : Name → List ℕ) (reads : List ℕ → Contents → Bool) (is : IsReading names reads) where
   read_put : (m : Files) (d : Disk) (n : Name) (bytes : List ℕ) (c : Contents) → AreRead names reads m d → reads bytes c ≡ true → AreRead names reads (insert m (names n) bytes) (Put n c ∷ d)
