@@ -7,5 +7,4 @@ pub mod OneTree
 pub mod Walks
 pub mod FirstRevision
 pub mod ByTree
-pub mod FirstDirectory
 pub mod TreeLaw

@@ -5,5 +5,4 @@ pub mod Shown
 pub mod IdRules
 pub mod FirstRevision
 pub mod ByTree
-pub mod FirstDirectory
 pub mod TreeLaw

@@ -13,7 +13,6 @@ ghost use Rattle.fsfs_shows.specs.Shown.{Shows};
 ghost use Rattle.fsfs_shows.specs.TreeLaw.{IsSound};
 ghost use Rattle.fsfs_base.specs.FirstRevision.{first_bytes};
 ghost use Rattle.fsfs_shows.specs.FirstRevision.{first_tree};
-ghost use Rattle.fsfs_shows.specs.FirstDirectory.{directory_bytes, directory_tree};
 ghost use Rattle.fsfs_shows.specs.IdRules.{IdRule};
 ghost use Rattle.fsfs_damage.specs.declared.wrong.Wrong.{Wrong};
 
@@ -49,12 +48,6 @@ pub fn readings_answer_by_the_tree()
 pub fn the_first_revision_shows_its_root()
     ensures tree { (look : Look) → look 0 ≡ Ok first_bytes → Shows look 0 first_tree }
     ensures ids { (look : Look) → look 0 ≡ Ok first_bytes → IdRule look 0 }
-{}
-
-/// The bytes of a revision 1 that made a directory, behind those of revision 0, show it and obey the rules of ids.
-pub fn a_directory_is_shown()
-    ensures tree { (look : Look) → look 0 ≡ Ok first_bytes → look 1 ≡ Ok directory_bytes → Shows look 1 directory_tree }
-    ensures ids { (look : Look) → look 0 ≡ Ok first_bytes → look 1 ≡ Ok directory_bytes → IdRule look 1 }
 {}
 
 /// What the bytes of a revision show is a tree, its numbers are in order, and none is above the revision's.

@@ -9,6 +9,6 @@
 mod laws;
 
 pub use laws::{
-    a_directory_is_shown, damage_is_the_first, one_tree_is_shown, readings_answer_by_the_tree,
-    readings_have_one_answer, shown_trees_are_sound, the_first_revision_shows_its_root,
+    damage_is_the_first, one_tree_is_shown, readings_answer_by_the_tree, readings_have_one_answer,
+    shown_trees_are_sound, the_first_revision_shows_its_root,
 };

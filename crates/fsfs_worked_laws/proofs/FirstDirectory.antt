@@ -44,7 +44,7 @@ use Rattle.fsfs_shows.specs.Chains.{own_rev, IsPred, First, Goes, copy_root_of, 
 use Rattle.fsfs_shows.specs.Shown.{IsShown, IsShownAs, Shows}
 use Rattle.fsfs_shows.specs.IdRules.{IsOf, IsChild, HasSuffix, Directory, IdRule}
 use Rattle.fsfs_base.specs.FirstRevision.{first_bytes}
-use Rattle.fsfs_shows.specs.FirstDirectory.{directory_bytes, a_name, changed_root, added_directory, directory_tree}
+use Rattle.fsfs_worked_laws.specs.FirstDirectory.{directory_bytes, a_name, changed_root, added_directory, directory_tree}
 use Rattle.fsfs_shows.proofs.FirstRevision.{pair_of, zero_b36, path_is, zero_digit, root_node, nothing_below, the_root, first_rules, root_id as first_id, root as first_root}
 use Rattle.fsfs_damage.proofs.OneAnswer.{ok_same}
 use Rattle.fsfs_shows.proofs.OneWalk.{of_id_one, met_same, stands_same}
