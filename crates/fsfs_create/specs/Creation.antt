@@ -7,8 +7,8 @@ use Rattle.fsfs_disk.specs.Trace.{Trace, add_operation, files_now, file_at, Fail
 use Rattle.fsfs_disk.specs.Trace.Operation.{Done}
 use Rattle.fsfs_disk.specs.Trace.Change.{Put, Rename, FirmNames}
 use Rattle.fsfs_layout.specs.CreatedFiles.{unpublished_files, format_text, created_over}
-use Rattle.fsfs_create.specs.declared.creation.CreateFault.{CreateFault}
-use Rattle.fsfs_create.specs.declared.creation.CreateFault.TheVariants.{AlreadyRepo, DiskFault, Memory}
+use Rattle.fsfs_places.specs.declared.create_fault.CreateFault.{CreateFault}
+use Rattle.fsfs_places.specs.declared.create_fault.CreateFault.TheVariants.{AlreadyRepo, DiskFault, Memory}
 use Rattle.fsfs_places.specs.declared.place.DiskPlace.{DiskPlace}
 use Rattle.fsfs_places.specs.declared.place.DiskPlace.TheVariants.{OpenFirm, OpenRead, Read, CreatePut, CreateFirm, CreateRename, CreateLast}
 

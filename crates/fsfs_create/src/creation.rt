@@ -11,34 +11,9 @@ use crate::initial::{NewFile, created_files};
 use fsfs_base::{Failed, write_date};
 use fsfs_disk::Disk;
 use fsfs_layout::{Format, names, write_format};
-use fsfs_places::DiskPlace;
-use std::alloc::{AllocError, Global};
-use thiserror::Error;
+use fsfs_places::{CreateFault, DiskPlace};
+use std::alloc::Global;
 use uuid::Uuid;
-
-/// Why a repository wasn't made.
-#[derive(Clone, Copy, Debug, PartialEq, Eq, Error)]
-pub enum CreateFault {
-    /// There is one.
-    #[error("there is a repository")]
-    AlreadyRepo,
-    /// A call of the disk failed.
-    #[error("the disk failed")]
-    DiskFault(DiskPlace),
-    /// Memory was wanting, before anything was written.
-    #[error("out of memory")]
-    Memory,
-}
-
-impl From<AllocError> for CreateFault {
-    ghost use Rattle.fsfs_create.specs.declared.creation.CreateFault.TheVariants.{Memory};
-
-    ghost from_gives = { λ _ e. e ≡ Memory };
-
-    fn from(_: AllocError) -> CreateFault {
-        CreateFault::Memory
-    }
-}
 
 // Makes the folders of a repository.
 fn make_folders<D: Disk>(disk: &mut D) -> Result<(), Failed>

@@ -4,4 +4,4 @@
 mod creation;
 mod initial;
 
-pub use creation::{CreateFault, create};
+pub use creation::create;

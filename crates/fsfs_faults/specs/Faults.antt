@@ -2,10 +2,10 @@
 use Rattle.std.specs.Prelude.{◌≡◌, ◌⊎◌, take}
 use Rattle.fsfs_base.specs.Paths.{Path}
 use Rattle.fsfs_damage.specs.declared.wrong.Refusal.TheVariants as refusal
-use Rattle.fsfs_create.specs.declared.creation.CreateFault.{CreateFault}
-use Rattle.fsfs_create.specs.declared.creation.CreateFault.TheVariants as create
-use Rattle.fsfs_repo.specs.declared.opening.OpenFault.{OpenFault}
-use Rattle.fsfs_repo.specs.declared.opening.OpenFault.TheVariants as opening
+use Rattle.fsfs_places.specs.declared.create_fault.CreateFault.{CreateFault}
+use Rattle.fsfs_places.specs.declared.create_fault.CreateFault.TheVariants as create
+use Rattle.fsfs_places.specs.declared.open_fault.OpenFault.{OpenFault}
+use Rattle.fsfs_places.specs.declared.open_fault.OpenFault.TheVariants as opening
 use Rattle.fsfs_damage.specs.declared.damage.What.TheVariants as damaged
 use Rattle.fsfs_damage.specs.declared.wrong.Wrong.{Wrong}
 use Rattle.fsfs_damage.specs.declared.wrong.Wrong.TheVariants as wrong

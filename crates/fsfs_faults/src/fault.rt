@@ -2,10 +2,8 @@
 ghost use Rattle.fsfs_faults.specs.Faults.{IsFromLook};
 
 use fsfs_base::{BadPath, FsPath, SmallFault};
-use fsfs_create::CreateFault;
 use fsfs_damage::{Damage, Refusal, RevOffset, What, Wrong};
-use fsfs_places::DiskPlace;
-use fsfs_repo::OpenFault;
+use fsfs_places::{CreateFault, DiskPlace, OpenFault};
 use fsfs_texts::LookFault;
 use fsfs_words::WordsFault;
 use std::alloc::Global;

@@ -1,11 +1,9 @@
 //! Lines of faults as the table of the README has them.
 use fsfs_base::{BadPath, FsPath, HexDigest, PathFault, SmallFault, SmallFile};
-use fsfs_create::CreateFault;
 use fsfs_damage::{Damage, Refusal, RepWhat, RevOffset, What, Wrong};
 use fsfs_faults::{Fault, Tool, print_fault, status};
 use fsfs_memstreams::MemSink;
-use fsfs_places::DiskPlace;
-use fsfs_repo::OpenFault;
+use fsfs_places::{CreateFault, DiskPlace, OpenFault};
 use fsfs_texts::LookFault;
 use fsfs_words::WordsFault;
 use std::alloc::Global;

@@ -10,8 +10,8 @@ use Rattle.fsfs_layout.specs.declared.format_file.Format.TheVariants.{Linear, Sh
 use Rattle.fsfs_layout.specs.Opening.{SmallTexts, small_texts, IsFsfs, IsNone, IsOpened, IsOpenedBehind}
 use Rattle.fsfs_repo.specs.Deciding.{Decides}
 use Rattle.fsfs_layout.specs.declared.opened.Opened.{Opened}
-use Rattle.fsfs_repo.specs.declared.opening.OpenFault.{OpenFault}
-use Rattle.fsfs_repo.specs.declared.opening.OpenFault.TheVariants as why_not
+use Rattle.fsfs_places.specs.declared.open_fault.OpenFault.{OpenFault}
+use Rattle.fsfs_places.specs.declared.open_fault.OpenFault.TheVariants as why_not
 
 -- a repository of this type of filesystem, and what else its format may be
 pub record Has (s : SmallTexts) (text : List ℕ) (Says : Format → Type 0) : Type 0 where

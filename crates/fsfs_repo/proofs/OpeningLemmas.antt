@@ -13,8 +13,8 @@ use Rattle.fsfs_layout.specs.Small.{IsUuid, IsRevLine, IsMinUnpackedRev, IsBase3
 use Rattle.fsfs_base.specs.declared.small_fault.SmallFile.TheVariants as file
 use Rattle.fsfs_layout.specs.Opening.{SmallTexts, small_texts, IsRefusedBehind, IsPastYoungest}
 use Rattle.fsfs_repo.specs.OpenFaults.{JudgedBecause, OpensBecause}
-use Rattle.fsfs_repo.specs.declared.opening.OpenFault.{OpenFault}
-use Rattle.fsfs_repo.specs.declared.opening.OpenFault.TheVariants as why_not
+use Rattle.fsfs_places.specs.declared.open_fault.OpenFault.{OpenFault}
+use Rattle.fsfs_places.specs.declared.open_fault.OpenFault.TheVariants as why_not
 
 pub refused_uuid : (n : ℕ) (s : SmallTexts) (u : List ℕ) (fault : SmallFault) → u ≡ s.uuid → IsRefusedFile file.Uuid IsUuid u fault → IsRefusedBehind n s fault
 refused_uuid n s u fault su iu = inl (subst (λ t. IsRefusedFile file.Uuid IsUuid t fault) su iu)

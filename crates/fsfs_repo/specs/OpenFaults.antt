@@ -3,8 +3,8 @@ use Rattle.std.specs.Prelude.{Option, IfSome, option_map, ◌≡◌, ◌≤◌, 
 use Rattle.fsfs_disk.specs.Trace.{Trace, files_now}
 use Rattle.fsfs_layout.specs.Opening.{SmallTexts, small_texts, IsNone, HasFormat, IsLinear, IsRefused}
 use Rattle.fsfs_repo.specs.declared.opening.SmallFiles.{SmallFiles}
-use Rattle.fsfs_repo.specs.declared.opening.OpenFault.{OpenFault}
-use Rattle.fsfs_repo.specs.declared.opening.OpenFault.TheVariants.{NotRepo, OtherFormat, Linear, Small, DiskFault, Memory}
+use Rattle.fsfs_places.specs.declared.open_fault.OpenFault.{OpenFault}
+use Rattle.fsfs_places.specs.declared.open_fault.OpenFault.TheVariants.{NotRepo, OtherFormat, Linear, Small, DiskFault, Memory}
 use Rattle.fsfs_whole_file.specs.declared.file_fault.FileFault.{FileFault}
 use Rattle.fsfs_whole_file.specs.declared.file_fault.FileFault.TheVariants as file
 use Rattle.fsfs_places.specs.declared.place.DiskPlace.{DiskPlace}

@@ -3,4 +3,4 @@
 
 mod opening;
 
-pub use opening::{OpenFault, open};
+pub use opening::open;

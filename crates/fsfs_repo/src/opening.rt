@@ -13,33 +13,9 @@ use fsfs_layout::{
     Format, Opened, names, read_current, read_format, read_min_unpacked_rev, read_txn_current,
     read_uuid,
 };
-use fsfs_places::DiskPlace;
+use fsfs_places::{DiskPlace, OpenFault};
 use fsfs_whole_file::{FileFault, read_disk_file};
 use std::alloc::Global;
-use thiserror::Error;
-
-/// Why a repository wasn't opened.
-#[derive(Clone, Copy, Debug, PartialEq, Eq, Error)]
-pub enum OpenFault {
-    /// There is none of this type of filesystem.
-    #[error("there is no repository")]
-    NotRepo,
-    /// It has another format.
-    #[error("the repository has another format")]
-    OtherFormat(u64),
-    /// It is not sharded.
-    #[error("the repository is not sharded")]
-    Linear,
-    /// A small file is not in its format.
-    #[error("a small file is damaged")]
-    Small(SmallFault),
-    /// A call of the disk failed.
-    #[error("the disk failed")]
-    DiskFault(DiskPlace),
-    /// Memory was wanting.
-    #[error("out of memory")]
-    Memory,
-}
 
 // The bytes of the small files; an absent file counts as empty, but for `db/format`.
 #[derive(Drop)]

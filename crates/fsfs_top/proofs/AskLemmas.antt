@@ -7,8 +7,8 @@ use Rattle.fsfs_base.specs.Paths.{Path}
 use Rattle.fsfs_disk.specs.Trace.{Trace}
 use Rattle.fsfs_faults.specs.declared.fault.Fault.{Fault}
 use Rattle.fsfs_faults.specs.declared.fault.Fault.TheVariants.{Memory}
-use Rattle.fsfs_create.specs.declared.creation.CreateFault.TheVariants as create
-use Rattle.fsfs_repo.specs.declared.opening.OpenFault.TheVariants as opening
+use Rattle.fsfs_places.specs.declared.create_fault.CreateFault.TheVariants as create
+use Rattle.fsfs_places.specs.declared.open_fault.OpenFault.TheVariants as opening
 use Rattle.fsfs_words.specs.Words.{Asked, asked, asked_by, taken, create_asked, shard_in, repos_in}
 use Rattle.fsfs_words.specs.Words as said
 use Rattle.fsfs_words.specs.Commands.{create_app}

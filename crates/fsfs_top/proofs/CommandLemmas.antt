@@ -14,8 +14,8 @@ use Rattle.fsfs_layout.specs.CreatedFiles.{identifier_text, random_identifier}
 use Rattle.fsfs_layout.specs.Opening.{small_texts, IsOpened}
 use Rattle.fsfs_layout.specs.declared.opened.Opened.{Opened}
 use Rattle.fsfs_create.specs.Creation.{IsCreated, IsNoneOrWhole, IsUnpublished, IsNoRepository, CreateFails}
-use Rattle.fsfs_create.specs.declared.creation.CreateFault.{CreateFault}
-use Rattle.fsfs_create.specs.declared.creation.CreateFault.TheVariants as create
+use Rattle.fsfs_places.specs.declared.create_fault.CreateFault.{CreateFault}
+use Rattle.fsfs_places.specs.declared.create_fault.CreateFault.TheVariants as create
 use Rattle.fsfs_faults.specs.Faults.{fault_from_create}
 use Rattle.fsfs_faults.specs.declared.fault.Fault.{Fault}
 use Rattle.fsfs_top.specs.Command.{Drawn, Created, IsNoneOrCreated}

@@ -24,13 +24,13 @@ use Rattle.fsfs_layout.specs.Opening.{SmallTexts, small_texts, IsFsfs, IsOpened,
 use Rattle.fsfs_repo.specs.OpenFaults.{OpensBecause}
 use Rattle.fsfs_repo.specs.Deciding.{IsOutside as IsOpenOutside}
 use Rattle.fsfs_create.specs.Creation.{IsUnpublished}
-use Rattle.fsfs_create.specs.declared.creation.CreateFault.TheVariants as create
+use Rattle.fsfs_places.specs.declared.create_fault.CreateFault.TheVariants as create
 use Rattle.fsfs_places.specs.declared.place.DiskPlace.{DiskPlace}
 use Rattle.fsfs_places.specs.declared.place.DiskPlace.TheVariants.{Read}
 use Rattle.fsfs_stands.specs.Files.{StandsFor}
 use Rattle.fsfs_layout.specs.declared.opened.Opened.{Opened}
-use Rattle.fsfs_repo.specs.declared.opening.OpenFault.{OpenFault}
-use Rattle.fsfs_repo.specs.declared.opening.OpenFault.TheVariants as opening
+use Rattle.fsfs_places.specs.declared.open_fault.OpenFault.{OpenFault}
+use Rattle.fsfs_places.specs.declared.open_fault.OpenFault.TheVariants as opening
 use Rattle.fsfs_texts.specs.Agreeing.{IsFront}
 use Rattle.fsfs_texts.specs.Texts.{End, Whole, Refused, Stopped}
 use Rattle.fsfs_top.specs.Answers.{answer_of, shown_line}

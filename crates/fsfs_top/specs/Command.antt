@@ -11,7 +11,7 @@ use Rattle.fsfs_faults.specs.declared.fault.Fault.TheVariants.{MountFault}
 use Rattle.fsfs_layout.specs.CreatedFiles.{identifier_text, random_identifier}
 use Rattle.fsfs_streams.specs.Output.{AddsFront}
 use Rattle.fsfs_create.specs.Creation.{CreateFails, IsCreated, IsNoneOrWhole, IsNoRepository}
-use Rattle.fsfs_create.specs.declared.creation.CreateFault.{CreateFault}
+use Rattle.fsfs_places.specs.declared.create_fault.CreateFault.{CreateFault}
 use Rattle.fsfs_words.specs.Words as said
 use Rattle.fsfs_words.specs.Words.{Asked, asked}
 use Rattle.fsfs_words.specs.Grammars.{IsPathOf}

@@ -18,7 +18,7 @@ use Rattle.fsfs_layout.specs.Opening.{small_texts, IsOpened, IsNone, HasFormat, 
 use Rattle.fsfs_repo.specs.OpenFaults.{OpensBecause}
 use Rattle.fsfs_repo.specs.Deciding.{IsOutside as IsOpenOutside}
 use Rattle.fsfs_layout.specs.declared.opened.Opened.{Opened}
-use Rattle.fsfs_repo.specs.declared.opening.OpenFault.{OpenFault}
+use Rattle.fsfs_places.specs.declared.open_fault.OpenFault.{OpenFault}
 use Rattle.fsfs_places.specs.declared.place.DiskPlace.{DiskPlace}
 use Rattle.fsfs_places.specs.declared.place.DiskPlace.TheVariants.{Read}
 use Rattle.fsfs_texts.specs.Texts.{End, Whole, Refused}
