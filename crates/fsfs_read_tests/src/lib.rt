@@ -8,7 +8,11 @@ mod dag;
 #[cfg(test)]
 mod fetch;
 #[cfg(test)]
+mod hostdisk;
+#[cfg(test)]
 mod look;
+#[cfg(test)]
+mod memdisk;
 #[cfg(test)]
 mod rep;
 #[cfg(test)]
