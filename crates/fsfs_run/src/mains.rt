@@ -1,0 +1,35 @@
+//! What the mains of all programs do.
+
+use fsfs_faults::{Fault, print_fault, status};
+use fsfs_hostdisk::{Machine, OpenGate, StreamSink, StreamSource, SystemClock, SystemDice, words};
+use fsfs_streams::print;
+use fsfs_top::{Tool, command};
+use std::process::ExitCode;
+
+/// Makes the real outside, calls `command` for this program, and gives its status. Where the machine can't give the moment or
+/// random bytes the program ends with `ReadFault` and 4, before the command.
+pub fn run(rt: HostRuntime, tool: Tool) -> ExitCode {
+    let mut err = StreamSink::new(rt.stderr());
+    let Ok(words) = words(&rt) else {
+        let _ = print_fault(&mut err, tool, &Fault::Memory);
+        return ExitCode::from(status(&Fault::Memory));
+    };
+    // In the top call a clock and dice can't fail, so a machine that can't give them ends the program before.
+    let (Ok(mut clock), Ok(mut dice)) = (SystemClock::read(&rt), SystemDice::draw(&rt)) else {
+        let _ = print(&mut err, tool.name().as_bytes());
+        let _ = print(&mut err, b": ReadFault\n");
+        return ExitCode::from(4);
+    };
+    ExitCode::from(command(
+        rt.alloc(),
+        tool,
+        &words,
+        &mut Machine::new(rt),
+        &mut StreamSource::new(rt.stdin()),
+        &mut StreamSink::new(rt.stdout()),
+        &mut err,
+        &mut clock,
+        &mut dice,
+        &OpenGate,
+    ))
+}
