@@ -1,8 +1,8 @@
 -- The first line is read exactly.
 use Rattle.std.proofs.Common.{ℕ, List, Some, refl, ap, arith}
 use Rattle.std.proofs.lemmas.Option.{same_Some}
-use Rattle.fsfs_text.specs.Cuts.{Lacks}
-use Rattle.fsfs_text.proofs.Spelling.{Spells, cut_spells}
+use Rattle.fsfs_grammar.specs.Cuts.{Lacks}
+use Rattle.fsfs_grammar.proofs.Spelling.{Spells, cut_spells}
 use Rattle.fsfs_noderev.specs.Ids.{IdValue, IsId}
 use Rattle.fsfs_noderev.proofs.IdTexts.{id_spells, id_lacks}
 use Rattle.fsfs_changes.specs.Reading.{IsRest, IsHead, head_at}

@@ -2,7 +2,7 @@
 use Rattle.std.proofs.Common.{◌≡◌, ℕ, ◌<◌, ◌-◌, List, [], ◌∷◌, ◌++◌, length, refl, sym, ap, subst, ◌∙◌, append_assoc, arith}
 use Rattle.std.specs.Prelude.{◌≢◌}
 use Rattle.std.proofs.lemmas.List.{length-append, append-nil, nil_from_length}
-use Rattle.fsfs_text.specs.Grammar.{Begins}
+use Rattle.fsfs_grammar.specs.Grammar.{Begins}
 use Rattle.fsfs_changes.specs.Items.{IsItem}
 use Rattle.fsfs_changes.specs.Changes.{IsAny, HasNewPath, Items, HavePathsOnce, IsItemFault}
 use Rattle.fsfs_changes.specs.declared.item.ChangeItem.{ChangeItem}

@@ -3,11 +3,11 @@ use Rattle.std.proofs.Common.{◌≡◌, ℕ, ◌<◌, true, List, [], ◌∷◌
 use Rattle.std.proofs.lemmas.Option.{same_Some}
 use Rattle.std.specs.Prelude.{is_some}
 use Rattle.std.proofs.lemmas.List.{length-append}
-use Rattle.fsfs_text.specs.Grammar.{Begins}
-use Rattle.fsfs_text.specs.Cuts.{Lacks, IsCutOf, cut, and_then}
-use Rattle.fsfs_text.proofs.Readers.{chosen}
-use Rattle.fsfs_text.proofs.CutLemmas.{cut_found, cut_again, two_lack}
-use Rattle.fsfs_text.proofs.Spelling.{bound}
+use Rattle.fsfs_grammar.specs.Grammar.{Begins}
+use Rattle.fsfs_grammar.specs.Cuts.{Lacks, IsCutOf, cut, and_then}
+use Rattle.fsfs_grammar.proofs.Readers.{chosen}
+use Rattle.fsfs_grammar.proofs.CutLemmas.{cut_found, cut_again, two_lack}
+use Rattle.fsfs_grammar.proofs.Spelling.{bound}
 use Rattle.fsfs_noderev.specs.Ids.{id_value}
 use Rattle.fsfs_noderev.specs.Fields.{IsIdText, IsPathText, IsSourceText}
 use Rattle.fsfs_noderev.specs.declared.node_rev.CopySource.{CopySource}

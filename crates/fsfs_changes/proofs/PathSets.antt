@@ -7,7 +7,7 @@ use Rattle.std.specs.Cmp.{eq_by_cmp_equiv}
 use Rattle.std.specs.Cmp.Lexicographic.{slice_cmp, nat_list_cmp_total}
 use Rattle.std.proofs.lemmas.Map.Text.{is_eq-slice_cmp}
 use Rattle.std.proofs.lemmas.Slice.Eq.{bytes_eq-Decides}
-use Rattle.fsfs_text.specs.Grammar.{Begins}
+use Rattle.fsfs_grammar.specs.Grammar.{Begins}
 use Rattle.fsfs_base.specs.Paths.{path_text}
 use Rattle.fsfs_noderev.specs.Fields.{IsPathText}
 use Rattle.fsfs_noderev.proofs.FieldTexts.{path_one}

@@ -4,10 +4,10 @@ use Rattle.std.proofs.lemmas.Option.{same_Some}
 use Rattle.std.specs.Prelude.{codes}
 use Rattle.std.specs.Str.{bytes_eq}
 use Rattle.std.proofs.lemmas.Slice.Eq.{bytes_eq-Decides}
-use Rattle.fsfs_text.specs.Cuts.{Lacks, cut, and_then}
-use Rattle.fsfs_text.proofs.Readers.{chosen}
-use Rattle.fsfs_text.proofs.CutLemmas.{cut_found, cut_again, two_lack, cut_lacking}
-use Rattle.fsfs_text.proofs.Spelling.{Spells, bound}
+use Rattle.fsfs_grammar.specs.Cuts.{Lacks, cut, and_then}
+use Rattle.fsfs_grammar.proofs.Readers.{chosen}
+use Rattle.fsfs_grammar.proofs.CutLemmas.{cut_found, cut_again, two_lack, cut_lacking}
+use Rattle.fsfs_grammar.proofs.Spelling.{Spells, bound}
 use Rattle.fsfs_base.specs.declared.kind.Kind.{Kind}
 use Rattle.fsfs_base.specs.declared.kind.Kind.TheVariants.{File, Dir}
 use Rattle.fsfs_base.specs.declared.action.Action.{Action}

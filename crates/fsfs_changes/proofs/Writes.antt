@@ -2,7 +2,7 @@
 use Rattle.std.proofs.Common.{◌≡◌, ◌<◌, ◌+◌, ℕ, zero, suc, true, List, [], ◌∷◌, ◌++◌, Option, Some, None, arith, get_or, take, length, refl, sym, ap, subst, ◌∙◌, append_assoc}
 use Rattle.std.specs.Prelude.{◌≢◌, All}
 use Rattle.std.proofs.lemmas.List.{take_more}
-use Rattle.fsfs_text.specs.Grammar.{Appends}
+use Rattle.fsfs_grammar.specs.Grammar.{Appends}
 use Rattle.fsfs_noderev.specs.Ids.{id_value}
 use Rattle.fsfs_noderev.specs.Writing.{FitsSource}
 use Rattle.fsfs_noderev.specs.declared.node_rev.CopySource.{CopySource}

@@ -1,7 +1,7 @@
 -- Changed-path data: items one after another, to the end.
 use Rattle.std.specs.Prelude.{◌≡◌, ◌≢◌, ℕ, List, [], ◌∷◌, ◌++◌, length}
 use Rattle.std.specs.List.{AllByRecursion}
-use Rattle.fsfs_text.specs.Grammar.{Begins}
+use Rattle.fsfs_grammar.specs.Grammar.{Begins}
 use Rattle.fsfs_changes.specs.Items.{IsItem}
 use Rattle.fsfs_changes.specs.declared.item.ChangeItem.{ChangeItem}
 use Rattle.fsfs_changes.specs.declared.change_error.ChangeError.{ChangeError}

@@ -1,6 +1,6 @@
 -- Items of changed-path data: `<id> <action>-<kind> <text-mod> <prop-mod> <path>\n`, and `<revision> <path>\n` of the copy source or `\n`.
 use Rattle.std.specs.Prelude.{◌≡◌, ◌≢◌, ℕ, true, List, [], ◌∷◌, ◌++◌, Option, Some, None}
-use Rattle.fsfs_text.specs.Cuts.{IsCutOf}
+use Rattle.fsfs_grammar.specs.Cuts.{IsCutOf}
 use Rattle.fsfs_base.specs.PathTexts.{IsPath}
 use Rattle.fsfs_noderev.specs.Ids.{FitsId, id_value}
 use Rattle.fsfs_noderev.specs.Fields.{IsIdText, IsPathText, IsSourceText}

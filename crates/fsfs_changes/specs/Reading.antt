@@ -1,7 +1,7 @@
 -- Reading an item's lines, as functions on lists.
 use Rattle.std.specs.Prelude.{◌≡◌, ℕ, Bool, true, false, List, Option, Some, None, if◌then◌else◌, codes}
 use Rattle.std.specs.Str.{bytes_eq}
-use Rattle.fsfs_text.specs.Cuts.{IsCutOf, cut, and_then, parts_at}
+use Rattle.fsfs_grammar.specs.Cuts.{IsCutOf, cut, and_then, parts_at}
 use Rattle.fsfs_base.specs.declared.kind.Kind.{Kind}
 use Rattle.fsfs_base.specs.declared.kind.Kind.TheVariants.{File, Dir}
 use Rattle.fsfs_base.specs.declared.action.Action.{Action}

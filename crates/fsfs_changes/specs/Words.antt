@@ -1,6 +1,6 @@
 -- The words of an item's first line.
 use Rattle.std.specs.Prelude.{◌≡◌, ℕ, Bool, true, false, ◌&&◌, not, List, Option, Some, None, codes}
-use Rattle.fsfs_text.specs.Cuts.{IsCutOf}
+use Rattle.fsfs_grammar.specs.Cuts.{IsCutOf}
 use Rattle.fsfs_base.specs.declared.kind.Kind.{Kind}
 use Rattle.fsfs_base.specs.declared.action.Action.{Action}
 use Rattle.fsfs_base.specs.declared.action.Action.TheVariants.{Add, Delete, Replace, Modify}

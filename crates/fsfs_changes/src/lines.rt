@@ -5,8 +5,8 @@ ghost use Rattle.fsfs_changes.specs.Reading.{head_value, head_at, lines_at, item
 
 use crate::words::{action_and_kind_of, flag_of, flags_fit};
 use fsfs_base::{Action, Kind};
+use fsfs_grammar::cuts::cut_at;
 use fsfs_noderev::{NodeId, read_id};
-use fsfs_text::cuts::cut_at;
 
 /// The fields of an item's first line, its path as text.
 #[derive(Clone, Copy)]

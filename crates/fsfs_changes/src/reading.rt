@@ -1,6 +1,6 @@
 //! Reading changed-path data.
 ghost use Rattle.std.specs.Prelude.{◌≡◌, ℕ, List, Option, Some, IsSome, IfSome, IsSomeAnd, IfOk, IfErr, MatchResult};
-ghost use Rattle.fsfs_text.specs.Grammar.{Begins};
+ghost use Rattle.fsfs_grammar.specs.Grammar.{Begins};
 ghost use Rattle.fsfs_base.specs.Paths.{Path, path_text};
 ghost use Rattle.fsfs_noderev.specs.Ids.{rev_at};
 ghost use Rattle.fsfs_noderev.specs.Fields.{IsPathText, IsSourceText};
@@ -13,9 +13,9 @@ use crate::change_error::{ChangeError, ChangeFault};
 use crate::item::ChangeItem;
 use crate::lines::item_text;
 use fsfs_base::{FsPath, PathError};
+use fsfs_grammar::cuts::cut_at;
+use fsfs_grammar::decimals::plain_decimal;
 use fsfs_noderev::CopySource;
-use fsfs_text::cuts::cut_at;
-use fsfs_text::decimals::plain_decimal;
 use std::alloc::{AllocError, Global};
 use std::collections::BTreeSet;
 

@@ -1,12 +1,12 @@
 //! The words of an item's first line.
 ghost use Rattle.std.specs.Prelude.{◌≡◌, OnOk};
-ghost use Rattle.fsfs_text.specs.Grammar.{Appends};
+ghost use Rattle.fsfs_grammar.specs.Grammar.{Appends};
 ghost use Rattle.fsfs_noderev.specs.Fields.{IsKindText};
 ghost use Rattle.fsfs_changes.specs.Words.{IsFlagText, IsActionText, flags_fit};
 ghost use Rattle.fsfs_changes.specs.Reading.{flag_at, action_at, kind_at, action_and_kind_at};
 
 use fsfs_base::{Action, Kind};
-use fsfs_text::cuts::cut_at;
+use fsfs_grammar::cuts::cut_at;
 
 pub(crate) fn flag_of(text: &[u8]) -> Option<bool>
     ensures { result ≡ flag_at text.now }

@@ -1,6 +1,6 @@
 //! Writing changed-path data.
 ghost use Rattle.std.specs.Prelude.{◌≡◌, ◌≤◌, [], All, OnOk, IfOk};
-ghost use Rattle.fsfs_text.specs.Grammar.{Appends};
+ghost use Rattle.fsfs_grammar.specs.Grammar.{Appends};
 ghost use Rattle.fsfs_base.specs.PathTexts.{IsPath};
 ghost use Rattle.fsfs_noderev.specs.Fields.{IsKindText, IsPathText};
 ghost use Rattle.fsfs_noderev.specs.Writing.{FitsSource};
@@ -10,8 +10,8 @@ ghost use Rattle.fsfs_changes.specs.Changes.{AreChanges, AreRevisionChanges, Hav
 
 use crate::item::ChangeItem;
 use fsfs_base::{Action, FsPath, Kind};
+use fsfs_grammar::decimals::put_dec;
 use fsfs_noderev::{CopySource, put_id};
-use fsfs_text::decimals::put_dec;
 use std::alloc::{AllocError, Global};
 
 fn put_flag(out: &mut Vec<u8>, flag: bool) -> Result<(), AllocError>

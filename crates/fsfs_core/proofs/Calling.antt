@@ -19,24 +19,24 @@ use Rattle.fsfs_flat.specs.Landing.{land, NoClash, IsFirstClash}
 use Rattle.fsfs_tree.specs.Revisions.{Revision, tree_of}
 use Rattle.fsfs_tree.specs.Dated.{IsDated, date_name, last_of}
 use Rattle.fsfs_flat.specs.Transactions.{IsNext}
-use Rattle.fsfs_world.specs.declared.contents.Change.{Change}
-use Rattle.fsfs_world.specs.declared.contents.Name.TheVariants.{Rev}
-use Rattle.fsfs_world.specs.declared.contents.Change.TheVariants.{Put}
-use Rattle.fsfs_world.specs.declared.machine.Coming.{Coming}
-use Rattle.fsfs_world.specs.declared.machine.Place.TheVariants.{PutRev}
-use Rattle.fsfs_world.specs.declared.machine.Place.{Place}
-use Rattle.fsfs_world.specs.declared.machine.Txn.{Txn}
-use Rattle.fsfs_world.specs.declared.machine.Section.{Section}
-use Rattle.fsfs_world.specs.declared.machine.Section.TheVariants.{Begun, CountRead, CountPut, CountRenamed, RevPut, PropsPut, RevFirm, CurrentPut, CurrentRenamed, CurrentFirm, Doubtful, Over}
-use Rattle.fsfs_world.specs.declared.machine.Lock.TheVariants.{Free}
-use Rattle.fsfs_world.specs.declared.machine.Went.{Went}
-use Rattle.fsfs_world.specs.declared.machine.Went.TheVariants.{Fine, Before, After, Torn}
-use Rattle.fsfs_world.specs.declared.machine.Outcome.{Outcome}
-use Rattle.fsfs_world.specs.declared.machine.Outcome.TheVariants as outcome
-use Rattle.fsfs_world.specs.Machine.{World, did, barred, at_place, held_by, inside, is_due, due, called_by, called, edited, EditsIf, Edits, merged, MergesIf, Merges, revisions, created, recorded, file_of, at_call, answer, without_place, entry_of, Adds, AdoptsTxn}
-use Rattle.fsfs_world.specs.Kept.{Kept}
-use Rattle.fsfs_world.proofs.Growing.{revisions_length}
-use Rattle.fsfs_world.proofs.Created.{created_kept}
+use Rattle.fsfs_machine.specs.declared.contents.Change.{Change}
+use Rattle.fsfs_machine.specs.declared.contents.Name.TheVariants.{Rev}
+use Rattle.fsfs_machine.specs.declared.contents.Change.TheVariants.{Put}
+use Rattle.fsfs_machine.specs.declared.machine.Coming.{Coming}
+use Rattle.fsfs_machine.specs.declared.machine.Place.TheVariants.{PutRev}
+use Rattle.fsfs_machine.specs.declared.machine.Place.{Place}
+use Rattle.fsfs_machine.specs.declared.machine.Txn.{Txn}
+use Rattle.fsfs_machine.specs.declared.machine.Section.{Section}
+use Rattle.fsfs_machine.specs.declared.machine.Section.TheVariants.{Begun, CountRead, CountPut, CountRenamed, RevPut, PropsPut, RevFirm, CurrentPut, CurrentRenamed, CurrentFirm, Doubtful, Over}
+use Rattle.fsfs_machine.specs.declared.machine.Lock.TheVariants.{Free}
+use Rattle.fsfs_machine.specs.declared.machine.Went.{Went}
+use Rattle.fsfs_machine.specs.declared.machine.Went.TheVariants.{Fine, Before, After, Torn}
+use Rattle.fsfs_machine.specs.declared.machine.Outcome.{Outcome}
+use Rattle.fsfs_machine.specs.declared.machine.Outcome.TheVariants as outcome
+use Rattle.fsfs_machine.specs.Machine.{World, did, barred, at_place, held_by, inside, is_due, due, called_by, called, edited, EditsIf, Edits, merged, MergesIf, Merges, revisions, created, recorded, file_of, at_call, answer, without_place, entry_of, Adds, AdoptsTxn}
+use Rattle.fsfs_machine.specs.Kept.{Kept}
+use Rattle.fsfs_machine.proofs.Growing.{revisions_length}
+use Rattle.fsfs_machine.proofs.Created.{created_kept}
 
 free_due : (w : World) (s : Section) → due (record w { lock = Free }) s ≡ due w s
 free_due w Begun = refl

@@ -1,10 +1,10 @@
 -- A revision more is read.
 use Rattle.std.proofs.Common.{◌≡◌, ◌<◌, ◌+◌, ◌-◌, ℕ, suc, zero, List, [], ◌∷◌, ◌++◌, refl, sym, ap, ◌∙◌, arith, add-one}
 use Rattle.std.specs.Prelude.{Option, Some, None}
-use Rattle.fsfs_world.specs.declared.contents.Name.TheVariants.{Props}
-use Rattle.fsfs_world.specs.declared.machine.Recorded.{Recorded}
-use Rattle.fsfs_world.specs.Disk.{Disk, found, shown}
-use Rattle.fsfs_world.specs.Machine.{revision_in, read_one, read_back}
+use Rattle.fsfs_machine.specs.declared.contents.Name.TheVariants.{Props}
+use Rattle.fsfs_machine.specs.declared.machine.Recorded.{Recorded}
+use Rattle.fsfs_machine.specs.Disk.{Disk, found, shown}
+use Rattle.fsfs_machine.specs.Machine.{revision_in, read_one, read_back}
 
 pub read_more : (f : ℕ) (d : Disk) (n : ℕ) (h : List Recorded) (x : Recorded) → read_back f d n ≡ Some h → Some x ≡ revision_in (shown f d n) (found d (Props n)) → read_back f d (n + 1) ≡ Some (h ++ x ∷ [])
 read_more f d n h x e g = ap (λ k. read_back f d k) (add-one n) ∙ ap (λ o. read_one o (revision_in (shown f d n) (found d (Props n)))) e ∙ ap (λ o. read_one (Some h) o) (sym g)

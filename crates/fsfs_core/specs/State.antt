@@ -1,6 +1,6 @@
 -- The state as the machine's words.
 use Rattle.fsfs_core.specs.declared.state.State.{State}
-use Rattle.fsfs_world.specs.Machine.{World}
+use Rattle.fsfs_machine.specs.Machine.{World}
 
 abbrev pub world_of : State → World
 world_of s = record { disk = s.disk.items; lock = s.lock; young = s.young; history = s.line; opening = s.opening; since = s.since.items; floor = s.floor; given = s.given.items; labels = s.labels.items; named = s.named.items; txns = s.txns.items; spent = s.spent.items; passes = s.passes.items }

@@ -1,17 +1,17 @@
 //! The words, and the calls of a section.
 ghost use Rattle.std.specs.Prelude.{◌≡◌, ◌+◌, ◌&&◌, length, OnOk, IfOk, MatchOption, Some, None, if◌then◌else◌};
-ghost use Rattle.fsfs_world.specs.Disk.{found};
-ghost use Rattle.fsfs_world.specs.Machine.{did, barred, answer, is_there, taken, inside, let_go, stuck_at, held_by, has_begun_by, is_up, looked, ended, at_place, learns, rename_of, due, gives, called, called_by, drawn, revealed};
+ghost use Rattle.fsfs_machine.specs.Disk.{found};
+ghost use Rattle.fsfs_machine.specs.Machine.{did, barred, answer, is_there, taken, inside, let_go, stuck_at, held_by, has_begun_by, is_up, looked, ended, at_place, learns, rename_of, due, gives, called, called_by, drawn, revealed};
 ghost use Rattle.fsfs_core.specs.State.{world_of};
 
 use crate::state::State;
 use fsfs_base::RevNum;
-use fsfs_world::files::{change_made, find, find_number, is_fine};
-use fsfs_world::passes::{find_stuck, learn, reveal_by, see_least};
-use fsfs_world::section::{
+use fsfs_machine::files::{change_made, find, find_number, is_fine};
+use fsfs_machine::passes::{find_stuck, learn, reveal_by, see_least};
+use fsfs_machine::section::{
     answer_of, drawn_section, is_due_at, is_lock_up, is_quiet_section, next_section,
 };
-use fsfs_world::{Change, Contents, Drawn, Lock, Name, Outcome, Place, Section, Went};
+use fsfs_machine::{Change, Contents, Drawn, Lock, Name, Outcome, Place, Section, Went};
 use std::alloc::AllocError;
 use std::mem;
 

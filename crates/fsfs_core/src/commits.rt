@@ -1,18 +1,18 @@
 //! Steps of transactions: edits, merges, and a commit's first call.
 ghost use Rattle.std.specs.Prelude.{◌≡◌, length, slice_get, IfOk, OnOk};
-ghost use Rattle.fsfs_world.specs.Machine.{did, answer, either, has_begun_by, Adopts, AdoptsTxn, Edits, Merges, at_call, file_of, recorded};
+ghost use Rattle.fsfs_machine.specs.Machine.{did, answer, either, has_begun_by, Adopts, AdoptsTxn, Edits, Merges, at_call, file_of, recorded};
 ghost use Rattle.fsfs_core.specs.State.{world_of};
 
 use crate::state::State;
 use crate::txns::{land_on, next_of, tree_at};
 use fsfs_base::{Pairs, RevNum};
 use fsfs_flat::Edit;
-use fsfs_model::{flat_apply, flat_mark};
-use fsfs_world::files::is_fine;
-use fsfs_world::section::answer_of;
-use fsfs_world::{
+use fsfs_machine::files::is_fine;
+use fsfs_machine::section::answer_of;
+use fsfs_machine::{
     Bytes, Change, Coming, Contents, Name, Outcome, Place, Section, Went, set_edited, set_merged,
 };
+use fsfs_model::{flat_apply, flat_mark};
 use std::alloc::AllocError;
 
 fn begun_section(coming: Coming, went: &Went) -> Section

@@ -1,15 +1,15 @@
 //! Labels of transactions: made, listed and dropped.
 ghost use Rattle.std.specs.Prelude.{◌≡◌, ◌&&◌, ◌++◌, ◌∷◌, [], slice_get, IfOk, OnOk, if◌then◌else◌};
-ghost use Rattle.fsfs_world.specs.Machine.{did, barred, answer, either, is_there, is_outside, is_up, turned, listed, begun_txn, made, purged, purged_spent, label_dropped, unlabelled};
+ghost use Rattle.fsfs_machine.specs.Machine.{did, barred, answer, either, is_there, is_outside, is_up, turned, listed, begun_txn, made, purged, purged_spent, label_dropped, unlabelled};
 ghost use Rattle.fsfs_core.specs.State.{world_of};
 
 use crate::state::State;
 use crate::txns::base_tree;
-use fsfs_world::files::is_fine;
-use fsfs_world::labels::{drop_label, is_labelled, put_label};
-use fsfs_world::passes::learn;
-use fsfs_world::section::{answer_of, is_lock_up, is_outside_section};
-use fsfs_world::{Drawn, Marks, Numbers, Outcome, Place, Txn, Went};
+use fsfs_machine::files::is_fine;
+use fsfs_machine::labels::{drop_label, is_labelled, put_label};
+use fsfs_machine::passes::learn;
+use fsfs_machine::section::{answer_of, is_lock_up, is_outside_section};
+use fsfs_machine::{Drawn, Marks, Numbers, Outcome, Place, Txn, Went};
 use std::alloc::AllocError;
 use std::collections::VecDeque;
 use std::mem;

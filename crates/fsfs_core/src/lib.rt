@@ -9,7 +9,7 @@ mod reads;
 mod state;
 mod txns;
 
-pub use fsfs_world::{
+pub use fsfs_machine::{
     Bytes, Change, Coming, Contents, Drawn, Entry, Line, Lock, Marks, Name, Numbers, Outcome, Pass,
     Picks, Place, Places, Recorded, Section, Step, Txn, Went, every_run_keeps_one_history,
 };

@@ -1,15 +1,15 @@
 //! Ends of the object, and openings.
 ghost use Rattle.std.specs.Prelude.{◌≡◌, ◌+◌, ◌∷◌, IfOk, OnOk, if◌then◌else◌};
-ghost use Rattle.fsfs_world.specs.Disk.{found, shown, left};
-ghost use Rattle.fsfs_world.specs.Machine.{did, barred, is_up, ends, revision_in, read_back, opened, open_at, disk_after, labels_left};
+ghost use Rattle.fsfs_machine.specs.Disk.{found, shown, left};
+ghost use Rattle.fsfs_machine.specs.Machine.{did, barred, is_up, ends, revision_in, read_back, opened, open_at, disk_after, labels_left};
 ghost use Rattle.fsfs_core.specs.State.{world_of};
 
 use crate::state::State;
+use fsfs_machine::files::{change_made, find, find_number, find_rev, is_fine, what_is_left};
+use fsfs_machine::labels::pick_labels;
+use fsfs_machine::section::{is_lock_up, lock_down};
+use fsfs_machine::{Change, Contents, Line, Lock, Name, Outcome, Pass, Picks, Recorded, Went};
 use fsfs_tree::Revision;
-use fsfs_world::files::{change_made, find, find_number, find_rev, is_fine, what_is_left};
-use fsfs_world::labels::pick_labels;
-use fsfs_world::section::{is_lock_up, lock_down};
-use fsfs_world::{Change, Contents, Line, Lock, Name, Outcome, Pass, Picks, Recorded, Went};
 use std::alloc::{AllocError, Global};
 use std::collections::VecDeque;
 use std::mem;

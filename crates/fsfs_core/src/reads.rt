@@ -1,13 +1,13 @@
 //! Reads, and steps of passes alone.
 ghost use Rattle.std.specs.Prelude.{◌≡◌, ◌==◌, ◌&&◌, not, slice_get, IfOk, if◌then◌else◌};
-ghost use Rattle.fsfs_world.specs.Disk.{found, shown};
-ghost use Rattle.fsfs_world.specs.Machine.{did, barred, is_there, either, range_of, floor_of, has_read, properties_in, has_read_props, floor_read, split_off, join_with, number_of};
+ghost use Rattle.fsfs_machine.specs.Disk.{found, shown};
+ghost use Rattle.fsfs_machine.specs.Machine.{did, barred, is_there, either, range_of, floor_of, has_read, properties_in, has_read_props, floor_read, split_off, join_with, number_of};
 ghost use Rattle.fsfs_core.specs.State.{world_of};
 
 use crate::state::State;
-use fsfs_world::files::{find, find_number, find_rev, is_fine};
-use fsfs_world::passes::{join_to, learn, read_floor_by};
-use fsfs_world::{Contents, Name, Outcome, Place, Went};
+use fsfs_machine::files::{find, find_number, find_rev, is_fine};
+use fsfs_machine::passes::{join_to, learn, read_floor_by};
+use fsfs_machine::{Contents, Name, Outcome, Place, Went};
 use std::alloc::AllocError;
 
 fn floor_answer(found: Option<u64>, went: &Went) -> Outcome

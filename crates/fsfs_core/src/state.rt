@@ -2,15 +2,15 @@
 ghost use Rattle.std.specs.Prelude.{◌≡◌, ◌∷◌, ◌++◌, [], length, OnOk, IfOk, None};
 ghost use Rattle.std.specs.FinMap as finmap;
 ghost use Rattle.fsfs_tree.specs.Nodes.{empty_node};
-ghost use Rattle.fsfs_world.specs.Machine.{Happens, Runs, did, created, stuck_place, revisions, is_there};
-ghost use Rattle.fsfs_world.specs.Kept.{Kept, Keeps, RunKeeps};
+ghost use Rattle.fsfs_machine.specs.Machine.{Happens, Runs, did, created, stuck_place, revisions, is_there};
+ghost use Rattle.fsfs_machine.specs.Kept.{Kept, Keeps, RunKeeps};
 ghost use Rattle.fsfs_core.specs.State.{world_of};
 
 use fsfs_base::{FsPath, Kind, Pairs, RevNum};
-use fsfs_tree::{ChangeMap, History, Node, Revision, Text, Tree};
-use fsfs_world::{
+use fsfs_machine::{
     Bytes, Change, Contents, Drawn, Entry, Line, Lock, Name, Outcome, Pass, Place, Step, Txn,
 };
+use fsfs_tree::{ChangeMap, History, Node, Revision, Text, Tree};
 use std::alloc::{AllocError, Global};
 use std::collections::VecDeque;
 

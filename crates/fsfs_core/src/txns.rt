@@ -7,12 +7,12 @@ ghost use Rattle.fsfs_flat.specs.Landing.{land, NoClash, IsFirstClash};
 ghost use Rattle.fsfs_tree.specs.Revisions.{Revision as Stands, tree_of};
 ghost use Rattle.fsfs_tree.specs.Dated.{IsDated, last_of};
 ghost use Rattle.fsfs_flat.specs.Transactions.{IsNext};
-ghost use Rattle.fsfs_world.specs.Machine.{tree_in, entry_of};
+ghost use Rattle.fsfs_machine.specs.Machine.{tree_in, entry_of};
 
 use fsfs_base::{FsPath, Pairs, RevNum, read_date};
+use fsfs_machine::Txn;
 use fsfs_model::{flat_clash, flat_fold, flat_land};
 use fsfs_tree::{History, Revision, Tree};
-use fsfs_world::Txn;
 use std::alloc::{AllocError, Global};
 
 /// The tree of a revision that there is.

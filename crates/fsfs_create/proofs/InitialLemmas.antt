@@ -3,8 +3,8 @@ use Rattle.std.proofs.Common.{◌≡◌, ℕ, List, [], ◌∷◌, ◌++◌, ap,
 use Rattle.std.specs.Prelude.{codes, decimal}
 use Rattle.std.proofs.Math.Nat.{zero-div}
 use Rattle.std.proofs.lemmas.Fmt.{decimal_digit}
-use Rattle.fsfs_text.proofs.Numerals.{numeral_one}
-use Rattle.fsfs_text.proofs.Unique.{numeral_same}
+use Rattle.fsfs_grammar.proofs.Numerals.{numeral_one}
+use Rattle.fsfs_grammar.proofs.Unique.{numeral_same}
 use Rattle.fsfs_base.specs.Files.{NamedFile}
 use Rattle.fsfs_layout.specs.Names.{in_shard}
 use Rattle.fsfs_layout.specs.Small.{IsBase36Line}

@@ -2,8 +2,8 @@
 use Rattle.std.proofs.Common.{◌≡◌, ℕ, true, false, refl, sym, ap, subst, ◌∙◌, arith, eq-eqb}
 use Rattle.std.specs.Prelude.{Bool, ◌==◌, ◌&&◌}
 use Rattle.std.proofs.lemmas.Bool.Decides.{nat_tests}
-use Rattle.fsfs_text.specs.declared.base36.B36.{B36}
-use Rattle.fsfs_text.proofs.Base36Texts.{b36_same}
+use Rattle.fsfs_grammar.specs.declared.base36.B36.{B36}
+use Rattle.fsfs_grammar.proofs.Base36Texts.{b36_same}
 use Rattle.fsfs_fields.specs.declared.txn_name.TxnName.{TxnName}
 use Rattle.fsfs_fields.proofs.TxnNameTexts.{txn_same}
 use Rattle.fsfs_noderev.specs.declared.node_id.Part.{Part}

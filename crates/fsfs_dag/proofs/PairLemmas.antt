@@ -20,8 +20,8 @@ use Rattle.fsfs_noderev.specs.declared.node_rev.NodeRev.{NodeRev}
 use Rattle.fsfs_revision.specs.Nodes.{is_before, place_before}
 use Rattle.fsfs_dag.specs.declared.directory.Entry.{Entry}
 use Rattle.fsfs_dag.specs.Views.{entry_value, entry_values, IsBefore, AreBefore}
-use Rattle.fsfs_text.specs.Reading.{text_at}
-use Rattle.fsfs_text.proofs.Readers.{text_reads, ok_is}
+use Rattle.fsfs_grammar.specs.Reading.{text_at}
+use Rattle.fsfs_grammar.proofs.Readers.{text_reads, ok_is}
 
 pub word_not : (word value rest : List ℕ) (left : ℕ) → text_at word value ≡ Err left → value ≡ word ++ rest → ⊥
 word_not word value rest left e parts =

@@ -21,10 +21,10 @@ use crate::node::PlacedNode;
 use fsfs_base::{Kind, Pairs, is_name};
 use fsfs_book::Book;
 use fsfs_damage::{ReadError, RepWhat, RevOffset, What};
+use fsfs_grammar::pieces::text;
 use fsfs_noderev::{NodeId, Place, Rep, read_id};
 use fsfs_rep::bad_rep;
 use fsfs_revision::{is_before, is_revision_id};
-use fsfs_text::pieces::text;
 use std::alloc::Global;
 
 /// An entry of a directory: a name, and the kind and the id of the node-revision that it names.

@@ -1,8 +1,8 @@
 -- The line of a fault in the pieces that are printed.
 use Rattle.std.proofs.Common.{◌≡◌, List, ℕ, ◌++◌, refl, ap, ◌∙◌, append_assoc, append-nil}
 use Rattle.std.specs.Prelude.{codes}
-use Rattle.fsfs_words.specs.Commands.{tool_name}
-use Rattle.fsfs_words.specs.declared.tool.Tool.{Tool}
+use Rattle.fsfs_cli.specs.Commands.{tool_name}
+use Rattle.fsfs_cli.specs.declared.tool.Tool.{Tool}
 use Rattle.fsfs_faults.specs.Lines.{fault_name, fault_values, line_of}
 use Rattle.fsfs_faults.specs.Pieces.{fixed_values, path_values, head_of}
 use Rattle.fsfs_faults.specs.declared.fault.Fault.{Fault}

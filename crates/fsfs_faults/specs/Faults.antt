@@ -9,10 +9,10 @@ use Rattle.fsfs_places.specs.declared.open_fault.OpenFault.TheVariants as openin
 use Rattle.fsfs_damage.specs.declared.damage.What.TheVariants as damaged
 use Rattle.fsfs_damage.specs.declared.wrong.Wrong.{Wrong}
 use Rattle.fsfs_damage.specs.declared.wrong.Wrong.TheVariants as wrong
-use Rattle.fsfs_texts.specs.declared.look_fault.LookFault.{LookFault}
-use Rattle.fsfs_texts.specs.declared.look_fault.LookFault.TheVariants as look
-use Rattle.fsfs_words.specs.declared.fault.WordsFault.{WordsFault}
-use Rattle.fsfs_words.specs.declared.fault.WordsFault.TheVariants as words
+use Rattle.fsfs_printed.specs.declared.look_fault.LookFault.{LookFault}
+use Rattle.fsfs_printed.specs.declared.look_fault.LookFault.TheVariants as look
+use Rattle.fsfs_cli.specs.declared.fault.WordsFault.{WordsFault}
+use Rattle.fsfs_cli.specs.declared.fault.WordsFault.TheVariants as words
 use Rattle.fsfs_faults.specs.declared.fault.Fault.{Fault}
 use Rattle.fsfs_faults.specs.declared.fault.Fault.TheVariants.{Usage, BadPath, NotFound, NotDir, NotFile, NoRev, AlreadyRepo, NotRepo, OtherFormat, Linear, Small, Corrupt, Delta, DiskFault, Memory}
 

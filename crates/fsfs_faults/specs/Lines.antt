@@ -12,8 +12,8 @@ use Rattle.fsfs_damage.specs.declared.damage.RepWhat.{RepWhat}
 use Rattle.fsfs_damage.specs.declared.damage.RepWhat.TheVariants as rep
 use Rattle.fsfs_places.specs.declared.place.DiskPlace.{DiskPlace}
 use Rattle.fsfs_places.specs.declared.place.DiskPlace.TheVariants.{OpenFirm, OpenRead, Read, CreatePut, CreateFirm, CreateRename, CreateLast}
-use Rattle.fsfs_words.specs.Commands.{tool_name}
-use Rattle.fsfs_words.specs.declared.tool.Tool.{Tool}
+use Rattle.fsfs_cli.specs.Commands.{tool_name}
+use Rattle.fsfs_cli.specs.declared.tool.Tool.{Tool}
 use Rattle.fsfs_faults.specs.declared.fault.Fault.{Fault}
 use Rattle.fsfs_faults.specs.declared.fault.Fault.TheVariants.{Usage, BadPath, NotFound, NotDir, NotFile, NoRev, AlreadyRepo, NotRepo, OtherFormat, Linear, Small, Corrupt, Delta, MountFault, DiskFault, WriteFault, Memory}
 

@@ -1,8 +1,8 @@
 -- The line of a fault in the pieces that are printed: what stands before a path, and the path.
 use Rattle.std.specs.Prelude.{ℕ, List, [], ◌++◌, codes}
 use Rattle.fsfs_base.specs.Paths.{path_text}
-use Rattle.fsfs_words.specs.Commands.{tool_name}
-use Rattle.fsfs_words.specs.declared.tool.Tool.{Tool}
+use Rattle.fsfs_cli.specs.Commands.{tool_name}
+use Rattle.fsfs_cli.specs.declared.tool.Tool.{Tool}
 use Rattle.fsfs_faults.specs.Lines.{fault_name, fault_values}
 use Rattle.fsfs_faults.specs.declared.fault.Fault.{Fault}
 use Rattle.fsfs_faults.specs.declared.fault.Fault.TheVariants.{NotFound, NotDir, NotFile}

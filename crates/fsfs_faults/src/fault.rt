@@ -2,10 +2,10 @@
 ghost use Rattle.fsfs_faults.specs.Faults.{IsFromLook};
 
 use fsfs_base::{BadPath, FsPath, SmallFault};
+use fsfs_cli::WordsFault;
 use fsfs_damage::{Damage, Refusal, RevOffset, What, Wrong};
 use fsfs_places::{CreateFault, DiskPlace, OpenFault};
-use fsfs_texts::LookFault;
-use fsfs_words::WordsFault;
+use fsfs_printed::LookFault;
 use std::alloc::Global;
 use thiserror::Error;
 

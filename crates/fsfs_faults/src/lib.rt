@@ -6,6 +6,6 @@ mod line;
 mod output;
 
 pub use fault::Fault;
-pub use fsfs_words::Tool;
+pub use fsfs_cli::Tool;
 pub use line::{fault_text, status};
 pub use output::print_fault;

@@ -7,10 +7,10 @@ ghost use Rattle.fsfs_faults.specs.Pieces.{fixed_values, head_of};
 use crate::fault::Fault;
 use arrayvec::ArrayString;
 use fsfs_base::{HexDigest, PathFault};
+use fsfs_cli::Tool;
 use fsfs_damage::{RepWhat, RevOffset, What};
 use fsfs_layout::names::small_file;
 use fsfs_places::DiskPlace;
-use fsfs_words::Tool;
 use itoa::Buffer;
 
 const DIGITS: &[u8; 16] = b"0123456789abcdef";

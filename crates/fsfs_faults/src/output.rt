@@ -8,8 +8,8 @@ ghost use Rattle.fsfs_faults.specs.Pieces.{path_values};
 use crate::fault::Fault;
 use crate::line::head_text;
 use fsfs_base::{Failed, FsPath};
+use fsfs_cli::Tool;
 use fsfs_streams::{Sink, print};
-use fsfs_words::Tool;
 
 // Writes a name with a `/` before it.
 fn print_name<S: Sink>(sink: &mut S, name: &str) -> Result<(), Failed>

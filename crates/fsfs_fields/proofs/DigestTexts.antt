@@ -8,7 +8,7 @@ use Rattle.hex.specs.Hex.{IsBytes, decode_pairs, decode_sized, hex_digit_value, 
 use Rattle.hex.specs.declared.error.FromHexError.{FromHexError}
 use Rattle.hex.specs.declared.error.FromHexError.TheVariants.{OddLength, InvalidStringLength}
 use Rattle.hex.proofs.HexLemmas.{decode_sized-encode_lower}
-use Rattle.fsfs_text.proofs.Readers.{chosen}
+use Rattle.fsfs_grammar.proofs.Readers.{chosen}
 use Rattle.fsfs_fields.specs.Digests.{is_capital, IsDigestText}
 
 -- ---- the table of digits

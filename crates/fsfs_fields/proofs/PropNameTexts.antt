@@ -3,8 +3,8 @@ use Rattle.std.proofs.Common.{◌≡◌, ℕ, zero, suc, ◌+◌, ◌<◌, ◌�
 use Rattle.std.proofs.lemmas.List.{append-nil, length-take, length-append, take_all, take-append-drop}
 use Rattle.std.specs.List.{AllByRecursion, position, position_or_len}
 use Rattle.std.proofs.lemmas.Bool.{ltb-true, ltb-false}
-use Rattle.fsfs_text.proofs.Readers.{chosen}
-use Rattle.fsfs_text.specs.Grammar.{GoesOn, IsFaultAt}
+use Rattle.fsfs_grammar.proofs.Readers.{chosen}
+use Rattle.fsfs_grammar.specs.Grammar.{GoesOn, IsFaultAt}
 use Rattle.fsfs_fields.specs.PropNames.{begins_name, continues_name, IsPropName, PropNameText}
 
 abbrev Continue : List ℕ → Type 0

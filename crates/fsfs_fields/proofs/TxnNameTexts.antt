@@ -3,13 +3,13 @@ use Rattle.std.proofs.Common.{◌≡◌, ℕ, ◌<◌, ◌^◌, ◌≤◌, List,
 use Rattle.std.specs.Coded.{le_prop}
 use Rattle.std.proofs.lemmas.Option.{same_Some}
 use Rattle.std.specs.Prelude.{IfSome, IsSomeAnd, option_map}
-use Rattle.fsfs_text.specs.declared.base36.B36.{B36}
-use Rattle.fsfs_text.specs.Grammar.{Appends}
-use Rattle.fsfs_text.specs.Base36.{base36}
-use Rattle.fsfs_text.specs.Numeral.{AppendsNumeral}
-use Rattle.fsfs_text.proofs.Unique.{decimal_plain, appended_decimal}
-use Rattle.fsfs_text.proofs.Base36Texts.{base36_numeral, appended_base36}
-use Rattle.fsfs_text.proofs.Spelling.{Spells, cut_spells, numeral_spells, plain_lacks}
+use Rattle.fsfs_grammar.specs.declared.base36.B36.{B36}
+use Rattle.fsfs_grammar.specs.Grammar.{Appends}
+use Rattle.fsfs_grammar.specs.Base36.{base36}
+use Rattle.fsfs_grammar.specs.Numeral.{AppendsNumeral}
+use Rattle.fsfs_grammar.proofs.Unique.{decimal_plain, appended_decimal}
+use Rattle.fsfs_grammar.proofs.Base36Texts.{base36_numeral, appended_base36}
+use Rattle.fsfs_grammar.proofs.Spelling.{Spells, cut_spells, numeral_spells, plain_lacks}
 use Rattle.fsfs_fields.specs.declared.txn_name.TxnName.{TxnName}
 use Rattle.fsfs_fields.specs.TxnNames.{IsTxnName, txn_text, txn_name_at}
 

@@ -1,7 +1,7 @@
 -- Names of properties.
 use Rattle.std.specs.Prelude.{◌≡◌, ℕ, ◌<◌, Bool, true, ◌&&◌, ◌||◌, ◌==◌, nat_le, List, [], ◌∷◌, length}
 use Rattle.std.specs.List.{AllByRecursion}
-use Rattle.fsfs_text.specs.Grammar.{IsFaultAt}
+use Rattle.fsfs_grammar.specs.Grammar.{IsFaultAt}
 use Rattle.fsfs_fields.specs.declared.prop_name.PropNameError.{PropNameError}
 use Rattle.fsfs_fields.specs.declared.prop_name.PropNameError.TheVariants.{Bad, OutOfMemory}
 

@@ -1,7 +1,7 @@
 -- Revision numbers, and their texts: decimal, without leading zeros. (The libsvn_fs_fs structure file; the limit is this project's
 -- profile.)
 use Rattle.std.specs.Prelude.{ℕ, List, Option, Result}
-use Rattle.fsfs_text.specs.Numeral.{IsPlain, IsNumber, numeral_at, number_at}
+use Rattle.fsfs_grammar.specs.Numeral.{IsPlain, IsNumber, numeral_at, number_at}
 
 -- the last number that a revision may have
 abbrev pub last_rev : ℕ

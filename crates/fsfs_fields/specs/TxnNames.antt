@@ -1,9 +1,9 @@
 -- The names of transactions.
 use Rattle.std.specs.Prelude.{ℕ, List, ◌∷◌, ◌++◌}
 use Rattle.std.specs.Fmt.{decimal}
-use Rattle.fsfs_text.specs.Base36.{base36}
-use Rattle.fsfs_text.specs.Numeral.{IsPlain, numeral_at}
-use Rattle.fsfs_text.specs.Cuts.{IsCutOf, parts_at}
+use Rattle.fsfs_grammar.specs.Base36.{base36}
+use Rattle.fsfs_grammar.specs.Numeral.{IsPlain, numeral_at}
+use Rattle.fsfs_grammar.specs.Cuts.{IsCutOf, parts_at}
 use Rattle.std.specs.Prelude.{Option}
 
 -- `<base revision>-<base36>`

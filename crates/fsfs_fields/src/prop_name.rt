@@ -1,7 +1,7 @@
 //! Names of properties.
 ghost use Rattle.std.specs.Prelude.{◌≡◌, ◌∷◌, not, true, List, IfOk, IfErr, MatchOption, MatchResult};
 ghost use Rattle.std.specs.List.{position};
-ghost use Rattle.fsfs_text.specs.Grammar.{IsFaultAt};
+ghost use Rattle.fsfs_grammar.specs.Grammar.{IsFaultAt};
 ghost use Rattle.fsfs_fields.specs.declared.prop_name.PropNameError.TheVariants.{OutOfMemory};
 ghost use Rattle.fsfs_fields.specs.PropNames.{begins_name, continues_name, IsPropName, PropNameText, IsNameRefusal};
 

@@ -1,10 +1,10 @@
 //! Revision numbers.
 ghost use Rattle.std.specs.Prelude.{◌≡◌, ◌+◌, ◌<◌, ◌≤◌, OnOk, MatchOption};
-ghost use Rattle.fsfs_text.specs.Reading.{Gives};
-ghost use Rattle.fsfs_text.specs.Grammar.{Appends};
+ghost use Rattle.fsfs_grammar.specs.Reading.{Gives};
+ghost use Rattle.fsfs_grammar.specs.Grammar.{Appends};
 ghost use Rattle.fsfs_fields.specs.RevNums.{last_rev, IsRev, IsRevEnded, rev_at, rev_ended_at};
 
-use fsfs_text::decimals::{decimal, plain_decimal, put_dec, put_decimal};
+use fsfs_grammar::decimals::{decimal, plain_decimal, put_dec, put_decimal};
 use std::alloc::AllocError;
 use std::marker::Model;
 

@@ -2,10 +2,10 @@
 ghost use Rattle.std.specs.Prelude.{◌≡◌, ◌≤◌, ℕ, IfSome, IsSomeAnd, OnOk, IfOk, option_map, ◌++◌};
 ghost use Rattle.fsfs_fields.specs.TxnNames.{IsTxnName, txn_text, txn_name_at};
 
-use fsfs_text::B36;
-use fsfs_text::base36::{plain_base36, put_b36};
-use fsfs_text::cuts::cut_at;
-use fsfs_text::decimals::{plain_decimal, put_dec};
+use fsfs_grammar::B36;
+use fsfs_grammar::base36::{plain_base36, put_b36};
+use fsfs_grammar::cuts::cut_at;
+use fsfs_grammar::decimals::{plain_decimal, put_dec};
 use std::alloc::AllocError;
 
 /// A transaction's name: the revision that it began on, a dash, and a number in base 36 that no other transaction

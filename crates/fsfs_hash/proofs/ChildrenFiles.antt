@@ -1,7 +1,7 @@
 -- A `children` file is read exactly.
 use Rattle.std.proofs.Common.{ℕ, List, [], ◌∷◌, ◌++◌, length, Option, Some, None, refl, ap, arith, inl, inr}
 use Rattle.std.proofs.lemmas.List.{length-append}
-use Rattle.fsfs_text.proofs.Readers.{Reads, ReadsAll, next_all, mapped_reads, mapped_all, either_reads, many_reads, from_steps_all}
+use Rattle.fsfs_grammar.proofs.Readers.{Reads, ReadsAll, next_all, mapped_reads, mapped_all, either_reads, many_reads, from_steps_all}
 use Rattle.fsfs_hash.specs.Dump.{put_all}
 use Rattle.fsfs_hash.specs.Children.{Change, change_all, IsChildren, change_at, children_at}
 use Rattle.fsfs_hash.proofs.Dumps.{field_reads, entry_reads, entries_reads}

@@ -1,8 +1,8 @@
 -- A dump is read exactly.
 use Rattle.std.proofs.Common.{◌≡◌, ℕ, suc, ◌-◌, ◌<◌, ◌≤◌, true, false, eqb, List, [], ◌∷◌, length, Result, Ok, Err, refl, sym, ◌∙◌, arith}
-use Rattle.fsfs_text.specs.Grammar.{IsFaultAt, IsText, begins}
-use Rattle.fsfs_text.proofs.Readers.{Reads, ReadsAll, next_reads, mapped_reads, until_reads, from_steps, whole_reads, text_reads, bytes_reads, all_exact, ok_is}
-use Rattle.fsfs_text.proofs.Numerals.{number_reads}
+use Rattle.fsfs_grammar.specs.Grammar.{IsFaultAt, IsText, begins}
+use Rattle.fsfs_grammar.proofs.Readers.{Reads, ReadsAll, next_reads, mapped_reads, until_reads, from_steps, whole_reads, text_reads, bytes_reads, all_exact, ok_is}
+use Rattle.fsfs_grammar.proofs.Numerals.{number_reads}
 use Rattle.fsfs_hash.specs.Dump.{Entries, Field, Entry, IsDump, put_all}
 use Rattle.fsfs_hash.specs.Reading.{entries_at, field_at, entry_at, dump_at}
 

@@ -1,8 +1,8 @@
 -- Changes read one after another to the end, as a loop does, and laid over pairs.
 use Rattle.std.proofs.Common.{◌≡◌, ℕ, suc, ◌-◌, ◌+◌, ◌≤◌, ◌<◌, eqb, true, false, List, [], ◌∷◌, ◌++◌, length, Option, Some, None, Result, Ok, Err, refl, sym, ap, ◌∙◌, append_assoc, arith, inl, inr}
 use Rattle.std.proofs.lemmas.List.{append-nil}
-use Rattle.fsfs_text.specs.Grammar.{Appends, Many}
-use Rattle.fsfs_text.specs.Reading.{◌>>=◌, many_at}
+use Rattle.fsfs_grammar.specs.Grammar.{Appends, Many}
+use Rattle.fsfs_grammar.specs.Reading.{◌>>=◌, many_at}
 use Rattle.fsfs_hash.specs.Dump.{Field, Entry, put, put_all}
 use Rattle.fsfs_hash.specs.Children.{Change, change, change_all, without, IsChildren}
 

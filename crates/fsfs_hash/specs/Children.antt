@@ -4,8 +4,8 @@ use Rattle.std.specs.Ordering.{nat_cmp}
 use Rattle.std.specs.Cmp.Lexicographic.{slice_cmp}
 use Rattle.std.specs.BTreeMap.{is_at}
 use Rattle.std.specs.Map.{remove_entry}
-use Rattle.fsfs_text.specs.Grammar.{Then, Mapped, Either, Many, begins}
-use Rattle.fsfs_text.specs.Reading.{◌>>=◌, many_at}
+use Rattle.fsfs_grammar.specs.Grammar.{Then, Mapped, Either, Many, begins}
+use Rattle.fsfs_grammar.specs.Reading.{◌>>=◌, many_at}
 use Rattle.fsfs_hash.specs.Dump.{Field, Entry, Entries, put, put_all}
 use Rattle.fsfs_hash.specs.Reading.{field_at, entry_at, entries_at}
 

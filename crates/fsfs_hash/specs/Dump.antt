@@ -3,8 +3,8 @@ use Rattle.std.specs.Prelude.{ℕ, List, [], ◌∷◌}
 use Rattle.std.specs.Ordering.{nat_cmp}
 use Rattle.std.specs.Cmp.Lexicographic.{slice_cmp}
 use Rattle.std.specs.BTreeMap.{insert_entry}
-use Rattle.fsfs_text.specs.Grammar.{Then, IsText, AreBytes, Mapped, Until}
-use Rattle.fsfs_text.specs.Numeral.{IsNumber}
+use Rattle.fsfs_grammar.specs.Grammar.{Then, IsText, AreBytes, Mapped, Until}
+use Rattle.fsfs_grammar.specs.Numeral.{IsNumber}
 
 -- bytes of any length that is a number of 64 bits, behind their letter and length: `K 3\nabc\n`
 abbrev pub Field : ℕ → List ℕ → List ℕ → Type 0

@@ -1,6 +1,6 @@
 -- A dump that is not in its form.
 use Rattle.std.specs.Prelude.{ℕ, List}
-use Rattle.fsfs_text.specs.Grammar.{IsFaultAt}
+use Rattle.fsfs_grammar.specs.Grammar.{IsFaultAt}
 use Rattle.fsfs_hash.specs.declared.hash_error.HashError.{HashError}
 use Rattle.fsfs_hash.specs.declared.hash_error.HashError.TheVariants as errors
 

@@ -1,8 +1,8 @@
 -- Reading a dump from left to right.
 use Rattle.std.specs.Prelude.{ℕ, suc, List, [], ◌∷◌, length, map, Option, option_map, Result, Ok}
 use Rattle.std.specs.Borrow.{Bor}
-use Rattle.fsfs_text.specs.Reading.{◌>>=◌, text_at, bytes_at, until_at, whole}
-use Rattle.fsfs_text.specs.Numeral.{number_at}
+use Rattle.fsfs_grammar.specs.Reading.{◌>>=◌, text_at, bytes_at, until_at, whole}
+use Rattle.fsfs_grammar.specs.Numeral.{number_at}
 use Rattle.fsfs_hash.specs.Dump.{put_all}
 
 unfoldable pub field_at : ℕ → List ℕ → Result (List ℕ × List ℕ) ℕ

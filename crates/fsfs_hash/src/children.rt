@@ -1,7 +1,7 @@
 //! Reading a `children` file.
 ghost use Rattle.std.specs.Prelude.{◌≡◌, ◌+◌, ℕ, suc, length, List, IfOk, IfErr, OnOk, MatchResult, option_map};
-ghost use Rattle.fsfs_text.specs.Reading.{Gives, many_at};
-ghost use Rattle.fsfs_text.specs.ReadErrors.{GivesOrMemory};
+ghost use Rattle.fsfs_grammar.specs.Reading.{Gives, many_at};
+ghost use Rattle.fsfs_grammar.specs.ReadErrors.{GivesOrMemory};
 ghost use Rattle.fsfs_hash.specs.Reading.{change_views};
 ghost use Rattle.fsfs_hash.specs.Children.{change_at, change_all, children_at, IsChildren};
 ghost use Rattle.fsfs_hash.specs.Fault.{IsOutOfMemory, IsExact};
@@ -9,7 +9,7 @@ ghost use Rattle.fsfs_hash.specs.Fault.{IsOutOfMemory, IsExact};
 use crate::dump::{begins_with, entries, entry, field, gather};
 use crate::hash_error::{HashError, HashFault};
 use fsfs_base::Pairs;
-use fsfs_text::ReadError;
+use fsfs_grammar::ReadError;
 use std::alloc::{AllocError, Global};
 
 #[tactic(auto, unfolding(crate::specs::Children::change_at))]

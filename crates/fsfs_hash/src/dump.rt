@@ -1,17 +1,17 @@
 //! Reading a whole dump.
 ghost use Rattle.std.specs.Prelude.{◌≡◌, ◌+◌, ℕ, suc, length, List, [], IfOk, IfErr, MatchResult};
-ghost use Rattle.fsfs_text.specs.Grammar.{begins};
-ghost use Rattle.fsfs_text.specs.Reading.{Gives};
-ghost use Rattle.fsfs_text.specs.ReadErrors.{GivesOrMemory};
+ghost use Rattle.fsfs_grammar.specs.Grammar.{begins};
+ghost use Rattle.fsfs_grammar.specs.Reading.{Gives};
+ghost use Rattle.fsfs_grammar.specs.ReadErrors.{GivesOrMemory};
 ghost use Rattle.fsfs_hash.specs.Reading.{field_at, entry_at, entries_at, views, dump_at};
 ghost use Rattle.fsfs_hash.specs.Dump.{put_all, IsDump};
 ghost use Rattle.fsfs_hash.specs.Fault.{IsOutOfMemory, IsExact};
 
 use crate::hash_error::{HashError, HashFault};
 use fsfs_base::Pairs;
-use fsfs_text::ReadError;
-use fsfs_text::decimals::decimal;
-use fsfs_text::pieces::{bytes_of, text};
+use fsfs_grammar::ReadError;
+use fsfs_grammar::decimals::decimal;
+use fsfs_grammar::pieces::{bytes_of, text};
 use std::alloc::{AllocError, Global};
 
 /// Bytes behind their letter and their length, and what stands behind them.

@@ -1,11 +1,11 @@
 //! Writing dumps, and records of a `children` file.
 ghost use Rattle.std.specs.Prelude.{◌≡◌, ℕ, List, OnOk, IfOk};
-ghost use Rattle.fsfs_text.specs.Grammar.{Appends};
+ghost use Rattle.fsfs_grammar.specs.Grammar.{Appends};
 ghost use Rattle.fsfs_hash.specs.Dump.{Field, Entry, Entries, IsDump, put};
 ghost use Rattle.fsfs_hash.specs.Children.{IsChildren, without};
 
 use fsfs_base::Pairs;
-use fsfs_text::decimals::put_decimal;
+use fsfs_grammar::decimals::put_decimal;
 use std::alloc::{AllocError, Global};
 
 fn put_field(out: &mut Vec<u8>, letter: u8, bytes: &[u8]) -> Result<(), AllocError>

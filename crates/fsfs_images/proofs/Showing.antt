@@ -6,11 +6,11 @@ use Rattle.fsfs_base.specs.Files.{Files, renamed}
 use Rattle.fsfs_base.proofs.FileLemmas.{get_new, get_kept, get_gone, get_left}
 use Rattle.fsfs_disk.specs.Trace.{Operation, files_after, TornBy}
 use Rattle.fsfs_disk.specs.Trace as real
-use Rattle.fsfs_world.specs.declared.contents.Name.{Name}
-use Rattle.fsfs_world.specs.declared.contents.Contents.{Contents}
-use Rattle.fsfs_world.specs.declared.contents.Contents.TheVariants.{Junk}
-use Rattle.fsfs_world.specs.declared.contents.Change.TheVariants.{Put, Rename, Remove, Firm}
-use Rattle.fsfs_world.specs.Disk.{Disk, found, same_name, IsImage}
+use Rattle.fsfs_machine.specs.declared.contents.Name.{Name}
+use Rattle.fsfs_machine.specs.declared.contents.Contents.{Contents}
+use Rattle.fsfs_machine.specs.declared.contents.Contents.TheVariants.{Junk}
+use Rattle.fsfs_machine.specs.declared.contents.Change.TheVariants.{Put, Rename, Remove, Firm}
+use Rattle.fsfs_machine.specs.Disk.{Disk, found, same_name, IsImage}
 use Rattle.fsfs_images.specs.Shown.{IsReading, AtName, AreRead, Shows, Start, Putting, Adopting, Renaming, Removing, Firming, Attempting, Beside, ImagesAreShown}
 
 module _ (names : Name → List ℕ) (reads : List ℕ → Contents → Bool) (is : IsReading names reads) where

@@ -4,11 +4,11 @@ use Rattle.std.specs.FinMap as map
 use Rattle.fsfs_base.specs.Files.{Files}
 use Rattle.fsfs_disk.specs.Trace.{Operation, Done, Attempted, files_after, TornBy}
 use Rattle.fsfs_disk.specs.Trace as real
-use Rattle.fsfs_world.specs.declared.contents.Name.{Name}
-use Rattle.fsfs_world.specs.declared.contents.Contents.{Contents}
-use Rattle.fsfs_world.specs.declared.contents.Contents.TheVariants.{Junk}
-use Rattle.fsfs_world.specs.declared.contents.Change.TheVariants.{Put, Rename, Remove, Firm}
-use Rattle.fsfs_world.specs.Disk.{Disk, found, same_name, IsImage}
+use Rattle.fsfs_machine.specs.declared.contents.Name.{Name}
+use Rattle.fsfs_machine.specs.declared.contents.Contents.{Contents}
+use Rattle.fsfs_machine.specs.declared.contents.Contents.TheVariants.{Junk}
+use Rattle.fsfs_machine.specs.declared.contents.Change.TheVariants.{Put, Rename, Remove, Firm}
+use Rattle.fsfs_machine.specs.Disk.{Disk, found, same_name, IsImage}
 
 -- how real files are read: by names that are told apart, and so that any bytes may be junk
 pub record IsReading (names : Name → List ℕ) (reads : List ℕ → Contents → Bool) : Type 0 where

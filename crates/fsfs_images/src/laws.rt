@@ -1,7 +1,7 @@
 //! What the machine's disk says of real disks. The function does nothing: what it ensures is proved once for all traces.
 ghost use Rattle.std.specs.Prelude.{List, ℕ, Bool};
-ghost use Rattle.fsfs_world.specs.declared.contents.Name.{Name as MachineName};
-ghost use Rattle.fsfs_world.specs.declared.contents.Contents.{Contents as MachineContents};
+ghost use Rattle.fsfs_machine.specs.declared.contents.Name.{Name as MachineName};
+ghost use Rattle.fsfs_machine.specs.declared.contents.Contents.{Contents as MachineContents};
 ghost use Rattle.fsfs_images.specs.Shown.{IsReading, ImagesAreShown};
 
 /// Where a real disk's operations are read as changes of the machine's disk, its files now are read as the

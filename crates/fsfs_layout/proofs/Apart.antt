@@ -6,10 +6,10 @@ use Rattle.std.specs.Str.{bytes_eq}
 use Rattle.std.specs.Fmt.{decimal}
 use Rattle.std.proofs.lemmas.List.{append_cancel_left, append-nil}
 use Rattle.std.proofs.Math.Nat.{div-le_self}
-use Rattle.fsfs_text.specs.Numeral.{digit, value_after, IsNumeral}
-use Rattle.fsfs_text.specs.Base36.{base36}
-use Rattle.fsfs_text.proofs.Unique.{AreDigits, decimal_numeral, numeral_digits}
-use Rattle.fsfs_text.proofs.Base36Texts.{base36_numeral}
+use Rattle.fsfs_grammar.specs.Numeral.{digit, value_after, IsNumeral}
+use Rattle.fsfs_grammar.specs.Base36.{base36}
+use Rattle.fsfs_grammar.proofs.Unique.{AreDigits, decimal_numeral, numeral_digits}
+use Rattle.fsfs_grammar.proofs.Base36Texts.{base36_numeral}
 use Rattle.fsfs_fields.specs.TxnNames.{txn_text}
 use Rattle.fsfs_layout.specs.Names.{in_shard, in_pack}
 use Rattle.fsfs_layout.specs.FileNames.{only_name, RevsFile, Shard, Revision, PackFolder, Pack, Manifest, PropsFile, PropsShard, Props, TxnFile, Folder, Below, txn_file_end, ProtoFile, Texts, Lock, proto_file_end, File, Only, InRevs, InProps, OfTxn, OfProto, revs_name, props_name, file_name, FitsRevs, FitsProps, FitsFile, NamesAreApart}

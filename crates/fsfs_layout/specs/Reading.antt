@@ -1,8 +1,8 @@
 -- Reading the small files from left to right.
 use Rattle.std.specs.Prelude.{ℕ, zero, suc, List, [], ◌∷◌, length, take, Result, Ok, Err, ◌==◌, if◌then◌else◌, codes}
-use Rattle.fsfs_text.specs.Grammar.{begins}
-use Rattle.fsfs_text.specs.Reading.{◌>>=◌, text_at, whole}
-use Rattle.fsfs_text.specs.Numeral.{number_at}
+use Rattle.fsfs_grammar.specs.Grammar.{begins}
+use Rattle.fsfs_grammar.specs.Reading.{◌>>=◌, text_at, whole}
+use Rattle.fsfs_grammar.specs.Numeral.{number_at}
 use Rattle.fsfs_layout.specs.declared.format_file.Format.{Format}
 use Rattle.fsfs_layout.specs.declared.format_file.Format.TheVariants.{Linear, Sharded, Other}
 

@@ -1,11 +1,11 @@
 -- The small files.
 use Rattle.std.specs.Prelude.{◌≡◌, ◌≢◌, ◌%◌, ℕ, List, [], ◌∷◌, length, ◌⊎◌}
-use Rattle.fsfs_text.specs.Grammar.{Then, IsText, Mapped, IsFaultAt}
-use Rattle.fsfs_text.specs.Numeral.{IsNumber}
+use Rattle.fsfs_grammar.specs.Grammar.{Then, IsText, Mapped, IsFaultAt}
+use Rattle.fsfs_grammar.specs.Numeral.{IsNumber}
 use Rattle.fsfs_base.specs.declared.small_fault.SmallFile.{SmallFile}
 use Rattle.fsfs_base.specs.declared.small_fault.SmallFile.TheVariants.{MinUnpackedRev}
 use Rattle.fsfs_base.specs.declared.small_fault.SmallFault.{SmallFault}
-use Rattle.fsfs_text.specs.Cuts.{Lacks}
+use Rattle.fsfs_grammar.specs.Cuts.{Lacks}
 
 -- `<revision>\n`
 abbrev pub IsRevLine : List ℕ → ℕ → Type 0

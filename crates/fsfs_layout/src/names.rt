@@ -2,7 +2,7 @@
 //! the names that end in `-next`, under which the new text of a small file is written first, are this project's profile.)
 ghost use Rattle.std.specs.Prelude.{◌≡◌, ◌≤◌, ◌<◌, ◌+◌, ◌++◌, codes, length};
 ghost use Rattle.std.specs.Fmt.{decimal};
-ghost use Rattle.fsfs_text.specs.Base36.{glyph, last_digits};
+ghost use Rattle.fsfs_grammar.specs.Base36.{glyph, last_digits};
 ghost use Rattle.fsfs_fields.specs.TxnNames.{txn_text};
 ghost use Rattle.fsfs_layout.specs.Names.{in_shard, in_pack, with_txn};
 ghost use Rattle.fsfs_layout.specs.FileNames.{only_name, small_name, NamesAreApart};
@@ -223,7 +223,7 @@ fn digit(d: u8) -> char
 }
 
 /// Puts the last digits of a number in base 36 at the end.
-#[tactic(auto, unfolding(fsfs_text::specs::Base36::last_digits))]
+#[tactic(auto, unfolding(fsfs_grammar::specs::Base36::last_digits))]
 fn push_base36(name: &mut Name, digits: usize, number: u128)
     requires { length name.old + digits ≤ 128 }
     ensures text { name.new ≡ name.old ++ last_digits digits number }

@@ -1,12 +1,12 @@
 //! Files with one revision: `db/current` and `db/min-unpacked-rev`.
 ghost use Rattle.std.specs.Prelude.{◌≡◌, ◌≤◌, ◌<◌, ◌%◌, ℕ, ◌∷◌, [], ◌++◌, IfOk, IfErr, Ok};
 ghost use Rattle.std.specs.Fmt.{decimal};
-ghost use Rattle.fsfs_text.specs.Reading.{Gives};
+ghost use Rattle.fsfs_grammar.specs.Reading.{Gives};
 ghost use Rattle.fsfs_layout.specs.Small.{IsRevLine, IsMinUnpackedRev, IsFaultOf, IsMinUnpackedFault};
 ghost use Rattle.fsfs_layout.specs.Reading.{rev_line_at};
 
 use fsfs_base::{SmallFault, SmallFile};
-use fsfs_text::decimals::{decimal, put_decimal};
+use fsfs_grammar::decimals::{decimal, put_decimal};
 use std::alloc::{AllocError, Global};
 
 /// The greatest revision number.

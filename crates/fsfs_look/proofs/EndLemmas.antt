@@ -9,12 +9,12 @@ use Rattle.fsfs_noderev.specs.declared.node_rev.NodeRev.{NodeRev}
 use Rattle.fsfs_shows.specs.Reading.{MetAt, Met, Stands, Lacking, Blocked}
 use Rattle.fsfs_look.specs.declared.look_error.LookError.{LookError}
 use Rattle.fsfs_look.specs.declared.look_error.LookError.TheVariants as errors
-use Rattle.fsfs_texts.specs.declared.look_fault.LookFault.TheVariants as faults
+use Rattle.fsfs_printed.specs.declared.look_fault.LookFault.TheVariants as faults
 use Rattle.fsfs_look.specs.declared.tree.Pending.{Pending}
 use Rattle.fsfs_streams.specs.Output.{AddsFront}
 use Rattle.fsfs_look.specs.Paths.{IsFound}
-use Rattle.fsfs_texts.specs.Texts.{End, Whole, Refused, Stopped, AtPath}
-use Rattle.fsfs_texts.specs.TreeTexts.{NodeText, TreeText}
+use Rattle.fsfs_printed.specs.Texts.{End, Whole, Refused, Stopped, AtPath}
+use Rattle.fsfs_printed.specs.TreeTexts.{NodeText, TreeText}
 use Rattle.fsfs_look.specs.Walks.{left, Then, LeftText, NodeFrom, Puts, Joins, JoinsSome, Walks, EndsSo}
 use Rattle.fsfs_look.specs.Written.{Writes, WritesFront}
 use Rattle.fsfs_look.proofs.ProgressLemmas.{adds_nothing}

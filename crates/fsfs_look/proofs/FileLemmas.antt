@@ -20,11 +20,11 @@ use Rattle.fsfs_shows.proofs.OneRep.{rep_at_one}
 use Rattle.fsfs_dag.proofs.Reps.{rep_wrong, contents_some, contents_none}
 use Rattle.fsfs_look.specs.declared.look_error.LookError.{LookError}
 use Rattle.fsfs_look.specs.declared.look_error.LookError.TheVariants as errors
-use Rattle.fsfs_texts.specs.declared.look_fault.LookFault.TheVariants as faults
+use Rattle.fsfs_printed.specs.declared.look_fault.LookFault.TheVariants as faults
 use Rattle.fsfs_look.specs.Errors.{of_read}
 use Rattle.fsfs_streams.specs.Output.{AddsFront}
-use Rattle.fsfs_texts.specs.Texts.{End, Whole, Refused, Stopped}
-use Rattle.fsfs_texts.specs.FileTexts.{KindText, FileText, IsWholeText}
+use Rattle.fsfs_printed.specs.Texts.{End, Whole, Refused, Stopped}
+use Rattle.fsfs_printed.specs.FileTexts.{KindText, FileText, IsWholeText}
 use Rattle.fsfs_look.specs.Written.{Writes, WritesFront}
 use Rattle.fsfs_look.proofs.EndLemmas.{writes_as}
 use Rattle.fsfs_look.proofs.ProgressLemmas.{adds_nothing}

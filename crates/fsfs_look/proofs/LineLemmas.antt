@@ -4,7 +4,7 @@ use Rattle.std.specs.Prelude.{codes}
 use Rattle.fsfs_base.specs.Paths.{Name}
 use Rattle.fsfs_answers.specs.Answers.{kind_mark}
 use Rattle.fsfs_noderev.specs.declared.node_rev.NodeRev.{NodeRev}
-use Rattle.fsfs_texts.specs.TreeTexts.{IsShownId, IsLine}
+use Rattle.fsfs_printed.specs.TreeTexts.{IsShownId, IsLine}
 
 module _ (before spaces name mark shown_id end : List ℕ) where
   grouped : before ++ spaces ++ name ++ mark ++ shown_id ++ end ≡ before ++ (spaces ++ name ++ mark ++ shown_id ++ end)

@@ -11,12 +11,12 @@ use Rattle.fsfs_shows.specs.Reading.{Entry, OfEntry}
 use Rattle.fsfs_dag.specs.declared.node.PlacedNode.{PlacedNode}
 use Rattle.fsfs_look.specs.declared.look_error.LookError.{LookError}
 use Rattle.fsfs_look.specs.declared.look_error.LookError.TheVariants as errors
-use Rattle.fsfs_texts.specs.declared.look_fault.LookFault.TheVariants as faults
+use Rattle.fsfs_printed.specs.declared.look_fault.LookFault.TheVariants as faults
 use Rattle.fsfs_look.specs.declared.tree.Pending.{Pending}
 use Rattle.fsfs_look.specs.Errors.{of_read}
 use Rattle.fsfs_streams.specs.Output.{AddsFront}
-use Rattle.fsfs_texts.specs.Texts.{End, Whole, Refused, Stopped}
-use Rattle.fsfs_texts.specs.TreeTexts.{EntryText}
+use Rattle.fsfs_printed.specs.Texts.{End, Whole, Refused, Stopped}
+use Rattle.fsfs_printed.specs.TreeTexts.{EntryText}
 use Rattle.fsfs_look.specs.Walks.{left, Then, LeftText, Puts, Joins, JoinsSome, Walks}
 use Rattle.fsfs_dag.specs.Views.{entry_value}
 use Rattle.fsfs_look.proofs.WalkLemmas.{left_push, wrong_first, refused_first, stops_first, node_first}

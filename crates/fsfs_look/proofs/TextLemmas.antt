@@ -12,7 +12,7 @@ use Rattle.fsfs_dag.specs.declared.walk.Met.{Met as Rust}
 use Rattle.fsfs_dag.specs.declared.walk.Met.TheVariants as mets
 use Rattle.fsfs_dag.specs.Views.{met_value}
 use Rattle.fsfs_look.specs.declared.look_error.LookError.TheVariants as errors
-use Rattle.fsfs_texts.specs.declared.look_fault.LookFault.TheVariants as faults
+use Rattle.fsfs_printed.specs.declared.look_fault.LookFault.TheVariants as faults
 use native.Mathlib.Numerals.{unary_clauses}
 use Rattle.fsfs_look.specs.Errors.{of_read}
 use Rattle.fsfs_look.specs.Paths.{IsFound}

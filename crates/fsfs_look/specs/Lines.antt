@@ -5,7 +5,7 @@ use Rattle.fsfs_noderev.specs.Ids.{FitsId, id_value}
 use Rattle.fsfs_noderev.specs.declared.node_rev.NodeRev.{NodeRev}
 use Rattle.fsfs_look.specs.declared.look_error.LookError.{LookError}
 use Rattle.fsfs_look.specs.declared.look_error.LookError.TheVariants as errors
-use Rattle.fsfs_texts.specs.TreeTexts.{IsLine}
+use Rattle.fsfs_printed.specs.TreeTexts.{IsLine}
 
 abbrev pub HasIdText : NodeRev → Type 0
 HasIdText v = FitsId (id_value v.id)

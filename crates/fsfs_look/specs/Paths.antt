@@ -6,8 +6,8 @@ use Rattle.fsfs_dag.specs.declared.node.PlacedNode.{PlacedNode}
 use Rattle.fsfs_shows.specs.Reading.{Stands, Lacking, Blocked, MetAt}
 use Rattle.fsfs_look.specs.declared.look_error.LookError.{LookError}
 use Rattle.fsfs_look.specs.declared.look_error.LookError.TheVariants as errors
-use Rattle.fsfs_texts.specs.declared.look_fault.LookFault.{LookFault}
-use Rattle.fsfs_texts.specs.declared.look_fault.LookFault.TheVariants as faults
+use Rattle.fsfs_printed.specs.declared.look_fault.LookFault.{LookFault}
+use Rattle.fsfs_printed.specs.declared.look_fault.LookFault.TheVariants as faults
 
 -- why there is no node at the path
 abbrev pub IsNotFound : Look → ℕ → Path → LookFault → Type 0

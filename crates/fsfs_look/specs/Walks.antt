@@ -12,8 +12,8 @@ use Rattle.fsfs_look.specs.declared.tree.Pending.{Pending}
 use Rattle.fsfs_look.specs.declared.look_error.LookError.{LookError}
 use Rattle.fsfs_look.specs.declared.look_error.LookError.TheVariants as errors
 use Rattle.fsfs_streams.specs.Output.{AddsFront}
-use Rattle.fsfs_texts.specs.Texts.{End, Whole, Refused, Stopped, Nothing}
-use Rattle.fsfs_texts.specs.TreeTexts.{NodeText, EntryText}
+use Rattle.fsfs_printed.specs.Texts.{End, Whole, Refused, Stopped, Nothing}
+use Rattle.fsfs_printed.specs.TreeTexts.{NodeText, EntryText}
 
 -- an entry, and how many levels it stands below the path
 abbrev pub pending_value : Pending → ℕ × Entry

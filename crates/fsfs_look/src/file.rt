@@ -5,7 +5,7 @@ ghost use Rattle.fsfs_book.specs.Told.{Look, Knows, Keeps};
 ghost use Rattle.fsfs_damage.specs.Causes.{HasCause};
 ghost use Rattle.fsfs_rep.specs.Faults.{IsRefusedFor};
 ghost use Rattle.fsfs_rep.specs.Frames.{rev_of, text_of, IsWhole, IsFaultOf};
-ghost use Rattle.fsfs_texts.specs.FileTexts.{FileText, IsWholeText};
+ghost use Rattle.fsfs_printed.specs.FileTexts.{FileText, IsWholeText};
 ghost use Rattle.fsfs_look.specs.Written.{Writes, HasDiskCause, HasSinkCause};
 
 use crate::look_error::LookError;
@@ -15,9 +15,9 @@ use fsfs_base::{FsPath, Kind};
 use fsfs_book::Book;
 use fsfs_damage::{ReadError, RepWhat};
 use fsfs_noderev::Rep;
+use fsfs_printed::LookFault;
 use fsfs_rep::{RepReader, bad_rep, window};
 use fsfs_streams::Sink;
-use fsfs_texts::LookFault;
 use std::alloc::Global;
 
 // How many bytes are read and written at a time.

@@ -9,7 +9,7 @@ use crate::look_error::LookError;
 use fsfs_base::Kind;
 use fsfs_damage::{Damage, RevOffset, What, Wrong};
 use fsfs_noderev::{NodeId, NodeRev, Part, Place, put_id};
-use fsfs_texts::LookFault;
+use fsfs_printed::LookFault;
 use std::alloc::AllocError;
 
 const LAST_REVISION: u32 = 2147483647;

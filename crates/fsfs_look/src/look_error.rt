@@ -2,7 +2,7 @@
 ghost use Rattle.std.specs.Prelude.{◌≡◌};
 
 use fsfs_damage::ReadError;
-use fsfs_texts::LookFault;
+use fsfs_printed::LookFault;
 use std::alloc::AllocError;
 use thiserror::Error;
 

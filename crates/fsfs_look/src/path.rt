@@ -9,7 +9,7 @@ use crate::look_error::LookError;
 use fsfs_base::FsPath;
 use fsfs_book::Book;
 use fsfs_dag::{Met, PlacedNode, node_at};
-use fsfs_texts::LookFault;
+use fsfs_printed::LookFault;
 use std::alloc::Global;
 
 /// The node that stands at a path of a revision.

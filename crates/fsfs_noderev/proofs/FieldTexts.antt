@@ -1,8 +1,8 @@
 -- The values of a node-revision's fields: each text has one value at most, and two parts are read one by one.
 use Rattle.std.proofs.Common.{◌≡◌, ℕ, List, refl, sym, ap, ◌∙◌, arith}
-use Rattle.fsfs_text.specs.Cuts.{Lacks, IsCutOf, cut}
-use Rattle.fsfs_text.proofs.CutLemmas.{cut_again, two_parts}
-use Rattle.fsfs_text.proofs.Spelling.{plain_lacks, IsOne, spells_one}
+use Rattle.fsfs_grammar.specs.Cuts.{Lacks, IsCutOf, cut}
+use Rattle.fsfs_grammar.proofs.CutLemmas.{cut_again, two_parts}
+use Rattle.fsfs_grammar.proofs.Spelling.{plain_lacks, IsOne, spells_one}
 use Rattle.fsfs_base.specs.declared.kind.Kind.TheVariants as kinds
 use Rattle.fsfs_base.proofs.PathTextLemmas.{path_by_text}
 use Rattle.fsfs_noderev.specs.Ids.{IsRev, IsNumber64, id_value}

@@ -6,11 +6,11 @@ use Rattle.std.proofs.lemmas.Fmt.{length-decimal-le}
 use Rattle.std.proofs.Math.Seq.{take-append-add}
 use Rattle.hex.proofs.HexLemmas.{length-encode_with}
 use Rattle.hex.specs.Hex.{lower_digits}
-use Rattle.fsfs_text.specs.Grammar.{Appends}
-use Rattle.fsfs_text.specs.Numeral.{IsPlain}
-use Rattle.fsfs_text.specs.Cuts.{IsCutOf}
-use Rattle.fsfs_text.proofs.Unique.{numeral_decimal}
-use Rattle.fsfs_text.proofs.Base36Texts.{numeral_base36, length-last_digits}
+use Rattle.fsfs_grammar.specs.Grammar.{Appends}
+use Rattle.fsfs_grammar.specs.Numeral.{IsPlain}
+use Rattle.fsfs_grammar.specs.Cuts.{IsCutOf}
+use Rattle.fsfs_grammar.proofs.Unique.{numeral_decimal}
+use Rattle.fsfs_grammar.proofs.Base36Texts.{numeral_base36, length-last_digits}
 use Rattle.fsfs_fields.specs.Digests.{IsDigestText}
 use Rattle.fsfs_fields.specs.TxnNames.{IsTxnName}
 use Rattle.fsfs_base.specs.declared.kind.Kind.TheVariants as kinds

@@ -3,9 +3,9 @@ use Rattle.std.proofs.Common.{◌≡◌, ◌≤◌, ◌+◌, ℕ, suc, Bool, tru
 use Rattle.std.specs.Prelude.{nat_lt}
 use Rattle.std.specs.List.{AllByRecursion, position, position_or_len}
 use Rattle.std.proofs.lemmas.Bool.{ne_eqb, ltb-false}
-use Rattle.fsfs_text.specs.Cuts.{Lacks, IsCutOf}
-use Rattle.fsfs_text.proofs.CutLemmas.{lacks_from, two_lack}
-use Rattle.fsfs_text.proofs.Spelling.{plain_lacks}
+use Rattle.fsfs_grammar.specs.Cuts.{Lacks, IsCutOf}
+use Rattle.fsfs_grammar.proofs.CutLemmas.{lacks_from, two_lack}
+use Rattle.fsfs_grammar.proofs.Spelling.{plain_lacks}
 use Rattle.fsfs_fields.specs.Digests.{IsDigestText}
 use Rattle.fsfs_fields.specs.TxnNames.{IsTxnName}
 use Rattle.fsfs_base.specs.Paths.{Path, path_text, names_text}

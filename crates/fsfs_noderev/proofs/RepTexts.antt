@@ -9,11 +9,11 @@ use Rattle.std.proofs.lemmas.Bool.{eqb-true, cases_lt}
 use Rattle.std.specs.Prelude.{slice_index}
 use Rattle.hex.specs.Hex.{IsBytes, lower_digits, encode_with, encode_lower, decode_sized}
 use Rattle.hex.specs.declared.error.FromHexError.{FromHexError}
-use Rattle.fsfs_text.specs.Numeral.{IsPlain}
-use Rattle.fsfs_text.specs.Cuts.{Lacks, cut, and_then, parts_at}
-use Rattle.fsfs_text.proofs.Readers.{chosen}
-use Rattle.fsfs_text.proofs.CutLemmas.{cut_found, cut_again, lacks_from, cut_lacking}
-use Rattle.fsfs_text.proofs.Spelling.{Spells, bound, numeral_spells, cut_spells, plain_lacks}
+use Rattle.fsfs_grammar.specs.Numeral.{IsPlain}
+use Rattle.fsfs_grammar.specs.Cuts.{Lacks, cut, and_then, parts_at}
+use Rattle.fsfs_grammar.proofs.Readers.{chosen}
+use Rattle.fsfs_grammar.proofs.CutLemmas.{cut_found, cut_again, lacks_from, cut_lacking}
+use Rattle.fsfs_grammar.proofs.Spelling.{Spells, bound, numeral_spells, cut_spells, plain_lacks}
 use Rattle.fsfs_fields.specs.Digests.{is_capital, IsDigestText}
 use Rattle.fsfs_fields.specs.TxnNames.{IsTxnName, txn_name_at}
 use Rattle.fsfs_fields.proofs.DigestTexts.{digest_found, digest_again}

@@ -1,7 +1,7 @@
 -- Ids of node-revisions: `<node>.<copy>.r<revision>/<offset>`, or `<node>.<copy>.t<transaction>`.
 use Rattle.std.specs.Prelude.{◌≡◌, ◌≤◌, ℕ, List, [], ◌∷◌, Option, Some, None, ◌==◌, if◌then◌else◌}
-use Rattle.fsfs_text.specs.Numeral.{IsPlain, numeral_at}
-use Rattle.fsfs_text.specs.Cuts.{IsCutOf, cut, and_then, parts_at}
+use Rattle.fsfs_grammar.specs.Numeral.{IsPlain, numeral_at}
+use Rattle.fsfs_grammar.specs.Cuts.{IsCutOf, cut, and_then, parts_at}
 use Rattle.fsfs_fields.specs.TxnNames.{IsTxnName, txn_name_at}
 use Rattle.fsfs_noderev.specs.declared.node_id.Part.{Part}
 use Rattle.fsfs_noderev.specs.declared.node_id.Part.TheVariants as part

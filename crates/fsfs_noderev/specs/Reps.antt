@@ -4,7 +4,7 @@ use Rattle.std.specs.List.{list_any}
 use Rattle.std.specs.Str.{bytes_eq}
 use Rattle.hex.specs.Hex.{decode_sized}
 use Rattle.hex.specs.declared.error.FromHexError.{FromHexError}
-use Rattle.fsfs_text.specs.Cuts.{IsCutOf, cut, and_then, parts_at}
+use Rattle.fsfs_grammar.specs.Cuts.{IsCutOf, cut, and_then, parts_at}
 use Rattle.fsfs_fields.specs.Digests.{is_capital, IsDigestText}
 use Rattle.fsfs_fields.specs.TxnNames.{IsTxnName, txn_name_at}
 use Rattle.fsfs_noderev.specs.Ids.{IsB36, IsRev, IsNumber64, b36_at, rev_at, number_at}

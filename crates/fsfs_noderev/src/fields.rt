@@ -14,8 +14,8 @@ use crate::node_id::{NodeId, read_id, rev_of};
 use crate::node_rev::{CopyRoot, CopySource, Field, Which};
 use crate::rep::{Contents, read_contents, rev_or_none};
 use fsfs_base::{FsPath, Kind, PathError};
-use fsfs_text::cuts::cut_at;
-use fsfs_text::read_dec;
+use fsfs_grammar::cuts::cut_at;
+use fsfs_grammar::read_dec;
 use std::alloc::{AllocError, Global};
 
 /// What the lines read so far have said of a node-revision.

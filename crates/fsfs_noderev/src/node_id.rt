@@ -1,13 +1,13 @@
 //! Ids of node-revisions.
 ghost use Rattle.std.specs.Prelude.{◌≡◌, ◌≤◌, ℕ, List, option_map, IfSome, IsSomeAnd, IfOk, OnOk};
-ghost use Rattle.fsfs_text.specs.Grammar.{Appends};
+ghost use Rattle.fsfs_grammar.specs.Grammar.{Appends};
 ghost use Rattle.fsfs_noderev.specs.Ids.{IdValue, part_value, place_value, id_value, IsPart, IsPlace, IsId, FitsPart, FitsPlace, FitsId, rev_at, part_at, place_at, id_at};
 
 use fsfs_base::{TxnName, plain_txn_name, put_txn_name};
-use fsfs_text::B36;
-use fsfs_text::base36::{plain_base36, put_b36};
-use fsfs_text::cuts::cut_at;
-use fsfs_text::decimals::{plain_decimal, put_dec};
+use fsfs_grammar::B36;
+use fsfs_grammar::base36::{plain_base36, put_b36};
+use fsfs_grammar::cuts::cut_at;
+use fsfs_grammar::decimals::{plain_decimal, put_dec};
 use std::alloc::{AllocError, Global};
 
 /// The node part or the copy part of an id.

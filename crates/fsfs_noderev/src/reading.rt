@@ -10,7 +10,7 @@ ghost use Rattle.fsfs_noderev.specs.declared.node_rev.NodeRev.{NodeRev};
 
 use crate::fields::{Fields, LineError, field_named};
 use crate::node_rev::{Field, NodeFault, NodeRev, Which};
-use fsfs_text::cuts::cut_at;
+use fsfs_grammar::cuts::cut_at;
 use std::alloc::Global;
 
 /// How many bytes of a node-revision are read at most.

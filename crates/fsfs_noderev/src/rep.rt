@@ -1,15 +1,15 @@
 //! Where a text, a property list or a directory stands.
 ghost use Rattle.std.specs.Prelude.{◌≡◌, ◌≤◌, ℕ, List, option_map, IfSome, IsSomeAnd, IfOk, OnOk, codes};
-ghost use Rattle.fsfs_text.specs.Grammar.{Appends};
+ghost use Rattle.fsfs_grammar.specs.Grammar.{Appends};
 ghost use Rattle.fsfs_fields.specs.Digests.{IsDigestText};
 ghost use Rattle.fsfs_noderev.specs.Reps.{RepValue, ContentsValue, unique_value, rep_value, contents_value, IsRevOrNone, IsMarked, IsUnique, AreDigests, IsRep, AreContents, FitsRev, FitsContents, rev_or_none_at, digest_at, marked_at, unique_at, digests_at, rep_at, contents_at};
 
 use crate::node_id::rev_of;
 use fsfs_base::{HexDigest, TxnName, plain_txn_name, put_txn_name};
-use fsfs_text::B36;
-use fsfs_text::base36::{plain_base36, put_b36};
-use fsfs_text::cuts::cut_at;
-use fsfs_text::decimals::{plain_decimal, put_dec};
+use fsfs_grammar::B36;
+use fsfs_grammar::base36::{plain_base36, put_b36};
+use fsfs_grammar::cuts::cut_at;
+use fsfs_grammar::decimals::{plain_decimal, put_dec};
 use std::alloc::{AllocError, Global};
 
 /// What a file's representation has beside its MD5.

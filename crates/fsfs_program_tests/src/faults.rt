@@ -1,11 +1,11 @@
 //! Lines of faults as the table of the README has them.
 use fsfs_base::{BadPath, FsPath, HexDigest, PathFault, SmallFault, SmallFile};
+use fsfs_cli::WordsFault;
 use fsfs_damage::{Damage, Refusal, RepWhat, RevOffset, What, Wrong};
 use fsfs_faults::{Fault, Tool, print_fault, status};
 use fsfs_memstreams::MemSink;
 use fsfs_places::{CreateFault, DiskPlace, OpenFault};
-use fsfs_texts::LookFault;
-use fsfs_words::WordsFault;
+use fsfs_printed::LookFault;
 use std::alloc::Global;
 use std::test::Fail;
 

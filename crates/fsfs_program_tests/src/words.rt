@@ -1,5 +1,5 @@
 //! Tables of words, and what they are read as.
-use fsfs_words::{Order, Tool, WordsFault, read_words};
+use fsfs_cli::{Order, Tool, WordsFault, read_words};
 use std::alloc::{AllocError, Global};
 use std::test::Fail;
 

@@ -6,8 +6,8 @@ use fsfs_base::HexDigest;
 use fsfs_damage::{RepWhat, RevOffset, Wrong};
 use fsfs_look::{LookError, cat, tree_text};
 use fsfs_memstreams::MemSink;
+use fsfs_printed::LookFault;
 use fsfs_shows::RepDamage;
-use fsfs_texts::LookFault;
 use std::test::Fail;
 
 // The trees that Subversion's own `svnlook tree --show-ids` prints.

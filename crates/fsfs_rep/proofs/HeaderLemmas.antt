@@ -5,12 +5,12 @@ use Rattle.std.specs.Fmt.{decimal}
 use Rattle.std.proofs.Math.Seq.{take-append_seam}
 use Rattle.std.proofs.lemmas.Fmt.{length-decimal-le}
 use Rattle.std.specs.Prelude.{codes}
-use Rattle.fsfs_text.specs.Grammar.{begins}
-use Rattle.fsfs_text.specs.Numeral.{IsNumber}
-use Rattle.fsfs_text.specs.Reading.{text_at}
-use Rattle.fsfs_text.proofs.Readers.{Reads, next_reads, mapped_reads, either_reads, text_reads}
-use Rattle.fsfs_text.proofs.Numerals.{number_reads}
-use Rattle.fsfs_text.proofs.Unique.{numeral_decimal}
+use Rattle.fsfs_grammar.specs.Grammar.{begins}
+use Rattle.fsfs_grammar.specs.Numeral.{IsNumber}
+use Rattle.fsfs_grammar.specs.Reading.{text_at}
+use Rattle.fsfs_grammar.proofs.Readers.{Reads, next_reads, mapped_reads, either_reads, text_reads}
+use Rattle.fsfs_grammar.proofs.Numerals.{number_reads}
+use Rattle.fsfs_grammar.proofs.Unique.{numeral_decimal}
 use Rattle.fsfs_rep.specs.Headers.{StandsAt, IsBaseLine, IsDeltaLine, HasPlainLine, HasDeltaLine, plain_line, base_line_at, delta_line_at}
 
 base_line_reads : (n : ℕ) → Reads n IsBaseLine base_line_at

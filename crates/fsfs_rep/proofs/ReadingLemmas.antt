@@ -5,8 +5,8 @@ use Rattle.std.specs.Str.{bytes_eq}
 use Rattle.std.proofs.lemmas.Slice.Eq.{bytes_eq-Decides}
 use Rattle.std.proofs.lemmas.List.{length-take, length-drop, take-append-drop, take-take, take_all, drop-take, drop-drop}
 use Rattle.std.proofs.Math.Seq.{take-append_seam}
-use Rattle.fsfs_text.proofs.Readers.{text_reads}
-use Rattle.fsfs_text.specs.Reading.{text_at}
+use Rattle.fsfs_grammar.proofs.Readers.{text_reads}
+use Rattle.fsfs_grammar.specs.Reading.{text_at}
 use Rattle.fsfs_rep.specs.Headers.{StandsAt}
 use Rattle.fsfs_rep.proofs.HeaderLemmas.{stands_found, stands_not, stands_in, stands_within, stands_fits}
 

@@ -3,7 +3,7 @@ use Rattle.std.proofs.Common.{◌≡◌, ℕ, ◌<◌, ltb, List, [], length, ta
 use Rattle.std.proofs.lemmas.Bool.{ltb-true}
 use Rattle.std.proofs.lemmas.List.{drop_all}
 use Rattle.std.proofs.Math.Seq.{take-nil}
-use Rattle.fsfs_text.proofs.Readers.{chosen}
+use Rattle.fsfs_grammar.proofs.Readers.{chosen}
 use Rattle.fsfs_damage.specs.declared.wrong.Refusal.{Refusal}
 use Rattle.fsfs_book.specs.declared.book.BookFault.{BookFault}
 use Rattle.fsfs_book.specs.declared.book.BookFault.TheVariants.{Refused, Short}

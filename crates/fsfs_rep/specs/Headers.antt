@@ -1,8 +1,8 @@
 -- The first line of a representation.
 use Rattle.std.specs.Prelude.{◌≡◌, ℕ, List, [], ◌∷◌, length, take, drop, Result, Ok, if◌then◌else◌, codes}
-use Rattle.fsfs_text.specs.Grammar.{Then, IsText, Mapped, Either, begins}
-use Rattle.fsfs_text.specs.Numeral.{IsNumber, number_at}
-use Rattle.fsfs_text.specs.Reading.{◌>>=◌, text_at}
+use Rattle.fsfs_grammar.specs.Grammar.{Then, IsText, Mapped, Either, begins}
+use Rattle.fsfs_grammar.specs.Numeral.{IsNumber, number_at}
+use Rattle.fsfs_grammar.specs.Reading.{◌>>=◌, text_at}
 use Rattle.fsfs_rep.specs.declared.header.Header.{Header}
 use Rattle.fsfs_rep.specs.declared.header.Header.TheVariants.{Plain, Delta, Other}
 

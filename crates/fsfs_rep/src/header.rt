@@ -1,9 +1,9 @@
 //! The first line of a representation.
-ghost use Rattle.fsfs_text.specs.Reading.{Gives};
+ghost use Rattle.fsfs_grammar.specs.Reading.{Gives};
 ghost use Rattle.fsfs_rep.specs.Headers.{IsHeaderOf, base_line_at, delta_line_at};
 
-use fsfs_text::decimals::decimal;
-use fsfs_text::pieces::text;
+use fsfs_grammar::decimals::decimal;
+use fsfs_grammar::pieces::text;
 
 /// The line that a representation begins with.
 #[derive(Clone, Copy, Debug, PartialEq, Eq)]

@@ -13,8 +13,8 @@ use crate::place::{bad_rep, rep_place};
 use crate::windows::window;
 use fsfs_book::Book;
 use fsfs_damage::{ReadError, RepWhat, Wrong};
+use fsfs_grammar::pieces::text;
 use fsfs_noderev::Rep;
-use fsfs_text::pieces::text;
 
 /// A representation that is being read, from its first byte on. The book is handed to each call, so that it is free
 /// between them; it is to be the same one. Each byte is read and digested once.

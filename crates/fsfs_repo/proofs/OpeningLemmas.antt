@@ -3,9 +3,9 @@ use Rattle.std.proofs.Common.{◌≡◌, ◌≤◌, ◌<◌, ◌+◌, ℕ, zero,
 use Rattle.std.specs.Prelude.{Option, Some, None, IfSome, Result, Ok, Err, IfErr, option_map}
 use Rattle.std.proofs.lemmas.Option.{same_Some}
 use Rattle.fsfs_base.specs.declared.small_fault.SmallFault.{SmallFault}
-use Rattle.fsfs_text.specs.Grammar.{begins}
+use Rattle.fsfs_grammar.specs.Grammar.{begins}
 use Rattle.std.proofs.lemmas.Fmt.{decimal_digit}
-use Rattle.fsfs_text.proofs.Unique.{numeral_decimal}
+use Rattle.fsfs_grammar.proofs.Unique.{numeral_decimal}
 use Rattle.fsfs_disk.specs.Trace.{Trace, FailsAt, FirmNames, Done, Attempted, add_operation, files_now}
 use Rattle.fsfs_layout.specs.Formats.{IsCount, IsFormat}
 use Rattle.fsfs_layout.specs.declared.format_file.Format.TheVariants.{Linear, Sharded, Other}

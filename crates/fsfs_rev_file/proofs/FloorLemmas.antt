@@ -6,9 +6,9 @@ use Rattle.fsfs_base.specs.declared.small_fault.SmallFile.TheVariants.{MinUnpack
 use Rattle.fsfs_base.specs.declared.small_fault.SmallFault.{SmallFault}
 use Rattle.std.proofs.lemmas.List.{take_all, length-append}
 use Rattle.std.proofs.lemmas.Fmt.{length-decimal-le}
-use Rattle.fsfs_text.proofs.Unique.{numeral_decimal}
+use Rattle.fsfs_grammar.proofs.Unique.{numeral_decimal}
 use Rattle.fsfs_base.specs.Files.{Files}
-use Rattle.fsfs_text.proofs.Readers.{all_found, all_again, all_exact}
+use Rattle.fsfs_grammar.proofs.Readers.{all_found, all_again, all_exact}
 use Rattle.fsfs_layout.specs.Reading.{rev_line_at}
 use Rattle.fsfs_layout.specs.Small.{IsRevLine, IsMinUnpackedRev, IsRefusedFile, IsInsideShard, IsMinUnpackedFault}
 use Rattle.fsfs_layout.proofs.Files.{rev_line_reads}

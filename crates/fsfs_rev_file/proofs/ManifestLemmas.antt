@@ -6,8 +6,8 @@ use Rattle.std.proofs.lemmas.Grind.{common_steps}
 use Rattle.fsfs_base.specs.declared.small_fault.SmallFile.{SmallFile}
 use Rattle.fsfs_base.specs.declared.small_fault.SmallFile.TheVariants.{Manifest}
 use Rattle.fsfs_base.specs.declared.small_fault.SmallFault.{SmallFault}
-use Rattle.fsfs_text.specs.Grammar.{GoesOn, IsFaultAt}
-use Rattle.fsfs_text.proofs.Readers.{all_found, all_again, all_exact}
+use Rattle.fsfs_grammar.specs.Grammar.{GoesOn, IsFaultAt}
+use Rattle.fsfs_grammar.proofs.Readers.{all_found, all_again, all_exact}
 use Rattle.fsfs_layout.specs.Small.{IsFaultOf}
 use Rattle.fsfs_layout.specs.Manifest.{IsManifest}
 use Rattle.fsfs_layout.specs.ManifestReading.{manifest_at}

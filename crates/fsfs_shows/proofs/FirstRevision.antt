@@ -6,11 +6,11 @@ use Rattle.std.proofs.lemmas.Bool.{and_parts}
 use Rattle.std.proofs.lemmas.Str.{IsUtf8-from_ascii}
 use Rattle.hex.specs.Hex.{decode_pairs}
 use Rattle.md5.specs.Md5.{block_words, rounds, compress, hash_after, digest_bytes, md5}
-use Rattle.fsfs_text.specs.Reading.{text_at}
-use Rattle.fsfs_text.specs.Numeral.{IsNumeral, value_after, numeral_at, plain_at, number_at, digits_at}
-use Rattle.fsfs_text.specs.Cuts.{Lacks}
-use Rattle.fsfs_text.specs.declared.base36.B36.{B36}
-use Rattle.fsfs_text.proofs.Readers.{all_found}
+use Rattle.fsfs_grammar.specs.Reading.{text_at}
+use Rattle.fsfs_grammar.specs.Numeral.{IsNumeral, value_after, numeral_at, plain_at, number_at, digits_at}
+use Rattle.fsfs_grammar.specs.Cuts.{Lacks}
+use Rattle.fsfs_grammar.specs.declared.base36.B36.{B36}
+use Rattle.fsfs_grammar.proofs.Readers.{all_found}
 use Rattle.fsfs_base.specs.Paths.{Name, Path}
 use Rattle.fsfs_tree.specs.Nodes.{empty_node}
 use Rattle.fsfs_base.specs.declared.kind.Kind.TheVariants.{Dir}

@@ -2,7 +2,7 @@
 use Rattle.std.proofs.Common.{◌≡◌, ℕ, List, [], ◌∷◌, ◌++◌, drop, take, sym, ap, subst, ◌∙◌, append_assoc}
 use Rattle.std.specs.Prelude.{Result, Ok}
 use Rattle.std.specs.List.{flat_map}
-use Rattle.fsfs_text.proofs.Readers.{all_again}
+use Rattle.fsfs_grammar.proofs.Readers.{all_again}
 use Rattle.fsfs_damage.specs.declared.damage.RevOffset.{RevOffset}
 use Rattle.fsfs_damage.specs.Readings.{HasOneAnswer}
 use Rattle.fsfs_damage.proofs.OneAnswer.{and_then_one}

@@ -3,7 +3,7 @@ use Rattle.std.proofs.Common.{◌≡◌, ℕ, List, sym, ◌∙◌}
 use Rattle.fsfs_damage.specs.Readings.{HasOneAnswer}
 use Rattle.fsfs_damage.proofs.OneAnswer.{and_then_one, judged_one}
 use Rattle.fsfs_book.specs.Told.{Look, BytesOf}
-use Rattle.fsfs_text.proofs.Readers.{all_again}
+use Rattle.fsfs_grammar.proofs.Readers.{all_again}
 use Rattle.fsfs_noderev.specs.declared.rep.Rep.{Rep}
 use Rattle.fsfs_hash.specs.Dump.{IsDump}
 use Rattle.fsfs_hash.specs.Reading.{dump_at}

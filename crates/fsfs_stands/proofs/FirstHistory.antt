@@ -4,7 +4,7 @@ use Rattle.std.specs.Prelude.{Option, Some, Ok, codes, slice_get, Contains}
 use Rattle.std.proofs.lemmas.Option.{same_Some}
 use Rattle.std.specs.FinMap.{get, empty, insert, get-empty, get-insert}
 use Rattle.jiff_core.specs.declared.civil.datetime.DateTime.{DateTime}
-use Rattle.fsfs_text.specs.Numeral.{IsNumber, numeral_at, plain_at}
+use Rattle.fsfs_grammar.specs.Numeral.{IsNumber, numeral_at, plain_at}
 use Rattle.fsfs_fields.specs.Dates.{IsDateText}
 use Rattle.fsfs_base.specs.Paths.{Path, path_cmp, path_cmp_total}
 use Rattle.fsfs_tree.specs.Nodes.{Node, empty_node}

@@ -3,8 +3,8 @@ use Rattle.std.proofs.Common.{◌≡◌, ◌≤◌, ℕ, List, [], ◌∷◌, �
 use Rattle.std.specs.Prelude.{Option, Some, Ok, unwrap_or, codes, decimal}
 use Rattle.std.specs.FinMap.{get}
 use Rattle.std.proofs.Math.Nat.{zero-mod, zero-div}
-use Rattle.fsfs_text.specs.Numeral.{IsNumber, IsNumeral, value_after}
-use Rattle.fsfs_text.proofs.Unique.{decimal_plain, numeral_decimal}
+use Rattle.fsfs_grammar.specs.Numeral.{IsNumber, IsNumeral, value_after}
+use Rattle.fsfs_grammar.proofs.Unique.{decimal_plain, numeral_decimal}
 use Rattle.fsfs_base.specs.Files.{Files}
 use Rattle.fsfs_layout.specs.Formats.{IsFormat}
 use Rattle.fsfs_layout.specs.Opening.{text_at}

@@ -3,7 +3,7 @@ use Rattle.std.specs.Prelude.{◌≡◌, ◌≤◌, ℕ, List, [], ◌∷◌, le
 use Rattle.jiff_core.specs.declared.civil.datetime.DateTime.{DateTime}
 use Rattle.fsfs_fields.specs.Dates.{IsDateAt, IsDateText}
 use Rattle.fsfs_base.specs.Files.{Files}
-use Rattle.fsfs_text.specs.Cuts.{Lacks}
+use Rattle.fsfs_grammar.specs.Cuts.{Lacks}
 use Rattle.fsfs_layout.specs.CreatedFiles.{created_files, Holds}
 use Rattle.fsfs_layout.specs.CreatedFiles.{created_over, identifier_text}
 use Rattle.fsfs_stands.specs.FirstHistory.{first_revision}

@@ -1,5 +1,5 @@
 //! Numbers at the edges of their grammars.
-use fsfs_text::{B36, next_b36, read_b36, read_dec, write_b36, write_dec};
+use fsfs_grammar::{B36, next_b36, read_b36, read_dec, write_b36, write_dec};
 use std::alloc::{AllocError, Global};
 use std::test::Fail;
 

@@ -9,14 +9,14 @@ use Rattle.fsfs_faults.specs.declared.fault.Fault.{Fault}
 use Rattle.fsfs_faults.specs.declared.fault.Fault.TheVariants.{Memory}
 use Rattle.fsfs_places.specs.declared.create_fault.CreateFault.TheVariants as create
 use Rattle.fsfs_places.specs.declared.open_fault.OpenFault.TheVariants as opening
-use Rattle.fsfs_words.specs.Words.{Asked, asked, asked_by, taken, create_asked, shard_in, repos_in}
-use Rattle.fsfs_words.specs.Words as said
-use Rattle.fsfs_words.specs.Commands.{create_app}
-use Rattle.fsfs_words.specs.Readings.{IsPathGiven, path_word}
-use Rattle.fsfs_words.specs.declared.tool.Tool.{Tool}
-use Rattle.fsfs_words.specs.declared.tool.Tool.TheVariants.{Admin, Look, Jobs}
-use Rattle.fsfs_words.specs.declared.verb.Verb.TheVariants as verb
-use Rattle.fsfs_words.specs.declared.fault.WordsFault.TheVariants as words
+use Rattle.fsfs_cli.specs.Words.{Asked, asked, asked_by, taken, create_asked, shard_in, repos_in}
+use Rattle.fsfs_cli.specs.Words as said
+use Rattle.fsfs_cli.specs.Commands.{create_app}
+use Rattle.fsfs_cli.specs.Readings.{IsPathGiven, path_word}
+use Rattle.fsfs_cli.specs.declared.tool.Tool.{Tool}
+use Rattle.fsfs_cli.specs.declared.tool.Tool.TheVariants.{Admin, Look, Jobs}
+use Rattle.fsfs_cli.specs.declared.verb.Verb.TheVariants as verb
+use Rattle.fsfs_cli.specs.declared.fault.WordsFault.TheVariants as words
 use Rattle.fsfs_top.specs.Command.{asked_shown, AsksCreate, AsksShown, AsksPrinted, AsksLook, Drawn, Created, Did}
 use Rattle.fsfs_top.specs.Looks.{PrintsShown, PrintsLook, ShownIsDecided, LookIsDecided}
 use Rattle.fsfs_top.specs.declared.look.Printed.{Printed}

@@ -16,16 +16,16 @@ use Rattle.fsfs_answers.specs.Answers.{Reply, Found, Stands, Lacking, Blocked, f
 use Rattle.fsfs_damage.specs.Damages.{place_of}
 use Rattle.fsfs_damage.specs.declared.wrong.Wrong.TheVariants as wrongs
 use Rattle.fsfs_stands.specs.Files.{StandsFor}
-use Rattle.fsfs_texts.specs.ByTree.{IsTreeOf, IsFileOf, IsContent, IsNotFoundAt, IsNotDirAt, AreShownIds}
-use Rattle.fsfs_texts.specs.Texts.{End, Whole, Refused, Stopped}
-use Rattle.fsfs_texts.specs.TreeTexts.{TreeText}
-use Rattle.fsfs_texts.specs.FileTexts.{FileText}
-use Rattle.fsfs_texts.specs.declared.look_fault.LookFault.{LookFault}
-use Rattle.fsfs_texts.specs.declared.look_fault.LookFault.TheVariants as faults
-use Rattle.fsfs_texts.proofs.TreeByTree.{trees_by_tree}
-use Rattle.fsfs_texts.proofs.FileByTree.{files_by_tree}
-use Rattle.fsfs_words.specs.declared.tool.Tool.{Tool}
-use Rattle.fsfs_words.specs.declared.tool.Tool.TheVariants.{Look}
+use Rattle.fsfs_printed.specs.ByTree.{IsTreeOf, IsFileOf, IsContent, IsNotFoundAt, IsNotDirAt, AreShownIds}
+use Rattle.fsfs_printed.specs.Texts.{End, Whole, Refused, Stopped}
+use Rattle.fsfs_printed.specs.TreeTexts.{TreeText}
+use Rattle.fsfs_printed.specs.FileTexts.{FileText}
+use Rattle.fsfs_printed.specs.declared.look_fault.LookFault.{LookFault}
+use Rattle.fsfs_printed.specs.declared.look_fault.LookFault.TheVariants as faults
+use Rattle.fsfs_printed.proofs.TreeByTree.{trees_by_tree}
+use Rattle.fsfs_printed.proofs.FileByTree.{files_by_tree}
+use Rattle.fsfs_cli.specs.declared.tool.Tool.{Tool}
+use Rattle.fsfs_cli.specs.declared.tool.Tool.TheVariants.{Look}
 use Rattle.fsfs_top.proofs.ReplyLemmas.{Fits}
 
 abbrev LookFits : Path → Reply → List ℕ → End → Type 0

@@ -20,16 +20,16 @@ use Rattle.fsfs_layout.specs.declared.opened.Opened.{Opened}
 use Rattle.fsfs_places.specs.declared.open_fault.OpenFault.{OpenFault}
 use Rattle.fsfs_places.specs.declared.open_fault.OpenFault.TheVariants as opening
 use Rattle.fsfs_places.specs.declared.place.DiskPlace.TheVariants.{Read}
-use Rattle.fsfs_texts.specs.Texts.{End, Whole, Refused}
-use Rattle.fsfs_texts.specs.declared.look_fault.LookFault.{LookFault}
-use Rattle.fsfs_texts.specs.declared.look_fault.LookFault.TheVariants as refusal
+use Rattle.fsfs_printed.specs.Texts.{End, Whole, Refused}
+use Rattle.fsfs_printed.specs.declared.look_fault.LookFault.{LookFault}
+use Rattle.fsfs_printed.specs.declared.look_fault.LookFault.TheVariants as refusal
 use Rattle.fsfs_top.specs.Looks.{TextOf, TextIn, looked_revision, LacksRevision, IsFaultOf, LooksInto, DoesNotOpen, IsOutside, Agrees, DecidesOpening, DecidesShown, DecidesLook, ShownIsDecided, LookIsDecided}
 use Rattle.fsfs_top.specs.declared.look.RevisionLook.{RevisionLook}
 use Rattle.fsfs_top.specs.declared.look.Printed.{Printed}
 use Rattle.fsfs_top.specs.declared.look.Printed.TheVariants.{Tree, Text}
-use Rattle.fsfs_texts.specs.Agreeing.{HasOneText}
-use Rattle.fsfs_texts.proofs.OneText.{tree_one, file_one}
-use Rattle.fsfs_texts.proofs.Prefixes.{whole_or_refused, refusals_same}
+use Rattle.fsfs_printed.specs.Agreeing.{HasOneText}
+use Rattle.fsfs_printed.proofs.OneText.{tree_one, file_one}
+use Rattle.fsfs_printed.proofs.Prefixes.{whole_or_refused, refusals_same}
 
 -- ---- failures of the outside
 

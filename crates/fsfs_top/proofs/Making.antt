@@ -16,8 +16,8 @@ use Rattle.fsfs_stands.proofs.NewRepository.{new_repositories_stand}
 use Rattle.fsfs_top.specs.Command.{Created, Did, identifier_of}
 use Rattle.fsfs_top.specs.Replies.{MadeStands}
 use Rattle.fsfs_top.proofs.AskLemmas.{did_create}
-use Rattle.fsfs_words.specs.declared.tool.Tool.{Tool}
-use Rattle.fsfs_words.proofs.CreateLemmas.{creates_by_admin}
+use Rattle.fsfs_cli.specs.declared.tool.Tool.{Tool}
+use Rattle.fsfs_cli.proofs.CreateLemmas.{creates_by_admin}
 
 -- the files that are told are made of others
 made_of : (f : Files → Files) (old : Option Files) (m : Files) → ◌≡◌ {A = Option Files} (Some m) (option_map f old) → (was : Files) × (m ≡ f was)

@@ -9,8 +9,8 @@ use Rattle.fsfs_base.specs.PathTexts.{HasNoSlash, IsName, IsPath, IsNameFault, H
 use Rattle.fsfs_base.specs.declared.bad_path.PathFault.{PathFault}
 use Rattle.fsfs_base.specs.declared.bad_path.PathFault.TheVariants.{NotAbsolute, PathTooLong, TooDeep, EmptyName, Control, NameTooLong, Dot}
 use Rattle.fsfs_base.proofs.PathTextLemmas.{names_text_injective, root_only, absolute}
-use Rattle.fsfs_words.specs.Grammars.{path_meant, IsPathOf}
-use Rattle.fsfs_words.specs.Readings.{IsPathGiven}
+use Rattle.fsfs_cli.specs.Grammars.{path_meant, IsPathOf}
+use Rattle.fsfs_cli.specs.Readings.{IsPathGiven}
 
 -- ---- a path by its text
 

@@ -31,8 +31,8 @@ use Rattle.fsfs_stands.specs.Files.{StandsFor}
 use Rattle.fsfs_layout.specs.declared.opened.Opened.{Opened}
 use Rattle.fsfs_places.specs.declared.open_fault.OpenFault.{OpenFault}
 use Rattle.fsfs_places.specs.declared.open_fault.OpenFault.TheVariants as opening
-use Rattle.fsfs_texts.specs.Agreeing.{IsFront}
-use Rattle.fsfs_texts.specs.Texts.{End, Whole, Refused, Stopped}
+use Rattle.fsfs_printed.specs.Agreeing.{IsFront}
+use Rattle.fsfs_printed.specs.Texts.{End, Whole, Refused, Stopped}
 use Rattle.fsfs_top.specs.Answers.{answer_of, shown_line}
 use Rattle.fsfs_top.specs.Command.{Created, Tells}
 use Rattle.fsfs_top.specs.Looks.{TextOf, TextIn, looked_revision, IsFaultOf, PrintsShown, PrintsLook}
@@ -41,7 +41,7 @@ use Rattle.fsfs_top.specs.declared.look.RevisionLook.{RevisionLook}
 use Rattle.fsfs_top.specs.declared.output.Shown.{Shown}
 use Rattle.fsfs_layout.proofs.OpeningLemmas.{one_youngest, one_shard}
 use Rattle.fsfs_top.proofs.LookLemmas.{same_text, look_or_memory}
-use Rattle.fsfs_words.specs.declared.tool.Tool.{Tool}
+use Rattle.fsfs_cli.specs.declared.tool.Tool.{Tool}
 
 -- ---- first parts
 

@@ -24,7 +24,7 @@ use Rattle.fsfs_layout.specs.declared.opened.Opened.{Opened}
 use Rattle.fsfs_stands.specs.Files.{StandsFor}
 use Rattle.fsfs_stands.specs.NewRepository.{HoldsNew}
 use Rattle.fsfs_stands.proofs.NewRepository.{new_repositories_stand}
-use Rattle.fsfs_texts.specs.ByTree.{AreShownIds}
+use Rattle.fsfs_printed.specs.ByTree.{AreShownIds}
 use Rattle.fsfs_top.specs.Answers.{answer_of, revision_line, uuid_line, shown_line}
 use Rattle.fsfs_top.specs.Command.{AsksCreate, AsksShown, AsksPrinted, Created, Did, Tells}
 use Rattle.fsfs_top.specs.Looks.{PrintsShown, PrintsLook}
@@ -38,9 +38,9 @@ use Rattle.fsfs_top.proofs.AskLemmas.{did_look, did_shown, printed_by_look, show
 use Rattle.fsfs_layout.proofs.OpeningLemmas.{one_youngest, same_uuid}
 use Rattle.fsfs_top.proofs.FlatLemmas.{tree_is_by_tree, file_is_by_tree, no_rev_line}
 use Rattle.fsfs_top.proofs.ReplyLemmas.{last_is, given_shown, given_look, no_shown, no_look, Fits, given_create, given_again}
-use Rattle.fsfs_words.specs.declared.tool.Tool.{Tool}
-use Rattle.fsfs_words.specs.declared.tool.Tool.TheVariants.{Admin, Look}
-use Rattle.fsfs_words.proofs.CreateLemmas.{creates_by_admin}
+use Rattle.fsfs_cli.specs.declared.tool.Tool.{Tool}
+use Rattle.fsfs_cli.specs.declared.tool.Tool.TheVariants.{Admin, Look}
+use Rattle.fsfs_cli.proofs.CreateLemmas.{creates_by_admin}
 
 -- the revision that is printed is the one that the files name
 youngest_text : (m : Files) (o : Opened) (h : List Revision) → IsOpened (small_texts m) o → last_of h ≡ o.youngest → (p : Opened) → IsOpened (small_texts m) p → shown_line Youngest p ≡ decimal (last_of h) ++ codes "\n"

@@ -12,12 +12,12 @@ use Rattle.fsfs_layout.specs.CreatedFiles.{identifier_text, random_identifier}
 use Rattle.fsfs_streams.specs.Output.{AddsFront}
 use Rattle.fsfs_create.specs.Creation.{CreateFails, IsCreated, IsNoneOrWhole, IsNoRepository}
 use Rattle.fsfs_places.specs.declared.create_fault.CreateFault.{CreateFault}
-use Rattle.fsfs_words.specs.Words as said
-use Rattle.fsfs_words.specs.Words.{Asked, asked}
-use Rattle.fsfs_words.specs.Grammars.{IsPathOf}
-use Rattle.fsfs_words.specs.Readings.{IsPathGiven, Refuses}
-use Rattle.fsfs_words.specs.declared.fault.WordsFault.{WordsFault}
-use Rattle.fsfs_words.specs.declared.tool.Tool.{Tool}
+use Rattle.fsfs_cli.specs.Words as said
+use Rattle.fsfs_cli.specs.Words.{Asked, asked}
+use Rattle.fsfs_cli.specs.Grammars.{IsPathOf}
+use Rattle.fsfs_cli.specs.Readings.{IsPathGiven, Refuses}
+use Rattle.fsfs_cli.specs.declared.fault.WordsFault.{WordsFault}
+use Rattle.fsfs_cli.specs.declared.tool.Tool.{Tool}
 use Rattle.fsfs_top.specs.Looks.{PrintsShown, PrintsLook, ShownIsDecided, LookIsDecided}
 use Rattle.fsfs_top.specs.declared.look.Printed.{Printed}
 use Rattle.fsfs_top.specs.declared.look.Printed.TheVariants.{Tree, Text}

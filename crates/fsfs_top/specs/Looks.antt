@@ -21,10 +21,10 @@ use Rattle.fsfs_layout.specs.declared.opened.Opened.{Opened}
 use Rattle.fsfs_places.specs.declared.open_fault.OpenFault.{OpenFault}
 use Rattle.fsfs_places.specs.declared.place.DiskPlace.{DiskPlace}
 use Rattle.fsfs_places.specs.declared.place.DiskPlace.TheVariants.{Read}
-use Rattle.fsfs_texts.specs.Texts.{End, Whole, Refused}
-use Rattle.fsfs_texts.specs.TreeTexts.{TreeText}
-use Rattle.fsfs_texts.specs.FileTexts.{FileText}
-use Rattle.fsfs_texts.specs.declared.look_fault.LookFault.{LookFault}
+use Rattle.fsfs_printed.specs.Texts.{End, Whole, Refused}
+use Rattle.fsfs_printed.specs.TreeTexts.{TreeText}
+use Rattle.fsfs_printed.specs.FileTexts.{FileText}
+use Rattle.fsfs_printed.specs.declared.look_fault.LookFault.{LookFault}
 use Rattle.fsfs_top.specs.Answers.{shown_line}
 use Rattle.fsfs_top.specs.declared.look.Printed.{Printed}
 use Rattle.fsfs_top.specs.declared.look.Printed.TheVariants.{Tree, Text}

@@ -16,11 +16,11 @@ use Rattle.fsfs_layout.specs.Opening.{small_texts, IsOpened, IsNone}
 use Rattle.fsfs_layout.specs.declared.opened.Opened.{Opened}
 use Rattle.fsfs_stands.specs.Files.{StandsFor}
 use Rattle.fsfs_stands.specs.NewRepository.{HoldsNew}
-use Rattle.fsfs_texts.specs.ByTree.{AreShownIds}
+use Rattle.fsfs_printed.specs.ByTree.{AreShownIds}
 use Rattle.fsfs_top.specs.Command.{AsksCreate, AsksShown, AsksPrinted}
 use Rattle.fsfs_top.specs.declared.look.Printed.TheVariants.{Tree, Text}
 use Rattle.fsfs_top.specs.declared.output.Shown.TheVariants.{Youngest, Uuid}
-use Rattle.fsfs_words.specs.declared.tool.Tool.{Tool}
+use Rattle.fsfs_cli.specs.declared.tool.Tool.{Tool}
 
 -- the whole of this reply was given; where the error output failed, a first part of its line
 abbrev pub GivesWhole : Reply → ℕ → Type 0 → Option (List ℕ) → Option (List ℕ) → Option (List ℕ) → Option (List ℕ) → Type 0

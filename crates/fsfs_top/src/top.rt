@@ -13,12 +13,12 @@ ghost use Rattle.fsfs_faults.specs.declared.fault.Fault.{Fault};
 
 use crate::look::{Printed, RevisionLook, look_at};
 use crate::output::{Shown, print_shown};
+use fsfs_cli::{CatOrder, Order, Tool, TreeOrder, read_words};
 use fsfs_create::create;
 use fsfs_disk::Host;
 use fsfs_faults::{Fault, print_fault, status};
 use fsfs_repo::open;
 use fsfs_streams::{Clock, Dice, Gate, Sink, Source};
-use fsfs_words::{CatOrder, Order, Tool, TreeOrder, read_words};
 use std::alloc::Global;
 use uuid::Builder;
 

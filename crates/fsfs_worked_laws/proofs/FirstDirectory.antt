@@ -5,9 +5,9 @@ use Rattle.std.specs.List.{slice_index}
 use Rattle.std.proofs.lemmas.Str.{IsUtf8-from_ascii}
 use Rattle.hex.specs.Hex.{decode_pairs}
 use Rattle.md5.specs.Md5.{block_words, rounds, compress, hash_after, digest_bytes, md5}
-use Rattle.fsfs_text.specs.Reading.{text_at, until_at}
-use Rattle.fsfs_text.specs.Numeral.{numeral_at, plain_at, number_at, digits_at}
-use Rattle.fsfs_text.proofs.Readers.{all_found}
+use Rattle.fsfs_grammar.specs.Reading.{text_at, until_at}
+use Rattle.fsfs_grammar.specs.Numeral.{numeral_at, plain_at, number_at, digits_at}
+use Rattle.fsfs_grammar.proofs.Readers.{all_found}
 use Rattle.fsfs_base.specs.Paths.{Name, Path, same_name}
 use Rattle.fsfs_base.specs.PathTexts.{IsName}
 use Rattle.fsfs_base.specs.declared.kind.Kind.TheVariants.{Dir}

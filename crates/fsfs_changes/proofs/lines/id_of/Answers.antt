@@ -1,4 +1,4 @@
-use Rattle.fsfs_text.proofs.Spelling.{spelled_back}
+use Rattle.fsfs_grammar.proofs.Spelling.{spelled_back}
 use Rattle.fsfs_noderev.specs.Ids.{id_value}
 use Rattle.fsfs_noderev.proofs.IdTexts.{id_spells}
 use Rattle.fsfs_changes.proofs.lines.id_of.Goals as goal

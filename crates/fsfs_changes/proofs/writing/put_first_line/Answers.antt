@@ -1,4 +1,4 @@
-use Rattle.fsfs_text.proofs.Appending.{appends_cut, appends_as}
+use Rattle.fsfs_grammar.proofs.Appending.{appends_cut, appends_as}
 use Rattle.fsfs_noderev.specs.Fields.{IsIdText}
 use Rattle.fsfs_changes.proofs.writing.put_first_line.Goals as goal
 

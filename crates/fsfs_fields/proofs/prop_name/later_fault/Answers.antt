@@ -1,5 +1,5 @@
 use Rattle.std.proofs.Common.{◌≡◌, ◌+◌, ◌<◌, ◌∷◌, suc, length, sym, subst, arith, ℕ, List}
-use Rattle.fsfs_text.specs.Grammar.{IsFaultAt}
+use Rattle.fsfs_grammar.specs.Grammar.{IsFaultAt}
 use Rattle.fsfs_fields.specs.PropNames.{PropNameText, IsPropName}
 use Rattle.fsfs_fields.proofs.PropNameTexts.{good_none, good_some, whole_name, later_fault, not_a_name}
 use Rattle.fsfs_fields.proofs.prop_name.later_fault.Goals as goal

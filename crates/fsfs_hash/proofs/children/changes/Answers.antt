@@ -2,7 +2,7 @@ use Rattle.std.proofs.Common.{◌≡◌, ◌++◌, ◌∷◌, [], suc, length, s
 use Rattle.std.specs.Prelude.{option_map}
 use Rattle.std.proofs.lemmas.Result.{err_from_is_err_and}
 use Rattle.std.proofs.lemmas.List.{map_push}
-use Rattle.fsfs_text.specs.Reading.{many_at}
+use Rattle.fsfs_grammar.specs.Reading.{many_at}
 use Rattle.fsfs_hash.specs.Reading.{change_views}
 use Rattle.fsfs_hash.specs.Children.{change_at}
 use Rattle.fsfs_hash.proofs.ManyLoops.{many_more, many_fault, many_end, many_out}

@@ -1,5 +1,5 @@
 use Rattle.std.proofs.Common.{◌≡◌, ◌-◌, suc, length}
-use Rattle.fsfs_text.specs.Reading.{many_at}
+use Rattle.fsfs_grammar.specs.Reading.{many_at}
 use Rattle.fsfs_hash.specs.Reading.{change_views}
 use Rattle.fsfs_hash.specs.Children.{change_at}
 use Rattle.fsfs_hash.proofs.ManyLoops.{with_all}

@@ -1,8 +1,8 @@
 use Rattle.std.proofs.Common.{◌≡◌, ℕ, ◌++◌, ◌∷◌, [], List, suc, length, sym, ◌∙◌, arith}
 use Rattle.std.proofs.lemmas.Result.{err_from_is_err_and}
 use Rattle.std.proofs.lemmas.List.{map_push}
-use Rattle.fsfs_text.specs.Reading.{text_at}
-use Rattle.fsfs_text.proofs.Loops.{until_more, until_fault, until_end, until_end_fault, until_out}
+use Rattle.fsfs_grammar.specs.Reading.{text_at}
+use Rattle.fsfs_grammar.proofs.Loops.{until_more, until_fault, until_end, until_end_fault, until_out}
 use Rattle.fsfs_hash.specs.Reading.{views, entry_at, entries_at}
 use Rattle.fsfs_hash.proofs.dump.entries.Goals as goal
 

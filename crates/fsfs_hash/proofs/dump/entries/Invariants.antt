@@ -1,6 +1,6 @@
 use Rattle.std.proofs.Common.{◌≡◌, ◌-◌, suc, length}
 use Rattle.fsfs_hash.specs.Reading.{entries_at, views}
-use Rattle.fsfs_text.proofs.Loops.{with_front}
+use Rattle.fsfs_grammar.proofs.Loops.{with_front}
 use Rattle.fsfs_hash.proofs.dump.entries.Given as goal
 
 abbrev pub invariant-loop : goal.invariant-loop

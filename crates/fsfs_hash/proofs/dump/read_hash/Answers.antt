@@ -1,5 +1,5 @@
 use Rattle.std.proofs.Common.{sym, ◌∙◌, arith}
-use Rattle.fsfs_text.proofs.Readers.{all_found, all_again, all_exact, ok_is}
+use Rattle.fsfs_grammar.proofs.Readers.{all_found, all_again, all_exact, ok_is}
 use Rattle.fsfs_hash.proofs.Dumps.{no_fault}
 use Rattle.fsfs_hash.specs.Reading.{dump_at}
 use Rattle.fsfs_hash.proofs.Dumps.{dump_reads}

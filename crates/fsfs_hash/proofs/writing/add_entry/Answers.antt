@@ -1,5 +1,5 @@
 use Rattle.std.proofs.Common.{List, ℕ}
-use Rattle.fsfs_text.proofs.Readers.{appends_then, appends_mapped}
+use Rattle.fsfs_grammar.proofs.Readers.{appends_then, appends_mapped}
 use Rattle.fsfs_hash.proofs.ManyLoops.{children_put}
 use Rattle.fsfs_hash.proofs.writing.add_entry.Goals as goal
 

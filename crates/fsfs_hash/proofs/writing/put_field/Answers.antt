@@ -1,5 +1,5 @@
 use Rattle.std.proofs.Common.{◌∷◌, [], refl, length}
-use Rattle.fsfs_text.proofs.Readers.{appends_then, appends_mapped, appends_text, appends_bytes}
+use Rattle.fsfs_grammar.proofs.Readers.{appends_then, appends_mapped, appends_text, appends_bytes}
 use Rattle.fsfs_hash.proofs.writing.put_field.Goals as goal
 
 pub returns : goal.returns

@@ -1,7 +1,7 @@
 use Rattle.std.proofs.Common.{◌≡◌, ◌++◌, ◌∷◌, [], refl, sym, ap, subst, ◌∙◌, append_assoc, List, ℕ, map}
 use Rattle.std.specs.Map.Iter.{deref_pair}
 use Rattle.std.proofs.lemmas.Map.Iter.{rest_more, rest_all}
-use Rattle.fsfs_text.proofs.Readers.{appends_then, appends_mapped}
+use Rattle.fsfs_grammar.proofs.Readers.{appends_then, appends_mapped}
 use Rattle.fsfs_hash.specs.Dump.{Entries, Entry, put_all}
 use Rattle.fsfs_hash.proofs.PutPairs.{pair_of, pairs_of, ascending, put_all-ascending}
 use Rattle.fsfs_hash.proofs.writing.write_hash.Goals as goal

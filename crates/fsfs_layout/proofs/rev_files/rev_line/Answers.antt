@@ -1,5 +1,5 @@
 use Rattle.std.proofs.Common.{length, suc, arith}
-use Rattle.fsfs_text.proofs.Numerals.{number_reads}
+use Rattle.fsfs_grammar.proofs.Numerals.{number_reads}
 use Rattle.fsfs_layout.proofs.rev_files.rev_line.Goals as goal
 
 pub overflow_cast-result : goal.overflow_cast-result

@@ -4,7 +4,7 @@ use Rattle.fsfs_rep.specs.Frames.{rev_of}
 use Rattle.fsfs_book.proofs.Keeping.{keeps_trans}
 use Rattle.fsfs_dag.specs.Views.{home_of}
 use Rattle.fsfs_dag.proofs.Reps.{rep_le}
-use Rattle.fsfs_texts.specs.FileTexts.{MetFileText, FileText}
+use Rattle.fsfs_printed.specs.FileTexts.{MetFileText, FileText}
 use Rattle.fsfs_look.specs.Written.{Writes}
 use Rattle.fsfs_look.specs.declared.look_error.LookError.{LookError}
 use Rattle.fsfs_look.proofs.EndLemmas.{none_met}

@@ -1,6 +1,6 @@
 use Rattle.std.proofs.Common.{refl, sym, subst, arith}
-use Rattle.fsfs_text.specs.Grammar.{Appends}
-use Rattle.fsfs_text.proofs.Appending.{appends_marked}
+use Rattle.fsfs_grammar.specs.Grammar.{Appends}
+use Rattle.fsfs_grammar.proofs.Appending.{appends_marked}
 use Rattle.fsfs_fields.proofs.TxnNameTexts.{appends_txn}
 use Rattle.fsfs_noderev.specs.Ids.{In, place_value, IsPlace}
 use Rattle.fsfs_noderev.specs.declared.node_id.Place.{Place}

@@ -1,5 +1,5 @@
 use Rattle.std.proofs.Common.{sym, arith}
-use Rattle.fsfs_text.proofs.Numerals.{numeral_found}
+use Rattle.fsfs_grammar.proofs.Numerals.{numeral_found}
 use Rattle.fsfs_noderev.proofs.node_id.rev_of.Goals as goal
 
 pub overflow_cast-result : goal.overflow_cast-result

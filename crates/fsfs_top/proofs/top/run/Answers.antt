@@ -1,8 +1,8 @@
 use Rattle.std.proofs.Common.{◌≡◌, map, rules}
 use Rattle.std.specs.Prelude.{Some, string_bytes}
-use Rattle.fsfs_words.specs.Words as said
-use Rattle.fsfs_words.specs.Words.{asked}
-use Rattle.fsfs_words.proofs.CreateLemmas.{creates_by_admin}
+use Rattle.fsfs_cli.specs.Words as said
+use Rattle.fsfs_cli.specs.Words.{asked}
+use Rattle.fsfs_cli.proofs.CreateLemmas.{creates_by_admin}
 use Rattle.fsfs_top.proofs.CommandLemmas.{same_files}
 use Rattle.fsfs_top.proofs.top.run.Goals as goal
 

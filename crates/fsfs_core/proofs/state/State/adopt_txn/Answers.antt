@@ -2,8 +2,8 @@
 use Rattle.std.proofs.Common.{◌≡◌, ◌<◌, ◌∙◌, length, Some, sym, ap, refl, arith}
 use Rattle.std.proofs.lemmas.Option.{slice_get-get_or}
 use Rattle.std.specs.Prelude.{slice_get}
-use Rattle.fsfs_world.specs.declared.machine.Coming.{Coming}
-use Rattle.fsfs_world.specs.Machine.{without_place}
+use Rattle.fsfs_machine.specs.declared.machine.Coming.{Coming}
+use Rattle.fsfs_machine.specs.Machine.{without_place}
 use Rattle.fsfs_core.specs.State.{world_of}
 use Rattle.fsfs_core.proofs.Calling.{adopts_none, adopts_some}
 use Rattle.fsfs_core.proofs.state.State.adopt_txn.Goals as goal

@@ -1,6 +1,6 @@
 -- The call goes on where it was due.
 use Rattle.std.proofs.Common.{◌≡◌, ◌∙◌, sym, true, Some}
-use Rattle.fsfs_world.specs.Machine.{is_due, due}
+use Rattle.fsfs_machine.specs.Machine.{is_due, due}
 use Rattle.fsfs_core.specs.State.{world_of}
 use Rattle.fsfs_core.proofs.Calling.{call_goes_on}
 use Rattle.fsfs_core.proofs.state.State.call.Goals as goal

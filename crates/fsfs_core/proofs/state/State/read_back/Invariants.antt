@@ -1,6 +1,6 @@
 use Rattle.std.proofs.Common.{◌≡◌}
 use Rattle.std.specs.Prelude.{Some}
-use Rattle.fsfs_world.specs.Machine.{read_back}
+use Rattle.fsfs_machine.specs.Machine.{read_back}
 use Rattle.fsfs_core.proofs.state.State.read_back.Given as goal
 
 abbrev pub invariant-loop-rev : goal.invariant-loop-rev

@@ -1,7 +1,7 @@
 -- At the end no step is left, so the invariant speaks of all outcomes.
 use Rattle.std.proofs.Common.{◌≡◌, ◌++◌, [], length, refl, subst, sym, append-nil, arith}
 use Rattle.std.proofs.lemmas.List.{nil_from_length}
-use Rattle.fsfs_world.specs.Machine.{Runs}
+use Rattle.fsfs_machine.specs.Machine.{Runs}
 use Rattle.fsfs_core.specs.State.{world_of}
 use Rattle.fsfs_core.proofs.state.State.run_all.Goals as goal
 

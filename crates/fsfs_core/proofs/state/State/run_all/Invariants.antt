@@ -1,6 +1,6 @@
 use Rattle.std.proofs.Common.{◌++◌, List, length}
-use Rattle.fsfs_world.specs.declared.machine.Outcome.{Outcome}
-use Rattle.fsfs_world.specs.Machine.{World, Runs}
+use Rattle.fsfs_machine.specs.declared.machine.Outcome.{Outcome}
+use Rattle.fsfs_machine.specs.Machine.{World, Runs}
 use Rattle.fsfs_core.specs.State.{world_of}
 use Rattle.fsfs_core.proofs.state.State.run_all.Given as goal
 

@@ -1,5 +1,5 @@
 use Rattle.std.proofs.Common.{sym, arith}
-use Rattle.fsfs_text.proofs.Numerals.{numeral_found}
+use Rattle.fsfs_grammar.proofs.Numerals.{numeral_found}
 use Rattle.fsfs_fields.specs.RevNums.{last_rev}
 use Rattle.fsfs_fields.proofs.rev_num.RevNum.plain.Goals as goal
 

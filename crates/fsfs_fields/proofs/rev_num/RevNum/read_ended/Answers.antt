@@ -1,5 +1,5 @@
 use Rattle.std.proofs.Common.{arith}
-use Rattle.fsfs_text.proofs.Numerals.{number_fits}
+use Rattle.fsfs_grammar.proofs.Numerals.{number_fits}
 use Rattle.fsfs_fields.specs.RevNums.{last_rev}
 use Rattle.fsfs_fields.proofs.rev_num.RevNum.read_ended.Goals as goal
 

@@ -1,0 +1,53 @@
+-- Each command's required arguments have values.
+use Rattle.std.proofs.Common.{◌≡◌, ◌<◌, List, [], ◌∷◌, length, map, true, refl, arith, codes}
+use Rattle.clap.specs.Built.{AddsArg, FitsChain}
+use Rattle.clap.specs.declared.builder.arg.Arg.{Arg}
+use Rattle.clap.specs.declared.builder.command.Command.{Command}
+use Rattle.fsfs_cli.specs.Chains.{Fits, NeedsValue, IsChain, HasValue}
+use Rattle.fsfs_cli.proofs.ChainLemmas.{chain_more, all_apart, all_none, all_more, fits_chain, has_value, own_repos, own_path, own_shard, own_revision, own_show_ids}
+
+pub look_repos : (c : Command) (repos : Arg) → NeedsValue (codes "REPOS") repos → IsChain (repos ∷ []) c → HasValue (codes "REPOS") c
+look_repos c repos r chain =
+    let apart : all_apart (map (λ (a : Arg). a.id.now) (repos ∷ [])) ≡ true = refl in
+    has_value c (repos ∷ []) 0 repos (codes "REPOS") chain (all_more FitsChain repos [] (fits_chain (codes "REPOS") repos own_repos r.fits) (all_none FitsChain)) apart (omega arith) r.value r.fits.id
+
+pub create_repos : (c d : Command) (repos shard : Arg) → NeedsValue (codes "REPOS") repos → Fits (codes "shard") shard → IsChain (repos ∷ []) c → AddsArg c shard d → HasValue (codes "REPOS") d
+create_repos c d repos shard r s chain added =
+    let apart : all_apart (map (λ (a : Arg). a.id.now) (repos ∷ shard ∷ [])) ≡ true = rw (r.fits.id, s.id) refl in
+    has_value d (repos ∷ shard ∷ []) 0 repos (codes "REPOS") (chain_more c d (repos ∷ []) shard chain added)
+    (all_more FitsChain repos (shard ∷ []) (fits_chain (codes "REPOS") repos own_repos r.fits)
+    (all_more FitsChain shard [] (fits_chain (codes "shard") shard own_shard s) (all_none FitsChain))) apart (omega arith) r.value r.fits.id
+
+pub tree_repos : (c1 c2 c3 c4 : Command) (repos path revision ids : Arg) → NeedsValue (codes "REPOS") repos → Fits (codes "PATH") path → Fits (codes "revision") revision → Fits (codes "show-ids") ids
+    → IsChain (repos ∷ []) c1 → AddsArg c1 path c2 → AddsArg c2 revision c3 → AddsArg c3 ids c4 → HasValue (codes "REPOS") c4
+tree_repos c1 c2 c3 c4 repos path revision ids r p v i chain a b c =
+    let apart : all_apart (map (λ (a : Arg). a.id.now) (repos ∷ path ∷ revision ∷ ids ∷ [])) ≡ true = rw (r.fits.id, p.id, v.id, i.id) refl in
+    let two = chain_more c1 c2 (repos ∷ []) path chain a in
+    let three = chain_more c2 c3 (repos ∷ path ∷ []) revision two b in
+    has_value c4 (repos ∷ path ∷ revision ∷ ids ∷ []) 0 repos (codes "REPOS") (chain_more c3 c4 (repos ∷ path ∷ revision ∷ []) ids three c)
+    (all_more FitsChain repos (path ∷ revision ∷ ids ∷ []) (fits_chain (codes "REPOS") repos own_repos r.fits)
+    (all_more FitsChain path (revision ∷ ids ∷ []) (fits_chain (codes "PATH") path own_path p)
+    (all_more FitsChain revision (ids ∷ []) (fits_chain (codes "revision") revision own_revision v)
+    (all_more FitsChain ids [] (fits_chain (codes "show-ids") ids own_show_ids i) (all_none FitsChain))))) apart (omega arith) r.value r.fits.id
+
+cat_chain : (c1 c2 c3 : Command) (repos path revision : Arg) → IsChain (repos ∷ []) c1 → AddsArg c1 path c2 → AddsArg c2 revision c3 → IsChain (repos ∷ path ∷ revision ∷ []) c3
+cat_chain c1 c2 c3 repos path revision chain a b = chain_more c2 c3 (repos ∷ path ∷ []) revision (chain_more c1 c2 (repos ∷ []) path chain a) b
+
+cat_apart : (repos path revision : Arg) → NeedsValue (codes "REPOS") repos → NeedsValue (codes "PATH") path → Fits (codes "revision") revision → all_apart (map (λ (a : Arg). a.id.now) (repos ∷ path ∷ revision ∷ [])) ≡ true
+cat_apart repos path revision r p v = rw (r.fits.id, p.fits.id, v.id) refl
+
+pub cat_repos : (c1 c2 c3 : Command) (repos path revision : Arg) → NeedsValue (codes "REPOS") repos → NeedsValue (codes "PATH") path → Fits (codes "revision") revision
+    → IsChain (repos ∷ []) c1 → AddsArg c1 path c2 → AddsArg c2 revision c3 → HasValue (codes "REPOS") c3
+cat_repos c1 c2 c3 repos path revision r p v chain a b =
+    has_value c3 (repos ∷ path ∷ revision ∷ []) 0 repos (codes "REPOS") (cat_chain c1 c2 c3 repos path revision chain a b)
+    (all_more FitsChain repos (path ∷ revision ∷ []) (fits_chain (codes "REPOS") repos own_repos r.fits)
+    (all_more FitsChain path (revision ∷ []) (fits_chain (codes "PATH") path own_path p.fits)
+    (all_more FitsChain revision [] (fits_chain (codes "revision") revision own_revision v) (all_none FitsChain)))) (cat_apart repos path revision r p v) (omega arith) r.value r.fits.id
+
+pub cat_path : (c1 c2 c3 : Command) (repos path revision : Arg) → NeedsValue (codes "REPOS") repos → NeedsValue (codes "PATH") path → Fits (codes "revision") revision
+    → IsChain (repos ∷ []) c1 → AddsArg c1 path c2 → AddsArg c2 revision c3 → HasValue (codes "PATH") c3
+cat_path c1 c2 c3 repos path revision r p v chain a b =
+    has_value c3 (repos ∷ path ∷ revision ∷ []) 1 path (codes "PATH") (cat_chain c1 c2 c3 repos path revision chain a b)
+    (all_more FitsChain repos (path ∷ revision ∷ []) (fits_chain (codes "REPOS") repos own_repos r.fits)
+    (all_more FitsChain path (revision ∷ []) (fits_chain (codes "PATH") path own_path p.fits)
+    (all_more FitsChain revision [] (fits_chain (codes "revision") revision own_revision v) (all_none FitsChain)))) (cat_apart repos path revision r p v) (omega arith) p.value p.fits.id

@@ -1,0 +1,80 @@
+-- The programs' commands, as data: the word that names each, and what clap is told of the words behind it.
+use Rattle.std.specs.Prelude.{List, [], ℕ, Option, Some, None, codes, if◌then◌else◌, true}
+use Rattle.std.specs.Str.{bytes_eq}
+use Rattle.clap.specs.Words.{App, Rule, new_app, new_rule, with_rule}
+use Rattle.clap.specs.declared.builder.action.ArgAction.TheVariants.{Set, SetTrue}
+use Rattle.fsfs_cli.specs.declared.tool.Tool.{Tool}
+use Rattle.fsfs_cli.specs.declared.tool.Tool.TheVariants.{Admin, Look, Jobs}
+use Rattle.fsfs_cli.specs.declared.verb.Verb.{Verb}
+use Rattle.fsfs_cli.specs.declared.verb.Verb.TheVariants.{Create, Youngest, Uuid, Tree, Cat}
+
+abbrev pub tool_name : Tool → List ℕ
+tool_name Admin = codes "svnadmin"
+tool_name Look = codes "svnlook"
+tool_name Jobs = codes "svnjobs"
+
+-- the command that a word names
+abbrev pub look_verb : List ℕ → Option Verb
+look_verb word =
+    if bytes_eq word (codes "youngest") then Some Youngest
+    else if bytes_eq word (codes "uuid") then Some Uuid
+    else if bytes_eq word (codes "tree") then Some Tree
+    else if bytes_eq word (codes "cat") then Some Cat
+    else None
+
+abbrev pub verb_named : Tool → List ℕ → Option Verb
+verb_named Admin word = if bytes_eq word (codes "create") then Some Create else None
+verb_named Look word = look_verb word
+verb_named Jobs word = None
+
+-- ---- the arguments
+
+-- REPOS, the path of the repository
+abbrev pub repos_rule : Rule
+repos_rule = record (new_rule (codes "REPOS")) { required = true; action = Some Set }
+
+-- [--shard N]
+abbrev pub shard_rule : Rule
+shard_rule = record (new_rule (codes "shard")) { long = Some (codes "shard") }
+
+-- [-r REV] or [--revision REV]
+abbrev pub revision_rule : Rule
+revision_rule = record (new_rule (codes "revision")) { short = Some 114; long = Some (codes "revision") }
+
+-- [--show-ids]
+abbrev pub show_ids_rule : Rule
+show_ids_rule = record (new_rule (codes "show-ids")) { long = Some (codes "show-ids"); action = Some SetTrue }
+
+-- [PATH]
+abbrev pub path_rule : Rule
+path_rule = new_rule (codes "PATH")
+
+-- PATH
+abbrev pub needed_path_rule : Rule
+needed_path_rule = record (new_rule (codes "PATH")) { required = true; action = Some Set }
+
+-- ---- the commands
+
+-- a command of this word, with no arguments yet; its words are those behind it
+abbrev pub bare : List ℕ → App
+bare word = record { top = record (new_app word).top { no_binary_name = true }; subs = [] }
+
+-- create REPOS [--shard N]
+abbrev pub create_app : App
+create_app = with_rule (with_rule (bare (codes "create")) repos_rule) shard_rule
+
+-- youngest REPOS
+abbrev pub youngest_app : App
+youngest_app = with_rule (bare (codes "youngest")) repos_rule
+
+-- uuid REPOS
+abbrev pub uuid_app : App
+uuid_app = with_rule (bare (codes "uuid")) repos_rule
+
+-- tree [-r REV] [--show-ids] REPOS [PATH]
+abbrev pub tree_app : App
+tree_app = with_rule (with_rule (with_rule (with_rule (bare (codes "tree")) repos_rule) path_rule) revision_rule) show_ids_rule
+
+-- cat [-r REV] REPOS PATH
+abbrev pub cat_app : App
+cat_app = with_rule (with_rule (with_rule (bare (codes "cat")) repos_rule) needed_path_rule) revision_rule

@@ -1,0 +1,79 @@
+-- What the words of a program ask for, and when they ask for nothing.
+use Rattle.std.specs.Prelude.{◌≡◌, ℕ, List, [], ◌∷◌, Option, Some, None, Bool, false, codes, unwrap_or, option_map, option_and_then, if◌then◌else◌}
+use Rattle.std.specs.Option.{option_map_or}
+use Rattle.std.specs.Str.{bytes_eq}
+use Rattle.clap.specs.Words.{App, Row, fault_of, first_of, matches_of}
+use Rattle.clap.specs.Walk.{is_empty}
+use Rattle.fsfs_cli.specs.Commands.{verb_named, create_app, youngest_app, uuid_app, tree_app, cat_app}
+use Rattle.fsfs_cli.specs.Grammars.{revision_of, shard_of}
+use Rattle.fsfs_cli.specs.declared.tool.Tool.{Tool}
+use Rattle.fsfs_cli.specs.declared.verb.Verb.{Verb}
+use Rattle.fsfs_cli.specs.declared.verb.Verb.TheVariants as verb
+
+-- What is asked for, each path and word as it stands among the words
+pub data Asked : Type 0 where
+  -- a new repository at this path, with so many revisions in a shard
+  Create : List ℕ → ℕ → Asked
+  -- of the repository at this path: the youngest revision, the identifier
+  Youngest : List ℕ → Asked
+  Uuid : List ℕ → Asked
+  -- the tree of a revision, or of the youngest, with ids or not, from the path of a word on, or from `/`
+  Tree : List ℕ → Option ℕ → Bool → Option (List ℕ) → Asked
+  -- the text of the file at the path of a word, in a revision or in the youngest
+  Cat : List ℕ → Option ℕ → List ℕ → Asked
+
+-- what clap finds in the words of a command; nothing where its definition of the command doesn't take them
+unfoldable pub taken : App → List (List ℕ) → Option (List Row)
+taken app words = if is_empty (fault_of app words) then Some (matches_of app words) else None
+
+-- a number that may be left out: no number where it is; nothing where its word is outside its grammar
+abbrev pub number_of : (List ℕ → Option ℕ) → Option (List ℕ) → Option (Option ℕ)
+number_of grammar None = Some None
+number_of grammar (Some word) = option_map (λ (n : ℕ). Some n) (grammar word)
+
+-- [-r REV]
+abbrev pub revision_in : List Row → Option (Option ℕ)
+revision_in rows = number_of revision_of (first_of (codes "revision") rows)
+
+-- [--shard N], 1000 where it is left out
+abbrev pub shard_in : List Row → Option ℕ
+shard_in rows = option_map (λ n. unwrap_or n 1000) (number_of shard_of (first_of (codes "shard") rows))
+
+-- [--show-ids]
+abbrev pub shows_ids : List Row → Bool
+shows_ids rows = option_map_or (λ word. bytes_eq word (codes "true")) (first_of (codes "show-ids") rows) false
+
+-- ---- what the matches of each command ask for
+
+-- a word that clap requires
+abbrev pub required_in : List ℕ → List Row → List ℕ
+required_in name rows = unwrap_or (first_of name rows) []
+
+abbrev pub repos_in : List Row → List ℕ
+repos_in rows = required_in (codes "REPOS") rows
+
+abbrev pub path_in : List Row → Option (List ℕ)
+path_in rows = first_of (codes "PATH") rows
+
+abbrev pub create_asked : List Row → Option Asked
+create_asked rows = option_map (Create (repos_in rows)) (shard_in rows)
+
+abbrev pub tree_asked : List Row → Option Asked
+tree_asked rows = option_map (λ revision. Tree (repos_in rows) revision (shows_ids rows) (path_in rows)) (revision_in rows)
+
+abbrev pub cat_asked : List Row → Option Asked
+cat_asked rows = option_map (λ revision. Cat (repos_in rows) revision (required_in (codes "PATH") rows)) (revision_in rows)
+
+-- the words behind a command's own
+abbrev pub asked_by : Verb → List (List ℕ) → Option Asked
+asked_by verb.Create words = option_and_then create_asked (taken create_app words)
+asked_by verb.Youngest words = option_map (λ rows. Youngest (repos_in rows)) (taken youngest_app words)
+asked_by verb.Uuid words = option_map (λ rows. Uuid (repos_in rows)) (taken uuid_app words)
+asked_by verb.Tree words = option_and_then tree_asked (taken tree_app words)
+asked_by verb.Cat words = option_and_then cat_asked (taken cat_app words)
+
+-- What a program's words ask for. Nothing where the first names none of its commands, where clap doesn't take the others,
+-- or where a number is outside its grammar.
+abbrev pub asked : Tool → List (List ℕ) → Option Asked
+asked tool [] = None
+asked tool (word ∷ words) = option_and_then (λ verb. asked_by verb words) (verb_named tool word)

@@ -1,0 +1,107 @@
+//! The commands, as clap is told of them.
+ghost use Rattle.std.specs.Prelude.{◌≡◌, ◌∷◌, [], IfOk, codes};
+ghost use Rattle.clap.specs.Words.{app_of, rule_of, with_rule};
+ghost use Rattle.clap.specs.declared.builder.arg.Arg.{Arg};
+ghost use Rattle.fsfs_cli.specs.Chains.{Fits, NeedsValue, IsChain, HasValue};
+ghost use Rattle.fsfs_cli.specs.Commands.{bare as bare_app, repos_rule, shard_rule, revision_rule, show_ids_rule, path_rule, needed_path_rule, create_app, tree_app, cat_app};
+
+use clap::{Arg, ArgAction, Command};
+use std::alloc::{AllocError, Global};
+
+// REPOS
+fn repos<'a>(alloc: Global) -> Arg<'a>
+    ensures rule { rule_of result ≡ repos_rule }
+    ensures needs { NeedsValue (codes "REPOS") result }
+{
+    Arg::new(alloc, "REPOS")
+        .required(true)
+        .action(ArgAction::Set)
+}
+
+// [--shard N]
+fn shard<'a>(alloc: Global) -> Arg<'a>
+    ensures rule { rule_of result ≡ shard_rule }
+    ensures fits { Fits (codes "shard") result }
+{
+    Arg::new(alloc, "shard").long("shard")
+}
+
+// [-r REV]
+fn revision<'a>(alloc: Global) -> Arg<'a>
+    ensures rule { rule_of result ≡ revision_rule }
+    ensures fits { Fits (codes "revision") result }
+{
+    Arg::new(alloc, "revision").short('r').long("revision")
+}
+
+// [--show-ids]
+fn show_ids<'a>(alloc: Global) -> Arg<'a>
+    ensures rule { rule_of result ≡ show_ids_rule }
+    ensures fits { Fits (codes "show-ids") result }
+{
+    Arg::new(alloc, "show-ids")
+        .long("show-ids")
+        .action(ArgAction::SetTrue)
+}
+
+// [PATH]
+fn path<'a>(alloc: Global) -> Arg<'a>
+    ensures rule { rule_of result ≡ path_rule }
+    ensures fits { Fits (codes "PATH") result }
+{
+    Arg::new(alloc, "PATH")
+}
+
+// PATH
+fn needed_path<'a>(alloc: Global) -> Arg<'a>
+    ensures rule { rule_of result ≡ needed_path_rule }
+    ensures needs { NeedsValue (codes "PATH") result }
+{
+    Arg::new(alloc, "PATH")
+        .required(true)
+        .action(ArgAction::Set)
+}
+
+fn bare<'a>(alloc: Global, word: &'a str) -> Command<'a>
+    ensures app { app_of result ≡ bare_app word.entry.now }
+    ensures chain { IsChain [] result }
+{
+    Command::new(alloc, word).no_binary_name(true)
+}
+
+/// A command with REPOS alone.
+pub fn look_command<'a>(alloc: Global, word: &'a str) -> Result<Command<'a>, AllocError>
+    ensures app { IfOk result (λ c. app_of c ≡ with_rule (bare_app word.entry.now) repos_rule) }
+    ensures chain { IfOk result (λ c. (repos : Arg) × NeedsValue (codes "REPOS") repos × IsChain (repos ∷ []) c) }
+    ensures repos { IfOk result (HasValue (codes "REPOS")) }
+{
+    bare(alloc, word).arg(repos(alloc))
+}
+
+/// `create REPOS [--shard N]`.
+pub fn create_command<'a>(alloc: Global) -> Result<Command<'a>, AllocError>
+    ensures app { IfOk result (λ c. app_of c ≡ create_app) }
+    ensures repos { IfOk result (HasValue (codes "REPOS")) }
+{
+    look_command(alloc, "create")?.arg(shard(alloc))
+}
+
+/// `tree [-r REV] [--show-ids] REPOS [PATH]`.
+pub fn tree_command<'a>(alloc: Global) -> Result<Command<'a>, AllocError>
+    ensures app { IfOk result (λ c. app_of c ≡ tree_app) }
+    ensures repos { IfOk result (HasValue (codes "REPOS")) }
+{
+    let with_path = look_command(alloc, "tree")?.arg(path(alloc))?;
+    let with_revision = with_path.arg(revision(alloc))?;
+    with_revision.arg(show_ids(alloc))
+}
+
+/// `cat [-r REV] REPOS PATH`.
+pub fn cat_command<'a>(alloc: Global) -> Result<Command<'a>, AllocError>
+    ensures app { IfOk result (λ c. app_of c ≡ cat_app) }
+    ensures repos { IfOk result (HasValue (codes "REPOS")) }
+    ensures path { IfOk result (HasValue (codes "PATH")) }
+{
+    let with_path = look_command(alloc, "cat")?.arg(needed_path(alloc))?;
+    with_path.arg(revision(alloc))
+}

@@ -1,0 +1,175 @@
+//! Words are read.
+ghost use Rattle.std.specs.Prelude.{◌≡◌, ◌==◌, ℕ, List, map, string_bytes, true, is_some, option_map, IfOk};
+ghost use Rattle.clap.specs.Words.{app_of, found_of, is_simple_and_free, rows_of, first_of, IsParsedFrom};
+ghost use Rattle.fsfs_cli.specs.Words.{taken, asked, asked_by, revision_in, shard_in, shows_ids, path_in, required_in};
+ghost use Rattle.fsfs_cli.specs.Readings.{Reads, Finds, GivesPath};
+
+use crate::commands::{cat_command, create_command, look_command, tree_command};
+use crate::fault::WordsFault;
+use crate::order::{CatOrder, CreateOrder, Order, TreeOrder};
+use crate::path_word::read_path;
+use crate::revision::read_revision;
+use crate::shard::read_shard;
+use crate::tool::Tool;
+use crate::verb::{Verb, verb_of};
+use clap::error::ErrorKind;
+use clap::{ArgMatches, Command};
+use fsfs_base::FsPath;
+use std::alloc::Global;
+
+// How many revisions a shard has where the words don't say.
+const USUAL_SHARD: u32 = 1000;
+
+// What clap finds in the words of a command.
+fn matches_of<'a>(command: Command<'a>, words: &'a [String]) -> Result<ArgMatches<'a>, WordsFault>
+    requires { is_simple_and_free (app_of command) ≡ true }
+    ensures found { Finds (taken (app_of command.entry) (map string_bytes words.entry.now)) (λ m. rows_of (found_of m)) result }
+    ensures parsed { IfOk result (IsParsedFrom command.entry) }
+{
+    match command.try_get_matches_from(words) {
+        Ok(matches) => Ok(matches),
+        Err(error) => Err(match error.kind() {
+            ErrorKind::OutOfMemory => WordsFault::Memory,
+            _ => WordsFault::Usage,
+        }),
+    }
+}
+
+// The word of an argument, if there is one.
+fn word_of<'a>(matches: &ArgMatches<'a>, id: &str) -> Option<&'a str>
+    ensures { option_map (λ word. word.now) result ≡ first_of id.now (rows_of (found_of matches.now)) }
+{
+    matches.get_str(id)
+}
+
+// The word of an argument that clap requires.
+fn required<'a>(matches: &ArgMatches<'a>, id: &str) -> &'a str
+    requires { is_some (first_of id.now (rows_of (found_of matches.now))) ≡ true }
+    ensures { result.now ≡ required_in id.now (rows_of (found_of matches.now)) }
+{
+    match word_of(matches, id) {
+        Some(word) => word,
+        None => unreachable!(),
+    }
+}
+
+// [-r REV]
+fn revision_given(matches: &ArgMatches<'_>) -> Result<Option<u64>, WordsFault>
+    ensures { Finds (revision_in (rows_of (found_of matches.now))) (λ revision. revision) result }
+{
+    match word_of(matches, "revision") {
+        None => Ok(None),
+        Some(word) => match read_revision(word) {
+            Some(number) => Ok(Some(number)),
+            None => Err(WordsFault::Usage),
+        },
+    }
+}
+
+// [--shard N]
+fn shard_given(matches: &ArgMatches<'_>) -> Result<u32, WordsFault>
+    ensures { Finds (shard_in (rows_of (found_of matches.now))) (λ shard. shard) result }
+{
+    match word_of(matches, "shard") {
+        None => Ok(USUAL_SHARD),
+        Some(word) => match read_shard(word) {
+            Some(number) => Ok(number),
+            None => Err(WordsFault::Usage),
+        },
+    }
+}
+
+// [--show-ids]
+fn shows_ids_given(matches: &ArgMatches<'_>) -> bool
+    ensures { result ≡ shows_ids (rows_of (found_of matches.now)) }
+{
+    match word_of(matches, "show-ids") {
+        None => false,
+        Some(word) => word == "true",
+    }
+}
+
+// [PATH]
+fn path_given(alloc: Global, matches: &ArgMatches<'_>) -> Result<FsPath, WordsFault>
+    ensures { GivesPath (path_in (rows_of (found_of matches.now))) result }
+{
+    match word_of(matches, "PATH") {
+        Some(word) => read_path(alloc, word),
+        None => Ok(FsPath::root(alloc)),
+    }
+}
+
+fn read_create<'a>(alloc: Global, words: &'a [String]) -> Result<Order<'a>, WordsFault>
+    ensures { Reads (asked_by Verb.Create (map string_bytes words.entry.now)) result }
+{
+    let matches = matches_of(create_command(alloc)?, words)?;
+    let repos = required(&matches, "REPOS");
+    let shard = shard_given(&matches)?;
+    Ok(Order::Create(CreateOrder { repos, shard }))
+}
+
+fn read_youngest<'a>(alloc: Global, words: &'a [String]) -> Result<Order<'a>, WordsFault>
+    ensures { Reads (asked_by Verb.Youngest (map string_bytes words.entry.now)) result }
+{
+    let matches = matches_of(look_command(alloc, "youngest")?, words)?;
+    Ok(Order::Youngest(required(&matches, "REPOS")))
+}
+
+fn read_uuid<'a>(alloc: Global, words: &'a [String]) -> Result<Order<'a>, WordsFault>
+    ensures { Reads (asked_by Verb.Uuid (map string_bytes words.entry.now)) result }
+{
+    let matches = matches_of(look_command(alloc, "uuid")?, words)?;
+    Ok(Order::Uuid(required(&matches, "REPOS")))
+}
+
+fn read_tree<'a>(alloc: Global, words: &'a [String]) -> Result<Order<'a>, WordsFault>
+    ensures { Reads (asked_by Verb.Tree (map string_bytes words.entry.now)) result }
+{
+    let matches = matches_of(tree_command(alloc)?, words)?;
+    let repos = required(&matches, "REPOS");
+    let revision = revision_given(&matches)?;
+    let show_ids = shows_ids_given(&matches);
+    let path = path_given(alloc, &matches)?;
+    Ok(Order::Tree(TreeOrder {
+        repos,
+        revision,
+        show_ids,
+        path,
+    }))
+}
+
+fn read_cat<'a>(alloc: Global, words: &'a [String]) -> Result<Order<'a>, WordsFault>
+    ensures { Reads (asked_by Verb.Cat (map string_bytes words.entry.now)) result }
+{
+    let matches = matches_of(cat_command(alloc)?, words)?;
+    let repos = required(&matches, "REPOS");
+    let word = required(&matches, "PATH");
+    let revision = revision_given(&matches)?;
+    let path = read_path(alloc, word)?;
+    Ok(Order::Cat(CatOrder {
+        repos,
+        revision,
+        path,
+    }))
+}
+
+/// What a program's words, those behind its name, ask for.
+pub fn read_words<'a>(
+    alloc: Global,
+    tool: Tool,
+    words: &'a [String],
+) -> Result<Order<'a>, WordsFault>
+    ensures { Reads (asked tool (map string_bytes words.entry.now)) result }
+{
+    let [word, words @ ..] = words else {
+        return Err(WordsFault::Usage);
+    };
+    match verb_of(tool, word.as_str()) {
+        Some(Verb::Create) => read_create(alloc, words),
+        Some(Verb::Youngest) => read_youngest(alloc, words),
+        Some(Verb::Uuid) => read_uuid(alloc, words),
+        Some(Verb::Tree) => read_tree(alloc, words),
+        Some(Verb::Cat) => read_cat(alloc, words),
+        None => Err(WordsFault::Usage),
+    }
+}

@@ -1,0 +1,57 @@
+//! The word that names a command.
+ghost use Rattle.std.specs.Prelude.{◌≡◌};
+ghost use Rattle.fsfs_cli.specs.Commands.{verb_named};
+
+use crate::tool::Tool;
+
+/// A command, as its word names it.
+#[derive(Clone, Copy, Debug, PartialEq, Eq)]
+pub enum Verb {
+    /// `svnadmin create`.
+    Create,
+    /// `svnlook youngest`.
+    Youngest,
+    /// `svnlook uuid`.
+    Uuid,
+    /// `svnlook tree`.
+    Tree,
+    /// `svnlook cat`.
+    Cat,
+}
+
+/// The command that a word names, where the program has one of that name.
+pub fn verb_of(tool: Tool, word: &str) -> Option<Verb>
+    ensures { result ≡ verb_named tool word.now }
+{
+    match tool {
+        Tool::Admin => admin_verb(word),
+        Tool::Look => look_verb(word),
+        Tool::Jobs => None,
+    }
+}
+
+fn admin_verb(word: &str) -> Option<Verb>
+    ensures { result ≡ verb_named Tool.Admin word.now }
+{
+    if word == "create" {
+        Some(Verb::Create)
+    } else {
+        None
+    }
+}
+
+fn look_verb(word: &str) -> Option<Verb>
+    ensures { result ≡ verb_named Tool.Look word.now }
+{
+    if word == "youngest" {
+        Some(Verb::Youngest)
+    } else if word == "uuid" {
+        Some(Verb::Uuid)
+    } else if word == "tree" {
+        Some(Verb::Tree)
+    } else if word == "cat" {
+        Some(Verb::Cat)
+    } else {
+        None
+    }
+}

@@ -1,0 +1,160 @@
+//! The machine's disk: what has a name, what a call changes, what a crash leaves.
+ghost use Rattle.std.specs.Prelude.{◌≡◌, ◌++◌, [], drop, OnOk, IfOk, MatchOption, Some, None};
+ghost use Rattle.fsfs_machine.specs.Disk.{found, shown, same_name, left, is_picked, kept_where, is_firm_change};
+ghost use Rattle.fsfs_machine.specs.Machine.{comes, is_fine_in, number_of};
+
+use crate::contents::{Change, Contents, Name};
+use crate::machine::Went;
+use std::alloc::{AllocError, Global};
+use std::collections::VecDeque;
+
+fn same(a: &Name, b: &Name) -> bool
+    ensures { result ≡ same_name a.now b.now }
+{
+    match a {
+        Name::Current => matches!(b, Name::Current),
+        Name::CurrentNext => matches!(b, Name::CurrentNext),
+        Name::Counter => matches!(b, Name::Counter),
+        Name::CounterNext => matches!(b, Name::CounterNext),
+        Name::Floor => matches!(b, Name::Floor),
+        Name::Rev(n) => matches!(b, Name::Rev(m) if *n == *m),
+        Name::Props(n) => matches!(b, Name::Props(m) if *n == *m),
+    }
+}
+
+/// The file that has the name: changes stand with the newest first.
+pub fn find<'a>(disk: &'a VecDeque<Change>, name: &Name) -> Option<&'a Contents>
+    ensures { MatchOption result (found disk.now.items name.now ≡ None) (λ c. found disk.now.items name.now ≡ Some c.now) }
+{
+    for change in disk {
+        match change {
+            Change::Put(at, contents) => {
+                if same(at, name) {
+                    return Some(contents);
+                }
+            }
+            Change::Rename(from, to, contents) => {
+                if same(to, name) {
+                    return Some(contents);
+                }
+                if same(from, name) {
+                    return None;
+                }
+            }
+            Change::Remove(at) => {
+                if same(at, name) {
+                    return None;
+                }
+            }
+            Change::Firm => {}
+        }
+    }
+    None
+}
+
+/// The file of a revision, which is in no pack unless it is below the floor.
+pub fn find_rev(disk: &VecDeque<Change>, floor: u64, rev: u64) -> Option<&Contents>
+    ensures { MatchOption result (shown floor disk.now.items rev ≡ None) (λ c. shown floor disk.now.items rev ≡ Some c.now) }
+{
+    if rev < floor {
+        None
+    } else {
+        find(disk, &Name::Rev(rev))
+    }
+}
+
+/// The number in a file.
+pub fn find_number(disk: &VecDeque<Change>, name: &Name) -> Option<u64>
+    ensures { result ≡ number_of (found disk.now.items name.now) }
+{
+    match find(disk, name) {
+        Some(Contents::Number(number)) => Some(*number),
+        Some(Contents::RevFile(_, _, _) | Contents::PropsFile(_) | Contents::Junk) | None => None,
+    }
+}
+
+/// Whether the call was done.
+pub fn is_fine(went: &Went) -> bool
+    ensures { result ≡ is_fine_in went.now }
+{
+    matches!(went, Went::Fine)
+}
+
+/// The change that a call leaves, however it went.
+pub fn change_made(went: Went, change: Change) -> Option<Change>
+    ensures { result ≡ comes went change }
+{
+    match went {
+        Went::Fine | Went::After => Some(change),
+        Went::Before => None,
+        Went::Torn(any) => match change {
+            Change::Put(name, _) => Some(Change::Put(name, any)),
+            _ => None,
+        },
+    }
+}
+
+/// What a crash leaves of the disk, where the changes that are picked come through.
+pub fn what_is_left(
+    alloc: Global,
+    mut disk: VecDeque<Change>,
+    picks: &[bool],
+) -> Result<VecDeque<Change>, AllocError>
+    ensures { IfOk result (λ o. o.items ≡ left picks.now disk.items) }
+{
+    let mut out = VecDeque::new(alloc);
+    let mut rest = picks;
+    while let Some(change) = disk.pop_front() {
+        if is_firm(&change) {
+            out.push_back(change)?;
+            append(&mut out, disk)?;
+            return Ok(out);
+        }
+        keep(&mut out, change, is_picked_first(rest))?;
+        rest = without_first(rest);
+    }
+    Ok(out)
+}
+
+fn is_firm(change: &Change) -> bool
+    ensures { result ≡ is_firm_change change.now }
+{
+    matches!(change, Change::Firm)
+}
+
+// Whether the first is picked.
+pub(crate) fn is_picked_first(picks: &[bool]) -> bool
+    ensures { result ≡ is_picked picks.now }
+{
+    match picks {
+        [] => false,
+        [first, ..] => *first,
+    }
+}
+
+pub(crate) fn without_first(picks: &[bool]) -> &[bool]
+    ensures { result.now ≡ drop 1 picks.now }
+{
+    match picks {
+        [] => picks,
+        [_, rest @ ..] => rest,
+    }
+}
+
+fn keep(out: &mut VecDeque<Change>, change: Change, picked: bool) -> Result<(), AllocError>
+    ensures { OnOk result (out.new.items ≡ out.old.items ++ kept_where picked change []) }
+{
+    if picked {
+        out.push_back(change)?;
+    }
+    Ok(())
+}
+
+fn append(out: &mut VecDeque<Change>, mut more: VecDeque<Change>) -> Result<(), AllocError>
+    ensures { OnOk result (out.new.items ≡ out.old.items ++ more.items) }
+{
+    while let Some(change) = more.pop_front() {
+        out.push_back(change)?;
+    }
+    Ok(())
+}

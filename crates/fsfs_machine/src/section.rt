@@ -1,0 +1,129 @@
+//! How far a section has come.
+ghost use Rattle.std.specs.Prelude.{◌≡◌, ◌+◌, ℕ};
+ghost use Rattle.fsfs_machine.specs.Machine.{either, is_due, is_quiet, is_up, is_outside, after, spoiled, down, answer};
+
+use crate::files::is_fine;
+use crate::machine::{Drawn, Lock, Outcome, Place, Section, Went};
+use fsfs_base::RevNum;
+
+/// Whether the lock may be given here.
+pub fn is_quiet_section(section: &Section) -> bool
+    ensures { result ≡ is_quiet section.now }
+{
+    !matches!(
+        section,
+        Section::CurrentRenamed(_) | Section::CurrentFirm(_) | Section::Doubtful(_, _)
+    )
+}
+
+/// Whether the call at this place comes next.
+pub fn is_due_at(section: &Section, place: Place) -> bool
+    ensures { result ≡ is_due section.now place }
+{
+    match section {
+        Section::CountRead(_) => matches!(place, Place::TxnPut),
+        Section::CountPut(_) => matches!(place, Place::TxnRename),
+        Section::CountRenamed(_) => matches!(place, Place::TxnFirm),
+        Section::RevPut(_) => matches!(place, Place::PutProps),
+        Section::PropsPut(_) => matches!(place, Place::FirmRev),
+        Section::RevFirm(_) => matches!(place, Place::PutCurrent),
+        Section::CurrentPut(_) => matches!(place, Place::RenameCurrent),
+        Section::CurrentRenamed(_) => matches!(place, Place::FirmCurrent),
+        _ => false,
+    }
+}
+
+fn section_after(section: Section) -> Section
+    ensures { result ≡ after section }
+{
+    match section {
+        Section::CountRead(x) => Section::CountPut(x),
+        Section::CountPut(x) => Section::CountRenamed(x),
+        Section::RevPut(x) => Section::PropsPut(x),
+        Section::PropsPut(x) => Section::RevFirm(x),
+        Section::RevFirm(x) => Section::CurrentPut(x),
+        Section::CurrentPut(x) => Section::CurrentRenamed(x),
+        Section::CurrentRenamed(x) => Section::CurrentFirm(x),
+        _ => Section::Over,
+    }
+}
+
+fn section_spoiled(section: Section) -> Section
+    ensures { result ≡ spoiled section }
+{
+    match section {
+        Section::CurrentPut(x) => Section::Doubtful(Place::RenameCurrent, x),
+        Section::CurrentRenamed(x) => Section::Doubtful(Place::FirmCurrent, x),
+        _ => Section::Over,
+    }
+}
+
+/// Where the section is after the call that was due.
+pub fn next_section(section: Section, went: &Went) -> Section
+    ensures { result ≡ either went.now (after section) (spoiled section) }
+{
+    if is_fine(went) {
+        section_after(section)
+    } else {
+        section_spoiled(section)
+    }
+}
+
+/// Where the section is after the counter was read.
+pub fn drawn_section(name: u64, next: u64, base: RevNum, went: &Went) -> Section
+    ensures { result ≡ either went.now (Section.CountRead (record { name = name; next = next; base = base })) Section.Over }
+{
+    if is_fine(went) {
+        Section::CountRead(Drawn { name, next, base })
+    } else {
+        Section::Over
+    }
+}
+
+/// Whether the object is open.
+pub fn is_lock_up(lock: &Lock) -> bool
+    ensures { result ≡ is_up lock.now }
+{
+    !matches!(lock, Lock::Down | Lock::DownDoubtful(_))
+}
+
+/// Whether the pass is in no section.
+pub fn is_outside_section(p: u64, lock: &Lock) -> bool
+    ensures { result ≡ is_outside p lock.now }
+{
+    !matches!(lock, Lock::Held(q, _) if *q == p)
+}
+
+/// The lock of an object that is no more.
+pub fn lock_down(lock: Lock) -> Lock
+    ensures { result ≡ down lock }
+{
+    match lock {
+        Lock::Stuck(_, coming) => Lock::DownDoubtful(coming),
+        Lock::DownDoubtful(coming) => Lock::DownDoubtful(coming),
+        Lock::Held(_, section) => section_down(section),
+        Lock::Free | Lock::Down => Lock::Down,
+    }
+}
+
+fn section_down(section: Section) -> Lock
+    ensures { (p : ℕ) → result ≡ down (Lock.Held p section) }
+{
+    match section {
+        Section::CurrentRenamed(coming) => Lock::DownDoubtful(coming),
+        Section::CurrentFirm(coming) => Lock::DownDoubtful(coming),
+        Section::Doubtful(_, coming) => Lock::DownDoubtful(coming),
+        _ => Lock::Down,
+    }
+}
+
+/// What a call of the disk answers.
+pub fn answer_of(went: &Went) -> Outcome
+    ensures { result ≡ answer went.now }
+{
+    if is_fine(went) {
+        Outcome::Done
+    } else {
+        Outcome::Failed
+    }
+}
