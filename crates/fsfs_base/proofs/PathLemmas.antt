@@ -2,12 +2,12 @@
 use Rattle.std.proofs.Common.{◌≡◌, ◌≤◌, true, [], ◌∷◌, ◌++◌, length, drop, refl, sym, ◌∙◌, ap, subst, inl, inr, ◌⊎◌, arith}
 use Rattle.std.proofs.lemmas.Bool.{and_from, and_parts, false≢true}
 use Rattle.std.specs.Cmp.Lexicographic.{nat_list_eq_equiv, bytes_decides}
-use Rattle.fsfs_base.specs.Paths.{Path, Name, same_name, covers}
+use Rattle.fsfs_base.specs.Paths.{Path, PathName, same_name, covers}
 
-pub same_name-refl : (x : Name) → same_name x x ≡ true
+pub same_name-refl : (x : PathName) → same_name x x ≡ true
 same_name-refl x = nat_list_eq_equiv.refl x
 
-pub same_name-is : (x y : Name) → same_name x y ≡ true → x ≡ y
+pub same_name-is : (x y : PathName) → same_name x y ≡ true → x ≡ y
 same_name-is x y h = (bytes_decides x y).0 h
 
 pub covers-refl : (p : Path) → covers p p ≡ true

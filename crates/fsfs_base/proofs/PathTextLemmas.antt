@@ -5,7 +5,7 @@ use Rattle.std.proofs.lemmas.Bool.{ltb-true, ltb-false, leb-true, leb-false, lt-
 use Rattle.std.proofs.lemmas.List.{nil_from_length, length-append, take_more, take_all, append-nil, map-append}
 use Rattle.std.specs.List.{AllByRecursion, position, slice_split, onto_first, list_any}
 use Rattle.fsfs_grammar.proofs.Readers.{chosen}
-use Rattle.fsfs_base.specs.Paths.{Name, Path, names_text, path_text, is_root}
+use Rattle.fsfs_base.specs.Paths.{PathName, Path, names_text, path_text, is_root}
 use Rattle.fsfs_base.specs.PathTexts.{is_control, is_dots, HasNoSlash, IsName, IsPath, IsNameFault, HasBadName, IsBadJoin, IsBadPath, IsJoined}
 use Rattle.fsfs_base.specs.PathReading.{control_fault_at, name_fault_at, or_else, names_fault_at}
 use Rattle.fsfs_base.specs.declared.bad_path.BadPath.{BadPath}
@@ -46,7 +46,7 @@ pieces_whole (b ∷ bs) = go (pieces_whole bs) (eqb b 47) refl
     go h false e = onto_whole b (pieces bs) (eqb-false b 47 e) h
 
 -- a name is followed by the end or by a slash
-same_name_first : (x y : Name) (p q : Path) → HasNoSlash x → HasNoSlash y → x ++ names_text p ≡ y ++ names_text q → (x ≡ y) × (names_text p ≡ names_text q)
+same_name_first : (x y : PathName) (p q : Path) → HasNoSlash x → HasNoSlash y → x ++ names_text p ≡ y ++ names_text q → (x ≡ y) × (names_text p ≡ names_text q)
 same_name_first [] [] p q a b e = (refl, e)
 same_name_first [] (d ∷ y) [] q a b e = absurd cc
 same_name_first [] (d ∷ y) (n ∷ p) q a b e = let slash : 47 ≡ d = cc in absurd (b.0 (sym slash))
@@ -72,7 +72,7 @@ names_text_injective (x ∷ p) (y ∷ q) a b e =
 -- ---- one name
 
 -- a fault that was found, from the byte where the name begins
-record Faulty (above at : ℕ) (name : Name) (bad : BadPath) : Type 0 where
+record Faulty (above at : ℕ) (name : PathName) (bad : BadPath) : Type 0 where
   pub offset : ℕ
   pub at_is : bad.at ≡ at + offset
   pub fault : IsNameFault above name offset bad.why
@@ -80,13 +80,13 @@ record Faulty (above at : ℕ) (name : Name) (bad : BadPath) : Type 0 where
 abbrev fault_here : ℕ → PathFault → BadPath
 fault_here at why = record { at = at; why = why }
 
-faulty : (above at offset : ℕ) (name : Name) (why : PathFault) (bad : BadPath) → Some (fault_here (at + offset) why) ≡ Some bad → IsNameFault above name offset why → Faulty above at name bad
+faulty : (above at offset : ℕ) (name : PathName) (why : PathFault) (bad : BadPath) → Some (fault_here (at + offset) why) ≡ Some bad → IsNameFault above name offset why → Faulty above at name bad
 faulty above at offset name why bad e is = let same = same_Some (fault_here (at + offset) why) bad e in subst (Faulty above at name) same (record { offset = offset; at_is = refl; fault = is })
 
-faulty_here : (above at : ℕ) (name : Name) (why : PathFault) (bad : BadPath) → Some (fault_here at why) ≡ Some bad → IsNameFault above name 0 why → Faulty above at name bad
+faulty_here : (above at : ℕ) (name : PathName) (why : PathFault) (bad : BadPath) → Some (fault_here at why) ≡ Some bad → IsNameFault above name 0 why → Faulty above at name bad
 faulty_here above at name why bad e is = let zeroed : at + 0 ≡ at = omega arith in faulty above at 0 name why bad (ap (λ (k : ℕ). Some (fault_here k why)) zeroed ∙ e) is
 
-name_faulty : (above at : ℕ) (name : Name) (bad : BadPath) → name_fault_at above at name ≡ Some bad → Faulty above at name bad
+name_faulty : (above at : ℕ) (name : PathName) (bad : BadPath) → name_fault_at above at name ≡ Some bad → Faulty above at name bad
 name_faulty above at name bad e = elim (chosen (leb 128 above) (Some (fault_here at TooDeep)) (cond (eqb (length name) 0) (Some (fault_here at EmptyName)) (control_fault_at at name (position is_control name))) (Some bad) e) [
   | inl w ↦ faulty_here above at name TooDeep bad w.1 (leb-true _ _ w.0, refl)
   | inr w ↦
@@ -107,7 +107,7 @@ name_faulty above at name bad e = elim (chosen (leb 128 above) (Some (fault_here
       ]
     ]
 
-name_good : (above at : ℕ) (name : Name) → HasNoSlash name → name_fault_at above at name ≡ None → (above < 128) × IsName name
+name_good : (above at : ℕ) (name : PathName) → HasNoSlash name → name_fault_at above at name ≡ None → (above < 128) × IsName name
 name_good above at name whole e = elim (chosen (leb 128 above) (Some (fault_here at TooDeep)) (cond (eqb (length name) 0) (Some (fault_here at EmptyName)) (control_fault_at at name (position is_control name))) None e) [
   | inl w ↦ absurd cc
   | inr w ↦ elim (chosen (eqb (length name) 0) (Some (fault_here at EmptyName)) (control_fault_at at name (position is_control name)) None w.1) [
@@ -126,7 +126,7 @@ name_good above at name whole e = elim (chosen (leb 128 above) (Some (fault_here
       ]
     ]
 
-name_passes : (above at : ℕ) (name : Name) → above < 128 → IsName name → name_fault_at above at name ≡ None
+name_passes : (above at : ℕ) (name : PathName) → above < 128 → IsName name → name_fault_at above at name ≡ None
 name_passes above at name low good =
     let deep : leb 128 above ≡ false = lt-leb 128 above low in
     let some : eqb (length name) 0 ≡ false = ne_eqb (length name) 0 (λ z. good.some (nil_from_length name z)) in
@@ -138,7 +138,7 @@ name_passes above at name low good =
 -- the first name of the list that is refused
 record FirstFaulty (above at : ℕ) (names : Path) (bad : BadPath) : Type 0 where
   pub before : Path
-  pub name : Name
+  pub name : PathName
   pub behind : Path
   pub offset : ℕ
   pub parts : names ≡ before ++ name ∷ behind
@@ -310,14 +310,14 @@ pub shown_names : (path : Path) → is_root path ≡ false → names_text path �
 shown_names [] e = absurd cc
 shown_names (x ∷ p) e = refl
 
-pub text_more : {A : Type 0} (f : A → Name) (names : List A) (k : ℕ) (d : A) → k < length names → names_text (map f (take (k + 1) names)) ≡ names_text (map f (take k names)) ++ 47 ∷ f (get_or names k d)
+pub text_more : {A : Type 0} (f : A → PathName) (names : List A) (k : ℕ) (d : A) → k < length names → names_text (map f (take (k + 1) names)) ≡ names_text (map f (take k names)) ++ 47 ∷ f (get_or names k d)
 text_more f names k d lt =
     ap (λ xs. names_text (map f xs)) (take_more names k d lt)
     ∙ ap names_text (map-append f (take k names) (get_or names k d ∷ []))
     ∙ names_text-append (map f (take k names)) (f (get_or names k d) ∷ [])
     ∙ ap (λ (t : List ℕ). names_text (map f (take k names)) ++ 47 ∷ t) (append-nil (f (get_or names k d)))
 
-pub last_name : (path : Path) (n : ℕ) → length path ≡ suc n → (name : Name) × (path ≡ take n path ++ name ∷ [])
+pub last_name : (path : Path) (n : ℕ) → length path ≡ suc n → (name : PathName) × (path ≡ take n path ++ name ∷ [])
 last_name path n size = (get_or path n [], sym (take_all (n + 1) path (omega (arith, size))) ∙ take_more path n [] (omega (arith, size)))
 
 pub written_more : (out text name : List ℕ) → ((out ++ text) ++ 47 ∷ []) ++ name ≡ out ++ (text ++ 47 ∷ name)
@@ -325,7 +325,7 @@ written_more out text name = simp append_assoc
 
 -- ---- a name alone
 
-no_slash : (name : Name) → list_any (λ b. eqb b 47) name ≡ false → HasNoSlash name
+no_slash : (name : PathName) → list_any (λ b. eqb b 47) name ≡ false → HasNoSlash name
 no_slash [] e = tt
 no_slash (c ∷ name) e = go (eqb c 47) refl e (no_slash name)
   where
@@ -333,18 +333,18 @@ no_slash (c ∷ name) e = go (eqb c 47) refl e (no_slash name)
     go true is e h = absurd cc
     go false is e h = (eqb-false c 47 is, h e)
 
-no_slash_found : (name : Name) → HasNoSlash name → list_any (λ b. eqb b 47) name ≡ false
+no_slash_found : (name : PathName) → HasNoSlash name → list_any (λ b. eqb b 47) name ≡ false
 no_slash_found [] h = refl
 no_slash_found (c ∷ name) h = rw (ne_eqb c 47 h.0) (no_slash_found name h.1)
 
-pub name_taken : (name : Name) → list_any (λ b. eqb b 47) name ≡ false → name_fault_at 0 0 name ≡ None → IsName name
+pub name_taken : (name : PathName) → list_any (λ b. eqb b 47) name ≡ false → name_fault_at 0 0 name ≡ None → IsName name
 name_taken name slash e = (name_good 0 0 name (no_slash name slash) e).1
 
-pub name_taken_back : (name : Name) → IsName name → (list_any (λ b. eqb b 47) name ≡ false) × (name_fault_at 0 0 name ≡ None)
+pub name_taken_back : (name : PathName) → IsName name → (list_any (λ b. eqb b 47) name ≡ false) × (name_fault_at 0 0 name ≡ None)
 name_taken_back name is = (no_slash_found name is.no_slash, name_passes 0 0 name (omega arith) is)
 
-pub name_is_taken : (name : Name) (slash : Bool) → slash ≡ list_any (λ b. eqb b 47) name → None ≡ name_fault_at 0 0 name → (not slash ≡ true → IsName name) × (IsName name → not slash ≡ true)
+pub name_is_taken : (name : PathName) (slash : Bool) → slash ≡ list_any (λ b. eqb b 47) name → None ≡ name_fault_at 0 0 name → (not slash ≡ true → IsName name) × (IsName name → not slash ≡ true)
 name_is_taken name slash is e = (λ t. name_taken name (sym is ∙ not-true slash t) (sym e), λ w. ap not (is ∙ (name_taken_back name w).0))
 
-pub name_is_refused : (name : Name) (bad : BadPath) → Some bad ≡ name_fault_at 0 0 name → IsName name → ⊥
+pub name_is_refused : (name : PathName) (bad : BadPath) → Some bad ≡ name_fault_at 0 0 name → IsName name → ⊥
 name_is_refused name bad e w = let h = e ∙ (name_taken_back name w).1 in cc

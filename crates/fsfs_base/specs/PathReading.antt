@@ -1,19 +1,19 @@
 -- Reading a path's names from left to right.
 use Rattle.std.specs.Prelude.{ℕ, ◌+◌, ◌==◌, nat_lt, nat_le, [], ◌∷◌, length, Option, Some, None, if◌then◌else◌}
 use Rattle.std.specs.List.{position}
-use Rattle.fsfs_base.specs.Paths.{Name, Path}
+use Rattle.fsfs_base.specs.Paths.{PathName, Path}
 use Rattle.fsfs_base.specs.PathTexts.{is_control, is_dots}
 use Rattle.fsfs_base.specs.declared.bad_path.BadPath.{BadPath}
 use Rattle.fsfs_base.specs.declared.bad_path.PathFault.TheVariants.{TooDeep, EmptyName, Control, NameTooLong, Dot}
 
-abbrev pub control_fault_at : ℕ → Name → Option ℕ → Option BadPath
+abbrev pub control_fault_at : ℕ → PathName → Option ℕ → Option BadPath
 control_fault_at at name (Some offset) = Some (record { at = at + offset; why = Control })
 control_fault_at at name None =
     if nat_lt 255 (length name) then Some (record { at = at; why = NameTooLong })
     else (if is_dots name then Some (record { at = at; why = Dot }) else None)
 
 -- what is wrong with a name that has `above` names above it and begins at the byte `at`
-abbrev pub name_fault_at : (above at : ℕ) → Name → Option BadPath
+abbrev pub name_fault_at : (above at : ℕ) → PathName → Option BadPath
 name_fault_at above at name =
     if nat_le 128 above then Some (record { at = at; why = TooDeep })
     else (if length name == 0 then Some (record { at = at; why = EmptyName })

@@ -1,7 +1,7 @@
 -- Which texts are paths, and at which byte a text that is none breaks which rule.
 use Rattle.std.specs.Prelude.{◌≡◌, ◌≢◌, ℕ, ◌+◌, ◌<◌, ◌≤◌, Bool, true, false, ◌||◌, ◌==◌, nat_lt, List, [], ◌∷◌, ◌++◌, length, Some, None, MatchBool, codes}
 use Rattle.std.specs.List.{AllByRecursion, position}
-use Rattle.fsfs_base.specs.Paths.{Name, Path, names_text, path_text, same_name}
+use Rattle.fsfs_base.specs.Paths.{PathName, Path, names_text, path_text, same_name}
 use Rattle.fsfs_base.specs.declared.bad_path.PathError.{PathError}
 use Rattle.fsfs_base.specs.declared.bad_path.PathError.TheVariants.{Bad, OutOfMemory}
 use Rattle.fsfs_base.specs.declared.bad_path.PathFault.{PathFault}
@@ -11,15 +11,15 @@ abbrev pub is_control : ℕ → Bool
 is_control b = nat_lt b 32 || (b == 127)
 
 -- `.` or `..`
-abbrev pub is_dots : Name → Bool
+abbrev pub is_dots : PathName → Bool
 is_dots name = same_name name (codes ".") || same_name name (codes "..")
 
 -- no byte of it is `/`
-abbrev pub HasNoSlash : Name → Type 0
+abbrev pub HasNoSlash : PathName → Type 0
 HasNoSlash = AllByRecursion (λ b. b ≢ 47)
 
 -- a name that a path may have
-pub record IsName (name : Name) : Type 0 where
+pub record IsName (name : PathName) : Type 0 where
   pub some : name ≢ []
   pub no_slash : HasNoSlash name
   pub no_control : position is_control name ≡ None
@@ -33,7 +33,7 @@ pub record IsPath (path : Path) : Type 0 where
   pub fits : length (path_text path) ≤ 4096
 
 -- what is wrong with a name that has `above` names above it, and at which of its bytes; the earlier rule comes first
-abbrev pub IsNameFault : (above : ℕ) → Name → (offset : ℕ) → PathFault → Type 0
+abbrev pub IsNameFault : (above : ℕ) → PathName → (offset : ℕ) → PathFault → Type 0
 IsNameFault above name offset NotAbsolute = ⊥
 IsNameFault above name offset PathTooLong = ⊥
 IsNameFault above name offset TooDeep = (128 ≤ above) × (offset ≡ 0)
@@ -45,7 +45,7 @@ IsNameFault above name offset Dot = (above < 128) × (is_dots name ≡ true) × 
 -- of the names between the slashes of a text, which follows a path, the first that is refused, and the byte counted from the path's beginning
 pub record HasBadName (above : Path) (text : List ℕ) (at : ℕ) (why : PathFault) : Type 0 where
   pub before : Path
-  pub name : Name
+  pub name : PathName
   pub behind : Path
   pub offset : ℕ
   pub text_is : text ≡ names_text (before ++ name ∷ behind)

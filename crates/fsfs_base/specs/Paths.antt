@@ -7,12 +7,12 @@ use Rattle.std.specs.Cmp.{IsPartialOrder, IsTotalOrder, po}
 use Rattle.std.specs.Ordering.{is_eq}
 
 -- the bytes of a name
-abbrev pub Name : Type 0
-Name = List ℕ
+abbrev pub PathName : Type 0
+PathName = List ℕ
 
 -- `/` is the empty list
 abbrev pub Path : Type 0
-Path = List Name
+Path = List PathName
 
 -- each name with a `/` before it
 abbrev pub names_text : Path → List ℕ
@@ -25,14 +25,14 @@ path_text [] = 47 ∷ []
 path_text (x ∷ p) = names_text (x ∷ p)
 
 -- names by their bytes
-abbrev pub name_cmp : Name → Name → Ordering
+abbrev pub name_cmp : PathName → PathName → Ordering
 name_cmp = slice_cmp nat_cmp
 
 -- paths as lists, a prefix first
 abbrev pub path_cmp : Path → Path → Ordering
 path_cmp = slice_cmp name_cmp
 
-abbrev pub same_name : Name → Name → Bool
+abbrev pub same_name : PathName → PathName → Bool
 same_name = pointwise nat_eq
 
 abbrev pub is_root : Path → Bool

@@ -1,6 +1,6 @@
 //! A text as a plain representation, in a book of one revision.
 use anyhow::{Result, bail};
-use fsfs_book::{Kept, MemBook, MemRev};
+use fsfs_book::{MemBook, MemFile, MemRev};
 use fsfs_noderev::{Rep, read_rep};
 use fsfs_rep::{Digester, RepReader};
 use std::alloc::{AllocError, Global};
@@ -33,8 +33,8 @@ fn book_of(alloc: Global, text: &[u8]) -> Result<MemBook, AllocError> {
     bytes.extend_from_slice(b"ENDREP\n")?;
     let mut revs = Vec::new(alloc);
     revs.push(MemRev {
-        bytes: Kept::Bytes(bytes),
-        props: Kept::Absent,
+        bytes: MemFile::Bytes(bytes),
+        props: MemFile::Absent,
     })?;
     Ok(MemBook::new(alloc, revs))
 }

@@ -1,8 +1,8 @@
 -- What a book in memory keeps is short, since a list in memory is.
 use Rattle.std.proofs.Common.{◌≡◌, ℕ, ◌^◌, ◌<◌, List, length, Option, Some, None, Ok, subst, arith}
 use Rattle.std.specs.Prelude.{slice_get}
-use Rattle.fsfs_book.specs.declared.mem_book.Kept.{Kept}
-use Rattle.fsfs_book.specs.declared.mem_book.Kept.TheVariants.{Bytes, Absent, Damaged}
+use Rattle.fsfs_book.specs.declared.mem_book.MemFile.{MemFile}
+use Rattle.fsfs_book.specs.declared.mem_book.MemFile.TheVariants.{Bytes, Absent, Damaged}
 use Rattle.fsfs_book.specs.declared.mem_book.MemRev.{MemRev}
 use Rattle.fsfs_book.specs.MemBook.{read_of, found_by, bytes_in}
 
@@ -10,7 +10,7 @@ abbrev IsShort : List ℕ → Type 0
 IsShort bytes = length bytes < 2 ^ 64
 
 -- what a file gives is short
-length-read_of : (rev : ℕ) (kept : Kept) (bytes : List ℕ) → read_of rev kept ≡ Ok bytes → IsShort bytes
+length-read_of : (rev : ℕ) (kept : MemFile) (bytes : List ℕ) → read_of rev kept ≡ Ok bytes → IsShort bytes
 length-read_of rev (Bytes v) bytes e =
     let same : v.items ≡ bytes = cc in
     let short : length v.items < 2 ^ 64 = omega (arith, v.ok.0, v.ok.1, v.small) in

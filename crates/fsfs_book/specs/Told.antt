@@ -9,8 +9,8 @@ use Rattle.fsfs_book.specs.declared.book.BookFault.{BookFault}
 use Rattle.fsfs_book.specs.declared.book.BookFault.TheVariants.{Refused, Short, DiskFault, OutOfMemory}
 
 -- the bytes of each revision, or why there are none
-abbrev pub Look : Type 0
-Look = ℕ → Result (List ℕ) Refusal
+abbrev pub RevisionBytes : Type 0
+RevisionBytes = ℕ → Result (List ℕ) Refusal
 
 -- the same, where something is told of a revision
 abbrev pub Told : Type 0
@@ -25,7 +25,7 @@ pub record Telling (Below : Type 0) : Type 0 where
   pub below : Below
 
 -- look is what is told of the revisions up to top
-abbrev pub Knows : Told → ℕ → Look → Type 0
+abbrev pub Knows : Told → ℕ → RevisionBytes → Type 0
 Knows told top look = (r : ℕ) → r ≤ top → told r ≡ Some (look r)
 
 -- what was told stays true, and reading leaves what is below as it is
@@ -79,10 +79,10 @@ HasCause before now result = counts.HasCause IfDisk before now result
 -- ---- what is told, as a reading
 
 -- look is what is told of the revision
-abbrev pub IsTold : {Below : Type 0} → Telling Below → Look → ℕ → Type 0
+abbrev pub IsTold : {Below : Type 0} → Telling Below → RevisionBytes → ℕ → Type 0
 IsTold told look rev = told.revs rev ≡ Some (look rev)
 
 -- the bytes of a revision
-abbrev pub BytesOf : Look → ℕ → Result (List ℕ) Wrong → Type 0
+abbrev pub BytesOf : RevisionBytes → ℕ → Result (List ℕ) Wrong → Type 0
 BytesOf look rev (Ok bytes) = look rev ≡ Ok bytes
 BytesOf look rev (Err w) = (why : Refusal) × (look rev ≡ Err why) × (w ≡ wrongs.Refused why)

@@ -7,4 +7,4 @@ mod book;
 mod mem_book;
 
 pub use book::{Book, BookFault};
-pub use mem_book::{Kept, MemBook, MemRev};
+pub use mem_book::{MemBook, MemFile, MemRev};

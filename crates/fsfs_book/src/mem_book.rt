@@ -13,7 +13,7 @@ use std::alloc::Global;
 
 /// What stands where the bytes of a file are looked for.
 #[derive(Drop)]
-pub enum Kept {
+pub enum MemFile {
     Bytes(Vec<u8>),
     /// There is no such file.
     Absent,
@@ -24,8 +24,8 @@ pub enum Kept {
 /// A revision of a book in memory.
 #[derive(Drop)]
 pub struct MemRev {
-    pub bytes: Kept,
-    pub props: Kept,
+    pub bytes: MemFile,
+    pub props: MemFile,
 }
 
 /// A book in memory. It tells everything, and nothing is below it.
@@ -50,14 +50,14 @@ fn none_above(revs: &[MemRev], rev: u32) -> Refusal
     }
 }
 
-fn read_kept(rev: u32, kept: &Kept) -> Result<&[u8], Refusal>
+fn read_kept(rev: u32, kept: &MemFile) -> Result<&[u8], Refusal>
     ensures read { MatchResult result (λ b. read_of rev kept.now ≡ Ok b.now) (λ e. read_of rev kept.now ≡ Err e) }
     ensures about { IfErr result (IsRefusalOf rev) }
 {
     match kept {
-        Kept::Bytes(bytes) => Ok(bytes.as_slice()),
-        Kept::Absent => Err(Refusal::Missing { rev }),
-        Kept::Damaged(fault) => Err(Refusal::Small(*fault)),
+        MemFile::Bytes(bytes) => Ok(bytes.as_slice()),
+        MemFile::Absent => Err(Refusal::Missing { rev }),
+        MemFile::Damaged(fault) => Err(Refusal::Small(*fault)),
     }
 }
 

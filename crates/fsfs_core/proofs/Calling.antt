@@ -19,12 +19,12 @@ use Rattle.fsfs_flat.specs.Landing.{land, NoClash, IsFirstClash}
 use Rattle.fsfs_tree.specs.Revisions.{Revision, tree_of}
 use Rattle.fsfs_tree.specs.Dated.{IsDated, date_name, last_of}
 use Rattle.fsfs_flat.specs.Transactions.{IsNext}
-use Rattle.fsfs_machine.specs.declared.contents.Change.{Change}
-use Rattle.fsfs_machine.specs.declared.contents.Name.TheVariants.{Rev}
-use Rattle.fsfs_machine.specs.declared.contents.Change.TheVariants.{Put}
+use Rattle.fsfs_machine.specs.declared.contents.NameChange.{NameChange}
+use Rattle.fsfs_machine.specs.declared.contents.FileName.TheVariants.{Rev}
+use Rattle.fsfs_machine.specs.declared.contents.NameChange.TheVariants.{Put}
 use Rattle.fsfs_machine.specs.declared.machine.Coming.{Coming}
-use Rattle.fsfs_machine.specs.declared.machine.Place.TheVariants.{PutRev}
-use Rattle.fsfs_machine.specs.declared.machine.Place.{Place}
+use Rattle.fsfs_machine.specs.declared.machine.DiskPlace.TheVariants.{PutRev}
+use Rattle.fsfs_machine.specs.declared.machine.DiskPlace.{DiskPlace}
 use Rattle.fsfs_machine.specs.declared.machine.Txn.{Txn}
 use Rattle.fsfs_machine.specs.declared.machine.Section.{Section}
 use Rattle.fsfs_machine.specs.declared.machine.Section.TheVariants.{Begun, CountRead, CountPut, CountRenamed, RevPut, PropsPut, RevFirm, CurrentPut, CurrentRenamed, CurrentFirm, Doubtful, Over}
@@ -52,14 +52,14 @@ free_due w (CurrentFirm x) = refl
 free_due w (Doubtful place x) = refl
 free_due w Over = refl
 
-free_call : (w : World) (p : ℕ) (place : Place) (went : Went) (s : Section) (change : Change) → called_by (record w { lock = Free }) p place went s (Some change) ≡ called_by w p place went s (Some change)
+free_call : (w : World) (p : ℕ) (place : DiskPlace) (went : Went) (s : Section) (change : NameChange) → called_by (record w { lock = Free }) p place went s (Some change) ≡ called_by w p place went s (Some change)
 free_call w p place Fine (CountRenamed x) change = refl
 free_call w p place Before (CountRenamed x) change = refl
 free_call w p place After (CountRenamed x) change = refl
 free_call w p place (Torn any) (CountRenamed x) change = refl
 free_call w p place went s change = refl
 
-goes_on : (w u : World) (p : ℕ) (place : Place) (went : Went) (s : Section) (change : Change) → held_by p w.lock ≡ Some s → u ≡ record w { lock = Free }
+goes_on : (w u : World) (p : ℕ) (place : DiskPlace) (went : Went) (s : Section) (change : NameChange) → held_by p w.lock ≡ Some s → u ≡ record w { lock = Free }
     → is_due s place ≡ true → Some change ≡ due u s → called_by u p place went s (Some change) ≡ inside w (called w p place went) (held_by p w.lock)
 goes_on w u p place went s change held is due_here found =
     let change_is : Some change ≡ due w s = found ∙ ap (λ z. due z s) is ∙ free_due w s in
@@ -69,7 +69,7 @@ goes_on w u p place went s change held is due_here found =
     ∙ sym (ap (λ b. cond b (called_by w p place went s (due w s)) (barred w)) due_here)
     ∙ sym (ap (λ o. inside w (called w p place went) o) held)
 
-pub call_goes_on : {E : Type 0} (r : Result Outcome E) (w u v : World) (p : ℕ) (place : Place) (went : Went) (s : Section) (change : Change) → held_by p w.lock ≡ Some s → u ≡ record w { lock = Free }
+pub call_goes_on : {E : Type 0} (r : Result Outcome E) (w u v : World) (p : ℕ) (place : DiskPlace) (went : Went) (s : Section) (change : NameChange) → held_by p w.lock ≡ Some s → u ≡ record w { lock = Free }
     → is_due s place ≡ true → Some change ≡ due u s
     → IfOk r (λ o. did v o ≡ called_by u p place went s (Some change)) → IfOk r (λ o. did v o ≡ inside w (called w p place went) (held_by p w.lock))
 call_goes_on (Ok o) w u v p place went s change held is due_here found e = e ∙ goes_on w u p place went s change held is due_here found

@@ -1,7 +1,7 @@
 -- A revision more is read.
 use Rattle.std.proofs.Common.{◌≡◌, ◌<◌, ◌+◌, ◌-◌, ℕ, suc, zero, List, [], ◌∷◌, ◌++◌, refl, sym, ap, ◌∙◌, arith, add-one}
 use Rattle.std.specs.Prelude.{Option, Some, None}
-use Rattle.fsfs_machine.specs.declared.contents.Name.TheVariants.{Props}
+use Rattle.fsfs_machine.specs.declared.contents.FileName.TheVariants.{Props}
 use Rattle.fsfs_machine.specs.declared.machine.Recorded.{Recorded}
 use Rattle.fsfs_machine.specs.Disk.{Disk, found, shown}
 use Rattle.fsfs_machine.specs.Machine.{revision_in, read_one, read_back}

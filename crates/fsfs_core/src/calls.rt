@@ -11,7 +11,9 @@ use fsfs_machine::passes::{find_stuck, learn, reveal_by, see_least};
 use fsfs_machine::section::{
     answer_of, drawn_section, is_due_at, is_lock_up, is_quiet_section, next_section,
 };
-use fsfs_machine::{Change, Contents, Drawn, Lock, Name, Outcome, Place, Section, Went};
+use fsfs_machine::{
+    Contents, DiskPlace, Drawn, FileName, Lock, NameChange, Outcome, Section, Went,
+};
 use std::alloc::AllocError;
 use std::mem;
 
@@ -131,8 +133,8 @@ impl State {
     pub(crate) fn end_call(
         &mut self,
         p: u64,
-        place: Place,
-        change: Change,
+        place: DiskPlace,
+        change: NameChange,
         section: Section,
         went: Went,
     ) -> Result<(), AllocError>
@@ -147,40 +149,40 @@ impl State {
         Ok(())
     }
 
-    fn renaming(&self, from: Name, to: Name) -> Result<Option<Change>, AllocError>
+    fn renaming(&self, from: FileName, to: FileName) -> Result<Option<NameChange>, AllocError>
         ensures { IfOk result (λ o. o ≡ rename_of from to (found self.now.disk.items from)) }
     {
         match find(&self.disk, &from) {
             Some(file) => {
                 let file = file.copy(self.alloc)?;
-                Ok(Some(Change::Rename(from, to, file)))
+                Ok(Some(NameChange::Rename(from, to, file)))
             }
             None => Ok(None),
         }
     }
 
     // The change that the call makes which is due.
-    fn due_change(&self, section: &Section) -> Result<Option<Change>, AllocError>
+    fn due_change(&self, section: &Section) -> Result<Option<NameChange>, AllocError>
         ensures { IfOk result (λ o. o ≡ due (world_of self.now) section.now) }
     {
         let number = self.count();
         match section {
-            Section::CountRead(x) => Ok(Some(Change::Put(
-                Name::CounterNext,
+            Section::CountRead(x) => Ok(Some(NameChange::Put(
+                FileName::CounterNext,
                 Contents::Number(x.next),
             ))),
-            Section::CountPut(_) => self.renaming(Name::CounterNext, Name::Counter),
+            Section::CountPut(_) => self.renaming(FileName::CounterNext, FileName::Counter),
             Section::RevPut(x) => {
                 let properties = x.revision.properties.clone()?;
-                Ok(Some(Change::Put(Name::Props(number), Contents::PropsFile(properties))))
+                Ok(Some(NameChange::Put(FileName::Props(number), Contents::PropsFile(properties))))
             }
-            Section::RevFirm(_) => Ok(Some(Change::Put(
-                Name::CurrentNext,
+            Section::RevFirm(_) => Ok(Some(NameChange::Put(
+                FileName::CurrentNext,
                 Contents::Number(number),
             ))),
-            Section::CurrentPut(_) => self.renaming(Name::CurrentNext, Name::Current),
+            Section::CurrentPut(_) => self.renaming(FileName::CurrentNext, FileName::Current),
             Section::CountRenamed(_) | Section::PropsPut(_) | Section::CurrentRenamed(_) => {
-                Ok(Some(Change::Firm))
+                Ok(Some(NameChange::Firm))
             }
             Section::Begun | Section::CurrentFirm(_) | Section::Doubtful(_, _) | Section::Over => {
                 Ok(None)
@@ -208,9 +210,9 @@ impl State {
     fn go_on(
         &mut self,
         p: u64,
-        place: Place,
+        place: DiskPlace,
         section: Section,
-        change: Change,
+        change: NameChange,
         went: Went,
     ) -> Result<Outcome, AllocError>
         ensures { IfOk result (λ o. did (world_of self.new) o ≡ called_by (world_of self.old) p place went section (Some change)) }
@@ -224,7 +226,12 @@ impl State {
 
     // The call at that place, where it is due.
     #[tactic(auto, using(crate::proofs::Calling::call_goes_on))]
-    pub(crate) fn call(&mut self, p: u64, place: Place, went: Went) -> Result<Outcome, AllocError>
+    pub(crate) fn call(
+        &mut self,
+        p: u64,
+        place: DiskPlace,
+        went: Went,
+    ) -> Result<Outcome, AllocError>
         ensures { IfOk result (λ o. did (world_of self.new) o ≡ inside (world_of self.old) (called (world_of self.old) p place went) (held_by p self.old.lock)) }
     {
         let section = match self.take_section(p) {
@@ -245,10 +252,10 @@ impl State {
     }
 
     fn end_read(&mut self, p: u64, section: Section, went: &Went) -> Result<(), AllocError>
-        ensures { OnOk result (world_of self.new ≡ record (world_of self.old) { lock = Lock.Held p section; passes = at_place self.old.passes.items p (learns (length self.old.line) Place.TxnRead went.now) }) }
+        ensures { OnOk result (world_of self.new ≡ record (world_of self.old) { lock = Lock.Held p section; passes = at_place self.old.passes.items p (learns (length self.old.line) DiskPlace.TxnRead went.now) }) }
     {
         let seen = self.count();
-        learn(&mut self.passes, p, seen, Place::TxnRead, went)?;
+        learn(&mut self.passes, p, seen, DiskPlace::TxnRead, went)?;
         self.lock = Lock::Held(p, section);
         Ok(())
     }
@@ -260,7 +267,7 @@ impl State {
         if !self.has_begun(p) {
             return Ok(Outcome::Barred);
         }
-        match find_number(&self.disk, &Name::Counter) {
+        match find_number(&self.disk, &FileName::Counter) {
             None => Ok(Outcome::Barred),
             Some(name) => {
                 if (base.get() as u64) < self.count() && name < u64::MAX {

@@ -10,7 +10,8 @@ use fsfs_flat::Edit;
 use fsfs_machine::files::is_fine;
 use fsfs_machine::section::answer_of;
 use fsfs_machine::{
-    Bytes, Change, Coming, Contents, Name, Outcome, Place, Section, Went, set_edited, set_merged,
+    Bytes, Coming, Contents, DiskPlace, FileName, NameChange, Outcome, Section, Went, set_edited,
+    set_merged,
 };
 use fsfs_model::{flat_apply, flat_mark};
 use std::alloc::AllocError;
@@ -28,17 +29,17 @@ fn begun_section(coming: Coming, went: &Went) -> Section
 impl State {
     fn put_rev(&mut self, p: u64, coming: Coming, went: Went) -> Result<Outcome, AllocError>
         ensures { IfOk result (λ o. did (world_of self.new) o
-            ≡ did (at_call (world_of self.old) p Place.PutRev (Change.Put (Name.Rev (length self.old.line)) (file_of (recorded coming))) (Section.RevPut coming) Section.Over went) (answer went)) }
+            ≡ did (at_call (world_of self.old) p DiskPlace.PutRev (NameChange.Put (FileName.Rev (length self.old.line)) (file_of (recorded coming))) (Section.RevPut coming) Section.Over went) (answer went)) }
     {
         let file = Contents::RevFile(
             coming.revision.tree.clone()?,
             coming.revision.changes.clone()?,
             coming.bytes.copy(self.alloc)?,
         );
-        let change = Change::Put(Name::Rev(self.count()), file);
+        let change = NameChange::Put(FileName::Rev(self.count()), file);
         let answer = answer_of(&went);
         let section = begun_section(coming, &went);
-        self.end_call(p, Place::PutRev, change, section, went)?;
+        self.end_call(p, DiskPlace::PutRev, change, section, went)?;
         Ok(answer)
     }
 

@@ -9,7 +9,7 @@ use fsfs_machine::files::is_fine;
 use fsfs_machine::labels::{drop_label, is_labelled, put_label};
 use fsfs_machine::passes::learn;
 use fsfs_machine::section::{answer_of, is_lock_up, is_outside_section};
-use fsfs_machine::{Drawn, Marks, Numbers, Outcome, Place, Txn, Went};
+use fsfs_machine::{DiskPlace, Drawn, Marks, Numbers, Outcome, Txn, Went};
 use std::alloc::AllocError;
 use std::collections::VecDeque;
 use std::mem;
@@ -35,7 +35,7 @@ impl State {
     }
 
     // A turn of the pass that leaves all else.
-    fn turn(&mut self, p: u64, place: Place, went: &Went) -> Result<(), AllocError>
+    fn turn(&mut self, p: u64, place: DiskPlace, went: &Went) -> Result<(), AllocError>
         ensures { OnOk result (world_of self.new ≡ turned (world_of self.old) p place went.now) }
     {
         let seen = self.count();
@@ -84,7 +84,7 @@ impl State {
         let drawn = self.named.remove(at);
         put_label(&mut self.labels, drawn.name, &went)?;
         self.begin_txn(&drawn, &went)?;
-        self.turn(p, Place::MakeBench, &went)?;
+        self.turn(p, DiskPlace::MakeBench, &went)?;
         Ok(answer_of(&went))
     }
 
@@ -100,13 +100,13 @@ impl State {
 
     pub(crate) fn list_txns(&mut self, p: u64, went: Went) -> Result<Outcome, AllocError>
         ensures { IfOk result (λ o. did (world_of self.new) o
-            ≡ (if is_there (world_of self.old) p then did (turned (world_of self.old) p Place.List went) (listed (world_of self.old) went) else barred (world_of self.old))) }
+            ≡ (if is_there (world_of self.old) p then did (turned (world_of self.old) p DiskPlace.List went) (listed (world_of self.old) went) else barred (world_of self.old))) }
     {
         if !self.is_there(p) {
             return Ok(Outcome::Barred);
         }
         let answer = self.list(&went)?;
-        self.turn(p, Place::List, &went)?;
+        self.turn(p, DiskPlace::List, &went)?;
         Ok(answer)
     }
 
@@ -120,7 +120,7 @@ impl State {
         }
         let txn = self.txns.remove(at);
         self.unlabel(txn.name, &went)?;
-        self.turn(p, Place::Remove, &went)?;
+        self.turn(p, DiskPlace::Remove, &went)?;
         Ok(answer_of(&went))
     }
 
@@ -134,7 +134,7 @@ impl State {
         }
         let name = self.spent.remove(at);
         self.unlabel(name, &went)?;
-        self.turn(p, Place::Remove, &went)?;
+        self.turn(p, DiskPlace::Remove, &went)?;
         Ok(answer_of(&went))
     }
 

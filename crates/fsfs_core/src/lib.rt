@@ -10,7 +10,8 @@ mod state;
 mod txns;
 
 pub use fsfs_machine::{
-    Bytes, Change, Coming, Contents, Drawn, Entry, Line, Lock, Marks, Name, Numbers, Outcome, Pass,
-    Picks, Place, Places, Recorded, Section, Step, Txn, Went, every_run_keeps_one_history,
+    Bytes, Coming, Contents, DiskPlace, Drawn, Entry, FileName, Line, Lock, Marks, NameChange,
+    Numbers, Outcome, Pass, Picks, Places, Recorded, Section, Step, Txn, Went,
+    every_run_keeps_one_history,
 };
 pub use state::State;

@@ -8,7 +8,9 @@ use crate::state::State;
 use fsfs_machine::files::{change_made, find, find_number, find_rev, is_fine, what_is_left};
 use fsfs_machine::labels::pick_labels;
 use fsfs_machine::section::{is_lock_up, lock_down};
-use fsfs_machine::{Change, Contents, Line, Lock, Name, Outcome, Pass, Picks, Recorded, Went};
+use fsfs_machine::{
+    Contents, FileName, Line, Lock, NameChange, Outcome, Pass, Picks, Recorded, Went,
+};
 use fsfs_tree::Revision;
 use std::alloc::{AllocError, Global};
 use std::collections::VecDeque;
@@ -41,23 +43,23 @@ impl State {
 
     pub(crate) fn crash(&mut self, picks: Picks, labels: Picks) -> Result<Outcome, AllocError>
         ensures { IfOk result (λ o. did (world_of self.new) o
-            ≡ did (record (ends (world_of self.old)) { disk = Change.Firm ∷ left picks self.old.disk.items; labels = labels_left labels self.old.labels.items }) Outcome.Done) }
+            ≡ did (record (ends (world_of self.old)) { disk = NameChange.Firm ∷ left picks self.old.disk.items; labels = labels_left labels self.old.labels.items }) Outcome.Done) }
     {
         let kept = mem::replace(&mut self.labels, VecDeque::new(self.alloc));
         self.labels = pick_labels(self.alloc, kept, &labels.picks)?;
         let disk = mem::replace(&mut self.disk, VecDeque::new(self.alloc));
         self.disk = what_is_left(self.alloc, disk, &picks.picks)?;
-        self.disk.push_front(Change::Firm)?;
+        self.disk.push_front(NameChange::Firm)?;
         self.end();
         Ok(Outcome::Done)
     }
 
     fn revision_at(&self, floor: u64, rev: u64) -> Result<Option<Recorded>, AllocError>
-        ensures { IfOk result (λ o. o ≡ revision_in (shown floor self.now.disk.items rev) (found self.now.disk.items (Name.Props rev))) }
+        ensures { IfOk result (λ o. o ≡ revision_in (shown floor self.now.disk.items rev) (found self.now.disk.items (FileName.Props rev))) }
     {
         match (
             find_rev(&self.disk, floor, rev),
-            find(&self.disk, &Name::Props(rev)),
+            find(&self.disk, &FileName::Props(rev)),
         ) {
             (
                 Some(Contents::RevFile(tree, changes, bytes)),
@@ -102,8 +104,8 @@ impl State {
             return self.fail_to_open(went);
         }
         match (
-            find_number(&self.disk, &Name::Current),
-            find_number(&self.disk, &Name::Floor),
+            find_number(&self.disk, &FileName::Current),
+            find_number(&self.disk, &FileName::Floor),
         ) {
             (Some(last), Some(floor)) => {
                 if last < u64::MAX {
@@ -117,9 +119,9 @@ impl State {
     }
 
     fn fail_to_open(&mut self, went: Went) -> Result<Outcome, AllocError>
-        ensures { IfOk result (λ o. did (world_of self.new) o ≡ did (record (world_of self.old) { disk = disk_after went Change.Firm self.old.disk.items }) Outcome.Failed) }
+        ensures { IfOk result (λ o. did (world_of self.new) o ≡ did (record (world_of self.old) { disk = disk_after went NameChange.Firm self.old.disk.items }) Outcome.Failed) }
     {
-        if let Some(change) = change_made(went, Change::Firm) {
+        if let Some(change) = change_made(went, NameChange::Firm) {
             self.disk.push_front(change)?;
         }
         Ok(Outcome::Failed)
@@ -131,7 +133,7 @@ impl State {
     {
         match self.read_back(floor, count)? {
             Some(line) => {
-                self.disk.push_front(Change::Firm)?;
+                self.disk.push_front(NameChange::Firm)?;
                 self.lock = Lock::Free;
                 self.young = last;
                 self.line = line;

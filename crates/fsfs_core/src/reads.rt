@@ -7,7 +7,7 @@ ghost use Rattle.fsfs_core.specs.State.{world_of};
 use crate::state::State;
 use fsfs_machine::files::{find, find_number, find_rev, is_fine};
 use fsfs_machine::passes::{join_to, learn, read_floor_by};
-use fsfs_machine::{Contents, Name, Outcome, Place, Went};
+use fsfs_machine::{Contents, DiskPlace, FileName, Outcome, Went};
 use std::alloc::AllocError;
 
 fn floor_answer(found: Option<u64>, went: &Went) -> Outcome
@@ -74,14 +74,14 @@ impl State {
         }
         let answer = self.range_answer(pass.floor, rev, offset, length, &went)?;
         let seen = self.count();
-        learn(&mut self.passes, p, seen, Place::Read, &went)?;
+        learn(&mut self.passes, p, seen, DiskPlace::Read, &went)?;
         Ok(answer)
     }
 
     fn properties(&self, rev: u64) -> Result<Outcome, AllocError>
-        ensures { IfOk result (λ o. o ≡ properties_in (found self.now.disk.items (Name.Props rev))) }
+        ensures { IfOk result (λ o. o ≡ properties_in (found self.now.disk.items (FileName.Props rev))) }
     {
-        match find(&self.disk, &Name::Props(rev)) {
+        match find(&self.disk, &FileName::Props(rev)) {
             Some(Contents::PropsFile(properties)) => Ok(Outcome::Properties(properties.clone()?)),
             Some(Contents::RevFile(_, _, _) | Contents::Number(_) | Contents::Junk) | None => {
                 Ok(Outcome::Missing)
@@ -90,7 +90,7 @@ impl State {
     }
 
     fn properties_answer(&self, rev: u64, went: &Went) -> Result<Outcome, AllocError>
-        ensures { IfOk result (λ o. o ≡ either went.now (properties_in (found self.now.disk.items (Name.Props rev))) Outcome.Failed) }
+        ensures { IfOk result (λ o. o ≡ either went.now (properties_in (found self.now.disk.items (FileName.Props rev))) Outcome.Failed) }
     {
         if is_fine(went) {
             self.properties(rev)
@@ -112,7 +112,7 @@ impl State {
         }
         let answer = self.properties_answer(rev, &went)?;
         let seen = self.count();
-        learn(&mut self.passes, p, seen, Place::Read, &went)?;
+        learn(&mut self.passes, p, seen, DiskPlace::Read, &went)?;
         Ok(answer)
     }
 
@@ -122,7 +122,7 @@ impl State {
         if !self.is_there(p) {
             return Ok(Outcome::Barred);
         }
-        let found = find_number(&self.disk, &Name::Floor);
+        let found = find_number(&self.disk, &FileName::Floor);
         let seen = self.count();
         read_floor_by(&mut self.passes, p, seen, found, &went)?;
         Ok(floor_answer(found, &went))

@@ -8,7 +8,8 @@ ghost use Rattle.fsfs_core.specs.State.{world_of};
 
 use fsfs_base::{FsPath, Kind, Pairs, RevNum};
 use fsfs_machine::{
-    Bytes, Change, Contents, Drawn, Entry, Line, Lock, Name, Outcome, Pass, Place, Step, Txn,
+    Bytes, Contents, DiskPlace, Drawn, Entry, FileName, Line, Lock, NameChange, Outcome, Pass,
+    Step, Txn,
 };
 use fsfs_tree::{ChangeMap, History, Node, Revision, Text, Tree};
 use std::alloc::{AllocError, Global};
@@ -19,7 +20,7 @@ use std::collections::VecDeque;
 pub struct State {
     pub(crate) alloc: Global,
     // The newest change first.
-    pub(crate) disk: VecDeque<Change>,
+    pub(crate) disk: VecDeque<NameChange>,
     pub(crate) lock: Lock,
     pub(crate) young: u64,
     pub(crate) line: Line,
@@ -60,7 +61,7 @@ fn first_files(
     alloc: Global,
     properties: &Pairs,
     bytes: &Bytes,
-) -> Result<VecDeque<Change>, AllocError>
+) -> Result<VecDeque<NameChange>, AllocError>
     ensures { IfOk result (λ disk. disk.items ≡ (created properties.now bytes.now).disk) }
 {
     let file = Contents::RevFile(
@@ -69,12 +70,12 @@ fn first_files(
         bytes.copy(alloc)?,
     );
     let mut disk = VecDeque::new(alloc);
-    disk.push_front(Change::Put(Name::Floor, Contents::Number(0)))?;
-    disk.push_front(Change::Put(Name::Counter, Contents::Number(0)))?;
-    disk.push_front(Change::Put(Name::Props(0), Contents::PropsFile(properties.clone()?)))?;
-    disk.push_front(Change::Put(Name::Rev(0), file))?;
-    disk.push_front(Change::Put(Name::Current, Contents::Number(0)))?;
-    disk.push_front(Change::Firm)?;
+    disk.push_front(NameChange::Put(FileName::Floor, Contents::Number(0)))?;
+    disk.push_front(NameChange::Put(FileName::Counter, Contents::Number(0)))?;
+    disk.push_front(NameChange::Put(FileName::Props(0), Contents::PropsFile(properties.clone()?)))?;
+    disk.push_front(NameChange::Put(FileName::Rev(0), file))?;
+    disk.push_front(NameChange::Put(FileName::Current, Contents::Number(0)))?;
+    disk.push_front(NameChange::Firm)?;
     Ok(disk)
 }
 
@@ -126,7 +127,7 @@ impl State {
     }
 
     /// Where the lock is stuck.
-    pub fn stuck(&self) -> Option<Place>
+    pub fn stuck(&self) -> Option<DiskPlace>
         ensures { result ≡ stuck_place (world_of self.now).lock }
     {
         match &self.lock {

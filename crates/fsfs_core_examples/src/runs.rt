@@ -1,7 +1,7 @@
 // Runs of the machine, from tables of steps.
 use crate::steps::{Do, How, Names, Want, is_answer, path_of, step_of};
 use fsfs_base::{Pairs, RevNum};
-use fsfs_core::{Bytes, Outcome, Place, State, Step};
+use fsfs_core::{Bytes, DiskPlace, Outcome, State, Step};
 use fsfs_tree::Text;
 use std::alloc::{AllocError, Global};
 use std::collections::VecDeque;
@@ -64,9 +64,9 @@ pub fn begin(alloc: Global, state: &mut State, base: u16) -> Result<(), Fail> {
     let acts = [
         Do::TakeLock(0),
         Do::Draw(0, base, How::Fine),
-        Do::Call(0, Place::TxnPut, How::Fine),
-        Do::Call(0, Place::TxnRename, How::Fine),
-        Do::Call(0, Place::TxnFirm, How::Fine),
+        Do::Call(0, DiskPlace::TxnPut, How::Fine),
+        Do::Call(0, DiskPlace::TxnRename, How::Fine),
+        Do::Call(0, DiskPlace::TxnFirm, How::Fine),
         Do::GiveLock(0),
         Do::MakeBench(0, 0, How::Fine),
     ];
@@ -83,11 +83,11 @@ pub fn commit(
     let acts = [
         Do::TakeLock(0),
         Do::PutRev(0, txn, bytes, How::Fine),
-        Do::Call(0, Place::PutProps, How::Fine),
-        Do::Call(0, Place::FirmRev, How::Fine),
-        Do::Call(0, Place::PutCurrent, How::Fine),
-        Do::Call(0, Place::RenameCurrent, How::Fine),
-        Do::Call(0, Place::FirmCurrent, How::Fine),
+        Do::Call(0, DiskPlace::PutProps, How::Fine),
+        Do::Call(0, DiskPlace::FirmRev, How::Fine),
+        Do::Call(0, DiskPlace::PutCurrent, How::Fine),
+        Do::Call(0, DiskPlace::RenameCurrent, How::Fine),
+        Do::Call(0, DiskPlace::FirmCurrent, How::Fine),
         Do::Reveal(0),
         Do::GiveLock(0),
     ];

@@ -1,6 +1,6 @@
 // Steps as the tables write them, and their answers.
 use fsfs_base::{FsPath, Pairs, PropName, RevNum};
-use fsfs_core::{Bytes, Contents, Outcome, Picks, Place, Step, Went};
+use fsfs_core::{Bytes, Contents, DiskPlace, Outcome, Picks, Step, Went};
 use fsfs_flat::Edit;
 use std::alloc::{AllocError, Global};
 use std::test::Fail;
@@ -38,7 +38,7 @@ pub enum Do {
     Draw(u64, u16, How),
     /// The transaction at this place, with these bytes of its revision file.
     PutRev(u64, u64, &'static [u8], How),
-    Call(u64, Place, How),
+    Call(u64, DiskPlace, How),
     Reveal(u64),
     Look(u64),
     /// Reads the whole file of this revision.
@@ -73,7 +73,7 @@ pub enum Want {
     Barred,
     Done,
     Failed,
-    Stuck(Place),
+    Stuck(DiskPlace),
     Youngest(u64),
     Bytes(&'static [u8]),
     Floor(u64),
@@ -169,7 +169,7 @@ fn draw(pass: u64, base: u16, how: How) -> Step {
     Step::Draw { pass, base, went }
 }
 
-fn call(pass: u64, place: Place, how: How) -> Step {
+fn call(pass: u64, place: DiskPlace, how: How) -> Step {
     let went = went(how);
     Step::Call { pass, place, went }
 }

@@ -1,7 +1,7 @@
 // A commit stopped after each of its steps, or in a fault: what each image opens to.
 use crate::runs::{ZERO, begin, commit, created, done, ends_at, has, play};
 use crate::steps::{Do, How, Want, Work};
-use fsfs_core::{Place, State};
+use fsfs_core::{DiskPlace, State};
 use std::alloc::Global;
 use std::test::Fail;
 
@@ -12,11 +12,14 @@ const ONE: &[u8] = b"one";
 const COMMIT: [(Do, [u64; 4]); 9] = [
     (Do::TakeLock(0), [0; 4]),
     (Do::PutRev(0, 0, ONE, How::Fine), [0; 4]),
-    (Do::Call(0, Place::PutProps, How::Fine), [0; 4]),
-    (Do::Call(0, Place::FirmRev, How::Fine), [0; 4]),
-    (Do::Call(0, Place::PutCurrent, How::Fine), [0; 4]),
-    (Do::Call(0, Place::RenameCurrent, How::Fine), [0, 1, 0, 1]),
-    (Do::Call(0, Place::FirmCurrent, How::Fine), [1; 4]),
+    (Do::Call(0, DiskPlace::PutProps, How::Fine), [0; 4]),
+    (Do::Call(0, DiskPlace::FirmRev, How::Fine), [0; 4]),
+    (Do::Call(0, DiskPlace::PutCurrent, How::Fine), [0; 4]),
+    (
+        Do::Call(0, DiskPlace::RenameCurrent, How::Fine),
+        [0, 1, 0, 1],
+    ),
+    (Do::Call(0, DiskPlace::FirmCurrent, How::Fine), [1; 4]),
     (Do::Reveal(0), [1; 4]),
     (Do::GiveLock(0), [1; 4]),
 ];
@@ -27,33 +30,53 @@ const FAULTS: [(usize, Do, [u64; 4], u64); 18] = [
     (1, Do::PutRev(0, 0, ONE, How::Before), [0; 4], 0),
     (1, Do::PutRev(0, 0, ONE, How::After), [0; 4], 0),
     (1, Do::PutRev(0, 0, ONE, How::Torn), [0; 4], 0),
-    (2, Do::Call(0, Place::PutProps, How::Before), [0; 4], 0),
-    (2, Do::Call(0, Place::PutProps, How::After), [0; 4], 0),
-    (2, Do::Call(0, Place::PutProps, How::Torn), [0; 4], 0),
-    (3, Do::Call(0, Place::FirmRev, How::Before), [0; 4], 0),
-    (3, Do::Call(0, Place::FirmRev, How::After), [0; 4], 0),
-    (3, Do::Call(0, Place::FirmRev, How::Torn), [0; 4], 0),
-    (4, Do::Call(0, Place::PutCurrent, How::Before), [0; 4], 0),
-    (4, Do::Call(0, Place::PutCurrent, How::After), [0; 4], 0),
-    (4, Do::Call(0, Place::PutCurrent, How::Torn), [0; 4], 0),
-    (5, Do::Call(0, Place::RenameCurrent, How::Before), [0; 4], 0),
+    (2, Do::Call(0, DiskPlace::PutProps, How::Before), [0; 4], 0),
+    (2, Do::Call(0, DiskPlace::PutProps, How::After), [0; 4], 0),
+    (2, Do::Call(0, DiskPlace::PutProps, How::Torn), [0; 4], 0),
+    (3, Do::Call(0, DiskPlace::FirmRev, How::Before), [0; 4], 0),
+    (3, Do::Call(0, DiskPlace::FirmRev, How::After), [0; 4], 0),
+    (3, Do::Call(0, DiskPlace::FirmRev, How::Torn), [0; 4], 0),
+    (
+        4,
+        Do::Call(0, DiskPlace::PutCurrent, How::Before),
+        [0; 4],
+        0,
+    ),
+    (4, Do::Call(0, DiskPlace::PutCurrent, How::After), [0; 4], 0),
+    (4, Do::Call(0, DiskPlace::PutCurrent, How::Torn), [0; 4], 0),
     (
         5,
-        Do::Call(0, Place::RenameCurrent, How::After),
+        Do::Call(0, DiskPlace::RenameCurrent, How::Before),
+        [0; 4],
+        0,
+    ),
+    (
+        5,
+        Do::Call(0, DiskPlace::RenameCurrent, How::After),
         [0, 1, 0, 1],
         1,
     ),
-    (5, Do::Call(0, Place::RenameCurrent, How::Torn), [0; 4], 0),
+    (
+        5,
+        Do::Call(0, DiskPlace::RenameCurrent, How::Torn),
+        [0; 4],
+        0,
+    ),
     (
         6,
-        Do::Call(0, Place::FirmCurrent, How::Before),
+        Do::Call(0, DiskPlace::FirmCurrent, How::Before),
         [0, 1, 0, 1],
         1,
     ),
-    (6, Do::Call(0, Place::FirmCurrent, How::After), [1; 4], 1),
     (
         6,
-        Do::Call(0, Place::FirmCurrent, How::Torn),
+        Do::Call(0, DiskPlace::FirmCurrent, How::After),
+        [1; 4],
+        1,
+    ),
+    (
+        6,
+        Do::Call(0, DiskPlace::FirmCurrent, How::Torn),
         [0, 1, 0, 1],
         1,
     ),

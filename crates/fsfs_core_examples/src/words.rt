@@ -1,7 +1,7 @@
 // The words of a line.
 use anyhow::{Result, bail};
 use fsfs_base::FsPath;
-use fsfs_core::{Contents, Place, Went};
+use fsfs_core::{Contents, DiskPlace, Went};
 use std::alloc::Global;
 
 /// The words that are left of a line, with a space between each two.
@@ -45,16 +45,16 @@ impl<'a> Words<'a> {
         Ok(Vec::from_slice(alloc, self.word().as_bytes())?)
     }
 
-    pub fn place(&mut self) -> Result<Place> {
+    pub fn place(&mut self) -> Result<DiskPlace> {
         match self.word() {
-            "TxnPut" => Ok(Place::TxnPut),
-            "TxnRename" => Ok(Place::TxnRename),
-            "TxnFirm" => Ok(Place::TxnFirm),
-            "PutProps" => Ok(Place::PutProps),
-            "FirmRev" => Ok(Place::FirmRev),
-            "PutCurrent" => Ok(Place::PutCurrent),
-            "RenameCurrent" => Ok(Place::RenameCurrent),
-            "FirmCurrent" => Ok(Place::FirmCurrent),
+            "TxnPut" => Ok(DiskPlace::TxnPut),
+            "TxnRename" => Ok(DiskPlace::TxnRename),
+            "TxnFirm" => Ok(DiskPlace::TxnFirm),
+            "PutProps" => Ok(DiskPlace::PutProps),
+            "FirmRev" => Ok(DiskPlace::FirmRev),
+            "PutCurrent" => Ok(DiskPlace::PutCurrent),
+            "RenameCurrent" => Ok(DiskPlace::RenameCurrent),
+            "FirmCurrent" => Ok(DiskPlace::FirmCurrent),
             _ => bail!("no place of a call"),
         }
     }

@@ -6,7 +6,7 @@ use Rattle.std.proofs.Math.Seq.{drop-cons, take-suc}
 use Rattle.fsfs_base.specs.Files.{NamedFile}
 use Rattle.fsfs_disk.specs.Trace.{Trace, add_operation, Performs}
 use Rattle.fsfs_disk.specs.Trace.Operation.{Done}
-use Rattle.fsfs_disk.specs.Trace.Change.{Put}
+use Rattle.fsfs_disk.specs.Trace.NameChange.{Put}
 use Rattle.fsfs_create.specs.NewFiles.{named}
 use Rattle.fsfs_create.specs.Creation.{after_puts}
 use Rattle.fsfs_create.specs.declared.initial.NewFile.{NewFile}

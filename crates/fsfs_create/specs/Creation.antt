@@ -5,7 +5,7 @@ use Rattle.fsfs_base.specs.Files.{Files, NamedFile}
 use Rattle.fsfs_fields.specs.Dates.{IsDateAt}
 use Rattle.fsfs_disk.specs.Trace.{Trace, add_operation, files_now, file_at, FailsAt, FailsToPut}
 use Rattle.fsfs_disk.specs.Trace.Operation.{Done}
-use Rattle.fsfs_disk.specs.Trace.Change.{Put, Rename, FirmNames}
+use Rattle.fsfs_disk.specs.Trace.NameChange.{Put, Rename, FirmNames}
 use Rattle.fsfs_layout.specs.CreatedFiles.{unpublished_files, format_text, created_over}
 use Rattle.fsfs_places.specs.declared.create_fault.CreateFault.{CreateFault}
 use Rattle.fsfs_places.specs.declared.create_fault.CreateFault.TheVariants.{AlreadyRepo, DiskFault, Memory}

@@ -10,15 +10,15 @@ use Rattle.fsfs_damage.specs.declared.wrong.Wrong.{Wrong}
 use Rattle.fsfs_damage.specs.declared.wrong.ReadError.{ReadError}
 use Rattle.fsfs_damage.specs.declared.wrong.ReadError.TheVariants as errors
 use Rattle.fsfs_damage.specs.Readings.{Answers}
-use Rattle.fsfs_shows.specs.Reading.{Entry as EntryValue, IsEntry, AreEntries, EntryIn, FirstPairFails, EntriesIn, EntriesOf, ChildOf, OfNamed, OfEntry, named, offset_of}
+use Rattle.fsfs_shows.specs.Reading.{DirEntry as EntryValue, IsEntry, AreEntries, EntryIn, FirstPairFails, EntriesIn, EntriesOf, ChildOf, OfNamed, OfEntry, named, offset_of}
 use Rattle.std.proofs.lemmas.Bool.Decides.{nat_tests}
-use Rattle.fsfs_base.specs.Paths.{Name, same_name}
-use Rattle.fsfs_book.specs.Told.{Look}
+use Rattle.fsfs_base.specs.Paths.{PathName, same_name}
+use Rattle.fsfs_book.specs.Told.{RevisionBytes}
 use Rattle.fsfs_noderev.specs.declared.node_id.Place.{Place}
 use Rattle.fsfs_noderev.specs.declared.node_id.Place.TheVariants as places
 use Rattle.fsfs_noderev.specs.declared.node_rev.NodeRev.{NodeRev}
 use Rattle.fsfs_revision.specs.Nodes.{is_before, place_before}
-use Rattle.fsfs_dag.specs.declared.directory.Entry.{Entry}
+use Rattle.fsfs_dag.specs.declared.directory.DirEntry.{DirEntry}
 use Rattle.fsfs_dag.specs.Views.{entry_value, entry_values, IsBefore, AreBefore}
 use Rattle.fsfs_grammar.specs.Reading.{text_at}
 use Rattle.fsfs_grammar.proofs.Readers.{text_reads, ok_is}
@@ -49,30 +49,30 @@ Pair = List ℕ × List ℕ
 abbrev pub pair_of : Vec ℕ Global × Vec ℕ Global → Pair
 pair_of p = (p.0.items, p.1.items)
 
-values_push : (items : List Entry) (entry : Entry) (tail : List EntryValue) → entry_values (items ++ entry ∷ []) ++ tail ≡ entry_values items ++ entry_value entry ∷ tail
+values_push : (items : List DirEntry) (entry : DirEntry) (tail : List EntryValue) → entry_values (items ++ entry ∷ []) ++ tail ≡ entry_values items ++ entry_value entry ∷ tail
 values_push [] entry tail = refl
 values_push (x ∷ items) entry tail = ap (λ (t : List EntryValue). entry_value x ∷ t) (values_push items entry tail)
 
-before_push : (home : RevOffset) (items : List Entry) (entry : Entry) → AreBefore home items → IsBefore home entry → AreBefore home (items ++ entry ∷ [])
+before_push : (home : RevOffset) (items : List DirEntry) (entry : DirEntry) → AreBefore home items → IsBefore home entry → AreBefore home (items ++ entry ∷ [])
 before_push home [] entry all one = (one, tt)
 before_push home (x ∷ items) entry all one = (all.0, before_push home items entry all.1 one)
 
 -- some first pairs are these entries: whatever the rest is, the whole is so
-pub record AreSoFar (home : RevOffset) (rep : Rep) (pairs rest : List Pair) (items : List Entry) : Type 0 where
+pub record AreSoFar (home : RevOffset) (rep : Rep) (pairs rest : List Pair) (items : List DirEntry) : Type 0 where
   pub found : (tail : List EntryValue) → AreEntries home rest tail → AreEntries home pairs (entry_values items ++ tail)
   pub wrong : (w : Wrong) → FirstPairFails home rep rest w → FirstPairFails home rep pairs w
   pub before : AreBefore home items
 
-pub none_so_far : (home : RevOffset) (rep : Rep) (pairs rest : List Pair) (items : List Entry) → rest ≡ pairs → items ≡ [] → AreSoFar home rep pairs rest items
+pub none_so_far : (home : RevOffset) (rep : Rep) (pairs rest : List Pair) (items : List DirEntry) → rest ≡ pairs → items ≡ [] → AreSoFar home rep pairs rest items
 none_so_far home rep pairs rest items all none = record {
-  found = λ tail h. subst (λ (t : List Entry). AreEntries home pairs (entry_values t ++ tail)) (sym none) (subst (λ (p : List Pair). AreEntries home p tail) all h);
+  found = λ tail h. subst (λ (t : List DirEntry). AreEntries home pairs (entry_values t ++ tail)) (sym none) (subst (λ (p : List Pair). AreEntries home p tail) all h);
   wrong = λ w h. subst (λ (p : List Pair). FirstPairFails home rep p w) all h;
-  before = subst (λ (t : List Entry). AreBefore home t) (sym none) tt;
+  before = subst (λ (t : List DirEntry). AreBefore home t) (sym none) tt;
 }
 
-pub one_more : (home : RevOffset) (rep : Rep) (pairs left rest : List Pair) (pair : Pair) (items new : List Entry) (entry : Entry)
+pub one_more : (home : RevOffset) (rep : Rep) (pairs left rest : List Pair) (pair : Pair) (items new : List DirEntry) (entry : DirEntry)
     → AreSoFar home rep pairs left items → left ≡ pair ∷ rest → IsEntry home pair (entry_value entry) → IsBefore home entry → new ≡ items ++ entry ∷ [] → AreSoFar home rep pairs rest new
-one_more home rep pairs left rest pair items new entry so is one before pushed = subst (λ (t : List Entry). AreSoFar home rep pairs rest t) (sym pushed) more
+one_more home rep pairs left rest pair items new entry so is one before pushed = subst (λ (t : List DirEntry). AreSoFar home rep pairs rest t) (sym pushed) more
   where
     more : AreSoFar home rep pairs rest (items ++ entry ∷ [])
     more = record {
@@ -82,21 +82,21 @@ one_more home rep pairs left rest pair items new entry so is one before pushed =
       before = before_push home items entry so.before before;
     }
 
-abbrev pub entries_seen : Vec Entry Global → List EntryValue
+abbrev pub entries_seen : Vec DirEntry Global → List EntryValue
 entries_seen v = entry_values v.items
 
-pub first_wrong : (home : RevOffset) (rep : Rep) (pairs left rest : List Pair) (pair : Pair) (items : List Entry) (e : ReadError)
+pub first_wrong : (home : RevOffset) (rep : Rep) (pairs left rest : List Pair) (pair : Pair) (items : List DirEntry) (e : ReadError)
     → AreSoFar home rep pairs left items → left ≡ pair ∷ rest → Answers entry_value (EntryIn home rep pair) (Err e) → Answers entries_seen (EntriesIn home rep pairs) (Err e)
 first_wrong home rep pairs left rest pair items (errors.Wrong w) so is h = so.wrong w (subst (λ (p : List Pair). FirstPairFails home rep p w) (sym is) (inl h))
 first_wrong home rep pairs left rest pair items errors.OutOfMemory so is h = tt
 first_wrong home rep pairs left rest pair items errors.DiskFault so is h = tt
 
-pub all_found : (home : RevOffset) (rep : Rep) (pairs left : List Pair) (items : List Entry) → AreSoFar home rep pairs left items → left ≡ [] → AreEntries home pairs (entry_values items)
+pub all_found : (home : RevOffset) (rep : Rep) (pairs left : List Pair) (items : List DirEntry) → AreSoFar home rep pairs left items → left ≡ [] → AreEntries home pairs (entry_values items)
 all_found home rep pairs left items so is =
     subst (λ (t : List EntryValue). AreEntries home pairs t) (append-nil (entry_values items)) (so.found [] (subst (λ (p : List Pair). AreEntries home p []) (sym is) tt))
 
 -- what was put at the end, where the push did not fail
-pub pushed : {A : Type 0} (r : Result (Unit {0}) A) (old new : List Entry) (entry : Entry) → false ≡ is_err r → new ≡ (if is_ok r then old ++ entry ∷ [] else old) → new ≡ old ++ entry ∷ []
+pub pushed : {A : Type 0} (r : Result (Unit {0}) A) (old new : List DirEntry) (entry : DirEntry) → false ≡ is_err r → new ≡ (if is_ok r then old ++ entry ∷ [] else old) → new ≡ old ++ entry ∷ []
 pushed (Ok x) old new entry e h = h
 pushed (Err x) old new entry e h = absurd cc
 
@@ -109,7 +109,7 @@ pub place_le : (home : RevOffset) (place : Place) → place_before home place �
 place_le home (places.At rev offset) h = before_le rev offset home h
 place_le home (places.In txn) h = absurd cc
 
-pub named_before : (home : RevOffset) (name : Name) (items : List Entry) (x : EntryValue) → AreBefore home items → named name (entry_values items) ≡ Some x → place_before home x.id.place ≡ true
+pub named_before : (home : RevOffset) (name : PathName) (items : List DirEntry) (x : EntryValue) → AreBefore home items → named name (entry_values items) ≡ Some x → place_before home x.id.place ≡ true
 named_before home name [] x all h = absurd cc
 named_before home name (entry ∷ items) x all h = by_test (same_name (entry_value entry).name name) (named_before home name items x all.1) h
   where
@@ -117,7 +117,7 @@ named_before home name (entry ∷ items) x all h = by_test (same_name (entry_val
     by_test true later e = let same : entry_value entry ≡ x = cc in subst (λ (v : EntryValue). place_before home v.id.place ≡ true) same all.0
     by_test false later e = later e
 
-module _ (look : Look) (v : NodeRev) (name : Name) (all : List EntryValue) (x : EntryValue) (read : EntriesOf look v (Ok all)) (is : named name all ≡ Some x) where
+module _ (look : RevisionBytes) (v : NodeRev) (name : PathName) (all : List EntryValue) (x : EntryValue) (read : EntriesOf look v (Ok all)) (is : named name all ≡ Some x) where
   of_some : (r : Result (Option NodeRev) Wrong) → OfNamed look (Some x) r → OfNamed look (named name all) r
   of_some r h = subst (λ (n : Option EntryValue). OfNamed look n r) (sym is) h
 

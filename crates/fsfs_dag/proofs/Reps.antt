@@ -9,7 +9,7 @@ use Rattle.fsfs_damage.specs.declared.wrong.ReadError.{ReadError}
 use Rattle.fsfs_damage.specs.declared.wrong.ReadError.TheVariants as errors
 use Rattle.fsfs_damage.specs.Readings.{Answers}
 use Rattle.fsfs_damage.proofs.Answering.{err_as}
-use Rattle.fsfs_book.specs.Told.{Look}
+use Rattle.fsfs_book.specs.Told.{RevisionBytes}
 use Rattle.fsfs_noderev.specs.declared.rep.Rep.{Rep}
 use Rattle.fsfs_noderev.specs.declared.rep.Contents.{Contents}
 use Rattle.fsfs_noderev.specs.declared.rep.Contents.TheVariants as contents
@@ -18,7 +18,7 @@ use Rattle.fsfs_rep.specs.Frames.{rev_of, text_of, IsWhole, IsTextOf, IsFaultOf}
 use Rattle.fsfs_revision.specs.Nodes.{is_before, rep_place_before}
 use Rattle.fsfs_shows.specs.Reading.{RepAt, OfContents}
 
-module _ (look : Look) (rep : Rep) where
+module _ (look : RevisionBytes) (rep : Rep) where
   found_in : (read : Result (List ℕ) Refusal) (text : List ℕ) → look (rev_of rep) ≡ read → ((bytes : List ℕ) → read ≡ Ok bytes → (text ≡ text_of rep bytes) × IsWhole rep bytes) → ((why : Refusal) → read ≡ Err why → ⊥) → RepAt look rep (Ok text)
   found_in (Ok bytes) text is found refused = (bytes, is, found bytes refl)
   found_in (Err why) text is found refused = absurd (refused why refl)

@@ -1,10 +1,10 @@
 -- Steps of the walk down a path.
 use Rattle.std.proofs.Common.{◌≡◌, ℕ, suc, ◌<◌, ◌≤◌, ◌+◌, List, [], ◌∷◌, length, drop, get_or, map, Option, Some, None, Result, Ok, Err, refl, sym, ap, subst, inl, inr, add-one, drop-cons}
 use Rattle.std.proofs.lemmas.List.{drop_all}
-use Rattle.fsfs_base.specs.Paths.{Name, Path}
+use Rattle.fsfs_base.specs.Paths.{PathName, Path}
 use Rattle.fsfs_base.specs.declared.kind.Kind.{Kind}
 use Rattle.fsfs_base.specs.declared.kind.Kind.TheVariants.{File, Dir}
-use Rattle.fsfs_book.specs.Told.{Look}
+use Rattle.fsfs_book.specs.Told.{RevisionBytes}
 use Rattle.fsfs_noderev.specs.declared.node_rev.NodeRev.{NodeRev}
 use Rattle.fsfs_damage.specs.declared.wrong.Wrong.{Wrong}
 use Rattle.fsfs_damage.specs.declared.wrong.ReadError.{ReadError}
@@ -12,22 +12,22 @@ use Rattle.fsfs_damage.specs.declared.wrong.ReadError.TheVariants as errors
 use Rattle.fsfs_damage.specs.Readings.{Answers}
 use Rattle.fsfs_shows.specs.Reading.{RootOf, ChildOf, Met, Stands, Lacking, Blocked, InDirectory, MetFrom, MetAt}
 
-pub names_step : {S : Type 0} (text : S → Name) (items : List S) (i : ℕ) (item : S) → i < length items → item ≡ get_or items i item → map text (drop i items) ≡ text item ∷ map text (drop (i + 1) items)
+pub names_step : {S : Type 0} (text : S → PathName) (items : List S) (i : ℕ) (item : S) → i < length items → item ≡ get_or items i item → map text (drop i items) ≡ text item ∷ map text (drop (i + 1) items)
 names_step text items i item lt e =
     let d : drop i items ≡ get_or items i item ∷ drop (suc i) items = drop-cons items i item lt in
     rw (d, add-one, ← e) refl
 
-pub names_end : {S : Type 0} (text : S → Name) (items : List S) (i : ℕ) → length items ≤ i → map text (drop i items) ≡ []
+pub names_end : {S : Type 0} (text : S → PathName) (items : List S) (i : ℕ) → length items ≤ i → map text (drop i items) ≡ []
 names_end text items i le = ap (map text) (drop_all i items le)
 
-pub from_root : (look : Look) (rev : ℕ) (path : Path) (v : NodeRev) → RootOf look rev (Ok v) → (r : Result Met Wrong) → MetFrom look v 0 path r → MetAt look rev path r
+pub from_root : (look : RevisionBytes) (rev : ℕ) (path : Path) (v : NodeRev) → RootOf look rev (Ok v) → (r : Result Met Wrong) → MetFrom look v 0 path r → MetAt look rev path r
 from_root look rev path v root (Ok met) h = (v, root, h)
 from_root look rev path v root (Err w) h = inr (v, root, h)
 
-pub walk_ends : (look : Look) (v : NodeRev) (depth : ℕ) (all : Path) → all ≡ [] → MetFrom look v depth all (Ok (Stands v))
+pub walk_ends : (look : RevisionBytes) (v : NodeRev) (depth : ℕ) (all : Path) → all ≡ [] → MetFrom look v depth all (Ok (Stands v))
 walk_ends look v depth all is = subst (λ (p : Path). MetFrom look v depth p (Ok (Stands v))) (sym is) refl
 
-module _ (look : Look) (v : NodeRev) (depth : ℕ) (all names : Path) (name : Name) (is : all ≡ name ∷ names) where
+module _ (look : RevisionBytes) (v : NodeRev) (depth : ℕ) (all names : Path) (name : PathName) (is : all ≡ name ∷ names) where
   abbrev Further : NodeRev → Result Met Wrong → Type 0
   Further w = MetFrom look w (suc depth) names
 

@@ -5,7 +5,7 @@ use Rattle.std.proofs.lemmas.Bool.{and_parts}
 use Rattle.std.proofs.lemmas.Bool.Decides.{nat_tests}
 use Rattle.std.proofs.lemmas.List.{take-take, take_all, take-append-drop, length-take, length-drop}
 use Rattle.fsfs_damage.specs.declared.damage.RevOffset.{RevOffset}
-use Rattle.fsfs_damage.specs.declared.damage.What.TheVariants as what
+use Rattle.fsfs_damage.specs.declared.damage.DamageKind.TheVariants as what
 use Rattle.fsfs_damage.specs.declared.wrong.Refusal.{Refusal}
 use Rattle.fsfs_damage.specs.declared.wrong.Wrong.{Wrong}
 use Rattle.fsfs_damage.specs.declared.wrong.Wrong.TheVariants as wrongs
@@ -14,7 +14,7 @@ use Rattle.fsfs_damage.specs.declared.wrong.ReadError.TheVariants as errors
 use Rattle.fsfs_damage.specs.Damages.{place_of, damaged}
 use Rattle.fsfs_damage.specs.Readings.{AndThen, IfWrong, Answers}
 use Rattle.fsfs_book.specs.declared.book.BookFault.TheVariants as books
-use Rattle.fsfs_book.specs.Told.{Look, BytesOf, size_read}
+use Rattle.fsfs_book.specs.Told.{RevisionBytes, BytesOf, size_read}
 use Rattle.fsfs_noderev.specs.NodeRevs.{IsRead}
 use Rattle.fsfs_noderev.specs.declared.node_rev.NodeRev.{NodeRev}
 use Rattle.fsfs_noderev.specs.declared.node_id.NodeId.{NodeId}
@@ -43,21 +43,21 @@ size_not_short : (read : Result (List ℕ) Refusal) (rev offset : ℕ) → size_
 size_not_short (Ok bytes) rev offset e = cc
 size_not_short (Err other) rev offset e = cc
 
-pub length_found : (look : Look) (rev n : ℕ) → size_read (look rev) ≡ Ok n → LengthOf look rev (Ok n)
+pub length_found : (look : RevisionBytes) (rev n : ℕ) → size_read (look rev) ≡ Ok n → LengthOf look rev (Ok n)
 length_found look rev n e = size_found (look rev) n e
 
-pub length_refused : (look : Look) (rev : ℕ) (why : Refusal) → size_read (look rev) ≡ Err (books.Refused why) → LengthOf look rev (Err (wrongs.Refused why))
+pub length_refused : (look : RevisionBytes) (rev : ℕ) (why : Refusal) → size_read (look rev) ≡ Err (books.Refused why) → LengthOf look rev (Err (wrongs.Refused why))
 length_refused look rev why e = (why, size_refused (look rev) why e, refl)
 
-pub length_not_short : (look : Look) (rev at offset : ℕ) → size_read (look rev) ≡ Err (books.Short at offset) → LengthOf look rev (Ok 0)
+pub length_not_short : (look : RevisionBytes) (rev at offset : ℕ) → size_read (look rev) ≡ Err (books.Short at offset) → LengthOf look rev (Ok 0)
 length_not_short look rev at offset e = absurd (size_not_short (look rev) at offset e)
 
 -- ---- a window
 
-abbrev Window : Look → RevOffset → ℕ → List ℕ → Result ℕ ReadError → Type 0
+abbrev Window : RevisionBytes → RevOffset → ℕ → List ℕ → Result ℕ ReadError → Type 0
 Window look at count buffer = Answers (λ n. take n buffer) (WindowAt look at count)
 
-module _ (look : Look) (at : RevOffset) (count : ℕ) (buffer : List ℕ) where
+module _ (look : RevisionBytes) (at : RevOffset) (count : ℕ) (buffer : List ℕ) where
   abbrev Seen : List ℕ → Result ℕ ReadError → Type 0
   Seen bytes result = MatchResult result (λ n. take n buffer ≡ take count (drop at.offset bytes)) (IfWrong (λ w. ⊥))
 
@@ -76,13 +76,13 @@ module _ (look : Look) (at : RevOffset) (count : ℕ) (buffer : List ℕ) where
   window_read result seen unseen = window_in (look at.rev) result refl seen unseen
 
 -- no window: no bytes
-pub window_stops : {A B Y : Type 0} (first : A → List ℕ) (second : B → Y) (look : Look) (at : RevOffset) (count : ℕ) (e : ReadError) (S : List ℕ → Result Y Wrong → Type 0)
+pub window_stops : {A B Y : Type 0} (first : A → List ℕ) (second : B → Y) (look : RevisionBytes) (at : RevOffset) (count : ℕ) (e : ReadError) (S : List ℕ → Result Y Wrong → Type 0)
     → Answers first (WindowAt look at count) (Err e) → Answers second (AndThen (BytesOf look at.rev) S) (Err e)
 window_stops first second look at count (errors.Wrong w) S h = inl h
 window_stops first second look at count errors.OutOfMemory S h = tt
 window_stops first second look at count errors.DiskFault S h = tt
 
-pub length_stops : {A B Y : Type 0} (first : A → ℕ) (second : B → Y) (look : Look) (rev : ℕ) (e : ReadError) (S : List ℕ → Result Y Wrong → Type 0)
+pub length_stops : {A B Y : Type 0} (first : A → ℕ) (second : B → Y) (look : RevisionBytes) (rev : ℕ) (e : ReadError) (S : List ℕ → Result Y Wrong → Type 0)
     → Answers first (LengthOf look rev) (Err e) → Answers second (AndThen (BytesOf look rev) S) (Err e)
 length_stops first second look rev (errors.Wrong w) S h = inl h
 length_stops first second look rev errors.OutOfMemory S h = tt
@@ -106,7 +106,7 @@ module _ (at : RevOffset) (bytes seen : List ℕ) (is : seen ≡ take 65536 byte
   node_in (Err w) (inr (held, inl a)) = inr ((held.0, holds_in held.0 held.1), inl ((λ h. a.0 (h.0, (holds_back h.0 h.1.0, h.1.1))), a.1))
   node_in (Err w) (inr (held, inr (node, none))) = absurd none
 
-pub node_seen : (look : Look) (at : RevOffset) (seen : List ℕ) (result : Result NodeRev ReadError) → WindowAt look at 65536 (Ok seen) → Answers (λ (v : NodeRev). v) (NodeIn at seen) result → Answers (λ (v : NodeRev). v) (NodeAt look at) result
+pub node_seen : (look : RevisionBytes) (at : RevOffset) (seen : List ℕ) (result : Result NodeRev ReadError) → WindowAt look at 65536 (Ok seen) → Answers (λ (v : NodeRev). v) (NodeIn at seen) result → Answers (λ (v : NodeRev). v) (NodeAt look at) result
 node_seen look at seen (Ok v) w h = (w.0, w.1, node_in at (drop at.offset w.0) seen w.2 (Ok v) h)
 node_seen look at seen (Err (errors.Wrong wrong)) w h = inr (w.0, w.1, node_in at (drop at.offset w.0) seen w.2 (Err wrong) h)
 node_seen look at seen (Err errors.OutOfMemory) w h = tt
@@ -147,7 +147,7 @@ module _ (count : ℕ) (fits : count ≤ 65536) (at : RevOffset) (bytes seen : L
       let read = read_with_more seen (drop count (take 65536 bytes)) v (subst (λ (xs : List ℕ). IsRead xs v) front_whole h.0.0) in
       ((subst (λ (xs : List ℕ). IsRead xs v) front_and_more read, h.0.1), h.1)
 
-pub node_found_in_front : (look : Look) (at : RevOffset) (count : ℕ) (seen : List ℕ) (v : NodeRev) → count ≤ 65536 → WindowAt look at count (Ok seen) → IsNodeAt at seen v → NodeAt look at (Ok v)
+pub node_found_in_front : (look : RevisionBytes) (at : RevOffset) (count : ℕ) (seen : List ℕ) (v : NodeRev) → count ≤ 65536 → WindowAt look at count (Ok seen) → IsNodeAt at seen v → NodeAt look at (Ok v)
 node_found_in_front look at count seen v fits w h = (w.0, w.1, node_in_front count fits at (drop at.offset w.0) seen w.2 v h)
 
 -- ---- the end of a revision
@@ -167,7 +167,7 @@ tail_seen bytes seen cut t is window h =
 one_bytes : (read : Result (List ℕ) Refusal) (a b : List ℕ) → read ≡ Ok a → read ≡ Ok b → a ≡ b
 one_bytes read a b e f = cc
 
-module _ (look : Look) (rev len cut : ℕ) (seen : List ℕ) (size : LengthOf look rev (Ok len)) (is : cut ≡ len - 64) (window : WindowAt look (place_of rev cut) 64 (Ok seen)) where
+module _ (look : RevisionBytes) (rev len cut : ℕ) (seen : List ℕ) (size : LengthOf look rev (Ok len)) (is : cut ≡ len - 64) (window : WindowAt look (place_of rev cut) 64 (Ok seen)) where
   same : window.0 ≡ size.0
   same = one_bytes (look rev) window.0 size.0 window.1 size.1
 
@@ -185,16 +185,16 @@ module _ (look : Look) (rev len cut : ℕ) (seen : List ℕ) (size : LengthOf lo
 
 -- ---- the root of a revision
 
-end_as_root : (look : Look) (rev : ℕ) (w : Wrong) → EndOf look rev (Err w) → RootOf look rev (Err w)
+end_as_root : (look : RevisionBytes) (rev : ℕ) (w : Wrong) → EndOf look rev (Err w) → RootOf look rev (Err w)
 end_as_root look rev w h = elim h [ inl a ↦ inl a | inr x ↦ inr (x.0, x.1, inl x.2) ]
 
-pub root_no_end : {A B : Type 0} (first : A → RevOffset) (second : B → NodeRev) (look : Look) (rev : ℕ) (e : ReadError) → Answers first (EndOf look rev) (Err e) → Answers second (RootOf look rev) (Err e)
+pub root_no_end : {A B : Type 0} (first : A → RevOffset) (second : B → NodeRev) (look : RevisionBytes) (rev : ℕ) (e : ReadError) → Answers first (EndOf look rev) (Err e) → Answers second (RootOf look rev) (Err e)
 root_no_end first second look rev (errors.Wrong w) h = end_as_root look rev w h
 root_no_end first second look rev errors.OutOfMemory h = tt
 root_no_end first second look rev errors.DiskFault h = tt
 
 -- the node-revision at the place that the trailer names
-module _ (look : Look) (rev : ℕ) (at : RevOffset) (end : EndOf look rev (Ok at)) where
+module _ (look : RevisionBytes) (rev : ℕ) (at : RevOffset) (end : EndOf look rev (Ok at)) where
   here : (P : RevOffset → Type 0) → P at → P (place_of rev end.2.0.root)
   here P h = subst P end.2.2 h
 

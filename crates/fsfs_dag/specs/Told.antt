@@ -1,6 +1,6 @@
 -- What a book tells of a revision, and what is read of it.
 use Rattle.std.specs.Prelude.{◌≡◌, ℕ, List, length, take, drop, Some, Result, Ok, Err}
-use Rattle.fsfs_book.specs.Told.{Look, BytesOf}
+use Rattle.fsfs_book.specs.Told.{RevisionBytes, BytesOf}
 use Rattle.fsfs_damage.specs.declared.damage.RevOffset.{RevOffset}
 use Rattle.fsfs_revision.specs.declared.trailer.Trailer.{Trailer}
 use Rattle.fsfs_revision.specs.Trailers.{EndsWith}
@@ -11,12 +11,12 @@ use Rattle.fsfs_damage.specs.Checks.{Judged}
 use Rattle.fsfs_damage.specs.Readings.{AndThen}
 
 -- the length of a revision
-abbrev pub LengthOf : Look → ℕ → Result ℕ Wrong → Type 0
+abbrev pub LengthOf : RevisionBytes → ℕ → Result ℕ Wrong → Type 0
 LengthOf look rev (Ok n) = (bytes : List ℕ) × (look rev ≡ Ok bytes) × (n ≡ length bytes)
 LengthOf look rev (Err w) = BytesOf look rev (Err w)
 
 -- up to so many bytes of a revision from a place on; none past the end
-abbrev pub WindowAt : Look → RevOffset → ℕ → Result (List ℕ) Wrong → Type 0
+abbrev pub WindowAt : RevisionBytes → RevOffset → ℕ → Result (List ℕ) Wrong → Type 0
 WindowAt look at count (Ok seen) = (bytes : List ℕ) × (look at.rev ≡ Ok bytes) × (seen ≡ take count (drop at.offset bytes))
 WindowAt look at count (Err w) = BytesOf look at.rev (Err w)
 
@@ -24,5 +24,5 @@ WindowAt look at count (Err w) = BytesOf look at.rev (Err w)
 abbrev pub EndIn : ℕ → List ℕ → Result RevOffset Wrong → Type 0
 EndIn rev bytes = Judged (λ at. (t : Trailer) × EndsWith 0 bytes t × (at ≡ place_of rev t.root)) (trailer_checks rev bytes)
 
-abbrev pub EndOf : Look → ℕ → Result RevOffset Wrong → Type 0
+abbrev pub EndOf : RevisionBytes → ℕ → Result RevOffset Wrong → Type 0
 EndOf look rev = AndThen (BytesOf look rev) (EndIn rev)

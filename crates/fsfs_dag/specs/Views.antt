@@ -5,15 +5,15 @@ use Rattle.std.specs.String.{string_bytes}
 use Rattle.fsfs_noderev.specs.declared.node_rev.NodeRev.{NodeRev}
 use Rattle.fsfs_damage.specs.declared.damage.RevOffset.{RevOffset}
 use Rattle.fsfs_revision.specs.Nodes.{place_before}
-use Rattle.fsfs_shows.specs.Reading.{Entry as EntryValue, offset_of, Met as MetValue, Stands, Lacking, Blocked}
-use Rattle.fsfs_dag.specs.declared.directory.Entry.{Entry}
+use Rattle.fsfs_shows.specs.Reading.{DirEntry as EntryValue, offset_of, Met as MetValue, Stands, Lacking, Blocked}
+use Rattle.fsfs_dag.specs.declared.directory.DirEntry.{DirEntry}
 use Rattle.fsfs_dag.specs.declared.walk.Met.{Met}
 use Rattle.fsfs_dag.specs.declared.walk.Met.TheVariants as mets
 
-abbrev pub entry_value : Entry → EntryValue
+abbrev pub entry_value : DirEntry → EntryValue
 entry_value entry = record { name = string_bytes entry.name; kind = entry.kind; id = entry.id }
 
-abbrev pub entry_values : List Entry → List EntryValue
+abbrev pub entry_values : List DirEntry → List EntryValue
 entry_values entries = map entry_value entries
 
 -- where a node-revision stands
@@ -21,10 +21,10 @@ abbrev pub home_of : NodeRev → RevOffset
 home_of v = offset_of v.id.place
 
 -- the entry names a node-revision before this place
-abbrev pub IsBefore : RevOffset → Entry → Type 0
+abbrev pub IsBefore : RevOffset → DirEntry → Type 0
 IsBefore home entry = place_before home entry.id.place ≡ true
 
-abbrev pub AreBefore : RevOffset → List Entry → Type 0
+abbrev pub AreBefore : RevOffset → List DirEntry → Type 0
 AreBefore home = AllByRecursion (IsBefore home)
 
 abbrev pub met_value : Met → MetValue

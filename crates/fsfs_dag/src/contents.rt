@@ -1,7 +1,7 @@
 //! A node's properties and a file's text.
 ghost use Rattle.std.specs.Prelude.{◌≡◌, ℕ, Some, Ok, IsSome, IfErr};
 ghost use Rattle.fsfs_base.specs.declared.kind.Kind.TheVariants.{File};
-ghost use Rattle.fsfs_book.specs.Told.{Look, Knows, Keeps, IsTold};
+ghost use Rattle.fsfs_book.specs.Told.{RevisionBytes, Knows, Keeps, IsTold};
 ghost use Rattle.fsfs_rep.specs.Frames.{rev_of};
 ghost use Rattle.fsfs_damage.specs.Readings.{Answers};
 ghost use Rattle.fsfs_shows.specs.Reading.{RepAt, PairsIn, PairsAt, PropsOf, TextOf, StandsAt};
@@ -24,7 +24,7 @@ use std::alloc::Global;
 // The bytes of a representation.
 fn rep_read<B: Book>(alloc: Global, book: &mut B, rep: &Rep) -> Result<Vec<u8>, ReadError>
     requires { IsSome rep.now.rev }
-    ensures told { (look : Look) → IsTold (B.told book.old) look (rev_of rep.now) → Answers (λ v. v.items) (RepAt look rep.now) result }
+    ensures told { (look : RevisionBytes) → IsTold (B.told book.old) look (rev_of rep.now) → Answers (λ v. v.items) (RepAt look rep.now) result }
     ensures kept { Keeps (B.told book.old) (B.told book.new) }
     ensures cause { HasCause (B.faults book.old) (B.faults book.new) result }
 {
@@ -46,7 +46,7 @@ fn hash_in(alloc: Global, rep: &Rep, bytes: &[u8]) -> Result<Pairs, ReadError>
 /// The pairs of a representation that holds a dump.
 pub(crate) fn pairs_in<B: Book>(alloc: Global, book: &mut B, rep: &Rep) -> Result<Pairs, ReadError>
     requires { IsSome rep.now.rev }
-    ensures told { (look : Look) → IsTold (B.told book.old) look (rev_of rep.now) → Answers (λ pairs. pairs) (PairsAt look rep.now) result }
+    ensures told { (look : RevisionBytes) → IsTold (B.told book.old) look (rev_of rep.now) → Answers (λ pairs. pairs) (PairsAt look rep.now) result }
     ensures kept { Keeps (B.told book.old) (B.told book.new) }
     ensures cause { HasCause (B.faults book.old) (B.faults book.new) result }
 {
@@ -55,7 +55,7 @@ pub(crate) fn pairs_in<B: Book>(alloc: Global, book: &mut B, rep: &Rep) -> Resul
 }
 
 fn read_props<B: Book>(alloc: Global, book: &mut B, node: &PlacedNode) -> Result<Pairs, ReadError>
-    ensures told { (look : Look) → Knows (B.told book.old).revs (home_of node.now.node).rev look → Answers (λ pairs. pairs) (PropsOf look node.now.node) result }
+    ensures told { (look : RevisionBytes) → Knows (B.told book.old).revs (home_of node.now.node).rev look → Answers (λ pairs. pairs) (PropsOf look node.now.node) result }
     ensures kept { Keeps (B.told book.old) (B.told book.new) }
     ensures cause { HasCause (B.faults book.old) (B.faults book.new) result }
 {
@@ -67,9 +67,9 @@ fn read_props<B: Book>(alloc: Global, book: &mut B, node: &PlacedNode) -> Result
 
 /// The properties of a node.
 pub fn props<B: Book>(alloc: Global, book: &mut B, node: &PlacedNode) -> Result<Pairs, ReadError>
-    ensures told { (look : Look) → Knows (B.told book.old).revs (home_of node.now.node).rev look → Answers (λ pairs. pairs) (PropsOf look node.now.node) result }
+    ensures told { (look : RevisionBytes) → Knows (B.told book.old).revs (home_of node.now.node).rev look → Answers (λ pairs. pairs) (PropsOf look node.now.node) result }
     // Where the bytes show a tree and the node stands at a path, they are those of the tree's node, and never damage.
-    ensures shown { (look : Look) (rev : ℕ) (tree : TreeFunction) (p : Path) (n : Node) → Knows (B.told book.old).revs (home_of node.now.node).rev look → Shows look rev tree → StandsAt look rev p node.now.node → tree p ≡ Some n → Answers (λ pairs. pairs) (λ read. read ≡ Ok n.properties) result }
+    ensures shown { (look : RevisionBytes) (rev : ℕ) (tree : TreeFunction) (p : Path) (n : Node) → Knows (B.told book.old).revs (home_of node.now.node).rev look → Shows look rev tree → StandsAt look rev p node.now.node → tree p ≡ Some n → Answers (λ pairs. pairs) (λ read. read ≡ Ok n.properties) result }
     ensures kept { Keeps (B.told book.old) (B.told book.new) }
     ensures cause { HasCause (B.faults book.old) (B.faults book.new) result }
 {
@@ -78,7 +78,7 @@ pub fn props<B: Book>(alloc: Global, book: &mut B, node: &PlacedNode) -> Result<
 
 fn read_text<B: Book>(alloc: Global, book: &mut B, file: &PlacedNode) -> Result<Vec<u8>, ReadError>
     requires { file.now.node.kind ≡ File }
-    ensures told { (look : Look) → Knows (B.told book.old).revs (home_of file.now.node).rev look → Answers (λ v. v.items) (TextOf look file.now.node) result }
+    ensures told { (look : RevisionBytes) → Knows (B.told book.old).revs (home_of file.now.node).rev look → Answers (λ v. v.items) (TextOf look file.now.node) result }
     ensures kept { Keeps (B.told book.old) (B.told book.new) }
     ensures cause { HasCause (B.faults book.old) (B.faults book.new) result }
 {
@@ -95,9 +95,9 @@ pub fn text_of<B: Book>(
     file: &PlacedNode,
 ) -> Result<Vec<u8>, ReadError>
     requires { file.now.node.kind ≡ File }
-    ensures told { (look : Look) → Knows (B.told book.old).revs (home_of file.now.node).rev look → Answers (λ v. v.items) (TextOf look file.now.node) result }
+    ensures told { (look : RevisionBytes) → Knows (B.told book.old).revs (home_of file.now.node).rev look → Answers (λ v. v.items) (TextOf look file.now.node) result }
     // Where the bytes show a tree and the file stands at a path, it is that of the tree's node; only a delta is refused.
-    ensures shown { (look : Look) (rev : ℕ) (tree : TreeFunction) (p : Path) (n : Node) → Knows (B.told book.old).revs (home_of file.now.node).rev look → Shows look rev tree → StandsAt look rev p file.now.node → tree p ≡ Some n → Answers (λ v. v.items) (λ read. IsTextByTree read n.text) result }
+    ensures shown { (look : RevisionBytes) (rev : ℕ) (tree : TreeFunction) (p : Path) (n : Node) → Knows (B.told book.old).revs (home_of file.now.node).rev look → Shows look rev tree → StandsAt look rev p file.now.node → tree p ≡ Some n → Answers (λ v. v.items) (λ read. IsTextByTree read n.text) result }
     ensures kept { Keeps (B.told book.old) (B.told book.new) }
     ensures cause { HasCause (B.faults book.old) (B.faults book.new) result }
 {

@@ -3,7 +3,7 @@ ghost use Rattle.std.specs.Prelude.{◌≡◌, ◌++◌, ℕ, List, true, Some, 
 ghost use Rattle.std.specs.String.{string_bytes};
 ghost use Rattle.fsfs_base.specs.declared.kind.Kind.{Kind};
 ghost use Rattle.fsfs_base.specs.declared.kind.Kind.TheVariants.{Dir};
-ghost use Rattle.fsfs_book.specs.Told.{Look, Knows, Keeps};
+ghost use Rattle.fsfs_book.specs.Told.{RevisionBytes, Knows, Keeps};
 ghost use Rattle.fsfs_noderev.specs.Fields.{IsIdText};
 ghost use Rattle.fsfs_noderev.specs.declared.node_id.NodeId.{NodeId};
 ghost use Rattle.fsfs_revision.specs.Nodes.{is_revision_id, place_before};
@@ -20,7 +20,7 @@ use crate::contents::pairs_in;
 use crate::node::PlacedNode;
 use fsfs_base::{Kind, Pairs, is_name};
 use fsfs_book::Book;
-use fsfs_damage::{ReadError, RepWhat, RevOffset, What};
+use fsfs_damage::{DamageKind, ReadError, RepWhat, RevOffset};
 use fsfs_grammar::pieces::text;
 use fsfs_noderev::{NodeId, Place, Rep, read_id};
 use fsfs_rep::bad_rep;
@@ -29,7 +29,7 @@ use std::alloc::Global;
 
 /// An entry of a directory: a name, and the kind and the id of the node-revision that it names.
 #[derive(Debug, Drop)]
-pub struct Entry {
+pub struct DirEntry {
     pub name: String,
     pub kind: Kind,
     pub id: NodeId,
@@ -88,7 +88,7 @@ fn entry_of(
     rep: &Rep,
     name: &[u8],
     value: &[u8],
-) -> Result<Entry, ReadError>
+) -> Result<DirEntry, ReadError>
     ensures told { Answers entry_value (EntryIn home rep.now (name.now, value.now)) result }
     ensures quiet { IsQuiet result }
     ensures before { IfOk result (IsBefore home) }
@@ -101,10 +101,10 @@ fn entry_of(
     };
     let (kind, id) = target;
     if !stands_before(home, id.place) {
-        return Err(ReadError::damaged(home, What::PlaceOrder));
+        return Err(ReadError::damaged(home, DamageKind::PlaceOrder));
     }
     match String::from_str(alloc, name) {
-        Ok(name) => Ok(Entry { name, kind, id }),
+        Ok(name) => Ok(DirEntry { name, kind, id }),
         Err(_) => Err(ReadError::OutOfMemory),
     }
 }
@@ -115,7 +115,7 @@ fn entries_of(
     home: RevOffset,
     rep: &Rep,
     pairs: &Pairs,
-) -> Result<Vec<Entry>, ReadError>
+) -> Result<Vec<DirEntry>, ReadError>
     ensures told { Answers (λ v. entry_values v.items) (EntriesIn home rep.now pairs.now) result }
     ensures quiet { IsQuiet result }
     ensures before { IfOk result (λ v. AreBefore home v.items) }
@@ -136,9 +136,9 @@ fn read_entries<B: Book>(
     alloc: Global,
     book: &mut B,
     dir: &PlacedNode,
-) -> Result<Vec<Entry>, ReadError>
+) -> Result<Vec<DirEntry>, ReadError>
     requires { dir.now.node.kind ≡ Dir }
-    ensures told { (look : Look) → Knows (B.told book.old).revs (home_of dir.now.node).rev look → Answers (λ v. entry_values v.items) (EntriesOf look dir.now.node) result }
+    ensures told { (look : RevisionBytes) → Knows (B.told book.old).revs (home_of dir.now.node).rev look → Answers (λ v. entry_values v.items) (EntriesOf look dir.now.node) result }
     ensures before { IfOk result (λ v. AreBefore (home_of dir.now.node) v.items) }
     ensures kept { Keeps (B.told book.old) (B.told book.new) }
     ensures cause { HasCause (B.faults book.old) (B.faults book.new) result }
@@ -158,11 +158,11 @@ pub fn entries<B: Book>(
     alloc: Global,
     book: &mut B,
     dir: &PlacedNode,
-) -> Result<Vec<Entry>, ReadError>
+) -> Result<Vec<DirEntry>, ReadError>
     requires { dir.now.node.kind ≡ Dir }
-    ensures told { (look : Look) → Knows (B.told book.old).revs (home_of dir.now.node).rev look → Answers (λ v. entry_values v.items) (EntriesOf look dir.now.node) result }
+    ensures told { (look : RevisionBytes) → Knows (B.told book.old).revs (home_of dir.now.node).rev look → Answers (λ v. entry_values v.items) (EntriesOf look dir.now.node) result }
     // Where the bytes show a tree and the directory stands at a path, they are the tree's, and never damage.
-    ensures shown { (look : Look) (rev : ℕ) (tree : TreeFunction) (p : Path) → Knows (B.told book.old).revs (home_of dir.now.node).rev look → Shows look rev tree → StandsAt look rev p dir.now.node → Answers (λ v. entry_values v.items) (AreEntriesByTree tree p) result }
+    ensures shown { (look : RevisionBytes) (rev : ℕ) (tree : TreeFunction) (p : Path) → Knows (B.told book.old).revs (home_of dir.now.node).rev look → Shows look rev tree → StandsAt look rev p dir.now.node → Answers (λ v. entry_values v.items) (AreEntriesByTree tree p) result }
     ensures before { IfOk result (λ v. AreBefore (home_of dir.now.node) v.items) }
     ensures kept { Keeps (B.told book.old) (B.told book.new) }
     ensures cause { HasCause (B.faults book.old) (B.faults book.new) result }
@@ -171,7 +171,7 @@ pub fn entries<B: Book>(
 }
 
 /// The entry of a name.
-pub fn entry_named<'a>(entries: &'a [Entry], name: &str) -> Option<&'a Entry>
+pub fn entry_named<'a>(entries: &'a [DirEntry], name: &str) -> Option<&'a DirEntry>
     ensures { option_map (λ entry. entry_value entry.now) result ≡ named name.now (entry_values entries.now) }
 {
     for entry in entries {

@@ -1,7 +1,7 @@
 //! The node-revision at a place of a revision, and a revision's root.
 ghost use Rattle.std.specs.Prelude.{◌≡◌, ◌≤◌, ◌<◌, ◌^◌, ◌+◌, ℕ, [], true, length, take, IfOk};
 ghost use Rattle.fsfs_tree.specs.Nodes.{TreeFunction};
-ghost use Rattle.fsfs_book.specs.Told.{Look, Knows, Keeps, IsTold};
+ghost use Rattle.fsfs_book.specs.Told.{RevisionBytes, Knows, Keeps, IsTold};
 ghost use Rattle.fsfs_revision.specs.Nodes.{is_ordered};
 ghost use Rattle.fsfs_damage.specs.Readings.{Answers};
 ghost use Rattle.fsfs_shows.specs.Reading.{NodeAt, RootOf, OfEntry, OfId, HasId, HasKind, Stands, offset_of};
@@ -12,11 +12,11 @@ ghost use Rattle.fsfs_dag.specs.Told.{LengthOf, WindowAt, EndOf};
 ghost use Rattle.fsfs_dag.specs.Same.{same_part, same_place, same_id};
 ghost use Rattle.fsfs_dag.specs.Views.{entry_value};
 
-use crate::directory::Entry;
+use crate::directory::DirEntry;
 use crate::node::PlacedNode;
 use crate::places::offset_of;
 use fsfs_book::{Book, BookFault};
-use fsfs_damage::{ReadError, RevOffset, What, Wrong};
+use fsfs_damage::{DamageKind, ReadError, RevOffset, Wrong};
 use fsfs_noderev::{MAX_NODE_REV, NodeId, NodeRev, Part, Place};
 use fsfs_revision::{TRAILER_LIMIT, as_root, read_node_at, read_tail};
 use std::alloc::Global;
@@ -27,7 +27,7 @@ const USUAL_NODE_REV: usize = 1024;
 
 // How long a revision is.
 fn length<B: Book>(book: &mut B, rev: u32) -> Result<u64, ReadError>
-    ensures told { (look : Look) → IsTold (B.told book.old) look rev → Answers (λ n. n) (LengthOf look rev) result }
+    ensures told { (look : RevisionBytes) → IsTold (B.told book.old) look rev → Answers (λ n. n) (LengthOf look rev) result }
     ensures kept { Keeps (B.told book.old) (B.told book.new) }
     ensures cause { HasCause (B.faults book.old) (B.faults book.new) result }
 {
@@ -43,7 +43,7 @@ fn length<B: Book>(book: &mut B, rev: u32) -> Result<u64, ReadError>
 // Reads a revision's bytes from a place on, as many as there are and as fit; none past the end.
 fn window<B: Book>(book: &mut B, at: RevOffset, buffer: &mut [u8]) -> Result<usize, ReadError>
     ensures bound { IfOk result (λ n. n ≤ length buffer.new) }
-    ensures told { (look : Look) → IsTold (B.told book.old) look at.rev → Answers (λ n. take n buffer.new) (WindowAt look at (length buffer.old)) result }
+    ensures told { (look : RevisionBytes) → IsTold (B.told book.old) look at.rev → Answers (λ n. take n buffer.new) (WindowAt look at (length buffer.old)) result }
     ensures kept { Keeps (B.told book.old) (B.told book.new) }
     ensures cause { HasCause (B.faults book.old) (B.faults book.new) result }
 {
@@ -52,7 +52,7 @@ fn window<B: Book>(book: &mut B, at: RevOffset, buffer: &mut [u8]) -> Result<usi
 
 // Where the trailer says that a revision's root stands.
 fn root_place<B: Book>(book: &mut B, rev: u32) -> Result<RevOffset, ReadError>
-    ensures told { (look : Look) → IsTold (B.told book.old) look rev → Answers (λ at. at) (EndOf look rev) result }
+    ensures told { (look : RevisionBytes) → IsTold (B.told book.old) look rev → Answers (λ at. at) (EndOf look rev) result }
     ensures rev { IfOk result (λ at. at.rev ≡ rev) }
     ensures kept { Keeps (B.told book.old) (B.told book.new) }
     ensures cause { HasCause (B.faults book.old) (B.faults book.new) result }
@@ -70,7 +70,7 @@ fn root_place<B: Book>(book: &mut B, rev: u32) -> Result<RevOffset, ReadError>
             rev,
             offset: trailer.root,
         }),
-        None => Err(ReadError::damaged(RevOffset { rev, offset: len }, What::Trailer)),
+        None => Err(ReadError::damaged(RevOffset { rev, offset: len }, DamageKind::Trailer)),
     }
 }
 
@@ -78,7 +78,7 @@ fn root_place<B: Book>(book: &mut B, rev: u32) -> Result<RevOffset, ReadError>
 // that their buffer is made only where it is wanted.
 #[inline(never)]
 fn node_in_whole<B: Book>(alloc: Global, book: &mut B, at: RevOffset) -> Result<NodeRev, ReadError>
-    ensures told { (look : Look) → IsTold (B.told book.old) look at.rev → Answers (λ v. v) (NodeAt look at) result }
+    ensures told { (look : RevisionBytes) → IsTold (B.told book.old) look at.rev → Answers (λ v. v) (NodeAt look at) result }
     ensures ordered { IfOk result (λ v. is_ordered at v ≡ true) }
     ensures kept { Keeps (B.told book.old) (B.told book.new) }
     ensures cause { HasCause (B.faults book.old) (B.faults book.new) result }
@@ -91,7 +91,7 @@ fn node_in_whole<B: Book>(alloc: Global, book: &mut B, at: RevOffset) -> Result<
 // The node-revision that stands at a place. Bytes behind its text change nothing, so a front of them shows it, but what is
 // refused of a front may only be cut off: all the bytes decide.
 fn node_read<B: Book>(alloc: Global, book: &mut B, at: RevOffset) -> Result<NodeRev, ReadError>
-    ensures told { (look : Look) → IsTold (B.told book.old) look at.rev → Answers (λ v. v) (NodeAt look at) result }
+    ensures told { (look : RevisionBytes) → IsTold (B.told book.old) look at.rev → Answers (λ v. v) (NodeAt look at) result }
     ensures ordered { IfOk result (λ v. is_ordered at v ≡ true) }
     ensures kept { Keeps (B.told book.old) (B.told book.new) }
     ensures cause { HasCause (B.faults book.old) (B.faults book.new) result }
@@ -107,7 +107,7 @@ fn node_read<B: Book>(alloc: Global, book: &mut B, at: RevOffset) -> Result<Node
 }
 
 fn read_root<B: Book>(alloc: Global, book: &mut B, rev: u32) -> Result<PlacedNode, ReadError>
-    ensures told { (look : Look) → Knows (B.told book.old).revs rev look → Answers (λ found. found.node) (RootOf look rev) result }
+    ensures told { (look : RevisionBytes) → Knows (B.told book.old).revs rev look → Answers (λ found. found.node) (RootOf look rev) result }
     ensures rev { IfOk result (λ found. (offset_of found.node.id.place).rev ≡ rev) }
     ensures kept { Keeps (B.told book.old) (B.told book.new) }
     ensures cause { HasCause (B.faults book.old) (B.faults book.new) result }
@@ -121,9 +121,9 @@ fn read_root<B: Book>(alloc: Global, book: &mut B, rev: u32) -> Result<PlacedNod
 /// The root of a revision: the node-revision that its trailer names. Trailer, NodeRev, PlaceOrder, OtherId and EntryKind
 /// are tried in this order.
 pub fn root_of<B: Book>(alloc: Global, book: &mut B, rev: u32) -> Result<PlacedNode, ReadError>
-    ensures told { (look : Look) → Knows (B.told book.old).revs rev look → Answers (λ found. found.node) (RootOf look rev) result }
+    ensures told { (look : RevisionBytes) → Knows (B.told book.old).revs rev look → Answers (λ found. found.node) (RootOf look rev) result }
     // Where the bytes show a tree, it is what stands at `/` there, and never damage.
-    ensures shown { (look : Look) (tree : TreeFunction) → Knows (B.told book.old).revs rev look → Shows look rev tree → Answers (λ found. Stands found.node) (IsMetByTree look rev tree []) result }
+    ensures shown { (look : RevisionBytes) (tree : TreeFunction) → Knows (B.told book.old).revs rev look → Shows look rev tree → Answers (λ found. Stands found.node) (IsMetByTree look rev tree []) result }
     ensures rev { IfOk result (λ found. (offset_of found.node.id.place).rev ≡ rev) }
     ensures kept { Keeps (B.told book.old) (B.told book.new) }
     ensures cause { HasCause (B.faults book.old) (B.faults book.new) result }
@@ -180,13 +180,13 @@ fn with_id(id: NodeId, node: NodeRev) -> Result<NodeRev, ReadError>
     if same_id(&node.id, &id) {
         Ok(node)
     } else {
-        Err(ReadError::damaged(offset_of(id.place), What::OtherId))
+        Err(ReadError::damaged(offset_of(id.place), DamageKind::OtherId))
     }
 }
 
 /// The node-revision of an id, whatever its kind.
 pub fn named_node<B: Book>(alloc: Global, book: &mut B, id: NodeId) -> Result<PlacedNode, ReadError>
-    ensures told { (look : Look) → Knows (B.told book.old).revs (offset_of id.place).rev look → Answers (λ found. found.node) (OfId look id) result }
+    ensures told { (look : RevisionBytes) → Knows (B.told book.old).revs (offset_of id.place).rev look → Answers (λ found. found.node) (OfId look id) result }
     ensures id { IfOk result (λ found. found.node.id ≡ id) }
     ensures kept { Keeps (B.told book.old) (B.told book.new) }
     ensures cause { HasCause (B.faults book.old) (B.faults book.new) result }
@@ -197,7 +197,7 @@ pub fn named_node<B: Book>(alloc: Global, book: &mut B, id: NodeId) -> Result<Pl
 }
 
 // The child, if it has the kind that its entry says.
-fn with_kind(entry: &Entry, child: PlacedNode) -> Result<PlacedNode, ReadError>
+fn with_kind(entry: &DirEntry, child: PlacedNode) -> Result<PlacedNode, ReadError>
     ensures told { Answers (λ found. found.node) (HasKind (entry_value entry.now) child.node) result }
     ensures same { IfOk result (λ found. found ≡ child) }
     ensures quiet { IsQuiet result }
@@ -205,7 +205,7 @@ fn with_kind(entry: &Entry, child: PlacedNode) -> Result<PlacedNode, ReadError>
     if child.node.kind == entry.kind {
         Ok(child)
     } else {
-        Err(ReadError::damaged(offset_of(entry.id.place), What::EntryKind))
+        Err(ReadError::damaged(offset_of(entry.id.place), DamageKind::EntryKind))
     }
 }
 
@@ -213,9 +213,9 @@ fn with_kind(entry: &Entry, child: PlacedNode) -> Result<PlacedNode, ReadError>
 pub fn child_of<B: Book>(
     alloc: Global,
     book: &mut B,
-    entry: &Entry,
+    entry: &DirEntry,
 ) -> Result<PlacedNode, ReadError>
-    ensures told { (look : Look) → Knows (B.told book.old).revs (offset_of entry.now.id.place).rev look → Answers (λ found. found.node) (OfEntry look (entry_value entry.now)) result }
+    ensures told { (look : RevisionBytes) → Knows (B.told book.old).revs (offset_of entry.now.id.place).rev look → Answers (λ found. found.node) (OfEntry look (entry_value entry.now)) result }
     ensures id { IfOk result (λ found. found.node.id ≡ entry.now.id) }
     ensures kept { Keeps (B.told book.old) (B.told book.new) }
     ensures cause { HasCause (B.faults book.old) (B.faults book.new) result }

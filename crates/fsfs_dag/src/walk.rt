@@ -1,7 +1,7 @@
 //! The node at a path.
 ghost use Rattle.std.specs.Prelude.{◌≡◌, ◌≤◌, IfOk, IfSome, option_map};
 ghost use Rattle.fsfs_base.specs.declared.kind.Kind.TheVariants.{Dir};
-ghost use Rattle.fsfs_book.specs.Told.{Look, Knows, Keeps};
+ghost use Rattle.fsfs_book.specs.Told.{RevisionBytes, Knows, Keeps};
 ghost use Rattle.fsfs_damage.specs.Readings.{Answers};
 ghost use Rattle.fsfs_tree.specs.Nodes.{TreeFunction};
 ghost use Rattle.fsfs_shows.specs.Reading.{ChildOf, MetAt};
@@ -36,7 +36,7 @@ pub fn child_named<B: Book>(
     name: &str,
 ) -> Result<Option<PlacedNode>, ReadError>
     requires { dir.now.node.kind ≡ Dir }
-    ensures told { (look : Look) → Knows (B.told book.old).revs (home_of dir.now.node).rev look → Answers (option_map (λ found. found.node)) (ChildOf look dir.now.node name.now) result }
+    ensures told { (look : RevisionBytes) → Knows (B.told book.old).revs (home_of dir.now.node).rev look → Answers (option_map (λ found. found.node)) (ChildOf look dir.now.node name.now) result }
     ensures below { IfOk result (λ child. IfSome child (λ found. (home_of found.node).rev ≤ (home_of dir.now.node).rev)) }
     ensures kept { Keeps (B.told book.old) (B.told book.new) }
     ensures cause { HasCause (B.faults book.old) (B.faults book.new) result }
@@ -53,7 +53,7 @@ pub fn child_named<B: Book>(
 
 // Walks from the root down the names.
 fn go_down<B: Book>(alloc: Global, book: &mut B, rev: u32, path: &FsPath) -> Result<Met, ReadError>
-    ensures told { (look : Look) → Knows (B.told book.old).revs rev look → Answers met_value (MetAt look rev path.now) result }
+    ensures told { (look : RevisionBytes) → Knows (B.told book.old).revs rev look → Answers met_value (MetAt look rev path.now) result }
     ensures kept { Keeps (B.told book.old) (B.told book.new) }
     ensures cause { HasCause (B.faults book.old) (B.faults book.new) result }
 {
@@ -81,9 +81,9 @@ pub fn node_at<B: Book>(
     rev: u32,
     path: &FsPath,
 ) -> Result<Met, ReadError>
-    ensures told { (look : Look) → Knows (B.told book.old).revs rev look → Answers met_value (MetAt look rev path.now) result }
+    ensures told { (look : RevisionBytes) → Knows (B.told book.old).revs rev look → Answers met_value (MetAt look rev path.now) result }
     // Where the bytes show a tree, the answer is the tree's, and never damage.
-    ensures shown { (look : Look) (tree : TreeFunction) → Knows (B.told book.old).revs rev look → Shows look rev tree → Answers met_value (IsMetByTree look rev tree path.now) result }
+    ensures shown { (look : RevisionBytes) (tree : TreeFunction) → Knows (B.told book.old).revs rev look → Shows look rev tree → Answers met_value (IsMetByTree look rev tree path.now) result }
     ensures kept { Keeps (B.told book.old) (B.told book.new) }
     ensures cause { HasCause (B.faults book.old) (B.faults book.new) result }
 {

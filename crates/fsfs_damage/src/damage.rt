@@ -40,7 +40,7 @@ pub enum RepWhat {
 
 /// What is wrong with the bytes of a revision.
 #[derive(Clone, Copy, Debug, PartialEq, Eq)]
-pub enum What {
+pub enum DamageKind {
     /// No trailer ends the bytes; the offset is their length.
     Trailer,
     /// No node-revision begins there, or one in a form that only a transaction has.
@@ -61,5 +61,5 @@ pub enum What {
 #[derive(Clone, Copy, Debug, PartialEq, Eq)]
 pub struct Damage {
     pub at: RevOffset,
-    pub what: What,
+    pub what: DamageKind,
 }

@@ -7,5 +7,5 @@
 mod damage;
 mod wrong;
 
-pub use damage::{Damage, RepWhat, RevOffset, What};
+pub use damage::{Damage, DamageKind, RepWhat, RevOffset};
 pub use wrong::{ReadError, Refusal, Wrong};

@@ -3,7 +3,7 @@ ghost use Rattle.std.specs.Prelude.{◌≡◌};
 ghost use Rattle.fsfs_damage.specs.Damages.{damaged};
 ghost use Rattle.fsfs_damage.specs.declared.wrong.ReadError.TheVariants.{Wrong as IsWrong};
 
-use crate::damage::{Damage, RevOffset, What};
+use crate::damage::{Damage, DamageKind, RevOffset};
 use fsfs_base::SmallFault;
 use std::alloc::AllocError;
 use thiserror::Error;
@@ -51,7 +51,7 @@ pub enum ReadError {
 
 impl ReadError {
     /// Damage at this place.
-    pub fn damaged(at: RevOffset, what: What) -> ReadError
+    pub fn damaged(at: RevOffset, what: DamageKind) -> ReadError
         ensures { result ≡ IsWrong (damaged at what) }
     {
         ReadError::Wrong(Wrong::Damaged(Damage { at, what }))

@@ -3,7 +3,7 @@ use Rattle.std.proofs.Common.{◌≡◌, ◌⊎◌, ℕ, List, [], ◌∷◌, in
 use Rattle.std.specs.Prelude.{Option, Some, None}
 use Rattle.std.specs.FinMap.{insert}
 use Rattle.fsfs_base.specs.Files.{Files}
-use Rattle.fsfs_disk.specs.Trace.{Trace, Change, Operation, Put, Adopt, Rename, Remove, FirmNames, Done, Attempted, IsImage, ImageSince, ImageAfter, TornBy, change_of, add_operation, files_now, files_after, Performs, FailsAt, FailsToPut}
+use Rattle.fsfs_disk.specs.Trace.{Trace, NameChange, Operation, Put, Adopt, Rename, Remove, FirmNames, Done, Attempted, IsImage, ImageSince, ImageAfter, TornBy, change_of, add_operation, files_now, files_after, Performs, FailsAt, FailsToPut}
 use Rattle.fsfs_disk.specs.Crash.{AllImages, IsFirm, LeavesOnly, Leaves, KeepsImages}
 
 -- this moment is one of those since an earlier one
@@ -69,11 +69,11 @@ pub same_keeps : (old new : Option Trace) (P : Files → Type 0) → new ≡ old
 same_keeps old new P e all = (subst (λ o. AllImages o P) (sym e) all, same_leaves old new P e)
 
 -- what is left after a change, and in the middle of it, has P
-abbrev pub Stable : Change → (Files → Type 0) → Trace → Type 0
+abbrev pub Stable : NameChange → (Files → Type 0) → Trace → Type 0
 Stable change P t = ((m : Files) → ImageAfter change (files_now t) (IsImage t.first t.operations) m → P m) × ((m : Files) → TornBy change (IsImage t.first t.operations) m → P m)
 
 -- a call that may have failed leaves what has P
-pub leaves_at : (change : Change) (P : Files → Type 0) (old new : Option Trace) → FailsAt change old new → ((t : Trace) → old ≡ Some t → Stable change P t) → Leaves old new P
+pub leaves_at : (change : NameChange) (P : Files → Type 0) (old new : Option Trace) → FailsAt change old new → ((t : Trace) → old ≡ Some t → Stable change P t) → Leaves old new P
 leaves_at change P None new at stable = tt
 leaves_at change P (Some t) new at stable =
     let s = stable t refl in
@@ -82,7 +82,7 @@ leaves_at change P (Some t) new at stable =
     (λ e. subst (λ o. Leaves (Some t) o P) (sym e) (leaves_operation t (Done change) P s.0 s.1)) performed) at
 
 -- and the images after it have P
-pub all_at : (change : Change) (P : Files → Type 0) (old new : Option Trace) → FailsAt change old new → AllImages old P → ((t : Trace) → old ≡ Some t → Stable change P t) → AllImages new P
+pub all_at : (change : NameChange) (P : Files → Type 0) (old new : Option Trace) → FailsAt change old new → AllImages old P → ((t : Trace) → old ≡ Some t → Stable change P t) → AllImages new P
 all_at change P None new at all stable =
     ⊎_elim (λ e. subst (λ o. AllImages o P) (sym e) tt) (λ performed. ⊎_elim (λ e. subst (λ o. AllImages o P) (sym e) tt) (λ e. subst (λ o. AllImages o P) (sym e) tt) performed) at
 all_at change P (Some t) new at all stable =

@@ -5,17 +5,17 @@ use Rattle.std.specs.FinMap as map
 use Rattle.fsfs_base.specs.Files.{Files, renamed}
 
 -- a change of names; `Adopt` names a firm file that the disk got otherwise, `FirmNames` makes every change before it firm
-pub data Change : Type 0 where
-  Put : List ℕ → List ℕ → Change
-  Adopt : List ℕ → List ℕ → Change
-  Rename : List ℕ → List ℕ → Change
-  Remove : List ℕ → Change
-  FirmNames : Change
+pub data NameChange : Type 0 where
+  Put : List ℕ → List ℕ → NameChange
+  Adopt : List ℕ → List ℕ → NameChange
+  Rename : List ℕ → List ℕ → NameChange
+  Remove : List ℕ → NameChange
+  FirmNames : NameChange
 
 -- a call that was done, or one that failed and left the files from before
 pub data Operation : Type 0 where
-  Done : Change → Operation
-  Attempted : Change → Operation
+  Done : NameChange → Operation
+  Attempted : NameChange → Operation
 
 -- the firm files that a disk began with, and its operations since, the newest first
 pub record Trace : Type 0 where
@@ -23,7 +23,7 @@ pub record Trace : Type 0 where
   pub operations : List Operation
 
 -- what a change makes of the files
-abbrev pub changed : Change → Files → Files
+abbrev pub changed : NameChange → Files → Files
 changed (Put name bytes) m = map.insert m name bytes
 changed (Adopt name bytes) m = map.insert m name bytes
 changed (Rename from to) m = renamed m from to (map.get m from)
@@ -45,7 +45,7 @@ file_at trace name = map.get (files_now trace) name
 
 -- What a crash right after a change may leave: each change that isn't firm is there or not.
 -- `now` are the files that the change met, `Before` says what a crash before it could leave.
-abbrev pub ImageAfter : Change → Files → (Files → Type 0) → Files → Type 0
+abbrev pub ImageAfter : NameChange → Files → (Files → Type 0) → Files → Type 0
 ImageAfter (Put name bytes) now Before m = Before m ⊎ ((was : Files) × Before was × (m ≡ map.insert was name bytes))
 ImageAfter (Adopt name bytes) now Before m = Before m ⊎ ((was : Files) × Before was × (m ≡ map.insert was name bytes))
 ImageAfter (Rename from to) now Before m = Before m ⊎ ((was : Files) × Before was × (m ≡ renamed was from to (map.get now from)))
@@ -59,14 +59,14 @@ IsImage first (Done change ∷ operations) m = ImageAfter change (files_after fi
 IsImage first (Attempted change ∷ operations) m = IsImage first operations m
 
 -- what a crash in the middle of a call may leave besides: a torn put gives the name any bytes
-abbrev pub TornBy : Change → (Files → Type 0) → Files → Type 0
+abbrev pub TornBy : NameChange → (Files → Type 0) → Files → Type 0
 TornBy (Put name bytes) Before m = (any : List ℕ) × (was : Files) × Before was × (m ≡ map.insert was name any)
 TornBy (Adopt name bytes) Before m = ⊥
 TornBy (Rename from to) Before m = ⊥
 TornBy (Remove name) Before m = ⊥
 TornBy FirmNames Before m = ⊥
 
-abbrev pub change_of : Operation → Change
+abbrev pub change_of : Operation → NameChange
 change_of (Done change) = change
 change_of (Attempted change) = change
 
@@ -81,15 +81,15 @@ abbrev pub add_operation : Operation → Trace → Trace
 add_operation operation trace = record trace { operations = operation ∷ trace.operations }
 
 -- a call that did its change
-abbrev pub Performs : Change → Option Trace → Option Trace → Type 0
+abbrev pub Performs : NameChange → Option Trace → Option Trace → Type 0
 Performs change old new = new ≡ option_map (add_operation (Done change)) old
 
 -- a call that failed in the middle, and left the files from before
-abbrev pub Attempts : Change → Option Trace → Option Trace → Type 0
+abbrev pub Attempts : NameChange → Option Trace → Option Trace → Type 0
 Attempts change old new = new ≡ option_map (add_operation (Attempted change)) old
 
 -- a failed call touched nothing, or leaves the files from before, or those of success
-abbrev pub FailsAt : Change → Option Trace → Option Trace → Type 0
+abbrev pub FailsAt : NameChange → Option Trace → Option Trace → Type 0
 FailsAt change old new = (new ≡ old) ⊎ (Attempts change old new ⊎ Performs change old new)
 
 -- a failed put may also leave the name with any bytes
@@ -111,6 +111,6 @@ IsThere None there = there ≡ false
 IsThere (Some bytes) there = there ≡ true
 
 -- the change was done where the file was there, and nothing where it wasn't
-abbrev pub PerformsIfThere : Bool → Change → Option Trace → Option Trace → Type 0
+abbrev pub PerformsIfThere : Bool → NameChange → Option Trace → Option Trace → Type 0
 PerformsIfThere true change old new = Performs change old new
 PerformsIfThere false change old new = new ≡ old

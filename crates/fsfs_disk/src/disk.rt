@@ -1,7 +1,7 @@
 // A disk: files by name, and what a crash may leave of them.
 ghost use Rattle.std.specs.Prelude.{◌≡◌, ◌≤◌, ℕ, Bool, List, Option, length, IfOk, IfSome, OnOk, OnErr, IsSome, IsTrue};
 ghost use Rattle.fsfs_base.specs.Failures.{HasCause};
-ghost use Rattle.fsfs_disk.specs.Trace.{Trace, Change, Put, Rename, Remove, FirmNames, files_now, file_at, Performs, FailsAt, FailsToPut, IsRead, IsSize, IsThere, PerformsIfThere};
+ghost use Rattle.fsfs_disk.specs.Trace.{Trace, NameChange, Put, Rename, Remove, FirmNames, files_now, file_at, Performs, FailsAt, FailsToPut, IsRead, IsSize, IsThere, PerformsIfThere};
 
 use fsfs_base::{Failed, Name};
 

@@ -6,7 +6,7 @@ use Rattle.fsfs_places.specs.declared.create_fault.CreateFault.{CreateFault}
 use Rattle.fsfs_places.specs.declared.create_fault.CreateFault.TheVariants as create
 use Rattle.fsfs_places.specs.declared.open_fault.OpenFault.{OpenFault}
 use Rattle.fsfs_places.specs.declared.open_fault.OpenFault.TheVariants as opening
-use Rattle.fsfs_damage.specs.declared.damage.What.TheVariants as damaged
+use Rattle.fsfs_damage.specs.declared.damage.DamageKind.TheVariants as damaged
 use Rattle.fsfs_damage.specs.declared.wrong.Wrong.{Wrong}
 use Rattle.fsfs_damage.specs.declared.wrong.Wrong.TheVariants as wrong
 use Rattle.fsfs_printed.specs.declared.look_fault.LookFault.{LookFault}

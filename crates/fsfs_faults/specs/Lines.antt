@@ -6,8 +6,8 @@ use Rattle.fsfs_base.specs.declared.bad_path.PathFault.{PathFault}
 use Rattle.fsfs_base.specs.declared.bad_path.PathFault.TheVariants.{NotAbsolute, PathTooLong, TooDeep, EmptyName, Control, NameTooLong, Dot}
 use Rattle.fsfs_layout.specs.FileNames.{small_name}
 use Rattle.fsfs_damage.specs.declared.damage.RevOffset.{RevOffset}
-use Rattle.fsfs_damage.specs.declared.damage.What.{What}
-use Rattle.fsfs_damage.specs.declared.damage.What.TheVariants as damaged
+use Rattle.fsfs_damage.specs.declared.damage.DamageKind.{DamageKind}
+use Rattle.fsfs_damage.specs.declared.damage.DamageKind.TheVariants as damaged
 use Rattle.fsfs_damage.specs.declared.damage.RepWhat.{RepWhat}
 use Rattle.fsfs_damage.specs.declared.damage.RepWhat.TheVariants as rep
 use Rattle.fsfs_places.specs.declared.place.DiskPlace.{DiskPlace}
@@ -71,7 +71,7 @@ rep_what_values rep.BadName = codes " BadName"
 rep_what_values rep.EntryValue = codes " EntryValue"
 
 -- what is damaged in a revision
-abbrev pub what_values : What → List ℕ
+abbrev pub what_values : DamageKind → List ℕ
 what_values damaged.Trailer = codes " Trailer"
 what_values damaged.NodeRev = codes " NodeRev"
 what_values damaged.PlaceOrder = codes " PlaceOrder"

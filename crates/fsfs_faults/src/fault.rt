@@ -3,7 +3,7 @@ ghost use Rattle.fsfs_faults.specs.Faults.{IsFromLook};
 
 use fsfs_base::{BadPath, FsPath, SmallFault};
 use fsfs_cli::WordsFault;
-use fsfs_damage::{Damage, Refusal, RevOffset, What, Wrong};
+use fsfs_damage::{Damage, DamageKind, Refusal, RevOffset, Wrong};
 use fsfs_places::{CreateFault, DiskPlace, OpenFault};
 use fsfs_printed::LookFault;
 use std::alloc::Global;
@@ -127,7 +127,7 @@ impl From<Wrong> for Fault {
             },
             Wrong::Refused(Refusal::Missing { rev }) => Fault::Corrupt(Damage {
                 at: RevOffset { rev, offset: 0 },
-                what: What::Missing,
+                what: DamageKind::Missing,
             }),
             Wrong::Refused(Refusal::Small(small)) => Fault::Small(small),
             Wrong::Damaged(damage) => Fault::Corrupt(damage),

@@ -8,7 +8,7 @@ use crate::fault::Fault;
 use arrayvec::ArrayString;
 use fsfs_base::{HexDigest, PathFault};
 use fsfs_cli::Tool;
-use fsfs_damage::{RepWhat, RevOffset, What};
+use fsfs_damage::{DamageKind, RepWhat, RevOffset};
 use fsfs_layout::names::small_file;
 use fsfs_places::DiskPlace;
 use itoa::Buffer;
@@ -159,17 +159,17 @@ fn rep_what_text(what: &RepWhat) -> ArrayString<96>
 }
 
 // What is damaged in a revision, with its values, a space before each.
-fn what_text(what: &What) -> ArrayString<96>
+fn what_text(what: &DamageKind) -> ArrayString<96>
     ensures { result.bytes ≡ what_values what.now }
 {
     let word = match what {
-        What::Rep(rep) => return rep_what_text(rep),
-        What::Trailer => " Trailer",
-        What::NodeRev => " NodeRev",
-        What::PlaceOrder => " PlaceOrder",
-        What::OtherId => " OtherId",
-        What::EntryKind => " EntryKind",
-        What::Missing => " Missing",
+        DamageKind::Rep(rep) => return rep_what_text(rep),
+        DamageKind::Trailer => " Trailer",
+        DamageKind::NodeRev => " NodeRev",
+        DamageKind::PlaceOrder => " PlaceOrder",
+        DamageKind::OtherId => " OtherId",
+        DamageKind::EntryKind => " EntryKind",
+        DamageKind::Missing => " Missing",
     };
     let mut text = ArrayString::new();
     text.push_str(word);

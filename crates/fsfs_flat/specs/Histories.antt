@@ -2,7 +2,7 @@
 -- created and changed revisions of svn_fs.h.)
 use Rattle.std.specs.Prelude.{◌≡◌, ℕ, suc, ◌<◌, ◌≤◌, true, List, [], ◌∷◌, Some, None, is_some, length}
 use Rattle.fsfs_base.specs.declared.kind.Kind.TheVariants.{Dir}
-use Rattle.fsfs_base.specs.Paths.{Path, Name, is_above}
+use Rattle.fsfs_base.specs.Paths.{Path, PathName, is_above}
 use Rattle.fsfs_tree.specs.Nodes.{Node, TreeFunction, empty_node}
 use Rattle.fsfs_tree.specs.Revisions.{Revision, tree_of}
 use Rattle.fsfs_tree.specs.Trees.{AreOrdered, IsTree}
@@ -29,7 +29,7 @@ pub record IsRevision (r : ℕ) (tree : ℕ → TreeFunction) (p s : TreeFunctio
 -- the trees of the revisions 0 to last: the first has `/` alone, a directory without properties and source, all numbers 0
 pub record AreRevisions (tree : ℕ → TreeFunction) (last : ℕ) : Type 0 where
   pub first : tree 0 [] ≡ Some (empty_node Dir)
-  pub alone : (x : Name) (q : Path) → tree 0 (x ∷ q) ≡ None
+  pub alone : (x : PathName) (q : Path) → tree 0 (x ∷ q) ≡ None
   pub next : (r : ℕ) → r < last → IsRevision (suc r) tree (tree r) (tree (suc r))
 
 -- a history: revision 0 and those after it

@@ -1,7 +1,7 @@
 // Representations: the bytes that stand under a name in two revisions, and why they are not read.
 use crate::nodes::put_digits;
-use fsfs_book::{Kept, MemBook, MemRev};
-use fsfs_damage::{ReadError, RepWhat, What, Wrong};
+use fsfs_book::{MemBook, MemFile, MemRev};
+use fsfs_damage::{DamageKind, ReadError, RepWhat, Wrong};
 use fsfs_escapes::put_text;
 use fsfs_noderev::read_rep;
 use fsfs_rep::read_rep_bytes;
@@ -9,8 +9,8 @@ use std::alloc::{AllocError, Global};
 
 fn kept(alloc: Global, bytes: &[u8]) -> Result<MemRev, AllocError> {
     Ok(MemRev {
-        bytes: Kept::Bytes(Vec::from_slice(alloc, bytes)?),
-        props: Kept::Absent,
+        bytes: MemFile::Bytes(Vec::from_slice(alloc, bytes)?),
+        props: MemFile::Absent,
     })
 }
 
@@ -52,7 +52,7 @@ fn put_wrong(out: &mut String, wrong: Wrong) -> Result<(), AllocError> {
         Wrong::Refused(refusal) => write!(out, "{refusal}"),
         Wrong::Delta(at) => write!(out, "a delta at {} in revision {}", at.offset, at.rev),
         Wrong::Damaged(damage) => match damage.what {
-            What::Rep(what) => put_damage(out, what),
+            DamageKind::Rep(what) => put_damage(out, what),
             _ => out.push_str("other damage"),
         },
     }

@@ -1,6 +1,6 @@
 //! Trailers and roots, worked out by hand.
 use fsfs_base::Kind;
-use fsfs_damage::{Damage, RevOffset, What};
+use fsfs_damage::{Damage, DamageKind, RevOffset};
 use fsfs_noderev::read_id;
 use fsfs_revision::{RevisionError, Trailer, put_trailer, read_root, read_tail, read_trailer};
 use std::test::Fail;
@@ -40,7 +40,7 @@ fn trailers_and_roots(rt: HostRuntime) -> Result<(), Fail> {
     assert!(rt; root.kind == Kind::Dir && root.created_path.is_root());
     let other = Damage {
         at: RevOffset { rev: 8, offset: 0 },
-        what: What::OtherId,
+        what: DamageKind::OtherId,
     };
     assert_eq!(rt;
         read_root(rt.alloc(), 8, bytes).err(),

@@ -3,10 +3,10 @@ use Rattle.std.proofs.Common.{ℕ, List, [], ◌∷◌, ◌++◌, length, Option
 use Rattle.std.proofs.lemmas.List.{length-append}
 use Rattle.fsfs_grammar.proofs.Readers.{Reads, ReadsAll, next_all, mapped_reads, mapped_all, either_reads, many_reads, from_steps_all}
 use Rattle.fsfs_hash.specs.Dump.{put_all}
-use Rattle.fsfs_hash.specs.Children.{Change, change_all, IsChildren, change_at, children_at}
+use Rattle.fsfs_hash.specs.Children.{ChildrenChange, change_all, IsChildren, change_at, children_at}
 use Rattle.fsfs_hash.proofs.Dumps.{field_reads, entry_reads, entries_reads}
 
-change_reads : (n : ℕ) → Reads n Change change_at
+change_reads : (n : ℕ) → Reads n ChildrenChange change_at
 unfolding change_at
 change_reads n = either_reads 68
     (λ t x w. rw (w.inner_is.parts, w.inner_is.first_is) refl)
@@ -14,7 +14,7 @@ change_reads n = either_reads 68
     (mapped_reads (λ (key : List ℕ). let p : List ℕ × Option (List ℕ) = (key, None) in p) (field_reads 68 n))
     (mapped_reads (λ (e : List ℕ × List ℕ). let p : List ℕ × Option (List ℕ) = (e.0, Some e.1) in p) (entry_reads n))
 
-change_filled : (x : List ℕ × Option (List ℕ)) → ¬ Change [] x
+change_filled : (x : List ℕ × Option (List ℕ)) → ¬ ChildrenChange [] x
 change_filled x (inl w) = let e = ap length w.inner_is.parts in omega (arith, e, length-append w.inner_is.first w.inner_is.second, ap length w.inner_is.first_is)
 change_filled x (inr w) =
     let f = w.inner_is.first_is in

@@ -3,7 +3,7 @@ use Rattle.std.proofs.Common.{◌≡◌, ℕ, suc, ◌-◌, ◌<◌, ◌≤◌, 
 use Rattle.fsfs_grammar.specs.Grammar.{IsFaultAt, IsText, begins}
 use Rattle.fsfs_grammar.proofs.Readers.{Reads, ReadsAll, next_reads, mapped_reads, until_reads, from_steps, whole_reads, text_reads, bytes_reads, all_exact, ok_is}
 use Rattle.fsfs_grammar.proofs.Numerals.{number_reads}
-use Rattle.fsfs_hash.specs.Dump.{Entries, Field, Entry, IsDump, put_all}
+use Rattle.fsfs_hash.specs.Dump.{Entries, Field, Pair, IsDump, put_all}
 use Rattle.fsfs_hash.specs.Reading.{entries_at, field_at, entry_at, dump_at}
 
 pub field_reads : (letter n : ℕ) → Reads n (Field letter) (field_at letter)
@@ -12,11 +12,11 @@ field_reads letter n =
     next_reads (text_reads (letter ∷ 32 ∷ [])) (λ _. next_reads (λ k. number_reads 10 18446744073709551615 10 k (omega arith) (omega arith))
     (λ count. next_reads (bytes_reads count) (λ bytes k. mapped_reads (λ (_ : Unit {0}). bytes) (text_reads (10 ∷ []) k)))) n
 
-pub entry_reads : (n : ℕ) → Reads n Entry entry_at
+pub entry_reads : (n : ℕ) → Reads n Pair entry_at
 unfolding entry_at
 entry_reads n = next_reads (field_reads 75) (λ key k. mapped_reads (λ (value : List ℕ). (key, value)) (field_reads 86 k)) n
 
-entry_first : (t : List ℕ) (x : List ℕ × List ℕ) → Entry t x → begins 75 t ≡ true
+entry_first : (t : List ℕ) (x : List ℕ × List ℕ) → Pair t x → begins 75 t ≡ true
 entry_first t x w = rw (w.parts, w.first_is.parts, w.first_is.first_is) refl
 
 end_first : (t : List ℕ) (z : Unit {0}) → IsText (69 ∷ 78 ∷ 68 ∷ 10 ∷ []) t z → (b : ℕ) × (bs : List ℕ) × (t ≡ b ∷ bs) × (eqb b 75 ≡ false)

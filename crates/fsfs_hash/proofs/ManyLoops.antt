@@ -3,8 +3,8 @@ use Rattle.std.proofs.Common.{◌≡◌, ℕ, suc, ◌-◌, ◌+◌, ◌≤◌, 
 use Rattle.std.proofs.lemmas.List.{append-nil}
 use Rattle.fsfs_grammar.specs.Grammar.{Appends, Many}
 use Rattle.fsfs_grammar.specs.Reading.{◌>>=◌, many_at}
-use Rattle.fsfs_hash.specs.Dump.{Field, Entry, put, put_all}
-use Rattle.fsfs_hash.specs.Children.{Change, change, change_all, without, IsChildren}
+use Rattle.fsfs_hash.specs.Dump.{Field, Pair, put, put_all}
+use Rattle.fsfs_hash.specs.Children.{ChildrenChange, change, change_all, without, IsChildren}
 
 abbrev pub with_all : {X : Type 0} → List X → Result (List X) ℕ → Result (List X) ℕ
 with_all {X} front read = read >>= λ xs. Ok (front ++ xs)
@@ -51,12 +51,12 @@ pub change_all-push : (pairs : List (List ℕ × List ℕ)) (cs : List Changed) 
 change_all-push pairs [] c = refl
 change_all-push pairs (d ∷ cs) c = change_all-push (change pairs d) cs c
 
-many_push : (t u : List ℕ) (cs : List Changed) (c : Changed) → Many Change t cs → Change u c → Many Change (t ++ u) (cs ++ c ∷ [])
+many_push : (t u : List ℕ) (cs : List Changed) (c : Changed) → Many ChildrenChange t cs → ChildrenChange u c → Many ChildrenChange (t ++ u) (cs ++ c ∷ [])
 many_push t u [] c w v = (u, [], v, refl, ap (λ (x : List ℕ). x ++ u) w ∙ sym (append-nil u))
 many_push t u (d ∷ cs) c w v = (w.0, w.1 ++ u, w.2, many_push w.1 u cs c w.3 v, ap (λ (x : List ℕ). x ++ u) w.4 ∙ append_assoc w.0 w.1 u)
 
 -- a children file with one change more at its end
-pub children_more : (old new : List ℕ) (pairs : List (List ℕ × List ℕ)) (c : Changed) → IsChildren old pairs → Appends Change old new c → IsChildren new (change pairs c)
+pub children_more : (old new : List ℕ) (pairs : List (List ℕ × List ℕ)) (c : Changed) → IsChildren old pairs → Appends ChildrenChange old new c → IsChildren new (change pairs c)
 children_more old new pairs c w v =
     let tail = w.second_is in
     record {
@@ -68,7 +68,7 @@ children_more old new pairs c w v =
       parts = v.parts ∙ ap (λ (t : List ℕ). t ++ v.text) w.parts ∙ append_assoc w.first w.second v.text;
     }
 
-pub children_put : (old new name value : List ℕ) (pairs : List (List ℕ × List ℕ)) → IsChildren old pairs → Appends Entry old new (name, value) → IsChildren new (put pairs (name, value))
+pub children_put : (old new name value : List ℕ) (pairs : List (List ℕ × List ℕ)) → IsChildren old pairs → Appends Pair old new (name, value) → IsChildren new (put pairs (name, value))
 children_put old new name value pairs w v =
     children_more old new pairs (name, Some value) w (record { text = v.text; text_is = inr (record { inner = (name, value); inner_is = v.text_is; value_is = refl }); parts = v.parts })
 

@@ -6,12 +6,12 @@ use Rattle.std.specs.BTreeMap.{is_at}
 use Rattle.std.specs.Map.{remove_entry}
 use Rattle.fsfs_grammar.specs.Grammar.{Then, Mapped, Either, Many, begins}
 use Rattle.fsfs_grammar.specs.Reading.{◌>>=◌, many_at}
-use Rattle.fsfs_hash.specs.Dump.{Field, Entry, Entries, put, put_all}
+use Rattle.fsfs_hash.specs.Dump.{Field, Pair, Entries, put, put_all}
 use Rattle.fsfs_hash.specs.Reading.{field_at, entry_at, entries_at}
 
 -- `D <len>\n<key>\n` takes the key away, an entry puts its pair
-abbrev pub Change : List ℕ → List ℕ × Option (List ℕ) → Type 0
-Change = Either (Mapped (λ key. (key, None)) (Field 68)) (Mapped (λ e. (e.0, Some e.1)) Entry)
+abbrev pub ChildrenChange : List ℕ → List ℕ × Option (List ℕ) → Type 0
+ChildrenChange = Either (Mapped (λ key. (key, None)) (Field 68)) (Mapped (λ e. (e.0, Some e.1)) Pair)
 
 -- the pairs without this key
 abbrev pub without : List (List ℕ × List ℕ) → List ℕ → List (List ℕ × List ℕ)
@@ -26,7 +26,7 @@ change_all pairs [] = pairs
 change_all pairs (c ∷ cs) = change_all (change pairs c) cs
 
 abbrev pub IsChildren : List ℕ → List (List ℕ × List ℕ) → Type 0
-IsChildren = Then Entries (λ es. Mapped (change_all (put_all [] es)) (Many Change))
+IsChildren = Then Entries (λ es. Mapped (change_all (put_all [] es)) (Many ChildrenChange))
 
 unfoldable pub change_at : List ℕ → Result ((List ℕ × Option (List ℕ)) × List ℕ) ℕ
 change_at bytes =

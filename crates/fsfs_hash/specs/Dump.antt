@@ -11,12 +11,12 @@ abbrev pub Field : ℕ → List ℕ → List ℕ → Type 0
 Field letter = Then (IsText (letter ∷ 32 ∷ [])) (λ _. Then (IsNumber 10 18446744073709551615 10) (λ n. Then (AreBytes n) (λ bytes. Mapped (λ _. bytes) (IsText (10 ∷ [])))))
 
 -- a key, marked by K, and its value, marked by V
-abbrev pub Entry : List ℕ → List ℕ × List ℕ → Type 0
-Entry = Then (Field 75) (λ key. Mapped (λ value. (key, value)) (Field 86))
+abbrev pub Pair : List ℕ → List ℕ × List ℕ → Type 0
+Pair = Then (Field 75) (λ key. Mapped (λ value. (key, value)) (Field 86))
 
 -- entries in the order of the text, and then END
 abbrev pub Entries : List ℕ → List (List ℕ × List ℕ) → Type 0
-Entries = Until Entry (IsText (69 ∷ 78 ∷ 68 ∷ 10 ∷ []))
+Entries = Until Pair (IsText (69 ∷ 78 ∷ 68 ∷ 10 ∷ []))
 
 -- pairs in byte order of keys, with one more, which takes the place of one that has its key
 abbrev pub put : List (List ℕ × List ℕ) → List ℕ × List ℕ → List (List ℕ × List ℕ)

@@ -1,7 +1,7 @@
 //! Writing dumps, and records of a `children` file.
 ghost use Rattle.std.specs.Prelude.{◌≡◌, ℕ, List, OnOk, IfOk};
 ghost use Rattle.fsfs_grammar.specs.Grammar.{Appends};
-ghost use Rattle.fsfs_hash.specs.Dump.{Field, Entry, Entries, IsDump, put};
+ghost use Rattle.fsfs_hash.specs.Dump.{Field, Pair, Entries, IsDump, put};
 ghost use Rattle.fsfs_hash.specs.Children.{IsChildren, without};
 
 use fsfs_base::Pairs;
@@ -20,7 +20,7 @@ fn put_field(out: &mut Vec<u8>, letter: u8, bytes: &[u8]) -> Result<(), AllocErr
 
 /// Writes an entry of a dump, or a record of a `children` file's tail, at the end.
 pub fn add_entry(out: &mut Vec<u8>, name: &[u8], value: &[u8]) -> Result<(), AllocError>
-    ensures entry { OnOk result (Appends Entry out.old.items out.new.items (name.now, value.now)) }
+    ensures entry { OnOk result (Appends Pair out.old.items out.new.items (name.now, value.now)) }
     // A children file has this pair from then on.
     ensures children { (pairs : List (List ℕ × List ℕ)) → IsChildren out.old.items pairs → OnOk result (IsChildren out.new.items (put pairs (name.now, value.now))) }
 {

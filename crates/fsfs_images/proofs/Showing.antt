@@ -6,29 +6,29 @@ use Rattle.fsfs_base.specs.Files.{Files, renamed}
 use Rattle.fsfs_base.proofs.FileLemmas.{get_new, get_kept, get_gone, get_left}
 use Rattle.fsfs_disk.specs.Trace.{Operation, files_after, TornBy}
 use Rattle.fsfs_disk.specs.Trace as real
-use Rattle.fsfs_machine.specs.declared.contents.Name.{Name}
+use Rattle.fsfs_machine.specs.declared.contents.FileName.{FileName}
 use Rattle.fsfs_machine.specs.declared.contents.Contents.{Contents}
 use Rattle.fsfs_machine.specs.declared.contents.Contents.TheVariants.{Junk}
-use Rattle.fsfs_machine.specs.declared.contents.Change.TheVariants.{Put, Rename, Remove, Firm}
+use Rattle.fsfs_machine.specs.declared.contents.NameChange.TheVariants.{Put, Rename, Remove, Firm}
 use Rattle.fsfs_machine.specs.Disk.{Disk, found, same_name, IsImage}
 use Rattle.fsfs_images.specs.Shown.{IsReading, AtName, AreRead, Shows, Start, Putting, Adopting, Renaming, Removing, Firming, Attempting, Beside, ImagesAreShown}
 
-module _ (names : Name → List ℕ) (reads : List ℕ → Contents → Bool) (is : IsReading names reads) where
-  read_put : (m : Files) (d : Disk) (n : Name) (bytes : List ℕ) (c : Contents) → AreRead names reads m d → reads bytes c ≡ true → AreRead names reads (insert m (names n) bytes) (Put n c ∷ d)
+module _ (names : FileName → List ℕ) (reads : List ℕ → Contents → Bool) (is : IsReading names reads) where
+  read_put : (m : Files) (d : Disk) (n : FileName) (bytes : List ℕ) (c : Contents) → AreRead names reads m d → reads bytes c ≡ true → AreRead names reads (insert m (names n) bytes) (Put n c ∷ d)
   read_put m d n bytes c all ok q =
       elim (same_name n q) as (λ b. same_name n q ≡ b → AtName reads (get (insert m (names n) bytes) (names q)) (cond b (Some c) (found d q))) [
         | true ↦ λ e. subst (λ o. AtName reads o (Some c)) (sym (ap (λ k. get (insert m (names n) bytes) k) (sym (is.same n q e)) ∙ get_new m (names n) bytes)) ok
         | false ↦ λ e. subst (λ o. AtName reads o (found d q)) (sym (get_kept m (names n) bytes (names q) (is.apart n q e))) (all q)
       ] refl
 
-  read_remove : (m : Files) (d : Disk) (n : Name) → AreRead names reads m d → AreRead names reads (remove m (names n)) (Remove n ∷ d)
+  read_remove : (m : Files) (d : Disk) (n : FileName) → AreRead names reads m d → AreRead names reads (remove m (names n)) (Remove n ∷ d)
   read_remove m d n all q =
       elim (same_name n q) as (λ b. same_name n q ≡ b → AtName reads (get (remove m (names n)) (names q)) (cond b None (found d q))) [
         | true ↦ λ e. subst (λ o. AtName reads o None) (sym (ap (λ k. get (remove m (names n)) k) (sym (is.same n q e)) ∙ get_gone m (names n))) tt
         | false ↦ λ e. subst (λ o. AtName reads o (found d q)) (sym (get_left m (names n) (names q) (is.apart n q e))) (all q)
       ] refl
 
-  read_rename : (m : Files) (d : Disk) (from to : Name) (bytes : List ℕ) (c : Contents) → AreRead names reads m d → reads bytes c ≡ true
+  read_rename : (m : Files) (d : Disk) (from to : FileName) (bytes : List ℕ) (c : Contents) → AreRead names reads m d → reads bytes c ≡ true
       → AreRead names reads (insert (remove m (names from)) (names to) bytes) (Rename from to c ∷ d)
   read_rename m d from to bytes c all ok q =
       elim (same_name to q) as (λ b. same_name to q ≡ b → AtName reads (get (insert (remove m (names from)) (names to) bytes) (names q)) (cond b (Some c) (cond (same_name from q) None (found d q)))) [
@@ -36,7 +36,7 @@ module _ (names : Name → List ℕ) (reads : List ℕ → Contents → Bool) (i
         | false ↦ λ e. subst (λ o. AtName reads o (cond (same_name from q) None (found d q))) (sym (get_kept (remove m (names from)) (names to) bytes (names q) (is.apart to q e))) (read_remove m d from all q)
       ] refl
 
-  read_beside : (m : Files) (d : Disk) (name bytes : List ℕ) → ((n : Name) → names n ≡ name → ⊥) → AreRead names reads m d → AreRead names reads (insert m name bytes) d
+  read_beside : (m : Files) (d : Disk) (name bytes : List ℕ) → ((n : FileName) → names n ≡ name → ⊥) → AreRead names reads m d → AreRead names reads (insert m name bytes) d
   read_beside m d name bytes other all q = subst (λ o. AtName reads o (found d q)) (sym (get_kept m name bytes (names q) (other q))) (all q)
 
   -- the files now
@@ -71,7 +71,7 @@ module _ (names : Name → List ℕ) (reads : List ℕ → Contents → Bool) (i
       ⊎_elim (λ i. image_read first t d s m i)
       (λ w. let r = image_read first t d s w.0 w.1 in (r.0, r.1, subst (λ z. AreRead names reads z r.0) (sym w.2) (read_beside w.0 r.0 name bytes other r.2))) image
 
-  torn_read : (first : Files) (t : List Operation) (d : Disk) → Shows names reads first t d → (n : Name) (bytes : List ℕ)
+  torn_read : (first : Files) (t : List Operation) (d : Disk) → Shows names reads first t d → (n : FileName) (bytes : List ℕ)
       → (m : Files) → TornBy (real.Put (names n) bytes) (real.IsImage first t) m → (e : Disk) × IsImage (Put n Junk ∷ d) e × AreRead names reads m e
   torn_read first t d s n bytes m w =
       let r = image_read first t d s w.1 w.2 in

@@ -4,16 +4,16 @@ use Rattle.std.specs.FinMap as map
 use Rattle.fsfs_base.specs.Files.{Files}
 use Rattle.fsfs_disk.specs.Trace.{Operation, Done, Attempted, files_after, TornBy}
 use Rattle.fsfs_disk.specs.Trace as real
-use Rattle.fsfs_machine.specs.declared.contents.Name.{Name}
+use Rattle.fsfs_machine.specs.declared.contents.FileName.{FileName}
 use Rattle.fsfs_machine.specs.declared.contents.Contents.{Contents}
 use Rattle.fsfs_machine.specs.declared.contents.Contents.TheVariants.{Junk}
-use Rattle.fsfs_machine.specs.declared.contents.Change.TheVariants.{Put, Rename, Remove, Firm}
+use Rattle.fsfs_machine.specs.declared.contents.NameChange.TheVariants.{Put, Rename, Remove, Firm}
 use Rattle.fsfs_machine.specs.Disk.{Disk, found, same_name, IsImage}
 
 -- how real files are read: by names that are told apart, and so that any bytes may be junk
-pub record IsReading (names : Name → List ℕ) (reads : List ℕ → Contents → Bool) : Type 0 where
-  pub same : (a b : Name) → same_name a b ≡ true → names a ≡ names b
-  pub apart : (a b : Name) → same_name a b ≡ false → names b ≡ names a → ⊥
+pub record IsReading (names : FileName → List ℕ) (reads : List ℕ → Contents → Bool) : Type 0 where
+  pub same : (a b : FileName) → same_name a b ≡ true → names a ≡ names b
+  pub apart : (a b : FileName) → same_name a b ≡ false → names b ≡ names a → ⊥
   pub junk : (bytes : List ℕ) → reads bytes Junk ≡ true
 
 -- what stands at a name is read so
@@ -24,29 +24,29 @@ AtName reads None (Some c) = ⊥
 AtName reads (Some bytes) None = ⊥
 
 -- each file that the machine speaks of is read as its contents
-abbrev pub AreRead : (Name → List ℕ) → (List ℕ → Contents → Bool) → Files → Disk → Type 0
-AreRead names reads m d = (n : Name) → AtName reads (map.get m (names n)) (found d n)
+abbrev pub AreRead : (FileName → List ℕ) → (List ℕ → Contents → Bool) → Files → Disk → Type 0
+AreRead names reads m d = (n : FileName) → AtName reads (map.get m (names n)) (found d n)
 
 -- the operations of a disk are read as the changes of the machine's
-pub data Shows (names : Name → List ℕ) (reads : List ℕ → Contents → Bool) (first : Files) : List Operation → Disk → Type 0 where
+pub data Shows (names : FileName → List ℕ) (reads : List ℕ → Contents → Bool) (first : Files) : List Operation → Disk → Type 0 where
   Start : (d : Disk) → AreRead names reads first d → Shows names reads first [] (Firm ∷ d)
-  Putting : (t : List Operation) (d : Disk) (n : Name) (bytes : List ℕ) (c : Contents) → Shows names reads first t d → reads bytes c ≡ true
+  Putting : (t : List Operation) (d : Disk) (n : FileName) (bytes : List ℕ) (c : Contents) → Shows names reads first t d → reads bytes c ≡ true
       → Shows names reads first (Done (real.Put (names n) bytes) ∷ t) (Put n c ∷ d)
-  Adopting : (t : List Operation) (d : Disk) (n : Name) (bytes : List ℕ) (c : Contents) → Shows names reads first t d → reads bytes c ≡ true
+  Adopting : (t : List Operation) (d : Disk) (n : FileName) (bytes : List ℕ) (c : Contents) → Shows names reads first t d → reads bytes c ≡ true
       → Shows names reads first (Done (real.Adopt (names n) bytes) ∷ t) (Put n c ∷ d)
-  Renaming : (t : List Operation) (d : Disk) (from to : Name) (bytes : List ℕ) (c : Contents) → Shows names reads first t d
+  Renaming : (t : List Operation) (d : Disk) (from to : FileName) (bytes : List ℕ) (c : Contents) → Shows names reads first t d
       → map.get (files_after first t) (names from) ≡ Some bytes → reads bytes c ≡ true
       → Shows names reads first (Done (real.Rename (names from) (names to)) ∷ t) (Rename from to c ∷ d)
-  Removing : (t : List Operation) (d : Disk) (n : Name) → Shows names reads first t d → Shows names reads first (Done (real.Remove (names n)) ∷ t) (Remove n ∷ d)
+  Removing : (t : List Operation) (d : Disk) (n : FileName) → Shows names reads first t d → Shows names reads first (Done (real.Remove (names n)) ∷ t) (Remove n ∷ d)
   Firming : (t : List Operation) (d : Disk) → Shows names reads first t d → Shows names reads first (Done real.FirmNames ∷ t) (Firm ∷ d)
-  Attempting : (t : List Operation) (d : Disk) (c : real.Change) → Shows names reads first t d → Shows names reads first (Attempted c ∷ t) d
-  Beside : (t : List Operation) (d : Disk) (name bytes : List ℕ) → ((n : Name) → names n ≡ name → ⊥) → Shows names reads first t d
+  Attempting : (t : List Operation) (d : Disk) (c : real.NameChange) → Shows names reads first t d → Shows names reads first (Attempted c ∷ t) d
+  Beside : (t : List Operation) (d : Disk) (name bytes : List ℕ) → ((n : FileName) → names n ≡ name → ⊥) → Shows names reads first t d
       → Shows names reads first (Done (real.Put name bytes) ∷ t) d
 
 -- each image of the disk is read as an image of the machine's, and a put that was torn as one of junk
-pub record ImagesAreShown (names : Name → List ℕ) (reads : List ℕ → Contents → Bool) : Type 0 where
+pub record ImagesAreShown (names : FileName → List ℕ) (reads : List ℕ → Contents → Bool) : Type 0 where
   pub now : (first : Files) (t : List Operation) (d : Disk) → Shows names reads first t d → AreRead names reads (files_after first t) d
   pub images : (first : Files) (t : List Operation) (d : Disk) → Shows names reads first t d
       → (m : Files) → real.IsImage first t m → (e : Disk) × IsImage d e × AreRead names reads m e
-  pub torn : (first : Files) (t : List Operation) (d : Disk) → Shows names reads first t d → (n : Name) (bytes : List ℕ)
+  pub torn : (first : Files) (t : List Operation) (d : Disk) → Shows names reads first t d → (n : FileName) (bytes : List ℕ)
       → (m : Files) → TornBy (real.Put (names n) bytes) (real.IsImage first t) m → (e : Disk) × IsImage (Put n Junk ∷ d) e × AreRead names reads m e

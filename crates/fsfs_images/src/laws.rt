@@ -1,6 +1,6 @@
 //! What the machine's disk says of real disks. The function does nothing: what it ensures is proved once for all traces.
 ghost use Rattle.std.specs.Prelude.{List, ℕ, Bool};
-ghost use Rattle.fsfs_machine.specs.declared.contents.Name.{Name as MachineName};
+ghost use Rattle.fsfs_machine.specs.declared.contents.FileName.{FileName as MachineName};
 ghost use Rattle.fsfs_machine.specs.declared.contents.Contents.{Contents as MachineContents};
 ghost use Rattle.fsfs_images.specs.Shown.{IsReading, ImagesAreShown};
 

@@ -1,7 +1,7 @@
 -- The text of a node at a path, to its end.
 use Rattle.std.proofs.Common.{◌≡◌, ℕ, Bool, List, [], ◌++◌, Option, Result, Ok, Err, refl, sym, ap, subst, ◌∙◌, append_assoc, append-nil, inl, inr}
-use Rattle.fsfs_base.specs.Paths.{Name, Path}
-use Rattle.fsfs_book.specs.Told.{Look}
+use Rattle.fsfs_base.specs.Paths.{PathName, Path}
+use Rattle.fsfs_book.specs.Told.{RevisionBytes}
 use Rattle.fsfs_streams.specs.Streams.{Adds}
 use Rattle.fsfs_streams.proofs.StreamLemmas.{adds_then}
 use Rattle.fsfs_answers.specs.Answers.{last_name}
@@ -21,7 +21,7 @@ use Rattle.fsfs_look.proofs.ProgressLemmas.{adds_nothing}
 
 -- ---- the node at the path, and nothing behind it
 
-module _ (look : Look) (ids : Bool) (name : Name) (v : NodeRev) where
+module _ (look : RevisionBytes) (ids : Bool) (name : PathName) (v : NodeRev) where
   alone : (text : List ℕ) (end : End) → Then (NodeText look ids 0 name v) (LeftText look ids []) text end → NodeText look ids 0 name v text end
   alone text end (inl (h, ne)) = h
   alone text end (inr (first, rest, h, (none, whole), e)) =
@@ -80,12 +80,12 @@ writes_as R S old new (Err errors.OutOfMemory) f (text, end, h, adds) = (text, e
 writes_as R S old new (Err errors.DiskFault) f (text, end, h, adds) = (text, end, f text end h, adds)
 writes_as R S old new (Err errors.WriteFault) f (text, end, h, adds) = (text, end, f text end h, adds)
 
-pub tree_at : (look : Look) (rev : ℕ) (path : Path) (ids : Bool) (name : Name) (v : NodeRev) → name ≡ last_name path → MetAt look rev path (Ok (Stands v)) → (text : List ℕ) (end : End) → NodeFrom look ids name v text end → TreeText look rev path ids text end
+pub tree_at : (look : RevisionBytes) (rev : ℕ) (path : Path) (ids : Bool) (name : PathName) (v : NodeRev) → name ≡ last_name path → MetAt look rev path (Ok (Stands v)) → (text : List ℕ) (end : End) → NodeFrom look ids name v text end → TreeText look rev path ids text end
 tree_at look rev path ids name v e met text end (inl h) = inl h
 tree_at look rev path ids name v e met text end (inr h) = inr (inr (Stands v, met, subst (λ n. NodeText look ids 0 n v text end) e h))
 
 -- there is no node at the path: nothing is written
-module _ (look : Look) (rev : ℕ) (path : Path) (M : Met → List ℕ → End → Type 0) (told : Option (List ℕ)) where
+module _ (look : RevisionBytes) (rev : ℕ) (path : Path) (M : Met → List ℕ → End → Type 0) (told : Option (List ℕ)) where
   nothing_front : WritesFront (AtPath look rev path M) told told
   nothing_front = ([], Stopped, inl (refl, refl), ([], [], refl, adds_nothing told))
 

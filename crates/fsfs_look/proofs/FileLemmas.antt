@@ -4,7 +4,7 @@ use Rattle.std.proofs.lemmas.List.{take-append-drop}
 use Rattle.fsfs_base.specs.Paths.{Path}
 use Rattle.fsfs_base.specs.declared.kind.Kind.TheVariants.{File, Dir}
 use Rattle.fsfs_damage.specs.declared.wrong.Refusal.{Refusal}
-use Rattle.fsfs_book.specs.Told.{Look, Told}
+use Rattle.fsfs_book.specs.Told.{RevisionBytes, Told}
 use Rattle.fsfs_streams.specs.Streams.{Adds}
 use Rattle.fsfs_streams.proofs.StreamLemmas.{adds_then}
 use Rattle.fsfs_noderev.specs.declared.rep.Rep.{Rep}
@@ -32,7 +32,7 @@ use Rattle.fsfs_look.proofs.ProgressLemmas.{adds_nothing}
 -- ---- a representation that is whole
 
 module _ (rep : Rep) (bytes : List ℕ) (whole : IsWhole rep bytes) (old new : Option (List ℕ)) where
-  abbrev Only : Look
+  abbrev Only : RevisionBytes
   Only rev = Ok bytes
 
   only_failures : (e : ReadError) → Answers (λ (t : List ℕ). t) (RepAt Only rep) (Err e) → WritesFront (IsWholeText (text_of rep bytes)) old new → Writes (IsWholeText (text_of rep bytes)) old new (Err (of_read e))
@@ -67,7 +67,7 @@ front_more text piece done count old mid new adds is (front, rest, e, more) = (
 
 -- ---- what stands at the path
 
-module _ (look : Look) (rev : ℕ) (path : Path) (v : NodeRev) (met : MetAt look rev path (Ok (Stands v))) where
+module _ (look : RevisionBytes) (rev : ℕ) (path : Path) (v : NodeRev) (met : MetAt look rev path (Ok (Stands v))) where
   pub dir_refused : (told : Option (List ℕ)) → v.kind ≡ Dir → Writes (FileText look rev path) told told (Err (errors.Fault faults.NotFile))
   dir_refused told kind = ([], inr (inr (Stands v, met, subst (λ k. KindText look v k [] (Refused faults.NotFile)) (sym kind) (refl, refl))), adds_nothing told)
 

@@ -1,13 +1,13 @@
 -- How far a text was written.
 use Rattle.std.proofs.Common.{◌≡◌, ℕ, Bool, ◌≤◌, List, [], ◌∷◌, ◌++◌, Option, Some, None, Result, Ok, Err, sym, ap, subst, ◌∙◌, append_assoc, append-nil, arith}
-use Rattle.fsfs_book.specs.Told.{Look, Telling, Knows, Keeps}
+use Rattle.fsfs_book.specs.Told.{RevisionBytes, Telling, Knows, Keeps}
 use Rattle.fsfs_streams.specs.Streams.{Adds}
 use Rattle.fsfs_streams.proofs.StreamLemmas.{adds_then}
 use Rattle.fsfs_noderev.specs.declared.node_rev.NodeRev.{NodeRev}
 use Rattle.fsfs_damage.specs.declared.wrong.ReadError.{ReadError}
 use Rattle.fsfs_damage.specs.declared.wrong.ReadError.TheVariants as reads
 use Rattle.fsfs_damage.specs.Readings.{Answers}
-use Rattle.fsfs_shows.specs.Reading.{Entry, OfEntry}
+use Rattle.fsfs_shows.specs.Reading.{DirEntry, OfEntry}
 use Rattle.fsfs_dag.specs.declared.node.PlacedNode.{PlacedNode}
 use Rattle.fsfs_look.specs.declared.look_error.LookError.{LookError}
 use Rattle.fsfs_look.specs.declared.look_error.LookError.TheVariants as errors
@@ -75,7 +75,7 @@ write_fails R S before lines now old mid new p h (front, rest, e, adds) =
     (q.written, q.adds, stops_here R S before rest old new q h)
 
 -- an entry isn't read
-pub read_fails : (look : Look) (ids : Bool) (R S : List ℕ → End → Type 0) (level : ℕ) (entry : Entry) (before lines : List ℕ) (old new : Option (List ℕ)) → Progress R (Then (EntryText look ids level entry) S) before lines old new
+pub read_fails : (look : RevisionBytes) (ids : Bool) (R S : List ℕ → End → Type 0) (level : ℕ) (entry : DirEntry) (before lines : List ℕ) (old new : Option (List ℕ)) → Progress R (Then (EntryText look ids level entry) S) before lines old new
     → (e : ReadError) → Answers (λ (found : PlacedNode). found.node) (OfEntry look entry) (Err e) → Walks R before lines old new (Err (of_read e))
 read_fails look ids R S level entry before lines old new p (reads.Wrong w) h =
     (p.written, p.adds, ends_here R (Then (EntryText look ids level entry) S) before lines lines [] (Refused (faults.Wrong w)) old new p (sym (append-nil lines)) (wrong_first look ids S level entry w h))
@@ -83,7 +83,7 @@ read_fails look ids R S level entry before lines old new p reads.OutOfMemory h =
 read_fails look ids R S level entry before lines old new p reads.DiskFault h = (p.written, p.adds, stops_here R (Then (EntryText look ids level entry) S) before lines old new p (stops_first look ids S level entry))
 
 -- its node isn't put
-pub put_fails : (look : Look) (ids : Bool) (R S : List ℕ → End → Type 0) (level : ℕ) (entry : Entry) (v : NodeRev) (todo after : List Pending) (before lines now : List ℕ) (old new : Option (List ℕ))
+pub put_fails : (look : RevisionBytes) (ids : Bool) (R S : List ℕ → End → Type 0) (level : ℕ) (entry : DirEntry) (v : NodeRev) (todo after : List Pending) (before lines now : List ℕ) (old new : Option (List ℕ))
     → Progress R (Then (EntryText look ids level entry) S) before lines old new → OfEntry look entry (Ok v)
     → (e : LookError) → Puts look ids level entry.name v todo after lines now (Err e) → Walks R before now old new (Err e)
 put_fails look ids R S level entry v todo after before lines now old new p read (errors.Fault fault) h =
@@ -93,7 +93,7 @@ put_fails look ids R S level entry v todo after before lines now old new p read 
 put_fails look ids R S level entry v todo after before lines now old new p read errors.WriteFault h = (p.written, p.adds, stops_here R (Then (EntryText look ids level entry) S) before lines old new p (stops_first look ids S level entry))
 
 -- its node is put
-pub put_goes : (look : Look) (ids : Bool) (R : List ℕ → End → Type 0) (level : ℕ) (entry : Entry) (v : NodeRev) (todo after : List Pending) (before lines now : List ℕ) (old new : Option (List ℕ))
+pub put_goes : (look : RevisionBytes) (ids : Bool) (R : List ℕ → End → Type 0) (level : ℕ) (entry : DirEntry) (v : NodeRev) (todo after : List Pending) (before lines now : List ℕ) (old new : Option (List ℕ))
     → Progress R (Then (EntryText look ids level entry) (LeftText look ids (left todo))) before lines old new → OfEntry look entry (Ok v)
     → Puts look ids level entry.name v todo after lines now (Ok tt) → Progress R (LeftText look ids (left after)) before now old new
 put_goes look ids R level entry v todo after before lines now old new p read h =
@@ -102,12 +102,12 @@ put_goes look ids R level entry v todo after before lines now old new p read h =
 
 -- ---- the first of what is left
 
-pub popped : (look : Look) (ids : Bool) (R : List ℕ → End → Type 0) (before lines : List ℕ) (old new : Option (List ℕ)) (todo rest : List Pending) (next : Pending) → todo ≡ rest ++ next ∷ []
+pub popped : (look : RevisionBytes) (ids : Bool) (R : List ℕ → End → Type 0) (before lines : List ℕ) (old new : Option (List ℕ)) (todo rest : List Pending) (next : Pending) → todo ≡ rest ++ next ∷ []
     → Progress R (LeftText look ids (left todo)) before lines old new → Progress R (Then (EntryText look ids next.level (entry_value next.entry)) (LeftText look ids (left rest))) before lines old new
 popped look ids R before lines old new todo rest next e p = subst (λ t. Progress R (LeftText look ids t) before lines old new) (ap left e ∙ left_push rest next) p
 
-pub knows_upto : {Below : Type 0} (old new : Telling Below) (look : Look) (top upto : ℕ) → Keeps old new → upto ≤ top → Knows old.revs top look → Knows new.revs upto look
+pub knows_upto : {Below : Type 0} (old new : Telling Below) (look : RevisionBytes) (top upto : ℕ) → Keeps old new → upto ≤ top → Knows old.revs top look → Knows new.revs upto look
 knows_upto old new look top upto kept le knows r lower = kept.revs r (look r) (knows r (omega (arith, lower, le)))
 
-pub child_read : (look : Look) (entry : Entry) (r : Result PlacedNode ReadError) (child : PlacedNode) → r ≡ Ok child → Answers (λ (found : PlacedNode). found.node) (OfEntry look entry) r → OfEntry look entry (Ok child.node)
+pub child_read : (look : RevisionBytes) (entry : DirEntry) (r : Result PlacedNode ReadError) (child : PlacedNode) → r ≡ Ok child → Answers (λ (found : PlacedNode). found.node) (OfEntry look entry) r → OfEntry look entry (Ok child.node)
 child_read look entry r child e h = subst (λ x. Answers (λ (found : PlacedNode). found.node) (OfEntry look entry) x) e h

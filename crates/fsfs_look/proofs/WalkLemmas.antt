@@ -2,13 +2,13 @@
 use Rattle.std.proofs.Common.{◌≡◌, ℕ, Bool, suc, List, [], ◌∷◌, ◌++◌, map, length, arith, Result, Ok, Err, refl, sym, ap, subst, ◌∙◌, append_assoc, inl, inr, Vec, Global}
 use Rattle.std.specs.Prelude.{◌≢◌, OnOk, IfErr}
 use Rattle.std.proofs.lemmas.List.{reverse-append}
-use Rattle.fsfs_base.specs.Paths.{Name}
+use Rattle.fsfs_base.specs.Paths.{PathName}
 use Rattle.fsfs_base.specs.declared.kind.Kind.TheVariants.{File, Dir}
-use Rattle.fsfs_book.specs.Told.{Look}
+use Rattle.fsfs_book.specs.Told.{RevisionBytes}
 use Rattle.fsfs_noderev.specs.declared.node_rev.NodeRev.{NodeRev}
 use Rattle.fsfs_damage.specs.declared.wrong.Wrong.{Wrong}
-use Rattle.fsfs_shows.specs.Reading.{Entry, EntriesOf, OfEntry}
-use Rattle.fsfs_dag.specs.declared.directory.Entry.{Entry as PlacedEntry}
+use Rattle.fsfs_shows.specs.Reading.{DirEntry, EntriesOf, OfEntry}
+use Rattle.fsfs_dag.specs.declared.directory.DirEntry.{DirEntry as PlacedEntry}
 use Rattle.fsfs_dag.specs.Views.{entry_value, entry_values}
 use Rattle.fsfs_look.specs.declared.tree.Pending.{Pending}
 use Rattle.fsfs_printed.specs.declared.look_fault.LookFault.TheVariants as faults
@@ -37,9 +37,9 @@ left_pend level (e ∷ entries) todo = left_push (pend level entries todo) (pend
 
 -- ---- its text
 
-module _ (look : Look) (ids : Bool) where
+module _ (look : RevisionBytes) (ids : Bool) where
   -- the entries of a directory, and then the rest
-  pub entries_then : (level : ℕ) (entries : List Entry) (rest : List (ℕ × Entry)) (text : List ℕ) (end : End) → LeftText look ids (at_level level entries ++ rest) text end
+  pub entries_then : (level : ℕ) (entries : List DirEntry) (rest : List (ℕ × DirEntry)) (text : List ℕ) (end : End) → LeftText look ids (at_level level entries ++ rest) text end
       → Then (EntriesText look ids level entries) (LeftText look ids rest) text end
   entries_then level [] rest text end h = inr ([], text, OfNone level, h, refl)
   entries_then level (e ∷ entries) rest text end (inl (h, ne)) = inl (OfLast level e entries text end h ne, ne)
@@ -51,19 +51,19 @@ module _ (look : Look) (ids : Bool) where
           inr (first ++ second, last, OfNext level e entries first second Whole h k, l, is ∙ ap (λ t. first ++ t) is2 ∙ sym (append_assoc first second last))
 
   -- a file's line, and then the rest
-  pub file_then : (S : List ℕ → End → Type 0) (level : ℕ) (name : Name) (v : NodeRev) (line text : List ℕ) (end : End) → IsLine ids level name v line → v.kind ≡ File → S text end
+  pub file_then : (S : List ℕ → End → Type 0) (level : ℕ) (name : PathName) (v : NodeRev) (line text : List ℕ) (end : End) → IsLine ids level name v line → v.kind ≡ File → S text end
       → Then (NodeText look ids level name v) S (line ++ text) end
   file_then S level name v line text end is kind h = inr (line, text, OfFile level name v line is kind, h, refl)
 
   -- a directory's line, what stands in it, and then the rest
-  pub dir_then : (S : List ℕ → End → Type 0) (level : ℕ) (name : Name) (v : NodeRev) (line : List ℕ) (entries : List Entry) (text : List ℕ) (end : End) → IsLine ids level name v line → v.kind ≡ Dir → EntriesOf look v (Ok entries)
+  pub dir_then : (S : List ℕ → End → Type 0) (level : ℕ) (name : PathName) (v : NodeRev) (line : List ℕ) (entries : List DirEntry) (text : List ℕ) (end : End) → IsLine ids level name v line → v.kind ≡ Dir → EntriesOf look v (Ok entries)
       → Then (EntriesText look ids (suc level) entries) S text end → Then (NodeText look ids level name v) S (line ++ text) end
   dir_then S level name v line entries text end is kind read (inl (h, ne)) = inl (OfDir level name v line entries text end is kind read h, ne)
   dir_then S level name v line entries text end is kind read (inr (first, rest, h, s, e)) =
       inr (line ++ first, rest, OfDir level name v line entries first Whole is kind read h, s, ap (λ t. line ++ t) e ∙ sym (append_assoc line first rest))
 
   -- the node of the first entry that is left
-  pub node_first : (S : List ℕ → End → Type 0) (level : ℕ) (entry : Entry) (v : NodeRev) (text : List ℕ) (end : End) → OfEntry look entry (Ok v) → Then (NodeText look ids level entry.name v) S text end
+  pub node_first : (S : List ℕ → End → Type 0) (level : ℕ) (entry : DirEntry) (v : NodeRev) (text : List ℕ) (end : End) → OfEntry look entry (Ok v) → Then (NodeText look ids level entry.name v) S text end
       → Then (EntryText look ids level entry) S text end
   node_first S level entry v text end read (inl (h, ne)) = inl (OfNode level entry v text end read h, ne)
   node_first S level entry v text end read (inr (first, rest, h, s, e)) = inr (first, rest, OfNode level entry v first Whole read h, s, e)
@@ -74,28 +74,28 @@ module _ (look : Look) (ids : Bool) where
   stopped_ne : Stopped ≢ Whole
   stopped_ne e = cc
 
-  pub wrong_first : (S : List ℕ → End → Type 0) (level : ℕ) (entry : Entry) (w : Wrong) → OfEntry look entry (Err w) → Then (EntryText look ids level entry) S [] (Refused (faults.Wrong w))
+  pub wrong_first : (S : List ℕ → End → Type 0) (level : ℕ) (entry : DirEntry) (w : Wrong) → OfEntry look entry (Err w) → Then (EntryText look ids level entry) S [] (Refused (faults.Wrong w))
   wrong_first S level entry w read = inl (OfWrong level entry w read, refused_ne (faults.Wrong w))
 
-  pub refused_first : (S : List ℕ → End → Type 0) (level : ℕ) (entry : Entry) (v : NodeRev) (text : List ℕ) (fault : _) → OfEntry look entry (Ok v) → NodeText look ids level entry.name v text (Refused fault)
+  pub refused_first : (S : List ℕ → End → Type 0) (level : ℕ) (entry : DirEntry) (v : NodeRev) (text : List ℕ) (fault : _) → OfEntry look entry (Ok v) → NodeText look ids level entry.name v text (Refused fault)
       → Then (EntryText look ids level entry) S text (Refused fault)
   refused_first S level entry v text fault read h = inl (OfNode level entry v text (Refused fault) read h, refused_ne fault)
 
-  pub stops_first : (S : List ℕ → End → Type 0) (level : ℕ) (entry : Entry) → Then (EntryText look ids level entry) S [] Stopped
+  pub stops_first : (S : List ℕ → End → Type 0) (level : ℕ) (entry : DirEntry) → Then (EntryText look ids level entry) S [] Stopped
   stops_first S level entry = inl (Stops level entry, stopped_ne)
 
   -- ---- a node's line and its entries, as they were put
 
-  pub puts_file : (level : ℕ) (name : Name) (v : NodeRev) (todo : List Pending) (before now line : List ℕ) → IsLine ids level name v line → now ≡ before ++ line → v.kind ≡ File → Puts look ids level name v todo todo before now (Ok tt)
+  pub puts_file : (level : ℕ) (name : PathName) (v : NodeRev) (todo : List Pending) (before now line : List ℕ) → IsLine ids level name v line → now ≡ before ++ line → v.kind ≡ File → Puts look ids level name v todo todo before now (Ok tt)
   puts_file level name v todo before now line is e kind = (line, e, λ text end h. file_then (LeftText look ids (left todo)) level name v line text end is kind h)
 
-  pub puts_wrong : (level : ℕ) (name : Name) (v : NodeRev) (old new : List Pending) (before now line : List ℕ) → IsLine ids level name v line → now ≡ before ++ line → v.kind ≡ Dir → (e : ReadError)
+  pub puts_wrong : (level : ℕ) (name : PathName) (v : NodeRev) (old new : List Pending) (before now line : List ℕ) → IsLine ids level name v line → now ≡ before ++ line → v.kind ≡ Dir → (e : ReadError)
       → Answers (λ (found : Vec PlacedEntry Global). entry_values found.items) (EntriesOf look v) (Err e) → Puts look ids level name v old new before now (Err (of_read e))
   puts_wrong level name v old new before now line is e kind (reads.Wrong w) read = (line, e, OfWrongDir level name v line w is kind read)
   puts_wrong level name v old new before now line is e kind reads.OutOfMemory read = tt
   puts_wrong level name v old new before now line is e kind reads.DiskFault read = tt
 
-  pub puts_dir : (level next : ℕ) (name : Name) (v : NodeRev) (old new : List Pending) (before now line : List ℕ) → IsLine ids level name v line → now ≡ before ++ line → v.kind ≡ Dir → next ≡ suc level
+  pub puts_dir : (level next : ℕ) (name : PathName) (v : NodeRev) (old new : List Pending) (before now line : List ℕ) → IsLine ids level name v line → now ≡ before ++ line → v.kind ≡ Dir → next ≡ suc level
       → (below : List PlacedEntry) → EntriesOf look v (Ok (entry_values below)) → (r : Result (Unit {0}) LookError) → OnOk r (new ≡ pend next below old) → IfErr r (λ e. e ≡ errors.OutOfMemory) → Puts look ids level name v old new before now r
   puts_dir level next name v old new before now line is e kind one below read (Ok x) items memory = (line, e, text_of) where
     text_of : (text : List ℕ) (end : End) → LeftText look ids (left new) text end → Then (NodeText look ids level name v) (LeftText look ids (left old)) (line ++ text) end
@@ -106,6 +106,6 @@ module _ (look : Look) (ids : Bool) where
   puts_dir level next name v old new before now line is e kind one below read (Err f) items memory = subst (λ x. Puts look ids level name v old new before now (Err x)) (sym memory) tt
 
   -- the same, where ids are shown as they were, and of the same name
-  pub puts_as : (other : Bool) (level : ℕ) (written name : Name) (v : NodeRev) (old new : List Pending) (before now : List ℕ) (r : Result (Unit {0}) LookError) → ids ≡ other → written ≡ name
+  pub puts_as : (other : Bool) (level : ℕ) (written name : PathName) (v : NodeRev) (old new : List Pending) (before now : List ℕ) (r : Result (Unit {0}) LookError) → ids ≡ other → written ≡ name
       → Puts look ids level written v old new before now r → Puts look other level name v old new before now r
   puts_as other level written name v old new before now r same same_name h = subst (λ b. Puts look b level name v old new before now r) same (subst (λ n. Puts look ids level n v old new before now r) same_name h)

@@ -8,7 +8,7 @@ use Rattle.fsfs_damage.specs.declared.damage.RevOffset.{RevOffset}
 use Rattle.fsfs_damage.specs.Damages.{place_of}
 use Rattle.fsfs_revision.specs.Nodes.{is_before, place_before}
 use Rattle.fsfs_shows.specs.Reading.{offset_of}
-use Rattle.fsfs_dag.specs.declared.directory.Entry.{Entry}
+use Rattle.fsfs_dag.specs.declared.directory.DirEntry.{DirEntry}
 use Rattle.fsfs_dag.specs.Views.{AreBefore}
 use Rattle.fsfs_look.specs.declared.tree.Pending.{Pending}
 use Rattle.fsfs_look.specs.Walks.{pend, pending, AreWithin}
@@ -44,7 +44,7 @@ within_pop top (q ∷ todo) p h = let k = within_pop top todo p h.1 in ((h.0, k.
 
 -- ---- the entries of a directory
 
-pub within_pend : (top level : ℕ) (home : RevOffset) (entries : List Entry) (todo : List Pending) → home.rev ≤ top → AreBefore home entries → AreWithin top todo → AreWithin top (pend level entries todo)
+pub within_pend : (top level : ℕ) (home : RevOffset) (entries : List DirEntry) (todo : List Pending) → home.rev ≤ top → AreBefore home entries → AreWithin top todo → AreWithin top (pend level entries todo)
 within_pend top level home [] todo le before h = h
 within_pend top level home (e ∷ entries) todo le before h =
     let k : (offset_of e.id.place).rev ≤ home.rev = place_rev e.id.place home before.0 in
@@ -61,7 +61,7 @@ one_less small rank lt =
 more : (t s x w n k : ℕ) → k ≡ t + x → t * 2 ^ 65 ≤ s * 2 ^ 65 + n * w → x * 2 ^ 65 ≤ w → k * 2 ^ 65 ≤ s * 2 ^ 65 + suc n * w
 more t s x w n k e h le = omega arith
 
-sum_pend : (level : ℕ) (home : RevOffset) (entries : List Entry) (todo : List Pending) → home.offset < 2 ^ 64 → AreBefore home entries → total (pend level entries todo) * 2 ^ 65 ≤ total todo * 2 ^ 65 + length entries * weight home
+sum_pend : (level : ℕ) (home : RevOffset) (entries : List DirEntry) (todo : List Pending) → home.offset < 2 ^ 64 → AreBefore home entries → total (pend level entries todo) * 2 ^ 65 ≤ total todo * 2 ^ 65 + length entries * weight home
 sum_pend level home [] todo fits before = omega arith
 sum_pend level home (e ∷ entries) todo fits before =
     more (total (pend level entries todo)) (total todo) (weight (offset_of e.id.place)) (weight home) (length entries) _ (total_push (pend level entries todo) (pending level e))
@@ -73,7 +73,7 @@ few n w lt = let le : n ≤ 2 ^ 64 = omega arith in let k : w * n ≤ w * 2 ^ 64
 less : (t s n w : ℕ) → t * 2 ^ 65 ≤ s * 2 ^ 65 + n → n ≤ 2 ^ 64 * w → 1 ≤ w → t < s + w
 less t s n w a b c = omega arith
 
-pub total_pend : (level : ℕ) (home : RevOffset) (entries : List Entry) (todo : List Pending) → length entries < 2 ^ 64 → home.offset < 2 ^ 64 → AreBefore home entries → total (pend level entries todo) < total todo + weight home
+pub total_pend : (level : ℕ) (home : RevOffset) (entries : List DirEntry) (todo : List Pending) → length entries < 2 ^ 64 → home.offset < 2 ^ 64 → AreBefore home entries → total (pend level entries todo) < total todo + weight home
 total_pend level home entries todo short fits before =
     let pos : 0 < 2 ^ 65 = omega arith in
     less (total (pend level entries todo)) (total todo) (length entries * weight home) (weight home) (sum_pend level home entries todo fits before) (few (length entries) (weight home) short) (one-le-pow (rank home) (2 ^ 65) pos)

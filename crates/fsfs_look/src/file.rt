@@ -1,7 +1,7 @@
 //! The text of a file.
 ghost use Rattle.std.specs.Prelude.{◌≡◌, ◌≤◌, ◌<◌, ◌+◌, ◌-◌, ◌^◌, min, ℕ, List, Some, Ok, Err, IsSome, IfOk, MatchResult, length, take, drop};
 ghost use Rattle.fsfs_damage.specs.declared.wrong.Refusal.{Refusal};
-ghost use Rattle.fsfs_book.specs.Told.{Look, Knows, Keeps};
+ghost use Rattle.fsfs_book.specs.Told.{RevisionBytes, Knows, Keeps};
 ghost use Rattle.fsfs_damage.specs.Causes.{HasCause};
 ghost use Rattle.fsfs_rep.specs.Faults.{IsRefusedFor};
 ghost use Rattle.fsfs_rep.specs.Frames.{rev_of, text_of, IsWhole, IsFaultOf};
@@ -123,7 +123,7 @@ pub fn cat<B: Book, S: Sink>(
     path: &FsPath,
     sink: &mut S,
 ) -> Result<(), LookError>
-    ensures told { (look : Look) → Knows (B.told book.old).revs rev look → Writes (FileText look rev path.now) (S.written sink.old) (S.written sink.new) result }
+    ensures told { (look : RevisionBytes) → Knows (B.told book.old).revs rev look → Writes (FileText look rev path.now) (S.written sink.old) (S.written sink.new) result }
     ensures kept { Keeps (B.told book.old) (B.told book.new) }
     ensures cause { HasDiskCause (B.faults book.old) (B.faults book.new) result }
     ensures sink { HasSinkCause (S.faults sink.old) (S.faults sink.new) result }

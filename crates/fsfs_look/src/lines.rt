@@ -7,7 +7,7 @@ ghost use Rattle.fsfs_look.specs.Lines.{PutsLine};
 
 use crate::look_error::LookError;
 use fsfs_base::Kind;
-use fsfs_damage::{Damage, RevOffset, What, Wrong};
+use fsfs_damage::{Damage, DamageKind, RevOffset, Wrong};
 use fsfs_noderev::{NodeId, NodeRev, Part, Place, put_id};
 use fsfs_printed::LookFault;
 use std::alloc::AllocError;
@@ -95,7 +95,7 @@ pub(crate) fn put_line(
     put_name(lines, name, node.kind)?;
     if show_ids {
         if !has_text(&node.id) {
-            let what = What::NodeRev;
+            let what = DamageKind::NodeRev;
             return Err(LookError::Fault(LookFault::Wrong(Wrong::Damaged(Damage { at, what }))));
         }
         put_shown_id(lines, &node.id)?;

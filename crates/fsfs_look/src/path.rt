@@ -1,5 +1,5 @@
 //! The node at a path of a revision, or the fault that names a part of the path.
-ghost use Rattle.fsfs_book.specs.Told.{Look, Knows, Keeps};
+ghost use Rattle.fsfs_book.specs.Told.{RevisionBytes, Knows, Keeps};
 ghost use Rattle.fsfs_answers.specs.Answers.{last_name as last};
 ghost use Rattle.std.specs.Prelude.{◌≡◌, ℕ};
 ghost use Rattle.fsfs_look.specs.Paths.{IsFound};
@@ -19,7 +19,7 @@ pub(crate) fn found_at<B: Book>(
     rev: u32,
     path: &FsPath,
 ) -> Result<PlacedNode, LookError>
-    ensures told { (look : Look) → Knows (B.told book.old).revs rev look → IsFound look rev path.now result }
+    ensures told { (look : RevisionBytes) → Knows (B.told book.old).revs rev look → IsFound look rev path.now result }
     ensures kept { Keeps (B.told book.old) (B.told book.new) }
     ensures cause { HasDiskCause (B.faults book.old) (B.faults book.new) result }
     ensures quiet { (faults : ℕ) → HasSinkCause faults faults result }

@@ -1,13 +1,13 @@
 -- What a step answers is true: bytes and properties are those of the history, names were given, and what was purged is gone.
 use Rattle.std.proofs.Common.{◌≡◌, ◌<◌, ◌≤◌, ◌+◌, ℕ, suc, zero, List, [], ◌∷◌, ◌++◌, length, Bool, true, false, cond, inr, ⊎_elim, refl, sym, subst, arith, ◌⊎◌}
 use Rattle.std.specs.Prelude.{Option, Some, None, IfSome, slice_get, nat_lt, nat_le, ◌&&◌, ◌||◌}
-use Rattle.fsfs_machine.specs.declared.contents.Name.TheVariants.{Props}
+use Rattle.fsfs_machine.specs.declared.contents.FileName.TheVariants.{Props}
 use Rattle.fsfs_machine.specs.declared.contents.Contents.TheVariants.{PropsFile}
 use Rattle.fsfs_machine.specs.declared.machine.Recorded.{Recorded}
 use Rattle.fsfs_machine.specs.declared.machine.Txn.{Txn}
 use Rattle.fsfs_machine.specs.declared.machine.Coming.{Coming}
-use Rattle.fsfs_machine.specs.declared.machine.Place.TheVariants.{Read}
-use Rattle.fsfs_machine.specs.declared.machine.Place.TheVariants as place
+use Rattle.fsfs_machine.specs.declared.machine.DiskPlace.TheVariants.{Read}
+use Rattle.fsfs_machine.specs.declared.machine.DiskPlace.TheVariants as place
 use Rattle.fsfs_machine.specs.declared.machine.Pass.{Pass}
 use Rattle.fsfs_machine.specs.declared.machine.Section.TheVariants.{Begun, CountRead, CountPut, CountRenamed, RevPut, PropsPut, RevFirm, CurrentPut, CurrentRenamed, CurrentFirm, Doubtful, Over}
 use Rattle.fsfs_machine.specs.declared.machine.Lock.{Lock}

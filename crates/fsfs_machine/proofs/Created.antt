@@ -6,9 +6,9 @@ use Rattle.fsfs_base.specs.declared.kind.Kind.TheVariants.{Dir}
 use Rattle.fsfs_base.specs.Paths.{path_cmp, path_cmp_total}
 use Rattle.fsfs_tree.specs.Nodes.{empty_node}
 use Rattle.fsfs_flat.specs.Histories.{IsHistory}
-use Rattle.fsfs_machine.specs.declared.contents.Name.TheVariants.{Current, Counter, Floor, Rev, Props}
+use Rattle.fsfs_machine.specs.declared.contents.FileName.TheVariants.{Current, Counter, Floor, Rev, Props}
 use Rattle.fsfs_machine.specs.declared.contents.Contents.TheVariants.{PropsFile, Number}
-use Rattle.fsfs_machine.specs.declared.contents.Change.TheVariants.{Put}
+use Rattle.fsfs_machine.specs.declared.contents.NameChange.TheVariants.{Put}
 use Rattle.fsfs_machine.specs.declared.machine.Recorded.{Recorded}
 use Rattle.fsfs_machine.specs.Disk.{Disk}
 use Rattle.fsfs_machine.specs.Machine.{World, created, first_revision, file_of, revisions}

@@ -5,11 +5,11 @@ use Rattle.std.specs.Prelude.{Some, None, IfSome, slice_get, nat_lt}
 use Rattle.std.proofs.lemmas.List.{take_all}
 use Rattle.fsfs_flat.specs.Histories.{IsHistory}
 use Rattle.fsfs_model.proofs.Legal.{commits_make_a_history}
-use Rattle.fsfs_machine.specs.declared.contents.Name.TheVariants.{Current, Props}
-use Rattle.fsfs_machine.specs.declared.contents.Change.TheVariants.{Firm}
+use Rattle.fsfs_machine.specs.declared.contents.FileName.TheVariants.{Current, Props}
+use Rattle.fsfs_machine.specs.declared.contents.NameChange.TheVariants.{Firm}
 use Rattle.fsfs_machine.specs.declared.machine.Recorded.{Recorded}
 use Rattle.fsfs_machine.specs.declared.machine.Coming.{Coming}
-use Rattle.fsfs_machine.specs.declared.machine.Place.TheVariants as place
+use Rattle.fsfs_machine.specs.declared.machine.DiskPlace.TheVariants as place
 use Rattle.fsfs_machine.specs.declared.machine.Section.TheVariants.{Begun, CountRead, CountPut, CountRenamed, RevPut, PropsPut, RevFirm, CurrentPut, CurrentRenamed, CurrentFirm, Doubtful, Over}
 use Rattle.fsfs_machine.specs.declared.machine.Lock.{Lock}
 use Rattle.fsfs_machine.specs.declared.machine.Lock.TheVariants.{Free, Held, Stuck, Down, DownDoubtful}

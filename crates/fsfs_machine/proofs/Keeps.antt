@@ -5,17 +5,17 @@ use Rattle.std.specs.FinMap.{get}
 use Rattle.fsfs_tree.specs.Revisions.{tree_of}
 use Rattle.fsfs_flat.specs.Transactions.{IsTransaction, Begun as BegunTxn}
 use Rattle.fsfs_tree.specs.Dated.{last_of}
-use Rattle.fsfs_machine.specs.declared.contents.Name.{Name}
-use Rattle.fsfs_machine.specs.declared.contents.Name.TheVariants.{Current, CurrentNext, Counter, CounterNext, Props}
+use Rattle.fsfs_machine.specs.declared.contents.FileName.{FileName}
+use Rattle.fsfs_machine.specs.declared.contents.FileName.TheVariants.{Current, CurrentNext, Counter, CounterNext, Props}
 use Rattle.fsfs_machine.specs.declared.contents.Contents.{Contents}
 use Rattle.fsfs_machine.specs.declared.contents.Contents.TheVariants.{PropsFile, Number}
-use Rattle.fsfs_machine.specs.declared.contents.Change.{Change}
-use Rattle.fsfs_machine.specs.declared.contents.Change.TheVariants.{Put, Rename, Remove, Firm}
+use Rattle.fsfs_machine.specs.declared.contents.NameChange.{NameChange}
+use Rattle.fsfs_machine.specs.declared.contents.NameChange.TheVariants.{Put, Rename, Remove, Firm}
 use Rattle.fsfs_machine.specs.declared.machine.Recorded.{Recorded}
 use Rattle.fsfs_machine.specs.declared.machine.Coming.{Coming}
 use Rattle.fsfs_machine.specs.declared.machine.Drawn.{Drawn}
-use Rattle.fsfs_machine.specs.declared.machine.Place.{Place}
-use Rattle.fsfs_machine.specs.declared.machine.Place.TheVariants.{RenameCurrent, FirmCurrent}
+use Rattle.fsfs_machine.specs.declared.machine.DiskPlace.{DiskPlace}
+use Rattle.fsfs_machine.specs.declared.machine.DiskPlace.TheVariants.{RenameCurrent, FirmCurrent}
 use Rattle.fsfs_machine.specs.declared.machine.Section.{Section}
 use Rattle.fsfs_machine.specs.declared.machine.Section.TheVariants.{Begun, CountRead, CountPut, CountRenamed, RevPut, PropsPut, RevFirm, CurrentPut, CurrentRenamed, CurrentFirm, Doubtful, Over}
 use Rattle.fsfs_machine.specs.declared.machine.Lock.TheVariants.{Held}
@@ -33,7 +33,7 @@ use Rattle.fsfs_machine.proofs.Given.{given_more, named_append, named_given}
 use Rattle.fsfs_machine.proofs.Whose.{there_at, whose_at}
 
 -- the holder's call, from what its ends leave
-pub keeps_call : (w : World) (p : ℕ) (place : Place) (s : Section) (change : Change) (after spoiled : Section) (went : Went)
+pub keeps_call : (w : World) (p : ℕ) (place : DiskPlace) (s : Section) (change : NameChange) (after spoiled : Section) (went : Went)
     → Kept (record w { lock = Held p s })
     → Carries p after
     → Carries p spoiled
@@ -55,7 +55,7 @@ keeps_call w p place s change after spoiled went k carries ill_carries stands co
     by_end (Torn any) ill ill_counts = keeps_turn w p place (Torn any) s spoiled (disk_after (Torn any) change w.disk) k ill_carries ill ill_counts (ill_knows _) ill_next
 
 -- what a failed call leaves
-pub each_failed : (went : Went) (change : Change) (d : Disk) (P : Disk → Type 0) → Each d P → Each (change ∷ d) P → ((n : Name) (c any : Contents) → change ≡ Put n c → Each (Put n any ∷ d) P) → Each (disk_after went change d) P
+pub each_failed : (went : Went) (change : NameChange) (d : Disk) (P : Disk → Type 0) → Each d P → Each (change ∷ d) P → ((n : FileName) (c any : Contents) → change ≡ Put n c → Each (Put n any ∷ d) P) → Each (disk_after went change d) P
 each_failed Fine change d P before after torn = after
 each_failed Before change d P before after torn = before
 each_failed After change d P before after torn = after
@@ -65,7 +65,7 @@ each_failed (Torn any) (Remove n) d P before after torn = before
 each_failed (Torn any) Firm d P before after torn = before
 
 -- Each put but that of `current-next` leaves what stands as it is.
-pub keeps_put : (w : World) (p : ℕ) (place : Place) (s : Section) (n : Name) (c : Contents) (after : Section) (went : Went)
+pub keeps_put : (w : World) (p : ℕ) (place : DiskPlace) (s : Section) (n : FileName) (c : Contents) (after : Section) (went : Went)
     → Kept (record w { lock = Held p s })
     → Carries p after
     → ((m : Disk) → StandsIn w.floor w.history s m → StandsIn w.floor w.history after m)
@@ -83,16 +83,16 @@ keeps_put w p place s n c after went k carries stay bears plain counts knows nex
     (each_failed went (Put n c) w.disk (Steady w) (steady (record w { lock = Held p s }) k) (count c) (λ n' c' any e m i. count any m (other n' c' any e m i)))
     (λ d. tt) tt
   where
-    name_of : Change → Name
+    name_of : NameChange → FileName
     name_of (Put n c) = n
     name_of (Rename from to c) = from
     name_of (Remove n) = n
     name_of Firm = Current
 
-    other : (n' : Name) (c' any : Contents) → Put n c ≡ Put n' c' → (m : Disk) → IsImage (Put n' any ∷ w.disk) m → IsImage (Put n any ∷ w.disk) m
+    other : (n' : FileName) (c' any : Contents) → Put n c ≡ Put n' c' → (m : Disk) → IsImage (Put n' any ∷ w.disk) m → IsImage (Put n any ∷ w.disk) m
     other n' c' any e m i = subst (λ x. IsImage (Put x any ∷ w.disk) m) (sym (ap name_of e)) i
 
-pub keeps_rename : (w : World) (p : ℕ) (place : Place) (s : Section) (from to : Name) (c : Contents) (after spoiled : Section) (went : Went)
+pub keeps_rename : (w : World) (p : ℕ) (place : DiskPlace) (s : Section) (from to : FileName) (c : Contents) (after spoiled : Section) (went : Went)
     → Kept (record w { lock = Held p s })
     → Carries p after
     → Carries p spoiled
@@ -113,10 +113,10 @@ keeps_rename w p place s from to c after spoiled went k carries ill_carries stay
     (each_failed went (Rename from to c) w.disk (Steady w) (steady (record w { lock = Held p s }) k) count (λ n' c' any e. absurd (no n' c' e)))
     ill_knows ill_next
   where
-    no : (n' : Name) (c' : Contents) → Rename from to c ≡ Put n' c' → ⊥
+    no : (n' : FileName) (c' : Contents) → Rename from to c ≡ Put n' c' → ⊥
     no n' c' e = cc
 
-pub keeps_firm : (w : World) (p : ℕ) (place : Place) (s : Section) (after spoiled : Section) (went : Went)
+pub keeps_firm : (w : World) (p : ℕ) (place : DiskPlace) (s : Section) (after spoiled : Section) (went : Went)
     → Kept (record w { lock = Held p s })
     → Carries p after
     → Carries p spoiled
@@ -136,7 +136,7 @@ keeps_firm w p place s after spoiled went k carries ill_carries ill next ill_kno
     (each_failed went Firm w.disk (Steady w) (steady (record w { lock = Held p s }) k) count (λ n' c' any e. absurd (no n' c' e)))
     ill_knows ill_next
   where
-    no : (n' : Name) (c' : Contents) → Firm ≡ Put n' c' → ⊥
+    no : (n' : FileName) (c' : Contents) → Firm ≡ Put n' c' → ⊥
     no n' c' e = cc
 
 -- the tree of a revision that there is
@@ -150,7 +150,7 @@ begun_is h x less =
     let e : length (revisions h) ≡ length h = revisions_length h in
     subst (λ t. IsTransaction (tree_of (revisions h)) (last_of (revisions h)) x.base t []) (sym (tree_at h x.base less)) (BegunTxn x.base (omega (arith, e, less)))
 
-pub keeps_given : (w : World) (p : ℕ) (place : Place) (x : Drawn) (went : Went) → Kept (record w { lock = Held p (CountRenamed x) }) → Kept (called_by w p place went (CountRenamed x) (Some Firm)).world
+pub keeps_given : (w : World) (p : ℕ) (place : DiskPlace) (x : Drawn) (went : Went) → Kept (record w { lock = Held p (CountRenamed x) }) → Kept (called_by w p place went (CountRenamed x) (Some Firm)).world
 keeps_given w p place x Fine kept = let next : x.next ≡ x.name + 1 = kept.knows.2 in record {
   young = kept.young;
   seen = learnt (length w.history) w.floor w.passes p place Fine kept.seen;
@@ -174,7 +174,7 @@ keeps_given w p place x Before kept = keeps_firm w p place (CountRenamed x) Over
 keeps_given w p place x After kept = keeps_firm w p place (CountRenamed x) Over Over After kept tt tt (λ m i. i) tt (λ d. tt) tt (kept.stands w.disk (read_is_image w.disk)) (kept.stands w.disk (read_is_image w.disk)) tt
 keeps_given w p place x (Torn any) kept = keeps_firm w p place (CountRenamed x) Over Over (Torn any) kept tt tt (λ m i. i) tt (λ d. tt) tt (kept.stands w.disk (read_is_image w.disk)) (kept.stands w.disk (read_is_image w.disk)) tt
 
-pub keeps_count_rename : (w : World) (p : ℕ) (place : Place) (x : Drawn) (went : Went) (o : Option Contents) → found w.disk CounterNext ≡ o
+pub keeps_count_rename : (w : World) (p : ℕ) (place : DiskPlace) (x : Drawn) (went : Went) (o : Option Contents) → found w.disk CounterNext ≡ o
     → Kept (record w { lock = Held p (CountPut x) }) → Kept (called_by w p place went (CountPut x) (rename_of CounterNext Counter o)).world
 keeps_count_rename w p place x went None is kept = let e : None ≡ Some (Number x.next) = sym is ∙ kept.knows.3 in absurd cc
 keeps_count_rename w p place x went (Some c) is kept =
@@ -183,7 +183,7 @@ keeps_count_rename w p place x went (Some c) is kept =
     keeps_rename w p place (CountPut x) CounterNext Counter c (CountRenamed x) Over went kept tt tt (λ m i. i) (λ m i. i) (λ m i. i)
     (λ m i. ((x.next, same, no_less w.given x.name x.next (omega (arith, next)) kept.knows.1), i.1)) (kept.knows.0, kept.knows.1, kept.knows.2, same) tt (λ d. tt) tt
 
-pub keeps_current_rename : (w : World) (p : ℕ) (place : Place) (x : Coming) (went : Went) (o : Option Contents) → found w.disk CurrentNext ≡ o
+pub keeps_current_rename : (w : World) (p : ℕ) (place : DiskPlace) (x : Coming) (went : Went) (o : Option Contents) → found w.disk CurrentNext ≡ o
     → Kept (record w { lock = Held p (CurrentPut x) }) → Kept (called_by w p place went (CurrentPut x) (rename_of CurrentNext Current o)).world
 keeps_current_rename w p place x went None is kept = let e : None ≡ Some (Number (length w.history)) = sym is ∙ kept.knows in absurd cc
 keeps_current_rename w p place x went (Some c) is kept =
@@ -196,7 +196,7 @@ keeps_current_rename w p place x went (Some c) is kept =
 pub settled : (w : World) (p : ℕ) (x : Coming) → Kept (record w { lock = Held p (CurrentRenamed x) }) → StandsFor w.floor w.disk (with_next w.history x)
 settled w p x kept = ⊎_elim (λ a. absurd (not_alone w.floor w.disk w.history kept.knows a)) (λ b. b) (kept.stands w.disk (read_is_image w.disk)).0
 
-pub keeps_called : (w : World) (p : ℕ) (place : Place) (went : Went) (s : Section) → Kept (record w { lock = Held p s }) → Kept (called_by w p place went s (due w s)).world ⊎ ((called_by w p place went s (due w s)).world ≡ w)
+pub keeps_called : (w : World) (p : ℕ) (place : DiskPlace) (went : Went) (s : Section) → Kept (record w { lock = Held p s }) → Kept (called_by w p place went s (due w s)).world ⊎ ((called_by w p place went s (due w s)).world ≡ w)
 keeps_called w p place went (CountRead x) kept = inl (keeps_put w p place (CountRead x) CounterNext (Number x.next) (CountPut x) went kept tt (λ m i. i) (λ m any i. i) (λ m i. i) (λ m any i. i) (kept.knows.0, kept.knows.1, kept.knows.2, refl) tt)
 keeps_called w p place went (CountPut x) kept = inl (keeps_count_rename w p place x went (found w.disk CounterNext) refl kept)
 keeps_called w p place went (CountRenamed x) kept = inl (keeps_given w p place x went kept)

@@ -2,8 +2,8 @@
 use Rattle.std.proofs.Common.{◌≡◌, ◌≤◌, ℕ, suc, zero, List, [], ◌∷◌, length, true, refl, arith}
 use Rattle.std.specs.Prelude.{IfSome}
 use Rattle.fsfs_machine.specs.declared.machine.Txn.{Txn}
-use Rattle.fsfs_machine.specs.declared.machine.Place.{Place}
-use Rattle.fsfs_machine.specs.declared.machine.Place.TheVariants as place
+use Rattle.fsfs_machine.specs.declared.machine.DiskPlace.{DiskPlace}
+use Rattle.fsfs_machine.specs.declared.machine.DiskPlace.TheVariants as place
 use Rattle.fsfs_machine.specs.declared.machine.Drawn.{Drawn}
 use Rattle.fsfs_machine.specs.declared.machine.Pass.{Pass}
 use Rattle.fsfs_machine.specs.declared.machine.Section.{Section}
@@ -29,7 +29,7 @@ seen_at n f [] p g h s = tt
 seen_at n f (x ∷ xs) zero g h s = (h x s.0, s.1)
 seen_at n f (x ∷ xs) (suc p) g h s = (s.0, seen_at n f xs p g h s.1)
 
-pub learnt : (n f : ℕ) (xs : List Pass) (p : ℕ) (place : Place) (went : Went) → AreSeen n f xs → AreSeen n f (at_place xs p (learns n place went))
+pub learnt : (n f : ℕ) (xs : List Pass) (p : ℕ) (place : DiskPlace) (went : Went) → AreSeen n f xs → AreSeen n f (at_place xs p (learns n place went))
 learnt n f xs p place went = seen_at n f xs p (learns n place went) (λ x s. record { seen = omega arith; least = s.least; mine = no_less x.mine x.seen n s.seen s.mine; floor = s.floor })
 
 -- the counter and the floor of an image
@@ -80,7 +80,7 @@ keeps_txns w labels named txns spent k given are transactions apart benches =
     record { young = k.young; seen = k.seen; history = k.history; transactions = transactions; stands = k.stands; floor = k.floor; floors = k.floors; counts = k.counts; once = k.once; labels = given; named = are; apart = apart; benches = benches; knows = k.knows; next = k.next; whose = k.whose; holder = k.holder }
 
 -- a turn of the pass that holds the lock: other files, and another section
-pub keeps_turn : (w : World) (p : ℕ) (place : Place) (went : Went) (s after : Section) (d : Disk) → Kept (record w { lock = Held p s })
+pub keeps_turn : (w : World) (p : ℕ) (place : DiskPlace) (went : Went) (s after : Section) (d : Disk) → Kept (record w { lock = Held p s })
     → Carries p after
     → Each d (StandsIn w.floor w.history after)
     → Each d (Steady w)

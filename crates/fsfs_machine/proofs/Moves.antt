@@ -1,6 +1,6 @@
 -- A step from one world to another, as the steps are put together.
 use Rattle.std.proofs.Common.{◌≡◌, Bool, true, false, cond, inl, refl, sym, subst}
-use Rattle.fsfs_machine.specs.declared.machine.Place.TheVariants as place
+use Rattle.fsfs_machine.specs.declared.machine.DiskPlace.TheVariants as place
 use Rattle.fsfs_machine.specs.declared.machine.Outcome.TheVariants as outcome
 use Rattle.fsfs_machine.specs.declared.machine.Step.TheVariants as step
 use Rattle.fsfs_machine.specs.Machine.{World, Did, barred}

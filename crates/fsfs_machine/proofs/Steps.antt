@@ -12,16 +12,16 @@ use Rattle.fsfs_tree.specs.Revisions.{Revision, tree_of}
 use Rattle.fsfs_flat.specs.Histories.{IsHistory}
 use Rattle.fsfs_flat.specs.Transactions.{Entry, IsTransaction, Edited, Landed, IsEntry, IsNext}
 use Rattle.fsfs_tree.specs.Dated.{last_of}
-use Rattle.fsfs_machine.specs.declared.contents.Name.TheVariants.{Counter, Floor, Rev, Props}
+use Rattle.fsfs_machine.specs.declared.contents.FileName.TheVariants.{Counter, Floor, Rev, Props}
 use Rattle.fsfs_machine.specs.declared.contents.Contents.{Contents}
 use Rattle.fsfs_machine.specs.declared.contents.Contents.TheVariants.{RevFile, PropsFile, Number, Junk}
-use Rattle.fsfs_machine.specs.declared.contents.Change.{Change}
+use Rattle.fsfs_machine.specs.declared.contents.NameChange.{NameChange}
 use Rattle.fsfs_machine.specs.declared.machine.Recorded.{Recorded}
 use Rattle.fsfs_machine.specs.declared.machine.Txn.{Txn}
 use Rattle.fsfs_machine.specs.declared.machine.Coming.{Coming}
-use Rattle.fsfs_machine.specs.declared.machine.Place.{Place}
-use Rattle.fsfs_machine.specs.declared.machine.Place.TheVariants.{TxnRead, PutRev, Read}
-use Rattle.fsfs_machine.specs.declared.machine.Place.TheVariants as place
+use Rattle.fsfs_machine.specs.declared.machine.DiskPlace.{DiskPlace}
+use Rattle.fsfs_machine.specs.declared.machine.DiskPlace.TheVariants.{TxnRead, PutRev, Read}
+use Rattle.fsfs_machine.specs.declared.machine.DiskPlace.TheVariants as place
 use Rattle.fsfs_machine.specs.declared.machine.Drawn.{Drawn}
 use Rattle.fsfs_machine.specs.declared.machine.Pass.{Pass}
 use Rattle.fsfs_machine.specs.declared.machine.Section.{Section}
@@ -68,11 +68,11 @@ history_gives (CountRenamed x) After w = refl
 history_gives (CountRenamed x) (Torn any) w = refl
 history_gives s went w = refl
 
-history_called : (w : World) (p : ℕ) (place : Place) (went : Went) (s : Section) (o : Option Change) → (called_by w p place went s o).world.history ≡ w.history
+history_called : (w : World) (p : ℕ) (place : DiskPlace) (went : Went) (s : Section) (o : Option NameChange) → (called_by w p place went s o).world.history ≡ w.history
 history_called w p place went s None = refl
 history_called w p place went s (Some change) = history_gives s went w
 
-names_called : (w : World) (p : ℕ) (place : Place) (went : Went) (s : Section) (o : Option Change) → Kept (record w { lock = Held p s }) → Names w.given (called_by w p place went s o).world.given
+names_called : (w : World) (p : ℕ) (place : DiskPlace) (went : Went) (s : Section) (o : Option NameChange) → Kept (record w { lock = Held p s }) → Names w.given (called_by w p place went s o).world.given
 names_called w p place went s None k = inl refl
 names_called w p place Fine (CountRenamed x) (Some change) k = inr (x.name, k.knows.1, refl)
 names_called w p place Before (CountRenamed x) (Some change) k = inl refl
@@ -80,7 +80,7 @@ names_called w p place After (CountRenamed x) (Some change) k = inl refl
 names_called w p place (Torn any) (CountRenamed x) (Some change) k = inl refl
 names_called w p place went s (Some change) k = inl refl
 
-called_keeps : (w : World) (p : ℕ) (place : Place) (went : Went) (s : Section) → Kept w → Kept (record w { lock = Held p s }) → Moves w (called w p place went s).world
+called_keeps : (w : World) (p : ℕ) (place : DiskPlace) (went : Went) (s : Section) → Kept w → Kept (record w { lock = Held p s }) → Moves w (called w p place went s).world
 called_keeps w p place went s k at = elim (is_due s place) as (λ b. Moves w (cond b (called_by w p place went s (due w s)) (barred w)).world) [
   | true ↦ record { kept = ⊎_elim (λ a. a) (λ e. subst (λ v. Kept v) (sym e) k) (keeps_called w p place went s at); grows = inl (history_called w p place went s (due w s)); names = names_called w p place went s (due w s) at }
   | false ↦ stays w k
@@ -311,7 +311,7 @@ seen_append n f [] x s a = (a, tt)
 seen_append n f (y ∷ ys) x s a = (s.0, seen_append n f ys x s.1 a)
 
 -- a turn of the disk that changes nothing
-turn_keeps : (w : World) (p : ℕ) (place : Place) (went : Went) → Kept w → Moves w (turned w p place went)
+turn_keeps : (w : World) (p : ℕ) (place : DiskPlace) (went : Went) → Kept w → Moves w (turned w p place went)
 turn_keeps w p place went k = with_pass w p (learns (length w.history) place went) (λ x s. record { seen = omega arith; least = s.least; mine = no_less x.mine x.seen (length w.history) s.seen s.mine; floor = s.floor }) (λ x. refl) k
 
 read_keeps : (w : World) (p r offset size : ℕ) (went : Went) (o : Option Pass) → Kept w → Moves w (has_read w p r offset size went o).world
@@ -370,7 +370,7 @@ label_keeps w name went true is k = stays w k
 label_keeps w name went false is k = with_labels w (unlabelled went name w.labels) (given_unlabelled w.given w.labels went name k.labels) (λ up. absurd (both_ways (is_up w.lock) is up)) k
 
 -- the same with other transactions, and a pass's turn after it
-with_parts : (w : World) (labels : List ℕ) (named : List Drawn) (txns : List Txn) (spent : List ℕ) (p : ℕ) (at : Place) (went : Went) → AllGiven w.given labels → AreNamed (length w.history) w.given named
+with_parts : (w : World) (labels : List ℕ) (named : List Drawn) (txns : List Txn) (spent : List ℕ) (p : ℕ) (at : DiskPlace) (went : Went) → AllGiven w.given labels → AreNamed (length w.history) w.given named
     → AreTransactions (revisions w.history) txns → AreApart w.given named txns spent → (is_up w.lock ≡ true → HaveLabels labels txns) → Kept w → Moves w (turned (record w { labels = labels; named = named; txns = txns; spent = spent }) p at went)
 with_parts w labels named txns spent p at went given are t apart benches k =
     let v : World = record w { labels = labels; named = named; txns = txns; spent = spent } in

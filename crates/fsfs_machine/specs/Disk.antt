@@ -1,12 +1,12 @@
 -- What a disk has at a name, and what a crash may leave of it.
 use Rattle.std.specs.Prelude.{◌≡◌, ◌⊎◌, ◌==◌, nat_lt, ℕ, List, [], ◌∷◌, Bool, true, false, drop, Option, Some, None, if◌then◌else◌}
-use Rattle.fsfs_machine.specs.declared.contents.Name.{Name}
-use Rattle.fsfs_machine.specs.declared.contents.Name.TheVariants.{Current, CurrentNext, Counter, CounterNext, Floor, Rev, Props}
+use Rattle.fsfs_machine.specs.declared.contents.FileName.{FileName}
+use Rattle.fsfs_machine.specs.declared.contents.FileName.TheVariants.{Current, CurrentNext, Counter, CounterNext, Floor, Rev, Props}
 use Rattle.fsfs_machine.specs.declared.contents.Contents.{Contents}
-use Rattle.fsfs_machine.specs.declared.contents.Change.{Change}
-use Rattle.fsfs_machine.specs.declared.contents.Change.TheVariants.{Put, Rename, Remove, Firm}
+use Rattle.fsfs_machine.specs.declared.contents.NameChange.{NameChange}
+use Rattle.fsfs_machine.specs.declared.contents.NameChange.TheVariants.{Put, Rename, Remove, Firm}
 
-abbrev pub same_name : Name → Name → Bool
+abbrev pub same_name : FileName → FileName → Bool
 same_name Current Current = true
 same_name CurrentNext CurrentNext = true
 same_name Counter Counter = true
@@ -18,10 +18,10 @@ same_name a b = false
 
 -- the changes since the beginning, the newest first
 abbrev pub Disk : Type 0
-Disk = List Change
+Disk = List NameChange
 
 -- the file that has the name
-abbrev pub found : Disk → Name → Option Contents
+abbrev pub found : Disk → FileName → Option Contents
 found [] n = None
 found (Put m c ∷ d) n = if same_name m n then Some c else found d n
 found (Rename from to c ∷ d) n = if same_name to n then Some c else (if same_name from n then None else found d n)
@@ -48,11 +48,11 @@ abbrev pub is_picked : List Bool → Bool
 is_picked [] = false
 is_picked (b ∷ picks) = b
 
-abbrev pub kept_where : Bool → Change → Disk → Disk
+abbrev pub kept_where : Bool → NameChange → Disk → Disk
 kept_where true change d = change ∷ d
 kept_where false change d = d
 
-abbrev pub is_firm_change : Change → Bool
+abbrev pub is_firm_change : NameChange → Bool
 is_firm_change Firm = true
 is_firm_change change = false
 

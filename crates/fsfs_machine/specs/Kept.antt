@@ -5,7 +5,7 @@ use Rattle.fsfs_tree.specs.Revisions.{Revision, tree_of}
 use Rattle.fsfs_flat.specs.Histories.{IsHistory}
 use Rattle.fsfs_flat.specs.Transactions.{Entry, IsTransaction, IsEntry, IsNext, IsLegal}
 use Rattle.fsfs_tree.specs.Dated.{last_of}
-use Rattle.fsfs_machine.specs.declared.contents.Name.TheVariants.{Current, CurrentNext, Counter, CounterNext, Floor, Props}
+use Rattle.fsfs_machine.specs.declared.contents.FileName.TheVariants.{Current, CurrentNext, Counter, CounterNext, Floor, Props}
 use Rattle.fsfs_machine.specs.declared.contents.Contents.TheVariants.{PropsFile, Number}
 use Rattle.fsfs_machine.specs.declared.machine.Recorded.{Recorded}
 use Rattle.fsfs_machine.specs.declared.machine.Coming.{Coming}

@@ -12,19 +12,19 @@ use Rattle.fsfs_flat.specs.Landing.{land, NoClash, IsFirstClash}
 use Rattle.fsfs_tree.specs.Revisions.{Revision, tree_of}
 use Rattle.fsfs_flat.specs.Transactions.{Entry, IsNext}
 use Rattle.fsfs_tree.specs.Dated.{IsDated, last_of}
-use Rattle.fsfs_machine.specs.declared.contents.Name.{Name}
-use Rattle.fsfs_machine.specs.declared.contents.Name.TheVariants.{Current, CurrentNext, Counter, CounterNext, Floor, Rev, Props}
+use Rattle.fsfs_machine.specs.declared.contents.FileName.{FileName}
+use Rattle.fsfs_machine.specs.declared.contents.FileName.TheVariants.{Current, CurrentNext, Counter, CounterNext, Floor, Rev, Props}
 use Rattle.fsfs_machine.specs.declared.contents.Contents.{Contents}
 use Rattle.fsfs_machine.specs.declared.contents.Contents.TheVariants.{RevFile, PropsFile, Number}
-use Rattle.fsfs_machine.specs.declared.contents.Change.{Change}
-use Rattle.fsfs_machine.specs.declared.contents.Change.TheVariants.{Put, Rename, Firm}
+use Rattle.fsfs_machine.specs.declared.contents.NameChange.{NameChange}
+use Rattle.fsfs_machine.specs.declared.contents.NameChange.TheVariants.{Put, Rename, Firm}
 use Rattle.fsfs_machine.specs.declared.machine.Recorded.{Recorded}
 use Rattle.fsfs_machine.specs.declared.machine.Txn.{Txn}
 use Rattle.fsfs_machine.specs.declared.machine.Coming.{Coming}
 use Rattle.fsfs_machine.specs.declared.machine.Drawn.{Drawn}
-use Rattle.fsfs_machine.specs.declared.machine.Place.{Place}
-use Rattle.fsfs_machine.specs.declared.machine.Place.TheVariants.{TxnRead, TxnPut, TxnRename, TxnFirm, PutRev, PutProps, FirmRev, PutCurrent, RenameCurrent, FirmCurrent, Read}
-use Rattle.fsfs_machine.specs.declared.machine.Place.TheVariants as place
+use Rattle.fsfs_machine.specs.declared.machine.DiskPlace.{DiskPlace}
+use Rattle.fsfs_machine.specs.declared.machine.DiskPlace.TheVariants.{TxnRead, TxnPut, TxnRename, TxnFirm, PutRev, PutProps, FirmRev, PutCurrent, RenameCurrent, FirmCurrent, Read}
+use Rattle.fsfs_machine.specs.declared.machine.DiskPlace.TheVariants as place
 use Rattle.fsfs_machine.specs.declared.machine.Section.{Section}
 use Rattle.fsfs_machine.specs.declared.machine.Section.TheVariants.{Begun, CountRead, CountPut, CountRenamed, RevPut, PropsPut, RevFirm, CurrentPut, CurrentRenamed, CurrentFirm, Doubtful, Over}
 use Rattle.fsfs_machine.specs.declared.machine.Lock.{Lock}
@@ -89,7 +89,7 @@ abbrev pub file_of : Recorded → Contents
 file_of x = RevFile x.revision.tree x.revision.changes x.bytes
 
 -- the place of the call that comes next, with its test
-abbrev pub is_due : Section → Place → Bool
+abbrev pub is_due : Section → DiskPlace → Bool
 is_due (CountRead x) TxnPut = true
 is_due (CountPut x) TxnRename = true
 is_due (CountRenamed x) TxnFirm = true
@@ -111,17 +111,17 @@ abbrev pub without_place : {A : Type 0} → List A → ℕ → List A
 without_place xs p = take p xs ++ drop (p + 1) xs
 
 -- How a call of the disk ends: a failed one leaves what was before, or what success leaves, or (a put) the name with anything.
-abbrev pub comes : Went → Change → Option Change
+abbrev pub comes : Went → NameChange → Option NameChange
 comes Fine change = Some change
 comes After change = Some change
 comes (Torn any) (Put n c) = Some (Put n any)
 comes went change = None
 
-abbrev pub add : Option Change → Disk → Disk
+abbrev pub add : Option NameChange → Disk → Disk
 add None d = d
 add (Some change) d = change ∷ d
 
-abbrev pub disk_after : Went → Change → Disk → Disk
+abbrev pub disk_after : Went → NameChange → Disk → Disk
 disk_after went change d = add (comes went change) d
 
 abbrev pub is_fine_in : Went → Bool
@@ -165,23 +165,23 @@ labels_left picks [] = []
 labels_left picks (k ∷ ks) = label_where (is_picked picks) k (labels_left (drop 1 picks) ks)
 
 -- a turn shows a pass the history, of n revisions; the place of its fault is kept
-abbrev pub learns : ℕ → Place → Went → Pass → Pass
+abbrev pub learns : ℕ → DiskPlace → Went → Pass → Pass
 learns n place went x = record x { seen = n; faults = either went x.faults (x.faults ++ place ∷ []) }
 
 -- the holder's call
-abbrev pub ended : World → ℕ → Place → Change → Section → Went → World
+abbrev pub ended : World → ℕ → DiskPlace → NameChange → Section → Went → World
 ended w p place change section went =
     record w { disk = disk_after went change w.disk; lock = Held p section; passes = at_place w.passes p (learns (length w.history) place went) }
 
-abbrev pub at_call : World → ℕ → Place → Change → Section → Section → Went → World
+abbrev pub at_call : World → ℕ → DiskPlace → NameChange → Section → Section → Went → World
 at_call w p place change after spoiled went = ended w p place change (either went after spoiled) went
 
 -- the change that the call makes which is due; a rename moves the file that is there
-abbrev pub rename_of : Name → Name → Option Contents → Option Change
+abbrev pub rename_of : FileName → FileName → Option Contents → Option NameChange
 rename_of from to None = None
 rename_of from to (Some c) = Some (Rename from to c)
 
-abbrev pub due : World → Section → Option Change
+abbrev pub due : World → Section → Option NameChange
 due w (CountRead x) = Some (Put CounterNext (Number x.next))
 due w (CountPut x) = rename_of CounterNext Counter (found w.disk CounterNext)
 due w (CountRenamed x) = Some Firm
@@ -222,11 +222,11 @@ abbrev pub gives : Section → Went → World → World
 gives (CountRenamed x) Fine w = record w { given = x.name ∷ w.given; named = w.named ++ x ∷ [] }
 gives s went w = w
 
-abbrev pub called_by : World → ℕ → Place → Went → Section → Option Change → Did
+abbrev pub called_by : World → ℕ → DiskPlace → Went → Section → Option NameChange → Did
 called_by w p place went s None = barred w
 called_by w p place went s (Some change) = did (at_call (gives s went w) p place change (after s) (spoiled s) went) (answer went)
 
-abbrev pub called : World → ℕ → Place → Went → Section → Did
+abbrev pub called : World → ℕ → DiskPlace → Went → Section → Did
 called w p place went s = if is_due s place then called_by w p place went s (due w s) else barred w
 
 abbrev pub number_of : Option Contents → Option ℕ
@@ -381,7 +381,7 @@ abbrev pub range_of : ℕ → ℕ → Option Contents → Outcome
 range_of offset size (Some (RevFile tree changes bytes)) = outcome.Bytes (take size (drop offset bytes))
 range_of offset size o = outcome.Missing
 
-abbrev pub turned : World → ℕ → Place → Went → World
+abbrev pub turned : World → ℕ → DiskPlace → Went → World
 turned w p place went = record w { passes = at_place w.passes p (learns (length w.history) place went) }
 
 abbrev pub has_read : World → ℕ → ℕ → ℕ → ℕ → Went → Option Pass → Did
@@ -571,6 +571,6 @@ Runs w [] os v = (os ≡ []) × (w ≡ v)
 Runs w (s ∷ steps) os v = (d : Did) × Happens w s d × (more : List Outcome) × (os ≡ d.outcome ∷ more) × Runs d.world steps more v
 
 -- where the lock is stuck
-abbrev pub stuck_place : Lock → Option Place
+abbrev pub stuck_place : Lock → Option DiskPlace
 stuck_place (Stuck place x) = Some place
 stuck_place lock = None

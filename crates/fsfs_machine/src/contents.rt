@@ -67,7 +67,7 @@ fn up_to(bytes: &[u8], length: usize) -> &[u8]
 
 /// The names of files that the machine speaks of.
 #[derive(Clone, Copy, Drop)]
-pub enum Name {
+pub enum FileName {
     /// `current`.
     Current,
     /// The file that is renamed to `current`.
@@ -124,9 +124,9 @@ impl Contents {
 
 /// A change of names. A rename carries the file that it moves; `Firm` makes every change before it firm.
 #[derive(Drop)]
-pub enum Change {
-    Put(Name, Contents),
-    Rename(Name, Name, Contents),
-    Remove(Name),
+pub enum NameChange {
+    Put(FileName, Contents),
+    Rename(FileName, FileName, Contents),
+    Remove(FileName),
     Firm,
 }

@@ -3,37 +3,37 @@ ghost use Rattle.std.specs.Prelude.{◌≡◌, ◌++◌, [], drop, OnOk, IfOk, M
 ghost use Rattle.fsfs_machine.specs.Disk.{found, shown, same_name, left, is_picked, kept_where, is_firm_change};
 ghost use Rattle.fsfs_machine.specs.Machine.{comes, is_fine_in, number_of};
 
-use crate::contents::{Change, Contents, Name};
+use crate::contents::{Contents, FileName, NameChange};
 use crate::machine::Went;
 use std::alloc::{AllocError, Global};
 use std::collections::VecDeque;
 
-fn same(a: &Name, b: &Name) -> bool
+fn same(a: &FileName, b: &FileName) -> bool
     ensures { result ≡ same_name a.now b.now }
 {
     match a {
-        Name::Current => matches!(b, Name::Current),
-        Name::CurrentNext => matches!(b, Name::CurrentNext),
-        Name::Counter => matches!(b, Name::Counter),
-        Name::CounterNext => matches!(b, Name::CounterNext),
-        Name::Floor => matches!(b, Name::Floor),
-        Name::Rev(n) => matches!(b, Name::Rev(m) if *n == *m),
-        Name::Props(n) => matches!(b, Name::Props(m) if *n == *m),
+        FileName::Current => matches!(b, FileName::Current),
+        FileName::CurrentNext => matches!(b, FileName::CurrentNext),
+        FileName::Counter => matches!(b, FileName::Counter),
+        FileName::CounterNext => matches!(b, FileName::CounterNext),
+        FileName::Floor => matches!(b, FileName::Floor),
+        FileName::Rev(n) => matches!(b, FileName::Rev(m) if *n == *m),
+        FileName::Props(n) => matches!(b, FileName::Props(m) if *n == *m),
     }
 }
 
 /// The file that has the name: changes stand with the newest first.
-pub fn find<'a>(disk: &'a VecDeque<Change>, name: &Name) -> Option<&'a Contents>
+pub fn find<'a>(disk: &'a VecDeque<NameChange>, name: &FileName) -> Option<&'a Contents>
     ensures { MatchOption result (found disk.now.items name.now ≡ None) (λ c. found disk.now.items name.now ≡ Some c.now) }
 {
     for change in disk {
         match change {
-            Change::Put(at, contents) => {
+            NameChange::Put(at, contents) => {
                 if same(at, name) {
                     return Some(contents);
                 }
             }
-            Change::Rename(from, to, contents) => {
+            NameChange::Rename(from, to, contents) => {
                 if same(to, name) {
                     return Some(contents);
                 }
@@ -41,30 +41,30 @@ pub fn find<'a>(disk: &'a VecDeque<Change>, name: &Name) -> Option<&'a Contents>
                     return None;
                 }
             }
-            Change::Remove(at) => {
+            NameChange::Remove(at) => {
                 if same(at, name) {
                     return None;
                 }
             }
-            Change::Firm => {}
+            NameChange::Firm => {}
         }
     }
     None
 }
 
 /// The file of a revision, which is in no pack unless it is below the floor.
-pub fn find_rev(disk: &VecDeque<Change>, floor: u64, rev: u64) -> Option<&Contents>
+pub fn find_rev(disk: &VecDeque<NameChange>, floor: u64, rev: u64) -> Option<&Contents>
     ensures { MatchOption result (shown floor disk.now.items rev ≡ None) (λ c. shown floor disk.now.items rev ≡ Some c.now) }
 {
     if rev < floor {
         None
     } else {
-        find(disk, &Name::Rev(rev))
+        find(disk, &FileName::Rev(rev))
     }
 }
 
 /// The number in a file.
-pub fn find_number(disk: &VecDeque<Change>, name: &Name) -> Option<u64>
+pub fn find_number(disk: &VecDeque<NameChange>, name: &FileName) -> Option<u64>
     ensures { result ≡ number_of (found disk.now.items name.now) }
 {
     match find(disk, name) {
@@ -81,14 +81,14 @@ pub fn is_fine(went: &Went) -> bool
 }
 
 /// The change that a call leaves, however it went.
-pub fn change_made(went: Went, change: Change) -> Option<Change>
+pub fn change_made(went: Went, change: NameChange) -> Option<NameChange>
     ensures { result ≡ comes went change }
 {
     match went {
         Went::Fine | Went::After => Some(change),
         Went::Before => None,
         Went::Torn(any) => match change {
-            Change::Put(name, _) => Some(Change::Put(name, any)),
+            NameChange::Put(name, _) => Some(NameChange::Put(name, any)),
             _ => None,
         },
     }
@@ -97,9 +97,9 @@ pub fn change_made(went: Went, change: Change) -> Option<Change>
 /// What a crash leaves of the disk, where the changes that are picked come through.
 pub fn what_is_left(
     alloc: Global,
-    mut disk: VecDeque<Change>,
+    mut disk: VecDeque<NameChange>,
     picks: &[bool],
-) -> Result<VecDeque<Change>, AllocError>
+) -> Result<VecDeque<NameChange>, AllocError>
     ensures { IfOk result (λ o. o.items ≡ left picks.now disk.items) }
 {
     let mut out = VecDeque::new(alloc);
@@ -116,10 +116,10 @@ pub fn what_is_left(
     Ok(out)
 }
 
-fn is_firm(change: &Change) -> bool
+fn is_firm(change: &NameChange) -> bool
     ensures { result ≡ is_firm_change change.now }
 {
-    matches!(change, Change::Firm)
+    matches!(change, NameChange::Firm)
 }
 
 // Whether the first is picked.
@@ -141,7 +141,7 @@ pub(crate) fn without_first(picks: &[bool]) -> &[bool]
     }
 }
 
-fn keep(out: &mut VecDeque<Change>, change: Change, picked: bool) -> Result<(), AllocError>
+fn keep(out: &mut VecDeque<NameChange>, change: NameChange, picked: bool) -> Result<(), AllocError>
     ensures { OnOk result (out.new.items ≡ out.old.items ++ kept_where picked change []) }
 {
     if picked {
@@ -150,7 +150,7 @@ fn keep(out: &mut VecDeque<Change>, change: Change, picked: bool) -> Result<(), 
     Ok(())
 }
 
-fn append(out: &mut VecDeque<Change>, mut more: VecDeque<Change>) -> Result<(), AllocError>
+fn append(out: &mut VecDeque<NameChange>, mut more: VecDeque<NameChange>) -> Result<(), AllocError>
     ensures { OnOk result (out.new.items ≡ out.old.items ++ more.items) }
 {
     while let Some(change) = more.pop_front() {

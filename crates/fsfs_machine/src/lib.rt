@@ -12,10 +12,10 @@ pub mod passes;
 pub mod section;
 mod theorem;
 
-pub use contents::{Bytes, Change, Contents, Name};
+pub use contents::{Bytes, Contents, FileName, NameChange};
 pub use line::Line;
 pub use machine::{
-    Coming, Drawn, Entry, Lock, Marks, Numbers, Outcome, Pass, Picks, Place, Places, Recorded,
+    Coming, DiskPlace, Drawn, Entry, Lock, Marks, Numbers, Outcome, Pass, Picks, Places, Recorded,
     Section, Step, Txn, Went,
 };
 pub use marks::{set_edited, set_merged};

@@ -153,7 +153,7 @@ impl Coming {
 
 /// The places at which the disk is called.
 #[derive(Clone, Copy, Debug, PartialEq, Eq)]
-pub enum Place {
+pub enum DiskPlace {
     TxnRead,
     TxnPut,
     TxnRename,
@@ -188,7 +188,7 @@ pub enum Section {
     /// `current` names the revision in each image, and it isn't revealed yet.
     CurrentFirm(Coming),
     /// A fault at `RenameCurrent` or `FirmCurrent`: the lock is to be stuck at that place.
-    Doubtful(Place, Coming),
+    Doubtful(DiskPlace, Coming),
     /// Only the lock is left to be given.
     Over,
 }
@@ -198,7 +198,7 @@ pub enum Section {
 pub enum Lock {
     Free,
     Held(u64, Section),
-    Stuck(Place, Coming),
+    Stuck(DiskPlace, Coming),
     /// Closed, or after a crash.
     Down,
     /// The same, where the last section may have renamed `current`.
@@ -208,14 +208,14 @@ pub enum Lock {
 /// Places of faults.
 #[derive(Drop)]
 pub struct Places {
-    pub places: Vec<Place>,
+    pub places: Vec<DiskPlace>,
 }
 
 impl Model for Places {
     ghost use Rattle.std.specs.Prelude.{List};
-    ghost use Rattle.fsfs_machine.specs.declared.machine.Place.{Place};
+    ghost use Rattle.fsfs_machine.specs.declared.machine.DiskPlace.{DiskPlace};
 
-    ghost Value = { List Place };
+    ghost Value = { List DiskPlace };
 
     ghost view = { λ a. a.places.items };
 }
@@ -248,7 +248,7 @@ pub struct Pass {
     /// The places of its failed turns, in order.
     pub faults: Places,
     /// Where it found the lock stuck.
-    pub stuck: Option<Place>,
+    pub stuck: Option<DiskPlace>,
 }
 
 /// How a disk call went. A failed one leaves the state from before, or that of success, or (a put) any contents.
@@ -289,7 +289,7 @@ pub enum Step {
     /// The call that is due at that place.
     Call {
         pass: u64,
-        place: Place,
+        place: DiskPlace,
         went: Went,
     },
     Reveal {
@@ -400,7 +400,7 @@ pub enum Outcome {
     /// The disk call failed.
     Failed,
     /// The lock is stuck at this place.
-    Stuck(Place),
+    Stuck(DiskPlace),
     /// The number of the youngest revision.
     Youngest(u64),
     /// The bytes that were read.

@@ -3,7 +3,7 @@ ghost use Rattle.std.specs.Prelude.{◌≡◌, ◌+◌, ◌++◌, ◌∷◌, [],
 ghost use Rattle.fsfs_machine.specs.Machine.{at_place, learns, reveals, joined, sees_floor, raised, is_known, first_pass};
 
 use crate::files::is_fine;
-use crate::machine::{Numbers, Pass, Place, Places, Went};
+use crate::machine::{DiskPlace, Numbers, Pass, Places, Went};
 use std::alloc::{AllocError, Global};
 use std::collections::VecDeque;
 
@@ -16,7 +16,7 @@ impl Places {
         }
     }
 
-    pub fn push(&mut self, place: Place) -> Result<(), AllocError>
+    pub fn push(&mut self, place: DiskPlace) -> Result<(), AllocError>
         ensures { OnOk result (self.new ≡ self.old ++ place ∷ []) }
     {
         self.places.push(place)?;
@@ -90,7 +90,7 @@ impl Pass {
     }
 
     // A turn of the disk.
-    fn learn(&mut self, seen: u64, place: Place, went: &Went) -> Result<(), AllocError>
+    fn learn(&mut self, seen: u64, place: DiskPlace, went: &Went) -> Result<(), AllocError>
         ensures { OnOk result (self.new ≡ learns seen place went.now self.old) }
     {
         self.seen = seen;
@@ -128,7 +128,7 @@ impl Pass {
         if is_fine(went) {
             self.floor = raised_floor(found, self.floor);
         } else {
-            self.faults.push(Place::Read)?;
+            self.faults.push(DiskPlace::Read)?;
         }
         Ok(())
     }
@@ -177,7 +177,7 @@ pub fn learn(
     passes: &mut Vec<Pass>,
     p: u64,
     seen: u64,
-    place: Place,
+    place: DiskPlace,
     went: &Went,
 ) -> Result<(), AllocError>
     ensures { OnOk result (passes.new.items ≡ at_place passes.old.items p (learns seen place went.now)) }
@@ -238,7 +238,7 @@ pub fn join_to(passes: &mut Vec<Pass>, p: u64, other: &Pass) -> Result<(), Alloc
 
 /// The pass found the lock stuck.
 #[tactic(auto, using(crate::proofs::OnePlace::set_at_place, crate::proofs::OnePlace::no_place))]
-pub fn find_stuck(passes: &mut Vec<Pass>, p: u64, place: Place)
+pub fn find_stuck(passes: &mut Vec<Pass>, p: u64, place: DiskPlace)
     ensures { passes.new.items ≡ at_place passes.old.items p (λ x. record x { stuck = Some place }) }
 {
     let at = p as usize;

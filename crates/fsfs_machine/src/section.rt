@@ -3,7 +3,7 @@ ghost use Rattle.std.specs.Prelude.{◌≡◌, ◌+◌, ℕ};
 ghost use Rattle.fsfs_machine.specs.Machine.{either, is_due, is_quiet, is_up, is_outside, after, spoiled, down, answer};
 
 use crate::files::is_fine;
-use crate::machine::{Drawn, Lock, Outcome, Place, Section, Went};
+use crate::machine::{DiskPlace, Drawn, Lock, Outcome, Section, Went};
 use fsfs_base::RevNum;
 
 /// Whether the lock may be given here.
@@ -17,18 +17,18 @@ pub fn is_quiet_section(section: &Section) -> bool
 }
 
 /// Whether the call at this place comes next.
-pub fn is_due_at(section: &Section, place: Place) -> bool
+pub fn is_due_at(section: &Section, place: DiskPlace) -> bool
     ensures { result ≡ is_due section.now place }
 {
     match section {
-        Section::CountRead(_) => matches!(place, Place::TxnPut),
-        Section::CountPut(_) => matches!(place, Place::TxnRename),
-        Section::CountRenamed(_) => matches!(place, Place::TxnFirm),
-        Section::RevPut(_) => matches!(place, Place::PutProps),
-        Section::PropsPut(_) => matches!(place, Place::FirmRev),
-        Section::RevFirm(_) => matches!(place, Place::PutCurrent),
-        Section::CurrentPut(_) => matches!(place, Place::RenameCurrent),
-        Section::CurrentRenamed(_) => matches!(place, Place::FirmCurrent),
+        Section::CountRead(_) => matches!(place, DiskPlace::TxnPut),
+        Section::CountPut(_) => matches!(place, DiskPlace::TxnRename),
+        Section::CountRenamed(_) => matches!(place, DiskPlace::TxnFirm),
+        Section::RevPut(_) => matches!(place, DiskPlace::PutProps),
+        Section::PropsPut(_) => matches!(place, DiskPlace::FirmRev),
+        Section::RevFirm(_) => matches!(place, DiskPlace::PutCurrent),
+        Section::CurrentPut(_) => matches!(place, DiskPlace::RenameCurrent),
+        Section::CurrentRenamed(_) => matches!(place, DiskPlace::FirmCurrent),
         _ => false,
     }
 }
@@ -52,8 +52,8 @@ fn section_spoiled(section: Section) -> Section
     ensures { result ≡ spoiled section }
 {
     match section {
-        Section::CurrentPut(x) => Section::Doubtful(Place::RenameCurrent, x),
-        Section::CurrentRenamed(x) => Section::Doubtful(Place::FirmCurrent, x),
+        Section::CurrentPut(x) => Section::Doubtful(DiskPlace::RenameCurrent, x),
+        Section::CurrentRenamed(x) => Section::Doubtful(DiskPlace::FirmCurrent, x),
         _ => Section::Over,
     }
 }

@@ -3,11 +3,11 @@ use Rattle.std.proofs.Common.{◌≡◌, ℕ, suc, List, [], ◌∷◌, Bool, tr
 use Rattle.std.proofs.lemmas.List.{get_or-drop, drop-drop}
 use Rattle.std.proofs.lemmas.Option.{unwrap_or-slice_get}
 use Rattle.fsfs_base.specs.Files.{Files}
-use Rattle.fsfs_disk.specs.Trace.{Change, Operation, Put, Adopt, Rename, Remove, FirmNames, Done, Attempted, IsImage, ImageAfter, files_after, changed}
+use Rattle.fsfs_disk.specs.Trace.{NameChange, Operation, Put, Adopt, Rename, Remove, FirmNames, Done, Attempted, IsImage, ImageAfter, files_after, changed}
 use Rattle.fsfs_memdisk.specs.PickedImage.{is_picked, left_after, picked_image}
 use Rattle.fsfs_memdisk.specs.Stored.{operation_by}
 
-left_is_image : (picked : Bool) (change : Change) (now : Files) (Before : Files → Type 0) (left : Files) → Before left → ImageAfter change now Before (left_after picked change now left)
+left_is_image : (picked : Bool) (change : NameChange) (now : Files) (Before : Files → Type 0) (left : Files) → Before left → ImageAfter change now Before (left_after picked change now left)
 left_is_image true (Put name bytes) now Before left is = inr (left, is, refl)
 left_is_image true (Adopt name bytes) now Before left is = inr (left, is, refl)
 left_is_image true (Rename from to) now Before left is = inr (left, is, refl)
@@ -37,7 +37,7 @@ pub rest_of_picks : (pick rest later : List Bool) (n : ℕ) → rest ≡ drop n 
 rest_of_picks pick rest later n is next = next ∙ ap (λ r. drop 1 r) is ∙ drop-drop 1 n pick ∙ ap (λ k. drop k pick) (add-one n)
 
 -- one operation more
-pub picked_image-more : (pick rest : List Bool) (first : Files) (operations : List Operation) (done picked : Bool) (change : Change) (now new_now left new_left : Files)
+pub picked_image-more : (pick rest : List Bool) (first : Files) (operations : List Operation) (done picked : Bool) (change : NameChange) (now new_now left new_left : Files)
     → rest ≡ drop (length operations) pick
     → picked ≡ is_picked rest 0
     → now ≡ files_after first operations

@@ -2,8 +2,8 @@
 use Rattle.std.specs.Prelude.{ℕ, List, [], ◌∷◌, length, Bool, true, false, unwrap_or, slice_get}
 use Rattle.std.specs.FinMap as map
 use Rattle.fsfs_base.specs.Files.{Files, renamed}
-use Rattle.fsfs_disk.specs.Trace.{Change, Operation, files_after, changed}
-use Rattle.fsfs_disk.specs.Trace.Change.{Rename, FirmNames}
+use Rattle.fsfs_disk.specs.Trace.{NameChange, Operation, files_after, changed}
+use Rattle.fsfs_disk.specs.Trace.NameChange.{Rename, FirmNames}
 use Rattle.fsfs_disk.specs.Trace.Operation.{Done, Attempted}
 
 -- whether an operation is picked, by the number of operations before it
@@ -11,7 +11,7 @@ abbrev pub is_picked : List Bool → ℕ → Bool
 is_picked pick n = unwrap_or (slice_get pick n) false
 
 -- what is left after a change: the change over what was left before it, or nothing of it; `now` are the files that it met
-abbrev pub left_after : Bool → Change → Files → Files → Files
+abbrev pub left_after : Bool → NameChange → Files → Files → Files
 left_after picked FirmNames now left = now
 left_after true (Rename from to) now left = renamed left from to (map.get now from)
 left_after true change now left = changed change left

@@ -1,20 +1,20 @@
 -- What the data of a disk in memory tell.
 use Rattle.std.specs.Prelude.{List, map, Bool, true, false}
-use Rattle.fsfs_disk.specs.Trace.{Change, Operation}
-use Rattle.fsfs_disk.specs.Trace.Change.{Put, Rename, Remove, FirmNames}
+use Rattle.fsfs_disk.specs.Trace.{NameChange, Operation}
+use Rattle.fsfs_disk.specs.Trace.NameChange.{Put, Rename, Remove, FirmNames}
 use Rattle.fsfs_disk.specs.Trace.Operation.{Done, Attempted}
 use Rattle.fsfs_memdisk.specs.MemFiles.{content}
 use Rattle.fsfs_memdisk.specs.declared.operations.MemOperation.{MemOperation}
 use Rattle.fsfs_memdisk.specs.declared.operations.MemChange.{MemChange}
 use Rattle.fsfs_memdisk.specs.declared.operations.MemChange.TheVariants as stored
 
-abbrev pub change_of : MemChange → Change
+abbrev pub change_of : MemChange → NameChange
 change_of (stored.Put file) = Put file.name (content file.bytes)
 change_of (stored.Rename from to) = Rename from to
 change_of (stored.Remove name) = Remove name
 change_of stored.FirmNames = FirmNames
 
-abbrev pub operation_by : Bool → Change → Operation
+abbrev pub operation_by : Bool → NameChange → Operation
 operation_by true change = Done change
 operation_by false change = Attempted change
 

@@ -8,13 +8,13 @@ use Rattle.std.specs.Cmp.{tied_itself}
 use Rattle.std.specs.Cmp.Lexicographic.{nat_list_cmp_total}
 use Rattle.std.specs.FinMap.{FinMap, get, entries, entries_sorted, retain_keys, get-entries, get-retain_keys}
 use Rattle.std.specs.FinMap.Entries.{find, is_sorted, below_all, same_entries}
-use Rattle.fsfs_base.specs.Paths.{Name, Path, name_cmp, path_cmp, path_cmp_total, same_name, covers, is_above}
+use Rattle.fsfs_base.specs.Paths.{PathName, Path, name_cmp, path_cmp, path_cmp_total, same_name, covers, is_above}
 use Rattle.fsfs_tree.specs.Nodes.{Node}
 use Rattle.fsfs_tree.specs.Trees.{IsTree}
 use Rattle.fsfs_base.specs.declared.kind.Kind.TheVariants.{File, Dir}
 use Rattle.fsfs_tree.proofs.TreeLemmas.{exact_paths}
 use Rattle.fsfs_base.proofs.PathLemmas.{same_name-refl, covers-refl, covers-antisym, covers-longer, split_at}
-use Rattle.fsfs_shows.specs.Reading.{Entry, named}
+use Rattle.fsfs_shows.specs.Reading.{DirEntry, named}
 use Rattle.fsfs_shows.specs.ByTree.{IsEntryByTree}
 use Rattle.fsfs_printed.proofs.SortedEntries.{both_hold, all_append, IsBelow, below_is, sorted_append, find_append, keys_found}
 use Rattle.fsfs_printed.proofs.EntryNames.{NamesRise}
@@ -29,24 +29,24 @@ not_either : (a b : Bool) → not b ≡ true → not (a && b) ≡ true
 not_either true b e = e
 not_either false b e = refl
 
-no_front : (p : Path) (x : Name) (rest : Path) → not (covers (p ++ x ∷ rest) p) ≡ true
+no_front : (p : Path) (x : PathName) (rest : Path) → not (covers (p ++ x ∷ rest) p) ≡ true
 no_front [] x rest = refl
 no_front (y ∷ p) x rest = not_either (same_name y y) (covers (p ++ x ∷ rest) p) (no_front p x rest)
 
-longer_is_below : (p : Path) (x : Name) (rest : Path) → is_above p (p ++ x ∷ rest) ≡ true
+longer_is_below : (p : Path) (x : PathName) (rest : Path) → is_above p (p ++ x ∷ rest) ≡ true
 longer_is_below p x rest = and_from (covers p (p ++ x ∷ rest)) (not (covers (p ++ x ∷ rest) p)) (covers-longer p (x ∷ rest)) (no_front p x rest)
 
 -- a path below another is that one with a name and more behind it
-below_is_longer : (p q : Path) → is_above p q ≡ true → (x : Name) × (rest : Path) × (q ≡ p ++ x ∷ rest)
+below_is_longer : (p q : Path) → is_above p q ≡ true → (x : PathName) × (rest : Path) × (q ≡ p ++ x ∷ rest)
 below_is_longer p q above = by (drop (length p) q) (split_at p q (and_parts (covers p q) (not (covers q p)) above).0)
   where
-    by : (rest : Path) → p ++ rest ≡ q → (x : Name) × (rest : Path) × (q ≡ p ++ x ∷ rest)
+    by : (rest : Path) → p ++ rest ≡ q → (x : PathName) × (rest : Path) × (q ≡ p ++ x ∷ rest)
     by [] e =
         let same : p ≡ q = sym (append-nil p) ∙ e in
         absurd (both_ways (covers q p) (not_is (covers q p) (and_parts (covers p q) (not (covers q p)) above).1) (subst (λ (x : Path). covers x p ≡ true) same (covers-refl p)))
     by (x ∷ rest) e = (x, rest, sym e)
 
-before_longer : (p : Path) (x : Name) (rest : Path) → path_cmp p (p ++ x ∷ rest) ≡ Less
+before_longer : (p : Path) (x : PathName) (rest : Path) → path_cmp p (p ++ x ∷ rest) ≡ Less
 before_longer [] x rest = refl
 before_longer (y ∷ p) x rest = ap (λ (o : Ordering). ordering_then o (path_cmp p (p ++ x ∷ rest))) (tied_itself nat_list_cmp_total y) ∙ before_longer p x rest
 
@@ -54,7 +54,7 @@ before_below : (p q : Path) → is_above p q ≡ true → path_cmp p q ≡ Less
 before_below p q above = let w = below_is_longer p q above in ap (path_cmp p) w.2 ∙ before_longer p w.0 w.1
 
 -- what is below a child is before what is below a later one
-before_later_child : (p : Path) (a b : Name) (r s : Path) → name_cmp a b ≡ Less → path_cmp (p ++ a ∷ r) (p ++ b ∷ s) ≡ Less
+before_later_child : (p : Path) (a b : PathName) (r s : Path) → name_cmp a b ≡ Less → path_cmp (p ++ a ∷ r) (p ++ b ∷ s) ≡ Less
 before_later_child [] a b r s lt = ap (λ (o : Ordering). ordering_then o (path_cmp r s)) lt
 before_later_child (y ∷ p) a b r s lt = ap (λ (o : Ordering). ordering_then o (path_cmp (p ++ a ∷ r) (p ++ b ∷ s))) (tied_itself nat_list_cmp_total y) ∙ before_later_child p a b r s lt
 
@@ -62,7 +62,7 @@ and_true : (b : Bool) → (b && true) ≡ b
 and_true true = refl
 and_true false = refl
 
-child_covers : (p : Path) (a x : Name) (r : Path) → covers (p ++ a ∷ []) (p ++ x ∷ r) ≡ same_name a x
+child_covers : (p : Path) (a x : PathName) (r : Path) → covers (p ++ a ∷ []) (p ++ x ∷ r) ≡ same_name a x
 child_covers [] a x r = and_true (same_name a x)
 child_covers (y ∷ p) a x r = ap (λ (b : Bool). b && covers (p ++ a ∷ []) (p ++ x ∷ r)) (same_name-refl y) ∙ child_covers p a x r
 
@@ -130,39 +130,39 @@ module _ (tree : FinMap path_cmp Node) where
 
   -- ---- of a directory
 
-  abbrev pub children : Path → List Entry → List (Path × Node)
+  abbrev pub children : Path → List DirEntry → List (Path × Node)
   children p es = flat_map (λ e. block (p ++ e.name ∷ [])) es
 
-  chosen : (b : Bool) (e : Entry) (o : Option Entry) (t : Option Node) → option_or (cond b t None) (cond (is_some o) t None) ≡ cond (is_some (cond b (Some e) o)) t None
+  chosen : (b : Bool) (e : DirEntry) (o : Option DirEntry) (t : Option Node) → option_or (cond b t None) (cond (is_some o) t None) ≡ cond (is_some (cond b (Some e) o)) t None
   chosen true e o (Some n) = refl
   chosen true e None None = refl
   chosen true e (Some f) None = refl
   chosen false e o t = refl
 
-  find_child : (p : Path) (x : Name) (rest : Path) (es : List Entry) → find path_cmp (p ++ x ∷ rest) (children p es) ≡ cond (is_some (named x es)) (get tree (p ++ x ∷ rest)) None
+  find_child : (p : Path) (x : PathName) (rest : Path) (es : List DirEntry) → find path_cmp (p ++ x ∷ rest) (children p es) ≡ cond (is_some (named x es)) (get tree (p ++ x ∷ rest)) None
   find_child p x rest [] = refl
   find_child p x rest (e ∷ es) =
       let q : Path = p ++ x ∷ rest in
       let first : find path_cmp q (block (p ++ e.name ∷ [])) ≡ cond (same_name e.name x) (get tree q) None = find_block (p ++ e.name ∷ []) q ∙ ap (λ (b : Bool). cond b (get tree q) None) (child_covers p e.name x rest) in
       find_append path_cmp q (block (p ++ e.name ∷ [])) (children p es) ∙ (λ i. option_or (first i) (find_child p x rest es i)) ∙ chosen (same_name e.name x) e (named x es) (get tree q)
 
-  child_key : (p : Path) (a : Name) (q : Path) → covers (p ++ a ∷ []) q ≡ true → (r : Path) × (q ≡ p ++ a ∷ r)
+  child_key : (p : Path) (a : PathName) (q : Path) → covers (p ++ a ∷ []) q ≡ true → (r : Path) × (q ≡ p ++ a ∷ r)
   child_key p a q under = let r = drop (length (p ++ a ∷ [])) q in (r, sym (split_at (p ++ a ∷ []) q under) ∙ append_assoc p (a ∷ []) r)
 
-  outside : (p q : Path) (a : Name) → is_above p q ≡ false → covers (p ++ a ∷ []) q ≡ false
+  outside : (p q : Path) (a : PathName) → is_above p q ≡ false → covers (p ++ a ∷ []) q ≡ false
   outside p q a apart = false_from_ne_true (covers (p ++ a ∷ []) q) (λ under.
       let r = child_key p a q under in
       both_ways (is_above p q) apart (subst (λ (x : Path). is_above p x ≡ true) (sym r.1) (longer_is_below p a r.0)))
 
-  find_outside : (p q : Path) → is_above p q ≡ false → (es : List Entry) → find path_cmp q (children p es) ≡ None
+  find_outside : (p q : Path) → is_above p q ≡ false → (es : List DirEntry) → find path_cmp q (children p es) ≡ None
   find_outside p q apart [] = refl
   find_outside p q apart (e ∷ es) =
       let first : find path_cmp q (block (p ++ e.name ∷ [])) ≡ None = find_block (p ++ e.name ∷ []) q ∙ ap (λ (b : Bool). cond b (get tree q) None) (outside p q e.name apart) in
       find_append path_cmp q (block (p ++ e.name ∷ [])) (children p es) ∙ (λ i. option_or (first i) (find_outside p q apart es i))
 
-  module _ (is : IsTree (get tree)) (p : Path) (es : List Entry) (by_tree : (name : Name) → IsEntryByTree (named name es) (get tree (p ++ name ∷ []))) where
+  module _ (is : IsTree (get tree)) (p : Path) (es : List DirEntry) (by_tree : (name : PathName) → IsEntryByTree (named name es) (get tree (p ++ name ∷ []))) where
     -- a child that no entry names has nothing below it
-    named_or_none : (x : Name) (rest : Path) (o : Option Entry) → IsEntryByTree o (get tree (p ++ x ∷ [])) → cond (is_some o) (get tree (p ++ x ∷ rest)) None ≡ get tree (p ++ x ∷ rest)
+    named_or_none : (x : PathName) (rest : Path) (o : Option DirEntry) → IsEntryByTree o (get tree (p ++ x ∷ [])) → cond (is_some o) (get tree (p ++ x ∷ rest)) None ≡ get tree (p ++ x ∷ rest)
     named_or_none x rest (Some e) h = refl
     named_or_none x [] None h = sym h
     named_or_none x (y ∷ rest) None h =
@@ -178,10 +178,10 @@ module _ (tree : FinMap path_cmp Node) where
             subst (λ (x : Path). find path_cmp x (children p es) ≡ get tree x) (sym w.2) (find_child p w.0 w.1 es ∙ named_or_none w.0 w.1 (named w.0 es) (by_tree w.0))
         by false above = find_outside p q above es
 
-  block_key : (p : Path) (a : Name) (q : Path) → is_some (find path_cmp q (block (p ++ a ∷ []))) ≡ true → (r : Path) × (q ≡ p ++ a ∷ r)
+  block_key : (p : Path) (a : PathName) (q : Path) → is_some (find path_cmp q (block (p ++ a ∷ []))) ≡ true → (r : Path) × (q ≡ p ++ a ∷ r)
   block_key p a q some = child_key p a q (some_if (covers (p ++ a ∷ []) q) (get tree q) (ap is_some (sym (find_block (p ++ a ∷ []) q)) ∙ some))
 
-  below_children : (p : Path) (a : Name) (r : Path) (es : List Entry) → AllByRecursion (λ f. name_cmp a f.name ≡ Less) es → IsBelow path_cmp (p ++ a ∷ r) (children p es)
+  below_children : (p : Path) (a : PathName) (r : Path) (es : List DirEntry) → AllByRecursion (λ f. name_cmp a f.name ≡ Less) es → IsBelow path_cmp (p ++ a ∷ r) (children p es)
   below_children p a r [] h = tt
   below_children p a r (f ∷ es) h =
       all_append (λ e. path_cmp (p ++ a ∷ r) e.0 ≡ Less) (block (p ++ f.name ∷ [])) (children p es)
@@ -189,12 +189,12 @@ module _ (tree : FinMap path_cmp Node) where
       (λ q some. let s = block_key p f.name q some in ap (path_cmp (p ++ a ∷ r)) s.1 ∙ before_later_child p a f.name r s.0 h.0))
       (below_children p a r es h.1)
 
-  sorted_children : (p : Path) (es : List Entry) → NamesRise es → T (is_sorted path_cmp (children p es))
+  sorted_children : (p : Path) (es : List DirEntry) → NamesRise es → T (is_sorted path_cmp (children p es))
   sorted_children p [] rise = tt
   sorted_children p (e ∷ es) rise =
       sorted_append path_cmp (block (p ++ e.name ∷ [])) (children p es) (entries_sorted (retain_keys tree (covers (p ++ e.name ∷ [])))) (sorted_children p es rise.1)
       (keys_found path_cmp path_cmp_total (λ k. IsBelow path_cmp k (children p es)) (block (p ++ e.name ∷ []))
       (λ q some. let r = block_key p e.name q some in subst (λ (k : Path). IsBelow path_cmp k (children p es)) (sym r.1) (below_children p e.name r.0 es rise.0)))
 
-  pub directory_block : IsTree (get tree) → (p : Path) (n : Node) (es : List Entry) → get tree p ≡ Some n → NamesRise es → ((name : Name) → IsEntryByTree (named name es) (get tree (p ++ name ∷ []))) → block p ≡ (p, n) ∷ children p es
+  pub directory_block : IsTree (get tree) → (p : Path) (n : Node) (es : List DirEntry) → get tree p ≡ Some n → NamesRise es → ((name : PathName) → IsEntryByTree (named name es) (get tree (p ++ name ∷ []))) → block p ≡ (p, n) ∷ children p es
   directory_block is p n es there rise by_tree = head_block p n (children p es) there (sorted_children p es rise) (find_children is p es by_tree)

@@ -5,7 +5,7 @@ use Rattle.fsfs_base.specs.Paths.{Path}
 use Rattle.fsfs_tree.specs.Nodes.{Node, Content, Bytes, Closed, TreeFunction}
 use Rattle.fsfs_base.specs.declared.kind.Kind.{Kind}
 use Rattle.fsfs_base.specs.declared.kind.Kind.TheVariants.{File, Dir}
-use Rattle.fsfs_book.specs.Told.{Look}
+use Rattle.fsfs_book.specs.Told.{RevisionBytes}
 use Rattle.fsfs_answers.specs.Answers as answers
 use Rattle.fsfs_answers.specs.Answers.{Found, found_at}
 use Rattle.fsfs_noderev.specs.declared.node_rev.NodeRev.{NodeRev}
@@ -42,7 +42,7 @@ wrong_content : (content : Content) (w : Wrong) → IsTextByTree (Err w) content
 wrong_content (Bytes bytes) w is = absurd is
 wrong_content (Closed rev offset) w is = (refl, ap (λ (x : Wrong). faults.Wrong x) is)
 
-module _ (look : Look) (rev : ℕ) (tree : TreeFunction) (shows : Shows look rev tree) (path : Path) where
+module _ (look : RevisionBytes) (rev : ℕ) (tree : TreeFunction) (shows : Shows look rev tree) (path : Path) where
   content_by_tree : (v : NodeRev) (n : Node) (kind : Kind) (text : List ℕ) (end : End) → StandsAt look rev path v → tree path ≡ Some n → v.kind ≡ kind → KindText look v kind text end → IsContent kind n.text text end
   content_by_tree v n Dir text end at there is t = nothing_is (IsContent Dir n.text) (Refused faults.NotFile) text end (refl, refl) t
   content_by_tree v n File text end at there is (inl none) = nothing_is (IsContent File n.text) Stopped text end (stopped_content File n.text) none

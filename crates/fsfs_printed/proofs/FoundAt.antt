@@ -1,11 +1,11 @@
 -- What is met at a path is what the tree has there.
 use Rattle.std.proofs.Common.{◌≡◌, ℕ, suc, [], ◌∷◌, ◌++◌, length, take, refl, sym, ap, subst, ◌∙◌, append_assoc, append-nil}
 use Rattle.std.specs.Prelude.{Ok, Err, Option, Some, None, IsSomeAnd}
-use Rattle.fsfs_base.specs.Paths.{Name, Path}
+use Rattle.fsfs_base.specs.Paths.{PathName, Path}
 use Rattle.fsfs_tree.specs.Nodes.{Node, TreeFunction}
 use Rattle.fsfs_base.specs.declared.kind.Kind.{Kind}
 use Rattle.fsfs_base.specs.declared.kind.Kind.TheVariants.{File, Dir}
-use Rattle.fsfs_book.specs.Told.{Look}
+use Rattle.fsfs_book.specs.Told.{RevisionBytes}
 use Rattle.fsfs_answers.specs.Answers as answers
 use Rattle.fsfs_answers.specs.Answers.{Found, through, found_from, found_at}
 use Rattle.fsfs_noderev.specs.declared.node_rev.NodeRev.{NodeRev}
@@ -21,7 +21,7 @@ IsFoundAs tree path (Stands v) found = (n : Node) × (tree path ≡ Some n) × (
 IsFoundAs tree path (Lacking depth) found = found ≡ answers.Lacking (take depth path)
 IsFoundAs tree path (Blocked depth) found = found ≡ answers.Blocked (take depth path)
 
-pub length_push : (front : Path) (name : Name) → length (front ++ name ∷ []) ≡ suc (length front)
+pub length_push : (front : Path) (name : PathName) → length (front ++ name ∷ []) ≡ suc (length front)
 length_push [] name = refl
 length_push (x ∷ front) name = ap suc (length_push front name)
 
@@ -29,7 +29,7 @@ found_nothing : (tree : TreeFunction) (at names : Path) → found_from tree at n
 found_nothing tree at [] = refl
 found_nothing tree at (name ∷ names) = refl
 
-module _ (look : Look) (rev : ℕ) (tree : TreeFunction) (shows : Shows look rev tree) where
+module _ (look : RevisionBytes) (rev : ℕ) (tree : TreeFunction) (shows : Shows look rev tree) where
   node_of : (o : Option Node) (p : Path) (v : NodeRev) → IsSomeAnd o (IsShown look rev p v) → (n : Node) × (o ≡ Some n) × IsShown look rev p v n
   node_of None p v h = absurd h
   node_of (Some n) p v h = (n, refl, h)
@@ -44,13 +44,13 @@ module _ (look : Look) (rev : ℕ) (tree : TreeFunction) (shows : Shows look rev
   abbrev FoundBelow : Path → Path → Met → Type 0
   FoundBelow front names m = IsFoundAs tree (front ++ names) m (found_from tree front names (tree front))
 
-  abbrev FurtherOn : Path → Name → Path → Met → Type 0
+  abbrev FurtherOn : Path → PathName → Path → Met → Type 0
   FurtherOn front name names m = (u : NodeRev) → StandsAt look rev (front ++ name ∷ []) u → MetFrom look u (length (front ++ name ∷ [])) names (Ok m) → FoundBelow (front ++ name ∷ []) names m
 
-  abbrev Beyond : Path → Name → Path → Found
+  abbrev Beyond : Path → PathName → Path → Found
   Beyond front name names = found_from tree (front ++ name ∷ []) names (tree (front ++ name ∷ []))
 
-  nothing_there : (front : Path) (name : Name) (v : NodeRev) → StandsAt look rev front v → v.kind ≡ Dir → ChildOf look v name (Ok None) → tree (front ++ name ∷ []) ≡ None
+  nothing_there : (front : Path) (name : PathName) (v : NodeRev) → StandsAt look rev front v → v.kind ≡ Dir → ChildOf look v name (Ok None) → tree (front ++ name ∷ []) ≡ None
   nothing_there front name v at is child =
       let on = met_behind look rev v front (name ∷ []) (Ok (Lacking (suc (length front)))) at (in_dir v.kind (length front) (ChildOf look v name) (λ w. MetFrom look w (suc (length front)) []) (Ok (Lacking (suc (length front)))) is (None, child, refl)) in
       let lacks = (by_tree look rev tree shows).paths (front ++ name ∷ []) (Ok (Lacking (suc (length front)))) on in
@@ -58,7 +58,7 @@ module _ (look : Look) (rev : ℕ) (tree : TreeFunction) (shows : Shows look rev
       ap (λ (k : ℕ). take k (front ++ name ∷ [])) (sym (length_push front name)) ∙ ap (take (length (front ++ name ∷ []))) (sym (append-nil (front ++ name ∷ []))) ∙ take_front (front ++ name ∷ []) [] in
       ap tree (sym whole) ∙ lacks.nothing
 
-  found_child : (front : Path) (name : Name) (names : Path) (v : NodeRev) (m : Met) (o : Option NodeRev) → StandsAt look rev front v → v.kind ≡ Dir → FurtherOn front name names m → ChildOf look v name (Ok o)
+  found_child : (front : Path) (name : PathName) (names : Path) (v : NodeRev) (m : Met) (o : Option NodeRev) → StandsAt look rev front v → v.kind ≡ Dir → FurtherOn front name names m → ChildOf look v name (Ok o)
       → OrLacking (suc (length front)) (λ u. MetFrom look u (suc (length front)) names) o (Ok m) → IsFoundAs tree (front ++ name ∷ names) m (Beyond front name names)
   found_child front name names v (Stands w) None at is next child on = absurd cc
   found_child front name names v (Blocked depth) None at is next child on = absurd cc
@@ -70,7 +70,7 @@ module _ (look : Look) (rev : ℕ) (tree : TreeFunction) (shows : Shows look rev
       subst (λ (p : Path). IsFoundAs tree p m (Beyond front name names)) (append_assoc front (name ∷ []) names)
       (next u (child_stands look rev v u front name at is child) (subst (λ (n : ℕ). MetFrom look u n names (Ok m)) (sym (length_push front name)) on))
 
-  found_in : (front : Path) (name : Name) (names : Path) (v : NodeRev) (kind : Kind) (m : Met) → StandsAt look rev front v → v.kind ≡ kind → FurtherOn front name names m
+  found_in : (front : Path) (name : PathName) (names : Path) (v : NodeRev) (kind : Kind) (m : Met) → StandsAt look rev front v → v.kind ≡ kind → FurtherOn front name names m
       → InDirectory kind (length front) (ChildOf look v name) (λ u. MetFrom look u (suc (length front)) names) (Ok m) → IsFoundAs tree (front ++ name ∷ names) m (through kind front (Beyond front name names))
   found_in front name names v File (Stands w) at is next on = absurd cc
   found_in front name names v File (Lacking depth) at is next on = absurd cc

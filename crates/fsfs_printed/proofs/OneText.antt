@@ -1,14 +1,14 @@
 -- A look prints one text at most, and where a failure stops it a first part of that.
 use Rattle.std.proofs.Common.{◌≡◌, ℕ, Bool, suc, List, [], ◌∷◌, ◌++◌, Ok, Err, refl, sym, ap, subst, ◌∙◌, append_assoc, inl, inr}
 use Rattle.std.specs.Prelude.{◌≢◌, codes, replicate}
-use Rattle.fsfs_base.specs.Paths.{Name, Path}
+use Rattle.fsfs_base.specs.Paths.{PathName, Path}
 use Rattle.fsfs_base.specs.declared.kind.Kind.{Kind}
 use Rattle.fsfs_base.specs.declared.kind.Kind.TheVariants.{File, Dir}
-use Rattle.fsfs_book.specs.Told.{Look}
+use Rattle.fsfs_book.specs.Told.{RevisionBytes}
 use Rattle.fsfs_answers.specs.Answers.{last_name, kind_mark}
 use Rattle.fsfs_noderev.specs.declared.node_rev.NodeRev.{NodeRev}
 use Rattle.fsfs_damage.specs.declared.wrong.Wrong.{Wrong}
-use Rattle.fsfs_shows.specs.Reading.{Entry, EntriesOf, OfEntry, Met, Stands, Lacking, Blocked}
+use Rattle.fsfs_shows.specs.Reading.{DirEntry, EntriesOf, OfEntry, Met, Stands, Lacking, Blocked}
 use Rattle.fsfs_damage.proofs.OneAnswer.{ok_same, ok_no_err, err_same}
 use Rattle.fsfs_shows.proofs.OneEntry.{entries_one}
 use Rattle.fsfs_shows.proofs.OneWalk.{text_one, of_entry_one, met_at_one}
@@ -72,30 +72,30 @@ no_file_dir k e f = let g = sym e ∙ f in absurd cc
 
 -- ---- lines
 
-line_one : (ids : Bool) (level : ℕ) (name : Name) (v : NodeRev) (a b : List ℕ) → IsLine ids level name v a → IsLine ids level name v b → a ≡ b
+line_one : (ids : Bool) (level : ℕ) (name : PathName) (v : NodeRev) (a b : List ℕ) → IsLine ids level name v a → IsLine ids level name v b → a ≡ b
 line_one ids level name v a b g h =
     g.line_is ∙ ap (λ (t : List ℕ). replicate level 32 ++ name ++ kind_mark v.kind ++ t ++ codes "\n") (shown_id_one ids v.id g.shown_id h.shown_id g.id_is h.id_is) ∙ sym h.line_is
 
 -- ---- trees
 
-module _ (look : Look) (ids : Bool) where
+module _ (look : RevisionBytes) (ids : Bool) where
   -- a file's line against another text of it
-  file_agrees : (level : ℕ) (name : Name) (v : NodeRev) (line : List ℕ) → IsLine ids level name v line → v.kind ≡ File → (b : List ℕ) (f : End) → NodeText look ids level name v b f → Agree line Whole b f
+  file_agrees : (level : ℕ) (name : PathName) (v : NodeRev) (line : List ℕ) → IsLine ids level name v line → v.kind ≡ File → (b : List ℕ) (f : End) → NodeText look ids level name v b f → Agree line Whole b f
   file_agrees level name v line is kind b f (OfFile _ _ _ other its _) = inl (line_one ids level name v line other is its, refl)
   file_agrees level name v line is kind b f (OfDir _ _ _ other entries text end its dir _ _) = no_file_dir v.kind kind dir
   file_agrees level name v line is kind b f (OfWrongDir _ _ _ other w its dir _) = no_file_dir v.kind kind dir
 
   -- a directory's against another, where the texts of its entries agree
-  dir_agrees : (level : ℕ) (name : Name) (v : NodeRev) (line : List ℕ) (entries : List Entry) (text : List ℕ) (end : End) → IsLine ids level name v line → v.kind ≡ Dir → EntriesOf look v (Ok entries)
+  dir_agrees : (level : ℕ) (name : PathName) (v : NodeRev) (line : List ℕ) (entries : List DirEntry) (text : List ℕ) (end : End) → IsLine ids level name v line → v.kind ≡ Dir → EntriesOf look v (Ok entries)
       → ((b : List ℕ) (f : End) → EntriesText look ids (suc level) entries b f → Agree text end b f) → (b : List ℕ) (f : End) → NodeText look ids level name v b f → Agree (line ++ text) end b f
   dir_agrees level name v line entries text end is kind read each b f (OfFile _ _ _ other its file) = no_file_dir v.kind file kind
   dir_agrees level name v line entries text end is kind read each b f (OfDir _ _ _ other below more stop its _ reads texts) =
       let same = ok_same below entries (entries_one look v (Ok below) (Ok entries) reads read) in
-      let agree = agree_behind line text more end stop (each more stop (subst (λ (es : List Entry). EntriesText look ids (suc level) es more stop) same texts)) in
+      let agree = agree_behind line text more end stop (each more stop (subst (λ (es : List DirEntry). EntriesText look ids (suc level) es more stop) same texts)) in
       subst (λ (l : List ℕ). Agree (line ++ text) end (l ++ more) stop) (line_one ids level name v line other is its) agree
   dir_agrees level name v line entries text end is kind read each b f (OfWrongDir _ _ _ other w its _ wrong) = ok_no_err entries w (entries_one look v (Ok entries) (Err w) read wrong)
 
-  wrong_dir_agrees : (level : ℕ) (name : Name) (v : NodeRev) (line : List ℕ) (w : Wrong) → IsLine ids level name v line → v.kind ≡ Dir → EntriesOf look v (Err w)
+  wrong_dir_agrees : (level : ℕ) (name : PathName) (v : NodeRev) (line : List ℕ) (w : Wrong) → IsLine ids level name v line → v.kind ≡ Dir → EntriesOf look v (Err w)
       → (b : List ℕ) (f : End) → NodeText look ids level name v b f → Agree line (Refused (faults.Wrong w)) b f
   wrong_dir_agrees level name v line w is kind wrong b f (OfFile _ _ _ other its file) = no_file_dir v.kind file kind
   wrong_dir_agrees level name v line w is kind wrong b f (OfDir _ _ _ other entries text end its _ read _) = ok_no_err entries w (entries_one look v (Ok entries) (Err w) read wrong)
@@ -103,7 +103,7 @@ module _ (look : Look) (ids : Bool) where
       inl (line_one ids level name v line other is its, wrong_same w x (err_same w x (entries_one look v (Err w) (Err x) wrong also)))
 
   -- the node of an entry
-  entry_agrees : (level : ℕ) (entry : Entry) (v : NodeRev) (text : List ℕ) (end : End) → OfEntry look entry (Ok v)
+  entry_agrees : (level : ℕ) (entry : DirEntry) (v : NodeRev) (text : List ℕ) (end : End) → OfEntry look entry (Ok v)
       → ((b : List ℕ) (f : End) → NodeText look ids level entry.name v b f → Agree text end b f) → (b : List ℕ) (f : End) → EntryText look ids level entry b f → Agree text end b f
   entry_agrees level entry v text end read each b f (OfNode _ _ u _ _ reads other) =
       let same = ok_same u v (of_entry_one look entry (Ok u) (Ok v) reads read) in
@@ -111,7 +111,7 @@ module _ (look : Look) (ids : Bool) where
   entry_agrees level entry v text end read each b f (OfWrong _ _ w wrong) = ok_no_err v w (of_entry_one look entry (Ok v) (Err w) read wrong)
   entry_agrees level entry v text end read each b f (Stops _ _) = stopped_second text [] end Stopped (refl, refl)
 
-  wrong_entry_agrees : (level : ℕ) (entry : Entry) (w : Wrong) → OfEntry look entry (Err w) → (b : List ℕ) (f : End) → EntryText look ids level entry b f → Agree [] (Refused (faults.Wrong w)) b f
+  wrong_entry_agrees : (level : ℕ) (entry : DirEntry) (w : Wrong) → OfEntry look entry (Err w) → (b : List ℕ) (f : End) → EntryText look ids level entry b f → Agree [] (Refused (faults.Wrong w)) b f
   wrong_entry_agrees level entry w wrong b f (OfNode _ _ v _ _ read _) = ok_no_err v w (of_entry_one look entry (Ok v) (Err w) read wrong)
   wrong_entry_agrees level entry w wrong b f (OfWrong _ _ x also) = inl (refl, wrong_same w x (err_same w x (of_entry_one look entry (Err w) (Err x) wrong also)))
   wrong_entry_agrees level entry w wrong b f (Stops _ _) = stopped_second [] [] (Refused (faults.Wrong w)) Stopped (refl, refl)
@@ -120,12 +120,12 @@ module _ (look : Look) (ids : Bool) where
   none_agrees : (level : ℕ) (b : List ℕ) (f : End) → EntriesText look ids level [] b f → Agree [] Whole b f
   none_agrees level b f (OfNone _) = inl (refl, refl)
 
-  last_agrees : (level : ℕ) (entry : Entry) (entries : List Entry) (text : List ℕ) (end : End) → end ≢ Whole → ((b : List ℕ) (f : End) → EntryText look ids level entry b f → Agree text end b f)
+  last_agrees : (level : ℕ) (entry : DirEntry) (entries : List DirEntry) (text : List ℕ) (end : End) → end ≢ Whole → ((b : List ℕ) (f : End) → EntryText look ids level entry b f → Agree text end b f)
       → (b : List ℕ) (f : End) → EntriesText look ids level (entry ∷ entries) b f → Agree text end b f
   last_agrees level entry entries text end more each b f (OfLast _ _ _ _ _ other _) = each b f other
   last_agrees level entry entries text end more each b f (OfNext _ _ _ first rest _ other _) = agree_more text first rest end f more (each first Whole other)
 
-  next_agrees : (level : ℕ) (entry : Entry) (entries : List Entry) (text rest : List ℕ) (end : End) → ((b : List ℕ) (f : End) → EntryText look ids level entry b f → Agree text Whole b f)
+  next_agrees : (level : ℕ) (entry : DirEntry) (entries : List DirEntry) (text rest : List ℕ) (end : End) → ((b : List ℕ) (f : End) → EntryText look ids level entry b f → Agree text Whole b f)
       → ((b : List ℕ) (f : End) → EntriesText look ids level entries b f → Agree rest end b f) → (b : List ℕ) (f : End) → EntriesText look ids level (entry ∷ entries) b f → Agree (text ++ rest) end b f
   next_agrees level entry entries text rest end each behind b f (OfLast _ _ _ _ _ other less) = agree_less text rest b end f less (each b f other)
   next_agrees level entry entries text rest end each behind b f (OfNext _ _ _ first more _ other others) =
@@ -133,18 +133,18 @@ module _ (look : Look) (ids : Bool) where
       subst (λ (t : List ℕ). Agree (text ++ rest) end (t ++ more) f) same (agree_behind text rest more end f (behind more f others))
 
   mutual
-    node_one : (level : ℕ) (name : Name) (v : NodeRev) (a : List ℕ) (e : End) → NodeText look ids level name v a e → (b : List ℕ) (f : End) → NodeText look ids level name v b f → Agree a e b f
+    node_one : (level : ℕ) (name : PathName) (v : NodeRev) (a : List ℕ) (e : End) → NodeText look ids level name v a e → (b : List ℕ) (f : End) → NodeText look ids level name v b f → Agree a e b f
     node_one level name v a e (OfFile _ _ _ line is kind) b f other = file_agrees level name v line is kind b f other
     node_one level name v a e (OfDir _ _ _ line entries text end is kind read texts) b f other =
         dir_agrees level name v line entries text end is kind read (λ c g h. entries_one_text (suc level) entries text end texts c g h) b f other
     node_one level name v a e (OfWrongDir _ _ _ line w is kind wrong) b f other = wrong_dir_agrees level name v line w is kind wrong b f other
 
-    entry_one_text : (level : ℕ) (entry : Entry) (a : List ℕ) (e : End) → EntryText look ids level entry a e → (b : List ℕ) (f : End) → EntryText look ids level entry b f → Agree a e b f
+    entry_one_text : (level : ℕ) (entry : DirEntry) (a : List ℕ) (e : End) → EntryText look ids level entry a e → (b : List ℕ) (f : End) → EntryText look ids level entry b f → Agree a e b f
     entry_one_text level entry a e (OfNode _ _ v text end read node) b f other = entry_agrees level entry v text end read (λ c g h. node_one level entry.name v text end node c g h) b f other
     entry_one_text level entry a e (OfWrong _ _ w wrong) b f other = wrong_entry_agrees level entry w wrong b f other
     entry_one_text level entry a e (Stops _ _) b f other = stopped_first [] b Stopped f (refl, refl)
 
-    entries_one_text : (level : ℕ) (entries : List Entry) (a : List ℕ) (e : End) → EntriesText look ids level entries a e → (b : List ℕ) (f : End) → EntriesText look ids level entries b f → Agree a e b f
+    entries_one_text : (level : ℕ) (entries : List DirEntry) (a : List ℕ) (e : End) → EntriesText look ids level entries a e → (b : List ℕ) (f : End) → EntriesText look ids level entries b f → Agree a e b f
     entries_one_text level entries a e (OfNone _) b f other = none_agrees level b f other
     entries_one_text level entries a e (OfLast _ entry behind text end first less) b f other =
         last_agrees level entry behind text end less (λ c g h. entry_one_text level entry text end first c g h) b f other
@@ -153,7 +153,7 @@ module _ (look : Look) (ids : Bool) where
 
 -- ---- what is met at a path
 
-at_path_one : (look : Look) (rev : ℕ) (path : Path) (R : Met → List ℕ → End → Type 0) → ((met : Met) → HasOneText (R met)) → HasOneText (AtPath look rev path R)
+at_path_one : (look : RevisionBytes) (rev : ℕ) (path : Path) (R : Met → List ℕ → End → Type 0) → ((met : Met) → HasOneText (R met)) → HasOneText (AtPath look rev path R)
 at_path_one look rev path R each a b e f (inl none) h = stopped_first a b e f none
 at_path_one look rev path R each a b e f (inr g) (inl none) = stopped_second a b e f none
 at_path_one look rev path R each a b e f (inr (inl g)) (inr (inl h)) =
@@ -165,7 +165,7 @@ at_path_one look rev path R each a b e f (inr (inr g)) (inr (inr h)) =
     let same = ok_same h.0 g.0 (met_at_one look rev path (Ok h.0) (Ok g.0) h.1 g.1) in
     each g.0 a b e f g.2 (subst (λ (met : Met). R met b f) same h.2)
 
-met_text_one : (look : Look) (ids : Bool) (path : Path) (met : Met) → HasOneText (MetText look ids path met)
+met_text_one : (look : RevisionBytes) (ids : Bool) (path : Path) (met : Met) → HasOneText (MetText look ids path met)
 met_text_one look ids path (Stands v) a b e f g h = node_one look ids 0 (last_name path) v a e g b f h
 met_text_one look ids path (Lacking names) a b e f g h = nothing_one (Refused (faults.NotFound names)) a b e f g h
 met_text_one look ids path (Blocked names) a b e f g h = nothing_one (Refused (faults.NotDir names)) a b e f g h
@@ -175,7 +175,7 @@ tree_one look rev path ids = at_path_one look rev path (MetText look ids path) (
 
 -- ---- files
 
-kind_text_one : (look : Look) (v : NodeRev) (kind : Kind) → HasOneText (KindText look v kind)
+kind_text_one : (look : RevisionBytes) (v : NodeRev) (kind : Kind) → HasOneText (KindText look v kind)
 kind_text_one look v Dir a b e f g h = nothing_one (Refused faults.NotFile) a b e f g h
 kind_text_one look v File a b e f (inl none) h = stopped_first a b e f none
 kind_text_one look v File a b e f (inr g) (inl none) = stopped_second a b e f none
@@ -186,7 +186,7 @@ kind_text_one look v File a b e f (inr (inr g)) (inr (inr h)) =
     let same = wrong_same g.0 h.0 (err_same g.0 h.0 (text_one look v (Err g.0) (Err h.0) g.1 h.1)) in
     inl (g.2.0 ∙ sym h.2.0, g.2.1 ∙ same ∙ sym h.2.1)
 
-met_file_text_one : (look : Look) (met : Met) → HasOneText (MetFileText look met)
+met_file_text_one : (look : RevisionBytes) (met : Met) → HasOneText (MetFileText look met)
 met_file_text_one look (Stands v) a b e f g h = kind_text_one look v v.kind a b e f g h
 met_file_text_one look (Lacking names) a b e f g h = nothing_one (Refused (faults.NotFound names)) a b e f g h
 met_file_text_one look (Blocked names) a b e f g h = nothing_one (Refused (faults.NotDir names)) a b e f g h

@@ -5,15 +5,15 @@ use Rattle.std.specs.FinMap.{FinMap, get}
 use Rattle.std.specs.List.{AllByRecursion}
 use Rattle.std.proofs.lemmas.Grind.{flat_map-append}
 use Rattle.fsfs_tree.specs.Trees.{IsTree}
-use Rattle.fsfs_base.specs.Paths.{Name, Path, path_cmp}
+use Rattle.fsfs_base.specs.Paths.{PathName, Path, path_cmp}
 use Rattle.fsfs_tree.specs.Nodes.{Node}
 use Rattle.fsfs_base.specs.declared.kind.Kind.TheVariants.{File, Dir}
-use Rattle.fsfs_book.specs.Told.{Look}
+use Rattle.fsfs_book.specs.Told.{RevisionBytes}
 use Rattle.fsfs_answers.specs.Answers as answers
 use Rattle.fsfs_answers.specs.Answers.{Found, found_at, last_name, kind_mark, tree_line, tree_text}
 use Rattle.fsfs_noderev.specs.declared.node_rev.NodeRev.{NodeRev}
 use Rattle.fsfs_damage.specs.declared.wrong.Wrong.{Wrong}
-use Rattle.fsfs_shows.specs.Reading.{Entry, named, EntriesOf, OfEntry, OfNamed, ChildOf, Met, Stands, Lacking, Blocked, MetFrom, MetAt, StandsAt}
+use Rattle.fsfs_shows.specs.Reading.{DirEntry, named, EntriesOf, OfEntry, OfNamed, ChildOf, Met, Stands, Lacking, Blocked, MetFrom, MetAt, StandsAt}
 use Rattle.fsfs_shows.specs.Shown.{Shows}
 use Rattle.fsfs_shows.proofs.ByTree.{by_tree}
 use Rattle.fsfs_shows.proofs.TreeLaw.{sound}
@@ -48,7 +48,7 @@ of_stopped whole more text Stopped cut h = (h.0 ++ more, ap (λ (t : List ℕ). 
 
 -- ---- names and levels
 
-last_push : (p : Path) (name : Name) → last_name (p ++ name ∷ []) ≡ name
+last_push : (p : Path) (name : PathName) → last_name (p ++ name ∷ []) ≡ name
 last_push [] name = refl
 last_push (x ∷ []) name = refl
 last_push (x ∷ y ∷ p) name = last_push (y ∷ p) name
@@ -58,7 +58,7 @@ deeper m level n deep = omega (arith, deep)
 
 -- ---- the lines of a tree
 
-module _ (look : Look) (rev : ℕ) (ids : Bool) (tree : FinMap path_cmp Node) (shown : Path → List ℕ) (shows : Shows look rev (get tree)) (shown_are : AreShownIds look rev ids shown) (top : Path) where
+module _ (look : RevisionBytes) (rev : ℕ) (ids : Bool) (tree : FinMap path_cmp Node) (shown : Path → List ℕ) (shows : Shows look rev (get tree)) (shown_are : AreShownIds look rev ids shown) (top : Path) where
   is_tree : IsTree (get tree)
   is_tree = (sound look rev (get tree) shows).is_tree
 
@@ -66,26 +66,26 @@ module _ (look : Look) (rev : ℕ) (ids : Bool) (tree : FinMap path_cmp Node) (s
   abbrev lines : Path → List ℕ
   lines p = flat_map (tree_line shown top) (block tree p)
 
-  abbrev child_lines : Path → List Entry → List ℕ
+  abbrev child_lines : Path → List DirEntry → List ℕ
   child_lines p es = flat_map (tree_line shown top) (children tree p es)
 
-  line_by_tree : (p : Path) (v : NodeRev) (n : Node) (level : ℕ) (name : Name) (line : List ℕ) → StandsAt look rev p v → n.kind ≡ v.kind → length p ≡ level + length top → name ≡ last_name p → IsLine ids level name v line → line ≡ tree_line shown top (p, n)
+  line_by_tree : (p : Path) (v : NodeRev) (n : Node) (level : ℕ) (name : PathName) (line : List ℕ) → StandsAt look rev p v → n.kind ≡ v.kind → length p ≡ level + length top → name ≡ last_name p → IsLine ids level name v line → line ≡ tree_line shown top (p, n)
   line_by_tree p v n level name line at kind deep last is =
       let depth : level ≡ length p - length top = omega (arith, deep) in
       let id = shown_id_one ids v.id is.shown_id (shown p) is.id_is (shown_are p v at) in
       is.line_is ∙ (λ i. replicate (depth i) 32 ++ last i ++ kind_mark (sym kind i) ++ id i ++ codes "\n")
 
   -- what an entry of a directory leads to stands below the directory, and nothing is wrong with it
-  record LeadsOn (p : Path) (entry : Entry) : Type 0 where
+  record LeadsOn (p : Path) (entry : DirEntry) : Type 0 where
     stands : (u : NodeRev) → OfEntry look entry (Ok u) → StandsAt look rev (p ++ entry.name ∷ []) u
     sound : (w : Wrong) → OfEntry look entry (Err w) → ⊥
 
-  file_lines : (p : Path) (v : NodeRev) (level : ℕ) (name : Name) (line : List ℕ) → StandsAt look rev p v → length p ≡ level + length top → name ≡ last_name p → IsLine ids level name v line → v.kind ≡ File → lines p ≡ line
+  file_lines : (p : Path) (v : NodeRev) (level : ℕ) (name : PathName) (line : List ℕ) → StandsAt look rev p v → length p ≡ level + length top → name ≡ last_name p → IsLine ids level name v line → v.kind ≡ File → lines p ≡ line
   file_lines p v level name line at deep last is file =
       let n = node_at look rev (get tree) shows p v at in
       ap (flat_map (tree_line shown top)) (file_block tree is_tree p n.0 n.1 (n.2.kind ∙ file)) ∙ append-nil (tree_line shown top (p, n.0)) ∙ sym (line_by_tree p v n.0 level name line at n.2.kind deep last is)
 
-  directory_lines : (p : Path) (v : NodeRev) (level : ℕ) (name : Name) (line : List ℕ) (es : List Entry) → StandsAt look rev p v → length p ≡ level + length top → name ≡ last_name p → IsLine ids level name v line → v.kind ≡ Dir
+  directory_lines : (p : Path) (v : NodeRev) (level : ℕ) (name : PathName) (line : List ℕ) (es : List DirEntry) → StandsAt look rev p v → length p ≡ level + length top → name ≡ last_name p → IsLine ids level name v line → v.kind ≡ Dir
       → EntriesOf look v (Ok es) → lines p ≡ line ++ child_lines p es
   directory_lines p v level name line es at deep last is dir of =
       let n = node_at look rev (get tree) shows p v at in
@@ -93,32 +93,32 @@ module _ (look : Look) (rev : ℕ) (ids : Bool) (tree : FinMap path_cmp Node) (s
       ap (flat_map (tree_line shown top)) (directory_block tree is_tree p n.0 es n.1 (entries_rise look v es of) by)
       ∙ ap (λ (t : List ℕ). t ++ child_lines p es) (sym (line_by_tree p v n.0 level name line at n.2.kind deep last is))
 
-  leads_on : (p : Path) (v : NodeRev) (es : List Entry) → StandsAt look rev p v → v.kind ≡ Dir → EntriesOf look v (Ok es) → AllByRecursion (LeadsOn p) es
+  leads_on : (p : Path) (v : NodeRev) (es : List DirEntry) → StandsAt look rev p v → v.kind ≡ Dir → EntriesOf look v (Ok es) → AllByRecursion (LeadsOn p) es
   leads_on p v es at dir of = all_weaker (λ e. named e.name es ≡ Some e) (LeadsOn p) es each (each_named es (entries_rise look v es of))
     where
-      each : (e : Entry) → named e.name es ≡ Some e → LeadsOn p e
+      each : (e : DirEntry) → named e.name es ≡ Some e → LeadsOn p e
       each e is = record {
-        stands = λ u leads. child_stands look rev v u p e.name at dir (es, of, subst (λ (o : Option Entry). OfNamed look o (Ok (Some u))) (sym is) leads);
+        stands = λ u leads. child_stands look rev v u p e.name at dir (es, of, subst (λ (o : Option DirEntry). OfNamed look o (Ok (Some u))) (sym is) leads);
         sound = λ w wrong. never_wrong look rev (get tree) shows (p ++ e.name ∷ []) w
             (met_behind look rev v p (e.name ∷ []) (Err w) at
-            (in_dir v.kind (length p) (ChildOf look v e.name) (λ u. MetFrom look u (suc (length p)) []) (Err w) dir (inl (inr (es, of, subst (λ (o : Option Entry). OfNamed look o (Err w)) (sym is) wrong)))));
+            (in_dir v.kind (length p) (ChildOf look v e.name) (λ u. MetFrom look u (suc (length p)) []) (Err w) dir (inl (inr (es, of, subst (λ (o : Option DirEntry). OfNamed look o (Err w)) (sym is) wrong)))));
       }
 
   mutual
-    node_lines : (level : ℕ) (name : Name) (v : NodeRev) (text : List ℕ) (end : End) → NodeText look ids level name v text end → (p : Path) → StandsAt look rev p v → length p ≡ level + length top → name ≡ last_name p → IsOf (lines p) text end
+    node_lines : (level : ℕ) (name : PathName) (v : NodeRev) (text : List ℕ) (end : End) → NodeText look ids level name v text end → (p : Path) → StandsAt look rev p v → length p ≡ level + length top → name ≡ last_name p → IsOf (lines p) text end
     node_lines _ _ _ _ _ (OfFile level name v line is file) p at deep last = sym (file_lines p v level name line at deep last is file)
     node_lines _ _ _ _ _ (OfDir level name v line es text end is dir of below) p at deep last =
         subst (λ (whole : List ℕ). IsOf whole (line ++ text) end) (sym (directory_lines p v level name line es at deep last is dir of))
         (of_behind line (child_lines p es) text end (entries_lines (suc level) es text end below p (leads_on p v es at dir of) (deeper (length p) level (length top) deep)))
     node_lines _ _ _ _ _ (OfWrongDir level name v line w is dir of) p at deep last = (by_tree look rev (get tree) shows).entries p v (Err w) at dir of
 
-    entry_lines : (level : ℕ) (entry : Entry) (text : List ℕ) (end : End) → EntryText look ids level entry text end → (p : Path) → LeadsOn p entry → suc (length p) ≡ level + length top → IsOf (lines (p ++ entry.name ∷ [])) text end
+    entry_lines : (level : ℕ) (entry : DirEntry) (text : List ℕ) (end : End) → EntryText look ids level entry text end → (p : Path) → LeadsOn p entry → suc (length p) ≡ level + length top → IsOf (lines (p ++ entry.name ∷ [])) text end
     entry_lines _ _ _ _ (OfNode level entry v text end of node) p on deep =
         node_lines level entry.name v text end node (p ++ entry.name ∷ []) (on.stands v of) (length_push p entry.name ∙ deep) (sym (last_push p entry.name))
     entry_lines _ _ _ _ (OfWrong level entry w of) p on deep = on.sound w of
     entry_lines _ _ _ _ (Stops level entry) p on deep = of_nothing (lines (p ++ entry.name ∷ []))
 
-    entries_lines : (level : ℕ) (es : List Entry) (text : List ℕ) (end : End) → EntriesText look ids level es text end → (p : Path) → AllByRecursion (LeadsOn p) es → suc (length p) ≡ level + length top → IsOf (child_lines p es) text end
+    entries_lines : (level : ℕ) (es : List DirEntry) (text : List ℕ) (end : End) → EntriesText look ids level es text end → (p : Path) → AllByRecursion (LeadsOn p) es → suc (length p) ≡ level + length top → IsOf (child_lines p es) text end
     entries_lines _ _ _ _ (OfNone level) p on deep = refl
     entries_lines _ _ _ _ (OfLast level entry es text end first cut) p on deep =
         subst (λ (whole : List ℕ). IsOf whole text end) (sym (flat_map-append (tree_line shown top) (block tree (p ++ entry.name ∷ [])) (children tree p es)))

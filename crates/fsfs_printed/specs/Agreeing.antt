@@ -1,7 +1,7 @@
 -- That a look prints one text at most.
 use Rattle.std.specs.Prelude.{◌≡◌, ◌⊎◌, ◌++◌, ℕ, Bool, List}
 use Rattle.fsfs_base.specs.Paths.{Path}
-use Rattle.fsfs_book.specs.Told.{Look}
+use Rattle.fsfs_book.specs.Told.{RevisionBytes}
 use Rattle.fsfs_printed.specs.Texts.{End, Stopped}
 use Rattle.fsfs_printed.specs.TreeTexts.{TreeText}
 use Rattle.fsfs_printed.specs.FileTexts.{FileText}
@@ -18,7 +18,7 @@ abbrev pub HasOneText : (List ℕ → End → Type 0) → Type 0
 HasOneText R = (a b : List ℕ) (e f : End) → R a e → R b f → Agree a e b f
 
 abbrev pub TreesHaveOneText : Type 0
-TreesHaveOneText = (look : Look) (rev : ℕ) (path : Path) (ids : Bool) → HasOneText (TreeText look rev path ids)
+TreesHaveOneText = (look : RevisionBytes) (rev : ℕ) (path : Path) (ids : Bool) → HasOneText (TreeText look rev path ids)
 
 abbrev pub FilesHaveOneText : Type 0
-FilesHaveOneText = (look : Look) (rev : ℕ) (path : Path) → HasOneText (FileText look rev path)
+FilesHaveOneText = (look : RevisionBytes) (rev : ℕ) (path : Path) → HasOneText (FileText look rev path)

@@ -5,7 +5,7 @@ use Rattle.fsfs_base.specs.declared.kind.Kind.{Kind}
 use Rattle.fsfs_base.specs.declared.kind.Kind.TheVariants.{File, Dir}
 use Rattle.fsfs_base.specs.Paths.{Path, path_cmp}
 use Rattle.fsfs_tree.specs.Nodes.{Node, Content, Bytes, Closed, TreeFunction}
-use Rattle.fsfs_book.specs.Told.{Look}
+use Rattle.fsfs_book.specs.Told.{RevisionBytes}
 use Rattle.fsfs_answers.specs.Answers.{Found, Stands, Lacking, Blocked, found_at, tree_text}
 use Rattle.fsfs_noderev.specs.declared.node_rev.NodeRev.{NodeRev}
 use Rattle.fsfs_damage.specs.Damages.{place_of}
@@ -48,7 +48,7 @@ IsNotDirAt path at (faults.Wrong w) = ⊥
 -- ---- a tree
 
 -- the ids that are shown are those of the node-revisions at the paths
-abbrev pub AreShownIds : Look → ℕ → Bool → (Path → List ℕ) → Type 0
+abbrev pub AreShownIds : RevisionBytes → ℕ → Bool → (Path → List ℕ) → Type 0
 AreShownIds look rev ids shown = (p : Path) (v : NodeRev) → StandsAt look rev p v → IsShownId ids v.id (shown p)
 
 abbrev pub IsTreeOf : (Path → List ℕ) → Path → FinMap path_cmp Node → Found → List ℕ → End → Type 0
@@ -57,7 +57,7 @@ IsTreeOf shown path tree (Lacking at) = IsRefusedFor (IsNotFoundAt path at)
 IsTreeOf shown path tree (Blocked at) = IsRefusedFor (IsNotDirAt path at)
 
 abbrev pub TreesAreByTree : Type 0
-TreesAreByTree = (look : Look) (rev : ℕ) (tree : FinMap path_cmp Node) (path : Path) (ids : Bool) (shown : Path → List ℕ) → Shows look rev (get tree) → AreShownIds look rev ids shown
+TreesAreByTree = (look : RevisionBytes) (rev : ℕ) (tree : FinMap path_cmp Node) (path : Path) (ids : Bool) (shown : Path → List ℕ) → Shows look rev (get tree) → AreShownIds look rev ids shown
     → (text : List ℕ) (end : End) → TreeText look rev path ids text end → IsTreeOf shown path tree (found_at (get tree) path) text end
 
 -- ---- the text of a file
@@ -73,5 +73,5 @@ IsFileOf path (Lacking at) = IsRefusedFor (IsNotFoundAt path at)
 IsFileOf path (Blocked at) = IsRefusedFor (IsNotDirAt path at)
 
 abbrev pub FilesAreByTree : Type 0
-FilesAreByTree = (look : Look) (rev : ℕ) (tree : TreeFunction) (path : Path) → Shows look rev tree
+FilesAreByTree = (look : RevisionBytes) (rev : ℕ) (tree : TreeFunction) (path : Path) → Shows look rev tree
     → (text : List ℕ) (end : End) → FileText look rev path text end → IsFileOf path (found_at tree path) text end

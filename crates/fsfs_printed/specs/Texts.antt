@@ -5,7 +5,7 @@
 -- failure stops the look, which says nothing of the bytes.
 use Rattle.std.specs.Prelude.{◌≡◌, ◌⊎◌, ℕ, List, [], Ok, Err}
 use Rattle.fsfs_base.specs.Paths.{Path}
-use Rattle.fsfs_book.specs.Told.{Look}
+use Rattle.fsfs_book.specs.Told.{RevisionBytes}
 use Rattle.fsfs_damage.specs.declared.wrong.Wrong.{Wrong}
 use Rattle.fsfs_shows.specs.Reading.{Met, MetAt}
 use Rattle.fsfs_printed.specs.declared.look_fault.LookFault.{LookFault}
@@ -21,7 +21,7 @@ abbrev pub Nothing : End → List ℕ → End → Type 0
 Nothing why text end = (text ≡ []) × (end ≡ why)
 
 -- the reading of a path, and then the text of what is met there
-abbrev pub AtPath : Look → ℕ → Path → (Met → List ℕ → End → Type 0) → List ℕ → End → Type 0
+abbrev pub AtPath : RevisionBytes → ℕ → Path → (Met → List ℕ → End → Type 0) → List ℕ → End → Type 0
 AtPath look rev path R text end =
     Nothing Stopped text end
     ⊎ (((w : Wrong) × MetAt look rev path (Err w) × Nothing (Refused (faults.Wrong w)) text end)

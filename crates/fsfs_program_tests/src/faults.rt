@@ -1,7 +1,7 @@
 //! Lines of faults as the table of the README has them.
 use fsfs_base::{BadPath, FsPath, HexDigest, PathFault, SmallFault, SmallFile};
 use fsfs_cli::WordsFault;
-use fsfs_damage::{Damage, Refusal, RepWhat, RevOffset, What, Wrong};
+use fsfs_damage::{Damage, DamageKind, Refusal, RepWhat, RevOffset, Wrong};
 use fsfs_faults::{Fault, Tool, print_fault, status};
 use fsfs_memstreams::MemSink;
 use fsfs_places::{CreateFault, DiskPlace, OpenFault};
@@ -27,7 +27,7 @@ fn bad_rep(rev: u32, offset: u64, what: RepWhat) -> Fault {
     let at = RevOffset { rev, offset };
     Fault::from(Wrong::Damaged(Damage {
         at,
-        what: What::Rep(what),
+        what: DamageKind::Rep(what),
     }))
 }
 
@@ -88,7 +88,7 @@ fn lines_of_faults(rt: HostRuntime) -> Result<(), Fail> {
         (
             Fault::Corrupt(Damage {
                 at: RevOffset { rev: 1, offset: 59 },
-                what: What::PlaceOrder,
+                what: DamageKind::PlaceOrder,
             }),
             3,
             "Corrupt 1 59 PlaceOrder",

@@ -1,6 +1,6 @@
 //! A small book of four revisions, read as code reads any book.
 use fsfs_base::{SmallFault, SmallFile};
-use fsfs_book::{Book, BookFault, Kept, MemBook, MemRev};
+use fsfs_book::{Book, BookFault, MemBook, MemFile, MemRev};
 use fsfs_damage::Refusal;
 use std::alloc::{AllocError, Global};
 use std::test::Fail;
@@ -10,8 +10,8 @@ const DAMAGED: SmallFault = SmallFault {
     at: 3,
 };
 
-fn kept(alloc: Global, bytes: &[u8]) -> Result<Kept, AllocError> {
-    Ok(Kept::Bytes(Vec::from_slice(alloc, bytes)?))
+fn kept(alloc: Global, bytes: &[u8]) -> Result<MemFile, AllocError> {
+    Ok(MemFile::Bytes(Vec::from_slice(alloc, bytes)?))
 }
 
 // Bytes and properties; no bytes; bytes that can't be found; no properties.
@@ -22,16 +22,16 @@ fn small_book(alloc: Global, failing: &[u64]) -> Result<MemBook, AllocError> {
         props: kept(alloc, b"END\n")?,
     })?;
     revs.push(MemRev {
-        bytes: Kept::Absent,
+        bytes: MemFile::Absent,
         props: kept(alloc, b"END\n")?,
     })?;
     revs.push(MemRev {
-        bytes: Kept::Damaged(DAMAGED),
+        bytes: MemFile::Damaged(DAMAGED),
         props: kept(alloc, b"END\n")?,
     })?;
     revs.push(MemRev {
         bytes: kept(alloc, b"")?,
-        props: Kept::Absent,
+        props: MemFile::Absent,
     })?;
     Ok(MemBook::with_faults(revs, Vec::from_slice(alloc, failing)?))
 }

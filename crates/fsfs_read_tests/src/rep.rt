@@ -1,6 +1,6 @@
 //! Digests of known texts, and representations of small revisions, whole and damaged.
 use fsfs_base::HexDigest;
-use fsfs_book::{BookFault, Kept, MemBook, MemRev};
+use fsfs_book::{BookFault, MemBook, MemFile, MemRev};
 use fsfs_damage::Refusal;
 use fsfs_noderev::read_rep;
 use fsfs_rep::{Digester, RepError, RepFault, RepReader, read_rep_bytes};
@@ -38,12 +38,12 @@ const DIGESTS: [(&[u8], &[u8], &[u8]); 3] = [
 fn book_of(alloc: Global, bytes: &[u8], failing: &[u64]) -> Result<MemBook, AllocError> {
     let mut revs = Vec::new(alloc);
     revs.push(MemRev {
-        bytes: Kept::Absent,
-        props: Kept::Absent,
+        bytes: MemFile::Absent,
+        props: MemFile::Absent,
     })?;
     revs.push(MemRev {
-        bytes: Kept::Bytes(Vec::from_slice(alloc, bytes)?),
-        props: Kept::Absent,
+        bytes: MemFile::Bytes(Vec::from_slice(alloc, bytes)?),
+        props: MemFile::Absent,
     })?;
     Ok(MemBook::with_faults(revs, Vec::from_slice(alloc, failing)?))
 }

@@ -1,6 +1,6 @@
 //! Revisions whose bytes are given by hand, or were written by Subversion, and books of them.
 use fsfs_base::FsPath;
-use fsfs_book::{Kept, MemBook, MemRev};
+use fsfs_book::{MemBook, MemFile, MemRev};
 use std::alloc::{AllocError, Global};
 use std::test::Fail;
 
@@ -35,8 +35,8 @@ pub(crate) const MADE_3: &[u8] =
 
 fn kept(alloc: Global, bytes: &[u8]) -> Result<MemRev, AllocError> {
     Ok(MemRev {
-        bytes: Kept::Bytes(Vec::from_slice(alloc, bytes)?),
-        props: Kept::Absent,
+        bytes: MemFile::Bytes(Vec::from_slice(alloc, bytes)?),
+        props: MemFile::Absent,
     })
 }
 

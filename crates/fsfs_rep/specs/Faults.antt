@@ -1,7 +1,7 @@
 -- What the readers of a representation answer where they have no bytes, or where they do not know the bytes.
 use Rattle.std.specs.Prelude.{◌≡◌, ◌≢◌, ℕ, Some}
-use Rattle.fsfs_damage.specs.declared.damage.What.{What}
-use Rattle.fsfs_damage.specs.declared.damage.What.TheVariants as what
+use Rattle.fsfs_damage.specs.declared.damage.DamageKind.{DamageKind}
+use Rattle.fsfs_damage.specs.declared.damage.DamageKind.TheVariants as what
 use Rattle.fsfs_damage.specs.declared.damage.RepWhat.TheVariants as repwhat
 use Rattle.fsfs_damage.specs.declared.wrong.Refusal.{Refusal}
 use Rattle.fsfs_damage.specs.declared.wrong.Wrong.{Wrong}
@@ -23,7 +23,7 @@ IsRefusedRev rev (wrongs.Refused refusal) = IsRefusalOf rev refusal
 IsRefusedRev rev w = ⊥
 
 -- the values that damage carries are the representation's, and what was found differs
-abbrev pub CarriesValues : Rep → What → Type 0
+abbrev pub CarriesValues : Rep → DamageKind → Type 0
 CarriesValues rep (what.Rep (repwhat.Size kept found)) = (kept ≡ rep.size) × (found ≡ rep.length) × (kept ≢ found)
 CarriesValues rep (what.Rep (repwhat.Md5 kept found)) = (kept ≡ rep.md5) × (kept.bytes ≢ found.bytes)
 CarriesValues rep (what.Rep (repwhat.Sha1 kept found)) = ((u : Uniquifier) × (rep.unique ≡ Some u) × (kept ≡ u.sha1)) × (kept.bytes ≢ found.bytes)

@@ -5,7 +5,7 @@ use Rattle.sha1.specs.Sha1.{sha1}
 use Rattle.fsfs_damage.specs.declared.damage.RevOffset.{RevOffset}
 use Rattle.fsfs_damage.specs.declared.damage.RepWhat.{RepWhat}
 use Rattle.fsfs_damage.specs.declared.damage.RepWhat.TheVariants as repwhat
-use Rattle.fsfs_damage.specs.declared.damage.What.TheVariants as what
+use Rattle.fsfs_damage.specs.declared.damage.DamageKind.TheVariants as what
 use Rattle.fsfs_damage.specs.declared.wrong.Wrong.{Wrong}
 use Rattle.fsfs_damage.specs.declared.wrong.Wrong.TheVariants as wrongs
 use Rattle.fsfs_damage.specs.declared.wrong.ReadError.{ReadError}

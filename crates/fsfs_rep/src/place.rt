@@ -3,7 +3,7 @@ ghost use Rattle.std.specs.Prelude.{◌≡◌};
 ghost use Rattle.fsfs_damage.specs.declared.wrong.ReadError.TheVariants.{Wrong};
 ghost use Rattle.fsfs_rep.specs.Frames.{rep_place, bad_rep as bad};
 
-use fsfs_damage::{ReadError, RepWhat, RevOffset, What};
+use fsfs_damage::{DamageKind, ReadError, RepWhat, RevOffset};
 use fsfs_noderev::Rep;
 
 /// Where the header of a representation of a committed revision is to begin: a revision and a byte of it.
@@ -20,5 +20,5 @@ pub fn rep_place(rep: &Rep) -> RevOffset
 pub fn bad_rep(rep: &Rep, what: RepWhat) -> ReadError
     ensures { result ≡ Wrong (bad rep.now what) }
 {
-    ReadError::damaged(rep_place(rep), What::Rep(what))
+    ReadError::damaged(rep_place(rep), DamageKind::Rep(what))
 }

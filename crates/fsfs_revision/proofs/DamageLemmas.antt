@@ -3,7 +3,7 @@ use Rattle.std.proofs.Common.{◌≡◌, ℕ, Bool, true, false, List, length, t
 use Rattle.std.specs.Prelude.{Result, Ok, Err, Option, Some}
 use Rattle.std.proofs.lemmas.Bool.{and_parts}
 use Rattle.fsfs_damage.specs.declared.damage.RevOffset.{RevOffset}
-use Rattle.fsfs_damage.specs.declared.damage.What.TheVariants as what
+use Rattle.fsfs_damage.specs.declared.damage.DamageKind.TheVariants as what
 use Rattle.fsfs_damage.specs.declared.wrong.Wrong.{Wrong}
 use Rattle.fsfs_damage.specs.declared.wrong.ReadError.{ReadError}
 use Rattle.fsfs_damage.specs.declared.wrong.ReadError.TheVariants as errors

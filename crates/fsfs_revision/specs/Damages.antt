@@ -2,7 +2,7 @@
 -- project's profile.)
 use Rattle.std.specs.Prelude.{◌≡◌, ℕ, true, List, [], ◌∷◌, length, drop, Result}
 use Rattle.fsfs_damage.specs.declared.damage.RevOffset.{RevOffset}
-use Rattle.fsfs_damage.specs.declared.damage.What.TheVariants as what
+use Rattle.fsfs_damage.specs.declared.damage.DamageKind.TheVariants as what
 use Rattle.fsfs_damage.specs.declared.wrong.Wrong.{Wrong}
 use Rattle.fsfs_damage.specs.Checks.{Check, must, Judged}
 use Rattle.fsfs_damage.specs.Damages.{place_of, damaged}

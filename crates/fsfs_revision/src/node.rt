@@ -5,7 +5,7 @@ ghost use Rattle.fsfs_damage.specs.Causes.{IsQuiet};
 ghost use Rattle.fsfs_damage.specs.Readings.{Answers};
 ghost use Rattle.fsfs_revision.specs.Damages.{NodeIn};
 
-use fsfs_damage::{ReadError, RevOffset, What};
+use fsfs_damage::{DamageKind, ReadError, RevOffset};
 use fsfs_noderev::{
     Contents, CopyRoot, CopySource, NodeError, NodeId, NodeRev, Part, Place, read_noderev,
 };
@@ -144,13 +144,13 @@ pub fn read_node_at(alloc: Global, at: RevOffset, bytes: &[u8]) -> Result<NodeRe
 {
     match read_noderev(alloc, bytes) {
         Err(NodeError::OutOfMemory) => Err(ReadError::OutOfMemory),
-        Err(NodeError::Fault(_)) => Err(ReadError::damaged(at, What::NodeRev)),
+        Err(NodeError::Fault(_)) => Err(ReadError::damaged(at, DamageKind::NodeRev)),
         Ok(node) => {
             if !is_of_revision(&node) {
-                return Err(ReadError::damaged(at, What::NodeRev));
+                return Err(ReadError::damaged(at, DamageKind::NodeRev));
             }
             if !is_ordered(at, &node) {
-                return Err(ReadError::damaged(at, What::PlaceOrder));
+                return Err(ReadError::damaged(at, DamageKind::PlaceOrder));
             }
             Ok(node)
         }

@@ -8,7 +8,7 @@ ghost use Rattle.fsfs_revision.specs.Damages.{AsRoot, RootIn};
 use crate::node::read_node_at;
 use crate::trailer::read_trailer;
 use fsfs_base::Kind;
-use fsfs_damage::{ReadError, RevOffset, What};
+use fsfs_damage::{DamageKind, ReadError, RevOffset};
 use fsfs_noderev::{NodeId, NodeRev, Place};
 use std::alloc::Global;
 
@@ -28,10 +28,10 @@ pub fn as_root(at: RevOffset, node: NodeRev) -> Result<NodeRev, ReadError>
     ensures quiet { IsQuiet result }
 {
     if !is_own_place(at, &node.id) {
-        return Err(ReadError::damaged(at, What::OtherId));
+        return Err(ReadError::damaged(at, DamageKind::OtherId));
     }
     match node.kind {
-        Kind::File => Err(ReadError::damaged(at, What::EntryKind)),
+        Kind::File => Err(ReadError::damaged(at, DamageKind::EntryKind)),
         Kind::Dir => Ok(node),
     }
 }
@@ -57,7 +57,7 @@ pub fn read_root(alloc: Global, rev: u32, bytes: &[u8]) -> Result<NodeRev, ReadE
             rev,
             offset: bytes.len() as u64,
         };
-        return Err(ReadError::damaged(end, What::Trailer));
+        return Err(ReadError::damaged(end, DamageKind::Trailer));
     };
     let at = RevOffset {
         rev,

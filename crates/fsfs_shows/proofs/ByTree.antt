@@ -2,16 +2,16 @@
 use Rattle.std.proofs.Common.{◌≡◌, ℕ, suc, ◌+◌, List, [], ◌∷◌, ◌++◌, length, take, refl, sym, ap, subst, ◌∙◌, inl, inr, arith, append_assoc}
 use Rattle.std.proofs.lemmas.List.{length-append}
 use Rattle.std.specs.Prelude.{Result, Ok, Err, Option, Some, None, IsSomeAnd}
-use Rattle.fsfs_base.specs.Paths.{Name, Path}
+use Rattle.fsfs_base.specs.Paths.{PathName, Path}
 use Rattle.fsfs_tree.specs.Nodes.{Node, Content, Bytes, Closed, TreeFunction}
 use Rattle.fsfs_base.specs.declared.kind.Kind.{Kind}
 use Rattle.fsfs_base.specs.declared.kind.Kind.TheVariants.{File, Dir}
-use Rattle.fsfs_book.specs.Told.{Look}
+use Rattle.fsfs_book.specs.Told.{RevisionBytes}
 use Rattle.fsfs_noderev.specs.declared.node_rev.NodeRev.{NodeRev}
 use Rattle.fsfs_damage.specs.Damages.{place_of}
 use Rattle.fsfs_damage.specs.declared.wrong.Wrong.{Wrong}
 use Rattle.fsfs_damage.specs.declared.wrong.Wrong.TheVariants as wrongs
-use Rattle.fsfs_shows.specs.Reading.{Entry, named, TextOf, PropsOf, EntriesOf, OfNamed, ChildOf, Met, Stands, Lacking, Blocked, OrLacking, InDirectory, MetFrom, MetAt, StandsAt}
+use Rattle.fsfs_shows.specs.Reading.{DirEntry, named, TextOf, PropsOf, EntriesOf, OfNamed, ChildOf, Met, Stands, Lacking, Blocked, OrLacking, InDirectory, MetFrom, MetAt, StandsAt}
 use Rattle.fsfs_shows.specs.Shown.{IsTextOf, IsShown, IsShownAs, Shows}
 use Rattle.fsfs_shows.specs.ByTree.{LacksAt, IsBlockedAt, IsMetByTree, IsEntryByTree, AreEntriesByTree, IsTextByTree, IsReadByTree}
 use Rattle.fsfs_damage.proofs.OneAnswer.{ok_same}
@@ -23,21 +23,21 @@ use Rattle.fsfs_shows.proofs.Walks.{met_behind, in_dir, child_stands, take_front
 -- ---- going on from where a node-revision stands
 
 -- what is met further on is met from there
-after_child : (look : Look) (a v : NodeRev) (name : Name) (depth : ℕ) (S T U : NodeRev → Result Met Wrong → Type 0) (r : Result Met Wrong) (o q : Option NodeRev)
+after_child : (look : RevisionBytes) (a v : NodeRev) (name : PathName) (depth : ℕ) (S T U : NodeRev → Result Met Wrong → Type 0) (r : Result Met Wrong) (o q : Option NodeRev)
     → ChildOf look a name (Ok o) → OrLacking (suc depth) S o (Ok (Stands v)) → ChildOf look a name (Ok q) → OrLacking (suc depth) T q r → ((u : NodeRev) → S u (Ok (Stands v)) → T u r → U v r) → U v r
 after_child look a v name depth S T U r None q c on d also f = absurd cc
 after_child look a v name depth S T U r (Some u) q c on d also f =
     let same : q ≡ Some u = ok_same q (Some u) (child_one look a name (Ok q) (Ok (Some u)) d c) in
     f u on (subst (λ (x : Option NodeRev). OrLacking (suc depth) T x r) same also)
 
-after_directory : (look : Look) (a v : NodeRev) (name : Name) (kind : Kind) (depth : ℕ) (S T U : NodeRev → Result Met Wrong → Type 0) (r : Result Met Wrong)
+after_directory : (look : RevisionBytes) (a v : NodeRev) (name : PathName) (kind : Kind) (depth : ℕ) (S T U : NodeRev → Result Met Wrong → Type 0) (r : Result Met Wrong)
     → InDirectory kind depth (ChildOf look a name) S (Ok (Stands v)) → InDirectory kind depth (ChildOf look a name) T r → ((u : NodeRev) → S u (Ok (Stands v)) → T u r → U v r) → U v r
 after_directory look a v name File depth S T U r on also f = absurd cc
 after_directory look a v name Dir depth S T U (Ok m) on also f = after_child look a v name depth S T U (Ok m) on.0 also.0 on.1 on.2 also.1 also.2 f
 after_directory look a v name Dir depth S T U (Err w) on (inl none) f = let e = child_one look a name (Ok on.0) (Err w) on.1 none in absurd cc
 after_directory look a v name Dir depth S T U (Err w) on (inr also) f = after_child look a v name depth S T U (Err w) on.0 also.0 on.1 on.2 also.1 also.2 f
 
-met_after : (look : Look) (a v : NodeRev) (depth : ℕ) (front rest : Path) (r : Result Met Wrong) → MetFrom look a depth front (Ok (Stands v)) → MetFrom look a depth (front ++ rest) r → MetFrom look v (depth + length front) rest r
+met_after : (look : RevisionBytes) (a v : NodeRev) (depth : ℕ) (front rest : Path) (r : Result Met Wrong) → MetFrom look a depth front (Ok (Stands v)) → MetFrom look a depth (front ++ rest) r → MetFrom look v (depth + length front) rest r
 met_after look a v depth [] rest r at all =
     let same : a ≡ v = cc in
     subst (λ (n : ℕ). MetFrom look v n rest r) (omega arith) (subst (λ (x : NodeRev). MetFrom look x depth rest r) same all)
@@ -45,7 +45,7 @@ met_after look a v depth (name ∷ front) rest r at all =
     after_directory look a v name a.kind depth (λ w. MetFrom look w (suc depth) front) (λ w. MetFrom look w (suc depth) (front ++ rest)) (λ x s. MetFrom look x (depth + length (name ∷ front)) rest s) r at all
     (λ u on also. subst (λ (n : ℕ). MetFrom look v n rest r) (omega arith) (met_after look u v (suc depth) front rest r on also))
 
-root_same : (look : Look) (rev : ℕ) (v : NodeRev) (front rest : Path) (m : Met) → StandsAt look rev front v → MetAt look rev (front ++ rest) (Ok m) → MetFrom look v (length front) rest (Ok m)
+root_same : (look : RevisionBytes) (rev : ℕ) (v : NodeRev) (front rest : Path) (m : Met) → StandsAt look rev front v → MetAt look rev (front ++ rest) (Ok m) → MetFrom look v (length front) rest (Ok m)
 root_same look rev v front rest m at all =
     let roots = root_of_one look rev (Ok all.0) (Ok at.0) all.1 at.1 in
     let same = ok_same all.0 at.0 roots in
@@ -54,9 +54,9 @@ root_same look rev v front rest m at all =
 -- ---- where a walk stops
 
 -- a directory stands above, and nothing below it
-record StopsAtNothing (look : Look) (rev : ℕ) (p : Path) (depth : ℕ) : Type 0 where
+record StopsAtNothing (look : RevisionBytes) (rev : ℕ) (p : Path) (depth : ℕ) : Type 0 where
   above : Path
-  name : Name
+  name : PathName
   rest : Path
   parts : p ≡ above ++ name ∷ rest
   depth_is : depth ≡ suc (length above)
@@ -66,9 +66,9 @@ record StopsAtNothing (look : Look) (rev : ℕ) (p : Path) (depth : ℕ) : Type 
   lacking : MetAt look rev (above ++ name ∷ []) (Ok (Lacking depth))
 
 -- a file stands above, and names follow
-record StopsAtFile (look : Look) (rev : ℕ) (p : Path) (depth : ℕ) : Type 0 where
+record StopsAtFile (look : RevisionBytes) (rev : ℕ) (p : Path) (depth : ℕ) : Type 0 where
   above : Path
-  name : Name
+  name : PathName
   rest : Path
   parts : p ≡ above ++ name ∷ rest
   depth_is : depth ≡ length above
@@ -76,26 +76,26 @@ record StopsAtFile (look : Look) (rev : ℕ) (p : Path) (depth : ℕ) : Type 0 w
   stands : StandsAt look rev above file
   kind : file.kind ≡ File
 
-abbrev Stops : Look → ℕ → Path → Met → Type 0
+abbrev Stops : RevisionBytes → ℕ → Path → Met → Type 0
 Stops look rev p (Stands v) = Unit {0}
 Stops look rev p (Lacking depth) = StopsAtNothing look rev p depth
 Stops look rev p (Blocked depth) = StopsAtFile look rev p depth
 
-module _ (look : Look) (rev : ℕ) where
-  abbrev FurtherOn : Path → Name → Path → Met → Type 0
+module _ (look : RevisionBytes) (rev : ℕ) where
+  abbrev FurtherOn : Path → PathName → Path → Met → Type 0
   FurtherOn front name names m = (u : NodeRev) → StandsAt look rev (front ++ name ∷ []) u → MetFrom look u (length (front ++ name ∷ [])) names (Ok m) → Stops look rev ((front ++ name ∷ []) ++ names) m
 
-  length_push : (f : Path) (name : Name) → length (f ++ name ∷ []) ≡ suc (length f)
+  length_push : (f : Path) (name : PathName) → length (f ++ name ∷ []) ≡ suc (length f)
   length_push [] name = refl
   length_push (x ∷ f) name = ap suc (length_push f name)
 
-  further : (front : Path) (name : Name) (names : Path) (v : NodeRev) (m : Met) (u : NodeRev) → StandsAt look rev front v → v.kind ≡ Dir → FurtherOn front name names m → ChildOf look v name (Ok (Some u))
+  further : (front : Path) (name : PathName) (names : Path) (v : NodeRev) (m : Met) (u : NodeRev) → StandsAt look rev front v → v.kind ≡ Dir → FurtherOn front name names m → ChildOf look v name (Ok (Some u))
       → MetFrom look u (suc (length front)) names (Ok m) → Stops look rev (front ++ name ∷ names) m
   further front name names v m u at is next child on =
       subst (λ (p : Path). Stops look rev p m) (append_assoc front (name ∷ []) names)
       (next u (child_stands look rev v u front name at is child) (subst (λ (n : ℕ). MetFrom look u n names (Ok m)) (sym (length_push front name)) on))
 
-  stops_below : (front : Path) (name : Name) (names : Path) (v : NodeRev) (m : Met) (o : Option NodeRev) → StandsAt look rev front v → v.kind ≡ Dir → FurtherOn front name names m → ChildOf look v name (Ok o)
+  stops_below : (front : Path) (name : PathName) (names : Path) (v : NodeRev) (m : Met) (o : Option NodeRev) → StandsAt look rev front v → v.kind ≡ Dir → FurtherOn front name names m → ChildOf look v name (Ok o)
       → OrLacking (suc (length front)) (λ u. MetFrom look u (suc (length front)) names) o (Ok m) → Stops look rev (front ++ name ∷ names) m
   stops_below front name names v (Stands w) o at is next child on = tt
   stops_below front name names v (Lacking depth) None at is next child on =
@@ -115,7 +115,7 @@ module _ (look : Look) (rev : ℕ) where
   stops_below front name names v (Lacking depth) (Some u) at is next child on = further front name names v (Lacking depth) u at is next child on
   stops_below front name names v (Blocked depth) (Some u) at is next child on = further front name names v (Blocked depth) u at is next child on
 
-  stops_in : (front : Path) (name : Name) (names : Path) (v : NodeRev) (kind : Kind) (m : Met) → StandsAt look rev front v → v.kind ≡ kind → FurtherOn front name names m
+  stops_in : (front : Path) (name : PathName) (names : Path) (v : NodeRev) (kind : Kind) (m : Met) → StandsAt look rev front v → v.kind ≡ kind → FurtherOn front name names m
       → InDirectory kind (length front) (ChildOf look v name) (λ u. MetFrom look u (suc (length front)) names) (Ok m) → Stops look rev (front ++ name ∷ names) m
   stops_in front name names v File (Stands w) at is next h = tt
   stops_in front name names v File (Lacking depth) at is next h = absurd cc
@@ -133,7 +133,7 @@ module _ (look : Look) (rev : ℕ) where
 
 -- ---- by the tree
 
-module _ (look : Look) (rev : ℕ) (tree : TreeFunction) (shows : Shows look rev tree) where
+module _ (look : RevisionBytes) (rev : ℕ) (tree : TreeFunction) (shows : Shows look rev tree) where
   shown_there : (p : Path) (m : Met) → MetAt look rev p (Ok m) → IsShownAs look rev p m (tree p)
   shown_there p m at =
       let w = shows.each p in
@@ -185,14 +185,14 @@ module _ (look : Look) (rev : ℕ) (tree : TreeFunction) (shows : Shows look rev
   -- ---- entries
 
   -- the child that is met below a directory
-  child_there : (p : Path) (v : NodeRev) (name : Name) → StandsAt look rev p v → v.kind ≡ Dir → (o : Option NodeRev) × ChildOf look v name (Ok o)
+  child_there : (p : Path) (v : NodeRev) (name : PathName) → StandsAt look rev p v → v.kind ≡ Dir → (o : Option NodeRev) × ChildOf look v name (Ok o)
   child_there p v name at is =
       let s = shows.each (p ++ name ∷ []) in
       let on = root_same look rev v p (name ∷ []) s.0 at s.1 in
       let d = subst (λ (k : Kind). InDirectory k (length p) (ChildOf look v name) (λ w. MetFrom look w (suc (length p)) []) (Ok s.0)) is on in
       (d.0, d.1)
 
-  none_there : (p : Path) (v : NodeRev) (name : Name) → StandsAt look rev p v → v.kind ≡ Dir → ChildOf look v name (Ok None) → tree (p ++ name ∷ []) ≡ None
+  none_there : (p : Path) (v : NodeRev) (name : PathName) → StandsAt look rev p v → v.kind ≡ Dir → ChildOf look v name (Ok None) → tree (p ++ name ∷ []) ≡ None
   none_there p v name at is child =
       shown_there (p ++ name ∷ []) (Lacking (suc (length p)))
       (met_behind look rev v p (name ∷ []) (Ok (Lacking (suc (length p)))) at (in_dir v.kind (length p) (ChildOf look v name) (λ w. MetFrom look w (suc (length p)) []) (Ok (Lacking (suc (length p)))) is (None, child, refl)))
@@ -200,18 +200,18 @@ module _ (look : Look) (rev : ℕ) (tree : TreeFunction) (shows : Shows look rev
   some_kind : (o : Option Node) (n : Node) (kind : Kind) → o ≡ Some n → n.kind ≡ kind → IsSomeAnd o (λ x. x.kind ≡ kind)
   some_kind o n kind is k = subst (λ (x : Option Node). IsSomeAnd x (λ y. y.kind ≡ kind)) (sym is) k
 
-  entry_by : (p : Path) (v : NodeRev) (name : Name) (e o : Option Entry) (child : Option NodeRev) → StandsAt look rev p v → v.kind ≡ Dir → ChildOf look v name (Ok child) → OfNamed look e (Ok child) → IsEntryByTree e (tree (p ++ name ∷ []))
+  entry_by : (p : Path) (v : NodeRev) (name : PathName) (e o : Option DirEntry) (child : Option NodeRev) → StandsAt look rev p v → v.kind ≡ Dir → ChildOf look v name (Ok child) → OfNamed look e (Ok child) → IsEntryByTree e (tree (p ++ name ∷ []))
   entry_by p v name None o child at is found of = none_there p v name at is (subst (λ (c : Option NodeRev). ChildOf look v name (Ok c)) (let h : child ≡ None = cc in h) found)
   entry_by p v name (Some entry) o None at is found of = absurd of
   entry_by p v name (Some entry) o (Some u) at is found of =
       let n = is_there (p ++ name ∷ []) u (child_stands look rev v u p name at is found) in
       some_kind (tree (p ++ name ∷ [])) n.0 entry.kind n.1 (n.2.kind ∙ (λ i. (of.2.0 i).kind) ∙ of.2.1)
 
-  entries_by_tree : (p : Path) (v : NodeRev) (read : Result (List Entry) Wrong) → StandsAt look rev p v → v.kind ≡ Dir → EntriesOf look v read → AreEntriesByTree tree p read
+  entries_by_tree : (p : Path) (v : NodeRev) (read : Result (List DirEntry) Wrong) → StandsAt look rev p v → v.kind ≡ Dir → EntriesOf look v read → AreEntriesByTree tree p read
   entries_by_tree p v (Ok entries) at is of = λ name.
       let c = child_there p v name at is in
       let same = ok_same c.1.0 entries (entries_one look v (Ok c.1.0) (Ok entries) c.1.1 of) in
-      entry_by p v name (named name entries) None c.0 at is c.1 (subst (λ (es : List Entry). OfNamed look (named name es) (Ok c.0)) same c.1.2)
+      entry_by p v name (named name entries) None c.0 at is c.1 (subst (λ (es : List DirEntry). OfNamed look (named name es) (Ok c.0)) same c.1.2)
   entries_by_tree p v (Err w) at is of =
       let c = child_there p v [] at is in
       let e = entries_one look v (Ok c.1.0) (Err w) c.1.1 of in

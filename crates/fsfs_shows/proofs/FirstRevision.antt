@@ -11,10 +11,10 @@ use Rattle.fsfs_grammar.specs.Numeral.{IsNumeral, value_after, numeral_at, plain
 use Rattle.fsfs_grammar.specs.Cuts.{Lacks}
 use Rattle.fsfs_grammar.specs.declared.base36.B36.{B36}
 use Rattle.fsfs_grammar.proofs.Readers.{all_found}
-use Rattle.fsfs_base.specs.Paths.{Name, Path}
+use Rattle.fsfs_base.specs.Paths.{PathName, Path}
 use Rattle.fsfs_tree.specs.Nodes.{empty_node}
 use Rattle.fsfs_base.specs.declared.kind.Kind.TheVariants.{Dir}
-use Rattle.fsfs_book.specs.Told.{Look}
+use Rattle.fsfs_book.specs.Told.{RevisionBytes}
 use Rattle.fsfs_hash.specs.Dump.{IsDump}
 use Rattle.fsfs_noderev.specs.Ids.{id_at, part_at, place_at, IsNumber64, part_value, Old}
 use Rattle.fsfs_noderev.specs.Reps.{contents_at, rep_at, digests_at, digest_at}
@@ -182,23 +182,23 @@ no_pairs = record { inner = []; inner_is = (tt, refl); value_is = refl }
 
 -- ---- what is shown
 
-module _ (look : Look) (is : look 0 ≡ Ok first_bytes) where
+module _ (look : RevisionBytes) (is : look 0 ≡ Ok first_bytes) where
   pub root_stands : StandsAt look 0 [] root
   root_stands = (root, (first_bytes, is, root_there), refl)
 
   no_entries : EntriesOf look root (Ok [])
   no_entries = ([], (codes "END\n", (first_bytes, is, (refl, rep_whole)), no_pairs), tt)
 
-  no_child : (name : Name) → ChildOf look root name (Ok None)
+  no_child : (name : PathName) → ChildOf look root name (Ok None)
   no_child name = ([], no_entries, refl)
 
-  none_below : (name : Name) (names : Path) → MetAt look 0 (name ∷ names) (Ok (Lacking 1))
+  none_below : (name : PathName) (names : Path) → MetAt look 0 (name ∷ names) (Ok (Lacking 1))
   none_below name names = (root, (first_bytes, is, root_there), (None, no_child name, refl))
 
   pub only_root : (q : NodeRev) → StandsAt look 0 [] q → q ≡ root
   only_root q at = stands_same look 0 [] q root at root_stands
 
-  pub nothing_below : (name : Name) (names : Path) (q : NodeRev) → StandsAt look 0 (name ∷ names) q → ⊥
+  pub nothing_below : (name : PathName) (names : Path) (q : NodeRev) → StandsAt look 0 (name ∷ names) q → ⊥
   nothing_below name names q at = let e = met_same look 0 (name ∷ names) (Stands q) (Lacking 1) at (none_below name names) in absurd cc
 
   copied : IsCopiedIn look 0 [] 0
@@ -249,7 +249,7 @@ module _ (look : Look) (is : look 0 ≡ Ok first_bytes) where
   no_copy : (v : NodeRev) (from : CopySource) → v ≡ root → v.copy_from ≡ Some from → ⊥
   no_copy v from e w = let f = ap (λ (x : NodeRev). x.copy_from) e in let g = sym f ∙ w in absurd cc
 
-  no_children : (r : ℕ) (p : Path) (name : Name) (dir v : NodeRev) → IsChild look 0 r p name dir v → ⊥
+  no_children : (r : ℕ) (p : Path) (name : PathName) (dir v : NodeRev) → IsChild look 0 r p name dir v → ⊥
   no_children r p name dir v w = by r p w.up_to w.there
     where
       by : (r : ℕ) (p : Path) → r ≤ 0 → StandsAt look r (p ++ name ∷ []) v → ⊥

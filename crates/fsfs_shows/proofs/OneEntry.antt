@@ -7,14 +7,14 @@ use Rattle.fsfs_damage.specs.declared.damage.RevOffset.{RevOffset}
 use Rattle.fsfs_damage.specs.declared.wrong.Wrong.{Wrong}
 use Rattle.fsfs_damage.specs.Readings.{HasOneAnswer}
 use Rattle.fsfs_damage.proofs.OneAnswer.{ok_ap, ok_no_err, err_ap, err_same, and_then_one, judged_one}
-use Rattle.fsfs_book.specs.Told.{Look}
+use Rattle.fsfs_book.specs.Told.{RevisionBytes}
 use Rattle.fsfs_noderev.specs.Fields.{IsIdText}
 use Rattle.fsfs_noderev.specs.declared.node_id.NodeId.{NodeId}
 use Rattle.fsfs_noderev.specs.declared.rep.Rep.{Rep}
 use Rattle.fsfs_noderev.specs.declared.node_rev.NodeRev.{NodeRev}
 use Rattle.fsfs_noderev.proofs.FieldTexts.{id_one}
 use Rattle.fsfs_rep.proofs.HeaderLemmas.{head_same}
-use Rattle.fsfs_shows.specs.Reading.{Pairs, PairsAt, Entry, kind_word, IsEntryName, IsEntryValue, IsEntry, pair_checks, EntryIn, AreEntries, FirstPairFails, EntriesIn, EntriesAt, EntriesOf, offset_of}
+use Rattle.fsfs_shows.specs.Reading.{Pairs, PairsAt, DirEntry, kind_word, IsEntryName, IsEntryValue, IsEntry, pair_checks, EntryIn, AreEntries, FirstPairFails, EntriesIn, EntriesAt, EntriesOf, offset_of}
 use Rattle.fsfs_shows.proofs.OneStep.{contents_one}
 use Rattle.fsfs_shows.proofs.OneRep.{pairs_at_one}
 
@@ -29,7 +29,7 @@ value_one text k l a b v w =
     let same = word_one k l v.id_text w.id_text (sym v.parts ∙ w.parts) in
     (same.0, id_one v.id_text a b v.id_is (subst (λ (t : List ℕ). IsIdText t b) (sym same.1) w.id_is))
 
-pub entry_one : (home : RevOffset) (pair : List ℕ × List ℕ) (a b : Entry) → IsEntry home pair a → IsEntry home pair b → a ≡ b
+pub entry_one : (home : RevOffset) (pair : List ℕ × List ℕ) (a b : DirEntry) → IsEntry home pair a → IsEntry home pair b → a ≡ b
 entry_one home pair a b v w =
     let same = value_one pair.1 a.kind b.kind a.id b.id v.value_is w.value_is in
     let name = sym v.name ∙ w.name in
@@ -40,10 +40,10 @@ entry_in_one home rep pair = judged_one (IsEntry home pair) (pair_checks home re
     (λ e v. (subst IsEntryName (sym v.name) v.name_is, ((e.kind, e.id, v.value_is), ((e, v), tt))))
 
 module _ (home : RevOffset) (rep : Rep) where
-  entry_or_row : (pair : List ℕ × List ℕ) (e : Entry) (w : Wrong) → IsEntry home pair e → EntryIn home rep pair (Err w) → ⊥
+  entry_or_row : (pair : List ℕ × List ℕ) (e : DirEntry) (w : Wrong) → IsEntry home pair e → EntryIn home rep pair (Err w) → ⊥
   entry_or_row pair e w v row = ok_no_err e w (entry_in_one home rep pair (Ok e) (Err w) v row)
 
-  entries_same : (pairs : Pairs) (a b : List Entry) → AreEntries home pairs a → AreEntries home pairs b → a ≡ b
+  entries_same : (pairs : Pairs) (a b : List DirEntry) → AreEntries home pairs a → AreEntries home pairs b → a ≡ b
   entries_same [] [] [] v w = refl
   entries_same [] [] (e ∷ b) v w = absurd w
   entries_same [] (e ∷ a) b v w = absurd v
@@ -54,7 +54,7 @@ module _ (home : RevOffset) (rep : Rep) where
       let rest = entries_same pairs a b v.1 w.1 in
       λ i. head i ∷ rest i
 
-  entries_or_row : (pairs : Pairs) (a : List Entry) (w : Wrong) → AreEntries home pairs a → FirstPairFails home rep pairs w → ⊥
+  entries_or_row : (pairs : Pairs) (a : List DirEntry) (w : Wrong) → AreEntries home pairs a → FirstPairFails home rep pairs w → ⊥
   entries_or_row [] a w v row = row
   entries_or_row (p ∷ pairs) [] w v row = v
   entries_or_row (p ∷ pairs) (e ∷ a) w v (inl row) = entry_or_row p e w v.0 row
@@ -62,7 +62,7 @@ module _ (home : RevOffset) (rep : Rep) where
 
   first_rows_agree : (pairs : Pairs) (v w : Wrong) → FirstPairFails home rep pairs v → FirstPairFails home rep pairs w → v ≡ w
   first_rows_agree [] v w a b = absurd a
-  first_rows_agree (p ∷ pairs) v w (inl a) (inl b) = err_same {X = Entry} v w (entry_in_one home rep p (Err v) (Err w) a b)
+  first_rows_agree (p ∷ pairs) v w (inl a) (inl b) = err_same {X = DirEntry} v w (entry_in_one home rep p (Err v) (Err w) a b)
   first_rows_agree (p ∷ pairs) v w (inl a) (inr b) = absurd (entry_or_row p b.0 v b.1 a)
   first_rows_agree (p ∷ pairs) v w (inr a) (inl b) = absurd (entry_or_row p a.0 w a.1 b)
   first_rows_agree (p ∷ pairs) v w (inr a) (inr b) = first_rows_agree pairs v w a.2 b.2
@@ -73,8 +73,8 @@ module _ (home : RevOffset) (rep : Rep) where
   entries_in_one pairs (Err w) (Ok a) h g = absurd (entries_or_row pairs a w g h)
   entries_in_one pairs (Err v) (Err w) g h = err_ap v w (first_rows_agree pairs v w g h)
 
-pub entries_at_one : (look : Look) (home : RevOffset) (rep : Rep) → HasOneAnswer (EntriesAt look home rep)
+pub entries_at_one : (look : RevisionBytes) (home : RevOffset) (rep : Rep) → HasOneAnswer (EntriesAt look home rep)
 entries_at_one look home rep = and_then_one (PairsAt look rep) (EntriesIn home rep) (pairs_at_one look rep) (entries_in_one home rep)
 
-pub entries_one : (look : Look) (v : NodeRev) → HasOneAnswer (EntriesOf look v)
+pub entries_one : (look : RevisionBytes) (v : NodeRev) → HasOneAnswer (EntriesOf look v)
 entries_one look v = contents_one [] (EntriesAt look (offset_of v.id.place)) (entries_at_one look (offset_of v.id.place)) v.text

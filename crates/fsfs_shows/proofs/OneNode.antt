@@ -6,7 +6,7 @@ use Rattle.fsfs_grammar.proofs.Readers.{all_again}
 use Rattle.fsfs_damage.specs.declared.damage.RevOffset.{RevOffset}
 use Rattle.fsfs_damage.specs.Readings.{HasOneAnswer}
 use Rattle.fsfs_damage.proofs.OneAnswer.{and_then_one}
-use Rattle.fsfs_book.specs.Told.{Look, BytesOf}
+use Rattle.fsfs_book.specs.Told.{RevisionBytes, BytesOf}
 use Rattle.fsfs_noderev.specs.Lines.{line}
 use Rattle.fsfs_noderev.specs.declared.node_rev.NodeRev.{NodeRev}
 use Rattle.fsfs_noderev.proofs.Taking.{read_only}
@@ -26,7 +26,7 @@ read_one bytes m n v w =
     let front : take 65536 bytes ≡ flat_map line t.lines ++ (10 ∷ v.rest) = v.begins.parts ∙ ap (λ (x : List ℕ). x ++ v.rest) t.parts ∙ append_assoc (flat_map line t.lines) (10 ∷ []) v.rest in
     read_only (take 65536 bytes) v.fields v.rest m n (t.lines, t.taken, front) v.means w
 
-pub node_at_one : (look : Look) (at : RevOffset) → HasOneAnswer (NodeAt look at)
+pub node_at_one : (look : RevisionBytes) (at : RevOffset) → HasOneAnswer (NodeAt look at)
 node_at_one look at = and_then_one (BytesOf look at.rev) (λ bytes. NodeIn at (drop at.offset bytes)) (bytes_one look at.rev) (λ bytes. node_in_one at (drop at.offset bytes) (read_one (drop at.offset bytes)))
 
 -- ---- the trailer
@@ -48,5 +48,5 @@ end_one begins bytes t u v w =
 
 -- ---- the root
 
-pub root_of_one : (look : Look) (rev : ℕ) → HasOneAnswer (RootOf look rev)
+pub root_of_one : (look : RevisionBytes) (rev : ℕ) → HasOneAnswer (RootOf look rev)
 root_of_one look rev = and_then_one (BytesOf look rev) (RootIn rev) (bytes_one look rev) (λ bytes. root_in_one rev bytes (end_one 0 bytes) read_one)

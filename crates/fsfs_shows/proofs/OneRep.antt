@@ -2,7 +2,7 @@
 use Rattle.std.proofs.Common.{◌≡◌, ℕ, List, sym, ◌∙◌}
 use Rattle.fsfs_damage.specs.Readings.{HasOneAnswer}
 use Rattle.fsfs_damage.proofs.OneAnswer.{and_then_one, judged_one}
-use Rattle.fsfs_book.specs.Told.{Look, BytesOf}
+use Rattle.fsfs_book.specs.Told.{RevisionBytes, BytesOf}
 use Rattle.fsfs_grammar.proofs.Readers.{all_again}
 use Rattle.fsfs_noderev.specs.declared.rep.Rep.{Rep}
 use Rattle.fsfs_hash.specs.Dump.{IsDump}
@@ -16,7 +16,7 @@ use Rattle.fsfs_shows.proofs.OneStep.{bytes_one}
 rep_in_one : (rep : Rep) (bytes : List ℕ) → HasOneAnswer (RepIn rep bytes)
 rep_in_one rep bytes = judged_one (IsTextOf rep bytes) (rep_checks rep bytes) (λ s t a b. a.0 ∙ sym b.0) (λ s a. whole_pass rep bytes a.1)
 
-pub rep_at_one : (look : Look) (rep : Rep) → HasOneAnswer (RepAt look rep)
+pub rep_at_one : (look : RevisionBytes) (rep : Rep) → HasOneAnswer (RepAt look rep)
 rep_at_one look rep = and_then_one (BytesOf look (rev_of rep)) (RepIn rep) (bytes_one look (rev_of rep)) (rep_in_one rep)
 
 -- ---- a dump
@@ -27,5 +27,5 @@ dump_one text a b g h = pairs_same (dump_at text) a b (all_again dump_reads text
 pairs_in_one : (rep : Rep) (text : List ℕ) → HasOneAnswer (PairsIn rep text)
 pairs_in_one rep text = judged_one (IsDump text) (hash_checks rep text) (dump_one text) (λ pairs a. ((pairs, a), tt))
 
-pub pairs_at_one : (look : Look) (rep : Rep) → HasOneAnswer (PairsAt look rep)
+pub pairs_at_one : (look : RevisionBytes) (rep : Rep) → HasOneAnswer (PairsAt look rep)
 pairs_at_one look rep = and_then_one (RepAt look rep) (PairsIn rep) (rep_at_one look rep) (pairs_in_one rep)

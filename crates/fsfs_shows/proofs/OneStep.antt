@@ -6,13 +6,13 @@ use Rattle.fsfs_damage.specs.declared.wrong.Wrong.{Wrong}
 use Rattle.fsfs_damage.specs.declared.wrong.Wrong.TheVariants as wrongs
 use Rattle.fsfs_damage.specs.Readings.{HasOneAnswer}
 use Rattle.fsfs_damage.proofs.OneAnswer.{ok_ap, err_ap}
-use Rattle.fsfs_book.specs.Told.{Look, BytesOf}
+use Rattle.fsfs_book.specs.Told.{RevisionBytes, BytesOf}
 use Rattle.fsfs_noderev.specs.declared.rep.Rep.{Rep}
 use Rattle.fsfs_noderev.specs.declared.rep.Contents.{Contents}
 use Rattle.fsfs_noderev.specs.declared.rep.Contents.TheVariants as contents
 use Rattle.fsfs_shows.specs.Reading.{OfContents}
 
-pub bytes_one : (look : Look) (rev : ℕ) → HasOneAnswer (BytesOf look rev)
+pub bytes_one : (look : RevisionBytes) (rev : ℕ) → HasOneAnswer (BytesOf look rev)
 bytes_one look rev (Ok a) (Ok b) g h = let e : a ≡ b = (let f = sym g ∙ h in cc) in ok_ap a b e
 bytes_one look rev (Ok a) (Err w) g h = let f = sym g ∙ h.1 in absurd cc
 bytes_one look rev (Err w) (Ok b) h g = let f = sym g ∙ h.1 in absurd cc

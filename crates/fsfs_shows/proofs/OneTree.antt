@@ -5,7 +5,7 @@ use Rattle.fsfs_base.specs.Paths.{Path}
 use Rattle.fsfs_tree.specs.Nodes.{Node, Content, Bytes, Closed, TreeFunction}
 use Rattle.fsfs_base.specs.declared.kind.Kind.{Kind}
 use Rattle.fsfs_base.specs.declared.kind.Kind.TheVariants.{File, Dir}
-use Rattle.fsfs_book.specs.Told.{Look}
+use Rattle.fsfs_book.specs.Told.{RevisionBytes}
 use Rattle.fsfs_noderev.specs.declared.node_id.NodeId.{NodeId}
 use Rattle.fsfs_noderev.specs.declared.node_rev.NodeRev.{NodeRev}
 use Rattle.fsfs_damage.specs.Damages.{place_of}
@@ -24,7 +24,7 @@ some_or_none x o e f = let g = sym e ∙ f in absurd cc
 
 -- ---- the chain of predecessors
 
-pub chain_one : {look : Look} {v : NodeRev} {a b : Result ℕ Wrong} → Chain look v a → Chain look v b → a ≡ b
+pub chain_one : {look : RevisionBytes} {v : NodeRev} {a b : Result ℕ Wrong} → Chain look v a → Chain look v b → a ≡ b
 chain_one (First v e) (First w f) = refl
 chain_one (First v e) (Breaks w id x f g) = some_or_none id v.predecessor f e
 chain_one (First v e) (Goes w u id end f g c) = some_or_none id v.predecessor f e
@@ -47,12 +47,12 @@ chain_one {look} {b = b} (Goes w u id end f g c) (Goes v t other stop e h d) =
     let both = ok_same u t (of_id_one look other (Ok u) (Ok t) (subst (λ (i : NodeId). OfId look i (Ok u)) same g) h) in
     chain_one c (subst (λ (n : NodeRev). Chain look n b) (sym both) d)
 
-first_same : (look : Look) (v : NodeRev) (a b : ℕ) → Chain look v (Ok a) → Chain look v (Ok b) → a ≡ b
+first_same : (look : RevisionBytes) (v : NodeRev) (a b : ℕ) → Chain look v (Ok a) → Chain look v (Ok b) → a ≡ b
 first_same look v a b c d = ok_same a b (chain_one c d)
 
 -- ---- copies
 
-module _ (look : Look) (r : ℕ) (p : Path) where
+module _ (look : RevisionBytes) (r : ℕ) (p : Path) where
   copied_at_most : (a b : ℕ) → IsCopiedIn look r p a → IsCopiedIn look r p b → a ≤ b
   copied_at_most a b v w =
       let s = v.some in
@@ -89,7 +89,7 @@ module _ (look : Look) (r : ℕ) (p : Path) where
 
 -- ---- texts
 
-text_same : (look : Look) (kind : Kind) (v : NodeRev) (a b : Content) → IsTextOf look kind v a → IsTextOf look kind v b → a ≡ b
+text_same : (look : RevisionBytes) (kind : Kind) (v : NodeRev) (a b : Content) → IsTextOf look kind v a → IsTextOf look kind v b → a ≡ b
 text_same look Dir v a b g h = g ∙ sym h
 text_same look File v (Bytes a) (Bytes b) g h = ap (λ (t : List ℕ). Bytes t) (ok_same a b (text_one look v (Ok a) (Ok b) g h))
 text_same look File v (Bytes a) (Closed r o) g h = absurd (let e = text_one look v (Ok a) (Err _) g h in cc)
@@ -101,7 +101,7 @@ text_same look File v (Closed r o) (Closed s q) g h =
 
 -- ---- a node, a tree
 
-shown_same : (look : Look) (r : ℕ) (p : Path) (v : NodeRev) (m n : Node) → IsShown look r p v m → IsShown look r p v n → m ≡ n
+shown_same : (look : RevisionBytes) (r : ℕ) (p : Path) (v : NodeRev) (m n : Node) → IsShown look r p v m → IsShown look r p v n → m ≡ n
 shown_same look r p v m n a b =
     let kind = a.kind ∙ sym b.kind in
     let text = text_same look v.kind v m.text n.text a.text b.text in
@@ -115,14 +115,14 @@ shown_same look r p v m n a b =
     let source = source_same look r p b.first n.added m.source n.source moved b.source in
     λ i. record { kind = kind i; text = text i; properties = properties i; source = source i; added = added i; props_changed = props_changed i; last_changed = last_changed i }
 
-shown_as_same : (look : Look) (r : ℕ) (p : Path) (met : Met) (a b : Option Node) → IsShownAs look r p met a → IsShownAs look r p met b → a ≡ b
+shown_as_same : (look : RevisionBytes) (r : ℕ) (p : Path) (met : Met) (a b : Option Node) → IsShownAs look r p met a → IsShownAs look r p met b → a ≡ b
 shown_as_same look r p (Stands v) (Some m) (Some n) g h = ap (λ (x : Node). Some x) (shown_same look r p v m n g h)
 shown_as_same look r p (Stands v) None b g h = absurd g
 shown_as_same look r p (Stands v) (Some m) None g h = absurd h
 shown_as_same look r p (Lacking k) a b g h = g ∙ sym h
 shown_as_same look r p (Blocked k) a b g h = g ∙ sym h
 
-pub one_tree : (look : Look) (r : ℕ) (s t : TreeFunction) → Shows look r s → Shows look r t → (p : Path) → s p ≡ t p
+pub one_tree : (look : RevisionBytes) (r : ℕ) (s t : TreeFunction) → Shows look r s → Shows look r t → (p : Path) → s p ≡ t p
 one_tree look r s t a b p =
     let v = a.each p in
     let w = b.each p in

@@ -3,12 +3,12 @@ use Rattle.std.proofs.Common.{◌≡◌, ◌≤◌, ℕ, suc, max, cond, Bool, t
 use Rattle.std.proofs.lemmas.Bool.{and_parts}
 use Rattle.std.proofs.lemmas.Bool.Decides.{nat_tests}
 use Rattle.std.specs.Prelude.{Result, Ok, Option, Some, None, not, ◌==◌, is_some, IsSomeAnd, unwrap_or}
-use Rattle.fsfs_base.specs.Paths.{Name, Path, same_name, covers, is_above}
+use Rattle.fsfs_base.specs.Paths.{PathName, Path, same_name, covers, is_above}
 use Rattle.fsfs_tree.specs.Nodes.{Node, TreeFunction}
 use Rattle.fsfs_base.specs.declared.kind.Kind.{Kind}
 use Rattle.fsfs_base.specs.declared.kind.Kind.TheVariants.{File, Dir}
 use Rattle.fsfs_base.proofs.PathLemmas.{same_name-is, same_name-refl}
-use Rattle.fsfs_book.specs.Told.{Look}
+use Rattle.fsfs_book.specs.Told.{RevisionBytes}
 use Rattle.fsfs_noderev.specs.declared.node_id.Place.{Place}
 use Rattle.fsfs_noderev.specs.declared.node_id.Place.TheVariants as places
 use Rattle.fsfs_noderev.specs.declared.node_id.NodeId.{NodeId}
@@ -20,7 +20,7 @@ use Rattle.fsfs_revision.specs.Nodes.{place_before, pred_before, rep_place_befor
 use Rattle.fsfs_damage.specs.Damages.{place_of}
 use Rattle.fsfs_damage.specs.declared.damage.RevOffset.{RevOffset}
 use Rattle.fsfs_damage.specs.declared.wrong.Wrong.{Wrong}
-use Rattle.fsfs_shows.specs.Reading.{offset_of, RootOf, OfId, OfNamed, Pairs, Entry, AreEntries, EntriesAt, EntriesOf, OfContents, named, ChildOf, Met, Stands, Lacking, Blocked, OrLacking, InDirectory, MetFrom, MetAt, StandsAt}
+use Rattle.fsfs_shows.specs.Reading.{offset_of, RootOf, OfId, OfNamed, Pairs, DirEntry, AreEntries, EntriesAt, EntriesOf, OfContents, named, ChildOf, Met, Stands, Lacking, Blocked, OrLacking, InDirectory, MetFrom, MetAt, StandsAt}
 use Rattle.fsfs_shows.specs.Chains.{own_rev, Chain, First, Breaks, Goes, root_or_own, contents_rev}
 use Rattle.fsfs_shows.specs.Shown.{IsShown, IsShownAs, Shows}
 use Rattle.fsfs_shows.specs.TreeLaw.{IsSound}
@@ -37,14 +37,14 @@ not_true : (b : Bool) → not b ≡ true → b ≡ false
 not_true true e = absurd cc
 not_true false e = refl
 
-below : (q p : Path) → covers q p ≡ true → covers p q ≡ false → (x : Name) × (rest : Path) × (p ≡ q ++ x ∷ rest)
+below : (q p : Path) → covers q p ≡ true → covers p q ≡ false → (x : PathName) × (rest : Path) × (p ≡ q ++ x ∷ rest)
 below [] [] c n = absurd cc
 below [] (y ∷ p) c n = (y, p, refl)
 below (x ∷ q) [] c n = absurd cc
 below (x ∷ q) (y ∷ p) c n =
     let both = and_parts (same_name x y) (covers q p) c in
     let e = same_name-is x y both.0 in
-    let other : same_name y x ≡ true = subst (λ (z : Name). same_name y z ≡ true) (sym e) (same_name-refl y) in
+    let other : same_name y x ≡ true = subst (λ (z : PathName). same_name y z ≡ true) (sym e) (same_name-refl y) in
     let rest = below q p both.1 (and_false (same_name y x) (covers p q) other n) in
     (rest.0, rest.1, (λ i. sym e i ∷ rest.2 i))
 
@@ -63,7 +63,7 @@ in_directory : (kind : Kind) (depth : ℕ) (R : Result (Option NodeRev) Wrong �
 in_directory File depth R S v on = absurd cc
 in_directory Dir depth R S v on = refl
 
-prefix_from : (look : Look) (a v : NodeRev) (depth : ℕ) (q : Path) (x : Name) (rest : Path) → MetFrom look a depth (q ++ x ∷ rest) (Ok (Stands v)) → (w : NodeRev) × MetFrom look a depth q (Ok (Stands w)) × (w.kind ≡ Dir)
+prefix_from : (look : RevisionBytes) (a v : NodeRev) (depth : ℕ) (q : Path) (x : PathName) (rest : Path) → MetFrom look a depth (q ++ x ∷ rest) (Ok (Stands v)) → (w : NodeRev) × MetFrom look a depth q (Ok (Stands w)) × (w.kind ≡ Dir)
 prefix_from look a v depth [] x rest at = (a, refl, in_directory a.kind depth (ChildOf look a x) (λ w. MetFrom look w (suc depth) rest) v at)
 prefix_from look a v depth (name ∷ q) x rest at =
     prefix_in a.kind depth (ChildOf look a name) (λ w. MetFrom look w (suc depth) (q ++ x ∷ rest)) (λ w. MetFrom look w (suc depth) q) v at (λ u on. prefix_from look u v (suc depth) q x rest on)
@@ -92,7 +92,7 @@ parts_of at v h =
 abbrev IsHome : NodeRev → Type 0
 IsHome v = Parts (offset_of v.id.place) v
 
-of_id_home : (look : Look) (id : NodeId) (u : NodeRev) → OfId look id (Ok u) → IsHome u × (own_rev u ≡ (offset_of id.place).rev)
+of_id_home : (look : RevisionBytes) (id : NodeId) (u : NodeRev) → OfId look id (Ok u) → IsHome u × (own_rev u ≡ (offset_of id.place).rev)
 of_id_home look id u w =
     let same : u ≡ w.0 = w.2.0 in
     let id_is : u.id ≡ id = (λ i. (same i).id) ∙ w.2.1 in
@@ -111,7 +111,7 @@ is_dir : (kind : Kind) → is_directory kind ≡ true → kind ≡ Dir
 is_dir File h = absurd cc
 is_dir Dir h = refl
 
-root_home : (look : Look) (rev : ℕ) (v : NodeRev) → RootOf look rev (Ok v) → IsHome v × (own_rev v ≡ rev) × (v.kind ≡ Dir)
+root_home : (look : RevisionBytes) (rev : ℕ) (v : NodeRev) → RootOf look rev (Ok v) → IsHome v × (own_rev v ≡ rev) × (v.kind ≡ Dir)
 root_home look rev v w =
     let at = place_of rev w.2.0.root in
     let n = w.2.2.0 in
@@ -121,27 +121,27 @@ root_home look rev v w =
     (parts_of (offset_of n.id.place) n (subst (λ (x : RevOffset). is_ordered x n ≡ true) (sym here) w.2.2.1.1), ap (λ (x : RevOffset). x.rev) here, is_dir n.kind both.1) in
     subst (λ (x : NodeRev). IsHome x × (own_rev x ≡ rev) × (x.kind ≡ Dir)) (sym w.2.2.2.0) h
 
-named_before : (home : RevOffset) (name : Name) (pairs : Pairs) (entries : List Entry) (e : Entry) → AreEntries home pairs entries → named name entries ≡ Some e → place_before home e.id.place ≡ true
+named_before : (home : RevOffset) (name : PathName) (pairs : Pairs) (entries : List DirEntry) (e : DirEntry) → AreEntries home pairs entries → named name entries ≡ Some e → place_before home e.id.place ≡ true
 named_before home name [] [] e w is = absurd cc
 named_before home name [] (f ∷ entries) e w is = absurd w
 named_before home name (p ∷ pairs) [] e w is = absurd w
 named_before home name (p ∷ pairs) (f ∷ entries) e w is = first_or home e f (same_name f.name name) (named name entries) w.0.before (λ got. named_before home name pairs entries e w.1 got) is
   where
-    first_or : (home : RevOffset) (e f : Entry) (b : Bool) (rest : Option Entry) → place_before home f.id.place ≡ true → (rest ≡ Some e → place_before home e.id.place ≡ true) → cond b (Some f) rest ≡ Some e → place_before home e.id.place ≡ true
-    first_or home e f true rest here later got = let same : f ≡ e = cc in subst (λ (x : Entry). place_before home x.id.place ≡ true) same here
+    first_or : (home : RevOffset) (e f : DirEntry) (b : Bool) (rest : Option DirEntry) → place_before home f.id.place ≡ true → (rest ≡ Some e → place_before home e.id.place ≡ true) → cond b (Some f) rest ≡ Some e → place_before home e.id.place ≡ true
+    first_or home e f true rest here later got = let same : f ≡ e = cc in subst (λ (x : DirEntry). place_before home x.id.place ≡ true) same here
     first_or home e f false rest here later got = later got
 
-module _ (look : Look) where
-  entry_before : (a : NodeRev) (name : Name) (o : Option Contents) (entries : List Entry) (e : Entry) → OfContents [] (EntriesAt look (offset_of a.id.place)) o (Ok entries) → named name entries ≡ Some e → place_before (offset_of a.id.place) e.id.place ≡ true
+module _ (look : RevisionBytes) where
+  entry_before : (a : NodeRev) (name : PathName) (o : Option Contents) (entries : List DirEntry) (e : DirEntry) → OfContents [] (EntriesAt look (offset_of a.id.place)) o (Ok entries) → named name entries ≡ Some e → place_before (offset_of a.id.place) e.id.place ≡ true
   entry_before a name None entries e w is =
       let none : entries ≡ [] = ok_same entries [] w in
-      let f = ap (λ (es : List Entry). named name es) none in
+      let f = ap (λ (es : List DirEntry). named name es) none in
       let g = sym is ∙ f in
       absurd cc
   entry_before a name (Some contents.Own) entries e w is = absurd w
   entry_before a name (Some (contents.At rep)) entries e w is = named_before (offset_of a.id.place) name w.0 entries e w.2 is
 
-  named_home : (a u : NodeRev) (name : Name) (entries : List Entry) (o : Option Entry) → EntriesOf look a (Ok entries) → named name entries ≡ o → OfNamed look o (Ok (Some u)) → IsHome u × (own_rev u ≤ own_rev a)
+  named_home : (a u : NodeRev) (name : PathName) (entries : List DirEntry) (o : Option DirEntry) → EntriesOf look a (Ok entries) → named name entries ≡ o → OfNamed look o (Ok (Some u)) → IsHome u × (own_rev u ≤ own_rev a)
   named_home a u name entries None w is of = absurd cc
   named_home a u name entries (Some e) w is of =
       let x = of_id_home look e.id of.0 of.1 in
@@ -149,7 +149,7 @@ module _ (look : Look) where
       let h : IsHome of.0 × (own_rev of.0 ≤ own_rev a) = (x.0, subst (λ (n : ℕ). n ≤ own_rev a) (sym x.1) le) in
       subst (λ (y : NodeRev). IsHome y × (own_rev y ≤ own_rev a)) (sym of.2.0) h
 
-  child_home : (a u : NodeRev) (name : Name) → ChildOf look a name (Ok (Some u)) → IsHome u × (own_rev u ≤ own_rev a)
+  child_home : (a u : NodeRev) (name : PathName) → ChildOf look a name (Ok (Some u)) → IsHome u × (own_rev u ≤ own_rev a)
   child_home a u name w = named_home a u name w.0 (named name w.0) w.1 refl w.2
 
   home_in : (kind : Kind) (depth : ℕ) (R : Result (Option NodeRev) Wrong → Type 0) (S : NodeRev → Result Met Wrong → Type 0) (C : Type 0) (v : NodeRev) → InDirectory kind depth R S (Ok (Stands v)) → ((u : NodeRev) → R (Ok (Some u)) → S u (Ok (Stands v)) → C) → C
@@ -203,7 +203,7 @@ root_le v (Some root) h = not_after (offset_of v.id.place) root.rev h
 numbers : (a pc lc first copied props own r : ℕ) → a ≡ max first copied → pc ≡ max a props → lc ≡ max copied own → first ≤ own → props ≤ own → own ≤ r → copied ≤ r → (a ≤ pc) × (pc ≤ lc) × (lc ≤ r)
 numbers a pc lc first copied props own r e f g h i j k = (omega arith, omega arith, omega arith)
 
-module _ (look : Look) (rev : ℕ) (tree : TreeFunction) (shows : Shows look rev tree) where
+module _ (look : RevisionBytes) (rev : ℕ) (tree : TreeFunction) (shows : Shows look rev tree) where
   node_of : (o : Option Node) (p : Path) (v : NodeRev) (n : Node) → IsSomeAnd o (IsShown look rev p v) → o ≡ Some n → IsShown look rev p v n
   node_of None p v n h is = absurd h
   node_of (Some m) p v n h is = let same : m ≡ n = cc in subst (λ (x : Node). IsShown look rev p v x) same h

@@ -5,7 +5,7 @@
 -- `copyfrom`.)
 use Rattle.std.specs.Prelude.{◌≡◌, ◌≤◌, ℕ, take, length, Option, Some, None, unwrap_or, Result, Ok, Err}
 use Rattle.fsfs_base.specs.Paths.{Path}
-use Rattle.fsfs_book.specs.Told.{Look}
+use Rattle.fsfs_book.specs.Told.{RevisionBytes}
 use Rattle.fsfs_noderev.specs.declared.node_id.NodeId.{NodeId}
 use Rattle.fsfs_noderev.specs.declared.rep.Contents.{Contents}
 use Rattle.fsfs_noderev.specs.declared.rep.Contents.TheVariants as contents
@@ -20,11 +20,11 @@ abbrev pub own_rev : NodeRev → ℕ
 own_rev v = (offset_of v.id.place).rev
 
 -- u is the predecessor of v
-abbrev pub IsPred : Look → NodeRev → NodeRev → Type 0
+abbrev pub IsPred : RevisionBytes → NodeRev → NodeRev → Type 0
 IsPred look v u = (id : NodeId) × (v.predecessor ≡ Some id) × OfId look id (Ok u)
 
 -- going back along the predecessors gives the revision of the first one, or what is wrong on the way
-pub data Chain (look : Look) : NodeRev → Result ℕ Wrong → Type 0 where
+pub data Chain (look : RevisionBytes) : NodeRev → Result ℕ Wrong → Type 0 where
   First : (v : NodeRev) → v.predecessor ≡ None → Chain look v (Ok (own_rev v))
   Breaks : (v : NodeRev) (id : NodeId) (w : Wrong) → v.predecessor ≡ Some id → OfId look id (Err w) → Chain look v (Err w)
   Goes : (v u : NodeRev) (id : NodeId) (end : Result ℕ Wrong) → v.predecessor ≡ Some id → OfId look id (Ok u) → Chain look u end → Chain look v end
@@ -38,7 +38,7 @@ abbrev pub copy_root_of : NodeRev → ℕ × Path
 copy_root_of v = root_or_own v v.copy_root
 
 -- `rev` is the greatest copy-root revision of what stands at the path and above it
-pub record IsCopiedIn (look : Look) (r : ℕ) (p : Path) (rev : ℕ) : Type 0 where
+pub record IsCopiedIn (look : RevisionBytes) (r : ℕ) (p : Path) (rev : ℕ) : Type 0 where
   pub at_most : (k : ℕ) (q : NodeRev) → k ≤ length p → StandsAt look r (take k p) q → (copy_root_of q).0 ≤ rev
   pub some : (k : ℕ) × (q : NodeRev) × (k ≤ length p) × StandsAt look r (take k p) q × ((copy_root_of q).0 ≡ rev)
 

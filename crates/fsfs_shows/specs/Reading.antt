@@ -5,18 +5,18 @@
 -- entry by entry, in byte order of the names, the name, the value and the place. The last entry of a name counts.
 use Rattle.std.specs.Prelude.{◌≡◌, ◌⊎◌, ℕ, suc, true, List, [], ◌∷◌, ◌++◌, drop, Option, Some, None, Result, Ok, Err, if◌then◌else◌, codes}
 use Rattle.std.specs.Str.{IsUtf8}
-use Rattle.fsfs_base.specs.Paths.{Name, Path, same_name}
+use Rattle.fsfs_base.specs.Paths.{PathName, Path, same_name}
 use Rattle.fsfs_base.specs.PathTexts.{IsName}
 use Rattle.fsfs_base.specs.declared.kind.Kind.{Kind}
 use Rattle.fsfs_base.specs.declared.kind.Kind.TheVariants.{File, Dir}
 use Rattle.fsfs_damage.specs.declared.damage.RevOffset.{RevOffset}
-use Rattle.fsfs_damage.specs.declared.damage.What.TheVariants as what
+use Rattle.fsfs_damage.specs.declared.damage.DamageKind.TheVariants as what
 use Rattle.fsfs_damage.specs.declared.damage.RepWhat.TheVariants as repwhat
 use Rattle.fsfs_damage.specs.declared.wrong.Wrong.{Wrong}
 use Rattle.fsfs_damage.specs.Checks.{Check, must, Judged}
 use Rattle.fsfs_damage.specs.Damages.{place_of, damaged}
 use Rattle.fsfs_damage.specs.Readings.{AndThen}
-use Rattle.fsfs_book.specs.Told.{Look, BytesOf}
+use Rattle.fsfs_book.specs.Told.{RevisionBytes, BytesOf}
 use Rattle.fsfs_noderev.specs.Fields.{IsIdText}
 use Rattle.fsfs_noderev.specs.declared.node_id.Place.{Place}
 use Rattle.fsfs_noderev.specs.declared.node_id.Place.TheVariants as places
@@ -33,11 +33,11 @@ use Rattle.fsfs_revision.specs.Nodes.{is_revision_id, place_before}
 -- ---- a node-revision
 
 -- the node-revision at this place
-abbrev pub NodeAt : Look → RevOffset → Result NodeRev Wrong → Type 0
+abbrev pub NodeAt : RevisionBytes → RevOffset → Result NodeRev Wrong → Type 0
 NodeAt look at = AndThen (BytesOf look at.rev) (λ bytes. NodeIn at (drop at.offset bytes))
 
 -- the root of a revision
-abbrev pub RootOf : Look → ℕ → Result NodeRev Wrong → Type 0
+abbrev pub RootOf : RevisionBytes → ℕ → Result NodeRev Wrong → Type 0
 RootOf look rev = AndThen (BytesOf look rev) (RootIn rev)
 
 -- where a node-revision stands by its id
@@ -48,7 +48,7 @@ offset_of (places.In txn) = place_of 0 0
 -- ---- a representation
 
 -- its text
-abbrev pub RepAt : Look → Rep → Result (List ℕ) Wrong → Type 0
+abbrev pub RepAt : RevisionBytes → Rep → Result (List ℕ) Wrong → Type 0
 RepAt look rep = AndThen (BytesOf look (rev_of rep)) (RepIn rep)
 
 -- ---- a property list, and a directory's pairs of names and values
@@ -63,7 +63,7 @@ hash_checks rep text = must ((pairs : Pairs) × IsDump text pairs) (bad_rep rep 
 abbrev pub PairsIn : Rep → List ℕ → Result Pairs Wrong → Type 0
 PairsIn rep text = Judged (IsDump text) (hash_checks rep text)
 
-abbrev pub PairsAt : Look → Rep → Result Pairs Wrong → Type 0
+abbrev pub PairsAt : RevisionBytes → Rep → Result Pairs Wrong → Type 0
 PairsAt look rep = AndThen (RepAt look rep) (PairsIn rep)
 
 -- where there is no representation, nothing is read. `-1`, for a transaction's own file, stands in no revision.
@@ -73,16 +73,16 @@ OfContents nothing R (Some contents.Own) r = ⊥
 OfContents nothing R (Some (contents.At rep)) r = R rep r
 
 -- the text of a file, and the properties of any node-revision
-abbrev pub TextOf : Look → NodeRev → Result (List ℕ) Wrong → Type 0
+abbrev pub TextOf : RevisionBytes → NodeRev → Result (List ℕ) Wrong → Type 0
 TextOf look v = OfContents [] (RepAt look) v.text
 
-abbrev pub PropsOf : Look → NodeRev → Result Pairs Wrong → Type 0
+abbrev pub PropsOf : RevisionBytes → NodeRev → Result Pairs Wrong → Type 0
 PropsOf look v = OfContents [] (PairsAt look) v.props
 
 -- ---- the entries of a directory
 
-pub record Entry : Type 0 where
-  pub name : Name
+pub record DirEntry : Type 0 where
+  pub name : PathName
   pub kind : Kind
   pub id : NodeId
 
@@ -91,7 +91,7 @@ kind_word File = codes "file "
 kind_word Dir = codes "dir "
 
 -- a name that a path may have, in UTF-8
-pub record IsEntryName (name : Name) : Type 0 where
+pub record IsEntryName (name : PathName) : Type 0 where
   pub name_is : IsName name
   pub utf8 : IsUtf8 name
 
@@ -103,7 +103,7 @@ pub record IsEntryValue (text : List ℕ) (kind : Kind) (id : NodeId) : Type 0 w
   pub lasting : is_revision_id id ≡ true
 
 -- a pair of a dump is this entry of the directory whose node-revision stands at `home`
-pub record IsEntry (home : RevOffset) (pair : List ℕ × List ℕ) (entry : Entry) : Type 0 where
+pub record IsEntry (home : RevOffset) (pair : List ℕ × List ℕ) (entry : DirEntry) : Type 0 where
   pub name : pair.0 ≡ entry.name
   pub name_is : IsEntryName entry.name
   pub value_is : IsEntryValue pair.1 entry.kind entry.id
@@ -116,14 +116,14 @@ abbrev pub pair_checks : RevOffset → Rep → List ℕ × List ℕ → List Che
 pair_checks home rep pair =
     must (IsEntryName pair.0) (bad_rep rep repwhat.BadName)
     ∷ must ((kind : Kind) × (id : NodeId) × IsEntryValue pair.1 kind id) (bad_rep rep repwhat.EntryValue)
-    ∷ must ((entry : Entry) × IsEntry home pair entry) (damaged home what.PlaceOrder)
+    ∷ must ((entry : DirEntry) × IsEntry home pair entry) (damaged home what.PlaceOrder)
     ∷ []
 
-abbrev pub EntryIn : RevOffset → Rep → List ℕ × List ℕ → Result Entry Wrong → Type 0
+abbrev pub EntryIn : RevOffset → Rep → List ℕ × List ℕ → Result DirEntry Wrong → Type 0
 EntryIn home rep pair = Judged (IsEntry home pair) (pair_checks home rep pair)
 
 -- the pairs are these entries, one by one
-abbrev pub AreEntries : RevOffset → Pairs → List Entry → Type 0
+abbrev pub AreEntries : RevOffset → Pairs → List DirEntry → Type 0
 AreEntries home [] [] = Unit {0}
 AreEntries home [] (entry ∷ entries) = ⊥
 AreEntries home (pair ∷ pairs) [] = ⊥
@@ -132,17 +132,17 @@ AreEntries home (pair ∷ pairs) (entry ∷ entries) = IsEntry home pair entry �
 -- what is wrong with the first pair that is no entry
 abbrev pub FirstPairFails : RevOffset → Rep → Pairs → Wrong → Type 0
 FirstPairFails home rep [] w = ⊥
-FirstPairFails home rep (pair ∷ pairs) w = EntryIn home rep pair (Err w) ⊎ ((entry : Entry) × IsEntry home pair entry × FirstPairFails home rep pairs w)
+FirstPairFails home rep (pair ∷ pairs) w = EntryIn home rep pair (Err w) ⊎ ((entry : DirEntry) × IsEntry home pair entry × FirstPairFails home rep pairs w)
 
-abbrev pub EntriesIn : RevOffset → Rep → Pairs → Result (List Entry) Wrong → Type 0
+abbrev pub EntriesIn : RevOffset → Rep → Pairs → Result (List DirEntry) Wrong → Type 0
 EntriesIn home rep pairs (Ok entries) = AreEntries home pairs entries
 EntriesIn home rep pairs (Err w) = FirstPairFails home rep pairs w
 
-abbrev pub EntriesAt : Look → RevOffset → Rep → Result (List Entry) Wrong → Type 0
+abbrev pub EntriesAt : RevisionBytes → RevOffset → Rep → Result (List DirEntry) Wrong → Type 0
 EntriesAt look home rep = AndThen (PairsAt look rep) (EntriesIn home rep)
 
 -- the entries of a directory, in byte order of their names
-abbrev pub EntriesOf : Look → NodeRev → Result (List Entry) Wrong → Type 0
+abbrev pub EntriesOf : RevisionBytes → NodeRev → Result (List DirEntry) Wrong → Type 0
 EntriesOf look v = OfContents [] (EntriesAt look (offset_of v.id.place)) v.text
 
 -- ---- a node-revision that something names
@@ -154,33 +154,33 @@ id_checks id u = must (u.id ≡ id) (damaged (offset_of id.place) what.OtherId) 
 abbrev pub HasId : NodeId → NodeRev → Result NodeRev Wrong → Type 0
 HasId id u = Judged (λ v. (v ≡ u) × (u.id ≡ id)) (id_checks id u)
 
-abbrev pub OfId : Look → NodeId → Result NodeRev Wrong → Type 0
+abbrev pub OfId : RevisionBytes → NodeId → Result NodeRev Wrong → Type 0
 OfId look id = AndThen (NodeAt look (offset_of id.place)) (HasId id)
 
 -- it is a file where the entry says so, and a directory where it says so
-abbrev pub kind_checks : Entry → NodeRev → List Check
+abbrev pub kind_checks : DirEntry → NodeRev → List Check
 kind_checks entry u = must (u.kind ≡ entry.kind) (damaged (offset_of entry.id.place) what.EntryKind) ∷ []
 
-abbrev pub HasKind : Entry → NodeRev → Result NodeRev Wrong → Type 0
+abbrev pub HasKind : DirEntry → NodeRev → Result NodeRev Wrong → Type 0
 HasKind entry u = Judged (λ v. (v ≡ u) × (u.kind ≡ entry.kind)) (kind_checks entry u)
 
-abbrev pub OfEntry : Look → Entry → Result NodeRev Wrong → Type 0
+abbrev pub OfEntry : RevisionBytes → DirEntry → Result NodeRev Wrong → Type 0
 OfEntry look entry = AndThen (OfId look entry.id) (HasKind entry)
 
 -- ---- a child, and a path
 
-abbrev pub named : Name → List Entry → Option Entry
+abbrev pub named : PathName → List DirEntry → Option DirEntry
 named name [] = None
 named name (entry ∷ entries) = if same_name entry.name name then Some entry else named name entries
 
-abbrev pub OfNamed : Look → Option Entry → Result (Option NodeRev) Wrong → Type 0
+abbrev pub OfNamed : RevisionBytes → Option DirEntry → Result (Option NodeRev) Wrong → Type 0
 OfNamed look None r = r ≡ Ok None
 OfNamed look (Some entry) (Ok None) = ⊥
 OfNamed look (Some entry) (Ok (Some u)) = OfEntry look entry (Ok u)
 OfNamed look (Some entry) (Err w) = OfEntry look entry (Err w)
 
 -- the child of a name in a directory, if it has one
-abbrev pub ChildOf : Look → NodeRev → Name → Result (Option NodeRev) Wrong → Type 0
+abbrev pub ChildOf : RevisionBytes → NodeRev → PathName → Result (Option NodeRev) Wrong → Type 0
 ChildOf look v name = AndThen (EntriesOf look v) (λ entries. OfNamed look (named name entries))
 
 -- what is met on the way down a path: a node-revision stands there; or the first so many names lead to nothing, or to a file that
@@ -199,14 +199,14 @@ InDirectory File depth R S r = r ≡ Ok (Blocked depth)
 InDirectory Dir depth R S r = AndThen R (OrLacking (suc depth) S) r
 
 -- from a node-revision that `depth` names lead to, down further names
-abbrev pub MetFrom : Look → NodeRev → ℕ → Path → Result Met Wrong → Type 0
+abbrev pub MetFrom : RevisionBytes → NodeRev → ℕ → Path → Result Met Wrong → Type 0
 MetFrom look v depth [] r = r ≡ Ok (Stands v)
 MetFrom look v depth (name ∷ names) r = InDirectory v.kind depth (ChildOf look v name) (λ w. MetFrom look w (suc depth) names) r
 
 -- from the root of a revision down a path
-abbrev pub MetAt : Look → ℕ → Path → Result Met Wrong → Type 0
+abbrev pub MetAt : RevisionBytes → ℕ → Path → Result Met Wrong → Type 0
 MetAt look rev path = AndThen (RootOf look rev) (λ v. MetFrom look v 0 path)
 
 -- a node-revision stands at the path
-abbrev pub StandsAt : Look → ℕ → Path → NodeRev → Type 0
+abbrev pub StandsAt : RevisionBytes → ℕ → Path → NodeRev → Type 0
 StandsAt look rev path v = MetAt look rev path (Ok (Stands v))

@@ -8,7 +8,7 @@ use Rattle.fsfs_base.specs.Paths.{Path, covers}
 use Rattle.fsfs_tree.specs.Nodes.{Node, Content, Bytes, Closed, TreeFunction}
 use Rattle.fsfs_base.specs.declared.kind.Kind.{Kind}
 use Rattle.fsfs_base.specs.declared.kind.Kind.TheVariants.{File, Dir}
-use Rattle.fsfs_book.specs.Told.{Look}
+use Rattle.fsfs_book.specs.Told.{RevisionBytes}
 use Rattle.fsfs_noderev.specs.declared.node_rev.CopySource.{CopySource}
 use Rattle.fsfs_noderev.specs.declared.node_rev.NodeRev.{NodeRev}
 use Rattle.fsfs_damage.specs.Damages.{place_of}
@@ -19,7 +19,7 @@ use Rattle.fsfs_shows.specs.Chains.{own_rev, Chain, copy_root_of, IsCopiedIn, co
 -- ---- the text
 
 -- a file's bytes, or the place of a delta; a directory has no text
-abbrev pub IsTextOf : Look → Kind → NodeRev → Content → Type 0
+abbrev pub IsTextOf : RevisionBytes → Kind → NodeRev → Content → Type 0
 IsTextOf look Dir v text = text ≡ Bytes []
 IsTextOf look File v (Bytes bytes) = TextOf look v (Ok bytes)
 IsTextOf look File v (Closed rev offset) = TextOf look v (Err (wrongs.Delta (place_of rev offset)))
@@ -27,7 +27,7 @@ IsTextOf look File v (Closed rev offset) = TextOf look v (Err (wrongs.Delta (pla
 -- ---- the source
 
 -- the nearest node-revision at the path or above it whose copy root is of this revision
-pub record Nearest (look : Look) (r : ℕ) (p : Path) (rev : ℕ) : Type 0 where
+pub record Nearest (look : RevisionBytes) (r : ℕ) (p : Path) (rev : ℕ) : Type 0 where
   pub depth : ℕ
   pub within : depth ≤ length p
   pub node : NodeRev
@@ -46,20 +46,20 @@ source_by root p (Lacking depth) = None
 source_by root p (Blocked depth) = None
 
 -- by the copy of the revision in which the node came to stand at the path; the root of that copy was met there
-pub record IsOfCopy (look : Look) (r : ℕ) (p : Path) (added : ℕ) (source : Option (ℕ × Path)) : Type 0 where
+pub record IsOfCopy (look : RevisionBytes) (r : ℕ) (p : Path) (added : ℕ) (source : Option (ℕ × Path)) : Type 0 where
   pub near : Nearest look r p added
   pub met : Met
   pub root : MetAt look added (copy_root_of near.node).1 (Ok met)
   pub source_is : source ≡ source_by (copy_root_of near.node).1 p met
 
 -- a node whose chain begins where it was added was not copied
-abbrev pub IsSource : Look → ℕ → Path → ℕ → ℕ → Option (ℕ × Path) → Type 0
+abbrev pub IsSource : RevisionBytes → ℕ → Path → ℕ → ℕ → Option (ℕ × Path) → Type 0
 IsSource look r p first added source = ((first ≡ added) × (source ≡ None)) ⊎ ((first < added) × IsOfCopy look r p added source)
 
 -- ---- the tree
 
 -- a node-revision at a path is shown as this node
-pub record IsShown (look : Look) (r : ℕ) (p : Path) (v : NodeRev) (n : Node) : Type 0 where
+pub record IsShown (look : RevisionBytes) (r : ℕ) (p : Path) (v : NodeRev) (n : Node) : Type 0 where
   pub kind : n.kind ≡ v.kind
   pub text : IsTextOf look v.kind v n.text
   pub properties : PropsOf look v (Ok n.properties)
@@ -74,11 +74,11 @@ pub record IsShown (look : Look) (r : ℕ) (p : Path) (v : NodeRev) (n : Node) :
   pub last_changed : n.last_changed ≡ max copied (own_rev v)
   pub source : IsSource look r p first n.added n.source
 
-abbrev pub IsShownAs : Look → ℕ → Path → Met → Option Node → Type 0
+abbrev pub IsShownAs : RevisionBytes → ℕ → Path → Met → Option Node → Type 0
 IsShownAs look r p (Stands v) node = IsSomeAnd node (IsShown look r p v)
 IsShownAs look r p (Lacking depth) node = node ≡ None
 IsShownAs look r p (Blocked depth) node = node ≡ None
 
 -- the bytes show a tree: no path meets what is wrong, and each node is that of the node-revision at its path
-pub record Shows (look : Look) (r : ℕ) (tree : TreeFunction) : Type 0 where
+pub record Shows (look : RevisionBytes) (r : ℕ) (tree : TreeFunction) : Type 0 where
   pub each : (p : Path) → (met : Met) × MetAt look r p (Ok met) × IsShownAs look r p met (tree p)

@@ -12,8 +12,8 @@ use Rattle.fsfs_tree.specs.Revisions.{Revision}
 use Rattle.fsfs_tree.specs.Dated.{date_name}
 use Rattle.fsfs_base.specs.declared.kind.Kind.TheVariants.{Dir}
 use Rattle.fsfs_tree.specs.declared.change_map.Change.{Change}
-use Rattle.fsfs_book.specs.Told.{Look}
-use Rattle.fsfs_hash.specs.Dump.{Field, Entry, IsDump}
+use Rattle.fsfs_book.specs.Told.{RevisionBytes}
+use Rattle.fsfs_hash.specs.Dump.{Field, Pair, IsDump}
 use Rattle.fsfs_noderev.proofs.RepTexts.{number_spells}
 use Rattle.fsfs_layout.specs.CreatedFiles.{date_properties}
 use Rattle.fsfs_shows.specs.Shown.{IsShownAs, Shows}
@@ -30,7 +30,7 @@ tree_is : (p : Path) → first_tree p ≡ get (insert (empty {X = Node} {R = pat
 tree_is [] = sym (get-insert path_cmp_total empty [] (empty_node Dir) [])
 tree_is (x ∷ p) = sym (get-insert path_cmp_total empty [] (empty_node Dir) (x ∷ p) ∙ get-empty path_cmp (x ∷ p))
 
-tree_shown : (look : Look) → look 0 ≡ Ok first_bytes → (date : List ℕ) → Shows look 0 (get (first_revision date).tree)
+tree_shown : (look : RevisionBytes) → look 0 ≡ Ok first_bytes → (date : List ℕ) → Shows look 0 (get (first_revision date).tree)
 tree_shown look is date = record { each = λ p. let w = (first_shown look is).each p in (w.0, w.1, subst (λ (o : Option Node). IsShownAs look 0 p w.0 o) (tree_is p) w.2) }
 
 -- ---- the changed paths
@@ -41,7 +41,7 @@ no_items = record { trailer = trailer; ends = trailer_ends; items_are = refl }
 not_in_none : {A : Type 0} (x : A) → Contains (let e : List A = [] in e) x → ⊥
 not_in_none x w = omega (arith, w.1)
 
-no_changes : (look : Look) → AreChangesOf look 0 first_bytes empty
+no_changes : (look : RevisionBytes) → AreChangesOf look 0 first_bytes empty
 no_changes look = record {
   items = [];
   items_are = no_items;
@@ -86,7 +86,7 @@ key_is = field_is 75 8 (codes "8\n") date_name eight refl
 value_is : (date : List ℕ) → length date ≡ 27 → Field 86 (codes "V 27\n" ++ (date ++ 10 ∷ [])) date
 value_is date size = field_is 86 27 (codes "27\n") date twenty_seven size
 
-entry_is : (date : List ℕ) → length date ≡ 27 → Entry (codes "K 8\nsvn:date\n" ++ (codes "V 27\n" ++ (date ++ 10 ∷ []))) (date_name, date)
+entry_is : (date : List ℕ) → length date ≡ 27 → Pair (codes "K 8\nsvn:date\n" ++ (codes "V 27\n" ++ (date ++ 10 ∷ []))) (date_name, date)
 entry_is date size = record {
   first = codes "K 8\nsvn:date\n";
   second = codes "V 27\n" ++ (date ++ 10 ∷ []);

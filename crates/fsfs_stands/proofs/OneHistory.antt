@@ -8,7 +8,7 @@ use Rattle.fsfs_base.specs.Paths.{Path, path_cmp}
 use Rattle.fsfs_tree.specs.Revisions.{Revision}
 use Rattle.fsfs_base.specs.declared.kind.Kind.{Kind}
 use Rattle.fsfs_tree.specs.declared.change_map.Change.{Change}
-use Rattle.fsfs_book.specs.Told.{Look}
+use Rattle.fsfs_book.specs.Told.{RevisionBytes}
 use Rattle.fsfs_damage.specs.declared.wrong.Refusal.{Refusal}
 use Rattle.fsfs_hash.specs.Dump.{IsDump}
 use Rattle.fsfs_noderev.specs.declared.node_rev.NodeRev.{NodeRev}
@@ -54,7 +54,7 @@ has_items_one bytes a b v w =
 
 -- ---- the change of an item
 
-kind_one : {look : Look} {r : ℕ} {item : ChangeItem} {a b : Kind} → IsKindOf look r item a → IsKindOf look r item b → a ≡ b
+kind_one : {look : RevisionBytes} {r : ℕ} {item : ChangeItem} {a b : Kind} → IsKindOf look r item a → IsKindOf look r item b → a ≡ b
 kind_one (Said k e) (Said l f) = same_Some k l (sym e ∙ f)
 kind_one {item = item} (Said k e) (Named u f i o) = no_both item.kind k e f
 kind_one {item = item} (Said k e) (There v f i o) = no_both item.kind k e f
@@ -72,7 +72,7 @@ kind_one (NotThere e h o) (Named v f i p) = let g : true ≡ false = sym i ∙ h
 kind_one (NotThere e h o) (There v f i p) = absurd (o v p)
 kind_one (NotThere e h o) (NotThere f i p) = refl
 
-change_one : (look : Look) (r : ℕ) (item : ChangeItem) (a b : Change) → IsChangeOf look r item a → IsChangeOf look r item b → a ≡ b
+change_one : (look : RevisionBytes) (r : ℕ) (item : ChangeItem) (a b : Change) → IsChangeOf look r item a → IsChangeOf look r item b → a ≡ b
 change_one look r item a b v w =
     let action = v.action ∙ sym w.action in
     let kind = kind_one v.kind w.kind in
@@ -83,7 +83,7 @@ change_one look r item a b v w =
 
 -- ---- the changed paths
 
-module _ (look : Look) (r : ℕ) (bytes : List ℕ) (a b : FinMap path_cmp Change) (v : AreChangesOf look r bytes a) (w : AreChangesOf look r bytes b) where
+module _ (look : RevisionBytes) (r : ℕ) (bytes : List ℕ) (a b : FinMap path_cmp Change) (v : AreChangesOf look r bytes a) (w : AreChangesOf look r bytes b) where
   items_same : v.items ≡ w.items
   items_same = has_items_one bytes v.items w.items v.items_are w.items_are
 
@@ -105,7 +105,7 @@ either_way None None f g = refl
 either_way None (Some y) f g = let e = g y refl in absurd cc
 either_way (Some x) b f g = sym (f x refl)
 
-changes_same : (look : Look) (r : ℕ) (bytes : List ℕ) (a b : FinMap path_cmp Change) → AreChangesOf look r bytes a → AreChangesOf look r bytes b → (p : Path) → get a p ≡ get b p
+changes_same : (look : RevisionBytes) (r : ℕ) (bytes : List ℕ) (a b : FinMap path_cmp Change) → AreChangesOf look r bytes a → AreChangesOf look r bytes b → (p : Path) → get a p ≡ get b p
 changes_same look r bytes a b v w p = either_way (get a p) (get b p) (also look r bytes a b v w p) (also look r bytes b a w v p)
 
 -- ---- a revision, a history
@@ -113,7 +113,7 @@ changes_same look r bytes a b v w p = either_way (get a p) (get b p) (also look 
 look_one : (read : Result (List ℕ) Refusal) (x y : List ℕ) → read ≡ Ok x → read ≡ Ok y → x ≡ y
 look_one read x y e f = let g = sym e ∙ f in (let h : x ≡ y = cc in h)
 
-revision_same : (look props : Look) (r : ℕ) (a b : Revision) → ShowsRevision look props r a → ShowsRevision look props r b → AreSame a b
+revision_same : (look props : RevisionBytes) (r : ℕ) (a b : Revision) → ShowsRevision look props r a → ShowsRevision look props r b → AreSame a b
 revision_same look props r a b v w =
     let bytes = look_one (look r) w.bytes v.bytes w.bytes_are v.bytes_are in
     let file = look_one (props r) w.file v.file w.file_is v.file_is in

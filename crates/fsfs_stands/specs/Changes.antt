@@ -9,7 +9,7 @@ use Rattle.fsfs_base.specs.declared.kind.Kind.{Kind}
 use Rattle.fsfs_base.specs.declared.kind.Kind.TheVariants.{File}
 use Rattle.fsfs_base.specs.declared.action.Action.TheVariants.{Delete}
 use Rattle.fsfs_tree.specs.declared.change_map.Change.{Change}
-use Rattle.fsfs_book.specs.Told.{Look}
+use Rattle.fsfs_book.specs.Told.{RevisionBytes}
 use Rattle.fsfs_noderev.specs.declared.node_rev.NodeRev.{NodeRev}
 use Rattle.fsfs_revision.specs.Nodes.{is_revision_id}
 use Rattle.fsfs_revision.specs.Trailers.{EndsWith}
@@ -26,14 +26,14 @@ pub record HasItems (bytes : List ℕ) (items : List ChangeItem) : Type 0 where
 
 -- the kind of what an item without a kind is about: that of the node-revision of its id; where the id is a transaction's, that of the
 -- node at its path, and a file where none stands there
-pub data IsKindOf (look : Look) (r : ℕ) (item : ChangeItem) : Kind → Type 0 where
+pub data IsKindOf (look : RevisionBytes) (r : ℕ) (item : ChangeItem) : Kind → Type 0 where
   Said : (kind : Kind) → item.kind ≡ Some kind → IsKindOf look r item kind
   Named : (u : NodeRev) → item.kind ≡ None → is_revision_id item.id ≡ true → OfId look item.id (Ok u) → IsKindOf look r item u.kind
   There : (v : NodeRev) → item.kind ≡ None → is_revision_id item.id ≡ false → StandsAt look r item.path v → IsKindOf look r item v.kind
   NotThere : item.kind ≡ None → is_revision_id item.id ≡ false → ((v : NodeRev) → StandsAt look r item.path v → ⊥) → IsKindOf look r item File
 
 -- an item tells this change of its path
-pub record IsChangeOf (look : Look) (r : ℕ) (item : ChangeItem) (change : Change) : Type 0 where
+pub record IsChangeOf (look : RevisionBytes) (r : ℕ) (item : ChangeItem) (change : Change) : Type 0 where
   pub action : change.action ≡ item.action
   pub kind : IsKindOf look r item change.kind
   pub text_changed : change.text_changed ≡ item.text_changed
@@ -41,12 +41,12 @@ pub record IsChangeOf (look : Look) (r : ℕ) (item : ChangeItem) (change : Chan
   pub source : change.source ≡ option_map (λ s. (s.rev, s.path)) item.source
 
 -- what is deleted is gone; what is added, replaced or modified is there, and an id that isn't a transaction's is that of the node there
-pub record FitsTree (look : Look) (r : ℕ) (item : ChangeItem) : Type 0 where
+pub record FitsTree (look : RevisionBytes) (r : ℕ) (item : ChangeItem) : Type 0 where
   pub gone : item.action ≡ Delete → (v : NodeRev) → StandsAt look r item.path v → ⊥
   pub there : item.action ≢ Delete → (v : NodeRev) × StandsAt look r item.path v × (is_revision_id item.id ≡ true → item.id ≡ v.id)
 
 -- these are the changed paths of the revision
-pub record AreChangesOf (look : Look) (r : ℕ) (bytes : List ℕ) (changes : FinMap path_cmp Change) : Type 0 where
+pub record AreChangesOf (look : RevisionBytes) (r : ℕ) (bytes : List ℕ) (changes : FinMap path_cmp Change) : Type 0 where
   pub items : List ChangeItem
   pub items_are : HasItems bytes items
   pub each : (item : ChangeItem) → Contains items item → (change : Change) × IsChangeOf look r item change × (get changes item.path ≡ Some change)

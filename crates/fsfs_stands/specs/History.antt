@@ -3,14 +3,14 @@ use Rattle.std.specs.Prelude.{◌≡◌, ℕ, List, Some, Ok, slice_get}
 use Rattle.std.specs.FinMap.{get}
 use Rattle.fsfs_tree.specs.Revisions.{Revision}
 use Rattle.fsfs_tree.specs.Dated.{IsDated, last_of}
-use Rattle.fsfs_book.specs.Told.{Look}
+use Rattle.fsfs_book.specs.Told.{RevisionBytes}
 use Rattle.fsfs_hash.specs.Dump.{IsDump}
 use Rattle.fsfs_shows.specs.Shown.{Shows}
 use Rattle.fsfs_shows.specs.IdRules.{IdRule}
 use Rattle.fsfs_stands.specs.Changes.{AreChangesOf}
 
 -- the bytes of revision r and of its property file show this revision
-pub record ShowsRevision (look props : Look) (r : ℕ) (revision : Revision) : Type 0 where
+pub record ShowsRevision (look props : RevisionBytes) (r : ℕ) (revision : Revision) : Type 0 where
   pub bytes : List ℕ
   pub bytes_are : look r ≡ Ok bytes
   pub tree : Shows look r (get revision.tree)
@@ -22,6 +22,6 @@ pub record ShowsRevision (look props : Look) (r : ℕ) (revision : Revision) : T
   pub dated : IsDated revision.properties
 
 -- each of them, and the node-revisions hang together
-pub record ShowsHistory (look props : Look) (h : List Revision) : Type 0 where
+pub record ShowsHistory (look props : RevisionBytes) (h : List Revision) : Type 0 where
   pub each : (r : ℕ) (revision : Revision) → slice_get h r ≡ Some revision → ShowsRevision look props r revision
   pub ids : IdRule look (last_of h)

@@ -4,7 +4,7 @@ use Rattle.std.specs.Prelude.{Option, Some, None, IfSome, option_map, unwrap_or,
 use Rattle.std.proofs.lemmas.Option.{same_Some}
 use Rattle.fsfs_base.specs.Files.{Files}
 use Rattle.fsfs_base.specs.Paths.{Path}
-use Rattle.fsfs_book.specs.Told.{Look}
+use Rattle.fsfs_book.specs.Told.{RevisionBytes}
 use Rattle.fsfs_disk.specs.Trace.{Trace, files_now}
 use Rattle.fsfs_faults.specs.Faults.{fault_from_open, fault_from_look, IsFromLook}
 use Rattle.fsfs_faults.specs.declared.fault.Fault.{Fault}
@@ -100,7 +100,7 @@ look_refused look m why d = record {
 
 -- ---- a revision that was looked at
 
-one_text : (printed : Printed) (look : Look) (rev : ℕ) (path : Path) → HasOneText (TextOf printed look rev path)
+one_text : (printed : Printed) (look : RevisionBytes) (rev : ℕ) (path : Path) → HasOneText (TextOf printed look rev path)
 one_text (Tree ids) look rev path = tree_one look rev path ids
 one_text Text look rev path = file_one look rev path
 

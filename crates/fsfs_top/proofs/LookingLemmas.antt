@@ -3,7 +3,7 @@ use Rattle.std.proofs.Common.{◌≡◌, ◌≤◌, ℕ, List, inl, inr, refl, a
 use Rattle.std.specs.Prelude.{Option, Some, None, IfSome, option_map, Result, Ok, Err}
 use Rattle.fsfs_base.specs.Files.{Files}
 use Rattle.fsfs_base.specs.Paths.{Path}
-use Rattle.fsfs_book.specs.Told.{Look, Knows, Telling}
+use Rattle.fsfs_book.specs.Told.{RevisionBytes, Knows, Telling}
 use Rattle.fsfs_base.specs.Failures.{Rose}
 use Rattle.fsfs_disk.specs.Trace.{Trace, files_now}
 use Rattle.fsfs_faults.specs.Faults.{fault_from_open}
@@ -31,7 +31,7 @@ use Rattle.fsfs_top.proofs.LookLemmas.{does_not_open}
 pub into_writes : {Below : Type 0} (trace : Option Trace) (look : RevisionLook) (o : Opened) (rev : ℕ) (telling : Telling Below) (old new : Option (List ℕ)) (r : Result (Unit {0}) LookError)
     → IfSome (option_map files_now trace) (λ m. IsOpened (small_texts m) o)
     → ((t : Trace) → trace ≡ Some t → floor_in o.shard_size (files_now t) ≡ Ok o.min_unpacked_rev → HasShortFiles (files_now t) → TellsAll o.youngest o.shard_size (files_now t) telling)
-    → rev ≡ looked_revision look o → rev ≤ o.youngest → ((bytes : Look) → Knows telling.revs rev bytes → Writes (TextOf look.printed bytes rev look.path) old new r)
+    → rev ≡ looked_revision look o → rev ≤ o.youngest → ((bytes : RevisionBytes) → Knows telling.revs rev bytes → Writes (TextOf look.printed bytes rev look.path) old new r)
     → IfSome (option_map files_now trace) (λ m. HasShortFiles m → Writes (TextIn look o m) old new r)
 into_writes None look o rev telling old new r opened tells is le writes = tt
 into_writes (Some t) look o rev telling old new r opened tells is le writes = λ short.

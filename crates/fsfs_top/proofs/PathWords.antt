@@ -4,7 +4,7 @@ use Rattle.std.proofs.lemmas.Bool.{eqb-true, eqb-false, ltb-true}
 use Rattle.std.proofs.lemmas.List.{length-append}
 use Rattle.std.specs.Prelude.{MatchBool}
 use Rattle.std.specs.List.{AllByRecursion}
-use Rattle.fsfs_base.specs.Paths.{Name, Path, names_text, path_text}
+use Rattle.fsfs_base.specs.Paths.{PathName, Path, names_text, path_text}
 use Rattle.fsfs_base.specs.PathTexts.{HasNoSlash, IsName, IsPath, IsNameFault, HasBadName, IsBadJoin, IsBadPath}
 use Rattle.fsfs_base.specs.declared.bad_path.PathFault.{PathFault}
 use Rattle.fsfs_base.specs.declared.bad_path.PathFault.TheVariants.{NotAbsolute, PathTooLong, TooDeep, EmptyName, Control, NameTooLong, Dot}
@@ -33,11 +33,11 @@ one_path_given (Some word) p q a b = one_path word p q a b
 
 -- ---- no path is refused
 
-name_there : (before : Path) (name : Name) (behind : Path) → AllByRecursion IsName (before ++ name ∷ behind) → IsName name
+name_there : (before : Path) (name : PathName) (behind : Path) → AllByRecursion IsName (before ++ name ∷ behind) → IsName name
 name_there [] name behind good = good.0
 name_there (x ∷ before) name behind good = name_there before name behind good.1
 
-name_not_refused : (above : ℕ) (name : Name) (offset : ℕ) (why : PathFault) → above < 128 → IsName name → IsNameFault above name offset why → ⊥
+name_not_refused : (above : ℕ) (name : PathName) (offset : ℕ) (why : PathFault) → above < 128 → IsName name → IsNameFault above name offset why → ⊥
 name_not_refused above name offset NotAbsolute low good bad = bad
 name_not_refused above name offset PathTooLong low good bad = bad
 name_not_refused above name offset TooDeep low good bad = omega (arith, low, bad.0)
@@ -50,8 +50,8 @@ names_not_refused : (p : Path) (text : List ℕ) (at : ℕ) (why : PathFault) �
 names_not_refused p text at why is e bad =
     let same : p ≡ bad.before ++ bad.name ∷ bad.behind = names_text_injective p (bad.before ++ bad.name ∷ bad.behind) (names_whole p is.names) bad.between (e ∙ bad.text_is) in
     let good = name_there bad.before bad.name bad.behind (subst (AllByRecursion IsName) same is.names) in
-    let low : length {A = Name} [] + length bad.before < 128 = omega (arith, is.deep, ap length same, length-append bad.before (bad.name ∷ bad.behind)) in
-    name_not_refused (length {A = Name} [] + length bad.before) bad.name bad.offset why low good bad.fault
+    let low : length {A = PathName} [] + length bad.before < 128 = omega (arith, is.deep, ap length same, length-append bad.before (bad.name ∷ bad.behind)) in
+    name_not_refused (length {A = PathName} [] + length bad.before) bad.name bad.offset why low good bad.fault
 
 join_not_refused : (p : Path) (text : List ℕ) (at : ℕ) (why : PathFault) → IsPath p → names_text p ≡ 47 ∷ text → length text < 4096 → IsBadJoin [] text at why → ⊥
 join_not_refused p text at why is e short bad = go (ltb 4096 (length (names_text []) + 1 + length text)) refl bad

@@ -2,7 +2,7 @@
 use Rattle.std.specs.Prelude.{◌≡◌, ◌≤◌, ◌<◌, ◌⊎◌, ℕ, List, Option, Some, None, IfSome, option_map, unwrap_or, Result, Ok, Err}
 use Rattle.fsfs_base.specs.Files.{Files}
 use Rattle.fsfs_base.specs.Paths.{Path}
-use Rattle.fsfs_book.specs.Told.{Look}
+use Rattle.fsfs_book.specs.Told.{RevisionBytes}
 use Rattle.fsfs_disk.specs.Trace.{Trace, files_now}
 use Rattle.fsfs_streams.specs.Streams.{Adds}
 use Rattle.fsfs_faults.specs.Faults.{fault_from_open, fault_from_look, IsFromLook}
@@ -60,7 +60,7 @@ PrintsShown shown mount disk write told old new fault =
 -- ---- a look at a revision
 
 -- what is printed of a revision, as a reading of the bytes of all revisions
-abbrev pub TextOf : Printed → Look → ℕ → Path → List ℕ → End → Type 0
+abbrev pub TextOf : Printed → RevisionBytes → ℕ → Path → List ℕ → End → Type 0
 TextOf (Tree ids) look rev path = TreeText look rev path ids
 TextOf Text look rev path = FileText look rev path
 

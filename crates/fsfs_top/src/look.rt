@@ -1,6 +1,6 @@
 // Looks at a revision of a repository.
 ghost use Rattle.std.specs.Prelude.{◌≡◌, ◌≢◌, ◌≤◌, ◌<◌, ◌⊎◌, ℕ, List, Some, IfOk, IfErr, IfSome, option_map};
-ghost use Rattle.fsfs_book.specs.Told.{Look, Knows, Keeps};
+ghost use Rattle.fsfs_book.specs.Told.{RevisionBytes, Knows, Keeps};
 ghost use Rattle.fsfs_base.specs.Failures.{Rose};
 ghost use Rattle.fsfs_disk.specs.Trace.{files_now};
 ghost use Rattle.fsfs_faults.specs.declared.fault.Fault.TheVariants as faults;
@@ -67,7 +67,7 @@ fn print_look<B: Book, O: Sink>(
     look: &RevisionLook,
     out: &mut O,
 ) -> Result<(), LookError>
-    ensures told { (bytes : Look) → Knows (B.told book.old).revs rev bytes → Writes (TextOf look.now.printed bytes rev look.now.path) (O.written out.old) (O.written out.new) result }
+    ensures told { (bytes : RevisionBytes) → Knows (B.told book.old).revs rev bytes → Writes (TextOf look.now.printed bytes rev look.now.path) (O.written out.old) (O.written out.new) result }
     ensures kept { Keeps (B.told book.old) (B.told book.new) }
     ensures cause { HasDiskCause (B.faults book.old) (B.faults book.new) result }
     ensures sink { HasSinkCause (O.faults out.old) (O.faults out.new) result }

@@ -8,11 +8,11 @@ use Rattle.md5.specs.Md5.{block_words, rounds, compress, hash_after, digest_byte
 use Rattle.fsfs_grammar.specs.Reading.{text_at, until_at}
 use Rattle.fsfs_grammar.specs.Numeral.{numeral_at, plain_at, number_at, digits_at}
 use Rattle.fsfs_grammar.proofs.Readers.{all_found}
-use Rattle.fsfs_base.specs.Paths.{Name, Path, same_name}
+use Rattle.fsfs_base.specs.Paths.{PathName, Path, same_name}
 use Rattle.fsfs_base.specs.PathTexts.{IsName}
 use Rattle.fsfs_base.specs.declared.kind.Kind.TheVariants.{Dir}
 use Rattle.fsfs_base.proofs.PathLemmas.{same_name-is}
-use Rattle.fsfs_book.specs.Told.{Look}
+use Rattle.fsfs_book.specs.Told.{RevisionBytes}
 use Rattle.fsfs_hash.specs.Dump.{IsDump}
 use Rattle.fsfs_hash.specs.Reading.{field_at, entry_at, dump_at}
 use Rattle.fsfs_hash.proofs.Dumps.{dump_reads}
@@ -39,7 +39,7 @@ use Rattle.fsfs_damage.specs.Damages.{place_of}
 use Rattle.fsfs_revision.specs.Nodes.{IsNodeAt}
 use Rattle.fsfs_revision.specs.declared.trailer.Trailer.{Trailer}
 use Rattle.fsfs_revision.proofs.TrailerLemmas.{trailer_reads}
-use Rattle.fsfs_shows.specs.Reading.{RootOf, Pairs, Entry, IsEntry, IsEntryName, OfId, OfNamed, EntriesOf, ChildOf, Met, Stands, Lacking, MetAt, StandsAt}
+use Rattle.fsfs_shows.specs.Reading.{RootOf, Pairs, DirEntry, IsEntry, IsEntryName, OfId, OfNamed, EntriesOf, ChildOf, Met, Stands, Lacking, MetAt, StandsAt}
 use Rattle.fsfs_shows.specs.Chains.{own_rev, IsPred, First, Goes, copy_root_of, IsCopiedIn}
 use Rattle.fsfs_shows.specs.Shown.{IsShown, IsShownAs, Shows}
 use Rattle.fsfs_shows.specs.IdRules.{IsOf, IsChild, HasSuffix, Directory, IdRule}
@@ -261,7 +261,7 @@ dump_read = refl
 dump_is : IsDump dump_text pairs
 dump_is = all_found dump_reads dump_text pairs dump_read
 
-abbrev entry : Entry
+abbrev entry : DirEntry
 entry = record { name = a_name; kind = Dir; id = a_id }
 
 entry_is : IsEntry (place_of 1 102) (a_name, codes "dir 0-1.0.r1/0") entry
@@ -269,7 +269,7 @@ entry_is = record { name = refl; name_is = a_is_entry_name; value_is = record { 
 
 -- ---- what is shown
 
-module _ (look : Look) (zero_is : look 0 ≡ Ok first_bytes) (one_is : look 1 ≡ Ok directory_bytes) where
+module _ (look : RevisionBytes) (zero_is : look 0 ≡ Ok first_bytes) (one_is : look 1 ≡ Ok directory_bytes) where
   root_read : RootOf look 1 (Ok root)
   root_read = (directory_bytes, one_is, new_root_there)
 
@@ -288,17 +288,17 @@ module _ (look : Look) (zero_is : look 0 ≡ Ok first_bytes) (one_is : look 1 �
   a_child : ChildOf look root a_name (Ok (Some a_node))
   a_child = (entry ∷ [], root_entries, (a_node, a_read, (refl, refl)))
 
-  no_child : (name : Name) → same_name a_name name ≡ false → ChildOf look root name (Ok None)
+  no_child : (name : PathName) → same_name a_name name ≡ false → ChildOf look root name (Ok None)
   no_child name other =
-      (entry ∷ [], root_entries, subst (λ (o : Option Entry). OfNamed look o (Ok None)) (sym (ap (λ (b : Bool). if b then Some entry else None) other)) refl)
+      (entry ∷ [], root_entries, subst (λ (o : Option DirEntry). OfNamed look o (Ok None)) (sym (ap (λ (b : Bool). if b then Some entry else None) other)) refl)
 
   a_stands : StandsAt look 1 (a_name ∷ []) a_node
   a_stands = (root, root_read, (Some a_node, a_child, refl))
 
-  other_lacks : (name : Name) (names : Path) → same_name a_name name ≡ false → MetAt look 1 (name ∷ names) (Ok (Lacking 1))
+  other_lacks : (name : PathName) (names : Path) → same_name a_name name ≡ false → MetAt look 1 (name ∷ names) (Ok (Lacking 1))
   other_lacks name names other = (root, root_read, (None, no_child name other, refl))
 
-  below_lacks : (name : Name) (names : Path) → MetAt look 1 (a_name ∷ name ∷ names) (Ok (Lacking 2))
+  below_lacks : (name : PathName) (names : Path) → MetAt look 1 (a_name ∷ name ∷ names) (Ok (Lacking 2))
   below_lacks name names = (root, root_read, (Some a_node, a_child, (None, ([], refl, refl), refl)))
 
   only_root : (q : NodeRev) → StandsAt look 1 [] q → q ≡ root
@@ -361,12 +361,12 @@ module _ (look : Look) (zero_is : look 0 ≡ Ok first_bytes) (one_is : look 1 �
   abbrev IsShownThere : Path → Type 0
   IsShownThere p = (met : Met) × MetAt look 1 p (Ok met) × IsShownAs look 1 p met (directory_tree p)
 
-  one_name : (name : Name) (b : Bool) → same_name a_name name ≡ b → IsShownThere (name ∷ [])
-  one_name name true same = subst (λ (n : Name). IsShownThere (n ∷ [])) (same_name-is a_name name same) (Stands a_node, a_stands, a_shown)
+  one_name : (name : PathName) (b : Bool) → same_name a_name name ≡ b → IsShownThere (name ∷ [])
+  one_name name true same = subst (λ (n : PathName). IsShownThere (n ∷ [])) (same_name-is a_name name same) (Stands a_node, a_stands, a_shown)
   one_name name false other = (Lacking 1, other_lacks name [] other, ap (λ (b : Bool). if b then Some added_directory else None) other)
 
-  more_names : (name next : Name) (names : Path) (b : Bool) → same_name a_name name ≡ b → IsShownThere (name ∷ next ∷ names)
-  more_names name next names true same = subst (λ (n : Name). IsShownThere (n ∷ next ∷ names)) (same_name-is a_name name same) (Lacking 2, below_lacks next names, refl)
+  more_names : (name next : PathName) (names : Path) (b : Bool) → same_name a_name name ≡ b → IsShownThere (name ∷ next ∷ names)
+  more_names name next names true same = subst (λ (n : PathName). IsShownThere (n ∷ next ∷ names)) (same_name-is a_name name same) (Lacking 2, below_lacks next names, refl)
   more_names name next names false other = (Lacking 1, other_lacks name (next ∷ names) other, refl)
 
   shows_each : (p : Path) → IsShownThere p
@@ -379,21 +379,21 @@ module _ (look : Look) (zero_is : look 0 ≡ Ok first_bytes) (one_is : look 1 �
 
   -- ---- the rules of ids
 
-  stands_below : (name next : Name) (names : Path) (q : NodeRev) → StandsAt look 1 (name ∷ next ∷ names) q → ⊥
+  stands_below : (name next : PathName) (names : Path) (q : NodeRev) → StandsAt look 1 (name ∷ next ∷ names) q → ⊥
   stands_below name next names q at = by (same_name a_name name) refl
     where
       by : (b : Bool) → same_name a_name name ≡ b → ⊥
       by true same =
-          let here : StandsAt look 1 (a_name ∷ next ∷ names) q = subst (λ (n : Name). StandsAt look 1 (n ∷ next ∷ names) q) (sym (same_name-is a_name name same)) at in
+          let here : StandsAt look 1 (a_name ∷ next ∷ names) q = subst (λ (n : PathName). StandsAt look 1 (n ∷ next ∷ names) q) (sym (same_name-is a_name name same)) at in
           let e = met_same look 1 (a_name ∷ next ∷ names) (Stands q) (Lacking 2) here (below_lacks next names) in
           absurd cc
       by false other = let e = met_same look 1 (name ∷ next ∷ names) (Stands q) (Lacking 1) at (other_lacks name (next ∷ names) other) in absurd cc
 
-  stands_at_name : (name : Name) (q : NodeRev) → StandsAt look 1 (name ∷ []) q → q ≡ a_node
+  stands_at_name : (name : PathName) (q : NodeRev) → StandsAt look 1 (name ∷ []) q → q ≡ a_node
   stands_at_name name q at = by (same_name a_name name) refl
     where
       by : (b : Bool) → same_name a_name name ≡ b → q ≡ a_node
-      by true same = only_a q (subst (λ (n : Name). StandsAt look 1 (n ∷ []) q) (sym (same_name-is a_name name same)) at)
+      by true same = only_a q (subst (λ (n : PathName). StandsAt look 1 (n ∷ []) q) (sym (same_name-is a_name name same)) at)
       by false other = let e = met_same look 1 (name ∷ []) (Stands q) (Lacking 1) at (other_lacks name [] other) in absurd cc
 
   -- the node-revisions of both trees
@@ -443,7 +443,7 @@ module _ (look : Look) (zero_is : look 0 ≡ Ok first_bytes) (one_is : look 1 �
   abbrev IsTheChild : ℕ → NodeRev → NodeRev → Type 0
   IsTheChild r dir v = (r ≡ 1) × (dir ≡ root) × (v ≡ a_node)
 
-  child_at : (r : ℕ) (p : Path) (name : Name) (dir v : NodeRev) → r ≤ 1 → StandsAt look r p dir → StandsAt look r (p ++ name ∷ []) v → IsTheChild r dir v
+  child_at : (r : ℕ) (p : Path) (name : PathName) (dir v : NodeRev) → r ≤ 1 → StandsAt look r p dir → StandsAt look r (p ++ name ∷ []) v → IsTheChild r dir v
   child_at zero [] name dir v le above at = absurd (nothing_below look zero_is name [] v at)
   child_at zero (x ∷ p) name dir v le above at = absurd (nothing_below look zero_is x (p ++ name ∷ []) v at)
   child_at (suc zero) [] name dir v le above at = (refl, only_root dir above, stands_at_name name v at)
@@ -451,12 +451,12 @@ module _ (look : Look) (zero_is : look 0 ≡ Ok first_bytes) (one_is : look 1 �
   child_at (suc zero) (x ∷ y ∷ p) name dir v le above at = absurd (stands_below x y (p ++ name ∷ []) v at)
   child_at (suc (suc r)) p name dir v le above at = absurd (omega (arith, le))
 
-  of_child : (P : ℕ → NodeRev → NodeRev → Type 0) → P 1 root a_node → (r : ℕ) (p : Path) (name : Name) (dir v : NodeRev) → IsChild look 1 r p name dir v → P r dir v
+  of_child : (P : ℕ → NodeRev → NodeRev → Type 0) → P 1 root a_node → (r : ℕ) (p : Path) (name : PathName) (dir v : NodeRev) → IsChild look 1 r p name dir v → P r dir v
   of_child P h r p name dir v w =
       let c = child_at r p name dir v w.up_to w.above w.there in
       subst (λ (n : ℕ). P n dir v) (sym c.0) (subst (λ (x : NodeRev). P 1 x v) (sym c.1) (subst (λ (x : NodeRev). P 1 root x) (sym c.2) h))
 
-  no_pred_below : (r : ℕ) (p : Path) (name : Name) (dir v u : NodeRev) → IsChild look 1 r p name dir v → IsPred look v u → ⊥
+  no_pred_below : (r : ℕ) (p : Path) (name : PathName) (dir v u : NodeRev) → IsChild look 1 r p name dir v → IsPred look v u → ⊥
   no_pred_below r p name dir v u w pred = no_pred v u a_node (child_at r p name dir v w.up_to w.above w.there).2 refl pred
 
   abbrev BeginOnce : NodeRev → NodeRev → Type 0

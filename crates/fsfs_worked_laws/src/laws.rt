@@ -1,6 +1,6 @@
 //! Worked revisions, shown by the definitions. The function does nothing: what it ensures is proved once.
 ghost use Rattle.std.specs.Prelude.{◌≡◌, Ok};
-ghost use Rattle.fsfs_book.specs.Told.{Look};
+ghost use Rattle.fsfs_book.specs.Told.{RevisionBytes};
 ghost use Rattle.fsfs_shows.specs.Shown.{Shows};
 ghost use Rattle.fsfs_base.specs.FirstRevision.{first_bytes};
 ghost use Rattle.fsfs_worked_laws.specs.FirstDirectory.{directory_bytes, directory_tree};
@@ -8,6 +8,6 @@ ghost use Rattle.fsfs_shows.specs.IdRules.{IdRule};
 
 /// The bytes of a revision 1 that made a directory, behind those of revision 0, show it and obey the rules of ids.
 pub fn a_directory_is_shown()
-    ensures tree { (look : Look) → look 0 ≡ Ok first_bytes → look 1 ≡ Ok directory_bytes → Shows look 1 directory_tree }
-    ensures ids { (look : Look) → look 0 ≡ Ok first_bytes → look 1 ≡ Ok directory_bytes → IdRule look 1 }
+    ensures tree { (look : RevisionBytes) → look 0 ≡ Ok first_bytes → look 1 ≡ Ok directory_bytes → Shows look 1 directory_tree }
+    ensures ids { (look : RevisionBytes) → look 0 ≡ Ok first_bytes → look 1 ≡ Ok directory_bytes → IdRule look 1 }
 {}

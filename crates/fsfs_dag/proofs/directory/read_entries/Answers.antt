@@ -3,7 +3,7 @@ use Rattle.std.proofs.lemmas.Result.{err_from_is_err_and}
 use Rattle.fsfs_damage.specs.declared.damage.RevOffset.{RevOffset}
 use Rattle.fsfs_damage.specs.Readings.{Answers}
 use Rattle.fsfs_shows.specs.Reading.{PairsAt, EntriesIn, EntriesAt}
-use Rattle.fsfs_dag.specs.declared.directory.Entry.{Entry}
+use Rattle.fsfs_dag.specs.declared.directory.DirEntry.{DirEntry}
 use Rattle.fsfs_dag.specs.Views.{home_of, entry_values}
 use Rattle.fsfs_damage.proofs.Answering.{stops, goes_on}
 use Rattle.fsfs_dag.proofs.PairLemmas.{Pair, entries_seen}
@@ -14,7 +14,7 @@ abbrev Pairs : Type 0
 Pairs = List Pair
 
 pub returns-in-None-clause-told : goal.returns-in-None-clause-told
-returns-in-None-clause-told g c = λ look knows. contents_none [] _ (EntriesAt look (home_of c.args.dir.now.node)) c.args.dir.now.node.text c.in-None.ensures.value (ap (λ (t : List Entry). entry_values t) c.new.ensures.items)
+returns-in-None-clause-told g c = λ look knows. contents_none [] _ (EntriesAt look (home_of c.args.dir.now.node)) c.args.dir.now.node.text c.in-None.ensures.value (ap (λ (t : List DirEntry). entry_values t) c.new.ensures.items)
 
 pub returns-in_err-pairs-in-Some-clause-told : goal.returns-in_err-pairs-in-Some-clause-told
 returns-in_err-pairs-in-Some-clause-told g c = λ look knows.

@@ -1,6 +1,6 @@
 use Rattle.std.proofs.Common.{Err, Ok, arith}
 use Rattle.std.proofs.lemmas.Result.{err_from_is_err_and}
-use Rattle.fsfs_book.specs.Told.{Look}
+use Rattle.fsfs_book.specs.Told.{RevisionBytes}
 use Rattle.fsfs_noderev.specs.declared.node_rev.NodeRev.{NodeRev}
 use Rattle.fsfs_damage.specs.declared.damage.RevOffset.{RevOffset}
 use Rattle.fsfs_damage.specs.Readings.{Answers}
@@ -16,7 +16,7 @@ returns-in_err-read-clause-told g c = λ look knows.
     let p = err_from_is_err_and c.from_residual.result c.from_residual.ensures.1 in
     let e = c.in_err-read.field-0.0 in
     let at = offset_of c.args.id.place in
-    let read = along (λ (a : RevOffset). (seen : Look) → IsTold (g.B.Book.told c.args.book.now) seen a.rev → Answers (λ (v : NodeRev). v) (NodeAt seen a) (Err e)) c.offset_of.result at c.offset_of.ensures c.in_err-read.ensures.told in
+    let read = along (λ (a : RevOffset). (seen : RevisionBytes) → IsTold (g.B.Book.told c.args.book.now) seen a.rev → Answers (λ (v : NodeRev). v) (NodeAt seen a) (Err e)) c.offset_of.result at c.offset_of.ensures c.in_err-read.ensures.told in
     rw (p.1, p.2) (stops (λ (v : NodeRev). v) (λ (found : PlacedNode). found.node) e (NodeAt look at) (HasId c.args.id) (read look (knows at.rev (omega arith))))
 
 pub returns-in_err-node-clause-told : goal.returns-in_err-node-clause-told
@@ -25,7 +25,7 @@ returns-in_err-node-clause-told g c = λ look knows.
     let e = c.in_err-node.field-0.0 in
     let v = c.in_ok-read.read in
     let at = offset_of c.args.id.place in
-    let read = along (λ (a : RevOffset). (seen : Look) → IsTold (g.B.Book.told c.args.book.now) seen a.rev → NodeAt seen a (Ok v)) c.offset_of.result at c.offset_of.ensures c.in_ok-read.ensures.told in
+    let read = along (λ (a : RevOffset). (seen : RevisionBytes) → IsTold (g.B.Book.told c.args.book.now) seen a.rev → NodeAt seen a (Ok v)) c.offset_of.result at c.offset_of.ensures c.in_ok-read.ensures.told in
     let named = err_as (λ (u : NodeRev). u) (λ (found : PlacedNode). found.node) e (HasId c.args.id v) c.in_err-node.ensures.told in
     rw (p.1, p.2) (goes_on (λ (found : PlacedNode). found.node) (Err e) (NodeAt look at) (HasId c.args.id) v (read look (knows at.rev (omega arith))) named)
 
@@ -33,5 +33,5 @@ pub returns-clause-told : goal.returns-clause-told
 returns-clause-told g c = λ look knows.
     let v = c.in_ok-read.read in
     let at = offset_of c.args.id.place in
-    let read = along (λ (a : RevOffset). (seen : Look) → IsTold (g.B.Book.told c.args.book.now) seen a.rev → NodeAt seen a (Ok v)) c.offset_of.result at c.offset_of.ensures c.in_ok-read.ensures.told in
+    let read = along (λ (a : RevOffset). (seen : RevisionBytes) → IsTold (g.B.Book.told c.args.book.now) seen a.rev → NodeAt seen a (Ok v)) c.offset_of.result at c.offset_of.ensures c.in_ok-read.ensures.told in
     (v, read look (knows at.rev (omega arith)), c.in_ok-node.ensures.told)

@@ -1,6 +1,6 @@
 use Rattle.std.proofs.Common.{ℕ, [], Result, Ok, Err, refl, inl}
 use Rattle.fsfs_tree.specs.Nodes.{TreeFunction}
-use Rattle.fsfs_book.specs.Told.{Look}
+use Rattle.fsfs_book.specs.Told.{RevisionBytes}
 use Rattle.fsfs_damage.specs.declared.wrong.ReadError.{ReadError}
 use Rattle.fsfs_damage.specs.declared.wrong.ReadError.TheVariants as errors
 use Rattle.fsfs_damage.specs.Readings.{Answers}
@@ -12,7 +12,7 @@ use Rattle.fsfs_dag.specs.declared.node.PlacedNode.{PlacedNode}
 use Rattle.fsfs_dag.proofs.reading.root_of.Goals as goal
 
 -- the root is what the path without names meets
-root_shown : (look : Look) (rev : ℕ) (tree : TreeFunction) → Shows look rev tree → (result : Result PlacedNode ReadError)
+root_shown : (look : RevisionBytes) (rev : ℕ) (tree : TreeFunction) → Shows look rev tree → (result : Result PlacedNode ReadError)
     → Answers (λ (found : PlacedNode). found.node) (RootOf look rev) result → Answers (λ (found : PlacedNode). Stands found.node) (IsMetByTree look rev tree []) result
 root_shown look rev tree shows (Ok found) h = (by_tree look rev tree shows).paths [] (Ok (Stands found.node)) (found.node, h, refl)
 root_shown look rev tree shows (Err (errors.Wrong w)) h = (by_tree look rev tree shows).paths [] (Err w) (inl h)

@@ -1,6 +1,6 @@
 use Rattle.std.proofs.Common.{refl, sym, ◌∙◌, Err, subst, ap, inl}
 use Rattle.fsfs_damage.specs.declared.damage.RevOffset.{RevOffset}
-use Rattle.fsfs_damage.specs.declared.damage.What.TheVariants.{OtherId}
+use Rattle.fsfs_damage.specs.declared.damage.DamageKind.TheVariants.{OtherId}
 use Rattle.fsfs_damage.specs.declared.wrong.ReadError.{ReadError}
 use Rattle.fsfs_damage.specs.declared.wrong.ReadError.TheVariants.{Wrong}
 use Rattle.fsfs_damage.specs.Damages.{damaged}

@@ -1,6 +1,6 @@
 use Rattle.std.proofs.Common.{◌≡◌, ◌≤◌, drop, map, Result}
 use Rattle.std.specs.String.{string_bytes}
-use Rattle.fsfs_book.specs.Told.{Look, Knows, Keeps}
+use Rattle.fsfs_book.specs.Told.{RevisionBytes, Knows, Keeps}
 use Rattle.fsfs_damage.specs.declared.wrong.Wrong.{Wrong}
 use Rattle.fsfs_shows.specs.Reading.{MetFrom, MetAt, Met}
 use Rattle.fsfs_dag.specs.Views.{home_of}
@@ -13,5 +13,5 @@ invariant-loop-name g l = record {
   kept : Keeps (g.B.Book.told l.fn.book) (g.B.Book.told l.book);
   count : g.B.Book.faults l.fn.book ≤ g.B.Book.faults l.book;
   below : (home_of l.node.node).rev ≤ l.rev;
-  met : (look : Look) → Knows (g.B.Book.told l.fn.book).revs l.rev look → (r : Result Met Wrong) → MetFrom look l.node.node l.depth (map string_bytes (drop l.name-index l.name-items)) r → MetAt look l.rev l.path r;
+  met : (look : RevisionBytes) → Knows (g.B.Book.told l.fn.book).revs l.rev look → (r : Result Met Wrong) → MetFrom look l.node.node l.depth (map string_bytes (drop l.name-index l.name-items)) r → MetAt look l.rev l.path r;
 }

@@ -2,7 +2,7 @@ use Rattle.std.proofs.Common.{◌≡◌, ◌++◌, ◌∷◌, [], refl, sym, ap,
 use Rattle.std.specs.Map.Iter.{deref_pair}
 use Rattle.std.proofs.lemmas.Map.Iter.{rest_more, rest_all}
 use Rattle.fsfs_grammar.proofs.Readers.{appends_then, appends_mapped}
-use Rattle.fsfs_hash.specs.Dump.{Entries, Entry, put_all}
+use Rattle.fsfs_hash.specs.Dump.{Entries, Pair, put_all}
 use Rattle.fsfs_hash.proofs.PutPairs.{pair_of, pairs_of, ascending, put_all-ascending}
 use Rattle.fsfs_hash.proofs.writing.write_hash.Goals as goal
 
@@ -11,7 +11,7 @@ loop-key-preserved c = λ tail w.
     let a = appends_then c.in_ok-put_field.ensures (appends_mapped (λ (v : List ℕ). (c.deref.result.now, v)) c.in_ok-put_field-2.ensures) in
     let left : c.loop-key.key-iterator ≡ (c.in-Some.key.now, c.in-Some.value.now) ∷ c.next.new.self = rest_more deref_pair c.loop-key.key-iterator c.next.new.self c.next.result (c.in-Some.key, c.in-Some.value) c.in-Some.is c.next.ensures.steps in
     let pair : (c.deref.result.now, c.deref-in-loop-key.result.now) ≡ pair_of (c.in-Some.key.now, c.in-Some.value.now) = rw (c.deref.ensures.value, c.deref-in-loop-key.ensures.value) refl in
-    let entry : Entry a.text (pair_of (c.in-Some.key.now, c.in-Some.value.now)) = subst (λ (p : List ℕ × List ℕ). Entry a.text p) pair a.text_is in
+    let entry : Pair a.text (pair_of (c.in-Some.key.now, c.in-Some.value.now)) = subst (λ (p : List ℕ × List ℕ). Pair a.text p) pair a.text_is in
     let more : Entries (a.text ++ tail) (map pair_of c.loop-key.key-iterator) = rw left (a.text, tail, entry, w, refl) in
     let whole = c.loop-key.invariant (a.text ++ tail) more in
     subst (λ (t : List ℕ). Entries t c.args.pairs.now) (sym (append_assoc c.loop-key.out.items a.text tail) ∙ ap (λ (t : List ℕ). t ++ tail) (sym a.parts)) whole
