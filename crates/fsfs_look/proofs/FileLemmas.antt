@@ -26,7 +26,7 @@ use Rattle.fsfs_streams.specs.Output.{AddsFront}
 use Rattle.fsfs_printed.specs.Texts.{End, Whole, Refused, Stopped}
 use Rattle.fsfs_printed.specs.FileTexts.{KindText, FileText, IsWholeText}
 use Rattle.fsfs_look.specs.Written.{Writes, WritesFront}
-use Rattle.fsfs_look.proofs.EndLemmas.{writes_as}
+use Rattle.fsfs_look.proofs.NodeTexts.{writes_as}
 use Rattle.fsfs_look.proofs.ProgressLemmas.{adds_nothing}
 
 -- ---- a representation that is whole

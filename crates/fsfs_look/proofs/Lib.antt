@@ -1,9 +1,9 @@
-pub mod WalkLemmas
+pub mod TextsLeft
 pub mod WeightLemmas
-pub mod TextLemmas
+pub mod LookAnswers
 pub mod LineLemmas
 pub mod ProgressLemmas
-pub mod FitLemmas
-pub mod EndLemmas
+pub mod IdsFit
+pub mod NodeTexts
 pub mod FileLemmas
 pub mod PieceLemmas

@@ -19,7 +19,7 @@ use Rattle.fsfs_printed.specs.Texts.{End, Whole, Refused, Stopped}
 use Rattle.fsfs_printed.specs.TreeTexts.{EntryText}
 use Rattle.fsfs_look.specs.Walks.{left, Then, LeftText, Puts, Joins, JoinsSome, Walks}
 use Rattle.fsfs_dag.specs.Views.{entry_value}
-use Rattle.fsfs_look.proofs.WalkLemmas.{left_push, wrong_first, refused_first, stops_first, node_first}
+use Rattle.fsfs_look.proofs.TextsLeft.{left_push, wrong_first, refused_first, stops_first, node_first}
 
 -- what was kept before and the text so far are what was written and the lines; what S gives goes on behind that text, as R has it
 pub record Progress (R S : List ℕ → End → Type 0) (before lines : List ℕ) (old new : Option (List ℕ)) : Type 0 where

@@ -1,9 +1,9 @@
-pub mod CommandLemmas
-pub mod LookLemmas
-pub mod LookingLemmas
+pub mod CreationTold
+pub mod FilesDecide
+pub mod LooksPrint
 pub mod PathWords
-pub mod AskLemmas
-pub mod ReplyLemmas
-pub mod FlatLemmas
-pub mod Replying
+pub mod OneRequest
+pub mod LookReplies
+pub mod FlatTexts
+pub mod CommandReplies
 pub mod Making

@@ -15,7 +15,7 @@ use Rattle.fsfs_stands.proofs.Creations.{creations_hold_new}
 use Rattle.fsfs_stands.proofs.NewRepository.{new_repositories_stand}
 use Rattle.fsfs_top.specs.Command.{Created, Did, identifier_of}
 use Rattle.fsfs_top.specs.Replies.{MadeStands}
-use Rattle.fsfs_top.proofs.AskLemmas.{did_create}
+use Rattle.fsfs_top.proofs.OneRequest.{did_create}
 use Rattle.fsfs_cli.specs.declared.tool.Tool.{Tool}
 use Rattle.fsfs_cli.proofs.CreateLemmas.{creates_by_admin}
 

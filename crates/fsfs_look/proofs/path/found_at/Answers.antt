@@ -1,4 +1,4 @@
-use Rattle.fsfs_look.proofs.TextLemmas.{not_found, node_met, lacking_met, blocked_met}
+use Rattle.fsfs_look.proofs.LookAnswers.{not_found, node_met, lacking_met, blocked_met}
 use Rattle.fsfs_look.proofs.path.found_at.Goals as goal
 
 pub returns-in-Ok-Node-clause-told : goal.returns-in-Ok-Node-clause-told

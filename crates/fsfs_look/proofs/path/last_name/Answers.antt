@@ -1,7 +1,7 @@
 use Rattle.std.proofs.Common.{ap, ◌∙◌}
 use Rattle.std.specs.String.{string_bytes}
 use Rattle.fsfs_answers.specs.Answers.{last_name}
-use Rattle.fsfs_look.proofs.TextLemmas.{last_of}
+use Rattle.fsfs_look.proofs.LookAnswers.{last_of}
 use Rattle.fsfs_look.proofs.path.last_name.Goals as goal
 
 pub returns-in-len1-up : goal.returns-in-len1-up

@@ -1,7 +1,7 @@
 use Rattle.std.proofs.Common.{◌≡◌, ◌++◌, ◌∷◌, [], ap, sym, refl, ◌∙◌, append_assoc, append-nil, not, rules}
 use Rattle.std.specs.Prelude.{cond}
 use Rattle.fsfs_look.specs.Walks.{pend, pending}
-use Rattle.fsfs_look.proofs.WalkLemmas.{nothing_left}
+use Rattle.fsfs_look.proofs.TextsLeft.{nothing_left}
 use Rattle.fsfs_look.proofs.tree.put_entries.Goals as goal
 
 pub loop-entry-init : goal.loop-entry-init

@@ -3,7 +3,7 @@ use Rattle.std.proofs.lemmas.Result.{err_from_is_err_and, on_ok_weaker}
 use Rattle.fsfs_dag.specs.Views.{home_of}
 use Rattle.fsfs_damage.specs.declared.damage.RevOffset.{RevOffset}
 use Rattle.fsfs_look.specs.Weights.{total}
-use Rattle.fsfs_look.proofs.WalkLemmas.{puts_file, puts_dir, puts_wrong}
+use Rattle.fsfs_look.proofs.TextsLeft.{puts_file, puts_dir, puts_wrong}
 use Rattle.fsfs_look.proofs.WeightLemmas.{within_pend, total_pend, weighs}
 use Rattle.fsfs_look.proofs.tree.put_node.Goals as goal
 

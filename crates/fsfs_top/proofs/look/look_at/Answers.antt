@@ -1,8 +1,8 @@
 use Rattle.std.proofs.Common.{inl, refl, arith}
 use Rattle.fsfs_base.specs.Failures.{Rose}
 use Rattle.fsfs_top.specs.Command.{fault_of}
-use Rattle.fsfs_top.proofs.LookLemmas.{look_decided, look_refusal}
-use Rattle.fsfs_top.proofs.LookingLemmas.{look_now, look_printed, open_refused}
+use Rattle.fsfs_top.proofs.FilesDecide.{look_decided, look_refusal}
+use Rattle.fsfs_top.proofs.LooksPrint.{look_now, look_printed, open_refused}
 use Rattle.fsfs_top.proofs.look.look_at.Goals as goal
 
 pub returns-in-Ok-open-clause-printed : goal.returns-in-Ok-open-clause-printed

@@ -2,7 +2,7 @@ use Rattle.std.proofs.Common.{◌≤◌, refl, inr, subst}
 use Rattle.std.specs.Prelude.{Ok, Err, Result}
 use Rattle.fsfs_base.specs.Failures.{Rose}
 use Rattle.fsfs_look.specs.declared.look_error.LookError.{LookError}
-use Rattle.fsfs_top.proofs.LookingLemmas.{into_writes, fault_with_cause, same_counts}
+use Rattle.fsfs_top.proofs.LooksPrint.{into_writes, fault_with_cause, same_counts}
 use Rattle.fsfs_top.proofs.look.look_into.Goals as goal
 
 pub returns-in-Ok-printed-clause-printed : goal.returns-in-Ok-printed-clause-printed

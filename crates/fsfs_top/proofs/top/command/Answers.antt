@@ -3,7 +3,7 @@ use Rattle.std.specs.Prelude.{string_bytes, Some, None}
 use Rattle.fsfs_base.specs.Failures.{Rose}
 use Rattle.fsfs_faults.specs.Lines.{line_of}
 use Rattle.fsfs_top.proofs.Making.{made_stands, no_zero}
-use Rattle.fsfs_top.proofs.Replying.{replies, told_line}
+use Rattle.fsfs_top.proofs.CommandReplies.{replies, told_line}
 use Rattle.fsfs_top.proofs.top.command.Goals as goal
 
 pub returns-in-Ok-clause-replies : goal.returns-in-Ok-clause-replies

@@ -2,7 +2,7 @@ use Rattle.std.proofs.Common.{◌≡◌, ◌∙◌, ap, sym, subst, refl, arith}
 use Rattle.fsfs_disk.specs.Crash.{IsFirm}
 use Rattle.fsfs_base.specs.Failures.{Rose}
 use Rattle.fsfs_layout.specs.CreatedFiles.{random_identifier}
-use Rattle.fsfs_top.proofs.CommandLemmas.{drawn, created_done, created_failed, leaves_created}
+use Rattle.fsfs_top.proofs.CreationTold.{drawn, created_done, created_failed, leaves_created}
 use Rattle.fsfs_top.proofs.top.create_at.Goals as goal
 
 pub returns-in-Ok-made-clause-created : goal.returns-in-Ok-made-clause-created

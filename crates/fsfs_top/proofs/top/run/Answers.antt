@@ -3,7 +3,7 @@ use Rattle.std.specs.Prelude.{Some, string_bytes}
 use Rattle.fsfs_cli.specs.Words as said
 use Rattle.fsfs_cli.specs.Words.{asked}
 use Rattle.fsfs_cli.proofs.CreateLemmas.{creates_by_admin}
-use Rattle.fsfs_top.proofs.CommandLemmas.{same_files}
+use Rattle.fsfs_top.proofs.CreationTold.{same_files}
 use Rattle.fsfs_top.proofs.top.run.Goals as goal
 
 pub returns-in-Youngest-clause-others : goal.returns-in-Youngest-clause-others

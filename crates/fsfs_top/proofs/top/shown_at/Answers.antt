@@ -1,8 +1,8 @@
 use Rattle.std.proofs.Common.{inl, inr, refl, arith}
 use Rattle.fsfs_base.specs.Failures.{Rose}
-use Rattle.fsfs_top.proofs.CommandLemmas.{opens_as}
-use Rattle.fsfs_top.proofs.LookLemmas.{shown_decided, shown_refusal}
-use Rattle.fsfs_top.proofs.LookingLemmas.{open_refused}
+use Rattle.fsfs_top.proofs.CreationTold.{opens_as}
+use Rattle.fsfs_top.proofs.FilesDecide.{shown_decided, shown_refusal}
+use Rattle.fsfs_top.proofs.LooksPrint.{open_refused}
 use Rattle.fsfs_top.proofs.top.shown_at.Goals as goal
 
 pub returns-in-Ok-print_shown-clause-printed : goal.returns-in-Ok-print_shown-clause-printed

@@ -26,7 +26,7 @@ use Rattle.fsfs_printed.proofs.TreeByTree.{trees_by_tree}
 use Rattle.fsfs_printed.proofs.FileByTree.{files_by_tree}
 use Rattle.fsfs_cli.specs.declared.tool.Tool.{Tool}
 use Rattle.fsfs_cli.specs.declared.tool.Tool.TheVariants.{Look}
-use Rattle.fsfs_top.proofs.ReplyLemmas.{Fits}
+use Rattle.fsfs_top.proofs.LookReplies.{Fits}
 
 abbrev LookFits : Path → Reply → List ℕ → End → Type 0
 LookFits = Fits Look

@@ -34,10 +34,10 @@ use Rattle.fsfs_top.specs.declared.look.Printed.TheVariants.{Tree, Text}
 use Rattle.fsfs_top.specs.declared.look.RevisionLook.{RevisionLook}
 use Rattle.fsfs_top.specs.declared.output.Shown.{Shown}
 use Rattle.fsfs_top.specs.declared.output.Shown.TheVariants.{Youngest, Uuid}
-use Rattle.fsfs_top.proofs.AskLemmas.{did_look, did_shown, printed_by_look, shown_by_look, did_create}
+use Rattle.fsfs_top.proofs.OneRequest.{did_look, did_shown, printed_by_look, shown_by_look, did_create}
 use Rattle.fsfs_layout.proofs.OpeningLemmas.{one_youngest, same_uuid}
-use Rattle.fsfs_top.proofs.FlatLemmas.{tree_is_by_tree, file_is_by_tree, no_rev_line}
-use Rattle.fsfs_top.proofs.ReplyLemmas.{last_is, given_shown, given_look, no_shown, no_look, Fits, given_create, given_again}
+use Rattle.fsfs_top.proofs.FlatTexts.{tree_is_by_tree, file_is_by_tree, no_rev_line}
+use Rattle.fsfs_top.proofs.LookReplies.{last_is, given_shown, given_look, no_shown, no_look, Fits, given_create, given_again}
 use Rattle.fsfs_cli.specs.declared.tool.Tool.{Tool}
 use Rattle.fsfs_cli.specs.declared.tool.Tool.TheVariants.{Admin, Look}
 use Rattle.fsfs_cli.proofs.CreateLemmas.{creates_by_admin}

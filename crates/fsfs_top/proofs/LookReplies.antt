@@ -40,7 +40,7 @@ use Rattle.fsfs_top.specs.Replies.{Gives}
 use Rattle.fsfs_top.specs.declared.look.RevisionLook.{RevisionLook}
 use Rattle.fsfs_top.specs.declared.output.Shown.{Shown}
 use Rattle.fsfs_layout.proofs.OpeningLemmas.{one_youngest, one_shard}
-use Rattle.fsfs_top.proofs.LookLemmas.{same_text, look_or_memory}
+use Rattle.fsfs_top.proofs.FilesDecide.{same_text, look_or_memory}
 use Rattle.fsfs_cli.specs.declared.tool.Tool.{Tool}
 
 -- ---- first parts

@@ -25,7 +25,7 @@ use Rattle.fsfs_top.specs.declared.look.RevisionLook.{RevisionLook}
 use Rattle.fsfs_top.specs.declared.output.Shown.{Shown}
 use Rattle.fsfs_top.specs.declared.output.Shown.TheVariants.{Youngest, Uuid}
 use Rattle.fsfs_top.proofs.PathWords.{one_path, one_path_given, path_not_bad}
-use Rattle.fsfs_top.proofs.LookLemmas.{shown_outside, look_outside, unopened}
+use Rattle.fsfs_top.proofs.FilesDecide.{shown_outside, look_outside, unopened}
 
 same_asked : (a b : Asked) → ◌≡◌ {A = Option Asked} (Some a) (Some b) → a ≡ b
 same_asked a b e = cc

@@ -23,7 +23,7 @@ use Rattle.fsfs_places.specs.declared.open_fault.OpenFault.TheVariants as openin
 use Rattle.fsfs_top.specs.Looks.{TextOf, TextIn, looked_revision, IsFaultAt, IsFaultOf, LooksInto, NotOpened, PrintsLook}
 use Rattle.fsfs_top.specs.declared.look.RevisionLook.{RevisionLook}
 use Rattle.fsfs_rev_file.proofs.FloorLemmas.{floor_is}
-use Rattle.fsfs_top.proofs.LookLemmas.{does_not_open}
+use Rattle.fsfs_top.proofs.FilesDecide.{does_not_open}
 
 -- ---- an opened repository
 
