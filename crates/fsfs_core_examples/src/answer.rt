@@ -1,6 +1,6 @@
 // What a step answers, and which history stands, as lines write them.
 use anyhow::Result;
-use fsfs_base::FsPath;
+use fsfs_base::{FsPath, RevNum};
 use fsfs_core::{Bytes, Numbers, Outcome, State};
 use fsfs_tree::Text;
 use std::alloc::{AllocError, Global};
@@ -57,12 +57,13 @@ fn put_revision(
     out: &mut String,
     alloc: Global,
     state: &State,
-    rev: u32,
+    rev: RevNum,
 ) -> Result<(), AllocError> {
     let Some(revision) = state.history().get(rev) else {
         return Ok(());
     };
-    write!(out, "r{rev}")?;
+    let number = rev.get();
+    write!(out, "r{number}")?;
     let mut paths: BTreeSet<FsPath> = BTreeSet::new(alloc);
     revision.tree.add_paths(&mut paths)?;
     for path in paths.iter() {
@@ -84,7 +85,7 @@ pub fn put_history(out: &mut String, alloc: Global, state: &State) -> Result<(),
     let youngest = state.young();
     writeln!(out, "youngest {youngest}")?;
     for rev in 0..state.history().count() {
-        if let Ok(rev) = u32::try_from(rev) {
+        if let Some(rev) = RevNum::new(rev as u64) {
             put_revision(out, alloc, state, rev)?;
         }
     }

@@ -1,6 +1,6 @@
 // The words of a line.
 use anyhow::{Result, bail};
-use fsfs_base::FsPath;
+use fsfs_base::{FsPath, RevNum};
 use fsfs_core::{Contents, DiskPlace, Went};
 use std::alloc::Global;
 
@@ -27,10 +27,14 @@ impl<'a> Words<'a> {
     }
 
     /// A revision; the word `youngest` means this one.
-    pub fn revision(&mut self, youngest: u64) -> Result<u32> {
-        match self.word() {
-            "youngest" => Ok(u32::try_from(youngest)?),
-            word => Ok(word.parse::<u32>()?),
+    pub fn revision(&mut self, youngest: u64) -> Result<RevNum> {
+        let number = match self.word() {
+            "youngest" => youngest,
+            word => word.parse::<u64>()?,
+        };
+        match RevNum::new(number) {
+            Some(rev) => Ok(rev),
+            None => bail!("no revision"),
         }
     }
 

@@ -1,8 +1,8 @@
 //! Trailers and roots, worked out by hand.
 use fsfs_base::Kind;
-use fsfs_damage::{Damage, DamageKind, RevOffset};
+use fsfs_damage::{DamageKind, ReadError, RevOffset};
 use fsfs_noderev::read_id;
-use fsfs_revision::{RevisionError, Trailer, put_trailer, read_root, read_tail, read_trailer};
+use fsfs_revision::{Trailer, put_trailer, read_root, read_tail, read_trailer};
 use std::test::Fail;
 
 // The bytes of a revision, and the two offsets of its trailer.
@@ -38,13 +38,7 @@ fn trailers_and_roots(rt: HostRuntime) -> Result<(), Fail> {
     let root = read_root(rt.alloc(), 7, bytes).ok().ok_or("a root")?;
     assert_eq!(rt; root.id, read_id(b"0.0.r7/0").ok_or("an id")?);
     assert!(rt; root.kind == Kind::Dir && root.created_path.is_root());
-    let other = Damage {
-        at: RevOffset { rev: 8, offset: 0 },
-        what: DamageKind::OtherId,
-    };
-    assert_eq!(rt;
-        read_root(rt.alloc(), 8, bytes).err(),
-        Some(RevisionError::Damaged(other))
-    );
+    let other = ReadError::damaged(RevOffset { rev: 8, offset: 0 }, DamageKind::OtherId);
+    assert_eq!(rt; read_root(rt.alloc(), 8, bytes).err(), Some(other));
     Ok(())
 }

@@ -3,11 +3,10 @@ use crate::revisions::{
     EMPTY_FILE, FIRST_DIRECTORY, MADE_1, MADE_2, MADE_3, SHORT_TEXT, book_of, path_of,
 };
 use fsfs_base::HexDigest;
-use fsfs_damage::{RepWhat, RevOffset, Wrong};
+use fsfs_damage::{Damage, DamageKind, RepWhat, RevOffset, Wrong};
 use fsfs_look::{LookError, cat, tree_text};
 use fsfs_memstreams::MemSink;
 use fsfs_printed::LookFault;
-use fsfs_shows::RepDamage;
 use std::test::Fail;
 
 // The trees that Subversion's own `svnlook tree --show-ids` prints.
@@ -66,7 +65,8 @@ fn texts(rt: HostRuntime) -> Result<(), Fail> {
         found: md5(b"c83afca9f1e14c3a037a2a5ae9c32c78"),
     };
     let at = RevOffset { rev: 1, offset: 0 };
-    let other_text = LookFault::Wrong(Wrong::BadRep(RepDamage { at, what }));
+    let what = DamageKind::Rep(what);
+    let other_text = LookFault::Wrong(Wrong::Damaged(Damage { at, what }));
     let table = [
         (SHORT_TEXT, "/t", "line ", Ok(())),
         (EMPTY_FILE, "/e", "", Ok(())),

@@ -1,9 +1,9 @@
 //! Digests of known texts, and representations of small revisions, whole and damaged.
 use fsfs_base::HexDigest;
-use fsfs_book::{BookFault, MemBook, MemFile, MemRev};
-use fsfs_damage::Refusal;
+use fsfs_book::{MemBook, MemFile, MemRev};
+use fsfs_damage::{DamageKind, ReadError, Refusal, RepWhat, RevOffset, Wrong};
 use fsfs_noderev::read_rep;
-use fsfs_rep::{Digester, RepError, RepFault, RepReader, read_rep_bytes};
+use fsfs_rep::{Digester, RepReader, read_rep_bytes};
 use std::alloc::{AllocError, Global};
 use std::test::Fail;
 
@@ -96,7 +96,7 @@ fn texts(rt: HostRuntime) -> Result<(), Fail> {
     let mut book = book_of(rt.alloc(), b"xxPLAIN\nabcENDREP\n", &[2])?;
     let mut piece = [0u8; 8];
     let mut reader = RepReader::begin(&mut book, &rep)?;
-    assert!(rt; reader.next(&mut book, &mut piece) == Err(RepFault::Book(BookFault::DiskFault)));
+    assert!(rt; reader.next(&mut book, &mut piece) == Err(ReadError::DiskFault));
     assert!(rt; reader.next(&mut book, &mut piece) == Ok(3));
     assert!(rt; &piece[..3] == b"abc".as_slice());
     assert!(rt; reader.left() == 0);
@@ -106,64 +106,75 @@ fn texts(rt: HostRuntime) -> Result<(), Fail> {
 const ABC: &[u8] =
     b"1 2 3 3 900150983cd24fb0d6963f7d28e17f72 a9993e364706816aba3e25717850c26c9cd0d89d 0-0/_1";
 
-fn fault(alloc: Global, bytes: &[u8], name: &[u8]) -> Result<Option<RepFault>, Fail> {
+// Why the representation of this name is not read.
+fn fault(alloc: Global, bytes: &[u8], name: &[u8]) -> Result<Option<ReadError>, Fail> {
     let rep = read_rep(name).ok_or("a representation")?;
     if rep.rev.is_none() {
         return Err(Fail::from("no revision"));
     }
     let mut book = book_of(alloc, bytes, &[])?;
-    match read_rep_bytes(alloc, &mut book, &rep) {
-        Err(RepError::Fault(fault)) => Ok(Some(fault)),
-        _ => Ok(None),
-    }
+    Ok(read_rep_bytes(alloc, &mut book, &rep).err())
+}
+
+// Damage of the representation that begins at byte 2 of revision 1.
+fn bad(what: RepWhat) -> ReadError {
+    ReadError::damaged(RevOffset { rev: 1, offset: 2 }, DamageKind::Rep(what))
+}
+
+fn delta() -> ReadError {
+    ReadError::Wrong(Wrong::Delta(RevOffset { rev: 1, offset: 2 }))
+}
+
+fn above() -> ReadError {
+    ReadError::Wrong(Wrong::Refused(Refusal::NoRev {
+        asked: 2,
+        youngest: 1,
+    }))
+}
+
+fn md5_of_another() -> ReadError {
+    bad(RepWhat::Md5 {
+        kept: md5(b"900150983cd24fb0d6963f7d28e17f72"),
+        found: md5(b"dbbbbe4975e026e04a687871f296a2b2"),
+    })
+}
+
+// The MD5 agrees, and the SHA-1 does not.
+fn sha1_of_none() -> ReadError {
+    bad(RepWhat::Sha1 {
+        kept: sha1(b"da39a3ee5e6b4b0d3255bfef95601890afd80709"),
+        found: sha1(b"a9993e364706816aba3e25717850c26c9cd0d89d"),
+    })
 }
 
 #[test]
 fn damaged(rt: HostRuntime) -> Result<(), Fail> {
-    let md5_of_another = RepFault::Md5 {
-        kept: md5(b"900150983cd24fb0d6963f7d28e17f72"),
-        found: md5(b"dbbbbe4975e026e04a687871f296a2b2"),
-    };
-    // The MD5 agrees, and the SHA-1 does not.
-    let sha1_of_none = RepFault::Sha1 {
-        kept: sha1(b"da39a3ee5e6b4b0d3255bfef95601890afd80709"),
-        found: sha1(b"a9993e364706816aba3e25717850c26c9cd0d89d"),
-    };
-    let above = Refusal::NoRev {
-        asked: 2,
-        youngest: 1,
-    };
-    let delta = RepFault::Delta { rev: 1, offset: 2 };
-    let table: [(&[u8], &[u8], RepFault); 12] = [
-        (b"xxPLAIN\naBcENDREP\n", ABC, md5_of_another),
-        (b"xxPLAIN\nabcENDREP", ABC, RepFault::NoTrailer),
-        (b"xxPLAIN\nabcdENDREP\n", ABC, RepFault::NoTrailer),
-        (b"xxPLAINabcENDREP\n", ABC, RepFault::NoHeader),
-        (b"x", ABC, RepFault::NoHeader),
+    let table: [(&[u8], &[u8], ReadError); 12] = [
+        (b"xxPLAIN\naBcENDREP\n", ABC, md5_of_another()),
+        (b"xxPLAIN\nabcENDREP", ABC, bad(RepWhat::EndRep)),
+        (b"xxPLAIN\nabcdENDREP\n", ABC, bad(RepWhat::EndRep)),
+        (b"xxPLAINabcENDREP\n", ABC, bad(RepWhat::Header)),
+        (b"x", ABC, bad(RepWhat::Header)),
         // A delta, with a base or without.
-        (b"xxDELTA\nabcENDREP\n", ABC, delta),
-        (b"xxDELTA 2147483647 18446744073709551615 0\n", ABC, delta),
-        (b"xxDELTA 0 017 4\n", ABC, RepFault::NoHeader),
+        (b"xxDELTA\nabcENDREP\n", ABC, delta()),
+        (b"xxDELTA 2147483647 18446744073709551615 0\n", ABC, delta()),
+        (b"xxDELTA 0 017 4\n", ABC, bad(RepWhat::Header)),
         (
             b"xxPLAIN\nabcENDREP\n",
             b"1 2 3 4 900150983cd24fb0d6963f7d28e17f72",
-            RepFault::Size { kept: 4, found: 3 },
+            bad(RepWhat::Size { kept: 4, found: 3 }),
         ),
         (
             b"xxPLAIN\nabcENDREP\n",
             b"1 2 18446744073709551615 0 900150983cd24fb0d6963f7d28e17f72",
-            RepFault::NoTrailer,
+            bad(RepWhat::EndRep),
         ),
         (
             b"xxPLAIN\nabcENDREP\n",
             b"1 2 3 0 900150983cd24fb0d6963f7d28e17f72 da39a3ee5e6b4b0d3255bfef95601890afd80709 0-0/_1",
-            sha1_of_none,
+            sha1_of_none(),
         ),
-        (
-            b"",
-            b"2 2 3 0 900150983cd24fb0d6963f7d28e17f72",
-            RepFault::Book(BookFault::Refused(above)),
-        ),
+        (b"", b"2 2 3 0 900150983cd24fb0d6963f7d28e17f72", above()),
     ];
     for (bytes, name, want) in table {
         assert!(rt;

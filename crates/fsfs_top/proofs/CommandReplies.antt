@@ -113,7 +113,7 @@ module _ (mount disk write told : Type 0) (tool : Tool) (ws : List (List ℕ)) (
       let by_admin : tool ≡ Admin = (creates_by_admin tool ws repos shard asks).0 in
       let made = create_at repos shard t asks here in
       given_again status mount disk write told tool old new err_old err_new shard clock dice t (at_new repos) fault (refuses (codes "svnadmin: AlreadyRepo\n") 1)
-      (ap (λ (k : Tool). refuses (line_of k AlreadyRepo) 1) (sym by_admin)) stands.small.format.0 stands.small.format.1 ends made.0 made.1
+      (ap (λ (k : Tool). refuses (line_of k AlreadyRepo) 1) (sym by_admin)) stands.small.format.0 stands.small.format.1.there ends made.0 made.1
 
   pub replies : Replies tool ws at_old Given
   replies = record {

@@ -6,7 +6,7 @@ use Rattle.fsfs_base.specs.Files.{Files}
 use Rattle.fsfs_disk.specs.Trace.{Trace, files_now}
 use Rattle.fsfs_faults.specs.Lines.{status_of}
 use Rattle.fsfs_faults.specs.declared.fault.Fault.{Fault}
-use Rattle.fsfs_faults.specs.declared.fault.Fault.TheVariants.{Usage, BadPath, NotFound, NotDir, NotFile, NoRev, AlreadyRepo, NotRepo, OtherFormat, Linear, Small, Corrupt, BadRep, Delta, MountFault, DiskFault, WriteFault, Memory}
+use Rattle.fsfs_faults.specs.declared.fault.Fault.TheVariants.{Usage, BadPath, NotFound, NotDir, NotFile, NoRev, AlreadyRepo, NotRepo, OtherFormat, Linear, Small, Corrupt, Delta, MountFault, DiskFault, WriteFault, Memory}
 use Rattle.fsfs_answers.specs.Answers.{new_history}
 use Rattle.fsfs_layout.specs.CreatedFiles.{created_over, identifier_text, random_identifier}
 use Rattle.fsfs_stands.specs.Files.{StandsFor}
@@ -38,7 +38,6 @@ no_zero (OtherFormat number) e = omega arith
 no_zero Linear e = omega arith
 no_zero (Small small) e = omega arith
 no_zero (Corrupt damage) e = omega arith
-no_zero (BadRep damage) e = omega arith
 no_zero (Delta at) e = omega arith
 no_zero MountFault e = omega arith
 no_zero (DiskFault place) e = omega arith
