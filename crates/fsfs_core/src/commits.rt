@@ -124,7 +124,7 @@ impl State {
             return Ok(Outcome::Barred);
         }
         let txn = &self.txns[at];
-        if txn.base > head {
+        if head.get() < txn.base.get() {
             return Ok(Outcome::Barred);
         }
         let history = self.line.revisions();

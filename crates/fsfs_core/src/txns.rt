@@ -66,6 +66,15 @@ pub fn land_on(
     }
 }
 
+// The last revision of a history, and the one that follows; none where there is none, or no number is left.
+fn ends_of(history: &History) -> Option<(RevNum, RevNum)>
+    ensures { MatchOption result (0 < length history.now → length history.now ≤ last_rev → ⊥) (λ ends. (ends.0 ≡ last_of history.now) × (ends.1 ≡ length history.now)) }
+{
+    let next = RevNum::new(history.count() as u64)?;
+    let last = next.previous()?;
+    Some((last, next))
+}
+
 // The same on the last of the revisions, as the one that follows.
 fn next_tree(alloc: Global, history: &History, txn: &Txn) -> Result<Option<Tree>, AllocError>
     ensures { IfOk result (λ o. MatchOption o
@@ -74,10 +83,7 @@ fn next_tree(alloc: Global, history: &History, txn: &Txn) -> Result<Option<Tree>
         × NoClash txn.now.base (tree_of history.now txn.now.base) (tree_of history.now (last_of history.now)) (finmap.get txn.now.tree) txn.now.marks
         × ((q : Path) → finmap.get tree q ≡ land (tree_of history.now txn.now.base) (tree_of history.now (last_of history.now)) (finmap.get txn.now.tree) txn.now.marks (length history.now) q))) }
 {
-    let Some(next) = RevNum::new(history.count() as u64) else {
-        return Ok(None);
-    };
-    let Some(last) = next.previous() else {
+    let Some((last, next)) = ends_of(history) else {
         return Ok(None);
     };
     match (tree_at(history, txn.base), tree_at(history, last)) {
