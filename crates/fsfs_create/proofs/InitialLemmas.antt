@@ -7,6 +7,7 @@ use Rattle.fsfs_grammar.proofs.Numerals.{numeral_one}
 use Rattle.fsfs_grammar.proofs.Unique.{numeral_same}
 use Rattle.fsfs_base.specs.Files.{NamedFile}
 use Rattle.fsfs_layout.specs.Names.{in_shard}
+use Rattle.fsfs_layout.specs.declared.layout.Layout.{Layout}
 use Rattle.fsfs_layout.specs.Small.{IsBase36Line}
 
 -- a file more
@@ -22,8 +23,8 @@ zero_line text is = is ∙ ap (λ (t : List ℕ). t ++ 10 ∷ []) zero_text
 pub zero_line36 : (text : List ℕ) → IsBase36Line text 0 → text ≡ codes "0\n"
 zero_line36 text w = w.parts ∙ ap (λ (t : List ℕ). t ++ 10 ∷ []) (numeral_same 36 (omega arith) (omega arith) w.digits (codes "0") 0 w.numeral (numeral_one 36 48 (omega arith)))
 
--- whatever the size of a shard, revision 0 is in shard 0
-pub first_name : (folder name : List ℕ) (n : ℕ) → name ≡ in_shard folder n 0 → name ≡ folder ++ 47 ∷ codes "0" ++ 47 ∷ codes "0"
+-- whatever the layout, revision 0 is in shard 0
+pub first_name : (folder name : List ℕ) (n : Layout) → name ≡ in_shard folder n 0 → name ≡ folder ++ 47 ∷ codes "0" ++ 47 ∷ codes "0"
 first_name folder name n is =
-    is ∙ ap (λ (k : ℕ). folder ++ 47 ∷ decimal k ++ 47 ∷ decimal 0) (zero-div n)
+    is ∙ ap (λ (k : ℕ). folder ++ 47 ∷ decimal k ++ 47 ∷ decimal 0) (zero-div n.shard_size)
     ∙ ap (λ (t : List ℕ). folder ++ 47 ∷ t ++ 47 ∷ t) zero_text
