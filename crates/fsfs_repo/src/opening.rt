@@ -10,8 +10,8 @@ ghost use Rattle.fsfs_layout.specs.declared.opened.Opened.{Opened};
 use fsfs_base::{Name, SmallFault, SmallFile};
 use fsfs_disk::Disk;
 use fsfs_layout::{
-    Format, Layout, Opened, names, read_current, read_format, read_min_unpacked_rev, read_txn_current,
-    read_uuid,
+    Format, Layout, Opened, names, read_current, read_format, read_min_unpacked_rev,
+    read_txn_current, read_uuid,
 };
 use fsfs_places::{DiskPlace, OpenFault};
 use fsfs_whole_file::{FileFault, read_disk_file};
@@ -33,6 +33,7 @@ fn text_of<D: Disk>(alloc: Global, disk: &mut D, name: &Name) -> Result<Vec<u8>,
     ensures bytes { IfSome (D.trace disk.old) (λ t. IfOk result (λ v. v.items ≡ text_at (files_now t) name.now)) }
     ensures same { D.trace disk.new ≡ D.trace disk.old }
     ensures mounted { D.mount_path disk.new ≡ D.mount_path disk.old }
+    ensures right { D.may_write disk.new ≡ D.may_write disk.old }
     ensures later { D.faults disk.old ≤ D.faults disk.new }
     ensures failed { IfErr result (IfUnread (Rose (D.faults disk.old) (D.faults disk.new))) }
 {
@@ -57,6 +58,7 @@ fn read_small_files<D: Disk>(alloc: Global, disk: &mut D) -> Result<SmallFiles, 
     ensures texts { IfSome (D.trace disk.old) (λ t. IfOk result (λ s. texts_of s ≡ small_texts (files_now t))) }
     ensures same { D.trace disk.new ≡ D.trace disk.old }
     ensures mounted { D.mount_path disk.new ≡ D.mount_path disk.old }
+    ensures right { D.may_write disk.new ≡ D.may_write disk.old }
     ensures later { D.faults disk.old ≤ D.faults disk.new }
     ensures failed { IfErr result (IfUnread (Rose (D.faults disk.old) (D.faults disk.new))) }
 {
@@ -138,6 +140,7 @@ pub fn open<D: Disk>(alloc: Global, disk: &mut D) -> Result<Opened, OpenFault>
     ensures decided { IfSome (D.trace disk.old) (λ t. Decides (small_texts (files_now t)) result) }
     ensures same { option_map files_now (D.trace disk.new) ≡ option_map files_now (D.trace disk.old) }
     ensures mounted { D.mount_path disk.new ≡ D.mount_path disk.old }
+    ensures right { D.may_write disk.new ≡ D.may_write disk.old }
     ensures later { D.faults disk.old ≤ D.faults disk.new }
 {
     if disk.firm_names().is_err() {
