@@ -1,9 +1,10 @@
 // The files of a new repository.
-ghost use Rattle.std.specs.Prelude.{◌≡◌, ◌<◌, ◌++◌, ◌∷◌, [], map, IfOk, OnOk};
+ghost use Rattle.std.specs.Prelude.{◌≡◌, ◌<◌, ◌++◌, ◌∷◌, [], length, map, IfOk, OnOk};
 ghost use Rattle.fsfs_create.specs.NewFiles.{named};
 ghost use Rattle.fsfs_layout.specs.CreatedFiles.{unpublished_files, date_properties, identifier_text as text_of_identifier};
 
-use fsfs_base::{B36, Name};
+use fsfs_base::{B36, Name, Pairs};
+use fsfs_hash::write_hash;
 use fsfs_layout::{
     Layout, Uuid as Identifier, names, write_current, write_min_unpacked_rev, write_txn_current,
     write_uuid,
@@ -39,12 +40,14 @@ fn identifier_of(identifier: Uuid) -> Identifier
 
 // The property list of revision 0.
 fn properties(alloc: Global, date: &[u8]) -> Result<Vec<u8>, AllocError>
+    requires { length date.now ≡ 27 }
     ensures { IfOk result (λ t. t.items ≡ date_properties date.now) }
 {
-    let mut out = Vec::from_slice(alloc, b"K 8\nsvn:date\nV 27\n")?;
-    out.extend_from_slice(date)?;
-    out.extend_from_slice(b"\nEND\n")?;
-    Ok(out)
+    let name = Vec::from_slice(alloc, b"svn:date")?;
+    let value = Vec::from_slice(alloc, date)?;
+    let mut pairs = Pairs::new(alloc);
+    pairs.set(name, value)?;
+    write_hash(alloc, &pairs)
 }
 
 /// All files of a new repository but `db/format`, from its identifier, its layout and the text of its date.
@@ -54,6 +57,7 @@ pub fn created_files(
     layout: Layout,
     date: &[u8],
 ) -> Result<Vec<NewFile>, AllocError>
+    requires { length date.now ≡ 27 }
     ensures { IfOk result (λ files. map named files.items ≡ unpublished_files (text_of_identifier identifier) date.now) }
 {
     let version = Vec::from_slice(alloc, b"5\n")?;
