@@ -1,7 +1,7 @@
 use Rattle.std.proofs.Common.{ℕ, List, []}
 use Rattle.fsfs_shows.specs.Reading.{PairsAt}
 use Rattle.fsfs_dag.proofs.Reps.{rep_le, contents_some, contents_none}
-use Rattle.fsfs_dag.proofs.contents.read_props.Goals as goal
+use Rattle.fsfs_dag.proofs.contents.props.Goals as goal
 
 abbrev Pairs : Type 0
 Pairs = List (List ℕ × List ℕ)

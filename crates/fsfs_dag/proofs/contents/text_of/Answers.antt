@@ -3,7 +3,7 @@ use Rattle.std.specs.declared.vec.Vec.{Vec}
 use Rattle.std.specs.declared.alloc.Global.{Global}
 use Rattle.fsfs_shows.specs.Reading.{RepAt}
 use Rattle.fsfs_dag.proofs.Reps.{rep_le, contents_some, contents_none}
-use Rattle.fsfs_dag.proofs.contents.read_text.Goals as goal
+use Rattle.fsfs_dag.proofs.contents.text_of.Goals as goal
 
 pub returns-in-None-clause-told : goal.returns-in-None-clause-told
 returns-in-None-clause-told g c = λ look knows. contents_none [] _ (RepAt look) c.args.file.now.node.text c.in-None.ensures.value c.new.ensures.items

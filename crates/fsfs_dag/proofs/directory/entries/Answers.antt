@@ -8,7 +8,7 @@ use Rattle.fsfs_dag.specs.Views.{home_of, entry_values}
 use Rattle.fsfs_damage.proofs.Answering.{stops, goes_on}
 use Rattle.fsfs_dag.proofs.PairLemmas.{Pair, entries_seen}
 use Rattle.fsfs_dag.proofs.Reps.{rep_le, contents_some, contents_none}
-use Rattle.fsfs_dag.proofs.directory.read_entries.Goals as goal
+use Rattle.fsfs_dag.proofs.directory.entries.Goals as goal
 
 abbrev Pairs : Type 0
 Pairs = List Pair

@@ -7,7 +7,7 @@ use Rattle.fsfs_dag.specs.declared.node.PlacedNode.{PlacedNode}
 use Rattle.fsfs_dag.proofs.Steps.{told_later}
 use Rattle.fsfs_dag.proofs.Windows.{root_no_end, root_no_node, as_root_of, no_root, own_place, root_own, placed_root}
 use Rattle.fsfs_book.proofs.Keeping.{keeps_trans}
-use Rattle.fsfs_dag.proofs.reading.read_root.Goals as goal
+use Rattle.fsfs_dag.proofs.reading.root_of.Goals as goal
 
 pub returns-in_err-at-clause-told : goal.returns-in_err-at-clause-told
 returns-in_err-at-clause-told g c = λ look knows.

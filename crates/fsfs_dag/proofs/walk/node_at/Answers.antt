@@ -10,7 +10,7 @@ use Rattle.fsfs_damage.specs.Readings.{Answers}
 use Rattle.fsfs_dag.specs.declared.node.PlacedNode.{PlacedNode}
 use Rattle.fsfs_dag.specs.Views.{home_of, met_value}
 use Rattle.fsfs_dag.proofs.WalkLemmas.{names_step, names_end, from_root, walk_ends, walk_file, walk_down, walk_absent, walk_wrong}
-use Rattle.fsfs_dag.proofs.walk.go_down.Goals as goal
+use Rattle.fsfs_dag.proofs.walk.node_at.Goals as goal
 
 pub loop-name-init : goal.loop-name-init
 loop-name-init g c = record {
