@@ -3,10 +3,8 @@ use Rattle.std.proofs.Common.{◌≡◌, ◌<◌, ◌+◌, ℕ, zero, suc, true,
 use Rattle.std.specs.Prelude.{◌≢◌, All}
 use Rattle.std.proofs.lemmas.List.{take_more}
 use Rattle.fsfs_grammar.specs.Grammar.{Appends}
-use Rattle.fsfs_noderev.specs.Ids.{id_value}
 use Rattle.fsfs_noderev.specs.Writing.{FitsSource}
 use Rattle.fsfs_noderev.specs.declared.node_rev.CopySource.{CopySource}
-use Rattle.fsfs_noderev.proofs.Fitting.{id_fits}
 use Rattle.fsfs_changes.specs.Words.{flags_fit}
 use Rattle.fsfs_changes.specs.Items.{IsFirstLine, IsSecondLine, IsItem, HasText}
 use Rattle.fsfs_changes.specs.Changes.{IsAny, AreChanges}
@@ -35,13 +33,12 @@ written_more {a} {b} items k item lt is before w =
 
 source_fits : (t : List ℕ) (s : Option CopySource) → IsSecondLine t s → FitsSource s
 source_fits t None w = tt
-source_fits t (Some s) w = (w.2.1, w.3.path_is)
+source_fits t (Some s) w = w.3.path_is
 
 pub has_text : (text : List ℕ) (item : ChangeItem) → IsItem text item → item.kind ≢ None → HasText item
 has_text text item w kind =
     let f = w.first_is in
     record {
-      id = id_fits f.0 (id_value item.id) f.2;
       kind = kind;
       flags = w.flags;
       path = f.3.3.3.3.path_is;

@@ -2,7 +2,6 @@
 use Rattle.std.specs.Prelude.{◌≡◌, ◌≢◌, ℕ, true, List, [], ◌∷◌, ◌++◌, Option, Some, None}
 use Rattle.fsfs_grammar.specs.Cuts.{IsCutOf}
 use Rattle.fsfs_base.specs.PathTexts.{IsPath}
-use Rattle.fsfs_noderev.specs.Ids.{FitsId, id_value}
 use Rattle.fsfs_noderev.specs.Fields.{IsIdText, IsPathText, IsSourceText}
 use Rattle.fsfs_noderev.specs.Writing.{FitsSource}
 use Rattle.fsfs_noderev.specs.declared.node_rev.CopySource.{CopySource}
@@ -28,9 +27,8 @@ pub record IsItem (text : List ℕ) (item : ChangeItem) : Type 0 where
   pub flags : flags_fit item.action item.text_changed item.props_changed ≡ true
   pub parts : text ≡ first ++ 10 ∷ (second ++ 10 ∷ [])
 
--- what is written: with its kind, its numbers and paths within their limits, and no flag in a delete
+-- what is written: with its kind, its paths within their limits, and no flag in a delete
 pub record HasText (item : ChangeItem) : Type 0 where
-  pub id : FitsId (id_value item.id)
   pub kind : item.kind ≢ None
   pub flags : flags_fit item.action item.text_changed item.props_changed ≡ true
   pub path : IsPath item.path

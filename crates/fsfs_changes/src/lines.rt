@@ -70,10 +70,10 @@ pub(crate) fn item_text(bytes: &[u8]) -> Option<ItemText<'_>>
     ensures { option_map item_value result ≡ item_at bytes.now }
 {
     let (first, (source, rest)) = lines_of(bytes)?;
-    let head = head_of(first)?;
-    if flags_fit(head.action, head.text_changed, head.props_changed) {
-        Some(ItemText { head, source, rest })
-    } else {
-        None
+    match head_of(first) {
+        Some(head) if flags_fit(head.action, head.text_changed, head.props_changed) => {
+            Some(ItemText { head, source, rest })
+        }
+        _ => None,
     }
 }

@@ -2,7 +2,6 @@
 ghost use Rattle.std.specs.Prelude.{◌≡◌, ℕ, List, Option, Some, IsSome, IfSome, IsSomeAnd, IfOk, IfErr, MatchResult};
 ghost use Rattle.fsfs_grammar.specs.Grammar.{Begins};
 ghost use Rattle.fsfs_base.specs.Paths.{Path, path_text};
-ghost use Rattle.fsfs_noderev.specs.Ids.{rev_at};
 ghost use Rattle.fsfs_noderev.specs.Fields.{IsPathText, IsSourceText};
 ghost use Rattle.fsfs_noderev.specs.declared.node_rev.CopySource.{CopySource};
 ghost use Rattle.fsfs_changes.specs.Items.{IsSecondLine, IsItem};
@@ -12,9 +11,8 @@ ghost use Rattle.fsfs_changes.specs.declared.item.ChangeItem.{ChangeItem};
 use crate::change_error::{ChangeError, ChangeFault};
 use crate::item::ChangeItem;
 use crate::lines::item_text;
-use fsfs_base::{FsPath, PathError};
+use fsfs_base::{FsPath, PathError, RevNum};
 use fsfs_grammar::cuts::cut_at;
-use fsfs_grammar::decimals::plain_decimal;
 use fsfs_noderev::CopySource;
 use std::alloc::{AllocError, Global};
 use std::collections::BTreeSet;
@@ -41,20 +39,13 @@ fn path_of(alloc: Global, text: &[u8]) -> Result<Option<FsPath>, AllocError>
     }
 }
 
-fn rev_of(text: &[u8]) -> Option<u32>
-    ensures { result ≡ rev_at text.now }
-{
-    let rev = plain_decimal(2147483647, text)?;
-    Some(rev as u32)
-}
-
 fn source_of(alloc: Global, text: &[u8]) -> Result<Option<CopySource>, AllocError>
     ensures found { IfOk result (λ o. IfSome o (IsSourceText text.now)) }
     ensures only { (s : CopySource) → IsSourceText text.now s → IfOk result (λ o. o ≡ Some s) }
 {
     match cut_at(b' ', text) {
         None => Ok(None),
-        Some((front, rest)) => match rev_of(front) {
+        Some((front, rest)) => match RevNum::plain(front) {
             None => Ok(None),
             Some(rev) => match path_of(alloc, rest)? {
                 None => Ok(None),

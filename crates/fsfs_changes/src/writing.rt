@@ -10,7 +10,6 @@ ghost use Rattle.fsfs_changes.specs.Changes.{AreChanges, AreRevisionChanges, Hav
 
 use crate::item::ChangeItem;
 use fsfs_base::{Action, FsPath, Kind};
-use fsfs_grammar::decimals::put_dec;
 use fsfs_noderev::{CopySource, put_id};
 use std::alloc::{AllocError, Global};
 
@@ -97,7 +96,7 @@ fn put_second_line(
     match source {
         None => Ok(()),
         Some(source) => {
-            put_dec(out, source.rev as u64)?;
+            source.rev.put(out)?;
             out.push(b' ')?;
             put_path(alloc, out, &source.path)?;
             Ok(())

@@ -72,11 +72,11 @@ fn name_of(name: &[u8]) -> Option<&str>
     }
 }
 
-fn stands_before(home: RevOffset, place: Place) -> bool
-    ensures { result ≡ place_before home place }
+fn stands_before(home: RevOffset, place: &Place) -> bool
+    ensures { result ≡ place_before home place.now }
 {
     match place {
-        Place::At(rev, offset) => is_before(rev, offset, home),
+        Place::At(rev, offset) => is_before(*rev, *offset, home),
         Place::In(_) => false,
     }
 }
@@ -100,7 +100,7 @@ fn entry_of(
         return Err(bad_rep(rep, RepWhat::EntryValue));
     };
     let (kind, id) = target;
-    if !stands_before(home, id.place) {
+    if !stands_before(home, &id.place) {
         return Err(ReadError::damaged(home, DamageKind::PlaceOrder));
     }
     match String::from_str(alloc, name) {

@@ -10,7 +10,10 @@ pub(crate) fn offset_of(place: Place) -> RevOffset
     ensures { result ≡ offset_of place }
 {
     match place {
-        Place::At(rev, offset) => RevOffset { rev, offset },
+        Place::At(rev, offset) => RevOffset {
+            rev: rev.get(),
+            offset,
+        },
         Place::In(_) => RevOffset { rev: 0, offset: 0 },
     }
 }

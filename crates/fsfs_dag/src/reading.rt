@@ -144,7 +144,7 @@ fn same_part(a: Part, b: Part) -> bool
             _ => false,
         },
         Part::Made(m, made) => match b {
-            Part::Made(n, rev) => m.number == n.number && made == rev,
+            Part::Made(n, rev) => m.number == n.number && made.get() == rev.get(),
             _ => false,
         },
     }
@@ -155,12 +155,14 @@ fn same_place(a: Place, b: Place) -> bool
 {
     match a {
         Place::At(rev, offset) => match b {
-            Place::At(other, place) => rev == other && offset == place,
+            Place::At(other, place) => rev.get() == other.get() && offset == place,
             Place::In(_) => false,
         },
         Place::In(txn) => match b {
             Place::At(_, _) => false,
-            Place::In(other) => txn.base == other.base && txn.number.number == other.number.number,
+            Place::In(other) => {
+                txn.base.get() == other.base.get() && txn.number.number == other.number.number
+            }
         },
     }
 }
@@ -172,12 +174,12 @@ fn same_id(a: &NodeId, b: &NodeId) -> bool
 }
 
 // The node-revision, if it has the id that names it.
-fn with_id(id: NodeId, node: NodeRev) -> Result<NodeRev, ReadError>
-    ensures told { Answers (λ v. v) (HasId id node) result }
+fn with_id(id: &NodeId, node: NodeRev) -> Result<NodeRev, ReadError>
+    ensures told { Answers (λ v. v) (HasId id.now node) result }
     ensures same { IfOk result (λ v. v ≡ node) }
     ensures quiet { IsQuiet result }
 {
-    if same_id(&node.id, &id) {
+    if same_id(&node.id, id) {
         Ok(node)
     } else {
         Err(ReadError::damaged(offset_of(id.place), DamageKind::OtherId))
@@ -185,9 +187,13 @@ fn with_id(id: NodeId, node: NodeRev) -> Result<NodeRev, ReadError>
 }
 
 /// The node-revision of an id, whatever its kind.
-pub fn named_node<B: Book>(alloc: Global, book: &mut B, id: NodeId) -> Result<PlacedNode, ReadError>
-    ensures told { (look : RevisionBytes) → Knows (B.told book.old).revs (offset_of id.place).rev look → Answers (λ found. found.node) (OfId look id) result }
-    ensures id { IfOk result (λ found. found.node.id ≡ id) }
+pub fn named_node<B: Book>(
+    alloc: Global,
+    book: &mut B,
+    id: &NodeId,
+) -> Result<PlacedNode, ReadError>
+    ensures told { (look : RevisionBytes) → Knows (B.told book.old).revs (offset_of id.now.place).rev look → Answers (λ found. found.node) (OfId look id.now) result }
+    ensures id { IfOk result (λ found. found.node.id ≡ id.now) }
     ensures kept { Keeps (B.told book.old) (B.told book.new) }
     ensures cause { HasCause (B.faults book.old) (B.faults book.new) result }
 {
@@ -220,6 +226,6 @@ pub fn child_of<B: Book>(
     ensures kept { Keeps (B.told book.old) (B.told book.new) }
     ensures cause { HasCause (B.faults book.old) (B.faults book.new) result }
 {
-    let child = named_node(alloc, book, entry.id)?;
+    let child = named_node(alloc, book, &entry.id)?;
     with_kind(entry, child)
 }

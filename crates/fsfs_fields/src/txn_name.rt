@@ -1,20 +1,20 @@
 //! The names of transactions.
-ghost use Rattle.std.specs.Prelude.{◌≡◌, ◌≤◌, ℕ, IfSome, IsSomeAnd, OnOk, IfOk, option_map, ◌++◌};
-ghost use Rattle.fsfs_fields.specs.TxnNames.{IsTxnName, txn_text, txn_name_at};
+ghost use Rattle.std.specs.Prelude.{◌≡◌, ℕ, IfSome, IsSomeAnd, OnOk, IfOk, option_map};
+ghost use Rattle.fsfs_grammar.specs.Grammar.{Appends};
+ghost use Rattle.fsfs_fields.specs.TxnNames.{IsTxnName, txn_name_at};
 
+use crate::rev_num::RevNum;
 use fsfs_grammar::B36;
 use fsfs_grammar::base36::{plain_base36, put_b36};
 use fsfs_grammar::cuts::cut_at;
-use fsfs_grammar::decimals::{plain_decimal, put_dec};
 use std::alloc::AllocError;
 
 /// A transaction's name: the revision that it began on, a dash, and a number in base 36 that no other transaction
 /// of the repository had. The first in a new repository is `0-0`. (The libsvn_fs_fs structure file.)
 #[derive(Clone, Copy, Debug, PartialEq, Eq)]
 pub struct TxnName {
-    pub base: u32,
+    pub base: RevNum,
     pub number: B36,
-    ghost revision: { base ≤ 2147483647 },
 }
 
 /// The name as a part of a longer reading.
@@ -22,12 +22,9 @@ pub fn plain_txn_name(text: &[u8]) -> Option<TxnName>
     ensures { option_map (λ t. (t.base, t.number.number)) result ≡ txn_name_at text.now }
 {
     let (front, rest) = cut_at(b'-', text)?;
-    let base = plain_decimal(2147483647, front)?;
+    let base = RevNum::plain(front)?;
     let number = plain_base36(rest)?;
-    Some(TxnName {
-        base: base as u32,
-        number,
-    })
+    Some(TxnName { base, number })
 }
 
 /// The transaction's name that a text is; none for any other text.
@@ -40,9 +37,9 @@ pub fn read_txn_name(text: &[u8]) -> Option<TxnName>
 
 /// Writes a transaction's name at the end.
 pub fn put_txn_name(out: &mut Vec<u8>, name: &TxnName) -> Result<(), AllocError>
-    ensures { OnOk result (out.new.items ≡ out.old.items ++ txn_text name.now.base name.now.number.number) }
+    ensures { OnOk result (Appends IsTxnName out.old.items out.new.items (name.now.base, name.now.number.number)) }
 {
-    put_dec(out, name.base as u64)?;
+    name.base.put(out)?;
     out.push(b'-')?;
     put_b36(out, &name.number)?;
     Ok(())

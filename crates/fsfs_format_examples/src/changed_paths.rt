@@ -46,7 +46,7 @@ fn put_item(out: &mut String, alloc: Global, item: &ChangeItem) -> Result<(), Al
         out.push_str(", properties")?;
     }
     if let Some(source) = &item.source {
-        write!(out, ", from r{} ", source.rev)?;
+        write!(out, ", from r{} ", source.rev.get())?;
         put_path(out, alloc, &source.path)?;
     }
     Ok(())

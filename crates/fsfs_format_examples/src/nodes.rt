@@ -30,7 +30,7 @@ fn put_part(out: &mut String, part: &Part) -> Result<(), AllocError> {
     match part {
         Part::New(number) => write!(out, "new {}", number.number),
         Part::Old(number) => write!(out, "{}", number.number),
-        Part::Made(number, rev) => write!(out, "{} of r{rev}", number.number),
+        Part::Made(number, rev) => write!(out, "{} of r{}", number.number, rev.get()),
     }
 }
 
@@ -41,8 +41,8 @@ pub fn put_id(out: &mut String, id: &NodeId) -> Result<(), AllocError> {
     out.push_str(" copy ")?;
     put_part(out, &id.copy)?;
     match &id.place {
-        Place::At(rev, offset) => write!(out, " at {offset} in r{rev}"),
-        Place::In(txn) => write!(out, " in {}-{}", txn.base, txn.number.number),
+        Place::At(rev, offset) => write!(out, " at {offset} in r{}", rev.get()),
+        Place::In(txn) => write!(out, " in {}-{}", txn.base.get(), txn.number.number),
     }
 }
 
@@ -70,7 +70,7 @@ pub fn put_digits(out: &mut String, bytes: &[u8]) -> Result<(), AllocError> {
 
 fn put_rep(out: &mut String, rep: &Rep) -> Result<(), AllocError> {
     match rep.rev {
-        Some(rev) => write!(out, "at {} in r{rev}", rep.offset)?,
+        Some(rev) => write!(out, "at {} in r{}", rep.offset, rev.get())?,
         None => write!(out, "at {} in its transaction", rep.offset)?,
     }
     write!(out, " length {} size {} md5 ", rep.length, rep.size)?;
@@ -82,7 +82,9 @@ fn put_rep(out: &mut String, rep: &Rep) -> Result<(), AllocError> {
         write!(
             out,
             " drawn {} in {}-{}",
-            unique.number.number, txn.base, txn.number.number
+            unique.number.number,
+            txn.base.get(),
+            txn.number.number
         )?;
     }
     Ok(())
@@ -118,12 +120,12 @@ fn put_node(out: &mut String, alloc: Global, node: &NodeRev) -> Result<(), Alloc
     put_contents(out, "text", &node.text)?;
     put_contents(out, "properties", &node.props)?;
     if let Some(source) = &node.copy_from {
-        write!(out, ", from r{} ", source.rev)?;
+        write!(out, ", from r{} ", source.rev.get())?;
         put_path(out, alloc, &source.path)?;
     }
     if let Some(root) = &node.copy_root {
         match root.rev {
-            Some(rev) => write!(out, ", copy root r{rev} ")?,
+            Some(rev) => write!(out, ", copy root r{} ", rev.get())?,
             None => out.push_str(", copy root in its transaction ")?,
         }
         put_path(out, alloc, &root.path)?;

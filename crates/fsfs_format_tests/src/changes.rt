@@ -1,5 +1,5 @@
 //! Changed-path data: what is read and written, and which item is refused.
-use fsfs_base::{Action, Kind};
+use fsfs_base::{Action, Kind, RevNum};
 use fsfs_changes::{ChangeError, read_changes, read_item, read_revision_changes, write_changes};
 use std::alloc::{AllocError, Global};
 use std::test::Fail;
@@ -37,7 +37,7 @@ fn written_again(rt: HostRuntime) -> Result<(), Fail> {
     assert_eq!(rt; rest, b"rest".as_slice());
     assert!(rt; item.action == Action::Add && item.kind == Some(Kind::File));
     assert!(rt; item.text_changed && !item.props_changed);
-    assert_eq!(rt; item.source.ok_or("a source")?.rev, 7);
+    assert_eq!(rt; item.source.ok_or("a source")?.rev, RevNum::from(7));
     let text = b"0-1.0.r1/13 modify false true /e\n\n";
     let (item, _) = read_item(rt.alloc(), text)?.ok_or("an item")?;
     assert!(rt; item.action == Action::Modify && item.kind.is_none());

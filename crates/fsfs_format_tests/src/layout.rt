@@ -1,5 +1,5 @@
 //! The small files: where each is refused, and how it is written; and the names of files.
-use fsfs_base::{SmallFault, SmallFile, TxnName, read_b36};
+use fsfs_base::{RevNum, SmallFault, SmallFile, TxnName, read_b36};
 use fsfs_layout::{
     Format, ManifestError, names, read_current, read_format, read_manifest, read_min_unpacked_rev,
     read_next_ids, read_txn_current, read_uuid, write_current, write_format, write_manifest,
@@ -121,7 +121,10 @@ fn written(rt: HostRuntime) -> Result<(), Fail> {
     assert_eq!(rt; names::props(1000, 1234).as_str(), "db/revprops/1/1234");
     assert_eq!(rt; names::manifest(3).as_str(), "db/revs/3.pack/manifest");
     let number = read_b36(b"1z").ok_or("a number")?;
-    let txn = TxnName { base: 17, number };
+    let txn = TxnName {
+        base: RevNum::from(17),
+        number,
+    };
     assert_eq!(rt;
         names::txn_file(&txn, "next-ids").as_str(),
         "db/transactions/17-1z.txn/next-ids"

@@ -245,7 +245,7 @@ fn push_txn(name: &mut Name, txn: &TxnName)
     ensures text { name.new ≡ name.old ++ txn_text txn.now.base txn.now.number.number }
     ensures short { length name.new ≤ length name.old + 24 }
 {
-    name.push_str(Buffer::new().format(txn.base));
+    name.push_str(Buffer::new().format(txn.base.get()));
     name.push('-');
     push_base36(name, 13, txn.number.number);
 }

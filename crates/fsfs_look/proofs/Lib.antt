@@ -3,7 +3,7 @@ pub mod WeightLemmas
 pub mod LookAnswers
 pub mod LineLemmas
 pub mod ProgressLemmas
-pub mod IdsFit
+pub mod BelowHome
 pub mod NodeTexts
 pub mod FileLemmas
 pub mod PieceLemmas

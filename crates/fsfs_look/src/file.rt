@@ -79,7 +79,7 @@ fn read_piece<B: Book>(
 {
     let Some(rev) = rep.rev else { unreachable!() };
     let want = fitting(piece.len(), rep.length - done);
-    let count = window(book, rev, position(rep, done), &mut piece[..want])?;
+    let count = window(book, rev.get(), position(rep, done), &mut piece[..want])?;
     if count == 0 {
         return Err(bad_rep(rep, RepWhat::EndRep));
     }

@@ -1,17 +1,12 @@
 -- What is read has a text.
-use Rattle.std.proofs.Common.{◌≤◌, ℕ, List, [], ◌∷◌, Option, Some, None, Result, Ok, Err, sym, subst}
+use Rattle.std.proofs.Common.{ℕ, List, [], ◌∷◌, Option, Some, None, Result, Ok, Err, sym, subst}
 use Rattle.std.specs.Prelude.{IfOk}
 use Rattle.fsfs_base.specs.Paths.{Path}
 use Rattle.fsfs_base.specs.PathTexts.{IsPath}
-use Rattle.fsfs_noderev.specs.Ids.{PartValue, PlaceValue, IdValue, New, Old, Made, At, In, IsPart, IsPlace, IsId, FitsPart, FitsPlace, FitsId, id_value}
-use Rattle.fsfs_noderev.specs.Reps.{ContentsValue, IsRevOrNone, AreContents, FitsRev, FitsContents, contents_value}
-use Rattle.fsfs_noderev.specs.Reps as reps
-use Rattle.fsfs_noderev.specs.Fields.{AreContentsText, IsSourceText, IsRootText, Puts, nothing}
+use Rattle.fsfs_noderev.specs.Fields.{IsSourceText, IsRootText, Puts, nothing}
 use Rattle.fsfs_noderev.specs.NodeRevs.{Takes, IsRead}
-use Rattle.fsfs_noderev.specs.Writing.{FitsIds, FitsOptional, FitsSource, FitsRoot, HasText}
+use Rattle.fsfs_noderev.specs.Writing.{FitsSource, FitsRoot, HasText}
 use Rattle.fsfs_noderev.specs.declared.fields.Fields.{Fields}
-use Rattle.fsfs_noderev.specs.declared.node_id.NodeId.{NodeId}
-use Rattle.fsfs_noderev.specs.declared.rep.Contents.{Contents}
 use Rattle.fsfs_noderev.specs.declared.node_rev.CopySource.{CopySource}
 use Rattle.fsfs_noderev.specs.declared.node_rev.CopyRoot.{CopyRoot}
 use Rattle.fsfs_noderev.specs.declared.node_rev.NodeRev.{NodeRev}
@@ -19,34 +14,11 @@ use Rattle.fsfs_noderev.specs.declared.node_rev.Field.{Field}
 use Rattle.fsfs_noderev.specs.declared.node_rev.Field.TheVariants.{Id, NodeKind, Predecessor, Count, Text, Props, CreatedPath, CopiedFrom, CopiedRoot, FreshTxnRoot, MergeinfoCount, MergeinfoHere}
 use Rattle.fsfs_noderev.specs.declared.reading.NodeError.{NodeError}
 
-part_fits : (text : List ℕ) (part : PartValue) → IsPart text part → FitsPart part
-part_fits text (New n) w = tt
-part_fits text (Old n) w = tt
-part_fits text (Made n rev) w = w.3.1
+source_fits : (text : List ℕ) (s : CopySource) → IsSourceText text s → IsPath s.path
+source_fits text s w = w.3.path_is
 
-place_fits : (text : List ℕ) (place : PlaceValue) → IsPlace text place → FitsPlace place
-place_fits text (At rev offset) w = w.1.2.1
-place_fits text (In base n) w = tt
-
-pub id_fits : (text : List ℕ) (id : IdValue) → IsId text id → FitsId id
-id_fits text id w = record { node = part_fits w.0 id.node w.2; copy = part_fits w.3.0 id.copy w.3.2; place = place_fits w.3.1 id.place w.3.3 }
-
-rev_fits : (text : List ℕ) (rev : Option ℕ) → IsRevOrNone text rev → FitsRev rev
-rev_fits text None w = tt
-rev_fits text (Some rev) w = w.1
-
-value_fits : (text : List ℕ) (value : ContentsValue) → AreContents text value → FitsContents value
-value_fits text reps.Own w = tt
-value_fits text (reps.At r) w = rev_fits w.0 r.rev w.2
-
-contents_fits : (text : List ℕ) (k : Contents) → AreContentsText text k → FitsContents (contents_value k)
-contents_fits text k w = value_fits text (contents_value k) w
-
-source_fits : (text : List ℕ) (s : CopySource) → IsSourceText text s → (s.rev ≤ 2147483647) × IsPath s.path
-source_fits text s w = (w.2.1, w.3.path_is)
-
-root_fits : (text : List ℕ) (r : CopyRoot) → IsRootText text r → FitsRev r.rev × IsPath r.path
-root_fits text r w = (rev_fits w.0 r.rev w.2, w.3.path_is)
+root_fits : (text : List ℕ) (r : CopyRoot) → IsRootText text r → IsPath r.path
+root_fits text r w = w.3.path_is
 
 -- ---- line after line
 
@@ -55,45 +27,37 @@ FitsPath None = Unit {0}
 FitsPath (Some p) = IsPath p
 
 record Fit (f : Fields) : Type 0 where
-  pub id : FitsIds f.id
-  pub predecessor : FitsIds f.predecessor
-  pub text : FitsOptional f.text
-  pub props : FitsOptional f.props
   pub created_path : FitsPath f.created_path
   pub copy_from : FitsSource f.copy_from
   pub copy_root : FitsRoot f.copy_root
 
 put_fits : (field : Option Field) (value : List ℕ) (s t : Fields) → Puts field value s t → Fit s → Fit t
 put_fits None value s t w k = subst (λ (f : Fields). Fit f) (sym w) k
-put_fits (Some Id) value s t w k = subst (λ (f : Fields). Fit f) (sym w.3) (record { id = id_fits value (id_value w.1) w.2; predecessor = k.predecessor; text = k.text; props = k.props; created_path = k.created_path; copy_from = k.copy_from; copy_root = k.copy_root })
-put_fits (Some NodeKind) value s t w k = subst (λ (f : Fields). Fit f) (sym w.3) (record { id = k.id; predecessor = k.predecessor; text = k.text; props = k.props; created_path = k.created_path; copy_from = k.copy_from; copy_root = k.copy_root })
-put_fits (Some Predecessor) value s t w k = subst (λ (f : Fields). Fit f) (sym w.3) (record { id = k.id; predecessor = id_fits value (id_value w.1) w.2; text = k.text; props = k.props; created_path = k.created_path; copy_from = k.copy_from; copy_root = k.copy_root })
-put_fits (Some Count) value s t w k = subst (λ (f : Fields). Fit f) (sym w.3) (record { id = k.id; predecessor = k.predecessor; text = k.text; props = k.props; created_path = k.created_path; copy_from = k.copy_from; copy_root = k.copy_root })
-put_fits (Some Text) value s t w k = subst (λ (f : Fields). Fit f) (sym w.3) (record { id = k.id; predecessor = k.predecessor; text = contents_fits value w.1 w.2; props = k.props; created_path = k.created_path; copy_from = k.copy_from; copy_root = k.copy_root })
-put_fits (Some Props) value s t w k = subst (λ (f : Fields). Fit f) (sym w.3) (record { id = k.id; predecessor = k.predecessor; text = k.text; props = contents_fits value w.1 w.2; created_path = k.created_path; copy_from = k.copy_from; copy_root = k.copy_root })
-put_fits (Some CreatedPath) value s t w k = subst (λ (f : Fields). Fit f) (sym w.3) (record { id = k.id; predecessor = k.predecessor; text = k.text; props = k.props; created_path = w.2.path_is; copy_from = k.copy_from; copy_root = k.copy_root })
-put_fits (Some CopiedFrom) value s t w k = subst (λ (f : Fields). Fit f) (sym w.3) (record { id = k.id; predecessor = k.predecessor; text = k.text; props = k.props; created_path = k.created_path; copy_from = source_fits value w.1 w.2; copy_root = k.copy_root })
-put_fits (Some CopiedRoot) value s t w k = subst (λ (f : Fields). Fit f) (sym w.3) (record { id = k.id; predecessor = k.predecessor; text = k.text; props = k.props; created_path = k.created_path; copy_from = k.copy_from; copy_root = root_fits value w.1 w.2 })
-put_fits (Some FreshTxnRoot) value s t w k = subst (λ (f : Fields). Fit f) (sym w.3) (record { id = k.id; predecessor = k.predecessor; text = k.text; props = k.props; created_path = k.created_path; copy_from = k.copy_from; copy_root = k.copy_root })
-put_fits (Some MergeinfoCount) value s t w k = subst (λ (f : Fields). Fit f) (sym w.3) (record { id = k.id; predecessor = k.predecessor; text = k.text; props = k.props; created_path = k.created_path; copy_from = k.copy_from; copy_root = k.copy_root })
-put_fits (Some MergeinfoHere) value s t w k = subst (λ (f : Fields). Fit f) (sym w.3) (record { id = k.id; predecessor = k.predecessor; text = k.text; props = k.props; created_path = k.created_path; copy_from = k.copy_from; copy_root = k.copy_root })
+put_fits (Some Id) value s t w k = subst (λ (f : Fields). Fit f) (sym w.3) (record { created_path = k.created_path; copy_from = k.copy_from; copy_root = k.copy_root })
+put_fits (Some NodeKind) value s t w k = subst (λ (f : Fields). Fit f) (sym w.3) (record { created_path = k.created_path; copy_from = k.copy_from; copy_root = k.copy_root })
+put_fits (Some Predecessor) value s t w k = subst (λ (f : Fields). Fit f) (sym w.3) (record { created_path = k.created_path; copy_from = k.copy_from; copy_root = k.copy_root })
+put_fits (Some Count) value s t w k = subst (λ (f : Fields). Fit f) (sym w.3) (record { created_path = k.created_path; copy_from = k.copy_from; copy_root = k.copy_root })
+put_fits (Some Text) value s t w k = subst (λ (f : Fields). Fit f) (sym w.3) (record { created_path = k.created_path; copy_from = k.copy_from; copy_root = k.copy_root })
+put_fits (Some Props) value s t w k = subst (λ (f : Fields). Fit f) (sym w.3) (record { created_path = k.created_path; copy_from = k.copy_from; copy_root = k.copy_root })
+put_fits (Some CreatedPath) value s t w k = subst (λ (f : Fields). Fit f) (sym w.3) (record { created_path = w.2.path_is; copy_from = k.copy_from; copy_root = k.copy_root })
+put_fits (Some CopiedFrom) value s t w k = subst (λ (f : Fields). Fit f) (sym w.3) (record { created_path = k.created_path; copy_from = source_fits value w.1 w.2; copy_root = k.copy_root })
+put_fits (Some CopiedRoot) value s t w k = subst (λ (f : Fields). Fit f) (sym w.3) (record { created_path = k.created_path; copy_from = k.copy_from; copy_root = root_fits value w.1 w.2 })
+put_fits (Some FreshTxnRoot) value s t w k = subst (λ (f : Fields). Fit f) (sym w.3) (record { created_path = k.created_path; copy_from = k.copy_from; copy_root = k.copy_root })
+put_fits (Some MergeinfoCount) value s t w k = subst (λ (f : Fields). Fit f) (sym w.3) (record { created_path = k.created_path; copy_from = k.copy_from; copy_root = k.copy_root })
+put_fits (Some MergeinfoHere) value s t w k = subst (λ (f : Fields). Fit f) (sym w.3) (record { created_path = k.created_path; copy_from = k.copy_from; copy_root = k.copy_root })
 
 lines_fit : (lines : List (List ℕ × List ℕ)) (s t : Fields) → Takes s lines t → Fit s → Fit t
 lines_fit [] s t w k = subst (λ (f : Fields). Fit f) (sym w) k
 lines_fit (l ∷ ls) s t w k = lines_fit ls w.1 t w.3 (put_fits _ l.1 s w.1 w.2 k)
 
 nothing_fits : Fit nothing
-nothing_fits = record { id = tt; predecessor = tt; text = tt; props = tt; created_path = tt; copy_from = tt; copy_root = tt }
+nothing_fits = record { created_path = tt; copy_from = tt; copy_root = tt }
 
 read_fits : (bytes : List ℕ) (n : NodeRev) → IsRead bytes n → HasText n
 read_fits bytes n w =
     let k = lines_fit w.begins.text.lines nothing w.fields w.begins.text.taken nothing_fits in
     let m = w.means in
     record {
-      id = subst (λ (o : Option NodeId). FitsIds o) m.id k.id;
-      predecessor = subst (λ (o : Option NodeId). FitsIds o) (sym m.predecessor) k.predecessor;
-      text = subst (λ (o : Option Contents). FitsOptional o) (sym m.text) k.text;
-      props = subst (λ (o : Option Contents). FitsOptional o) (sym m.props) k.props;
       created_path = subst (λ (o : Option Path). FitsPath o) m.created_path k.created_path;
       copy_from = subst (λ (o : Option CopySource). FitsSource o) (sym m.copy_from) k.copy_from;
       copy_root = subst (λ (o : Option CopyRoot). FitsRoot o) (sym m.copy_root) k.copy_root;

@@ -9,8 +9,10 @@ use Rattle.fsfs_grammar.proofs.Readers.{chosen}
 use Rattle.fsfs_grammar.proofs.CutLemmas.{cut_found, cut_again, cut_lacking, two_lack}
 use Rattle.fsfs_grammar.proofs.Spelling.{Spells, bound, numeral_spells, cut_spells, plain_lacks}
 use Rattle.fsfs_fields.specs.TxnNames.{txn_name_at}
+use Rattle.fsfs_fields.proofs.RevNumTexts.{rev_spells, rev_text_lacks}
 use Rattle.fsfs_fields.proofs.TxnNameTexts.{txn_name_spells}
-use Rattle.fsfs_noderev.specs.Ids.{PartValue, New, Old, Made, PlaceValue, At, In, IdValue, IsB36, IsRev, IsNumber64, IsPart, IsPlace, IsId, b36_at, rev_at, number_at, old_at, part_at, place_at, id_at}
+use Rattle.fsfs_fields.specs.RevNums.{last_rev, IsRev, rev_at}
+use Rattle.fsfs_noderev.specs.Ids.{PartValue, New, Old, Made, PlaceValue, At, In, IdValue, IsB36, IsNumber64, IsPart, IsPlace, IsId, b36_at, number_at, old_at, part_at, place_at, id_at}
 
 -- ---- bytes that no id has
 
@@ -33,13 +35,13 @@ number_lacks limit c above = plain_lacks 10 limit c (omega (arith, above))
 part_lacks : (c : ℕ) → 36 ≤ digit c → eqb 95 c ≡ false → eqb 45 c ≡ false → (t : List ℕ) (p : PartValue) → IsPart t p → Lacks c t
 part_lacks c above underscore dash t (New n) w = subst (λ (x : List ℕ). Lacks c x) (sym w.2) (underscore, b36_lacks c above w.0 n w.1)
 part_lacks c above underscore dash t (Old n) w = b36_lacks c above t n w
-part_lacks c above underscore dash t (Made n rev) w = two_lack c 45 IsB36 IsRev dash (b36_lacks c above) (number_lacks 2147483647 c above) t (n, rev) w
+part_lacks c above underscore dash t (Made n rev) w = two_lack c 45 IsB36 IsRev dash (b36_lacks c above) (number_lacks last_rev c above) t (n, rev) w
 
 place_lacks : (c : ℕ) → IsOutsideIds c → (t : List ℕ) (p : PlaceValue) → IsPlace t p → Lacks c t
 place_lacks c out t (At rev offset) w =
-    subst (λ (x : List ℕ). Lacks c x) (sym w.2) (out.r, two_lack c 47 IsRev IsNumber64 out.slash (number_lacks 2147483647 c out.above) (number_lacks 18446744073709551615 c out.above) w.0 (rev, offset) w.1)
+    subst (λ (x : List ℕ). Lacks c x) (sym w.2) (out.r, two_lack c 47 IsRev IsNumber64 out.slash (number_lacks last_rev c out.above) (number_lacks 18446744073709551615 c out.above) w.0 (rev, offset) w.1)
 place_lacks c out t (In base n) w =
-    subst (λ (x : List ℕ). Lacks c x) (sym w.2) (out.t, two_lack c 45 IsRev IsB36 out.dash (number_lacks 2147483647 c out.above) (b36_lacks c out.above) w.0 (base, n) w.1)
+    subst (λ (x : List ℕ). Lacks c x) (sym w.2) (out.t, two_lack c 45 IsRev IsB36 out.dash (number_lacks last_rev c out.above) (b36_lacks c out.above) w.0 (base, n) w.1)
 
 pub id_lacks : (c : ℕ) → IsOutsideIds c → (t : List ℕ) (id : IdValue) → IsId t id → Lacks c t
 id_lacks c out t id w =
@@ -50,9 +52,6 @@ id_lacks c out t id w =
 
 pub b36_spells : Spells IsB36 b36_at
 b36_spells = numeral_spells 36 170581728179578208255 (omega arith)
-
-pub rev_spells : Spells IsRev rev_at
-rev_spells = numeral_spells 10 2147483647 (omega arith)
 
 old_found : (t : List ℕ) (o : Option (List ℕ × List ℕ)) → cut 45 t ≡ o → (p : PartValue) → old_at t o ≡ Some p → IsPart t p
 old_found t None is p e =
@@ -105,7 +104,7 @@ part_spells = record { found = part_found; again = part_again }
 -- ---- places and ids
 
 at_spells : Spells (IsCutOf 47 IsRev (IsNumber64)) (parts_at 47 rev_at number_at)
-at_spells = cut_spells 47 (plain_lacks 10 2147483647 47 (omega arith)) rev_spells (numeral_spells 10 18446744073709551615 (omega arith))
+at_spells = cut_spells 47 (rev_text_lacks 47 (omega arith)) rev_spells (numeral_spells 10 18446744073709551615 (omega arith))
 
 place_found : (t : List ℕ) (p : PlaceValue) → place_at t ≡ Some p → IsPlace t p
 unfolding place_at

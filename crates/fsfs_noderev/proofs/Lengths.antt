@@ -14,7 +14,8 @@ use Rattle.fsfs_grammar.proofs.Base36Texts.{numeral_base36, length-last_digits}
 use Rattle.fsfs_fields.specs.Digests.{IsDigestText}
 use Rattle.fsfs_fields.specs.TxnNames.{IsTxnName}
 use Rattle.fsfs_base.specs.declared.kind.Kind.TheVariants as kinds
-use Rattle.fsfs_noderev.specs.Ids.{New, Old, Made, At, In, IsB36, IsRev, IsNumber64, IsPart, IsPlace, id_value}
+use Rattle.fsfs_fields.specs.RevNums.{last_rev, IsRev}
+use Rattle.fsfs_noderev.specs.Ids.{New, Old, Made, At, In, IsB36, IsNumber64, IsPart, IsPlace, id_value}
 use Rattle.fsfs_noderev.specs.Reps.{IsRevOrNone, IsMarked, IsUnique, AreDigests, IsRep, AreContents, contents_value}
 use Rattle.fsfs_noderev.specs.Reps as reps
 use Rattle.fsfs_noderev.specs.Lines.{line}
@@ -36,7 +37,7 @@ decimal_most limit small text n w =
     omega (arith, ap length (numeral_decimal text n sized w.0), length-decimal-le 20 n (omega arith) (omega (arith, sized)) sized)
 
 rev_most : AtMost 20 IsRev
-rev_most = decimal_most 2147483647 (omega arith)
+rev_most = decimal_most last_rev (omega arith)
 
 number_most : AtMost 20 IsNumber64
 number_most = decimal_most 18446744073709551615 (omega arith)

@@ -8,10 +8,12 @@ use Rattle.fsfs_grammar.proofs.CutLemmas.{lacks_from, two_lack}
 use Rattle.fsfs_grammar.proofs.Spelling.{plain_lacks}
 use Rattle.fsfs_fields.specs.Digests.{IsDigestText}
 use Rattle.fsfs_fields.specs.TxnNames.{IsTxnName}
+use Rattle.fsfs_fields.proofs.RevNumTexts.{rev_text_lacks}
 use Rattle.fsfs_base.specs.Paths.{Path, path_text, names_text}
 use Rattle.fsfs_base.specs.PathTexts.{IsPath, IsName, is_control}
 use Rattle.fsfs_base.specs.declared.kind.Kind.TheVariants as kinds
-use Rattle.fsfs_noderev.specs.Ids.{IsB36, IsRev, IsNumber64, id_value}
+use Rattle.fsfs_fields.specs.RevNums.{IsRev}
+use Rattle.fsfs_noderev.specs.Ids.{IsB36, IsNumber64, id_value}
 use Rattle.fsfs_noderev.specs.Reps.{IsRevOrNone, IsMarked, IsUnique, AreDigests, IsRep, AreContents, contents_value}
 use Rattle.fsfs_noderev.specs.Reps as reps
 use Rattle.fsfs_noderev.specs.Fields.{IsIdText, IsKindText, AreContentsText, IsPathText, IsSourceText, IsRootText, IsYes}
@@ -23,7 +25,7 @@ abbrev pub OneLine : {X : Type 0} → (List ℕ → X → Type 0) → Type 0
 OneLine {X} G = (text : List ℕ) (x : X) → G text x → Lacks 10 text
 
 rev_line : OneLine IsRev
-rev_line = plain_lacks 10 2147483647 10 (omega arith)
+rev_line = rev_text_lacks 10 (omega arith)
 
 pub number_line : OneLine IsNumber64
 number_line = plain_lacks 10 18446744073709551615 10 (omega arith)

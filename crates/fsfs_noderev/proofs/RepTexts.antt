@@ -17,10 +17,12 @@ use Rattle.fsfs_grammar.proofs.Spelling.{Spells, bound, numeral_spells, cut_spel
 use Rattle.fsfs_fields.specs.Digests.{is_capital, IsDigestText}
 use Rattle.fsfs_fields.specs.TxnNames.{IsTxnName, txn_name_at}
 use Rattle.fsfs_fields.proofs.DigestTexts.{digest_found, digest_again}
+use Rattle.fsfs_fields.proofs.RevNumTexts.{rev_spells, rev_text_lacks}
 use Rattle.fsfs_fields.proofs.TxnNameTexts.{txn_name_spells}
-use Rattle.fsfs_noderev.specs.Ids.{IsRev, IsNumber64, b36_at, rev_at, number_at}
+use Rattle.fsfs_fields.specs.RevNums.{last_rev, IsRev, rev_at}
+use Rattle.fsfs_noderev.specs.Ids.{IsNumber64, b36_at, number_at}
 use Rattle.fsfs_noderev.specs.Reps.{UniquifierValue, RepValue, ContentsValue, Own, At, IsRevOrNone, IsMarked, IsUnique, AreDigests, IsRep, AreContents, rev_or_none_at, result_ok, digest_at, marked_at, unique_at, split_digests, digests_at, rep_at, contents_at}
-use Rattle.fsfs_noderev.proofs.IdTexts.{b36_spells, rev_spells}
+use Rattle.fsfs_noderev.proofs.IdTexts.{b36_spells}
 
 pub number_spells : Spells IsNumber64 number_at
 number_spells = numeral_spells 10 18446744073709551615 (omega arith)
@@ -90,7 +92,7 @@ rev_or_none_again text None w = rw ((bytes_eq-Decides text (codes "-1")).1 w) re
 rev_or_none_again text (Some rev) w = go (bytes_eq text (codes "-1")) refl
   where
     go : (b : Bool) → bytes_eq text (codes "-1") ≡ b → cond b (Some None) (and_then (rev_at text) (λ rev. Some (Some rev))) ≡ Some (Some rev)
-    go true e = absurd (no_number 2147483647 rev (subst (λ (t : List ℕ). IsRev t rev) ((bytes_eq-Decides text (codes "-1")).0 e) w))
+    go true e = absurd (no_number last_rev rev (subst (λ (t : List ℕ). IsRev t rev) ((bytes_eq-Decides text (codes "-1")).0 e) w))
     go false e = rw (rev_spells.again text rev w) refl
 
 pub rev_or_none_spells : Spells IsRevOrNone rev_or_none_at
@@ -98,7 +100,7 @@ rev_or_none_spells = record { found = rev_or_none_found; again = rev_or_none_aga
 
 pub rev_or_none_lacks : (text : List ℕ) (o : Option ℕ) → IsRevOrNone text o → Lacks 32 text
 rev_or_none_lacks text None w = subst (λ (t : List ℕ). Lacks 32 t) (sym w) (refl, (refl, tt))
-rev_or_none_lacks text (Some rev) w = plain_lacks 10 2147483647 32 (omega arith) text rev w
+rev_or_none_lacks text (Some rev) w = rev_text_lacks 32 (omega arith) text rev w
 
 -- ---- uniquifiers
 
@@ -116,7 +118,7 @@ marked_again text n w = ap marked_at w.2 ∙ b36_spells.again w.0 n w.1
 
 txn_lacks : (text : List ℕ) (p : ℕ × ℕ) → IsTxnName text p → Lacks 47 text
 txn_lacks text p w =
-    subst (λ (t : List ℕ). Lacks 47 t) (sym w.4) (lacks_from 47 w.0 (45 ∷ w.1) (plain_lacks 10 2147483647 47 (omega arith) w.0 p.0 w.2) (refl, plain_lacks 36 170581728179578208255 47 (omega arith) w.1 p.1 w.3))
+    subst (λ (t : List ℕ). Lacks 47 t) (sym w.4) (lacks_from 47 w.0 (45 ∷ w.1) (rev_text_lacks 47 (omega arith) w.0 p.0 w.2) (refl, plain_lacks 36 170581728179578208255 47 (omega arith) w.1 p.1 w.3))
 
 unique_spells : Spells IsUnique unique_at
 unfolding unique_at

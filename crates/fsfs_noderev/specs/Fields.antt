@@ -6,7 +6,8 @@ use Rattle.fsfs_base.specs.Paths.{Path, path_text}
 use Rattle.fsfs_base.specs.PathTexts.{IsPath}
 use Rattle.fsfs_base.specs.declared.kind.Kind.{Kind}
 use Rattle.fsfs_base.specs.declared.kind.Kind.TheVariants as kinds
-use Rattle.fsfs_noderev.specs.Ids.{IsId, IsRev, IsNumber64, id_value}
+use Rattle.fsfs_fields.specs.RevNums.{IsRev}
+use Rattle.fsfs_noderev.specs.Ids.{IsId, IsNumber64, id_value}
 use Rattle.fsfs_noderev.specs.Reps.{IsRevOrNone, AreContents, contents_value}
 use Rattle.fsfs_noderev.specs.declared.node_id.NodeId.{NodeId}
 use Rattle.fsfs_noderev.specs.declared.rep.Contents.{Contents}

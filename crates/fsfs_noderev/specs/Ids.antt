@@ -1,7 +1,8 @@
 -- Ids of node-revisions: `<node>.<copy>.r<revision>/<offset>`, or `<node>.<copy>.t<transaction>`.
-use Rattle.std.specs.Prelude.{◌≡◌, ◌≤◌, ℕ, List, [], ◌∷◌, Option, Some, None, ◌==◌, if◌then◌else◌}
+use Rattle.std.specs.Prelude.{◌≡◌, ℕ, List, [], ◌∷◌, Option, Some, None, ◌==◌, if◌then◌else◌}
 use Rattle.fsfs_grammar.specs.Numeral.{IsPlain, numeral_at}
 use Rattle.fsfs_grammar.specs.Cuts.{IsCutOf, cut, and_then, parts_at}
+use Rattle.fsfs_fields.specs.RevNums.{IsRev, rev_at}
 use Rattle.fsfs_fields.specs.TxnNames.{IsTxnName, txn_name_at}
 use Rattle.fsfs_noderev.specs.declared.node_id.Part.{Part}
 use Rattle.fsfs_noderev.specs.declared.node_id.Part.TheVariants as part
@@ -41,9 +42,6 @@ id_value id = record { node = part_value id.node; copy = part_value id.copy; pla
 abbrev pub IsB36 : List ℕ → ℕ → Type 0
 IsB36 = IsPlain 36 170581728179578208255
 
-abbrev pub IsRev : List ℕ → ℕ → Type 0
-IsRev = IsPlain 10 2147483647
-
 abbrev pub IsNumber64 : List ℕ → ℕ → Type 0
 IsNumber64 = IsPlain 10 18446744073709551615
 
@@ -65,9 +63,6 @@ IsId text id = IsCutOf 46 IsPart (IsCutOf 46 IsPart IsPlace) text (id.node, (id.
 abbrev pub b36_at : List ℕ → Option ℕ
 b36_at text = numeral_at 36 170581728179578208255 text
 
-abbrev pub rev_at : List ℕ → Option ℕ
-rev_at text = numeral_at 10 2147483647 text
-
 abbrev pub number_at : List ℕ → Option ℕ
 number_at text = numeral_at 10 18446744073709551615 text
 
@@ -88,18 +83,3 @@ place_at (b ∷ bs) =
 
 unfoldable pub id_at : List ℕ → Option IdValue
 id_at text = and_then (parts_at 46 part_at (λ t. parts_at 46 part_at place_at t) text) (λ p. Some (record { node = p.0; copy = p.1.0; place = p.1.1 }))
-
--- what has a text: revisions within their limit
-abbrev pub FitsPart : PartValue → Type 0
-FitsPart (New n) = Unit {0}
-FitsPart (Old n) = Unit {0}
-FitsPart (Made n rev) = rev ≤ 2147483647
-
-abbrev pub FitsPlace : PlaceValue → Type 0
-FitsPlace (At rev offset) = rev ≤ 2147483647
-FitsPlace (In base n) = Unit {0}
-
-pub record FitsId (id : IdValue) : Type 0 where
-  pub node : FitsPart id.node
-  pub copy : FitsPart id.copy
-  pub place : FitsPlace id.place

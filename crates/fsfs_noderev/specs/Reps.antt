@@ -1,5 +1,5 @@
 -- Representations: `<revision> <offset> <length> <size> <md5>`, and behind it ` <sha1> <transaction>/_<number>` or nothing.
-use Rattle.std.specs.Prelude.{◌≡◌, ◌≤◌, ℕ, List, [], ◌∷◌, Option, Some, None, Result, Ok, Err, option_map, ◌==◌, if◌then◌else◌, codes}
+use Rattle.std.specs.Prelude.{◌≡◌, ℕ, List, [], ◌∷◌, Option, Some, None, Result, Ok, Err, option_map, ◌==◌, if◌then◌else◌, codes}
 use Rattle.std.specs.List.{list_any}
 use Rattle.std.specs.Str.{bytes_eq}
 use Rattle.hex.specs.Hex.{decode_sized}
@@ -7,7 +7,8 @@ use Rattle.hex.specs.declared.error.FromHexError.{FromHexError}
 use Rattle.fsfs_grammar.specs.Cuts.{IsCutOf, cut, and_then, parts_at}
 use Rattle.fsfs_fields.specs.Digests.{is_capital, IsDigestText}
 use Rattle.fsfs_fields.specs.TxnNames.{IsTxnName, txn_name_at}
-use Rattle.fsfs_noderev.specs.Ids.{IsB36, IsRev, IsNumber64, b36_at, rev_at, number_at}
+use Rattle.fsfs_fields.specs.RevNums.{IsRev, rev_at}
+use Rattle.fsfs_noderev.specs.Ids.{IsB36, IsNumber64, b36_at, number_at}
 use Rattle.fsfs_noderev.specs.declared.rep.Rep.{Rep}
 use Rattle.fsfs_noderev.specs.declared.rep.Uniquifier.{Uniquifier}
 use Rattle.fsfs_noderev.specs.declared.rep.Contents.{Contents}
@@ -98,12 +99,3 @@ rep_at text = and_then (parts_at 32 rev_or_none_at (λ t. parts_at 32 number_at 
 
 unfoldable pub contents_at : List ℕ → Option ContentsValue
 contents_at text = if bytes_eq text (codes "-1") then Some Own else and_then (rep_at text) (λ r. Some (At r))
-
--- what has a text: a revision within its limit
-abbrev pub FitsRev : Option ℕ → Type 0
-FitsRev None = Unit {0}
-FitsRev (Some rev) = rev ≤ 2147483647
-
-abbrev pub FitsContents : ContentsValue → Type 0
-FitsContents Own = Unit {0}
-FitsContents (At r) = FitsRev r.rev

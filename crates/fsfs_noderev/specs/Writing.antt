@@ -1,15 +1,11 @@
 -- A node-revision as it is written: one line for each field that it has, in the order of the fields, and an empty line.
-use Rattle.std.specs.Prelude.{◌≡◌, ◌≤◌, ℕ, Bool, List, [], ◌∷◌, ◌++◌, Option, Some, None, map, is_some, if◌then◌else◌, codes}
+use Rattle.std.specs.Prelude.{◌≡◌, ℕ, Bool, List, [], ◌∷◌, ◌++◌, Option, Some, None, map, is_some, if◌then◌else◌, codes}
 use Rattle.std.specs.List.{flat_map}
 use Rattle.fsfs_base.specs.PathTexts.{IsPath}
-use Rattle.fsfs_noderev.specs.Ids.{FitsId, id_value}
-use Rattle.fsfs_noderev.specs.Reps.{FitsRev, FitsContents, contents_value}
 use Rattle.fsfs_noderev.specs.Lines.{line}
 use Rattle.fsfs_noderev.specs.Fields.{nothing}
 use Rattle.fsfs_noderev.specs.NodeRevs.{Takes, Means}
 use Rattle.fsfs_noderev.specs.declared.fields.Fields.{Fields}
-use Rattle.fsfs_noderev.specs.declared.node_id.NodeId.{NodeId}
-use Rattle.fsfs_noderev.specs.declared.rep.Contents.{Contents}
 use Rattle.fsfs_noderev.specs.declared.node_rev.CopySource.{CopySource}
 use Rattle.fsfs_noderev.specs.declared.node_rev.CopyRoot.{CopyRoot}
 use Rattle.fsfs_noderev.specs.declared.node_rev.NodeRev.{NodeRev}
@@ -49,28 +45,16 @@ pub record IsWritten (text : List ℕ) (node : NodeRev) : Type 0 where
 
 -- ---- what has a text
 
-abbrev pub FitsIds : Option NodeId → Type 0
-FitsIds None = Unit {0}
-FitsIds (Some id) = FitsId (id_value id)
-
-abbrev pub FitsOptional : Option Contents → Type 0
-FitsOptional None = Unit {0}
-FitsOptional (Some k) = FitsContents (contents_value k)
-
 abbrev pub FitsSource : Option CopySource → Type 0
 FitsSource None = Unit {0}
-FitsSource (Some s) = (s.rev ≤ 2147483647) × IsPath s.path
+FitsSource (Some s) = IsPath s.path
 
 abbrev pub FitsRoot : Option CopyRoot → Type 0
 FitsRoot None = Unit {0}
-FitsRoot (Some r) = FitsRev r.rev × IsPath r.path
+FitsRoot (Some r) = IsPath r.path
 
--- revisions and paths are within their limits
+-- its paths are within their limits
 pub record HasText (n : NodeRev) : Type 0 where
-  pub id : FitsId (id_value n.id)
-  pub predecessor : FitsIds n.predecessor
-  pub text : FitsOptional n.text
-  pub props : FitsOptional n.props
   pub created_path : IsPath n.created_path
   pub copy_from : FitsSource n.copy_from
   pub copy_root : FitsRoot n.copy_root

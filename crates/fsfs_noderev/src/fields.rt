@@ -10,10 +10,10 @@ ghost use Rattle.fsfs_noderev.specs.Fields.{field_named, IsIdText, IsKindText, A
 ghost use Rattle.fsfs_noderev.specs.Ids.{IsNumber64};
 ghost use Rattle.fsfs_noderev.specs.Faults.{IfRefused};
 
-use crate::node_id::{NodeId, read_id, rev_of};
+use crate::node_id::{NodeId, read_id};
 use crate::node_rev::{CopyRoot, CopySource, Field, Which};
 use crate::rep::{Contents, read_contents, rev_or_none};
-use fsfs_base::{FsPath, Kind, PathError};
+use fsfs_base::{FsPath, Kind, PathError, RevNum};
 use fsfs_grammar::cuts::cut_at;
 use fsfs_grammar::read_dec;
 use std::alloc::{AllocError, Global};
@@ -128,7 +128,7 @@ fn source_of(alloc: Global, text: &[u8]) -> Result<Option<CopySource>, AllocErro
 {
     match cut_at(b' ', text) {
         None => Ok(None),
-        Some((front, rest)) => match rev_of(front) {
+        Some((front, rest)) => match RevNum::plain(front) {
             None => Ok(None),
             Some(rev) => match path_of(alloc, rest)? {
                 None => Ok(None),

@@ -1,9 +1,9 @@
 //! Ids of node-revisions.
-ghost use Rattle.std.specs.Prelude.{◌≡◌, ◌≤◌, ℕ, List, option_map, IfSome, IsSomeAnd, IfOk, OnOk};
+ghost use Rattle.std.specs.Prelude.{◌≡◌, ℕ, List, option_map, IfSome, IsSomeAnd, IfOk, OnOk};
 ghost use Rattle.fsfs_grammar.specs.Grammar.{Appends};
-ghost use Rattle.fsfs_noderev.specs.Ids.{IdValue, part_value, place_value, id_value, IsPart, IsPlace, IsId, FitsPart, FitsPlace, FitsId, rev_at, part_at, place_at, id_at};
+ghost use Rattle.fsfs_noderev.specs.Ids.{IdValue, part_value, place_value, id_value, IsPart, IsPlace, IsId, part_at, place_at, id_at};
 
-use fsfs_base::{TxnName, plain_txn_name, put_txn_name};
+use fsfs_base::{RevNum, TxnName, plain_txn_name, put_txn_name};
 use fsfs_grammar::B36;
 use fsfs_grammar::base36::{plain_base36, put_b36};
 use fsfs_grammar::cuts::cut_at;
@@ -18,14 +18,14 @@ pub enum Part {
     /// `<number>`: of revision 0.
     Old(B36),
     /// `<number>-<revision>`: made in this revision.
-    Made(B36, u32),
+    Made(B36, RevNum),
 }
 
 /// Where a node-revision stands.
 #[derive(Clone, Copy, Debug, PartialEq, Eq)]
 pub enum Place {
     /// `r<revision>/<offset>`: the offset counts from the beginning of the revision's own bytes.
-    At(u32, u64),
+    At(RevNum, u64),
     /// `t<transaction>`.
     In(TxnName),
 }
@@ -36,13 +36,6 @@ pub struct NodeId {
     pub node: Part,
     pub copy: Part,
     pub place: Place,
-}
-
-pub(crate) fn rev_of(text: &[u8]) -> Option<u32>
-    ensures { result ≡ rev_at text.now }
-{
-    let rev = plain_decimal(2147483647, text)?;
-    Some(rev as u32)
 }
 
 #[tactic(auto, unfolding(crate::specs::Ids::part_at))]
@@ -62,7 +55,7 @@ fn part_of(text: &[u8]) -> Option<Part>
             }
             Some((front, rest)) => {
                 let n = plain_base36(front)?;
-                let rev = rev_of(rest)?;
+                let rev = RevNum::plain(rest)?;
                 Some(Part::Made(n, rev))
             }
         },
@@ -77,7 +70,7 @@ fn place_of(text: &[u8]) -> Option<Place>
         [] => None,
         [b'r', rest @ ..] => {
             let (front, rest) = cut_at(b'/', rest)?;
-            let rev = rev_of(front)?;
+            let rev = RevNum::plain(front)?;
             let offset = plain_decimal(u64::MAX, rest)?;
             Some(Place::At(rev, offset))
         }
@@ -110,7 +103,6 @@ pub fn read_id(text: &[u8]) -> Option<NodeId>
 }
 
 fn put_part(out: &mut Vec<u8>, part: Part) -> Result<(), AllocError>
-    requires { FitsPart (part_value part) }
     ensures { OnOk result (Appends IsPart out.old.items out.new.items (part_value part)) }
 {
     match part {
@@ -126,20 +118,19 @@ fn put_part(out: &mut Vec<u8>, part: Part) -> Result<(), AllocError>
         Part::Made(n, rev) => {
             put_b36(out, &n)?;
             out.push(b'-')?;
-            put_dec(out, rev as u64)?;
+            rev.put(out)?;
             Ok(())
         }
     }
 }
 
 fn put_place(out: &mut Vec<u8>, place: Place) -> Result<(), AllocError>
-    requires { FitsPlace (place_value place) }
     ensures { OnOk result (Appends IsPlace out.old.items out.new.items (place_value place)) }
 {
     match place {
         Place::At(rev, offset) => {
             out.push(b'r')?;
-            put_dec(out, rev as u64)?;
+            rev.put(out)?;
             out.push(b'/')?;
             put_dec(out, offset)?;
             Ok(())
@@ -154,7 +145,6 @@ fn put_place(out: &mut Vec<u8>, place: Place) -> Result<(), AllocError>
 
 /// Writes the text of an id at the end.
 pub fn put_id(out: &mut Vec<u8>, id: &NodeId) -> Result<(), AllocError>
-    requires { FitsId (id_value id.now) }
     ensures { OnOk result (Appends IsId out.old.items out.new.items (id_value id.now)) }
 {
     put_part(out, id.node)?;
@@ -167,7 +157,6 @@ pub fn put_id(out: &mut Vec<u8>, id: &NodeId) -> Result<(), AllocError>
 
 /// The text of an id.
 pub fn write_id(alloc: Global, id: &NodeId) -> Result<Vec<u8>, AllocError>
-    requires { FitsId (id_value id.now) }
     ensures { IfOk result (λ v. IsId v.items (id_value id.now)) }
 {
     let mut out = Vec::new(alloc);

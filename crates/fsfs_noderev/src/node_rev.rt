@@ -1,19 +1,19 @@
 //! Node-revisions and what may be wrong with their text.
 use crate::node_id::NodeId;
 use crate::rep::Contents;
-use fsfs_base::{FsPath, Kind};
+use fsfs_base::{FsPath, Kind, RevNum};
 
 /// The revision and path that a node was copied from.
 #[derive(Debug, Drop)]
 pub struct CopySource {
-    pub rev: u32,
+    pub rev: RevNum,
     pub path: FsPath,
 }
 
 /// The revision and path of the copy that a node came by; no revision stands for the node-revision's own transaction.
 #[derive(Debug, Drop)]
 pub struct CopyRoot {
-    pub rev: Option<u32>,
+    pub rev: Option<RevNum>,
     pub path: FsPath,
 }
 

@@ -1,11 +1,10 @@
 //! Where a text, a property list or a directory stands.
-ghost use Rattle.std.specs.Prelude.{◌≡◌, ◌≤◌, ℕ, List, option_map, IfSome, IsSomeAnd, IfOk, OnOk, codes};
+ghost use Rattle.std.specs.Prelude.{◌≡◌, ℕ, List, option_map, IfSome, IsSomeAnd, IfOk, OnOk, codes};
 ghost use Rattle.fsfs_grammar.specs.Grammar.{Appends};
 ghost use Rattle.fsfs_fields.specs.Digests.{IsDigestText};
-ghost use Rattle.fsfs_noderev.specs.Reps.{RepValue, ContentsValue, unique_value, rep_value, contents_value, IsRevOrNone, IsMarked, IsUnique, AreDigests, IsRep, AreContents, FitsRev, FitsContents, rev_or_none_at, digest_at, marked_at, unique_at, digests_at, rep_at, contents_at};
+ghost use Rattle.fsfs_noderev.specs.Reps.{RepValue, ContentsValue, unique_value, rep_value, contents_value, IsRevOrNone, IsMarked, IsUnique, AreDigests, IsRep, AreContents, rev_or_none_at, digest_at, marked_at, unique_at, digests_at, rep_at, contents_at};
 
-use crate::node_id::rev_of;
-use fsfs_base::{HexDigest, TxnName, plain_txn_name, put_txn_name};
+use fsfs_base::{HexDigest, RevNum, TxnName, plain_txn_name, put_txn_name};
 use fsfs_grammar::B36;
 use fsfs_grammar::base36::{plain_base36, put_b36};
 use fsfs_grammar::cuts::cut_at;
@@ -25,7 +24,7 @@ pub struct Uniquifier {
 #[derive(Clone, Copy, Debug, PartialEq, Eq)]
 pub struct Rep {
     /// The revision; none where the text stands in the prototype file of a transaction.
-    pub rev: Option<u32>,
+    pub rev: Option<RevNum>,
     /// Where its header begins, from the beginning of the revision's own bytes.
     pub offset: u64,
     /// How many bytes stand between header and trailer.
@@ -44,13 +43,13 @@ pub enum Contents {
     At(Rep),
 }
 
-pub(crate) fn rev_or_none(text: &[u8]) -> Option<Option<u32>>
+pub(crate) fn rev_or_none(text: &[u8]) -> Option<Option<RevNum>>
     ensures { result ≡ rev_or_none_at text.now }
 {
     if text == b"-1".as_slice() {
         return Some(None);
     }
-    let rev = rev_of(text)?;
+    let rev = RevNum::plain(text)?;
     Some(Some(rev))
 }
 
@@ -155,8 +154,7 @@ pub fn read_contents(text: &[u8]) -> Option<Contents>
     contents_of(text)
 }
 
-pub(crate) fn put_rev_or_none(out: &mut Vec<u8>, rev: Option<u32>) -> Result<(), AllocError>
-    requires { FitsRev rev }
+pub(crate) fn put_rev_or_none(out: &mut Vec<u8>, rev: Option<RevNum>) -> Result<(), AllocError>
     ensures { OnOk result (Appends IsRevOrNone out.old.items out.new.items rev) }
 {
     match rev {
@@ -165,7 +163,7 @@ pub(crate) fn put_rev_or_none(out: &mut Vec<u8>, rev: Option<u32>) -> Result<(),
             Ok(())
         }
         Some(rev) => {
-            put_dec(out, rev as u64)?;
+            rev.put(out)?;
             Ok(())
         }
     }
@@ -215,7 +213,6 @@ fn put_digests(alloc: Global, out: &mut Vec<u8>, rep: &Rep) -> Result<(), AllocE
 
 /// Writes a representation's text at the end.
 pub fn put_rep(alloc: Global, out: &mut Vec<u8>, rep: &Rep) -> Result<(), AllocError>
-    requires { FitsRev rep.now.rev }
     ensures { OnOk result (Appends IsRep out.old.items out.new.items (rep_value rep.now)) }
 {
     put_rev_or_none(out, rep.rev)?;
@@ -232,7 +229,6 @@ pub fn put_rep(alloc: Global, out: &mut Vec<u8>, rep: &Rep) -> Result<(), AllocE
 
 /// Writes at the end where a value stands.
 pub fn put_contents(alloc: Global, out: &mut Vec<u8>, contents: &Contents) -> Result<(), AllocError>
-    requires { FitsContents (contents_value contents.now) }
     ensures { OnOk result (Appends AreContents out.old.items out.new.items (contents_value contents.now)) }
 {
     match contents {

@@ -2,11 +2,10 @@
 ghost use Rattle.std.specs.Prelude.{◌≡◌, ◌≤◌, ◌++◌, ◌∷◌, [], List, ℕ, Bool, length, take, OnOk, IfOk, codes};
 ghost use Rattle.fsfs_grammar.specs.Grammar.{Appends};
 ghost use Rattle.fsfs_base.specs.PathTexts.{IsPath};
-ghost use Rattle.fsfs_noderev.specs.Ids.{FitsId, id_value, IsNumber64};
-ghost use Rattle.fsfs_noderev.specs.Reps.{FitsRev, FitsContents, contents_value};
+ghost use Rattle.fsfs_noderev.specs.Ids.{IsNumber64};
 ghost use Rattle.fsfs_noderev.specs.Fields.{IsIdText, IsKindText, AreContentsText, IsPathText, IsSourceText, IsRootText};
 ghost use Rattle.fsfs_noderev.specs.NodeRevs.{IsNodeRev, IsRead};
-ghost use Rattle.fsfs_noderev.specs.Writing.{IsLineOf, IsOptional, IsFlag, IsWritten, HasText, FitsIds, FitsOptional, FitsSource, FitsRoot};
+ghost use Rattle.fsfs_noderev.specs.Writing.{IsLineOf, IsOptional, IsFlag, IsWritten, HasText, FitsSource, FitsRoot};
 
 use crate::node_id::{NodeId, put_id};
 use crate::node_rev::{CopyRoot, CopySource, NodeRev};
@@ -25,7 +24,6 @@ fn put_name(out: &mut Vec<u8>, name: &[u8]) -> Result<(), AllocError>
 }
 
 fn id_line(out: &mut Vec<u8>, name: &[u8], id: &NodeId) -> Result<(), AllocError>
-    requires { FitsId (id_value id.now) }
     ensures { OnOk result (Appends (IsLineOf name.now IsIdText) out.old.items out.new.items id.now) }
 {
     put_name(out, name)?;
@@ -83,7 +81,6 @@ fn contents_line(
     name: &[u8],
     contents: &Contents,
 ) -> Result<(), AllocError>
-    requires { FitsContents (contents_value contents.now) }
     ensures { OnOk result (Appends (IsLineOf name.now AreContentsText) out.old.items out.new.items contents.now) }
 {
     put_name(out, name)?;
@@ -93,12 +90,11 @@ fn contents_line(
 }
 
 fn source_line(alloc: Global, out: &mut Vec<u8>, source: &CopySource) -> Result<(), AllocError>
-    requires rev { source.now.rev ≤ 2147483647 }
-    requires path { IsPath source.now.path }
+    requires { IsPath source.now.path }
     ensures { OnOk result (Appends (IsLineOf (codes "copyfrom") IsSourceText) out.old.items out.new.items source.now) }
 {
     put_name(out, b"copyfrom")?;
-    put_dec(out, source.rev as u64)?;
+    source.rev.put(out)?;
     out.push(b' ')?;
     put_path(alloc, out, &source.path)?;
     out.push(b'\n')?;
@@ -106,8 +102,7 @@ fn source_line(alloc: Global, out: &mut Vec<u8>, source: &CopySource) -> Result<
 }
 
 fn root_line(alloc: Global, out: &mut Vec<u8>, root: &CopyRoot) -> Result<(), AllocError>
-    requires rev { FitsRev root.now.rev }
-    requires path { IsPath root.now.path }
+    requires { IsPath root.now.path }
     ensures { OnOk result (Appends (IsLineOf (codes "copyroot") IsRootText) out.old.items out.new.items root.now) }
 {
     put_name(out, b"copyroot")?;
@@ -130,7 +125,6 @@ fn flag_line(out: &mut Vec<u8>, name: &[u8], flag: bool) -> Result<(), AllocErro
 }
 
 fn optional_id(out: &mut Vec<u8>, name: &[u8], id: &Option<NodeId>) -> Result<(), AllocError>
-    requires { FitsIds id.now }
     ensures { OnOk result (Appends (IsOptional name.now IsIdText) out.old.items out.new.items id.now) }
 {
     match id {
@@ -154,7 +148,6 @@ fn optional_contents(
     name: &[u8],
     contents: &Option<Contents>,
 ) -> Result<(), AllocError>
-    requires { FitsOptional contents.now }
     ensures { OnOk result (Appends (IsOptional name.now AreContentsText) out.old.items out.new.items contents.now) }
 {
     match contents {

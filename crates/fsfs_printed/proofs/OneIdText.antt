@@ -4,6 +4,7 @@ use Rattle.std.specs.Prelude.{codes}
 use Rattle.fsfs_grammar.specs.Numeral.{IsPlain}
 use Rattle.fsfs_grammar.specs.Cuts.{IsCutOf}
 use Rattle.fsfs_grammar.proofs.Unique.{numeral_same}
+use Rattle.fsfs_fields.specs.RevNums.{last_rev}
 use Rattle.fsfs_noderev.specs.Fields.{IsIdText}
 use Rattle.fsfs_noderev.specs.Ids.{New, Old, Made, At, In, IsPart, IsPlace, id_value}
 use Rattle.fsfs_noderev.specs.declared.node_id.NodeId.{NodeId}
@@ -26,15 +27,15 @@ part_one : HasOneSpelling IsPart
 part_one (New n) s t a b = a.2 ∙ ap (λ (x : List ℕ). 95 ∷ x) (plain_one 36 170581728179578208255 (omega arith) (omega arith) n a.0 b.0 a.1 b.1) ∙ sym b.2
 part_one (Old n) s t a b = plain_one 36 170581728179578208255 (omega arith) (omega arith) n s t a b
 part_one (Made n rev) s t a b =
-    cut_one 45 (IsPlain 36 170581728179578208255) (IsPlain 10 2147483647) (plain_one 36 170581728179578208255 (omega arith) (omega arith)) (plain_one 10 2147483647 (omega arith) (omega arith)) (n, rev) s t a b
+    cut_one 45 (IsPlain 36 170581728179578208255) (IsPlain 10 last_rev) (plain_one 36 170581728179578208255 (omega arith) (omega arith)) (plain_one 10 last_rev (omega arith) (omega arith)) (n, rev) s t a b
 
 place_one : HasOneSpelling IsPlace
 place_one (At rev offset) s t a b =
     a.2 ∙ ap (λ (x : List ℕ). 114 ∷ x)
-    (cut_one 47 (IsPlain 10 2147483647) (IsPlain 10 18446744073709551615) (plain_one 10 2147483647 (omega arith) (omega arith)) (plain_one 10 18446744073709551615 (omega arith) (omega arith)) (rev, offset) a.0 b.0 a.1 b.1) ∙ sym b.2
+    (cut_one 47 (IsPlain 10 last_rev) (IsPlain 10 18446744073709551615) (plain_one 10 last_rev (omega arith) (omega arith)) (plain_one 10 18446744073709551615 (omega arith) (omega arith)) (rev, offset) a.0 b.0 a.1 b.1) ∙ sym b.2
 place_one (In base n) s t a b =
     a.2 ∙ ap (λ (x : List ℕ). 116 ∷ x)
-    (cut_one 45 (IsPlain 10 2147483647) (IsPlain 36 170581728179578208255) (plain_one 10 2147483647 (omega arith) (omega arith)) (plain_one 36 170581728179578208255 (omega arith) (omega arith)) (base, n) a.0 b.0 a.1 b.1) ∙ sym b.2
+    (cut_one 45 (IsPlain 10 last_rev) (IsPlain 36 170581728179578208255) (plain_one 10 last_rev (omega arith) (omega arith)) (plain_one 36 170581728179578208255 (omega arith) (omega arith)) (base, n) a.0 b.0 a.1 b.1) ∙ sym b.2
 
 pub id_text_one : (id : NodeId) (s t : List ℕ) → IsIdText s id → IsIdText t id → s ≡ t
 id_text_one id s t a b =

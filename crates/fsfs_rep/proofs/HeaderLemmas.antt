@@ -11,11 +11,12 @@ use Rattle.fsfs_grammar.specs.Reading.{text_at}
 use Rattle.fsfs_grammar.proofs.Readers.{Reads, next_reads, mapped_reads, either_reads, text_reads}
 use Rattle.fsfs_grammar.proofs.Numerals.{number_reads}
 use Rattle.fsfs_grammar.proofs.Unique.{numeral_decimal}
+use Rattle.fsfs_fields.specs.RevNums.{last_rev}
 use Rattle.fsfs_rep.specs.Headers.{StandsAt, IsBaseLine, IsDeltaLine, HasPlainLine, HasDeltaLine, plain_line, base_line_at, delta_line_at}
 
 base_line_reads : (n : ℕ) → Reads n IsBaseLine base_line_at
 base_line_reads =
-    next_reads (text_reads (32 ∷ [])) (λ _. next_reads (λ k. number_reads 10 2147483647 32 k (omega arith) (omega arith))
+    next_reads (text_reads (32 ∷ [])) (λ _. next_reads (λ k. number_reads 10 last_rev 32 k (omega arith) (omega arith))
     (λ _. next_reads (λ k. number_reads 10 18446744073709551615 32 k (omega arith) (omega arith))
     (λ _ k. mapped_reads (λ (_ : ℕ). let u : Unit {0} = tt in u) (number_reads 10 18446744073709551615 10 k (omega arith) (omega arith)))))
 
@@ -83,7 +84,7 @@ base_line_short line w =
       ap length w.first_is,
       ap length rev.parts,
       length-append rev.first rev.second,
-      number_short 2147483647 32 10 rev.first rev.between (lit< tt) (lit< tt) (lit< tt) rev.first_is,
+      number_short last_rev 32 10 rev.first rev.between (lit< tt) (lit< tt) (lit< tt) rev.first_is,
       ap length offset.parts,
       length-append offset.first offset.second,
       number_short 18446744073709551615 32 20 offset.first offset.between (lit< tt) (lit< tt) (lit< tt) offset.first_is,

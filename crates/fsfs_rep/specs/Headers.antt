@@ -3,6 +3,7 @@ use Rattle.std.specs.Prelude.{◌≡◌, ℕ, List, [], ◌∷◌, length, take,
 use Rattle.fsfs_grammar.specs.Grammar.{Then, IsText, Mapped, Either, begins}
 use Rattle.fsfs_grammar.specs.Numeral.{IsNumber, number_at}
 use Rattle.fsfs_grammar.specs.Reading.{◌>>=◌, text_at}
+use Rattle.fsfs_fields.specs.RevNums.{IsRevEnded, rev_ended_at}
 use Rattle.fsfs_rep.specs.declared.header.Header.{Header}
 use Rattle.fsfs_rep.specs.declared.header.Header.TheVariants.{Plain, Delta, Other}
 
@@ -12,7 +13,7 @@ StandsAt text offset bytes = take (length text) (drop offset bytes) ≡ text
 
 -- ` <revision> <offset> <length>` and a newline
 abbrev pub IsBaseLine : List ℕ → Unit {0} → Type 0
-IsBaseLine = Then (IsText (32 ∷ [])) (λ _. Then (IsNumber 10 2147483647 32) (λ _. Then (IsNumber 10 18446744073709551615 32) (λ _. Mapped (λ _. tt) (IsNumber 10 18446744073709551615 10))))
+IsBaseLine = Then (IsText (32 ∷ [])) (λ _. Then (IsRevEnded 32) (λ _. Then (IsNumber 10 18446744073709551615 32) (λ _. Mapped (λ _. tt) (IsNumber 10 18446744073709551615 10))))
 
 -- `DELTA` and a newline, or with a base before the newline
 abbrev pub IsDeltaLine : List ℕ → Unit {0} → Type 0
@@ -39,7 +40,7 @@ IsHeaderOf bytes Other = (¬ HasPlainLine 0 bytes) × (¬ HasDeltaLine 0 bytes)
 -- reading a delta's line
 abbrev pub base_line_at : List ℕ → Result (Unit {0} × List ℕ) ℕ
 base_line_at bytes =
-    text_at (32 ∷ []) bytes >>= λ s. number_at 10 2147483647 32 s.1 >>= λ r. number_at 10 18446744073709551615 32 r.1 >>= λ o. number_at 10 18446744073709551615 10 o.1 >>= λ l. Ok (tt, l.1)
+    text_at (32 ∷ []) bytes >>= λ s. rev_ended_at 32 s.1 >>= λ r. number_at 10 18446744073709551615 32 r.1 >>= λ o. number_at 10 18446744073709551615 10 o.1 >>= λ l. Ok (tt, l.1)
 
 unfoldable pub delta_line_at : List ℕ → Result (Unit {0} × List ℕ) ℕ
 delta_line_at bytes = text_at (codes "DELTA") bytes >>= λ d. if begins 10 d.1 then text_at (10 ∷ []) d.1 else base_line_at d.1

@@ -2,6 +2,7 @@
 ghost use Rattle.fsfs_grammar.specs.Reading.{Gives};
 ghost use Rattle.fsfs_rep.specs.Headers.{IsHeaderOf, base_line_at, delta_line_at};
 
+use fsfs_base::RevNum;
 use fsfs_grammar::decimals::decimal;
 use fsfs_grammar::pieces::text;
 
@@ -21,7 +22,10 @@ fn base_line(bytes: &[u8]) -> Result<&[u8], usize>
     ensures { Gives (λ rest. (tt, rest.now)) result (base_line_at bytes.now) }
 {
     let rest = text(b" ", bytes)?;
-    let (_rev, rest) = decimal(2147483647, b' ', rest)?;
+    let rest = match RevNum::read_ended(b' ', rest) {
+        Ok((_rev, rest)) => rest,
+        Err(left) => return Err(left),
+    };
     let (_offset, rest) = decimal(u64::MAX, b' ', rest)?;
     let (_length, rest) = decimal(u64::MAX, b'\n', rest)?;
     Ok(rest)

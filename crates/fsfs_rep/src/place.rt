@@ -3,6 +3,7 @@ ghost use Rattle.std.specs.Prelude.{◌≡◌};
 ghost use Rattle.fsfs_damage.specs.declared.wrong.ReadError.TheVariants.{Wrong};
 ghost use Rattle.fsfs_rep.specs.Frames.{rep_place, bad_rep as bad};
 
+use fsfs_base::RevNum;
 use fsfs_damage::{DamageKind, ReadError, RepWhat, RevOffset};
 use fsfs_noderev::Rep;
 
@@ -11,7 +12,7 @@ pub fn rep_place(rep: &Rep) -> RevOffset
     ensures { result ≡ rep_place rep.now }
 {
     RevOffset {
-        rev: rep.rev.unwrap_or(0),
+        rev: rep.rev.unwrap_or(RevNum::ZERO).get(),
         offset: rep.offset,
     }
 }

@@ -5,6 +5,7 @@ ghost use Rattle.fsfs_damage.specs.Causes.{IsQuiet};
 ghost use Rattle.fsfs_damage.specs.Readings.{Answers};
 ghost use Rattle.fsfs_revision.specs.Damages.{NodeIn};
 
+use fsfs_base::RevNum;
 use fsfs_damage::{DamageKind, ReadError, RevOffset};
 use fsfs_noderev::{
     Contents, CopyRoot, CopySource, NodeError, NodeId, NodeRev, Part, Place, read_noderev,
@@ -71,9 +72,10 @@ fn is_of_revision(node: &NodeRev) -> bool
 }
 
 /// Whether a place of a revision comes before another: by the revision, then by the offset.
-pub fn is_before(rev: u32, offset: u64, at: RevOffset) -> bool
+pub fn is_before(rev: RevNum, offset: u64, at: RevOffset) -> bool
     ensures { result ≡ before rev offset at }
 {
+    let rev = rev.get();
     rev < at.rev || (rev == at.rev && offset < at.offset)
 }
 
@@ -107,7 +109,7 @@ fn source_before(at: RevOffset, source: &Option<CopySource>) -> bool
 {
     match source {
         None => true,
-        Some(source) => source.rev < at.rev,
+        Some(source) => source.rev.get() < at.rev,
     }
 }
 
@@ -118,7 +120,7 @@ fn root_not_after(at: RevOffset, root: &Option<CopyRoot>) -> bool
         None => true,
         Some(root) => match root.rev {
             None => false,
-            Some(rev) => rev <= at.rev,
+            Some(rev) => rev.get() <= at.rev,
         },
     }
 }

@@ -16,7 +16,7 @@ fn is_own_place(at: RevOffset, id: &NodeId) -> bool
     ensures { result ≡ own_place at id.now.place }
 {
     match id.place {
-        Place::At(rev, offset) => rev == at.rev && offset == at.offset,
+        Place::At(rev, offset) => rev.get() == at.rev && offset == at.offset,
         Place::In(_) => false,
     }
 }

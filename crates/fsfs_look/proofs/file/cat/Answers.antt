@@ -9,7 +9,7 @@ use Rattle.fsfs_look.specs.Written.{Writes}
 use Rattle.fsfs_look.specs.declared.look_error.LookError.{LookError}
 use Rattle.fsfs_look.proofs.NodeTexts.{none_met}
 use Rattle.fsfs_look.proofs.FileLemmas.{dir_refused, file_empty, file_wrong, file_written}
-use Rattle.fsfs_look.proofs.IdsFit.{stands_within}
+use Rattle.fsfs_look.proofs.BelowHome.{stands_within}
 use Rattle.fsfs_look.proofs.file.cat.Goals as goal
 
 pub returns-in_err-found-clause-told : goal.returns-in_err-found-clause-told

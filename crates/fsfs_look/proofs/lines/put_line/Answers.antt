@@ -3,11 +3,11 @@ use Rattle.std.specs.Prelude.{codes, []}
 use Rattle.fsfs_printed.specs.TreeTexts.{IsShownId}
 use Rattle.fsfs_look.proofs.LineLemmas.{put_whole, shown_grouped}
 use Rattle.fsfs_look.proofs.lines.put_line.Goals as goal
-use Rattle.fsfs_look.proofs.lines.put_line.Goals.{then-show_ids+else-not-has_text+in_ok-put_shown_id, else-show_ids}
+use Rattle.fsfs_look.proofs.lines.put_line.Goals.{then-show_ids+in_ok-put_shown_id, else-show_ids}
 
 pub returns : goal.returns
 returns c = elim c.if-show_ids.branch [
-  | then-show_ids+else-not-has_text+in_ok-put_shown_id w ↦
+  | then-show_ids+in_ok-put_shown_id w ↦
       let k = w.in_ok-put_shown_id.ensures in
       let id = c.args.node.now.id in
       let shown : IsShownId c.args.show_ids id (codes " <" ++ k.0 ++ codes ">") = subst (λ b. IsShownId b id (codes " <" ++ k.0 ++ codes ">")) (sym w.if-show_ids.true) (k.0, k.1, refl) in

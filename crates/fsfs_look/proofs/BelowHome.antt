@@ -1,11 +1,9 @@
--- The ids of node-revisions that were read have texts.
+-- What stands at a path of a revision stands in no later revision.
 use Rattle.std.proofs.Common.{◌≡◌, ◌≤◌, ℕ, Bool, true, false, ap, ◌∙◌, arith, List, [], ◌∷◌, suc, Option, Some, None, Ok, refl, sym, subst}
 use Rattle.std.specs.Prelude.{if◌then◌else◌, ◌&&◌}
 use Rattle.fsfs_base.specs.Paths.{PathName, Path, same_name}
 use Rattle.fsfs_book.specs.Told.{RevisionBytes}
-use Rattle.fsfs_noderev.specs.NodeRevs.{IsRead}
 use Rattle.fsfs_noderev.specs.declared.node_rev.NodeRev.{NodeRev}
-use Rattle.fsfs_noderev.proofs.Fitting.{all_fit}
 use Rattle.fsfs_base.specs.declared.kind.Kind.{Kind}
 use Rattle.fsfs_base.specs.declared.kind.Kind.TheVariants.{File, Dir}
 use Rattle.fsfs_shows.specs.Reading.{DirEntry, OfEntry, named, OfNamed, ChildOf, OrLacking, InDirectory, MetFrom, MetAt, Stands, Pairs, AreEntries, EntriesAt, OfContents, offset_of}
@@ -20,14 +18,7 @@ use Rattle.fsfs_damage.specs.Damages.{place_of}
 use Rattle.fsfs_revision.specs.Nodes.{place_before, is_own_place, is_directory}
 use Rattle.fsfs_damage.specs.declared.damage.RevOffset.{RevOffset}
 use Rattle.fsfs_dag.specs.Views.{home_of}
-use Rattle.fsfs_look.specs.Lines.{HasIdText}
 use Rattle.fsfs_look.proofs.WeightLemmas.{place_rev}
-
-is_read_fits : (bytes : List ℕ) (v : NodeRev) → IsRead bytes v → HasIdText v
-is_read_fits bytes v h = (all_fit bytes (Ok v) h).id
-
-pub entry_fits : (look : RevisionBytes) (entry : DirEntry) (v : NodeRev) → OfEntry look entry (Ok v) → HasIdText v
-entry_fits look entry v (u, (w, (bytes, has, node), (is, same)), (e, kind)) = subst (λ n. HasIdText n) (sym e) (subst (λ n. HasIdText n) (sym is) (is_read_fits _ w node.0.0))
 
 entry_id : (look : RevisionBytes) (entry : DirEntry) (v : NodeRev) → OfEntry look entry (Ok v) → v.id ≡ entry.id
 entry_id look entry v (u, (w, node, (is, same)), (e, kind)) = ap (λ (n : NodeRev). n.id) (e ∙ is) ∙ same
@@ -81,12 +72,6 @@ module _ (look : RevisionBytes) where
     from_all : (path : Path) (v : NodeRev) (depth : ℕ) (w : NodeRev) → P v → MetFrom look v depth path (Ok (Stands w)) → P w
     from_all [] v depth w p h = let same : v ≡ w = cc in subst (λ n. P n) same p
     from_all (name ∷ names) v depth w p h = in_kind v depth name names w v.kind p (λ u k m. from_all names u (suc depth) w k m) h
-
-  child_fits : (v : NodeRev) (name : PathName) (u : NodeRev) → HasIdText v → ChildOf look v name (Ok (Some u)) → HasIdText u
-  child_fits v name u fits (entries, read, h) = let k = child_named v name entries (named name entries) u refl h in entry_fits look k.0 u k.2
-
-  pub stands_fits : (rev : ℕ) (path : Path) (v : NodeRev) → MetAt look rev path (Ok (Stands v)) → HasIdText v
-  stands_fits rev path v (root, (bytes, has, (t, ends, (n, node, (same, is)))), h) = from_all HasIdText child_fits path root 0 v (subst (λ (x : NodeRev). HasIdText x) (sym same) (is_read_fits _ n node.0.0)) h
 
   child_within : (top : ℕ) (v : NodeRev) (name : PathName) (u : NodeRev) → (home_of v).rev ≤ top → ChildOf look v name (Ok (Some u)) → (home_of u).rev ≤ top
   child_within top v name u le (entries, read, h) =
