@@ -1,5 +1,10 @@
 -- The names and the texts of the first files.
-use Rattle.std.proofs.Common.{◌≡◌, ℕ, List, [], ◌∷◌, ◌++◌, ap, ◌∙◌, arith}
+use Rattle.std.proofs.Common.{◌≡◌, ℕ, List, [], ◌∷◌, ◌++◌, length, refl, sym, ap, ◌∙◌, append_assoc, arith}
+use Rattle.std.proofs.lemmas.List.{append-nil}
+use Rattle.fsfs_grammar.proofs.Unique.{numeral_decimal}
+use Rattle.fsfs_hash.specs.Dump.{dump_text}
+use Rattle.fsfs_tree.specs.Dated.{date_name}
+use Rattle.fsfs_layout.specs.CreatedFiles.{date_properties}
 use Rattle.std.specs.Prelude.{codes, decimal}
 use Rattle.std.proofs.Math.Nat.{zero-div}
 use Rattle.std.proofs.lemmas.Fmt.{decimal_digit}
@@ -7,6 +12,7 @@ use Rattle.fsfs_grammar.proofs.Numerals.{numeral_one}
 use Rattle.fsfs_grammar.proofs.Unique.{numeral_same}
 use Rattle.fsfs_base.specs.Files.{NamedFile}
 use Rattle.fsfs_layout.specs.Names.{in_shard}
+use Rattle.fsfs_layout.specs.declared.layout.Layout.{Layout}
 use Rattle.fsfs_layout.specs.Small.{IsBase36Line}
 
 -- a file more
@@ -22,8 +28,23 @@ zero_line text is = is ∙ ap (λ (t : List ℕ). t ++ 10 ∷ []) zero_text
 pub zero_line36 : (text : List ℕ) → IsBase36Line text 0 → text ≡ codes "0\n"
 zero_line36 text w = w.parts ∙ ap (λ (t : List ℕ). t ++ 10 ∷ []) (numeral_same 36 (omega arith) (omega arith) w.digits (codes "0") 0 w.numeral (numeral_one 36 48 (omega arith)))
 
--- whatever the size of a shard, revision 0 is in shard 0
-pub first_name : (folder name : List ℕ) (n : ℕ) → name ≡ in_shard folder n 0 → name ≡ folder ++ 47 ∷ codes "0" ++ 47 ∷ codes "0"
+eight : decimal 8 ≡ codes "8"
+eight = decimal_digit 8 (omega arith)
+
+twenty_seven : decimal 27 ≡ codes "27"
+unfolding numeral_at plain_at
+twenty_seven = sym (numeral_decimal (codes "27") 27 (omega arith) (number_spells.found (codes "27") 27 refl).0)
+
+-- the dump of a date alone
+pub dated_text : (date : List ℕ) → length date ≡ 27 → dump_text ((date_name, date) ∷ []) ≡ date_properties date
+dated_text date size =
+    let T : List ℕ → List ℕ → List ℕ = λ a b. (((75 ∷ 32 ∷ []) ++ ((a ++ 10 ∷ []) ++ (date_name ++ 10 ∷ [])) ++ ((86 ∷ 32 ∷ []) ++ ((b ++ 10 ∷ []) ++ (date ++ 10 ∷ [])))) ++ []) ++ codes "END\n" in
+    let number : decimal (length date) ≡ codes "27" = ap decimal size ∙ twenty_seven in
+    (λ i. T (eight i) (number i))
+    ∙ ap (λ (t : List ℕ). codes "K 8\nsvn:date\nV 27\n" ++ t) (ap (λ (t : List ℕ). t ++ codes "END\n") (append-nil (date ++ 10 ∷ [])) ∙ append_assoc date (10 ∷ []) (codes "END\n"))
+
+-- whatever the layout, revision 0 is in shard 0
+pub first_name : (folder name : List ℕ) (n : Layout) → name ≡ in_shard folder n 0 → name ≡ folder ++ 47 ∷ codes "0" ++ 47 ∷ codes "0"
 first_name folder name n is =
-    is ∙ ap (λ (k : ℕ). folder ++ 47 ∷ decimal k ++ 47 ∷ decimal 0) (zero-div n)
+    is ∙ ap (λ (k : ℕ). folder ++ 47 ∷ decimal k ++ 47 ∷ decimal 0) (zero-div n.shard_size)
     ∙ ap (λ (t : List ℕ). folder ++ 47 ∷ t ++ 47 ∷ t) zero_text

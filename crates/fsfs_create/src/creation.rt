@@ -10,7 +10,7 @@ ghost use Rattle.fsfs_create.specs.Creation.{after_puts, after_publishing, after
 use crate::initial::{NewFile, created_files};
 use fsfs_base::{Failed, write_date};
 use fsfs_disk::Disk;
-use fsfs_layout::{Format, names, write_format};
+use fsfs_layout::{Format, Layout, names, write_format};
 use fsfs_places::{CreateFault, DiskPlace};
 use std::alloc::Global;
 use uuid::Uuid;
@@ -79,34 +79,32 @@ fn write_files<D: Disk>(disk: &mut D, files: &[NewFile], format: &[u8]) -> Resul
     publish(disk, format)
 }
 
-/// Makes a repository of format 4, with so many revisions in a shard, of revision 0 alone, whose date is the moment
+/// Makes a repository of this layout, of revision 0 alone, whose date is the moment
 /// (microseconds since the beginning of 1970 in UTC). It is one from the moment on at which `db/format` has its name.
 pub fn create<D: Disk>(
     alloc: Global,
     disk: &mut D,
     identifier: Uuid,
-    shard: u32,
+    layout: Layout,
     moment: u64,
 ) -> Result<(), CreateFault>
-    requires from_one { 1 ≤ shard }
-    requires most { shard ≤ 2_147_483_647 }
     requires moment { moment ≤ 4_102_444_799_999_999 }
     requires right { IsTrue (D.may_write disk.old) }
 
-    ensures created { OnOk result (IsCreated shard (identifier_text identifier) moment (D.trace disk.old) (D.trace disk.new)) }
+    ensures created { OnOk result (IsCreated layout.shard_size (identifier_text identifier) moment (D.trace disk.old) (D.trace disk.new)) }
     ensures fresh { OnOk result (IsNoRepository (D.trace disk.old)) }
 
     // The new repository is firm.
     ensures firm { OnOk result (IsFirm (D.trace disk.new)) }
 
-    ensures refused { IfErr result (CreateFails (Rose (D.faults disk.old) (D.faults disk.new)) shard (identifier_text identifier) moment (D.trace disk.old) (D.trace disk.new)) }
+    ensures refused { IfErr result (CreateFails (Rose (D.faults disk.old) (D.faults disk.new)) layout.shard_size (identifier_text identifier) moment (D.trace disk.old) (D.trace disk.new)) }
 
     // A repository that is there stays as it is, whatever is answered.
     ensures there_same { (t : Trace) → D.trace disk.old ≡ Some t → HasRepository t → D.trace disk.new ≡ D.trace disk.old }
 
     // A crash at any moment leaves no repository or the whole of this one.
     ensures any_moment { AllImages (D.trace disk.old) IsUnpublished
-        → Leaves (D.trace disk.old) (D.trace disk.new) (IsNoneOrWhole shard (identifier_text identifier) moment (D.trace disk.old)) }
+        → Leaves (D.trace disk.old) (D.trace disk.new) (IsNoneOrWhole layout.shard_size (identifier_text identifier) moment (D.trace disk.old)) }
 
     ensures mounted { D.mount_path disk.new ≡ D.mount_path disk.old }
     ensures right { D.may_write disk.new ≡ D.may_write disk.old }
@@ -118,8 +116,8 @@ pub fn create<D: Disk>(
         Ok(None) => {}
     }
     let date = write_date(alloc, moment)?;
-    let files = created_files(alloc, identifier, shard, &date)?;
-    let format = write_format(alloc, &Format::Sharded(shard))?;
+    let files = created_files(alloc, identifier, layout, &date)?;
+    let format = write_format(alloc, &Format::Sharded(layout.shard_size()))?;
     match write_files(disk, &files, &format) {
         Ok(()) => Ok(()),
         Err(place) => Err(CreateFault::DiskFault(place)),

@@ -1,11 +1,13 @@
 // The files of a new repository.
-ghost use Rattle.std.specs.Prelude.{◌≡◌, ◌<◌, ◌++◌, ◌∷◌, [], map, IfOk, OnOk};
+ghost use Rattle.std.specs.Prelude.{◌≡◌, ◌<◌, ◌++◌, ◌∷◌, [], length, map, IfOk, OnOk};
 ghost use Rattle.fsfs_create.specs.NewFiles.{named};
 ghost use Rattle.fsfs_layout.specs.CreatedFiles.{unpublished_files, date_properties, identifier_text as text_of_identifier};
 
-use fsfs_base::{B36, Name};
+use fsfs_base::{B36, Name, Pairs};
+use fsfs_hash::write_hash;
 use fsfs_layout::{
-    Uuid as Identifier, names, write_current, write_min_unpacked_rev, write_txn_current, write_uuid,
+    Layout, Uuid as Identifier, names, write_current, write_min_unpacked_rev, write_txn_current,
+    write_uuid,
 };
 use std::alloc::{AllocError, Global};
 use uuid::Uuid;
@@ -38,22 +40,24 @@ fn identifier_of(identifier: Uuid) -> Identifier
 
 // The property list of revision 0.
 fn properties(alloc: Global, date: &[u8]) -> Result<Vec<u8>, AllocError>
+    requires { length date.now ≡ 27 }
     ensures { IfOk result (λ t. t.items ≡ date_properties date.now) }
 {
-    let mut out = Vec::from_slice(alloc, b"K 8\nsvn:date\nV 27\n")?;
-    out.extend_from_slice(date)?;
-    out.extend_from_slice(b"\nEND\n")?;
-    Ok(out)
+    let name = Vec::from_slice(alloc, b"svn:date")?;
+    let value = Vec::from_slice(alloc, date)?;
+    let mut pairs = Pairs::new(alloc);
+    pairs.set(name, value)?;
+    write_hash(alloc, &pairs)
 }
 
-/// All files of a new repository but `db/format`, from its identifier, the size of a shard and the text of its date.
+/// All files of a new repository but `db/format`, from its identifier, its layout and the text of its date.
 pub fn created_files(
     alloc: Global,
     identifier: Uuid,
-    shard: u32,
+    layout: Layout,
     date: &[u8],
 ) -> Result<Vec<NewFile>, AllocError>
-    requires { 0 < shard }
+    requires { length date.now ≡ 27 }
     ensures { IfOk result (λ files. map named files.items ≡ unpublished_files (text_of_identifier identifier) date.now) }
 {
     let version = Vec::from_slice(alloc, b"5\n")?;
@@ -61,7 +65,7 @@ pub fn created_files(
     let uuid = write_uuid(alloc, &identifier_of(identifier))?;
     let current = write_current(alloc, 0)?;
     let txn_current = write_txn_current(alloc, &B36 { number: 0 })?;
-    let floor = write_min_unpacked_rev(alloc, shard, 0)?;
+    let floor = write_min_unpacked_rev(alloc, layout, 0)?;
     let revision = Vec::from_slice(alloc, REVISION_ZERO)?;
     let props = properties(alloc, date)?;
     let mut files = Vec::new(alloc);
@@ -73,8 +77,8 @@ pub fn created_files(
     add(&mut files, names::min_unpacked_rev(), floor)?;
     add(&mut files, names::write_lock(), Vec::new(alloc))?;
     add(&mut files, names::txn_current_lock(), Vec::new(alloc))?;
-    add(&mut files, names::revision(shard, 0), revision)?;
-    add(&mut files, names::props(shard, 0), props)?;
+    add(&mut files, names::revision(layout, 0), revision)?;
+    add(&mut files, names::props(layout, 0), props)?;
     Ok(files)
 }
 

@@ -14,6 +14,8 @@ use Rattle.fsfs_damage.specs.declared.wrong.Refusal.TheVariants.{Missing, Small}
 use Rattle.fsfs_book.specs.declared.book.BookFault.{BookFault}
 use Rattle.fsfs_book.specs.declared.book.BookFault.TheVariants.{Refused, Short, DiskFault, OutOfMemory}
 use Rattle.fsfs_book.specs.Told.{Gives, part_read, size_read}
+use Rattle.fsfs_layout.specs.declared.layout.Layout.{Layout}
+use Rattle.fsfs_layout.specs.Layouts.{shard_of}
 use Rattle.fsfs_fetch.specs.declared.manifests.KeptManifest.{KeptManifest}
 use Rattle.fsfs_rev_file.specs.RevBytes.{floor_in, rev_bytes, packed_bytes, by_floor, or_missing, rev_file, props_file, props_bytes, manifest_of}
 use Rattle.fsfs_fetch.specs.Views.{Reach, IsKnown, View, Follows, Later, is_packed, is_below}
@@ -24,13 +26,13 @@ use Rattle.fsfs_fetch.proofs.ManifestLemmas.{refused_ok}
 
 -- ---- the test of what is kept, taken apart and put together
 
-pub right_below : (n : ℕ) (m : Files) (floor : ℕ) (kept : Option KeptManifest) (rev : ℕ) → rev < floor → is_right n m floor kept rev ≡ true → (is_packed n m rev ≡ true) × (fits n m kept rev ≡ true)
+pub right_below : (n : Layout) (m : Files) (floor : ℕ) (kept : Option KeptManifest) (rev : ℕ) → rev < floor → is_right n m floor kept rev ≡ true → (is_packed n m rev ≡ true) × (fits n m kept rev ≡ true)
 unfolding is_right
 right_below n m floor kept rev lt e =
     let P : Bool → Type 0 = λ b. cond b (is_packed n m rev && fits n m kept rev) (agrees (rev_file n m rev) (rev_bytes n m rev)) ≡ true in
     and_parts (is_packed n m rev) (fits n m kept rev) (subst P (lt-ltb rev floor lt) e)
 
-pub right_above : (n : ℕ) (m : Files) (floor : ℕ) (kept : Option KeptManifest) (rev : ℕ) → floor ≤ rev → is_right n m floor kept rev ≡ true → agrees (rev_file n m rev) (rev_bytes n m rev) ≡ true
+pub right_above : (n : Layout) (m : Files) (floor : ℕ) (kept : Option KeptManifest) (rev : ℕ) → floor ≤ rev → is_right n m floor kept rev ≡ true → agrees (rev_file n m rev) (rev_bytes n m rev) ≡ true
 unfolding is_right
 right_above n m floor kept rev le e =
     let P : Bool → Type 0 = λ b. cond b (is_packed n m rev && fits n m kept rev) (agrees (rev_file n m rev) (rev_bytes n m rev)) ≡ true in
@@ -46,24 +48,24 @@ test_less a b e = grind (arith, nat_tests)
 test_not_less : (a b : ℕ) → nat_lt a b ≡ false → b ≤ a
 test_not_less a b e = grind (arith, nat_tests)
 
-pub make_right : (n : ℕ) (m : Files) (floor : ℕ) (kept : Option KeptManifest) (rev : ℕ) → (rev < floor → (is_packed n m rev ≡ true) × (fits n m kept rev ≡ true)) → (floor ≤ rev → agrees (rev_file n m rev) (rev_bytes n m rev) ≡ true) → is_right n m floor kept rev ≡ true
+pub make_right : (n : Layout) (m : Files) (floor : ℕ) (kept : Option KeptManifest) (rev : ℕ) → (rev < floor → (is_packed n m rev ≡ true) × (fits n m kept rev ≡ true)) → (floor ≤ rev → agrees (rev_file n m rev) (rev_bytes n m rev) ≡ true) → is_right n m floor kept rev ≡ true
 unfolding is_right
 make_right n m floor kept rev f g =
     chosen (nat_lt rev floor) (is_packed n m rev) (fits n m kept rev) (agrees (rev_file n m rev) (rev_bytes n m rev)) (λ e. f (test_less rev floor e)) (λ e. g (test_not_less rev floor e))
 
 -- ---- later files
 
-pub fits_later : (n : ℕ) (reach : Reach) (m new : Files) (kept : Option KeptManifest) (rev : ℕ) → Follows n reach m new → is_packed n m rev ≡ true → fits n m kept rev ≡ true → fits n new kept rev ≡ true
+pub fits_later : (n : Layout) (reach : Reach) (m new : Files) (kept : Option KeptManifest) (rev : ℕ) → Follows n reach m new → is_packed n m rev ≡ true → fits n m kept rev ≡ true → fits n new kept rev ≡ true
 fits_later n reach m new None rev f packed fit = refl
 fits_later n reach m new (Some kept) rev f packed fit =
-    let F : Option (List ℕ) → Bool = λ file. cond (kept.shard == rev / n) (are_offsets kept.offsets.items (manifest_of n (rev / n) (unwrap_or file []))) true in
+    let F : Option (List ℕ) → Bool = λ file. cond (kept.shard == shard_of n rev) (are_offsets kept.offsets.items (manifest_of n (shard_of n rev) (unwrap_or file []))) true in
     ap F (f.manifest rev packed) ∙ fit
 
 agrees_later : (file later : Option (List ℕ)) (read now : Result (List ℕ) Refusal) → (later ≡ file) ⊎ (later ≡ None) → now ≡ read → agrees file read ≡ true → agrees later now ≡ true
 agrees_later file later read now (inl same) e h = (λ i. agrees (same i) (e i)) ∙ h
 agrees_later file later read now (inr none) e h = ap (λ f. agrees f now) none
 
-pub right_later : (n : ℕ) (reach : Reach) (m new : Files) (floor : ℕ) (kept : Option KeptManifest) (rev : ℕ) → Follows n reach m new → IsKnown reach rev → is_right n m floor kept rev ≡ true → is_right n new floor kept rev ≡ true
+pub right_later : (n : Layout) (reach : Reach) (m new : Files) (floor : ℕ) (kept : Option KeptManifest) (rev : ℕ) → Follows n reach m new → IsKnown reach rev → is_right n m floor kept rev ≡ true → is_right n new floor kept rev ≡ true
 right_later n reach m new floor kept rev f known right =
     make_right n new floor kept rev
     (λ lt. let p = right_below n m floor kept rev lt right in (f.packed rev p.0, fits_later n reach m new kept rev f p.0 p.1))
@@ -73,12 +75,12 @@ right_later n reach m new floor kept rev f known right =
 found_next : (v w : View) (floor : ℕ) (kept : Option KeptManifest) (m : Files) (rev : ℕ) → Later v w → IsFoundAt v floor kept rev m → (new : Files) × IsFoundAt w floor kept rev new
 found_next v w floor kept m rev e p =
     let k = next v w m e p.told in
-    let P : ℕ → Type 0 = λ n. is_right n k.files floor kept rev ≡ true in (
+    let P : Layout → Type 0 = λ n. is_right n k.files floor kept rev ≡ true in (
       k.files,
       record {
         told = k.told;
         known = known_later v.reach w.reach rev e.reach p.known;
-        right = subst P (sym e.size) (right_later v.shard_size v.reach m k.files floor kept rev k.follows p.known p.right);
+        right = subst P (sym e.layout) (right_later v.layout v.reach m k.files floor kept rev k.follows p.known p.right);
       },
     )
 
@@ -87,44 +89,44 @@ finds_later v w floor kept e = λ m rev p. found_next v w floor kept m rev e p
 
 pub finds_serving : (v w : View) (floor : ℕ) (old new : Option KeptManifest) → Later v w → ServesAsWell v old new → FindsAsWell v floor old w floor new
 finds_serving v w floor old new e serves = λ m rev p.
-    let right = make_right v.shard_size m floor new rev
-    (λ lt. let q = right_below v.shard_size m floor old rev lt p.right in (q.0, serves m rev (record { told = p.told; packed = q.0; fits = q.1 })))
-    (λ le. right_above v.shard_size m floor old rev le p.right) in
+    let right = make_right v.layout m floor new rev
+    (λ lt. let q = right_below v.layout m floor old rev lt p.right in (q.0, serves m rev (record { told = p.told; packed = q.0; fits = q.1 })))
+    (λ le. right_above v.layout m floor old rev le p.right) in
     found_next v w floor new m rev e (record { told = p.told; known = p.known; right = right })
 
-below_is : (n : ℕ) (m : Files) (rev floor : ℕ) → floor_in n m ≡ Ok floor → is_packed n m rev ≡ nat_lt rev floor
+below_is : (n : Layout) (m : Files) (rev floor : ℕ) → floor_in n m ≡ Ok floor → is_packed n m rev ≡ nat_lt rev floor
 unfolding is_packed
 below_is n m rev floor e = ap (is_below rev) e
 
-own_agrees : (n : ℕ) (m : Files) (rev fresh : ℕ) (file : Option (List ℕ)) (read : Result (List ℕ) Refusal) → file ≡ rev_file n m rev → read ≡ or_missing rev file → agrees file read ≡ true
+own_agrees : (n : Layout) (m : Files) (rev fresh : ℕ) (file : Option (List ℕ)) (read : Result (List ℕ) Refusal) → file ≡ rev_file n m rev → read ≡ or_missing rev file → agrees file read ≡ true
 own_agrees n m rev fresh None read e f = refl
 own_agrees n m rev fresh (Some bytes) read e f = ap (agrees (Some bytes)) f ∙ nat_list_eq_equiv.refl bytes
 
-by_floor_own : (n : ℕ) (m : Files) (rev floor : ℕ) (r : Result ℕ SmallFault) → r ≡ Ok floor → floor ≤ rev → by_floor n m rev r ≡ or_missing rev (rev_file n m rev)
+by_floor_own : (n : Layout) (m : Files) (rev floor : ℕ) (r : Result ℕ SmallFault) → r ≡ Ok floor → floor ≤ rev → by_floor n m rev r ≡ or_missing rev (rev_file n m rev)
 by_floor_own n m rev floor r e le = let past : nat_lt rev floor ≡ false = le-ltb rev floor le in ap (by_floor n m rev) e ∙ rw past refl
 
-bytes_own : (n : ℕ) (m : Files) (rev floor : ℕ) → floor_in n m ≡ Ok floor → floor ≤ rev → rev_bytes n m rev ≡ or_missing rev (rev_file n m rev)
+bytes_own : (n : Layout) (m : Files) (rev floor : ℕ) → floor_in n m ≡ Ok floor → floor ≤ rev → rev_bytes n m rev ≡ or_missing rev (rev_file n m rev)
 unfolding rev_bytes
 bytes_own n m rev floor e le = by_floor_own n m rev floor (floor_in n m) e le
 
 -- a reader whose floor is that of the files, and that keeps no manifest
-pub fresh_right : (n : ℕ) (m : Files) (rev floor : ℕ) → floor_in n m ≡ Ok floor → is_right n m floor None rev ≡ true
+pub fresh_right : (n : Layout) (m : Files) (rev floor : ℕ) → floor_in n m ≡ Ok floor → is_right n m floor None rev ≡ true
 fresh_right n m rev floor is =
     make_right n m floor None rev
     (λ lt. (below_is n m rev floor is ∙ lt-ltb rev floor lt, refl))
     (λ le. own_agrees n m rev floor (rev_file n m rev) (rev_bytes n m rev) refl (bytes_own n m rev floor is le))
 
 -- a floor that was read anew
-pub finds_fresh : (v w : View) (floor fresh : ℕ) (kept : Option KeptManifest) → Later v w → IfSome w.files (λ m. refused (floor_in w.shard_size m) ≡ Ok fresh) → FindsAsWell v floor kept w fresh None
+pub finds_fresh : (v w : View) (floor fresh : ℕ) (kept : Option KeptManifest) → Later v w → IfSome w.files (λ m. refused (floor_in w.layout m) ≡ Ok fresh) → FindsAsWell v floor kept w fresh None
 finds_fresh v w floor fresh kept e read = λ m rev p.
     let k = next v w m e p.told in
-    let Q : Files → Type 0 = λ f. refused (floor_in w.shard_size f) ≡ Ok fresh in
-    let is : floor_in w.shard_size k.files ≡ Ok fresh = refused_ok _ fresh (told_at w.files k.files Q k.told read) in (
+    let Q : Files → Type 0 = λ f. refused (floor_in w.layout f) ≡ Ok fresh in
+    let is : floor_in w.layout k.files ≡ Ok fresh = refused_ok _ fresh (told_at w.files k.files Q k.told read) in (
       k.files,
       record {
         told = k.told;
         known = known_later v.reach w.reach rev e.reach p.known;
-        right = fresh_right w.shard_size k.files rev fresh is;
+        right = fresh_right w.layout k.files rev fresh is;
       },
     )
 
@@ -133,21 +135,21 @@ finds_more u v w a b c k l p f g = λ m rev h. let q = f m rev h in g q.0 rev q.
 
 -- ---- the bytes that are found
 
-by_floor_packed : (n : ℕ) (m : Files) (rev : ℕ) (r : Result ℕ SmallFault) → is_below rev r ≡ true → by_floor n m rev r ≡ packed_bytes n m rev
+by_floor_packed : (n : Layout) (m : Files) (rev : ℕ) (r : Result ℕ SmallFault) → is_below rev r ≡ true → by_floor n m rev r ≡ packed_bytes n m rev
 by_floor_packed n m rev (Err f) e = cc
 by_floor_packed n m rev (Ok floor) e = rw e refl
 
-pub bytes_packed : (n : ℕ) (m : Files) (rev : ℕ) → is_packed n m rev ≡ true → rev_bytes n m rev ≡ packed_bytes n m rev
+pub bytes_packed : (n : Layout) (m : Files) (rev : ℕ) → is_packed n m rev ≡ true → rev_bytes n m rev ≡ packed_bytes n m rev
 unfolding is_packed rev_bytes
 bytes_packed n m rev e = by_floor_packed n m rev (floor_in n m) e
 
-pub bytes_gone : (n : ℕ) (m : Files) (rev floor : ℕ) → floor_in n m ≡ Ok floor → floor ≤ rev → rev_file n m rev ≡ None → rev_bytes n m rev ≡ Err (Missing rev)
+pub bytes_gone : (n : Layout) (m : Files) (rev floor : ℕ) → floor_in n m ≡ Ok floor → floor ≤ rev → rev_file n m rev ≡ None → rev_bytes n m rev ≡ Err (Missing rev)
 unfolding rev_bytes
 bytes_gone n m rev floor e le gone =
     let past : nat_lt rev floor ≡ false = le-ltb rev floor le in
     ap (by_floor n m rev) e ∙ rw past (ap (or_missing rev) gone)
 
-pub bytes_fault : (n : ℕ) (m : Files) (rev : ℕ) (fault : SmallFault) → floor_in n m ≡ Err fault → rev_bytes n m rev ≡ Err (Small fault)
+pub bytes_fault : (n : Layout) (m : Files) (rev : ℕ) (fault : SmallFault) → floor_in n m ≡ Err fault → rev_bytes n m rev ≡ Err (Small fault)
 unfolding rev_bytes
 bytes_fault n m rev fault e = ap (by_floor n m rev) e
 
@@ -160,22 +162,22 @@ own_bytes file bytes (Err f) is h = let P : Option (List ℕ) → Type 0 = λ o.
 -- ---- what is answered
 
 pub packed_at : (v : View) (floor : ℕ) (kept : Option KeptManifest) (m : Files) (rev : ℕ) → rev < floor → IsFoundAt v floor kept rev m → IsPackedAt v kept rev m
-packed_at v floor kept m rev lt p = let q = right_below v.shard_size m floor kept rev lt p.right in record { told = p.told; packed = q.0; fits = q.1 }
+packed_at v floor kept m rev lt p = let q = right_below v.layout m floor kept rev lt p.right in record { told = p.told; packed = q.0; fits = q.1 }
 
-pub own_goes : (v : View) (m : Files) (rev : ℕ) (n : ℕ) (name : List ℕ) → v.files ≡ Some m → IsKnown v.reach rev → n ≡ v.shard_size → name ≡ in_shard (codes "db/revs") n rev → MayGo v name (rev_file v.shard_size m rev)
+pub own_goes : (v : View) (m : Files) (rev : ℕ) (n : Layout) (name : List ℕ) → v.files ≡ Some m → IsKnown v.reach rev → n ≡ v.layout → name ≡ in_shard (codes "db/revs") n rev → MayGo v name (rev_file v.layout m rev)
 own_goes v m rev n name told known e named =
-    let P : List ℕ → Type 0 = λ t. MayGo v t (rev_file v.shard_size m rev) in
-    let is : in_shard (codes "db/revs") v.shard_size rev ≡ name = ap (λ k. in_shard (codes "db/revs") k rev) (sym e) ∙ sym named in
+    let P : List ℕ → Type 0 = λ t. MayGo v t (rev_file v.layout m rev) in
+    let is : in_shard (codes "db/revs") v.layout rev ≡ name = ap (λ k. in_shard (codes "db/revs") k rev) (sym e) ∙ sym named in
     subst P is (record { now = m; told = told; later = λ new f. f.own rev known })
 
-pub gone_at : (v w : View) (m : Files) (rev n : ℕ) (name : List ℕ) → Later v w → v.files ≡ Some m → IsKnown v.reach rev → n ≡ v.shard_size → name ≡ in_shard (codes "db/revs") n rev → (k : Files) × (w.files ≡ Some k) × (map.get k name ≡ None)
-    → (new : Files) × (IsGoneAt w rev new) × (rev_bytes w.shard_size new rev ≡ rev_bytes v.shard_size m rev)
+pub gone_at : (v w : View) (m : Files) (rev : ℕ) (n : Layout) (name : List ℕ) → Later v w → v.files ≡ Some m → IsKnown v.reach rev → n ≡ v.layout → name ≡ in_shard (codes "db/revs") n rev → (k : Files) × (w.files ≡ Some k) × (map.get k name ≡ None)
+    → (new : Files) × (IsGoneAt w rev new) × (rev_bytes w.layout new rev ≡ rev_bytes v.layout m rev)
 gone_at v w m rev n name e told known same named p =
     let k = next v w m e told in
     let one : k.files ≡ p.0 = same_Some k.files p.0 (sym k.told ∙ p.1) in
-    let is : in_shard (codes "db/revs") w.shard_size rev ≡ name = ap (λ j. in_shard (codes "db/revs") j rev) (e.size ∙ sym same) ∙ sym named in
-    let gone : rev_file w.shard_size k.files rev ≡ None = ap (map.get k.files) is ∙ ap (λ f. map.get f name) one ∙ p.2 in
-    (k.files, record { told = k.told; known = known_later v.reach w.reach rev e.reach known; gone = gone }, ap (λ j. rev_bytes j k.files rev) e.size ∙ k.follows.bytes rev known)
+    let is : in_shard (codes "db/revs") w.layout rev ≡ name = ap (λ j. in_shard (codes "db/revs") j rev) (e.layout ∙ sym same) ∙ sym named in
+    let gone : rev_file w.layout k.files rev ≡ None = ap (map.get k.files) is ∙ ap (λ f. map.get f name) one ∙ p.2 in
+    (k.files, record { told = k.told; known = known_later v.reach w.reach rev e.reach known; gone = gone }, ap (λ j. rev_bytes j k.files rev) e.layout ∙ k.follows.bytes rev known)
 
 -- a failure of the floor is the revision's
 pub floor_err : {X : Type 0} (view : X → List ℕ) (rev offset count : ℕ) (floor : Result ℕ SmallFault) (whole : Result (List ℕ) Refusal) (other : ℕ) (e : BookFault) → ((fault : SmallFault) → floor ≡ Err fault → whole ≡ Err (Small fault)) → Gives {X = Unit {0}} (λ _. other) (Err e) (refused floor)
@@ -203,65 +205,65 @@ floor_err_len (Ok n) whole other (Short r o) f h = cc
 floor_err_len (Err fault) whole other (Short r o) f h = cc
 
 -- after the floor was read anew: its fault is the revision's; or the revision is packed; or it isn't anywhere
-pub fresh_fault : (v w : View) (m : Files) (rev other : ℕ) (e : BookFault) → Later v w → IsGoneAt v rev m → IfSome w.files (λ f. Gives {X = Unit {0}} (λ _. other) (Err e) (refused (floor_in w.shard_size f)))
-    → (new : Files) × (Gives {X = Unit {0}} (λ _. other) (Err e) (refused (floor_in w.shard_size new))) × (rev_bytes w.shard_size new rev ≡ rev_bytes v.shard_size m rev)
+pub fresh_fault : (v w : View) (m : Files) (rev other : ℕ) (e : BookFault) → Later v w → IsGoneAt v rev m → IfSome w.files (λ f. Gives {X = Unit {0}} (λ _. other) (Err e) (refused (floor_in w.layout f)))
+    → (new : Files) × (Gives {X = Unit {0}} (λ _. other) (Err e) (refused (floor_in w.layout new))) × (rev_bytes w.layout new rev ≡ rev_bytes v.layout m rev)
 fresh_fault v w m rev other e later p h =
     let k = next v w m later p.told in
-    let Q : Files → Type 0 = λ f. Gives {X = Unit {0}} (λ _. other) (Err e) (refused (floor_in w.shard_size f)) in
-    (k.files, told_at w.files k.files Q k.told h, ap (λ j. rev_bytes j k.files rev) later.size ∙ k.follows.bytes rev p.known)
+    let Q : Files → Type 0 = λ f. Gives {X = Unit {0}} (λ _. other) (Err e) (refused (floor_in w.layout f)) in
+    (k.files, told_at w.files k.files Q k.told h, ap (λ j. rev_bytes j k.files rev) later.layout ∙ k.follows.bytes rev p.known)
 
 pub record Fresh (v w : View) (m : Files) (rev fresh : ℕ) : Type 0 where
   pub new : Files
   pub told : w.files ≡ Some new
   pub known : IsKnown w.reach rev
-  pub floor : floor_in w.shard_size new ≡ Ok fresh
-  pub gone : rev_file w.shard_size new rev ≡ None
-  pub bytes : rev_bytes w.shard_size new rev ≡ rev_bytes v.shard_size m rev
+  pub floor : floor_in w.layout new ≡ Ok fresh
+  pub gone : rev_file w.layout new rev ≡ None
+  pub bytes : rev_bytes w.layout new rev ≡ rev_bytes v.layout m rev
 
 still_gone : {A : Type 0} (a b : Option A) → a ≡ None → (b ≡ a) ⊎ (b ≡ None) → b ≡ None
 still_gone a b e (inl same) = same ∙ e
 still_gone a b e (inr none) = none
 
-pub fresh_floor : (v w : View) (m : Files) (rev fresh : ℕ) → Later v w → IsGoneAt v rev m → IfSome w.files (λ f. refused (floor_in w.shard_size f) ≡ Ok fresh) → Fresh v w m rev fresh
+pub fresh_floor : (v w : View) (m : Files) (rev fresh : ℕ) → Later v w → IsGoneAt v rev m → IfSome w.files (λ f. refused (floor_in w.layout f) ≡ Ok fresh) → Fresh v w m rev fresh
 fresh_floor v w m rev fresh later p h =
     let k = next v w m later p.told in
-    let Q : Files → Type 0 = λ f. refused (floor_in w.shard_size f) ≡ Ok fresh in
-    let gone : rev_file v.shard_size k.files rev ≡ None = still_gone (rev_file v.shard_size m rev) (rev_file v.shard_size k.files rev) p.gone (k.follows.own rev p.known) in
+    let Q : Files → Type 0 = λ f. refused (floor_in w.layout f) ≡ Ok fresh in
+    let gone : rev_file v.layout k.files rev ≡ None = still_gone (rev_file v.layout m rev) (rev_file v.layout k.files rev) p.gone (k.follows.own rev p.known) in
     record {
       new = k.files;
       told = k.told;
       known = known_later v.reach w.reach rev later.reach p.known;
       floor = refused_ok _ fresh (told_at w.files k.files Q k.told h);
-      gone = ap (λ j. rev_file j k.files rev) later.size ∙ gone;
-      bytes = ap (λ j. rev_bytes j k.files rev) later.size ∙ k.follows.bytes rev p.known;
+      gone = ap (λ j. rev_file j k.files rev) later.layout ∙ gone;
+      bytes = ap (λ j. rev_bytes j k.files rev) later.layout ∙ k.follows.bytes rev p.known;
     }
 
-pub fresh_packed : (v w : View) (m : Files) (rev fresh : ℕ) (f : Fresh v w m rev fresh) → rev < fresh → (IsPackedAt w None rev f.new) × (packed_bytes w.shard_size f.new rev ≡ rev_bytes v.shard_size m rev)
+pub fresh_packed : (v w : View) (m : Files) (rev fresh : ℕ) (f : Fresh v w m rev fresh) → rev < fresh → (IsPackedAt w None rev f.new) × (packed_bytes w.layout f.new rev ≡ rev_bytes v.layout m rev)
 fresh_packed v w m rev fresh f lt =
-    let packed : is_packed w.shard_size f.new rev ≡ true = below_is w.shard_size f.new rev fresh f.floor ∙ lt-ltb rev fresh lt in
-    (record { told = f.told; packed = packed; fits = refl }, sym (bytes_packed w.shard_size f.new rev packed) ∙ f.bytes)
+    let packed : is_packed w.layout f.new rev ≡ true = below_is w.layout f.new rev fresh f.floor ∙ lt-ltb rev fresh lt in
+    (record { told = f.told; packed = packed; fits = refl }, sym (bytes_packed w.layout f.new rev packed) ∙ f.bytes)
 
-pub fresh_missing : (v w : View) (m : Files) (rev fresh : ℕ) (f : Fresh v w m rev fresh) → fresh ≤ rev → rev_bytes v.shard_size m rev ≡ Err (Missing rev)
-fresh_missing v w m rev fresh f le = sym f.bytes ∙ bytes_gone w.shard_size f.new rev fresh f.floor le f.gone
+pub fresh_missing : (v w : View) (m : Files) (rev fresh : ℕ) (f : Fresh v w m rev fresh) → fresh ≤ rev → rev_bytes v.layout m rev ≡ Err (Missing rev)
+fresh_missing v w m rev fresh f le = sym f.bytes ∙ bytes_gone w.layout f.new rev fresh f.floor le f.gone
 
 -- what is found, is found in the files that are met later, with the same bytes
 pub found_later : (v w : View) (floor : ℕ) (kept : Option KeptManifest) (m : Files) (rev : ℕ) → Later v w → IsFoundAt v floor kept rev m
-    → (new : Files) × (IsFoundAt w floor kept rev new) × (rev_bytes w.shard_size new rev ≡ rev_bytes v.shard_size m rev)
+    → (new : Files) × (IsFoundAt w floor kept rev new) × (rev_bytes w.layout new rev ≡ rev_bytes v.layout m rev)
 found_later v w floor kept m rev e p =
     let k = next v w m e p.told in
-    let P : ℕ → Type 0 = λ n. is_right n k.files floor kept rev ≡ true in (
+    let P : Layout → Type 0 = λ n. is_right n k.files floor kept rev ≡ true in (
       k.files,
       record {
         told = k.told;
         known = known_later v.reach w.reach rev e.reach p.known;
-        right = subst P (sym e.size) (right_later v.shard_size v.reach m k.files floor kept rev k.follows p.known p.right);
+        right = subst P (sym e.layout) (right_later v.layout v.reach m k.files floor kept rev k.follows p.known p.right);
       },
-      ap (λ j. rev_bytes j k.files rev) e.size ∙ k.follows.bytes rev p.known,
+      ap (λ j. rev_bytes j k.files rev) e.layout ∙ k.follows.bytes rev p.known,
     )
 
 -- the own file of a revision that is found, where the kept floor is no greater
-pub own_right : (v : View) (floor : ℕ) (kept : Option KeptManifest) (m : Files) (rev : ℕ) → floor ≤ rev → IsFoundAt v floor kept rev m → agrees (rev_file v.shard_size m rev) (rev_bytes v.shard_size m rev) ≡ true
-own_right v floor kept m rev le p = right_above v.shard_size m floor kept rev le p.right
+pub own_right : (v : View) (floor : ℕ) (kept : Option KeptManifest) (m : Files) (rev : ℕ) → floor ≤ rev → IsFoundAt v floor kept rev m → agrees (rev_file v.layout m rev) (rev_bytes v.layout m rev) ≡ true
+own_right v floor kept m rev le p = right_above v.layout m floor kept rev le p.right
 
 -- what was read of a file that has the revision's bytes
 pub own_some : {X Y : Type 0} (view : X → Y) (F : Result (List ℕ) Refusal → Result Y BookFault) (file : Option (List ℕ)) (read : Result (List ℕ) Refusal) (new : Option Files) (name : List ℕ) (x : X) → agrees file read ≡ true
@@ -288,7 +290,7 @@ gone_err view look f file read new name (Refused r) gone h = absurd h
 gone_err view look f file read new name (Short r o) gone h = let no : ◌≡◌ {A = Option (List ℕ)} (Some h.0) None = sym h.1 ∙ gone in cc
 
 -- the own file of a revision whose bytes were read after the floor was
-pub fresh_goes : (v w : View) (m : Files) (rev fresh n : ℕ) (name : List ℕ) (f : Fresh v w m rev fresh) → n ≡ w.shard_size → name ≡ in_shard (codes "db/revs") n rev → MayGo w name (rev_file w.shard_size f.new rev)
+pub fresh_goes : (v w : View) (m : Files) (rev fresh : ℕ) (n : Layout) (name : List ℕ) (f : Fresh v w m rev fresh) → n ≡ w.layout → name ≡ in_shard (codes "db/revs") n rev → MayGo w name (rev_file w.layout f.new rev)
 fresh_goes v w m rev fresh n name f e named = own_goes w f.new rev n name f.told f.known e named
 
 -- what is answered of one reading is answered of an equal one
@@ -303,11 +305,11 @@ finds_same v w f g k l e same_floor same_kept =
     subst P (sym same_floor) (subst Q (sym same_kept) (finds_later v w f k e))
 
 -- the floor that was read, with no manifest
-pub finds_read : (v w : View) (floor fresh : ℕ) (kept left : Option KeptManifest) → Later v w → IfSome w.files (λ m. refused (floor_in w.shard_size m) ≡ Ok fresh) → left ≡ None → FindsAsWell v floor kept w fresh left
+pub finds_read : (v w : View) (floor fresh : ℕ) (kept left : Option KeptManifest) → Later v w → IfSome w.files (λ m. refused (floor_in w.layout m) ≡ Ok fresh) → left ≡ None → FindsAsWell v floor kept w fresh left
 finds_read v w floor fresh kept left e read none = let P : Option KeptManifest → Type 0 = λ o. FindsAsWell v floor kept w fresh o in subst P (sym none) (finds_fresh v w floor fresh kept e read)
 
 -- and a packed revision is found by it
-pub fresh_found : (v w : View) (m : Files) (rev fresh : ℕ) (left : Option KeptManifest) (f : Fresh v w m rev fresh) → rev < fresh → left ≡ None → (IsPackedAt w left rev f.new) × (packed_bytes w.shard_size f.new rev ≡ rev_bytes v.shard_size m rev)
+pub fresh_found : (v w : View) (m : Files) (rev fresh : ℕ) (left : Option KeptManifest) (f : Fresh v w m rev fresh) → rev < fresh → left ≡ None → (IsPackedAt w left rev f.new) × (packed_bytes w.layout f.new rev ≡ rev_bytes v.layout m rev)
 fresh_found v w m rev fresh left f lt none =
     let p = fresh_packed v w m rev fresh f lt in
     let P : Option KeptManifest → Type 0 = λ o. IsPackedAt w o rev f.new in
@@ -315,19 +317,19 @@ fresh_found v w m rev fresh left f lt none =
 
 -- ---- properties
 
-pub props_stay : (v : View) (m : Files) (rev n : ℕ) (name : List ℕ) → v.files ≡ Some m → IsKnown v.reach rev → n ≡ v.shard_size → name ≡ in_shard (codes "db/revprops") n rev → MayGo v name (props_file v.shard_size m rev)
+pub props_stay : (v : View) (m : Files) (rev : ℕ) (n : Layout) (name : List ℕ) → v.files ≡ Some m → IsKnown v.reach rev → n ≡ v.layout → name ≡ in_shard (codes "db/revprops") n rev → MayGo v name (props_file v.layout m rev)
 props_stay v m rev n name told known e named =
-    let P : List ℕ → Type 0 = λ t. MayGo v t (props_file v.shard_size m rev) in
-    let is : in_shard (codes "db/revprops") v.shard_size rev ≡ name = ap (λ k. in_shard (codes "db/revprops") k rev) (sym e) ∙ sym named in
+    let P : List ℕ → Type 0 = λ t. MayGo v t (props_file v.layout m rev) in
+    let is : in_shard (codes "db/revprops") v.layout rev ≡ name = ap (λ k. in_shard (codes "db/revprops") k rev) (sym e) ∙ sym named in
     subst P is (record { now = m; told = told; later = λ new f. inl (f.props rev known) })
 
-pub props_gone : (v w : View) (m : Files) (rev n : ℕ) (name : List ℕ) → Later v w → v.files ≡ Some m → IsKnown v.reach rev → n ≡ v.shard_size → name ≡ in_shard (codes "db/revprops") n rev → (k : Files) × (w.files ≡ Some k) × (map.get k name ≡ None)
-    → props_bytes v.shard_size m rev ≡ Err (Missing rev)
+pub props_gone : (v w : View) (m : Files) (rev : ℕ) (n : Layout) (name : List ℕ) → Later v w → v.files ≡ Some m → IsKnown v.reach rev → n ≡ v.layout → name ≡ in_shard (codes "db/revprops") n rev → (k : Files) × (w.files ≡ Some k) × (map.get k name ≡ None)
+    → props_bytes v.layout m rev ≡ Err (Missing rev)
 props_gone v w m rev n name e told known same named p =
     let k = next v w m e told in
     let one : k.files ≡ p.0 = same_Some k.files p.0 (sym k.told ∙ p.1) in
-    let is : in_shard (codes "db/revprops") v.shard_size rev ≡ name = ap (λ j. in_shard (codes "db/revprops") j rev) (sym same) ∙ sym named in
-    let gone : props_file v.shard_size k.files rev ≡ None = ap (map.get k.files) is ∙ ap (λ f. map.get f name) one ∙ p.2 in
+    let is : in_shard (codes "db/revprops") v.layout rev ≡ name = ap (λ j. in_shard (codes "db/revprops") j rev) (sym same) ∙ sym named in
+    let gone : props_file v.layout k.files rev ≡ None = ap (map.get k.files) is ∙ ap (λ f. map.get f name) one ∙ p.2 in
     ap (or_missing rev) (sym (k.follows.props rev known) ∙ gone)
 
 pub props_some : {X Y : Type 0} (view : X → Y) (F : Result (List ℕ) Refusal → Result Y BookFault) (rev : ℕ) (file : Option (List ℕ)) (new : Option Files) (name : List ℕ) (x : X)

@@ -13,6 +13,8 @@ use Rattle.fsfs_damage.specs.declared.wrong.Refusal.TheVariants.{Missing, Small}
 use Rattle.fsfs_book.specs.declared.book.BookFault.{BookFault}
 use Rattle.fsfs_book.specs.declared.book.BookFault.TheVariants.{Refused, Short, DiskFault, OutOfMemory}
 use Rattle.fsfs_book.specs.Told.{Gives, size_read, part_read}
+use Rattle.fsfs_layout.specs.declared.layout.Layout.{Layout}
+use Rattle.fsfs_layout.specs.Layouts.{shard_of, place_in_shard}
 use Rattle.fsfs_fetch.specs.declared.manifests.KeptManifest.{KeptManifest}
 use Rattle.fsfs_rev_file.specs.declared.section.Section.{Section}
 use Rattle.fsfs_rev_file.specs.RevBytes.{manifest_in, pack_in, section_at, section_of, packed_section, packed_bytes, cut, cut_from}
@@ -23,7 +25,7 @@ use Rattle.fsfs_disk.proofs.WholeFiles.{read_bytes}
 use Rattle.fsfs_fetch.proofs.FileLemmas.{read_stays}
 use Rattle.fsfs_fetch.specs.ViewLemmas.{stays_later}
 
-pub pack_stays : (view : View) (kept : Option KeptManifest) (rev : ℕ) (m : Files) → IsPackedAt view kept rev m → Stays view (in_pack (rev / view.shard_size) (codes "/pack")) (pack_in m (rev / view.shard_size))
+pub pack_stays : (view : View) (kept : Option KeptManifest) (rev : ℕ) (m : Files) → IsPackedAt view kept rev m → Stays view (in_pack (shard_of view.layout rev) (codes "/pack")) (pack_in m (shard_of view.layout rev))
 pack_stays view kept rev m p = record { now = m; told = p.told; later = λ new f. f.pack rev p.packed }
 
 -- a section of a pack of this size
@@ -37,24 +39,24 @@ section_ok rev i size (Ok kept) (Some bytes) offsets found e is at =
     let same : kept ≡ offsets = cc in
     ap (λ (s : Section). Ok s) ((λ j. section_at (same j) i (same_size j)) ∙ sym at)
 
-pub section_told : (v w : View) (kept : Option KeptManifest) (rev size : ℕ) (m : Files) (offsets : List ℕ) (found : Section) → IsPackedAt v kept rev m → Later v w → refused (manifest_in v.shard_size m (rev / v.shard_size)) ≡ Ok offsets
-    → IfSome w.files (λ f. IsSize (map.get f (in_pack (rev / v.shard_size) (codes "/pack"))) (Some size)) → found ≡ section_at offsets (rev % v.shard_size) size → as_book (packed_section v.shard_size m rev) ≡ Ok found
+pub section_told : (v w : View) (kept : Option KeptManifest) (rev size : ℕ) (m : Files) (offsets : List ℕ) (found : Section) → IsPackedAt v kept rev m → Later v w → refused (manifest_in v.layout m (shard_of v.layout rev)) ≡ Ok offsets
+    → IfSome w.files (λ f. IsSize (map.get f (in_pack (shard_of v.layout rev) (codes "/pack"))) (Some size)) → found ≡ section_at offsets (place_in_shard v.layout rev) size → as_book (packed_section v.layout m rev) ≡ Ok found
 section_told v w kept rev size m offsets found p e read h at =
     let P : Option (List ℕ) → Type 0 = λ f. IsSize f (Some size) in
-    section_ok rev (rev % v.shard_size) size (manifest_in v.shard_size m (rev / v.shard_size)) (pack_in m (rev / v.shard_size)) offsets found read
-    (read_stays v w (in_pack (rev / v.shard_size) (codes "/pack")) (pack_in m (rev / v.shard_size)) P e (pack_stays v kept rev m p) h) at
+    section_ok rev (place_in_shard v.layout rev) size (manifest_in v.layout m (shard_of v.layout rev)) (pack_in m (shard_of v.layout rev)) offsets found read
+    (read_stays v w (in_pack (shard_of v.layout rev) (codes "/pack")) (pack_in m (shard_of v.layout rev)) P e (pack_stays v kept rev m p) h) at
 
 no_section : (rev i : ℕ) (manifest : Result (List ℕ) SmallFault) (pack : Option (List ℕ)) (offsets : List ℕ) → refused manifest ≡ Ok offsets → IsSize pack None → as_book (section_of rev i manifest pack) ≡ Err (Refused (Missing rev))
 no_section rev i (Ok kept) None offsets e is = refl
 no_section rev i (Ok kept) (Some bytes) offsets e is = let h : ◌≡◌ {A = Option ℕ} None (Some (length bytes)) = is in cc
 no_section rev i (Err f) pack offsets e is = cc
 
-pub missing_told : (v w : View) (kept : Option KeptManifest) (rev : ℕ) (m : Files) (offsets : List ℕ) → IsPackedAt v kept rev m → Later v w → refused (manifest_in v.shard_size m (rev / v.shard_size)) ≡ Ok offsets
-    → IfSome w.files (λ f. IsSize (map.get f (in_pack (rev / v.shard_size) (codes "/pack"))) None) → as_book (packed_section v.shard_size m rev) ≡ Err (Refused (Missing rev))
+pub missing_told : (v w : View) (kept : Option KeptManifest) (rev : ℕ) (m : Files) (offsets : List ℕ) → IsPackedAt v kept rev m → Later v w → refused (manifest_in v.layout m (shard_of v.layout rev)) ≡ Ok offsets
+    → IfSome w.files (λ f. IsSize (map.get f (in_pack (shard_of v.layout rev) (codes "/pack"))) None) → as_book (packed_section v.layout m rev) ≡ Err (Refused (Missing rev))
 missing_told v w kept rev m offsets p e read h =
     let P : Option (List ℕ) → Type 0 = λ f. IsSize f None in
-    no_section rev (rev % v.shard_size) (manifest_in v.shard_size m (rev / v.shard_size)) (pack_in m (rev / v.shard_size)) offsets read
-    (read_stays v w (in_pack (rev / v.shard_size) (codes "/pack")) (pack_in m (rev / v.shard_size)) P e (pack_stays v kept rev m p) h)
+    no_section rev (place_in_shard v.layout rev) (manifest_in v.layout m (shard_of v.layout rev)) (pack_in m (shard_of v.layout rev)) offsets read
+    (read_stays v w (in_pack (shard_of v.layout rev) (codes "/pack")) (pack_in m (shard_of v.layout rev)) P e (pack_stays v kept rev m p) h)
 
 -- what stops at the manifest stops at the section
 pub section_err : {X : Type 0} (view : X → List ℕ) (rev i : ℕ) (manifest : Result (List ℕ) SmallFault) (pack : Option (List ℕ)) (e : BookFault) → Gives view (Err e) (refused manifest) → Gives (λ (s : Section). s) (Err e) (as_book (section_of rev i manifest pack))
@@ -83,9 +85,9 @@ part_err view rev offset count pack (Ok s) (Short r o) h = cc
 part_err view rev offset count pack (Err f) (Short r o) h = cc
 
 -- the section that was found, and its pack
-pub record IsSection (n : ℕ) (m : Files) (rev : ℕ) (found : Section) : Type 0 where
+pub record IsSection (n : Layout) (m : Files) (rev : ℕ) (found : Section) : Type 0 where
   pub pack : List ℕ
-  pub there : pack_in m (rev / n) ≡ Some pack
+  pub there : pack_in m (shard_of n rev) ≡ Some pack
   pub within : found.length ≤ length pack - found.start
   pub bytes : packed_bytes n m rev ≡ Ok (cut found pack)
 
@@ -101,29 +103,29 @@ as_book_ok : {X : Type 0} (r : Result X Refusal) (x : X) → as_book r ≡ Ok x 
 as_book_ok (Ok y) x e = let same : y ≡ x = cc in ap (λ z. Ok z) same
 as_book_ok (Err f) x e = cc
 
-pub is_section : (n : ℕ) (m : Files) (rev : ℕ) (found : Section) → as_book (packed_section n m rev) ≡ Ok found → IsSection n m rev found
+pub is_section : (n : Layout) (m : Files) (rev : ℕ) (found : Section) → as_book (packed_section n m rev) ≡ Ok found → IsSection n m rev found
 unfolding packed_bytes
 is_section n m rev found e =
-    let p = section_parts rev (rev % n) (manifest_in n m (rev / n)) (pack_in m (rev / n)) found e in
+    let p = section_parts rev (place_in_shard n rev) (manifest_in n m (shard_of n rev)) (pack_in m (shard_of n rev)) found e in
     let s : packed_section n m rev ≡ Ok found = as_book_ok (packed_section n m rev) found e in
     record { pack = p.0; there = p.1; within = p.2; bytes = λ j. cut_from (p.1 j) (s j) }
 
-pub len_told : (n : ℕ) (m : Files) (rev : ℕ) (found : Section) → as_book (packed_section n m rev) ≡ Ok found → size_read (packed_bytes n m rev) ≡ Ok found.length
+pub len_told : (n : Layout) (m : Files) (rev : ℕ) (found : Section) → as_book (packed_section n m rev) ≡ Ok found → size_read (packed_bytes n m rev) ≡ Ok found.length
 len_told n m rev found e =
     let s = is_section n m rev found e in
     let long : length (cut found s.pack) ≡ found.length = length-take found.length (drop found.start s.pack) ∙ omega (arith, length-drop found.start s.pack, s.within) in
     ap size_read s.bytes ∙ ap (λ (k : ℕ). Ok k) long
 
-pub len_err : (n : ℕ) (m : Files) (rev : ℕ) (e : BookFault) → Gives (λ (s : Section). s) (Err e) (as_book (packed_section n m rev)) → Gives (λ (k : ℕ). k) (Err e) (size_read (packed_bytes n m rev))
+pub len_err : (n : Layout) (m : Files) (rev : ℕ) (e : BookFault) → Gives (λ (s : Section). s) (Err e) (as_book (packed_section n m rev)) → Gives (λ (k : ℕ). k) (Err e) (size_read (packed_bytes n m rev))
 unfolding packed_bytes
-len_err n m rev e h = bytes_err (pack_in m (rev / n)) (packed_section n m rev) e h
+len_err n m rev e h = bytes_err (pack_in m (shard_of n rev)) (packed_section n m rev) e h
 
-pub part_stops : {X : Type 0} (view : X → List ℕ) (n : ℕ) (m : Files) (rev offset count : ℕ) (e : BookFault) → Gives (λ (s : Section). s) (Err e) (as_book (packed_section n m rev)) → Gives view (Err e) (part_read rev offset count (packed_bytes n m rev))
+pub part_stops : {X : Type 0} (view : X → List ℕ) (n : Layout) (m : Files) (rev offset count : ℕ) (e : BookFault) → Gives (λ (s : Section). s) (Err e) (as_book (packed_section n m rev)) → Gives view (Err e) (part_read rev offset count (packed_bytes n m rev))
 unfolding packed_bytes
-part_stops view n m rev offset count e h = part_err view rev offset count (pack_in m (rev / n)) (packed_section n m rev) e h
+part_stops view n m rev offset count e h = part_err view rev offset count (pack_in m (shard_of n rev)) (packed_section n m rev) e h
 
 -- an offset past the section
-pub part_past : (n : ℕ) (m : Files) (rev offset count : ℕ) (found : Section) → as_book (packed_section n m rev) ≡ Ok found → found.length < offset → part_read rev offset count (packed_bytes n m rev) ≡ Err (Short rev offset)
+pub part_past : (n : Layout) (m : Files) (rev offset count : ℕ) (found : Section) → as_book (packed_section n m rev) ≡ Ok found → found.length < offset → part_read rev offset count (packed_bytes n m rev) ≡ Err (Short rev offset)
 part_past n m rev offset count found e lt =
     let s = is_section n m rev found e in
     let long : length (cut found s.pack) ≡ found.length = length-take found.length (drop found.start s.pack) ∙ omega (arith, length-drop found.start s.pack, s.within) in
@@ -132,37 +134,34 @@ part_past n m rev offset count found e lt =
 
 -- ---- the same by the numbers that the code has
 
-pub section_is : (v u w : View) (kept : Option KeptManifest) (rev n size : ℕ) (m : Files) (offsets given name : List ℕ) (found : Section) → IsPackedAt v kept rev m → n ≡ v.shard_size → Later v w
-    → refused (manifest_in v.shard_size m (rev / n)) ≡ Ok offsets → name ≡ in_pack (rev / n) (codes "/pack") → IfSome w.files (λ f. IsSize (map.get f name) (Some size)) → given ≡ offsets → found ≡ section_at given (rev % n) size
-    → as_book (packed_section v.shard_size m rev) ≡ Ok found
-section_is v u w kept rev n size m offsets given name found p e later read named h same at =
-    let P : ℕ → Type 0 = λ k. refused (manifest_in v.shard_size m (rev / k)) ≡ Ok offsets in
+pub section_is : (v u w : View) (kept : Option KeptManifest) (rev shard index size : ℕ) (m : Files) (offsets given name : List ℕ) (found : Section) → IsPackedAt v kept rev m → shard ≡ shard_of v.layout rev → index ≡ place_in_shard v.layout rev
+    → Later v w → refused (manifest_in v.layout m shard) ≡ Ok offsets → name ≡ in_pack shard (codes "/pack") → IfSome w.files (λ f. IsSize (map.get f name) (Some size)) → given ≡ offsets → found ≡ section_at given index size
+    → as_book (packed_section v.layout m rev) ≡ Ok found
+section_is v u w kept rev shard index size m offsets given name found p e f later read named h same at =
+    let P : ℕ → Type 0 = λ k. refused (manifest_in v.layout m k) ≡ Ok offsets in
     let Q : List ℕ → Type 0 = λ t. IfSome w.files (λ f. IsSize (map.get f t) (Some size)) in
-    let there : name ≡ in_pack (rev / v.shard_size) (codes "/pack") = named ∙ ap (λ k. in_pack (rev / k) (codes "/pack")) e in
-    let section : found ≡ section_at offsets (rev % v.shard_size) size = at ∙ (λ i. section_at (same i) (rev % e i) size) in
+    let there : name ≡ in_pack (shard_of v.layout rev) (codes "/pack") = named ∙ ap (λ k. in_pack k (codes "/pack")) e in
+    let section : found ≡ section_at offsets (place_in_shard v.layout rev) size = at ∙ (λ i. section_at (same i) (f i) size) in
     section_told v w kept rev size m offsets found p later (subst P e read) (subst Q there h) section
 
-pub missing_is : (v w : View) (kept : Option KeptManifest) (rev n : ℕ) (m : Files) (offsets name : List ℕ) → IsPackedAt v kept rev m → n ≡ v.shard_size → Later v w
-    → refused (manifest_in v.shard_size m (rev / n)) ≡ Ok offsets → name ≡ in_pack (rev / n) (codes "/pack") → IfSome w.files (λ f. IsSize (map.get f name) None) → as_book (packed_section v.shard_size m rev) ≡ Err (Refused (Missing rev))
-missing_is v w kept rev n m offsets name p e later read named h =
-    let P : ℕ → Type 0 = λ k. refused (manifest_in v.shard_size m (rev / k)) ≡ Ok offsets in
+pub missing_is : (v w : View) (kept : Option KeptManifest) (rev shard : ℕ) (m : Files) (offsets name : List ℕ) → IsPackedAt v kept rev m → shard ≡ shard_of v.layout rev → Later v w
+    → refused (manifest_in v.layout m shard) ≡ Ok offsets → name ≡ in_pack shard (codes "/pack") → IfSome w.files (λ f. IsSize (map.get f name) None) → as_book (packed_section v.layout m rev) ≡ Err (Refused (Missing rev))
+missing_is v w kept rev shard m offsets name p e later read named h =
+    let P : ℕ → Type 0 = λ k. refused (manifest_in v.layout m k) ≡ Ok offsets in
     let Q : List ℕ → Type 0 = λ t. IfSome w.files (λ f. IsSize (map.get f t) None) in
-    let there : name ≡ in_pack (rev / v.shard_size) (codes "/pack") = named ∙ ap (λ k. in_pack (rev / k) (codes "/pack")) e in
+    let there : name ≡ in_pack (shard_of v.layout rev) (codes "/pack") = named ∙ ap (λ k. in_pack k (codes "/pack")) e in
     missing_told v w kept rev m offsets p later (subst P e read) (subst Q there h)
 
-pub section_stops : (n k : ℕ) (m : Files) (rev : ℕ) (offsets : List ℕ) (e : BookFault) → n ≡ k → Gives {X = Unit {0}} (λ _. offsets) (Err e) (refused (manifest_in k m (rev / n))) → Gives (λ (s : Section). s) (Err e) (as_book (packed_section k m rev))
-section_stops n k m rev offsets e same h =
-    let P : ℕ → Type 0 = λ j. Gives {X = Unit {0}} (λ _. offsets) (Err e) (refused (manifest_in k m (rev / j))) in
-    section_err {X = Unit {0}} (λ _. offsets) rev (rev % k) (manifest_in k m (rev / k)) (pack_in m (rev / k)) e (subst P same h)
+pub section_stops : (n : Layout) (m : Files) (rev shard : ℕ) (offsets : List ℕ) (e : BookFault) → shard ≡ shard_of n rev → Gives {X = Unit {0}} (λ _. offsets) (Err e) (refused (manifest_in n m shard)) → Gives (λ (s : Section). s) (Err e) (as_book (packed_section n m rev))
+section_stops n m rev shard offsets e same h =
+    let P : ℕ → Type 0 = λ k. Gives {X = Unit {0}} (λ _. offsets) (Err e) (refused (manifest_in n m k)) in
+    section_err {X = Unit {0}} (λ _. offsets) rev (place_in_shard n rev) (manifest_in n m (shard_of n rev)) (pack_in m (shard_of n rev)) e (subst P same h)
 
-pub shard_is : (rev n k : ℕ) → n ≡ k → rev / k ≡ rev / n
-shard_is rev n k e = ap (λ j. rev / j) (sym e)
-
-pub pack_of : (v w : View) (kept : Option KeptManifest) (rev : ℕ) (m : Files) (pack : List ℕ) → IsPackedAt v kept rev m → pack_in m (rev / v.shard_size) ≡ Some pack → (e : Later v w) → Stays w (in_pack (rev / w.shard_size) (codes "/pack")) (Some pack)
+pub pack_of : (v w : View) (kept : Option KeptManifest) (rev : ℕ) (m : Files) (pack : List ℕ) → IsPackedAt v kept rev m → pack_in m (shard_of v.layout rev) ≡ Some pack → (e : Later v w) → Stays w (in_pack (shard_of w.layout rev) (codes "/pack")) (Some pack)
 pack_of v w kept rev m pack p there e =
-    let P : Option (List ℕ) → Type 0 = λ f. Stays v (in_pack (rev / v.shard_size) (codes "/pack")) f in
-    let Q : ℕ → Type 0 = λ k. Stays w (in_pack (rev / k) (codes "/pack")) (Some pack) in
-    subst Q (sym e.size) (stays_later v w (in_pack (rev / v.shard_size) (codes "/pack")) (Some pack) e (subst P there (pack_stays v kept rev m p)))
+    let P : Option (List ℕ) → Type 0 = λ f. Stays v (in_pack (shard_of v.layout rev) (codes "/pack")) f in
+    let Q : Layout → Type 0 = λ k. Stays w (in_pack (shard_of k rev) (codes "/pack")) (Some pack) in
+    subst Q (sym e.layout) (stays_later v w (in_pack (shard_of v.layout rev) (codes "/pack")) (Some pack) e (subst P there (pack_stays v kept rev m p)))
 
 pub part_whole : {X : Type 0} (view : X → List ℕ) (result : Result X BookFault) (rev offset count : ℕ) (whole read : Result (List ℕ) Refusal) → whole ≡ read → Gives view result (part_read rev offset count read) → Gives view result (part_read rev offset count whole)
 part_whole view result rev offset count whole read e h = let P : Result (List ℕ) Refusal → Type 0 = λ r. Gives view result (part_read rev offset count r) in subst P (sym e) h

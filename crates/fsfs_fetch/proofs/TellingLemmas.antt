@@ -12,6 +12,8 @@ use Rattle.fsfs_damage.specs.declared.wrong.Refusal.TheVariants.{NoRev}
 use Rattle.fsfs_book.specs.declared.book.BookFault.{BookFault}
 use Rattle.fsfs_book.specs.declared.book.BookFault.TheVariants.{Refused}
 use Rattle.fsfs_book.specs.Told.{Keeps, Gives}
+use Rattle.fsfs_layout.specs.declared.layout.Layout.{Layout}
+use Rattle.fsfs_layout.specs.Layouts.{shard_of}
 use Rattle.fsfs_fetch.specs.declared.manifests.KeptManifest.{KeptManifest}
 use Rattle.fsfs_rev_file.specs.declared.section.Section.{Section}
 use Rattle.fsfs_rev_file.specs.RevBytes.{rev_bytes, rev_file, props_bytes, or_missing, by_floor, floor_in, packed_bytes, packed_section, pack_in, cut, cut_from}
@@ -66,10 +68,10 @@ if_short_some false short bytes read told = cc
 pub record IsToldAt (view : View) (floor : ℕ) (kept : Option KeptManifest) (rev : ℕ) (read : Result (List ℕ) Refusal) : Type 0 where
   pub files : Files
   pub found : IsFoundAt view floor kept rev files
-  pub short : is_short (rev_bytes view.shard_size files rev) ≡ true
-  pub bytes : rev_bytes view.shard_size files rev ≡ read
+  pub short : is_short (rev_bytes view.layout files rev) ≡ true
+  pub bytes : rev_bytes view.layout files rev ≡ read
 
-revs_some : (n floor : ℕ) (kept : Option KeptManifest) (files : Option Files) (rev : ℕ) (read : Result (List ℕ) Refusal) → revs_in n floor kept files rev ≡ Some read
+revs_some : (n : Layout) (floor : ℕ) (kept : Option KeptManifest) (files : Option Files) (rev : ℕ) (read : Result (List ℕ) Refusal) → revs_in n floor kept files rev ≡ Some read
     → (m : Files) × (files ≡ Some m) × (is_right n m floor kept rev ≡ true) × (is_short (rev_bytes n m rev) ≡ true) × (rev_bytes n m rev ≡ read)
 revs_some n floor kept None rev read told = cc
 revs_some n floor kept (Some m) rev read told =
@@ -79,25 +81,25 @@ revs_some n floor kept (Some m) rev read told =
 pub told_revs : (v : View) (floor : ℕ) (kept : Option KeptManifest) (rev : ℕ) (read : Result (List ℕ) Refusal) → (telling v floor kept).revs rev ≡ Some read → (IsPast v.reach rev read) ⊎ (IsToldAt v floor kept rev read)
 unfolding telling
 told_revs v floor kept rev read told =
-    elim (within_read v.reach rev (revs_in v.shard_size floor kept v.files rev) read told) [
+    elim (within_read v.reach rev (revs_in v.layout floor kept v.files rev) read told) [
       | inl p ↦ inl p
       | inr p ↦
-          let q = revs_some v.shard_size floor kept v.files rev read p.1 in
+          let q = revs_some v.layout floor kept v.files rev read p.1 in
           inr (record { files = q.0; found = record { told = q.1; known = p.0; right = q.2 }; short = q.3; bytes = q.4 })
     ]
 
 pub tells_past : (v : View) (floor : ℕ) (kept : Option KeptManifest) (rev : ℕ) (read : Result (List ℕ) Refusal) → IsPast v.reach rev read → (telling v floor kept).revs rev ≡ Some read
 unfolding telling
-tells_past v floor kept rev read p = within_past v.reach rev p.youngest (revs_in v.shard_size floor kept v.files rev) p.ends p.above ∙ ap (λ (r : Result (List ℕ) Refusal). Some r) (sym p.is)
+tells_past v floor kept rev read p = within_past v.reach rev p.youngest (revs_in v.layout floor kept v.files rev) p.ends p.above ∙ ap (λ (r : Result (List ℕ) Refusal). Some r) (sym p.is)
 
-revs_found : (n floor : ℕ) (kept : Option KeptManifest) (files : Option Files) (m : Files) (rev : ℕ) → files ≡ Some m → is_right n m floor kept rev ≡ true → is_short (rev_bytes n m rev) ≡ true → revs_in n floor kept files rev ≡ Some (rev_bytes n m rev)
+revs_found : (n : Layout) (floor : ℕ) (kept : Option KeptManifest) (files : Option Files) (m : Files) (rev : ℕ) → files ≡ Some m → is_right n m floor kept rev ≡ true → is_short (rev_bytes n m rev) ≡ true → revs_in n floor kept files rev ≡ Some (rev_bytes n m rev)
 revs_found n floor kept files m rev e right short = ap (λ f. revs_in n floor kept f rev) e ∙ rw (right, short) refl
 
-pub tells_found : (v : View) (floor : ℕ) (kept : Option KeptManifest) (m : Files) (rev : ℕ) → IsFoundAt v floor kept rev m → is_short (rev_bytes v.shard_size m rev) ≡ true → (telling v floor kept).revs rev ≡ Some (rev_bytes v.shard_size m rev)
+pub tells_found : (v : View) (floor : ℕ) (kept : Option KeptManifest) (m : Files) (rev : ℕ) → IsFoundAt v floor kept rev m → is_short (rev_bytes v.layout m rev) ≡ true → (telling v floor kept).revs rev ≡ Some (rev_bytes v.layout m rev)
 unfolding telling
-tells_found v floor kept m rev p short = within_known v.reach rev (revs_in v.shard_size floor kept v.files rev) p.known ∙ revs_found v.shard_size floor kept v.files m rev p.told p.right short
+tells_found v floor kept m rev p short = within_known v.reach rev (revs_in v.layout floor kept v.files rev) p.known ∙ revs_found v.layout floor kept v.files m rev p.told p.right short
 
-props_some : (n : ℕ) (files : Option Files) (rev : ℕ) (read : Result (List ℕ) Refusal) → props_in n files rev ≡ Some read → (m : Files) × (files ≡ Some m) × (props_bytes n m rev ≡ read)
+props_some : (n : Layout) (files : Option Files) (rev : ℕ) (read : Result (List ℕ) Refusal) → props_in n files rev ≡ Some read → (m : Files) × (files ≡ Some m) × (props_bytes n m rev ≡ read)
 props_some n None rev read told = cc
 props_some n (Some m) rev read told = (m, refl, cc)
 
@@ -105,25 +107,25 @@ pub record HasProps (view : View) (rev : ℕ) (read : Result (List ℕ) Refusal)
   pub files : Files
   pub told : view.files ≡ Some files
   pub known : IsKnown view.reach rev
-  pub bytes : props_bytes view.shard_size files rev ≡ read
+  pub bytes : props_bytes view.layout files rev ≡ read
 
 pub told_props : (v : View) (floor : ℕ) (kept : Option KeptManifest) (rev : ℕ) (read : Result (List ℕ) Refusal) → (telling v floor kept).props rev ≡ Some read → (IsPast v.reach rev read) ⊎ (HasProps v rev read)
 unfolding telling
 told_props v floor kept rev read told =
-    elim (within_read v.reach rev (props_in v.shard_size v.files rev) read told) [
+    elim (within_read v.reach rev (props_in v.layout v.files rev) read told) [
       | inl p ↦ inl p
       | inr p ↦
-          let q = props_some v.shard_size v.files rev read p.1 in
+          let q = props_some v.layout v.files rev read p.1 in
           inr (record { files = q.0; told = q.1; known = p.0; bytes = q.2 })
     ]
 
 pub tells_past_props : (v : View) (floor : ℕ) (kept : Option KeptManifest) (rev : ℕ) (read : Result (List ℕ) Refusal) → IsPast v.reach rev read → (telling v floor kept).props rev ≡ Some read
 unfolding telling
-tells_past_props v floor kept rev read p = within_past v.reach rev p.youngest (props_in v.shard_size v.files rev) p.ends p.above ∙ ap (λ (r : Result (List ℕ) Refusal). Some r) (sym p.is)
+tells_past_props v floor kept rev read p = within_past v.reach rev p.youngest (props_in v.layout v.files rev) p.ends p.above ∙ ap (λ (r : Result (List ℕ) Refusal). Some r) (sym p.is)
 
-pub tells_props : (v : View) (floor : ℕ) (kept : Option KeptManifest) (m : Files) (rev : ℕ) → v.files ≡ Some m → IsKnown v.reach rev → (telling v floor kept).props rev ≡ Some (props_bytes v.shard_size m rev)
+pub tells_props : (v : View) (floor : ℕ) (kept : Option KeptManifest) (m : Files) (rev : ℕ) → v.files ≡ Some m → IsKnown v.reach rev → (telling v floor kept).props rev ≡ Some (props_bytes v.layout m rev)
 unfolding telling
-tells_props v floor kept m rev e known = within_known v.reach rev (props_in v.shard_size v.files rev) known ∙ ap (λ f. props_in v.shard_size f rev) e
+tells_props v floor kept m rev e known = within_known v.reach rev (props_in v.layout v.files rev) known ∙ ap (λ f. props_in v.layout f rev) e
 
 -- ---- what is told stays told
 
@@ -142,15 +144,15 @@ found_told v w f g k l rev read e finds p =
     let q = finds p.files rev p.found in
     let n = next v w p.files e p.found.told in
     let one : n.files ≡ q.0 = same_Some n.files q.0 (sym n.told ∙ q.1.told) in
-    let same : rev_bytes w.shard_size q.0 rev ≡ rev_bytes v.shard_size p.files rev =
-    ap (λ m. rev_bytes w.shard_size m rev) (sym one) ∙ ap (λ j. rev_bytes j n.files rev) e.size ∙ n.follows.bytes rev p.found.known in
+    let same : rev_bytes w.layout q.0 rev ≡ rev_bytes v.layout p.files rev =
+    ap (λ m. rev_bytes w.layout m rev) (sym one) ∙ ap (λ j. rev_bytes j n.files rev) e.layout ∙ n.follows.bytes rev p.found.known in
     tells_found w g l q.0 rev q.1 (ap is_short same ∙ p.short) ∙ ap (λ (r : Result (List ℕ) Refusal). Some r) (same ∙ p.bytes)
 
 props_told : (v w : View) (g : ℕ) (l : Option KeptManifest) (rev : ℕ) (read : Result (List ℕ) Refusal) → Later v w → HasProps v rev read → (telling w g l).props rev ≡ Some read
 props_told v w g l rev read e p =
     let n = next v w p.files e p.told in
-    let same : props_bytes w.shard_size n.files rev ≡ props_bytes v.shard_size p.files rev =
-    ap (λ j. props_bytes j n.files rev) e.size ∙ ap (or_missing rev) (n.follows.props rev p.known) in
+    let same : props_bytes w.layout n.files rev ≡ props_bytes v.layout p.files rev =
+    ap (λ j. props_bytes j n.files rev) e.layout ∙ ap (or_missing rev) (n.follows.props rev p.known) in
     tells_props w g l n.files rev n.told (known_later v.reach w.reach rev e.reach p.known) ∙ ap (λ (r : Result (List ℕ) Refusal). Some r) (same ∙ p.bytes)
 
 youngest_told : (v w : View) (f g : ℕ) (k l : Option KeptManifest) (y : ℕ) → Later v w → (telling v f k).youngest ≡ Some y → (telling w g l).youngest ≡ Some y
@@ -207,7 +209,7 @@ not_past_there v w rev read e there p =
     omega (arith, q.above, there.2, youngest_is w.reach there.0 q.youngest there.1 q.ends)
 
 pub revs_there : (v w : View) (floor : ℕ) (kept : Option KeptManifest) (rev : ℕ) (read : Result (List ℕ) Refusal) → Later v w → IsThere w rev → (telling v floor kept).revs rev ≡ Some read
-    → (new : Files) × (IsFoundAt w floor kept rev new) × (rev_bytes w.shard_size new rev ≡ read)
+    → (new : Files) × (IsFoundAt w floor kept rev new) × (rev_bytes w.layout new rev ≡ read)
 revs_there v w floor kept rev read e there told =
     elim (told_revs v floor kept rev read told) [
       | inl p ↦ absurd (not_past_there v w rev read e there p)
@@ -220,8 +222,8 @@ props_there v w floor kept rev read e there told =
       | inl p ↦ absurd (not_past_there v w rev read e there p)
       | inr p ↦
           let n = next v w p.files e p.told in
-          let same : props_bytes w.shard_size n.files rev ≡ props_bytes v.shard_size p.files rev =
-          ap (λ j. props_bytes j n.files rev) e.size ∙ ap (or_missing rev) (n.follows.props rev p.known) in
+          let same : props_bytes w.layout n.files rev ≡ props_bytes v.layout p.files rev =
+          ap (λ j. props_bytes j n.files rev) e.layout ∙ ap (or_missing rev) (n.follows.props rev p.known) in
           record { files = n.files; told = n.told; known = known_later v.reach w.reach rev e.reach p.known; bytes = same ∙ p.bytes }
     ]
 
@@ -261,16 +263,16 @@ short_choice : (b : Bool) (x y : Result (List ℕ) Refusal) → is_short x ≡ t
 short_choice true x y e f = e
 short_choice false x y e f = f
 
-short_packed : (n : ℕ) (m : Files) (rev : ℕ) → HasShortFiles m → is_short (packed_bytes n m rev) ≡ true
+short_packed : (n : Layout) (m : Files) (rev : ℕ) → HasShortFiles m → is_short (packed_bytes n m rev) ≡ true
 unfolding packed_bytes
-short_packed n m rev short = short_cut (pack_in m (rev / n)) (packed_section n m rev) (λ bytes e. short _ bytes e)
+short_packed n m rev short = short_cut (pack_in m (shard_of n rev)) (packed_section n m rev) (λ bytes e. short _ bytes e)
 
-short_by_floor : (n : ℕ) (m : Files) (rev : ℕ) (floor : Result ℕ SmallFault) → HasShortFiles m → is_short (by_floor n m rev floor) ≡ true
+short_by_floor : (n : Layout) (m : Files) (rev : ℕ) (floor : Result ℕ SmallFault) → HasShortFiles m → is_short (by_floor n m rev floor) ≡ true
 short_by_floor n m rev (Err fault) short = refl
 short_by_floor n m rev (Ok floor) short =
     short_choice (nat_lt rev floor) (packed_bytes n m rev) (or_missing rev (rev_file n m rev)) (short_packed n m rev short) (short_own rev (rev_file n m rev) (λ bytes e. short _ bytes e))
 
-short_bytes : (n : ℕ) (m : Files) (rev : ℕ) → HasShortFiles m → is_short (rev_bytes n m rev) ≡ true
+short_bytes : (n : Layout) (m : Files) (rev : ℕ) → HasShortFiles m → is_short (rev_bytes n m rev) ≡ true
 unfolding rev_bytes
 short_bytes n m rev short = short_by_floor n m rev (floor_in n m) short
 
@@ -282,9 +284,9 @@ pub below_same : (v : View) (floor : ℕ) (kept : Option KeptManifest) → (tell
 unfolding telling
 below_same v floor kept = refl
 
-pub tells_files : (v : View) (floor : ℕ) (m : Files) → v.files ≡ Some m → floor_in v.shard_size m ≡ Ok floor → HasShortFiles m → TellsFiles v m (telling v floor None)
+pub tells_files : (v : View) (floor : ℕ) (m : Files) → v.files ≡ Some m → floor_in v.layout m ≡ Ok floor → HasShortFiles m → TellsFiles v m (telling v floor None)
 tells_files v floor m told is short = record {
-  revs = λ rev known. tells_found v floor None m rev (record { told = told; known = known; right = fresh_right v.shard_size m rev floor is }) (short_bytes v.shard_size m rev short);
+  revs = λ rev known. tells_found v floor None m rev (record { told = told; known = known; right = fresh_right v.layout m rev floor is }) (short_bytes v.layout m rev short);
   props = λ rev known. tells_props v floor None m rev told known;
   youngest = youngest_last v floor None;
 }

@@ -14,13 +14,13 @@ use Rattle.fsfs_fetch.specs.Views.{View, Follows}
 pub record Stays (view : View) (name : List ℕ) (file : Option (List ℕ)) : Type 0 where
   pub now : Files
   pub told : view.files ≡ Some now
-  pub later : (new : Files) → Follows view.shard_size view.reach now new → map.get new name ≡ file
+  pub later : (new : Files) → Follows view.layout view.reach now new → map.get new name ≡ file
 
 -- the file with this name stays as it is, or goes
 pub record MayGo (view : View) (name : List ℕ) (file : Option (List ℕ)) : Type 0 where
   pub now : Files
   pub told : view.files ≡ Some now
-  pub later : (new : Files) → Follows view.shard_size view.reach now new → (map.get new name ≡ file) ⊎ (map.get new name ≡ None)
+  pub later : (new : Files) → Follows view.layout view.reach now new → (map.get new name ≡ file) ⊎ (map.get new name ≡ None)
 
 -- a failure of the disk, or want of memory
 abbrev pub OnlyMemory : BookFault → Type 0

@@ -7,6 +7,8 @@ use Rattle.fsfs_base.specs.declared.small_fault.SmallFault.{SmallFault}
 use Rattle.fsfs_damage.specs.declared.wrong.Refusal.{Refusal}
 use Rattle.fsfs_damage.specs.declared.wrong.Refusal.TheVariants.{NoRev}
 use Rattle.fsfs_book.specs.Told.{Telling}
+use Rattle.fsfs_layout.specs.declared.layout.Layout.{Layout}
+use Rattle.fsfs_layout.specs.Layouts.{shard_of}
 use Rattle.fsfs_fetch.specs.declared.manifests.KeptManifest.{KeptManifest}
 use Rattle.fsfs_fetch.specs.Views.{DiskState, View, Reach, Ends, Grows, IsKnown, is_packed}
 use Rattle.fsfs_rev_file.specs.RevBytes.{rev_bytes, rev_file, props_bytes, manifest_in}
@@ -16,9 +18,9 @@ are_offsets offsets (Err fault) = false
 are_offsets offsets (Ok found) = pointwise nat_eq offsets found
 
 -- a kept manifest is of another shard than the revision's, or that shard's own
-abbrev pub fits : ℕ → Files → Option KeptManifest → ℕ → Bool
-fits shard_size files None rev = true
-fits shard_size files (Some kept) rev = if kept.shard == rev / shard_size then are_offsets kept.offsets.items (manifest_in shard_size files (rev / shard_size)) else true
+abbrev pub fits : Layout → Files → Option KeptManifest → ℕ → Bool
+fits layout files None rev = true
+fits layout files (Some kept) rev = if kept.shard == shard_of layout rev then are_offsets kept.offsets.items (manifest_in layout files (shard_of layout rev)) else true
 
 -- a revision's own file has its bytes, where there is one
 abbrev pub agrees : Option (List ℕ) → Result (List ℕ) Refusal → Bool
@@ -28,10 +30,10 @@ agrees (Some file) (Ok bytes) = pointwise nat_eq file bytes
 
 -- A reader that keeps this floor finds the revision's bytes: what is below the kept floor is packed; what isn't may be
 -- packed since, and its own file may be there still, with the same bytes.
-unfoldable pub is_right : ℕ → Files → ℕ → Option KeptManifest → ℕ → Bool
-is_right shard_size files floor kept rev =
-    if nat_lt rev floor then is_packed shard_size files rev && fits shard_size files kept rev
-    else agrees (rev_file shard_size files rev) (rev_bytes shard_size files rev)
+unfoldable pub is_right : Layout → Files → ℕ → Option KeptManifest → ℕ → Bool
+is_right layout files floor kept rev =
+    if nat_lt rev floor then is_packed layout files rev && fits layout files kept rev
+    else agrees (rev_file layout files rev) (rev_bytes layout files rev)
 
 -- no disk has a file of 2^64 bytes
 abbrev pub is_short : Result (List ℕ) Refusal → Bool
@@ -41,13 +43,13 @@ is_short (Ok bytes) = nat_lt (length bytes) 18446744073709551616
 abbrev pub if_short : Bool → Result (List ℕ) Refusal → Option (Result (List ℕ) Refusal)
 if_short right read = if right && is_short read then Some read else None
 
-abbrev pub revs_in : ℕ → ℕ → Option KeptManifest → Option Files → ℕ → Option (Result (List ℕ) Refusal)
-revs_in shard_size floor kept None rev = None
-revs_in shard_size floor kept (Some files) rev = if_short (is_right shard_size files floor kept rev) (rev_bytes shard_size files rev)
+abbrev pub revs_in : Layout → ℕ → Option KeptManifest → Option Files → ℕ → Option (Result (List ℕ) Refusal)
+revs_in layout floor kept None rev = None
+revs_in layout floor kept (Some files) rev = if_short (is_right layout files floor kept rev) (rev_bytes layout files rev)
 
-abbrev pub props_in : ℕ → Option Files → ℕ → Option (Result (List ℕ) Refusal)
-props_in shard_size None rev = None
-props_in shard_size (Some files) rev = Some (props_bytes shard_size files rev)
+abbrev pub props_in : Layout → Option Files → ℕ → Option (Result (List ℕ) Refusal)
+props_in layout None rev = None
+props_in layout (Some files) rev = Some (props_bytes layout files rev)
 
 -- of a revision above the youngest, that there is none
 abbrev pub within : Reach → ℕ → Option (Result (List ℕ) Refusal) → Option (Result (List ℕ) Refusal)
@@ -61,8 +63,8 @@ last_of (Grows least) = None
 -- what a reader over a store tells, that keeps this floor and this manifest
 unfoldable pub telling : View → ℕ → Option KeptManifest → Telling (Option DiskState)
 telling view floor kept = record {
-  revs = λ rev. within view.reach rev (revs_in view.shard_size floor kept view.files rev);
-  props = λ rev. within view.reach rev (props_in view.shard_size view.files rev);
+  revs = λ rev. within view.reach rev (revs_in view.layout floor kept view.files rev);
+  props = λ rev. within view.reach rev (props_in view.layout view.files rev);
   youngest = last_of view.reach;
   below = view.below;
 }
@@ -73,8 +75,8 @@ HasShortFiles files = (name bytes : List ℕ) → map.get files name ≡ Some by
 
 -- of each revision that there is, all is told that these files say
 pub record TellsFiles (view : View) (files : Files) {Below : Type 0} (told : Telling Below) : Type 0 where
-  pub revs : (rev : ℕ) → IsKnown view.reach rev → told.revs rev ≡ Some (rev_bytes view.shard_size files rev)
-  pub props : (rev : ℕ) → IsKnown view.reach rev → told.props rev ≡ Some (props_bytes view.shard_size files rev)
+  pub revs : (rev : ℕ) → IsKnown view.reach rev → told.revs rev ≡ Some (rev_bytes view.layout files rev)
+  pub props : (rev : ℕ) → IsKnown view.reach rev → told.props rev ≡ Some (props_bytes view.layout files rev)
   pub youngest : told.youngest ≡ last_of view.reach
 
 abbrev pub keeps_shard : Option KeptManifest → ℕ → Bool
@@ -88,18 +90,18 @@ kept_offsets (Some kept) = kept.offsets.items
 -- a revision of these files is packed, and the kept manifest serves it
 pub record IsPackedAt (view : View) (kept : Option KeptManifest) (rev : ℕ) (m : Files) : Type 0 where
   pub told : view.files ≡ Some m
-  pub packed : is_packed view.shard_size m rev ≡ true
-  pub fits : fits view.shard_size m kept rev ≡ true
+  pub packed : is_packed view.layout m rev ≡ true
+  pub fits : fits view.layout m kept rev ≡ true
 
 -- a manifest that was kept since serves what the one before served
 abbrev pub ServesAsWell : View → Option KeptManifest → Option KeptManifest → Type 0
-ServesAsWell view old new = (m : Files) (rev : ℕ) → IsPackedAt view old rev m → fits view.shard_size m new rev ≡ true
+ServesAsWell view old new = (m : Files) (rev : ℕ) → IsPackedAt view old rev m → fits view.layout m new rev ≡ true
 
 -- a revision that there is is found in these files by what is kept
 pub record IsFoundAt (view : View) (floor : ℕ) (kept : Option KeptManifest) (rev : ℕ) (m : Files) : Type 0 where
   pub told : view.files ≡ Some m
   pub known : IsKnown view.reach rev
-  pub right : is_right view.shard_size m floor kept rev ≡ true
+  pub right : is_right view.layout m floor kept rev ≡ true
 
 -- and all that was found by what was kept is found by what is kept now
 abbrev pub FindsAsWell : View → ℕ → Option KeptManifest → View → ℕ → Option KeptManifest → Type 0
@@ -109,4 +111,4 @@ FindsAsWell view floor kept new_view new_floor new_kept = (m : Files) (rev : ℕ
 pub record IsGoneAt (view : View) (rev : ℕ) (m : Files) : Type 0 where
   pub told : view.files ≡ Some m
   pub known : IsKnown view.reach rev
-  pub gone : rev_file view.shard_size m rev ≡ None
+  pub gone : rev_file view.layout m rev ≡ None

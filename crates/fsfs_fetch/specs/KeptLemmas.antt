@@ -4,6 +4,7 @@ use Rattle.std.specs.Prelude.{Result, ◌&&◌}
 use Rattle.std.proofs.lemmas.Bool.Decides.{nat_tests}
 use Rattle.fsfs_base.specs.Files.{Files}
 use Rattle.fsfs_damage.specs.declared.wrong.Refusal.{Refusal}
+use Rattle.fsfs_layout.specs.declared.layout.Layout.{Layout}
 use Rattle.fsfs_fetch.specs.declared.manifests.KeptManifest.{KeptManifest}
 use Rattle.fsfs_rev_file.specs.RevBytes.{rev_bytes}
 use Rattle.fsfs_fetch.specs.Views.{View, Reach, Ends, Grows}
@@ -20,7 +21,7 @@ if_small true true n bytes read e told =
 short_same : (read : Result (List ℕ) Refusal) (bytes : List ℕ) → read ≡ Ok bytes → is_short read ≡ nat_lt (length bytes) 18446744073709551616
 short_same read bytes e = λ i. is_short (e i)
 
-short_in : (n floor : ℕ) (kept : Option KeptManifest) (files : Option Files) (rev : ℕ) (bytes : List ℕ) → revs_in n floor kept files rev ≡ Some (Ok bytes) → length bytes < 2 ^ 64
+short_in : (n : Layout) (floor : ℕ) (kept : Option KeptManifest) (files : Option Files) (rev : ℕ) (bytes : List ℕ) → revs_in n floor kept files rev ≡ Some (Ok bytes) → length bytes < 2 ^ 64
 short_in n floor kept None rev bytes told = cc
 short_in n floor kept (Some m) rev bytes told = if_small (is_right n m floor kept rev) (is_short (rev_bytes n m rev)) 0 bytes (rev_bytes n m rev) (short_same (rev_bytes n m rev) bytes) told
 
@@ -35,4 +36,4 @@ short_within (Grows least) rev read bytes g told = chosen_read (nat_lt least rev
 -- no revision that is told has 2^64 bytes
 pub told_short : (view : View) (floor : ℕ) (kept : Option KeptManifest) (rev : ℕ) (bytes : List ℕ) → (telling view floor kept).revs rev ≡ Some (Ok bytes) → length bytes < 2 ^ 64
 unfolding telling
-told_short view floor kept rev bytes told = short_within view.reach rev (revs_in view.shard_size floor kept view.files rev) bytes (short_in view.shard_size floor kept view.files rev bytes) told
+told_short view floor kept rev bytes told = short_within view.reach rev (revs_in view.layout floor kept view.files rev) bytes (short_in view.layout floor kept view.files rev bytes) told

@@ -3,17 +3,18 @@ use Rattle.std.specs.Prelude.{◌≡◌, ℕ, List, Option, Some, option_map}
 use Rattle.fsfs_base.specs.Files.{Files}
 use Rattle.fsfs_disk.specs.Trace.{Trace, files_now}
 use Rattle.fsfs_book.specs.Told.{Telling, Knows}
+use Rattle.fsfs_layout.specs.declared.layout.Layout.{Layout}
 use Rattle.fsfs_fetch.specs.Views.{View, DiskState, Ends}
 use Rattle.fsfs_rev_file.specs.RevBytes.{rev_bytes, props_bytes}
 
-abbrev pub owned_view : DiskState → ℕ → ℕ → View
-owned_view disk youngest shard_size = record { shard_size = shard_size; reach = Ends youngest; files = option_map files_now disk.trace; below = Some disk }
+abbrev pub owned_view : DiskState → ℕ → Layout → View
+owned_view disk youngest layout = record { layout = layout; reach = Ends youngest; files = option_map files_now disk.trace; below = Some disk }
 
 abbrev pub state_of : Option Trace → List ℕ → DiskState
 state_of trace path = record { trace = trace; mount_path = path }
 
 -- a book that tells of each revision up to the youngest what the files say
-pub record TellsAll (last shard_size : ℕ) (files : Files) {Below : Type 0} (told : Telling Below) : Type 0 where
-  pub revs : Knows told.revs last (rev_bytes shard_size files)
-  pub props : Knows told.props last (props_bytes shard_size files)
+pub record TellsAll (last : ℕ) (layout : Layout) (files : Files) {Below : Type 0} (told : Telling Below) : Type 0 where
+  pub revs : Knows told.revs last (rev_bytes layout files)
+  pub props : Knows told.props last (props_bytes layout files)
   pub youngest : told.youngest ≡ Some last

@@ -7,6 +7,7 @@ use Rattle.fsfs_base.specs.Counts.{Rose}
 use Rattle.fsfs_book.specs.Told.{HasCause, IfDisk}
 use Rattle.std.specs.FinMap as map
 use Rattle.fsfs_base.specs.Files.{Files}
+use Rattle.fsfs_layout.specs.declared.layout.Layout.{Layout}
 use Rattle.fsfs_fetch.specs.Views.{Reach, Ends, Grows, IsKnown, Extends, View, Follows, FilesLater, Later}
 use Rattle.fsfs_fetch.specs.Answers.{Stays, MayGo}
 
@@ -26,7 +27,7 @@ known_later (Ends y) b rev e k = let P : Reach → Type 0 = λ r. IsKnown r rev 
 known_later (Grows n) (Ends y) rev e k = omega arith
 known_later (Grows n) (Grows p) rev e k = omega arith
 
-pub follows_same : (n : ℕ) (reach : Reach) (m : Files) → Follows n reach m m
+pub follows_same : (n : Layout) (reach : Reach) (m : Files) → Follows n reach m m
 follows_same n reach m = record {
   bytes = λ rev known. refl;
   packed = λ rev is. is;
@@ -41,7 +42,7 @@ own_more a b c (inl p) (inl q) = inl (q ∙ p)
 own_more a b c (inr p) (inl q) = inr (q ∙ p)
 own_more a b c p (inr q) = inr q
 
-pub follows_more : (n : ℕ) (r s : Reach) (a b c : Files) → Extends r s → Follows n r a b → Follows n s b c → Follows n r a c
+pub follows_more : (n : Layout) (r s : Reach) (a b c : Files) → Extends r s → Follows n r a b → Follows n s b c → Follows n r a c
 follows_more n r s a b c e f g = record {
   bytes = λ rev known. g.bytes rev (known_later r s rev e known) ∙ f.bytes rev known;
   packed = λ rev is. g.packed rev (f.packed rev is);
@@ -51,26 +52,26 @@ follows_more n r s a b c e f g = record {
   props = λ rev known. g.props rev (known_later r s rev e known) ∙ f.props rev known;
 }
 
-files_same : (n : ℕ) (reach : Reach) (files : Option Files) → FilesLater n reach files files
+files_same : (n : Layout) (reach : Reach) (files : Option Files) → FilesLater n reach files files
 files_same n reach None = tt
 files_same n reach (Some m) = follows_same n reach m
 
-files_more : (n : ℕ) (r s : Reach) (a b c : Option Files) → Extends r s → FilesLater n r a b → FilesLater n s b c → FilesLater n r a c
+files_more : (n : Layout) (r s : Reach) (a b c : Option Files) → Extends r s → FilesLater n r a b → FilesLater n s b c → FilesLater n r a c
 files_more n r s None b c e f g = tt
 files_more n r s (Some a) None c e f g = absurd f
 files_more n r s (Some a) (Some b) None e f g = absurd g
 files_more n r s (Some a) (Some b) (Some c) e f g = follows_more n r s a b c e f g
 
 pub later_same : (v : View) → Later v v
-later_same v = record { size = refl; reach = extends_same v.reach; files = files_same v.shard_size v.reach v.files; below = refl }
+later_same v = record { layout = refl; reach = extends_same v.reach; files = files_same v.layout v.reach v.files; below = refl }
 
 pub later_more : (u v w : View) → Later u v → Later v w → Later u w
 later_more u v w e f =
-    let P : ℕ → Type 0 = λ n. FilesLater n v.reach v.files w.files in
+    let P : Layout → Type 0 = λ n. FilesLater n v.reach v.files w.files in
     record {
-      size = f.size ∙ e.size;
+      layout = f.layout ∙ e.layout;
       reach = extends_more u.reach v.reach w.reach e.reach f.reach;
-      files = files_more u.shard_size u.reach v.reach u.files v.files w.files e.reach e.files (subst P e.size f.files);
+      files = files_more u.layout u.reach v.reach u.files v.files w.files e.reach e.files (subst P e.layout f.files);
       below = f.below ∙ e.below;
     }
 
@@ -78,16 +79,16 @@ later_more u v w e f =
 pub record Next (v w : View) (m : Files) : Type 0 where
   pub files : Files
   pub told : w.files ≡ Some files
-  pub follows : Follows v.shard_size v.reach m files
+  pub follows : Follows v.layout v.reach m files
 
-next_files : (n : ℕ) (reach : Reach) (a : Files) (b : Option Files) → FilesLater n reach (Some a) b → (m : Files) × (b ≡ Some m) × Follows n reach a m
+next_files : (n : Layout) (reach : Reach) (a : Files) (b : Option Files) → FilesLater n reach (Some a) b → (m : Files) × (b ≡ Some m) × Follows n reach a m
 next_files n reach a None f = absurd f
 next_files n reach a (Some b) f = (b, refl, f)
 
 pub next : (v w : View) (m : Files) → Later v w → v.files ≡ Some m → Next v w m
 next v w m e told =
-    let P : Option Files → Type 0 = λ o. FilesLater v.shard_size v.reach o w.files in
-    let p = next_files v.shard_size v.reach m w.files (subst P told e.files) in
+    let P : Option Files → Type 0 = λ o. FilesLater v.layout v.reach o w.files in
+    let p = next_files v.layout v.reach m w.files (subst P told e.files) in
     record { files = p.0; told = p.1; follows = p.2 }
 
 pub told_at : (files : Option Files) (m : Files) (P : Files → Type 0) → files ≡ Some m → IfSome files P → P m
@@ -97,15 +98,15 @@ told_at files m P e h = let Q : Option Files → Type 0 = λ o. IfSome o P in su
 pub stays_later : (v w : View) (name : List ℕ) (file : Option (List ℕ)) → Later v w → Stays v name file → Stays w name file
 stays_later v w name file e s =
     let n = next v w s.now e s.told in
-    let P : ℕ → Files → Type 0 = λ k new. Follows k w.reach n.files new in
+    let P : Layout → Files → Type 0 = λ k new. Follows k w.reach n.files new in
     record {
       now = n.files;
       told = n.told;
-      later = λ new f. s.later new (follows_more v.shard_size v.reach w.reach s.now n.files new e.reach n.follows (let Q : ℕ → Type 0 = λ k. P k new in subst Q e.size f));
+      later = λ new f. s.later new (follows_more v.layout v.reach w.reach s.now n.files new e.reach n.follows (let Q : Layout → Type 0 = λ k. P k new in subst Q e.layout f));
     }
 
 pub stays_now : (v : View) (name : List ℕ) (file : Option (List ℕ)) → (s : Stays v name file) → map.get s.now name ≡ file
-stays_now v name file s = s.later s.now (follows_same v.shard_size v.reach s.now)
+stays_now v name file s = s.later s.now (follows_same v.layout v.reach s.now)
 
 pub goes_later : (v w : View) (name : List ℕ) (file : Option (List ℕ)) → Later v w → MayGo v name file → MayGo w name file
 goes_later v w name file e s =
@@ -113,11 +114,11 @@ goes_later v w name file e s =
     record {
       now = n.files;
       told = n.told;
-      later = λ new f. s.later new (follows_more v.shard_size v.reach w.reach s.now n.files new e.reach n.follows (let Q : ℕ → Type 0 = λ k. Follows k w.reach n.files new in subst Q e.size f));
+      later = λ new f. s.later new (follows_more v.layout v.reach w.reach s.now n.files new e.reach n.follows (let Q : Layout → Type 0 = λ k. Follows k w.reach n.files new in subst Q e.layout f));
     }
 
 pub goes_now : (v : View) (name : List ℕ) (file : Option (List ℕ)) → (s : MayGo v name file) → (map.get s.now name ≡ file) ⊎ (map.get s.now name ≡ None)
-goes_now v name file s = s.later s.now (follows_same v.shard_size v.reach s.now)
+goes_now v name file s = s.later s.now (follows_same v.layout v.reach s.now)
 
 -- ---- counts of faults
 

@@ -3,6 +3,8 @@ use Rattle.std.specs.Prelude.{◌≡◌, ◌⊎◌, ◌≤◌, ℕ, ◌/◌, Boo
 use Rattle.fsfs_base.specs.Files.{Files}
 use Rattle.fsfs_base.specs.declared.small_fault.SmallFault.{SmallFault}
 use Rattle.fsfs_disk.specs.Trace.{Trace}
+use Rattle.fsfs_layout.specs.declared.layout.Layout.{Layout}
+use Rattle.fsfs_layout.specs.Layouts.{shard_of}
 use Rattle.fsfs_rev_file.specs.RevBytes.{rev_bytes, rev_file, props_file, floor_in, manifest_file, pack_in}
 
 -- which revisions there are: those up to the youngest, which stays the youngest, or at least those up to a number
@@ -29,10 +31,10 @@ pub record DiskState : Type 0 where
   pub trace : Option Trace
   pub mount_path : List ℕ
 
--- what a store tells: the size of its shards, its revisions, its files as the last call met them, and the disk below it,
+-- what a store tells: its layout, its revisions, its files as the last call met them, and the disk below it,
 -- where it tells these
 pub record View : Type 0 where
-  pub shard_size : ℕ
+  pub layout : Layout
   pub reach : Reach
   pub files : Option Files
   pub below : Option DiskState
@@ -42,27 +44,27 @@ is_below rev (Err fault) = false
 is_below rev (Ok floor) = nat_lt rev floor
 
 -- a revision is packed: it is below the floor
-unfoldable pub is_packed : ℕ → Files → ℕ → Bool
-is_packed shard_size files rev = is_below rev (floor_in shard_size files)
+unfoldable pub is_packed : Layout → Files → ℕ → Bool
+is_packed layout files rev = is_below rev (floor_in layout files)
 
 -- The files that are met later: revisions keep their bytes, floors don't fall, what is packed stays where it is, and a
 -- revision's own file stays or goes.
-pub record Follows (shard_size : ℕ) (reach : Reach) (old new : Files) : Type 0 where
-  pub bytes : (rev : ℕ) → IsKnown reach rev → rev_bytes shard_size new rev ≡ rev_bytes shard_size old rev
-  pub packed : (rev : ℕ) → is_packed shard_size old rev ≡ true → is_packed shard_size new rev ≡ true
-  pub manifest : (rev : ℕ) → is_packed shard_size old rev ≡ true → manifest_file new (rev / shard_size) ≡ manifest_file old (rev / shard_size)
-  pub pack : (rev : ℕ) → is_packed shard_size old rev ≡ true → pack_in new (rev / shard_size) ≡ pack_in old (rev / shard_size)
-  pub own : (rev : ℕ) → IsKnown reach rev → (rev_file shard_size new rev ≡ rev_file shard_size old rev) ⊎ (rev_file shard_size new rev ≡ None)
-  pub props : (rev : ℕ) → IsKnown reach rev → props_file shard_size new rev ≡ props_file shard_size old rev
+pub record Follows (layout : Layout) (reach : Reach) (old new : Files) : Type 0 where
+  pub bytes : (rev : ℕ) → IsKnown reach rev → rev_bytes layout new rev ≡ rev_bytes layout old rev
+  pub packed : (rev : ℕ) → is_packed layout old rev ≡ true → is_packed layout new rev ≡ true
+  pub manifest : (rev : ℕ) → is_packed layout old rev ≡ true → manifest_file new (shard_of layout rev) ≡ manifest_file old (shard_of layout rev)
+  pub pack : (rev : ℕ) → is_packed layout old rev ≡ true → pack_in new (shard_of layout rev) ≡ pack_in old (shard_of layout rev)
+  pub own : (rev : ℕ) → IsKnown reach rev → (rev_file layout new rev ≡ rev_file layout old rev) ⊎ (rev_file layout new rev ≡ None)
+  pub props : (rev : ℕ) → IsKnown reach rev → props_file layout new rev ≡ props_file layout old rev
 
-abbrev pub FilesLater : ℕ → Reach → Option Files → Option Files → Type 0
-FilesLater shard_size reach None new = Unit {0}
-FilesLater shard_size reach (Some old) None = ⊥
-FilesLater shard_size reach (Some old) (Some new) = Follows shard_size reach old new
+abbrev pub FilesLater : Layout → Reach → Option Files → Option Files → Type 0
+FilesLater layout reach None new = Unit {0}
+FilesLater layout reach (Some old) None = ⊥
+FilesLater layout reach (Some old) (Some new) = Follows layout reach old new
 
 -- what a store may tell later; reading leaves the disk below as it is
 pub record Later (old new : View) : Type 0 where
-  pub size : new.shard_size ≡ old.shard_size
+  pub layout : new.layout ≡ old.layout
   pub reach : Extends old.reach new.reach
-  pub files : FilesLater old.shard_size old.reach old.files new.files
+  pub files : FilesLater old.layout old.reach old.files new.files
   pub below : new.below ≡ old.below

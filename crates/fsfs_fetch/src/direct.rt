@@ -19,7 +19,7 @@ use crate::reads::Reads;
 use fsfs_book::{Book, BookFault};
 use fsfs_damage::Refusal;
 use fsfs_disk::Disk;
-use fsfs_layout::names;
+use fsfs_layout::{Layout, names};
 use std::alloc::Global;
 
 /// A book over a store that is read. It keeps the last floor that it read, the oldest revision that isn't packed, and the
@@ -40,7 +40,7 @@ impl<R: Reads> Direct<R> {
         ensures reads { result.reads ≡ reads }
         ensures floor { result.floor ≡ floor }
         ensures kept { result.kept ≡ None }
-        ensures told { (m : Files) → (R.view reads).files ≡ Some m → floor_in (R.view reads).shard_size m ≡ Ok floor → HasShortFiles m
+        ensures told { (m : Files) → (R.view reads).files ≡ Some m → floor_in (R.view reads).layout m ≡ Ok floor → HasShortFiles m
             → TellsFiles (R.view reads) m (⟦<Direct<R> as Book>⟧.told result) }
         ensures below { (⟦<Direct<R> as Book>⟧.told result).below ≡ (R.view reads).below }
     {
@@ -74,17 +74,16 @@ pub fn over_disk<D: Disk>(
     alloc: Global,
     disk: D,
     youngest: u32,
-    shard_size: u32,
+    layout: Layout,
     floor: u32,
 ) -> Direct<OwnedReads<D>>
-    requires { 0 < shard_size }
     ensures disk { result.reads.disk ≡ disk }
-    ensures told { (t : Trace) → D.trace disk ≡ Some t → floor_in shard_size (files_now t) ≡ Ok floor → HasShortFiles (files_now t)
-        → TellsAll youngest shard_size (files_now t) (⟦<Direct<OwnedReads<D>> as Book>⟧.told result) }
+    ensures told { (t : Trace) → D.trace disk ≡ Some t → floor_in layout (files_now t) ≡ Ok floor → HasShortFiles (files_now t)
+        → TellsAll youngest layout (files_now t) (⟦<Direct<OwnedReads<D>> as Book>⟧.told result) }
     ensures below { (⟦<Direct<OwnedReads<D>> as Book>⟧.told result).below ≡ Some (state_of (D.trace disk) (D.mount_path disk)) }
     ensures faults { ⟦<Direct<OwnedReads<D>> as Book>⟧.faults result ≡ D.faults disk }
 {
-    Direct::new(alloc, OwnedReads::new(disk, youngest, shard_size), floor)
+    Direct::new(alloc, OwnedReads::new(disk, youngest, layout), floor)
 }
 
 /// The disk again, which reading has left as it was.
@@ -123,7 +122,7 @@ fn part_once_more<R: Reads>(
     buffer: &mut [u8],
 ) -> Result<usize, BookFault>
     ensures bound { IfOk result (λ n. n ≤ length buffer.new) }
-    ensures told { (m : Files) → IsGoneAt (R.view reads.old) rev m → Gives (λ n. take n buffer.new) result (part_read rev offset (length buffer.old) (rev_bytes (R.view reads.old).shard_size m rev)) }
+    ensures told { (m : Files) → IsGoneAt (R.view reads.old) rev m → Gives (λ n. take n buffer.new) result (part_read rev offset (length buffer.old) (rev_bytes (R.view reads.old).layout m rev)) }
     ensures finds { FindsAsWell (R.view reads.old) floor.old kept.old (R.view reads.new) floor.new kept.new }
     ensures about { IfErr result (IsAbout rev offset) }
     ensures later { Later (R.view reads.old) (R.view reads.new) }
@@ -133,7 +132,7 @@ fn part_once_more<R: Reads>(
     if rev < *floor {
         return packed_part(alloc, reads, kept, rev, offset, buffer);
     }
-    let name = names::revision(reads.shard_size(), rev);
+    let name = names::revision(reads.layout(), rev);
     match file_part(reads, &name, rev, offset, buffer)? {
         None => Err(BookFault::Refused(Refusal::Missing { rev })),
         Some(count) => Ok(count),
@@ -151,7 +150,7 @@ fn part_of<R: Reads>(
     buffer: &mut [u8],
 ) -> Result<usize, BookFault>
     ensures bound { IfOk result (λ n. n ≤ length buffer.new) }
-    ensures told { (m : Files) → IsFoundAt (R.view reads.old) floor.old kept.old rev m → Gives (λ n. take n buffer.new) result (part_read rev offset (length buffer.old) (rev_bytes (R.view reads.old).shard_size m rev)) }
+    ensures told { (m : Files) → IsFoundAt (R.view reads.old) floor.old kept.old rev m → Gives (λ n. take n buffer.new) result (part_read rev offset (length buffer.old) (rev_bytes (R.view reads.old).layout m rev)) }
     ensures finds { FindsAsWell (R.view reads.old) floor.old kept.old (R.view reads.new) floor.new kept.new }
     ensures about { IfErr result (IsAbout rev offset) }
     ensures later { Later (R.view reads.old) (R.view reads.new) }
@@ -160,7 +159,7 @@ fn part_of<R: Reads>(
     if rev < *floor {
         return packed_part(alloc, reads, kept, rev, offset, buffer);
     }
-    let name = names::revision(reads.shard_size(), rev);
+    let name = names::revision(reads.layout(), rev);
     match file_part(reads, &name, rev, offset, buffer)? {
         None => part_once_more(alloc, reads, floor, kept, rev, offset, buffer),
         Some(count) => Ok(count),
@@ -175,7 +174,7 @@ fn len_once_more<R: Reads>(
     kept: &mut Option<KeptManifest>,
     rev: u32,
 ) -> Result<u64, BookFault>
-    ensures told { (m : Files) → IsGoneAt (R.view reads.old) rev m → Gives (λ n. n) result (size_read (rev_bytes (R.view reads.old).shard_size m rev)) }
+    ensures told { (m : Files) → IsGoneAt (R.view reads.old) rev m → Gives (λ n. n) result (size_read (rev_bytes (R.view reads.old).layout m rev)) }
     ensures finds { FindsAsWell (R.view reads.old) floor.old kept.old (R.view reads.new) floor.new kept.new }
     ensures about { IfErr result (IsAbout rev 0) }
     ensures later { Later (R.view reads.old) (R.view reads.new) }
@@ -185,7 +184,7 @@ fn len_once_more<R: Reads>(
     if rev < *floor {
         return packed_len(alloc, reads, kept, rev);
     }
-    let name = names::revision(reads.shard_size(), rev);
+    let name = names::revision(reads.layout(), rev);
     match file_len(reads, &name)? {
         None => Err(BookFault::Refused(Refusal::Missing { rev })),
         Some(length) => Ok(length),
@@ -200,7 +199,7 @@ fn len_of<R: Reads>(
     kept: &mut Option<KeptManifest>,
     rev: u32,
 ) -> Result<u64, BookFault>
-    ensures told { (m : Files) → IsFoundAt (R.view reads.old) floor.old kept.old rev m → Gives (λ n. n) result (size_read (rev_bytes (R.view reads.old).shard_size m rev)) }
+    ensures told { (m : Files) → IsFoundAt (R.view reads.old) floor.old kept.old rev m → Gives (λ n. n) result (size_read (rev_bytes (R.view reads.old).layout m rev)) }
     ensures finds { FindsAsWell (R.view reads.old) floor.old kept.old (R.view reads.new) floor.new kept.new }
     ensures about { IfErr result (IsAbout rev 0) }
     ensures later { Later (R.view reads.old) (R.view reads.new) }
@@ -209,7 +208,7 @@ fn len_of<R: Reads>(
     if rev < *floor {
         return packed_len(alloc, reads, kept, rev);
     }
-    let name = names::revision(reads.shard_size(), rev);
+    let name = names::revision(reads.layout(), rev);
     match file_len(reads, &name)? {
         None => len_once_more(alloc, reads, floor, kept, rev),
         Some(length) => Ok(length),
@@ -224,12 +223,12 @@ fn props_of<R: Reads>(
     buffer: &mut [u8],
 ) -> Result<usize, BookFault>
     ensures bound { IfOk result (λ n. n ≤ length buffer.new) }
-    ensures told { (m : Files) → (R.view reads.old).files ≡ Some m → IsKnown (R.view reads.old).reach rev → Gives (λ n. take n buffer.new) result (part_read rev offset (length buffer.old) (props_bytes (R.view reads.old).shard_size m rev)) }
+    ensures told { (m : Files) → (R.view reads.old).files ≡ Some m → IsKnown (R.view reads.old).reach rev → Gives (λ n. take n buffer.new) result (part_read rev offset (length buffer.old) (props_bytes (R.view reads.old).layout m rev)) }
     ensures about { IfErr result (IsAbout rev offset) }
     ensures later { Later (R.view reads.old) (R.view reads.new) }
     ensures cause { HasCause (R.faults reads.old) (R.faults reads.new) result }
 {
-    let name = names::props(reads.shard_size(), rev);
+    let name = names::props(reads.layout(), rev);
     match file_part(reads, &name, rev, offset, buffer)? {
         None => Err(BookFault::Refused(Refusal::Missing { rev })),
         Some(count) => Ok(count),

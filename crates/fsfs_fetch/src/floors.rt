@@ -14,16 +14,16 @@ use fsfs_layout::{names, read_min_unpacked_rev};
 
 // Reads the floor, by one call.
 fn read_floor<R: Reads>(reads: &mut R) -> Result<u32, BookFault>
-    ensures told { IfSome (R.view reads.new).files (λ m. Gives (λ n. n) result (refused (floor_in (R.view reads.new).shard_size m))) }
+    ensures told { IfSome (R.view reads.new).files (λ m. Gives (λ n. n) result (refused (floor_in (R.view reads.new).layout m))) }
     ensures about { (rev offset : ℕ) → IfErr result (IsAbout rev offset) }
     ensures later { Later (R.view reads.old) (R.view reads.new) }
     ensures cause { HasCause (R.faults reads.old) (R.faults reads.new) result }
 {
-    let shard_size = reads.shard_size();
+    let layout = reads.layout();
     let mut text = [0; 64];
     let found = read_at(reads, &names::min_unpacked_rev(), 0, &mut text)?;
     let count = found.unwrap_or(0);
-    match read_min_unpacked_rev(shard_size, &text[..count]) {
+    match read_min_unpacked_rev(layout, &text[..count]) {
         Ok(floor) => Ok(floor),
         Err(fault) => Err(BookFault::Refused(Refusal::Small(fault))),
     }
@@ -35,7 +35,7 @@ pub(crate) fn refresh<R: Reads>(
     floor: &mut u32,
     kept: &mut Option<KeptManifest>,
 ) -> Result<(), BookFault>
-    ensures told { IfSome (R.view reads.new).files (λ m. Gives (λ _. floor.new) result (refused (floor_in (R.view reads.new).shard_size m))) }
+    ensures told { IfSome (R.view reads.new).files (λ m. Gives (λ _. floor.new) result (refused (floor_in (R.view reads.new).layout m))) }
     ensures kept { OnOk result (kept.new ≡ None) }
     ensures same_floor { OnErr result (floor.new ≡ floor.old) }
     ensures same_kept { OnErr result (kept.new ≡ kept.old) }

@@ -1,8 +1,9 @@
 //! The manifest of a packed shard, kept from one read to the next.
-ghost use Rattle.std.specs.Prelude.{◌≡◌, ◌≤◌, ◌<◌, ◌/◌, ℕ, List, Option, IfErr, OnErr, true, unwrap_or, []};
+ghost use Rattle.std.specs.Prelude.{◌≡◌, ◌≤◌, ◌<◌, ℕ, List, Option, IfErr, OnErr, true, unwrap_or, []};
 ghost use Rattle.fsfs_base.specs.Files.{Files};
 ghost use Rattle.fsfs_base.specs.declared.small_fault.SmallFile.TheVariants.{Manifest};
 ghost use Rattle.fsfs_layout.specs.FileNames.{small_name};
+ghost use Rattle.fsfs_layout.specs.Layouts.{shard_of};
 ghost use Rattle.fsfs_book.specs.Told.{HasCause, Gives, IsAbout};
 ghost use Rattle.fsfs_rev_file.specs.RevBytes.{manifest_of, manifest_in};
 ghost use Rattle.fsfs_fetch.specs.Kept.{IsPackedAt, ServesAsWell, kept_offsets, keeps_shard};
@@ -31,14 +32,14 @@ pub(crate) fn shard_offsets<R: Reads>(
     shard: u32,
 ) -> Result<Vec<u64>, BookFault>
     ensures told { (file : Option (List ℕ)) → Stays (R.view reads.old) (small_name (Manifest shard)) file
-        → Gives (λ v. v.items) result (refused (manifest_of (R.view reads.old).shard_size shard (unwrap_or file []))) }
+        → Gives (λ v. v.items) result (refused (manifest_of (R.view reads.old).layout shard (unwrap_or file []))) }
     ensures about { (rev offset : ℕ) → IfErr result (IsAbout rev offset) }
     ensures later { Later (R.view reads.old) (R.view reads.new) }
     ensures cause { HasCause (R.faults reads.old) (R.faults reads.new) result }
 {
-    let shard_size = reads.shard_size();
+    let layout = reads.layout();
     let text = load(alloc, reads, &names::manifest(shard))?;
-    match read_manifest(alloc, &text, shard, shard_size) {
+    match read_manifest(alloc, &text, shard, layout) {
         Ok(offsets) => Ok(offsets),
         Err(ManifestError::OutOfMemory) => Err(BookFault::OutOfMemory),
         Err(ManifestError::Fault(fault)) => Err(BookFault::Refused(Refusal::Small(fault))),
@@ -52,8 +53,8 @@ pub(crate) fn keep_manifest<R: Reads>(
     kept: &mut Option<KeptManifest>,
     shard: u32,
 ) -> Result<(), BookFault>
-    ensures told { (m : Files) (rev : ℕ) → IsPackedAt (R.view reads.old) kept.old rev m → rev / (R.view reads.old).shard_size ≡ shard
-        → Gives (λ _. kept_offsets kept.new) result (refused (manifest_in (R.view reads.old).shard_size m shard)) }
+    ensures told { (m : Files) (rev : ℕ) → IsPackedAt (R.view reads.old) kept.old rev m → shard_of (R.view reads.old).layout rev ≡ shard
+        → Gives (λ _. kept_offsets kept.new) result (refused (manifest_in (R.view reads.old).layout m shard)) }
     ensures serves { ServesAsWell (R.view reads.old) kept.old kept.new }
     ensures about { (rev offset : ℕ) → IfErr result (IsAbout rev offset) }
     ensures later { Later (R.view reads.old) (R.view reads.new) }

@@ -4,27 +4,26 @@ ghost use Rattle.std.specs.Prelude.{◌≡◌, ◌<◌};
 use crate::reads::Reads;
 use fsfs_base::{Failed, Name};
 use fsfs_disk::Disk;
+use fsfs_layout::Layout;
 
-/// A disk that nobody else writes to, with the youngest revision of its repository and the size of its shards.
+/// A disk that nobody else writes to, with the youngest revision of its repository and its layout.
 #[derive(Drop)]
 pub struct OwnedReads<D: Disk> {
     disk: D,
     youngest: u32,
-    shard_size: u32,
-    ghost some: { 0 < shard_size },
+    layout: Layout,
 }
 
 impl<D: Disk> OwnedReads<D> {
-    pub fn new(disk: D, youngest: u32, shard_size: u32) -> OwnedReads<D>
-        requires { 0 < shard_size }
+    pub fn new(disk: D, youngest: u32, layout: Layout) -> OwnedReads<D>
         ensures disk { result.disk ≡ disk }
         ensures youngest { result.youngest ≡ youngest }
-        ensures shard_size { result.shard_size ≡ shard_size }
+        ensures layout { result.layout ≡ layout }
     {
         OwnedReads {
             disk,
             youngest,
-            shard_size,
+            layout,
         }
     }
 
@@ -40,12 +39,12 @@ impl<D: Disk> OwnedReads<D> {
 impl<D: Disk> Reads for OwnedReads<D> {
     ghost use Rattle.fsfs_fetch.specs.Owned.{owned_view, state_of};
 
-    ghost view = { λ r. owned_view (state_of (D.trace r.disk) (D.mount_path r.disk)) r.youngest r.shard_size };
+    ghost view = { λ r. owned_view (state_of (D.trace r.disk) (D.mount_path r.disk)) r.youngest r.layout };
 
     ghost faults = { λ r. D.faults r.disk };
 
-    fn shard_size(&self) -> u32 {
-        self.shard_size
+    fn layout(&self) -> Layout {
+        self.layout
     }
 
     fn youngest(&mut self) -> u64 {

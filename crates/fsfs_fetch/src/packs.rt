@@ -1,6 +1,7 @@
 //! Revisions in packs.
-ghost use Rattle.std.specs.Prelude.{◌≡◌, ◌≤◌, ◌<◌, ◌+◌, ◌-◌, ◌^◌, ◌/◌, ◌%◌, ℕ, List, Some, Ok, length, take, min, codes, IfOk, IfErr};
+ghost use Rattle.std.specs.Prelude.{◌≡◌, ◌≤◌, ◌<◌, ◌+◌, ◌-◌, ◌^◌, ℕ, List, Some, Ok, length, take, min, codes, IfOk, IfErr};
 ghost use Rattle.fsfs_base.specs.Files.{Files};
+ghost use Rattle.fsfs_layout.specs.Layouts.{shard_of};
 ghost use Rattle.fsfs_layout.specs.Names.{in_pack};
 ghost use Rattle.fsfs_book.specs.Told.{HasCause, Gives, IsAbout, size_read, part_read};
 ghost use Rattle.fsfs_rev_file.specs.RevBytes.{section_at, packed_section as section_in_files, packed_bytes, cut};
@@ -39,19 +40,19 @@ fn packed_section<R: Reads>(
     rev: u32,
 ) -> Result<Section, BookFault>
     ensures told { (m : Files) → IsPackedAt (R.view reads.old) kept.old rev m
-        → Gives (λ s. s) result (as_book (section_in_files (R.view reads.old).shard_size m rev)) }
+        → Gives (λ s. s) result (as_book (section_in_files (R.view reads.old).layout m rev)) }
     ensures fits { IfOk result (λ s. s.start + s.length < 2 ^ 64) }
     ensures serves { ServesAsWell (R.view reads.old) kept.old kept.new }
     ensures about { (offset : ℕ) → IfErr result (IsAbout rev offset) }
     ensures later { Later (R.view reads.old) (R.view reads.new) }
     ensures cause { HasCause (R.faults reads.old) (R.faults reads.new) result }
 {
-    let shard_size = reads.shard_size();
-    let shard = rev / shard_size;
+    let layout = reads.layout();
+    let shard = layout.shard_of(rev);
     keep_manifest(alloc, reads, kept, shard)?;
     match size_at(reads, &names::pack(shard))? {
         None => Err(BookFault::Refused(Refusal::Missing { rev })),
-        Some(size) => Ok(section_in(offsets_of(kept), rev % shard_size, size)),
+        Some(size) => Ok(section_in(offsets_of(kept), layout.place_in_shard(rev), size)),
     }
 }
 
@@ -63,7 +64,7 @@ pub(crate) fn packed_len<R: Reads>(
     rev: u32,
 ) -> Result<u64, BookFault>
     ensures told { (m : Files) → IsPackedAt (R.view reads.old) kept.old rev m
-        → Gives (λ n. n) result (size_read (packed_bytes (R.view reads.old).shard_size m rev)) }
+        → Gives (λ n. n) result (size_read (packed_bytes (R.view reads.old).layout m rev)) }
     ensures serves { ServesAsWell (R.view reads.old) kept.old kept.new }
     ensures about { IfErr result (IsAbout rev 0) }
     ensures later { Later (R.view reads.old) (R.view reads.new) }
@@ -84,13 +85,13 @@ fn section_part<R: Reads>(
     requires within { offset ≤ section.length }
     requires fits { section.start + section.length < 2 ^ 64 }
     ensures bound { IfOk result (λ n. n ≤ length buffer.new) }
-    ensures told { (pack : List ℕ) → Stays (R.view reads.old) (in_pack (rev / (R.view reads.old).shard_size) (codes "/pack")) (Some pack)
+    ensures told { (pack : List ℕ) → Stays (R.view reads.old) (in_pack (shard_of (R.view reads.old).layout rev) (codes "/pack")) (Some pack)
         → section.length ≤ length pack - section.start → Gives (λ n. take n buffer.new) result (part_read rev offset (length buffer.old) (Ok (cut section pack))) }
     ensures about { IfErr result (IsAbout rev offset) }
     ensures later { Later (R.view reads.old) (R.view reads.new) }
     ensures cause { HasCause (R.faults reads.old) (R.faults reads.new) result }
 {
-    let shard = rev / reads.shard_size();
+    let shard = reads.layout().shard_of(rev);
     let count = fitting(buffer.len(), section.length - offset);
     match read_at(
         reads,
@@ -114,7 +115,7 @@ pub(crate) fn packed_part<R: Reads>(
 ) -> Result<usize, BookFault>
     ensures bound { IfOk result (λ n. n ≤ length buffer.new) }
     ensures told { (m : Files) → IsPackedAt (R.view reads.old) kept.old rev m
-        → Gives (λ n. take n buffer.new) result (part_read rev offset (length buffer.old) (packed_bytes (R.view reads.old).shard_size m rev)) }
+        → Gives (λ n. take n buffer.new) result (part_read rev offset (length buffer.old) (packed_bytes (R.view reads.old).layout m rev)) }
     ensures serves { ServesAsWell (R.view reads.old) kept.old kept.new }
     ensures about { IfErr result (IsAbout rev offset) }
     ensures later { Later (R.view reads.old) (R.view reads.new) }

@@ -6,20 +6,20 @@ ghost use Rattle.fsfs_disk.specs.Trace.{IsRead, IsSize};
 ghost use Rattle.fsfs_fetch.specs.Views.{View, Later, IsYoungest};
 
 use fsfs_base::{Failed, Name};
+use fsfs_layout::Layout;
 
 /// A store of revisions that is read: the files of a repository, of which others may make more, and pack some, between
 /// two calls. Each call meets the files of one moment.
 pub trait Reads {
-    /// What it tells: the size of its shards, which revisions there are, and its files as the last call met them.
+    /// What it tells: its layout, which revisions there are, and its files as the last call met them.
     ghost view: { Self → View };
 
     /// How often it has failed. The count stops at the last number of a u64.
     ghost faults: { Self → ℕ };
 
-    /// How many revisions a shard has.
-    fn shard_size(&self) -> u32
-        ensures size { result ≡ (view self.now).shard_size }
-        ensures some { 0 < result };
+    /// How its files are laid out.
+    fn layout(&self) -> Layout
+        ensures { result ≡ (view self.now).layout };
 
     /// The youngest revision.
     fn youngest(&mut self) -> u64

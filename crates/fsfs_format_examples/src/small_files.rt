@@ -1,7 +1,7 @@
 // Small files: their values, written again, and where they are refused.
 use fsfs_base::SmallFault;
 use fsfs_layout::{
-    Format, ManifestError, read_current, read_format, read_manifest, read_min_unpacked_rev,
+    Format, Layout, ManifestError, read_current, read_format, read_manifest, read_min_unpacked_rev,
     read_next_ids, read_txn_current, read_uuid, write_current, write_manifest, write_next_ids,
     write_txn_current, write_uuid,
 };
@@ -64,7 +64,7 @@ pub fn put_current(out: &mut String, alloc: Global, bytes: &[u8]) -> Result<(), 
 
 /// `db/min-unpacked-rev`, where a shard has two revisions.
 pub fn put_floor(out: &mut String, bytes: &[u8]) -> Result<(), AllocError> {
-    match read_min_unpacked_rev(2, bytes) {
+    match read_min_unpacked_rev(Layout::sharded(2), bytes) {
         Ok(floor) => write!(out, "r{floor}"),
         Err(fault) => put_fault(out, fault, bytes),
     }
@@ -92,7 +92,7 @@ pub fn put_next_ids(out: &mut String, alloc: Global, bytes: &[u8]) -> Result<(),
 
 /// The manifest of the first shard, where a shard has two revisions.
 pub fn put_manifest(out: &mut String, alloc: Global, bytes: &[u8]) -> Result<(), AllocError> {
-    let offsets = match read_manifest(alloc, bytes, 0, 2) {
+    let offsets = match read_manifest(alloc, bytes, 0, Layout::sharded(2)) {
         Ok(offsets) => offsets,
         Err(ManifestError::Fault(fault)) => return put_fault(out, fault, bytes),
         Err(_) => return Err(AllocError),

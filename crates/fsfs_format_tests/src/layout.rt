@@ -1,9 +1,9 @@
 //! The small files: where each is refused, and how it is written; and the names of files.
 use fsfs_base::{RevNum, SmallFault, SmallFile, TxnName, read_b36};
 use fsfs_layout::{
-    Format, ManifestError, names, read_current, read_format, read_manifest, read_min_unpacked_rev,
-    read_next_ids, read_txn_current, read_uuid, write_current, write_format, write_manifest,
-    write_min_unpacked_rev, write_next_ids, write_txn_current, write_uuid,
+    Format, Layout, ManifestError, names, read_current, read_format, read_manifest,
+    read_min_unpacked_rev, read_next_ids, read_txn_current, read_uuid, write_current, write_format,
+    write_manifest, write_min_unpacked_rev, write_next_ids, write_txn_current, write_uuid,
 };
 use std::alloc::Global;
 use std::test::Fail;
@@ -14,10 +14,10 @@ fn fault(alloc: Global, file: SmallFile, bytes: &[u8]) -> Option<SmallFault> {
         SmallFile::Format => read_format(bytes).err(),
         SmallFile::Uuid => read_uuid(bytes).err(),
         SmallFile::Current => read_current(bytes).err(),
-        SmallFile::MinUnpackedRev => read_min_unpacked_rev(3, bytes).err(),
+        SmallFile::MinUnpackedRev => read_min_unpacked_rev(Layout::sharded(3), bytes).err(),
         SmallFile::TxnCurrent => read_txn_current(bytes).err(),
         SmallFile::NextIds => read_next_ids(bytes).err(),
-        SmallFile::Manifest(shard) => match read_manifest(alloc, bytes, shard, 3) {
+        SmallFile::Manifest(shard) => match read_manifest(alloc, bytes, shard, Layout::sharded(3)) {
             Err(ManifestError::Fault(fault)) => Some(fault),
             _ => None,
         },
@@ -87,7 +87,9 @@ fn small_files(rt: HostRuntime) {
 
 // A manifest of two offsets, written again.
 fn manifest_again(alloc: Global, bytes: &[u8]) -> Result<Vec<u8>, Fail> {
-    let offsets = read_manifest(alloc, bytes, 7, 2).ok().ok_or("two offsets")?;
+    let offsets = read_manifest(alloc, bytes, 7, Layout::sharded(2))
+        .ok()
+        .ok_or("two offsets")?;
     Ok(write_manifest(alloc, &offsets)?)
 }
 
@@ -96,7 +98,7 @@ fn written(rt: HostRuntime) -> Result<(), Fail> {
     let alloc = rt.alloc();
     assert_eq!(rt; write_current(alloc, 12)?.as_slice(), b"12\n".as_slice());
     assert_eq!(rt;
-        write_min_unpacked_rev(alloc, 4, 8)?.as_slice(),
+        write_min_unpacked_rev(alloc, Layout::sharded(4), 8)?.as_slice(),
         b"8\n".as_slice()
     );
     let text = write_format(alloc, &Format::Sharded(1000))?;
@@ -117,8 +119,14 @@ fn written(rt: HostRuntime) -> Result<(), Fail> {
         manifest_again(alloc, b"0\n115\n")?.as_slice(),
         b"0\n115\n".as_slice()
     );
-    assert_eq!(rt; names::revision(1000, 1234).as_str(), "db/revs/1/1234");
-    assert_eq!(rt; names::props(1000, 1234).as_str(), "db/revprops/1/1234");
+    assert_eq!(rt;
+        names::revision(Layout::sharded(1000), 1234).as_str(),
+        "db/revs/1/1234"
+    );
+    assert_eq!(rt;
+        names::props(Layout::sharded(1000), 1234).as_str(),
+        "db/revprops/1/1234"
+    );
     assert_eq!(rt; names::manifest(3).as_str(), "db/revs/3.pack/manifest");
     let number = read_b36(b"1z").ok_or("a number")?;
     let txn = TxnName {

@@ -1,5 +1,6 @@
 -- Hash dumps: for each pair `K <len>\n<key>\nV <len>\n<value>\n`, ended by `END\n`.
-use Rattle.std.specs.Prelude.{ℕ, List, [], ◌∷◌}
+use Rattle.std.specs.Prelude.{ℕ, List, [], ◌∷◌, ◌++◌, length, codes, decimal}
+use Rattle.std.specs.List.{flat_map}
 use Rattle.std.specs.Ordering.{nat_cmp}
 use Rattle.std.specs.Cmp.Lexicographic.{slice_cmp}
 use Rattle.std.specs.BTreeMap.{insert_entry}
@@ -30,3 +31,14 @@ put_all pairs (e ∷ es) = put_all (put pairs e) es
 -- a dump is entries, of which the last of each key stands
 abbrev pub IsDump : List ℕ → List (List ℕ × List ℕ) → Type 0
 IsDump = Mapped (put_all []) Entries
+
+-- ---- as they are written
+
+abbrev pub field_text : ℕ → List ℕ → List ℕ
+field_text letter bytes = (letter ∷ 32 ∷ []) ++ ((decimal (length bytes) ++ 10 ∷ []) ++ (bytes ++ 10 ∷ []))
+
+abbrev pub pair_text : List ℕ × List ℕ → List ℕ
+pair_text (key, value) = field_text 75 key ++ field_text 86 value
+
+abbrev pub dump_text : List (List ℕ × List ℕ) → List ℕ
+dump_text pairs = flat_map pair_text pairs ++ codes "END\n"

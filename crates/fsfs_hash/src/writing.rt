@@ -1,7 +1,7 @@
 //! Writing dumps, and records of a `children` file.
 ghost use Rattle.std.specs.Prelude.{◌≡◌, ℕ, List, OnOk, IfOk};
 ghost use Rattle.fsfs_grammar.specs.Grammar.{Appends};
-ghost use Rattle.fsfs_hash.specs.Dump.{Field, Pair, Entries, IsDump, put};
+ghost use Rattle.fsfs_hash.specs.Dump.{Field, Pair, Entries, IsDump, dump_text, put};
 ghost use Rattle.fsfs_hash.specs.Children.{IsChildren, without};
 
 use fsfs_base::Pairs;
@@ -43,6 +43,7 @@ pub fn drop_entry(out: &mut Vec<u8>, name: &[u8]) -> Result<(), AllocError>
 pub fn write_hash(alloc: Global, pairs: &Pairs) -> Result<Vec<u8>, AllocError>
     ensures dump { IfOk result (λ v. IsDump v.items pairs.now) }
     ensures in_order { IfOk result (λ v. Entries v.items pairs.now) }
+    ensures text { IfOk result (λ v. v.items ≡ dump_text pairs.now) }
 {
     let map = pairs.as_map();
     let _count = map.len();

@@ -12,7 +12,9 @@ use Rattle.fsfs_grammar.proofs.Unique.{AreDigits, decimal_numeral, numeral_digit
 use Rattle.fsfs_grammar.proofs.Base36Texts.{base36_numeral}
 use Rattle.fsfs_fields.specs.TxnNames.{txn_text}
 use Rattle.fsfs_layout.specs.Names.{in_shard, in_pack}
+use Rattle.fsfs_layout.specs.Layouts.{shard_of}
 use Rattle.fsfs_layout.specs.FileNames.{only_name, RevsFile, Shard, Revision, PackFolder, Pack, Manifest, PropsFile, PropsShard, Props, TxnFile, Folder, Below, txn_file_end, ProtoFile, Texts, Lock, proto_file_end, File, Only, InRevs, InProps, OfTxn, OfProto, revs_name, props_name, file_name, FitsRevs, FitsProps, FitsFile, NamesAreApart}
+use Rattle.fsfs_layout.specs.declared.layout.Layout.{Layout}
 use Rattle.fsfs_layout.specs.declared.only_file.OnlyFile.{OnlyFile}
 use Rattle.fsfs_layout.specs.declared.only_file.OnlyFile.TheVariants.{RepositoryFormat, Format, FormatNext, FsType, Uuid, Current, CurrentNext, MinUnpackedRev, MinUnpackedRevNext, TxnCurrent, TxnCurrentNext, TxnCurrentLock, WriteLock, Revisions, RevisionProps, Transactions, ProtoRevisions}
 
@@ -104,17 +106,17 @@ only_group RevisionProps = refl
 only_group Transactions = refl
 only_group ProtoRevisions = refl
 
-name_group : (shard_size : ℕ) (f : File) → group (file_name shard_size f) ≡ group_of f
-name_group shard_size (Only f) = only_group f
-name_group shard_size (InRevs (Shard n)) = refl
-name_group shard_size (InRevs (Revision rev)) = refl
-name_group shard_size (InRevs (PackFolder n)) = refl
-name_group shard_size (InRevs (Pack n)) = refl
-name_group shard_size (InRevs (Manifest n)) = refl
-name_group shard_size (InProps (PropsShard n)) = refl
-name_group shard_size (InProps (Props rev)) = refl
-name_group shard_size (OfTxn base number f) = refl
-name_group shard_size (OfProto base number f) = refl
+name_group : (layout : Layout) (f : File) → group (file_name layout f) ≡ group_of f
+name_group layout (Only f) = only_group f
+name_group layout (InRevs (Shard n)) = refl
+name_group layout (InRevs (Revision rev)) = refl
+name_group layout (InRevs (PackFolder n)) = refl
+name_group layout (InRevs (Pack n)) = refl
+name_group layout (InRevs (Manifest n)) = refl
+name_group layout (InProps (PropsShard n)) = refl
+name_group layout (InProps (Props rev)) = refl
+name_group layout (OfTxn base number f) = refl
+name_group layout (OfProto base number f) = refl
 
 -- ---- within a folder
 
@@ -147,12 +149,12 @@ only_back Transactions = refl
 only_back ProtoRevisions = refl
 
 -- a number and what stands behind it
-abbrev revs_number : ℕ → RevsFile → ℕ
-revs_number shard_size (Shard n) = n
-revs_number shard_size (Revision rev) = rev / shard_size
-revs_number shard_size (PackFolder n) = n
-revs_number shard_size (Pack n) = n
-revs_number shard_size (Manifest n) = n
+abbrev revs_number : Layout → RevsFile → ℕ
+revs_number layout (Shard n) = n
+revs_number layout (Revision rev) = shard_of layout rev
+revs_number layout (PackFolder n) = n
+revs_number layout (Pack n) = n
+revs_number layout (Manifest n) = n
 
 abbrev revs_end : RevsFile → List ℕ
 revs_end (Shard n) = []
@@ -161,12 +163,12 @@ revs_end (PackFolder n) = codes ".pack"
 revs_end (Pack n) = codes ".pack/pack"
 revs_end (Manifest n) = codes ".pack/manifest"
 
-revs_parts : (shard_size : ℕ) (f : RevsFile) → revs_name shard_size f ≡ codes "db/revs/" ++ (decimal (revs_number shard_size f) ++ revs_end f)
-revs_parts shard_size (Shard n) = ap (λ (t : List ℕ). codes "db/revs/" ++ t) (sym (append-nil (decimal n)))
-revs_parts shard_size (Revision rev) = simp append_assoc
-revs_parts shard_size (PackFolder n) = simp append_assoc
-revs_parts shard_size (Pack n) = simp append_assoc
-revs_parts shard_size (Manifest n) = simp append_assoc
+revs_parts : (layout : Layout) (f : RevsFile) → revs_name layout f ≡ codes "db/revs/" ++ (decimal (revs_number layout f) ++ revs_end f)
+revs_parts layout (Shard n) = ap (λ (t : List ℕ). codes "db/revs/" ++ t) (sym (append-nil (decimal n)))
+revs_parts layout (Revision rev) = simp append_assoc
+revs_parts layout (PackFolder n) = simp append_assoc
+revs_parts layout (Pack n) = simp append_assoc
+revs_parts layout (Manifest n) = simp append_assoc
 
 revs_no_digit : (f : RevsFile) → NoDigit 10 (revs_end f)
 revs_no_digit (Shard n) = tt
@@ -178,12 +180,12 @@ revs_no_digit (Manifest n) = omega arith
 div_fits : (n k : ℕ) → n < 2 ^ 32 → n / k < 2 ^ 64
 div_fits n k fits = omega (arith, fits, div-le_self n k)
 
-revs_fits : (shard_size : ℕ) (f : RevsFile) → FitsRevs f → revs_number shard_size f < 2 ^ 64
-revs_fits shard_size (Shard n) fits = omega arith
-revs_fits shard_size (Revision rev) fits = div_fits rev shard_size fits
-revs_fits shard_size (PackFolder n) fits = omega arith
-revs_fits shard_size (Pack n) fits = omega arith
-revs_fits shard_size (Manifest n) fits = omega arith
+revs_fits : (layout : Layout) (f : RevsFile) → FitsRevs f → revs_number layout f < 2 ^ 64
+revs_fits layout (Shard n) fits = omega arith
+revs_fits layout (Revision rev) fits = div_fits rev layout.shard_size fits
+revs_fits layout (PackFolder n) fits = omega arith
+revs_fits layout (Pack n) fits = omega arith
+revs_fits layout (Manifest n) fits = omega arith
 
 rev_ends : (r s : ℕ) → r < 2 ^ 32 → s < 2 ^ 32 → (47 ∷ decimal r) ≡ (47 ∷ decimal s) → r ≡ s
 rev_ends r s fr fs e =
@@ -196,7 +198,7 @@ not_nil c cs e = cc
 heads : (c d : ℕ) (cs ds : List ℕ) → (c ∷ cs) ≡ (d ∷ ds) → c ≡ d
 heads c d cs ds e = cc
 
-revs_same : (shard_size : ℕ) (a b : RevsFile) → FitsRevs a → FitsRevs b → revs_number shard_size a ≡ revs_number shard_size b → revs_end a ≡ revs_end b → a ≡ b
+revs_same : (layout : Layout) (a b : RevsFile) → FitsRevs a → FitsRevs b → revs_number layout a ≡ revs_number layout b → revs_end a ≡ revs_end b → a ≡ b
 revs_same k (Shard n) (Shard m) fa fb e t = ap (λ (x : ℕ). Shard x) e
 revs_same k (Shard n) (Revision m) fa fb e t = absurd (not_nil 47 (decimal m) (sym t))
 revs_same k (Shard n) (PackFolder m) fa fb e t = absurd (not_nil 46 (codes "pack") (sym t))
@@ -223,39 +225,39 @@ revs_same k (Manifest n) (PackFolder m) fa fb e t = let d : 14 ≡ 5 = ap length
 revs_same k (Manifest n) (Pack m) fa fb e t = let d : 14 ≡ 10 = ap length t in absurd (omega (arith, d))
 revs_same k (Manifest n) (Manifest m) fa fb e t = ap (λ (x : ℕ). Manifest x) e
 
-revs_apart : (shard_size : ℕ) (a b : RevsFile) → FitsRevs a → FitsRevs b → revs_name shard_size a ≡ revs_name shard_size b → a ≡ b
+revs_apart : (layout : Layout) (a b : RevsFile) → FitsRevs a → FitsRevs b → revs_name layout a ≡ revs_name layout b → a ≡ b
 revs_apart k a b fa fb e =
     let one = append_cancel_left (codes "db/revs/") (decimal (revs_number k a) ++ revs_end a) (decimal (revs_number k b) ++ revs_end b) (sym (revs_parts k a) ∙ e ∙ revs_parts k b) in
     let two = same_decimal (revs_number k a) (revs_number k b) (revs_end a) (revs_end b) (revs_fits k a fa) (revs_fits k b fb) (revs_no_digit a) (revs_no_digit b) one in
     revs_same k a b fa fb two.0 two.1
 
-abbrev props_number : ℕ → PropsFile → ℕ
-props_number shard_size (PropsShard n) = n
-props_number shard_size (Props rev) = rev / shard_size
+abbrev props_number : Layout → PropsFile → ℕ
+props_number layout (PropsShard n) = n
+props_number layout (Props rev) = shard_of layout rev
 
 abbrev props_end : PropsFile → List ℕ
 props_end (PropsShard n) = []
 props_end (Props rev) = 47 ∷ decimal rev
 
-props_parts : (shard_size : ℕ) (f : PropsFile) → props_name shard_size f ≡ codes "db/revprops/" ++ (decimal (props_number shard_size f) ++ props_end f)
-props_parts shard_size (PropsShard n) = ap (λ (t : List ℕ). codes "db/revprops/" ++ t) (sym (append-nil (decimal n)))
-props_parts shard_size (Props rev) = simp append_assoc
+props_parts : (layout : Layout) (f : PropsFile) → props_name layout f ≡ codes "db/revprops/" ++ (decimal (props_number layout f) ++ props_end f)
+props_parts layout (PropsShard n) = ap (λ (t : List ℕ). codes "db/revprops/" ++ t) (sym (append-nil (decimal n)))
+props_parts layout (Props rev) = simp append_assoc
 
 props_no_digit : (f : PropsFile) → NoDigit 10 (props_end f)
 props_no_digit (PropsShard n) = tt
 props_no_digit (Props rev) = omega arith
 
-props_fits : (shard_size : ℕ) (f : PropsFile) → FitsProps f → props_number shard_size f < 2 ^ 64
-props_fits shard_size (PropsShard n) fits = omega arith
-props_fits shard_size (Props rev) fits = div_fits rev shard_size fits
+props_fits : (layout : Layout) (f : PropsFile) → FitsProps f → props_number layout f < 2 ^ 64
+props_fits layout (PropsShard n) fits = omega arith
+props_fits layout (Props rev) fits = div_fits rev layout.shard_size fits
 
-props_same : (shard_size : ℕ) (a b : PropsFile) → FitsProps a → FitsProps b → props_number shard_size a ≡ props_number shard_size b → props_end a ≡ props_end b → a ≡ b
+props_same : (layout : Layout) (a b : PropsFile) → FitsProps a → FitsProps b → props_number layout a ≡ props_number layout b → props_end a ≡ props_end b → a ≡ b
 props_same k (PropsShard n) (PropsShard m) fa fb e t = ap (λ (x : ℕ). PropsShard x) e
 props_same k (PropsShard n) (Props m) fa fb e t = absurd (not_nil 47 (decimal m) (sym t))
 props_same k (Props n) (PropsShard m) fa fb e t = absurd (not_nil 47 (decimal n) t)
 props_same k (Props n) (Props m) fa fb e t = ap (λ (x : ℕ). Props x) (rev_ends n m fa fb t)
 
-props_apart : (shard_size : ℕ) (a b : PropsFile) → FitsProps a → FitsProps b → props_name shard_size a ≡ props_name shard_size b → a ≡ b
+props_apart : (layout : Layout) (a b : PropsFile) → FitsProps a → FitsProps b → props_name layout a ≡ props_name layout b → a ≡ b
 props_apart k a b fa fb e =
     let one = append_cancel_left (codes "db/revprops/") (decimal (props_number k a) ++ props_end a) (decimal (props_number k b) ++ props_end b) (sym (props_parts k a) ∙ e ∙ props_parts k b) in
     let two = same_decimal (props_number k a) (props_number k b) (props_end a) (props_end b) (props_fits k a fa) (props_fits k b fb) (props_no_digit a) (props_no_digit b) one in
@@ -283,7 +285,7 @@ proto_ends Lock Lock e = refl
 
 -- ---- all names
 
-pub names_apart : (shard_size : ℕ) → NamesAreApart shard_size
+pub names_apart : (layout : Layout) → NamesAreApart layout
 names_apart k a b fa fb e = go a b fa fb e (sym (name_group k a) ∙ ap group e ∙ name_group k b)
   where
     go : (a b : File) → FitsFile a → FitsFile b → file_name k a ≡ file_name k b → group_of a ≡ group_of b → a ≡ b

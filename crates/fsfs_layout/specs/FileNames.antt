@@ -5,6 +5,7 @@ use Rattle.fsfs_fields.specs.TxnNames.{txn_text}
 use Rattle.fsfs_base.specs.declared.small_fault.SmallFile.{SmallFile}
 use Rattle.fsfs_base.specs.declared.small_fault.SmallFile.TheVariants as small
 use Rattle.fsfs_layout.specs.Names.{in_shard, in_pack}
+use Rattle.fsfs_layout.specs.declared.layout.Layout.{Layout}
 use Rattle.fsfs_layout.specs.declared.only_file.OnlyFile.{OnlyFile}
 use Rattle.fsfs_layout.specs.declared.only_file.OnlyFile.TheVariants.{RepositoryFormat, Format, FormatNext, FsType, Uuid, Current, CurrentNext, MinUnpackedRev, MinUnpackedRevNext, TxnCurrent, TxnCurrentNext, TxnCurrentLock, WriteLock, Revisions, RevisionProps, Transactions, ProtoRevisions}
 
@@ -67,23 +68,23 @@ pub data File : Type 0 where
   OfTxn : ℕ → ℕ → TxnFile → File
   OfProto : ℕ → ℕ → ProtoFile → File
 
-abbrev pub revs_name : ℕ → RevsFile → List ℕ
-revs_name shard_size (Shard n) = codes "db/revs/" ++ decimal n
-revs_name shard_size (Revision rev) = in_shard (codes "db/revs") shard_size rev
-revs_name shard_size (PackFolder n) = codes "db/revs/" ++ decimal n ++ codes ".pack"
-revs_name shard_size (Pack n) = in_pack n (codes "/pack")
-revs_name shard_size (Manifest n) = in_pack n (codes "/manifest")
+abbrev pub revs_name : Layout → RevsFile → List ℕ
+revs_name layout (Shard n) = codes "db/revs/" ++ decimal n
+revs_name layout (Revision rev) = in_shard (codes "db/revs") layout rev
+revs_name layout (PackFolder n) = codes "db/revs/" ++ decimal n ++ codes ".pack"
+revs_name layout (Pack n) = in_pack n (codes "/pack")
+revs_name layout (Manifest n) = in_pack n (codes "/manifest")
 
-abbrev pub props_name : ℕ → PropsFile → List ℕ
-props_name shard_size (PropsShard n) = codes "db/revprops/" ++ decimal n
-props_name shard_size (Props rev) = in_shard (codes "db/revprops") shard_size rev
+abbrev pub props_name : Layout → PropsFile → List ℕ
+props_name layout (PropsShard n) = codes "db/revprops/" ++ decimal n
+props_name layout (Props rev) = in_shard (codes "db/revprops") layout rev
 
-abbrev pub file_name : ℕ → File → List ℕ
-file_name shard_size (Only f) = only_name f
-file_name shard_size (InRevs f) = revs_name shard_size f
-file_name shard_size (InProps f) = props_name shard_size f
-file_name shard_size (OfTxn base number f) = codes "db/transactions/" ++ txn_text base number ++ txn_file_end f
-file_name shard_size (OfProto base number f) = codes "db/txn-protorevs/" ++ txn_text base number ++ proto_file_end f
+abbrev pub file_name : Layout → File → List ℕ
+file_name layout (Only f) = only_name f
+file_name layout (InRevs f) = revs_name layout f
+file_name layout (InProps f) = props_name layout f
+file_name layout (OfTxn base number f) = codes "db/transactions/" ++ txn_text base number ++ txn_file_end f
+file_name layout (OfProto base number f) = codes "db/txn-protorevs/" ++ txn_text base number ++ proto_file_end f
 
 -- the name of a small file that can be damaged; of a transaction's `next-ids` the last part
 abbrev pub small_name : SmallFile → List ℕ
@@ -115,5 +116,5 @@ FitsFile (OfTxn base number f) = (base < 2 ^ 32) × (number < 170581728179578208
 FitsFile (OfProto base number f) = (base < 2 ^ 32) × (number < 170581728179578208256)
 
 -- files with one name are the same file
-abbrev pub NamesAreApart : ℕ → Type 0
-NamesAreApart shard_size = (a b : File) → FitsFile a → FitsFile b → file_name shard_size a ≡ file_name shard_size b → a ≡ b
+abbrev pub NamesAreApart : Layout → Type 0
+NamesAreApart layout = (a b : File) → FitsFile a → FitsFile b → file_name layout a ≡ file_name layout b → a ≡ b

@@ -1,4 +1,5 @@
 pub mod Formats
+pub mod Layouts
 pub mod Small
 pub mod Reading
 pub mod Names

@@ -1,12 +1,14 @@
 -- The names of a repository's files, from its folder on.
-use Rattle.std.specs.Prelude.{ℕ, ◌/◌, List, ◌∷◌, ◌++◌, codes}
+use Rattle.std.specs.Prelude.{ℕ, List, ◌∷◌, ◌++◌, codes}
 use Rattle.std.specs.Fmt.{decimal}
 use Rattle.fsfs_fields.specs.TxnNames.{txn_text}
 use Rattle.fsfs_fields.specs.declared.txn_name.TxnName.{TxnName}
+use Rattle.fsfs_layout.specs.Layouts.{shard_of}
+use Rattle.fsfs_layout.specs.declared.layout.Layout.{Layout}
 
--- `<folder>/<shard>/<revision>`, the shard being the revision divided by the shard's size
-abbrev pub in_shard : List ℕ → ℕ → ℕ → List ℕ
-in_shard folder shard_size rev = folder ++ 47 ∷ decimal (rev / shard_size) ++ 47 ∷ decimal rev
+-- `<folder>/<shard>/<revision>`
+abbrev pub in_shard : List ℕ → Layout → ℕ → List ℕ
+in_shard folder layout rev = folder ++ 47 ∷ decimal (shard_of layout rev) ++ 47 ∷ decimal rev
 
 -- `db/revs/<shard>.pack<rest>`
 abbrev pub in_pack : ℕ → List ℕ → List ℕ

@@ -9,6 +9,7 @@ use Rattle.fsfs_layout.specs.Formats.{IsFormat, IsOurFormat}
 use Rattle.fsfs_layout.specs.Small.{IsUuid, IsRevLine, IsMinUnpackedRev, IsBase36Line, IsFaultOf, IsRefusedFile, IsMinUnpackedFault}
 use Rattle.fsfs_layout.specs.declared.format_file.Format.{Format}
 use Rattle.fsfs_layout.specs.declared.format_file.Format.TheVariants.{Linear, Sharded, Other}
+use Rattle.fsfs_layout.specs.declared.layout.Layout.{Layout}
 use Rattle.fsfs_layout.specs.declared.opened.Opened.{Opened}
 
 -- the bytes of the small files; an absent file counts as empty, but for `db/format`
@@ -43,17 +44,17 @@ pub record IsFsfs (s : SmallTexts) (format : List ℕ) : Type 0 where
 abbrev pub IsNone : SmallTexts → Type 0
 IsNone s = (s.format ≡ None) ⊎ (s.fs_type ≢ codes "fsfs\n")
 
--- what the files behind `db/format` say, with shards of this size
+-- what the files behind `db/format` say, in this layout
 pub record IsOpenedBehind (s : SmallTexts) (o : Opened) : Type 0 where
   pub uuid : IsUuid s.uuid o.uuid
   pub youngest : IsRevLine s.current o.youngest
-  pub min_unpacked_rev : IsMinUnpackedRev o.shard_size s.min_unpacked_rev o.min_unpacked_rev
+  pub min_unpacked_rev : IsMinUnpackedRev o.layout s.min_unpacked_rev o.min_unpacked_rev
   pub within : o.min_unpacked_rev ≤ o.youngest + 1
   pub next_txn : IsBase36Line s.txn_current o.next_txn.number
 
 -- what the small files of a sharded repository of format 4 say
 pub record IsOpened (s : SmallTexts) (o : Opened) : Type 0 where
-  pub format : (text : List ℕ) × IsFsfs s text × IsFormat text (Sharded o.shard_size)
+  pub format : (text : List ℕ) × IsFsfs s text × IsFormat text (Sharded o.layout.shard_size)
   pub behind : IsOpenedBehind s o
 
 -- it has this other format
@@ -65,11 +66,11 @@ abbrev pub IsLinear : SmallTexts → Type 0
 IsLinear s = (text : List ℕ) × IsFsfs s text × IsFormat text Linear
 
 -- min-unpacked-rev is past the revision that follows the youngest: refused at its beginning
-pub record IsPastYoungest (shard_size : ℕ) (s : SmallTexts) (fault : SmallFault) : Type 0 where
+pub record IsPastYoungest (layout : Layout) (s : SmallTexts) (fault : SmallFault) : Type 0 where
   pub youngest : ℕ
   pub min_unpacked_rev : ℕ
   pub current_is : IsRevLine s.current youngest
-  pub floor_is : IsMinUnpackedRev shard_size s.min_unpacked_rev min_unpacked_rev
+  pub floor_is : IsMinUnpackedRev layout s.min_unpacked_rev min_unpacked_rev
   pub past : youngest + 1 < min_unpacked_rev
   pub names : fault.file ≡ file.MinUnpackedRev
   pub place : fault.at ≡ 0
@@ -79,15 +80,15 @@ abbrev pub IsRefusedFormat : List ℕ → SmallFault → Type 0
 IsRefusedFormat text fault = ((format : Format) → IsFormat text format → ⊥) × IsFaultOf file.Format IsOurFormat text fault
 
 -- the first of the four files behind db/format that is refused, those before it being in their formats
-abbrev pub IsRefusedBehind : ℕ → SmallTexts → SmallFault → Type 0
-IsRefusedBehind shard_size s fault =
+abbrev pub IsRefusedBehind : Layout → SmallTexts → SmallFault → Type 0
+IsRefusedBehind layout s fault =
     IsRefusedFile file.Uuid IsUuid s.uuid fault
     ⊎ ((uuid : List ℕ) × IsUuid s.uuid uuid × (IsRefusedFile file.Current IsRevLine s.current fault
-    ⊎ ((youngest : ℕ) × IsRevLine s.current youngest × (IsMinUnpackedFault shard_size s.min_unpacked_rev fault
-    ⊎ (IsPastYoungest shard_size s fault
-    ⊎ ((floor : ℕ) × IsMinUnpackedRev shard_size s.min_unpacked_rev floor × (floor ≤ youngest + 1) × IsRefusedFile file.TxnCurrent IsBase36Line s.txn_current fault))))))
+    ⊎ ((youngest : ℕ) × IsRevLine s.current youngest × (IsMinUnpackedFault layout s.min_unpacked_rev fault
+    ⊎ (IsPastYoungest layout s fault
+    ⊎ ((floor : ℕ) × IsMinUnpackedRev layout s.min_unpacked_rev floor × (floor ≤ youngest + 1) × IsRefusedFile file.TxnCurrent IsBase36Line s.txn_current fault))))))
 
 -- a small file is refused: db/format, or the first of the others
 abbrev pub IsRefused : SmallTexts → SmallFault → Type 0
 IsRefused s fault = (text : List ℕ) × IsFsfs s text
-    × (IsRefusedFormat text fault ⊎ ((shard_size : ℕ) × IsFormat text (Sharded shard_size) × IsRefusedBehind shard_size s fault))
+    × (IsRefusedFormat text fault ⊎ ((layout : Layout) × IsFormat text (Sharded layout.shard_size) × IsRefusedBehind layout s fault))

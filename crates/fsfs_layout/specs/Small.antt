@@ -1,19 +1,21 @@
 -- The small files.
-use Rattle.std.specs.Prelude.{◌≡◌, ◌≢◌, ◌%◌, ℕ, List, [], ◌∷◌, length, ◌⊎◌}
+use Rattle.std.specs.Prelude.{◌≡◌, ◌≢◌, ℕ, List, [], ◌∷◌, length, ◌⊎◌}
 use Rattle.fsfs_grammar.specs.Grammar.{Then, IsText, Mapped, IsFaultAt}
 use Rattle.fsfs_grammar.specs.Numeral.{IsNumber}
 use Rattle.fsfs_base.specs.declared.small_fault.SmallFile.{SmallFile}
 use Rattle.fsfs_base.specs.declared.small_fault.SmallFile.TheVariants.{MinUnpackedRev}
 use Rattle.fsfs_base.specs.declared.small_fault.SmallFault.{SmallFault}
 use Rattle.fsfs_grammar.specs.Cuts.{Lacks}
+use Rattle.fsfs_layout.specs.Layouts.{place_in_shard}
+use Rattle.fsfs_layout.specs.declared.layout.Layout.{Layout}
 
 -- `<revision>\n`
 abbrev pub IsRevLine : List ℕ → ℕ → Type 0
 IsRevLine = IsNumber 10 2147483647 10
 
 -- `<revision>\n` of the first revision of a shard
-abbrev pub IsMinUnpackedRev : ℕ → List ℕ → ℕ → Type 0
-IsMinUnpackedRev shard_size text n = IsRevLine text n × (n % shard_size ≡ 0)
+abbrev pub IsMinUnpackedRev : Layout → List ℕ → ℕ → Type 0
+IsMinUnpackedRev layout text n = IsRevLine text n × (place_in_shard layout n ≡ 0)
 
 -- `<base36>\n`
 abbrev pub IsBase36Line : List ℕ → ℕ → Type 0
@@ -41,13 +43,13 @@ abbrev pub IsRefusedFile : {X : Type 0} → SmallFile → (List ℕ → X → Ty
 IsRefusedFile {X} file G text fault = ((x : X) → G text x → ⊥) × IsFaultOf file G text fault
 
 -- a revision's line, but not of the first of a shard: the fault is at its beginning
-pub record IsInsideShard (shard_size : ℕ) (bytes : List ℕ) (fault : SmallFault) : Type 0 where
+pub record IsInsideShard (layout : Layout) (bytes : List ℕ) (fault : SmallFault) : Type 0 where
   pub number : ℕ
   pub line : IsRevLine bytes number
-  pub inside : number % shard_size ≢ 0
+  pub inside : place_in_shard layout number ≢ 0
   pub names : fault.file ≡ MinUnpackedRev
   pub place : fault.at ≡ 0
 
 -- no revision's line, or one of a revision inside a shard
-abbrev pub IsMinUnpackedFault : ℕ → List ℕ → SmallFault → Type 0
-IsMinUnpackedFault shard_size bytes fault = IsRefusedFile MinUnpackedRev IsRevLine bytes fault ⊎ IsInsideShard shard_size bytes fault
+abbrev pub IsMinUnpackedFault : Layout → List ℕ → SmallFault → Type 0
+IsMinUnpackedFault layout bytes fault = IsRefusedFile MinUnpackedRev IsRevLine bytes fault ⊎ IsInsideShard layout bytes fault

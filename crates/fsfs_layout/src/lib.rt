@@ -4,6 +4,7 @@
 #![tactic(auto)]
 
 mod format_file;
+mod layout;
 mod manifest_file;
 pub mod names;
 mod next_ids_file;
@@ -15,6 +16,7 @@ mod txn_current_file;
 mod uuid_file;
 
 pub use format_file::{Format, read_format, write_format};
+pub use layout::Layout;
 pub use manifest_file::{ManifestError, read_manifest, write_manifest};
 pub use next_ids_file::{NextIds, read_next_ids, write_next_ids};
 pub use only_file::OnlyFile;

@@ -7,6 +7,7 @@ ghost use Rattle.fsfs_grammar.specs.ReadErrors.{GivesOrMemory};
 ghost use Rattle.fsfs_layout.specs.Manifest.{offset_line, DontFall, IsManifest, IsOutOfMemory, IsManifestError};
 ghost use Rattle.fsfs_layout.specs.ManifestReading.{reaches_at, starts_at, follows_at, offset_rest_at, offset_at, lines_at, manifest_at};
 
+use crate::layout::Layout;
 use fsfs_base::{SmallFault, SmallFile};
 use fsfs_grammar::decimals::{decimal, put_decimal};
 use fsfs_grammar::pieces::text;
@@ -153,14 +154,13 @@ pub fn read_manifest(
     alloc: Global,
     bytes: &[u8],
     shard: u32,
-    shard_size: u32,
+    layout: Layout,
 ) -> Result<Vec<u64>, ManifestError>
-    requires { 0 < shard_size }
-    ensures found { IfOk result (λ v. IsManifest shard_size bytes.now v.items) }
-    ensures only { (offsets : List ℕ) → IsManifest shard_size bytes.now offsets → MatchResult result (λ v. v.items ≡ offsets) IsOutOfMemory }
-    ensures fault { IfErr result (IsManifestError shard shard_size bytes.now) }
+    ensures found { IfOk result (λ v. IsManifest layout.shard_size bytes.now v.items) }
+    ensures only { (offsets : List ℕ) → IsManifest layout.shard_size bytes.now offsets → MatchResult result (λ v. v.items ≡ offsets) IsOutOfMemory }
+    ensures fault { IfErr result (IsManifestError shard layout.shard_size bytes.now) }
 {
-    match manifest(alloc, shard_size, bytes) {
+    match manifest(alloc, layout.shard_size(), bytes) {
         Ok(found) => Ok(found),
         Err(ReadError::OutOfMemory) => Err(ManifestError::OutOfMemory),
         Err(ReadError::Left(left)) => Err(ManifestError::Fault(SmallFault {

@@ -7,6 +7,7 @@ ghost use Rattle.fsfs_fields.specs.TxnNames.{txn_text};
 ghost use Rattle.fsfs_layout.specs.Names.{in_shard, in_pack, with_txn};
 ghost use Rattle.fsfs_layout.specs.FileNames.{only_name, small_name, NamesAreApart};
 
+use crate::layout::Layout;
 use crate::only_file::OnlyFile;
 use fsfs_base::{Name, SmallFile, TxnName};
 use itoa::Buffer;
@@ -146,22 +147,20 @@ pub fn props_shard(shard: u32) -> Name
 }
 
 /// A revision's file, before it is packed.
-pub fn revision(shard_size: u32, rev: u32) -> Name
-    requires { 0 < shard_size }
-    ensures { result ≡ in_shard (codes "db/revs") shard_size rev }
+pub fn revision(layout: Layout, rev: u32) -> Name
+    ensures { result ≡ in_shard (codes "db/revs") layout rev }
 {
-    let mut name = shard(rev / shard_size);
+    let mut name = shard(layout.shard_of(rev));
     name.push('/');
     name.push_str(Buffer::new().format(rev));
     name
 }
 
 /// The file of a revision's properties.
-pub fn props(shard_size: u32, rev: u32) -> Name
-    requires { 0 < shard_size }
-    ensures { result ≡ in_shard (codes "db/revprops") shard_size rev }
+pub fn props(layout: Layout, rev: u32) -> Name
+    ensures { result ≡ in_shard (codes "db/revprops") layout rev }
 {
-    let mut name = props_shard(rev / shard_size);
+    let mut name = props_shard(layout.shard_of(rev));
     name.push('/');
     name.push_str(Buffer::new().format(rev));
     name
@@ -292,9 +291,9 @@ pub fn proto_revision_lock(txn: &TxnName) -> Name
     name
 }
 
-/// A law: no two files or folders of a repository have one name, whatever the size of its shards.
-pub fn names_are_apart(shard_size: u32)
-    ensures { NamesAreApart shard_size }
+/// A law: no two files or folders of a repository have one name, whatever its layout.
+pub fn names_are_apart(layout: Layout)
+    ensures { NamesAreApart layout }
 {
-    let _ = shard_size;
+    let _ = layout;
 }

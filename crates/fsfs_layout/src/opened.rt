@@ -1,5 +1,6 @@
 //! What the small files of a repository say together.
 
+use crate::layout::Layout;
 use crate::uuid_file::Uuid;
 use fsfs_base::B36;
 
@@ -7,8 +8,7 @@ use fsfs_base::B36;
 #[derive(Drop)]
 pub struct Opened {
     pub uuid: Uuid,
-    /// How many revisions a shard has.
-    pub shard_size: u32,
+    pub layout: Layout,
     pub youngest: u32,
     /// The oldest revision that isn't packed: the first of a shard, at most the one that follows the youngest.
     pub min_unpacked_rev: u32,

@@ -1,10 +1,12 @@
 //! Files with one revision: `db/current` and `db/min-unpacked-rev`.
-ghost use Rattle.std.specs.Prelude.{◌≡◌, ◌≤◌, ◌<◌, ◌%◌, ℕ, ◌∷◌, [], ◌++◌, IfOk, IfErr, Ok};
+ghost use Rattle.std.specs.Prelude.{◌≡◌, ◌≤◌, ℕ, ◌∷◌, [], ◌++◌, IfOk, IfErr, Ok};
 ghost use Rattle.std.specs.Fmt.{decimal};
 ghost use Rattle.fsfs_grammar.specs.Reading.{Gives};
 ghost use Rattle.fsfs_layout.specs.Small.{IsRevLine, IsMinUnpackedRev, IsFaultOf, IsMinUnpackedFault};
+ghost use Rattle.fsfs_layout.specs.Layouts.{place_in_shard};
 ghost use Rattle.fsfs_layout.specs.Reading.{rev_line_at};
 
+use crate::layout::Layout;
 use fsfs_base::{SmallFault, SmallFile};
 use fsfs_grammar::decimals::{decimal, put_decimal};
 use std::alloc::{AllocError, Global};
@@ -38,16 +40,15 @@ pub fn read_current(bytes: &[u8]) -> Result<u32, SmallFault>
 }
 
 /// The oldest revision that isn't packed, from the bytes of `db/min-unpacked-rev`: a revision number and a newline.
-/// A number that isn't a multiple of the shard size is refused at byte 0.
-pub fn read_min_unpacked_rev(shard_size: u32, bytes: &[u8]) -> Result<u32, SmallFault>
-    requires { 0 < shard_size }
-    ensures found { IfOk result (IsMinUnpackedRev shard_size bytes.now) }
-    ensures only { (n : ℕ) → IsMinUnpackedRev shard_size bytes.now n → result ≡ Ok n }
-    ensures fault { IfErr result (IsMinUnpackedFault shard_size bytes.now) }
+/// A number that isn't of the first revision of a shard is refused at byte 0.
+pub fn read_min_unpacked_rev(layout: Layout, bytes: &[u8]) -> Result<u32, SmallFault>
+    ensures found { IfOk result (IsMinUnpackedRev layout bytes.now) }
+    ensures only { (n : ℕ) → IsMinUnpackedRev layout bytes.now n → result ≡ Ok n }
+    ensures fault { IfErr result (IsMinUnpackedFault layout bytes.now) }
 {
     match rev_line(bytes) {
         Ok(number) => {
-            if number % shard_size != 0 {
+            if layout.place_in_shard(number) != 0 {
                 return Err(SmallFault {
                     file: SmallFile::MinUnpackedRev,
                     at: 0,
@@ -84,13 +85,12 @@ pub fn write_current(alloc: Global, youngest: u32) -> Result<Vec<u8>, AllocError
 /// The bytes of `db/min-unpacked-rev` for this oldest revision that isn't packed.
 pub fn write_min_unpacked_rev(
     alloc: Global,
-    shard_size: u32,
+    layout: Layout,
     rev: u32,
 ) -> Result<Vec<u8>, AllocError>
-    requires shard { 0 < shard_size }
-    requires whole_shards { rev % shard_size ≡ 0 }
+    requires whole_shards { place_in_shard layout rev ≡ 0 }
     requires fits { rev ≤ 2147483647 }
-    ensures grammar { IfOk result (λ v. IsMinUnpackedRev shard_size v.items rev) }
+    ensures grammar { IfOk result (λ v. IsMinUnpackedRev layout v.items rev) }
     ensures text { IfOk result (λ v. v.items ≡ decimal rev ++ 10 ∷ []) }
 {
     write_rev_line(alloc, rev)

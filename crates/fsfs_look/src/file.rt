@@ -11,12 +11,12 @@ ghost use Rattle.fsfs_look.specs.Written.{Writes, HasDiskCause, HasSinkCause};
 use crate::look_error::LookError;
 use crate::path::found_at;
 use crate::piece::write_piece;
-use fsfs_base::{FsPath, Kind};
+use fsfs_base::{FsPath, Kind, fitting};
 use fsfs_book::Book;
 use fsfs_damage::{ReadError, RepWhat};
 use fsfs_noderev::Rep;
 use fsfs_printed::LookFault;
-use fsfs_rep::{RepReader, bad_rep, window};
+use fsfs_rep::{PLAIN_LEN, RepReader, bad_rep, window};
 use fsfs_streams::Sink;
 use std::alloc::Global;
 
@@ -42,20 +42,9 @@ fn check_rep<B: Book>(book: &mut B, rep: &Rep, piece: &mut [u8]) -> Result<(), R
 
 // Where a byte of the text stands, behind the line `PLAIN`. None is above the last number of a u64.
 fn position(rep: &Rep, done: u64) -> u64
-    ensures { rep.now.offset + 6 + done < 2 ^ 64 → result ≡ rep.now.offset + 6 + done }
+    ensures { rep.now.offset + PLAIN_LEN + done < 2 ^ 64 → result ≡ rep.now.offset + PLAIN_LEN + done }
 {
-    rep.offset.saturating_add(6).saturating_add(done)
-}
-
-// As many as fit in so much room.
-fn fitting(room: usize, left: u64) -> usize
-    ensures { result ≡ min room left }
-{
-    if left < room as u64 {
-        left as usize
-    } else {
-        room
-    }
+    rep.offset.saturating_add(PLAIN_LEN).saturating_add(done)
 }
 
 // Reads the next bytes of a text into the beginning of the piece, and answers how many: at least one. They are not

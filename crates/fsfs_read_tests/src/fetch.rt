@@ -5,6 +5,7 @@ use fsfs_book::{Book, BookFault};
 use fsfs_damage::Refusal;
 use fsfs_disk::Disk;
 use fsfs_fetch::{Direct, OwnedReads, disk_of, over_disk};
+use fsfs_layout::Layout;
 use fsfs_memdisk::MemDisk;
 use std::alloc::Global;
 use std::test::Fail;
@@ -45,7 +46,7 @@ fn small(file: SmallFile, at: usize) -> BookFault {
 #[test]
 fn packed_and_not(rt: HostRuntime) -> Result<(), Fail> {
     let disk = packed_disk(rt.alloc())?;
-    let mut book = over_disk(rt.alloc(), disk, 3, 2, 2);
+    let mut book = over_disk(rt.alloc(), disk, 3, Layout::sharded(2), 2);
     let missing = BookFault::Refused(Refusal::Missing { rev: 3 });
     let above = BookFault::Refused(Refusal::NoRev {
         asked: 4,
@@ -84,7 +85,7 @@ fn packed_and_not(rt: HostRuntime) -> Result<(), Fail> {
     // The kept floor is 0 though the first shard is packed.
     let disk = disk_of(book);
     let before = disk.calls();
-    let mut book = Direct::new(rt.alloc(), OwnedReads::new(disk, 3, 2), 0);
+    let mut book = Direct::new(rt.alloc(), OwnedReads::new(disk, 3, Layout::sharded(2)), 0);
     assert!(rt; part(&mut book, 1, 0) == (Ok(8), *b"id: 0-1."));
     assert!(rt; book.floor() == 2);
     assert!(rt; part(&mut book, 0, 0) == (Ok(8), *b"PLAIN\nEN"));
@@ -95,7 +96,7 @@ fn packed_and_not(rt: HostRuntime) -> Result<(), Fail> {
     assert!(rt; disk.calls() == before.saturating_add(11));
     disk.put(&Name::new("db/min-unpacked-rev"), b"3\n")?;
     disk.put(&Name::new("db/revs/0.pack/manifest"), b"0\n115")?;
-    let mut book = Direct::new(rt.alloc(), OwnedReads::new(disk, 4, 2), 2);
+    let mut book = Direct::new(rt.alloc(), OwnedReads::new(disk, 4, Layout::sharded(2)), 2);
     assert!(rt; part(&mut book, 4, 0).0 == Err(small(SmallFile::MinUnpackedRev, 0)));
     assert!(rt; part(&mut book, 1, 0).0 == Err(small(SmallFile::Manifest(0), 5)));
     Ok(())

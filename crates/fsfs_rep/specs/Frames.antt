@@ -14,6 +14,7 @@ use Rattle.fsfs_damage.specs.Damages.{place_of, damaged}
 use Rattle.fsfs_damage.specs.Readings.{IfWrong}
 use Rattle.fsfs_noderev.specs.declared.rep.Rep.{Rep}
 use Rattle.fsfs_noderev.specs.declared.rep.Uniquifier.{Uniquifier}
+use Rattle.fsfs_rep.specs.declared.frame.TheConstants.{PLAIN_LEN}
 use Rattle.fsfs_rep.specs.Headers.{StandsAt, HasPlainLine, HasDeltaLine}
 
 -- the revision that it stands in
@@ -22,10 +23,10 @@ rev_of rep = unwrap_or rep.rev 0
 
 -- its text: so many bytes behind the header
 abbrev pub text_of : Rep → List ℕ → List ℕ
-text_of rep bytes = take rep.length (drop (rep.offset + 6) bytes)
+text_of rep bytes = take rep.length (drop (rep.offset + PLAIN_LEN) bytes)
 
 abbrev pub HasTrailer : Rep → List ℕ → Type 0
-HasTrailer rep bytes = StandsAt (codes "ENDREP\n") (rep.offset + 6 + rep.length) bytes
+HasTrailer rep bytes = StandsAt (codes "ENDREP\n") (rep.offset + PLAIN_LEN + rep.length) bytes
 
 pub record IsFramed (rep : Rep) (bytes : List ℕ) : Type 0 where
   pub header : HasPlainLine rep.offset bytes

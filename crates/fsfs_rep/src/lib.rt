@@ -4,6 +4,7 @@
 #![tactic(auto)]
 
 mod digester;
+mod frame;
 mod header;
 mod place;
 mod rep_reader;
@@ -11,6 +12,7 @@ mod whole;
 mod windows;
 
 pub use digester::Digester;
+pub use frame::{ENDREP_LEN, PLAIN_LEN};
 pub use place::{bad_rep, rep_place};
 pub use rep_reader::RepReader;
 pub use whole::read_rep_bytes;

@@ -8,9 +8,11 @@ ghost use Rattle.fsfs_rep.specs.Frames.{rev_of, text_of, Agrees, Disagrees, IsWh
 ghost use Rattle.fsfs_rep.specs.Seen.{HasSeen};
 
 use crate::digester::Digester;
+use crate::frame::{ENDREP_LEN, PLAIN_LEN};
 use crate::header::{HEADER_LEN, Header, header_of};
 use crate::place::{bad_rep, rep_place};
 use crate::windows::window;
+use fsfs_base::fitting;
 use fsfs_book::Book;
 use fsfs_damage::{ReadError, RepWhat, Wrong};
 use fsfs_grammar::pieces::text;
@@ -110,9 +112,9 @@ impl RepReader {
 
     // Where the next byte of the text stands.
     fn position(&self) -> u64
-        ensures { self.now.rep.offset + 6 + self.now.done < 2 ^ 64 → result ≡ self.now.rep.offset + 6 + self.now.done }
+        ensures { self.now.rep.offset + PLAIN_LEN + self.now.done < 2 ^ 64 → result ≡ self.now.rep.offset + PLAIN_LEN + self.now.done }
     {
-        behind(behind(self.rep.offset, 6), self.done)
+        behind(behind(self.rep.offset, PLAIN_LEN), self.done)
     }
 
     /// Reads the next bytes of the text into the beginning of the buffer, and answers how many: as many as are left and
@@ -160,7 +162,7 @@ impl RepReader {
         let Some(rev) = self.rep.rev else {
             unreachable!()
         };
-        let mut line = [0u8; 7];
+        let mut line = [0u8; ENDREP_LEN];
         let count = window(book, rev.get(), self.position(), &mut line)?;
         match text(b"ENDREP\n", &line[..count]) {
             Ok(_) => {
@@ -169,16 +171,5 @@ impl RepReader {
             }
             Err(_) => Err(bad_rep(&self.rep, RepWhat::EndRep)),
         }
-    }
-}
-
-// As many as fit in so much room.
-fn fitting(room: usize, left: u64) -> usize
-    ensures { result ≡ min room left }
-{
-    if left < room as u64 {
-        left as usize
-    } else {
-        room
     }
 }

@@ -7,6 +7,8 @@ use Rattle.fsfs_disk.specs.Trace.{Trace, files_now}
 use Rattle.fsfs_layout.specs.Formats.{IsFormat}
 use Rattle.fsfs_layout.specs.declared.format_file.Format.{Format}
 use Rattle.fsfs_layout.specs.declared.format_file.Format.TheVariants.{Linear, Sharded, Other}
+use Rattle.fsfs_layout.specs.declared.layout.Layout.{Layout}
+use Rattle.fsfs_layout.proofs.OpeningLemmas.{layout_same}
 use Rattle.fsfs_layout.specs.Opening.{SmallTexts, small_texts, IsFsfs, IsNone, IsOpened, IsOpenedBehind}
 use Rattle.fsfs_repo.specs.Deciding.{Decides}
 use Rattle.fsfs_layout.specs.declared.opened.Opened.{Opened}
@@ -31,7 +33,7 @@ is_some s text is (inr other) = other is.fs_type
 
 pub decides_other : (s : SmallTexts) (text : List ℕ) (n : ℕ) → Has s text (λ g. Other n ≡ g) → Decides s (Err (why_not.OtherFormat n))
 decides_other s text n h = record {
-  opened = λ o w. absurd (let e = says s text w.format.0 (λ g. Other n ≡ g) (Sharded o.shard_size) h w.format.1 w.format.2 in cc);
+  opened = λ o w. absurd (let e = says s text w.format.0 (λ g. Other n ≡ g) (Sharded o.layout.shard_size) h w.format.1 w.format.2 in cc);
   none = λ w. absurd (is_some s text h.is w);
   other = λ m w. inl (let e = says s text w.0 (λ g. Other n ≡ g) (Other m) h w.1 w.2 in cc);
   linear = λ w. absurd (let e = says s text w.0 (λ g. Other n ≡ g) Linear h w.1 w.2 in cc);
@@ -39,7 +41,7 @@ decides_other s text n h = record {
 
 pub decides_linear : (s : SmallTexts) (text : List ℕ) → Has s text (λ g. Linear ≡ g) → Decides s (Err why_not.Linear)
 decides_linear s text h = record {
-  opened = λ o w. absurd (let e = says s text w.format.0 (λ g. Linear ≡ g) (Sharded o.shard_size) h w.format.1 w.format.2 in cc);
+  opened = λ o w. absurd (let e = says s text w.format.0 (λ g. Linear ≡ g) (Sharded o.layout.shard_size) h w.format.1 w.format.2 in cc);
   none = λ w. absurd (is_some s text h.is w);
   other = λ m w. absurd (let e = says s text w.0 (λ g. Linear ≡ g) (Other m) h w.1 w.2 in cc);
   linear = λ w. inl refl;
@@ -48,30 +50,32 @@ decides_linear s text h = record {
 -- no format at all
 pub decides_unread : (s : SmallTexts) (text : List ℕ) (fault : SmallFault) → Has s text (λ g. ⊥) → Decides s (Err (why_not.Small fault))
 decides_unread s text fault h = record {
-  opened = λ o w. absurd (says s text w.format.0 (λ g. ⊥) (Sharded o.shard_size) h w.format.1 w.format.2);
+  opened = λ o w. absurd (says s text w.format.0 (λ g. ⊥) (Sharded o.layout.shard_size) h w.format.1 w.format.2);
   none = λ w. absurd (is_some s text h.is w);
   other = λ m w. absurd (says s text w.0 (λ g. ⊥) (Other m) h w.1 w.2);
   linear = λ w. absurd (says s text w.0 (λ g. ⊥) Linear h w.1 w.2);
 }
 
--- shards of the size that the format says
-shards : (s : SmallTexts) (text : List ℕ) (n : ℕ) (o : Opened) → Has s text (λ g. Sharded n ≡ g) → IsOpened s o → o.shard_size ≡ n
-shards s text n o h w = let e = says s text w.format.0 (λ g. Sharded n ≡ g) (Sharded o.shard_size) h w.format.1 w.format.2 in cc
+-- the layout that the format says
+layout_is : (s : SmallTexts) (text : List ℕ) (n : Layout) (o : Opened) → Has s text (λ g. Sharded n.shard_size ≡ g) → IsOpened s o → o.layout ≡ n
+layout_is s text n o h w =
+    let e = says s text w.format.0 (λ g. Sharded n.shard_size ≡ g) (Sharded o.layout.shard_size) h w.format.1 w.format.2 in
+    layout_same o.layout n cc
 
-pub decides_opened : (s : SmallTexts) (text : List ℕ) (n : ℕ) (p : Opened) → Has s text (λ g. Sharded n ≡ g) → ((o : Opened) → o.shard_size ≡ n → IsOpenedBehind s o → p.youngest ≡ o.youngest) → Decides s (Ok p)
+pub decides_opened : (s : SmallTexts) (text : List ℕ) (n : Layout) (p : Opened) → Has s text (λ g. Sharded n.shard_size ≡ g) → ((o : Opened) → o.layout ≡ n → IsOpenedBehind s o → p.youngest ≡ o.youngest) → Decides s (Ok p)
 decides_opened s text n p h only = record {
-  opened = λ o w. only o (shards s text n o h w) w.behind;
+  opened = λ o w. only o (layout_is s text n o h w) w.behind;
   none = λ w. is_some s text h.is w;
-  other = λ m w. let e = says s text w.0 (λ g. Sharded n ≡ g) (Other m) h w.1 w.2 in cc;
-  linear = λ w. let e = says s text w.0 (λ g. Sharded n ≡ g) Linear h w.1 w.2 in cc;
+  other = λ m w. let e = says s text w.0 (λ g. Sharded n.shard_size ≡ g) (Other m) h w.1 w.2 in cc;
+  linear = λ w. let e = says s text w.0 (λ g. Sharded n.shard_size ≡ g) Linear h w.1 w.2 in cc;
 }
 
-pub decides_refused : (s : SmallTexts) (text : List ℕ) (n : ℕ) (fault : SmallFault) → Has s text (λ g. Sharded n ≡ g) → ((o : Opened) → o.shard_size ≡ n → IsOpenedBehind s o → ⊥) → Decides s (Err (why_not.Small fault))
+pub decides_refused : (s : SmallTexts) (text : List ℕ) (n : Layout) (fault : SmallFault) → Has s text (λ g. Sharded n.shard_size ≡ g) → ((o : Opened) → o.layout ≡ n → IsOpenedBehind s o → ⊥) → Decides s (Err (why_not.Small fault))
 decides_refused s text n fault h only = record {
-  opened = λ o w. absurd (only o (shards s text n o h w) w.behind);
+  opened = λ o w. absurd (only o (layout_is s text n o h w) w.behind);
   none = λ w. absurd (is_some s text h.is w);
-  other = λ m w. absurd (let e = says s text w.0 (λ g. Sharded n ≡ g) (Other m) h w.1 w.2 in cc);
-  linear = λ w. absurd (let e = says s text w.0 (λ g. Sharded n ≡ g) Linear h w.1 w.2 in cc);
+  other = λ m w. absurd (let e = says s text w.0 (λ g. Sharded n.shard_size ≡ g) (Other m) h w.1 w.2 in cc);
+  linear = λ w. absurd (let e = says s text w.0 (λ g. Sharded n.shard_size ≡ g) Linear h w.1 w.2 in cc);
 }
 
 -- the texts are those of the files of the disk

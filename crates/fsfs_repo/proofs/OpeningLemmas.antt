@@ -11,23 +11,24 @@ use Rattle.fsfs_layout.specs.Formats.{IsCount, IsFormat}
 use Rattle.fsfs_layout.specs.declared.format_file.Format.TheVariants.{Linear, Sharded, Other}
 use Rattle.fsfs_layout.specs.Small.{IsUuid, IsRevLine, IsMinUnpackedRev, IsBase36Line, IsRefusedFile, IsMinUnpackedFault}
 use Rattle.fsfs_base.specs.declared.small_fault.SmallFile.TheVariants as file
+use Rattle.fsfs_layout.specs.declared.layout.Layout.{Layout}
 use Rattle.fsfs_layout.specs.Opening.{SmallTexts, small_texts, IsRefusedBehind, IsPastYoungest}
 use Rattle.fsfs_repo.specs.OpenFaults.{JudgedBecause, OpensBecause}
 use Rattle.fsfs_places.specs.declared.open_fault.OpenFault.{OpenFault}
 use Rattle.fsfs_places.specs.declared.open_fault.OpenFault.TheVariants as why_not
 
-pub refused_uuid : (n : ℕ) (s : SmallTexts) (u : List ℕ) (fault : SmallFault) → u ≡ s.uuid → IsRefusedFile file.Uuid IsUuid u fault → IsRefusedBehind n s fault
+pub refused_uuid : (n : Layout) (s : SmallTexts) (u : List ℕ) (fault : SmallFault) → u ≡ s.uuid → IsRefusedFile file.Uuid IsUuid u fault → IsRefusedBehind n s fault
 refused_uuid n s u fault su iu = inl (subst (λ t. IsRefusedFile file.Uuid IsUuid t fault) su iu)
 
-pub refused_current : (n : ℕ) (s : SmallTexts) (u c uuid : List ℕ) (fault : SmallFault) → u ≡ s.uuid → IsUuid u uuid → c ≡ s.current → IsRefusedFile file.Current IsRevLine c fault → IsRefusedBehind n s fault
+pub refused_current : (n : Layout) (s : SmallTexts) (u c uuid : List ℕ) (fault : SmallFault) → u ≡ s.uuid → IsUuid u uuid → c ≡ s.current → IsRefusedFile file.Current IsRevLine c fault → IsRefusedBehind n s fault
 refused_current n s u c uuid fault su iu sc ic = inr (uuid, subst (λ t. IsUuid t uuid) su iu, inl (subst (λ t. IsRefusedFile file.Current IsRevLine t fault) sc ic))
 
-pub refused_floor : (n : ℕ) (s : SmallTexts) (u c m uuid : List ℕ) (youngest : ℕ) (fault : SmallFault) → u ≡ s.uuid → IsUuid u uuid → c ≡ s.current → IsRevLine c youngest → m ≡ s.min_unpacked_rev → IsMinUnpackedFault n m fault
+pub refused_floor : (n : Layout) (s : SmallTexts) (u c m uuid : List ℕ) (youngest : ℕ) (fault : SmallFault) → u ≡ s.uuid → IsUuid u uuid → c ≡ s.current → IsRevLine c youngest → m ≡ s.min_unpacked_rev → IsMinUnpackedFault n m fault
     → IsRefusedBehind n s fault
 refused_floor n s u c m uuid youngest fault su iu sc ic sm im =
     inr (uuid, subst (λ t. IsUuid t uuid) su iu, inr (youngest, subst (λ t. IsRevLine t youngest) sc ic, inl (subst (λ t. IsMinUnpackedFault n t fault) sm im)))
 
-pub refused_past : (n : ℕ) (s : SmallTexts) (u c m uuid : List ℕ) (youngest floor : ℕ) (fault : SmallFault) → u ≡ s.uuid → IsUuid u uuid → c ≡ s.current → IsRevLine c youngest → m ≡ s.min_unpacked_rev → IsMinUnpackedRev n m floor
+pub refused_past : (n : Layout) (s : SmallTexts) (u c m uuid : List ℕ) (youngest floor : ℕ) (fault : SmallFault) → u ≡ s.uuid → IsUuid u uuid → c ≡ s.current → IsRevLine c youngest → m ≡ s.min_unpacked_rev → IsMinUnpackedRev n m floor
     → youngest + 1 < floor → fault.file ≡ file.MinUnpackedRev → fault.at ≡ 0 → IsRefusedBehind n s fault
 refused_past n s u c m uuid youngest floor fault su iu sc ic sm im past names place =
     let is : IsPastYoungest n s fault = record {
@@ -41,7 +42,7 @@ refused_past n s u c m uuid youngest floor fault su iu sc ic sm im past names pl
     } in
     inr (uuid, subst (λ t. IsUuid t uuid) su iu, inr (youngest, subst (λ t. IsRevLine t youngest) sc ic, inr (inl is)))
 
-pub refused_txn : (n : ℕ) (s : SmallTexts) (u c m x uuid : List ℕ) (youngest floor : ℕ) (fault : SmallFault) → u ≡ s.uuid → IsUuid u uuid → c ≡ s.current → IsRevLine c youngest → m ≡ s.min_unpacked_rev → IsMinUnpackedRev n m floor
+pub refused_txn : (n : Layout) (s : SmallTexts) (u c m x uuid : List ℕ) (youngest floor : ℕ) (fault : SmallFault) → u ≡ s.uuid → IsUuid u uuid → c ≡ s.current → IsRevLine c youngest → m ≡ s.min_unpacked_rev → IsMinUnpackedRev n m floor
     → floor ≤ youngest + 1 → x ≡ s.txn_current → IsRefusedFile file.TxnCurrent IsBase36Line x fault → IsRefusedBehind n s fault
 refused_txn n s u c m x uuid youngest floor fault su iu sc ic sm im within sx ix =
     inr (
@@ -55,12 +56,12 @@ refused_txn n s u c m x uuid youngest floor fault su iu sc ic sm im within sx ix
     )
 
 -- a number that doesn't begin with 0 is at least 1
-count_above : (text : List ℕ) (n : ℕ) → IsCount text n → 0 < n
-count_above text zero h =
+count_fits : (text : List ℕ) (n : ℕ) → IsCount text n → (0 < n) × (n ≤ 2147483647)
+count_fits text zero h =
     let digits : h.0.digits ≡ 48 ∷ [] = numeral_decimal h.0.digits 0 (omega arith) h.0.numeral ∙ decimal_digit 0 (omega arith) in
     let is : text ≡ 48 ∷ 10 ∷ [] = h.0.parts ∙ ap (λ d. d ++ 10 ∷ []) digits in
     let bad : true ≡ false = sym (ap (begins 48) is) ∙ h.1 in cc
-count_above text (suc n) h = omega arith
+count_fits text (suc n) h = (omega arith, h.0.fits)
 
 sharded_is : (n m : ℕ) → Sharded n ≡ Sharded m → n ≡ m
 sharded_is n m e = cc
@@ -71,11 +72,11 @@ not_linear n e = cc
 not_other : (n m : ℕ) → Sharded n ≡ Other m → ⊥
 not_other n m e = cc
 
--- a shard has at least one revision
-pub shards_above : (text : List ℕ) (n : ℕ) → IsFormat text (Sharded n) → 0 < n
-shards_above text n h = ⊎_elim
+-- a shard has from 1 to 2,147,483,647 revisions
+pub shards_fit : (text : List ℕ) (n : ℕ) → IsFormat text (Sharded n) → (0 < n) × (n ≤ 2147483647)
+shards_fit text n h = ⊎_elim
     (λ ours. ⊎_elim (λ none. absurd (not_linear n none.1))
-    (λ layout. ⊎_elim (λ s. let m = s.second_is.inner in subst (λ k. 0 < k) (sym (sharded_is n m s.second_is.value_is)) (count_above s.second m s.second_is.inner_is))
+    (λ layout. ⊎_elim (λ s. let m = s.second_is.inner in subst (λ k. (0 < k) × (k ≤ 2147483647)) (sym (sharded_is n m s.second_is.value_is)) (count_fits s.second m s.second_is.inner_is))
     (λ l. absurd (not_linear n l.second_is.value_is)) layout.second_is) ours.second_is)
     (λ other. absurd (not_other n other.number other.is)) h
 

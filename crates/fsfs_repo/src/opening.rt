@@ -1,5 +1,5 @@
 // Opening a repository: what its small files say.
-ghost use Rattle.std.specs.Prelude.{◌≡◌, ◌≤◌, ◌<◌, IfOk, IfErr, IfSome, MatchResult, option_map};
+ghost use Rattle.std.specs.Prelude.{◌≡◌, ◌≤◌, IfOk, IfErr, IfSome, MatchResult, option_map};
 ghost use Rattle.fsfs_base.specs.Failures.{Rose};
 ghost use Rattle.fsfs_disk.specs.Trace.{files_now};
 ghost use Rattle.fsfs_layout.specs.Opening.{IsOpened, IsOpenedBehind, IsRefusedBehind, small_texts, text_at};
@@ -10,8 +10,8 @@ ghost use Rattle.fsfs_layout.specs.declared.opened.Opened.{Opened};
 use fsfs_base::{Name, SmallFault, SmallFile};
 use fsfs_disk::Disk;
 use fsfs_layout::{
-    Format, Opened, names, read_current, read_format, read_min_unpacked_rev, read_txn_current,
-    read_uuid,
+    Format, Layout, Opened, names, read_current, read_format, read_min_unpacked_rev,
+    read_txn_current, read_uuid,
 };
 use fsfs_places::{DiskPlace, OpenFault};
 use fsfs_whole_file::{FileFault, read_disk_file};
@@ -33,6 +33,7 @@ fn text_of<D: Disk>(alloc: Global, disk: &mut D, name: &Name) -> Result<Vec<u8>,
     ensures bytes { IfSome (D.trace disk.old) (λ t. IfOk result (λ v. v.items ≡ text_at (files_now t) name.now)) }
     ensures same { D.trace disk.new ≡ D.trace disk.old }
     ensures mounted { D.mount_path disk.new ≡ D.mount_path disk.old }
+    ensures right { D.may_write disk.new ≡ D.may_write disk.old }
     ensures later { D.faults disk.old ≤ D.faults disk.new }
     ensures failed { IfErr result (IfUnread (Rose (D.faults disk.old) (D.faults disk.new))) }
 {
@@ -57,6 +58,7 @@ fn read_small_files<D: Disk>(alloc: Global, disk: &mut D) -> Result<SmallFiles, 
     ensures texts { IfSome (D.trace disk.old) (λ t. IfOk result (λ s. texts_of s ≡ small_texts (files_now t))) }
     ensures same { D.trace disk.new ≡ D.trace disk.old }
     ensures mounted { D.mount_path disk.new ≡ D.mount_path disk.old }
+    ensures right { D.may_write disk.new ≡ D.may_write disk.old }
     ensures later { D.faults disk.old ≤ D.faults disk.new }
     ensures failed { IfErr result (IfUnread (Rose (D.faults disk.old) (D.faults disk.new))) }
 {
@@ -80,16 +82,15 @@ fn read_small_files<D: Disk>(alloc: Global, disk: &mut D) -> Result<SmallFiles, 
 }
 
 // What the files behind `db/format` say.
-fn judge_sharded(files: &SmallFiles, shard_size: u32) -> Result<Opened, SmallFault>
-    requires { 0 < shard_size }
-    ensures shards { IfOk result (λ o. o.shard_size ≡ shard_size) }
+fn judge_sharded(files: &SmallFiles, layout: Layout) -> Result<Opened, SmallFault>
+    ensures layout { IfOk result (λ o. o.layout ≡ layout) }
     ensures opened { IfOk result (IsOpenedBehind (texts_of files.now)) }
-    ensures only { (o : Opened) → o.shard_size ≡ shard_size → IsOpenedBehind (texts_of files.now) o → MatchResult result (λ p. p.youngest ≡ o.youngest) (λ _. ⊥) }
-    ensures refused { IfErr result (IsRefusedBehind shard_size (texts_of files.now)) }
+    ensures only { (o : Opened) → o.layout ≡ layout → IsOpenedBehind (texts_of files.now) o → MatchResult result (λ p. p.youngest ≡ o.youngest) (λ _. ⊥) }
+    ensures refused { IfErr result (IsRefusedBehind layout (texts_of files.now)) }
 {
     let uuid = read_uuid(&files.uuid)?;
     let youngest = read_current(&files.current)?;
-    let min_unpacked_rev = read_min_unpacked_rev(shard_size, &files.min_unpacked_rev)?;
+    let min_unpacked_rev = read_min_unpacked_rev(layout, &files.min_unpacked_rev)?;
     if min_unpacked_rev as u64 > youngest as u64 + 1 {
         return Err(SmallFault {
             file: SmallFile::MinUnpackedRev,
@@ -99,7 +100,7 @@ fn judge_sharded(files: &SmallFiles, shard_size: u32) -> Result<Opened, SmallFau
     let next_txn = read_txn_current(&files.txn_current)?;
     Ok(Opened {
         uuid,
-        shard_size,
+        layout,
         youngest,
         min_unpacked_rev,
         next_txn,
@@ -111,7 +112,6 @@ fn judge(files: &SmallFiles) -> Result<Opened, OpenFault>
     ensures opened { IfOk result (IsOpened (texts_of files.now)) }
     ensures refused { IfErr result (JudgedBecause (texts_of files.now)) }
     ensures decided { Decides (texts_of files.now) result }
-    ensures shards { IfOk result (λ o. 0 < o.shard_size) }
 {
     let Some(format) = &files.format else {
         return Err(OpenFault::NotRepo);
@@ -122,10 +122,12 @@ fn judge(files: &SmallFiles) -> Result<Opened, OpenFault>
     match read_format(format) {
         Ok(Format::Other(number)) => Err(OpenFault::OtherFormat(number)),
         Ok(Format::Linear) => Err(OpenFault::Linear),
-        Ok(Format::Sharded(shard_size)) => match judge_sharded(files, shard_size) {
-            Ok(opened) => Ok(opened),
-            Err(fault) => Err(OpenFault::Small(fault)),
-        },
+        Ok(Format::Sharded(shard_size)) => {
+            match judge_sharded(files, Layout::sharded(shard_size)) {
+                Ok(opened) => Ok(opened),
+                Err(fault) => Err(OpenFault::Small(fault)),
+            }
+        }
         Err(fault) => Err(OpenFault::Small(fault)),
     }
 }
@@ -133,12 +135,12 @@ fn judge(files: &SmallFiles) -> Result<Opened, OpenFault>
 /// Opens a repository: makes its names firm, and reads what its small files say.
 pub fn open<D: Disk>(alloc: Global, disk: &mut D) -> Result<Opened, OpenFault>
     ensures opened { IfSome (D.trace disk.old) (λ t. IfOk result (IsOpened (small_texts (files_now t)))) }
-    ensures shards { IfOk result (λ o. 0 < o.shard_size) }
     ensures refused { IfErr result (OpensBecause (Rose (D.faults disk.old) (D.faults disk.new)) (D.trace disk.old)) }
     // Where it is opened or refused is decided by the files alone.
     ensures decided { IfSome (D.trace disk.old) (λ t. Decides (small_texts (files_now t)) result) }
     ensures same { option_map files_now (D.trace disk.new) ≡ option_map files_now (D.trace disk.old) }
     ensures mounted { D.mount_path disk.new ≡ D.mount_path disk.old }
+    ensures right { D.may_write disk.new ≡ D.may_write disk.old }
     ensures later { D.faults disk.old ≤ D.faults disk.new }
 {
     if disk.firm_names().is_err() {

@@ -1,5 +1,5 @@
 -- The floor and the manifests are what the grammars of their files say.
-use Rattle.std.proofs.Common.{◌≡◌, ◌≤◌, ◌<◌, ℕ, ◌+◌, ◌-◌, ◌%◌, List, length, take, min, refl, sym, ap, subst, ◌∙◌, inl, inr, ◌⊎◌, arith}
+use Rattle.std.proofs.Common.{◌≡◌, ◌≤◌, ◌<◌, ℕ, ◌+◌, ◌-◌, List, length, take, min, refl, sym, ap, subst, ◌∙◌, inl, inr, ◌⊎◌, arith}
 use Rattle.std.specs.Prelude.{Result, Ok, Err, ◌==◌}
 use Rattle.std.proofs.lemmas.Bool.{cases_lt, eqb-true, eqb-false}
 use Rattle.std.proofs.lemmas.List.{length-take, length-append, take_all, take-take}
@@ -9,6 +9,8 @@ use Rattle.fsfs_base.specs.Files.{Files}
 use Rattle.fsfs_base.specs.declared.small_fault.SmallFile.TheVariants.{MinUnpackedRev, Manifest}
 use Rattle.fsfs_base.specs.declared.small_fault.SmallFault.{SmallFault}
 use Rattle.fsfs_layout.specs.Reading.{rev_line_at}
+use Rattle.fsfs_layout.specs.declared.layout.Layout.{Layout}
+use Rattle.fsfs_layout.specs.Layouts.{place_in_shard}
 use Rattle.fsfs_layout.specs.Small.{IsRevLine, IsMinUnpackedRev, IsFaultOf, IsRefusedFile, IsInsideShard, IsMinUnpackedFault}
 use Rattle.fsfs_layout.specs.Manifest.{IsManifest}
 use Rattle.fsfs_layout.specs.ManifestReading.{manifest_at}
@@ -51,7 +53,7 @@ front_placed : (text : List ℕ) → (length text < 64) ⊎ (64 ≤ length text)
 front_placed text (inl short) = ap (λ (t : List ℕ). placed MinUnpackedRev t (rev_line_at t)) (take_all 64 text (omega (arith, short)))
 front_placed text (inr long) = long_placed text (rev_line_at (take 64 text)) (rev_line_at text) long refl refl
 
-floor_of_all : (n : ℕ) (text : List ℕ) → floor_of n (take 64 text) ≡ floor_of n text
+floor_of_all : (n : Layout) (text : List ℕ) → floor_of n (take 64 text) ≡ floor_of n text
 unfolding floor_of
 floor_of_all n text = ap (of_whole_shards n) (front_placed text (cases_lt (length text) 64))
 
@@ -63,26 +65,26 @@ ok_same x y e = cc
 fault_eq : {A : Type 0} (x y : SmallFault) → ◌≡◌ {A = Result A SmallFault} (Err x) (Err y) → x ≡ y
 fault_eq x y e = cc
 
-said_by : (n rev : ℕ) (text : List ℕ) (r : Result ℕ ℕ) → rev_line_at text ≡ r → of_whole_shards n (placed MinUnpackedRev text r) ≡ Ok rev → IsMinUnpackedRev n text rev
+said_by : (n : Layout) (rev : ℕ) (text : List ℕ) (r : Result ℕ ℕ) → rev_line_at text ≡ r → of_whole_shards n (placed MinUnpackedRev text r) ≡ Ok rev → IsMinUnpackedRev n text rev
 said_by n rev text (Err left) read e = absurd cc
-said_by n rev text (Ok m) read e = elim (chosen (m % n == 0) (Ok m) (Err (record { file = MinUnpackedRev; at = 0 })) (Ok rev) e) [
-  | inl w ↦ subst (IsMinUnpackedRev n text) (ok_same {B = SmallFault} m rev w.1) (all_found rev_line_reads text m read, eqb-true (m % n) 0 w.0)
+said_by n rev text (Ok m) read e = elim (chosen (place_in_shard n m == 0) (Ok m) (Err (record { file = MinUnpackedRev; at = 0 })) (Ok rev) e) [
+  | inl w ↦ subst (IsMinUnpackedRev n text) (ok_same {B = SmallFault} m rev w.1) (all_found rev_line_reads text m read, eqb-true (place_in_shard n m) 0 w.0)
   | inr w ↦ absurd cc
 ]
 
-floor_said : (n rev : ℕ) (text : List ℕ) → floor_of n text ≡ Ok rev → IsMinUnpackedRev n text rev
+floor_said : (n : Layout) (rev : ℕ) (text : List ℕ) → floor_of n text ≡ Ok rev → IsMinUnpackedRev n text rev
 unfolding floor_of
 floor_said n rev text e = said_by n rev text (rev_line_at text) refl e
 
-refused_by : (n : ℕ) (text : List ℕ) (fault : SmallFault) (r : Result ℕ ℕ) → rev_line_at text ≡ r → of_whole_shards n (placed MinUnpackedRev text r) ≡ Err fault → IsMinUnpackedFault n text fault
+refused_by : (n : Layout) (text : List ℕ) (fault : SmallFault) (r : Result ℕ ℕ) → rev_line_at text ≡ r → of_whole_shards n (placed MinUnpackedRev text r) ≡ Err fault → IsMinUnpackedFault n text fault
 refused_by n text fault (Err left) read e =
     inl (λ k g. never rev_line_reads text k left g read, subst (IsFaultOf MinUnpackedRev IsRevLine text) (fault_eq {A = ℕ} _ fault e) (record { names = refl; place = (all_exact rev_line_reads text left read).1 }))
-refused_by n text fault (Ok m) read e = elim (chosen (m % n == 0) (Ok m) (Err (record { file = MinUnpackedRev; at = 0 })) (Err fault) e) [
+refused_by n text fault (Ok m) read e = elim (chosen (place_in_shard n m == 0) (Ok m) (Err (record { file = MinUnpackedRev; at = 0 })) (Err fault) e) [
   | inl w ↦ absurd cc
-  | inr w ↦ inr (subst (IsInsideShard n text) (fault_eq {A = ℕ} _ fault w.1) (record { number = m; line = all_found rev_line_reads text m read; inside = eqb-false (m % n) 0 w.0; names = refl; place = refl }))
+  | inr w ↦ inr (subst (IsInsideShard n text) (fault_eq {A = ℕ} _ fault w.1) (record { number = m; line = all_found rev_line_reads text m read; inside = eqb-false (place_in_shard n m) 0 w.0; names = refl; place = refl }))
 ]
 
-floor_refused : (n : ℕ) (text : List ℕ) (fault : SmallFault) → floor_of n text ≡ Err fault → IsMinUnpackedFault n text fault
+floor_refused : (n : Layout) (text : List ℕ) (fault : SmallFault) → floor_of n text ≡ Err fault → IsMinUnpackedFault n text fault
 unfolding floor_of
 floor_refused n text fault e = refused_by n text fault (rev_line_at text) refl e
 
@@ -102,25 +104,25 @@ offsets_said : (shard : ℕ) (text offsets : List ℕ) (r : Result (List ℕ) �
 offsets_said shard text offsets (Ok found) e = ap (λ (xs : List ℕ). Ok xs) (ok_same {B = SmallFault} found offsets e)
 offsets_said shard text offsets (Err left) e = absurd cc
 
-manifest_said : (n shard : ℕ) → 0 < n → (text offsets : List ℕ) → manifest_of n shard text ≡ Ok offsets → IsManifest n text offsets
+manifest_said : (n : Layout) (shard : ℕ) → (text offsets : List ℕ) → manifest_of n shard text ≡ Ok offsets → IsManifest n.shard_size text offsets
 unfolding manifest_of
-manifest_said n shard some text offsets e = all_found (manifest_reads n some) text offsets (offsets_said shard text offsets (manifest_at n text) e)
+manifest_said n shard text offsets e = all_found (manifest_reads n.shard_size n.some) text offsets (offsets_said shard text offsets (manifest_at n.shard_size text) e)
 
-manifest_refused_by : (n shard : ℕ) → 0 < n → (text : List ℕ) (fault : SmallFault) (r : Result (List ℕ) ℕ) → manifest_at n text ≡ r → placed (Manifest shard) text r ≡ Err fault → IsRefusedFile (Manifest shard) (IsManifest n) text fault
-manifest_refused_by n shard some text fault (Ok found) read e = absurd cc
-manifest_refused_by n shard some text fault (Err left) read e = (
-  λ offsets g. never (manifest_reads n some) text offsets left g read,
-  subst (IsFaultOf (Manifest shard) (IsManifest n) text) (fault_eq {A = List ℕ} _ fault e) (record { names = refl; place = (all_exact (manifest_reads n some) text left read).1 }),
+manifest_refused_by : (n : Layout) (shard : ℕ) → (text : List ℕ) (fault : SmallFault) (r : Result (List ℕ) ℕ) → manifest_at n.shard_size text ≡ r → placed (Manifest shard) text r ≡ Err fault → IsRefusedFile (Manifest shard) (IsManifest n.shard_size) text fault
+manifest_refused_by n shard text fault (Ok found) read e = absurd cc
+manifest_refused_by n shard text fault (Err left) read e = (
+  λ offsets g. never (manifest_reads n.shard_size n.some) text offsets left g read,
+  subst (IsFaultOf (Manifest shard) (IsManifest n.shard_size) text) (fault_eq {A = List ℕ} _ fault e) (record { names = refl; place = (all_exact (manifest_reads n.shard_size n.some) text left read).1 }),
 )
 
-manifest_refused : (n shard : ℕ) → 0 < n → (text : List ℕ) (fault : SmallFault) → manifest_of n shard text ≡ Err fault → IsRefusedFile (Manifest shard) (IsManifest n) text fault
+manifest_refused : (n : Layout) (shard : ℕ) → (text : List ℕ) (fault : SmallFault) → manifest_of n shard text ≡ Err fault → IsRefusedFile (Manifest shard) (IsManifest n.shard_size) text fault
 unfolding manifest_of
-manifest_refused n shard some text fault e = manifest_refused_by n shard some text fault (manifest_at n text) refl e
+manifest_refused n shard text fault e = manifest_refused_by n shard text fault (manifest_at n.shard_size text) refl e
 
 pub manifests_by_grammar : ManifestsAreByGrammar
-manifests_by_grammar n files shard some =
+manifests_by_grammar n files shard =
     let text = text_in files (Manifest shard) in
     record {
-      said = λ offsets. (manifest_said n shard some text offsets, manifest_ok n shard some text offsets);
-      refused = λ fault. (manifest_refused n shard some text fault, λ is. manifest_err n shard some text fault is.1 is.0);
+      said = λ offsets. (manifest_said n shard text offsets, manifest_ok n shard text offsets);
+      refused = λ fault. (manifest_refused n shard text fault, λ is. manifest_err n shard text fault is.1 is.0);
     }

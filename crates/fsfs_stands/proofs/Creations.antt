@@ -20,14 +20,12 @@ holds_laid (file ∷ files) m h =
 -- ---- the files
 
 pub creations_hold_new : CreationsHoldNew
-creations_hold_new shard moment id date m one most dated = record {
-  shard_size = shard;
+creations_hold_new layout moment id date m dated = record {
+  layout = layout;
   identifier = identifier_text id;
   moment = dated.0;
-  from_one = one;
-  most = most;
   characters = identifier_length id;
   one_line = identifier_lacks id;
   dated = dated.2;
-  new = holds_laid (created_files shard (identifier_text id) date) (remove m (codes "db/format-next")) refl;
+  new = holds_laid (created_files layout.shard_size (identifier_text id) date) (remove m (codes "db/format-next")) refl;
 }

@@ -22,7 +22,8 @@ use Rattle.fsfs_shows.specs.FirstRevision.{first_tree}
 use Rattle.fsfs_shows.proofs.FirstRevision.{first_shown, first_rules, trailer, trailer_ends}
 use Rattle.fsfs_stands.specs.Changes.{HasItems, AreChangesOf}
 use Rattle.fsfs_stands.specs.History.{ShowsRevision}
-use Rattle.fsfs_stands.specs.FirstHistory.{first_revision, FirstHistoryIsShown}
+use Rattle.fsfs_answers.specs.Answers.{first_revision}
+use Rattle.fsfs_stands.specs.FirstHistory.{FirstHistoryIsShown}
 
 -- ---- the tree
 

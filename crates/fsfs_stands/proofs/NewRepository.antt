@@ -10,6 +10,7 @@ use Rattle.fsfs_layout.specs.Formats.{IsFormat}
 use Rattle.fsfs_layout.specs.Opening.{text_at}
 use Rattle.fsfs_layout.specs.Small.{IsUuid, IsRevLine, IsMinUnpackedRev, IsBase36Line}
 use Rattle.fsfs_layout.specs.Names.{in_shard}
+use Rattle.fsfs_layout.specs.declared.layout.Layout.{Layout}
 use Rattle.fsfs_layout.specs.declared.format_file.Format.TheVariants.{Sharded}
 use Rattle.fsfs_layout.proofs.Writing.{sharded_layout, our_format, uuid_line}
 use Rattle.fsfs_rev_file.specs.RevBytes.{floor_in, or_missing, by_floor, rev_bytes, props_bytes}
@@ -51,16 +52,16 @@ zero_text = sym (numeral_decimal (codes "0") 0 (omega arith) zero_digit)
 abbrev first_of : List ℕ → List ℕ
 first_of folder = folder ++ 47 ∷ codes "0" ++ 47 ∷ codes "0"
 
--- whatever the size of a shard, revision 0 is in shard 0
-first_name : (folder : List ℕ) (n : ℕ) → in_shard folder n 0 ≡ first_of folder
+-- whatever the layout, revision 0 is in shard 0
+first_name : (folder : List ℕ) (n : Layout) → in_shard folder n 0 ≡ first_of folder
 first_name folder n =
-    ap (λ (k : ℕ). folder ++ 47 ∷ decimal k ++ 47 ∷ decimal 0) (zero-div n)
+    ap (λ (k : ℕ). folder ++ 47 ∷ decimal k ++ 47 ∷ decimal 0) (zero-div n.shard_size)
     ∙ ap (λ (t : List ℕ). folder ++ 47 ∷ t ++ 47 ∷ t) zero_text
 
-file_is : (files : Files) (folder bytes : List ℕ) (n : ℕ) → get files (first_of folder) ≡ Some bytes → or_missing 0 (get files (in_shard folder n 0)) ≡ Ok bytes
+file_is : (files : Files) (folder bytes : List ℕ) (n : Layout) → get files (first_of folder) ≡ Some bytes → or_missing 0 (get files (in_shard folder n 0)) ≡ Ok bytes
 file_is files folder bytes n there = ap (or_missing 0) (ap (get files) (first_name folder n) ∙ there)
 
-rev_is : (n : ℕ) (files : Files) (bytes : List ℕ) → floor_in n files ≡ Ok 0 → get files (codes "db/revs/0/0") ≡ Some bytes → rev_bytes n files 0 ≡ Ok bytes
+rev_is : (n : Layout) (files : Files) (bytes : List ℕ) → floor_in n files ≡ Ok 0 → get files (codes "db/revs/0/0") ≡ Some bytes → rev_bytes n files 0 ≡ Ok bytes
 unfolding rev_bytes
 rev_is n files bytes floor there = ap (by_floor n files 0) floor ∙ file_is files (codes "db/revs") bytes n there
 
@@ -69,15 +70,15 @@ rev_is n files bytes floor there = ap (by_floor n files 0) floor ∙ file_is fil
 pub new_repositories_stand : NewRepositoriesStand
 new_repositories_stand files date w =
     let h = w.new in
-    let n = w.shard_size in
+    let n = w.layout in
     let uuid_text = w.identifier ++ codes "\n" in
-    let floor : IsMinUnpackedRev n (text_at files (codes "db/min-unpacked-rev")) 0 = says files (codes "db/min-unpacked-rev") (codes "0\n") (IsMinUnpackedRev n) 0 h.1.1.1.1.1.0 (zero_line, zero-mod n) in
+    let floor : IsMinUnpackedRev n (text_at files (codes "db/min-unpacked-rev")) 0 = says files (codes "db/min-unpacked-rev") (codes "0\n") (IsMinUnpackedRev n) 0 h.1.1.1.1.1.0 (zero_line, zero-mod n.shard_size) in
     let bytes : rev_bytes n files 0 ≡ Ok first_bytes = rev_is n files first_bytes (floor_is n 0 files floor) h.1.1.1.1.1.1.1.1.0 in
     let properties : props_bytes n files 0 ≡ Ok (date_properties date) = file_is files (codes "db/revprops") (date_properties date) n h.1.1.1.1.1.1.1.1.1.0 in
     record {
-      opened = record { uuid = w.identifier; shard_size = n; youngest = 0; min_unpacked_rev = 0; next_txn = record { number = 0; small = omega arith } };
+      opened = record { uuid = w.identifier; layout = n; youngest = 0; min_unpacked_rev = 0; next_txn = record { number = 0; small = omega arith } };
       small = record {
-        format = (format_text n, record { there = h.1.1.1.1.1.1.1.1.1.1.0; fs_type = ap (λ (o : Option (List ℕ)). unwrap_or o []) h.1.0 }, format_is n w.from_one w.most);
+        format = (format_text n.shard_size, record { there = h.1.1.1.1.1.1.1.1.1.1.0; fs_type = ap (λ (o : Option (List ℕ)). unwrap_or o []) h.1.0 }, format_is n.shard_size (omega (arith, n.some)) n.most);
         behind = record {
           uuid = says files (codes "db/uuid") uuid_text IsUuid w.identifier h.1.1.0 (uuid_line w.identifier uuid_text w.characters w.one_line refl);
           youngest = says files (codes "db/current") (codes "0\n") IsRevLine 0 h.1.1.1.0 zero_line;

@@ -13,7 +13,8 @@ use Rattle.fsfs_damage.specs.declared.wrong.Refusal.{Refusal}
 use Rattle.fsfs_hash.specs.Dump.{IsDump}
 use Rattle.fsfs_noderev.specs.declared.node_rev.NodeRev.{NodeRev}
 use Rattle.fsfs_layout.specs.Opening.{small_texts}
-use Rattle.fsfs_layout.proofs.OpeningLemmas.{one_youngest, one_shard}
+use Rattle.fsfs_layout.specs.declared.layout.Layout.{Layout}
+use Rattle.fsfs_layout.proofs.OpeningLemmas.{one_youngest, one_layout}
 use Rattle.fsfs_revision.specs.Trailers.{IsTrailer}
 use Rattle.fsfs_revision.proofs.TrailerLemmas.{one_trailer}
 use Rattle.fsfs_changes.specs.Changes.{HasNewPath, AreRevisionChanges}
@@ -131,8 +132,8 @@ one_history look props g h v w r a b e f = revision_same look props r a b (v.eac
 pub one_stood_for : OneHistoryIsStoodFor
 one_stood_for files g h v w =
     let youngest = one_youngest (small_texts files) v.opened w.opened v.small w.small in
-    let shard = one_shard (small_texts files) w.opened v.opened w.small v.small in
-    let moved = subst (λ (n : ℕ). ShowsHistory (rev_bytes n files) (props_bytes n files) h) shard w.history in (
+    let layout = one_layout (small_texts files) w.opened v.opened w.small v.small in
+    let moved = subst (λ (l : Layout). ShowsHistory (rev_bytes l files) (props_bytes l files) h) layout w.history in (
       v.count ∙ ap suc youngest ∙ sym w.count,
-      one_history (rev_bytes v.opened.shard_size files) (props_bytes v.opened.shard_size files) g h v.history moved,
+      one_history (rev_bytes v.opened.layout files) (props_bytes v.opened.layout files) g h v.history moved,
     )

@@ -17,4 +17,4 @@ pub record StandsFor (files : Files) (h : List Revision) : Type 0 where
   pub small : IsOpened (small_texts files) opened
   -- `current` names the last revision
   pub count : length h ≡ suc opened.youngest
-  pub history : ShowsHistory (rev_bytes opened.shard_size files) (props_bytes opened.shard_size files) h
+  pub history : ShowsHistory (rev_bytes opened.layout files) (props_bytes opened.layout files) h

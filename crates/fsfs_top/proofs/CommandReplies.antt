@@ -71,14 +71,14 @@ module _ (mount disk write told : Type 0) (tool : Tool) (ws : List (List ℕ)) (
   shows shown repos t o text asks here is same = given_shown status mount disk write told tool old new err_old err_new shown t o text fault is same ends (shown_did shown repos t asks here)
 
   tree : (repos : List ℕ) (t : Trace) (h : List Revision) (revision : Option ℕ) (ids : Bool) (path : Path) (shown : Path → List ℕ) → AsksPrinted (Tree ids) revision path tool ws repos → at_old repos ≡ Some t
-      → HasShortFiles (files_now t) → (stands : StandsFor (files_now t) h) → AreShownIds (rev_bytes stands.opened.shard_size (files_now t)) (asked_revision revision h) ids shown → Given (Answer (model.Tree revision shown path) (Some h))
+      → HasShortFiles (files_now t) → (stands : StandsFor (files_now t) h) → AreShownIds (rev_bytes stands.opened.layout (files_now t)) (asked_revision revision h) ids shown → Given (Answer (model.Tree revision shown path) (Some h))
   tree repos t h revision ids path shown asks here short stands are =
       let look : RevisionLook = record { printed = Tree ids; revision = revision; path = path } in
       let reply : Revision → Reply = λ r. tree_reply shown path r.tree (found_at (get r.tree) path) in
       let by_look : tool ≡ Look = printed_by_look (Tree ids) revision path tool ws repos asks in
       given_look status mount disk write told tool old new err_old err_new look t h stands reply fault short
       (λ rev r is there text end x. subst (λ (k : Tool). Fits k path (reply r) text end) (sym by_look)
-      (tree_is_by_tree (files_now t) h stands rev r path ids shown there (subst (λ (n : ℕ). AreShownIds (rev_bytes stands.opened.shard_size (files_now t)) n ids shown) (sym is) are) text end x))
+      (tree_is_by_tree (files_now t) h stands rev r path ids shown there (subst (λ (n : ℕ). AreShownIds (rev_bytes stands.opened.layout (files_now t)) n ids shown) (sym is) are) text end x))
       (λ asked youngest. no_rev_line tool reply asked youngest by_look)
       ends (look_did look repos t asks here)
 

@@ -10,7 +10,8 @@ use Rattle.fsfs_faults.specs.Faults.{fault_from_open, fault_from_look, IsFromLoo
 use Rattle.fsfs_faults.specs.declared.fault.Fault.{Fault}
 use Rattle.fsfs_faults.specs.declared.fault.Fault.TheVariants.{NoRev, Memory}
 use Rattle.fsfs_rev_file.specs.RevBytes.{rev_bytes}
-use Rattle.fsfs_layout.proofs.OpeningLemmas.{one_youngest, one_shard}
+use Rattle.fsfs_layout.specs.declared.layout.Layout.{Layout}
+use Rattle.fsfs_layout.proofs.OpeningLemmas.{one_youngest, one_layout}
 use Rattle.fsfs_look.specs.declared.look_error.LookError.TheVariants as errors
 use Rattle.fsfs_look.specs.declared.look_error.LookError.{LookError}
 use Rattle.fsfs_look.specs.Written.{Writes}
@@ -105,13 +106,13 @@ one_text (Tree ids) look rev path = tree_one look rev path ids
 one_text Text look rev path = file_one look rev path
 
 in_one : (look : RevisionLook) (o : Opened) (m : Files) → HasOneText (TextIn look o m)
-in_one look o m = one_text look.printed (rev_bytes o.shard_size m) (looked_revision look o) look.path
+in_one look o m = one_text look.printed (rev_bytes o.layout m) (looked_revision look o) look.path
 
 -- the text is by what every opening says
-pub same_text : (look : RevisionLook) (o p : Opened) (m : Files) (text : List ℕ) (end : End) → o.shard_size ≡ p.shard_size → o.youngest ≡ p.youngest → TextIn look p m text end → TextIn look o m text end
+pub same_text : (look : RevisionLook) (o p : Opened) (m : Files) (text : List ℕ) (end : End) → o.layout ≡ p.layout → o.youngest ≡ p.youngest → TextIn look p m text end → TextIn look o m text end
 same_text look o p m text end shard youngest is =
-    subst (λ (n : ℕ). TextOf look.printed (rev_bytes n m) (looked_revision look o) look.path text end) (sym shard)
-    (subst (λ (y : ℕ). TextOf look.printed (rev_bytes p.shard_size m) (unwrap_or look.revision y) look.path text end) (sym youngest) is)
+    subst (λ (l : Layout). TextOf look.printed (rev_bytes l m) (looked_revision look o) look.path text end) (sym shard)
+    (subst (λ (y : ℕ). TextOf look.printed (rev_bytes p.layout m) (unwrap_or look.revision y) look.path text end) (sym youngest) is)
 
 lacks_or_has : (look : RevisionLook) (o p : Opened) (rev : ℕ) → LacksRevision look o rev → o.youngest ≡ p.youngest → looked_revision look p ≤ p.youngest → ⊥
 lacks_or_has look o p rev lacks e there =
@@ -160,8 +161,8 @@ look_done disk write look m o old new fault opened d (inl (rev, lacks, is, kept)
 look_done disk write look m o old new fault opened d (inr looked) = record {
   opening = opening_done m o fault d;
   lacking = λ p rev w lacks. absurd (lacks_or_has look p o rev lacks (one_youngest (small_texts m) p o w opened) looked.there);
-  whole = λ short p text w there t. whole_agrees disk write look o m old new looked.result fault (looked.writes short) looked.fault_is text (same_text look o p m text Whole (one_shard (small_texts m) o p opened w) (one_youngest (small_texts m) o p opened w) t);
-  refused = λ short p text why w there t. refused_agrees disk write look o m old new looked.result fault (looked.writes short) looked.fault_is text why (same_text look o p m text (Refused why) (one_shard (small_texts m) o p opened w) (one_youngest (small_texts m) o p opened w) t);
+  whole = λ short p text w there t. whole_agrees disk write look o m old new looked.result fault (looked.writes short) looked.fault_is text (same_text look o p m text Whole (one_layout (small_texts m) o p opened w) (one_youngest (small_texts m) o p opened w) t);
+  refused = λ short p text why w there t. refused_agrees disk write look o m old new looked.result fault (looked.writes short) looked.fault_is text why (same_text look o p m text (Refused why) (one_layout (small_texts m) o p opened w) (one_youngest (small_texts m) o p opened w) t);
 }
 
 pub look_decided : (disk write : Type 0) (look : RevisionLook) (told at : Option Trace) (o : Opened) (old new : Option (List ℕ)) (fault : Option Fault) → told ≡ at → IfSome told (λ t. IsOpened (small_texts (files_now t)) o)

@@ -71,11 +71,11 @@ tree_fits shown path tree (Blocked at) text Whole is = absurd is
 tree_fits shown path tree (Blocked at) text (Refused why) is = (is.0, not_dir_line path at why is.1)
 tree_fits shown path tree (Blocked at) text Stopped is = nothing_of text is
 
-pub tree_is_by_tree : (files : Files) (h : List Revision) (s : StandsFor files h) (rev : ℕ) (r : Revision) (path : Path) (ids : Bool) (shown : Path → List ℕ) → slice_get h rev ≡ Some r → AreShownIds (rev_bytes s.opened.shard_size files) rev ids shown
-    → (text : List ℕ) (end : End) → TreeText (rev_bytes s.opened.shard_size files) rev path ids text end → LookFits path (tree_reply shown path r.tree (found_at (get r.tree) path)) text end
+pub tree_is_by_tree : (files : Files) (h : List Revision) (s : StandsFor files h) (rev : ℕ) (r : Revision) (path : Path) (ids : Bool) (shown : Path → List ℕ) → slice_get h rev ≡ Some r → AreShownIds (rev_bytes s.opened.layout files) rev ids shown
+    → (text : List ℕ) (end : End) → TreeText (rev_bytes s.opened.layout files) rev path ids text end → LookFits path (tree_reply shown path r.tree (found_at (get r.tree) path)) text end
 tree_is_by_tree files h s rev r path ids shown there are text end is =
     tree_fits shown path r.tree (found_at (get r.tree) path) text end
-    (trees_by_tree (rev_bytes s.opened.shard_size files) rev r.tree path ids shown (s.history.each rev r there).tree are text end is)
+    (trees_by_tree (rev_bytes s.opened.layout files) rev r.tree path ids shown (s.history.each rev r there).tree are text end is)
 
 -- ---- the text of a file
 
@@ -100,6 +100,6 @@ file_fits path (Blocked at) text (Refused why) is = (is.0, not_dir_line path at 
 file_fits path (Blocked at) text Stopped is = nothing_of text is
 
 pub file_is_by_tree : (files : Files) (h : List Revision) (s : StandsFor files h) (rev : ℕ) (r : Revision) (path : Path) → slice_get h rev ≡ Some r
-    → (text : List ℕ) (end : End) → FileText (rev_bytes s.opened.shard_size files) rev path text end → LookFits path (text_reply path (found_at (get r.tree) path)) text end
+    → (text : List ℕ) (end : End) → FileText (rev_bytes s.opened.layout files) rev path text end → LookFits path (text_reply path (found_at (get r.tree) path)) text end
 file_is_by_tree files h s rev r path there text end is =
-    file_fits path (found_at (get r.tree) path) text end (files_by_tree (rev_bytes s.opened.shard_size files) rev (get r.tree) path (s.history.each rev r there).tree text end is)
+    file_fits path (found_at (get r.tree) path) text end (files_by_tree (rev_bytes s.opened.layout files) rev (get r.tree) path (s.history.each rev r there).tree text end is)

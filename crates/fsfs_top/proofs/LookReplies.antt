@@ -39,7 +39,7 @@ use Rattle.fsfs_top.specs.Looks.{TextOf, TextIn, looked_revision, IsFaultOf, Pri
 use Rattle.fsfs_top.specs.Replies.{Gives}
 use Rattle.fsfs_top.specs.declared.look.RevisionLook.{RevisionLook}
 use Rattle.fsfs_top.specs.declared.output.Shown.{Shown}
-use Rattle.fsfs_layout.proofs.OpeningLemmas.{one_youngest, one_shard}
+use Rattle.fsfs_layout.proofs.OpeningLemmas.{one_youngest, one_layout}
 use Rattle.fsfs_top.proofs.FilesDecide.{same_text, look_or_memory}
 use Rattle.fsfs_cli.specs.declared.tool.Tool.{Tool}
 
@@ -200,7 +200,7 @@ module _ (status : ℕ) (mount disk write told : Type 0) (tool : Tool) (old new 
 
   -- a look at a revision of a history, whose reply is by the revision
   pub given_look : (look : RevisionLook) (t : Trace) (h : List Revision) (s : StandsFor (files_now t) h) (reply : Revision → Reply) (fault : Option Fault) → HasShortFiles (files_now t)
-      → ((rev : ℕ) (r : Revision) → rev ≡ asked_revision look.revision h → slice_get h rev ≡ Some r → (text : List ℕ) (end : End) → TextOf look.printed (rev_bytes s.opened.shard_size (files_now t)) rev look.path text end → Fits tool look.path (reply r) text end)
+      → ((rev : ℕ) (r : Revision) → rev ≡ asked_revision look.revision h → slice_get h rev ≡ Some r → (text : List ℕ) (end : End) → TextOf look.printed (rev_bytes s.opened.layout (files_now t)) rev look.path text end → Fits tool look.path (reply r) text end)
       → ((asked youngest : ℕ) → in_revision reply asked youngest None ≡ refuses (line_of tool (NoRev asked youngest)) 1)
       → Ended fault → PrintsLook look mount disk write (Some t) old new fault → Given (of_revision look.revision h reply)
   given_look look t h s reply fault short fits lacking ends (inl (inl (e, m, kept))) = mount_failed (of_revision look.revision h reply) (moved fault (Some MountFault) e ends) m kept
@@ -226,6 +226,6 @@ module _ (status : ℕ) (mount disk write told : Type 0) (tool : Tool) (old new 
       let same : of_revision look.revision h reply ≡ reply there.0 = ap (in_revision reply asked (last_of h)) there.1 in
       subst Given (sym same) (ended_look (TextIn look o (files_now t)) look.path (reply there.0) looked.result fault
       (λ text end x. fits asked there.0 refl there.1 text end
-      (subst (λ (n : ℕ). TextOf look.printed (rev_bytes s.opened.shard_size (files_now t)) n look.path text end) is
-      (same_text look p o (files_now t) text end (one_shard (small_texts (files_now t)) p o popens opens) youngest x)))
+      (subst (λ (n : ℕ). TextOf look.printed (rev_bytes s.opened.layout (files_now t)) n look.path text end) is
+      (same_text look p o (files_now t) text end (one_layout (small_texts (files_now t)) p o popens opens) youngest x)))
       (looked.writes short) looked.fault_is ends)

@@ -58,5 +58,5 @@ module _ (mount disk write : Type 0) (tool : Tool) (ws : List (List ℕ)) (clock
     so (inr (inl (why, e, rest))) = absurd (no_fault _ e)
     so (inr (inr (e, absent, (d, (date, dated, files))))) =
         let is = made_of (created_over shard (identifier_of clock dice d) date) (option_map files_now (at_old repos)) (files_now t) (sym (ap (option_map files_now) here) ∙ files) in
-        let holds = creations_hold_new shard d.moment (random_identifier d.bits) date is.0 size.0 (omega (arith, size.1)) dated in
+        let holds = creations_hold_new (record { shard_size = shard; some = omega (arith, size.0); most = omega (arith, size.1) }) d.moment (random_identifier d.bits) date is.0 dated in
         (d.moment, date, d.moment_is, dated, new_repositories_stand (files_now t) date (subst (λ (m : Files). HoldsNew m date) (sym is.1) holds))

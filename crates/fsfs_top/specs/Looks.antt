@@ -70,7 +70,7 @@ looked_revision look o = unwrap_or look.revision o.youngest
 
 -- the same of the files of an opened repository
 abbrev pub TextIn : RevisionLook → Opened → Files → List ℕ → End → Type 0
-TextIn look o files = TextOf look.printed (rev_bytes o.shard_size files) (looked_revision look o) look.path
+TextIn look o files = TextOf look.printed (rev_bytes o.layout files) (looked_revision look o) look.path
 
 -- the named revision is above the youngest
 pub record LacksRevision (look : RevisionLook) (o : Opened) (rev : ℕ) : Type 0 where

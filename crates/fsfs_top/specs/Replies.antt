@@ -46,7 +46,7 @@ pub record Replies (tool : Tool) (words : List (List ℕ)) (at : List ℕ → Op
   pub uuid : (repos : List ℕ) (t : Trace) (o : Opened) → AsksShown Uuid tool words repos → at repos ≡ Some t → IsOpened (small_texts (files_now t)) o → Given (UuidAnswer (Some o.uuid))
   -- of the history that the files stand for, where none has 2^64 bytes or more; the ids that are shown are those of the node-revisions at the paths
   pub tree : (repos : List ℕ) (t : Trace) (h : List Revision) (revision : Option ℕ) (ids : Bool) (path : Path) (shown : Path → List ℕ) → AsksPrinted (Tree ids) revision path tool words repos → at repos ≡ Some t
-      → HasShortFiles (files_now t) → (stands : StandsFor (files_now t) h) → AreShownIds (rev_bytes stands.opened.shard_size (files_now t)) (asked_revision revision h) ids shown → Given (Answer (model.Tree revision shown path) (Some h))
+      → HasShortFiles (files_now t) → (stands : StandsFor (files_now t) h) → AreShownIds (rev_bytes stands.opened.layout (files_now t)) (asked_revision revision h) ids shown → Given (Answer (model.Tree revision shown path) (Some h))
   pub cat : (repos : List ℕ) (t : Trace) (h : List Revision) (revision : Option ℕ) (path : Path) → AsksPrinted Text revision path tool words repos → at repos ≡ Some t
       → HasShortFiles (files_now t) → StandsFor (files_now t) h → Given (Answer (model.Cat revision path) (Some h))
   -- where there is no repository

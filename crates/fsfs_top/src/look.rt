@@ -98,8 +98,7 @@ fn look_into<D: Disk, O: Sink>(
     look: &RevisionLook,
     out: &mut O,
 ) -> (D, Result<(), Fault>)
-    requires shards { 0 < opened.now.shard_size }
-    requires opened { IfSome (option_map files_now (D.trace disk)) (λ m. IsOpened (small_texts m) opened.now) }
+    requires { IfSome (option_map files_now (D.trace disk)) (λ m. IsOpened (small_texts m) opened.now) }
     ensures printed { LooksInto (Rose (D.faults disk) (D.faults result.0)) (Rose (O.faults out.old) (O.faults out.new)) look.now opened.now (option_map files_now (D.trace disk)) (O.written out.old) (O.written out.new) (fault_of result.1) }
     ensures same { D.trace result.0 ≡ D.trace disk }
     ensures mounted { D.mount_path result.0 ≡ D.mount_path disk }
@@ -113,7 +112,7 @@ fn look_into<D: Disk, O: Sink>(
         alloc,
         disk,
         opened.youngest,
-        opened.shard_size,
+        opened.layout,
         opened.min_unpacked_rev,
     );
     let printed = print_look(alloc, &mut book, rev, look, out);

@@ -17,6 +17,7 @@ use fsfs_cli::{CatOrder, Order, Tool, TreeOrder, read_words};
 use fsfs_create::create;
 use fsfs_disk::Host;
 use fsfs_faults::{Fault, print_fault, status};
+use fsfs_layout::Layout;
 use fsfs_repo::open;
 use fsfs_streams::{Clock, Dice, Gate, Sink, Source};
 use std::alloc::Global;
@@ -46,7 +47,8 @@ fn create_at<H: Host, C: Clock, R: Dice>(
     };
     let moment = clock.micros();
     let identifier = Builder::from_random_bytes(dice.bytes16()).into_uuid();
-    let made = create(alloc, &mut disk, identifier, shard, moment);
+    let layout = Layout::sharded(shard);
+    let made = create(alloc, &mut disk, identifier, layout, moment);
     host.unmount(disk);
     match made {
         Ok(()) => Ok(()),

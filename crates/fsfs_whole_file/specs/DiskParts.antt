@@ -1,5 +1,5 @@
 -- What a disk tells of a file.
-use Rattle.std.specs.Prelude.{◌≡◌, ℕ, List, Option, Some}
+use Rattle.std.specs.Prelude.{◌≡◌, ℕ, Bool, List, Option, Some}
 use Rattle.std.proofs.Common.{refl, sym, subst, ◌∙◌}
 use Rattle.fsfs_disk.specs.Trace.{Trace, file_at}
 
@@ -10,16 +10,17 @@ pub record TellsFile (told : Option Trace) (name : List ℕ) (file : Option (Lis
   pub file_is : file_at trace name ≡ file
 
 -- the disk behind a reference is as it was, and it is the same reference
-pub record IsAsBefore (old new : Option Trace) (old_path new_path : List ℕ) (old_reference new_reference : ℕ) : Type 0 where
+pub record IsAsBefore (old new : Option Trace) (old_path new_path : List ℕ) (old_right new_right : Bool) (old_reference new_reference : ℕ) : Type 0 where
   pub trace : new ≡ old
   pub mounted : new_path ≡ old_path
+  pub right : new_right ≡ old_right
   pub reference : new_reference ≡ old_reference
 
-pub before_none : (told : Option Trace) (path : List ℕ) (n : ℕ) → IsAsBefore told told path path n n
-before_none told path n = record { trace = refl; mounted = refl; reference = refl }
+pub before_none : (told : Option Trace) (path : List ℕ) (right : Bool) (n : ℕ) → IsAsBefore told told path path right right n n
+before_none told path right n = record { trace = refl; mounted = refl; right = refl; reference = refl }
 
-pub before_both : (a b c : Option Trace) (p q r : List ℕ) (k m n : ℕ) → IsAsBefore a b p q k m → IsAsBefore b c q r m n → IsAsBefore a c p r k n
-before_both a b c p q r k m n e f = record { trace = f.trace ∙ e.trace; mounted = f.mounted ∙ e.mounted; reference = f.reference ∙ e.reference }
+pub before_both : (a b c : Option Trace) (p q r : List ℕ) (s t u : Bool) (k m n : ℕ) → IsAsBefore a b p q s t k m → IsAsBefore b c q r t u m n → IsAsBefore a c p r s u k n
+before_both a b c p q r s t u k m n e f = record { trace = f.trace ∙ e.trace; mounted = f.mounted ∙ e.mounted; right = f.right ∙ e.right; reference = f.reference ∙ e.reference }
 
 pub tells_again : (old new : Option Trace) (name : List ℕ) (file : Option (List ℕ)) → new ≡ old → TellsFile old name file → TellsFile new name file
 tells_again old new name file e t = subst (λ (o : Option Trace). TellsFile o name file) (sym e) t

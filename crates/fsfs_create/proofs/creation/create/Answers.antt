@@ -17,9 +17,9 @@ returns-in-Ok-clause-created g c =
     let date = c.in_ok-date.date.items in
     let id = identifier_text c.args.identifier in
     let files : map named c.deref-2.result.now ≡ unpublished_files id date = ap (map named) c.deref-2.ensures.value ∙ c.in_ok-files.ensures ∙ ap (unpublished_files id) c.deref.ensures.value in
-    let format : c.deref-3.result.now ≡ format_text c.args.shard = c.deref-3.ensures.value ∙ c.in_ok-format.ensures.text in
-    let done = ended_so c.args.shard id date (map named c.deref-2.result.now) c.deref-3.result.now old (told c.size.new.self) new files format c.in-Ok-None.ensures.same c.in-Ok.ensures.done in
-    (date, c.in_ok-date.ensures, created_files_now c.args.shard id date old new done)
+    let format : c.deref-3.result.now ≡ format_text c.args.layout.shard_size = c.deref-3.ensures.value ∙ c.in_ok-format.ensures.text ∙ ap format_text c.shard_size.ensures.size in
+    let done = ended_so c.args.layout.shard_size id date (map named c.deref-2.result.now) c.deref-3.result.now old (told c.size.new.self) new files format c.in-Ok-None.ensures.same c.in-Ok.ensures.done in
+    (date, c.in_ok-date.ensures, created_files_now c.args.layout.shard_size id date old new done)
 
 pub returns-in-Ok-clause-fresh : goal.returns-in-Ok-clause-fresh
 returns-in-Ok-clause-fresh g c = not_there (g.D.Disk.trace c.args.disk.now) c.format.result c.in-Ok-None.field-0 c.format.ensures c.in-Ok-None.field-0-is c.in-Ok-None.ensures.length
@@ -35,9 +35,9 @@ returns-in-Ok-clause-any_moment g c = λ all.
     let date = c.in_ok-date.date.items in
     let id = identifier_text c.args.identifier in
     let files : map named c.deref-2.result.now ≡ unpublished_files id date = ap (map named) c.deref-2.ensures.value ∙ c.in_ok-files.ensures ∙ ap (unpublished_files id) c.deref.ensures.value in
-    let format : c.deref-3.result.now ≡ format_text c.args.shard = c.deref-3.ensures.value ∙ c.in_ok-format.ensures.text in
-    let done = ended_so c.args.shard id date (map named c.deref-2.result.now) c.deref-3.result.now old (told c.size.new.self) new files format c.in-Ok-None.ensures.same c.in-Ok.ensures.done in
-    leaves_whole c.args.shard id date c.args.moment old new c.in_ok-date.ensures (leaves_done (unpublished_files id date) (format_text c.args.shard) old new (no_format id date) done all)
+    let format : c.deref-3.result.now ≡ format_text c.args.layout.shard_size = c.deref-3.ensures.value ∙ c.in_ok-format.ensures.text ∙ ap format_text c.shard_size.ensures.size in
+    let done = ended_so c.args.layout.shard_size id date (map named c.deref-2.result.now) c.deref-3.result.now old (told c.size.new.self) new files format c.in-Ok-None.ensures.same c.in-Ok.ensures.done in
+    leaves_whole c.args.layout.shard_size id date c.args.moment old new c.in_ok-date.ensures (leaves_done (unpublished_files id date) (format_text c.args.layout.shard_size) old new (no_format id date) done all)
 
 pub returns-clause-refused : goal.returns-clause-refused
 returns-clause-refused g c =
@@ -48,9 +48,9 @@ returns-clause-refused g c =
     let date = c.in_ok-date.date.items in
     let id = identifier_text c.args.identifier in
     let files : map named c.deref-2.result.now ≡ unpublished_files id date = ap (map named) c.deref-2.ensures.value ∙ c.in_ok-files.ensures ∙ ap (unpublished_files id) c.deref.ensures.value in
-    let format : c.deref-3.result.now ≡ format_text c.args.shard = c.deref-3.ensures.value ∙ c.in_ok-format.ensures.text in
-    let stopped = stopped_so c.in-Err-write_files.place c.args.shard id date (map named c.deref-2.result.now) c.deref-3.result.now old (told c.size.new.self) new files format c.in-Ok-None.ensures.same c.in-Err-write_files.ensures.stopped in
-    (rose, is_stopped c.in-Err-write_files.place c.args.shard id date c.args.moment old new c.in_ok-date.ensures stopped)
+    let format : c.deref-3.result.now ≡ format_text c.args.layout.shard_size = c.deref-3.ensures.value ∙ c.in_ok-format.ensures.text ∙ ap format_text c.shard_size.ensures.size in
+    let stopped = stopped_so c.in-Err-write_files.place c.args.layout.shard_size id date (map named c.deref-2.result.now) c.deref-3.result.now old (told c.size.new.self) new files format c.in-Ok-None.ensures.same c.in-Err-write_files.ensures.stopped in
+    (rose, is_stopped c.in-Err-write_files.place c.args.layout.shard_size id date c.args.moment old new c.in_ok-date.ensures stopped)
 
 pub returns-clause-there_same : goal.returns-clause-there_same
 returns-clause-there_same g c = λ t is here. absurd (not_both (g.D.Disk.trace c.args.disk.now) t (not_there (g.D.Disk.trace c.args.disk.now) c.format.result c.in-Ok-None.field-0 c.format.ensures c.in-Ok-None.field-0-is c.in-Ok-None.ensures.length) is here)
@@ -63,10 +63,10 @@ returns-clause-any_moment g c = λ all.
     let date = c.in_ok-date.date.items in
     let id = identifier_text c.args.identifier in
     let files : map named c.deref-2.result.now ≡ unpublished_files id date = ap (map named) c.deref-2.ensures.value ∙ c.in_ok-files.ensures ∙ ap (unpublished_files id) c.deref.ensures.value in
-    let format : c.deref-3.result.now ≡ format_text c.args.shard = c.deref-3.ensures.value ∙ c.in_ok-format.ensures.text in
-    let stopped = stopped_so c.in-Err-write_files.place c.args.shard id date (map named c.deref-2.result.now) c.deref-3.result.now old (told c.size.new.self) new files format c.in-Ok-None.ensures.same c.in-Err-write_files.ensures.stopped in
-    leaves_whole c.args.shard id date c.args.moment old new c.in_ok-date.ensures
-    (leaves_stopped c.in-Err-write_files.place (unpublished_files id date) (format_text c.args.shard) old new (no_format id date) stopped all)
+    let format : c.deref-3.result.now ≡ format_text c.args.layout.shard_size = c.deref-3.ensures.value ∙ c.in_ok-format.ensures.text ∙ ap format_text c.shard_size.ensures.size in
+    let stopped = stopped_so c.in-Err-write_files.place c.args.layout.shard_size id date (map named c.deref-2.result.now) c.deref-3.result.now old (told c.size.new.self) new files format c.in-Ok-None.ensures.same c.in-Err-write_files.ensures.stopped in
+    leaves_whole c.args.layout.shard_size id date c.args.moment old new c.in_ok-date.ensures
+    (leaves_stopped c.in-Err-write_files.place (unpublished_files id date) (format_text c.args.layout.shard_size) old new (no_format id date) stopped all)
 
 pub returns-in-Ok-clause-firm : goal.returns-in-Ok-clause-firm
 returns-in-Ok-clause-firm g c =
@@ -76,7 +76,7 @@ returns-in-Ok-clause-firm g c =
     let date = c.in_ok-date.date.items in
     let id = identifier_text c.args.identifier in
     let files : map named c.deref-2.result.now ≡ unpublished_files id date = ap (map named) c.deref-2.ensures.value ∙ c.in_ok-files.ensures ∙ ap (unpublished_files id) c.deref.ensures.value in
-    let format : c.deref-3.result.now ≡ format_text c.args.shard = c.deref-3.ensures.value ∙ c.in_ok-format.ensures.text in
-    let done = ended_so c.args.shard id date (map named c.deref-2.result.now) c.deref-3.result.now old (told c.size.new.self) new files format c.in-Ok-None.ensures.same c.in-Ok.ensures.done in
+    let format : c.deref-3.result.now ≡ format_text c.args.layout.shard_size = c.deref-3.ensures.value ∙ c.in_ok-format.ensures.text ∙ ap format_text c.shard_size.ensures.size in
+    let done = ended_so c.args.layout.shard_size id date (map named c.deref-2.result.now) c.deref-3.result.now old (told c.size.new.self) new files format c.in-Ok-None.ensures.same c.in-Ok.ensures.done in
     let firm = option_map (after_firm (unpublished_files id date)) old in
-    firm_after (option_map (after_rename (format_text c.args.shard)) firm) new (last_done (unpublished_files id date) (format_text c.args.shard) old new firm done refl)
+    firm_after (option_map (after_rename (format_text c.args.layout.shard_size)) firm) new (last_done (unpublished_files id date) (format_text c.args.layout.shard_size) old new firm done refl)

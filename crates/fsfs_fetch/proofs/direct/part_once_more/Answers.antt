@@ -14,7 +14,7 @@ returns-in_err-refresh-clause-told g c = λ m p.
     let w = g.R.Reads.view c.refresh.new.reads in
     let r = err_from_is_err_and c.from_residual.result c.from_residual.ensures.1 in
     let h = fresh_fault v w m c.args.rev c.refresh.new.floor c.in_err-refresh.field-0.0 c.in_err-refresh.ensures.later p c.in_err-refresh.ensures.told in
-    rw (r.1, r.2) (floor_err {X = ℕ} (λ n. take n c.args.buffer.now) c.args.rev c.args.offset (length c.args.buffer.now) (floor_in w.shard_size h.0) (rev_bytes v.shard_size m c.args.rev) c.refresh.new.floor c.in_err-refresh.field-0.0 (λ fault is. sym h.2 ∙ bytes_fault w.shard_size h.0 c.args.rev fault is) h.1)
+    rw (r.1, r.2) (floor_err {X = ℕ} (λ n. take n c.args.buffer.now) c.args.rev c.args.offset (length c.args.buffer.now) (floor_in w.layout h.0) (rev_bytes v.layout m c.args.rev) c.refresh.new.floor c.in_err-refresh.field-0.0 (λ fault is. sym h.2 ∙ bytes_fault w.layout h.0 c.args.rev fault is) h.1)
 
 pub returns-in_err-refresh-clause-finds : goal.returns-in_err-refresh-clause-finds
 returns-in_err-refresh-clause-finds g c =
@@ -47,9 +47,9 @@ returns-in_err-file_part-clause-told g c = λ m p.
     let w = g.R.Reads.view c.refresh.new.reads in
     let x = g.R.Reads.view c.file_part.new.reads in
     let f = fresh_floor v w m c.args.rev c.refresh.new.floor c.in_ok-refresh.ensures.later p c.in_ok-refresh.ensures.told in
-    let goes = fresh_goes v w m c.args.rev c.refresh.new.floor c.shard_size.result c.revision-name.result f c.shard_size.ensures.size c.revision-name.ensures in
+    let goes = fresh_goes v w m c.args.rev c.refresh.new.floor c.layout.result c.revision-name.result f c.layout.ensures c.revision-name.ensures in
     let r = err_from_is_err_and c.from_residual-in_err-file_part.result c.from_residual-in_err-file_part.ensures.1 in
-    rw (r.1, r.2) (gone_err {X = ℕ} {Y = List ℕ} {Z = ℕ} (λ n. take n c.file_part.new.buffer) (λ n. take n c.file_part.new.buffer) (part_of_file c.args.rev c.args.offset (length c.args.buffer.now)) (rev_file w.shard_size f.new c.args.rev) _ x.files c.revision-name.result c.in_err-file_part.field-0.0 f.gone (c.in_err-file_part.ensures.told _ goes))
+    rw (r.1, r.2) (gone_err {X = ℕ} {Y = List ℕ} {Z = ℕ} (λ n. take n c.file_part.new.buffer) (λ n. take n c.file_part.new.buffer) (part_of_file c.args.rev c.args.offset (length c.args.buffer.now)) (rev_file w.layout f.new c.args.rev) _ x.files c.revision-name.result c.in_err-file_part.field-0.0 f.gone (c.in_err-file_part.ensures.told _ goes))
 
 pub returns-in_err-file_part-clause-finds : goal.returns-in_err-file_part-clause-finds
 returns-in_err-file_part-clause-finds g c =
@@ -88,6 +88,6 @@ returns-in-Some-clause-told g c = λ m p.
     let w = g.R.Reads.view c.refresh.new.reads in
     let x = g.R.Reads.view c.file_part.new.reads in
     let f = fresh_floor v w m c.args.rev c.refresh.new.floor c.in_ok-refresh.ensures.later p c.in_ok-refresh.ensures.told in
-    let goes = fresh_goes v w m c.args.rev c.refresh.new.floor c.shard_size.result c.revision-name.result f c.shard_size.ensures.size c.revision-name.ensures in
-    let P : Option ℕ → Type 0 = λ o. FromFile {X = ℕ} {Y = List ℕ} (rev_file w.shard_size f.new c.args.rev) x.files c.revision-name.result (λ n. take n c.file_part.new.buffer) (part_of_file c.args.rev c.args.offset (length c.args.buffer.now)) (Ok o) in
-    gone_some {X = ℕ} {Y = List ℕ} (λ n. take n c.file_part.new.buffer) (part_of_file c.args.rev c.args.offset (length c.args.buffer.now)) (rev_file w.shard_size f.new c.args.rev) _ x.files c.revision-name.result c.in-Some.count f.gone (subst P c.in-Some.is (c.in_ok-file_part.ensures.told _ goes))
+    let goes = fresh_goes v w m c.args.rev c.refresh.new.floor c.layout.result c.revision-name.result f c.layout.ensures c.revision-name.ensures in
+    let P : Option ℕ → Type 0 = λ o. FromFile {X = ℕ} {Y = List ℕ} (rev_file w.layout f.new c.args.rev) x.files c.revision-name.result (λ n. take n c.file_part.new.buffer) (part_of_file c.args.rev c.args.offset (length c.args.buffer.now)) (Ok o) in
+    gone_some {X = ℕ} {Y = List ℕ} (λ n. take n c.file_part.new.buffer) (part_of_file c.args.rev c.args.offset (length c.args.buffer.now)) (rev_file w.layout f.new c.args.rev) _ x.files c.revision-name.result c.in-Some.count f.gone (subst P c.in-Some.is (c.in_ok-file_part.ensures.told _ goes))

@@ -21,5 +21,5 @@ returns-clause-told g c = λ m rev p e.
 pub returns-clause-serves : goal.returns-clause-serves
 returns-clause-serves g c = λ m rev p.
     let view = g.R.Reads.view c.args.reads.now in
-    read_serves view.shard_size m rev c.args.shard c.in_ok-offsets.offsets.items
+    read_serves view.layout m rev c.args.shard c.in_ok-offsets.offsets.items
     (λ e. refused_ok _ _ (c.in_ok-offsets.ensures.told _ (manifest_stays view c.args.kept.now rev m c.args.shard p e)))

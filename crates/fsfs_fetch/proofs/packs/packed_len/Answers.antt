@@ -6,7 +6,7 @@ pub returns-in_err-section-clause-told : goal.returns-in_err-section-clause-told
 returns-in_err-section-clause-told g c = λ m p.
     let v = g.R.Reads.view c.args.reads.now in
     let r = err_from_is_err_and c.from_residual.result c.from_residual.ensures.1 in
-    rw (r.1, r.2) (len_err v.shard_size m c.args.rev c.in_err-section.field-0.0 (c.in_err-section.ensures.told m p))
+    rw (r.1, r.2) (len_err v.layout m c.args.rev c.in_err-section.field-0.0 (c.in_err-section.ensures.told m p))
 
 pub returns-in_err-section-clause-about : goal.returns-in_err-section-clause-about
 returns-in_err-section-clause-about g c =

@@ -8,7 +8,7 @@ pub returns-in_err-section-clause-told : goal.returns-in_err-section-clause-told
 returns-in_err-section-clause-told g c = λ m p.
     let v = g.R.Reads.view c.args.reads.now in
     let r = err_from_is_err_and c.from_residual.result c.from_residual.ensures.1 in
-    rw (r.1, r.2) (part_stops {X = ℕ} (λ n. take n c.args.buffer.now) v.shard_size m c.args.rev c.args.offset _ c.in_err-section.field-0.0 (c.in_err-section.ensures.told m p))
+    rw (r.1, r.2) (part_stops {X = ℕ} (λ n. take n c.args.buffer.now) v.layout m c.args.rev c.args.offset _ c.in_err-section.field-0.0 (c.in_err-section.ensures.told m p))
 
 pub returns-in_err-section-clause-about : goal.returns-in_err-section-clause-about
 returns-in_err-section-clause-about g c =
@@ -29,6 +29,6 @@ pub returns-clause-told : goal.returns-clause-told
 returns-clause-told g c = λ m p.
     let v = g.R.Reads.view c.args.reads.now in
     let w = g.R.Reads.view c.packed_section.new.reads in
-    let s = is_section v.shard_size m c.args.rev c.in_ok-section.section (c.in_ok-section.ensures.told m p) in
+    let s = is_section v.layout m c.args.rev c.in_ok-section.section (c.in_ok-section.ensures.told m p) in
     let stays = pack_of v w c.args.kept.now c.args.rev m s.pack p s.there c.in_ok-section.ensures.later in
     part_whole {X = ℕ} (λ n. take n c.section_part.new.buffer) c.section_part.result c.args.rev c.args.offset _ _ _ s.bytes (c.section_part.ensures.told s.pack stays s.within)

@@ -1,9 +1,10 @@
-use Rattle.std.proofs.Common.{◌≡◌, ◌+◌, ◌/◌, ℕ, List, length, take, refl, sym, ap, subst, ◌∙◌, arith}
+use Rattle.std.proofs.Common.{◌≡◌, ◌+◌, ℕ, List, length, take, refl, sym, ap, subst, ◌∙◌, arith}
 use Rattle.std.specs.Prelude.{Option, Some, IfSome, codes}
 use Rattle.std.proofs.lemmas.List.{length-take}
 use Rattle.std.specs.FinMap as map
 use Rattle.fsfs_disk.specs.Trace.{IsRead}
 use Rattle.fsfs_layout.specs.Names.{in_pack}
+use Rattle.fsfs_layout.specs.Layouts.{shard_of}
 use Rattle.fsfs_fetch.specs.Answers.{Stays}
 use Rattle.fsfs_fetch.proofs.FileLemmas.{read_stays}
 use Rattle.fsfs_fetch.proofs.PackLemmas.{section_part_ok}
@@ -16,7 +17,7 @@ returns-in-Some-clause-told g c = λ pack s within.
     let count = c.fitting-count.result in
     let at = c.args.section.start + c.args.offset in
     let sub = take count c.args.buffer.now in
-    let named : in_pack (c.args.rev / v.shard_size) (codes "/pack") ≡ c.pack.result = ap (λ k. in_pack (c.args.rev / k) (codes "/pack")) (sym c.shard_size.ensures.size) ∙ sym c.pack.ensures in
+    let named : in_pack (shard_of v.layout c.args.rev) (codes "/pack") ≡ c.pack.result = ap (λ k. in_pack k (codes "/pack")) (sym (c.shard_of-shard.ensures ∙ ap (λ l. shard_of l c.args.rev) c.layout.ensures)) ∙ sym c.pack.ensures in
     let t : Stays v c.pack.result (Some pack) = subst (λ n. Stays v n (Some pack)) named s in
     let h = subst (λ o. IfSome w.files (λ m. IsRead (map.get m c.pack.result) at sub c.read_at.new.buffer o)) c.in-Some.is c.in_ok-read_at.ensures.bytes in
     let P : Option (List ℕ) → Type 0 = λ f. IsRead f at sub c.read_at.new.buffer (Some c.in-Some.found) in

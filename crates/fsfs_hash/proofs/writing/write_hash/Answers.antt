@@ -4,6 +4,7 @@ use Rattle.std.proofs.lemmas.Map.Iter.{rest_more, rest_all}
 use Rattle.fsfs_grammar.proofs.Readers.{appends_then, appends_mapped}
 use Rattle.fsfs_hash.specs.Dump.{Entries, Pair, put_all}
 use Rattle.fsfs_hash.proofs.PutPairs.{pair_of, pairs_of, ascending, put_all-ascending}
+use Rattle.fsfs_hash.proofs.OneText.{entries_one}
 use Rattle.fsfs_hash.proofs.writing.write_hash.Goals as goal
 
 pub loop-key-preserved : goal.loop-key-preserved
@@ -34,3 +35,10 @@ returns-clause-in_order c =
     let last : Entries (69 ∷ 78 ∷ 68 ∷ 10 ∷ []) (map pair_of c.loop-key.key-iterator) = rw none (tt, refl) in
     let whole = c.loop-key.invariant (69 ∷ 78 ∷ 68 ∷ 10 ∷ []) last in
     subst (λ (t : List ℕ). Entries t c.args.pairs.now) (sym c.in_ok-extend_from_slice.ensures.items) whole
+
+pub returns-clause-text : goal.returns-clause-text
+returns-clause-text c =
+    let none : c.loop-key.key-iterator ≡ [] = rest_all deref_pair c.loop-key.key-iterator c.next.new.self c.next.result c.in-None.is c.next.ensures.steps in
+    let last : Entries (69 ∷ 78 ∷ 68 ∷ 10 ∷ []) (map pair_of c.loop-key.key-iterator) = rw none (tt, refl) in
+    let whole = c.loop-key.invariant (69 ∷ 78 ∷ 68 ∷ 10 ∷ []) last in
+    entries_one _ c.args.pairs.now (subst (λ (t : List ℕ). Entries t c.args.pairs.now) (sym c.in_ok-extend_from_slice.ensures.items) whole)

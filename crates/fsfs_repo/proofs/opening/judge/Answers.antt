@@ -1,14 +1,20 @@
-use Rattle.std.proofs.Common.{◌<◌, subst, sym, rules, inl}
+use Rattle.std.proofs.Common.{◌≡◌, ◌∙◌, ap, subst, sym, rules, inl, inr, ℕ, List}
 use Rattle.fsfs_layout.specs.Opening.{IsFsfs, IsRefusedFormat}
 use Rattle.fsfs_repo.specs.OpenFaults.{texts_of}
 use Rattle.fsfs_layout.specs.Formats.{IsFormat}
+use Rattle.fsfs_layout.specs.declared.layout.Layout.{Layout}
+use Rattle.fsfs_layout.specs.declared.format_file.Format.TheVariants.{Sharded}
 use Rattle.fsfs_repo.proofs.DecidingLemmas.{decides_other, decides_linear, decides_unread, decides_opened, decides_refused}
-use Rattle.fsfs_repo.proofs.OpeningLemmas.{shards_above}
+use Rattle.fsfs_repo.proofs.OpeningLemmas.{shards_fit}
 use Rattle.fsfs_repo.proofs.opening.judge.Goals as goal
 
-pub judge_sharded-requires : goal.judge_sharded-requires
-judge_sharded-requires c =
-    shards_above c.deref.result.now c.in-Ok-Sharded.shard_size (subst (IsFormat c.deref.result.now) c.in-Ok-Sharded.field-0-is c.in-Ok-Sharded.ensures.found)
+pub sharded-requires-clause-some : goal.sharded-requires-clause-some
+sharded-requires-clause-some c =
+    (shards_fit c.deref.result.now c.in-Ok-Sharded.shard_size (subst (IsFormat c.deref.result.now) c.in-Ok-Sharded.field-0-is c.in-Ok-Sharded.ensures.found)).0
+
+pub sharded-requires-clause-most : goal.sharded-requires-clause-most
+sharded-requires-clause-most c =
+    (shards_fit c.deref.result.now c.in-Ok-Sharded.shard_size (subst (IsFormat c.deref.result.now) c.in-Ok-Sharded.field-0-is c.in-Ok-Sharded.ensures.found)).1
 
 pub returns-in-Ok-Other-clause-decided : goal.returns-in-Ok-Other-clause-decided
 returns-in-Ok-Other-clause-decided c =
@@ -25,15 +31,15 @@ returns-in-Ok-Linear-clause-decided c =
 pub returns-in-Ok-clause-decided : goal.returns-in-Ok-clause-decided
 returns-in-Ok-clause-decided c =
     let is : IsFsfs (texts_of c.args.files.now) c.in-Some.format.items = search rules in
-    decides_opened (texts_of c.args.files.now) c.in-Some.format.items c.in-Ok-Sharded.shard_size c.in-Ok.opened
-    (record { is = is; only = λ g w. let e = c.in-Ok-Sharded.ensures.only g (subst (λ t. IsFormat t g) (sym c.deref.ensures.value) w) in let f = c.in-Ok-Sharded.field-0-is in cc })
+    decides_opened (texts_of c.args.files.now) c.in-Some.format.items c.sharded.result c.in-Ok.opened
+    (record { is = is; only = λ g w. let e = c.in-Ok-Sharded.ensures.only g (subst (λ t. IsFormat t g) (sym c.deref.ensures.value) w) in let f = c.in-Ok-Sharded.field-0-is in let n = c.sharded.ensures in cc })
     c.in-Ok.ensures.only
 
 pub returns-in-Err-judge_sharded-clause-decided : goal.returns-in-Err-judge_sharded-clause-decided
 returns-in-Err-judge_sharded-clause-decided c =
     let is : IsFsfs (texts_of c.args.files.now) c.in-Some.format.items = search rules in
-    decides_refused (texts_of c.args.files.now) c.in-Some.format.items c.in-Ok-Sharded.shard_size c.in-Err-judge_sharded.fault
-    (record { is = is; only = λ g w. let e = c.in-Ok-Sharded.ensures.only g (subst (λ t. IsFormat t g) (sym c.deref.ensures.value) w) in let f = c.in-Ok-Sharded.field-0-is in cc })
+    decides_refused (texts_of c.args.files.now) c.in-Some.format.items c.sharded.result c.in-Err-judge_sharded.fault
+    (record { is = is; only = λ g w. let e = c.in-Ok-Sharded.ensures.only g (subst (λ t. IsFormat t g) (sym c.deref.ensures.value) w) in let f = c.in-Ok-Sharded.field-0-is in let n = c.sharded.ensures in cc })
     c.in-Err-judge_sharded.ensures.only
 
 pub returns-in-Err-clause-decided : goal.returns-in-Err-clause-decided
@@ -42,10 +48,28 @@ returns-in-Err-clause-decided c =
     decides_unread (texts_of c.args.files.now) c.in-Some.format.items c.in-Err.fault
     (record { is = is; only = λ g w. let e = c.in-Err.ensures.only g (subst (λ t. IsFormat t g) (sym c.deref.ensures.value) w) in cc })
 
-pub returns-in-Ok-clause-shards : goal.returns-in-Ok-clause-shards
-returns-in-Ok-clause-shards c =
-    subst (λ n. 0 < n) (sym c.in-Ok.ensures.shards)
-    (shards_above c.deref.result.now c.in-Ok-Sharded.shard_size (subst (IsFormat c.deref.result.now) c.in-Ok-Sharded.field-0-is c.in-Ok-Sharded.ensures.found))
+pub returns-in-Ok-clause-opened : goal.returns-in-Ok-clause-opened
+returns-in-Ok-clause-opened c =
+    let is : IsFsfs (texts_of c.args.files.now) c.in-Some.format.items = search rules in
+    let found : IsFormat c.deref.result.now (Sharded c.in-Ok-Sharded.shard_size) = subst (IsFormat c.deref.result.now) c.in-Ok-Sharded.field-0-is c.in-Ok-Sharded.ensures.found in
+    let size : c.in-Ok-Sharded.shard_size ≡ c.in-Ok.opened.layout.shard_size = sym c.sharded.ensures ∙ ap (λ (l : Layout). l.shard_size) (sym c.in-Ok.ensures.layout) in
+    record {
+      format = (c.in-Some.format.items, is, subst (λ (t : List ℕ). IsFormat t (Sharded c.in-Ok.opened.layout.shard_size)) c.deref.ensures.value (subst (λ (n : ℕ). IsFormat c.deref.result.now (Sharded n)) size found));
+      behind = c.in-Ok.ensures.opened;
+    }
+
+pub returns-in-Err-judge_sharded-clause-refused : goal.returns-in-Err-judge_sharded-clause-refused
+returns-in-Err-judge_sharded-clause-refused c =
+    let is : IsFsfs (texts_of c.args.files.now) c.in-Some.format.items = search rules in
+    let found : IsFormat c.deref.result.now (Sharded c.in-Ok-Sharded.shard_size) = subst (IsFormat c.deref.result.now) c.in-Ok-Sharded.field-0-is c.in-Ok-Sharded.ensures.found in (
+      c.in-Some.format.items,
+      is,
+      inr (
+        c.sharded.result,
+        subst (λ (t : List ℕ). IsFormat t (Sharded c.sharded.result.shard_size)) c.deref.ensures.value (subst (λ (n : ℕ). IsFormat c.deref.result.now (Sharded n)) (sym c.sharded.ensures) found),
+        c.in-Err-judge_sharded.ensures.refused,
+      ),
+    )
 
 pub returns-in-Err-clause-refused : goal.returns-in-Err-clause-refused
 returns-in-Err-clause-refused c =

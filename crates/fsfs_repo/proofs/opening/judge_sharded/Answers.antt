@@ -8,18 +8,18 @@ use Rattle.fsfs_repo.proofs.opening.judge_sharded.Goals as goal
 pub returns-in_err-min_unpacked_rev-clause-refused : goal.returns-in_err-min_unpacked_rev-clause-refused
 returns-in_err-min_unpacked_rev-clause-refused c =
     let p = err_from_is_err_and c.from_residual-in_err-min_unpacked_rev.result c.from_residual-in_err-min_unpacked_rev.ensures.1 in
-    rw (p.1, p.2) (refused_floor c.args.shard_size (texts_of c.args.files.now) c.deref.result.now c.deref-2.result.now c.deref-3.result.now c.in_ok-uuid.uuid c.in_ok-youngest.youngest _
+    rw (p.1, p.2) (refused_floor c.args.layout (texts_of c.args.files.now) c.deref.result.now c.deref-2.result.now c.deref-3.result.now c.in_ok-uuid.uuid c.in_ok-youngest.youngest _
     c.deref.ensures.value c.in_ok-uuid.ensures.found c.deref-2.ensures.value c.in_ok-youngest.ensures.found c.deref-3.ensures.value c.in_err-min_unpacked_rev.ensures.fault)
 
 pub returns-then-min_unpacked_rev-youngest-clause-refused : goal.returns-then-min_unpacked_rev-youngest-clause-refused
 returns-then-min_unpacked_rev-youngest-clause-refused c =
-    refused_past c.args.shard_size (texts_of c.args.files.now) c.deref.result.now c.deref-2.result.now c.deref-3.result.now c.in_ok-uuid.uuid c.in_ok-youngest.youngest c.in_ok-min_unpacked_rev.min_unpacked_rev _
+    refused_past c.args.layout (texts_of c.args.files.now) c.deref.result.now c.deref-2.result.now c.deref-3.result.now c.in_ok-uuid.uuid c.in_ok-youngest.youngest c.in_ok-min_unpacked_rev.min_unpacked_rev _
     c.deref.ensures.value c.in_ok-uuid.ensures.found c.deref-2.ensures.value c.in_ok-youngest.ensures.found c.deref-3.ensures.value c.in_ok-min_unpacked_rev.ensures.found (omega arith) refl refl
 
 pub returns-in_err-next_txn-clause-refused : goal.returns-in_err-next_txn-clause-refused
 returns-in_err-next_txn-clause-refused c =
     let p = err_from_is_err_and c.from_residual-in_err-next_txn.result c.from_residual-in_err-next_txn.ensures.1 in
-    rw (p.1, p.2) (refused_txn c.args.shard_size (texts_of c.args.files.now) c.deref.result.now c.deref-2.result.now c.deref-3.result.now c.deref-4.result.now c.in_ok-uuid.uuid c.in_ok-youngest.youngest c.in_ok-min_unpacked_rev.min_unpacked_rev _
+    rw (p.1, p.2) (refused_txn c.args.layout (texts_of c.args.files.now) c.deref.result.now c.deref-2.result.now c.deref-3.result.now c.deref-4.result.now c.in_ok-uuid.uuid c.in_ok-youngest.youngest c.in_ok-min_unpacked_rev.min_unpacked_rev _
     c.deref.ensures.value c.in_ok-uuid.ensures.found c.deref-2.ensures.value c.in_ok-youngest.ensures.found c.deref-3.ensures.value c.in_ok-min_unpacked_rev.ensures.found (omega arith) c.deref-4.ensures.value (λ x w. c.in_err-next_txn.ensures.only x w, c.in_err-next_txn.ensures.fault))
 
 pub returns-in_err-uuid-clause-only : goal.returns-in_err-uuid-clause-only
@@ -34,10 +34,10 @@ returns-in_err-next_txn-clause-only c = λ o e w. absurd (c.in_err-next_txn.ensu
 pub returns-in_err-uuid-clause-refused : goal.returns-in_err-uuid-clause-refused
 returns-in_err-uuid-clause-refused c =
     let p = err_from_is_err_and c.from_residual.result c.from_residual.ensures.1 in
-    rw (p.1, p.2) (refused_uuid c.args.shard_size (texts_of c.args.files.now) c.deref.result.now _ c.deref.ensures.value (λ x w. (let h = c.in_err-uuid.ensures.only x w in cc), c.in_err-uuid.ensures.fault))
+    rw (p.1, p.2) (refused_uuid c.args.layout (texts_of c.args.files.now) c.deref.result.now _ c.deref.ensures.value (λ x w. (let h = c.in_err-uuid.ensures.only x w in cc), c.in_err-uuid.ensures.fault))
 
 pub returns-in_err-youngest-clause-refused : goal.returns-in_err-youngest-clause-refused
 returns-in_err-youngest-clause-refused c =
     let p = err_from_is_err_and c.from_residual-in_err-youngest.result c.from_residual-in_err-youngest.ensures.1 in
-    rw (p.1, p.2) (refused_current c.args.shard_size (texts_of c.args.files.now) c.deref.result.now c.deref-2.result.now c.in_ok-uuid.uuid _
+    rw (p.1, p.2) (refused_current c.args.layout (texts_of c.args.files.now) c.deref.result.now c.deref-2.result.now c.in_ok-uuid.uuid _
     c.deref.ensures.value c.in_ok-uuid.ensures.found c.deref-2.ensures.value (λ x w. (let h = c.in_err-youngest.ensures.only x w in cc), c.in_err-youngest.ensures.fault))

@@ -13,7 +13,7 @@ returns-in-Ok-printed-clause-printed g c =
     inr (record {
       there = subst (λ n. n ≤ o.youngest) c.in-Ok.ensures.found.0 c.in-Ok.ensures.found.1;
       result = r;
-      writes = into_writes (g.D.Disk.trace c.args.disk) look o c.in-Ok.rev _ (g.O.Sink.written c.args.out.now) (g.O.Sink.written c.print_look-printed.new.out) r c.requires.opened c.over_disk-book.ensures.told
+      writes = into_writes (g.D.Disk.trace c.args.disk) look o c.in-Ok.rev _ (g.O.Sink.written c.args.out.now) (g.O.Sink.written c.print_look-printed.new.out) r c.requires c.over_disk-book.ensures.told
           c.in-Ok.ensures.found.0 c.in-Ok.ensures.found.1 c.in-Ok-printed.ensures.told;
       fault_is = refl;
     })
@@ -28,7 +28,7 @@ returns-in-Err-printed-clause-printed g c =
     inr (record {
       there = subst (λ n. n ≤ o.youngest) c.in-Ok.ensures.found.0 c.in-Ok.ensures.found.1;
       result = r;
-      writes = into_writes (g.D.Disk.trace c.args.disk) look o c.in-Ok.rev _ (g.O.Sink.written c.args.out.now) (g.O.Sink.written c.print_look-printed.new.out) r c.requires.opened c.over_disk-book.ensures.told
+      writes = into_writes (g.D.Disk.trace c.args.disk) look o c.in-Ok.rev _ (g.O.Sink.written c.args.out.now) (g.O.Sink.written c.print_look-printed.new.out) r c.requires c.over_disk-book.ensures.told
           c.in-Ok.ensures.found.0 c.in-Ok.ensures.found.1 c.in-Err-printed.ensures.told;
       fault_is = fault_with_cause disk write look.path c.in-Err-printed.error c.fault_at.result c.fault_at.ensures
           (same_counts c.in-Err-printed.error _ _ (g.D.Disk.faults c.args.disk) (g.D.Disk.faults c.disk_of-disk.result) c.over_disk-book.ensures.faults c.disk_of-disk.ensures.faults c.in-Err-printed.ensures.cause.failed)

@@ -12,9 +12,9 @@ returns-in-Ok-made-clause-created g c =
     let named : c.into_uuid-identifier.result ≡ random_identifier c.bytes16.result = c.into_uuid-identifier.ensures ∙ c.from_random_bytes.ensures.value in
     let path : g.H.Mounted.Disk.mount_path c.create-made.new.disk ≡ c.args.repos.now = c.create-made.ensures.mounted ∙ c.in-Ok.ensures.path in
     let back : g.H.Host.disk_at c.unmount.new.self c.args.repos.now ≡ told c.create-made.new.disk = ap (g.H.Host.disk_at c.unmount.new.self) (sym path) ∙ c.unmount.ensures.back in
-    created_done (Rose (g.H.Host.mount_faults c.args.host.now) (g.H.Host.mount_faults c.unmount.new.self)) (Rose (g.H.Host.disk_faults c.args.host.now) (g.H.Host.disk_faults c.unmount.new.self))
-    c.args.shard (g.C.Clock.next c.args.clock.now) (g.R.Dice.next c.args.dice.now) d c.into_uuid-identifier.result (told c.in-Ok.disk) (told c.create-made.new.disk)
-    (g.H.Host.disk_at c.args.host.now c.args.repos.now) (g.H.Host.disk_at c.unmount.new.self c.args.repos.now) named c.in-Ok.ensures.disk back c.in-Ok-made.ensures.fresh c.in-Ok-made.ensures.created
+    rw (sym c.sharded-layout.ensures) (created_done (Rose (g.H.Host.mount_faults c.args.host.now) (g.H.Host.mount_faults c.unmount.new.self)) (Rose (g.H.Host.disk_faults c.args.host.now) (g.H.Host.disk_faults c.unmount.new.self))
+    c.sharded-layout.result.shard_size (g.C.Clock.next c.args.clock.now) (g.R.Dice.next c.args.dice.now) d c.into_uuid-identifier.result (told c.in-Ok.disk) (told c.create-made.new.disk)
+    (g.H.Host.disk_at c.args.host.now c.args.repos.now) (g.H.Host.disk_at c.unmount.new.self c.args.repos.now) named c.in-Ok.ensures.disk back c.in-Ok-made.ensures.fresh c.in-Ok-made.ensures.created)
 
 pub returns-in-Ok-made-clause-any_moment : goal.returns-in-Ok-made-clause-any_moment
 returns-in-Ok-made-clause-any_moment g c =
@@ -23,8 +23,8 @@ returns-in-Ok-made-clause-any_moment g c =
     let named : c.into_uuid-identifier.result ≡ random_identifier c.bytes16.result = c.into_uuid-identifier.ensures ∙ c.from_random_bytes.ensures.value in
     let path : g.H.Mounted.Disk.mount_path c.create-made.new.disk ≡ c.args.repos.now = c.create-made.ensures.mounted ∙ c.in-Ok.ensures.path in
     let back : g.H.Host.disk_at c.unmount.new.self c.args.repos.now ≡ told c.create-made.new.disk = ap (g.H.Host.disk_at c.unmount.new.self) (sym path) ∙ c.unmount.ensures.back in
-    leaves_created c.args.shard (g.C.Clock.next c.args.clock.now) (g.R.Dice.next c.args.dice.now) d c.into_uuid-identifier.result (told c.in-Ok.disk) (told c.create-made.new.disk)
-    (g.H.Host.disk_at c.args.host.now c.args.repos.now) (g.H.Host.disk_at c.unmount.new.self c.args.repos.now) named c.in-Ok.ensures.disk back c.create-made.ensures.any_moment
+    rw (sym c.sharded-layout.ensures) (leaves_created c.sharded-layout.result.shard_size (g.C.Clock.next c.args.clock.now) (g.R.Dice.next c.args.dice.now) d c.into_uuid-identifier.result (told c.in-Ok.disk) (told c.create-made.new.disk)
+    (g.H.Host.disk_at c.args.host.now c.args.repos.now) (g.H.Host.disk_at c.unmount.new.self c.args.repos.now) named c.in-Ok.ensures.disk back c.create-made.ensures.any_moment)
 
 pub returns-in-Err-made-clause-created : goal.returns-in-Err-made-clause-created
 returns-in-Err-made-clause-created g c =
@@ -35,10 +35,10 @@ returns-in-Err-made-clause-created g c =
     let back : g.H.Host.disk_at c.unmount.new.self c.args.repos.now ≡ told c.create-made.new.disk = ap (g.H.Host.disk_at c.unmount.new.self) (sym path) ∙ c.unmount.ensures.back in
     let counted : Rose (g.H.Mounted.Disk.faults c.in-Ok.disk) (g.H.Mounted.Disk.faults c.create-made.new.disk) → Rose (g.H.Host.disk_faults c.args.host.now) (g.H.Host.disk_faults c.unmount.new.self) =
     λ rose. omega (arith, rose, c.in-Ok.ensures.new, c.in-Ok.ensures.same_faults, c.unmount.ensures.faults) in
-    created_failed (Rose (g.H.Host.mount_faults c.args.host.now) (g.H.Host.mount_faults c.unmount.new.self)) (Rose (g.H.Host.disk_faults c.args.host.now) (g.H.Host.disk_faults c.unmount.new.self))
+    rw (sym c.sharded-layout.ensures) (created_failed (Rose (g.H.Host.mount_faults c.args.host.now) (g.H.Host.mount_faults c.unmount.new.self)) (Rose (g.H.Host.disk_faults c.args.host.now) (g.H.Host.disk_faults c.unmount.new.self))
     (Rose (g.H.Mounted.Disk.faults c.in-Ok.disk) (g.H.Mounted.Disk.faults c.create-made.new.disk))
-    c.args.shard (g.C.Clock.next c.args.clock.now) (g.R.Dice.next c.args.dice.now) d c.into_uuid-identifier.result (told c.in-Ok.disk) (told c.create-made.new.disk)
-    (g.H.Host.disk_at c.args.host.now c.args.repos.now) (g.H.Host.disk_at c.unmount.new.self c.args.repos.now) c.in-Err-made.fault c.from.result c.from.ensures named c.in-Ok.ensures.disk back counted c.in-Err-made.ensures.refused
+    c.sharded-layout.result.shard_size (g.C.Clock.next c.args.clock.now) (g.R.Dice.next c.args.dice.now) d c.into_uuid-identifier.result (told c.in-Ok.disk) (told c.create-made.new.disk)
+    (g.H.Host.disk_at c.args.host.now c.args.repos.now) (g.H.Host.disk_at c.unmount.new.self c.args.repos.now) c.in-Err-made.fault c.from.result c.from.ensures named c.in-Ok.ensures.disk back counted c.in-Err-made.ensures.refused)
 
 pub returns-in-Err-made-clause-any_moment : goal.returns-in-Err-made-clause-any_moment
 returns-in-Err-made-clause-any_moment g c =
@@ -47,8 +47,8 @@ returns-in-Err-made-clause-any_moment g c =
     let named : c.into_uuid-identifier.result ≡ random_identifier c.bytes16.result = c.into_uuid-identifier.ensures ∙ c.from_random_bytes.ensures.value in
     let path : g.H.Mounted.Disk.mount_path c.create-made.new.disk ≡ c.args.repos.now = c.create-made.ensures.mounted ∙ c.in-Ok.ensures.path in
     let back : g.H.Host.disk_at c.unmount.new.self c.args.repos.now ≡ told c.create-made.new.disk = ap (g.H.Host.disk_at c.unmount.new.self) (sym path) ∙ c.unmount.ensures.back in
-    leaves_created c.args.shard (g.C.Clock.next c.args.clock.now) (g.R.Dice.next c.args.dice.now) d c.into_uuid-identifier.result (told c.in-Ok.disk) (told c.create-made.new.disk)
-    (g.H.Host.disk_at c.args.host.now c.args.repos.now) (g.H.Host.disk_at c.unmount.new.self c.args.repos.now) named c.in-Ok.ensures.disk back c.create-made.ensures.any_moment
+    rw (sym c.sharded-layout.ensures) (leaves_created c.sharded-layout.result.shard_size (g.C.Clock.next c.args.clock.now) (g.R.Dice.next c.args.dice.now) d c.into_uuid-identifier.result (told c.in-Ok.disk) (told c.create-made.new.disk)
+    (g.H.Host.disk_at c.args.host.now c.args.repos.now) (g.H.Host.disk_at c.unmount.new.self c.args.repos.now) named c.in-Ok.ensures.disk back c.create-made.ensures.any_moment)
 
 pub returns-in-Ok-made-clause-firm : goal.returns-in-Ok-made-clause-firm
 returns-in-Ok-made-clause-firm g c =
@@ -57,11 +57,11 @@ returns-in-Ok-made-clause-firm g c =
     let back : g.H.Host.disk_at c.unmount.new.self c.args.repos.now ≡ told c.create-made.new.disk = ap (g.H.Host.disk_at c.unmount.new.self) (sym path) ∙ c.unmount.ensures.back in
     subst IsFirm (sym back) c.in-Ok-made.ensures.firm
 
-pub create-made-requires-clause-from_one : goal.create-made-requires-clause-from_one
-create-made-requires-clause-from_one g c = c.requires.0
+pub sharded-layout-requires-clause-some : goal.sharded-layout-requires-clause-some
+sharded-layout-requires-clause-some g c = omega (arith, c.requires.0)
 
-pub create-made-requires-clause-most : goal.create-made-requires-clause-most
-create-made-requires-clause-most g c = omega (arith, c.requires.1)
+pub sharded-layout-requires-clause-most : goal.sharded-layout-requires-clause-most
+sharded-layout-requires-clause-most g c = omega (arith, c.requires.1)
 
 pub create-made-requires-clause-right : goal.create-made-requires-clause-right
 create-made-requires-clause-right g c = c.in-Ok.ensures.right refl
