@@ -8,10 +8,12 @@ ghost use Rattle.fsfs_tree.specs.Revisions.{Revision as Stands, tree_of};
 ghost use Rattle.fsfs_tree.specs.Dated.{IsDated, last_of};
 ghost use Rattle.fsfs_flat.specs.Transactions.{IsNext};
 ghost use Rattle.fsfs_machine.specs.Machine.{tree_in, entry_of};
+ghost use Rattle.fsfs_core.specs.Commits.{GivesEdit};
 
 use fsfs_base::{FsPath, Pairs, RevNum, read_date};
+use fsfs_flat::{Edit, Mark};
 use fsfs_machine::Txn;
-use fsfs_model::{flat_clash, flat_fold, flat_land};
+use fsfs_model::{flat_apply, flat_clash, flat_fold, flat_land, flat_mark};
 use fsfs_tree::{History, Revision, Tree};
 use std::alloc::{AllocError, Global};
 
@@ -46,6 +48,21 @@ fn is_dated(properties: &Pairs) -> bool
     }
 }
 
+/// The transaction's tree after an edit, and the edit's mark; none where the edit isn't accepted.
+pub fn edit_of(
+    alloc: Global,
+    edit: &Edit,
+    history: &History,
+    own: &Tree,
+) -> Result<Option<(Tree, Mark)>, AllocError>
+    ensures { IfOk result (λ o. GivesEdit edit.now history.now own.now o) }
+{
+    match flat_apply(alloc, edit, history, own)? {
+        None => Ok(None),
+        Some(tree) => Ok(Some((tree, flat_mark(edit, history, own)?))),
+    }
+}
+
 /// The transaction's tree landed on a later head as revision `n`, or the path where the two clash first.
 pub fn land_on(
     alloc: Global,
@@ -66,6 +83,15 @@ pub fn land_on(
     }
 }
 
+// The last revision of a history, and the one that follows; none where there is none, or no number is left.
+fn ends_of(history: &History) -> Option<(RevNum, RevNum)>
+    ensures { MatchOption result (0 < length history.now → length history.now ≤ last_rev → ⊥) (λ ends. (ends.0 ≡ last_of history.now) × (ends.1 ≡ length history.now)) }
+{
+    let next = RevNum::new(history.count() as u64)?;
+    let last = next.previous()?;
+    Some((last, next))
+}
+
 // The same on the last of the revisions, as the one that follows.
 fn next_tree(alloc: Global, history: &History, txn: &Txn) -> Result<Option<Tree>, AllocError>
     ensures { IfOk result (λ o. MatchOption o
@@ -74,10 +100,7 @@ fn next_tree(alloc: Global, history: &History, txn: &Txn) -> Result<Option<Tree>
         × NoClash txn.now.base (tree_of history.now txn.now.base) (tree_of history.now (last_of history.now)) (finmap.get txn.now.tree) txn.now.marks
         × ((q : Path) → finmap.get tree q ≡ land (tree_of history.now txn.now.base) (tree_of history.now (last_of history.now)) (finmap.get txn.now.tree) txn.now.marks (length history.now) q))) }
 {
-    let Some(next) = RevNum::new(history.count() as u64) else {
-        return Ok(None);
-    };
-    let Some(last) = next.previous() else {
+    let Some((last, next)) = ends_of(history) else {
         return Ok(None);
     };
     match (tree_at(history, txn.base), tree_at(history, last)) {
