@@ -5,10 +5,11 @@ use Rattle.std.specs.List.{flat_map}
 use Rattle.std.specs.FinMap.{FinMap, empty, insert, get, entries, retain_keys}
 use Rattle.fsfs_base.specs.declared.kind.Kind.{Kind}
 use Rattle.fsfs_base.specs.declared.kind.Kind.TheVariants.{File, Dir}
-use Rattle.fsfs_base.specs.Paths.{Path, path_cmp, path_text, covers}
+use Rattle.fsfs_base.specs.Paths.{Path, path_cmp, covers}
 use Rattle.fsfs_tree.specs.Nodes.{Node, Content, Bytes, Closed, TreeFunction, empty_node}
 use Rattle.fsfs_tree.specs.Revisions.{Revision}
 use Rattle.fsfs_tree.specs.Dated.{last_of, date_name}
+use Rattle.fsfs_answers.specs.FaultWords.{not_found, not_dir, not_file, no_rev, already_repo, not_repo, delta, path_value, two_numbers}
 
 -- a command
 pub data Command : Type 0 where
@@ -39,7 +40,7 @@ refuses_look fault = refuses (codes "svnlook: " ++ fault ++ codes "\n")
 
 -- for what stands or doesn't stand at this path
 abbrev pub refuses_at : List ℕ → Path → Reply
-refuses_at name path = refuses_look (name ++ 32 ∷ path_text path) 1
+refuses_at name path = refuses_look (name ++ path_value path) 1
 
 -- ---- what is found at a path
 
@@ -87,26 +88,26 @@ tree_text shown top tree = flat_map (tree_line shown top) (entries (retain_keys 
 
 abbrev pub tree_reply : (Path → List ℕ) → Path → FinMap path_cmp Node → Found → Reply
 tree_reply shown top tree (Stands node) = prints (tree_text shown top tree)
-tree_reply shown top tree (Lacking at) = refuses_at (codes "NotFound") at
-tree_reply shown top tree (Blocked at) = refuses_at (codes "NotDir") at
+tree_reply shown top tree (Lacking at) = refuses_at not_found at
+tree_reply shown top tree (Blocked at) = refuses_at not_dir at
 
 -- the bytes of a file's text alone; a text that is not read is refused, at its place
 abbrev pub node_reply : Path → Kind → Content → Reply
-node_reply path Dir text = refuses_at (codes "NotFile") path
+node_reply path Dir text = refuses_at not_file path
 node_reply path File (Bytes bytes) = prints bytes
-node_reply path File (Closed rev offset) = refuses_look (codes "Delta " ++ decimal rev ++ 32 ∷ decimal offset) 3
+node_reply path File (Closed rev offset) = refuses_look (delta ++ two_numbers rev offset) 3
 
 abbrev pub text_reply : Path → Found → Reply
 text_reply path (Stands node) = node_reply path node.kind node.text
-text_reply path (Lacking at) = refuses_at (codes "NotFound") at
-text_reply path (Blocked at) = refuses_at (codes "NotDir") at
+text_reply path (Lacking at) = refuses_at not_found at
+text_reply path (Blocked at) = refuses_at not_dir at
 
 -- the revision that is asked for
 abbrev pub asked_revision : Option ℕ → List Revision → ℕ
 asked_revision revision history = unwrap_or revision (last_of history)
 
 abbrev pub in_revision : (Revision → Reply) → ℕ → ℕ → Option Revision → Reply
-in_revision reply asked youngest None = refuses_look (codes "NoRev " ++ decimal asked ++ 32 ∷ decimal youngest) 1
+in_revision reply asked youngest None = refuses_look (no_rev ++ two_numbers asked youngest) 1
 in_revision reply asked youngest (Some revision) = reply revision
 
 -- of the revision that is asked for, if the history has it
@@ -116,17 +117,17 @@ of_revision revision history reply = in_revision reply (asked_revision revision 
 -- a repository stands for a history; none where there is no repository at the path
 abbrev pub Answer : Command → Option (List Revision) → Reply
 Answer Create None = prints []
-Answer Create (Some history) = refuses (codes "svnadmin: AlreadyRepo\n") 1
-Answer Youngest None = refuses_look (codes "NotRepo") 1
+Answer Create (Some history) = refuses (codes "svnadmin: " ++ already_repo ++ codes "\n") 1
+Answer Youngest None = refuses_look not_repo 1
 Answer Youngest (Some history) = prints (decimal (last_of history) ++ codes "\n")
-Answer (Tree revision shown path) None = refuses_look (codes "NotRepo") 1
+Answer (Tree revision shown path) None = refuses_look not_repo 1
 Answer (Tree revision shown path) (Some history) = of_revision revision history (λ r. tree_reply shown path r.tree (found_at (get r.tree) path))
-Answer (Cat revision path) None = refuses_look (codes "NotRepo") 1
+Answer (Cat revision path) None = refuses_look not_repo 1
 Answer (Cat revision path) (Some history) = of_revision revision history (λ r. text_reply path (found_at (get r.tree) path))
 
 -- `uuid`, of the identifier of the repository, which no history tells; none where there is no repository at the path
 abbrev pub UuidAnswer : Option (List ℕ) → Reply
-UuidAnswer None = refuses_look (codes "NotRepo") 1
+UuidAnswer None = refuses_look not_repo 1
 UuidAnswer (Some identifier) = prints (identifier ++ codes "\n")
 
 -- ---- what a new repository stands for

@@ -1,6 +1,5 @@
 -- What a book in memory tells.
-use Rattle.std.specs.Prelude.{ℕ, ◌+◌, ◌-◌, ◌^◌, min, Bool, nat_eq, List, length, slice_get, Option, Some, None, Result, Ok, Err}
-use Rattle.std.specs.List.{list_any}
+use Rattle.std.specs.Prelude.{ℕ, ◌-◌, List, length, slice_get, Option, Some, None, Result, Ok, Err}
 use Rattle.fsfs_damage.specs.declared.wrong.Refusal.{Refusal}
 use Rattle.fsfs_damage.specs.declared.wrong.Refusal.TheVariants.{NoRev, Missing, Small}
 use Rattle.fsfs_book.specs.declared.mem_book.MemFile.{MemFile}
@@ -27,11 +26,3 @@ props_in revs rev = found_by (λ r. r.props) rev (length revs) (slice_get revs r
 
 abbrev pub told_in : List MemRev → Telling (Unit {0})
 told_in revs = record { revs = λ rev. Some (bytes_in revs rev); props = λ rev. Some (props_in revs rev); youngest = Some (length revs - 1); below = tt }
-
--- the number of the next call; the first is 1, and the count stops at the last number of a u64
-abbrev pub next_call : ℕ → ℕ
-next_call calls = min (calls + 1) (2 ^ 64 - 1)
-
--- the next call is one of those that are to fail
-abbrev pub is_next_listed : ℕ → List ℕ → Bool
-is_next_listed calls failing = list_any (λ number. nat_eq number (next_call calls)) failing

@@ -1,13 +1,14 @@
 //! A book in memory, for tests and small tools. Calls whose numbers are listed fail.
 ghost use Rattle.std.specs.Prelude.{◌≡◌, ◌<◌, ◌≤◌, ◌-◌, ◌↔◌, Ok, Err, IsTrue, IsErr, IfOk, IfErr, OnErr, MatchResult, vec_len, length, take};
 ghost use Rattle.fsfs_base.specs.Counts.{Rose};
+ghost use Rattle.fsfs_base.specs.Faults.{is_next_listed};
 ghost use Rattle.fsfs_book.specs.declared.book.BookFault.TheVariants.{Short, DiskFault};
 ghost use Rattle.fsfs_damage.specs.declared.wrong.Refusal.TheVariants.{NoRev};
 ghost use Rattle.fsfs_book.specs.Told.{Gives, part_read, IsRefusalOf};
-ghost use Rattle.fsfs_book.specs.MemBook.{bytes_in, props_in, read_of, next_call, is_next_listed};
+ghost use Rattle.fsfs_book.specs.MemBook.{bytes_in, props_in, read_of};
 
 use crate::book::{Book, BookFault};
-use fsfs_base::SmallFault;
+use fsfs_base::{Faults, SmallFault};
 use fsfs_damage::Refusal;
 use std::alloc::Global;
 
@@ -32,9 +33,7 @@ pub struct MemRev {
 #[derive(Drop)]
 pub struct MemBook {
     revs: Vec<MemRev>,
-    failing: Vec<u64>,
-    calls: u64,
-    faults: u64,
+    faults: Faults,
     ghost some: { 0 < vec_len revs },
 }
 
@@ -103,7 +102,7 @@ impl MemBook {
     pub fn new(alloc: Global, revs: Vec<MemRev>) -> MemBook
         requires { 0 < vec_len revs }
         ensures revs { result.revs.items ≡ revs.items }
-        ensures faults { result.faults ≡ 0 }
+        ensures faults { result.faults.count ≡ 0 }
     {
         MemBook::with_faults(revs, Vec::new(alloc))
     }
@@ -112,42 +111,35 @@ impl MemBook {
     pub fn with_faults(revs: Vec<MemRev>, failing: Vec<u64>) -> MemBook
         requires { 0 < vec_len revs }
         ensures revs { result.revs.items ≡ revs.items }
-        ensures failing { result.failing.items ≡ failing.items }
-        ensures calls { result.calls ≡ 0 }
-        ensures faults { result.faults ≡ 0 }
+        ensures failing { result.faults.failing ≡ failing }
+        ensures calls { result.faults.calls ≡ 0 }
+        ensures faults { result.faults.count ≡ 0 }
     {
         MemBook {
             revs,
-            failing,
-            calls: 0,
-            faults: 0,
+            faults: Faults::new(failing),
         }
     }
 
     /// How often it has failed.
     pub fn faults(&self) -> u64
-        ensures { result ≡ self.now.faults }
+        ensures { result ≡ self.now.faults.count }
     {
-        self.faults
+        self.faults.count
     }
 
     // Counts a call. It fails where it is listed, and only there.
     fn call(&mut self) -> Result<(), BookFault>
-        ensures listed { IsErr result ↔ IsTrue (is_next_listed self.old.calls self.old.failing.items) }
-        ensures calls { self.new.calls ≡ next_call self.old.calls }
-        ensures failing { self.new.failing ≡ self.old.failing }
+        ensures listed { IsErr result ↔ IsTrue (is_next_listed self.old.faults) }
         ensures revs { self.new.revs ≡ self.old.revs }
         ensures fault { IfErr result (λ e. e ≡ DiskFault) }
-        ensures later { self.old.faults ≤ self.new.faults }
-        ensures rose { OnErr result (Rose self.old.faults self.new.faults) }
+        ensures later { self.old.faults.count ≤ self.new.faults.count }
+        ensures rose { OnErr result (Rose self.old.faults.count self.new.faults.count) }
     {
-        self.calls = self.calls.saturating_add(1);
-        let call = self.calls;
-        if self.failing.contains(&call) {
-            self.faults = self.faults.saturating_add(1);
-            return Err(BookFault::DiskFault);
+        match self.faults.call() {
+            Ok(()) => Ok(()),
+            Err(_) => Err(BookFault::DiskFault),
         }
-        Ok(())
     }
 }
 
@@ -159,7 +151,7 @@ impl Book for MemBook {
 
     ghost told = { λ b. told_in b.revs.items };
 
-    ghost faults = { λ b. b.faults };
+    ghost faults = { λ b. b.faults.count };
 
     fn youngest(&mut self) -> Result<u64, BookFault> {
         self.call()?;

@@ -1,10 +1,15 @@
 -- Each command's required arguments have values.
-use Rattle.std.proofs.Common.{◌≡◌, ◌<◌, List, [], ◌∷◌, length, map, true, refl, arith, codes}
+use Rattle.std.proofs.Common.{◌≡◌, ◌<◌, List, [], ◌∷◌, length, map, true, false, refl, ap, ◌∙◌, arith, codes}
 use Rattle.clap.specs.Built.{AddsArg, FitsChain}
+use Rattle.clap.specs.Words.{App, Rule, app_of, rule_of, with_rule}
 use Rattle.clap.specs.declared.builder.arg.Arg.{Arg}
 use Rattle.clap.specs.declared.builder.command.Command.{Command}
 use Rattle.fsfs_cli.specs.Chains.{Fits, NeedsValue, IsChain, HasValue}
 use Rattle.fsfs_cli.proofs.ChainLemmas.{chain_more, all_apart, all_none, all_more, fits_chain, has_value, own_repos, own_path, own_shard, own_revision, own_show_ids}
+
+-- what clap is told, an argument more
+pub told_more : (c d : Command) (a : Arg) (app : App) (rule : Rule) → AddsArg c a d → a.global ≡ false → app_of c ≡ app → rule_of a ≡ rule → app_of d ≡ with_rule app rule
+told_more c d a app rule added own before told = added.shape own ∙ ap (λ (x : App). with_rule x (rule_of a)) before ∙ ap (with_rule app) told
 
 pub look_repos : (c : Command) (repos : Arg) → NeedsValue (codes "REPOS") repos → IsChain (repos ∷ []) c → HasValue (codes "REPOS") c
 look_repos c repos r chain =

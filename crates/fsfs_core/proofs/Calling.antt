@@ -1,8 +1,9 @@
 -- A call of a section goes on where it was due; an edit is found where its transaction stands.
 use Rattle.std.proofs.Common.{◌≡◌, ◌<◌, ◌≤◌, ℕ, List, [], ◌∷◌, ◌++◌, length, Bool, true, false, cond, inl, inr, refl, sym, ap, subst, ◌∙◌, arith, get_or}
-use Rattle.std.proofs.lemmas.Option.{slice_get-get_or, slice_get_past, MatchOption-at_none, MatchOption-at_some}
+use Rattle.std.proofs.lemmas.Option.{slice_get_past, slice_get_within, MatchOption-at_none, MatchOption-at_some}
 use Rattle.std.proofs.lemmas.Bool.{and_from}
-use Rattle.std.specs.Prelude.{Option, Some, None, slice_get, Result, Ok, Err, IfOk, IfSome, MatchOption, MatchResult, is_some, nat_le, nat_lt, ◌&&◌, ◌↔◌}
+use Rattle.std.proofs.lemmas.Bool.Decides.{eqb_tells}
+use Rattle.std.specs.Prelude.{Option, Some, None, slice_get, Result, Ok, Err, IfOk, IfSome, MatchOption, MatchResult, is_some, nat_le, nat_lt, ◌&&◌, ◌==◌, if◌then◌else◌, ◌↔◌}
 use Rattle.std.specs.FinMap.{FinMap, get}
 use Rattle.jiff_core.specs.declared.civil.datetime.DateTime.{DateTime}
 use Rattle.std.specs.Map.{lookup}
@@ -25,16 +26,19 @@ use Rattle.fsfs_machine.specs.declared.contents.NameChange.TheVariants.{Put}
 use Rattle.fsfs_machine.specs.declared.machine.Coming.{Coming}
 use Rattle.fsfs_machine.specs.declared.machine.DiskPlace.TheVariants.{PutRev}
 use Rattle.fsfs_machine.specs.declared.machine.DiskPlace.{DiskPlace}
+use Rattle.fsfs_machine.specs.declared.machine.Recorded.{Recorded}
 use Rattle.fsfs_machine.specs.declared.machine.Txn.{Txn}
 use Rattle.fsfs_machine.specs.declared.machine.Section.{Section}
 use Rattle.fsfs_machine.specs.declared.machine.Section.TheVariants.{Begun, CountRead, CountPut, CountRenamed, RevPut, PropsPut, RevFirm, CurrentPut, CurrentRenamed, CurrentFirm, Doubtful, Over}
-use Rattle.fsfs_machine.specs.declared.machine.Lock.TheVariants.{Free}
+use Rattle.fsfs_machine.specs.declared.machine.Lock.{Lock}
+use Rattle.fsfs_machine.specs.declared.machine.Lock.TheVariants.{Free, Held, Stuck, Down, DownDoubtful}
 use Rattle.fsfs_machine.specs.declared.machine.Went.{Went}
 use Rattle.fsfs_machine.specs.declared.machine.Went.TheVariants.{Fine, Before, After, Torn}
 use Rattle.fsfs_machine.specs.declared.machine.Outcome.{Outcome}
 use Rattle.fsfs_machine.specs.declared.machine.Outcome.TheVariants as outcome
 use Rattle.fsfs_machine.specs.Machine.{World, did, barred, at_place, held_by, inside, is_due, due, called_by, called, edited, EditsIf, Edits, merged, MergesIf, Merges, revisions, created, recorded, file_of, at_call, answer, without_place, entry_of, Adds, AdoptsTxn}
 use Rattle.fsfs_machine.specs.Kept.{Kept}
+use Rattle.fsfs_core.specs.Commits.{is_accepted, GivesEdit, AddsNext, IsUsed}
 use Rattle.fsfs_machine.proofs.Growing.{revisions_length}
 use Rattle.fsfs_machine.proofs.Created.{created_kept}
 
@@ -59,45 +63,73 @@ free_call w p place After (CountRenamed x) change = refl
 free_call w p place (Torn any) (CountRenamed x) change = refl
 free_call w p place went s change = refl
 
-goes_on : (w u : World) (p : ℕ) (place : DiskPlace) (went : Went) (s : Section) (change : NameChange) → held_by p w.lock ≡ Some s → u ≡ record w { lock = Free }
-    → is_due s place ≡ true → Some change ≡ due u s → called_by u p place went s (Some change) ≡ inside w (called w p place went) (held_by p w.lock)
-goes_on w u p place went s change held is due_here found =
-    let change_is : Some change ≡ due w s = found ∙ ap (λ z. due z s) is ∙ free_due w s in
-    ap (λ z. called_by z p place went s (Some change)) is
-    ∙ free_call w p place went s change
-    ∙ ap (λ o. called_by w p place went s o) change_is
-    ∙ sym (ap (λ b. cond b (called_by w p place went s (due w s)) (barred w)) due_here)
-    ∙ sym (ap (λ o. inside w (called w p place went) o) held)
+held_is : (p : ℕ) (lock : Lock) (s : Section) → held_by p lock ≡ Some s → lock ≡ Held p s
+held_is p (Held q t) s e =
+    elim (eqb_tells q p) [
+      | inl tells ↦ (
+          let same : q ≡ p = tells.1 in
+          let f : Some t ≡ Some s = sym (ap (λ b. cond b (Some t) None) tells.0) ∙ e in
+          let g : t ≡ s = cc in
+          ap (λ k. Held k t) same ∙ ap (λ k. Held p k) g
+          )
+      | inr tells ↦ (let f : None ≡ Some s = sym (ap (λ b. cond b (Some t) None) tells.0) ∙ e in absurd cc)
+    ]
+held_is p Free s e = absurd cc
+held_is p (Stuck place x) s e = absurd cc
+held_is p Down s e = absurd cc
+held_is p (DownDoubtful x) s e = absurd cc
 
-pub call_goes_on : {E : Type 0} (r : Result Outcome E) (w u v : World) (p : ℕ) (place : DiskPlace) (went : Went) (s : Section) (change : NameChange) → held_by p w.lock ≡ Some s → u ≡ record w { lock = Free }
-    → is_due s place ≡ true → Some change ≡ due u s
-    → IfOk r (λ o. did v o ≡ called_by u p place went s (Some change)) → IfOk r (λ o. did v o ≡ inside w (called w p place went) (held_by p w.lock))
-call_goes_on (Ok o) w u v p place went s change held is due_here found e = e ∙ goes_on w u p place went s change held is due_here found
-call_goes_on (Err x) w u v p place went s change held is due_here found e = tt
+-- the change of the call, where its place is the one that is due
+abbrev pub due_at : World → Section → DiskPlace → Option NameChange
+due_at w s place = if is_due s place then due w s else None
+
+at_place_due : (w : World) (p : ℕ) (place : DiskPlace) (went : Went) (s : Section) (b : Bool) (o : Option NameChange) → called_by w p place went s (if b then o else None) ≡ (if b then called_by w p place went s o else barred w)
+at_place_due w p place went s true o = refl
+at_place_due w p place went s false o = refl
+
+free_at : (w : World) (s : Section) (place : DiskPlace) → due_at (record w { lock = Free }) s place ≡ due_at w s place
+free_at w s place = ap (λ o. cond (is_due s place) o None) (free_due w s)
+
+-- what the call does is what is done with that change
+called_at : (w u : World) (p : ℕ) (place : DiskPlace) (went : Went) (s : Section) (o : Option NameChange) → held_by p w.lock ≡ Some s → u ≡ record w { lock = Free }
+    → o ≡ due_at u s place → called_by w p place went s o ≡ inside w (called w p place went) (held_by p w.lock)
+called_at w u p place went s o held is found =
+    ap (λ z. called_by w p place went s z) (found ∙ ap (λ z. due_at z s place) is ∙ free_at w s place)
+    ∙ at_place_due w p place went s (is_due s place) (due w s)
+    ∙ sym (ap (λ z. inside w (called w p place went) z) held)
+
+pub call_goes_on : {E : Type 0} (r : Result Outcome E) (w u v : World) (p : ℕ) (place : DiskPlace) (went : Went) (s : Section) (o : Option NameChange) (change : NameChange) → held_by p w.lock ≡ Some s → u ≡ record w { lock = Free }
+    → o ≡ Some change → o ≡ due_at u s place
+    → IfOk r (λ a. did v a ≡ called_by u p place went s (Some change)) → IfOk r (λ a. did v a ≡ inside w (called w p place went) (held_by p w.lock))
+call_goes_on (Ok a) w u v p place went s o change held is some found e =
+    e ∙ ap (λ z. called_by z p place went s (Some change)) is ∙ free_call w p place went s change ∙ called_at w u p place went s (Some change) held is (sym some ∙ found)
+call_goes_on (Err x) w u v p place went s o change held is some found e = tt
+
+pub call_barred : (w u v : World) (p : ℕ) (place : DiskPlace) (went : Went) (s : Section) (o : Option NameChange) → held_by p w.lock ≡ Some s → u ≡ record w { lock = Free }
+    → o ≡ None → o ≡ due_at u s place → v ≡ record u { lock = Held p s } → did v outcome.Barred ≡ inside w (called w p place went) (held_by p w.lock)
+call_barred w u v p place went s o held is none found back =
+    ap (λ z. did z outcome.Barred) (back ∙ ap (λ z. record z { lock = Held p s }) is ∙ ap (λ k. record w { lock = k }) (sym (held_is p w.lock s held)))
+    ∙ called_at w u p place went s None held is (sym none ∙ found)
 
 pub edit_none : (w : World) (t : ℕ) (edit : Edit) → length w.txns ≤ t → Edits w t edit (slice_get w.txns t) (did w outcome.Barred)
 edit_none w t edit le = subst (λ o. Edits w t edit o (did w outcome.Barred)) (sym (slice_get_past w.txns t le)) refl
 
-pub edit_refused : (w : World) (t : ℕ) (edit : Edit) (d : Txn) (h : List Revision) → t < length w.txns → h ≡ revisions w.history
-    → false ≡ (accepts edit (tree_of h) (last_of h) (get (get_or w.txns t d).tree) && within_limits edit (get_or w.txns t d).tree)
-    → Edits w t edit (slice_get w.txns t) (did w outcome.Barred)
-edit_refused w t edit d h less here refused =
-    let x : Txn = get_or w.txns t d in
-    subst (λ o. Edits w t edit o (did w outcome.Barred)) (sym (slice_get-get_or w.txns t d less))
-    (subst (λ b. EditsIf w t edit (get_or w.txns t d) b (did w outcome.Barred)) (refused ∙ ap (λ z. accepts edit (tree_of z) (last_of z) (get (get_or w.txns t d).tree) && within_limits edit (get_or w.txns t d).tree) here) refl)
+pub edit_refused : (w : World) (t : ℕ) (edit : Edit) (x : Txn) (h : List Revision) (o : Option (FinMap path_cmp Node × Mark)) → slice_get w.txns t ≡ Some x → h ≡ revisions w.history
+    → o ≡ None → GivesEdit edit h x.tree o → Edits w t edit (slice_get w.txns t) (did w outcome.Barred)
+edit_refused w t edit x h o there here none gives =
+    subst (λ o. Edits w t edit o (did w outcome.Barred)) (sym there)
+    (subst (λ b. EditsIf w t edit x b (did w outcome.Barred)) (sym (MatchOption-at_none _ _ none gives) ∙ ap (λ z. is_accepted edit z x.tree) here) refl)
 
-pub edit_found : (w v : World) (t : ℕ) (edit : Edit) (x : Txn) (h : List Revision) (tree : FinMap path_cmp Node) (mark : Mark) → slice_get w.txns t ≡ Some x → h ≡ revisions w.history
-    → true ≡ (accepts edit (tree_of h) (last_of h) (get x.tree) && within_limits edit x.tree)
-    → ((q : Path) → get tree q ≡ applied edit (tree_of h) (get x.tree) q)
-    → mark ≡ mark_of edit (tree_of h) (get x.tree)
-    → v ≡ record w { txns = at_place w.txns t (edited tree mark) }
+pub edit_found : (w v : World) (t : ℕ) (edit : Edit) (x : Txn) (h : List Revision) (o : Option (FinMap path_cmp Node × Mark)) (after : FinMap path_cmp Node × Mark) → slice_get w.txns t ≡ Some x → h ≡ revisions w.history
+    → o ≡ Some after → GivesEdit edit h x.tree o → v ≡ record w { txns = at_place w.txns t (edited after.0 after.1) }
     → Edits w t edit (slice_get w.txns t) (did v outcome.Done)
-edit_found w v t edit x h tree mark there here accepted is mark_is v_is =
+edit_found w v t edit x h o after there here found gives v_is =
+    let m = MatchOption-at_some _ _ after found gives in
     subst (λ o. Edits w t edit o (did v outcome.Done)) (sym there)
-    (subst (λ b. EditsIf w t edit x b (did v outcome.Done)) (accepted ∙ ap (λ z. accepts edit (tree_of z) (last_of z) (get x.tree) && within_limits edit x.tree) here) (
-      tree,
-      (λ q. subst (λ z. get tree q ≡ applied edit (tree_of z) (get x.tree) q) here (is q)),
-      ap (λ z. did z outcome.Done) v_is ∙ ap (λ m. did (record w { txns = at_place w.txns t (edited tree m) }) outcome.Done) (mark_is ∙ ap (λ z. mark_of edit (tree_of z) (get x.tree)) here),
+    (subst (λ b. EditsIf w t edit x b (did v outcome.Done)) (sym m.0 ∙ ap (λ z. is_accepted edit z x.tree) here) (
+      after.0,
+      (λ q. subst (λ z. get after.0 q ≡ applied edit (tree_of z) (get x.tree) q) here (m.1 q)),
+      ap (λ z. did z outcome.Done) v_is ∙ ap (λ m. did (record w { txns = at_place w.txns t (edited after.0 m) }) outcome.Done) (m.2 ∙ ap (λ z. mark_of edit (tree_of z) (get x.tree)) here),
     ))
 
 in_range : (w : World) (a head : ℕ) → a ≤ head → head < length (revisions w.history) → (nat_le a head && nat_lt head (length w.history)) ≡ true
@@ -164,26 +196,47 @@ created_along world (Err x) properties bytes e = tt
 abbrev pub Finds : List Revision → ℕ → Txn → List (List ℕ × List ℕ) → Option Revision → Type 0
 Finds h p x properties o = MatchOption o ((next : Revision) → IsDated properties → IsNext h (entry_of p x properties) next → ⊥) (λ next. IsDated properties × IsNext h (entry_of p x properties) next)
 
-pub adopts_none : (w : World) (p t : ℕ) (properties : List (List ℕ × List ℕ)) (bytes : List ℕ) (went : Went) (x : Txn) (h : List Revision) (o : Option Revision)
-    → slice_get w.txns t ≡ Some x → h ≡ revisions w.history → o ≡ None → Finds h p x properties o
-    → AdoptsTxn w p t properties bytes went (slice_get w.txns t) (did w outcome.Barred)
-adopts_none w p t properties bytes went x h o there here none found =
-    subst (λ z. AdoptsTxn w p t properties bytes went z (did w outcome.Barred)) (sym there)
-    (inr ((λ next adds. MatchOption-at_none _ _ none found next adds.0 (subst (λ z. IsNext z (entry_of p x properties) next) (sym here) adds.1)), refl))
+pub next_past : (h : List Recorded) (p t : ℕ) (txns : List Txn) (properties : List (List ℕ × List ℕ)) → length txns ≤ t → AddsNext h p (slice_get txns t) properties None
+next_past h p t txns properties le = subst (λ z. AddsNext h p z properties None) (sym (slice_get_past txns t le)) refl
 
-pub adopts_some : {E : Type 0} (r : Result Outcome E) (w u v : World) (p t : ℕ) (properties : List (List ℕ × List ℕ)) (bytes : List ℕ) (went : Went) (x y : Txn) (h : List Revision) (o : Option Revision) (coming : Coming)
-    → slice_get w.txns t ≡ Some x → slice_get w.txns t ≡ Some y → h ≡ revisions w.history → o ≡ Some coming.revision → Finds h p x properties o
-    → coming.entry ≡ entry_of p y properties → coming.bytes ≡ bytes → u ≡ record w { txns = without_place w.txns t; spent = w.spent ++ y.name ∷ [] }
+pub next_at : {E : Type 0} (r : Result (Option Revision) E) (h : List Recorded) (read : List Revision) (p t : ℕ) (txns : List Txn) (x : Txn) (properties : List (List ℕ × List ℕ)) → slice_get txns t ≡ Some x → read ≡ revisions h
+    → IfOk r (λ o. Finds read p x properties o) → IfOk r (λ o. AddsNext h p (slice_get txns t) properties o)
+next_at (Err _) h read p t txns x properties there here found = tt
+next_at (Ok None) h read p t txns x properties there here found =
+    subst (λ z. AddsNext h p z properties None) (sym there) (λ next adds. found next adds.0 (subst (λ z. IsNext z (entry_of p x properties) next) (sym here) adds.1))
+next_at (Ok (Some next)) h read p t txns x properties there here found =
+    subst (λ z. AddsNext h p z properties (Some next)) (sym there) (found.0, subst (λ z. IsNext z (entry_of p x properties) next) here found.1)
+
+next_within_at : (h : List Recorded) (p t : ℕ) (txns : List Txn) (z : Option Txn) (properties : List (List ℕ × List ℕ)) (o : Option Revision) (next : Revision) → slice_get txns t ≡ z → o ≡ Some next → AddsNext h p z properties o → t < length txns
+next_within_at h p t txns None properties o next there is adds = let f : None ≡ Some next = sym adds ∙ is in absurd cc
+next_within_at h p t txns (Some x) properties o next there is adds = slice_get_within txns t x there
+
+pub next_within : (h : List Recorded) (p t : ℕ) (txns : List Txn) (properties : List (List ℕ × List ℕ)) (o : Option Revision) (next : Revision) → o ≡ Some next → AddsNext h p (slice_get txns t) properties o → t < length txns
+next_within h p t txns properties o next = next_within_at h p t txns (slice_get txns t) properties o next refl
+
+pub used_up : (w v : World) (p t : ℕ) (properties : List (List ℕ × List ℕ)) (revision : Revision) (bytes : List ℕ) (x : Txn) (coming : Coming) → slice_get w.txns t ≡ Some x
+    → coming ≡ record { entry = entry_of p x properties; revision = revision; bytes = bytes } → v ≡ record w { txns = without_place w.txns t; spent = w.spent ++ x.name ∷ [] }
+    → IsUsed w p t properties revision bytes (slice_get w.txns t) coming v
+used_up w v p t properties revision bytes x coming there comes left = subst (λ z. IsUsed w p t properties revision bytes z coming v) (sym there) (comes, left)
+
+pub adopts_none : (w : World) (p t : ℕ) (properties : List (List ℕ × List ℕ)) (bytes : List ℕ) (went : Went) (z : Option Txn) (o : Option Revision)
+    → o ≡ None → AddsNext w.history p z properties o → AdoptsTxn w p t properties bytes went z (did w outcome.Barred)
+adopts_none w p t properties bytes went None o none adds = refl
+adopts_none w p t properties bytes went (Some x) o none adds = inr (MatchOption-at_none _ _ none adds, refl)
+
+pub adopts_some : {E : Type 0} (r : Result Outcome E) (w u v : World) (p t : ℕ) (properties : List (List ℕ × List ℕ)) (bytes : List ℕ) (went : Went) (z : Option Txn) (o : Option Revision) (next : Revision) (coming : Coming)
+    → o ≡ Some next → AddsNext w.history p z properties o → IsUsed w p t properties next bytes z coming u
     → IfOk r (λ a. did v a ≡ did (at_call u p PutRev (Put (Rev (length u.history)) (file_of (recorded coming))) (RevPut coming) Over went) (answer went))
-    → IfOk r (λ a. AdoptsTxn w p t properties bytes went (slice_get w.txns t) (did v a))
-adopts_some (Err _) w u v p t properties bytes went x y h o coming there again here found_is found entry brought rest e = tt
-adopts_some (Ok a) w u v p t properties bytes went x y h o coming there again here found_is found entry brought rest e =
-    let same : x ≡ y = (let f : Some x ≡ Some y = sym there ∙ again in cc) in
-    let m : IsDated properties × IsNext h (entry_of p x properties) coming.revision = MatchOption-at_some _ _ coming.revision found_is found in
-    let adds : Adds w.history (entry_of p x properties) coming.revision = (m.0, subst (λ z. IsNext z (entry_of p x properties) coming.revision) here m.1) in
-    subst (λ z. AdoptsTxn w p t properties bytes went z (did v a)) (sym there)
-    (inl (
+    → IfOk r (λ a. AdoptsTxn w p t properties bytes went z (did v a))
+adopts_some (Err _) w u v p t properties bytes went z o next coming found adds used e = tt
+adopts_some (Ok a) w u v p t properties bytes went None o next coming found adds used e = absurd used
+adopts_some (Ok a) w u v p t properties bytes went (Some x) o next coming found adds used e =
+    inl (
       coming,
-      record { entry = entry ∙ ap (λ z. entry_of p z properties) (sym same); brought = brought; adds = adds },
-      e ∙ ap (λ z. did (at_call z p PutRev (Put (Rev (length z.history)) (file_of (recorded coming))) (RevPut coming) Over went) (answer went)) (rest ∙ ap (λ z. record w { txns = without_place w.txns t; spent = w.spent ++ z.name ∷ [] }) (sym same)),
-    ))
+      record {
+        entry = ap (λ (c : Coming). c.entry) used.0;
+        brought = ap (λ (c : Coming). c.bytes) used.0;
+        adds = subst (λ n. Adds w.history (entry_of p x properties) n) (sym (ap (λ (c : Coming). c.revision) used.0)) (MatchOption-at_some _ _ next found adds);
+      },
+      e ∙ ap (λ s. did (at_call s p PutRev (Put (Rev (length s.history)) (file_of (recorded coming))) (RevPut coming) Over went) (answer went)) used.1,
+    )

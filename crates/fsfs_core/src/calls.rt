@@ -1,7 +1,7 @@
 //! The words, and the calls of a section.
 ghost use Rattle.std.specs.Prelude.{◌≡◌, ◌+◌, ◌&&◌, length, OnOk, IfOk, MatchOption, Some, None, if◌then◌else◌};
 ghost use Rattle.fsfs_machine.specs.Disk.{found};
-ghost use Rattle.fsfs_machine.specs.Machine.{did, barred, answer, is_there, taken, inside, let_go, stuck_at, held_by, has_begun_by, is_up, looked, ended, at_place, learns, rename_of, due, gives, called, called_by, drawn, revealed};
+ghost use Rattle.fsfs_machine.specs.Machine.{did, barred, answer, is_there, taken, inside, let_go, stuck_at, held_by, has_begun_by, is_up, looked, ended, at_place, learns, rename_of, due, is_due, gives, called, called_by, drawn, revealed};
 ghost use Rattle.fsfs_core.specs.State.{world_of};
 
 use crate::state::State;
@@ -190,6 +190,17 @@ impl State {
         }
     }
 
+    // The same, where that place is the one of the call which is due.
+    fn due_at(&self, section: &Section, place: DiskPlace) -> Result<Option<NameChange>, AllocError>
+        ensures { IfOk result (λ o. o ≡ (if is_due section.now place then due (world_of self.now) section.now else None)) }
+    {
+        if is_due_at(section, place) {
+            self.due_change(section)
+        } else {
+            Ok(None)
+        }
+    }
+
     // The name is given as the names are firm.
     fn give_name(&mut self, section: &Section, went: &Went) -> Result<(), AllocError>
         ensures { OnOk result (world_of self.new ≡ gives section.now went.now (world_of self.old)) }
@@ -225,7 +236,6 @@ impl State {
     }
 
     // The call at that place, where it is due.
-    #[tactic(auto, using(crate::proofs::Calling::call_goes_on))]
     pub(crate) fn call(
         &mut self,
         p: u64,
@@ -238,11 +248,7 @@ impl State {
             Some(section) => section,
             None => return Ok(Outcome::Barred),
         };
-        if !is_due_at(&section, place) {
-            self.lock = Lock::Held(p, section);
-            return Ok(Outcome::Barred);
-        }
-        match self.due_change(&section)? {
+        match self.due_at(&section, place)? {
             None => {
                 self.lock = Lock::Held(p, section);
                 Ok(Outcome::Barred)
@@ -261,8 +267,8 @@ impl State {
     }
 
     // `TxnRead`.
-    pub(crate) fn draw(&mut self, p: u64, base: RevNum, went: Went) -> Result<Outcome, AllocError>
-        ensures { IfOk result (λ o. did (world_of self.new) o ≡ inside (world_of self.old) (drawn (world_of self.old) p base went) (held_by p self.old.lock)) }
+    pub(crate) fn draw(&mut self, p: u64, base: RevNum, went: &Went) -> Result<Outcome, AllocError>
+        ensures { IfOk result (λ o. did (world_of self.new) o ≡ inside (world_of self.old) (drawn (world_of self.old) p base went.now) (held_by p self.old.lock)) }
     {
         if !self.has_begun(p) {
             return Ok(Outcome::Barred);
@@ -271,8 +277,8 @@ impl State {
             None => Ok(Outcome::Barred),
             Some(name) => {
                 if (base.get() as u64) < self.count() && name < u64::MAX {
-                    self.end_read(p, drawn_section(name, name + 1, base, &went), &went)?;
-                    Ok(answer_of(&went))
+                    self.end_read(p, drawn_section(name, name + 1, base, went), went)?;
+                    Ok(answer_of(went))
                 } else {
                     Ok(Outcome::Barred)
                 }

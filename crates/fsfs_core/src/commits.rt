@@ -1,10 +1,11 @@
 //! Steps of transactions: edits, merges, and a commit's first call.
-ghost use Rattle.std.specs.Prelude.{◌≡◌, length, slice_get, IfOk, OnOk};
+ghost use Rattle.std.specs.Prelude.{◌≡◌, ◌<◌, ℕ, length, slice_get, IfOk, OnOk};
 ghost use Rattle.fsfs_machine.specs.Machine.{did, answer, either, has_begun_by, Adopts, AdoptsTxn, Edits, Merges, at_call, file_of, recorded};
 ghost use Rattle.fsfs_core.specs.State.{world_of};
+ghost use Rattle.fsfs_core.specs.Commits.{AddsNext, IsUsed};
 
 use crate::state::State;
-use crate::txns::{land_on, next_of, tree_at};
+use crate::txns::{edit_of, land_on, next_of, tree_at};
 use fsfs_base::{Pairs, RevNum};
 use fsfs_flat::Edit;
 use fsfs_machine::files::is_fine;
@@ -13,8 +14,8 @@ use fsfs_machine::{
     Bytes, Coming, Contents, DiskPlace, FileName, NameChange, Outcome, Section, Went, set_edited,
     set_merged,
 };
-use fsfs_model::{flat_apply, flat_mark};
-use std::alloc::AllocError;
+use fsfs_tree::Revision;
+use std::alloc::{AllocError, Global};
 
 fn begun_section(coming: Coming, went: &Went) -> Section
     ensures { result ≡ either went.now (Section.RevPut coming) Section.Over }
@@ -26,21 +27,63 @@ fn begun_section(coming: Coming, went: &Went) -> Section
     }
 }
 
+// The file that shows the revision.
+fn rev_file(alloc: Global, coming: &Coming) -> Result<Contents, AllocError>
+    ensures { IfOk result (λ file. file ≡ file_of (recorded coming.now)) }
+{
+    Ok(Contents::RevFile(
+        coming.revision.tree.clone()?,
+        coming.revision.changes.clone()?,
+        coming.bytes.copy(alloc)?,
+    ))
+}
+
 impl State {
     fn put_rev(&mut self, p: u64, coming: Coming, went: Went) -> Result<Outcome, AllocError>
         ensures { IfOk result (λ o. did (world_of self.new) o
             ≡ did (at_call (world_of self.old) p DiskPlace.PutRev (NameChange.Put (FileName.Rev (length self.old.line)) (file_of (recorded coming))) (Section.RevPut coming) Section.Over went) (answer went)) }
     {
-        let file = Contents::RevFile(
-            coming.revision.tree.clone()?,
-            coming.revision.changes.clone()?,
-            coming.bytes.copy(self.alloc)?,
-        );
-        let change = NameChange::Put(FileName::Rev(self.count()), file);
+        let change = NameChange::Put(FileName::Rev(self.count()), rev_file(self.alloc, &coming)?);
         let answer = answer_of(&went);
         let section = begun_section(coming, &went);
         self.end_call(p, DiskPlace::PutRev, change, section, went)?;
         Ok(answer)
+    }
+
+    fn next_revision(&self, t: u64, properties: &Pairs) -> Result<Option<Revision>, AllocError>
+        ensures { (p : ℕ) → IfOk result (λ o. AddsNext self.now.line p (slice_get self.now.txns.items t) properties.now o) }
+    {
+        let at = t as usize;
+        if at >= self.txns.len() {
+            return Ok(None);
+        }
+        next_of(
+            self.alloc,
+            self.line.revisions(),
+            &self.txns[at],
+            properties,
+        )
+    }
+
+    // The transaction goes, and comes as that revision.
+    fn use_txn(
+        &mut self,
+        p: u64,
+        t: u64,
+        properties: Pairs,
+        revision: Revision,
+        bytes: Bytes,
+    ) -> Result<Coming, AllocError>
+        requires { t < length self.old.txns.items }
+        ensures { IfOk result (λ coming. IsUsed (world_of self.old) p t properties revision bytes (slice_get self.old.txns.items t) coming (world_of self.new)) }
+    {
+        let txn = self.txns.remove(t as usize);
+        self.spent.push(txn.name)?;
+        Ok(Coming {
+            entry: txn.entry(p, properties),
+            revision,
+            bytes,
+        })
     }
 
     fn adopt_txn(
@@ -53,26 +96,10 @@ impl State {
     ) -> Result<Outcome, AllocError>
         ensures { IfOk result (λ o. AdoptsTxn (world_of self.old) p t properties bytes went (slice_get self.old.txns.items t) (did (world_of self.new) o)) }
     {
-        let at = t as usize;
-        if at >= self.txns.len() {
-            return Ok(Outcome::Barred);
-        }
-        match next_of(
-            self.alloc,
-            self.line.revisions(),
-            &self.txns[at],
-            &properties,
-        )? {
+        match self.next_revision(t, &properties)? {
             None => Ok(Outcome::Barred),
             Some(revision) => {
-                let txn = self.txns.remove(at);
-                self.spent.push(txn.name)?;
-                let entry = txn.entry(p, properties);
-                let coming = Coming {
-                    entry,
-                    revision,
-                    bytes,
-                };
+                let coming = self.use_txn(p, t, properties, revision, bytes)?;
                 self.put_rev(p, coming, went)
             }
         }
@@ -96,20 +123,17 @@ impl State {
         }
     }
 
-    #[tactic(auto, using(crate::proofs::Calling::edit_refused, crate::proofs::Calling::edit_none))]
-    pub(crate) fn edit(&mut self, t: u64, edit: Edit) -> Result<Outcome, AllocError>
-        ensures { IfOk result (λ o. Edits (world_of self.old) t edit (slice_get self.old.txns.items t) (did (world_of self.new) o)) }
+    pub(crate) fn edit(&mut self, t: u64, edit: &Edit) -> Result<Outcome, AllocError>
+        ensures { IfOk result (λ o. Edits (world_of self.old) t edit.now (slice_get self.old.txns.items t) (did (world_of self.new) o)) }
     {
         let at = t as usize;
         if at >= self.txns.len() {
             return Ok(Outcome::Barred);
         }
         let own = &self.txns[at].tree;
-        let history = self.line.revisions();
-        match flat_apply(self.alloc, &edit, history, own)? {
+        match edit_of(self.alloc, edit, self.line.revisions(), own)? {
             None => Ok(Outcome::Barred),
-            Some(tree) => {
-                let mark = flat_mark(&edit, history, own)?;
+            Some((tree, mark)) => {
                 set_edited(&mut self.txns, t, tree, mark)?;
                 Ok(Outcome::Done)
             }

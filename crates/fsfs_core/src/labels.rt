@@ -73,19 +73,19 @@ impl State {
     }
 
     // `MakeBench`.
-    pub(crate) fn make_bench(&mut self, p: u64, n: u64, went: Went) -> Result<Outcome, AllocError>
+    pub(crate) fn make_bench(&mut self, p: u64, n: u64, went: &Went) -> Result<Outcome, AllocError>
         ensures { IfOk result (λ o. did (world_of self.new) o
-            ≡ (if is_there (world_of self.old) p && is_outside p self.old.lock then made (world_of self.old) p n went (slice_get self.old.named.items n) else barred (world_of self.old))) }
+            ≡ (if is_there (world_of self.old) p && is_outside p self.old.lock then made (world_of self.old) p n went.now (slice_get self.old.named.items n) else barred (world_of self.old))) }
     {
         let at = n as usize;
         if !self.is_apart(p) || at >= self.named.len() {
             return Ok(Outcome::Barred);
         }
         let drawn = self.named.remove(at);
-        put_label(&mut self.labels, drawn.name, &went)?;
-        self.begin_txn(&drawn, &went)?;
-        self.turn(p, DiskPlace::MakeBench, &went)?;
-        Ok(answer_of(&went))
+        put_label(&mut self.labels, drawn.name, went)?;
+        self.begin_txn(&drawn, went)?;
+        self.turn(p, DiskPlace::MakeBench, went)?;
+        Ok(answer_of(went))
     }
 
     fn list(&self, went: &Went) -> Result<Outcome, AllocError>
@@ -98,65 +98,65 @@ impl State {
         }
     }
 
-    pub(crate) fn list_txns(&mut self, p: u64, went: Went) -> Result<Outcome, AllocError>
+    pub(crate) fn list_txns(&mut self, p: u64, went: &Went) -> Result<Outcome, AllocError>
         ensures { IfOk result (λ o. did (world_of self.new) o
-            ≡ (if is_there (world_of self.old) p then did (turned (world_of self.old) p DiskPlace.List went) (listed (world_of self.old) went) else barred (world_of self.old))) }
+            ≡ (if is_there (world_of self.old) p then did (turned (world_of self.old) p DiskPlace.List went.now) (listed (world_of self.old) went.now) else barred (world_of self.old))) }
     {
         if !self.is_there(p) {
             return Ok(Outcome::Barred);
         }
-        let answer = self.list(&went)?;
-        self.turn(p, DiskPlace::List, &went)?;
+        let answer = self.list(went)?;
+        self.turn(p, DiskPlace::List, went)?;
         Ok(answer)
     }
 
-    pub(crate) fn purge(&mut self, p: u64, t: u64, went: Went) -> Result<Outcome, AllocError>
+    pub(crate) fn purge(&mut self, p: u64, t: u64, went: &Went) -> Result<Outcome, AllocError>
         ensures { IfOk result (λ o. did (world_of self.new) o
-            ≡ (if is_there (world_of self.old) p && is_outside p self.old.lock then purged (world_of self.old) p t went (slice_get self.old.txns.items t) else barred (world_of self.old))) }
+            ≡ (if is_there (world_of self.old) p && is_outside p self.old.lock then purged (world_of self.old) p t went.now (slice_get self.old.txns.items t) else barred (world_of self.old))) }
     {
         let at = t as usize;
         if !self.is_apart(p) || at >= self.txns.len() {
             return Ok(Outcome::Barred);
         }
         let txn = self.txns.remove(at);
-        self.unlabel(txn.name, &went)?;
-        self.turn(p, DiskPlace::Remove, &went)?;
-        Ok(answer_of(&went))
+        self.unlabel(txn.name, went)?;
+        self.turn(p, DiskPlace::Remove, went)?;
+        Ok(answer_of(went))
     }
 
-    pub(crate) fn purge_spent(&mut self, p: u64, n: u64, went: Went) -> Result<Outcome, AllocError>
+    pub(crate) fn purge_spent(&mut self, p: u64, n: u64, went: &Went) -> Result<Outcome, AllocError>
         ensures { IfOk result (λ o. did (world_of self.new) o
-            ≡ (if is_there (world_of self.old) p && is_outside p self.old.lock then purged_spent (world_of self.old) p n went (slice_get self.old.spent.items n) else barred (world_of self.old))) }
+            ≡ (if is_there (world_of self.old) p && is_outside p self.old.lock then purged_spent (world_of self.old) p n went.now (slice_get self.old.spent.items n) else barred (world_of self.old))) }
     {
         let at = n as usize;
         if !self.is_apart(p) || at >= self.spent.len() {
             return Ok(Outcome::Barred);
         }
         let name = self.spent.remove(at);
-        self.unlabel(name, &went)?;
-        self.turn(p, DiskPlace::Remove, &went)?;
-        Ok(answer_of(&went))
+        self.unlabel(name, went)?;
+        self.turn(p, DiskPlace::Remove, went)?;
+        Ok(answer_of(went))
     }
 
     // While no object has the disk.
-    pub(crate) fn list_labels(&self, went: Went) -> Result<Outcome, AllocError>
-        ensures { IfOk result (λ o. did (world_of self.now) o ≡ (if is_up self.now.lock then barred (world_of self.now) else did (world_of self.now) (listed (world_of self.now) went))) }
+    pub(crate) fn list_labels(&self, went: &Went) -> Result<Outcome, AllocError>
+        ensures { IfOk result (λ o. did (world_of self.now) o ≡ (if is_up self.now.lock then barred (world_of self.now) else did (world_of self.now) (listed (world_of self.now) went.now))) }
     {
         if is_lock_up(&self.lock) {
             Ok(Outcome::Barred)
         } else {
-            self.list(&went)
+            self.list(went)
         }
     }
 
-    pub(crate) fn drop_label(&mut self, name: u64, went: Went) -> Result<Outcome, AllocError>
-        ensures { IfOk result (λ o. did (world_of self.new) o ≡ (if is_up self.old.lock then barred (world_of self.old) else label_dropped (world_of self.old) name went)) }
+    pub(crate) fn drop_label(&mut self, name: u64, went: &Went) -> Result<Outcome, AllocError>
+        ensures { IfOk result (λ o. did (world_of self.new) o ≡ (if is_up self.old.lock then barred (world_of self.old) else label_dropped (world_of self.old) name went.now)) }
     {
         if is_lock_up(&self.lock) {
             return Ok(Outcome::Barred);
         }
         let there = is_labelled(&self.labels, name);
-        self.unlabel(name, &went)?;
-        Ok(drop_answer(there, &went))
+        self.unlabel(name, went)?;
+        Ok(drop_answer(there, went))
     }
 }

@@ -41,9 +41,9 @@ impl State {
         }
     }
 
-    pub(crate) fn crash(&mut self, picks: Picks, labels: Picks) -> Result<Outcome, AllocError>
+    pub(crate) fn crash(&mut self, picks: &Picks, labels: &Picks) -> Result<Outcome, AllocError>
         ensures { IfOk result (λ o. did (world_of self.new) o
-            ≡ did (record (ends (world_of self.old)) { disk = NameChange.Firm ∷ left picks self.old.disk.items; labels = labels_left labels self.old.labels.items }) Outcome.Done) }
+            ≡ did (record (ends (world_of self.old)) { disk = NameChange.Firm ∷ left picks.now self.old.disk.items; labels = labels_left labels.now self.old.labels.items }) Outcome.Done) }
     {
         let kept = mem::replace(&mut self.labels, VecDeque::new(self.alloc));
         self.labels = pick_labels(self.alloc, kept, &labels.picks)?;

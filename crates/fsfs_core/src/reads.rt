@@ -60,9 +60,9 @@ impl State {
         rev: u64,
         offset: u64,
         length: u64,
-        went: Went,
+        went: &Went,
     ) -> Result<Outcome, AllocError>
-        ensures { IfOk result (λ o. did (world_of self.new) o ≡ has_read (world_of self.old) p rev offset length went (slice_get self.old.passes.items p)) }
+        ensures { IfOk result (λ o. did (world_of self.new) o ≡ has_read (world_of self.old) p rev offset length went.now (slice_get self.old.passes.items p)) }
     {
         let at = p as usize;
         if at >= self.passes.len() {
@@ -72,9 +72,9 @@ impl State {
         if !pass.knows(rev) {
             return Ok(Outcome::Barred);
         }
-        let answer = self.range_answer(pass.floor, rev, offset, length, &went)?;
+        let answer = self.range_answer(pass.floor, rev, offset, length, went)?;
         let seen = self.count();
-        learn(&mut self.passes, p, seen, DiskPlace::Read, &went)?;
+        learn(&mut self.passes, p, seen, DiskPlace::Read, went)?;
         Ok(answer)
     }
 
@@ -100,8 +100,13 @@ impl State {
     }
 
     // Reads the properties of what the pass knows of.
-    pub(crate) fn read_props(&mut self, p: u64, rev: u64, went: Went) -> Result<Outcome, AllocError>
-        ensures { IfOk result (λ o. did (world_of self.new) o ≡ has_read_props (world_of self.old) p rev went (slice_get self.old.passes.items p)) }
+    pub(crate) fn read_props(
+        &mut self,
+        p: u64,
+        rev: u64,
+        went: &Went,
+    ) -> Result<Outcome, AllocError>
+        ensures { IfOk result (λ o. did (world_of self.new) o ≡ has_read_props (world_of self.old) p rev went.now (slice_get self.old.passes.items p)) }
     {
         let at = p as usize;
         if at >= self.passes.len() {
@@ -110,22 +115,22 @@ impl State {
         if !self.passes[at].knows(rev) {
             return Ok(Outcome::Barred);
         }
-        let answer = self.properties_answer(rev, &went)?;
+        let answer = self.properties_answer(rev, went)?;
         let seen = self.count();
-        learn(&mut self.passes, p, seen, DiskPlace::Read, &went)?;
+        learn(&mut self.passes, p, seen, DiskPlace::Read, went)?;
         Ok(answer)
     }
 
-    pub(crate) fn read_floor(&mut self, p: u64, went: Went) -> Result<Outcome, AllocError>
-        ensures { IfOk result (λ o. did (world_of self.new) o ≡ floor_read (world_of self.old) p went (slice_get self.old.passes.items p)) }
+    pub(crate) fn read_floor(&mut self, p: u64, went: &Went) -> Result<Outcome, AllocError>
+        ensures { IfOk result (λ o. did (world_of self.new) o ≡ floor_read (world_of self.old) p went.now (slice_get self.old.passes.items p)) }
     {
         if !self.is_there(p) {
             return Ok(Outcome::Barred);
         }
         let found = find_number(&self.disk, &FileName::Floor);
         let seen = self.count();
-        read_floor_by(&mut self.passes, p, seen, found, &went)?;
-        Ok(floor_answer(found, &went))
+        read_floor_by(&mut self.passes, p, seen, found, went)?;
+        Ok(floor_answer(found, went))
     }
 
     pub(crate) fn split(&mut self, p: u64) -> Result<Outcome, AllocError>

@@ -2,7 +2,7 @@
 ghost use Rattle.std.specs.Prelude.{◌≡◌, ◌∷◌, ◌++◌, [], length, OnOk, IfOk, None};
 ghost use Rattle.std.specs.FinMap as finmap;
 ghost use Rattle.fsfs_tree.specs.Nodes.{empty_node};
-ghost use Rattle.fsfs_machine.specs.Machine.{Happens, Runs, did, created, stuck_place, revisions, is_there};
+ghost use Rattle.fsfs_machine.specs.Machine.{Happens, Runs, did, created, first_revision, stuck_place, revisions, is_there};
 ghost use Rattle.fsfs_machine.specs.Kept.{Kept, Keeps, RunKeeps};
 ghost use Rattle.fsfs_core.specs.State.{world_of};
 
@@ -79,26 +79,28 @@ fn first_files(
     Ok(disk)
 }
 
+// Revision 0 alone.
+fn first_line(alloc: Global, properties: Pairs, bytes: Bytes) -> Result<Line, AllocError>
+    ensures { IfOk result (λ line. line ≡ first_revision properties bytes ∷ []) }
+{
+    let mut line = Line::new(alloc);
+    let revision = Revision {
+        tree: first_tree(alloc)?,
+        changes: ChangeMap::new(alloc),
+        properties,
+    };
+    line.push(revision, bytes)?;
+    Ok(line)
+}
+
 impl State {
     /// A repository of revision 0, open, all of it firm; revision 0 has these properties, and its file these bytes.
     pub fn create(alloc: Global, properties: Pairs, bytes: Bytes) -> Result<State, AllocError>
         ensures world { IfOk result (λ s. world_of s ≡ created properties bytes) }
         ensures kept { IfOk result (λ s. Kept (world_of s)) }
     {
-        State::first(alloc, properties, bytes)
-    }
-
-    fn first(alloc: Global, properties: Pairs, bytes: Bytes) -> Result<State, AllocError>
-        ensures { IfOk result (λ s. world_of s ≡ created properties bytes) }
-    {
         let disk = first_files(alloc, &properties, &bytes)?;
-        let mut line = Line::new(alloc);
-        let revision = Revision {
-            tree: first_tree(alloc)?,
-            changes: ChangeMap::new(alloc),
-            properties,
-        };
-        line.push(revision, bytes)?;
+        let line = first_line(alloc, properties, bytes)?;
         let mut passes = Vec::new(alloc);
         passes.push(Pass::first(alloc, 1, 0))?;
         Ok(State {
@@ -164,7 +166,7 @@ impl State {
             Step::TakeLock { pass } => Ok(self.take_lock(pass)),
             Step::GiveLock { pass } => Ok(self.give_lock(pass)),
             Step::StickLock { pass } => Ok(self.stick_lock(pass)),
-            Step::Draw { pass, base, went } => self.draw(pass, base, went),
+            Step::Draw { pass, base, went } => self.draw(pass, base, &went),
             Step::AdoptRev {
                 pass,
                 txn,
@@ -181,21 +183,21 @@ impl State {
                 offset,
                 length,
                 went,
-            } => self.read(pass, rev, offset, length, went),
-            Step::ReadProps { pass, rev, went } => self.read_props(pass, rev, went),
-            Step::ReadFloor { pass, went } => self.read_floor(pass, went),
+            } => self.read(pass, rev, offset, length, &went),
+            Step::ReadProps { pass, rev, went } => self.read_props(pass, rev, &went),
+            Step::ReadFloor { pass, went } => self.read_floor(pass, &went),
             Step::Split { pass } => self.split(pass),
             Step::Join { pass, other } => self.join(pass, other),
-            Step::Edit { txn, edit } => self.edit(txn, edit),
+            Step::Edit { txn, edit } => self.edit(txn, &edit),
             Step::Merge { txn, head } => self.merge(txn, head),
-            Step::MakeBench { pass, name, went } => self.make_bench(pass, name, went),
-            Step::ListTxns { pass, went } => self.list_txns(pass, went),
-            Step::Purge { pass, txn, went } => self.purge(pass, txn, went),
-            Step::PurgeSpent { pass, spent, went } => self.purge_spent(pass, spent, went),
-            Step::ListLabels { went } => self.list_labels(went),
-            Step::DropLabel { name, went } => self.drop_label(name, went),
+            Step::MakeBench { pass, name, went } => self.make_bench(pass, name, &went),
+            Step::ListTxns { pass, went } => self.list_txns(pass, &went),
+            Step::Purge { pass, txn, went } => self.purge(pass, txn, &went),
+            Step::PurgeSpent { pass, spent, went } => self.purge_spent(pass, spent, &went),
+            Step::ListLabels { went } => self.list_labels(&went),
+            Step::DropLabel { name, went } => self.drop_label(name, &went),
             Step::Close => Ok(self.close()),
-            Step::Crash { picks, labels } => self.crash(picks, labels),
+            Step::Crash { picks, labels } => self.crash(&picks, &labels),
             Step::Open { went } => self.open(went),
         }
     }
@@ -209,22 +211,15 @@ impl State {
         self.take_step(s)
     }
 
-    fn run_all(&mut self, mut steps: VecDeque<Step>) -> Result<Vec<Outcome>, AllocError>
-        ensures { IfOk result (λ os. Runs (world_of self.old) steps.items os.items (world_of self.new)) }
-    {
-        let mut outcomes = Vec::new(self.alloc);
-        while let Some(step) = steps.pop_front() {
-            let outcome = self.take_step(step)?;
-            outcomes.push(outcome)?;
-        }
-        Ok(outcomes)
-    }
-
     /// Step after step, with the outcome of each.
-    pub fn run(&mut self, steps: VecDeque<Step>) -> Result<Vec<Outcome>, AllocError>
+    pub fn run(&mut self, mut steps: VecDeque<Step>) -> Result<Vec<Outcome>, AllocError>
         ensures runs { IfOk result (λ os. Runs (world_of self.old) steps.items os.items (world_of self.new)) }
         ensures kept { IfOk result (λ os. Kept (world_of self.old) → RunKeeps (world_of self.old) (world_of self.new)) }
     {
-        self.run_all(steps)
+        let mut outcomes = Vec::new(self.alloc);
+        while let Some(step) = steps.pop_front() {
+            outcomes.push(self.step(step)?)?;
+        }
+        Ok(outcomes)
     }
 }

@@ -8,10 +8,12 @@ ghost use Rattle.fsfs_tree.specs.Revisions.{Revision as Stands, tree_of};
 ghost use Rattle.fsfs_tree.specs.Dated.{IsDated, last_of};
 ghost use Rattle.fsfs_flat.specs.Transactions.{IsNext};
 ghost use Rattle.fsfs_machine.specs.Machine.{tree_in, entry_of};
+ghost use Rattle.fsfs_core.specs.Commits.{GivesEdit};
 
 use fsfs_base::{FsPath, Pairs, RevNum, read_date};
+use fsfs_flat::{Edit, Mark};
 use fsfs_machine::Txn;
-use fsfs_model::{flat_clash, flat_fold, flat_land};
+use fsfs_model::{flat_apply, flat_clash, flat_fold, flat_land, flat_mark};
 use fsfs_tree::{History, Revision, Tree};
 use std::alloc::{AllocError, Global};
 
@@ -43,6 +45,21 @@ fn is_dated(properties: &Pairs) -> bool
     match properties.get(b"svn:date") {
         None => true,
         Some(value) => read_date(value).is_some(),
+    }
+}
+
+/// The transaction's tree after an edit, and the edit's mark; none where the edit isn't accepted.
+pub fn edit_of(
+    alloc: Global,
+    edit: &Edit,
+    history: &History,
+    own: &Tree,
+) -> Result<Option<(Tree, Mark)>, AllocError>
+    ensures { IfOk result (λ o. GivesEdit edit.now history.now own.now o) }
+{
+    match flat_apply(alloc, edit, history, own)? {
+        None => Ok(None),
+        Some(tree) => Ok(Some((tree, flat_mark(edit, history, own)?))),
     }
 }
 

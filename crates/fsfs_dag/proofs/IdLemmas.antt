@@ -12,7 +12,7 @@ use Rattle.fsfs_noderev.specs.declared.node_id.Place.{Place}
 use Rattle.fsfs_noderev.specs.declared.node_id.Place.TheVariants.{At, In}
 use Rattle.fsfs_noderev.specs.declared.node_id.NodeId.{NodeId}
 use Rattle.fsfs_dag.specs.Same.{same_part, same_place, same_id}
-use Rattle.std.proofs.lemmas.Bool.{and_parts}
+use Rattle.std.proofs.lemmas.Bool.{and_from, and_parts}
 
 equal : (m n : ℕ) → (m == n) ≡ true → m ≡ n
 equal m n h = grind (arith, nat_tests)
@@ -53,24 +53,21 @@ id_true a b h =
     let place = place_true a.place b.place rest.1 in
     λ i. record { node = node i; copy = copy i; place = place i }
 
-both_true : (a b : Bool) → a ≡ true → b ≡ true → (a && b) ≡ true
-both_true a b e f = rw (e, f) refl
-
 itself : (n : ℕ) → (n == n) ≡ true
 itself n = eq-eqb n n refl
 
 part_self : (a : Part) → same_part a a ≡ true
 part_self (New m) = itself m.number
 part_self (Old m) = itself m.number
-part_self (Made m made) = both_true (m.number == m.number) (made == made) (itself m.number) (itself made)
+part_self (Made m made) = and_from (m.number == m.number) (made == made) (itself m.number) (itself made)
 
 place_self : (a : Place) → same_place a a ≡ true
-place_self (At rev offset) = both_true (rev == rev) (offset == offset) (itself rev) (itself offset)
-place_self (In txn) = both_true (txn.base == txn.base) (txn.number.number == txn.number.number) (itself txn.base) (itself txn.number.number)
+place_self (At rev offset) = and_from (rev == rev) (offset == offset) (itself rev) (itself offset)
+place_self (In txn) = and_from (txn.base == txn.base) (txn.number.number == txn.number.number) (itself txn.base) (itself txn.number.number)
 
 id_self : (a : NodeId) → same_id a a ≡ true
 id_self a =
-    both_true (same_part a.node a.node && same_part a.copy a.copy) (same_place a.place a.place) (both_true (same_part a.node a.node) (same_part a.copy a.copy) (part_self a.node) (part_self a.copy)) (place_self a.place)
+    and_from (same_part a.node a.node && same_part a.copy a.copy) (same_place a.place a.place) (and_from (same_part a.node a.node) (same_part a.copy a.copy) (part_self a.node) (part_self a.copy)) (place_self a.place)
 
 pub id_false : (a b : NodeId) → same_id a b ≡ false → a ≡ b → ⊥
 id_false a b h e =

@@ -11,15 +11,15 @@ use Rattle.fsfs_damage.specs.declared.wrong.ReadError.{ReadError}
 use Rattle.fsfs_damage.specs.declared.wrong.ReadError.TheVariants as errors
 use Rattle.fsfs_damage.specs.Readings.{Answers}
 use Rattle.fsfs_shows.specs.Reading.{DirEntry as EntryValue, IsEntry, AreEntries, EntryIn, FirstPairFails, EntriesIn, EntriesOf, ChildOf, OfNamed, OfEntry, named, offset_of}
-use Rattle.std.proofs.lemmas.Bool.Decides.{nat_tests}
 use Rattle.fsfs_base.specs.Paths.{PathName, same_name}
 use Rattle.fsfs_book.specs.Told.{RevisionBytes}
 use Rattle.fsfs_noderev.specs.declared.node_id.Place.{Place}
 use Rattle.fsfs_noderev.specs.declared.node_id.Place.TheVariants as places
 use Rattle.fsfs_noderev.specs.declared.node_rev.NodeRev.{NodeRev}
-use Rattle.fsfs_revision.specs.Nodes.{is_before, place_before}
+use Rattle.fsfs_revision.specs.Nodes.{place_before}
 use Rattle.fsfs_dag.specs.declared.directory.DirEntry.{DirEntry}
 use Rattle.fsfs_dag.specs.Views.{entry_value, entry_values, IsBefore, AreBefore}
+use Rattle.fsfs_dag.proofs.Reps.{before_le}
 use Rattle.fsfs_grammar.specs.Reading.{text_at}
 use Rattle.fsfs_grammar.proofs.Readers.{text_reads, ok_is}
 
@@ -101,9 +101,6 @@ pushed (Ok x) old new entry e h = h
 pushed (Err x) old new entry e h = absurd cc
 
 -- ---- the entry of a name
-
-before_le : (rev offset : ℕ) (home : RevOffset) → is_before rev offset home ≡ true → rev ≤ home.rev
-before_le rev offset home h = grind (arith, nat_tests)
 
 pub place_le : (home : RevOffset) (place : Place) → place_before home place ≡ true → (offset_of place).rev ≤ home.rev
 place_le home (places.At rev offset) h = before_le rev offset home h

@@ -43,7 +43,7 @@ module _ (look : RevisionBytes) (rep : Rep) where
 
 -- ---- what a node-revision names
 
-before_le : (rev offset : ℕ) (home : RevOffset) → is_before rev offset home ≡ true → rev ≤ home.rev
+pub before_le : (rev offset : ℕ) (home : RevOffset) → is_before rev offset home ≡ true → rev ≤ home.rev
 before_le rev offset home h = grind (arith, nat_tests)
 
 pub rep_le : (home : RevOffset) (rev : Option ℕ) (offset : ℕ) → rep_place_before home rev offset ≡ true → unwrap_or rev 0 ≤ home.rev

@@ -1,14 +1,10 @@
 //! A node's properties and a file's text.
-ghost use Rattle.std.specs.Prelude.{◌≡◌, ℕ, Some, Ok, IsSome, IfErr};
+ghost use Rattle.std.specs.Prelude.{◌≡◌, IsSome};
 ghost use Rattle.fsfs_base.specs.declared.kind.Kind.TheVariants.{File};
 ghost use Rattle.fsfs_book.specs.Told.{RevisionBytes, Knows, Keeps, IsTold};
 ghost use Rattle.fsfs_rep.specs.Frames.{rev_of};
 ghost use Rattle.fsfs_damage.specs.Readings.{Answers};
-ghost use Rattle.fsfs_shows.specs.Reading.{RepAt, PairsIn, PairsAt, PropsOf, TextOf, StandsAt};
-ghost use Rattle.fsfs_tree.specs.Nodes.{TreeFunction, Node};
-ghost use Rattle.fsfs_base.specs.Paths.{Path};
-ghost use Rattle.fsfs_shows.specs.Shown.{Shows};
-ghost use Rattle.fsfs_shows.specs.ByTree.{IsTextByTree};
+ghost use Rattle.fsfs_shows.specs.Reading.{RepAt, PairsIn, PairsAt, PropsOf, TextOf};
 ghost use Rattle.fsfs_damage.specs.Causes.{HasCause, IsQuiet};
 ghost use Rattle.fsfs_dag.specs.Views.{home_of};
 
@@ -54,7 +50,8 @@ pub(crate) fn pairs_in<B: Book>(alloc: Global, book: &mut B, rep: &Rep) -> Resul
     hash_in(alloc, rep, &bytes)
 }
 
-fn read_props<B: Book>(alloc: Global, book: &mut B, node: &PlacedNode) -> Result<Pairs, ReadError>
+/// The properties of a node.
+pub fn props<B: Book>(alloc: Global, book: &mut B, node: &PlacedNode) -> Result<Pairs, ReadError>
     ensures told { (look : RevisionBytes) → Knows (B.told book.old).revs (home_of node.now.node).rev look → Answers (λ pairs. pairs) (PropsOf look node.now.node) result }
     ensures kept { Keeps (B.told book.old) (B.told book.new) }
     ensures cause { HasCause (B.faults book.old) (B.faults book.new) result }
@@ -62,29 +59,6 @@ fn read_props<B: Book>(alloc: Global, book: &mut B, node: &PlacedNode) -> Result
     match node.props() {
         None => Ok(Pairs::new(alloc)),
         Some(rep) => pairs_in(alloc, book, rep),
-    }
-}
-
-/// The properties of a node.
-pub fn props<B: Book>(alloc: Global, book: &mut B, node: &PlacedNode) -> Result<Pairs, ReadError>
-    ensures told { (look : RevisionBytes) → Knows (B.told book.old).revs (home_of node.now.node).rev look → Answers (λ pairs. pairs) (PropsOf look node.now.node) result }
-    // Where the bytes show a tree and the node stands at a path, they are those of the tree's node, and never damage.
-    ensures shown { (look : RevisionBytes) (rev : ℕ) (tree : TreeFunction) (p : Path) (n : Node) → Knows (B.told book.old).revs (home_of node.now.node).rev look → Shows look rev tree → StandsAt look rev p node.now.node → tree p ≡ Some n → Answers (λ pairs. pairs) (λ read. read ≡ Ok n.properties) result }
-    ensures kept { Keeps (B.told book.old) (B.told book.new) }
-    ensures cause { HasCause (B.faults book.old) (B.faults book.new) result }
-{
-    read_props(alloc, book, node)
-}
-
-fn read_text<B: Book>(alloc: Global, book: &mut B, file: &PlacedNode) -> Result<Vec<u8>, ReadError>
-    requires { file.now.node.kind ≡ File }
-    ensures told { (look : RevisionBytes) → Knows (B.told book.old).revs (home_of file.now.node).rev look → Answers (λ v. v.items) (TextOf look file.now.node) result }
-    ensures kept { Keeps (B.told book.old) (B.told book.new) }
-    ensures cause { HasCause (B.faults book.old) (B.faults book.new) result }
-{
-    match file.text() {
-        None => Ok(Vec::new(alloc)),
-        Some(rep) => rep_read(alloc, book, rep),
     }
 }
 
@@ -96,10 +70,11 @@ pub fn text_of<B: Book>(
 ) -> Result<Vec<u8>, ReadError>
     requires { file.now.node.kind ≡ File }
     ensures told { (look : RevisionBytes) → Knows (B.told book.old).revs (home_of file.now.node).rev look → Answers (λ v. v.items) (TextOf look file.now.node) result }
-    // Where the bytes show a tree and the file stands at a path, it is that of the tree's node; only a delta is refused.
-    ensures shown { (look : RevisionBytes) (rev : ℕ) (tree : TreeFunction) (p : Path) (n : Node) → Knows (B.told book.old).revs (home_of file.now.node).rev look → Shows look rev tree → StandsAt look rev p file.now.node → tree p ≡ Some n → Answers (λ v. v.items) (λ read. IsTextByTree read n.text) result }
     ensures kept { Keeps (B.told book.old) (B.told book.new) }
     ensures cause { HasCause (B.faults book.old) (B.faults book.new) result }
 {
-    read_text(alloc, book, file)
+    match file.text() {
+        None => Ok(Vec::new(alloc)),
+        Some(rep) => rep_read(alloc, book, rep),
+    }
 }

@@ -8,11 +8,7 @@ ghost use Rattle.fsfs_noderev.specs.Fields.{IsIdText};
 ghost use Rattle.fsfs_noderev.specs.declared.node_id.NodeId.{NodeId};
 ghost use Rattle.fsfs_revision.specs.Nodes.{is_revision_id, place_before};
 ghost use Rattle.fsfs_damage.specs.Readings.{Answers};
-ghost use Rattle.fsfs_shows.specs.Reading.{EntryIn, EntriesIn, EntriesOf, IsEntryName, IsEntryValue, named, StandsAt};
-ghost use Rattle.fsfs_tree.specs.Nodes.{TreeFunction};
-ghost use Rattle.fsfs_base.specs.Paths.{Path};
-ghost use Rattle.fsfs_shows.specs.Shown.{Shows};
-ghost use Rattle.fsfs_shows.specs.ByTree.{AreEntriesByTree};
+ghost use Rattle.fsfs_shows.specs.Reading.{EntryIn, EntriesIn, EntriesOf, IsEntryName, IsEntryValue, named};
 ghost use Rattle.fsfs_damage.specs.Causes.{HasCause, IsQuiet};
 ghost use Rattle.fsfs_dag.specs.Views.{entry_value, entry_values, home_of, AreBefore, IsBefore};
 
@@ -131,8 +127,9 @@ fn entries_of(
     Ok(entries)
 }
 
-// The entries of a directory.
-fn read_entries<B: Book>(
+/// The entries of a directory, in byte order of their names. Of its representation Header, EndRep, Size, Md5, Sha1 and Hash
+/// are tried in this order, and then entry by entry BadName, EntryValue and PlaceOrder.
+pub fn entries<B: Book>(
     alloc: Global,
     book: &mut B,
     dir: &PlacedNode,
@@ -150,24 +147,6 @@ fn read_entries<B: Book>(
             entries_of(alloc, dir.place(), rep, &pairs)
         }
     }
-}
-
-/// The entries of a directory, in byte order of their names. Of its representation Header, EndRep, Size, Md5, Sha1 and Hash
-/// are tried in this order, and then entry by entry BadName, EntryValue and PlaceOrder.
-pub fn entries<B: Book>(
-    alloc: Global,
-    book: &mut B,
-    dir: &PlacedNode,
-) -> Result<Vec<DirEntry>, ReadError>
-    requires { dir.now.node.kind ≡ Dir }
-    ensures told { (look : RevisionBytes) → Knows (B.told book.old).revs (home_of dir.now.node).rev look → Answers (λ v. entry_values v.items) (EntriesOf look dir.now.node) result }
-    // Where the bytes show a tree and the directory stands at a path, they are the tree's, and never damage.
-    ensures shown { (look : RevisionBytes) (rev : ℕ) (tree : TreeFunction) (p : Path) → Knows (B.told book.old).revs (home_of dir.now.node).rev look → Shows look rev tree → StandsAt look rev p dir.now.node → Answers (λ v. entry_values v.items) (AreEntriesByTree tree p) result }
-    ensures before { IfOk result (λ v. AreBefore (home_of dir.now.node) v.items) }
-    ensures kept { Keeps (B.told book.old) (B.told book.new) }
-    ensures cause { HasCause (B.faults book.old) (B.faults book.new) result }
-{
-    read_entries(alloc, book, dir)
 }
 
 /// The entry of a name.

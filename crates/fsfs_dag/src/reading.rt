@@ -1,12 +1,9 @@
 //! The node-revision at a place of a revision, and a revision's root.
-ghost use Rattle.std.specs.Prelude.{◌≡◌, ◌≤◌, ◌<◌, ◌^◌, ◌+◌, ℕ, [], true, length, take, IfOk};
-ghost use Rattle.fsfs_tree.specs.Nodes.{TreeFunction};
+ghost use Rattle.std.specs.Prelude.{◌≡◌, ◌≤◌, ◌<◌, ◌^◌, ◌+◌, ℕ, true, length, take, IfOk};
 ghost use Rattle.fsfs_book.specs.Told.{RevisionBytes, Knows, Keeps, IsTold};
 ghost use Rattle.fsfs_revision.specs.Nodes.{is_ordered};
 ghost use Rattle.fsfs_damage.specs.Readings.{Answers};
-ghost use Rattle.fsfs_shows.specs.Reading.{NodeAt, RootOf, OfEntry, OfId, HasId, HasKind, Stands, offset_of};
-ghost use Rattle.fsfs_shows.specs.Shown.{Shows};
-ghost use Rattle.fsfs_shows.specs.ByTree.{IsMetByTree};
+ghost use Rattle.fsfs_shows.specs.Reading.{NodeAt, RootOf, OfEntry, OfId, HasId, HasKind, offset_of};
 ghost use Rattle.fsfs_damage.specs.Causes.{HasCause, IsQuiet};
 ghost use Rattle.fsfs_dag.specs.Told.{LengthOf, WindowAt, EndOf};
 ghost use Rattle.fsfs_dag.specs.Same.{same_part, same_place, same_id};
@@ -106,7 +103,9 @@ fn node_read<B: Book>(alloc: Global, book: &mut B, at: RevOffset) -> Result<Node
     }
 }
 
-fn read_root<B: Book>(alloc: Global, book: &mut B, rev: u32) -> Result<PlacedNode, ReadError>
+/// The root of a revision: the node-revision that its trailer names. Trailer, NodeRev, PlaceOrder, OtherId and EntryKind
+/// are tried in this order.
+pub fn root_of<B: Book>(alloc: Global, book: &mut B, rev: u32) -> Result<PlacedNode, ReadError>
     ensures told { (look : RevisionBytes) → Knows (B.told book.old).revs rev look → Answers (λ found. found.node) (RootOf look rev) result }
     ensures rev { IfOk result (λ found. (offset_of found.node.id.place).rev ≡ rev) }
     ensures kept { Keeps (B.told book.old) (B.told book.new) }
@@ -116,19 +115,6 @@ fn read_root<B: Book>(alloc: Global, book: &mut B, rev: u32) -> Result<PlacedNod
     let read = node_read(alloc, book, at)?;
     let node = as_root(at, read)?;
     Ok(PlacedNode { node })
-}
-
-/// The root of a revision: the node-revision that its trailer names. Trailer, NodeRev, PlaceOrder, OtherId and EntryKind
-/// are tried in this order.
-pub fn root_of<B: Book>(alloc: Global, book: &mut B, rev: u32) -> Result<PlacedNode, ReadError>
-    ensures told { (look : RevisionBytes) → Knows (B.told book.old).revs rev look → Answers (λ found. found.node) (RootOf look rev) result }
-    // Where the bytes show a tree, it is what stands at `/` there, and never damage.
-    ensures shown { (look : RevisionBytes) (tree : TreeFunction) → Knows (B.told book.old).revs rev look → Shows look rev tree → Answers (λ found. Stands found.node) (IsMetByTree look rev tree []) result }
-    ensures rev { IfOk result (λ found. (offset_of found.node.id.place).rev ≡ rev) }
-    ensures kept { Keeps (B.told book.old) (B.told book.new) }
-    ensures cause { HasCause (B.faults book.old) (B.faults book.new) result }
-{
-    read_root(alloc, book, rev)
 }
 
 fn same_part(a: Part, b: Part) -> bool

@@ -3,10 +3,7 @@ ghost use Rattle.std.specs.Prelude.{◌≡◌, ◌≤◌, IfOk, IfSome, option_m
 ghost use Rattle.fsfs_base.specs.declared.kind.Kind.TheVariants.{Dir};
 ghost use Rattle.fsfs_book.specs.Told.{RevisionBytes, Knows, Keeps};
 ghost use Rattle.fsfs_damage.specs.Readings.{Answers};
-ghost use Rattle.fsfs_tree.specs.Nodes.{TreeFunction};
 ghost use Rattle.fsfs_shows.specs.Reading.{ChildOf, MetAt};
-ghost use Rattle.fsfs_shows.specs.Shown.{Shows};
-ghost use Rattle.fsfs_shows.specs.ByTree.{IsMetByTree};
 ghost use Rattle.fsfs_damage.specs.Causes.{HasCause};
 ghost use Rattle.fsfs_dag.specs.Views.{home_of, met_value};
 
@@ -51,8 +48,14 @@ pub fn child_named<B: Book>(
     }
 }
 
-// Walks from the root down the names.
-fn go_down<B: Book>(alloc: Global, book: &mut B, rev: u32, path: &FsPath) -> Result<Met, ReadError>
+/// What stands at a path of a revision. A path of k names costs k + 1 node-revisions and k directories, whatever the number
+/// of revisions. Where something is wrong, the answer is what the walk from the root meets first.
+pub fn node_at<B: Book>(
+    alloc: Global,
+    book: &mut B,
+    rev: u32,
+    path: &FsPath,
+) -> Result<Met, ReadError>
     ensures told { (look : RevisionBytes) → Knows (B.told book.old).revs rev look → Answers met_value (MetAt look rev path.now) result }
     ensures kept { Keeps (B.told book.old) (B.told book.new) }
     ensures cause { HasCause (B.faults book.old) (B.faults book.new) result }
@@ -71,21 +74,4 @@ fn go_down<B: Book>(alloc: Global, book: &mut B, rev: u32, path: &FsPath) -> Res
         depth += 1;
     }
     Ok(Met::Node(node))
-}
-
-/// What stands at a path of a revision. A path of k names costs k + 1 node-revisions and k directories, whatever the number
-/// of revisions. Where something is wrong, the answer is what the walk from the root meets first.
-pub fn node_at<B: Book>(
-    alloc: Global,
-    book: &mut B,
-    rev: u32,
-    path: &FsPath,
-) -> Result<Met, ReadError>
-    ensures told { (look : RevisionBytes) → Knows (B.told book.old).revs rev look → Answers met_value (MetAt look rev path.now) result }
-    // Where the bytes show a tree, the answer is the tree's, and never damage.
-    ensures shown { (look : RevisionBytes) (tree : TreeFunction) → Knows (B.told book.old).revs rev look → Shows look rev tree → Answers met_value (IsMetByTree look rev tree path.now) result }
-    ensures kept { Keeps (B.told book.old) (B.told book.new) }
-    ensures cause { HasCause (B.faults book.old) (B.faults book.new) result }
-{
-    go_down(alloc, book, rev, path)
 }

@@ -1,12 +1,8 @@
 //! A file's text, written into a sink.
-ghost use Rattle.std.specs.Prelude.{◌≡◌, ℕ, Some};
-ghost use Rattle.fsfs_base.specs.Paths.{Path};
-ghost use Rattle.fsfs_tree.specs.Nodes.{Node, TreeFunction};
+ghost use Rattle.std.specs.Prelude.{◌≡◌};
 ghost use Rattle.fsfs_base.specs.declared.kind.Kind.TheVariants.{File};
 ghost use Rattle.fsfs_book.specs.Told.{RevisionBytes, Knows, Keeps};
-ghost use Rattle.fsfs_shows.specs.Reading.{StandsAt, TextOf};
-ghost use Rattle.fsfs_shows.specs.Shown.{Shows};
-ghost use Rattle.fsfs_shows.specs.ByTree.{IsTextByTree};
+ghost use Rattle.fsfs_shows.specs.Reading.{TextOf};
 ghost use Rattle.fsfs_dag.specs.Views.{home_of};
 ghost use Rattle.fsfs_dag.specs.Writing.{Writes, HasCauses};
 
@@ -38,8 +34,6 @@ pub fn text_to<B: Book, S: Sink>(
 ) -> Result<(), TextError>
     requires { file.now.node.kind ≡ File }
     ensures told { (look : RevisionBytes) → Knows (B.told book.old).revs (home_of file.now.node).rev look → Writes (S.written sink.old) (S.written sink.new) (TextOf look file.now.node) result }
-    // Where the bytes show a tree and the file stands at a path, it is that of the tree's node; only a delta is refused.
-    ensures shown { (look : RevisionBytes) (rev : ℕ) (tree : TreeFunction) (p : Path) (n : Node) → Knows (B.told book.old).revs (home_of file.now.node).rev look → Shows look rev tree → StandsAt look rev p file.now.node → tree p ≡ Some n → Writes (S.written sink.old) (S.written sink.new) (λ read. IsTextByTree read n.text) result }
     ensures kept { Keeps (B.told book.old) (B.told book.new) }
     ensures causes { HasCauses (B.faults book.old) (B.faults book.new) (S.faults sink.old) (S.faults sink.new) result }
 {

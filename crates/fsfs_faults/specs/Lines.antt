@@ -1,9 +1,9 @@
 -- The line that tells of a fault on the error output, and the status.
 use Rattle.std.specs.Prelude.{ℕ, List, [], ◌∷◌, ◌++◌, codes, decimal}
 use Rattle.hex.specs.Hex.{encode_lower}
-use Rattle.fsfs_base.specs.Paths.{path_text}
 use Rattle.fsfs_base.specs.declared.bad_path.PathFault.{PathFault}
 use Rattle.fsfs_base.specs.declared.bad_path.PathFault.TheVariants.{NotAbsolute, PathTooLong, TooDeep, EmptyName, Control, NameTooLong, Dot}
+use Rattle.fsfs_answers.specs.FaultWords.{not_found, not_dir, not_file, no_rev, already_repo, not_repo, delta, path_value, two_numbers}
 use Rattle.fsfs_layout.specs.FileNames.{small_name}
 use Rattle.fsfs_damage.specs.declared.damage.RevOffset.{RevOffset}
 use Rattle.fsfs_damage.specs.declared.damage.DamageKind.{DamageKind}
@@ -30,17 +30,17 @@ place_words CreateLast = codes "CreateLast"
 abbrev pub fault_name : Fault → List ℕ
 fault_name Usage = codes "Usage"
 fault_name (BadPath bad) = codes "BadPath"
-fault_name (NotFound path) = codes "NotFound"
-fault_name (NotDir path) = codes "NotDir"
-fault_name (NotFile path) = codes "NotFile"
-fault_name (NoRev asked youngest) = codes "NoRev"
-fault_name AlreadyRepo = codes "AlreadyRepo"
-fault_name NotRepo = codes "NotRepo"
+fault_name (NotFound path) = not_found
+fault_name (NotDir path) = not_dir
+fault_name (NotFile path) = not_file
+fault_name (NoRev asked youngest) = no_rev
+fault_name AlreadyRepo = already_repo
+fault_name NotRepo = not_repo
 fault_name (OtherFormat number) = codes "OtherFormat"
 fault_name Linear = codes "Linear"
 fault_name (Small small) = codes "Small"
 fault_name (Corrupt damage) = codes "Corrupt"
-fault_name (Delta at) = codes "Delta"
+fault_name (Delta at) = delta
 fault_name MountFault = codes "MountFault"
 fault_name (DiskFault place) = codes "DiskFault " ++ place_words place
 fault_name WriteFault = codes "WriteFault"
@@ -57,7 +57,7 @@ why_name Dot = codes "Dot"
 
 -- a revision and an offset, a space before each
 abbrev pub at_values : RevOffset → List ℕ
-at_values at = (32 ∷ decimal at.rev) ++ 32 ∷ decimal at.offset
+at_values at = two_numbers at.rev at.offset
 
 -- what is damaged in a representation, with what is kept and what was found, a space before each
 abbrev pub rep_what_values : RepWhat → List ℕ
@@ -84,10 +84,10 @@ what_values damaged.Missing = codes " Missing"
 abbrev pub fault_values : Fault → List ℕ
 fault_values Usage = []
 fault_values (BadPath bad) = (32 ∷ decimal bad.at) ++ codes " " ++ why_name bad.why
-fault_values (NotFound path) = 32 ∷ path_text path
-fault_values (NotDir path) = 32 ∷ path_text path
-fault_values (NotFile path) = 32 ∷ path_text path
-fault_values (NoRev asked youngest) = (32 ∷ decimal asked) ++ 32 ∷ decimal youngest
+fault_values (NotFound path) = path_value path
+fault_values (NotDir path) = path_value path
+fault_values (NotFile path) = path_value path
+fault_values (NoRev asked youngest) = two_numbers asked youngest
 fault_values AlreadyRepo = []
 fault_values NotRepo = []
 fault_values (OtherFormat number) = 32 ∷ decimal number

@@ -38,6 +38,23 @@ impl<R: Files<File = File> + AllocGlobal + Clone + Drop> Machine<R> {
     }
 }
 
+fn is_free(mounted: &[String], path: &str) -> bool {
+    !path.is_empty() && !mounted.iter().any(|other| other.as_str() == path)
+}
+
+fn open_disk<R: Files<File = File> + AllocGlobal + Clone + Drop>(
+    rt: &R,
+    path: &str,
+    writes: bool,
+) -> io::Result<HostDisk<R>>
+    ensures faults { IfOk result (λ disk. disk.faults ≡ 0) }
+    ensures path { IfOk result (λ disk. string_bytes disk.folder.path ≡ path.now) }
+    ensures writes { IfOk result (λ disk. disk.writes ≡ writes) }
+{
+    let path = String::from_str(rt.alloc(), path)?;
+    HostDisk::open(rt.clone()?, path, writes)
+}
+
 // Opens the disk of a path that isn't mounted, and notes the path.
 fn open<R: Files<File = File> + AllocGlobal + Clone + Drop>(
     rt: &R,
@@ -49,12 +66,11 @@ fn open<R: Files<File = File> + AllocGlobal + Clone + Drop>(
     ensures path { IfOk result (λ disk. string_bytes disk.folder.path ≡ path.now) }
     ensures writes { IfOk result (λ disk. disk.writes ≡ writes) }
 {
-    if path.is_empty() || mounted.iter().any(|other| other.as_str() == path) {
+    if !is_free(mounted.as_slice(), path) {
         return Err(io::Error::from(ErrorKind::ResourceBusy));
     }
-    let alloc = rt.alloc();
-    mounted.push(String::from_str(alloc, path)?)?;
-    let opened = HostDisk::open(rt.clone()?, String::from_str(alloc, path)?, writes);
+    mounted.push(String::from_str(rt.alloc(), path)?)?;
+    let opened = open_disk(rt, path, writes);
     if opened.is_err() {
         let _ = mounted.pop();
     }

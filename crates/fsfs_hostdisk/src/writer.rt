@@ -56,6 +56,53 @@ fn unmake_lock<R: Files<File = File> + AllocGlobal + Drop>(folder: &Folder<R>, l
     }
 }
 
+// Locks the file. One in use stays, whoever made it.
+fn try_lock<R: Files<File = File> + AllocGlobal + Drop>(
+    folder: &Folder<R>,
+    lock: &WriteLock,
+) -> io::Result<()> {
+    match lock.file.try_lock() {
+        Ok(()) => Ok(()),
+        Err(TryLockError::WouldBlock) => Err(io::Error::from(ErrorKind::WouldBlock)),
+        Err(TryLockError::Error(error)) => {
+            unmake_lock(folder, lock);
+            Err(error)
+        }
+    }
+}
+
+// Refuses a file without the name: its last holder removed it before it was locked, so it locks nothing.
+fn require_name<R: Files<File = File> + AllocGlobal + Drop>(
+    folder: &Folder<R>,
+    lock: &WriteLock,
+) -> io::Result<()> {
+    match folder.has_name(&lock.file, WRITE_LOCK) {
+        Ok(true) => Ok(()),
+        Ok(false) => Err(io::Error::from(ErrorKind::WouldBlock)),
+        Err(error) => {
+            unmake_lock(folder, lock);
+            Err(error)
+        }
+    }
+}
+
+// The lock, taken; the file for it is made where there is none.
+fn locked<R: Files<File = File> + AllocGlobal + Drop>(folder: &Folder<R>) -> io::Result<WriteLock> {
+    let lock = open_lock(folder)?;
+    try_lock(folder, &lock)?;
+    require_name(folder, &lock)?;
+    Ok(lock)
+}
+
+// Where there is no repository, the folders that were made go again, as far as they are empty.
+fn unmake_folders<R: Files<File = File> + AllocGlobal + Drop>(folder: &Folder<R>, made: &[String]) {
+    if let Ok(None) = folder.size(FORMAT) {
+        for name in made.iter().rev() {
+            let _ = folder.unmake(name.as_str());
+        }
+    }
+}
+
 impl Writer {
     // One without the lock.
     pub fn new(alloc: Global) -> Writer {
@@ -67,7 +114,7 @@ impl Writer {
         }
     }
 
-    // Takes the lock, and makes the file for it where there is none. Where the repository's folder isn't there and can't be
+    // Takes the lock. Where the repository's folder isn't there and can't be
     // made, there is nothing to lock, and the disk goes without.
     pub fn take_lock<R: Files<File = File> + AllocGlobal + Drop>(
         &mut self,
@@ -77,28 +124,8 @@ impl Writer {
             return Ok(());
         }
         self.make(folder, "db")?;
-        let lock = open_lock(folder)?;
-        match lock.file.try_lock() {
-            Ok(()) => {}
-            // The file is in use by now, whoever made it.
-            Err(TryLockError::WouldBlock) => return Err(io::Error::from(ErrorKind::WouldBlock)),
-            Err(TryLockError::Error(error)) => {
-                unmake_lock(folder, &lock);
-                return Err(error);
-            }
-        }
-        match folder.has_name(&lock.file, WRITE_LOCK) {
-            Ok(true) => {
-                self.lock = Some(lock);
-                self.note_unfinished(folder)
-            }
-            // Its last holder removed it between the two calls, so it locks nothing.
-            Ok(false) => Err(io::Error::from(ErrorKind::WouldBlock)),
-            Err(error) => {
-                unmake_lock(folder, &lock);
-                Err(error)
-            }
-        }
+        self.lock = Some(locked(folder)?);
+        self.note_unfinished(folder)
     }
 
     // A folder that an earlier run made and left without a repository may not be firm in the one above.
@@ -117,11 +144,7 @@ impl Writer {
         if let Some(lock) = &self.lock {
             unmake_lock(folder, lock);
         }
-        if let Ok(None) = folder.size(FORMAT) {
-            for name in self.made.iter().rev() {
-                let _ = folder.unmake(name.as_str());
-            }
-        }
+        unmake_folders(folder, &self.made);
     }
 
     fn require_lock(&self) -> io::Result<()> {

@@ -7,6 +7,7 @@ use Rattle.fsfs_noderev.specs.declared.node_rev.NodeRev.{NodeRev}
 use Rattle.fsfs_base.specs.declared.kind.Kind.{Kind}
 use Rattle.fsfs_base.specs.declared.kind.Kind.TheVariants.{File, Dir}
 use Rattle.fsfs_shows.specs.Reading.{DirEntry, OfEntry, named, OfNamed, ChildOf, OrLacking, InDirectory, MetFrom, MetAt, Stands, Pairs, AreEntries, EntriesAt, OfContents, offset_of}
+use Rattle.std.proofs.lemmas.Bool.{and_parts}
 use Rattle.std.proofs.lemmas.Bool.Decides.{nat_tests}
 use Rattle.std.specs.List.{AllByRecursion}
 use Rattle.fsfs_noderev.specs.declared.node_id.Place.{Place}
@@ -19,13 +20,10 @@ use Rattle.fsfs_revision.specs.Nodes.{place_before, is_own_place, is_directory}
 use Rattle.fsfs_damage.specs.declared.damage.RevOffset.{RevOffset}
 use Rattle.fsfs_dag.specs.Views.{home_of}
 use Rattle.fsfs_look.proofs.WeightLemmas.{place_rev}
+use Rattle.fsfs_dag.proofs.PairLemmas.{place_le}
 
 entry_id : (look : RevisionBytes) (entry : DirEntry) (v : NodeRev) → OfEntry look entry (Ok v) → v.id ≡ entry.id
 entry_id look entry v (u, (w, node, (is, same)), (e, kind)) = ap (λ (n : NodeRev). n.id) (e ∙ is) ∙ same
-
-both : (a b : Bool) → (a && b) ≡ true → (a ≡ true) × (b ≡ true)
-both true b h = (refl, h)
-both false b h = absurd cc
 
 -- ---- the entries of a directory stand before it
 
@@ -77,7 +75,7 @@ module _ (look : RevisionBytes) where
   child_within top v name u le (entries, read, h) =
       let k = child_named v name entries (named name entries) u refl h in
       let before = named_before (home_of v) name entries k.0 (contents_before look (home_of v) v.text entries read) k.1 in
-      let lower : (offset_of k.0.id.place).rev ≤ (home_of v).rev = place_rev k.0.id.place (home_of v) before in
+      let lower : (offset_of k.0.id.place).rev ≤ (home_of v).rev = place_le (home_of v) k.0.id.place before in
       let same : (home_of u).rev ≡ (offset_of k.0.id.place).rev = ap (λ (id : NodeId). (offset_of id.place).rev) (entry_id look k.0 u k.2) in
       omega (arith, lower, same, le)
 
@@ -87,5 +85,5 @@ module _ (look : RevisionBytes) where
 
   pub stands_within : (rev : ℕ) (path : Path) (v : NodeRev) → MetAt look rev path (Ok (Stands v)) → (home_of v).rev ≤ rev
   stands_within rev path v (root, (bytes, has, (t, ends, (n, node, (same, is)))), h) =
-      let within = root_within rev t.root n n.id.place (both (is_own_place (place_of rev t.root) n.id.place) (is_directory n.kind) is).0 in
+      let within = root_within rev t.root n n.id.place (and_parts (is_own_place (place_of rev t.root) n.id.place) (is_directory n.kind) is).0 in
       from_all (λ n. (home_of n).rev ≤ rev) (child_within rev) path root 0 v (subst (λ (x : NodeRev). (home_of x).rev ≤ rev) (sym same) within) h

@@ -24,10 +24,6 @@ use Rattle.fsfs_look.specs.Walks.{pending_value, pending, pend, left, at_level, 
 
 -- ---- what is left, as a list
 
-pub nothing_left : {X : Type 0} (items : List X) → length items ≡ 0 → items ≡ []
-nothing_left [] none = refl
-nothing_left (x ∷ items) none = absurd (omega arith)
-
 pub left_push : (todo : List Pending) (p : Pending) → left (todo ++ p ∷ []) ≡ pending_value p ∷ left todo
 left_push todo p = ap (map pending_value) (reverse-append todo (p ∷ []))
 

@@ -10,6 +10,7 @@ use Rattle.fsfs_revision.specs.Nodes.{is_before, place_before}
 use Rattle.fsfs_shows.specs.Reading.{offset_of}
 use Rattle.fsfs_dag.specs.declared.directory.DirEntry.{DirEntry}
 use Rattle.fsfs_dag.specs.Views.{AreBefore}
+use Rattle.fsfs_dag.proofs.PairLemmas.{place_le}
 use Rattle.fsfs_look.specs.declared.tree.Pending.{Pending}
 use Rattle.fsfs_look.specs.Walks.{pend, pending, AreWithin}
 use Rattle.fsfs_look.specs.Weights.{rank, weight, total}
@@ -20,13 +21,6 @@ before_rank rev offset home fits h = grind (arith, nat_tests)
 pub place_rank : (place : Place) (home : RevOffset) → home.offset < 2 ^ 64 → place_before home place ≡ true → rank (offset_of place) < rank home
 place_rank (places.At rev offset) home fits h = before_rank rev offset home fits h
 place_rank (places.In txn) home fits h = absurd cc
-
-before_rev : (rev offset : ℕ) (home : RevOffset) → is_before rev offset home ≡ true → rev ≤ home.rev
-before_rev rev offset home h = grind (arith, nat_tests)
-
-pub place_rev : (place : Place) (home : RevOffset) → place_before home place ≡ true → (offset_of place).rev ≤ home.rev
-place_rev (places.At rev offset) home h = before_rev rev offset home h
-place_rev (places.In txn) home h = absurd cc
 
 -- ---- one more at the end
 
@@ -47,7 +41,7 @@ within_pop top (q ∷ todo) p h = let k = within_pop top todo p h.1 in ((h.0, k.
 pub within_pend : (top level : ℕ) (home : RevOffset) (entries : List DirEntry) (todo : List Pending) → home.rev ≤ top → AreBefore home entries → AreWithin top todo → AreWithin top (pend level entries todo)
 within_pend top level home [] todo le before h = h
 within_pend top level home (e ∷ entries) todo le before h =
-    let k : (offset_of e.id.place).rev ≤ home.rev = place_rev e.id.place home before.0 in
+    let k : (offset_of e.id.place).rev ≤ home.rev = place_le home e.id.place before.0 in
     within_push top (pend level entries todo) (pending level e) (within_pend top level home entries todo le before.1 h) (omega arith)
 
 -- one of smaller rank

@@ -1,6 +1,6 @@
 -- The entries of a tree at a path and below it, in the order of their paths: the node at the path, and behind it those of each child.
 use Rattle.std.proofs.Common.{◌≡◌, Bool, true, false, cond, ◌&&◌, not, T, List, [], ◌∷◌, ◌++◌, Option, Some, None, is_some, refl, sym, ap, subst, ◌∙◌, append_assoc, append-nil, drop, length, Ordering, Less, Equal, Greater, is_eq, flat_map}
-use Rattle.std.proofs.lemmas.Bool.{and_from, false_from_ne_true, and_parts, both_ways}
+use Rattle.std.proofs.lemmas.Bool.{and_from, false_from_ne_true, and_parts, both_ways, not-true}
 use Rattle.std.specs.List.{AllByRecursion}
 use Rattle.std.specs.Option.{option_or}
 use Rattle.std.specs.Ordering.{eq_by_cmp, ordering_then}
@@ -21,10 +21,6 @@ use Rattle.fsfs_printed.proofs.EntryNames.{NamesRise}
 
 -- ---- paths below a path
 
-not_is : (b : Bool) → not b ≡ true → b ≡ false
-not_is true e = absurd cc
-not_is false e = refl
-
 not_either : (a b : Bool) → not b ≡ true → not (a && b) ≡ true
 not_either true b e = e
 not_either false b e = refl
@@ -43,7 +39,7 @@ below_is_longer p q above = by (drop (length p) q) (split_at p q (and_parts (cov
     by : (rest : Path) → p ++ rest ≡ q → (x : PathName) × (rest : Path) × (q ≡ p ++ x ∷ rest)
     by [] e =
         let same : p ≡ q = sym (append-nil p) ∙ e in
-        absurd (both_ways (covers q p) (not_is (covers q p) (and_parts (covers p q) (not (covers q p)) above).1) (subst (λ (x : Path). covers x p ≡ true) same (covers-refl p)))
+        absurd (both_ways (covers q p) (not-true (covers q p) (and_parts (covers p q) (not (covers q p)) above).1) (subst (λ (x : Path). covers x p ≡ true) same (covers-refl p)))
     by (x ∷ rest) e = (x, rest, sym e)
 
 before_longer : (p : Path) (x : PathName) (rest : Path) → path_cmp p (p ++ x ∷ rest) ≡ Less

@@ -2,7 +2,7 @@
 use Rattle.std.proofs.Common.{◌≡◌, ◌≤◌, ◌<◌, ℕ, zero, suc, Bool, true, false, ◌&&◌, not, List, [], ◌∷◌, ◌++◌, take, drop, Some, None, refl, sym, ap, subst, ◌∙◌, arith, inl}
 use Rattle.std.specs.Prelude.{Ok, ◌==◌, codes}
 use Rattle.std.specs.List.{slice_index}
-use Rattle.std.proofs.lemmas.Bool.{and_parts}
+use Rattle.std.proofs.lemmas.Bool.{and_parts, not-true}
 use Rattle.std.proofs.lemmas.Str.{IsUtf8-from_ascii}
 use Rattle.hex.specs.Hex.{decode_pairs}
 use Rattle.md5.specs.Md5.{block_words, rounds, compress, hash_after, digest_bytes, md5}
@@ -53,13 +53,9 @@ abbrev pub is_free_of : ℕ → List ℕ → Bool
 is_free_of c [] = true
 is_free_of c (b ∷ bs) = not (b == c) && is_free_of c bs
 
-not_true : (b : Bool) → not b ≡ true → b ≡ false
-not_true true e = absurd cc
-not_true false e = refl
-
 lacks : (c : ℕ) (text : List ℕ) → is_free_of c text ≡ true → Lacks c text
 lacks c [] e = tt
-lacks c (b ∷ bs) e = let p = and_parts (not (b == c)) (is_free_of c bs) e in (not_true (b == c) p.0, lacks c bs p.1)
+lacks c (b ∷ bs) e = let p = and_parts (not (b == c)) (is_free_of c bs) e in (not-true (b == c) p.0, lacks c bs p.1)
 
 -- ---- the root's node-revision
 

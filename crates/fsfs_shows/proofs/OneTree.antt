@@ -1,6 +1,7 @@
 -- The bytes show one tree at most.
 use Rattle.std.proofs.Common.{◌≡◌, ◌≤◌, ◌<◌, ℕ, max, List, take, refl, sym, ap, subst, ◌∙◌, arith, inl, inr}
 use Rattle.std.specs.Prelude.{Result, Ok, Err, Option, Some, None}
+use Rattle.std.proofs.lemmas.Option.{same_Some}
 use Rattle.fsfs_base.specs.Paths.{Path}
 use Rattle.fsfs_tree.specs.Nodes.{Node, Content, Bytes, Closed, TreeFunction}
 use Rattle.fsfs_base.specs.declared.kind.Kind.{Kind}
@@ -16,9 +17,6 @@ use Rattle.fsfs_shows.specs.Shown.{IsTextOf, Nearest, source_by, IsOfCopy, IsSou
 use Rattle.fsfs_damage.proofs.OneAnswer.{ok_same}
 use Rattle.fsfs_shows.proofs.OneWalk.{text_one, props_one, of_id_one, met_same, stands_same}
 
-some_same : {A : Type 0} (x y : A) → (let o : Option A = Some x in o) ≡ Some y → x ≡ y
-some_same x y e = cc
-
 some_or_none : {A B : Type 0} (x : A) (o : Option A) → o ≡ Some x → o ≡ None → B
 some_or_none x o e f = let g = sym e ∙ f in absurd cc
 
@@ -30,20 +28,20 @@ chain_one (First v e) (Breaks w id x f g) = some_or_none id v.predecessor f e
 chain_one (First v e) (Goes w u id end f g c) = some_or_none id v.predecessor f e
 chain_one (Breaks w id x f g) (First v e) = some_or_none id v.predecessor f e
 chain_one {look} (Breaks w id x f g) (Breaks v other y e h) =
-    let same = some_same id other (sym f ∙ e) in
+    let same = same_Some id other (sym f ∙ e) in
     let both = of_id_one look other (Err x) (Err y) (subst (λ (i : NodeId). OfId look i (Err x)) same g) h in
     ap (λ (w : Wrong). let r : Result ℕ Wrong = Err w in r) (let z : x ≡ y = cc in z)
 chain_one {look} (Breaks w id x f g) (Goes v u other end e h c) =
-    let same = some_same id other (sym f ∙ e) in
+    let same = same_Some id other (sym f ∙ e) in
     let both = of_id_one look other (Err x) (Ok u) (subst (λ (i : NodeId). OfId look i (Err x)) same g) h in
     absurd cc
 chain_one (Goes w u id end f g c) (First v e) = some_or_none id v.predecessor f e
 chain_one {look} (Goes w u id end f g c) (Breaks v other y e h) =
-    let same = some_same id other (sym f ∙ e) in
+    let same = same_Some id other (sym f ∙ e) in
     let both = of_id_one look other (Ok u) (Err y) (subst (λ (i : NodeId). OfId look i (Ok u)) same g) h in
     absurd cc
 chain_one {look} {b = b} (Goes w u id end f g c) (Goes v t other stop e h d) =
-    let same = some_same id other (sym f ∙ e) in
+    let same = same_Some id other (sym f ∙ e) in
     let both = ok_same u t (of_id_one look other (Ok u) (Ok t) (subst (λ (i : NodeId). OfId look i (Ok u)) same g) h) in
     chain_one c (subst (λ (n : NodeRev). Chain look n b) (sym both) d)
 

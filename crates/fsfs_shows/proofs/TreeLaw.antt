@@ -1,6 +1,6 @@
 -- What the bytes show is a tree, with numbers in order.
 use Rattle.std.proofs.Common.{◌≡◌, ◌≤◌, ℕ, suc, max, cond, Bool, true, false, ◌&&◌, List, [], ◌∷◌, ◌++◌, take, refl, sym, ap, subst, ◌∙◌, arith}
-use Rattle.std.proofs.lemmas.Bool.{and_parts}
+use Rattle.std.proofs.lemmas.Bool.{and_parts, not-true}
 use Rattle.std.proofs.lemmas.Bool.Decides.{nat_tests}
 use Rattle.std.specs.Prelude.{Result, Ok, Option, Some, None, not, ◌==◌, is_some, IsSomeAnd, unwrap_or}
 use Rattle.fsfs_base.specs.Paths.{PathName, Path, same_name, covers, is_above}
@@ -32,10 +32,6 @@ use Rattle.fsfs_shows.proofs.OneWalk.{met_same}
 and_false : (a b : Bool) → a ≡ true → (a && b) ≡ false → b ≡ false
 and_false true b e f = f
 and_false false b e f = absurd cc
-
-not_true : (b : Bool) → not b ≡ true → b ≡ false
-not_true true e = absurd cc
-not_true false e = refl
 
 below : (q p : Path) → covers q p ≡ true → covers p q ≡ false → (x : PathName) × (rest : Path) × (p ≡ q ++ x ∷ rest)
 below [] [] c n = absurd cc
@@ -237,7 +233,7 @@ module _ (look : RevisionBytes) (rev : ℕ) (tree : TreeFunction) (shows : Shows
   above_there : (q p : Path) → is_above q p ≡ true → is_some (tree p) ≡ true → (n : Node) × (tree q ≡ Some n) × (n.kind ≡ Dir)
   above_there q p above some =
       let parts = and_parts (covers q p) (not (covers p q)) above in
-      let under = below q p parts.0 (not_true (covers p q) parts.1) in
+      let under = below q p parts.0 (not-true (covers p q) parts.1) in
       let n = some_of (tree p) some in
       let s = shown_at p n.0 n.1 in
       let at : StandsAt look rev (q ++ under.0 ∷ under.1) s.0 = subst (λ (x : Path). StandsAt look rev x s.0) under.2 s.1 in

@@ -16,6 +16,7 @@ use Rattle.fsfs_faults.specs.declared.fault.Fault.{Fault}
 use Rattle.fsfs_faults.specs.declared.fault.Fault.TheVariants.{AlreadyRepo, NotRepo}
 use Rattle.fsfs_fetch.specs.Kept.{HasShortFiles}
 use Rattle.fsfs_rev_file.specs.RevBytes.{rev_bytes}
+use Rattle.fsfs_answers.specs.FaultWords.{already_repo, not_repo}
 use Rattle.fsfs_answers.specs.Answers as model
 use Rattle.fsfs_answers.specs.Answers.{Answer, UuidAnswer, Reply, prints, refuses, refuses_look, tree_reply, text_reply, found_at, asked_revision, new_history}
 use Rattle.fsfs_streams.specs.Output.{AddsFront, Prints}
@@ -93,17 +94,17 @@ module _ (mount disk write told : Type 0) (tool : Tool) (ws : List (List ℕ)) (
       (λ asked youngest. no_rev_line tool reply asked youngest by_look)
       ends (look_did look repos t asks here)
 
-  none_line : tool ≡ Look → refuses_look (codes "NotRepo") 1 ≡ refuses (line_of tool NotRepo) 1
+  none_line : tool ≡ Look → refuses_look not_repo 1 ≡ refuses (line_of tool NotRepo) 1
   none_line e = ap (λ (k : Tool). refuses (line_of k NotRepo) 1) (sym e)
 
-  no_shown_at : (shown : Shown) (repos : List ℕ) (t : Trace) → AsksShown shown tool ws repos → at_old repos ≡ Some t → IsNone (small_texts (files_now t)) → Given (refuses_look (codes "NotRepo") 1)
+  no_shown_at : (shown : Shown) (repos : List ℕ) (t : Trace) → AsksShown shown tool ws repos → at_old repos ≡ Some t → IsNone (small_texts (files_now t)) → Given (refuses_look not_repo 1)
   no_shown_at shown repos t asks here none =
-      no_shown status mount disk write told tool old new err_old err_new shown (refuses_look (codes "NotRepo") 1) t fault (none_line (shown_by_look shown tool ws repos asks)) none ends (shown_did shown repos t asks here)
+      no_shown status mount disk write told tool old new err_old err_new shown (refuses_look not_repo 1) t fault (none_line (shown_by_look shown tool ws repos asks)) none ends (shown_did shown repos t asks here)
 
-  no_look_at : (printed : Printed) (revision : Option ℕ) (path : Path) (repos : List ℕ) (t : Trace) → AsksPrinted printed revision path tool ws repos → at_old repos ≡ Some t → IsNone (small_texts (files_now t)) → Given (refuses_look (codes "NotRepo") 1)
+  no_look_at : (printed : Printed) (revision : Option ℕ) (path : Path) (repos : List ℕ) (t : Trace) → AsksPrinted printed revision path tool ws repos → at_old repos ≡ Some t → IsNone (small_texts (files_now t)) → Given (refuses_look not_repo 1)
   no_look_at printed revision path repos t asks here none =
       let look : RevisionLook = record { printed = printed; revision = revision; path = path } in
-      no_look status mount disk write told tool old new err_old err_new look (refuses_look (codes "NotRepo") 1) t fault (none_line (printed_by_look printed revision path tool ws repos asks)) none ends (look_did look repos t asks here)
+      no_look status mount disk write told tool old new err_old err_new look (refuses_look not_repo 1) t fault (none_line (printed_by_look printed revision path tool ws repos asks)) none ends (look_did look repos t asks here)
 
   create_at : (repos : List ℕ) (shard : ℕ) (t : Trace) → AsksCreate tool ws repos shard → at_old repos ≡ Some t → Created mount disk shard clock dice (Some t) (at_new repos) fault × (new ≡ old)
   create_at repos shard t asks here = subst (λ (x : Option Trace). Created mount disk shard clock dice x (at_new repos) fault × (new ≡ old)) here (did_create mount disk write tool ws clock dice at_old at_new old new fault repos shard did asks)
@@ -112,7 +113,7 @@ module _ (mount disk write told : Type 0) (tool : Tool) (ws : List (List ℕ)) (
   created_again repos shard t h asks here stands =
       let by_admin : tool ≡ Admin = (creates_by_admin tool ws repos shard asks).0 in
       let made = create_at repos shard t asks here in
-      given_again status mount disk write told tool old new err_old err_new shard clock dice t (at_new repos) fault (refuses (codes "svnadmin: AlreadyRepo\n") 1)
+      given_again status mount disk write told tool old new err_old err_new shard clock dice t (at_new repos) fault (refuses (codes "svnadmin: " ++ already_repo ++ codes "\n") 1)
       (ap (λ (k : Tool). refuses (line_of k AlreadyRepo) 1) (sym by_admin)) stands.small.format.0 stands.small.format.1.there ends made.0 made.1
 
   pub replies : Replies tool ws at_old Given

@@ -12,6 +12,7 @@ use Rattle.fsfs_faults.specs.Lines.{line_of, status_of}
 use Rattle.fsfs_faults.specs.Faults.{fault_from_look}
 use Rattle.fsfs_faults.specs.declared.fault.Fault.TheVariants as fault
 use Rattle.fsfs_rev_file.specs.RevBytes.{rev_bytes}
+use Rattle.fsfs_answers.specs.FaultWords.{not_found, not_dir, not_file, delta, two_numbers}
 use Rattle.fsfs_answers.specs.Answers.{Reply, Found, Stands, Lacking, Blocked, found_at, tree_reply, node_reply, text_reply, prints, refuses, refuses_at, refuses_look, in_revision}
 use Rattle.fsfs_damage.specs.Damages.{place_of}
 use Rattle.fsfs_damage.specs.declared.wrong.Wrong.TheVariants as wrongs
@@ -33,24 +34,24 @@ LookFits = Fits Look
 
 -- ---- the lines about what isn't there
 
-not_found_line : (path at : Path) (why : LookFault) → IsNotFoundAt path at why → refuses_at (codes "NotFound") at ≡ refuses (line_of Look (fault_from_look path why)) (status_of (fault_from_look path why))
-not_found_line path at (faults.NotFound names) is = ap (refuses_at (codes "NotFound")) is
+not_found_line : (path at : Path) (why : LookFault) → IsNotFoundAt path at why → refuses_at not_found at ≡ refuses (line_of Look (fault_from_look path why)) (status_of (fault_from_look path why))
+not_found_line path at (faults.NotFound names) is = ap (refuses_at not_found) is
 not_found_line path at (faults.NotDir names) is = absurd is
 not_found_line path at faults.NotFile is = absurd is
 not_found_line path at (faults.Wrong w) is = absurd is
 
-not_dir_line : (path at : Path) (why : LookFault) → IsNotDirAt path at why → refuses_at (codes "NotDir") at ≡ refuses (line_of Look (fault_from_look path why)) (status_of (fault_from_look path why))
+not_dir_line : (path at : Path) (why : LookFault) → IsNotDirAt path at why → refuses_at not_dir at ≡ refuses (line_of Look (fault_from_look path why)) (status_of (fault_from_look path why))
 not_dir_line path at (faults.NotFound names) is = absurd is
-not_dir_line path at (faults.NotDir names) is = ap (refuses_at (codes "NotDir")) is
+not_dir_line path at (faults.NotDir names) is = ap (refuses_at not_dir) is
 not_dir_line path at faults.NotFile is = absurd is
 not_dir_line path at (faults.Wrong w) is = absurd is
 
-not_file_line : (path : Path) → refuses_at (codes "NotFile") path ≡ refuses (line_of Look (fault_from_look path faults.NotFile)) (status_of (fault_from_look path faults.NotFile))
+not_file_line : (path : Path) → refuses_at not_file path ≡ refuses (line_of Look (fault_from_look path faults.NotFile)) (status_of (fault_from_look path faults.NotFile))
 not_file_line path = refl
 
 delta_line : (path : Path) (rev offset : ℕ) (why : LookFault) → why ≡ faults.Wrong (wrongs.Delta (place_of rev offset))
-    → refuses_look (codes "Delta " ++ decimal rev ++ 32 ∷ decimal offset) 3 ≡ refuses (line_of Look (fault_from_look path why)) (status_of (fault_from_look path why))
-delta_line path rev offset why is = subst (λ (w : LookFault). refuses_look (codes "Delta " ++ decimal rev ++ 32 ∷ decimal offset) 3 ≡ refuses (line_of Look (fault_from_look path w)) (status_of (fault_from_look path w))) (sym is) refl
+    → refuses_look (delta ++ two_numbers rev offset) 3 ≡ refuses (line_of Look (fault_from_look path why)) (status_of (fault_from_look path why))
+delta_line path rev offset why is = subst (λ (w : LookFault). refuses_look (delta ++ two_numbers rev offset) 3 ≡ refuses (line_of Look (fault_from_look path w)) (status_of (fault_from_look path w))) (sym is) refl
 
 pub no_rev_line : (tool : Tool) (reply : Revision → Reply) (asked youngest : ℕ) → tool ≡ Look → in_revision reply asked youngest None ≡ refuses (line_of tool (fault.NoRev asked youngest)) 1
 no_rev_line tool reply asked youngest e = ap (λ (k : Tool). refuses (line_of k (fault.NoRev asked youngest)) 1) (sym e)
@@ -81,7 +82,7 @@ tree_is_by_tree files h s rev r path ids shown there are text end is =
 
 node_fits : (path : Path) (kind : Kind) (content : Content) (text : List ℕ) (end : End) → IsContent kind content text end → LookFits path (node_reply path kind content) text end
 node_fits path Dir content text Whole is = absurd is
-node_fits path Dir content text (Refused why) is = (is.0, subst (λ (w : LookFault). refuses_at (codes "NotFile") path ≡ refuses (line_of Look (fault_from_look path w)) (status_of (fault_from_look path w))) (sym is.1) (not_file_line path))
+node_fits path Dir content text (Refused why) is = (is.0, subst (λ (w : LookFault). refuses_at not_file path ≡ refuses (line_of Look (fault_from_look path w)) (status_of (fault_from_look path w))) (sym is.1) (not_file_line path))
 node_fits path Dir content text Stopped is = nothing_of text is
 node_fits path File (Bytes bytes) text Whole is = ap prints (sym is)
 node_fits path File (Bytes bytes) text (Refused why) is = absurd is

@@ -8,7 +8,7 @@ use Rattle.fsfs_base.specs.Paths.{PathName, Path, names_text, path_text}
 use Rattle.fsfs_base.specs.PathTexts.{HasNoSlash, IsName, IsPath, IsNameFault, HasBadName, IsBadJoin, IsBadPath}
 use Rattle.fsfs_base.specs.declared.bad_path.PathFault.{PathFault}
 use Rattle.fsfs_base.specs.declared.bad_path.PathFault.TheVariants.{NotAbsolute, PathTooLong, TooDeep, EmptyName, Control, NameTooLong, Dot}
-use Rattle.fsfs_base.proofs.PathTextLemmas.{names_text_injective, root_only, absolute}
+use Rattle.fsfs_base.proofs.PathTextLemmas.{names_text_injective, path_by_text, absolute}
 use Rattle.fsfs_cli.specs.Grammars.{path_meant, IsPathOf}
 use Rattle.fsfs_cli.specs.Readings.{IsPathGiven}
 
@@ -17,11 +17,6 @@ use Rattle.fsfs_cli.specs.Readings.{IsPathGiven}
 names_whole : (names : Path) → AllByRecursion IsName names → AllByRecursion HasNoSlash names
 names_whole [] good = tt
 names_whole (x ∷ p) good = (good.0.no_slash, names_whole p good.1)
-
-path_by_text : (p q : Path) → IsPath p → IsPath q → path_text p ≡ path_text q → p ≡ q
-path_by_text [] q a b e = root_only q b (sym e)
-path_by_text (x ∷ p) [] a b e = sym (root_only (x ∷ p) a e)
-path_by_text (x ∷ p) (y ∷ q) a b e = names_text_injective (x ∷ p) (y ∷ q) (names_whole (x ∷ p) a.names) (names_whole (y ∷ q) b.names) e
 
 -- a word means one path at most
 pub one_path : (word : List ℕ) (p q : Path) → IsPathOf word p → IsPathOf word q → p ≡ q

@@ -1,6 +1,14 @@
+use Rattle.std.proofs.Common.{codes}
 use Rattle.std.proofs.lemmas.Result.{IfOk-weaker}
-use Rattle.fsfs_cli.proofs.CommandLemmas.{create_repos}
+use Rattle.clap.specs.Words.{with_rule}
+use Rattle.fsfs_cli.specs.Commands.{bare, repos_rule, shard_rule}
+use Rattle.fsfs_cli.proofs.CommandLemmas.{told_more, create_repos}
 use Rattle.fsfs_cli.proofs.commands.create_command.Goals as goal
+
+pub returns-clause-app : goal.returns-clause-app
+returns-clause-app c =
+    IfOk-weaker c.arg.result _ _ (λ command added.
+    told_more c.in_ok-look_command.field-0 command c.shard.result (with_rule (bare (codes "create")) repos_rule) shard_rule added c.shard.ensures.fits.global c.in_ok-look_command.ensures.app c.shard.ensures.rule) c.arg.ensures
 
 pub returns-clause-repos : goal.returns-clause-repos
 returns-clause-repos c =

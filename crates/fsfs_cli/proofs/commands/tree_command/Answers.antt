@@ -1,6 +1,17 @@
+use Rattle.std.proofs.Common.{codes}
 use Rattle.std.proofs.lemmas.Result.{IfOk-weaker}
-use Rattle.fsfs_cli.proofs.CommandLemmas.{tree_repos}
+use Rattle.clap.specs.Words.{with_rule}
+use Rattle.fsfs_cli.specs.Commands.{bare, repos_rule, path_rule, revision_rule, show_ids_rule}
+use Rattle.fsfs_cli.proofs.CommandLemmas.{told_more, tree_repos}
 use Rattle.fsfs_cli.proofs.commands.tree_command.Goals as goal
+
+pub returns-clause-app : goal.returns-clause-app
+returns-clause-app c =
+    let look = with_rule (bare (codes "tree")) repos_rule in
+    let with_path = told_more c.in_ok-look_command.field-0 c.in_ok-with_path.with_path c.path.result look path_rule c.in_ok-with_path.ensures c.path.ensures.fits.global c.in_ok-look_command.ensures.app c.path.ensures.rule in
+    let with_revision = told_more c.in_ok-with_path.with_path c.in_ok-with_revision.with_revision c.revision.result (with_rule look path_rule) revision_rule c.in_ok-with_revision.ensures c.revision.ensures.fits.global with_path c.revision.ensures.rule in
+    IfOk-weaker c.arg-3.result _ _ (λ command added.
+    told_more c.in_ok-with_revision.with_revision command c.show_ids.result (with_rule (with_rule look path_rule) revision_rule) show_ids_rule added c.show_ids.ensures.fits.global with_revision c.show_ids.ensures.rule) c.arg-3.ensures
 
 pub returns-clause-repos : goal.returns-clause-repos
 returns-clause-repos c =

@@ -1,12 +1,15 @@
-use Rattle.std.proofs.Common.{◌≡◌, ℕ, List, Ok, Result}
-use Rattle.fsfs_damage.specs.declared.wrong.Wrong.{Wrong}
-use Rattle.fsfs_shows.specs.Reading.{PropsOf}
-use Rattle.fsfs_shows.proofs.ByTree.{by_tree}
-use Rattle.fsfs_damage.proofs.Answering.{answers_as}
+use Rattle.std.proofs.Common.{ℕ, List, []}
+use Rattle.fsfs_shows.specs.Reading.{PairsAt}
+use Rattle.fsfs_dag.proofs.Reps.{rep_le, contents_some, contents_none}
 use Rattle.fsfs_dag.proofs.contents.props.Goals as goal
 
-pub returns-clause-shown : goal.returns-clause-shown
-returns-clause-shown g c = λ look rev tree p n knows shows stands at.
-    let v = c.args.node.now.node in
-    answers_as (λ (pairs : List (List ℕ × List ℕ)). pairs) c.read_props.result (PropsOf look v) (λ (read : Result (List (List ℕ × List ℕ)) Wrong). read ≡ Ok n.properties)
-    (λ read h. (by_tree look rev tree shows).props p v n read stands at h) (c.read_props.ensures.told look knows)
+abbrev Pairs : Type 0
+Pairs = List (List ℕ × List ℕ)
+
+pub returns-in-None-clause-told : goal.returns-in-None-clause-told
+returns-in-None-clause-told g c = λ look knows. contents_none [] _ (PairsAt look) c.args.node.now.node.props c.in-None.ensures.value c.new.ensures
+
+pub returns-in-Some-clause-told : goal.returns-in-Some-clause-told
+returns-in-Some-clause-told g c = λ look knows.
+    contents_some (λ (pairs : Pairs). pairs) c.pairs_in.result [] (PairsAt look) c.args.node.now.node.props c.in-Some.rep.now c.in-Some.ensures.value
+    (c.pairs_in.ensures.told look (knows _ (rep_le _ c.in-Some.rep.now.rev c.in-Some.rep.now.offset c.in-Some.ensures.before)))

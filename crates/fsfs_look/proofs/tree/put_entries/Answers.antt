@@ -1,7 +1,7 @@
 use Rattle.std.proofs.Common.{◌≡◌, ◌++◌, ◌∷◌, [], ap, sym, refl, ◌∙◌, append_assoc, append-nil, not, rules}
 use Rattle.std.specs.Prelude.{cond}
 use Rattle.fsfs_look.specs.Walks.{pend, pending}
-use Rattle.fsfs_look.proofs.TextsLeft.{nothing_left}
+use Rattle.std.proofs.lemmas.List.{nil_from_length}
 use Rattle.fsfs_look.proofs.tree.put_entries.Goals as goal
 
 pub loop-entry-init : goal.loop-entry-init
@@ -19,5 +19,5 @@ loop-entry-preserved c =
 pub returns-clause-items : goal.returns-clause-items
 returns-clause-items c =
     let so = c.loop-entry.invariant in
-    let none : c.loop-entry.below.items ≡ [] = nothing_left c.loop-entry.below.items (search rules) in
+    let none : c.loop-entry.below.items ≡ [] = nil_from_length c.loop-entry.below.items (search rules) in
     so.2 ∙ ap (λ t. pend c.args.level t c.args.todo.now.items) (sym (so.1 ∙ ap (λ t. t ++ so.0) none))

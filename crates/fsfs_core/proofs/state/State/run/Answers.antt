@@ -1,6 +1,14 @@
+-- At the end no step is left, so the invariant speaks of all outcomes.
+use Rattle.std.proofs.Common.{◌≡◌, ◌++◌, [], length, refl, subst, sym, append-nil, arith}
+use Rattle.std.proofs.lemmas.List.{nil_from_length}
+use Rattle.fsfs_machine.specs.Machine.{Runs}
 use Rattle.fsfs_core.specs.State.{world_of}
-use Rattle.fsfs_core.proofs.Along.{runs_along}
 use Rattle.fsfs_core.proofs.state.State.run.Goals as goal
 
-pub returns-clause-kept : goal.returns-clause-kept
-returns-clause-kept c = runs_along (λ os. os.items) c.run_all.result (world_of c.args.self.now) (world_of c.run_all.new.self) c.args.steps.items c.run_all.ensures
+pub returns : goal.returns
+returns c =
+    let v = world_of c.loop-step.self in
+    let no_length : length c.loop-step.steps.items ≡ 0 = omega (arith, c.in_default.ensures.cases.0, c.loop-step.steps.ok.0) in
+    let over : c.loop-step.steps.items ≡ [] = nil_from_length c.loop-step.steps.items no_length in
+    let all : Runs (world_of c.args.self.now) c.args.steps.items (c.loop-step.outcomes.items ++ []) v = c.loop-step.invariant [] v (subst (λ xs. Runs v xs [] v) (sym over) (refl, refl)) in
+    subst (λ os. Runs (world_of c.args.self.now) c.args.steps.items os v) (append-nil _) all

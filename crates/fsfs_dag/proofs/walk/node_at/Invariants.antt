@@ -4,7 +4,7 @@ use Rattle.fsfs_book.specs.Told.{RevisionBytes, Knows, Keeps}
 use Rattle.fsfs_damage.specs.declared.wrong.Wrong.{Wrong}
 use Rattle.fsfs_shows.specs.Reading.{MetFrom, MetAt, Met}
 use Rattle.fsfs_dag.specs.Views.{home_of}
-use Rattle.fsfs_dag.proofs.walk.go_down.Given as goal
+use Rattle.fsfs_dag.proofs.walk.node_at.Given as goal
 
 -- what is met from here on is met from the root on
 abbrev pub invariant-loop-name : goal.invariant-loop-name
