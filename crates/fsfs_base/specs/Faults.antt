@@ -1,5 +1,5 @@
 -- Which calls fail.
-use Rattle.std.specs.Prelude.{ℕ, ◌+◌, ◌-◌, ◌^◌, min, Bool, nat_eq}
+use Rattle.std.specs.Prelude.{ℕ, ◌+◌, ◌-◌, ◌^◌, min, Bool, ◌||◌, nat_eq, nat_lt}
 use Rattle.std.specs.List.{list_any}
 use Rattle.fsfs_base.specs.declared.faults.Faults.{Faults}
 
@@ -7,6 +7,6 @@ use Rattle.fsfs_base.specs.declared.faults.Faults.{Faults}
 abbrev pub next_call : Faults → ℕ
 next_call faults = min (faults.calls + 1) (2 ^ 64 - 1)
 
--- the next call is one of those that are to fail
-abbrev pub is_next_listed : Faults → Bool
-is_next_listed faults = list_any (λ number. nat_eq number (next_call faults)) faults.failing.items
+-- the next call is one of those that are to fail, or behind the last that may pass
+abbrev pub fails_next : Faults → Bool
+fails_next faults = list_any (λ number. nat_eq number (next_call faults)) faults.failing.items || nat_lt faults.last (next_call faults)

@@ -1,9 +1,10 @@
 -- How what a crash may leave goes on over a run of disk calls.
 use Rattle.std.proofs.Common.{◌≡◌, ◌⊎◌, ℕ, List, [], ◌∷◌, inl, inr, ⊎_elim, refl, sym, subst, arith}
 use Rattle.std.specs.Prelude.{Option, Some, None}
-use Rattle.std.specs.FinMap.{insert}
-use Rattle.fsfs_base.specs.Files.{Files}
-use Rattle.fsfs_disk.specs.Trace.{Trace, NameChange, Operation, Put, Adopt, Rename, Remove, FirmNames, Done, Attempted, IsImage, ImageSince, ImageAfter, TornBy, change_of, add_operation, files_now, files_after, Performs, FailsAt, FailsToPut}
+use Rattle.std.specs.FinMap.{get, insert, remove}
+use Rattle.fsfs_base.specs.Files.{Files, renamed}
+use Rattle.fsfs_disk.specs.Labels.{Label}
+use Rattle.fsfs_disk.specs.Trace.{Trace, NameChange, Operation, Put, Adopt, Rename, Remove, FirmNames, KeepLabel, DropLabel, Done, Attempted, IsImage, ImageSince, ImageAfter, TornBy, change_of, add_operation, files_now, files_after, Performs, FailsAt, FailsToPut}
 use Rattle.fsfs_disk.specs.Crash.{AllImages, IsFirm, LeavesOnly, Leaves, KeepsImages}
 
 -- this moment is one of those since an earlier one
@@ -20,6 +21,8 @@ files_are_image first (Done (Adopt name bytes) ∷ operations) = inr (files_afte
 files_are_image first (Done (Rename from to) ∷ operations) = inr (files_after first operations, files_are_image first operations, refl)
 files_are_image first (Done (Remove name) ∷ operations) = inr (files_after first operations, files_are_image first operations, refl)
 files_are_image first (Done FirmNames ∷ operations) = refl
+files_are_image first (Done (KeepLabel l) ∷ operations) = files_are_image first operations
+files_are_image first (Done (DropLabel l) ∷ operations) = files_are_image first operations
 
 pub leaves_none : (t : Trace) (P : Files → Type 0) → LeavesOnly t t P
 leaves_none t P = record { later = omega arith; each = λ n m le left. inl left }
@@ -124,3 +127,49 @@ keeps_firm P old new at all =
 pub firm_after : (old new : Option Trace) → Performs FirmNames old new → IsFirm new
 firm_after None new performed = subst IsFirm (sym performed) tt
 firm_after (Some t) new performed = subst IsFirm (sym performed) (λ m is. is)
+
+-- a file that is adopted is firm, so it is there whole or as it was
+stable_adopt : (name bytes : List ℕ) (P : Files → Type 0) → ((m : Files) → P m → P (insert m name bytes)) → (t : Trace) → ((m : Files) → IsImage t.first t.operations m → P m) → Stable (Adopt name bytes) P t
+stable_adopt name bytes P h t all = (λ m left. ⊎_elim (all m) (λ w. subst P (sym w.2) (h w.0 (all w.0 w.1))) left, λ m torn. absurd torn)
+
+pub keeps_adopt : (name bytes : List ℕ) (P : Files → Type 0) (old new : Option Trace) → ((m : Files) → P m → P (insert m name bytes)) → FailsAt (Adopt name bytes) old new → KeepsImages old new P
+keeps_adopt name bytes P old new h at all =
+    let stable : (t : Trace) → old ≡ Some t → Stable (Adopt name bytes) P t = λ t e. stable_adopt name bytes P h t (all_of P old t e all) in
+    (all_at (Adopt name bytes) P old new at all stable, leaves_at (Adopt name bytes) P old new at stable)
+
+stable_rename : (from to : List ℕ) (P : Files → Type 0) (t : Trace) → ((m : Files) → P m → P (renamed m from to (get (files_now t) from))) → ((m : Files) → IsImage t.first t.operations m → P m) → Stable (Rename from to) P t
+stable_rename from to P t h all = (λ m left. ⊎_elim (all m) (λ w. subst P (sym w.2) (h w.0 (all w.0 w.1))) left, λ m torn. absurd torn)
+
+pub keeps_rename : (from to : List ℕ) (P : Files → Type 0) (old new : Option Trace) → ((t : Trace) → old ≡ Some t → (m : Files) → P m → P (renamed m from to (get (files_now t) from))) → FailsAt (Rename from to) old new → KeepsImages old new P
+keeps_rename from to P old new h at all =
+    let stable : (t : Trace) → old ≡ Some t → Stable (Rename from to) P t = λ t e. stable_rename from to P t (h t e) (all_of P old t e all) in
+    (all_at (Rename from to) P old new at all stable, leaves_at (Rename from to) P old new at stable)
+
+stable_remove : (name : List ℕ) (P : Files → Type 0) → ((m : Files) → P m → P (remove m name)) → (t : Trace) → ((m : Files) → IsImage t.first t.operations m → P m) → Stable (Remove name) P t
+stable_remove name P h t all = (λ m left. ⊎_elim (all m) (λ w. subst P (sym w.2) (h w.0 (all w.0 w.1))) left, λ m torn. absurd torn)
+
+pub keeps_remove : (name : List ℕ) (P : Files → Type 0) (old new : Option Trace) → ((m : Files) → P m → P (remove m name)) → FailsAt (Remove name) old new → KeepsImages old new P
+keeps_remove name P old new h at all =
+    let stable : (t : Trace) → old ≡ Some t → Stable (Remove name) P t = λ t e. stable_remove name P h t (all_of P old t e all) in
+    (all_at (Remove name) P old new at all stable, leaves_at (Remove name) P old new at stable)
+
+-- labels are no files
+pub keeps_label : (l : Label) (P : Files → Type 0) (old new : Option Trace) → FailsAt (KeepLabel l) old new → KeepsImages old new P
+keeps_label l P old new at all =
+    let stable : (t : Trace) → old ≡ Some t → Stable (KeepLabel l) P t = λ t e. (all_of P old t e all, λ m torn. absurd torn) in
+    (all_at (KeepLabel l) P old new at all stable, leaves_at (KeepLabel l) P old new at stable)
+
+pub keeps_no_label : (l : Label) (P : Files → Type 0) (old new : Option Trace) → FailsAt (DropLabel l) old new → KeepsImages old new P
+keeps_no_label l P old new at all =
+    let stable : (t : Trace) → old ≡ Some t → Stable (DropLabel l) P t = λ t e. (all_of P old t e all, λ m torn. absurd torn) in
+    (all_at (DropLabel l) P old new at all stable, leaves_at (DropLabel l) P old new at stable)
+
+-- what the files have is in each image once the names are firm
+pub all_firm : (P : Files → Type 0) (old new : Option Trace) → Performs FirmNames old new → ((t : Trace) → old ≡ Some t → P (files_now t)) → AllImages new P
+all_firm P None new performed now = subst (λ o. AllImages o P) (sym performed) tt
+all_firm P (Some t) new performed now = subst (λ o. AllImages o P) (sym performed) (λ m is. subst P (sym is) (now t refl))
+
+-- each image is itself one of those of a moment
+pub own_images : (old : Option Trace) → AllImages old (λ m. (t : Trace) → old ≡ Some t → IsImage t.first t.operations m)
+own_images None = tt
+own_images (Some t) = λ m is u e. let same : t ≡ u = cc in subst (λ (v : Trace). IsImage v.first v.operations m) same is

@@ -1,8 +1,11 @@
 -- What a trace says after one call more.
-use Rattle.std.proofs.Common.{ℕ, List, inr, refl, sym, subst}
-use Rattle.std.specs.Prelude.{Option, Some, None, Result, Ok, Err, OnOk, OnErr, IfSome, IsSome}
+use Rattle.std.proofs.Common.{◌≡◌, ℕ, List, ◌⊎◌, inl, inr, ⊎_elim, refl, sym, ap, subst, ◌∙◌}
+use Rattle.std.specs.Prelude.{Option, Some, None, Result, Ok, Err, OnOk, OnErr, IfSome, IsSome, IfOk, option_map}
+use Rattle.std.specs.Prelude.{Bool, true, false}
+use Rattle.fsfs_base.specs.Files.{Files}
 use Rattle.fsfs_base.proofs.FileLemmas.{get_new}
-use Rattle.fsfs_disk.specs.Trace.{Trace, NameChange, Put, Performs, FailsAt, FailsToPut, file_at, files_now}
+use Rattle.fsfs_disk.specs.Labels.{Label, has_label}
+use Rattle.fsfs_disk.specs.Trace.{Trace, NameChange, Put, Adopt, DropLabel, Performs, PerformsIfThere, Attempts, FailsAt, FailsToPut, FailsToAdopt, file_at, files_now, labels_now}
 
 -- a file that was put is there
 pub file_at-put : (old new : Option Trace) (name bytes : List ℕ) → Performs (Put name bytes) old new → IfSome new (λ t. IsSome (file_at t name))
@@ -18,3 +21,28 @@ ended change old new (Err e) done failed = failed
 pub ended_put : {T E : Type 0} (name bytes : List ℕ) (old new : Option Trace) (result : Result T E) → OnOk result (Performs (Put name bytes) old new) → OnErr result (FailsToPut name bytes old new) → FailsToPut name bytes old new
 ended_put name bytes old new (Ok x) done failed = inr (inr (bytes, done))
 ended_put name bytes old new (Err e) done failed = failed
+
+-- a call that may find nothing to do ended in one of three ways
+pub ended_if_there : {E : Type 0} (change : NameChange) (old new : Option Trace) (result : Result Bool E) → IfOk result (λ there. PerformsIfThere there change old new) → OnErr result (FailsAt change old new) → FailsAt change old new
+ended_if_there change old new (Ok true) done failed = inr (inr done)
+ended_if_there change old new (Ok false) done failed = inl done
+ended_if_there change old new (Err e) done failed = failed
+
+-- an adopted file is there
+pub file_at-adopt : (old new : Option Trace) (name bytes : List ℕ) → Performs (Adopt name bytes) old new → IfSome new (λ t. file_at t name ≡ Some bytes)
+file_at-adopt None new name bytes performed = subst (λ o. IfSome o (λ t. file_at t name ≡ Some bytes)) (sym performed) tt
+file_at-adopt (Some t) new name bytes performed = subst (λ o. IfSome o (λ u. file_at u name ≡ Some bytes)) (sym performed) (get_new (files_now t) name bytes)
+
+-- a label that was dropped is no change of the files
+pub files-dropped : (l : Label) (old new : Option Trace) (there : Bool) → PerformsIfThere there (DropLabel l) old new → option_map files_now new ≡ option_map files_now old
+files-dropped l None new true performed = ap (λ o. option_map files_now o) performed
+files-dropped l (Some t) new true performed = ap (λ o. option_map files_now o) performed
+files-dropped l old new false same = ap (λ o. option_map files_now o) same
+
+pub fails_to_adopt : (change : NameChange) (old new : Option Trace) (without : Files → Files) (held left : Option Files) → FailsToAdopt change old new without held left → FailsAt change old new
+fails_to_adopt change old new without held left failed = ⊎_elim (λ w. ⊎_elim (λ e. inl e) (λ a. inr (inl a)) w.0) (λ w. inr (inr w.0)) failed
+
+pub ended_adopt : {T E : Type 0} (change : NameChange) (old new : Option Trace) (without : Files → Files) (held left : Option Files) (result : Result T E)
+    → OnOk result (Performs change old new) → OnErr result (FailsToAdopt change old new without held left) → FailsAt change old new
+ended_adopt change old new without held left (Ok x) done failed = inr (inr done)
+ended_adopt change old new without held left (Err e) done failed = fails_to_adopt change old new without held left failed

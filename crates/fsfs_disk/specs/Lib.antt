@@ -1,2 +1,5 @@
+pub mod Labels
+pub mod Benches
 pub mod Trace
 pub mod Crash
+pub mod Short

@@ -3,23 +3,28 @@
 use Rattle.std.specs.Prelude.{◌≡◌, ◌⊎◌, ◌≤◌, ℕ, ◌-◌, min, List, [], ◌∷◌, ◌++◌, length, take, drop, Bool, true, false, Option, Some, None, option_map}
 use Rattle.std.specs.FinMap as map
 use Rattle.fsfs_base.specs.Files.{Files, renamed}
+use Rattle.fsfs_disk.specs.Labels.{Label, with_label, without_label}
 
--- a change of names; `Adopt` names a firm file that the disk got otherwise, `FirmNames` makes every change before it firm
+-- A change of names or of labels. `Adopt` names a firm file of a bench, `FirmNames` makes every change of names before it firm.
+-- A label isn't firm while it is kept, and gone once it is dropped.
 pub data NameChange : Type 0 where
   Put : List ℕ → List ℕ → NameChange
   Adopt : List ℕ → List ℕ → NameChange
   Rename : List ℕ → List ℕ → NameChange
   Remove : List ℕ → NameChange
   FirmNames : NameChange
+  KeepLabel : Label → NameChange
+  DropLabel : Label → NameChange
 
 -- a call that was done, or one that failed and left the files from before
 pub data Operation : Type 0 where
   Done : NameChange → Operation
   Attempted : NameChange → Operation
 
--- the firm files that a disk began with, and its operations since, the newest first
+-- the firm files and the labels that a disk began with, and its operations since, the newest first
 pub record Trace : Type 0 where
   pub first : Files
+  pub labels : List Label
   pub operations : List Operation
 
 -- what a change makes of the files
@@ -29,11 +34,28 @@ changed (Adopt name bytes) m = map.insert m name bytes
 changed (Rename from to) m = renamed m from to (map.get m from)
 changed (Remove name) m = map.remove m name
 changed FirmNames m = m
+changed (KeepLabel l) m = m
+changed (DropLabel l) m = m
+
+-- and of the labels
+abbrev pub relabelled : NameChange → List Label → List Label
+relabelled (KeepLabel l) ls = with_label l ls
+relabelled (DropLabel l) ls = without_label l ls
+relabelled change ls = ls
 
 abbrev pub files_after : Files → List Operation → Files
 files_after first [] = first
 files_after first (Done change ∷ operations) = changed change (files_after first operations)
 files_after first (Attempted change ∷ operations) = files_after first operations
+
+abbrev pub labels_after : List Label → List Operation → List Label
+labels_after first [] = first
+labels_after first (Done change ∷ operations) = relabelled change (labels_after first operations)
+labels_after first (Attempted change ∷ operations) = labels_after first operations
+
+-- the labels that are kept now
+abbrev pub labels_now : Trace → List Label
+labels_now trace = labels_after trace.labels trace.operations
 
 -- the files now
 abbrev pub files_now : Trace → Files
@@ -51,6 +73,8 @@ ImageAfter (Adopt name bytes) now Before m = Before m ⊎ ((was : Files) × Befo
 ImageAfter (Rename from to) now Before m = Before m ⊎ ((was : Files) × Before was × (m ≡ renamed was from to (map.get now from)))
 ImageAfter (Remove name) now Before m = Before m ⊎ ((was : Files) × Before was × (m ≡ map.remove was name))
 ImageAfter FirmNames now Before m = m ≡ now
+ImageAfter (KeepLabel l) now Before m = Before m
+ImageAfter (DropLabel l) now Before m = Before m
 
 -- what a crash now may leave: any subset of the changes that aren't firm, in order
 abbrev pub IsImage : Files → List Operation → Files → Type 0
@@ -65,6 +89,8 @@ TornBy (Adopt name bytes) Before m = ⊥
 TornBy (Rename from to) Before m = ⊥
 TornBy (Remove name) Before m = ⊥
 TornBy FirmNames Before m = ⊥
+TornBy (KeepLabel l) Before m = ⊥
+TornBy (DropLabel l) Before m = ⊥
 
 abbrev pub change_of : Operation → NameChange
 change_of (Done change) = change
@@ -95,6 +121,15 @@ FailsAt change old new = (new ≡ old) ⊎ (Attempts change old new ⊎ Performs
 -- a failed put may also leave the name with any bytes
 abbrev pub FailsToPut : List ℕ → List ℕ → Option Trace → Option Trace → Type 0
 FailsToPut name bytes old new = (new ≡ old) ⊎ (Attempts (Put name bytes) old new ⊎ ((any : List ℕ) × Performs (Put name any) old new))
+
+-- a failed call that did nothing touched nothing, or left a mark
+abbrev pub StaysAt : NameChange → Option Trace → Option Trace → Type 0
+StaysAt change old new = (new ≡ old) ⊎ Attempts change old new
+
+-- a failed adoption leaves both the disk and the bench's files as they were, or both as success does
+abbrev pub FailsToAdopt : NameChange → Option Trace → Option Trace → (Files → Files) → Option Files → Option Files → Type 0
+FailsToAdopt change old new without held left =
+    (StaysAt change old new × (left ≡ held)) ⊎ (Performs change old new × (left ≡ option_map without held))
 
 -- a read fills the buffer from an offset on, as far as the file goes; past its end that is nothing
 abbrev pub IsRead : Option (List ℕ) → ℕ → List ℕ → List ℕ → Option ℕ → Type 0

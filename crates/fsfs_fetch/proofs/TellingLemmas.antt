@@ -18,7 +18,8 @@ use Rattle.fsfs_fetch.specs.declared.manifests.KeptManifest.{KeptManifest}
 use Rattle.fsfs_rev_file.specs.declared.section.Section.{Section}
 use Rattle.fsfs_rev_file.specs.RevBytes.{rev_bytes, rev_file, props_bytes, or_missing, by_floor, floor_in, packed_bytes, packed_section, pack_in, cut, cut_from}
 use Rattle.fsfs_fetch.specs.Views.{Reach, Ends, Grows, IsKnown, IsYoungest, Extends, View, Later}
-use Rattle.fsfs_fetch.specs.Kept.{HasShortFiles, TellsFiles, telling, within, revs_in, props_in, is_short, is_right, last_of, IsFoundAt, FindsAsWell}
+use Rattle.fsfs_disk.specs.Benches.{HasShortFiles}
+use Rattle.fsfs_fetch.specs.Kept.{TellsFiles, telling, within, revs_in, props_in, is_short, is_right, last_of, IsFoundAt, FindsAsWell}
 use Rattle.fsfs_fetch.specs.ViewLemmas.{next, known_later}
 use Rattle.fsfs_fetch.proofs.DirectLemmas.{found_later, fresh_right}
 
@@ -247,6 +248,9 @@ above_gives view F rev n read e f is same =
 short_if : (bytes : List ℕ) → length bytes < 2 ^ 64 → is_short (Ok bytes) ≡ true
 short_if bytes lt = lt-ltb (length bytes) 18446744073709551616 lt
 
+fits_u64 : (n : ℕ) → n ≤ 2 ^ 62 → n < 2 ^ 64
+fits_u64 n le = omega arith
+
 short_own : (rev : ℕ) (file : Option (List ℕ)) → ((bytes : List ℕ) → file ≡ Some bytes → length bytes < 2 ^ 64) → is_short (or_missing rev file) ≡ true
 short_own rev None f = refl
 short_own rev (Some bytes) f = short_if bytes (f bytes refl)
@@ -265,12 +269,12 @@ short_choice false x y e f = f
 
 short_packed : (n : Layout) (m : Files) (rev : ℕ) → HasShortFiles m → is_short (packed_bytes n m rev) ≡ true
 unfolding packed_bytes
-short_packed n m rev short = short_cut (pack_in m (shard_of n rev)) (packed_section n m rev) (λ bytes e. short _ bytes e)
+short_packed n m rev short = short_cut (pack_in m (shard_of n rev)) (packed_section n m rev) (λ bytes e. fits_u64 (length bytes) (short _ bytes e))
 
 short_by_floor : (n : Layout) (m : Files) (rev : ℕ) (floor : Result ℕ SmallFault) → HasShortFiles m → is_short (by_floor n m rev floor) ≡ true
 short_by_floor n m rev (Err fault) short = refl
 short_by_floor n m rev (Ok floor) short =
-    short_choice (nat_lt rev floor) (packed_bytes n m rev) (or_missing rev (rev_file n m rev)) (short_packed n m rev short) (short_own rev (rev_file n m rev) (λ bytes e. short _ bytes e))
+    short_choice (nat_lt rev floor) (packed_bytes n m rev) (or_missing rev (rev_file n m rev)) (short_packed n m rev short) (short_own rev (rev_file n m rev) (λ bytes e. fits_u64 (length bytes) (short _ bytes e)))
 
 short_bytes : (n : Layout) (m : Files) (rev : ℕ) → HasShortFiles m → is_short (rev_bytes n m rev) ≡ true
 unfolding rev_bytes

@@ -69,10 +69,6 @@ telling view floor kept = record {
   below = view.below;
 }
 
--- no file of these has 2^64 bytes
-abbrev pub HasShortFiles : Files → Type 0
-HasShortFiles files = (name bytes : List ℕ) → map.get files name ≡ Some bytes → length bytes < 2 ^ 64
-
 -- of each revision that there is, all is told that these files say
 pub record TellsFiles (view : View) (files : Files) {Below : Type 0} (told : Telling Below) : Type 0 where
   pub revs : (rev : ℕ) → IsKnown view.reach rev → told.revs rev ≡ Some (rev_bytes view.layout files rev)

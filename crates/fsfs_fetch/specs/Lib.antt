@@ -5,3 +5,4 @@ pub mod Answers
 pub mod KeptLemmas
 pub mod PartsLater
 pub mod ViewLemmas
+pub mod OwnedShort

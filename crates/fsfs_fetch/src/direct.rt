@@ -8,7 +8,7 @@ ghost use Rattle.fsfs_disk.specs.Trace.{Trace, files_now};
 ghost use Rattle.fsfs_fetch.specs.Owned.{TellsAll, state_of};
 ghost use Rattle.fsfs_rev_file.specs.RevBytes.{rev_bytes, props_bytes, floor_in};
 ghost use Rattle.fsfs_fetch.specs.Views.{Later, IsYoungest, IsKnown};
-ghost use Rattle.fsfs_fetch.specs.Kept.{IsFoundAt, FindsAsWell, IsGoneAt, HasShortFiles, TellsFiles, telling};
+ghost use Rattle.fsfs_fetch.specs.Kept.{IsFoundAt, FindsAsWell, IsGoneAt, TellsFiles, telling};
 
 use crate::files::{file_len, file_part};
 use crate::floors::refresh;
@@ -40,7 +40,7 @@ impl<R: Reads> Direct<R> {
         ensures reads { result.reads ≡ reads }
         ensures floor { result.floor ≡ floor }
         ensures kept { result.kept ≡ None }
-        ensures told { (m : Files) → (R.view reads).files ≡ Some m → floor_in (R.view reads).layout m ≡ Ok floor → HasShortFiles m
+        ensures told { (m : Files) → (R.view reads).files ≡ Some m → floor_in (R.view reads).layout m ≡ Ok floor
             → TellsFiles (R.view reads) m (⟦<Direct<R> as Book>⟧.told result) }
         ensures below { (⟦<Direct<R> as Book>⟧.told result).below ≡ (R.view reads).below }
     {
@@ -78,7 +78,7 @@ pub fn over_disk<D: Disk>(
     floor: u32,
 ) -> Direct<OwnedReads<D>>
     ensures disk { result.reads.disk ≡ disk }
-    ensures told { (t : Trace) → D.trace disk ≡ Some t → floor_in layout (files_now t) ≡ Ok floor → HasShortFiles (files_now t)
+    ensures told { (t : Trace) → D.trace disk ≡ Some t → floor_in layout (files_now t) ≡ Ok floor
         → TellsAll youngest layout (files_now t) (⟦<Direct<OwnedReads<D>> as Book>⟧.told result) }
     ensures below { (⟦<Direct<OwnedReads<D>> as Book>⟧.told result).below ≡ Some (state_of (D.trace disk) (D.mount_path disk)) }
     ensures faults { ⟦<Direct<OwnedReads<D>> as Book>⟧.faults result ≡ D.faults disk }

@@ -38,6 +38,7 @@ impl<D: Disk> OwnedReads<D> {
 
 impl<D: Disk> Reads for OwnedReads<D> {
     ghost use Rattle.fsfs_fetch.specs.Owned.{owned_view, state_of};
+    ghost use Rattle.fsfs_fetch.specs.OwnedShort.{owned_short};
 
     ghost view = { λ r. owned_view (state_of (D.trace r.disk) (D.mount_path r.disk)) r.youngest r.layout };
 
@@ -63,4 +64,6 @@ impl<D: Disk> Reads for OwnedReads<D> {
     fn size(&mut self, name: &Name) -> Result<Option<u64>, Failed> {
         self.disk.size(name)
     }
+
+    ghost short = { λ r. owned_short (D.trace r.disk) (D.short r.disk) };
 }

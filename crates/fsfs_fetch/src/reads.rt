@@ -2,6 +2,7 @@
 ghost use Rattle.std.specs.Prelude.{◌≡◌, ◌≤◌, ◌<◌, ℕ, length, IfOk, IfSome};
 ghost use Rattle.std.specs.FinMap.{get};
 ghost use Rattle.fsfs_base.specs.Failures.{HasCause};
+ghost use Rattle.fsfs_disk.specs.Benches.{HasShortFiles};
 ghost use Rattle.fsfs_disk.specs.Trace.{IsRead, IsSize};
 ghost use Rattle.fsfs_fetch.specs.Views.{View, Later, IsYoungest};
 
@@ -40,4 +41,7 @@ pub trait Reads {
         ensures length { IfSome (view self.new).files (λ m. IfOk result (IsSize (get m name.now))) }
         ensures later { Later (view self.old) (view self.new) }
         ensures cause { HasCause (faults self.old) (faults self.new) result };
+
+    /// No file is longer than 2^62 bytes.
+    ghost short: { (reads : Self) → IfSome (view reads).files HasShortFiles };
 }

@@ -1,5 +1,5 @@
 // Counts of failed calls.
-ghost use Rattle.std.specs.Prelude.{◌≡◌, ◌≤◌, ◌↔◌, Ok, IsOk, IfOk, OnErr};
+ghost use Rattle.std.specs.Prelude.{◌≡◌, ◌≤◌, ◌↔◌, Ok, IsOk, IfOk, OnOk, OnErr};
 ghost use Rattle.fsfs_base.specs.Failures.{Rose};
 
 use fsfs_base::Failed;
@@ -10,6 +10,7 @@ pub fn counted<T>(faults: &mut u64, answer: io::Result<T>) -> Result<T, Failed>
     ensures succeeds { IsOk result ↔ IsOk answer }
     ensures ok { IfOk result (λ value. answer ≡ Ok value) }
     ensures later { faults.old ≤ faults.new }
+    ensures kept { OnOk result (faults.new ≡ faults.old) }
     ensures failed { OnErr result (Rose faults.old faults.new) }
 {
     match answer {

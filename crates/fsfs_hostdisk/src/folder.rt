@@ -1,6 +1,7 @@
 // A folder of the machine, and the files and folders below it by name.
 ghost use Rattle.std.specs.Prelude.{◌≡◌, ◌≤◌, length, IfOk, string_bytes};
 
+use fsfs_base::{Name, read_txn_name};
 use std::alloc::{AllocGlobal, Global};
 use std::fs::{File, Files, Metadata};
 use std::io::{ErrorKind, Write};
@@ -10,7 +11,7 @@ use std::{fs, io};
 // A name is empty for the folder itself. What is said to be made, put or removed is firm only after `sync` of the
 // folder that its name stands in.
 #[derive(Drop)]
-pub struct Folder<R: Files<File = File> + AllocGlobal + Drop> {
+pub struct Folder<R: Files<File = File> + AllocGlobal + Clone + Drop> {
     pub rt: R,
     pub path: String,
 }
@@ -20,6 +21,14 @@ pub fn parent_of(name: &str) -> &str {
     match name.rsplit_once('/') {
         Some((folder, _)) => folder,
         None => "",
+    }
+}
+
+// A transaction's name and `.txn`.
+fn is_txn_entry(text: &str) -> bool {
+    match text.strip_suffix(".txn") {
+        Some(name) => read_txn_name(name.as_bytes()).is_some(),
+        None => false,
     }
 }
 
@@ -66,6 +75,17 @@ pub fn fill(file: &File, offset: u64, buffer: &mut [u8]) -> io::Result<usize>
 // The system takes offsets up to this; no file goes beyond.
 const MAX_OFFSET: u64 = 0x7fff_ffff_ffff_ffff;
 
+// No file grows longer than this.
+const MAX_LENGTH: u64 = 1 << 62;
+
+// Refuses so many bytes at the end of a file of this length where it would grow too long.
+pub fn refuse_too_long(length: u64, more: usize) -> io::Result<()> {
+    if MAX_LENGTH < length.saturating_add(more as u64) {
+        return Err(io::Error::from(ErrorKind::FileTooLarge));
+    }
+    Ok(())
+}
+
 // The length of an open file. A folder is an error.
 pub fn file_length(file: &File) -> io::Result<u64> {
     length_in(&finished(|| file.metadata())?)
@@ -79,7 +99,7 @@ fn length_in(found: &Metadata) -> io::Result<u64> {
     }
 }
 
-impl<R: Files<File = File> + AllocGlobal + Drop> Folder<R> {
+impl<R: Files<File = File> + AllocGlobal + Clone + Drop> Folder<R> {
     pub fn alloc(&self) -> Global {
         self.rt.alloc()
     }
@@ -149,6 +169,46 @@ impl<R: Files<File = File> + AllocGlobal + Drop> Folder<R> {
     // A new empty file. One that is there is an error.
     pub fn create(&self, name: &str) -> io::Result<File> {
         File::create_new(&self.rt, self.path_of(name)?)
+    }
+
+    // Adds bytes at the end of a file, which is made where there is none.
+    pub fn append(&self, name: &str, bytes: &[u8]) -> io::Result<()> {
+        let mut file = File::options()
+            .append(true)
+            .create(true)
+            .open(&self.rt, self.path_of(name)?)?;
+        file.write_all(bytes)
+    }
+
+    // Makes a file of these bytes, in place of the one that has the name.
+    pub fn write(&self, name: &str, bytes: &[u8]) -> io::Result<()> {
+        let mut file = File::create(&self.rt, self.path_of(name)?)?;
+        file.write_all(bytes)
+    }
+
+    // The names of transactions' folders that stand in a folder, in no order. None where there is no such folder.
+    pub fn txn_entries(&self, name: &str) -> io::Result<Vec<Name>> {
+        let mut found = Vec::new(self.alloc());
+        if !self.is_folder(name) {
+            return Ok(found);
+        }
+        for entry in fs::read_dir(&self.rt, self.path_of(name)?.as_str())? {
+            let entry = entry?;
+            let text = entry.file_name();
+            if text.len() <= 128 && is_txn_entry(text) {
+                found.push(Name::new(text))?;
+            }
+        }
+        Ok(found)
+    }
+
+    // Removes a folder with all that stands in it. Answers whether it was there.
+    pub fn remove_folder(&self, name: &str) -> io::Result<bool> {
+        if self.found(name)?.is_none() {
+            return Ok(false);
+        }
+        fs::remove_dir_all(&self.rt, self.path_of(name)?.as_str())?;
+        Ok(true)
     }
 
     // Writes a new file of these bytes beside the name and makes its bytes firm.

@@ -35,7 +35,7 @@ impl LastRead {
         }
     }
 
-    fn open<R: Files<File = File> + AllocGlobal + Drop>(
+    fn open<R: Files<File = File> + AllocGlobal + Clone + Drop>(
         &mut self,
         folder: &Folder<R>,
         name: &Name,
@@ -51,7 +51,7 @@ impl LastRead {
     }
 
     // A read from the beginning opens the file anew: another process may have put another in its place.
-    pub fn read<R: Files<File = File> + AllocGlobal + Drop>(
+    pub fn read<R: Files<File = File> + AllocGlobal + Clone + Drop>(
         &mut self,
         folder: &Folder<R>,
         name: &Name,
@@ -69,7 +69,7 @@ impl LastRead {
         }
     }
 
-    pub fn size<R: Files<File = File> + AllocGlobal + Drop>(
+    pub fn size<R: Files<File = File> + AllocGlobal + Clone + Drop>(
         &self,
         folder: &Folder<R>,
         name: &Name,

@@ -4,6 +4,7 @@
 #![tactic(auto)]
 
 mod arguments;
+mod bench;
 mod disk;
 mod faults;
 mod folder;
@@ -14,6 +15,7 @@ mod standard;
 mod writer;
 
 pub use arguments::words;
+pub use bench::HostBench;
 pub use disk::HostDisk;
 pub use machine::Machine;
 pub use once::{OpenGate, SystemClock, SystemDice};

@@ -1,5 +1,5 @@
 // The machine, with a disk for each folder.
-ghost use Rattle.std.specs.Prelude.{◌≡◌, ◌+◌, ◌-◌, ◌^◌, min, IfOk, string_bytes, None, ⊤};
+ghost use Rattle.std.specs.Prelude.{◌≡◌, IfOk, string_bytes, None, ⊤};
 
 use crate::disk::HostDisk;
 use crate::faults::counted;
@@ -20,6 +20,7 @@ pub struct Machine<R: Files<File = File> + AllocGlobal + Clone + Drop> {
     mounted: Vec<String>,
     mount_faults: u64,
     disk_faults: u64,
+    bench_faults: u64,
 }
 
 impl<R: Files<File = File> + AllocGlobal + Clone + Drop> Machine<R> {
@@ -27,6 +28,7 @@ impl<R: Files<File = File> + AllocGlobal + Clone + Drop> Machine<R> {
     pub fn new(rt: R) -> Machine<R>
         ensures mounts { result.mount_faults ≡ 0 }
         ensures disks { result.disk_faults ≡ 0 }
+        ensures benches { result.bench_faults ≡ 0 }
     {
         let alloc = rt.alloc();
         Machine {
@@ -34,6 +36,7 @@ impl<R: Files<File = File> + AllocGlobal + Clone + Drop> Machine<R> {
             mounted: Vec::new(alloc),
             mount_faults: 0,
             disk_faults: 0,
+            bench_faults: 0,
         }
     }
 }
@@ -63,6 +66,7 @@ fn open<R: Files<File = File> + AllocGlobal + Clone + Drop>(
     writes: bool,
 ) -> io::Result<HostDisk<R>>
     ensures faults { IfOk result (λ disk. disk.faults ≡ 0) }
+    ensures benches { IfOk result (λ disk. disk.bench_faults ≡ 0) }
     ensures path { IfOk result (λ disk. string_bytes disk.folder.path ≡ path.now) }
     ensures writes { IfOk result (λ disk. disk.writes ≡ writes) }
 {
@@ -88,6 +92,8 @@ impl<R: Files<File = File> + AllocGlobal + Clone + Drop> Host for Machine<R> {
 
     ghost disk_faults = { λ machine. machine.disk_faults };
 
+    ghost bench_faults = { λ machine. machine.bench_faults };
+
     fn mount(&mut self, path: &str, writes: bool) -> Result<HostDisk<R>, MountFault> {
         let opened = open(&self.rt, &mut self.mounted, path, writes);
         match counted(&mut self.mount_faults, opened) {
@@ -98,6 +104,7 @@ impl<R: Files<File = File> + AllocGlobal + Clone + Drop> Host for Machine<R> {
 
     fn unmount(&mut self, disk: HostDisk<R>) {
         self.disk_faults = self.disk_faults.saturating_add(disk.faults());
+        self.bench_faults = self.bench_faults.saturating_add(disk.bench_faults());
         let path = disk.path();
         if let Some(at) = self.mounted.iter().position(|other| other.as_str() == path) {
             let _ = self.mounted.swap_remove(at);

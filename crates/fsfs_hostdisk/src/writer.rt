@@ -1,5 +1,6 @@
 // What a disk that writes keeps: the lock, and what changed below its folder.
-use crate::folder::{Folder, parent_of};
+use crate::bench::BenchPlace;
+use crate::folder::{Folder, parent_of, refuse_too_long};
 use std::alloc::{AllocGlobal, Global};
 use std::fs::{File, Files, TryLockError};
 use std::io;
@@ -33,7 +34,7 @@ pub struct Writer {
     changed: Vec<String>,
 }
 
-fn open_lock<R: Files<File = File> + AllocGlobal + Drop>(
+fn open_lock<R: Files<File = File> + AllocGlobal + Clone + Drop>(
     folder: &Folder<R>,
 ) -> io::Result<WriteLock> {
     match folder.open(WRITE_LOCK) {
@@ -50,7 +51,10 @@ fn open_lock<R: Files<File = File> + AllocGlobal + Drop>(
 }
 
 // Removes the file of a lock that was made for it, while the lock is held.
-fn unmake_lock<R: Files<File = File> + AllocGlobal + Drop>(folder: &Folder<R>, lock: &WriteLock) {
+fn unmake_lock<R: Files<File = File> + AllocGlobal + Clone + Drop>(
+    folder: &Folder<R>,
+    lock: &WriteLock,
+) {
     if lock.is_made {
         let _ = folder.remove(WRITE_LOCK);
     }
@@ -116,7 +120,7 @@ impl Writer {
 
     // Takes the lock. Where the repository's folder isn't there and can't be
     // made, there is nothing to lock, and the disk goes without.
-    pub fn take_lock<R: Files<File = File> + AllocGlobal + Drop>(
+    pub fn take_lock<R: Files<File = File> + AllocGlobal + Clone + Drop>(
         &mut self,
         folder: &Folder<R>,
     ) -> io::Result<()> {
@@ -129,7 +133,7 @@ impl Writer {
     }
 
     // A folder that an earlier run made and left without a repository may not be firm in the one above.
-    fn note_unfinished<R: Files<File = File> + AllocGlobal + Drop>(
+    fn note_unfinished<R: Files<File = File> + AllocGlobal + Clone + Drop>(
         &mut self,
         folder: &Folder<R>,
     ) -> io::Result<()> {
@@ -140,7 +144,7 @@ impl Writer {
     }
 
     // Gives the lock back. Where there is no repository, what was made goes again, as far as it is empty.
-    pub fn release<R: Files<File = File> + AllocGlobal + Drop>(self, folder: &Folder<R>) {
+    pub fn release<R: Files<File = File> + AllocGlobal + Clone + Drop>(self, folder: &Folder<R>) {
         if let Some(lock) = &self.lock {
             unmake_lock(folder, lock);
         }
@@ -163,7 +167,7 @@ impl Writer {
     }
 
     // Makes one folder. The name of one that is there may not be firm, if its maker was cut off.
-    fn make<R: Files<File = File> + AllocGlobal + Drop>(
+    fn make<R: Files<File = File> + AllocGlobal + Clone + Drop>(
         &mut self,
         folder: &Folder<R>,
         name: &str,
@@ -185,7 +189,7 @@ impl Writer {
     }
 
     // Makes a folder and those above it.
-    pub fn make_folder<R: Files<File = File> + AllocGlobal + Drop>(
+    pub fn make_folder<R: Files<File = File> + AllocGlobal + Clone + Drop>(
         &mut self,
         folder: &Folder<R>,
         name: &str,
@@ -204,13 +208,14 @@ impl Writer {
 
     // Puts a new file, firm, and gives it the name. An empty file in place of an empty file is the one that stands there,
     // so that a lock on it stays held.
-    pub fn put<R: Files<File = File> + AllocGlobal + Drop>(
+    pub fn put<R: Files<File = File> + AllocGlobal + Clone + Drop>(
         &mut self,
         folder: &Folder<R>,
         name: &str,
         bytes: &[u8],
     ) -> io::Result<()> {
         self.require_lock()?;
+        refuse_too_long(0, bytes.len())?;
         self.note(parent_of(name))?;
         if bytes.is_empty() && folder.size(name)? == Some(0) {
             folder.sync(name)?;
@@ -234,7 +239,7 @@ impl Writer {
     }
 
     // Puts another file in the place of the lock's, locked before it has the name.
-    fn put_lock<R: Files<File = File> + AllocGlobal + Drop>(
+    fn put_lock<R: Files<File = File> + AllocGlobal + Clone + Drop>(
         &mut self,
         folder: &Folder<R>,
         bytes: &[u8],
@@ -252,7 +257,7 @@ impl Writer {
         Ok(())
     }
 
-    pub fn rename<R: Files<File = File> + AllocGlobal + Drop>(
+    pub fn rename<R: Files<File = File> + AllocGlobal + Clone + Drop>(
         &mut self,
         folder: &Folder<R>,
         from: &str,
@@ -264,7 +269,7 @@ impl Writer {
         folder.rename(from, to)
     }
 
-    pub fn remove<R: Files<File = File> + AllocGlobal + Drop>(
+    pub fn remove<R: Files<File = File> + AllocGlobal + Clone + Drop>(
         &mut self,
         folder: &Folder<R>,
         name: &str,
@@ -275,7 +280,7 @@ impl Writer {
     }
 
     // Syncs each folder whose names changed, and each in which a folder was made.
-    pub fn firm_names<R: Files<File = File> + AllocGlobal + Drop>(
+    pub fn firm_names<R: Files<File = File> + AllocGlobal + Clone + Drop>(
         &mut self,
         folder: &Folder<R>,
     ) -> io::Result<()> {
@@ -285,4 +290,67 @@ impl Writer {
         self.changed.clear();
         Ok(())
     }
+
+    // Drops a folder that is empty.
+    pub fn drop_folder<R: Files<File = File> + AllocGlobal + Clone + Drop>(
+        &mut self,
+        folder: &Folder<R>,
+        name: &str,
+    ) -> io::Result<()> {
+        self.require_lock()?;
+        self.note(parent_of(name))?;
+        folder.unmake(name)
+    }
+
+    // Makes the empty folder of a bench.
+    pub fn make_bench<R: Files<File = File> + AllocGlobal + Clone + Drop>(
+        &mut self,
+        folder: &Folder<R>,
+        place: &BenchPlace,
+    ) -> io::Result<()> {
+        self.require_lock()?;
+        remove_apart(folder, place)?;
+        let _ = folder.remove_folder(place.folder.as_str())?;
+        self.make_folder(folder, place.folder.as_str())
+    }
+
+    // Drops what a bench holds, and then its folder, for good. Whether it was there.
+    pub fn drop_bench<R: Files<File = File> + AllocGlobal + Clone + Drop>(
+        &mut self,
+        folder: &Folder<R>,
+        place: &BenchPlace,
+    ) -> io::Result<bool> {
+        self.require_lock()?;
+        remove_apart(folder, place)?;
+        if !folder.remove_folder(place.folder.as_str())? {
+            return Ok(false);
+        }
+        folder.sync(parent_of(place.folder.as_str()))?;
+        Ok(true)
+    }
+
+    // Gives a file of a bench a name of the repository.
+    pub fn adopt<R: Files<File = File> + AllocGlobal + Clone + Drop>(
+        &mut self,
+        folder: &Folder<R>,
+        from: &str,
+        to: &str,
+    ) -> io::Result<()> {
+        self.require_lock()?;
+        self.note(parent_of(to))?;
+        folder.rename(from, to)
+    }
+}
+
+// Removes the files of a bench that stand apart from its folder.
+fn remove_apart<R: Files<File = File> + AllocGlobal + Clone + Drop>(
+    folder: &Folder<R>,
+    place: &BenchPlace,
+) -> io::Result<()> {
+    for name in [&place.proto_revision, &place.proto_lock] {
+        if let Some(name) = name {
+            let _ = folder.remove(name.as_str())?;
+        }
+    }
+    Ok(())
 }

@@ -11,7 +11,7 @@ use Rattle.fsfs_machine.specs.declared.contents.Contents.{Contents}
 use Rattle.fsfs_machine.specs.declared.contents.Contents.TheVariants.{Junk}
 use Rattle.fsfs_machine.specs.declared.contents.NameChange.TheVariants.{Put, Rename, Remove, Firm}
 use Rattle.fsfs_machine.specs.Disk.{Disk, found, same_name, IsImage}
-use Rattle.fsfs_images.specs.Shown.{IsReading, AtName, AreRead, Shows, Start, Putting, Adopting, Renaming, Removing, Firming, Attempting, Beside, ImagesAreShown}
+use Rattle.fsfs_images.specs.Shown.{IsReading, AtName, AreRead, Shows, Start, Putting, Adopting, Renaming, Removing, Firming, Attempting, PuttingBeside, AdoptingBeside, RemovingBeside, KeepingLabel, DroppingLabel, ImagesAreShown}
 
 module _ (names : FileName → List ℕ) (reads : List ℕ → Contents → Bool) (is : IsReading names reads) where
   read_put : (m : Files) (d : Disk) (n : FileName) (bytes : List ℕ) (c : Contents) → AreRead names reads m d → reads bytes c ≡ true → AreRead names reads (insert m (names n) bytes) (Put n c ∷ d)
@@ -39,6 +39,9 @@ module _ (names : FileName → List ℕ) (reads : List ℕ → Contents → Bool
   read_beside : (m : Files) (d : Disk) (name bytes : List ℕ) → ((n : FileName) → names n ≡ name → ⊥) → AreRead names reads m d → AreRead names reads (insert m name bytes) d
   read_beside m d name bytes other all q = subst (λ o. AtName reads o (found d q)) (sym (get_kept m name bytes (names q) (other q))) (all q)
 
+  gone_beside : (m : Files) (d : Disk) (name : List ℕ) → ((n : FileName) → names n ≡ name → ⊥) → AreRead names reads m d → AreRead names reads (remove m name) d
+  gone_beside m d name other all q = subst (λ o. AtName reads o (found d q)) (sym (get_left m name (names q) (other q))) (all q)
+
   -- the files now
   now_read : (first : Files) (t : List Operation) (d : Disk) → Shows names reads first t d → AreRead names reads (files_after first t) d
   now_read first _ _ (Start d all) = all
@@ -49,7 +52,11 @@ module _ (names : FileName → List ℕ) (reads : List ℕ → Contents → Bool
   now_read first _ _ (Removing t d n s) = read_remove (files_after first t) d n (now_read first t d s)
   now_read first _ _ (Firming t d s) = now_read first t d s
   now_read first _ _ (Attempting t d c s) = now_read first t d s
-  now_read first _ _ (Beside t d name bytes other s) = read_beside (files_after first t) d name bytes other (now_read first t d s)
+  now_read first _ _ (PuttingBeside t d name bytes other s) = read_beside (files_after first t) d name bytes other (now_read first t d s)
+  now_read first _ _ (AdoptingBeside t d name bytes other s) = read_beside (files_after first t) d name bytes other (now_read first t d s)
+  now_read first _ _ (RemovingBeside t d name other s) = gone_beside (files_after first t) d name other (now_read first t d s)
+  now_read first _ _ (KeepingLabel t d l s) = now_read first t d s
+  now_read first _ _ (DroppingLabel t d l s) = now_read first t d s
 
   image_read : (first : Files) (t : List Operation) (d : Disk) → Shows names reads first t d → (m : Files) → real.IsImage first t m → (e : Disk) × IsImage d e × AreRead names reads m e
   image_read first _ _ (Start d all) m image = (Firm ∷ d, refl, subst (λ z. AreRead names reads z d) (sym image) all)
@@ -67,9 +74,17 @@ module _ (names : FileName → List ℕ) (reads : List ℕ → Contents → Bool
       (λ w. let r = image_read first t d s w.0 w.1 in (Remove n ∷ r.0, inr (r.0, r.1, refl), subst (λ z. AreRead names reads z (Remove n ∷ r.0)) (sym w.2) (read_remove w.0 r.0 n r.2))) image
   image_read first _ _ (Firming t d s) m image = (Firm ∷ d, refl, subst (λ z. AreRead names reads z d) (sym image) (now_read first t d s))
   image_read first _ _ (Attempting t d c s) m image = image_read first t d s m image
-  image_read first _ _ (Beside t d name bytes other s) m image =
+  image_read first _ _ (PuttingBeside t d name bytes other s) m image =
       ⊎_elim (λ i. image_read first t d s m i)
       (λ w. let r = image_read first t d s w.0 w.1 in (r.0, r.1, subst (λ z. AreRead names reads z r.0) (sym w.2) (read_beside w.0 r.0 name bytes other r.2))) image
+  image_read first _ _ (AdoptingBeside t d name bytes other s) m image =
+      ⊎_elim (λ i. image_read first t d s m i)
+      (λ w. let r = image_read first t d s w.0 w.1 in (r.0, r.1, subst (λ z. AreRead names reads z r.0) (sym w.2) (read_beside w.0 r.0 name bytes other r.2))) image
+  image_read first _ _ (RemovingBeside t d name other s) m image =
+      ⊎_elim (λ i. image_read first t d s m i)
+      (λ w. let r = image_read first t d s w.0 w.1 in (r.0, r.1, subst (λ z. AreRead names reads z r.0) (sym w.2) (gone_beside w.0 r.0 name other r.2))) image
+  image_read first _ _ (KeepingLabel t d l s) m image = image_read first t d s m image
+  image_read first _ _ (DroppingLabel t d l s) m image = image_read first t d s m image
 
   torn_read : (first : Files) (t : List Operation) (d : Disk) → Shows names reads first t d → (n : FileName) (bytes : List ℕ)
       → (m : Files) → TornBy (real.Put (names n) bytes) (real.IsImage first t) m → (e : Disk) × IsImage (Put n Junk ∷ d) e × AreRead names reads m e

@@ -260,6 +260,16 @@ pub fn txn_folder(txn: &TxnName) -> Name
     name
 }
 
+/// The last part of the name of a transaction's folder.
+pub fn txn_entry(txn: &TxnName) -> Name
+    ensures { result ≡ txn_text txn.now.base txn.now.number.number ++ codes ".txn" }
+{
+    let mut name = Name::new("");
+    push_txn(&mut name, txn);
+    name.push_str(".txn");
+    name
+}
+
 /// A file in a transaction's folder, by the end of its name.
 pub fn txn_file(txn: &TxnName, file: &str) -> Name
     requires { length file.now ≤ 80 }

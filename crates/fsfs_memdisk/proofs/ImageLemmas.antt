@@ -1,10 +1,12 @@
 -- The image that is picked is one of the images, and grows with each operation.
-use Rattle.std.proofs.Common.{◌≡◌, ℕ, suc, List, [], ◌∷◌, Bool, true, false, length, drop, get_or, inl, inr, refl, sym, ap, ◌∙◌, add-zero, add-one}
+use Rattle.std.proofs.Common.{◌≡◌, ℕ, suc, List, [], ◌∷◌, Bool, true, false, cond, length, drop, get_or, inl, inr, refl, sym, ap, ◌∙◌, add-zero, add-one}
 use Rattle.std.proofs.lemmas.List.{get_or-drop, drop-drop}
 use Rattle.std.proofs.lemmas.Option.{unwrap_or-slice_get}
+use Rattle.std.specs.Prelude.{◌||◌}
 use Rattle.fsfs_base.specs.Files.{Files}
-use Rattle.fsfs_disk.specs.Trace.{NameChange, Operation, Put, Adopt, Rename, Remove, FirmNames, Done, Attempted, IsImage, ImageAfter, files_after, changed}
-use Rattle.fsfs_memdisk.specs.PickedImage.{is_picked, left_after, picked_image}
+use Rattle.fsfs_disk.specs.Labels.{Label, has_label, same_label, AreLeft}
+use Rattle.fsfs_disk.specs.Trace.{NameChange, Operation, Put, Adopt, Rename, Remove, FirmNames, KeepLabel, DropLabel, Done, Attempted, IsImage, ImageAfter, files_after, changed}
+use Rattle.fsfs_memdisk.specs.PickedImage.{is_picked, left_after, picked_image, picked_labels}
 use Rattle.fsfs_memdisk.specs.Stored.{operation_by}
 
 left_is_image : (picked : Bool) (change : NameChange) (now : Files) (Before : Files → Type 0) (left : Files) → Before left → ImageAfter change now Before (left_after picked change now left)
@@ -13,11 +15,15 @@ left_is_image true (Adopt name bytes) now Before left is = inr (left, is, refl)
 left_is_image true (Rename from to) now Before left is = inr (left, is, refl)
 left_is_image true (Remove name) now Before left is = inr (left, is, refl)
 left_is_image true FirmNames now Before left is = refl
+left_is_image true (KeepLabel l) now Before left is = is
+left_is_image true (DropLabel l) now Before left is = is
 left_is_image false (Put name bytes) now Before left is = inl is
 left_is_image false (Adopt name bytes) now Before left is = inl is
 left_is_image false (Rename from to) now Before left is = inl is
 left_is_image false (Remove name) now Before left is = inl is
 left_is_image false FirmNames now Before left is = refl
+left_is_image false (KeepLabel l) now Before left is = is
+left_is_image false (DropLabel l) now Before left is = is
 
 pub picked_is_image : (pick : List Bool) (first : Files) (operations : List Operation) → IsImage first operations (picked_image pick first operations)
 picked_is_image pick first [] = refl
@@ -51,3 +57,23 @@ picked_image-more pick rest first operations true picked change now new_now left
     (nows refl ∙ ap (changed change) is_now, lefts refl ∙ (λ i. left_after (same_pick i) change (is_now i) (is_left i)))
 picked_image-more pick rest first operations false picked change now new_now left new_left is_rest is_picked_now is_now is_left lefts nows same =
     ((same refl).1 ∙ is_now, (same refl).0 ∙ is_left)
+
+or_right : (a b : Bool) → b ≡ true → (a || b) ≡ true
+or_right true b h = refl
+or_right false b h = h
+
+or_more : (a b c : Bool) → (b ≡ true → c ≡ true) → (a || b) ≡ true → (a || c) ≡ true
+or_more true b c h p = refl
+or_more false b c h p = h p
+
+-- the labels that are picked are among those that are kept
+pub picked_are_left : (pick : List Bool) (ls : List Label) → AreLeft ls (picked_labels pick ls)
+picked_are_left pick [] l h = h
+picked_are_left pick (k ∷ ls) l h = by_pick (is_picked pick 0) (picked_are_left (drop 1 pick) ls l) h where
+  by_pick : (b : Bool) → (has_label l (picked_labels (drop 1 pick) ls) ≡ true → has_label l ls ≡ true)
+      → has_label l (cond b (k ∷ picked_labels (drop 1 pick) ls) (picked_labels (drop 1 pick) ls)) ≡ true → (same_label k l || has_label l ls) ≡ true
+  by_pick true rest h = or_more (same_label k l) (has_label l (picked_labels (drop 1 pick) ls)) (has_label l ls) rest h
+  by_pick false rest h = or_right (same_label k l) (has_label l ls) (rest h)
+
+pub left_of : (kept now picked left : List Label) → now ≡ kept → left ≡ picked → AreLeft now picked → AreLeft kept left
+left_of kept now picked left is same are l h = ap (λ ls. has_label l ls) (sym is) ∙ are l (ap (λ ls. has_label l ls) (sym same) ∙ h)

@@ -1,15 +1,17 @@
 //! A real folder: what a mount leaves, and what is read of it.
 ghost use Rattle.std.specs.Prelude.{◌≡◌, IsTrue};
 
-use fsfs_base::{Failed, Name};
-use fsfs_disk::{Disk, Host};
-use fsfs_hostdisk::{HostDisk, Machine};
+use fsfs_base::{B36, Failed, Name, TxnName};
+use fsfs_disk::{Bench, Disk, Host, Label};
+use fsfs_hostdisk::{HostBench, HostDisk, Machine};
+use std::alloc::Global;
 use std::test::Fail;
 use std::{env, fs, process};
 
 // What a creation does, in little.
 fn write_repository(disk: &mut HostDisk<HostRuntime>) -> Result<(), Failed>
     requires { IsTrue (⟦<HostDisk<HostRuntime> as Disk>⟧.may_write disk.old) }
+    ensures { ⟦<HostDisk<HostRuntime> as Disk>⟧.may_write disk.new ≡ ⟦<HostDisk<HostRuntime> as Disk>⟧.may_write disk.old }
 {
     let next = Name::new("db/format-next");
     disk.make_folder(&Name::new("db/revs/0"))?;
@@ -74,6 +76,88 @@ fn real_folder(rt: HostRuntime) -> Result<(), Fail> {
     assert!(rt; disk.remove(&current)?);
     assert!(rt; !disk.remove(&current)?);
     other.unmount(disk);
+    fs::remove_dir_all(&rt, path)?;
+    Ok(())
+}
+
+// What a transaction writes, and reads again.
+fn write_transaction(bench: &mut HostBench<HostRuntime>) -> Result<[Option<u64>; 4], Failed> {
+    let (node, texts) = (Name::new("node.0.0"), Name::new("rev"));
+    let mut buffer = [0; 8];
+    bench.write(&node, b"id: 0.0.t0-0\n")?;
+    bench.write(&node, b"id")?;
+    bench.append(&texts, b"PLAIN\n")?;
+    bench.append(&texts, b"ENDREP\n")?;
+    let read = bench.read(&texts, 6, &mut buffer)?;
+    let absent = bench.len(&Name::new("props"))?;
+    let lengths = [bench.len(&node)?, bench.len(&texts)?];
+    bench.firm(&texts)?;
+    bench.firm(&Name::new("props"))?;
+    Ok([lengths[0], lengths[1], absent, read.map(|n| n as u64)])
+}
+
+// How many transactions are listed.
+fn count_listed(alloc: Global, disk: &mut HostDisk<HostRuntime>) -> Option<usize>
+    ensures { ⟦<HostDisk<HostRuntime> as Disk>⟧.may_write disk.new ≡ ⟦<HostDisk<HostRuntime> as Disk>⟧.may_write disk.old }
+{
+    match disk.list(alloc, &Name::new("db/transactions")) {
+        Ok(names) => Some(names.len()),
+        Err(_) => None,
+    }
+}
+
+// A commit in little: from the making of a bench to the dropping of its label. How many transactions are listed on the way,
+// and the lengths of what it wrote.
+fn commit(
+    alloc: Global,
+    disk: &mut HostDisk<HostRuntime>,
+) -> Result<([Option<usize>; 2], [Option<u64>; 2]), Failed>
+    requires { IsTrue (⟦<HostDisk<HostRuntime> as Disk>⟧.may_write disk.old) }
+    ensures { ⟦<HostDisk<HostRuntime> as Disk>⟧.may_write disk.new ≡ ⟦<HostDisk<HostRuntime> as Disk>⟧.may_write disk.old }
+{
+    let label = Label::Txn(TxnName {
+        base: 0,
+        number: B36 { number: 35 },
+    });
+    let (texts, to) = (Name::new("rev"), Name::new("db/revs/0/1"));
+    let mut bench = disk.bench(&label)?;
+    let _ = write_transaction(&mut bench)?;
+    let before = count_listed(alloc, disk);
+    disk.adopt(&mut bench, &texts, &to)?;
+    disk.firm_names()?;
+    let lengths = [disk.size(&to)?, bench.len(&texts)?];
+    disk.drop_bench(&label, Some(bench))?;
+    let after = count_listed(alloc, disk);
+    Ok(([before, after], lengths))
+}
+
+#[test]
+fn real_bench(rt: HostRuntime) -> Result<(), Fail> {
+    let temp = env::temp_dir(&rt)?;
+    let temp = temp.as_str();
+    let id = process::id(rt.process());
+    let alloc = rt.alloc();
+    let path = format!(in alloc; "{temp}/fsfs_hostbench-{id}")?;
+    let path = path.as_str();
+    let mut machine = Machine::new(rt);
+    let mut disk = machine.mount(path, true)?;
+    write_repository(&mut disk)?;
+    disk.make_folder(&Name::new("db/transactions/other"))?;
+    disk.make_folder(&Name::new("db/txn-protorevs"))?;
+    let (listed, lengths) = commit(alloc, &mut disk)?;
+    assert_eq!(rt; listed, [Some(1), Some(0)]);
+    assert_eq!(rt; lengths, [Some(13), None]);
+    let pack = Label::Pack(0);
+    let mut bench = disk.bench(&pack)?;
+    bench.append(&Name::new("pack"), b"bytes")?;
+    let again = disk.bench(&pack)?;
+    assert_eq!(rt; bench.len(&Name::new("pack"))?, None);
+    assert!(rt; disk.drop_bench(&pack, Some(again))?);
+    assert!(rt; !disk.drop_bench(&pack, Some(bench))?);
+    disk.make_folder(&Name::new("db/revs/9"))?;
+    disk.drop_folder(&Name::new("db/revs/9"))?;
+    assert!(rt; disk.drop_folder(&Name::new("db/revs/0")).is_err());
+    machine.unmount(disk);
     fs::remove_dir_all(&rt, path)?;
     Ok(())
 }

@@ -1,6 +1,8 @@
-//! Tests of reading: books, representations, nodes and looks over small revisions.
+//! Tests of disks, their benches, and of reading: books, representations, nodes and looks over small revisions.
 #![tactic(auto)]
 
+#[cfg(test)]
+mod benches;
 #[cfg(test)]
 mod book;
 #[cfg(test)]

@@ -14,7 +14,6 @@ use Rattle.fsfs_streams.specs.Streams.{Adds}
 use Rattle.fsfs_faults.specs.Lines.{line_of}
 use Rattle.fsfs_faults.specs.declared.fault.Fault.{Fault}
 use Rattle.fsfs_faults.specs.declared.fault.Fault.TheVariants.{AlreadyRepo, NotRepo}
-use Rattle.fsfs_fetch.specs.Kept.{HasShortFiles}
 use Rattle.fsfs_rev_file.specs.RevBytes.{rev_bytes}
 use Rattle.fsfs_answers.specs.FaultWords.{already_repo, not_repo}
 use Rattle.fsfs_answers.specs.Answers as model
@@ -72,24 +71,24 @@ module _ (mount disk write told : Type 0) (tool : Tool) (ws : List (List ℕ)) (
   shows shown repos t o text asks here is same = given_shown status mount disk write told tool old new err_old err_new shown t o text fault is same ends (shown_did shown repos t asks here)
 
   tree : (repos : List ℕ) (t : Trace) (h : List Revision) (revision : Option ℕ) (ids : Bool) (path : Path) (shown : Path → List ℕ) → AsksPrinted (Tree ids) revision path tool ws repos → at_old repos ≡ Some t
-      → HasShortFiles (files_now t) → (stands : StandsFor (files_now t) h) → AreShownIds (rev_bytes stands.opened.layout (files_now t)) (asked_revision revision h) ids shown → Given (Answer (model.Tree revision shown path) (Some h))
-  tree repos t h revision ids path shown asks here short stands are =
+      → (stands : StandsFor (files_now t) h) → AreShownIds (rev_bytes stands.opened.layout (files_now t)) (asked_revision revision h) ids shown → Given (Answer (model.Tree revision shown path) (Some h))
+  tree repos t h revision ids path shown asks here stands are =
       let look : RevisionLook = record { printed = Tree ids; revision = revision; path = path } in
       let reply : Revision → Reply = λ r. tree_reply shown path r.tree (found_at (get r.tree) path) in
       let by_look : tool ≡ Look = printed_by_look (Tree ids) revision path tool ws repos asks in
-      given_look status mount disk write told tool old new err_old err_new look t h stands reply fault short
+      given_look status mount disk write told tool old new err_old err_new look t h stands reply fault
       (λ rev r is there text end x. subst (λ (k : Tool). Fits k path (reply r) text end) (sym by_look)
       (tree_is_by_tree (files_now t) h stands rev r path ids shown there (subst (λ (n : ℕ). AreShownIds (rev_bytes stands.opened.layout (files_now t)) n ids shown) (sym is) are) text end x))
       (λ asked youngest. no_rev_line tool reply asked youngest by_look)
       ends (look_did look repos t asks here)
 
   cat : (repos : List ℕ) (t : Trace) (h : List Revision) (revision : Option ℕ) (path : Path) → AsksPrinted Text revision path tool ws repos → at_old repos ≡ Some t
-      → HasShortFiles (files_now t) → StandsFor (files_now t) h → Given (Answer (model.Cat revision path) (Some h))
-  cat repos t h revision path asks here short stands =
+      → StandsFor (files_now t) h → Given (Answer (model.Cat revision path) (Some h))
+  cat repos t h revision path asks here stands =
       let look : RevisionLook = record { printed = Text; revision = revision; path = path } in
       let reply : Revision → Reply = λ r. text_reply path (found_at (get r.tree) path) in
       let by_look : tool ≡ Look = printed_by_look Text revision path tool ws repos asks in
-      given_look status mount disk write told tool old new err_old err_new look t h stands reply fault short
+      given_look status mount disk write told tool old new err_old err_new look t h stands reply fault
       (λ rev r is there text end x. subst (λ (k : Tool). Fits k path (reply r) text end) (sym by_look) (file_is_by_tree (files_now t) h stands rev r path there text end x))
       (λ asked youngest. no_rev_line tool reply asked youngest by_look)
       ends (look_did look repos t asks here)
@@ -133,8 +132,8 @@ module _ (mount disk write told : Type 0) (tool : Tool) (ws : List (List ℕ)) (
     new_youngest = λ repos t date asks here holds.
         let stands = new_repositories_stand (files_now t) date holds in
         shows Youngest repos t stands.opened (decimal (last_of (new_history date)) ++ codes "\n") asks here stands.small (youngest_text (files_now t) stands.opened (new_history date) stands.small (last_is (files_now t) (new_history date) stands));
-    new_tree = λ repos t date revision path asks here short holds.
-        tree repos t (new_history date) revision false path (λ p. []) asks here short (new_repositories_stand (files_now t) date holds) (λ p v stands. refl);
+    new_tree = λ repos t date revision path asks here holds.
+        tree repos t (new_history date) revision false path (λ p. []) asks here (new_repositories_stand (files_now t) date holds) (λ p v stands. refl);
     new_uuid = λ repos t date asks here holds.
         let stands = new_repositories_stand (files_now t) date holds in
         shows Uuid repos t stands.opened (holds.identifier ++ codes "\n") asks here stands.small (uuid_text (files_now t) holds.identifier (new_identifier (files_now t) date holds));

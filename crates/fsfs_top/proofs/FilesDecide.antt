@@ -95,8 +95,8 @@ look_refused : (look : RevisionLook) (m : Files) (why : OpenFault) → Decides (
 look_refused look m why d = record {
   opening = opening_refused m why d;
   lacking = λ p rev w lacks. inr (outside_of_open why (d.opened p w));
-  whole = λ short p text w there is. inr (outside_of_open why (d.opened p w));
-  refused = λ short p text f w there is. inr (outside_of_open why (d.opened p w));
+  whole = λ p text w there is. inr (outside_of_open why (d.opened p w));
+  refused = λ p text f w there is. inr (outside_of_open why (d.opened p w));
 }
 
 -- ---- a revision that was looked at
@@ -155,14 +155,14 @@ look_done disk write look m o old new fault opened d (inl (rev, lacks, is, kept)
   lacking = λ p other w also.
       let named = same_Some other rev (sym also.named ∙ lacks.named) in
       inl (λ i. Some (NoRev (named i) (one_youngest (small_texts m) p o w opened i)));
-  whole = λ short p text w there t. absurd (lacks_or_has look o p rev lacks (one_youngest (small_texts m) o p opened w) there);
-  refused = λ short p text why w there t. absurd (lacks_or_has look o p rev lacks (one_youngest (small_texts m) o p opened w) there);
+  whole = λ p text w there t. absurd (lacks_or_has look o p rev lacks (one_youngest (small_texts m) o p opened w) there);
+  refused = λ p text why w there t. absurd (lacks_or_has look o p rev lacks (one_youngest (small_texts m) o p opened w) there);
 })
 look_done disk write look m o old new fault opened d (inr looked) = record {
   opening = opening_done m o fault d;
   lacking = λ p rev w lacks. absurd (lacks_or_has look p o rev lacks (one_youngest (small_texts m) p o w opened) looked.there);
-  whole = λ short p text w there t. whole_agrees disk write look o m old new looked.result fault (looked.writes short) looked.fault_is text (same_text look o p m text Whole (one_layout (small_texts m) o p opened w) (one_youngest (small_texts m) o p opened w) t);
-  refused = λ short p text why w there t. refused_agrees disk write look o m old new looked.result fault (looked.writes short) looked.fault_is text why (same_text look o p m text (Refused why) (one_layout (small_texts m) o p opened w) (one_youngest (small_texts m) o p opened w) t);
+  whole = λ p text w there t. whole_agrees disk write look o m old new looked.result fault looked.writes looked.fault_is text (same_text look o p m text Whole (one_layout (small_texts m) o p opened w) (one_youngest (small_texts m) o p opened w) t);
+  refused = λ p text why w there t. refused_agrees disk write look o m old new looked.result fault looked.writes looked.fault_is text why (same_text look o p m text (Refused why) (one_layout (small_texts m) o p opened w) (one_youngest (small_texts m) o p opened w) t);
 }
 
 pub look_decided : (disk write : Type 0) (look : RevisionLook) (told at : Option Trace) (o : Opened) (old new : Option (List ℕ)) (fault : Option Fault) → told ≡ at → IfSome told (λ t. IsOpened (small_texts (files_now t)) o)
@@ -183,8 +183,8 @@ look_outside look None fault out = tt
 look_outside look (Some t) fault out = record {
   opening = opening_outside (files_now t) fault out;
   lacking = λ p rev w lacks. inr out;
-  whole = λ short p text w there is. inr out;
-  refused = λ short p text f w there is. inr out;
+  whole = λ p text w there is. inr out;
+  refused = λ p text f w there is. inr out;
 }
 
 -- want of memory before a repository is opened

@@ -13,7 +13,6 @@ use Rattle.fsfs_faults.specs.Lines.{line_of, status_of}
 use Rattle.fsfs_faults.specs.Faults.{fault_from_open, fault_from_look}
 use Rattle.fsfs_faults.specs.declared.fault.Fault.{Fault}
 use Rattle.fsfs_faults.specs.declared.fault.Fault.TheVariants.{AlreadyRepo, NotRepo, NoRev, MountFault, DiskFault, WriteFault, Memory}
-use Rattle.fsfs_fetch.specs.Kept.{HasShortFiles}
 use Rattle.fsfs_rev_file.specs.RevBytes.{rev_bytes}
 use Rattle.fsfs_look.specs.declared.look_error.LookError.{LookError}
 use Rattle.fsfs_look.specs.declared.look_error.LookError.TheVariants as errors
@@ -199,14 +198,14 @@ module _ (status : ℕ) (mount disk write told : Type 0) (tool : Tool) (old new 
       inr (front_more old new text reply.output (front_of path reply text end (fits text end t)) front, inr (moved fault (Some Memory) is ends).0)
 
   -- a look at a revision of a history, whose reply is by the revision
-  pub given_look : (look : RevisionLook) (t : Trace) (h : List Revision) (s : StandsFor (files_now t) h) (reply : Revision → Reply) (fault : Option Fault) → HasShortFiles (files_now t)
+  pub given_look : (look : RevisionLook) (t : Trace) (h : List Revision) (s : StandsFor (files_now t) h) (reply : Revision → Reply) (fault : Option Fault)
       → ((rev : ℕ) (r : Revision) → rev ≡ asked_revision look.revision h → slice_get h rev ≡ Some r → (text : List ℕ) (end : End) → TextOf look.printed (rev_bytes s.opened.layout (files_now t)) rev look.path text end → Fits tool look.path (reply r) text end)
       → ((asked youngest : ℕ) → in_revision reply asked youngest None ≡ refuses (line_of tool (NoRev asked youngest)) 1)
       → Ended fault → PrintsLook look mount disk write (Some t) old new fault → Given (of_revision look.revision h reply)
-  given_look look t h s reply fault short fits lacking ends (inl (inl (e, m, kept))) = mount_failed (of_revision look.revision h reply) (moved fault (Some MountFault) e ends) m kept
-  given_look look t h s reply fault short fits lacking ends (inl (inr (why, e, because, unopened, kept))) =
+  given_look look t h s reply fault fits lacking ends (inl (inl (e, m, kept))) = mount_failed (of_revision look.revision h reply) (moved fault (Some MountFault) e ends) m kept
+  given_look look t h s reply fault fits lacking ends (inl (inr (why, e, because, unopened, kept))) =
       outside_opening (of_revision look.revision h reply) (Some t) why (moved fault (Some (fault_from_open why)) e ends) kept because (unopened s.opened s.small)
-  given_look look t h s reply fault short fits lacking ends (inr (o, opens, inl (rev, lacks, is, kept))) =
+  given_look look t h s reply fault fits lacking ends (inr (o, opens, inl (rev, lacks, is, kept))) =
       let last : o.youngest ≡ last_of h = one_youngest (small_texts (files_now t)) o s.opened opens s.small ∙ sym (last_is (files_now t) h s) in
       let named : asked_revision look.revision h ≡ rev = ap (λ (r : Option ℕ). unwrap_or r (last_of h)) lacks.named in
       let above : length h ≤ rev = omega (arith, lacks.above, last, s.count, last_is (files_now t) h s) in
@@ -214,7 +213,7 @@ module _ (status : ℕ) (mount disk write told : Type 0) (tool : Tool) (old new 
       let same : of_revision look.revision h reply ≡ in_revision reply rev o.youngest None =
       ap (λ (a : ℕ). in_revision reply a (last_of h) (slice_get h a)) named ∙ ap (in_revision reply rev (last_of h)) none ∙ ap (λ (y : ℕ). in_revision reply rev y None) (sym last) in
       refused_line (of_revision look.revision h reply) (NoRev rev o.youngest) (same ∙ lacking rev o.youngest) (moved fault (Some (NoRev rev o.youngest)) is ends) (adds_nothing old new kept)
-  given_look look t h s reply fault short fits lacking ends (inr (o, opens, inr looked)) =
+  given_look look t h s reply fault fits lacking ends (inr (o, opens, inr looked)) =
       let p = s.opened in
       let popens = s.small in
       let youngest = one_youngest (small_texts (files_now t)) p o popens opens in
@@ -228,4 +227,4 @@ module _ (status : ℕ) (mount disk write told : Type 0) (tool : Tool) (old new 
       (λ text end x. fits asked there.0 refl there.1 text end
       (subst (λ (n : ℕ). TextOf look.printed (rev_bytes s.opened.layout (files_now t)) n look.path text end) is
       (same_text look p o (files_now t) text end (one_layout (small_texts (files_now t)) p o popens opens) youngest x)))
-      (looked.writes short) looked.fault_is ends)
+      looked.writes looked.fault_is ends)

@@ -8,7 +8,6 @@ use Rattle.fsfs_base.specs.Failures.{Rose}
 use Rattle.fsfs_disk.specs.Trace.{Trace, files_now}
 use Rattle.fsfs_faults.specs.Faults.{fault_from_open}
 use Rattle.fsfs_faults.specs.declared.fault.Fault.{Fault}
-use Rattle.fsfs_fetch.specs.Kept.{HasShortFiles}
 use Rattle.fsfs_fetch.specs.Owned.{TellsAll}
 use Rattle.fsfs_rev_file.specs.RevBytes.{floor_in, rev_bytes}
 use Rattle.fsfs_look.specs.Written.{Writes, IfDisk, IfWrite}
@@ -30,12 +29,12 @@ use Rattle.fsfs_top.proofs.FilesDecide.{does_not_open}
 -- what was written of a book over the disk is of the files
 pub into_writes : {Below : Type 0} (trace : Option Trace) (look : RevisionLook) (o : Opened) (rev : ℕ) (telling : Telling Below) (old new : Option (List ℕ)) (r : Result (Unit {0}) LookError)
     → IfSome (option_map files_now trace) (λ m. IsOpened (small_texts m) o)
-    → ((t : Trace) → trace ≡ Some t → floor_in o.layout (files_now t) ≡ Ok o.min_unpacked_rev → HasShortFiles (files_now t) → TellsAll o.youngest o.layout (files_now t) telling)
+    → ((t : Trace) → trace ≡ Some t → floor_in o.layout (files_now t) ≡ Ok o.min_unpacked_rev → TellsAll o.youngest o.layout (files_now t) telling)
     → rev ≡ looked_revision look o → rev ≤ o.youngest → ((bytes : RevisionBytes) → Knows telling.revs rev bytes → Writes (TextOf look.printed bytes rev look.path) old new r)
-    → IfSome (option_map files_now trace) (λ m. HasShortFiles m → Writes (TextIn look o m) old new r)
+    → IfSome (option_map files_now trace) (λ m. Writes (TextIn look o m) old new r)
 into_writes None look o rev telling old new r opened tells is le writes = tt
-into_writes (Some t) look o rev telling old new r opened tells is le writes = λ short.
-    let all = tells t refl (floor_is o.layout o.min_unpacked_rev (files_now t) opened.behind.min_unpacked_rev) short in
+into_writes (Some t) look o rev telling old new r opened tells is le writes =
+    let all = tells t refl (floor_is o.layout o.min_unpacked_rev (files_now t) opened.behind.min_unpacked_rev) in
     subst (λ (n : ℕ). Writes (TextOf look.printed (rev_bytes o.layout (files_now t)) n look.path) old new r) is
     (writes (rev_bytes o.layout (files_now t)) (λ q below. all.revs q (omega (arith, below, le))))
 

@@ -8,7 +8,6 @@ use Rattle.fsfs_streams.specs.Streams.{Adds}
 use Rattle.fsfs_faults.specs.Faults.{fault_from_open, fault_from_look, IsFromLook}
 use Rattle.fsfs_faults.specs.declared.fault.Fault.{Fault}
 use Rattle.fsfs_faults.specs.declared.fault.Fault.TheVariants.{NotRepo, OtherFormat, Linear, NoRev, MountFault, DiskFault, WriteFault, Memory}
-use Rattle.fsfs_fetch.specs.Kept.{HasShortFiles}
 use Rattle.fsfs_rev_file.specs.RevBytes.{rev_bytes}
 use Rattle.fsfs_look.specs.Written.{Writes}
 use Rattle.fsfs_look.specs.declared.look_error.LookError.{LookError}
@@ -92,12 +91,11 @@ IsFaultOf disk write path (Err errors.DiskFault) fault = disk × (fault ≡ Some
 IsFaultOf disk write path (Err errors.WriteFault) fault = write × (fault ≡ Some WriteFault)
 IsFaultOf disk write path (Err errors.OutOfMemory) fault = fault ≡ Some Memory
 
--- A revision of an opened repository was looked at: the whole text was printed, or all before what is refused; or where the look failed a first part. (No file has 2^64
--- bytes or more.)
+-- A revision of an opened repository was looked at: the whole text was printed, or all before what is refused; or where the look failed a first part.
 pub record Looked (disk write : Type 0) (look : RevisionLook) (o : Opened) (files : Option Files) (old new : Option (List ℕ)) (fault : Option Fault) : Type 0 where
   pub there : looked_revision look o ≤ o.youngest
   pub result : Result (Unit {0}) LookError
-  pub writes : IfSome files (λ m. HasShortFiles m → Writes (TextIn look o m) old new result)
+  pub writes : IfSome files (λ m. Writes (TextIn look o m) old new result)
   pub fault_is : IsFaultOf disk write look.path result fault
 
 -- or it has no such revision
@@ -136,8 +134,8 @@ pub record DecidesShown (files : Files) (fault : Option Fault) : Type 0 where
 pub record DecidesLook (look : RevisionLook) (files : Files) (fault : Option Fault) : Type 0 where
   pub opening : DecidesOpening files fault
   pub lacking : (o : Opened) (rev : ℕ) → IsOpened (small_texts files) o → LacksRevision look o rev → Agrees (Some (NoRev rev o.youngest)) fault
-  pub whole : HasShortFiles files → (o : Opened) (text : List ℕ) → IsOpened (small_texts files) o → looked_revision look o ≤ o.youngest → TextIn look o files text Whole → Agrees None fault
-  pub refused : HasShortFiles files → (o : Opened) (text : List ℕ) (why : LookFault) → IsOpened (small_texts files) o → looked_revision look o ≤ o.youngest → TextIn look o files text (Refused why) → Agrees (Some (fault_from_look look.path why)) fault
+  pub whole : (o : Opened) (text : List ℕ) → IsOpened (small_texts files) o → looked_revision look o ≤ o.youngest → TextIn look o files text Whole → Agrees None fault
+  pub refused : (o : Opened) (text : List ℕ) (why : LookFault) → IsOpened (small_texts files) o → looked_revision look o ≤ o.youngest → TextIn look o files text (Refused why) → Agrees (Some (fault_from_look look.path why)) fault
 
 abbrev pub ShownIsDecided : Option Trace → Option Fault → Type 0
 ShownIsDecided told fault = IfSome told (λ t. DecidesShown (files_now t) fault)

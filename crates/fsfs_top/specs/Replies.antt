@@ -7,7 +7,6 @@ use Rattle.fsfs_fields.specs.Dates.{IsDateAt}
 use Rattle.fsfs_disk.specs.Trace.{Trace, files_now}
 use Rattle.fsfs_streams.specs.Streams.{Adds}
 use Rattle.fsfs_create.specs.Creation.{IsUnpublished}
-use Rattle.fsfs_fetch.specs.Kept.{HasShortFiles}
 use Rattle.fsfs_rev_file.specs.RevBytes.{rev_bytes}
 use Rattle.fsfs_answers.specs.Answers.{Reply, Answer, UuidAnswer, asked_revision}
 use Rattle.fsfs_answers.specs.Answers as model
@@ -44,11 +43,11 @@ pub record Replies (tool : Tool) (words : List (List ℕ)) (at : List ℕ → Op
       → Given (Answer model.Youngest (Some h))
   -- of the identifier that the files have
   pub uuid : (repos : List ℕ) (t : Trace) (o : Opened) → AsksShown Uuid tool words repos → at repos ≡ Some t → IsOpened (small_texts (files_now t)) o → Given (UuidAnswer (Some o.uuid))
-  -- of the history that the files stand for, where none has 2^64 bytes or more; the ids that are shown are those of the node-revisions at the paths
+  -- of the history that the files stand for; the ids that are shown are those of the node-revisions at the paths
   pub tree : (repos : List ℕ) (t : Trace) (h : List Revision) (revision : Option ℕ) (ids : Bool) (path : Path) (shown : Path → List ℕ) → AsksPrinted (Tree ids) revision path tool words repos → at repos ≡ Some t
-      → HasShortFiles (files_now t) → (stands : StandsFor (files_now t) h) → AreShownIds (rev_bytes stands.opened.layout (files_now t)) (asked_revision revision h) ids shown → Given (Answer (model.Tree revision shown path) (Some h))
+      → (stands : StandsFor (files_now t) h) → AreShownIds (rev_bytes stands.opened.layout (files_now t)) (asked_revision revision h) ids shown → Given (Answer (model.Tree revision shown path) (Some h))
   pub cat : (repos : List ℕ) (t : Trace) (h : List Revision) (revision : Option ℕ) (path : Path) → AsksPrinted Text revision path tool words repos → at repos ≡ Some t
-      → HasShortFiles (files_now t) → StandsFor (files_now t) h → Given (Answer (model.Cat revision path) (Some h))
+      → StandsFor (files_now t) h → Given (Answer (model.Cat revision path) (Some h))
   -- where there is no repository
   pub no_youngest : (repos : List ℕ) (t : Trace) → AsksShown Youngest tool words repos → at repos ≡ Some t → IsNone (small_texts (files_now t)) → Given (Answer model.Youngest None)
   pub no_uuid : (repos : List ℕ) (t : Trace) → AsksShown Uuid tool words repos → at repos ≡ Some t → IsNone (small_texts (files_now t)) → Given (UuidAnswer None)
@@ -58,7 +57,7 @@ pub record Replies (tool : Tool) (words : List (List ℕ)) (at : List ℕ → Op
       → IsNone (small_texts (files_now t)) → Given (Answer (model.Cat revision path) None)
   -- of the files of a new repository, whatever its date, its identifier and the size of a shard
   pub new_youngest : (repos : List ℕ) (t : Trace) (date : List ℕ) → AsksShown Youngest tool words repos → at repos ≡ Some t → HoldsNew (files_now t) date → Given (Answer model.Youngest (Some (model.new_history date)))
-  pub new_tree : (repos : List ℕ) (t : Trace) (date : List ℕ) (revision : Option ℕ) (path : Path) → AsksPrinted (Tree false) revision path tool words repos → at repos ≡ Some t → HasShortFiles (files_now t) → HoldsNew (files_now t) date
+  pub new_tree : (repos : List ℕ) (t : Trace) (date : List ℕ) (revision : Option ℕ) (path : Path) → AsksPrinted (Tree false) revision path tool words repos → at repos ≡ Some t → HoldsNew (files_now t) date
       → Given (Answer (model.Tree revision (λ p. []) path) (Some (model.new_history date)))
   pub new_uuid : (repos : List ℕ) (t : Trace) (date : List ℕ) → AsksShown Uuid tool words repos → at repos ≡ Some t → (new : HoldsNew (files_now t) date) → Given (UuidAnswer (Some new.identifier))
 

@@ -6,12 +6,12 @@ use Rattle.fsfs_fetch.proofs.OwnedLemmas.{owned_files, owned_floor, owned_tells}
 use Rattle.fsfs_fetch.proofs.direct.over_disk.Goals as goal
 
 pub returns-clause-told : goal.returns-clause-told
-returns-clause-told g c = λ t told is short.
+returns-clause-told g c = λ t told is.
     let trace = g.D.Disk.trace c.new.result.disk in
     let path = g.D.Disk.mount_path c.new.result.disk in
     let there : trace ≡ Some t = ap g.D.Disk.trace c.new.ensures.disk ∙ told in
     owned_tells (state_of trace path) c.new.result.youngest c.new.result.layout c.args.youngest c.args.layout (files_now t) _ c.new.ensures.youngest c.new.ensures.layout
-    (c.new-2.ensures.told (files_now t) (owned_files trace path c.new.result.youngest c.new.result.layout t there) (owned_floor c.new.result.layout c.args.layout c.args.floor (files_now t) c.new.ensures.layout is) short)
+    (c.new-2.ensures.told (files_now t) (owned_files trace path c.new.result.youngest c.new.result.layout t there) (owned_floor c.new.result.layout c.args.layout c.args.floor (files_now t) c.new.ensures.layout is))
 
 pub returns-clause-below : goal.returns-clause-below
 returns-clause-below g c = c.new-2.ensures.below ∙ ap (λ d. Some (state_of (g.D.Disk.trace d) (g.D.Disk.mount_path d))) c.new.ensures.disk
