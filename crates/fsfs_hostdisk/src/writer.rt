@@ -61,7 +61,7 @@ fn unmake_lock<R: Files<File = File> + AllocGlobal + Clone + Drop>(
 }
 
 // Locks the file. One in use stays, whoever made it.
-fn try_lock<R: Files<File = File> + AllocGlobal + Drop>(
+fn try_lock<R: Files<File = File> + AllocGlobal + Clone + Drop>(
     folder: &Folder<R>,
     lock: &WriteLock,
 ) -> io::Result<()> {
@@ -76,7 +76,7 @@ fn try_lock<R: Files<File = File> + AllocGlobal + Drop>(
 }
 
 // Refuses a file without the name: its last holder removed it before it was locked, so it locks nothing.
-fn require_name<R: Files<File = File> + AllocGlobal + Drop>(
+fn require_name<R: Files<File = File> + AllocGlobal + Clone + Drop>(
     folder: &Folder<R>,
     lock: &WriteLock,
 ) -> io::Result<()> {
@@ -91,7 +91,7 @@ fn require_name<R: Files<File = File> + AllocGlobal + Drop>(
 }
 
 // The lock, taken; the file for it is made where there is none.
-fn locked<R: Files<File = File> + AllocGlobal + Drop>(folder: &Folder<R>) -> io::Result<WriteLock> {
+fn locked<R: Files<File = File> + AllocGlobal + Clone + Drop>(folder: &Folder<R>) -> io::Result<WriteLock> {
     let lock = open_lock(folder)?;
     try_lock(folder, &lock)?;
     require_name(folder, &lock)?;
@@ -99,7 +99,7 @@ fn locked<R: Files<File = File> + AllocGlobal + Drop>(folder: &Folder<R>) -> io:
 }
 
 // Where there is no repository, the folders that were made go again, as far as they are empty.
-fn unmake_folders<R: Files<File = File> + AllocGlobal + Drop>(folder: &Folder<R>, made: &[String]) {
+fn unmake_folders<R: Files<File = File> + AllocGlobal + Clone + Drop>(folder: &Folder<R>, made: &[String]) {
     if let Ok(None) = folder.size(FORMAT) {
         for name in made.iter().rev() {
             let _ = folder.unmake(name.as_str());
