@@ -83,7 +83,7 @@ pub fn publish<D: Disk>(
     to: &Name,
     first: &[u8],
     second: &[u8],
-  ) -> Result<(), PublishFault>
+) -> Result<(), PublishFault>
     requires { IsTrue (D.may_write disk.old) }
     ensures there { OnOk result (option_map files_now (D.trace disk.new) ≡ option_map (λ t. insert (files_now t) to.now (first.now ++ second.now)) (D.trace disk.old)) }
     // Every image from then on has it.

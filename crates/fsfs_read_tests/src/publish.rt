@@ -91,13 +91,14 @@ fn a_file_is_published_in_a_real_folder(rt: HostRuntime) -> Result<(), Fail> {
     let mut machine = Machine::new(rt);
     let to = Name::new("db/revs/0/1");
     let mut disk = machine.mount(path, true)?;
+    disk.make_folder(&Name::new("db/revs/0"))?;
     disk.put(&Name::new("db/format"), b"4\n")?;
     let file = Name::new("rev");
     let done = publish(&mut disk, &Label::Pack(3), &file, &to, b"PLAIN\n", b"ENDREP\n");
     assert!(rt; done.is_ok());
     let mut bytes = [0; 16];
     assert_eq!(rt; disk.read(&to, 0, &mut bytes)?, Some(13));
-    assert_eq!(rt; &bytes[..13], b"PLAIN\nENDREP\n");
+    assert_eq!(rt; &bytes[..13], b"PLAIN\nENDREP\n".as_slice());
     machine.unmount(disk);
     fs::remove_dir_all(&rt, path)?;
     Ok(())
