@@ -1,5 +1,5 @@
 -- The root of revision 0 has one text, and so has the trailer behind it.
-use Rattle.std.proofs.Common.{◌≡◌, ◌≤◌, ◌+◌, ℕ, List, [], ◌∷◌, ◌++◌, Some, None, Option, map, refl, sym, ap, subst, ◌∙◌, arith}
+use Rattle.std.proofs.Common.{◌≡◌, ◌≤◌, ℕ, List, [], ◌∷◌, ◌++◌, Some, Option, map, refl, sym, ap, subst, ◌∙◌, arith}
 use Rattle.std.specs.Prelude.{codes, is_some, unwrap_or}
 use Rattle.std.specs.List.{flat_map}
 use Rattle.hex.specs.Hex.{encode_lower, decode_pairs}
@@ -10,8 +10,8 @@ use Rattle.fsfs_grammar.proofs.Unique.{numeral_same}
 use Rattle.fsfs_base.specs.declared.kind.Kind.{Kind}
 use Rattle.fsfs_base.specs.declared.kind.Kind.TheVariants.{Dir}
 use Rattle.fsfs_base.specs.Paths.{Path}
-use Rattle.fsfs_noderev.specs.Ids.{IdValue, IsId, id_value}
-use Rattle.fsfs_noderev.specs.Reps.{IsRep, digest_at, rep_value}
+use Rattle.fsfs_noderev.specs.Ids.{IsId, id_value}
+use Rattle.fsfs_noderev.specs.Reps.{IsRep, digest_at}
 use Rattle.fsfs_noderev.specs.Lines.{line}
 use Rattle.fsfs_noderev.proofs.RepTexts.{digest_spells}
 use Rattle.fsfs_noderev.specs.Fields.{IsIdText, IsKindText, AreContentsText, IsPathText, nothing}
@@ -118,12 +118,16 @@ values lines e =
     let d = begun c.rest _ _ c.keys_are in
     let f = begun d.rest _ _ d.keys_are in
     record {
-      id = a.value; kind = b.value; count = c.value; text = d.value; path = f.value;
+      id = a.value;
+      kind = b.value;
+      count = c.value;
+      text = d.value;
+      path = f.value;
       parts = a.parts ∙ ap (λ (ls : List (List ℕ × List ℕ)). (codes "id", a.value) ∷ ls)
-        (b.parts ∙ ap (λ (ls : List (List ℕ × List ℕ)). (codes "type", b.value) ∷ ls)
-        (c.parts ∙ ap (λ (ls : List (List ℕ × List ℕ)). (codes "count", c.value) ∷ ls)
-        (d.parts ∙ ap (λ (ls : List (List ℕ × List ℕ)). (codes "text", d.value) ∷ ls)
-        (f.parts ∙ ap (λ (ls : List (List ℕ × List ℕ)). (codes "cpath", f.value) ∷ ls) (no_more f.rest f.keys_are)))));
+          (b.parts ∙ ap (λ (ls : List (List ℕ × List ℕ)). (codes "type", b.value) ∷ ls)
+          (c.parts ∙ ap (λ (ls : List (List ℕ × List ℕ)). (codes "count", c.value) ∷ ls)
+          (d.parts ∙ ap (λ (ls : List (List ℕ × List ℕ)). (codes "text", d.value) ∷ ls)
+          (f.parts ∙ ap (λ (ls : List (List ℕ × List ℕ)). (codes "cpath", f.value) ∷ ls) (no_more f.rest f.keys_are)))));
     }
 
 -- what the five lines say
@@ -151,11 +155,21 @@ said a b c d e fields (_, s1, (_, id, id_is, e1), (_, s2, (_, kind, kind_is, e2)
     let f3 : s3 ≡ record s2 { count = Some count } = e3 in
     let f2 : s2 ≡ record s1 { kind = Some kind } = e2 in
     record {
-      id = id; id_is = id_is; id_there = ap (λ (s : Fields). s.id) f5 ∙ ap (λ (s : Fields). s.id) f4 ∙ ap (λ (s : Fields). s.id) f3 ∙ ap (λ (s : Fields). s.id) f2 ∙ ap (λ (s : Fields). s.id) e1;
-      kind = kind; kind_is = kind_is; kind_there = ap (λ (s : Fields). s.kind) f5 ∙ ap (λ (s : Fields). s.kind) f4 ∙ ap (λ (s : Fields). s.kind) f3 ∙ ap (λ (s : Fields). s.kind) f2;
-      count = count; count_is = count_is; count_there = ap (λ (s : Fields). s.count) f5 ∙ ap (λ (s : Fields). s.count) f4 ∙ ap (λ (s : Fields). s.count) f3;
-      text = text; text_is = text_is; text_there = ap (λ (s : Fields). s.text) f5 ∙ ap (λ (s : Fields). s.text) f4;
-      path = path; path_is = path_is; path_there = ap (λ (s : Fields). s.created_path) f5;
+      id = id;
+      id_is = id_is;
+      id_there = ap (λ (s : Fields). s.id) f5 ∙ ap (λ (s : Fields). s.id) f4 ∙ ap (λ (s : Fields). s.id) f3 ∙ ap (λ (s : Fields). s.id) f2 ∙ ap (λ (s : Fields). s.id) e1;
+      kind = kind;
+      kind_is = kind_is;
+      kind_there = ap (λ (s : Fields). s.kind) f5 ∙ ap (λ (s : Fields). s.kind) f4 ∙ ap (λ (s : Fields). s.kind) f3 ∙ ap (λ (s : Fields). s.kind) f2;
+      count = count;
+      count_is = count_is;
+      count_there = ap (λ (s : Fields). s.count) f5 ∙ ap (λ (s : Fields). s.count) f4 ∙ ap (λ (s : Fields). s.count) f3;
+      text = text;
+      text_is = text_is;
+      text_there = ap (λ (s : Fields). s.text) f5 ∙ ap (λ (s : Fields). s.text) f4;
+      path = path;
+      path_is = path_is;
+      path_there = ap (λ (s : Fields). s.created_path) f5;
     }
 
 -- ---- the text of the root
