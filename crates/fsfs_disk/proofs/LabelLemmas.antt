@@ -61,11 +61,11 @@ same_label-same HotCopy (Txn b n) is = cc
 same_label-same HotCopy (Pack b) is = cc
 same_label-same HotCopy HotCopy is = refl
 
-same_either : (b h : Bool) → (not b && h) ≡ (not b && (b || h))
+pub same_either : (b h : Bool) → (not b && h) ≡ (not b && (b || h))
 same_either true h = refl
 same_either false h = refl
 
-other_either : (a b h : Bool) → (a ≡ true → b ≡ false) → (a || (not b && h)) ≡ (not b && (a || h))
+pub other_either : (a b h : Bool) → (a ≡ true → b ≡ false) → (a || (not b && h)) ≡ (not b && (a || h))
 other_either true b h apart = sym (ap (λ x. not x && true) (apart refl))
 other_either false b h apart = refl
 

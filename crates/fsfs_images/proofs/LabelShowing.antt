@@ -4,17 +4,9 @@ use Rattle.std.proofs.lemmas.Bool.{eqb-true}
 use Rattle.std.specs.Prelude.{◌==◌, ◌&&◌, ◌||◌, not}
 use Rattle.fsfs_disk.specs.Labels.{Label, same_label, AreLeft}
 use Rattle.fsfs_disk.specs.Labels as held
-use Rattle.fsfs_disk.proofs.LabelLemmas.{has-with_label, has-without_label}
+use Rattle.fsfs_disk.proofs.LabelLemmas.{same_either, other_either, has-with_label, has-without_label}
 use Rattle.fsfs_machine.specs.Machine.{has_label, without, labels_left, label_where}
 use Rattle.fsfs_images.specs.Shown.{AreLabelNames, ShowsLabels, LabelsAreShown}
-
-same_either : (b h : Bool) → (not b && h) ≡ (not b && (b || h))
-same_either true h = refl
-same_either false h = refl
-
-other_either : (a b h : Bool) → (a ≡ true → b ≡ false) → (a || (not b && h)) ≡ (not b && (a || h))
-other_either true b h apart = sym (ap (λ x. not x && true) (apart refl))
-other_either false b h apart = refl
 
 false_from : (b : Bool) → (b ≡ true → ⊥) → b ≡ false
 false_from true no_way = absurd (no_way refl)
