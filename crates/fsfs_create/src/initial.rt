@@ -3,6 +3,7 @@ ghost use Rattle.std.specs.Prelude.{◌≡◌, ◌<◌, ◌++◌, ◌∷◌, [],
 ghost use Rattle.fsfs_create.specs.NewFiles.{named};
 ghost use Rattle.fsfs_layout.specs.CreatedFiles.{unpublished_files, date_properties, identifier_text as text_of_identifier};
 
+use crate::first_revision::write_first_revision;
 use fsfs_base::{B36, Name, Pairs};
 use fsfs_hash::write_hash;
 use fsfs_layout::{
@@ -66,7 +67,7 @@ pub fn created_files(
     let current = write_current(alloc, 0)?;
     let txn_current = write_txn_current(alloc, &B36 { number: 0 })?;
     let floor = write_min_unpacked_rev(alloc, layout, 0)?;
-    let revision = Vec::from_slice(alloc, REVISION_ZERO)?;
+    let revision = write_first_revision(alloc)?;
     let props = properties(alloc, date)?;
     let mut files = Vec::new(alloc);
     add(&mut files, names::repository_format(), version)?;
@@ -81,6 +82,3 @@ pub fn created_files(
     add(&mut files, names::props(layout, 0), props)?;
     Ok(files)
 }
-
-const REVISION_ZERO: &[u8] =
-    b"PLAIN\nEND\nENDREP\nid: 0.0.r0/17\ntype: dir\ncount: 0\ntext: 0 0 4 4 2d2977d1c96f487abe4a1e202dd03b4e\ncpath: /\n\n\n17 107\n";
