@@ -4,7 +4,6 @@ use Rattle.std.specs.Prelude.{Ok, Option, Some, None, is_some}
 use Rattle.fsfs_base.specs.Paths.{PathName, Path}
 use Rattle.fsfs_tree.specs.Nodes.{TreeFunction}
 use Rattle.fsfs_base.specs.declared.kind.Kind.TheVariants.{Dir}
-use Rattle.fsfs_base.proofs.PathLemmas.{cases}
 use Rattle.fsfs_fields.specs.declared.txn_name.TxnName.{TxnName}
 use Rattle.fsfs_book.specs.Told.{RevisionBytes}
 use Rattle.fsfs_noderev.specs.declared.node_rev.NodeRev.{NodeRev}
@@ -20,6 +19,7 @@ use Rattle.fsfs_drafts.specs.Tied.{IsListed, IsTied, HasAll, TiedAreMet}
 use Rattle.fsfs_drafts.proofs.HangLaw as hanging
 use Rattle.fsfs_drafts.proofs.HangLaw.{some_same, both_ends}
 use Rattle.fsfs_drafts.proofs.Placing as placing
+use Rattle.std.proofs.lemmas.Bool.{cases_Bool}
 
 is_listed : (e : DirEntry) (o : Option NodeRev) → IsListed (Some e) o → (u : NodeRev) × (o ≡ Some u)
 is_listed e None l = absurd l
@@ -71,7 +71,7 @@ module _ (look : RevisionBytes) (top base : ℕ) (trees : ℕ → TreeFunction) 
     child_same p name d is none = by (here (p ++ name ∷ [])) refl (met (p ++ name ∷ [])) refl
       where
         plain : (v : NodeRev) → met (p ++ name ∷ []) ≡ Some v → in_txn v.id.place ≡ false
-        plain v e = elim (cases (in_txn v.id.place)) [
+        plain v e = elim (cases_Bool (in_txn v.id.place)) [
           | inl mine ↦ (let w = tied.all (p ++ name ∷ []) v e mine in let g = sym none ∙ w.1 in absurd cc)
           | inr last ↦ last
         ]
@@ -149,7 +149,7 @@ module _ (look : RevisionBytes) (top base : ℕ) (trees : ℕ → TreeFunction) 
 
         by : (o : Option NodeRev) → here p ≡ o → Same (p ++ name ∷ [])
         by None e = none_same p name e (sym same ∙ e)
-        by (Some v) e = elim (cases (in_txn v.id.place)) [
+        by (Some v) e = elim (cases_Bool (in_txn v.id.place)) [
           | inl m ↦ mine v e m
           | inr plain ↦ lasting_same p name v e (sym same ∙ e) plain
         ]

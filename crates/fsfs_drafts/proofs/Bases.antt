@@ -1,14 +1,14 @@
 -- The trees of revisions, and the node-revisions that stand in them.
 use Rattle.std.proofs.Common.{◌≡◌, ◌≤◌, ℕ, suc, true, false, List, [], ◌∷◌, ◌++◌, refl, sym, ap, subst, ◌∙◌, inl, inr, append_assoc, arith}
 use Rattle.std.specs.Prelude.{Ok, Err, Option, Some, None, is_some, IsSomeAnd, ◌⊎◌, ◌==◌}
-use Rattle.std.proofs.lemmas.Bool.{and_parts}
+use Rattle.std.proofs.lemmas.Bool.{and_parts, and_from, cases_Bool}
 use Rattle.std.proofs.lemmas.Bool.Decides.{nat_tests}
 use Rattle.fsfs_base.specs.Paths.{PathName, Path, covers}
 use Rattle.fsfs_tree.specs.Nodes.{Node, TreeFunction}
 use Rattle.fsfs_flat.specs.Edits.{copied_node}
 use Rattle.fsfs_base.specs.declared.kind.Kind.{Kind}
 use Rattle.fsfs_base.specs.declared.kind.Kind.TheVariants.{File, Dir}
-use Rattle.fsfs_base.proofs.PathLemmas.{same_name-refl, both_true, cases, covers-antisym}
+use Rattle.fsfs_base.proofs.PathLemmas.{same_name-refl, covers-antisym}
 use Rattle.fsfs_book.specs.Told.{RevisionBytes}
 use Rattle.fsfs_noderev.specs.declared.node_id.Place.{Place}
 use Rattle.fsfs_noderev.specs.declared.node_id.Place.TheVariants as places
@@ -181,18 +181,18 @@ module _ (look : RevisionBytes) (rev : ℕ) (tree : TreeFunction) (shows : Shows
     where
       by : (o : Option Node) → tree b ≡ o → tree b ≡ None
       by None is = is
-      by (Some n) is = absurd (at (cases (covers b a)))
+      by (Some n) is = absurd (at (cases_Bool (covers b a)))
         where
           there : is_some (tree b) ≡ true
           there = ap (λ (o : Option Node). is_some o) is
 
           at : (covers b a ≡ true) ⊎ (covers b a ≡ false) → ⊥
           at (inl back) = let same = ap tree (covers-antisym a b above back) in let e = sym is ∙ sym same ∙ none in absurd cc
-          at (inr differs) = let d = (sound look rev tree shows).is_tree.above a b (both_true _ _ above (rw differs refl)) there in let e = sym none ∙ d.1 in absurd cc
+          at (inr differs) = let d = (sound look rev tree shows).is_tree.above a b (and_from _ _ above (rw differs refl)) there in let e = sym none ∙ d.1 in absurd cc
 
   longer : (q : Path) (name : PathName) (rest : Path) → covers (q ++ name ∷ []) (q ++ name ∷ rest) ≡ true
-  longer [] name rest = both_true _ _ (same_name-refl name) refl
-  longer (x ∷ q) name rest = both_true _ _ (same_name-refl x) (longer q name rest)
+  longer [] name rest = and_from _ _ (same_name-refl name) refl
+  longer (x ∷ q) name rest = and_from _ _ (same_name-refl x) (longer q name rest)
 
   entry_lacks : (q : Path) (u : NodeRev) (entries : List DirEntry) (name : PathName) (rest : Path) → StandsAt look rev q u → u.kind ≡ Dir → EntriesOf look u (Ok entries) → named name entries ≡ None → tree (q ++ name ∷ rest) ≡ None
   entry_lacks q u entries name rest at dir of is =

@@ -7,7 +7,6 @@ use Rattle.fsfs_tree.specs.Nodes.{Node, TreeFunction, Content, Bytes}
 use Rattle.fsfs_base.specs.declared.kind.Kind.{Kind}
 use Rattle.fsfs_base.specs.declared.kind.Kind.TheVariants.{File, Dir}
 use Rattle.fsfs_flat.specs.Marks.{effects}
-use Rattle.fsfs_base.proofs.PathLemmas.{both_true}
 use Rattle.fsfs_fields.specs.declared.txn_name.TxnName.{TxnName}
 use Rattle.fsfs_book.specs.Told.{RevisionBytes}
 use Rattle.fsfs_noderev.specs.Ids.{part_value}
@@ -28,6 +27,7 @@ use Rattle.fsfs_drafts.proofs.Bases.{revision_agrees}
 use Rattle.fsfs_drafts.proofs.RuleLemmas.{alone_rules}
 use Rattle.fsfs_drafts.proofs.HangLaw.{some_same}
 use Rattle.fsfs_drafts.proofs.SideLaw.{none_held}
+use Rattle.std.proofs.lemmas.Bool.{and_from}
 
 -- of one own node-revision
 one_of : (v : OwnNode) (P : Path → OwnNode → Type 0) → P [] v → (p : Path) (a : OwnNode) → alone v p ≡ Some a → P p a
@@ -45,7 +45,7 @@ module _ (look : RevisionBytes) (top base : ℕ) (trees : ℕ → TreeFunction) 
   copied from e = let g = sym e ∙ is.no_copy in absurd cc
 
   goes : goes_on_here (Some v) ≡ true
-  goes = both_true _ _ (ap (λ (c : Option CopySource). not (is_some c)) is.no_copy) has_pred
+  goes = and_from _ _ (ap (λ (c : Option CopySource). not (is_some c)) is.no_copy) has_pred
 
   content : HasContent look f.proto v
   content =
@@ -99,7 +99,7 @@ module _ (look : RevisionBytes) (top base : ℕ) (trees : ℕ → TreeFunction) 
 
   holds : (p : Path) → held (alone v) p ≡ true
   holds [] = goes
-  holds (y ∷ p) = both_true _ _ goes (both_true _ _ (ap (λ (o : Option (List DirEntry)). Rattle.fsfs_drafts.specs.Own.has_entry o y) is.entries) (none_held look top (below y (alone v)) (λ q. refl) p))
+  holds (y ∷ p) = and_from _ _ goes (and_from _ _ (ap (λ (o : Option (List DirEntry)). Rattle.fsfs_drafts.specs.Own.has_entry o y) is.entries) (none_held look top (below y (alone v)) (λ q. refl) p))
 
   marks : AreMarksOf (trees base) [] (alone v)
   marks = record {

@@ -7,7 +7,7 @@ use Rattle.fsfs_tree.specs.Nodes.{Node, TreeFunction}
 use Rattle.fsfs_flat.specs.Edits.{copied_node}
 use Rattle.fsfs_flat.specs.declared.mark.Mark.{Mark}
 use Rattle.fsfs_flat.specs.Marks.{effects}
-use Rattle.fsfs_base.proofs.PathLemmas.{both_true, cases, covers-refl, covers-trans, covers-antisym, same_name-refl}
+use Rattle.fsfs_base.proofs.PathLemmas.{covers-refl, covers-trans, covers-antisym, same_name-refl}
 use Rattle.fsfs_fields.specs.declared.txn_name.TxnName.{TxnName}
 use Rattle.fsfs_book.specs.Told.{RevisionBytes}
 use Rattle.fsfs_noderev.specs.declared.node_id.NodeId.{NodeId}
@@ -36,6 +36,7 @@ use Rattle.fsfs_drafts.proofs.HangLaw as hanging
 use Rattle.fsfs_drafts.proofs.Lasting.{lasting}
 use Rattle.fsfs_drafts.proofs.SideLaw.{HeldAt, held_at, held_under, none_held}
 use Rattle.fsfs_drafts.proofs.MarkLaw.{covers_front}
+use Rattle.std.proofs.lemmas.Bool.{and_from, cases_Bool}
 
 -- ---- plain facts
 
@@ -48,7 +49,7 @@ drop_front (x ∷ r) q = drop_front r q
 
 longer : (p q : Path) → covers p (p ++ q) ≡ true
 longer [] q = refl
-longer (y ∷ p) q = both_true _ _ (same_name-refl y) (longer p q)
+longer (y ∷ p) q = and_from _ _ (same_name-refl y) (longer p q)
 
 pub shared_last : (trees : ℕ → TreeFunction) (p : Path) (name : PathName) (own : Own) (S : TreeFunction) (q : Path) → shared_at trees (p ++ name ∷ []) own S q ≡ shared_under trees (own p) (shared_at trees p own S) (name ∷ q)
 shared_last trees [] name own S q = refl
@@ -177,7 +178,7 @@ module _ (look : RevisionBytes) (top base : ℕ) (trees : ℕ → TreeFunction) 
   came_root = by (hanging.comes look top base trees nodes shown are le txn f own draft [] draft.root draft.root_is)
     where
       by : ComesBy look top (StandsAt look base) at_top draft.root → Came []
-      by (Change u at no_copy on keeps root part) = Held (ap goes_on_here draft.root_is ∙ both_true _ _ (ap (λ (c : Option CopySource). not (is_some c)) no_copy) (ap (λ (o : Option NodeId). is_some o) on.predecessor))
+      by (Change u at no_copy on keeps root part) = Held (ap goes_on_here draft.root_is ∙ and_from _ _ (ap (λ (c : Option CopySource). not (is_some c)) no_copy) (ap (λ (o : Option NodeId). is_some o) on.predecessor))
       by (Copied u from is low at on keeps root part) = let z = sym is ∙ draft.root_id.2 in absurd cc
       by (Made no_copy no_pred count root part new) = New draft.root draft.root_is no_pred no_copy
 
@@ -187,7 +188,7 @@ module _ (look : RevisionBytes) (top base : ℕ) (trees : ℕ → TreeFunction) 
       let old : under p own [] ≡ own p = under_is p own [] ∙ ap own (append-nil p) in
       let going : goes_on_here (under p own []) ≡ true = sym (held_under look top p own [] h) ∙ ap (held own) (append-nil p) ∙ h in
       held_under look top p own (name ∷ []) h
-      ∙ both_true _ _ going (both_true _ _ (ap (λ (o : Option OwnNode). has_here o name) old ∙ has) (ap goes_on_here (under_is p own (name ∷ [])) ∙ goes))
+      ∙ and_from _ _ going (and_from _ _ (ap (λ (o : Option OwnNode). has_here o name) old ∙ has) (ap goes_on_here (under_is p own (name ∷ [])) ∙ goes))
 
   nothing_below : (c : Option CopySource) (o : Option NodeId) (S : Path → NodeRev → Type 0) (q : Path) (u : NodeRev) → c ≡ None → o ≡ None → stands_from look c o S q u → ⊥
   nothing_below None None S q u e g h = h
@@ -235,7 +236,7 @@ module _ (look : RevisionBytes) (top base : ℕ) (trees : ℕ → TreeFunction) 
       by d here (Change u at no_copy on keeps root part) (Held h) =
           Held (held_more p name h (ap (λ (o : Option OwnNode). has_here o name) here ∙ Rattle.fsfs_drafts.proofs.Here.entry_has (λ name u. Below p d (name ∷ []) u) d.entries (λ name. Rattle.fsfs_drafts.specs.Rules.head_at (own (p ++ name ∷ []))) name
           (placing.entries look top base trees nodes shown are le txn f own draft p d here) (Rattle.fsfs_drafts.proofs.Here.head_some (own (p ++ name ∷ [])) (ap (λ (o : Option OwnNode). is_some o) is)))
-          (ap goes_on_here is ∙ both_true _ _ (ap (λ (c : Option CopySource). not (is_some c)) no_copy) (ap (λ (o : Option NodeId). is_some o) on.predecessor)))
+          (ap goes_on_here is ∙ and_from _ _ (ap (λ (c : Option CopySource). not (is_some c)) no_copy) (ap (λ (o : Option NodeId). is_some o) on.predecessor)))
       by d here (Change u at no_copy on keeps root part) (ByCopy k) = ByCopy (record {
         r = k.r;
         c = k.c;
@@ -336,7 +337,7 @@ module _ (look : RevisionBytes) (top base : ℕ) (trees : ℕ → TreeFunction) 
       child None none d here c = step_shared p name d u here none e c
 
       by : (dir : NodeRev) → met p ≡ Some dir → Came p → Came (p ++ name ∷ [])
-      by dir g c = elim (cases (in_txn dir.id.place)) [
+      by dir g c = elim (cases_Bool (in_txn dir.id.place)) [
         | inl mine ↦ (let d = hanging.mine_at look top base trees nodes shown are le txn f own draft p dir g mine in child (own (p ++ name ∷ [])) refl d.0 d.1 c)
         | inr plain ↦ step_lasts p name dir u g plain e c
       ]

@@ -3,8 +3,9 @@ use Rattle.std.proofs.Common.{◌≡◌, ℕ, Bool, true, false, ◌&&◌, cond,
 use Rattle.std.specs.Prelude.{Option, Some, None}
 use Rattle.fsfs_base.specs.Paths.{PathName, Path, same_name, covers}
 use Rattle.fsfs_tree.specs.Nodes.{Node, TreeFunction}
-use Rattle.fsfs_base.proofs.PathLemmas.{same_name-is, first_true, second_true}
+use Rattle.fsfs_base.proofs.PathLemmas.{same_name-is}
 use Rattle.fsfs_drafts.specs.Own.{OwnNode, Own, below, shared_under, has_entry, in_own, draft_tree, graft, under, alone, nothing, lives_in, lives, shared_at, behind}
+use Rattle.std.proofs.lemmas.Bool.{and_parts}
 
 -- where nothing is the transaction's, what is shared stands
 pub nothing_tree : (trees : ℕ → TreeFunction) (shared : TreeFunction) (q : Path) → draft_tree trees nothing shared q ≡ shared q
@@ -17,11 +18,11 @@ alone_tree trees v shared x q none = rw none (nothing_tree trees (below x (share
 
 pub inner_lives : (o : Option OwnNode) (x : PathName) (inner : Bool) → lives_in o x inner ≡ true → inner ≡ true
 inner_lives None x inner h = absurd cc
-inner_lives (Some v) x inner h = second_true _ _ h
+inner_lives (Some v) x inner h = (and_parts _ _ h).1
 
 in_live : (o : Option OwnNode) (x : PathName) (inner : Bool) (s a b : Option Node) (c : Bool) → lives_in o x inner ≡ true → in_own o x s (cond c a b) ≡ cond c a (in_own o x s b)
 in_live None x inner s a b c h = absurd cc
-in_live (Some v) x inner s a b c h = rw (first_true (has_entry v.entries x) inner h) refl
+in_live (Some v) x inner s a b c h = rw (and_parts (has_entry v.entries x) inner h).0 refl
 
 module _ (trees : ℕ → TreeFunction) where
   -- what is shown below the path is what the replacement shows there, and all else is as before

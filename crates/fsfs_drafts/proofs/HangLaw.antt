@@ -6,7 +6,6 @@ use Rattle.fsfs_base.specs.Paths.{PathName, Path}
 use Rattle.fsfs_tree.specs.Nodes.{TreeFunction}
 use Rattle.fsfs_base.specs.declared.kind.Kind.{Kind}
 use Rattle.fsfs_base.specs.declared.kind.Kind.TheVariants.{File, Dir}
-use Rattle.fsfs_base.proofs.PathLemmas.{cases}
 use Rattle.fsfs_fields.specs.declared.txn_name.TxnName.{TxnName}
 use Rattle.fsfs_book.specs.Told.{RevisionBytes}
 use Rattle.fsfs_noderev.specs.Ids.{Old, part_value, id_value}
@@ -39,6 +38,7 @@ use Rattle.fsfs_drafts.proofs.Lasting.{lasting_id}
 use Rattle.fsfs_drafts.proofs.Placing.{Place, Mine, Shared, place, got}
 use Rattle.fsfs_drafts.proofs.Placing as placing
 use Rattle.fsfs_drafts.proofs.Hanging.{Hangs}
+use Rattle.std.proofs.lemmas.Bool.{cases_Bool}
 
 -- ---- parts
 
@@ -268,7 +268,7 @@ module _ (look : RevisionBytes) (top base : ℕ) (trees : ℕ → TreeFunction) 
     part_from p name d w u here there no_copy (Directory e) = nodewise.Directory (part_same w.node.id w.node.id.copy d.node.id.copy e)
     part_from p name d w u here there no_copy (Same e) = nodewise.Here (part_same w.node.id w.node.id.copy u.id.copy e)
     part_from p name d w u here there no_copy (Before z behind e) = nodewise.Before z behind (part_same w.node.id w.node.id.copy z.id.copy e)
-    part_from p name d w u here there no_copy (Drawn new) = elim (cases (same_value (part_value w.node.id.copy) (part_value d.node.id.copy))) [
+    part_from p name d w u here there no_copy (Drawn new) = elim (cases_Bool (same_value (part_value w.node.id.copy) (part_value d.node.id.copy))) [
       | inl same ↦ nodewise.Directory (part_same w.node.id w.node.id.copy d.node.id.copy (same_value-is (part_value w.node.id.copy) (part_value d.node.id.copy) same))
       | inr differs ↦ nodewise.Drawn (new_part w.node.id.copy new) (λ q c from e mine copy twice.
           let m = mine_at q c e mine in

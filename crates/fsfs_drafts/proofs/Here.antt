@@ -4,7 +4,6 @@ use Rattle.std.specs.Prelude.{Option, Some, None, Ok, is_some}
 use Rattle.fsfs_base.specs.Paths.{PathName, Path}
 use Rattle.fsfs_tree.specs.Nodes.{TreeFunction}
 use Rattle.fsfs_base.specs.declared.kind.Kind.TheVariants.{Dir}
-use Rattle.fsfs_base.proofs.PathLemmas.{both_true}
 use Rattle.fsfs_fields.specs.declared.txn_name.TxnName.{TxnName}
 use Rattle.fsfs_book.specs.Told.{RevisionBytes}
 use Rattle.fsfs_noderev.specs.declared.node_id.NodeId.{NodeId}
@@ -20,6 +19,7 @@ use Rattle.fsfs_drafts.specs.Agreeing.{Agrees}
 use Rattle.fsfs_drafts.specs.Steps.{EntriesHere, Listed, Read, Empty}
 use Rattle.fsfs_drafts.proofs.Grafts.{nothing_tree}
 use Rattle.fsfs_drafts.proofs.Bases.{revision_agrees, under_agrees, agrees_at}
+use Rattle.std.proofs.lemmas.Bool.{and_from}
 
 -- ---- what is below an own node-revision
 
@@ -71,7 +71,7 @@ module _ (look : RevisionBytes) (top : ℕ) where
       by None is further = let none = none_own (x ∷ p) own above S rules is in let e = sym none ∙ here in absurd cc
       by (Some v) is further =
           let rule = subst (λ (o : Option OwnNode). NodeRule look top o (λ name. head_at (own (name ∷ []))) above S) is (rules []) in
-          both_true _ _ (entry_has (λ name u. stands_under look (Some v) S (name ∷ []) u) v.entries (λ name. head_at (own (name ∷ []))) x rule.1 (head_some (own (x ∷ [])) (first_lives p (below x own) further))) further
+          and_from _ _ (entry_has (λ name u. stands_under look (Some v) S (name ∷ []) u) v.entries (λ name. head_at (own (name ∷ []))) x rule.1 (head_some (own (x ∷ [])) (first_lives p (below x own) further))) further
 
   pub rules_under : (p : Path) (own : Own) (above : Above) (S : Path → NodeRev → Type 0) → Rules look top own above S → Rules look top (under p own) (above_at p own above) (stands_at look p own S)
   rules_under [] own above S rules = rules

@@ -5,7 +5,7 @@ use mathlib.Core.Bool.{false≢true}
 use Rattle.fsfs_base.specs.Paths.{PathName, Path, same_name, covers}
 use Rattle.fsfs_tree.specs.Nodes.{TreeFunction}
 use Rattle.fsfs_base.specs.declared.kind.Kind.TheVariants.{Dir}
-use Rattle.fsfs_base.proofs.PathLemmas.{both_true, first_true, second_true, same_name-is, same_name-refl, cases}
+use Rattle.fsfs_base.proofs.PathLemmas.{same_name-is, same_name-refl}
 use Rattle.fsfs_fields.specs.declared.txn_name.TxnName.{TxnName}
 use Rattle.fsfs_book.specs.Told.{RevisionBytes}
 use Rattle.fsfs_noderev.specs.declared.node_id.NodeId.{NodeId}
@@ -19,6 +19,7 @@ use Rattle.fsfs_drafts.proofs.Laying.{laid_own, IsLaying, WhichOf, TheDirectory,
 use Rattle.fsfs_drafts.proofs.Laying as laying_of
 use Rattle.fsfs_drafts.proofs.HangLaw.{some_same}
 use Rattle.fsfs_drafts.proofs.DrawLaw.{shared_last}
+use Rattle.std.proofs.lemmas.Bool.{and_from, and_parts, cases_Bool}
 
 -- what a step draws is no other's
 pub record IsDrawnFor (own : Own) (d v : OwnNode) : Type 0 where
@@ -58,7 +59,7 @@ graft_here (x ∷ p) new own r = ap (λ (b : Bool). cond b (graft p new (below x
 behind_covers : (p r : Path) → covers p r ≡ true → (s : Path) × (r ≡ p ++ s)
 behind_covers [] r c = (r, refl)
 behind_covers (x ∷ p) [] c = absurd (false≢true c)
-behind_covers (x ∷ p) (y ∷ r) c = let w = behind_covers p r (second_true _ _ c) in (w.0, λ i. sym (same_name-is x y (first_true _ _ c)) i ∷ w.1 i)
+behind_covers (x ∷ p) (y ∷ r) c = let w = behind_covers p r (and_parts _ _ c).1 in (w.0, λ i. sym (same_name-is x y (and_parts _ _ c).0) i ∷ w.1 i)
 
 -- but at and below the name, each goes on from what it went on from
 links_stay : (p : Path) (x : PathName) (d new : OwnNode) (child own : Own) (r : Path) → own p ≡ Some d → links (Some new) ≡ links (Some d) → covers (p ++ x ∷ []) r ≡ false → links (graft p (with_child new x child (under p own)) own r) ≡ links (own r)
@@ -66,7 +67,7 @@ links_stay [] x d new child own [] here same c = same ∙ ap links (sym here)
 links_stay [] x d new child own (y ∷ r) here same c = by (same_name x y) refl
   where
     by : (b : Bool) → same_name x y ≡ b → links (cond b (child r) (own (y ∷ r))) ≡ links (own (y ∷ r))
-    by true e = absurd (false≢true (sym c ∙ both_true _ _ e refl))
+    by true e = absurd (false≢true (sym c ∙ and_from _ _ e refl))
     by false e = refl
 links_stay (z ∷ p) x d new child own [] here same c = refl
 links_stay (z ∷ p) x d new child own (y ∷ r) here same c = by (same_name z y) refl (λ low. links_stay p x d new child (below z own) r here same low)
@@ -80,7 +81,7 @@ links_stay (z ∷ p) x d new child own (y ∷ r) here same c = by (same_name z y
       where
         low : (b : Bool) → covers (p ++ x ∷ []) r ≡ b → covers (p ++ x ∷ []) r ≡ false
         low false g = g
-        low true g = absurd (false≢true (sym c ∙ both_true _ _ e g))
+        low true g = absurd (false≢true (sym c ∙ and_from _ _ e g))
 
 last_same : (p q : Path) (x y : PathName) → p ++ x ∷ [] ≡ q ++ y ∷ [] → p ≡ q
 last_same [] [] x y e = refl
@@ -196,7 +197,7 @@ module _ (look : RevisionBytes) (top base : ℕ) (trees : ℕ → TreeFunction) 
   shared_same q a e S s = same_shared trees q now own S same s
     where
       same : (r t : Path) → q ≡ r ++ t → (t ≡ [] → ⊥) → links (now r) ≡ links (own r)
-      same r t is n = elim (cases (covers (p ++ x ∷ []) r)) [
+      same r t is n = elim (cases_Bool (covers (p ++ x ∷ []) r)) [
         | inr off ↦ links_stay p x d (opened d new) (laid_own laid) own r here refl off
         | inl on ↦ (let w = behind_covers (p ++ x ∷ []) r on in
             let there : q ≡ (p ++ x ∷ []) ++ (w.0 ++ t) = is ∙ ap (λ (z : Path). z ++ t) w.1 ∙ append_assoc (p ++ x ∷ []) w.0 t in

@@ -6,7 +6,7 @@ use Rattle.fsfs_base.specs.Paths.{PathName, Path, covers, is_above}
 use Rattle.fsfs_tree.specs.Nodes.{Node, TreeFunction}
 use Rattle.fsfs_flat.specs.declared.mark.Mark.{Mark}
 use Rattle.fsfs_flat.specs.Marks.{effects}
-use Rattle.fsfs_base.proofs.PathLemmas.{both_true, first_true, second_true, same_name-is, cases, covers-refl}
+use Rattle.fsfs_base.proofs.PathLemmas.{same_name-is, covers-refl}
 use Rattle.fsfs_fields.specs.declared.txn_name.TxnName.{TxnName}
 use Rattle.fsfs_book.specs.Told.{RevisionBytes}
 use Rattle.fsfs_noderev.specs.declared.node_id.NodeId.{NodeId}
@@ -33,23 +33,24 @@ use Rattle.fsfs_drafts.proofs.Placing as placing
 use Rattle.fsfs_drafts.proofs.HangLaw.{some_same, both_ends}
 use Rattle.fsfs_drafts.proofs.HangLaw as hanging
 use Rattle.fsfs_drafts.proofs.SideLaw.{HeldAt, held_at, held_under, of_revision}
+use Rattle.std.proofs.lemmas.Bool.{and_from, and_parts, cases_Bool}
 
 pub covers_front : (q p : Path) (name : PathName) → covers q (p ++ name ∷ []) ≡ true → (covers q p ≡ true) ⊎ (q ≡ p ++ name ∷ [])
 covers_front [] p name c = inl refl
-covers_front (x ∷ q) [] name c = inr (by q (same_name-is x name (first_true _ _ c)) (second_true _ _ c))
+covers_front (x ∷ q) [] name c = inr (by q (same_name-is x name (and_parts _ _ c).0) (and_parts _ _ c).1)
   where
     by : (q : Path) → x ≡ name → covers q [] ≡ true → x ∷ q ≡ name ∷ []
     by [] e c = ap (λ (y : PathName). y ∷ []) e
     by (z ∷ q) e c = absurd (false≢true c)
-covers_front (x ∷ q) (y ∷ p) name c = elim (covers_front q p name (second_true _ _ c)) [
-  | inl w ↦ inl (both_true _ _ (first_true _ _ c) w)
-  | inr e ↦ inr (λ i. same_name-is x y (first_true _ _ c) i ∷ e i)
+covers_front (x ∷ q) (y ∷ p) name c = elim (covers_front q p name (and_parts _ _ c).1) [
+  | inl w ↦ inl (and_from _ _ (and_parts _ _ c).0 w)
+  | inr e ↦ inr (λ i. same_name-is x y (and_parts _ _ c).0 i ∷ e i)
 ]
 
 above_front : (q p : Path) (name : PathName) → is_above q (p ++ name ∷ []) ≡ true → covers q p ≡ true
-above_front q p name a = elim (covers_front q p name (first_true _ _ a)) [
+above_front q p name a = elim (covers_front q p name (and_parts _ _ a).0) [
   | inl c ↦ c
-  | inr e ↦ absurd (false≢true (own q (subst (λ (r : Path). not (covers r q) ≡ true) (sym e) (second_true (covers q (p ++ name ∷ [])) _ a))))
+  | inr e ↦ absurd (false≢true (own q (subst (λ (r : Path). not (covers r q) ≡ true) (sym e) (and_parts (covers q (p ++ name ∷ [])) _ a).1)))
 ]
   where
     own : (q : Path) → not (covers q q) ≡ true → false ≡ true
@@ -58,8 +59,8 @@ above_front q p name a = elim (covers_front q p name (first_true _ _ a)) [
 -- what is held, is held above
 pub held_front : (p q : Path) (own : Own) → held own (p ++ q) ≡ true → held own p ≡ true
 held_front [] [] own h = h
-held_front [] (y ∷ q) own h = first_true _ _ h
-held_front (x ∷ p) q own h = both_true _ _ (first_true _ _ h) (both_true _ _ (first_true _ _ (second_true _ _ h)) (held_front p q (below x own) (second_true _ _ (second_true _ _ h))))
+held_front [] (y ∷ q) own h = (and_parts _ _ h).0
+held_front (x ∷ p) q own h = and_from _ _ (and_parts _ _ h).0 (and_from _ _ (and_parts _ _ (and_parts _ _ h).1).0 (held_front p q (below x own) (and_parts _ _ (and_parts _ _ h).1).1))
 
 module _ (look : RevisionBytes) (top base : ℕ) (trees : ℕ → TreeFunction) (nodes : ℕ → NodesAt) (shown : ShowTrees look top trees) (are : AreNodes look top nodes) (le : base ≤ top)
     (txn : TxnName) (f : Folder) (own : Own) (marks : List Mark) (draft : IsDraft look top base txn f own) (files : OwnFiles own) (side : IsOwnSide (nodes base) marks (draft_nodes nodes own (nodes base))) where
@@ -98,16 +99,16 @@ module _ (look : RevisionBytes) (top base : ℕ) (trees : ℕ → TreeFunction) 
     where
       by : (o : Option OwnNode) → own p ≡ o → goes_on_here (own p) ≡ true
       by None none = ap goes_on_here none
-      by (Some v) is = elim (cases (effects marks p).touched) [
+      by (Some v) is = elim (cases_Bool (effects marks p).touched) [
         | inr un ↦ (let same = some_same (met p) v.node x (met_own p v is) (side.untouched p x e stay un) in
             absurd (both_ends (in_txn x.id.place) true (subst IsOwn same (is_mine p v is)) (lasting look base p x at).place))
         | inl t ↦ (let w = side.touched p x e stay t in
             let same = some_same (met p) w.0 v.node w.1 (met_own p v is) in
-            ap goes_on_here is ∙ both_true _ _ (ap (λ (c : Option CopySource). not (is_some c)) (ap (λ (z : NodeRev). z.copy_from) (sym same) ∙ w.2.no_copy)) (ap (λ (o : Option NodeId). is_some o) (ap (λ (z : NodeRev). z.predecessor) (sym same) ∙ w.2.predecessor)))
+            ap goes_on_here is ∙ and_from _ _ (ap (λ (c : Option CopySource). not (is_some c)) (ap (λ (z : NodeRev). z.copy_from) (sym same) ∙ w.2.no_copy)) (ap (λ (o : Option NodeId). is_some o) (ap (λ (z : NodeRev). z.predecessor) (sym same) ∙ w.2.predecessor)))
       ]
 
   met_some : (p : Path) (x : NodeRev) → nodes base p ≡ Some x → (effects marks p).deleted ≡ false → (v : NodeRev) × (met p ≡ Some v)
-  met_some p x e stay = elim (cases (effects marks p).touched) [
+  met_some p x e stay = elim (cases_Bool (effects marks p).touched) [
     | inr un ↦ (x, side.untouched p x e stay un)
     | inl t ↦ (let w = side.touched p x e stay t in (w.0, w.1))
   ]
@@ -137,9 +138,9 @@ module _ (look : RevisionBytes) (top base : ℕ) (trees : ℕ → TreeFunction) 
   says_root : Says []
   says_root some =
       let x = base_there [] some in
-      elim (cases (effects marks []).deleted) [
+      elim (cases_Bool (effects marks []).deleted) [
         | inr stay ↦ stay ∙ ap not (sym (goes [] x.0 x.1 x.2 stay))
-        | inl del ↦ elim (cases (held own [])) [
+        | inl del ↦ elim (cases_Bool (held own [])) [
           | inl h ↦ absurd (not_another [] x.0 x.1 x.2 h del (λ q a. absurd (nothing q a)))
           | inr off ↦ del ∙ ap not (sym off)
         ]
@@ -153,13 +154,13 @@ module _ (look : RevisionBytes) (top base : ℕ) (trees : ℕ → TreeFunction) 
   says_step p name say some =
       let x = base_there (p ++ name ∷ []) some in
       let up = say (above_some p name some) in
-      elim (cases (held own p)) [
+      elim (cases_Bool (held own p)) [
         | inr off ↦ (let gone = up ∙ ap not off in
             gone_down marks p (p ++ name ∷ []) (front p) gone ∙ ap not (sym (not_held off)))
-        | inl h ↦ (let stays = up ∙ ap not h in elim (cases (effects marks (p ++ name ∷ [])).deleted) [
-          | inl del ↦ elim (cases (held own (p ++ name ∷ []))) [
+        | inl h ↦ (let stays = up ∙ ap not h in elim (cases_Bool (effects marks (p ++ name ∷ [])).deleted) [
+          | inl del ↦ elim (cases_Bool (held own (p ++ name ∷ []))) [
             | inr off ↦ del ∙ ap not (sym off)
-            | inl all ↦ absurd (not_another (p ++ name ∷ []) x.0 x.1 x.2 all del (λ q a. elim (cases (effects marks q).deleted) [
+            | inl all ↦ absurd (not_another (p ++ name ∷ []) x.0 x.1 x.2 all del (λ q a. elim (cases_Bool (effects marks q).deleted) [
               | inr stay ↦ stay
               | inl gone ↦ absurd (both_ends (effects marks p).deleted true (gone_down marks q p (above_front q p name a) gone) stays)
             ]))
@@ -170,10 +171,10 @@ module _ (look : RevisionBytes) (top base : ℕ) (trees : ℕ → TreeFunction) 
     where
       front : (p : Path) → covers p (p ++ name ∷ []) ≡ true
       front [] = refl
-      front (y ∷ p) = both_true _ _ (Rattle.fsfs_base.proofs.PathLemmas.same_name-refl y) (front p)
+      front (y ∷ p) = and_from _ _ (Rattle.fsfs_base.proofs.PathLemmas.same_name-refl y) (front p)
 
       not_held : held own p ≡ false → held own (p ++ name ∷ []) ≡ false
-      not_held off = elim (cases (held own (p ++ name ∷ []))) [
+      not_held off = elim (cases_Bool (held own (p ++ name ∷ []))) [
         | inr w ↦ w
         | inl h ↦ absurd (false≢true (sym off ∙ held_front p (name ∷ []) own h))
       ]
@@ -184,7 +185,7 @@ module _ (look : RevisionBytes) (top base : ℕ) (trees : ℕ → TreeFunction) 
           let old : under p own [] ≡ own p = under_is p own [] ∙ ap own (append-nil p) in
           let going : goes_on_here (under p own []) ≡ true = sym (held_under look top p own [] h) ∙ ap (held own) (append-nil p) ∙ h in
           held_under look top p own (name ∷ []) h
-          ∙ both_true _ _ going (both_true _ _ (ap (λ (o : Option OwnNode). has_here o name) old ∙ has_name p name v.0 v.1) (ap goes_on_here (under_is p own (name ∷ [])) ∙ goes (p ++ name ∷ []) x e at stay))
+          ∙ and_from _ _ going (and_from _ _ (ap (λ (o : Option OwnNode). has_here o name) old ∙ has_name p name v.0 v.1) (ap goes_on_here (under_is p own (name ∷ [])) ∙ goes (p ++ name ∷ []) x e at stay))
 
   says_from : (rest front : Path) → Says front → Says (front ++ rest)
   says_from [] front s = subst Says (sym (append-nil front)) s
@@ -199,7 +200,7 @@ module _ (look : RevisionBytes) (top base : ℕ) (trees : ℕ → TreeFunction) 
   touched : (p : Path) → is_some (trees base p) ≡ true → held own p ≡ true → (effects marks p).touched ≡ is_some (own p)
   touched p some h =
       let x = base_there p some in
-      elim (cases (effects marks p).touched) [
+      elim (cases_Bool (effects marks p).touched) [
         | inr un ↦ un ∙ sym (none (own p) refl x.0 x.2 (side.untouched p x.0 x.1 (kept p some h) un))
         | inl t ↦ (let w = side.touched p x.0 x.1 (kept p some h) t in
             let d = hanging.mine_at look top base trees nodes shown are le txn f own draft p w.0 w.1 w.2.own in

@@ -9,11 +9,11 @@ use Rattle.fsfs_flat.specs.declared.mark.What.{What}
 use Rattle.fsfs_flat.specs.declared.mark.What.TheVariants.{Make, Gone, Text, Prop}
 use Rattle.fsfs_flat.specs.declared.mark.Mark.{Mark}
 use Rattle.fsfs_flat.specs.Marks.{any_covers, made, outer, effects, touches, is_gone, changes_props}
-use Rattle.fsfs_base.proofs.PathLemmas.{second_true}
 use Rattle.fsfs_model.proofs.Owns.{outer_push}
 use Rattle.fsfs_drafts.specs.Own.{OwnNode, Own}
 use Rattle.fsfs_drafts.specs.Sides.{held, AreMarksOf}
 use Rattle.fsfs_drafts.specs.Marking.{has_props, IsMoved, IsUnmoved, MarksAreKept}
+use Rattle.std.proofs.lemmas.Bool.{and_parts}
 
 any_push : (f : Mark → Bool) (xs : List Mark) (m : Mark) → list_any f (xs ++ m ∷ []) ≡ (list_any f xs || f m)
 any_push f [] m = by (f m)
@@ -43,7 +43,7 @@ props_touch : (k : What) (p q : Path) → changes_props k p q ≡ true → touch
 props_touch (Make source) p q h = absurd (false≢true h)
 props_touch Gone p q h = absurd (false≢true h)
 props_touch Text p q h = absurd (false≢true h)
-props_touch Prop p q h = second_true _ _ h
+props_touch Prop p q h = (and_parts _ _ h).1
 
 or_assoc : (a b c : Bool) → (a || (b || c)) ≡ ((a || b) || c)
 or_assoc true b c = refl

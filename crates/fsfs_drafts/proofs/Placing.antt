@@ -3,7 +3,6 @@ use Rattle.std.proofs.Common.{◌≡◌, ◌≤◌, ℕ, Bool, true, false, cond
 use Rattle.std.specs.Prelude.{Option, Some, None}
 use Rattle.fsfs_base.specs.Paths.{PathName, Path}
 use Rattle.fsfs_tree.specs.Nodes.{Node, TreeFunction}
-use Rattle.fsfs_base.proofs.PathLemmas.{first_true}
 use Rattle.fsfs_fields.specs.declared.txn_name.TxnName.{TxnName}
 use Rattle.fsfs_book.specs.Told.{RevisionBytes}
 use Rattle.fsfs_noderev.specs.declared.node_rev.NodeRev.{NodeRev}
@@ -16,6 +15,7 @@ use Rattle.fsfs_drafts.specs.Met.{nodes_under, met_here, met_in, draft_nodes, no
 use Rattle.fsfs_drafts.proofs.Grafts.{inner_lives}
 use Rattle.fsfs_drafts.proofs.Hanging.{Hangs, revision_hangs, under_hangs, hangs_at}
 use Rattle.fsfs_drafts.proofs.Here.{under_is, live_here, old_here, rules_here, rule_here, none_at}
+use Rattle.std.proofs.lemmas.Bool.{and_parts}
 
 -- ---- where nothing is the transaction's
 
@@ -31,11 +31,11 @@ none_shown trees own shared (x ∷ q) none = ap (λ (o : Option OwnNode). in_own
 
 met_live : (o : Option OwnNode) (x : PathName) (inner : Bool) (s i : Option NodeRev) → lives_in o x inner ≡ true → met_in o x s i ≡ i
 met_live None x inner s i h = absurd cc
-met_live (Some v) x inner s i h = rw (first_true (has_entry v.entries x) inner h) refl
+met_live (Some v) x inner s i h = rw (and_parts (has_entry v.entries x) inner h).0 refl
 
 shown_live : (o : Option OwnNode) (x : PathName) (inner : Bool) (s i : Option Node) → lives_in o x inner ≡ true → in_own o x s i ≡ i
 shown_live None x inner s i h = absurd cc
-shown_live (Some v) x inner s i h = rw (first_true (has_entry v.entries x) inner h) refl
+shown_live (Some v) x inner s i h = rw (and_parts (has_entry v.entries x) inner h).0 refl
 
 pub met_at : (nodes : ℕ → NodesAt) (p : Path) (own : Own) (shared : NodesAt) (q : Path) → lives p own ≡ true → draft_nodes nodes own shared (p ++ q) ≡ draft_nodes nodes (under p own) (nodes_at nodes p own shared) q
 met_at nodes [] own shared q live = refl

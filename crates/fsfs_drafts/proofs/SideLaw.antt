@@ -6,7 +6,7 @@ use Rattle.fsfs_base.specs.Paths.{PathName, Path, covers, is_above}
 use Rattle.fsfs_tree.specs.Nodes.{Node, TreeFunction}
 use Rattle.fsfs_flat.specs.declared.mark.Mark.{Mark}
 use Rattle.fsfs_flat.specs.Marks.{effects}
-use Rattle.fsfs_base.proofs.PathLemmas.{both_true, first_true, second_true, same_name-refl}
+use Rattle.fsfs_base.proofs.PathLemmas.{same_name-refl}
 use Rattle.fsfs_fields.specs.declared.txn_name.TxnName.{TxnName}
 use Rattle.fsfs_book.specs.Told.{RevisionBytes}
 use Rattle.fsfs_noderev.specs.Ids.{part_value}
@@ -35,6 +35,7 @@ use Rattle.fsfs_drafts.proofs.Placing.{Place, Mine, Shared, place, got}
 use Rattle.fsfs_drafts.proofs.Placing as placing
 use Rattle.fsfs_drafts.proofs.HangLaw.{some_same}
 use Rattle.fsfs_drafts.proofs.HangLaw as hanging
+use Rattle.std.proofs.lemmas.Bool.{and_from, and_parts}
 
 -- ---- what goes on
 
@@ -93,7 +94,7 @@ module _ (look : RevisionBytes) (top : ℕ) where
           let g : goes_on_here (Some v) ≡ true = subst (λ (o : Option OwnNode). goes_on_here o ≡ true) is h in
           (it_goes S above v rule.0 g, root_some S above v rule.0 g some));
     }
-    held_at (x ∷ p) own above S N rules h some = by (own []) refl (held_at p (below x own) (above_under (own []) above) (λ q u. stands_under look (own []) S (x ∷ q) u) (below x (nodes_under nodes (own []) N)) (λ q. rules (x ∷ q)) (second_true _ _ (second_true _ _ h)))
+    held_at (x ∷ p) own above S N rules h some = by (own []) refl (held_at p (below x own) (above_under (own []) above) (λ q u. stands_under look (own []) S (x ∷ q) u) (below x (nodes_under nodes (own []) N)) (λ q. rules (x ∷ q)) (and_parts _ _ (and_parts _ _ h).1).1)
       where
         by : (o : Option OwnNode) → own [] ≡ o → (is_some (above_under (own []) above).root.0 ≡ true → HeldAt (below x own) (λ q u. stands_under look (own []) S (x ∷ q) u) (below x (nodes_under nodes (own []) N)) p) → HeldAt own S N (x ∷ p)
         by None none further = record {
@@ -102,8 +103,8 @@ module _ (look : RevisionBytes) (top : ℕ) where
         }
         by (Some d) is further =
             let rule = subst (λ (o : Option OwnNode). NodeRule look top o (λ name. head_at (own (name ∷ []))) above S) is (rules []) in
-            let g : goes_on_here (Some d) ≡ true = subst (λ (o : Option OwnNode). goes_on_here o ≡ true) is (first_true _ _ h) in
-            let has : has_entry d.entries x ≡ true = subst (λ (o : Option OwnNode). has_here o x ≡ true) is (first_true _ _ (second_true _ _ h)) in
+            let g : goes_on_here (Some d) ≡ true = subst (λ (o : Option OwnNode). goes_on_here o ≡ true) is (and_parts _ _ h).0 in
+            let has : has_entry d.entries x ≡ true = subst (λ (o : Option OwnNode). has_here o x ≡ true) is (and_parts _ _ (and_parts _ _ h).1).0 in
             let inner = further (subst (λ (o : Option OwnNode). is_some (above_under o above).root.0 ≡ true) (sym is) (root_some S above d rule.0 g some)) in
             record {
               shared = λ none.
@@ -121,9 +122,9 @@ module _ (look : RevisionBytes) (top : ℕ) where
   pub held_under : (a : Path) (own : Own) (q : Path) → held own a ≡ true → held own (a ++ q) ≡ held (under a own) q
   held_under [] own q h = refl
   held_under (x ∷ a) own q h =
-      ap (λ (b : Bool). b && (has_here (own []) x && held (below x own) (a ++ q))) (first_true _ _ h)
-      ∙ ap (λ (b : Bool). b && held (below x own) (a ++ q)) (first_true _ _ (second_true _ _ h))
-      ∙ held_under a (below x own) q (second_true _ _ (second_true _ _ h))
+      ap (λ (b : Bool). b && (has_here (own []) x && held (below x own) (a ++ q))) (and_parts _ _ h).0
+      ∙ ap (λ (b : Bool). b && held (below x own) (a ++ q)) (and_parts _ _ (and_parts _ _ h).1).0
+      ∙ held_under a (below x own) q (and_parts _ _ (and_parts _ _ h).1).1
 
   pub none_held : (o : Own) → ((q : Path) → o q ≡ None) → (q : Path) → held o q ≡ true
   none_held o none [] = ap goes_on_here (none [])
@@ -134,14 +135,14 @@ module _ (look : RevisionBytes) (top : ℕ) where
   pub held_last : (p : Path) (own : Own) (above : Above) (S : Path → NodeRev → Type 0) → Rules look top own above S → (d : OwnNode) → own p ≡ Some d → ((q : Path) → is_above q p ≡ true → held own q ≡ true) → goes_on_here (Some d) ≡ true → held own p ≡ true
   held_last [] own above S rules d here up g = ap goes_on_here here ∙ g
   held_last (x ∷ p) own above S rules d here up g =
-      both_true _ _ (up [] refl)
-      (both_true _ _ (has (own []) (lives_there look top (x ∷ p) own above S rules d here))
+      and_from _ _ (up [] refl)
+      (and_from _ _ (has (own []) (lives_there look top (x ∷ p) own above S rules d here))
       (held_last p (below x own) (above_under (own []) above) (λ q u. stands_under look (own []) S (x ∷ q) u) (λ q. rules (x ∷ q)) d here
-      (λ q c. second_true _ _ (second_true _ _ (up (x ∷ q) (above_same q p c)))) g))
+      (λ q c. (and_parts _ _ (and_parts _ _ (up (x ∷ q) (above_same q p c))).1).1) g))
     where
       has : (o : Option OwnNode) → lives_in o x (lives p (below x own)) ≡ true → has_here o x ≡ true
       has None h = absurd cc
-      has (Some v) h = first_true _ _ h
+      has (Some v) h = (and_parts _ _ h).0
 
       above_same : (q r : Path) → is_above q r ≡ true → is_above (x ∷ q) (x ∷ r) ≡ true
       above_same q r c = subst (λ (b : Bool). (b && covers q r) && not (b && covers r q) ≡ true) (sym (same_name-refl x)) c
@@ -242,7 +243,7 @@ module _ (look : RevisionBytes) (top base : ℕ) (trees : ℕ → TreeFunction) 
 
       which : (d : OwnNode) → own p ≡ Some d → ComesBy look top (λ r w. stands_at look p own (StandsAt look base) r w) (above_at p own at_top) d → IsAnother x d.node
       which d here (Change u at no_copy on keeps root part) =
-          let g : goes_on_here (Some d) ≡ true = both_true _ _ (ap (λ (c : Option CopySource). not (is_some c)) no_copy) (ap (λ (o : Option NodeId). is_some o) on.predecessor) in
+          let g : goes_on_here (Some d) ≡ true = and_from _ _ (ap (λ (c : Option CopySource). not (is_some c)) no_copy) (ap (λ (o : Option NodeId). is_some o) on.predecessor) in
           absurd (false≢true (sym off ∙ held_last look top p own at_top (StandsAt look base) draft.rules d here (λ q c. held_above q p c some (up q c)) g))
       which d here (Copied u from is low at on keeps root part) =
           record { own = hanging.is_mine look top base trees nodes shown are le txn f own draft p d here; other = inr (of_none (in_txn d.node.id.place) d.node.created_path d.node.created_path d.node.copy_root (hanging.is_mine look top base trees nodes shown are le txn f own draft p d here) root) }
@@ -258,7 +259,7 @@ module _ (look : RevisionBytes) (top base : ℕ) (trees : ℕ → TreeFunction) 
           let old : under a own [] ≡ Some d = under_is a own [] ∙ ap own (append-nil a) ∙ here in
           let going : goes_on_here (Some d) ≡ true = ap goes_on_here (sym old) ∙ sym (held_under look top a own [] ha) ∙ ap (held own) (append-nil a) ∙ ha in
           let free = none_held look top (below y (under a own)) (λ r. under_is a own (y ∷ r) ∙ placing.own_shared look top base trees nodes shown are le txn f own draft a d here y r none) rest in
-          let all : held (under a own) (y ∷ rest) ≡ true = ap (λ (o : Option OwnNode). goes_on_here o && (has_here o y && held (below y (under a own)) rest)) old ∙ both_true _ _ going (both_true _ _ g.0 free) in
+          let all : held (under a own) (y ∷ rest) ≡ true = ap (λ (o : Option OwnNode). goes_on_here o && (has_here o y && held (below y (under a own)) rest)) old ∙ and_from _ _ going (and_from _ _ g.0 free) in
           absurd (false≢true (sym off ∙ ap (held own) at ∙ held_under look top a own (y ∷ rest) ha ∙ all))
 
   pub side : IsOwnSide (nodes base) marks met

@@ -4,7 +4,6 @@ use Rattle.std.specs.Prelude.{Ok, Option, Some, None, is_some, nat_lt, if◌then
 use Rattle.std.proofs.lemmas.Bool.Decides.{nat_tests}
 use Rattle.fsfs_base.specs.Paths.{PathName, Path}
 use Rattle.fsfs_base.specs.declared.kind.Kind.TheVariants.{Dir}
-use Rattle.fsfs_base.proofs.PathLemmas.{cases}
 use Rattle.fsfs_fields.specs.declared.txn_name.TxnName.{TxnName}
 use Rattle.fsfs_book.specs.Told.{RevisionBytes}
 use Rattle.fsfs_noderev.specs.Ids.{part_value}
@@ -26,6 +25,7 @@ use Rattle.fsfs_drafts.specs.NodeDrafts.{IsOwn, is_new_part, DraftPart}
 use Rattle.fsfs_drafts.specs.NodeDrafts as nodewise
 use Rattle.fsfs_drafts.specs.Tied.{IsListed, IsTied, IsKeptIn, TiedDrafts}
 use Rattle.fsfs_drafts.proofs.HangLaw.{resolved, root_resolved, after_resolved, some_same}
+use Rattle.std.proofs.lemmas.Bool.{cases_Bool}
 
 -- ---- parts and roots
 
@@ -125,7 +125,7 @@ module _ (look : RevisionBytes) (top base : ℕ) (met : NodesAt) (own : Own) (tx
   above : (p : Path) (name : PathName) (w : OwnNode) → own (p ++ name ∷ []) ≡ Some w → (d : OwnNode) × (own p ≡ Some d) × (d.node.kind ≡ Dir)
   above p name w is =
       let a = draft.above p name w.node (tied.mine (p ++ name ∷ []) w is) in
-      elim (cases (in_txn a.0.id.place)) [
+      elim (cases_Bool (in_txn a.0.id.place)) [
         | inl mine ↦ (let d = tied.all p a.0 a.1 mine in (d.0, d.1, ap (λ (z : NodeRev). z.kind) d.2 ∙ a.2))
         | inr plain ↦ (let b = (draft.below_lasting p name a.0 w.node a.1 plain (tied.mine (p ++ name ∷ []) w is)).1 in let m = is_mine (p ++ name ∷ []) w is in let e = sym m ∙ b in absurd cc)
       ]
@@ -273,7 +273,7 @@ module _ (look : RevisionBytes) (top base : ℕ) (met : NodesAt) (own : Own) (tx
       by (Some w) is =
           let same : u ≡ w.node = some_same (met (p ++ name ∷ [])) u w.node e (tied.mine (p ++ name ∷ []) w is) in
           (l.0 ∙ ap (λ (z : NodeRev). z.id) same, l.1 ∙ ap (λ (z : NodeRev). z.kind) same)
-      by None is = elim (cases (in_txn u.id.place)) [
+      by None is = elim (cases_Bool (in_txn u.id.place)) [
         | inl mine ↦ (let w = tied.all (p ++ name ∷ []) u e mine in let g = sym is ∙ w.1 in absurd cc)
         | inr plain ↦ (let g = draft.older p name v.node u (tied.mine p v here) (is_mine p v here) e plain in
             let a = draft.above p name u e in
