@@ -6,7 +6,7 @@ use Rattle.fsfs_base.specs.declared.kind.Kind.{Kind}
 use Rattle.fsfs_base.specs.declared.kind.Kind.TheVariants.{File, Dir}
 use Rattle.fsfs_book.specs.Told.{RevisionBytes}
 use Rattle.fsfs_noderev.specs.declared.node_rev.NodeRev.{NodeRev}
-use Rattle.fsfs_shows.specs.declared.wrong.Wrong.{Wrong}
+use Rattle.fsfs_damage.specs.declared.wrong.Wrong.{Wrong}
 use Rattle.fsfs_shows.specs.Reading.{ChildOf, Met, Stands, OrLacking, InDirectory, MetFrom, StandsAt}
 use Rattle.fsfs_shows.specs.IdRules.{IsBehind}
 use Rattle.fsfs_shows.specs.IdRules as rules

@@ -7,7 +7,7 @@ use Rattle.fsfs_book.specs.Told.{RevisionBytes}
 use Rattle.fsfs_noderev.specs.declared.node_rev.NodeRev.{NodeRev}
 use Rattle.fsfs_revision.specs.Nodes.{is_of_revision}
 use Rattle.fsfs_shows.specs.Reading.{DirEntry, named, EntriesOf, OfId, PropsOf}
-use Rattle.fsfs_shows.specs.declared.wrong.Wrong.{Wrong}
+use Rattle.fsfs_damage.specs.declared.wrong.Wrong.{Wrong}
 use Rattle.fsfs_shows.specs.Chains.{own_rev}
 use Rattle.fsfs_shows.specs.Shown.{IsTextOf}
 

@@ -19,7 +19,8 @@ use Rattle.fsfs_noderev.specs.declared.rep.Contents.TheVariants as contents
 use Rattle.fsfs_noderev.specs.declared.node_rev.CopySource.{CopySource}
 use Rattle.fsfs_noderev.specs.declared.node_rev.NodeRev.{NodeRev}
 use Rattle.fsfs_changes.specs.declared.item.ChangeItem.{ChangeItem}
-use Rattle.fsfs_shows.specs.Reading.{DirEntry, RepIn, PropsOf, StandsAt}
+use Rattle.fsfs_rep.specs.Frames.{RepIn}
+use Rattle.fsfs_shows.specs.Reading.{DirEntry, PropsOf, StandsAt}
 use Rattle.fsfs_shows.specs.Shown.{IsTextOf, Shows}
 use Rattle.fsfs_drafts.specs.Own.{OwnNode, Own, draft_tree}
 use Rattle.fsfs_drafts.specs.Rules.{at_top, Rules}

@@ -6,7 +6,7 @@ use Rattle.fsfs_tree.specs.Nodes.{Node, Content, Bytes, Closed, TreeFunction}
 use Rattle.fsfs_base.specs.declared.kind.Kind.{Kind}
 use Rattle.fsfs_base.specs.declared.kind.Kind.TheVariants.{File, Dir}
 use Rattle.fsfs_damage.specs.declared.wrong.Refusal.{Refusal}
-use Rattle.fsfs_book.specs.Told.{RevisionBytes}
+use Rattle.fsfs_book.specs.Told.{RevisionBytes, BytesOf}
 use Rattle.fsfs_noderev.specs.declared.node_id.Place.{Place}
 use Rattle.fsfs_noderev.specs.declared.node_id.Place.TheVariants as places
 use Rattle.fsfs_noderev.specs.declared.node_id.NodeId.{NodeId}
@@ -14,22 +14,21 @@ use Rattle.fsfs_noderev.specs.declared.rep.Rep.{Rep}
 use Rattle.fsfs_noderev.specs.declared.rep.Contents.{Contents}
 use Rattle.fsfs_noderev.specs.declared.rep.Contents.TheVariants as contents
 use Rattle.fsfs_noderev.specs.declared.node_rev.NodeRev.{NodeRev}
-use Rattle.fsfs_rep.specs.Frames.{rev_of}
+use Rattle.fsfs_rep.specs.Frames.{rev_of, RepIn}
+use Rattle.fsfs_revision.specs.Damages.{NodeIn, RootIn}
 use Rattle.fsfs_revision.specs.Nodes.{pred_before, rep_before, rep_place_before, place_before}
-use Rattle.fsfs_revision.specs.Damages.{place_of}
-use Rattle.fsfs_revision.specs.declared.damage.RevOffset.{RevOffset}
-use Rattle.fsfs_shows.specs.declared.wrong.Wrong.{Wrong}
-use Rattle.fsfs_shows.specs.declared.wrong.Wrong.TheVariants as wrongs
+use Rattle.fsfs_damage.specs.Damages.{place_of}
+use Rattle.fsfs_damage.specs.declared.damage.RevOffset.{RevOffset}
+use Rattle.fsfs_damage.specs.declared.wrong.Wrong.{Wrong}
+use Rattle.fsfs_damage.specs.declared.wrong.Wrong.TheVariants as wrongs
 use Rattle.fsfs_damage.specs.Readings.{AndThen}
-use Rattle.fsfs_shows.specs.Reading.{BytesOf, NodeIn, NodeAt, RootIn, RootOf, offset_of, RepIn, RepAt, Pairs, PairsIn, PairsAt, OfContents, TextOf, PropsOf, DirEntry, EntriesIn, EntriesAt, EntriesOf, HasId, OfId, HasKind, OfEntry, named, OfNamed, ChildOf, Met, Stands, Lacking, Blocked, OrLacking, InDirectory, MetFrom, MetAt, StandsAt}
+use Rattle.fsfs_shows.specs.Reading.{NodeAt, RootOf, offset_of, RepAt, Pairs, PairsIn, PairsAt, OfContents, TextOf, PropsOf, DirEntry, EntriesIn, EntriesAt, EntriesOf, HasId, OfId, HasKind, OfEntry, named, OfNamed, ChildOf, Met, Stands, Lacking, Blocked, OrLacking, InDirectory, MetFrom, MetAt, StandsAt}
 use Rattle.fsfs_shows.specs.Chains.{own_rev, IsPred, Chain, First, Breaks, Goes, copy_root_of, IsCopiedIn, contents_rev}
 use Rattle.fsfs_shows.specs.Shown.{IsTextOf, Nearest, IsOfCopy, IsSource, IsShown, IsShownAs, Shows}
+use Rattle.fsfs_ids.specs.Bounded.{AreSameUpTo}
 use Rattle.fsfs_shows.proofs.TreeLaw.{IsHome, before_le, of_id_home, root_home, child_home, entry_before, stands_home, rep_le, props_le, chain_le, sound}
 
-abbrev pub SameUpTo : ℕ → RevisionBytes → RevisionBytes → Type 0
-SameUpTo r look other = (s : ℕ) → s ≤ r → look s ≡ other s
-
-pub back_same : (r : ℕ) (look other : RevisionBytes) → SameUpTo r look other → SameUpTo r other look
+pub back_same : (r : ℕ) (look other : RevisionBytes) → AreSameUpTo r look other → AreSameUpTo r other look
 back_same r look other same s le = sym (same s le)
 
 -- ---- one reading behind another
@@ -40,7 +39,7 @@ module _ {X Y : Type 0} (R Q : Result X Wrong → Type 0) (S T : X → Result Y 
   then_same (Err e) (inl w) = inl (first (Err e) w)
   then_same (Err e) (inr w) = inr (w.0, first (Ok w.0) w.1, next w.0 w.1 (Err e) w.2)
 
-module _ (top : ℕ) (look other : RevisionBytes) (same : SameUpTo top look other) where
+module _ (top : ℕ) (look other : RevisionBytes) (same : AreSameUpTo top look other) where
   bytes_same : (s : ℕ) → s ≤ top → (r : Result (List ℕ) Wrong) → BytesOf look s r → BytesOf other s r
   bytes_same s le (Ok b) w = sym (same s le) ∙ w
   bytes_same s le (Err e) w = (w.0, sym (same s le) ∙ w.1, w.2)
@@ -135,8 +134,8 @@ module _ (top : ℕ) (look other : RevisionBytes) (same : SameUpTo top look othe
       let h = of_id_home look id u o in
       Goes v u id end e (of_id_same id (omega (arith, b)) (Ok u) o) (chain_same u end h.0 (let x = h.1 in omega (arith, b)) c)
 
-module _ (r : ℕ) (look other : RevisionBytes) (same : SameUpTo r look other) where
-  back : SameUpTo r other look
+module _ (r : ℕ) (look other : RevisionBytes) (same : AreSameUpTo r look other) where
+  back : AreSameUpTo r other look
   back = back_same r look other same
 
   copied_same : (p : Path) (rev : ℕ) → IsCopiedIn look r p rev → IsCopiedIn other r p rev

@@ -11,14 +11,15 @@ use Rattle.fsfs_shows.specs.Reading.{offset_of, ChildOf, StandsAt}
 use Rattle.fsfs_shows.specs.Chains.{own_rev, IsPred}
 use Rattle.fsfs_shows.specs.IdRules.{IdRule, IsOf, IsChild, IsBehind, Next, Further, IsDrawn, CopyPartFrom, Directory, Before, Drawn}
 use Rattle.fsfs_shows.proofs.TreeLaw.{IsHome, before_le, of_id_home, stands_home}
-use Rattle.fsfs_ids.proofs.Bounded.{SameUpTo, back_same, stands_same_bytes, of_id_same, child_same}
+use Rattle.fsfs_ids.specs.Bounded.{AreSameUpTo}
+use Rattle.fsfs_ids.proofs.Bounded.{back_same, stands_same_bytes, of_id_same, child_same}
 
 -- a node-revision of a tree, or one before it
 pub record InTime (top : ℕ) (v : NodeRev) : Type 0 where
   pub home : IsHome v
   pub low : own_rev v ≤ top
 
-module _ (top : ℕ) (look other : RevisionBytes) (same : SameUpTo top look other) where
+module _ (top : ℕ) (look other : RevisionBytes) (same : AreSameUpTo top look other) where
   pub in_time : (v : NodeRev) → IsOf look top v → InTime top v
   in_time v of = let h = stands_home look of.0 of.1 v of.3 in record { home = h.0; low = (let x = of.2 in omega (arith, h.1)) }
 
@@ -44,8 +45,8 @@ module _ (top : ℕ) (look other : RevisionBytes) (same : SameUpTo top look othe
   of_to : (v : NodeRev) → IsOf look top v → IsOf other top v
   of_to v of = (of.0, of.1, of.2, stands_to of.0 of.2 of.1 v of.3)
 
-module _ (top : ℕ) (look other : RevisionBytes) (same : SameUpTo top look other) (ids : IdRule look top) where
-  back : SameUpTo top other look
+module _ (top : ℕ) (look other : RevisionBytes) (same : AreSameUpTo top look other) (ids : IdRule look top) where
+  back : AreSameUpTo top other look
   back = back_same top look other same
 
   of_back : (v : NodeRev) → IsOf other top v → IsOf look top v

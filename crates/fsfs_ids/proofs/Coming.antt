@@ -6,12 +6,12 @@ use Rattle.fsfs_base.specs.Paths.{PathName, Path, covers}
 use Rattle.fsfs_tree.specs.Nodes.{Node, TreeFunction}
 use Rattle.fsfs_base.specs.declared.kind.Kind.{Kind}
 use Rattle.fsfs_base.specs.declared.kind.Kind.TheVariants.{File, Dir}
-use Rattle.fsfs_base.proofs.PathLemmas.{covers-refl, covers-trans}
+use Rattle.fsfs_base.proofs.PathLemmas.{covers-refl, covers-trans, covers-longer}
 use Rattle.fsfs_book.specs.Told.{RevisionBytes}
 use Rattle.fsfs_noderev.specs.declared.node_id.NodeId.{NodeId}
 use Rattle.fsfs_noderev.specs.declared.node_rev.CopySource.{CopySource}
 use Rattle.fsfs_noderev.specs.declared.node_rev.NodeRev.{NodeRev}
-use Rattle.fsfs_shows.specs.declared.wrong.Wrong.{Wrong}
+use Rattle.fsfs_damage.specs.declared.wrong.Wrong.{Wrong}
 use Rattle.fsfs_shows.specs.Reading.{OfId, ChildOf, Stands, MetAt, StandsAt}
 use Rattle.fsfs_shows.specs.Chains.{own_rev, IsPred, Chain, First, Breaks, Goes}
 use Rattle.fsfs_shows.specs.Shown.{IsShown, Shows}
@@ -19,7 +19,6 @@ use Rattle.fsfs_shows.specs.IdRules.{IdRule, IsOf, IsChild}
 use Rattle.fsfs_shows.proofs.OneWalk.{stands_same}
 use Rattle.fsfs_shows.proofs.Walks.{child_stands}
 use Rattle.fsfs_shows.proofs.TreeLaw.{stands_home, child_home}
-use Rattle.fsfs_base.proofs.PathLemmas.{covers-longer}
 use Rattle.fsfs_ids.specs.HeadLaws.{ShowsRevisions}
 use Rattle.fsfs_ids.proofs.Standing.{for_each, standing_named, named_same, pred_same, no_pred, Behind, Nothing, One, behind, number_of}
 

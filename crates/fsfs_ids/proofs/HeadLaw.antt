@@ -4,7 +4,7 @@ use Rattle.std.specs.Prelude.{◌↔◌, Result, Ok, Option, Some, None, nat_lt,
 use Rattle.std.proofs.lemmas.Bool.{and_from, cases_Bool}
 use Rattle.std.proofs.lemmas.Bool.Decides.{nat_tests}
 use Rattle.std.proofs.lemmas.List.{take-append-drop}
-use Rattle.fsfs_base.specs.Paths.{PathName, Path, covers, is_above}
+use Rattle.fsfs_base.specs.Paths.{PathName, Path, same_name, covers, is_above}
 use Rattle.fsfs_tree.specs.Nodes.{Node, TreeFunction}
 use Rattle.fsfs_flat.specs.Landing.{touched_by_head, held_by_head, props_changed_by_head}
 use Rattle.fsfs_flat.specs.Histories.{IsRevision, AreRevisions}
@@ -13,7 +13,7 @@ use Rattle.fsfs_noderev.specs.declared.node_id.NodeId.{NodeId}
 use Rattle.fsfs_noderev.specs.declared.rep.Contents.{Contents}
 use Rattle.fsfs_noderev.specs.declared.node_rev.CopySource.{CopySource}
 use Rattle.fsfs_noderev.specs.declared.node_rev.NodeRev.{NodeRev}
-use Rattle.fsfs_shows.specs.declared.wrong.Wrong.{Wrong}
+use Rattle.fsfs_damage.specs.declared.wrong.Wrong.{Wrong}
 use Rattle.fsfs_shows.specs.Reading.{offset_of, StandsAt}
 use Rattle.fsfs_shows.specs.Chains.{own_rev, IsPred, Chain, First, Breaks, Goes, copy_root_of, IsCopiedIn, contents_rev}
 use Rattle.fsfs_shows.specs.Shown.{IsShown, Shows}
@@ -23,11 +23,10 @@ use Rattle.fsfs_damage.proofs.OneAnswer.{ok_same}
 use Rattle.fsfs_shows.proofs.OneWalk.{stands_same}
 use Rattle.fsfs_shows.proofs.OneTree.{chain_one}
 use Rattle.fsfs_shows.proofs.TreeLaw.{IsHome, stands_home, chain_le, root_le, props_le, sound}
-use Rattle.fsfs_base.proofs.PathLemmas.{covers-antisym}
-use Rattle.fsfs_base.proofs.PathLemmas.{covers-longer}
+use Rattle.fsfs_base.proofs.PathLemmas.{same_name-refl, covers-antisym, covers-longer}
 use Rattle.fsfs_ids.specs.HeadLaws.{ShowsRevisions, Continues, IsHeldAbove, AgreeAt, HeadLaws, UntouchedIsShared}
 use Rattle.fsfs_ids.proofs.Standing.{standing_named, named_same, number_of}
-use Rattle.fsfs_ids.proofs.Coming.{IsFresh, Comes, Same, Next, Fresh, comes, same_first}
+use Rattle.fsfs_ids.proofs.Coming.{below_or_at, IsFresh, Comes, Same, Next, Fresh, comes, same_first}
 
 some_node : (m n : Node) (o : Option Node) → o ≡ Some m → o ≡ Some n → m ≡ n
 some_node m n o e f = let g = sym e ∙ f in cc
@@ -209,11 +208,11 @@ module _ (look : RevisionBytes) (top : ℕ) (tree : ℕ → TreeFunction) (shows
               strict (z ∷ p) zero less = refl
               strict (z ∷ p) (suc k) less = rest z (covers (take k p) p) (covers p (take k p)) (strict p k (omega arith))
                 where
-                  rest : (z : PathName) (f g : Bool) → (f && not g) ≡ true → ((Rattle.fsfs_base.specs.Paths.same_name z z && f) && not (Rattle.fsfs_base.specs.Paths.same_name z z && g)) ≡ true
-                  rest z f g h = subst (λ (s : Bool). ((s && f) && not (s && g)) ≡ true) (sym (Rattle.fsfs_model.proofs.PathLemmas.same_name-refl z)) h
+                  rest : (z : PathName) (f g : Bool) → (f && not g) ≡ true → ((same_name z z && f) && not (same_name z z && g)) ≡ true
+                  rest z f g h = subst (λ (s : Bool). ((s && f) && not (s && g)) ≡ true) (sym (same_name-refl z)) h
 
           by : (k : ℕ) (q : NodeRev) → k ≤ length p → StandsAt look h (take k p) q → (copy_root_of q).0 ≡ sh.copied → sh.copied ≤ b
-          by k q in_p at is = elim (Rattle.fsfs_ids.proofs.Coming.below_or_at k (length p) in_p) [
+          by k q in_p at is = elim (below_or_at k (length p) in_p) [
             | inr all ↦ (let here : StandsAt look h p q = subst (λ (z : Path). StandsAt look h z q) (ap (λ (m : ℕ). take m p) all ∙ take_all p) at in
                 let same = stands_same look h p q y here aty in
                 subst (λ (m : ℕ). m ≤ b) is (subst (λ (z : NodeRev). (copy_root_of z).0 ≤ b) (sym same) own))

@@ -10,9 +10,9 @@ use Rattle.fsfs_book.specs.Told.{RevisionBytes}
 use Rattle.fsfs_noderev.specs.declared.node_id.NodeId.{NodeId}
 use Rattle.fsfs_noderev.specs.declared.node_rev.NodeRev.{NodeRev}
 use Rattle.fsfs_revision.specs.Nodes.{is_own_place, is_directory}
-use Rattle.fsfs_revision.specs.Damages.{place_of}
-use Rattle.fsfs_revision.specs.declared.damage.RevOffset.{RevOffset}
-use Rattle.fsfs_shows.specs.declared.wrong.Wrong.{Wrong}
+use Rattle.fsfs_damage.specs.Damages.{place_of}
+use Rattle.fsfs_damage.specs.declared.damage.RevOffset.{RevOffset}
+use Rattle.fsfs_damage.specs.declared.wrong.Wrong.{Wrong}
 use Rattle.fsfs_shows.specs.Reading.{offset_of, NodeAt, RootOf, OfId, DirEntry, OfEntry, OfNamed, named, ChildOf, Met, Stands, Lacking, Blocked, OrLacking, InDirectory, MetFrom, MetAt, StandsAt}
 use Rattle.fsfs_shows.specs.Chains.{own_rev, IsPred, Chain, First, Breaks, Goes}
 use Rattle.fsfs_shows.specs.Shown.{IsShown, IsShownAs, Shows}
@@ -63,10 +63,12 @@ module _ (look : RevisionBytes) (r : ℕ) (Q : Path → NodeRev → Type 0)
 root_named : (look : RevisionBytes) (r : ℕ) (v : NodeRev) → RootOf look r (Ok v) → OfId look v.id (Ok v)
 root_named look r v w =
     let at = place_of r w.2.0.root in
-    let both = and_parts (is_own_place at v.id.place) (is_directory v.kind) w.2.3 in
-    let here = own_place at v.id.place both.0 in
-    let node : NodeAt look at (Ok v) = (w.0, w.1, w.2.2) in
-    (v, subst (λ (x : RevOffset). NodeAt look x (Ok v)) (sym here) node, (refl, refl))
+    let n = w.2.2.0 in
+    let both = and_parts (is_own_place at n.id.place) (is_directory n.kind) w.2.2.2.1 in
+    let here = own_place at n.id.place both.0 in
+    let node : NodeAt look at (Ok n) = (w.0, w.1, w.2.2.1) in
+    let named : OfId look n.id (Ok n) = (n, subst (λ (x : RevOffset). NodeAt look x (Ok n)) (sym here) node, (refl, refl)) in
+    subst (λ (x : NodeRev). OfId look x.id (Ok x)) (sym w.2.2.2.0) named
 
 entry_named : (look : RevisionBytes) (entry : DirEntry) (u : NodeRev) → OfEntry look entry (Ok u) → OfId look u.id (Ok u)
 entry_named look entry u w =
