@@ -1,5 +1,5 @@
 -- What stands in a tree, step by step from the root.
-use Rattle.std.proofs.Common.{◌≡◌, ◌≤◌, ℕ, suc, ◌+◌, [], ◌∷◌, ◌++◌, length, take, refl, sym, ap, subst, ◌∙◌, arith, append_assoc}
+use Rattle.std.proofs.Common.{◌≡◌, ◌≤◌, ℕ, suc, ◌+◌, [], ◌∷◌, ◌++◌, length, take, refl, sym, ap, subst, ◌∙◌, arith, append-nil, append_assoc}
 use Rattle.std.specs.Prelude.{Result, Ok, Option, Some, None, IsSomeAnd}
 use Rattle.std.proofs.lemmas.Bool.{and_parts}
 use Rattle.fsfs_base.specs.Paths.{PathName, Path}
@@ -45,11 +45,7 @@ module _ (look : RevisionBytes) (r : ℕ) (Q : Path → NodeRev → Type 0)
   from : (front rest : Path) (dir v : NodeRev) → StandsAt look r front dir → Q front dir → MetFrom look dir (length front) rest (Ok (Stands v)) → Q (front ++ rest) v
   from front [] dir v at q on =
       let same : dir ≡ v = cc in
-      subst (λ (p : Path). Q p v) (sym (end front)) (subst (λ (u : NodeRev). Q front u) same q)
-    where
-      end : (f : Path) → f ++ [] ≡ f
-      end [] = refl
-      end (x ∷ f) = ap (λ (t : Path). x ∷ t) (end f)
+      subst (λ (p : Path). Q p v) (sym (append-nil front)) (subst (λ (u : NodeRev). Q front u) same q)
   from front (name ∷ names) dir v at q on =
       step front name names dir v dir.kind refl at q (λ u there more further. from (front ++ name ∷ []) names u v there more further) on
 
