@@ -24,10 +24,10 @@ use Rattle.std.proofs.lemmas.Bool.{and_from, and_parts, cases_Bool}
 
 -- ---- what is shared depends on where own node-revisions go on from
 
-abbrev Links : Type 0
+abbrev pub Links : Type 0
 Links = Option (Option CopySource × Option NodeId)
 
-abbrev links : Option OwnNode → Links
+abbrev pub links : Option OwnNode → Links
 links None = None
 links (Some v) = Some (v.node.copy_from, v.node.predecessor)
 
@@ -39,7 +39,7 @@ linked trees (Some v) (Some w) S q e =
     let one : (v.node.copy_from, v.node.predecessor) ≡ (let z : Option CopySource × Option NodeId = (w.node.copy_from, w.node.predecessor) in z) = cc in
     λ i. shared_from trees (one i).0 (one i).1 S q
 
-same_shared : (trees : ℕ → TreeFunction) (q : Path) (A B : Own) (S : TreeFunction) → ((r t : Path) → q ≡ r ++ t → (t ≡ [] → ⊥) → links (A r) ≡ links (B r)) → (s : Path) → shared_at trees q A S s ≡ shared_at trees q B S s
+pub same_shared : (trees : ℕ → TreeFunction) (q : Path) (A B : Own) (S : TreeFunction) → ((r t : Path) → q ≡ r ++ t → (t ≡ [] → ⊥) → links (A r) ≡ links (B r)) → (s : Path) → shared_at trees q A S s ≡ shared_at trees q B S s
 same_shared trees [] A B S same s = refl
 same_shared trees (y ∷ q) A B S same s =
     same_shared trees q (below y A) (below y B) (below y (shared_under trees (A []) S)) (λ r t e n. same (y ∷ r) t (ap (λ (z : Path). y ∷ z) e) n) s

@@ -8,6 +8,7 @@ ghost use Rattle.fsfs_drafts.specs.Beginning.{BegunDrafts};
 ghost use Rattle.fsfs_drafts.specs.Handed.{DraftsDraw, DraftsHang, DraftsKeepSides, SidesAreMarks};
 ghost use Rattle.fsfs_drafts.specs.Marking.{MarksAreKept};
 ghost use Rattle.fsfs_drafts.specs.Laying.{StepsAreEdits, StepsKeepSides};
+ghost use Rattle.fsfs_drafts.specs.Setting.{SettingsAreEdits};
 ghost use Rattle.fsfs_drafts.specs.Staying.{DraftsStay};
 ghost use Rattle.fsfs_drafts.specs.Tied.{TiedDrafts, TiedAreMet};
 
@@ -70,6 +71,11 @@ pub fn steps_are_edits()
 /// And the files, the drawn parts and the sources are kept.
 pub fn steps_keep_sides()
     ensures { StepsKeepSides }
+{}
+
+/// A text or properties put at an own node-revision leave a draft, with the flat edit's tree, and the rest is kept.
+pub fn settings_are_edits()
+    ensures { SettingsAreEdits }
 {}
 
 /// A draft stays one of the same tree and marks while others commit.
