@@ -1,8 +1,7 @@
 -- The trees of revisions, and the node-revisions that stand in them.
 use Rattle.std.proofs.Common.{◌≡◌, ◌≤◌, ℕ, suc, true, false, List, [], ◌∷◌, ◌++◌, refl, sym, ap, subst, ◌∙◌, inl, inr, append_assoc, arith}
-use Rattle.std.specs.Prelude.{Ok, Err, Option, Some, None, is_some, IsSomeAnd, ◌⊎◌, ◌==◌}
-use Rattle.std.proofs.lemmas.Bool.{and_parts, and_from, cases_Bool}
-use Rattle.std.proofs.lemmas.Bool.Decides.{nat_tests}
+use Rattle.std.specs.Prelude.{Ok, Err, Option, Some, None, is_some, IsSomeAnd, ◌⊎◌}
+use Rattle.std.proofs.lemmas.Bool.{and_from, cases_Bool}
 use Rattle.fsfs_base.specs.Paths.{PathName, Path, covers}
 use Rattle.fsfs_tree.specs.Nodes.{Node, TreeFunction}
 use Rattle.fsfs_flat.specs.Edits.{copied_node}
@@ -10,16 +9,12 @@ use Rattle.fsfs_base.specs.declared.kind.Kind.{Kind}
 use Rattle.fsfs_base.specs.declared.kind.Kind.TheVariants.{File, Dir}
 use Rattle.fsfs_base.proofs.PathLemmas.{same_name-refl, covers-antisym}
 use Rattle.fsfs_book.specs.Told.{RevisionBytes}
-use Rattle.fsfs_noderev.specs.declared.node_id.Place.{Place}
-use Rattle.fsfs_noderev.specs.declared.node_id.Place.TheVariants as places
 use Rattle.fsfs_noderev.specs.declared.node_id.NodeId.{NodeId}
 use Rattle.fsfs_noderev.specs.declared.node_rev.CopySource.{CopySource}
 use Rattle.fsfs_noderev.specs.declared.node_rev.NodeRev.{NodeRev}
-use Rattle.fsfs_damage.specs.Damages.{place_of}
-use Rattle.fsfs_damage.specs.declared.damage.RevOffset.{RevOffset}
-use Rattle.fsfs_revision.specs.Nodes.{is_of_revision, is_own_place, is_directory}
+use Rattle.fsfs_revision.specs.Nodes.{is_of_revision}
 use Rattle.fsfs_damage.specs.declared.wrong.Wrong.{Wrong}
-use Rattle.fsfs_shows.specs.Reading.{DirEntry, named, EntriesOf, offset_of, NodeAt, RootOf, OfId, OfNamed, OfEntry, ChildOf, Met, Stands, Lacking, Blocked, OrLacking, InDirectory, MetFrom, MetAt, StandsAt}
+use Rattle.fsfs_shows.specs.Reading.{DirEntry, named, EntriesOf, OfId, OfNamed, OfEntry, ChildOf, Met, Stands, Lacking, Blocked, OrLacking, InDirectory, MetFrom, MetAt, StandsAt}
 use Rattle.fsfs_shows.specs.Chains.{own_rev}
 use Rattle.fsfs_shows.specs.Shown.{IsShown, IsShownAs, Shows}
 use Rattle.fsfs_shows.specs.ByTree.{IsEntryByTree}
@@ -28,6 +23,7 @@ use Rattle.fsfs_shows.proofs.OneEntry.{entries_one}
 use Rattle.fsfs_shows.proofs.OneWalk.{stands_same}
 use Rattle.fsfs_shows.proofs.ByTree.{by_tree}
 use Rattle.fsfs_shows.proofs.TreeLaw.{sound}
+use Rattle.fsfs_ids.proofs.Standing.{standing_named}
 use Rattle.fsfs_drafts.specs.Own.{OwnNode, Own, below, shared_from, shared_under, shared_at, lives_in, lives}
 use Rattle.fsfs_drafts.specs.Rules.{Above, ComesBy, Change, Copied, Made, NodeRule, Rules, above_under, stands_from, stands_under, stands_at, head_at}
 use Rattle.fsfs_drafts.specs.Drafts.{ShowTrees}
@@ -122,47 +118,6 @@ module _ (look : RevisionBytes) (rev : ℕ) (tree : TreeFunction) (shows : Shows
             lasting = subst (λ (x : NodeRev). is_of_revision x ≡ true) (sym same) lasting;
           }
 
-  -- what stands is what its id names
-  id_of_child : (o : Option DirEntry) (v : NodeRev) → OfNamed look o (Ok (Some v)) → OfId look v.id (Ok v)
-  id_of_child None v of = absurd cc
-  id_of_child (Some e) v of =
-      let same : v ≡ of.0 = of.2.0 in
-      let id : v.id ≡ e.id = (λ i. (same i).id) ∙ (λ i. (of.1.2.0 i).id) ∙ of.1.2.1 in
-      subst (λ (k : NodeId). OfId look k (Ok v)) (sym id) (subst (λ (y : NodeRev). OfId look e.id (Ok y)) (sym same) of.1)
-
-  id_below : (a v : NodeRev) (depth : ℕ) (q : Path) → OfId look a.id (Ok a) → MetFrom look a depth q (Ok (Stands v)) → OfId look v.id (Ok v)
-  id_below a v depth [] of at = let same : a ≡ v = cc in subst (λ (x : NodeRev). OfId look x.id (Ok x)) same of
-  id_below a v depth (name ∷ q) of at = by_kind (λ w child on. id_below w v (suc depth) q child on) a.kind at
-    where
-      Further : Type 0
-      Further = (w : NodeRev) → OfId look w.id (Ok w) → MetFrom look w (suc depth) q (Ok (Stands v)) → OfId look v.id (Ok v)
-
-      by : Further → (o : Option NodeRev) → ChildOf look a name (Ok o) → OrLacking (suc depth) (λ w. MetFrom look w (suc depth) q) o (Ok (Stands v)) → OfId look v.id (Ok v)
-      by further None child end = absurd cc
-      by further (Some w) child end = further w (id_of_child (named name child.0) w child.2) end
-
-      by_kind : Further → (kind : Kind) → InDirectory kind depth (ChildOf look a name) (λ w. MetFrom look w (suc depth) q) (Ok (Stands v)) → OfId look v.id (Ok v)
-      by_kind further File on = absurd cc
-      by_kind further Dir on = by further on.0 on.1 on.2
-
-  own_place : (at : RevOffset) (p : Place) → is_own_place at p ≡ true → offset_of p ≡ at
-  own_place at (places.At r offset) h =
-      let both = and_parts (r == at.rev) (offset == at.offset) h in
-      let e : r ≡ at.rev = grind (arith, nat_tests, both.0) in
-      let f : offset ≡ at.offset = grind (arith, nat_tests, both.1) in
-      λ i. record { rev = e i; offset = f i }
-  own_place at (places.In txn) h = absurd cc
-
-  root_read : (v : NodeRev) → RootOf look rev (Ok v) → OfId look v.id (Ok v)
-  root_read v w =
-      let both = and_parts (is_own_place (place_of rev w.2.0.root) v.id.place) (is_directory v.kind) w.2.3 in
-      let here = own_place (place_of rev w.2.0.root) v.id.place both.0 in
-      let node : NodeAt look (place_of rev w.2.0.root) (Ok v) = (w.0, w.1, w.2.2) in
-      (v, subst (λ (at : RevOffset). NodeAt look at (Ok v)) (sym here) node, (refl, refl))
-
-  stands_read : (q : Path) (v : NodeRev) → StandsAt look rev q v → OfId look v.id (Ok v)
-  stands_read q v at = id_below at.0 v 0 q (root_read at.0 at.1) at.2
-
   -- the child of a directory's entry
   entry_child : (q : Path) (u : NodeRev) (entries : List DirEntry) (name : PathName) (e : DirEntry) → StandsAt look rev q u → u.kind ≡ Dir → EntriesOf look u (Ok entries) → named name entries ≡ Some e
       → (v : NodeRev) × StandsAt look rev (q ++ name ∷ []) v × IsChildOf look e v
@@ -202,13 +157,13 @@ module _ (look : RevisionBytes) (rev : ℕ) (tree : TreeFunction) (shows : Shows
   module _ (top : ℕ) (le : rev ≤ top) where
     -- what stands in the revision agrees with its tree
     pub revision_agrees : Agrees look top (StandsAt look rev) tree
-    revision_agrees = record { shown = shown_there; read = stands_read; within = λ q u at. (let h = stands_within q u at in omega (arith, h, le)); never = never_wrong; child = entry_child; lacks = entry_lacks }
+    revision_agrees = record { shown = shown_there; read = standing_named look rev; within = λ q u at. (let h = stands_within q u at in omega (arith, h, le)); never = never_wrong; child = entry_child; lacks = entry_lacks }
 
     -- and so does a copy of what stands at and below a path
     pub copy_agrees : (from : Path) → Agrees look top (λ q u. StandsAt look rev (from ++ q) u) (λ q. copied_node rev (from ++ q) (tree (from ++ q)))
     copy_agrees from = record {
       shown = λ q u at. (let n = shown_there (from ++ q) u at in (record n.0 { source = Some (rev, from ++ q) }, ap (λ (o : Option Node). copied_node rev (from ++ q) o) n.1, record { kind = n.2.kind; text = n.2.text; properties = n.2.properties }));
-      read = λ q u at. stands_read (from ++ q) u at;
+      read = λ q u at. standing_named look rev (from ++ q) u at;
       within = λ q u at. (let h = stands_within (from ++ q) u at in omega (arith, h, le));
       never = λ q u w at dir of. never_wrong (from ++ q) u w at dir of;
       child = λ q u entries name e at dir of is. (let c = entry_child (from ++ q) u entries name e at dir of is in (c.0, subst (λ (p : Path). StandsAt look rev p c.0) (append_assoc from q (name ∷ [])) c.1, c.2));

@@ -1,5 +1,5 @@
 -- Something laid behind one name of an own directory, or taken away there.
-use Rattle.std.proofs.Common.{◌≡◌, ◌≤◌, ℕ, true, false, cond, List, [], ◌∷◌, ◌++◌, refl, sym, ap, subst, ◌∙◌, append-nil, inl, inr}
+use Rattle.std.proofs.Common.{◌≡◌, ◌≤◌, ℕ, Bool, true, false, cond, List, [], ◌∷◌, ◌++◌, refl, sym, ap, subst, ◌∙◌, append-nil, inl, inr}
 use Rattle.std.specs.Prelude.{Option, Some, None, is_some, ◌⊎◌}
 use Rattle.fsfs_base.specs.Paths.{PathName, Path, same_name, same_path, covers}
 use Rattle.fsfs_tree.specs.Nodes.{TreeFunction}
@@ -13,7 +13,7 @@ use Rattle.fsfs_noderev.specs.declared.node_id.Place.TheVariants as places
 use Rattle.fsfs_noderev.specs.declared.node_id.NodeId.{NodeId}
 use Rattle.fsfs_noderev.specs.declared.node_rev.NodeRev.{NodeRev}
 use Rattle.fsfs_shows.specs.Reading.{DirEntry, named, StandsAt}
-use Rattle.fsfs_drafts.specs.Own.{OwnNode, Own, below, shared_under, has_entry, draft_tree, graft, under, alone, nothing, with_child, shared_at, behind, opened}
+use Rattle.fsfs_drafts.specs.Own.{OwnNode, Own, below, shared_under, has_entry, draft_tree, graft, under, alone, with_child, lives, shared_at, behind, opened}
 use Rattle.fsfs_drafts.specs.Rules.{Above, at_top, ComesBy, head_at, IsEntryOf, RuleAt, Rules, above_of, stands_under, above_at, stands_at}
 use Rattle.fsfs_drafts.specs.Drafts.{Kept, Folder, kept_of, IsDraftText, HasContent, IsBelow, IsDraft, ShowTrees}
 use Rattle.fsfs_drafts.specs.Steps.{same_key, kept_at, EntriesHere}
