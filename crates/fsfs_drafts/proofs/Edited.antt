@@ -15,7 +15,7 @@ use Rattle.fsfs_drafts.proofs.Grafts.{nothing_tree, alone_tree, graft_tree, graf
 
 -- ---- paths
 
-same_name-symm : (x y : PathName) → same_name x y ≡ same_name y x
+pub same_name-symm : (x y : PathName) → same_name x y ≡ same_name y x
 same_name-symm x y = nat_list_eq_equiv.symm x y
 
 and_assoc : (a b c : Bool) → (a && (b && c)) ≡ ((a && b) && c)

@@ -168,7 +168,7 @@ module _ (look : RevisionBytes) (top base : ℕ) (trees : ℕ → TreeFunction) 
     live : lives p own ≡ true
     live = live_here look top base trees shown le txn f own draft p d here
 
-    has_entry_of : (w : OwnNode) → laid ≡ Some w → is_some (named x new) ≡ true
+    pub has_entry_of : (w : OwnNode) → laid ≡ Some w → is_some (named x new) ≡ true
     has_entry_of w is = by (named x new) (subst (λ (o : Option OwnNode). IsEntryOf (λ u. StandsBelow (x ∷ []) u) (named x new) (head_at o)) is laying.entry)
       where
         by : (o : Option DirEntry) → IsEntryOf (λ u. StandsBelow (x ∷ []) u) o (head_at (Some w)) → is_some o ≡ true

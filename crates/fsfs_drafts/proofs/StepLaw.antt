@@ -18,7 +18,7 @@ use Rattle.fsfs_drafts.proofs.LayingKeeps.{files_kept, once_kept, sources_kept}
 module _ (look : RevisionBytes) (trees : ℕ → TreeFunction) (top base : ℕ) (txn : TxnName) (s : Step look trees top base txn) where
   -- nothing of the transaction's stands at the place
   module _ (none : s.own (place_in s) ≡ None) where
-    no_head : head_at (under s.path s.own (s.name ∷ [])) ≡ None
+    pub no_head : head_at (under s.path s.own (s.name ∷ [])) ≡ None
     no_head = ap head_at (under_is s.path s.own (s.name ∷ []) ∙ none)
 
     -- what is shown there is shared, behind an entry that the directory has
@@ -29,7 +29,7 @@ module _ (look : RevisionBytes) (trees : ℕ → TreeFunction) (top base : ℕ) 
         ∙ old_at trees s.directory s.name s.entries (under s.path s.own) (shared_at trees s.path s.own (trees base)) (old_here look top base trees s.shown s.within txn s.before s.own s.draft s.path s.directory s.is_directory.here) s.name []
         ∙ ap (λ (o : Option Node). cond (has_entry s.directory.entries s.name) o None) (inner_shared look top base trees s.shown s.within txn s.before s.own s.draft s.path s.directory s.is_directory.here s.name no_head [])
 
-    was_shared : (n : Node) → tree_before s (place_in s) ≡ Some n → (has_entry s.directory.entries s.name ≡ true) × (shared_under trees (Some s.directory) (shared_at trees s.path s.own (trees base)) (s.name ∷ []) ≡ Some n)
+    pub was_shared : (n : Node) → tree_before s (place_in s) ≡ Some n → (has_entry s.directory.entries s.name ≡ true) × (shared_under trees (Some s.directory) (shared_at trees s.path s.own (trees base)) (s.name ∷ []) ≡ Some n)
     was_shared n is = by (has_entry s.directory.entries s.name) refl (sym shown_there ∙ is)
       where
         Shared : Option Node
