@@ -2,6 +2,7 @@
 use Rattle.std.proofs.Common.{◌≡◌, ◌≤◌, ◌<◌, ◌⊎◌, ℕ, zero, suc, max, Bool, true, false, nat_lt, not, ◌&&◌, List, [], ◌∷◌, ◌++◌, length, take, drop, refl, sym, ap, subst, ◌∙◌, append_assoc, inl, inr, arith}
 use Rattle.std.proofs.Math.Seq.{drop-append_seam}
 use Rattle.std.proofs.lemmas.Bool.{and_parts, not-true}
+use Rattle.std.proofs.lemmas.Option.{same_Some}
 use Rattle.std.specs.Prelude.{Result, Ok, Option, Some, None, is_some, if◌then◌else◌}
 use Rattle.fsfs_base.specs.Paths.{PathName, Path, covers, is_above}
 use Rattle.fsfs_tree.specs.Nodes.{Node, Bytes, TreeFunction, empty_node}
@@ -16,7 +17,7 @@ use Rattle.fsfs_damage.specs.declared.wrong.Wrong.{Wrong}
 use Rattle.fsfs_damage.proofs.OneAnswer.{ok_same}
 use Rattle.fsfs_shows.specs.Reading.{Pairs, PairsAt, OfContents, ChildOf, PropsOf, Met, Stands, Lacking, Blocked, MetFrom, MetAt, StandsAt}
 use Rattle.fsfs_shows.specs.Chains.{own_rev, IsPred, Chain, First, copy_root_of, contents_rev}
-use Rattle.fsfs_shows.specs.IdRules.{IsChild}
+use Rattle.fsfs_shows.specs.IdRules.{IsOf, IsChild}
 use Rattle.fsfs_shows.specs.Shown.{IsTextOf, Nearest, copied_from, source_by, IsOfCopy, IsSource, IsShown, IsShownAs, Shows}
 use Rattle.fsfs_shows.proofs.OneWalk.{props_one, met_same, stands_same}
 use Rattle.fsfs_shows.proofs.OneTree.{chain_one, first_same, copied_same, near_same, text_same}
@@ -144,96 +145,98 @@ module _ (look : RevisionBytes) (top : ℕ) (tree : ℕ → TreeFunction) (trees
 
   -- ---- chains begin no later than what is below them was made or copied
 
-  module _ (r : ℕ) (p : Path) (name : PathName) (d c : NodeRev) (last : ℕ × Path) (a b : ℕ) where
-    abbrev lower : ℕ
-    lower = (later_root last (copy_root_of c)).0
+  late : (r : ℕ) (p : Path) (d : NodeRev) (a b low : ℕ) → StandsAt look r p d → Chain look d (Ok a) → r ≤ low → a ≤ max b low
+  late r p d a b low at chain more =
+      let home = stands_home look r p d at in
+      let first = chain_le look d (Ok a) a chain refl home.0 in
+      let own = home.1 in
+      omega (arith, more, first, own)
 
-    late : r ≤ top → StandsAt look r p d → Chain look d (Ok a) → r ≤ (later_root last (copy_root_of c)).0 → a ≤ max b (later_root last (copy_root_of c)).0
-    late le at chain more =
-        let home = stands_home look r p d at in
-        let first = chain_le look d (Ok a) a chain refl home.0 in
-        let own = home.1 in
-        omega (arith, more, first, own)
+  chain_before : (v u : NodeRev) (x : ℕ) → IsPred look v u → Chain look v (Ok x) → Chain look u (Ok x)
+  chain_before v u x pred chain =
+      let w = chain_pred look v (Ok x) x pred.0 chain refl pred.1 in
+      subst (λ (y : NodeRev). Chain look y (Ok x)) (pred_same look v w.0 u w.1 pred) w.2
+
+  module _ (r : ℕ) (le : suc r ≤ top) (p : Path) (name : PathName) (d c : NodeRev) (last : ℕ × Path) (g : IsRootedAt look (suc r) p d last) (is : d.kind ≡ Dir) (child : ChildOf look d name (Ok (Some c)))
+      (a b : ℕ) (from_d : Chain look d (Ok a)) (from_c : Chain look c (Ok b))
+      (before : (d2 c2 : NodeRev) → IsRootedAt look r p d2 last → d2.kind ≡ Dir → ChildOf look d2 name (Ok (Some c2)) → Chain look d2 (Ok a) → Chain look c2 (Ok b) → a ≤ max b (later_root last (copy_root_of c2)).0) where
+    abbrev root : ℕ × Path
+    root = later_root last (copy_root_of c)
+
+    at : StandsAt look (suc r) p d
+    at = rooted_stands look (suc r) p d last g
+
+    rooted : IsRootedAt look (suc r) (p ++ name ∷ []) c (later_root last (copy_root_of c))
+    rooted = rooted_child look (suc r) p d c last name g is child
+
+    under : own_rev c ≤ own_rev d
+    under = (child_home look d c name child).1
+
+    on : (d2 c2 : NodeRev) → IsRootedAt look r p d2 last → d2.kind ≡ Dir → ChildOf look d2 name (Ok (Some c2)) → (later_root last (copy_root_of c2)).0 ≡ root.0 → Chain look d2 (Ok a) → Chain look c2 (Ok b) → a ≤ max b root.0
+    on d2 c2 h is2 child2 same x y = let le2 = before d2 c2 h is2 child2 x y in omega (arith, le2, same)
+
+    kind_before : (u : NodeRev) → IsPred look d u → u.kind ≡ Dir
+    kind_before u pred = pred_dir look top tree trees (suc r) le p name d c at is child u pred
+
+    mine : IsChild look top (suc r) p name d c
+    mine = is_child look top tree trees (suc r) le p name d c at is child
+
+    not_copied : root.0 ≤ r → own_rev c ≡ suc r → Copied c → c.copy_from ≡ None
+    not_copied low own (Not none) = none
+    not_copied low own (From from is_copy) =
+        let of : IsOf look top c = (suc r, p ++ name ∷ [], le, rooted_stands look (suc r) (p ++ name ∷ []) c root rooted) in
+        let rev : (copy_root_of c).0 ≡ own_rev c = ap (λ (x : ℕ × Path). x.0) (trees.ids.copy_root c from of is_copy) in
+        let up = later_up_here last (copy_root_of c) in
+        absurd (omega (arith, rev, up, low, own))
+
+    -- the child is older than the revision
+    same_child : own_rev c ≤ r → IsBehind look r p last d → a ≤ max b root.0
+    same_child own (Same low h) = on d c h is child refl from_d from_c
+    same_child own (Fresh now none) = let o = trees.ids.older (suc r) p name d c mine (omega (arith, own, now)) in no_pred look d o.0 o.1 none
+    same_child own (Moved u now pred h) =
+        let o = trees.ids.older (suc r) p name d c mine (omega (arith, own, now)) in
+        let one : ChildOf look u name (Ok (Some c)) = subst (λ (x : NodeRev). ChildOf look x name (Ok (Some c))) (pred_same look d o.0 u o.1 pred) o.2 in
+        on u c h (kind_before u pred) one refl (chain_before d u a pred from_d) from_c
+
+    -- the child goes on from u
+    moved_child : root.0 ≤ r → (u : NodeRev) → own_rev c ≡ suc r → IsPred look c u → IsRootedAt look r (p ++ name ∷ []) u root → IsBehind look r p last d → a ≤ max b root.0
+    moved_child low u own pred was (Same old h) = absurd (omega (arith, own, under, old))
+    moved_child low u own pred was (Fresh now none) = let o = trees.ids.goes_on (suc r) p name d c u mine (own ∙ sym now) (not_copied low own (copied c)) pred in no_pred look d o.0 o.1 none
+    moved_child low u own pred was (Moved w now back h) =
+        let o = trees.ids.goes_on (suc r) p name d c u mine (own ∙ sym now) (not_copied low own (copied c)) pred in
+        let one : ChildOf look w name (Ok (Some u)) = subst (λ (x : NodeRev). ChildOf look x name (Ok (Some u))) (pred_same look d o.0 w o.1 back) o.2 in
+        let dir = kind_before w back in
+        let same = rooted_one look r (p ++ name ∷ []) u u (later_root last (copy_root_of u)) root (rooted_child look r p w u last name h dir one) was in
+        on w u h dir one (ap (λ (x : ℕ × Path). x.0) same) (chain_before d w a back from_d) (chain_before c u b pred from_c)
+
+    behind_child : root.0 ≤ r → IsBehind look r p last d → IsBehind look r (p ++ name ∷ []) root c → a ≤ max b root.0
+    behind_child low above (Same own h) = same_child own above
+    behind_child low above (Fresh own none) =
+        let first : own_rev c ≡ b = ok_same (own_rev c) b (chain_one (First c none) from_c) in
+        let home = stands_home look (suc r) p d at in
+        let le2 = chain_le look d (Ok a) a from_d refl home.0 in
+        let up = home.1 in
+        omega (arith, first, own, le2, up)
+    behind_child low above (Moved u own pred h) = moved_child low u own pred h above
+
+    first_step : a ≤ max b root.0
+    first_step = by (nat_lt r root.0) refl
+      where
+        by : (t : Bool) → nat_lt r root.0 ≡ t → a ≤ max b root.0
+        by true e = let more = is_less r root.0 e in late (suc r) p d a b root.0 at from_d (omega (arith, more))
+        by false e =
+            let low : root.0 ≤ r = is_not_less r root.0 e in
+            let up = later_up last (copy_root_of c) in
+            behind_child low (behind_at look top tree trees r le p d last g (omega (arith, up, low))) (behind_at look top tree trees r le (p ++ name ∷ []) c root rooted low)
 
   first_below : (r : ℕ) → r ≤ top → (p : Path) (name : PathName) (d c : NodeRev) (last : ℕ × Path) → IsRootedAt look r p d last → d.kind ≡ Dir → ChildOf look d name (Ok (Some c))
       → (a b : ℕ) → Chain look d (Ok a) → Chain look c (Ok b) → a ≤ max b (later_root last (copy_root_of c)).0
-  first_below zero le p name d c last g is child a b from_d from_c = late zero p name d c last a b le (rooted_stands look zero p d last g) from_d (omega arith)
-  first_below (suc r) le p name d c last g is child a b from_d from_c = by (nat_lt r last'.0) refl
-    where
-      last' : ℕ × Path
-      last' = later_root last (copy_root_of c)
-
-      at : StandsAt look (suc r) p d
-      at = rooted_stands look (suc r) p d last g
-
-      g' : IsRootedAt look (suc r) (p ++ name ∷ []) c (later_root last (copy_root_of c))
-      g' = rooted_child look (suc r) p d c last name g is child
-
-      under : own_rev c ≤ own_rev d
-      under = (child_home look d c name child).1
-
-      on : (d2 c2 : NodeRev) → IsRootedAt look r p d2 last → d2.kind ≡ Dir → ChildOf look d2 name (Ok (Some c2)) → (later_root last (copy_root_of c2)).0 ≡ last'.0 → Chain look d2 (Ok a) → Chain look c2 (Ok b) → a ≤ max b last'.0
-      on d2 c2 h is2 child2 same x y = let le2 = first_below r (omega (arith, le)) p name d2 c2 last h is2 child2 a b x y in omega (arith, le2, same)
-
-      kind_before : (u : NodeRev) → IsPred look d u → u.kind ≡ Dir
-      kind_before u pred = pred_dir look top tree trees (suc r) le p name d c at is child u pred
-
-      mine : IsChild look top (suc r) p name d c
-      mine = is_child look top tree trees (suc r) le p name d c at is child
-
-      not_copied : last'.0 ≤ r → own_rev c ≡ suc r → Copied c → c.copy_from ≡ None
-      not_copied low own (Not none) = none
-      not_copied low own (From from is_copy) =
-          let root = ap (λ (x : ℕ × Path). x.0) (trees.ids.copy_root c from (suc r, p ++ name ∷ [], le, rooted_stands look (suc r) (p ++ name ∷ []) c (later_root last (copy_root_of c)) g') is_copy) in
-          let up = later_up_here last (copy_root_of c) in
-          absurd (omega (arith, root, up, low, own))
-
-      chain_before : (v u : NodeRev) (x : ℕ) → IsPred look v u → Chain look v (Ok x) → Chain look u (Ok x)
-      chain_before v u x pred chain =
-          let w = chain_pred look v (Ok x) x pred.0 chain refl pred.1 in
-          subst (λ (y : NodeRev). Chain look y (Ok x)) (pred_same look v w.0 u w.1 pred) w.2
-
-      -- the child is older than the revision
-      same_child : own_rev c ≤ r → IsBehind look r p last d → a ≤ max b last'.0
-      same_child own (Same low rooted) = on d c rooted is child refl from_d from_c
-      same_child own (Fresh now none) = let o = trees.ids.older (suc r) p name d c mine (omega (arith, own, now)) in no_pred look d o.0 o.1 none
-      same_child own (Moved u now pred rooted) =
-          let o = trees.ids.older (suc r) p name d c mine (omega (arith, own, now)) in
-          let one : ChildOf look u name (Ok (Some c)) = subst (λ (x : NodeRev). ChildOf look x name (Ok (Some c))) (pred_same look d o.0 u o.1 pred) o.2 in
-          on u c rooted (kind_before u pred) one refl (chain_before d u a pred from_d) from_c
-
-      -- the child goes on from u
-      moved_child : last'.0 ≤ r → (u : NodeRev) → own_rev c ≡ suc r → IsPred look c u → IsRootedAt look r (p ++ name ∷ []) u last' → IsBehind look r p last d → a ≤ max b last'.0
-      moved_child low u own pred rooted (Same old h) = absurd (omega (arith, own, under, old))
-      moved_child low u own pred rooted (Fresh now none) =
-          let o = trees.ids.goes_on (suc r) p name d c u mine (own ∙ sym now) (not_copied low own (copied c)) pred in
-          no_pred look d o.0 o.1 none
-      moved_child low u own pred rooted (Moved w now back h) =
-          let o = trees.ids.goes_on (suc r) p name d c u mine (own ∙ sym now) (not_copied low own (copied c)) pred in
-          let one : ChildOf look w name (Ok (Some u)) = subst (λ (x : NodeRev). ChildOf look x name (Ok (Some u))) (pred_same look d o.0 w o.1 back) o.2 in
-          let dir = kind_before w back in
-          let same = rooted_one look r (p ++ name ∷ []) u u (later_root last (copy_root_of u)) last' (rooted_child look r p w u last name h dir one) rooted in
-          on w u h dir one (ap (λ (x : ℕ × Path). x.0) same) (chain_before d w a back from_d) (chain_before c u b pred from_c)
-
-      behind_child : last'.0 ≤ r → IsBehind look r p last d → IsBehind look r (p ++ name ∷ []) last' c → a ≤ max b last'.0
-      behind_child low above (Same own rooted) = same_child own above
-      behind_child low above (Fresh own none) =
-          let first : own_rev c ≡ b = ok_same (own_rev c) b (chain_one (First c none) from_c) in
-          let home = stands_home look (suc r) p d at in
-          let le2 = chain_le look d (Ok a) a from_d refl home.0 in
-          let up = home.1 in
-          omega (arith, first, own, le2, up)
-      behind_child low above (Moved u own pred rooted) = moved_child low u own pred rooted above
-
-      by : (t : Bool) → nat_lt r last'.0 ≡ t → a ≤ max b last'.0
-      by true e = late (suc r) p name d c last a b le at from_d (is_less r last'.0 e)
-      by false e =
-          let low : last'.0 ≤ r = is_not_less r last'.0 e in
-          let up = later_up last (copy_root_of c) in
-          behind_child low (behind_at look top tree trees r le p d last g (omega (arith, up, low))) (behind_at look top tree trees r le (p ++ name ∷ []) c last' g' low)
+  first_below zero le p name d c last g is child a b from_d from_c = late zero p d a b (later_root last (copy_root_of c)).0 (rooted_stands look zero p d last g) from_d (omega arith)
+  first_below (suc r) le p name d c last g is child a b from_d from_c =
+      first_step r le p name d c last g is child a b from_d from_c (λ d2 c2 h is2 child2 x y. first_below r (omega (arith, le)) p name d2 c2 last h is2 child2 a b x y)
 
   -- further down
-  record IsBelow (look' : RevisionBytes) (a b : ℕ) (v w : NodeRev) (mid last : ℕ × Path) : Type 0 where
+  record IsBelow (a b : ℕ) (v w : NodeRev) (mid last : ℕ × Path) : Type 0 where
     added : max a mid.0 ≤ max b last.0
     changed : max last.0 (own_rev w) ≤ max mid.0 (own_rev v)
 
@@ -241,7 +244,7 @@ module _ (look : RevisionBytes) (top : ℕ) (tree : ℕ → TreeFunction) (trees
   chain_of r le p v last g = let n = (here r le p v last g).by_it in (n.first, n.chain)
 
   below_from : (r : ℕ) → r ≤ top → (front rest : Path) (v w : NodeRev) (mid last : ℕ × Path) → IsRootedAt look r front v mid → IsRootedFrom look v mid rest w last
-      → (a b : ℕ) → Chain look v (Ok a) → Chain look w (Ok b) → IsBelow look a b v w mid last
+      → (a b : ℕ) → Chain look v (Ok a) → Chain look w (Ok b) → IsBelow a b v w mid last
   below_from r le front [] v w mid last g down a b from_v from_w =
       let chain : Chain look v (Ok b) = subst (λ (x : NodeRev). Chain look x (Ok b)) down.0 from_w in
       let first = first_same look v a b from_v chain in
@@ -265,21 +268,23 @@ module _ (look : RevisionBytes) (top : ℕ) (tree : ℕ → TreeFunction) (trees
 
   -- ---- back to the revision of the latest copy
 
-  back_to : (r : ℕ) → r ≤ top → (p : Path) (v : NodeRev) (last : ℕ × Path) → IsRootedAt look r p v last → (a : ℕ) → Chain look v (Ok a) → a < last.0 → last.0 ≤ r
-      → (w : NodeRev) × IsRootedAt look last.0 p w last × Chain look w (Ok a)
+  abbrev IsBack : ℕ × Path → Path → ℕ → Type 0
+  IsBack last p a = (w : NodeRev) × IsRootedAt look last.0 p w last × Chain look w (Ok a)
+
+  back_step : (r : ℕ) → suc r ≤ top → (p : Path) (v : NodeRev) (last : ℕ × Path) (a : ℕ) → Chain look v (Ok a) → a < last.0 → last.0 ≤ r
+      → ((w : NodeRev) → IsRootedAt look r p w last → Chain look w (Ok a) → IsBack last p a) → IsBehind look r p last v → IsBack last p a
+  back_step r le p v last a chain less under further (Same own rooted) = further v rooted chain
+  back_step r le p v last a chain less under further (Fresh own none) =
+      let first : own_rev v ≡ a = ok_same (own_rev v) a (chain_one (First v none) chain) in
+      absurd (omega (arith, first, own, less, under))
+  back_step r le p v last a chain less under further (Moved u own pred rooted) = further u rooted (chain_before v u a pred chain)
+
+  back_to : (r : ℕ) → r ≤ top → (p : Path) (v : NodeRev) (last : ℕ × Path) → IsRootedAt look r p v last → (a : ℕ) → Chain look v (Ok a) → a < last.0 → last.0 ≤ r → IsBack last p a
   back_to zero le p v last g a chain less low = absurd (omega (arith, less, low))
   back_to (suc r) le p v last g a chain less low = by_age last.0 (suc r) low
-      (λ under. further (omega (arith, under)) (behind_at look top tree trees r le p v last g (omega (arith, under))))
+      (λ under. let at_most : last.0 ≤ r = omega (arith, under) in
+          back_step r le p v last a chain less at_most (λ w rooted begins. back_to r (omega (arith, le)) p w last rooted a begins less at_most) (behind_at look top tree trees r le p v last g at_most))
       (λ same. (v, subst (λ (n : ℕ). IsRootedAt look n p v last) (sym same) g, chain))
-    where
-      further : last.0 ≤ r → IsBehind look r p last v → (w : NodeRev) × IsRootedAt look last.0 p w last × Chain look w (Ok a)
-      further under (Same own rooted) = back_to r (omega (arith, le)) p v last rooted a chain less under
-      further under (Fresh own none) =
-          let first : own_rev v ≡ a = ok_same (own_rev v) a (chain_one (First v none) chain) in
-          absurd (omega (arith, first, own, less, under))
-      further under (Moved u own pred rooted) =
-          let w = chain_pred look v (Ok a) a pred.0 chain refl pred.1 in
-          back_to r (omega (arith, le)) p u last rooted a (subst (λ (x : NodeRev). Chain look x (Ok a)) (pred_same look v w.0 u w.1 pred) w.2) less under
 
   -- ---- a source stands in its revision
 
@@ -289,11 +294,14 @@ module _ (look : RevisionBytes) (top : ℕ) (tree : ℕ → TreeFunction) (trees
   stands_some : (r : ℕ) → r ≤ top → (p : Path) (v : NodeRev) → StandsAt look r p v → is_some (tree r p) ≡ true
   stands_some r le p v at = let n = there look r (tree r) (trees.each r le) p v at in ap is_some n.1
 
+  abbrev copied_by : Bool → ℕ × Path → Option (ℕ × Path)
+  copied_by b to = if b then Some to else None
+
   copied_to : (c : ℕ) → c ≤ top → (p root : Path) (x : NodeRev) (s : IsAtSource look c p root x) (b : Bool) (from : ℕ) (f : Path)
-      → (if b then Some (s.from.rev, s.from.path ++ drop (length root) p) else None) ≡ Some (from, f) → IsSourceOf c from f
+      → copied_by b (s.from.rev, s.from.path ++ drop (length root) p) ≡ Some (from, f) → IsSourceOf c from f
   copied_to c le p root x s false from f e = absurd cc
   copied_to c le p root x s true from f e =
-      let pair : (s.from.rev, s.from.path ++ drop (length root) p) ≡ (from, f) = cc in
+      let pair : (s.from.rev, s.from.path ++ drop (length root) p) ≡ (from, f) = same_Some _ _ e in
       let rev : s.from.rev ≡ from = ap (λ (y : ℕ × Path). y.0) pair in
       let earlier = s.earlier in
       let rest : drop (length root) p ≡ s.rest = ap (λ (q : Path). drop (length root) q) s.parts ∙ drop-append_seam root s.rest in
@@ -402,7 +410,7 @@ module _ (look : RevisionBytes) (top : ℕ) (tree : ℕ → TreeFunction) (trees
       as_next u own pred rooted =
           let h = here r before_le p u o.last rooted in
           let go = gone_on look p o.last o.rev u h.node n pred h.by_it o.by_it in
-          let v_of : (s : ℕ) × (q : Path) × (s ≤ top) × StandsAt look s q o.rev = (suc r, p, le, rooted_stands look (suc r) p o.rev o.last o.rooted) in
+          let v_of : IsOf look top o.rev = (suc r, p, le, rooted_stands look (suc r) p o.rev o.last o.rooted) in
           record {
             node = h.node;
             node_is = h.node_is;
@@ -501,7 +509,7 @@ module _ (look : RevisionBytes) (top : ℕ) (tree : ℕ → TreeFunction) (trees
 
   next : (r : ℕ) → r < top → IsRevision (suc r) tree (tree r) (tree (suc r))
   next r less =
-      let le : suc r ≤ top = less in
+      let le : suc r ≤ top = omega (arith, less) in
       let s = sound look (suc r) (tree (suc r)) (trees.each (suc r) le) in
       record {
         is_tree = s.is_tree;
@@ -525,6 +533,10 @@ module _ (look : RevisionBytes) (top : ℕ) (tree : ℕ → TreeFunction) (trees
 
   -- ---- the first tree
 
+  no_source : (first : ℕ) (last : ℕ × Path) (source : Option (ℕ × Path)) → last.0 ≤ 0 → SourceBy look [] first last source → source ≡ None
+  no_source first last source low (inl h) = h.1
+  no_source first last source low (inr h) = absurd (let less = h.0 in omega (arith, less, low))
+
   first_node : (n : Node) → tree 0 [] ≡ Some n → n ≡ empty_node Dir
   first_node n is =
       let le : 0 ≤ top = omega arith in
@@ -536,15 +548,12 @@ module _ (look : RevisionBytes) (top : ℕ) (tree : ℕ → TreeFunction) (trees
       let kind : n.kind ≡ Dir = o.by_it.kind ∙ dir in
       let text : n.text ≡ Bytes [] = subst (λ (k : Kind). IsTextOf look k o.rev n.text) dir o.by_it.text in
       let properties : n.properties ≡ [] = ok_same n.properties [] (subst (λ (c : Option Contents). OfContents [] (PairsAt look) c (Ok n.properties)) rule.1 o.by_it.properties) in
-      let source : n.source ≡ None = none o.by_it.source in
+      let low = last_low 0 [] o.rev o.last o.rooted in
+      let source : n.source ≡ None = no_source o.by_it.first o.last n.source low o.by_it.source in
       let props : n.props_changed ≡ 0 = (let changed = o.by_it.props_changed in let zero_added = numbers.0 in let rep : contents_rev o.rev.props ≡ 0 = ap contents_rev rule.1 in omega (arith, changed, zero_added, rep)) in
       let added = numbers.0 in
       let last = numbers.1 in
       λ i. record { kind = kind i; text = text i; properties = properties i; source = source i; added = added i; props_changed = props i; last_changed = last i }
-    where
-      none : SourceBy look [] (of 0 (omega arith) [] n is).by_it.first (of 0 (omega arith) [] n is).last n.source → n.source ≡ None
-      none (inl h) = h.1
-      none (inr h) = absurd (let less = h.0 in let low = last_low 0 [] (of 0 (omega arith) [] n is).rev (of 0 (omega arith) [] n is).last (of 0 (omega arith) [] n is).rooted in omega (arith, less, low))
 
   revisions : AreRevisions tree top
   revisions = record {

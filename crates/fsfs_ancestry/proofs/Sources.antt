@@ -10,7 +10,7 @@ use Rattle.fsfs_noderev.specs.declared.node_rev.CopySource.{CopySource}
 use Rattle.fsfs_noderev.specs.declared.node_rev.NodeRev.{NodeRev}
 use Rattle.fsfs_shows.specs.Reading.{ChildOf, StandsAt}
 use Rattle.fsfs_shows.specs.Chains.{own_rev, IsPred, copy_root_of}
-use Rattle.fsfs_shows.specs.IdRules.{IsChild, root_after}
+use Rattle.fsfs_shows.specs.IdRules.{IsOf, IsChild, root_after}
 use Rattle.fsfs_shows.proofs.TreeLaw.{child_home, stands_home, root_le}
 use Rattle.fsfs_shows.proofs.Walks.{child_stands}
 use Rattle.fsfs_ancestry.specs.CopyRoots.{later_root, IsRootedAt}
@@ -48,7 +48,7 @@ root_by P dir u f g = by (nat_lt (own_rev u) (copy_root_of dir).0) refl
     by false e = g (is_not_less (own_rev u) (copy_root_of dir).0 e)
 
 -- of the revision, or of an earlier one
-by_age : {C : Type 0} (a b : ℕ) → a ≤ b → (a < b → C) → (a ≡ b → C) → C
+pub by_age : {C : Type 0} (a b : ℕ) → a ≤ b → (a < b → C) → (a ≡ b → C) → C
 by_age {C} a b le f g = by (nat_lt a b) refl
   where
     by : (t : Bool) → nat_lt a b ≡ t → C
@@ -114,7 +114,7 @@ module _ (look : RevisionBytes) (top : ℕ) (tree : ℕ → TreeFunction) (trees
       now : own_rev v ≡ r → IsCopyRoot look (copy_root_of dir) → Copied v → IsCopyRoot look (copy_root_of v)
       now own root (Not none) = next own none root (before r (p ++ name ∷ []) v le there)
       now own root (From from is_copy) =
-          let of : (s : ℕ) × (q : Path) × (s ≤ top) × StandsAt look s q v = (r, p ++ name ∷ [], le, there) in
+          let of : IsOf look top v = (r, p ++ name ∷ [], le, there) in
           let root_is = trees.ids.copy_root v from of is_copy in
           OfCopy v from (subst (λ (x : ℕ × Path). StandsAt look x.0 x.1 v) (sym root_is) (trees.ids.copy_there v from of is_copy)) (ap (λ (x : ℕ × Path). x.0) (sym root_is)) is_copy
 
@@ -177,11 +177,8 @@ pub record Origins (look : RevisionBytes) (c : ℕ) (p : Path) (v : NodeRev) : T
 
 module _ (look : RevisionBytes) (top : ℕ) (tree : ℕ → TreeFunction) (trees : ShowTrees look top tree) (c : ℕ) (le : c ≤ top) where
   module _ (p : Path) (name : PathName) (dir v : NodeRev) (at : StandsAt look c p dir) (is : dir.kind ≡ Dir) (child : ChildOf look dir name (Ok (Some v))) (there : StandsAt look c (p ++ name ∷ []) v) (o : Origins look c p dir) where
-    mine : IsChild look top c p name dir v
-    mine = is_child look top tree trees c le p name dir v at is child
-
-    abbrev here : ℕ × Path
-    here = copy_root_of v
+    placed : IsChild look top c p name dir v
+    placed = is_child look top tree trees c le p name dir v at is child
 
     abbrev To : ℕ × Path → Type 0
     To last = last.0 ≡ c → Origin look c (p ++ name ∷ []) v last
@@ -198,14 +195,14 @@ module _ (look : RevisionBytes) (top : ℕ) (tree : ℕ → TreeFunction) (trees
     kind_before : (u : NodeRev) → IsPred look dir u → u.kind ≡ Dir
     kind_before u pred = pred_dir look top tree trees c le p name dir v at is child u pred
 
-    -- older than the copy: it stood at the source
-    stood : own_rev v < c → o.last.0 ≡ c → Origin look c p dir o.last → Origin look c (p ++ name ∷ []) v o.last
-    stood less e (New own lacks root) = let g = trees.ids.older c p name dir v mine (omega (arith, less, own)) in no_pred look dir g.0 g.1 lacks
-    stood less e (Next u own root pred source) =
-        let g = trees.ids.older c p name dir v mine (omega (arith, less, own)) in
+    -- older than the copy: it stood_there at the source
+    stood_there : own_rev v < c → o.last.0 ≡ c → Origin look c p dir o.last → Origin look c (p ++ name ∷ []) v o.last
+    stood_there less e (New own lacks root) = let g = trees.ids.older c p name dir v placed (omega (arith, less, own)) in no_pred look dir g.0 g.1 lacks
+    stood_there less e (Next u own root pred source) =
+        let g = trees.ids.older c p name dir v placed (omega (arith, less, own)) in
         let one : ChildOf look u name (Ok (Some v)) = subst (λ (x : NodeRev). ChildOf look x name (Ok (Some v))) (pred_same look dir g.0 u g.1 pred) g.2 in
         Older less (source_below look c p o.last.1 u v name source (kind_before u pred) one)
-    stood less e (Older low source) = Older less (source_below look c p o.last.1 dir v name source is child)
+    stood_there less e (Older low source) = Older less (source_below look c p o.last.1 dir v name source is child)
 
     -- what goes on is of an earlier revision
     pred_low : (u : NodeRev) → IsPred look v u → own_rev u < own_rev v
@@ -217,7 +214,7 @@ module _ (look : RevisionBytes) (top : ℕ) (tree : ℕ → TreeFunction) (trees
     -- its copy root is the directory's, where that is of c or it is new
     next_root : own_rev v ≡ c → v.copy_from ≡ None → (u : NodeRev) → IsPred look v u → ((copy_root_of dir).0 ≡ c → copy_root_of v ≡ copy_root_of dir) × ((copy_root_of v).0 ≡ c → copy_root_of v ≡ copy_root_of dir)
     next_root own none u pred =
-        let next = trees.ids.root_of_next c p name dir v u mine own none pred in
+        let next = trees.ids.root_of_next c p name dir v u placed own none pred in
         let low = pred_low u pred in
         let root = pred_root u pred in (
           λ e. next ∙ root_by (λ (x : ℕ × Path). x ≡ copy_root_of dir) dir u (λ less. refl) (λ more. absurd (omega (arith, more, e, low, own))),
@@ -229,7 +226,7 @@ module _ (look : RevisionBytes) (top : ℕ) (tree : ℕ → TreeFunction) (trees
     not_lower less own e (From from is_copy) b =
         let root = ap (λ (x : ℕ × Path). x.0) (trees.ids.copy_root v from (c, p ++ name ∷ [], le, there) is_copy) in
         omega (arith, less, own, root)
-    not_lower less own e (Not none) (Nothing lacks) = let root = ap (λ (x : ℕ × Path). x.0) (trees.ids.root_of_new c p name dir v mine own none lacks) in omega (arith, less, root, e)
+    not_lower less own e (Not none) (Nothing lacks) = let root = ap (λ (x : ℕ × Path). x.0) (trees.ids.root_of_new c p name dir v placed own none lacks) in omega (arith, less, root, e)
     not_lower less own e (Not none) (One u pred) = let root = ap (λ (x : ℕ × Path). x.0) ((next_root own none u pred).0 e) in omega (arith, less, root, e)
 
     own_dir : own_rev v ≡ c → own_rev dir ≡ c
@@ -241,13 +238,13 @@ module _ (look : RevisionBytes) (top : ℕ) (tree : ℕ → TreeFunction) (trees
     root_of_dir own e (Older low source) = absurd (omega (arith, low, own_dir own))
 
     above : (copy_root_of v).0 < o.last.0 → To o.last
-    above less e = by_age (own_rev v) c (omega (arith, under, dir_most)) (λ low. stood low e (o.origin e))
+    above less = λ e. by_age (own_rev v) c (omega (arith, under, dir_most)) (λ low. stood_there low e (o.origin e))
         (λ own. absurd (not_lower (omega (arith, less, e)) own (root_of_dir own e (o.origin e)) (copied v) (before look top tree trees c (p ++ name ∷ []) v le there)))
 
     -- the latest is its own
     copy_here : own_rev v ≡ c → (from : CopySource) → v.copy_from ≡ Some from → Origin look c (p ++ name ∷ []) v (copy_root_of v)
     copy_here own from is_copy =
-        let of : (s : ℕ) × (q : Path) × (s ≤ top) × StandsAt look s q v = (c, p ++ name ∷ [], le, there) in
+        let of : IsOf look top v = (c, p ++ name ∷ [], le, there) in
         let root = trees.ids.copy_root v from of is_copy in
         let path : p ++ name ∷ [] ≡ (copy_root_of v).1 = trees.ids.copy_once v from (p ++ name ∷ []) of is_copy (subst (λ (n : ℕ). StandsAt look n (p ++ name ∷ []) v) (sym own) there) ∙ ap (λ (x : ℕ × Path). x.1) (sym root) in
         let source = trees.ids.copy_source v from of is_copy in
@@ -266,10 +263,10 @@ module _ (look : RevisionBytes) (top : ℕ) (tree : ℕ → TreeFunction) (trees
         })
 
     goes_on : own_rev v ≡ c → v.copy_from ≡ None → (u : NodeRev) → IsPred look v u → copy_root_of v ≡ o.last → Origin look c p dir o.last → Origin look c (p ++ name ∷ []) v (copy_root_of v)
-    goes_on own none u pred root (New of lacks root_is) = let g = trees.ids.goes_on c p name dir v u mine (own ∙ sym of) none pred in no_pred look dir g.0 g.1 lacks
+    goes_on own none u pred root (New of lacks root_is) = let g = trees.ids.goes_on c p name dir v u placed (own ∙ sym of) none pred in no_pred look dir g.0 g.1 lacks
     goes_on own none u pred root (Older low source) = absurd (omega (arith, low, own_dir own))
     goes_on own none u pred root (Next w of root_is back source) =
-        let g = trees.ids.goes_on c p name dir v u mine (own ∙ sym of) none pred in
+        let g = trees.ids.goes_on c p name dir v u placed (own ∙ sym of) none pred in
         let one : ChildOf look w name (Ok (Some u)) = subst (λ (x : NodeRev). ChildOf look x name (Ok (Some u))) (pred_same look dir g.0 w g.1 back) g.2 in
         Next u own refl pred (subst (λ (x : ℕ × Path). IsAtSource look c (p ++ name ∷ []) x.1 u) (sym root) (source_below look c p o.last.1 w u name source (kind_before w back) one))
 
@@ -285,7 +282,7 @@ module _ (look : RevisionBytes) (top : ℕ) (tree : ℕ → TreeFunction) (trees
         goes_on own none u pred (root ∙ o.counted.same same) (o.origin (sym same ∙ up))
 
     at_here : o.last.0 ≤ (copy_root_of v).0 → To (copy_root_of v)
-    at_here more e = from_here (omega (arith, e, root_most, under, dir_most)) e (copied v) (before look top tree trees c (p ++ name ∷ []) v le there)
+    at_here more = λ e. from_here (omega (arith, e, root_most, under, dir_most)) e (copied v) (before look top tree trees c (p ++ name ∷ []) v le there)
 
     origin_down : Origins look c (p ++ name ∷ []) v
     origin_down = record {

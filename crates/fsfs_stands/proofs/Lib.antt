@@ -2,3 +2,4 @@ pub mod OneHistory
 pub mod FirstHistory
 pub mod NewRepository
 pub mod Creations
+pub mod Histories

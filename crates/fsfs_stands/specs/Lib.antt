@@ -4,3 +4,4 @@ pub mod Files
 pub mod Same
 pub mod FirstHistory
 pub mod NewRepository
+pub mod Histories
