@@ -25,7 +25,8 @@ use Rattle.fsfs_shows.proofs.OneTree.{chain_one}
 use Rattle.fsfs_shows.proofs.TreeLaw.{IsHome, stands_home, chain_le, root_le, props_le, sound}
 use Rattle.fsfs_base.proofs.PathLemmas.{same_name-refl, covers-antisym, covers-longer}
 use Rattle.fsfs_ids.specs.HeadLaws.{ShowsRevisions, Continues, IsHeldAbove, AgreeAt, HeadLaws, UntouchedIsShared}
-use Rattle.fsfs_ids.proofs.Standing.{standing_named, named_same, number_of}
+use Rattle.fsfs_ancestry.proofs.Earlier.{stands_of_id, named_same}
+use Rattle.fsfs_ancestry.proofs.Behind.{shown_there}
 use Rattle.fsfs_ids.proofs.Coming.{below_or_at, IsFresh, Comes, Same, Next, Fresh, comes, same_first}
 
 some_node : (m n : Node) (o : Option Node) → o ≡ Some m → o ≡ Some n → m ≡ n
@@ -70,7 +71,7 @@ module _ (b : ℕ) (o : Option Node) (n : Node) (is : o ≡ Some n) where
 
 module _ (look : RevisionBytes) (top : ℕ) (tree : ℕ → TreeFunction) (shows : ShowsRevisions look top tree) where
   pub node_at : (r : ℕ) (p : Path) (v : NodeRev) → r ≤ top → StandsAt look r p v → (n : Node) × (tree r p ≡ Some n) × IsShown look r p v n
-  node_at r p v le at = number_of look r (tree r) (shows.each r le) p v at
+  node_at r p v le at = shown_there look r (tree r) (shows.each r le) p v at
 
   -- what is below was added no sooner
   added_below : (r : ℕ) (q p : Path) (m n : Node) → suc r ≤ top → covers q p ≡ true → tree (suc r) q ≡ Some m → tree (suc r) p ≡ Some n → m.added ≤ n.added

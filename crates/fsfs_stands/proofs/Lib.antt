@@ -3,3 +3,4 @@ pub mod FirstHistory
 pub mod NewRepository
 pub mod Creations
 pub mod Histories
+pub mod Seen

@@ -5,3 +5,4 @@ pub mod Same
 pub mod FirstHistory
 pub mod NewRepository
 pub mod Histories
+pub mod Seen
