@@ -1,5 +1,5 @@
 -- The rules of ids of the revisions up to one depend on the bytes of no later one.
-use Rattle.std.proofs.Common.{◌≡◌, ◌≤◌, ◌<◌, ◌⊎◌, ℕ, [], ◌∷◌, ◌++◌, refl, sym, ap, subst, ◌∙◌, arith, inl, inr}
+use Rattle.std.proofs.Common.{◌≡◌, ◌≤◌, ◌<◌, ◌⊎◌, ℕ, suc, true, [], ◌∷◌, ◌++◌, refl, sym, ap, subst, ◌∙◌, arith, inl, inr}
 use Rattle.std.specs.Prelude.{Result, Ok, Option, Some, None}
 use Rattle.fsfs_base.specs.Paths.{PathName, Path}
 use Rattle.fsfs_book.specs.Told.{RevisionBytes}
@@ -24,10 +24,7 @@ module _ (top : ℕ) (look other : RevisionBytes) (same : AreSameUpTo top look o
   in_time v of = let h = stands_home look of.0 of.1 v of.3 in record { home = h.0; low = (let x = of.2 in omega (arith, h.1)) }
 
   pred_rev : (v : NodeRev) → InTime top v → (id : NodeId) → v.predecessor ≡ Some id → (offset_of id.place).rev ≤ top
-  pred_rev v t id e = let b = before_le (offset_of v.id.place) id.place (subst (λ (x : Option NodeId). pred_before (offset_of v.id.place) x ≡ true') e t.home.pred) in (let l = t.low in omega (arith, b))
-    where
-      true' : Rattle.std.specs.Prelude.Bool
-      true' = Rattle.std.specs.Prelude.true
+  pred_rev v t id e = let b = before_le (offset_of v.id.place) id.place (subst (λ (x : Option NodeId). pred_before (offset_of v.id.place) x ≡ true) e t.home.pred) in (let l = t.low in omega (arith, b))
 
   pred_to : (v u : NodeRev) → InTime top v → IsPred look v u → IsPred other v u
   pred_to v u t p = (p.0, p.1, of_id_same top look other same p.0 (pred_rev v t p.0 p.1) (Ok u) p.2)
@@ -89,8 +86,8 @@ module _ (top : ℕ) (look other : RevisionBytes) (same : AreSameUpTo top look o
     count = λ v u of p. ids.count v u (of_back v of) (pred_back v u of p);
     root_id = λ r v le at. ids.root_id r v le (at_back r le [] v at);
     root_copy = λ r v le at. ids.root_copy r v le (at_back r le [] v at);
-    root_next = λ r v u le at before. ids.root_next r v u le (at_back (Rattle.std.specs.Prelude.suc r) le [] v at) (at_back r (omega arith) [] u before);
-    root_root = λ r v u le at before. ids.root_root r v u le (at_back (Rattle.std.specs.Prelude.suc r) le [] v at) (at_back r (omega arith) [] u before);
+    root_next = λ r v u le at before. ids.root_next r v u le (at_back (suc r) le [] v at) (at_back r (omega arith) [] u before);
+    root_root = λ r v u le at before. ids.root_root r v u le (at_back (suc r) le [] v at) (at_back r (omega arith) [] u before);
     first = λ v at. ids.first v (at_back 0 (omega arith) [] v at);
     alone = λ name p v at. ids.alone name p v (at_back 0 (omega arith) (name ∷ p) v at);
     begins_once = λ v u a b e f g. ids.begins_once v u (of_back v a) (of_back u b) e f g;

@@ -1,12 +1,12 @@
--- A node of the tree becomes the transaction's own: the tree stays, and so do the rules.
+-- A node of the tree becomes the transaction's own: it is laid behind its name, and the tree stays.
 use Rattle.std.proofs.Common.{◌≡◌, ◌≤◌, ℕ, Bool, true, false, ◌&&◌, cond, List, [], ◌∷◌, ◌++◌, refl, sym, ap, subst, ◌∙◌, append-nil, inl, inr, arith}
 use Rattle.std.specs.Prelude.{Option, Some, None, Ok, Err, is_some, ◌⊎◌}
 use Rattle.std.proofs.lemmas.Bool.{and_parts}
-use Rattle.fsfs_base.specs.Paths.{PathName, Path, same_name, covers}
+use Rattle.fsfs_base.specs.Paths.{PathName, Path, same_name}
 use Rattle.fsfs_tree.specs.Nodes.{Node, TreeFunction, Content, Bytes, Closed}
 use Rattle.fsfs_base.specs.declared.kind.Kind.{Kind}
 use Rattle.fsfs_base.specs.declared.kind.Kind.TheVariants.{File, Dir}
-use Rattle.fsfs_base.proofs.PathLemmas.{same_name-is, same_name-refl, covers-refl}
+use Rattle.fsfs_base.proofs.PathLemmas.{same_name-refl}
 use Rattle.fsfs_fields.specs.declared.txn_name.TxnName.{TxnName}
 use Rattle.fsfs_book.specs.Told.{RevisionBytes}
 use Rattle.fsfs_noderev.specs.Ids as ids
@@ -24,48 +24,15 @@ use Rattle.fsfs_damage.specs.declared.wrong.Wrong.TheVariants as wrongs
 use Rattle.fsfs_shows.specs.Shown.{IsTextOf}
 use Rattle.fsfs_damage.proofs.OneAnswer.{ok_same}
 use Rattle.fsfs_shows.proofs.OneWalk.{of_id_one}
-use Rattle.fsfs_drafts.specs.Own.{OwnNode, Own, below, shared_under, has_entry, draft_tree, graft, under, alone, with_child, shared_at, opened}
-use Rattle.fsfs_drafts.specs.Rules.{Above, at_top, CopyPartOf, ComesBy, Change, Head, head_at, IsEntryOf, Rules, above_of, stands_under, above_at, stands_at}
+use Rattle.fsfs_drafts.specs.Own.{OwnNode, Own, shared_under, has_entry, draft_tree, under, shared_at, opened}
+use Rattle.fsfs_drafts.specs.Rules.{CopyPartOf, ComesBy, Change, Head, head_at, IsEntryOf, above_of, stands_under, stands_at}
 use Rattle.fsfs_drafts.specs.Drafts.{Kept, Folder, kept_of, IsLasting, Lasting, IsDraftText, HasContent, IsBelow, IsDraft, ShowTrees}
 use Rattle.fsfs_drafts.specs.Agreeing.{IsContentOf, Agrees}
-use Rattle.fsfs_drafts.specs.Steps.{same_value, with_kept, kept_at, EntriesHere, Listed, Read, Empty, IsReplaced, IsSuccessor}
-use Rattle.fsfs_drafts.proofs.Edited.{same_tree, OthersStay, changed_tree}
-use Rattle.fsfs_drafts.proofs.RuleLemmas.{graft_rules, child_rules, alone_rules}
-use Rattle.fsfs_drafts.proofs.Files.{same_value-is, same_key, same_files, put_files, other_files}
-use Rattle.fsfs_drafts.proofs.Here.{under_is, live_here, old_here, rules_here, agrees_below, none_at, AreHere, are_here}
-
--- ---- which own node-revisions there are after a change
-
-pub graft_some : (p : Path) (new own : Own) (q : Path) (a : OwnNode) → graft p new own q ≡ Some a → ((r : Path) × (q ≡ p ++ r) × (new r ≡ Some a)) ⊎ ((own q ≡ Some a) × (covers p q ≡ false))
-graft_some [] new own q a h = inl (q, refl, h)
-graft_some (x ∷ p) new own [] a h = inr (h, refl)
-graft_some (x ∷ p) new own (y ∷ q) a h = by (same_name x y) refl (λ g. graft_some p new (below y own) q a g) h
-  where
-    Goal : Type 0
-    Goal = ((r : Path) × (y ∷ q ≡ x ∷ (p ++ r)) × (new r ≡ Some a)) ⊎ ((own (y ∷ q) ≡ Some a) × ((same_name x y && covers p q) ≡ false))
-
-    further : same_name x y ≡ true → ((r : Path) × (q ≡ p ++ r) × (new r ≡ Some a)) ⊎ ((own (y ∷ q) ≡ Some a) × (covers p q ≡ false)) → Goal
-    further e (inl w) = inl (w.0, (λ i. sym (same_name-is x y e) i ∷ w.1 i), w.2)
-    further e (inr w) = inr (w.0, rw e w.1)
-
-    by : (b : Bool) → same_name x y ≡ b → (graft p new (below y own) q ≡ Some a → ((r : Path) × (q ≡ p ++ r) × (new r ≡ Some a)) ⊎ ((own (y ∷ q) ≡ Some a) × (covers p q ≡ false))) → cond b (graft p new (below y own) q) (own (y ∷ q)) ≡ Some a → Goal
-    by true e rest g = further e (rest g)
-    by false e rest g = inr (g, rw e refl)
-
-abbrev pub IsOfChild : OwnNode → PathName → Own → Own → Path → OwnNode → Type 0
-IsOfChild dir x child old r a = ((r ≡ []) × (dir ≡ a)) ⊎ (((s : Path) × (r ≡ x ∷ s) × (child s ≡ Some a)) ⊎ ((y : PathName) × (s : Path) × (r ≡ y ∷ s) × (old r ≡ Some a)))
-
-pub child_some : (dir : OwnNode) (x : PathName) (child old : Own) (r : Path) (a : OwnNode) → with_child dir x child old r ≡ Some a → IsOfChild dir x child old r a
-child_some dir x child old [] a h = inl (refl, (let e : dir ≡ a = cc in e))
-child_some dir x child old (y ∷ s) a h = by (same_name x y) refl h
-  where
-    by : (b : Bool) → same_name x y ≡ b → cond b (child s) (old (y ∷ s)) ≡ Some a → IsOfChild dir x child old (y ∷ s) a
-    by true e g = inr (inl (s, (λ i. sym (same_name-is x y e) i ∷ s), g))
-    by false e g = inr (inr (y, s, refl, g))
-
-pub longer_not : (p : Path) (y : PathName) (s : Path) → p ++ y ∷ s ≡ p → ⊥
-longer_not [] y s e = absurd cc
-longer_not (x ∷ p) y s e = longer_not p y s (let f : p ++ y ∷ s ≡ p = cc in f)
+use Rattle.fsfs_drafts.specs.Steps.{same_value, same_key, with_kept, kept_at, EntriesHere, Listed, Read, Empty, IsReplaced, IsSuccessor}
+use Rattle.fsfs_drafts.specs.Laying.{laid_in, stands_in, IsLaid, IsLaying}
+use Rattle.fsfs_drafts.proofs.Files.{same_value-is, same_files, put_files, other_files}
+use Rattle.fsfs_drafts.proofs.Here.{under_is, old_here, agrees_below, AreHere, are_here}
+use Rattle.fsfs_drafts.proofs.Laying.{laid_draft, went_on_shows}
 
 -- ---- a node-revision that a revision may have
 
@@ -105,18 +72,10 @@ had_entry look k entries x e (Listed is) found = ap (λ (o : Option (List DirEnt
 had_entry look k entries x e (Read id u none pred read of) found = ap (λ (o : Option (List DirEntry)). has_entry o x) none
 had_entry look k entries x e (Empty none pred is) found = ap (λ (o : Option (List DirEntry)). has_entry o x) none
 
--- the root after a change
-pub root_left : (p : Path) (new own : Own) (d dir root : OwnNode) → own p ≡ Some d → own [] ≡ Some root → new [] ≡ Some dir → (v : OwnNode) × (graft p new own [] ≡ Some v) × ((root ≡ v) ⊎ ((dir ≡ v) × (root ≡ d)))
-root_left [] new own d dir root here root_is new_is = (dir, new_is, inr (refl, (let e = sym root_is ∙ here in cc)))
-root_left (x ∷ p) new own d dir root here root_is new_is = (root, root_is, inl refl)
-
 below_more : (m n : ℕ) (v : PartValue) → m ≤ n → IsBelow m v → IsBelow n v
 below_more m n (ids.New k) le h = omega arith
 below_more m n (ids.Old k) le h = tt
 below_more m n (ids.Made k rev) le h = tt
-
-abbrev pub AreRootIds : OwnNode → Type 0
-AreRootIds v = (part_value v.node.id.node ≡ ids.Old 0) × (part_value v.node.id.copy ≡ ids.Old 0) × (v.node.copy_from ≡ None)
 
 -- ---- the step
 
@@ -128,9 +87,6 @@ module _ (look : RevisionBytes) (top base : ℕ) (trees : ℕ → TreeFunction) 
     (proto : after.proto ≡ f.proto) (more : (f.next_node ≤ after.next_node) × (f.next_copy ≤ after.next_copy)) (w_drawn : IsBelow after.next_node (part_value w.id.node) × IsBelow after.next_copy (part_value w.id.copy)) where
   abbrev Old : Own
   Old = under p own
-
-  abbrev Upper : Above
-  Upper = above_at p own at_top
 
   abbrev StandsHere : Path → NodeRev → Type 0
   StandsHere q v = stands_at look p own (StandsAt look base) q v
@@ -175,11 +131,8 @@ module _ (look : RevisionBytes) (top base : ℕ) (trees : ℕ → TreeFunction) 
   abbrev pub successor : OwnNode
   successor = record { node = w; entries = None; props = None; shown = node.0 }
 
-  abbrev pub Child : Own
-  Child = with_child (opened d new) x (alone successor) Old
-
   abbrev pub changed_own : Own
-  changed_own = graft p Child own
+  changed_own = laid_in p d x new (Some successor) own
 
   -- ---- the tree
 
@@ -189,57 +142,17 @@ module _ (look : RevisionBytes) (top base : ℕ) (trees : ℕ → TreeFunction) 
   named_this : named x new ≡ Some (record { name = x; kind = e.kind; id = w.id })
   named_this = replaced x ∙ ap (λ b. cond b (Some (record { name = x; kind = e.kind; id = w.id })) (named x entries)) (same_name-refl x)
 
-  stay : OthersStay trees d x new Old SharedHere is_old
-  stay = record { others = λ y r differs. ap (λ (o : Option DirEntry). cond (is_some o) (draft_tree trees (below y Old) (below y SharedBelow) r) None) (named_other y differs) ∙ all_here.tree y r }
-
-  pub changed_shows : (q : Path) → draft_tree trees changed_own (trees base) q ≡ draft_tree trees own (trees base) q
-  changed_shows = same_tree trees p own (trees base) (live_here look top base trees shown le txn f own draft p d here) Child
-      (changed_tree trees d x new Old SharedHere is_old stay successor u.id (ap (λ (o : Option DirEntry). is_some o) named_this) (had_entry look (kept_of d) entries x e listed found)
-      (none_at look top base trees shown le txn f own draft p d here x no_head) refl succ.no_copy succ.predecessor node.1)
-
-  -- ---- the rules
+  -- ---- it is laid behind the name
 
   comes : ComesBy look top (λ r v. StandsBelow (x ∷ r) v) (above_of d.node) successor
   comes = Change u stands.0 succ.no_copy (record { predecessor = succ.predecessor; node = succ.node; kind = succ.kind; count = succ.count })
       (record { entries = λ none is. succ.text; props = λ none. succ.props }) succ.root part
 
-  changed_rules : Rules look top changed_own at_top (StandsAt look base)
-  changed_rules = graft_rules look top p Child own at_top (StandsAt look base) (live_here look top base trees shown le txn f own draft p d here) (ap (λ (o : Option OwnNode). head_at o) (sym is_old)) draft.rules
-      (child_rules look top d x new Old Upper StandsHere is_old (rules_here look top base trees shown le txn f own draft p d here) (alone successor)
-      (λ y differs. subst (λ (o : Option DirEntry). IsEntryOf (λ v. StandsBelow (y ∷ []) v) o (head_at (Old (y ∷ [])))) (sym (named_other y differs)) (all_here.are y))
-      (subst (λ (o : Option DirEntry). IsEntryOf (λ v. StandsBelow (x ∷ []) v) o (Some (w.id, w.kind))) (sym named_this) (refl, stands.2 ∙ sym succ.kind))
-      (alone_rules look top successor (above_of d.node) (λ r v. StandsBelow (x ∷ r) v) refl comes))
-
-  -- ---- the own node-revisions one by one
-
-  data WhichOf (q : Path) (a : OwnNode) : Type 0 where
-    TheDirectory : q ≡ p → opened d new ≡ a → WhichOf q a
-    TheSuccessor : q ≡ p ++ x ∷ [] → successor ≡ a → WhichOf q a
-    Another : own q ≡ Some a → (q ≡ p → ⊥) → WhichOf q a
-
-  which : (q : Path) (a : OwnNode) → changed_own q ≡ Some a → WhichOf q a
-  which q a h = first (graft_some p Child own q a h)
-    where
-      inner : (r : Path) → q ≡ p ++ r → IsOfChild (opened d new) x (alone successor) Old r a → WhichOf q a
-      inner r is (inl g) = TheDirectory (is ∙ ap (λ (t : Path). p ++ t) g.0 ∙ append-nil p) g.1
-      inner r is (inr (inl (s, r_is, g))) = by s r_is g
-        where
-          by : (s : Path) → r ≡ x ∷ s → alone successor s ≡ Some a → WhichOf q a
-          by [] r_is g = TheSuccessor (is ∙ ap (λ (t : Path). p ++ t) r_is) (let same : successor ≡ a = cc in same)
-          by (z ∷ s) r_is g = absurd cc
-      inner r is (inr (inr (y, s, r_is, g))) =
-          let there : q ≡ p ++ y ∷ s = is ∙ ap (λ (t : Path). p ++ t) r_is in
-          Another (ap own is ∙ sym (under_is p own r) ∙ g) (λ same. longer_not p y s (sym there ∙ same))
-
-      first : ((r : Path) × (q ≡ p ++ r) × (Child r ≡ Some a)) ⊎ ((own q ≡ Some a) × (covers p q ≡ false)) → WhichOf q a
-      first (inl g) = inner g.0 g.1 (child_some (opened d new) x (alone successor) Old g.0 a g.2)
-      first (inr g) = Another g.0 (λ same. (let e = sym g.1 ∙ ap (covers p) same ∙ covers-refl p in absurd cc))
-
   abbrev Kw : Kept
   Kw = record { node = w; entries = None; props = None }
 
-  kept_by : (a : OwnNode) → after.nodes (part_value a.node.id.node) (part_value a.node.id.copy) ≡ kept_at (with_kept d.node.id (kept_of (opened d new)) (with_kept w.id Kw f.nodes)) a.node.id
-  kept_by a = files (part_value a.node.id.node) (part_value a.node.id.copy)
+  kept_by : (id : NodeId) → kept_at after.nodes id ≡ kept_at (with_kept d.node.id (kept_of (opened d new)) (with_kept w.id Kw f.nodes)) id
+  kept_by id = files (part_value id.node) (part_value id.copy)
 
   d_kept : kept_at f.nodes d.node.id ≡ Some (kept_of d)
   d_kept = draft.kept p d here
@@ -247,54 +160,16 @@ module _ (look : RevisionBytes) (top base : ℕ) (trees : ℕ → TreeFunction) 
   not_fresh : (id : NodeId) (k : Kept) → kept_at f.nodes id ≡ Some k → same_key w.id id ≡ true → ⊥
   not_fresh id k is same = let g = sym fresh ∙ same_files f.nodes w.id id same ∙ is in absurd cc
 
-  changed_kept : (q : Path) (a : OwnNode) → WhichOf q a → after.nodes (part_value a.node.id.node) (part_value a.node.id.copy) ≡ Some (kept_of a)
-  changed_kept q a (TheDirectory at same) = subst (λ (v : OwnNode). after.nodes (part_value v.node.id.node) (part_value v.node.id.copy) ≡ Some (kept_of v)) same
-      (kept_by (opened d new) ∙ put_files d.node.id (kept_of (opened d new)) (with_kept w.id Kw f.nodes))
-  changed_kept q a (TheSuccessor at same) = subst (λ (v : OwnNode). after.nodes (part_value v.node.id.node) (part_value v.node.id.copy) ≡ Some (kept_of v)) same
-      (kept_by successor ∙ other_files d.node.id w.id (kept_of (opened d new)) (with_kept w.id Kw f.nodes) (λ s. (let g = sym (same_files f.nodes d.node.id w.id s ∙ fresh) ∙ d_kept in absurd cc)) ∙ put_files w.id Kw f.nodes)
-  changed_kept q a (Another is not_here) =
-      kept_by a ∙ other_files d.node.id a.node.id (kept_of (opened d new)) (with_kept w.id Kw f.nodes) (λ s. not_here (twice s)) ∙ other_files w.id a.node.id Kw f.nodes (λ s. not_fresh a.node.id (kept_of a) (draft.kept q a is) s) ∙ draft.kept q a is
-    where
-      twice : same_key d.node.id a.node.id ≡ true → q ≡ p
-      twice s =
-          let both : Some (kept_of d) ≡ Some (kept_of a) = sym d_kept ∙ same_files f.nodes d.node.id a.node.id s ∙ draft.kept q a is in
-          let one : kept_of d ≡ kept_of a = cc in
-          sym (draft.paths q a is) ∙ (λ i. (sym one i).node.created_path) ∙ draft.paths p d here
-
-  changed_path : (q : Path) (a : OwnNode) → WhichOf q a → a.node.created_path ≡ q
-  changed_path q a (TheDirectory at same) = (λ i. (sym same i).node.created_path) ∙ draft.paths p d here ∙ sym at
-  changed_path q a (TheSuccessor at same) = (λ i. (sym same i).node.created_path) ∙ succ.path ∙ ap (λ (t : Path). t ++ x ∷ []) (draft.paths p d here) ∙ sym at
-  changed_path q a (Another is not_here) = draft.paths q a is
-
-  changed_place : (q : Path) (a : OwnNode) → WhichOf q a → a.node.id.place ≡ places.In txn
-  changed_place q a (TheDirectory at same) = (λ i. (sym same i).node.id.place) ∙ draft.places p d here
-  changed_place q a (TheSuccessor at same) = (λ i. (sym same i).node.id.place) ∙ succ.place
-  changed_place q a (Another is not_here) = draft.places q a is
-
-  directory_content : HasContent look f.proto (opened d new)
-  directory_content =
-      let c = draft.contents p d here in
-      record {
-        kind = c.kind;
-        text = subst (λ (k : Kind). IsDraftText look f.proto k (opened d new) d.shown.text) (sym dir) (subst (λ (k : Kind). IsDraftText look f.proto k d d.shown.text) dir c.text);
-        properties = c.properties;
-      }
-
-  successor_text : (k : Kind) → u.kind ≡ k → IsTextOf look k u node.0.text → IsDraftText look f.proto k successor node.0.text
+  successor_text : (k : Kind) → u.kind ≡ k → IsTextOf look k u node.0.text → IsDraftText look after.proto k successor node.0.text
   successor_text File is h = (refl, Lasting (subst (λ (o : Option Contents). IsLasting o) (sym succ.text) (is_lasting u.text (lasting_text u (of_id_lasting look e.id u read)))) (same_text look w u node.0.text succ.text h))
   successor_text Dir is h = h
 
-  successor_content : HasContent look f.proto successor
+  successor_content : HasContent look after.proto successor
   successor_content = record {
     kind = node.2.kind ∙ sym succ.kind;
-    text = subst (λ (k : Kind). IsDraftText look f.proto k successor node.0.text) (sym succ.kind) (successor_text u.kind refl node.2.text);
+    text = subst (λ (k : Kind). IsDraftText look after.proto k successor node.0.text) (sym succ.kind) (successor_text u.kind refl node.2.text);
     properties = subst (λ (o : Option Contents). OfContents [] (PairsAt look) o (Ok node.0.properties)) (sym succ.props) node.2.properties;
   }
-
-  changed_content : (q : Path) (a : OwnNode) → WhichOf q a → HasContent look f.proto a
-  changed_content q a (TheDirectory at same) = subst (λ (v : OwnNode). HasContent look f.proto v) same directory_content
-  changed_content q a (TheSuccessor at same) = subst (λ (v : OwnNode). HasContent look f.proto v) same successor_content
-  changed_content q a (Another is not_here) = draft.contents q a is
 
   changed_drawn : (a b : PartValue) (k : Kept) → after.nodes a b ≡ Some k → IsBelow after.next_node a × IsBelow after.next_copy b
   changed_drawn a b k is = first (same_value (part_value d.node.id.node) a && same_value (part_value d.node.id.copy) b) refl
@@ -318,25 +193,30 @@ module _ (look : RevisionBytes) (top base : ℕ) (trees : ℕ → TreeFunction) 
       first true same = moved d.node.id same (raised _ _ (draft.drawn (part_value d.node.id.node) (part_value d.node.id.copy) (kept_of d) d_kept))
       first false first_no = second (same_value (part_value w.id.node) a && same_value (part_value w.id.copy) b) refl first_no
 
-  left_root : (v : OwnNode) × (changed_own [] ≡ Some v) × ((draft.root ≡ v) ⊎ ((opened d new ≡ v) × (draft.root ≡ d)))
-  left_root = root_left p Child own d (opened d new) draft.root here draft.root_is refl
+  successor_laid : IsLaid look top txn (stands_in look base own p d) d x after successor
+  successor_laid = record {
+    comes = comes;
+    no_entries = refl;
+    path = succ.path;
+    place = succ.place;
+    content = successor_content;
+    kept = kept_by w.id ∙ other_files d.node.id w.id (kept_of (opened d new)) (with_kept w.id Kw f.nodes) (λ s. (let g = sym (same_files f.nodes d.node.id w.id s ∙ fresh) ∙ d_kept in absurd cc)) ∙ put_files w.id Kw f.nodes;
+  }
 
-  root_ids : AreRootIds left_root.0
-  root_ids = by left_root.2
-    where
-      by : (draft.root ≡ left_root.0) ⊎ ((opened d new ≡ left_root.0) × (draft.root ≡ d)) → AreRootIds left_root.0
-      by (inl same) = subst AreRootIds same draft.root_id
-      by (inr h) = subst AreRootIds h.0 (let ids_of : AreRootIds d = subst AreRootIds h.1 draft.root_id in (ids_of.0, ids_of.1, ids_of.2))
+  pub laying : IsLaying look top base txn f own p d x entries new (Some successor) after
+  laying = record {
+    others = named_other;
+    entry = subst (λ (o : Option DirEntry). IsEntryOf (λ v. StandsBelow (x ∷ []) v) o (Some (w.id, w.kind))) (sym named_this) (refl, stands.2 ∙ sym succ.kind);
+    each = λ v is. (let same : successor ≡ v = cc in subst (λ (a : OwnNode). IsLaid look top txn (stands_in look base own p d) d x after a) same successor_laid);
+    directory = kept_by d.node.id ∙ put_files d.node.id (kept_of (opened d new)) (with_kept w.id Kw f.nodes);
+    stay = λ id k is other. kept_by id ∙ other_files d.node.id id (kept_of (opened d new)) (with_kept w.id Kw f.nodes) other ∙ other_files w.id id Kw f.nodes (not_fresh id k is) ∙ is;
+    drawn = changed_drawn;
+    contents = λ v h. subst (λ (t : List ℕ). HasContent look t v) (sym proto) h;
+  }
 
   pub changed_draft : IsDraft look top base txn after changed_own
-  changed_draft = record {
-    root = left_root.0;
-    root_is = left_root.1;
-    root_id = root_ids;
-    paths = λ q a h. changed_path q a (which q a h);
-    places = λ q a h. changed_place q a (which q a h);
-    kept = λ q a h. changed_kept q a (which q a h);
-    drawn = changed_drawn;
-    rules = changed_rules;
-    contents = λ q a h. subst (λ (t : List ℕ). HasContent look t a) (sym proto) (changed_content q a (which q a h));
-  }
+  changed_draft = laid_draft look top base trees shown le txn f own draft p d here dir x entries listed (Some successor) new after laying
+
+  pub changed_shows : (q : Path) → draft_tree trees changed_own (trees base) q ≡ draft_tree trees own (trees base) q
+  changed_shows = went_on_shows look top base trees shown le txn f own draft p d here dir x entries listed (Some successor) new after laying successor u.id refl succ.no_copy succ.predecessor no_head
+      (had_entry look (kept_of d) entries x e listed found) node.1

@@ -43,6 +43,10 @@ behind-append (x ∷ p) [] [] = refl
 behind-append (x ∷ p) (z ∷ t) [] = refl
 behind-append (x ∷ p) t (y ∷ q) = behind-append p t q
 
+pub behind_own : (p t : Path) → behind p (p ++ t) ≡ t
+behind_own [] t = refl
+behind_own (x ∷ p) t = behind_own p t
+
 -- ---- from below a path to the whole
 
 pick : (c e : Bool) (put old t : Option Node) → t ≡ cond c old t → cond c (cond e put old) t ≡ cond (c && e) put t

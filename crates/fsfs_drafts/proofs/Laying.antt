@@ -13,24 +13,19 @@ use Rattle.fsfs_noderev.specs.declared.node_id.Place.TheVariants as places
 use Rattle.fsfs_noderev.specs.declared.node_id.NodeId.{NodeId}
 use Rattle.fsfs_noderev.specs.declared.node_rev.NodeRev.{NodeRev}
 use Rattle.fsfs_shows.specs.Reading.{DirEntry, named, StandsAt}
-use Rattle.fsfs_drafts.specs.Own.{OwnNode, Own, below, shared_under, draft_tree, graft, under, alone, nothing, with_child, shared_at, behind, opened}
+use Rattle.fsfs_drafts.specs.Own.{OwnNode, Own, below, shared_under, has_entry, draft_tree, graft, under, alone, nothing, with_child, shared_at, behind, opened}
 use Rattle.fsfs_drafts.specs.Rules.{Above, at_top, ComesBy, head_at, IsEntryOf, RuleAt, Rules, above_of, stands_under, above_at, stands_at}
 use Rattle.fsfs_drafts.specs.Drafts.{Kept, Folder, kept_of, IsDraftText, HasContent, IsBelow, IsDraft, ShowTrees}
-use Rattle.fsfs_drafts.specs.Steps.{kept_at, EntriesHere}
-use Rattle.fsfs_drafts.proofs.Edited.{put_tree, lay_tree, OthersStay, made_tree, copied_tree, deleted_tree, behind-is, old_at}
+use Rattle.fsfs_drafts.specs.Steps.{same_key, kept_at, EntriesHere}
+use Rattle.fsfs_drafts.specs.Laying.{laid_own, laid_in, stands_in, IsLaid, IsLaying}
+use Rattle.fsfs_drafts.proofs.Edited.{same_tree, put_tree, lay_tree, OthersStay, child_tree, changed_tree, made_tree, copied_tree, deleted_tree, behind-is, old_at}
 use Rattle.fsfs_drafts.proofs.RuleLemmas.{graft_rules, child_rules, alone_rules, nothing_rules}
-use Rattle.fsfs_drafts.proofs.Files.{same_key, same_files}
-use Rattle.fsfs_drafts.proofs.Here.{under_is, live_here, old_here, rules_here, AreHere, are_here}
+use Rattle.fsfs_drafts.proofs.Files.{same_files}
+use Rattle.fsfs_drafts.proofs.Here.{under_is, live_here, old_here, rules_here, none_at, AreHere, are_here}
 use Rattle.fsfs_flat.specs.Edits as edits
 use Rattle.fsfs_flat.specs.Edits.{copied_node}
 use Rattle.fsfs_noderev.specs.declared.node_rev.CopySource.{CopySource}
-use Rattle.fsfs_drafts.proofs.Changing.{graft_some, IsOfChild, child_some, longer_not, root_left, AreRootIds}
-
--- ---- one node-revision, or none
-
-abbrev pub laid_own : Option OwnNode → Own
-laid_own None = nothing
-laid_own (Some v) = alone v
+use Rattle.fsfs_drafts.proofs.Grafted.{graft_some, IsOfChild, child_some, longer_not, root_left, AreRootIds}
 
 module _ (look : RevisionBytes) (top base : ℕ) (trees : ℕ → TreeFunction) (shown : ShowTrees look top trees) (le : base ≤ top) (txn : TxnName) (f : Folder) (own : Own) (draft : IsDraft look top base txn f own)
     (p : Path) (d : OwnNode) (here : own p ≡ Some d) (dir : d.node.kind ≡ Dir) (x : PathName) (entries : List DirEntry) (listed : EntriesHere look (kept_of d) entries)
@@ -56,28 +51,8 @@ module _ (look : RevisionBytes) (top base : ℕ) (trees : ℕ → TreeFunction) 
   abbrev pub Child : Own
   Child = with_child (opened d new) x (laid_own laid) Old
 
-  abbrev pub laid_in : Own
-  laid_in = graft p Child own
-
-  -- what is laid is the transaction's own, in its folder
-  pub record IsLaid (v : OwnNode) : Type 0 where
-    pub comes : ComesBy look top (λ r u. StandsBelow (x ∷ r) u) (above_of d.node) v
-    pub no_entries : v.entries ≡ None
-    pub path : v.node.created_path ≡ d.node.created_path ++ x ∷ []
-    pub place : v.node.id.place ≡ places.In txn
-    pub content : HasContent look after.proto v
-    pub kept : kept_at after.nodes v.node.id ≡ Some (kept_of v)
-
-  pub record IsLaying : Type 0 where
-    -- the other entries stay, and the one of the name is that of what is laid
-    pub others : (y : PathName) → same_name x y ≡ false → named y new ≡ named y entries
-    pub entry : IsEntryOf (λ u. StandsBelow (x ∷ []) u) (named x new) (head_at laid)
-    pub each : (v : OwnNode) → laid ≡ Some v → IsLaid v
-    -- the directory's files are changed, and no other node-revision's
-    pub directory : kept_at after.nodes d.node.id ≡ Some (kept_of (opened d new))
-    pub stay : (id : NodeId) (k : Kept) → kept_at f.nodes id ≡ Some k → (same_key d.node.id id ≡ true → ⊥) → kept_at after.nodes id ≡ Some k
-    pub drawn : (node copy : PartValue) (k : Kept) → after.nodes node copy ≡ Some k → IsBelow after.next_node node × IsBelow after.next_copy copy
-    pub contents : (v : OwnNode) → HasContent look f.proto v → HasContent look after.proto v
+  abbrev pub Now : Own
+  Now = laid_in p d x new laid own
 
   all_here : AreHere look top base trees shown le txn f own draft p d here entries
   all_here = are_here look top base trees shown le txn f own draft p d here entries dir listed
@@ -85,12 +60,12 @@ module _ (look : RevisionBytes) (top base : ℕ) (trees : ℕ → TreeFunction) 
   is_old : Old [] ≡ Some d
   is_old = old_here look top base trees shown le txn f own draft p d here
 
-  module _ (laying : IsLaying) where
+  module _ (laying : IsLaying look top base txn f own p d x entries new laid after) where
     -- the tree is changed behind the name alone
     others_stay : OthersStay trees d x new Old SharedHere is_old
     others_stay = record { others = λ y r differs. ap (λ (o : Option DirEntry). cond (is_some o) (draft_tree trees (below y Old) (below y SharedBelow) r) None) (laying.others y differs) ∙ all_here.tree y r }
 
-    laid_rules : Rules look top laid_in at_top (StandsAt look base)
+    laid_rules : Rules look top Now at_top (StandsAt look base)
     laid_rules = graft_rules look top p Child own at_top (StandsAt look base) (live_here look top base trees shown le txn f own draft p d here) (ap (λ (o : Option OwnNode). head_at o) (sym is_old)) draft.rules
         (child_rules look top d x new Old Upper StandsHere is_old (rules_here look top base trees shown le txn f own draft p d here) (laid_own laid)
         (λ y differs. subst (λ (o : Option DirEntry). IsEntryOf (λ v. StandsBelow (y ∷ []) v) o (head_at (Old (y ∷ [])))) (sym (laying.others y differs)) (all_here.are y))
@@ -100,7 +75,7 @@ module _ (look : RevisionBytes) (top base : ℕ) (trees : ℕ → TreeFunction) 
         head None h = h
         head (Some v) h = h
 
-        inner : (o : Option OwnNode) → ((v : OwnNode) → o ≡ Some v → IsLaid v) → (q : Path) → RuleAt look top (laid_own o) (above_of d.node) (λ r u. StandsBelow (x ∷ r) u) q
+        inner : (o : Option OwnNode) → ((v : OwnNode) → o ≡ Some v → IsLaid look top txn (stands_in look base own p d) d x after v) → (q : Path) → RuleAt look top (laid_own o) (above_of d.node) (λ r u. StandsBelow (x ∷ r) u) q
         inner None each = nothing_rules look top (above_of d.node) (λ r u. StandsBelow (x ∷ r) u)
         inner (Some v) each = let l = each v refl in alone_rules look top v (above_of d.node) (λ r u. StandsBelow (x ∷ r) u) l.no_entries l.comes
 
@@ -109,7 +84,7 @@ module _ (look : RevisionBytes) (top base : ℕ) (trees : ℕ → TreeFunction) 
       TheLaid : q ≡ p ++ x ∷ [] → laid ≡ Some a → WhichOf q a
       Another : own q ≡ Some a → (q ≡ p → ⊥) → WhichOf q a
 
-    pub which : (q : Path) (a : OwnNode) → laid_in q ≡ Some a → WhichOf q a
+    pub which : (q : Path) (a : OwnNode) → Now q ≡ Some a → WhichOf q a
     which q a h = first (graft_some p Child own q a h)
       where
         of_laid : (o : Option OwnNode) (s : Path) → laid_own o s ≡ Some a → (s ≡ []) × (o ≡ Some a)
@@ -165,7 +140,7 @@ module _ (look : RevisionBytes) (top base : ℕ) (trees : ℕ → TreeFunction) 
     laid_content q a (TheLaid at is) = (laying.each a is).content
     laid_content q a (Another is not_here) = laying.contents a (draft.contents q a is)
 
-    left_root : (v : OwnNode) × (laid_in [] ≡ Some v) × ((draft.root ≡ v) ⊎ ((opened d new ≡ v) × (draft.root ≡ d)))
+    left_root : (v : OwnNode) × (Now [] ≡ Some v) × ((draft.root ≡ v) ⊎ ((opened d new ≡ v) × (draft.root ≡ d)))
     left_root = root_left p Child own d (opened d new) draft.root here draft.root_is refl
 
     root_ids : AreRootIds left_root.0
@@ -175,7 +150,7 @@ module _ (look : RevisionBytes) (top base : ℕ) (trees : ℕ → TreeFunction) 
         by (inl same) = subst AreRootIds same draft.root_id
         by (inr h) = subst AreRootIds h.0 (let ids_of : AreRootIds d = subst AreRootIds h.1 draft.root_id in (ids_of.0, ids_of.1, ids_of.2))
 
-    pub laid_draft : IsDraft look top base txn after laid_in
+    pub laid_draft : IsDraft look top base txn after Now
     laid_draft = record {
       root = left_root.0;
       root_is = left_root.1;
@@ -190,28 +165,54 @@ module _ (look : RevisionBytes) (top base : ℕ) (trees : ℕ → TreeFunction) 
 
     -- ---- the trees of the edits
 
+    live : lives p own ≡ true
+    live = live_here look top base trees shown le txn f own draft p d here
+
+    has_entry_of : (w : OwnNode) → laid ≡ Some w → is_some (named x new) ≡ true
+    has_entry_of w is = by (named x new) (subst (λ (o : Option OwnNode). IsEntryOf (λ u. StandsBelow (x ∷ []) u) (named x new) (head_at o)) is laying.entry)
+      where
+        by : (o : Option DirEntry) → IsEntryOf (λ u. StandsBelow (x ∷ []) u) o (head_at (Some w)) → is_some o ≡ true
+        by None h = absurd h
+        by (Some e) h = refl
+
+    -- no path but those at and below the name is changed
+    pub others_show : (q : Path) → covers (p ++ x ∷ []) q ≡ false → draft_tree trees Now (trees base) q ≡ draft_tree trees own (trees base) q
+    others_show q off = lay_tree trees p own (trees base) live Child (x ∷ []) inner (child_tree trees d x new Old SharedHere is_old (laid_own laid) inner others_stay (λ r. refl)) q
+        ∙ ap (λ (b : Bool). cond b (inner (behind (p ++ x ∷ []) q)) (draft_tree trees own (trees base) q)) off
+      where
+        inner : TreeFunction
+        inner = λ r. cond (is_some (named x new)) (draft_tree trees (laid_own laid) (below x SharedBelow) r) None
+
     -- a new node
-    pub made_shows : (w : OwnNode) → laid ≡ Some w → w.node.copy_from ≡ None → w.node.predecessor ≡ None → is_some (named x new) ≡ true → named x entries ≡ None
-        → (q : Path) → draft_tree trees laid_in (trees base) q ≡ edits.with_node (draft_tree trees own (trees base)) (p ++ x ∷ []) (Some w.shown) q
-    made_shows w is no_copy no_pred has none = put_tree trees p own (trees base) (live_here look top base trees shown le txn f own draft p d here) Child (x ∷ []) (Some w.shown)
+    pub made_shows : (w : OwnNode) → laid ≡ Some w → w.node.copy_from ≡ None → w.node.predecessor ≡ None → named x entries ≡ None
+        → (q : Path) → draft_tree trees Now (trees base) q ≡ edits.with_node (draft_tree trees own (trees base)) (p ++ x ∷ []) (Some w.shown) q
+    made_shows w is no_copy no_pred none = put_tree trees p own (trees base) live Child (x ∷ []) (Some w.shown)
         (subst (λ (o : Option OwnNode). (r : Path) → draft_tree trees (with_child (opened d new) x (laid_own o) Old) SharedHere r ≡ cond (same_path r (x ∷ [])) (Some w.shown) (draft_tree trees Old SharedHere r)) (sym is)
-        (made_tree trees d x new Old SharedHere is_old others_stay w has was (laying.each w is).no_entries no_copy no_pred))
+        (made_tree trees d x new Old SharedHere is_old others_stay w (has_entry_of w is) was (laying.each w is).no_entries no_copy no_pred))
       where
         was : (r : Path) → draft_tree trees Old SharedHere (x ∷ r) ≡ None
         was r = old_at trees d x new Old SharedHere is_old x r ∙ sym (all_here.tree x r) ∙ ap (λ (o : Option DirEntry). cond (is_some o) (draft_tree trees (below x Old) (below x SharedBelow) r) None) none
 
     -- a copy
-    pub copied_shows : (w : OwnNode) (from : CopySource) → laid ≡ Some w → w.node.copy_from ≡ Some from → is_some (named x new) ≡ true → Some w.shown ≡ copied_node from.rev (from.path ++ []) (trees from.rev (from.path ++ []))
-        → (q : Path) → draft_tree trees laid_in (trees base) q ≡ edits.with_copy (draft_tree trees own (trees base)) from.rev (trees from.rev) from.path (p ++ x ∷ []) q
-    copied_shows w from is copy has source q =
-        lay_tree trees p own (trees base) (live_here look top base trees shown le txn f own draft p d here) Child (x ∷ []) (λ r. copied_node from.rev (from.path ++ r) (trees from.rev (from.path ++ r)))
+    pub copied_shows : (w : OwnNode) (from : CopySource) → laid ≡ Some w → w.node.copy_from ≡ Some from → Some w.shown ≡ copied_node from.rev from.path (trees from.rev from.path)
+        → (q : Path) → draft_tree trees Now (trees base) q ≡ edits.with_copy (draft_tree trees own (trees base)) from.rev (trees from.rev) from.path (p ++ x ∷ []) q
+    copied_shows w from is copy source q =
+        lay_tree trees p own (trees base) live Child (x ∷ []) (λ r. copied_node from.rev (from.path ++ r) (trees from.rev (from.path ++ r)))
         (subst (λ (o : Option OwnNode). (r : Path) → draft_tree trees (with_child (opened d new) x (laid_own o) Old) SharedHere r ≡ cond (covers (x ∷ []) r) (copied_node from.rev (from.path ++ behind (x ∷ []) r) (trees from.rev (from.path ++ behind (x ∷ []) r))) (draft_tree trees Old SharedHere r)) (sym is)
-        (copied_tree trees d x new Old SharedHere is_old others_stay w from has (laying.each w is).no_entries copy source)) q
+        (copied_tree trees d x new Old SharedHere is_old others_stay w from (has_entry_of w is) (laying.each w is).no_entries copy
+        (source ∙ ap (λ (r : Path). copied_node from.rev r (trees from.rev r)) (sym (append-nil from.path))))) q
         ∙ ap (λ (r : Path). cond (covers (p ++ x ∷ []) q) (copied_node from.rev (from.path ++ r) (trees from.rev (from.path ++ r))) (draft_tree trees own (trees base) q)) (sym (behind-is (p ++ x ∷ []) q))
 
     -- something taken away
-    pub deleted_shows : laid ≡ None → is_some (named x new) ≡ false → (q : Path) → draft_tree trees laid_in (trees base) q ≡ edits.without (draft_tree trees own (trees base)) (p ++ x ∷ []) q
-    deleted_shows is lacks q =
-        lay_tree trees p own (trees base) (live_here look top base trees shown le txn f own draft p d here) Child (x ∷ []) (λ r. None)
+    pub gone_shows : laid ≡ None → named x new ≡ None → (q : Path) → draft_tree trees Now (trees base) q ≡ edits.without (draft_tree trees own (trees base)) (p ++ x ∷ []) q
+    gone_shows is lacks q =
+        lay_tree trees p own (trees base) live Child (x ∷ []) (λ r. None)
         (subst (λ (o : Option OwnNode). (r : Path) → draft_tree trees (with_child (opened d new) x (laid_own o) Old) SharedHere r ≡ cond (covers (x ∷ []) r) None (draft_tree trees Old SharedHere r)) (sym is)
-        (deleted_tree trees d x new Old SharedHere is_old others_stay lacks)) q
+        (deleted_tree trees d x new Old SharedHere is_old others_stay (ap (λ (o : Option DirEntry). is_some o) lacks))) q
+
+    -- what stood there, gone on from
+    pub went_on_shows : (w : OwnNode) (id : NodeId) → laid ≡ Some w → w.node.copy_from ≡ None → w.node.predecessor ≡ Some id → head_at (Old (x ∷ [])) ≡ None → has_entry d.entries x ≡ true → SharedBelow (x ∷ []) ≡ Some w.shown
+        → (q : Path) → draft_tree trees Now (trees base) q ≡ draft_tree trees own (trees base) q
+    went_on_shows w id is no_copy goes_on no_head had shows = same_tree trees p own (trees base) live Child
+        (subst (λ (o : Option OwnNode). (r : Path) → draft_tree trees (with_child (opened d new) x (laid_own o) Old) SharedHere r ≡ draft_tree trees Old SharedHere r) (sym is)
+        (changed_tree trees d x new Old SharedHere is_old others_stay w id (has_entry_of w is) had (none_at look top base trees shown le txn f own draft p d here x no_head) (laying.each w is).no_entries no_copy goes_on shows))

@@ -15,24 +15,19 @@ use Rattle.fsfs_drafts.specs.Own.{OwnNode, Own, below, shared_from, shared_under
 use Rattle.fsfs_drafts.specs.Drafts.{Folder, kept_of, IsDraft, ShowTrees}
 use Rattle.fsfs_drafts.specs.Steps.{EntriesHere}
 use Rattle.fsfs_drafts.specs.Sides.{HasFiles, OwnFiles, DrawnOnce, source_here, OwnSources}
-use Rattle.fsfs_drafts.proofs.Laying.{laid_own, IsLaying, WhichOf, TheDirectory, TheLaid, Another}
+use Rattle.fsfs_drafts.specs.Laying.{laid_own, laid_in, IsLaying, IsDrawnFor}
+use Rattle.fsfs_drafts.proofs.Laying.{WhichOf, TheDirectory, TheLaid, Another}
 use Rattle.fsfs_drafts.proofs.Laying as laying_of
 use Rattle.fsfs_drafts.proofs.HangLaw.{some_same}
 use Rattle.fsfs_drafts.proofs.DrawLaw.{shared_last}
 use Rattle.std.proofs.lemmas.Bool.{and_from, and_parts, cases_Bool}
 
--- what a step draws is no other's
-pub record IsDrawnFor (own : Own) (d v : OwnNode) : Type 0 where
-  pub made : v.node.predecessor ≡ None → (q : Path) (w : OwnNode) → own q ≡ Some w → w.node.id.node ≡ v.node.id.node → ⊥
-  pub copied : (from : CopySource) → v.node.copy_from ≡ Some from → (q : Path) (w : OwnNode) → own q ≡ Some w → w.node.id.copy ≡ v.node.id.copy → ⊥
-  pub other : v.node.copy_from ≡ None → (q : Path) (c : OwnNode) (from : CopySource) → own q ≡ Some c → c.node.copy_from ≡ Some from → c.node.id.copy ≡ v.node.id.copy → v.node.id.copy ≡ d.node.id.copy
-
 -- ---- what is shared depends on where own node-revisions go on from
 
-abbrev Links : Type 0
+abbrev pub Links : Type 0
 Links = Option (Option CopySource × Option NodeId)
 
-abbrev links : Option OwnNode → Links
+abbrev pub links : Option OwnNode → Links
 links None = None
 links (Some v) = Some (v.node.copy_from, v.node.predecessor)
 
@@ -44,7 +39,7 @@ linked trees (Some v) (Some w) S q e =
     let one : (v.node.copy_from, v.node.predecessor) ≡ (let z : Option CopySource × Option NodeId = (w.node.copy_from, w.node.predecessor) in z) = cc in
     λ i. shared_from trees (one i).0 (one i).1 S q
 
-same_shared : (trees : ℕ → TreeFunction) (q : Path) (A B : Own) (S : TreeFunction) → ((r t : Path) → q ≡ r ++ t → (t ≡ [] → ⊥) → links (A r) ≡ links (B r)) → (s : Path) → shared_at trees q A S s ≡ shared_at trees q B S s
+pub same_shared : (trees : ℕ → TreeFunction) (q : Path) (A B : Own) (S : TreeFunction) → ((r t : Path) → q ≡ r ++ t → (t ≡ [] → ⊥) → links (A r) ≡ links (B r)) → (s : Path) → shared_at trees q A S s ≡ shared_at trees q B S s
 same_shared trees [] A B S same s = refl
 same_shared trees (y ∷ q) A B S same s =
     same_shared trees q (below y A) (below y B) (below y (shared_under trees (A []) S)) (λ r t e n. same (y ∷ r) t (ap (λ (z : Path). y ∷ z) e) n) s
@@ -104,9 +99,9 @@ not_empty (y ∷ s) t n e = absurd cc
 
 module _ (look : RevisionBytes) (top base : ℕ) (trees : ℕ → TreeFunction) (shown : ShowTrees look top trees) (le : base ≤ top) (txn : TxnName) (f : Folder) (own : Own) (draft : IsDraft look top base txn f own)
     (p : Path) (d : OwnNode) (here : own p ≡ Some d) (dir : d.node.kind ≡ Dir) (x : PathName) (entries : List DirEntry) (listed : EntriesHere look (kept_of d) entries)
-    (laid : Option OwnNode) (new : List DirEntry) (after : Folder) (laying : IsLaying look top base trees shown le txn f own draft p d here dir x entries listed laid new after) where
+    (laid : Option OwnNode) (new : List DirEntry) (after : Folder) (laying : IsLaying look top base txn f own p d x entries new laid after) where
   abbrev pub now : Own
-  now = laying_of.laid_in look top base trees shown le txn f own draft p d here dir x entries listed laid new after
+  now = laid_in p d x new laid own
 
   abbrev Which : Path → OwnNode → Type 0
   Which q a = WhichOf look top base trees shown le txn f own draft p d here dir x entries listed laid new after laying q a

@@ -25,6 +25,10 @@ same_value (Old m) (Made n s) = false
 same_value (Made m r) (New n) = false
 same_value (Made m r) (Old n) = false
 
+-- two ids with the same node part and copy part: of the files of one node-revision
+abbrev pub same_key : NodeId → NodeId → Bool
+same_key id other = same_value (part_value id.node) (part_value other.node) && same_value (part_value id.copy) (part_value other.copy)
+
 abbrev pub Files : Type 0
 Files = PartValue → PartValue → Option Kept
 

@@ -7,6 +7,9 @@ ghost use Rattle.fsfs_drafts.specs.Own.{nothing, draft_tree};
 ghost use Rattle.fsfs_drafts.specs.Beginning.{BegunDrafts};
 ghost use Rattle.fsfs_drafts.specs.Handed.{DraftsDraw, DraftsHang, DraftsKeepSides, SidesAreMarks};
 ghost use Rattle.fsfs_drafts.specs.Marking.{MarksAreKept};
+ghost use Rattle.fsfs_drafts.specs.Laying.{StepsAreEdits, StepsKeepSides};
+ghost use Rattle.fsfs_drafts.specs.Setting.{SettingsAreEdits};
+ghost use Rattle.fsfs_drafts.specs.Staying.{DraftsStay};
 ghost use Rattle.fsfs_drafts.specs.Tied.{TiedDrafts, TiedAreMet};
 
 /// Where nothing is the transaction's own, its tree is that of its base.
@@ -57,4 +60,25 @@ pub fn marks_are_kept()
 /// A transaction that has just begun is a whole draft; and a whole draft has all that a merge and a commit take.
 pub fn drafts_are_handed()
     ensures { DraftsAreHanded }
+{}
+
+/// What is laid behind a name of an own directory, or taken away there, leaves a draft, and its tree is that of the flat edit: one
+/// node more, a copy, something less, or the same tree. No other path is changed.
+pub fn steps_are_edits()
+    ensures { StepsAreEdits }
+{}
+
+/// And the files, the drawn parts and the sources are kept.
+pub fn steps_keep_sides()
+    ensures { StepsKeepSides }
+{}
+
+/// A text or properties put at an own node-revision leave a draft, with the flat edit's tree, and the rest is kept.
+pub fn settings_are_edits()
+    ensures { SettingsAreEdits }
+{}
+
+/// A draft stays one of the same tree and marks while others commit.
+pub fn drafts_stay()
+    ensures { DraftsStay }
 {}

@@ -10,5 +10,6 @@ mod laws;
 
 pub use laws::{
     a_draft_begins_as_its_base, begun_drafts, drafts_are_handed, drafts_draw, drafts_hang,
-    drafts_keep_sides, marks_are_kept, sides_are_marks, tied_are_met, tied_drafts,
+    drafts_keep_sides, drafts_stay, marks_are_kept, settings_are_edits, sides_are_marks,
+    steps_are_edits, steps_keep_sides, tied_are_met, tied_drafts,
 };

@@ -12,7 +12,7 @@ use Rattle.fsfs_noderev.specs.declared.node_id.NodeId.{NodeId}
 use Rattle.fsfs_noderev.specs.declared.node_rev.CopySource.{CopySource}
 use Rattle.fsfs_noderev.specs.declared.node_rev.NodeRev.{NodeRev}
 use Rattle.fsfs_damage.specs.declared.wrong.Wrong.{Wrong}
-use Rattle.fsfs_shows.specs.Reading.{OfId, ChildOf, Stands, MetAt, StandsAt}
+use Rattle.fsfs_shows.specs.Reading.{offset_of, OfId, ChildOf, Stands, MetAt, StandsAt}
 use Rattle.fsfs_shows.specs.Chains.{own_rev, IsPred, Chain, First, Breaks, Goes}
 use Rattle.fsfs_shows.specs.Shown.{IsShown, Shows}
 use Rattle.fsfs_shows.specs.IdRules.{IdRule, IsOf, IsChild}
@@ -180,4 +180,4 @@ module _ (look : RevisionBytes) (top : ℕ) (tree : ℕ → TreeFunction) (shows
       sym x.3 ∙ own_same x.0 y.0 one ∙ y.3
     where
       own_same : (x y : NodeRev) → x.id ≡ y.id → own_rev x ≡ own_rev y
-      own_same x y e = λ i. (Rattle.fsfs_shows.specs.Reading.offset_of (e i).place).rev
+      own_same x y e = λ i. (offset_of (e i).place).rev

@@ -1,7 +1,8 @@
 -- The laws of the head's side, from the rules of ids and the history.
-use Rattle.std.proofs.Common.{◌≡◌, ◌≤◌, ◌<◌, ◌⊎◌, ◌+◌, ℕ, zero, suc, max, cond, not, Bool, true, false, ◌&&◌, [], ◌∷◌, ◌++◌, length, take, drop, refl, sym, ap, subst, ◌∙◌, arith, inl, inr}
+use Rattle.std.proofs.Common.{◌≡◌, ◌≤◌, ◌<◌, ◌⊎◌, ◌+◌, ◌-◌, ℕ, zero, suc, max, cond, not, Bool, true, false, ◌&&◌, [], ◌∷◌, ◌++◌, length, take, drop, refl, sym, ap, subst, ◌∙◌, arith, inl, inr}
 use Rattle.std.specs.Prelude.{◌↔◌, Result, Ok, Option, Some, None, nat_lt, nat_le}
-use Rattle.std.proofs.lemmas.Bool.{and_from, cases_Bool}
+use Rattle.std.proofs.Math.Seq.{take-length}
+use Rattle.std.proofs.lemmas.Bool.{and_from, cases_Bool, ltb-false, le-ltb, leb-true, le-leb}
 use Rattle.std.proofs.lemmas.Bool.Decides.{nat_tests}
 use Rattle.std.proofs.lemmas.List.{take-append-drop}
 use Rattle.fsfs_base.specs.Paths.{PathName, Path, same_name, covers, is_above}
@@ -32,42 +33,26 @@ use Rattle.fsfs_ids.proofs.Coming.{below_or_at, IsFresh, Comes, Same, Next, Fres
 some_node : (m n : Node) (o : Option Node) → o ≡ Some m → o ≡ Some n → m ≡ n
 some_node m n o e f = let g = sym e ∙ f in cc
 
-take_all : (p : Path) → take (length p) p ≡ p
-take_all [] = refl
-take_all (x ∷ p) = ap (λ (t : Path). x ∷ t) (take_all p)
-
 -- ---- the tests of the head's side
-
-le_from : (a b : ℕ) → nat_le a b ≡ true → a ≤ b
-le_from a b h = grind (arith, nat_tests)
-
-le_to : (a b : ℕ) → a ≤ b → nat_le a b ≡ true
-le_to a b h = grind (arith, nat_tests)
-
-not_lt : (a b : ℕ) → nat_lt a b ≡ false → b ≤ a
-not_lt a b h = grind (arith, nat_tests)
-
-lt_not : (a b : ℕ) → b ≤ a → nat_lt a b ≡ false
-lt_not a b h = grind (arith, nat_tests)
 
 module _ (b : ℕ) (o : Option Node) (n : Node) (is : o ≡ Some n) where
   pub held_le : held_by_head b o ≡ true → n.added ≤ b
-  held_le h = le_from n.added b (subst (λ (x : Option Node). held_by_head b x ≡ true) is h)
+  held_le h = leb-true n.added b (subst (λ (x : Option Node). held_by_head b x ≡ true) is h)
 
   pub le_held : n.added ≤ b → held_by_head b o ≡ true
-  le_held h = subst (λ (x : Option Node). held_by_head b x ≡ true) (sym is) (le_to n.added b h)
+  le_held h = subst (λ (x : Option Node). held_by_head b x ≡ true) (sym is) (le-leb n.added b h)
 
   pub untouched_le : touched_by_head b o ≡ false → n.last_changed ≤ b
-  untouched_le h = not_lt b n.last_changed (subst (λ (x : Option Node). touched_by_head b x ≡ false) is h)
+  untouched_le h = ltb-false b n.last_changed (subst (λ (x : Option Node). touched_by_head b x ≡ false) is h)
 
   pub le_untouched : n.last_changed ≤ b → touched_by_head b o ≡ false
-  le_untouched h = subst (λ (x : Option Node). touched_by_head b x ≡ false) (sym is) (lt_not b n.last_changed h)
+  le_untouched h = subst (λ (x : Option Node). touched_by_head b x ≡ false) (sym is) (le-ltb b n.last_changed h)
 
   pub same_props_le : props_changed_by_head b o ≡ false → n.props_changed ≤ b
-  same_props_le h = not_lt b n.props_changed (subst (λ (x : Option Node). props_changed_by_head b x ≡ false) is h)
+  same_props_le h = ltb-false b n.props_changed (subst (λ (x : Option Node). props_changed_by_head b x ≡ false) is h)
 
   pub le_same_props : n.props_changed ≤ b → props_changed_by_head b o ≡ false
-  le_same_props h = subst (λ (x : Option Node). props_changed_by_head b x ≡ false) (sym is) (lt_not b n.props_changed h)
+  le_same_props h = subst (λ (x : Option Node). props_changed_by_head b x ≡ false) (sym is) (le-ltb b n.props_changed h)
 
 module _ (look : RevisionBytes) (top : ℕ) (tree : ℕ → TreeFunction) (shows : ShowsRevisions look top tree) where
   pub node_at : (r : ℕ) (p : Path) (v : NodeRev) → r ≤ top → StandsAt look r p v → (n : Node) × (tree r p ≡ Some n) × IsShown look r p v n
@@ -96,7 +81,7 @@ module _ (look : RevisionBytes) (top : ℕ) (tree : ℕ → TreeFunction) (shows
               omega (arith, added, first, own)
           cases_of added (inr from) =
               let root = shows.ids.copy_root w from.0 (r, q, le, at) from.1 in
-              let here = n.2.copied_is.at_most (length q) w (omega arith) (subst (λ (x : Path). StandsAt look r x w) (sym (take_all q)) at) in
+              let here = n.2.copied_is.at_most (length q) w (omega arith) (subst (λ (x : Path). StandsAt look r x w) (sym (take-length q)) at) in
               let rev : (copy_root_of w).0 ≡ own_rev w = ap (λ (x : ℕ × Path). x.0) root in
               omega (arith, added, here, rev, own)
 
@@ -184,7 +169,7 @@ module _ (look : RevisionBytes) (top : ℕ) (tree : ℕ → TreeFunction) (shows
     gap = by h le
       where
         by : (k : ℕ) → b ≤ k → (d : ℕ) × (k ≡ d + b)
-        by k q = (Rattle.std.specs.Prelude.◌-◌ k b, omega arith)
+        by k q = (k - b, omega arith)
 
     pub back : (v : NodeRev) → StandsAt look h p v → touched_by_head b (tree h p) ≡ false → StandsAt look b p v
     back v at un =
@@ -214,12 +199,12 @@ module _ (look : RevisionBytes) (top : ℕ) (tree : ℕ → TreeFunction) (shows
 
           by : (k : ℕ) (q : NodeRev) → k ≤ length p → StandsAt look h (take k p) q → (copy_root_of q).0 ≡ sh.copied → sh.copied ≤ b
           by k q in_p at is = elim (below_or_at k (length p) in_p) [
-            | inr all ↦ (let here : StandsAt look h p q = subst (λ (z : Path). StandsAt look h z q) (ap (λ (m : ℕ). take m p) all ∙ take_all p) at in
+            | inr all ↦ (let here : StandsAt look h p q = subst (λ (z : Path). StandsAt look h z q) (ap (λ (m : ℕ). take m p) all ∙ take-length p) at in
                 let same = stands_same look h p q y here aty in
                 subst (λ (m : ℕ). m ≤ b) is (subst (λ (z : NodeRev). (copy_root_of z).0 ≤ b) (sym same) own))
             | inl less ↦ (let m = node_at h (take k p) q ge at in
                 let added = held_le b (tree h (take k p)) m.0 m.1 (held (take k p) (above k less)) in
-                let root = m.2.copied_is.at_most (length (take k p)) q (omega arith) (subst (λ (z : Path). StandsAt look h z q) (sym (take_all (take k p))) at) in
+                let root = m.2.copied_is.at_most (length (take k p)) q (omega arith) (subst (λ (z : Path). StandsAt look h z q) (sym (take-length (take k p))) at) in
                 omega (arith, m.2.added, added, root, is))
           ]
 
@@ -249,7 +234,7 @@ module _ (look : RevisionBytes) (top : ℕ) (tree : ℕ → TreeFunction) (shows
                   let g = gap in
                   let w = back_held b p g.0 h y n.0 g.1 ge aty n.1 added in
                   let same = stands_same look b p w.was x w.stands atx in
-                  let root = n.2.copied_is.at_most (length p) y (omega arith) (subst (λ (z : Path). StandsAt look h z y) (sym (take_all p)) aty) in
+                  let root = n.2.copied_is.at_most (length p) y (omega arith) (subst (λ (z : Path). StandsAt look h z y) (sym (take-length p)) aty) in
                   (subst (λ (v : NodeRev). v.id.node ≡ y.id.node) same w.node, omega (arith, n.2.added, added, root))),
             );
             props = λ hold.
