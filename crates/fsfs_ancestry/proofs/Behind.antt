@@ -17,7 +17,7 @@ use Rattle.fsfs_shows.proofs.OneWalk.{met_same}
 use Rattle.fsfs_shows.proofs.TreeLaw.{child_home, stands_home, root_le}
 use Rattle.fsfs_shows.proofs.Walks.{child_stands}
 use Rattle.fsfs_ancestry.specs.CopyRoots.{later_root, IsRootedFrom, IsRootedAt}
-use Rattle.fsfs_ancestry.specs.Trees.{ShowsRevisions}
+use Rattle.fsfs_ancestry.specs.Trees.{ShowTrees}
 use Rattle.fsfs_ancestry.proofs.Roots.{is_less, is_not_less, rooted_stands, rooted_child, rooted_up, IsCounted, self_counted, later_counted, later_of_counted, later_of_older, later_up_here}
 use Rattle.fsfs_ancestry.proofs.Earlier.{root_of_id, pred_same, no_pred, root_there, is_child, pred_dir}
 
@@ -64,7 +64,7 @@ root_by dir w root counted le true e =
     let most = counted.most in
     later_of_older root (copy_root_of w) (omega (arith, less, most, le)) ∙ sym (later_of_counted root (copy_root_of dir) counted)
 
-module _ (look : RevisionBytes) (top : ℕ) (tree : ℕ → TreeFunction) (trees : ShowsRevisions look top tree) (s : ℕ) (le : suc s ≤ top) where
+module _ (look : RevisionBytes) (top : ℕ) (tree : ℕ → TreeFunction) (trees : ShowTrees look top tree) (s : ℕ) (le : suc s ≤ top) where
   behind_root : (v : NodeRev) → StandsAt look (suc s) [] v → IsBehind look s [] (copy_root_of v) v
   behind_root v at =
       let a = root_there look top tree trees s (omega (arith, le)) in
@@ -173,7 +173,7 @@ module _ (look : RevisionBytes) (top : ℕ) (tree : ℕ → TreeFunction) (trees
       let at : StandsAt look (suc s) [] g.0 = (g.0, g.1, refl) in
       behind_from [] p g.0 v (copy_root_of g.0) last at (self_counted (copy_root_of g.0)) (behind_root g.0 at) g.2 low
 
-module _ (look : RevisionBytes) (top : ℕ) (tree : ℕ → TreeFunction) (trees : ShowsRevisions look top tree) where
+module _ (look : RevisionBytes) (top : ℕ) (tree : ℕ → TreeFunction) (trees : ShowTrees look top tree) where
   -- the predecessor stood at the path right before the revision of its successor, with the same latest copy root
   pub before_it : (r : ℕ) (p : Path) (v u : NodeRev) (last : ℕ × Path) → r ≤ top → IsRootedAt look r p v last → last.0 < own_rev v → IsPred look v u → IsRootedAt look (own_rev v - 1) p u last
   before_it zero p v u last le g less pred =

@@ -20,7 +20,7 @@ use Rattle.fsfs_shows.proofs.OneWalk.{of_id_one}
 use Rattle.fsfs_shows.proofs.TreeLaw.{own_place, child_home, stands_home}
 use Rattle.fsfs_shows.proofs.Walks.{child_stands}
 use Rattle.fsfs_ancestry.specs.CopyRoots.{later_root, IsRootedFrom}
-use Rattle.fsfs_ancestry.specs.Trees.{ShowsRevisions, PredecessorsAreEarlier}
+use Rattle.fsfs_ancestry.specs.Trees.{ShowTrees, PredecessorsAreEarlier}
 use Rattle.fsfs_ancestry.proofs.Roots.{is_less, is_not_less, stands_rooted}
 
 -- ---- what stands somewhere is had by its id
@@ -89,7 +89,7 @@ pub record IsEarlier (look : RevisionBytes) (r : ℕ) (v u : NodeRev) : Type 0 w
 abbrev pub AreEarlier : RevisionBytes → ℕ → NodeRev → Type 0
 AreEarlier look r v = (u : NodeRev) → IsPred look v u → IsEarlier look r v u
 
-module _ (look : RevisionBytes) (top : ℕ) (tree : ℕ → TreeFunction) (trees : ShowsRevisions look top tree) where
+module _ (look : RevisionBytes) (top : ℕ) (tree : ℕ → TreeFunction) (trees : ShowTrees look top tree) where
   pub root_there : (s : ℕ) → s ≤ top → (a : NodeRev) × RootOf look s (Ok a)
   root_there s le = let w = (trees.each s le).each [] in (w.1.0, w.1.1)
 

@@ -24,7 +24,7 @@ use Rattle.fsfs_shows.proofs.OneTree.{chain_one, first_same, copied_same, near_s
 use Rattle.fsfs_shows.proofs.TreeLaw.{below, root_home, stands_home, child_home, chain_le, root_le, shown_at, there, sound}
 use Rattle.fsfs_shows.proofs.Walks.{met_behind, child_stands}
 use Rattle.fsfs_ancestry.specs.CopyRoots.{later_root, IsRootedFrom, IsRootedAt}
-use Rattle.fsfs_ancestry.specs.Trees.{ShowsRevisions, ShownTreesAreRevisions}
+use Rattle.fsfs_ancestry.specs.Trees.{ShowTrees, ShownTreesAreRevisions}
 use Rattle.fsfs_ancestry.proofs.Roots.{is_less, is_not_less, rooted_met, rooted_stands, stands_rooted, rooted_child, rooted_split, rooted_one, later_up, later_up_here, later_by, IsLatest, rooted_latest}
 use Rattle.fsfs_ancestry.proofs.Earlier.{pred_same, no_pred, is_child, pred_dir}
 use Rattle.fsfs_ancestry.proofs.Behind.{chain_pred, shown_there, IsBehind, Same, Fresh, Moved, behind_at}
@@ -118,7 +118,7 @@ none_shown look r p o (Stands v) never h = absurd (never v refl)
 none_shown look r p o (Lacking k) never h = h
 none_shown look r p o (Blocked k) never h = h
 
-module _ (look : RevisionBytes) (top : ℕ) (tree : ℕ → TreeFunction) (trees : ShowsRevisions look top tree) where
+module _ (look : RevisionBytes) (top : ℕ) (tree : ℕ → TreeFunction) (trees : ShowTrees look top tree) where
   -- what stands in a tree is a node of it
   record Here (r : ℕ) (p : Path) (v : NodeRev) (last : ℕ × Path) : Type 0 where
     node : Node
@@ -301,7 +301,9 @@ module _ (look : RevisionBytes) (top : ℕ) (tree : ℕ → TreeFunction) (trees
       → copied_by b (s.from.rev, s.from.path ++ drop (length root) p) ≡ Some (from, f) → IsSourceOf c from f
   copied_to c le p root x s false from f e = absurd cc
   copied_to c le p root x s true from f e =
-      let pair : (s.from.rev, s.from.path ++ drop (length root) p) ≡ (from, f) = same_Some _ _ e in
+      let here : ℕ × Path = (s.from.rev, s.from.path ++ drop (length root) p) in
+      let to : ℕ × Path = (from, f) in
+      let pair : here ≡ to = same_Some here to e in
       let rev : s.from.rev ≡ from = ap (λ (y : ℕ × Path). y.0) pair in
       let earlier = s.earlier in
       let rest : drop (length root) p ≡ s.rest = ap (λ (q : Path). drop (length root) q) s.parts ∙ drop-append_seam root s.rest in

@@ -14,7 +14,7 @@ use Rattle.fsfs_shows.specs.IdRules.{IsOf, IsChild, root_after}
 use Rattle.fsfs_shows.proofs.TreeLaw.{child_home, stands_home, root_le}
 use Rattle.fsfs_shows.proofs.Walks.{child_stands}
 use Rattle.fsfs_ancestry.specs.CopyRoots.{later_root, IsRootedAt}
-use Rattle.fsfs_ancestry.specs.Trees.{ShowsRevisions}
+use Rattle.fsfs_ancestry.specs.Trees.{ShowTrees}
 use Rattle.fsfs_ancestry.proofs.Roots.{is_less, is_not_less, rooted_child, later_by, IsCounted, self_counted, later_counted}
 use Rattle.fsfs_ancestry.proofs.Standing.{for_each}
 use Rattle.fsfs_ancestry.proofs.Earlier.{pred_same, no_pred, root_there, root_of_id, is_child, pred_dir, stands_of_id, earlier}
@@ -67,7 +67,7 @@ data Since (look : RevisionBytes) (r : ℕ) (v : NodeRev) : Type 0 where
   Now : own_rev v ≡ r → Since look r v
   Earlier : (s : ℕ) (q : Path) → s < r → StandsAt look s q v → Since look r v
 
-module _ (look : RevisionBytes) (top : ℕ) (tree : ℕ → TreeFunction) (trees : ShowsRevisions look top tree) where
+module _ (look : RevisionBytes) (top : ℕ) (tree : ℕ → TreeFunction) (trees : ShowTrees look top tree) where
   pub before : (r : ℕ) (p : Path) (v : NodeRev) → r ≤ top → StandsAt look r p v → Before look v
   before r p v le at = by v.predecessor refl
     where
@@ -175,7 +175,7 @@ pub record Origins (look : RevisionBytes) (c : ℕ) (p : Path) (v : NodeRev) : T
   pub counted : IsCounted (copy_root_of v) last
   pub origin : last.0 ≡ c → Origin look c p v last
 
-module _ (look : RevisionBytes) (top : ℕ) (tree : ℕ → TreeFunction) (trees : ShowsRevisions look top tree) (c : ℕ) (le : c ≤ top) where
+module _ (look : RevisionBytes) (top : ℕ) (tree : ℕ → TreeFunction) (trees : ShowTrees look top tree) (c : ℕ) (le : c ≤ top) where
   module _ (p : Path) (name : PathName) (dir v : NodeRev) (at : StandsAt look c p dir) (is : dir.kind ≡ Dir) (child : ChildOf look dir name (Ok (Some v))) (there : StandsAt look c (p ++ name ∷ []) v) (o : Origins look c p dir) where
     placed : IsChild look top c p name dir v
     placed = is_child look top tree trees c le p name dir v at is child

@@ -11,15 +11,15 @@ use Rattle.fsfs_shows.specs.IdRules.{IdRule}
 use Rattle.fsfs_shows.specs.Shown.{Shows}
 
 -- the bytes show these trees up to a revision, and obey the rules of ids
-pub record ShowsRevisions (look : RevisionBytes) (top : ℕ) (tree : ℕ → TreeFunction) : Type 0 where
+pub record ShowTrees (look : RevisionBytes) (top : ℕ) (tree : ℕ → TreeFunction) : Type 0 where
   pub each : (r : ℕ) → r ≤ top → Shows look r (tree r)
   pub ids : IdRule look top
 
 -- a predecessor is of an earlier revision
 abbrev pub PredecessorsAreEarlier : Type 0
-PredecessorsAreEarlier = (look : RevisionBytes) (top : ℕ) (tree : ℕ → TreeFunction) → ShowsRevisions look top tree
+PredecessorsAreEarlier = (look : RevisionBytes) (top : ℕ) (tree : ℕ → TreeFunction) → ShowTrees look top tree
     → (r : ℕ) (p : Path) (v u : NodeRev) → r ≤ top → StandsAt look r p v → IsPred look v u → own_rev u < own_rev v
 
 -- the trees are those of a history
 abbrev pub ShownTreesAreRevisions : Type 0
-ShownTreesAreRevisions = (look : RevisionBytes) (top : ℕ) (tree : ℕ → TreeFunction) → ShowsRevisions look top tree → AreRevisions tree top
+ShownTreesAreRevisions = (look : RevisionBytes) (top : ℕ) (tree : ℕ → TreeFunction) → ShowTrees look top tree → AreRevisions tree top

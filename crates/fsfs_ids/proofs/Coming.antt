@@ -19,7 +19,7 @@ use Rattle.fsfs_shows.specs.IdRules.{IdRule, IsOf, IsChild}
 use Rattle.fsfs_shows.proofs.OneWalk.{stands_same}
 use Rattle.fsfs_shows.proofs.Walks.{child_stands}
 use Rattle.fsfs_shows.proofs.TreeLaw.{stands_home, child_home}
-use Rattle.fsfs_ancestry.specs.Trees.{ShowsRevisions}
+use Rattle.fsfs_ancestry.specs.Trees.{ShowTrees}
 use Rattle.fsfs_ancestry.proofs.Standing.{for_each}
 use Rattle.fsfs_ancestry.proofs.Earlier.{stands_of_id, named_same, pred_same, no_pred}
 use Rattle.fsfs_ancestry.proofs.Sources.{Before, Nothing, One, before}
@@ -48,7 +48,7 @@ copy_or_not (Some from) = inr (from, refl)
 pub below_or_at : (a b : ℕ) → a ≤ b → (a < b) ⊎ (a ≡ b)
 below_or_at a b h = grind arith
 
-module _ (look : RevisionBytes) (top : ℕ) (tree : ℕ → TreeFunction) (shows : ShowsRevisions look top tree) where
+module _ (look : RevisionBytes) (top : ℕ) (tree : ℕ → TreeFunction) (shows : ShowTrees look top tree) where
   pub behind_at : (r : ℕ) (p : Path) (v : NodeRev) → r ≤ top → StandsAt look r p v → Before look v
   behind_at r p v le at = before look top tree shows r p v le at
 

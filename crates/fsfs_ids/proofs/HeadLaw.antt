@@ -25,7 +25,7 @@ use Rattle.fsfs_shows.proofs.OneWalk.{stands_same}
 use Rattle.fsfs_shows.proofs.OneTree.{chain_one}
 use Rattle.fsfs_shows.proofs.TreeLaw.{IsHome, stands_home, chain_le, root_le, props_le, sound}
 use Rattle.fsfs_base.proofs.PathLemmas.{same_name-refl, covers-antisym, covers-longer}
-use Rattle.fsfs_ancestry.specs.Trees.{ShowsRevisions}
+use Rattle.fsfs_ancestry.specs.Trees.{ShowTrees}
 use Rattle.fsfs_ancestry.proofs.Revisions.{shown_revisions}
 use Rattle.fsfs_ids.specs.HeadLaws.{Continues, IsHeldAbove, AgreeAt, HeadLaws, UntouchedIsShared}
 use Rattle.fsfs_ancestry.proofs.Earlier.{stands_of_id, named_same}
@@ -56,7 +56,7 @@ module _ (b : ℕ) (o : Option Node) (n : Node) (is : o ≡ Some n) where
   pub le_same_props : n.props_changed ≤ b → props_changed_by_head b o ≡ false
   le_same_props h = subst (λ (x : Option Node). props_changed_by_head b x ≡ false) (sym is) (le-ltb b n.props_changed h)
 
-module _ (look : RevisionBytes) (top : ℕ) (tree : ℕ → TreeFunction) (shows : ShowsRevisions look top tree) where
+module _ (look : RevisionBytes) (top : ℕ) (tree : ℕ → TreeFunction) (shows : ShowTrees look top tree) where
   revisions : AreRevisions tree top
   revisions = shown_revisions look top tree shows
 

@@ -11,7 +11,7 @@ use Rattle.fsfs_book.specs.Told.{RevisionBytes}
 use Rattle.fsfs_rev_file.specs.RevBytes.{rev_bytes, props_bytes}
 use Rattle.fsfs_shows.specs.Shown.{Shows}
 use Rattle.fsfs_shows.specs.IdRules.{IdRule}
-use Rattle.fsfs_ancestry.specs.Trees.{ShowsRevisions}
+use Rattle.fsfs_ancestry.specs.Trees.{ShowTrees}
 use Rattle.fsfs_ancestry.proofs.Revisions.{shown_revisions}
 use Rattle.fsfs_stands.specs.History.{ShowsHistory}
 use Rattle.fsfs_stands.specs.Files.{StandsFor}
@@ -24,7 +24,7 @@ module _ (look props : RevisionBytes) (h : List Revision) (last : ℕ) (count : 
     | inr past ↦ (let over = past.0 in absurd (omega (arith, over, le, count)))
   ]
 
-  trees : ShowsRevisions look last (tree_of h)
+  trees : ShowTrees look last (tree_of h)
   trees = record {
     each = λ r le.
         (let x = there r le in
