@@ -21,7 +21,7 @@ use Rattle.fsfs_shows.specs.Reading.{DirEntry, ChildOf, OfId, StandsAt}
 use Rattle.fsfs_shows.specs.Chains.{own_rev, IsPred, copy_root_of}
 use Rattle.fsfs_damage.proofs.OneAnswer.{ok_same}
 use Rattle.fsfs_shows.proofs.OneWalk.{of_id_one}
-use Rattle.fsfs_ids.proofs.Standing.{standing_named}
+use Rattle.fsfs_ancestry.proofs.Earlier.{stands_of_id}
 use Rattle.fsfs_drafts.specs.Own.{OwnNode, Own, has_entry}
 use Rattle.fsfs_drafts.specs.Rules.{GoesOn, Root, root_or_path, draft_root, lasting_root, root_after, at_top, IsNew, CopyPartOf, Directory, Same, Before, Drawn, Keeps, ComesBy, Change, Copied, Made, head_at, AreEntriesOf, stands_from, stands_at, above_of, above_at}
 use Rattle.fsfs_drafts.specs.Drafts.{Folder, IsDraft, IsDraftText, ShowTrees}
@@ -139,7 +139,7 @@ module _ (look : RevisionBytes) (top base : ℕ) (trees : ℕ → TreeFunction) 
 
       by : ComesBy look top (λ r w. stands_at look p own (StandsAt look base) r w) (above_at p own at_top) d → GoesOn d.node u × Keeps d u
       by (Change w at no_copy on keeps root part) = same_as w on.predecessor ((placing.hangs_here look top base trees nodes shown are le txn f own draft p d here).agrees.read [] w at) (on, keeps)
-      by (Copied w from copy low at on keeps root part) = same_as w on.predecessor (standing_named look from.rev from.path w at) (on, keeps)
+      by (Copied w from copy low at on keeps root part) = same_as w on.predecessor (stands_of_id look from.rev from.path w at) (on, keeps)
       by (Made no_copy no_pred count root part new) = let e = sym no_pred ∙ pred.1 in absurd cc
 
   -- ---- directories

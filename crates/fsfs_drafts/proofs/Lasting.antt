@@ -14,7 +14,7 @@ use Rattle.fsfs_noderev.specs.declared.node_rev.CopyRoot.{CopyRoot}
 use Rattle.fsfs_noderev.specs.declared.node_rev.NodeRev.{NodeRev}
 use Rattle.fsfs_revision.specs.Nodes.{is_lasting_part, is_revision_place, is_revision_id, has_revision_pred, has_revision_rep, has_revision_root, is_some_rev, is_of_revision}
 use Rattle.fsfs_shows.specs.Reading.{OfId, StandsAt}
-use Rattle.fsfs_ids.proofs.Standing.{standing_named}
+use Rattle.fsfs_ancestry.proofs.Earlier.{stands_of_id}
 use Rattle.fsfs_drafts.specs.OwnSides.{in_txn, has_own_root, is_own_copy}
 
 pub record IsLasting (x : NodeRev) : Type 0 where
@@ -54,4 +54,4 @@ lasting_id look id v w =
     subst IsLasting (sym same) (of_revision w.0 w.1.2.0.1)
 
 pub lasting : (look : RevisionBytes) (r : ℕ) (p : Path) (v : NodeRev) → StandsAt look r p v → IsLasting v
-lasting look r p v at = lasting_id look v.id v (standing_named look r p v at)
+lasting look r p v at = lasting_id look v.id v (stands_of_id look r p v at)

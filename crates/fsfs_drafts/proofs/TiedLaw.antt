@@ -16,7 +16,7 @@ use Rattle.fsfs_shows.specs.Reading.{DirEntry, named, ChildOf, StandsAt}
 use Rattle.fsfs_shows.specs.Chains.{own_rev, IsPred, copy_root_of}
 use Rattle.fsfs_shows.proofs.TreeLaw.{stands_home}
 use Rattle.fsfs_shows.proofs.Walks.{child_stands}
-use Rattle.fsfs_ids.proofs.Standing.{standing_named, pred_same}
+use Rattle.fsfs_ancestry.proofs.Earlier.{stands_of_id, pred_same}
 use Rattle.fsfs_drafts.specs.Own.{OwnNode, Own, below}
 use Rattle.fsfs_drafts.specs.Rules.{GoesOn, Root, draft_root, lasting_root, root_after, Above, at_top, IsNew, CopyPartOf, Directory, Same, Before, Drawn, ComesBy, Change, Copied, Made, head_at, IsEntryOf, AreEntriesOf, NodeRule, RuleAt, Rules, stands_from, stands_under, stands_at, above_of, above_under, above_at}
 use Rattle.fsfs_drafts.specs.Drafts.{Folder, IsDraft}
@@ -153,7 +153,7 @@ module _ (look : RevisionBytes) (top base : ℕ) (met : NodesAt) (own : Own) (tx
   back_root v u is pred =
       let r = draft.root in
       let same : v.node ≡ r.0 = some_same (met []) v.node r.0 (tied.mine [] v is) r.2 in
-      let one = pred_same look v.node u r.1 pred (r.1.id, ap (λ (z : NodeRev). z.predecessor) same ∙ r.5, standing_named look base [] r.1 r.3) in
+      let one = pred_same look v.node u r.1 pred (r.1.id, ap (λ (z : NodeRev). z.predecessor) same ∙ r.5, stands_of_id look base [] r.1 r.3) in
       goes_under (λ r w. Here [] r w) v.node.copy_from v.node.predecessor [] u (ap (λ (z : NodeRev). z.copy_from) same ∙ r.8) (pred_some v.node u pred) (subst (λ (z : NodeRev). StandsAt look base [] z) (sym one) r.3)
 
   pub record OnFrom (p : Path) (name : PathName) (d v : OwnNode) : Type 0 where
@@ -177,7 +177,7 @@ module _ (look : RevisionBytes) (top base : ℕ) (met : NodesAt) (own : Own) (tx
       by : (c : Option CopySource) → v.node.copy_from ≡ c → stands_under look (Some v) (λ r w. Here (p ++ name ∷ []) r w) [] u
       by (Some from) copy =
           let c = draft.copied (p ++ name ∷ []) v.node from (tied.mine (p ++ name ∷ []) v is) (is_mine (p ++ name ∷ []) v is) copy in
-          let one = pred_same look v.node u c.0 pred (c.0.id, c.3, standing_named look from.rev from.path c.0 c.2) in
+          let one = pred_same look v.node u c.0 pred (c.0.id, c.3, stands_of_id look from.rev from.path c.0 c.2) in
           copy_under (λ r w. Here (p ++ name ∷ []) r w) v.node.copy_from v.node.predecessor from u copy (subst (λ (z : NodeRev). StandsAt look from.rev from.path z) (sym one) c.2)
       by None no_copy =
           let d = above p name v is in
@@ -209,7 +209,7 @@ module _ (look : RevisionBytes) (top base : ℕ) (met : NodesAt) (own : Own) (tx
   comes_root v is =
       let r = draft.root in
       let same : v.node ≡ r.0 = some_same (met []) v.node r.0 (tied.mine [] v is) r.2 in
-      let pred : IsPred look v.node r.1 = (r.1.id, ap (λ (z : NodeRev). z.predecessor) same ∙ r.5, standing_named look base [] r.1 r.3) in
+      let pred : IsPred look v.node r.1 = (r.1.id, ap (λ (z : NodeRev). z.predecessor) same ∙ r.5, stands_of_id look base [] r.1 r.3) in
       let none : nat_lt (own_rev r.1) 0 ≡ false = grind (arith, nat_tests) in
       Change r.1 r.3 (ap (λ (z : NodeRev). z.copy_from) same ∙ r.8) (goes_of [] v r.1 is pred) (tied.keeps [] v r.1 is pred)
       (roots_same top (draft_root v.node) (lasting_root r.1) (λ n lt. sym (root_resolved v.node n (is_mine [] v is)) ∙ ap (λ (z : NodeRev). nodewise.draft_root n z) same ∙ r.9 n lt)
@@ -228,7 +228,7 @@ module _ (look : RevisionBytes) (top base : ℕ) (met : NodesAt) (own : Own) (tx
       by : (d : OwnNode) → own p ≡ Some d → d.node.kind ≡ Dir → (c : Option CopySource) → v.node.copy_from ≡ c → (o : Option NodeId) → v.node.predecessor ≡ o → ComesBy look top (λ q u. Here (p ++ name ∷ []) q u) (above_of d.node) v
       by d here dir (Some from) copy o pred =
           let c = draft.copied (p ++ name ∷ []) v.node from (tied.mine (p ++ name ∷ []) v is) (is_mine (p ++ name ∷ []) v is) copy in
-          let back : IsPred look v.node c.0 = (c.0.id, c.3, standing_named look from.rev from.path c.0 c.2) in
+          let back : IsPred look v.node c.0 = (c.0.id, c.3, stands_of_id look from.rev from.path c.0 c.2) in
           Copied c.0 from copy c.1 c.2 (goes_of (p ++ name ∷ []) v c.0 is back) (tied.keeps (p ++ name ∷ []) v c.0 is back)
           (roots_same top (draft_root v.node) (None, v.node.created_path) (λ n lt. sym (root_resolved v.node n (is_mine (p ++ name ∷ []) v is)) ∙ c.5 n lt ∙ (λ i. (n, sym c.4 i))))
           (is_new v.node.id.copy c.6)

@@ -19,8 +19,11 @@ use Rattle.fsfs_shows.specs.IdRules.{IdRule, IsOf, IsChild}
 use Rattle.fsfs_shows.proofs.OneWalk.{stands_same}
 use Rattle.fsfs_shows.proofs.Walks.{child_stands}
 use Rattle.fsfs_shows.proofs.TreeLaw.{stands_home, child_home}
-use Rattle.fsfs_ids.specs.HeadLaws.{ShowsRevisions}
-use Rattle.fsfs_ids.proofs.Standing.{for_each, standing_named, named_same, pred_same, no_pred, Behind, Nothing, One, behind, number_of}
+use Rattle.fsfs_ancestry.specs.Trees.{ShowTrees}
+use Rattle.fsfs_ancestry.proofs.Standing.{for_each}
+use Rattle.fsfs_ancestry.proofs.Earlier.{stands_of_id, named_same, pred_same, no_pred}
+use Rattle.fsfs_ancestry.proofs.Sources.{Before, Nothing, One, before}
+use Rattle.fsfs_ancestry.proofs.Behind.{shown_there}
 
 -- made, or copied
 abbrev pub IsFresh : NodeRev → Type 0
@@ -45,9 +48,9 @@ copy_or_not (Some from) = inr (from, refl)
 pub below_or_at : (a b : ℕ) → a ≤ b → (a < b) ⊎ (a ≡ b)
 below_or_at a b h = grind arith
 
-module _ (look : RevisionBytes) (top : ℕ) (tree : ℕ → TreeFunction) (shows : ShowsRevisions look top tree) where
-  pub behind_at : (r : ℕ) (p : Path) (v : NodeRev) → r ≤ top → StandsAt look r p v → Behind look v
-  behind_at r p v le at = let n = number_of look r (tree r) (shows.each r le) p v at in behind look v (Ok n.2.first) n.2.first n.2.chain refl
+module _ (look : RevisionBytes) (top : ℕ) (tree : ℕ → TreeFunction) (shows : ShowTrees look top tree) where
+  pub behind_at : (r : ℕ) (p : Path) (v : NodeRev) → r ≤ top → StandsAt look r p v → Before look v
+  behind_at r p v le at = before look top tree shows r p v le at
 
   -- the predecessor of a root
   root_before : (r : ℕ) (v : NodeRev) → suc r ≤ top → StandsAt look (suc r) [] v → (u : NodeRev) × IsPred look v u × StandsAt look r [] u
@@ -58,12 +61,12 @@ module _ (look : RevisionBytes) (top : ℕ) (tree : ℕ → TreeFunction) (shows
       by : (met : _) → MetAt look r [] (Ok met) → (u : NodeRev) × IsPred look v u × StandsAt look r [] u
       by met w =
           let here : StandsAt look r [] w.0 = (w.0, w.1, refl) in
-          (w.0, (w.0.id, shows.ids.root_next r v w.0 le at here, standing_named look r [] w.0 here), here)
+          (w.0, (w.0.id, shows.ids.root_next r v w.0 le at here, stands_of_id look r [] w.0 here), here)
 
   source_before : (r : ℕ) (p : Path) (v : NodeRev) (from : CopySource) → r ≤ top → StandsAt look r p v → v.copy_from ≡ Some from → (u : NodeRev) × IsPred look v u × StandsAt look from.rev from.path u × (from.rev < own_rev v)
   source_before r p v from le at is =
       let s = shows.ids.copy_source v from (r, p, le, at) is in
-      (s.1, (s.1.id, s.3, standing_named look from.rev from.path s.1 s.2), s.2, s.0)
+      (s.1, (s.1.id, s.3, stands_of_id look from.rev from.path s.1 s.2), s.2, s.0)
 
   module _ (r : ℕ) (le : suc r ≤ top) where
     child_comes : (p : Path) (name : PathName) (dir v : NodeRev) → StandsAt look (suc r) p dir → dir.kind ≡ Dir → ChildOf look dir name (Ok (Some v)) → StandsAt look (suc r) (p ++ name ∷ []) v → Comes look r p dir → Comes look r (p ++ name ∷ []) v

@@ -25,8 +25,11 @@ use Rattle.fsfs_shows.proofs.OneWalk.{stands_same}
 use Rattle.fsfs_shows.proofs.OneTree.{chain_one}
 use Rattle.fsfs_shows.proofs.TreeLaw.{IsHome, stands_home, chain_le, root_le, props_le, sound}
 use Rattle.fsfs_base.proofs.PathLemmas.{same_name-refl, covers-antisym, covers-longer}
-use Rattle.fsfs_ids.specs.HeadLaws.{ShowsRevisions, Continues, IsHeldAbove, AgreeAt, HeadLaws, UntouchedIsShared}
-use Rattle.fsfs_ids.proofs.Standing.{standing_named, named_same, number_of}
+use Rattle.fsfs_ancestry.specs.Trees.{ShowTrees}
+use Rattle.fsfs_ancestry.proofs.Revisions.{shown_revisions}
+use Rattle.fsfs_ids.specs.HeadLaws.{Continues, IsHeldAbove, AgreeAt, HeadLaws, UntouchedIsShared}
+use Rattle.fsfs_ancestry.proofs.Earlier.{stands_of_id, named_same}
+use Rattle.fsfs_ancestry.proofs.Behind.{shown_there}
 use Rattle.fsfs_ids.proofs.Coming.{below_or_at, IsFresh, Comes, Same, Next, Fresh, comes, same_first}
 
 some_node : (m n : Node) (o : Option Node) → o ≡ Some m → o ≡ Some n → m ≡ n
@@ -53,9 +56,12 @@ module _ (b : ℕ) (o : Option Node) (n : Node) (is : o ≡ Some n) where
   pub le_same_props : n.props_changed ≤ b → props_changed_by_head b o ≡ false
   le_same_props h = subst (λ (x : Option Node). props_changed_by_head b x ≡ false) (sym is) (le-ltb b n.props_changed h)
 
-module _ (look : RevisionBytes) (top : ℕ) (tree : ℕ → TreeFunction) (shows : ShowsRevisions look top tree) where
+module _ (look : RevisionBytes) (top : ℕ) (tree : ℕ → TreeFunction) (shows : ShowTrees look top tree) where
+  revisions : AreRevisions tree top
+  revisions = shown_revisions look top tree shows
+
   pub node_at : (r : ℕ) (p : Path) (v : NodeRev) → r ≤ top → StandsAt look r p v → (n : Node) × (tree r p ≡ Some n) × IsShown look r p v n
-  node_at r p v le at = number_of look r (tree r) (shows.each r le) p v at
+  node_at r p v le at = shown_there look r (tree r) (shows.each r le) p v at
 
   -- what is below was added no sooner
   added_below : (r : ℕ) (q p : Path) (m n : Node) → suc r ≤ top → covers q p ≡ true → tree (suc r) q ≡ Some m → tree (suc r) p ≡ Some n → m.added ≤ n.added
@@ -64,7 +70,7 @@ module _ (look : RevisionBytes) (top : ℕ) (tree : ℕ → TreeFunction) (shows
         let one : m ≡ n = some_node m n (tree (suc r) q) e (subst (λ (x : Path). tree (suc r) x ≡ Some n) (sym same) f) in
         let added : m.added ≡ n.added = ap (λ (x : Node). x.added) one in
         omega arith)
-    | inr apart ↦ ((shows.revisions.next r (omega arith)).below q p m n (and_from _ _ c (ap not apart)) e f).0
+    | inr apart ↦ ((revisions.next r (omega arith)).below q p m n (and_from _ _ c (ap not apart)) e f).0
   ]
 
   -- what was made or copied in a revision was added there
@@ -103,7 +109,7 @@ module _ (look : RevisionBytes) (top : ℕ) (tree : ℕ → TreeFunction) (shows
         by zero r e le at is = subst (λ (x : ℕ). StandsAt look x p v) (let f : r ≡ b = omega arith in f) at
         by (suc d) zero e le at is = absurd (omega arith)
         by (suc d) (suc r) e le at is =
-            let before = (shows.revisions.next r (omega arith)).last_changed p n is (omega arith) in
+            let before = (revisions.next r (omega arith)).last_changed p n is (omega arith) in
             let order = (sound look (suc r) (tree (suc r)) (shows.each (suc r) le)).ordered p n is in
             let more : b ≤ r = omega arith in
             elim (comes look top tree shows r le p v at) [
@@ -131,7 +137,7 @@ module _ (look : RevisionBytes) (top : ℕ) (tree : ℕ → TreeFunction) (shows
     }
     back_held (suc d) zero v n e le at is added = absurd (omega arith)
     back_held (suc d) (suc r) v n e le at is added =
-        let next = shows.revisions.next r (omega arith) in
+        let next = revisions.next r (omega arith) in
         let m = next.added p n is (omega arith) in
         let more : b ≤ r = omega arith in
         let k = node_at (suc r) p v le at in

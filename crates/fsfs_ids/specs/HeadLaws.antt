@@ -7,19 +7,11 @@ use Rattle.std.specs.Prelude.{◌≡◌, ◌≤◌, ◌↔◌, ℕ, true, false}
 use Rattle.fsfs_base.specs.Paths.{Path, is_above}
 use Rattle.fsfs_tree.specs.Nodes.{TreeFunction}
 use Rattle.fsfs_flat.specs.Landing.{touched_by_head, held_by_head, props_changed_by_head}
-use Rattle.fsfs_flat.specs.Histories.{AreRevisions}
 use Rattle.fsfs_book.specs.Told.{RevisionBytes}
 use Rattle.fsfs_noderev.specs.declared.node_rev.NodeRev.{NodeRev}
 use Rattle.fsfs_shows.specs.Reading.{StandsAt}
 use Rattle.fsfs_shows.specs.Chains.{copy_root_of}
-use Rattle.fsfs_shows.specs.Shown.{Shows}
-use Rattle.fsfs_shows.specs.IdRules.{IdRule}
-
--- the bytes of the revisions up to `top` show these trees, which are those of a history, and the node-revisions hang together
-pub record ShowsRevisions (look : RevisionBytes) (top : ℕ) (tree : ℕ → TreeFunction) : Type 0 where
-  pub each : (r : ℕ) → r ≤ top → Shows look r (tree r)
-  pub ids : IdRule look top
-  pub revisions : AreRevisions tree top
+use Rattle.fsfs_ancestry.specs.Trees.{ShowTrees}
 
 -- the later node-revision goes on from the same node, and was not copied since revision b, by itself or with what its copy root is
 abbrev pub Continues : ℕ → NodeRev → NodeRev → Type 0
@@ -39,12 +31,12 @@ pub record AgreeAt (b : ℕ) (s : TreeFunction) (p : Path) (x y : NodeRev) : Typ
   pub props : held_by_head b (s p) ≡ true → (x.props ≡ y.props) ↔ (props_changed_by_head b (s p) ≡ false)
 
 abbrev pub HeadLaws : Type 0
-HeadLaws = (look : RevisionBytes) (top : ℕ) (tree : ℕ → TreeFunction) → ShowsRevisions look top tree → (b h : ℕ) → b ≤ h → h ≤ top
+HeadLaws = (look : RevisionBytes) (top : ℕ) (tree : ℕ → TreeFunction) → ShowTrees look top tree → (b h : ℕ) → b ≤ h → h ≤ top
     → (p : Path) → IsHeldAbove b (tree h) p → (x y : NodeRev) → StandsAt look b p x → StandsAt look h p y → AgreeAt b (tree h) p x y
 
 -- what the head did not touch is, with all below it, node-revision by node-revision that of the base
 abbrev pub UntouchedIsShared : Type 0
-UntouchedIsShared = (look : RevisionBytes) (top : ℕ) (tree : ℕ → TreeFunction) → ShowsRevisions look top tree → (b h : ℕ) → b ≤ h → h ≤ top
+UntouchedIsShared = (look : RevisionBytes) (top : ℕ) (tree : ℕ → TreeFunction) → ShowTrees look top tree → (b h : ℕ) → b ≤ h → h ≤ top
     → (p : Path) (y : NodeRev) → StandsAt look h p y → touched_by_head b (tree h p) ≡ false → StandsAt look b p y
 
 -- and what stands behind a node-revision of a tree in its chain of predecessors is one of an earlier tree

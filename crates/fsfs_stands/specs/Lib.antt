@@ -4,3 +4,5 @@ pub mod Files
 pub mod Same
 pub mod FirstHistory
 pub mod NewRepository
+pub mod Histories
+pub mod Seen

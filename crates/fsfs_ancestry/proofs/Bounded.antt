@@ -25,7 +25,7 @@ use Rattle.fsfs_damage.specs.Readings.{AndThen}
 use Rattle.fsfs_shows.specs.Reading.{NodeAt, RootOf, offset_of, RepAt, Pairs, PairsIn, PairsAt, OfContents, TextOf, PropsOf, DirEntry, EntriesIn, EntriesAt, EntriesOf, HasId, OfId, HasKind, OfEntry, named, OfNamed, ChildOf, Met, Stands, Lacking, Blocked, OrLacking, InDirectory, MetFrom, MetAt, StandsAt}
 use Rattle.fsfs_shows.specs.Chains.{own_rev, IsPred, Chain, First, Breaks, Goes, copy_root_of, IsCopiedIn, contents_rev}
 use Rattle.fsfs_shows.specs.Shown.{IsTextOf, Nearest, IsOfCopy, IsSource, IsShown, IsShownAs, Shows}
-use Rattle.fsfs_ids.specs.Bounded.{AreSameUpTo}
+use Rattle.fsfs_ancestry.specs.Bounded.{AreSameUpTo}
 use Rattle.fsfs_shows.proofs.TreeLaw.{IsHome, before_le, of_id_home, root_home, child_home, entry_before, stands_home, rep_le, props_le, chain_le, sound}
 
 pub back_same : (r : ℕ) (look other : RevisionBytes) → AreSameUpTo r look other → AreSameUpTo r other look

@@ -11,8 +11,8 @@ use Rattle.fsfs_shows.specs.Reading.{offset_of, ChildOf, StandsAt}
 use Rattle.fsfs_shows.specs.Chains.{own_rev, IsPred}
 use Rattle.fsfs_shows.specs.IdRules.{IdRule, IsOf, IsChild, IsBehind, Next, Further, IsDrawn, CopyPartFrom, Directory, Before, Drawn}
 use Rattle.fsfs_shows.proofs.TreeLaw.{IsHome, before_le, of_id_home, stands_home}
-use Rattle.fsfs_ids.specs.Bounded.{AreSameUpTo}
-use Rattle.fsfs_ids.proofs.Bounded.{back_same, stands_same_bytes, of_id_same, child_same}
+use Rattle.fsfs_ancestry.specs.Bounded.{AreSameUpTo}
+use Rattle.fsfs_ancestry.proofs.Bounded.{back_same, stands_same_bytes, of_id_same, child_same}
 
 -- a node-revision of a tree, or one before it
 pub record InTime (top : ℕ) (v : NodeRev) : Type 0 where
