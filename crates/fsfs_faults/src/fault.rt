@@ -122,8 +122,8 @@ impl From<Wrong> for Fault {
     fn from(wrong: Wrong) -> Fault {
         match wrong {
             Wrong::Refused(Refusal::NoRev { asked, youngest }) => Fault::NoRev {
-                asked: asked as u64,
-                youngest,
+                asked: asked.get() as u64,
+                youngest: youngest.get() as u64,
             },
             Wrong::Refused(Refusal::Missing { rev }) => Fault::Corrupt(Damage {
                 at: RevOffset { rev, offset: 0 },

@@ -94,7 +94,7 @@ fn numbers_text(first: u64, second: u64) -> ArrayString<42>
 fn at_text(at: RevOffset) -> ArrayString<42>
     ensures { result.bytes ≡ at_values at }
 {
-    numbers_text(at.rev as u64, at.offset)
+    numbers_text(at.rev.get() as u64, at.offset)
 }
 
 // A hexadecimal digit.

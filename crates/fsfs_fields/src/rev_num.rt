@@ -6,6 +6,7 @@ ghost use Rattle.fsfs_fields.specs.RevNums.{last_rev, IsRev, IsRevEnded, rev_at,
 
 use fsfs_grammar::decimals::{decimal, plain_decimal, put_dec, put_decimal};
 use std::alloc::AllocError;
+use std::fmt::{self, Display, Formatter};
 use std::marker::Model;
 
 /// The last number that a revision may have. (This project's profile.)
@@ -38,6 +39,12 @@ impl From<u16> for RevNum {
         RevNum {
             number: number as u32,
         }
+    }
+}
+
+impl Display for RevNum {
+    fn fmt(&self, f: &mut Formatter<'_>) -> fmt::Result {
+        write!(f, "{}", self.number)
     }
 }
 
