@@ -189,7 +189,7 @@ fn fixed_values_text(fault: &Fault) -> ArrayString<192>
         }
         Fault::NotFound(_) | Fault::NotDir(_) | Fault::NotFile(_) => text.push_str(" "),
         Fault::NoRev { asked, youngest } => {
-            text.push_str(numbers_text(*asked, *youngest).as_str());
+            text.push_str(numbers_text(*asked, youngest.get() as u64).as_str());
         }
         Fault::OtherFormat(number) => text.push_str(number_text(*number).as_str()),
         Fault::Small(small) => {

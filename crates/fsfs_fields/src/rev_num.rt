@@ -6,7 +6,8 @@ ghost use Rattle.fsfs_fields.specs.RevNums.{last_rev, IsRev, IsRevEnded, rev_at,
 
 use fsfs_grammar::decimals::{decimal, plain_decimal, put_dec, put_decimal};
 use std::alloc::AllocError;
-use std::fmt::{self, Display, Formatter};
+use std::fmt;
+use std::fmt::Display;
 use std::marker::Model;
 
 /// The last number that a revision may have. (This project's profile.)
@@ -43,7 +44,11 @@ impl From<u16> for RevNum {
 }
 
 impl Display for RevNum {
-    fn fmt(&self, f: &mut Formatter<'_>) -> fmt::Result {
+    ghost use Rattle.std.specs.Prelude.{Some, decimal};
+
+    ghost output = { λ rev. Some (decimal rev) };
+
+    fn fmt<W: fmt::Write>(&self, f: &mut fmt::Formatter<W>) -> fmt::Result {
         write!(f, "{}", self.number)
     }
 }
