@@ -13,11 +13,11 @@ use std::alloc::{AllocError, Global};
 fn rev_line(bytes: &[u8]) -> Result<RevNum, usize>
     ensures { Gives (λ n. n) result (rev_line_at bytes.now) }
 {
-    let (rev, rest) = RevNum::read_ended(b'\n', bytes)?;
-    if !rest.is_empty() {
-        return Err(rest.len());
+    match RevNum::read_ended(b'\n', bytes) {
+        Ok((rev, rest)) if rest.is_empty() => Ok(rev),
+        Ok((_, rest)) => Err(rest.len()),
+        Err(left) => Err(left),
     }
-    Ok(rev)
 }
 
 /// The youngest revision, from the bytes of `db/current`: a decimal number of at most 2,147,483,647 and a newline.
