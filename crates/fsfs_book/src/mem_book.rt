@@ -155,8 +155,10 @@ impl Book for MemBook {
     ghost faults = { λ b. b.faults.count };
 
     fn youngest(&mut self) -> Result<RevNum, BookFault> {
-        self.call()?;
-        Ok(self.youngest)
+        match self.call() {
+            Ok(()) => Ok(self.youngest),
+            Err(fault) => Err(fault),
+        }
     }
 
     fn rev_len(&mut self, rev: RevNum) -> Result<u64, BookFault> {
