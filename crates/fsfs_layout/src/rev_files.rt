@@ -14,9 +14,14 @@ fn rev_line(bytes: &[u8]) -> Result<RevNum, usize>
     ensures { Gives (λ n. n) result (rev_line_at bytes.now) }
 {
     match RevNum::read_ended(b'\n', bytes) {
-        Ok((rev, rest)) if rest.is_empty() => Ok(rev),
-        Ok((_, rest)) => Err(rest.len()),
         Err(left) => Err(left),
+        Ok((rev, rest)) => {
+            if rest.is_empty() {
+                Ok(rev)
+            } else {
+                Err(rest.len())
+            }
+        }
     }
 }
 
