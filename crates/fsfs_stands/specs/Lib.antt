@@ -4,5 +4,3 @@ pub mod Files
 pub mod Same
 pub mod FirstHistory
 pub mod NewRepository
-pub mod Histories
-pub mod Seen

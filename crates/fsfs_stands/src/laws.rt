@@ -1,8 +1,6 @@
 //! The laws of histories. Each of these functions does nothing: what it ensures is proved once for all bytes.
 ghost use Rattle.fsfs_stands.specs.FirstHistory.{FirstHistoryIsShown};
-ghost use Rattle.fsfs_stands.specs.Histories.{ShownIsAHistory, StoodForIsAHistory};
 ghost use Rattle.fsfs_stands.specs.NewRepository.{CreationsHoldNew, NewRepositoriesStand};
-ghost use Rattle.fsfs_stands.specs.Seen.{LaterFilesAreNotSeen};
 ghost use Rattle.fsfs_stands.specs.Same.{OneHistoryIsShown, OneHistoryIsStoodFor};
 
 /// The bytes of revisions and their property files show one history at most of so many revisions, and files stand for one at
@@ -10,19 +8,6 @@ ghost use Rattle.fsfs_stands.specs.Same.{OneHistoryIsShown, OneHistoryIsStoodFor
 pub fn one_history_is_shown()
     ensures bytes { OneHistoryIsShown }
     ensures files { OneHistoryIsStoodFor }
-{}
-
-/// What bytes show, and what files stand for, is a history: the first revision has `/` alone, and the tree of each later one
-/// follows that of the one before it by its numbers, its properties and its sources.
-pub fn what_files_stand_for_is_a_history()
-    ensures bytes { ShownIsAHistory }
-    ensures files { StoodForIsAHistory }
-{}
-
-/// Files stand for what the revisions up to the youngest hold: other files that say the same in the small files, and have the same
-/// bytes of those revisions, stand for the same history. So a file that was left above `db/current` is seen by nobody.
-pub fn later_files_are_not_seen()
-    ensures { LaterFilesAreNotSeen }
 {}
 
 /// The bytes of revision 0 of a new repository, and its property file with a date, show the history of that revision alone.

@@ -7,6 +7,5 @@
 mod laws;
 
 pub use laws::{
-    creations_hold_new, later_files_are_not_seen, new_repositories_stand, one_history_is_shown,
-    the_first_history_is_shown, what_files_stand_for_is_a_history,
+    creations_hold_new, new_repositories_stand, one_history_is_shown, the_first_history_is_shown,
 };

@@ -18,7 +18,7 @@ use Rattle.fsfs_ancestry.proofs.BoundedIds.{ids_same}
 use Rattle.fsfs_stands.specs.Changes.{IsKindOf, Said, Named, There, NotThere, IsChangeOf, FitsTree, AreChangesOf}
 use Rattle.fsfs_stands.specs.History.{ShowsRevision, ShowsHistory}
 use Rattle.fsfs_stands.specs.Files.{StandsFor}
-use Rattle.fsfs_stands.specs.Seen.{HaveSameRevision, LaterFilesAreNotSeen}
+use Rattle.fsfs_flat_history.specs.Seen.{HaveSameRevision, LaterFilesAreNotSeen}
 
 module _ (r : ℕ) (look other : RevisionBytes) (same : AreSameUpTo r look other) where
   kind_same : (item : ChangeItem) (kind : Kind) → IsKindOf look r item kind → IsKindOf other r item kind

@@ -1,5 +1,5 @@
-use Rattle.fsfs_stands.proofs.Histories.{shown_history, stood_for_history}
-use Rattle.fsfs_stands.proofs.laws.what_files_stand_for_is_a_history.Goals as goal
+use Rattle.fsfs_flat_history.proofs.Histories.{shown_history, stood_for_history}
+use Rattle.fsfs_flat_history.proofs.laws.what_files_stand_for_is_a_history.Goals as goal
 
 pub returns-clause-bytes : goal.returns-clause-bytes
 returns-clause-bytes c = shown_history

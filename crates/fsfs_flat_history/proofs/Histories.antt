@@ -15,7 +15,7 @@ use Rattle.fsfs_ancestry.specs.Trees.{ShowTrees}
 use Rattle.fsfs_ancestry.proofs.Revisions.{shown_revisions}
 use Rattle.fsfs_stands.specs.History.{ShowsHistory}
 use Rattle.fsfs_stands.specs.Files.{StandsFor}
-use Rattle.fsfs_stands.specs.Histories.{ShownIsAHistory, StoodForIsAHistory}
+use Rattle.fsfs_flat_history.specs.Histories.{ShownIsAHistory, StoodForIsAHistory}
 
 module _ (look props : RevisionBytes) (h : List Revision) (last : ℕ) (count : length h ≡ suc last) (shows : ShowsHistory look props h) where
   there : (r : ℕ) → r ≤ last → (revision : Revision) × (slice_get h r ≡ Some revision)
