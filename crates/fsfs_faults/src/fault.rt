@@ -1,5 +1,7 @@
 //! What a command answers but success.
-ghost use Rattle.fsfs_faults.specs.Faults.{IsFromLook};
+ghost use Rattle.std.specs.Prelude.{◌≡◌};
+ghost use Rattle.fsfs_damage.specs.declared.wrong.Wrong.TheVariants.{Refused};
+ghost use Rattle.fsfs_faults.specs.Faults.{IsFromLook, fault_from_wrong};
 
 use fsfs_base::{BadPath, FsPath, RevNum, SmallFault};
 use fsfs_cli::WordsFault;
@@ -121,18 +123,27 @@ impl From<Wrong> for Fault {
 
     fn from(wrong: Wrong) -> Fault {
         match wrong {
-            Wrong::Refused(Refusal::NoRev { asked, youngest }) => Fault::NoRev {
-                asked: asked.get() as u64,
-                youngest,
-            },
-            Wrong::Refused(Refusal::Missing { rev }) => Fault::Corrupt(Damage {
-                at: RevOffset { rev, offset: 0 },
-                what: DamageKind::Missing,
-            }),
-            Wrong::Refused(Refusal::Small(small)) => Fault::Small(small),
+            Wrong::Refused(refusal) => of_refusal(refusal),
             Wrong::Damaged(damage) => Fault::Corrupt(damage),
             Wrong::Delta(at) => Fault::Delta(at),
         }
+    }
+}
+
+// The fault of a revision that isn't read.
+fn of_refusal(refusal: Refusal) -> Fault
+    ensures { result ≡ fault_from_wrong (Refused refusal) }
+{
+    match refusal {
+        Refusal::NoRev { asked, youngest } => Fault::NoRev {
+            asked: asked.get() as u64,
+            youngest,
+        },
+        Refusal::Missing { rev } => Fault::Corrupt(Damage {
+            at: RevOffset { rev, offset: 0 },
+            what: DamageKind::Missing,
+        }),
+        Refusal::Small(small) => Fault::Small(small),
     }
 }
 
