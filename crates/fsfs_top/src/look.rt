@@ -1,5 +1,5 @@
 // Looks at a revision of a repository.
-ghost use Rattle.std.specs.Prelude.{◌≡◌, ◌≢◌, ◌≤◌, ◌<◌, ◌⊎◌, ℕ, List, Some, IfOk, IfErr, IfSome, option_map};
+ghost use Rattle.std.specs.Prelude.{◌≡◌, ◌≢◌, ◌≤◌, ◌<◌, ◌⊎◌, ℕ, List, Some, IfOk, IfErr, IfSome, MatchOption, option_map};
 ghost use Rattle.fsfs_book.specs.Told.{RevisionBytes, Knows, Keeps};
 ghost use Rattle.fsfs_base.specs.Failures.{Rose};
 ghost use Rattle.fsfs_disk.specs.Trace.{files_now};
@@ -40,6 +40,17 @@ pub struct RevisionLook {
     pub path: FsPath,
 }
 
+// The revision of this number, if there is one.
+fn up_to(youngest: RevNum, number: u64) -> Option<RevNum>
+    ensures { MatchOption result (youngest < number) (λ rev. (rev ≡ number) × (rev ≤ youngest)) }
+{
+    if number <= youngest.get() as u64 {
+        RevNum::new(number)
+    } else {
+        None
+    }
+}
+
 // The revision that is looked at.
 fn revision_of(look: &RevisionLook, opened: &Opened) -> Result<RevNum, Fault>
     ensures found { IfOk result (λ rev. (rev ≡ looked_revision look.now opened.now) × (rev ≤ opened.now.youngest)) }
@@ -47,9 +58,9 @@ fn revision_of(look: &RevisionLook, opened: &Opened) -> Result<RevNum, Fault>
 {
     match look.revision {
         None => Ok(opened.youngest),
-        Some(asked) => match RevNum::new(asked) {
-            Some(rev) if rev <= opened.youngest => Ok(rev),
-            _ => Err(Fault::NoRev {
+        Some(asked) => match up_to(opened.youngest, asked) {
+            Some(rev) => Ok(rev),
+            None => Err(Fault::NoRev {
                 asked,
                 youngest: opened.youngest,
             }),
