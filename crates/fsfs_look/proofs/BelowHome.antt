@@ -18,7 +18,7 @@ use Rattle.fsfs_noderev.specs.declared.rep.Contents.TheVariants as contents
 use Rattle.fsfs_damage.specs.Damages.{place_of}
 use Rattle.fsfs_revision.specs.Nodes.{place_before, is_own_place, is_directory}
 use Rattle.fsfs_damage.specs.declared.damage.RevOffset.{RevOffset}
-use Rattle.fsfs_dag.specs.Views.{home_of, IsBefore}
+use Rattle.fsfs_dag.specs.Views.{home_of}
 use Rattle.fsfs_dag.proofs.PairLemmas.{place_le}
 
 entry_id : (look : RevisionBytes) (entry : DirEntry) (v : NodeRev) → OfEntry look entry (Ok v) → v.id ≡ entry.id
@@ -26,22 +26,25 @@ entry_id look entry v (u, (w, node, (is, same)), (e, kind)) = ap (λ (n : NodeRe
 
 -- ---- the entries of a directory stand before it
 
-all_before : (home : RevOffset) (pairs : Pairs) (entries : List DirEntry) → AreEntries home pairs entries → AllByRecursion (IsBefore home) entries
+abbrev Before : RevOffset → DirEntry → Type 0
+Before home entry = place_before home entry.id.place ≡ true
+
+all_before : (home : RevOffset) (pairs : Pairs) (entries : List DirEntry) → AreEntries home pairs entries → AllByRecursion (Before home) entries
 all_before home [] [] h = tt
 all_before home [] (e ∷ entries) h = absurd h
 all_before home (pair ∷ pairs) [] h = absurd h
 all_before home (pair ∷ pairs) (e ∷ entries) h = (h.0.before, all_before home pairs entries h.1)
 
-contents_before : (look : RevisionBytes) (home : RevOffset) (k : Option Contents) (entries : List DirEntry) → OfContents [] (EntriesAt look home) k (Ok entries) → AllByRecursion (IsBefore home) entries
-contents_before look home None entries h = let none : [] ≡ entries = cc in subst (λ (t : List DirEntry). AllByRecursion (IsBefore home) t) none tt
+contents_before : (look : RevisionBytes) (home : RevOffset) (k : Option Contents) (entries : List DirEntry) → OfContents [] (EntriesAt look home) k (Ok entries) → AllByRecursion (Before home) entries
+contents_before look home None entries h = let none : [] ≡ entries = cc in subst (λ (t : List DirEntry). AllByRecursion (Before home) t) none tt
 contents_before look home (Some contents.Own) entries h = absurd h
 contents_before look home (Some (contents.At rep)) entries (pairs, read, h) = all_before home pairs entries h
 
-one_of : (home : RevOffset) (e entry : DirEntry) (rest : Option DirEntry) (b : Bool) → IsBefore home e → (rest ≡ Some entry → IsBefore home entry) → (if b then Some e else rest) ≡ Some entry → IsBefore home entry
-one_of home e entry rest true before further h = let same : e ≡ entry = cc in subst (λ (x : DirEntry). IsBefore home x) same before
+one_of : (home : RevOffset) (e entry : DirEntry) (rest : Option DirEntry) (b : Bool) → Before home e → (rest ≡ Some entry → Before home entry) → (if b then Some e else rest) ≡ Some entry → Before home entry
+one_of home e entry rest true before further h = let same : e ≡ entry = cc in subst (λ (x : DirEntry). Before home x) same before
 one_of home e entry rest false before further h = further h
 
-named_before : (home : RevOffset) (name : PathName) (entries : List DirEntry) (entry : DirEntry) → AllByRecursion (IsBefore home) entries → named name entries ≡ Some entry → IsBefore home entry
+named_before : (home : RevOffset) (name : PathName) (entries : List DirEntry) (entry : DirEntry) → AllByRecursion (Before home) entries → named name entries ≡ Some entry → Before home entry
 named_before home name [] entry all h = absurd cc
 named_before home name (e ∷ entries) entry all h = one_of home e entry (named name entries) (same_name e.name name) all.0 (λ k. named_before home name entries entry all.1 k) h
 
