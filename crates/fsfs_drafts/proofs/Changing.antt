@@ -1,6 +1,6 @@
 -- A node of the tree becomes the transaction's own: it is laid behind its name, and the tree stays.
-use Rattle.std.proofs.Common.{◌≡◌, ◌≤◌, ℕ, Bool, true, false, ◌&&◌, cond, List, [], ◌∷◌, ◌++◌, refl, sym, ap, subst, ◌∙◌, append-nil, inl, inr, arith}
-use Rattle.std.specs.Prelude.{Option, Some, None, Ok, Err, is_some, ◌⊎◌}
+use Rattle.std.proofs.Common.{◌≡◌, ◌≤◌, ℕ, Bool, true, false, ◌&&◌, cond, List, [], ◌∷◌, ◌++◌, refl, sym, ap, subst, ◌∙◌, arith}
+use Rattle.std.specs.Prelude.{Option, Some, None, Ok, Err, is_some}
 use Rattle.std.proofs.lemmas.Bool.{and_parts}
 use Rattle.fsfs_base.specs.Paths.{PathName, Path, same_name}
 use Rattle.fsfs_tree.specs.Nodes.{Node, TreeFunction, Content, Bytes, Closed}
@@ -16,6 +16,7 @@ use Rattle.fsfs_noderev.specs.declared.node_id.Place.TheVariants as places
 use Rattle.fsfs_noderev.specs.declared.node_id.NodeId.{NodeId}
 use Rattle.fsfs_noderev.specs.declared.rep.Contents.{Contents}
 use Rattle.fsfs_noderev.specs.declared.rep.Contents.TheVariants as contents
+use Rattle.fsfs_noderev.specs.declared.node_rev.CopySource.{CopySource}
 use Rattle.fsfs_noderev.specs.declared.node_rev.NodeRev.{NodeRev}
 use Rattle.fsfs_revision.specs.Nodes.{is_revision_id, is_revision_place, is_lasting_part, is_of_revision, has_revision_pred, has_revision_rep, has_revision_root}
 use Rattle.fsfs_shows.specs.Reading.{DirEntry, named, OfId, RepAt, PairsAt, OfContents, StandsAt}
@@ -29,24 +30,26 @@ use Rattle.fsfs_drafts.specs.Rules.{CopyPartOf, ComesBy, Change, Head, head_at, 
 use Rattle.fsfs_drafts.specs.Drafts.{Kept, Folder, kept_of, IsLasting, Lasting, IsDraftText, HasContent, IsBelow, IsDraft, ShowTrees}
 use Rattle.fsfs_drafts.specs.Agreeing.{IsContentOf, Agrees}
 use Rattle.fsfs_drafts.specs.Steps.{same_value, same_key, with_kept, kept_at, EntriesHere, Listed, Read, Empty, IsReplaced, IsSuccessor}
-use Rattle.fsfs_drafts.specs.Laying.{laid_in, stands_in, IsLaid, IsLaying}
+use Rattle.fsfs_drafts.specs.Laying.{laid_in, stands_in, IsLaid, IsLaying, Step}
+use Rattle.fsfs_drafts.specs.Edits.{IsOpening}
 use Rattle.fsfs_drafts.proofs.Files.{same_value-is, same_files, put_files, other_files}
-use Rattle.fsfs_drafts.proofs.Here.{under_is, old_here, agrees_below, AreHere, are_here}
+use Rattle.fsfs_drafts.proofs.Here.{under_is, head_none, old_here, agrees_below, AreHere, are_here}
 use Rattle.fsfs_drafts.proofs.Laying.{laid_draft, went_on_shows}
+use Rattle.fsfs_drafts.proofs.StepLaw.{shown_there}
 
 -- ---- a node-revision that a revision may have
 
 pub of_id_lasting : (look : RevisionBytes) (id : NodeId) (u : NodeRev) → OfId look id (Ok u) → is_of_revision u ≡ true
 of_id_lasting look id u w = subst (λ (x : NodeRev). is_of_revision x ≡ true) (sym w.2.0) w.1.2.0.1
 
-lasting_text : (u : NodeRev) → is_of_revision u ≡ true → has_revision_rep u.text ≡ true
+pub lasting_text : (u : NodeRev) → is_of_revision u ≡ true → has_revision_rep u.text ≡ true
 lasting_text u h =
     let a = and_parts (is_revision_id u.id && has_revision_pred u.predecessor && has_revision_rep u.text && has_revision_rep u.props && has_revision_root u.copy_root) _ h in
     let b = and_parts (is_revision_id u.id && has_revision_pred u.predecessor && has_revision_rep u.text && has_revision_rep u.props) (has_revision_root u.copy_root) a.0 in
     let c = and_parts (is_revision_id u.id && has_revision_pred u.predecessor && has_revision_rep u.text) (has_revision_rep u.props) b.0 in
     (and_parts (is_revision_id u.id && has_revision_pred u.predecessor) (has_revision_rep u.text) c.0).1
 
-is_lasting : (o : Option Contents) → has_revision_rep o ≡ true → IsLasting o
+pub is_lasting : (o : Option Contents) → has_revision_rep o ≡ true → IsLasting o
 is_lasting None h = tt
 is_lasting (Some contents.Own) h = absurd cc
 is_lasting (Some (contents.At rep)) h = by rep.rev h
@@ -63,7 +66,7 @@ no_txn_id : (id : NodeId) (txn : TxnName) → id.place ≡ places.In txn → is_
 no_txn_id id txn is h = no_txn_place id.place txn is (and_parts (is_lasting_part id.node && is_lasting_part id.copy) (is_revision_place id.place) h).1
 
 -- the text of what has the same representation
-same_text : (look : RevisionBytes) (v u : NodeRev) (text : Content) → v.text ≡ u.text → IsTextOf look File u text → IsTextOf look File v text
+pub same_text : (look : RevisionBytes) (v u : NodeRev) (text : Content) → v.text ≡ u.text → IsTextOf look File u text → IsTextOf look File v text
 same_text look v u (Bytes bytes) e h = subst (λ (o : Option Contents). OfContents [] (RepAt look) o (Ok bytes)) (sym e) h
 same_text look v u (Closed rev offset) e h = subst (λ (o : Option Contents). OfContents [] (RepAt look) o (Err (wrongs.Delta (place_of rev offset)))) (sym e) h
 
@@ -72,7 +75,7 @@ had_entry look k entries x e (Listed is) found = ap (λ (o : Option (List DirEnt
 had_entry look k entries x e (Read id u none pred read of) found = ap (λ (o : Option (List DirEntry)). has_entry o x) none
 had_entry look k entries x e (Empty none pred is) found = ap (λ (o : Option (List DirEntry)). has_entry o x) none
 
-below_more : (m n : ℕ) (v : PartValue) → m ≤ n → IsBelow m v → IsBelow n v
+pub below_more : (m n : ℕ) (v : PartValue) → m ≤ n → IsBelow m v → IsBelow n v
 below_more m n (ids.New k) le h = omega arith
 below_more m n (ids.Old k) le h = tt
 below_more m n (ids.Made k rev) le h = tt
@@ -220,3 +223,43 @@ module _ (look : RevisionBytes) (top base : ℕ) (trees : ℕ → TreeFunction) 
   pub changed_shows : (q : Path) → draft_tree trees changed_own (trees base) q ≡ draft_tree trees own (trees base) q
   changed_shows = went_on_shows look top base trees shown le txn f own draft p d here dir x entries listed (Some successor) new after laying successor u.id refl succ.no_copy succ.predecessor no_head
       (had_entry look (kept_of d) entries x e listed found) node.1
+
+  -- ---- as a step of an edit
+
+  free : own (p ++ x ∷ []) ≡ None
+  free = sym (under_is p own (x ∷ [])) ∙ head_none (Old (x ∷ [])) no_head
+
+  abbrev pub step : Step look trees top base txn
+  step = record {
+    before = f;
+    own = own;
+    path = p;
+    directory = d;
+    name = x;
+    entries = entries;
+    new = new;
+    laid = Some successor;
+    after = after;
+    shown = shown;
+    within = le;
+    draft = draft;
+    is_directory = record { here = here; kind = dir; listed = listed };
+    laying = laying;
+  }
+
+  no_predecessor : {A : Type 0} → w.predecessor ≡ None → A
+  no_predecessor none = let e = sym succ.predecessor ∙ none in absurd cc
+
+  -- it opens what stands behind the name, where no copy of the transaction has its copy part, but one whose directory has it
+  pub opening : after.items ≡ f.items → ((q : Path) (c : OwnNode) (from : CopySource) → own q ≡ Some c → c.node.copy_from ≡ Some from → c.node.id.copy ≡ w.id.copy → w.id.copy ≡ d.node.id.copy) → IsOpening step successor u.id
+  opening items apart = record {
+    laid = refl;
+    no_copy = succ.no_copy;
+    goes_on = succ.predecessor;
+    no_props = refl;
+    free = free;
+    was = shown_there look trees top base txn step free ∙ ap (λ (b : Bool). cond b (SharedBelow (x ∷ [])) None) (had_entry look (kept_of d) entries x e listed found) ∙ node.1;
+    files = record { list = λ es is. absurd cc; set = λ pairs is. absurd cc; no_list = λ kind none without. no_predecessor none; no_set = λ none without. no_predecessor none };
+    drawn = record { made = λ none q c at same. no_predecessor none; copied = λ from is q c at same. (let g = sym succ.no_copy ∙ is in absurd cc); other = λ plain q c from at copy same. apart q c from at copy same };
+    items = items;
+  }

@@ -13,7 +13,7 @@ use Rattle.fsfs_model.proofs.Owns.{outer_push}
 use Rattle.fsfs_drafts.specs.Own.{OwnNode, Own}
 use Rattle.fsfs_drafts.specs.Sides.{held, AreMarksOf}
 use Rattle.fsfs_drafts.specs.Marking.{has_props, IsMoved, IsUnmoved, MarksAreKept}
-use Rattle.std.proofs.lemmas.Bool.{and_parts}
+use Rattle.std.proofs.lemmas.Bool.{and_parts, or_right}
 
 any_push : (f : Mark → Bool) (xs : List Mark) (m : Mark) → list_any f (xs ++ m ∷ []) ≡ (list_any f xs || f m)
 any_push f [] m = by (f m)
@@ -33,11 +33,7 @@ any_less f g (x ∷ xs) less h = by (f x) refl h (λ w. any_less f g xs less w)
   where
     by : (b : Bool) → f x ≡ b → (b || list_any f xs) ≡ true → (list_any f xs ≡ true → list_any g xs ≡ true) → (g x || list_any g xs) ≡ true
     by true e w rest = ap (λ (c : Bool). c || list_any g xs) (less x e)
-    by false e w rest = or_right (g x) (rest w)
-      where
-        or_right : (c : Bool) → list_any g xs ≡ true → (c || list_any g xs) ≡ true
-        or_right true k = refl
-        or_right false k = k
+    by false e w rest = or_right (g x) (list_any g xs) (rest w)
 
 props_touch : (k : What) (p q : Path) → changes_props k p q ≡ true → touches k p q ≡ true
 props_touch (Make source) p q h = absurd (false≢true h)
@@ -54,10 +50,6 @@ not_and true true = refl
 not_and true false = refl
 not_and false g = refl
 
-and_first : (h g : Bool) → (h && g) ≡ true → h ≡ true
-and_first true g e = refl
-and_first false g e = absurd (false≢true e)
-
 module _ (base : TreeFunction) (marks : List Mark) (m : Mark) (own now : Own) (say : AreMarksOf base marks own) where
   -- what the marks say where the draft holds nothing of its own
   quiet : (q : Path) → is_some (base q) ≡ true → held own q ≡ true → (effects marks q).props_changed ≡ has_props (own q)
@@ -71,11 +63,7 @@ module _ (base : TreeFunction) (marks : List Mark) (m : Mark) (own now : Own) (s
           changed false g = g ∙ ap has_props (sym e)
           changed true g =
               let t : list_any (λ m. touches m.what m.path q) (outer marks) ≡ true = any_less (λ m. changes_props m.what m.path q) (λ m. touches m.what m.path q) (outer marks) (λ m. props_touch m.what m.path q) g in
-              absurd (false≢true (sym (say.touched q some h ∙ ap (λ (o : Option OwnNode). is_some o) e) ∙ or_true (is_root q) t))
-            where
-              or_true : (a : Bool) → list_any (λ m. touches m.what m.path q) (outer marks) ≡ true → (a || list_any (λ m. touches m.what m.path q) (outer marks)) ≡ true
-              or_true true t = refl
-              or_true false t = t
+              absurd (false≢true (sym (say.touched q some h ∙ ap (λ (o : Option OwnNode). is_some o) e) ∙ or_right (is_root q) (list_any (λ m. touches m.what m.path q) (outer marks)) t))
 
   last_props : (q : Path) (v : OwnNode) (b : Bool) → now q ≡ Some v → b ≡ has_props (now q) → b ≡ is_some v.props
   last_props q v b e g = g ∙ ap has_props e
@@ -84,10 +72,10 @@ module _ (base : TreeFunction) (marks : List Mark) (m : Mark) (own now : Own) (s
   outer_kept free moved = record {
     deleted = λ q some. pushed (λ x. is_gone x.what x.path q)
         ∙ ap (λ (b : Bool). b || is_gone m.what m.path q) (say.deleted q some) ∙ not_and (held own q) (is_gone m.what m.path q) ∙ ap not (sym (moved.kept q some));
-    touched = λ q some h. (let was = and_first (held own q) (not (is_gone m.what m.path q)) (sym (moved.kept q some) ∙ h) in
+    touched = λ q some h. (let was = (and_parts (held own q) (not (is_gone m.what m.path q)) (sym (moved.kept q some) ∙ h)).0 in
         ap (λ (b : Bool). is_root q || b) (pushed (λ x. touches x.what x.path q)) ∙ or_assoc (is_root q) (list_any (λ x. touches x.what x.path q) (outer marks)) (touches m.what m.path q)
         ∙ ap (λ (b : Bool). b || touches m.what m.path q) (say.touched q some was) ∙ sym (moved.mine q some h));
-    props = λ q v some h e. (let was = and_first (held own q) (not (is_gone m.what m.path q)) (sym (moved.kept q some) ∙ h) in
+    props = λ q v some h e. (let was = (and_parts (held own q) (not (is_gone m.what m.path q)) (sym (moved.kept q some) ∙ h)).0 in
         last_props q v (effects (marks ++ m ∷ []) q).props_changed e (pushed (λ x. changes_props x.what x.path q)
         ∙ ap (λ (b : Bool). b || changes_props m.what m.path q) (quiet q some was) ∙ sym (moved.props q some h)));
   }

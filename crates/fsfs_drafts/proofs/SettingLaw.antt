@@ -1,13 +1,12 @@
 -- A text or properties put at an own node-revision are the flat edit, and what the transaction keeps is kept.
-use Rattle.std.proofs.Common.{◌≡◌, ◌≤◌, ℕ, Bool, true, false, cond, [], ◌∷◌, ◌++◌, refl, sym, ap, subst, ◌∙◌}
-use Rattle.std.specs.Prelude.{Option, Some, None}
+use Rattle.std.proofs.Common.{◌≡◌, ℕ, Bool, true, false, cond, [], ◌∷◌, ◌++◌, refl, sym, ap, subst, ◌∙◌}
+use Rattle.std.specs.Prelude.{Option, Some}
 use Rattle.fsfs_base.specs.Paths.{PathName, Path, same_name}
 use Rattle.fsfs_base.proofs.PathLemmas.{same_name-is}
-use Rattle.fsfs_tree.specs.Nodes.{Node, TreeFunction}
+use Rattle.fsfs_tree.specs.Nodes.{TreeFunction}
 use Rattle.fsfs_fields.specs.declared.txn_name.TxnName.{TxnName}
 use Rattle.fsfs_book.specs.Told.{RevisionBytes}
 use Rattle.fsfs_noderev.specs.declared.node_id.NodeId.{NodeId}
-use Rattle.fsfs_noderev.specs.declared.node_rev.CopySource.{CopySource}
 use Rattle.fsfs_drafts.specs.Own.{OwnNode, Own, below, graft, under, with_node, shared_at}
 use Rattle.fsfs_drafts.specs.Sides.{HasFiles, OwnFiles, DrawnOnce, source_here, OwnSources}
 use Rattle.fsfs_drafts.specs.Setting.{Setting, own_set, SettingsAreEdits}
@@ -15,17 +14,17 @@ use Rattle.fsfs_drafts.proofs.LayingKeeps.{links, same_shared}
 use Rattle.fsfs_drafts.proofs.Setting.{which, TheNode, Another, set_draft, set_shows, text_shows, prop_shows}
 use Rattle.fsfs_drafts.proofs.Setting as setting_of
 
--- each goes on from what it went on from
-links_set : (p : Path) (v w : OwnNode) (own : Own) (r : Path) → own p ≡ Some v → links (Some w) ≡ links (Some v) → links (graft p (with_node w (under p own)) own r) ≡ links (own r)
-links_set [] v w own [] here same = same ∙ ap links (sym here)
-links_set [] v w own (y ∷ r) here same = refl
-links_set (z ∷ p) v w own [] here same = refl
-links_set (z ∷ p) v w own (y ∷ r) here same = by (same_name z y) refl (links_set p v w (below z own) r here same)
+-- what stays at the path stays everywhere
+pub stays_set : {X : Type 0} (f : Option OwnNode → X) (p : Path) (v w : OwnNode) (own : Own) (r : Path) → own p ≡ Some v → f (Some w) ≡ f (Some v) → f (graft p (with_node w (under p own)) own r) ≡ f (own r)
+stays_set f [] v w own [] here same = same ∙ ap f (sym here)
+stays_set f [] v w own (y ∷ r) here same = refl
+stays_set f (z ∷ p) v w own [] here same = refl
+stays_set f (z ∷ p) v w own (y ∷ r) here same = by (same_name z y) refl (stays_set f p v w (below z own) r here same)
   where
     Goal : PathName → Type 0
-    Goal y = links (graft p (with_node w (under p (below z own))) (below y own) r) ≡ links (own (y ∷ r))
+    Goal y = f (graft p (with_node w (under p (below z own))) (below y own) r) ≡ f (own (y ∷ r))
 
-    by : (b : Bool) → same_name z y ≡ b → Goal z → links (cond b (graft p (with_node w (under p (below z own))) (below y own) r) (own (y ∷ r))) ≡ links (own (y ∷ r))
+    by : (b : Bool) → same_name z y ≡ b → Goal z → f (cond b (graft p (with_node w (under p (below z own))) (below y own) r) (own (y ∷ r))) ≡ f (own (y ∷ r))
     by true e inner = subst Goal (same_name-is z y e) inner
     by false e inner = refl
 
@@ -76,7 +75,7 @@ module _ (look : RevisionBytes) (trees : ℕ → TreeFunction) (top base : ℕ) 
   }
 
   shared_set : (q : Path) → shared_at trees q (own_set s) (trees base) [] ≡ shared_at trees q s.own (trees base) []
-  shared_set q = same_shared trees q (own_set s) s.own (trees base) (λ r t is n. links_set s.path s.was s.is s.own r s.here (λ i. Some (s.set.copy_from i, s.set.predecessor i))) []
+  shared_set q = same_shared trees q (own_set s) s.own (trees base) (λ r t is n. stays_set links s.path s.was s.is s.own r s.here (λ i. Some (s.set.copy_from i, s.set.predecessor i))) []
 
   sources_set : OwnSources trees (trees base) s.own → s.is.shown.source ≡ s.was.shown.source → OwnSources trees (trees base) (own_set s)
   sources_set sources same_source q a e = by (which_is q a e) ∙ ap (source_here a.node.copy_from a.node.predecessor) (sym (shared_set q))

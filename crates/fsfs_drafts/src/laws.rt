@@ -8,6 +8,9 @@ ghost use Rattle.fsfs_drafts.specs.Beginning.{BegunDrafts};
 ghost use Rattle.fsfs_drafts.specs.Handed.{DraftsDraw, DraftsHang, DraftsKeepSides, SidesAreMarks};
 ghost use Rattle.fsfs_drafts.specs.Marking.{MarksAreKept};
 ghost use Rattle.fsfs_drafts.specs.Laying.{StepsAreEdits, StepsKeepSides};
+ghost use Rattle.fsfs_drafts.specs.Edits.{EditsKeepDrafts};
+ghost use Rattle.fsfs_drafts.specs.Moving.{EditsMove, StepsMove};
+ghost use Rattle.fsfs_drafts.specs.Outer.{EditsKeepMarks, MadeIsKept, OuterIsHeld};
 ghost use Rattle.fsfs_drafts.specs.Setting.{SettingsAreEdits};
 ghost use Rattle.fsfs_drafts.specs.Staying.{DraftsStay};
 ghost use Rattle.fsfs_drafts.specs.Tied.{TiedDrafts, TiedAreMet};
@@ -76,6 +79,37 @@ pub fn steps_keep_sides()
 /// A text or properties put at an own node-revision leave a draft, with the flat edit's tree, and the rest is kept.
 pub fn settings_are_edits()
     ensures { SettingsAreEdits }
+{}
+
+/// What a step does where the base has something: the base is held as it was, or no longer at and below the path.
+pub fn steps_move()
+    ensures { StepsMove }
+{}
+
+/// So an edit of opened directories and a last step moves what its mark says.
+pub fn edits_move()
+    ensures { EditsMove }
+{}
+
+/// Steps keep that the paths which the marks made are those where own node-revisions stand anew.
+pub fn made_is_kept()
+    ensures { MadeIsKept }
+{}
+
+/// Where an edit moved what its mark says, the marks say what the draft holds with that mark, be it outer or not.
+pub fn edits_keep_marks()
+    ensures { EditsKeepMarks }
+{}
+
+/// So a path of the draft is at or below one that the marks made exactly where the draft doesn't hold the base there.
+pub fn outer_is_held()
+    ensures { OuterIsHeld }
+{}
+
+/// A whole edit, of opened directories and a last step, or a text or properties that are set, leaves a draft with the flat edit's
+/// tree and one mark more.
+pub fn edits_keep_drafts()
+    ensures { EditsKeepDrafts }
 {}
 
 /// A draft stays one of the same tree and marks while others commit.

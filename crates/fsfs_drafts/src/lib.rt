@@ -10,6 +10,7 @@ mod laws;
 
 pub use laws::{
     a_draft_begins_as_its_base, begun_drafts, drafts_are_handed, drafts_draw, drafts_hang,
-    drafts_keep_sides, drafts_stay, marks_are_kept, settings_are_edits, sides_are_marks,
-    steps_are_edits, steps_keep_sides, tied_are_met, tied_drafts,
+    drafts_keep_sides, drafts_stay, edits_keep_drafts, edits_keep_marks, edits_move, made_is_kept,
+    marks_are_kept, outer_is_held, settings_are_edits, sides_are_marks, steps_are_edits,
+    steps_keep_sides, steps_move, tied_are_met, tied_drafts,
 };
