@@ -1,0 +1,72 @@
+-- Where a file comes from that has a name after a change.
+use Rattle.std.proofs.Common.{◌≡◌, ◌⊎◌, ℕ, List, [], ◌∷◌, Bool, true, false, cond, inl, inr, ⊎_elim, refl, sym, ap, ◌∙◌, arith}
+use Rattle.std.proofs.lemmas.Bool.{and_parts, and_from}
+use Rattle.std.proofs.lemmas.Option.{same_Some, none-some}
+use Rattle.std.specs.Prelude.{◌<◌, ◌+◌, ◌++◌, ◌==◌, ◌||◌, ◌&&◌, if◌then◌else◌, length, Option, Some, None}
+use Rattle.fsfs_base.specs.Files.{NamedFile}
+use Rattle.fsfs_calls.specs.Paths.{same_text}
+use Rattle.fsfs_calls.specs.CallRecord.{NameCall, MakeFolder, Create, Rename, Remove, Call, Named, Standing, given, first_number, renamed_by, makes_file, are_there, is_reachable}
+use Rattle.fsfs_calls.proofs.PathLemmas.{text_cases, same_itself, or_right}
+
+pub given_at : (path : List ℕ) (file : Option ℕ) (files : List ℕ → Option ℕ) → given path file files path ≡ file
+given_at path file files = ap (λ b. cond b file (files path)) (same_itself path)
+
+pub given_apart : (path : List ℕ) (file : Option ℕ) (files : List ℕ → Option ℕ) (q : List ℕ) → same_text q path ≡ false → given path file files q ≡ files q
+given_apart path file files q apart = ap (λ b. cond b file (files q)) apart
+
+pub given_from : (path : List ℕ) (file : Option ℕ) (files : List ℕ → Option ℕ) (q : List ℕ) (k : ℕ)
+    → given path file files q ≡ Some k → ((q ≡ path) × (file ≡ Some k)) ⊎ (files q ≡ Some k)
+given_from path file files q k e =
+    ⊎_elim (λ s. inl (s.0, sym (ap (λ b. cond b file (files q)) s.1) ∙ e)) (λ o. inr (sym (given_apart path file files q o.1) ∙ e)) (text_cases q path)
+
+-- the change gave this name this file
+abbrev pub Comes : NameCall → ℕ → Standing → List ℕ → ℕ → Type 0
+Comes (MakeFolder path) number now q k = ⊥
+Comes (Create path) number now q k = (q ≡ path) × (k ≡ number)
+Comes (Rename from to) number now q k = (q ≡ to) × (now.files from ≡ Some k)
+Comes (Remove path) number now q k = ⊥
+
+pub comes_from : (change : NameCall) (number : ℕ) (now was : Standing) (q : List ℕ) (k : ℕ)
+    → (renamed_by change number now was).files q ≡ Some k → (was.files q ≡ Some k) ⊎ Comes change number now q k
+comes_from (MakeFolder path) number now was q k e = inl e
+comes_from (Create path) number now was q k e =
+    ⊎_elim (λ s. inr (s.0, sym (same_Some number k s.1))) (λ o. inl o) (given_from path (Some number) was.files q k e)
+comes_from (Rename from to) number now was q k e =
+    ⊎_elim (λ s. inr s) (λ o. ⊎_elim (λ n. absurd (none-some k n.1)) (λ w. inl w) (given_from from None was.files q k o))
+    (given_from to (now.files from) (given from None was.files) q k e)
+comes_from (Remove path) number now was q k e =
+    ⊎_elim (λ n. absurd (none-some k n.1)) (λ w. inl w) (given_from path None was.files q k e)
+
+-- a file that comes has one of the numbers so far
+pub comes_within : (change : NameCall) (number : ℕ) (now : Standing) (q : List ℕ) (k : ℕ)
+    → ((p : List ℕ) → now.files p ≡ Some k → k < number) → Comes change number now q k → k < makes_file (Named change) + number
+comes_within (MakeFolder path) number now q k before comes = absurd comes
+comes_within (Create path) number now q k before comes = omega (arith, comes.1)
+comes_within (Rename from to) number now q k before comes = omega (arith, before from comes.1)
+comes_within (Remove path) number now q k before comes = absurd comes
+
+pub first_within : (files : List NamedFile) (q : List ℕ) (k : ℕ) → first_number files q ≡ Some k → k < length files
+first_within [] q k e = absurd (none-some k e)
+first_within (file ∷ files) q k e = ⊎_elim (λ s. at_head (sym (ap (λ b. cond b (Some (length files)) (first_number files q)) s.1) ∙ e)) (λ o. omega (arith, first_within files q k (sym (ap (λ b. cond b (Some (length files)) (first_number files q)) o.1) ∙ e))) (text_cases q file.0)
+  where
+    at_head : Some (length files) ≡ Some k → k < length (file ∷ files)
+    at_head h = let n : length files ≡ k = same_Some (length files) k h in omega (arith, n)
+
+there_more : (folders more : List ℕ → Bool) → ((p : List ℕ) → folders p ≡ true → more p ≡ true) → (before rest : List ℕ) → are_there folders before rest ≡ true → are_there more before rest ≡ true
+there_more folders more within before [] e = refl
+there_more folders more within before (c ∷ cs) e =
+    let parts : ((if c == 47 then folders before else true) ≡ true) × (are_there folders (before ++ c ∷ []) cs ≡ true) = and_parts (if c == 47 then folders before else true) (are_there folders (before ++ c ∷ []) cs) e in
+    and_from (if c == 47 then more before else true) (are_there more (before ++ c ∷ []) cs) (at_slash (c == 47) parts.0) (there_more folders more within (before ++ c ∷ []) cs parts.1)
+  where
+    at_slash : (b : Bool) → (if b then folders before else true) ≡ true → (if b then more before else true) ≡ true
+    at_slash true h = within before h
+    at_slash false h = refl
+
+-- with more folders no less is reachable
+pub reachable_more : (folders more : List ℕ → Bool) → ((p : List ℕ) → folders p ≡ true → more p ≡ true) → (path : List ℕ) → is_reachable folders path ≡ true → is_reachable more path ≡ true
+reachable_more folders more within path e =
+    let parts : (folders [] ≡ true) × (are_there folders [] path ≡ true) = and_parts (folders []) (are_there folders [] path) e in
+    and_from (more []) (are_there more [] path) (within [] parts.0) (there_more folders more within [] path parts.1)
+
+pub reachable_with : (made : List ℕ) (folders : List ℕ → Bool) (path : List ℕ) → is_reachable folders path ≡ true → is_reachable (λ p. same_text p made || folders p) path ≡ true
+reachable_with made folders path e = reachable_more folders (λ p. same_text p made || folders p) (λ p h. or_right (same_text p made) (folders p) h) path e

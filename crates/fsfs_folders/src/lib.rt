@@ -1,0 +1,9 @@
+//! A disk over the bare calls of the system: what it tells is read off the record of its calls, and what a crash may leave of the
+//! system shows one of the images that it tells.
+#![tactic(auto)]
+
+mod folders;
+mod noted;
+mod writing;
+
+pub use folders::Folders;
