@@ -1,12 +1,12 @@
 -- The names that a crash may leave: those now are among them, a sync leaves no more, and where all is firm only those now are left.
 use Rattle.std.proofs.Common.{◌≡◌, ◌⊎◌, ℕ, List, [], ◌∷◌, Bool, true, false, inl, inr, ⊎_elim, refl, sym, ap, ◌∙◌, arith}
 use Rattle.std.proofs.lemmas.Bool.{and_parts, and_from, or_cases, false_from_ne_true}
-use Rattle.std.specs.Prelude.{◌<◌, ◌+◌, ◌||◌, Some}
+use Rattle.std.specs.Prelude.{◌<◌, ◌||◌, Some}
 use Rattle.fsfs_calls.specs.Paths.{same_text, has_path}
-use Rattle.fsfs_calls.specs.CallRecord.{NameCall, MakeFolder, Create, Rename, Remove, Call, Named, Append, SyncFile, FailSync, SyncFolder, Firmed, Beginning, Standing, renamed_by, names_after, file_count, makes_file}
+use Rattle.fsfs_calls.specs.CallRecord.{NameCall, MakeFolder, Create, Rename, Remove, Call, Named, Append, SyncFile, FailSync, SyncFolder, Firmed, Beginning, Standing, renamed_by, names_after, file_count}
 use Rattle.fsfs_calls.specs.Remains.{AreNamesLeft, are_firm, are_folders_firm, AreWithin, are_synced, folders_of}
 use Rattle.fsfs_calls.proofs.PathLemmas.{or_right}
-use Rattle.fsfs_calls.proofs.NameLemmas.{comes_from, comes_within, first_within}
+use Rattle.fsfs_calls.proofs.NameLemmas.{comes_from, comes_within, count_more, first_within}
 
 pub now_is_left : (first : Beginning) (synced : List (List ℕ)) (calls : List Call) → AreNamesLeft first synced calls (names_after first calls)
 now_is_left first synced [] = refl
@@ -20,12 +20,12 @@ now_is_left first synced (Firmed ∷ calls) = now_is_left first synced calls
 -- each file that has a name was made before
 pub number_within : (first : Beginning) (synced : List (List ℕ)) (calls : List Call) (left : Standing) (q : List ℕ) (k : ℕ)
     → AreNamesLeft first synced calls left → left.files q ≡ Some k → k < file_count first calls
-number_within first synced [] left q k are e = first_within first.files q k (sym (ap (λ n. n.files q) are) ∙ e)
+number_within first synced [] left q k are e = first_within first.files q k (sym (ap (λ (n : Standing). n.files q) are) ∙ e)
 number_within first synced (Named change ∷ calls) left q k are e =
-    ⊎_elim (λ kept. omega (arith, number_within first synced calls left q k kept.1 e))
-    (λ done. ⊎_elim (λ old. omega (arith, number_within first synced calls done.0 q k done.1 old))
-    (λ comes. comes_within change (file_count first calls) (names_after first calls) q k (λ p. number_within first synced calls (names_after first calls) p k (now_is_left first synced calls)) comes)
-    (comes_from change (file_count first calls) (names_after first calls) done.0 q k (sym (ap (λ n. n.files q) done.2) ∙ e))) are
+    ⊎_elim (λ kept. omega (arith, number_within first synced calls left q k kept.1 e, count_more first calls change))
+    (λ done. ⊎_elim (λ old. omega (arith, number_within first synced calls done.0 q k done.1 old, count_more first calls change))
+    (λ comes. comes_within first calls change (names_after first calls) q k (λ p. number_within first synced calls (names_after first calls) p k (now_is_left first synced calls)) comes)
+    (comes_from change (file_count first calls) (names_after first calls) done.0 q k (sym (ap (λ (n : Standing). n.files q) done.2) ∙ e))) are
 number_within first synced (Append number bytes ∷ calls) left q k are e = number_within first synced calls left q k are e
 number_within first synced (SyncFile number ∷ calls) left q k are e = number_within first synced calls left q k are e
 number_within first synced (FailSync number ∷ calls) left q k are e = number_within first synced calls left q k are e
@@ -75,17 +75,17 @@ firm_is_now first synced (Firmed ∷ calls) left firm are = firm_is_now first sy
 -- where the folders are firm, each crash leaves them
 pub folders_are_now : (first : Beginning) (synced : List (List ℕ)) (calls : List Call) (left : Standing)
     → are_folders_firm synced calls ≡ true → AreNamesLeft first synced calls left → left.folders ≡ (names_after first calls).folders
-folders_are_now first synced [] left firm are = ap (λ n. n.folders) are
+folders_are_now first synced [] left firm are = ap (λ (n : Standing). n.folders) are
 folders_are_now first synced (Named (MakeFolder path) ∷ calls) left firm are =
     let parts : (are_synced synced (folders_of (MakeFolder path)) ≡ true) × (are_folders_firm synced calls ≡ true) = and_parts (are_synced synced (folders_of (MakeFolder path))) (are_folders_firm synced calls) firm in
     ⊎_elim (λ kept. let h : true ≡ false = sym parts.0 ∙ kept.0 in cc)
-    (λ done. ap (λ n. n.folders) done.2 ∙ ap (λ folders. λ q. same_text q path || folders q) (folders_are_now first synced calls done.0 parts.1 done.1)) are
+    (λ done. ap (λ (n : Standing). n.folders) done.2 ∙ ap {B = List ℕ → Bool} (λ (folders : List ℕ → Bool) (q : List ℕ). same_text q path || folders q) (folders_are_now first synced calls done.0 parts.1 done.1)) are
 folders_are_now first synced (Named (Create path) ∷ calls) left firm are =
-    ⊎_elim (λ kept. folders_are_now first synced calls left firm kept.1) (λ done. ap (λ n. n.folders) done.2 ∙ folders_are_now first synced calls done.0 firm done.1) are
+    ⊎_elim (λ kept. folders_are_now first synced calls left firm kept.1) (λ done. ap (λ (n : Standing). n.folders) done.2 ∙ folders_are_now first synced calls done.0 firm done.1) are
 folders_are_now first synced (Named (Rename from to) ∷ calls) left firm are =
-    ⊎_elim (λ kept. folders_are_now first synced calls left firm kept.1) (λ done. ap (λ n. n.folders) done.2 ∙ folders_are_now first synced calls done.0 firm done.1) are
+    ⊎_elim (λ kept. folders_are_now first synced calls left firm kept.1) (λ done. ap (λ (n : Standing). n.folders) done.2 ∙ folders_are_now first synced calls done.0 firm done.1) are
 folders_are_now first synced (Named (Remove path) ∷ calls) left firm are =
-    ⊎_elim (λ kept. folders_are_now first synced calls left firm kept.1) (λ done. ap (λ n. n.folders) done.2 ∙ folders_are_now first synced calls done.0 firm done.1) are
+    ⊎_elim (λ kept. folders_are_now first synced calls left firm kept.1) (λ done. ap (λ (n : Standing). n.folders) done.2 ∙ folders_are_now first synced calls done.0 firm done.1) are
 folders_are_now first synced (Append number bytes ∷ calls) left firm are = folders_are_now first synced calls left firm are
 folders_are_now first synced (SyncFile number ∷ calls) left firm are = folders_are_now first synced calls left firm are
 folders_are_now first synced (FailSync number ∷ calls) left firm are = folders_are_now first synced calls left firm are

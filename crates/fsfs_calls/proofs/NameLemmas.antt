@@ -2,10 +2,10 @@
 use Rattle.std.proofs.Common.{◌≡◌, ◌⊎◌, ℕ, List, [], ◌∷◌, Bool, true, false, cond, inl, inr, ⊎_elim, refl, sym, ap, ◌∙◌, arith}
 use Rattle.std.proofs.lemmas.Bool.{and_parts, and_from}
 use Rattle.std.proofs.lemmas.Option.{same_Some, none-some}
-use Rattle.std.specs.Prelude.{◌<◌, ◌+◌, ◌++◌, ◌==◌, ◌||◌, ◌&&◌, if◌then◌else◌, length, Option, Some, None}
+use Rattle.std.specs.Prelude.{◌<◌, ◌≤◌, ◌++◌, ◌==◌, ◌||◌, ◌&&◌, if◌then◌else◌, length, Option, Some, None}
 use Rattle.fsfs_base.specs.Files.{NamedFile}
 use Rattle.fsfs_calls.specs.Paths.{same_text}
-use Rattle.fsfs_calls.specs.CallRecord.{NameCall, MakeFolder, Create, Rename, Remove, Call, Named, Standing, given, first_number, renamed_by, makes_file, are_there, is_reachable}
+use Rattle.fsfs_calls.specs.CallRecord.{NameCall, MakeFolder, Create, Rename, Remove, Call, Named, Beginning, Standing, given, first_number, renamed_by, file_count, are_there, is_reachable}
 use Rattle.fsfs_calls.proofs.PathLemmas.{text_cases, same_itself, or_right}
 
 pub given_at : (path : List ℕ) (file : Option ℕ) (files : List ℕ → Option ℕ) → given path file files path ≡ file
@@ -37,13 +37,20 @@ comes_from (Rename from to) number now was q k e =
 comes_from (Remove path) number now was q k e =
     ⊎_elim (λ n. absurd (none-some k n.1)) (λ w. inl w) (given_from path None was.files q k e)
 
+-- there are no fewer files after a change
+pub count_more : (first : Beginning) (calls : List Call) (change : NameCall) → file_count first calls ≤ file_count first (Named change ∷ calls)
+count_more first calls (MakeFolder path) = omega arith
+count_more first calls (Create path) = omega arith
+count_more first calls (Rename from to) = omega arith
+count_more first calls (Remove path) = omega arith
+
 -- a file that comes has one of the numbers so far
-pub comes_within : (change : NameCall) (number : ℕ) (now : Standing) (q : List ℕ) (k : ℕ)
-    → ((p : List ℕ) → now.files p ≡ Some k → k < number) → Comes change number now q k → k < makes_file (Named change) + number
-comes_within (MakeFolder path) number now q k before comes = absurd comes
-comes_within (Create path) number now q k before comes = omega (arith, comes.1)
-comes_within (Rename from to) number now q k before comes = omega (arith, before from comes.1)
-comes_within (Remove path) number now q k before comes = absurd comes
+pub comes_within : (first : Beginning) (calls : List Call) (change : NameCall) (now : Standing) (q : List ℕ) (k : ℕ)
+    → ((p : List ℕ) → now.files p ≡ Some k → k < file_count first calls) → Comes change (file_count first calls) now q k → k < file_count first (Named change ∷ calls)
+comes_within first calls (MakeFolder path) now q k before comes = absurd comes
+comes_within first calls (Create path) now q k before comes = omega (arith, comes.1)
+comes_within first calls (Rename from to) now q k before comes = before from comes.1
+comes_within first calls (Remove path) now q k before comes = absurd comes
 
 pub first_within : (files : List NamedFile) (q : List ℕ) (k : ℕ) → first_number files q ≡ Some k → k < length files
 first_within [] q k e = absurd (none-some k e)

@@ -1,5 +1,5 @@
 -- The record of bare calls of the system, made on what stands below one folder: what a call asks for, and what stands after all.
-use Rattle.std.specs.Prelude.{◌≡◌, ◌⊎◌, ℕ, zero, suc, ◌+◌, List, [], ◌∷◌, ◌++◌, length, Bool, true, false, cond, ◌==◌, ◌||◌, ◌&&◌, if◌then◌else◌, Option, Some, None, option_map, IsSome}
+use Rattle.std.specs.Prelude.{◌≡◌, ◌⊎◌, ℕ, suc, List, [], ◌∷◌, ◌++◌, length, Bool, true, false, cond, ◌==◌, ◌||◌, ◌&&◌, if◌then◌else◌, Option, Some, None, option_map, IsSome}
 use Rattle.fsfs_base.specs.Files.{NamedFile}
 use Rattle.fsfs_calls.specs.Paths.{same_text, has_path}
 
@@ -53,14 +53,11 @@ first_bytes (file ∷ files) number = if number == length files then file.1 else
 abbrev pub first_names : Beginning → Standing
 first_names first = record { folders = has_path first.folders; files = first_number first.files }
 
-abbrev pub makes_file : Call → ℕ
-makes_file (Named (Create path)) = 1
-makes_file call = 0
-
 -- how many files there were; a new one gets this number
 abbrev pub file_count : Beginning → List Call → ℕ
 file_count first [] = length first.files
-file_count first (call ∷ calls) = makes_file call + file_count first calls
+file_count first (Named (Create path) ∷ calls) = suc (file_count first calls)
+file_count first (call ∷ calls) = file_count first calls
 
 -- What a change makes of names that stand as `was`. `now` are the names that the call met: a rename moves the file that had the name
 -- then. `number` is that of a new file.

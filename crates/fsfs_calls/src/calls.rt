@@ -17,69 +17,70 @@ pub trait Calls {
     type File: OpenFile;
 
     /// What stood below the folder and the calls since that did something; none where it doesn't tell.
-    ghost record: { Self → Option CallRecord };
+    ghost history: { Self → Option CallRecord };
 
     /// Makes a folder in one that is there.
     fn make_folder(&mut self, path: &Path) -> Result<(), CallError>
-        ensures ok { OnOk result (Makes (MakeFolder path.now) (record self.old) (record self.new)) }
-        ensures err { OnErr result (MayMake (MakeFolder path.now) (record self.old) (record self.new)) };
+        ensures ok { OnOk result (Makes (MakeFolder path.now) (history self.old) (history self.new)) }
+        ensures err { OnErr result (MayMake (MakeFolder path.now) (history self.old) (history self.new)) };
 
     /// Makes an empty file where nothing has the name, and opens it.
     fn create(&mut self, path: &Path) -> Result<Self::File, CallError>
-        ensures ok { OnOk result (Makes (Create path.now) (record self.old) (record self.new)) }
-        ensures number { IfSome (record self.old) (λ r. IfOk result (λ file. Self.File.number file ≡ new_number r)) }
-        ensures err { OnErr result (MayMake (Create path.now) (record self.old) (record self.new)) };
+        ensures ok { OnOk result (Makes (Create path.now) (history self.old) (history self.new)) }
+        ensures number { IfSome (history self.old) (λ r. IfOk result (λ file. Self.File.number file ≡ new_number r)) }
+        ensures err { OnErr result (MayMake (Create path.now) (history self.old) (history self.new)) };
 
     /// Opens a file to read it. A folder or a device is `OtherKind`.
     fn open(&mut self, path: &Path) -> Result<Self::File, CallError>
-        ensures there { IfSome (record self.old) (λ r. IfOk result (λ file. (names_now r).files path.now ≡ Some (Self.File.number file))) }
-        ensures absent { IfSome (record self.old) (λ r. IsErrOf result CallError.NotFound → (names_now r).files path.now ≡ None) }
-        ensures same { record self.new ≡ record self.old };
+        ensures there { IfSome (history self.old) (λ r. IfOk result (λ file. (names_now r).files path.now ≡ Some (Self.File.number file))) }
+        ensures absent { IfSome (history self.old) (λ r. IsErrOf result CallError.NotFound → (names_now r).files path.now ≡ None) }
+        ensures same { history self.new ≡ history self.old };
 
     /// The length of a file in bytes.
     fn length(&mut self, file: &Self::File) -> Result<u64, CallError>
-        ensures length { IfSome (record self.old) (λ r. IfOk result (λ n. n ≡ length (contents_now r (Self.File.number file.now)).bytes)) }
-        ensures same { record self.new ≡ record self.old };
+        ensures length { IfSome (history self.old) (λ r. IfOk result (λ n. n ≡ length (contents_now r (Self.File.number file.now)).bytes)) }
+        ensures same { history self.new ≡ history self.old };
 
     /// Reads from an offset on as many bytes as the system gives at once, none only at the end or where none are asked for.
     fn read_at(&mut self, file: &Self::File, offset: u64, buffer: &mut [u8]) -> Result<usize, CallError>
         ensures bound { IfOk result (λ n. n ≤ min (length buffer.new) (length buffer.old)) }
-        ensures bytes { IfSome (record self.old) (λ r. IfOk result (λ n. buffer.new ≡ take n (drop offset (contents_now r (Self.File.number file.now)).bytes) ++ drop n buffer.old)) }
-        ensures within { IfSome (record self.old) (λ r. IfOk result (λ n. n ≤ length (contents_now r (Self.File.number file.now)).bytes - offset)) }
-        ensures end { IfSome (record self.old) (λ r. IfOk result (λ n. n ≡ 0 → (length buffer.old ≡ 0) ⊎ (length (contents_now r (Self.File.number file.now)).bytes ≤ offset))) }
-        ensures same { record self.new ≡ record self.old };
+        ensures bytes { IfSome (history self.old) (λ r. IfOk result (λ n. buffer.new ≡ take n (drop offset (contents_now r (Self.File.number file.now)).bytes) ++ drop n buffer.old)) }
+        ensures within { IfSome (history self.old) (λ r. IfOk result (λ n. n ≤ length (contents_now r (Self.File.number file.now)).bytes - offset)) }
+        ensures end { IfSome (history self.old) (λ r. IfOk result (λ n. n ≡ 0 → (length buffer.old ≡ 0) ⊎ (length (contents_now r (Self.File.number file.now)).bytes ≤ offset))) }
+        ensures same { history self.new ≡ history self.old };
 
     /// Writes at the end of a file as many bytes as the system takes at once, one at least. Where it fails any bytes may stand
     /// there.
     fn append(&mut self, file: &Self::File, bytes: &[u8]) -> Result<usize, CallError>
         requires { 0 < length bytes.now }
         ensures count { IfOk result (λ n. (0 < n) × (n ≤ length bytes.now)) }
-        ensures ok { IfOk result (λ n. Does (Append (Self.File.number file.now) (take n bytes.now)) (record self.old) (record self.new)) }
-        ensures err { OnErr result ((any : List ℕ) × Does (Append (Self.File.number file.now) any) (record self.old) (record self.new)) };
+        ensures ok { IfOk result (λ n. Does (Append (Self.File.number file.now) (take n bytes.now)) (history self.old) (history self.new)) }
+        ensures err { OnErr result ((history self.new ≡ history self.old) ⊎ ((any : List ℕ) × Does (Append (Self.File.number file.now) any) (history self.old) (history self.new))) };
 
     /// Makes the bytes of a file firm.
     fn sync_file(&mut self, file: &Self::File) -> Result<(), CallError>
-        ensures ok { OnOk result (Does (SyncFile (Self.File.number file.now)) (record self.old) (record self.new)) }
-        ensures err { OnErr result (Does (FailSync (Self.File.number file.now)) (record self.old) (record self.new)) };
+        ensures ok { OnOk result (Does (SyncFile (Self.File.number file.now)) (history self.old) (history self.new)) }
+        ensures err { OnErr result ((history self.new ≡ history self.old) ⊎ Does (FailSync (Self.File.number file.now)) (history self.old) (history self.new)) };
 
     /// Makes the names in a folder firm.
     fn sync_folder(&mut self, path: &Path) -> Result<(), CallError>
-        ensures ok { OnOk result (Does (SyncFolder path.now) (record self.old) (record self.new)) }
-        ensures err { OnErr result ((record self.new ≡ record self.old) ⊎ Does (SyncFolder path.now) (record self.old) (record self.new)) };
+        ensures ok { OnOk result (Does (SyncFolder path.now) (history self.old) (history self.new)) }
+        ensures err { OnErr result ((history self.new ≡ history self.old) ⊎ Does (SyncFolder path.now) (history self.old) (history self.new)) };
 
     /// Gives a file another name by one change, in place of the file that had that name.
     fn rename(&mut self, from: &Path, to: &Path) -> Result<(), CallError>
-        ensures ok { OnOk result (Makes (Rename from.now to.now) (record self.old) (record self.new)) }
-        ensures err { OnErr result (MayMake (Rename from.now to.now) (record self.old) (record self.new)) };
+        ensures ok { OnOk result (Makes (Rename from.now to.now) (history self.old) (history self.new)) }
+        ensures err { OnErr result (MayMake (Rename from.now to.now) (history self.old) (history self.new)) };
 
     /// Takes a file's name away.
     fn remove(&mut self, path: &Path) -> Result<(), CallError>
-        ensures ok { OnOk result (Makes (Remove path.now) (record self.old) (record self.new)) }
-        ensures absent { IfSome (record self.old) (λ r. IsErrOf result CallError.NotFound → (names_now r).files path.now ≡ None) }
-        ensures same { IsErrOf result CallError.NotFound → record self.new ≡ record self.old }
-        ensures err { OnErr result (MayMake (Remove path.now) (record self.old) (record self.new)) };
+        ensures ok { OnOk result (Makes (Remove path.now) (history self.old) (history self.new)) }
+        ensures absent { IfSome (history self.old) (λ r. IsErrOf result CallError.NotFound → (names_now r).files path.now ≡ None) }
+        ensures same { IsErrOf result CallError.NotFound → history self.new ≡ history self.old }
+        ensures err { OnErr result (MayMake (Remove path.now) (history self.old) (history self.new)) };
 
     /// Notes in the record that the caller has made all names firm. It makes no call.
-    fn firmed(&mut self)
-        ensures { Does Firmed (record self.old) (record self.new) };
+    fn firmed(&mut self) -> Result<(), CallError>
+        ensures ok { OnOk result (Does Firmed (history self.old) (history self.new)) }
+        ensures err { OnErr result (history self.new ≡ history self.old) };
 }

@@ -2,7 +2,7 @@
 use Rattle.std.proofs.Common.{◌≡◌, ◌⊎◌, ℕ, List, [], ◌∷◌, Bool, true, false, cond, inl, inr, ⊎_elim, refl, sym, ap, subst, ◌∙◌, arith}
 use Rattle.std.proofs.lemmas.Bool.{cases_Bool, and_parts, eqb-true}
 use Rattle.std.proofs.lemmas.Option.{none-some}
-use Rattle.std.specs.Prelude.{◌<◌, length, Option, Some, None, option_map}
+use Rattle.std.specs.Prelude.{◌<◌, length, Option, Some, None, option_map, IfSome}
 use Rattle.std.specs.FinMap.{get}
 use Rattle.fsfs_base.specs.Files.{Files}
 use Rattle.fsfs_disk.specs.Trace.{Operation, Done, Put, Rename, Remove, FirmNames, IsImage, files_after, files_now}
@@ -11,7 +11,7 @@ use Rattle.fsfs_calls.specs.CallRecord.{Call, Named, MakeFolder, Create, Append,
 use Rattle.fsfs_calls.specs.Remains.{AreNamesLeft, AreBytesLeft, IsLeft}
 use Rattle.fsfs_calls.proofs.NameLemmas.{given_apart}
 use Rattle.fsfs_calls.proofs.LeftLemmas.{now_is_left, number_within}
-use Rattle.fsfs_folders.specs.Told.{is_beside, shown, AreShown, bytes_after, bytes_at, files_of, operations_of, trace_of, ShowsFiles}
+use Rattle.fsfs_folders.specs.Told.{is_beside, shown, AreShown, bytes_after, bytes_at, files_of, operations_of, trace_of, ShowsFiles, LeavesImages}
 use Rattle.fsfs_folders.specs.Keeping.{keeps, is_newest, is_naming, may_call}
 use Rattle.fsfs_folders.proofs.ShownLemmas.{apart_from_beside, shown_beside, shown_plain}
 use Rattle.fsfs_folders.proofs.Held.{Holds, held_first, held_append, held_sync, held_fail_sync, held_sync_folder, held_firmed}
@@ -26,7 +26,7 @@ newest_unseen first synced (Named (Create path) ∷ calls) number kept newest le
     let is : number ≡ file_count first calls = eqb-true number (file_count first calls) newest in
     ⊎_elim (λ was. omega (arith, same, is, number_within first synced calls left q k was.1 e))
     (λ done. omega (arith, same, is, number_within first synced calls done.0 q k done.1
-    (sym (given_apart path (Some (file_count first calls)) done.0.files q (apart_from_beside path q (and_parts (keeps first calls) (is_beside path) kept).1 plain)) ∙ sym (ap (λ n. n.files q) done.2) ∙ e))) are
+    (sym (given_apart path (Some (file_count first calls)) done.0.files q (apart_from_beside path q (and_parts (keeps first calls) (is_beside path) kept).1 plain)) ∙ sym (ap (λ (n : Standing). n.files q) done.2) ∙ e))) are
 newest_unseen first synced (Named (system.Rename from to) ∷ calls) number kept newest left q k are plain e same = let h : false ≡ true = newest in cc
 newest_unseen first synced (Named (system.Remove path) ∷ calls) number kept newest left q k are plain e same = let h : false ≡ true = newest in cc
 newest_unseen first synced (Append other bytes ∷ calls) number kept newest left q k are plain e same = newest_unseen first synced calls number (and_parts (keeps first calls) (may_call first calls (Append other bytes)) kept).0 newest left q k are plain e same
@@ -88,9 +88,14 @@ left_is_image r keep names bytes m left shows =
     there q plain = by_file (names.files q) refl ∙ sym (shown_plain (bytes_after r.first r.calls) names q plain)
       where
         absent : (o : Option (List ℕ)) → get m q ≡ o → names.files q ≡ None → get m q ≡ None
-        absent None e no = e
-        absent (Some file) e no = absurd (none-some _ (sym no ∙ (shows.only q file e).1.1))
+        absent None e lacks = e
+        absent (Some file) e lacks = absurd (none-some _ (sym lacks ∙ (shows.only q file e).1.1))
         by_file : (o : Option ℕ) → names.files q ≡ o → get m q ≡ option_map (bytes_after r.first r.calls) (names.files q)
         by_file None e = absent (get m q) refl e ∙ sym (ap (λ f. option_map (bytes_after r.first r.calls) f) e)
         by_file (Some k) e = shows.there q k plain e (held.rooted names q k left.named plain e)
             ∙ ap (λ b. Some b) (kept (contents_now r k) (bytes k) (held.firm names q k left.named plain e) (left.each k)) ∙ sym (ap (λ f. option_map (bytes_after r.first r.calls) f) e)
+
+-- the same of calls that may tell nothing
+pub leaves_images : (calls : Option CallRecord) → IfSome calls (λ r. keeps r.first r.calls ≡ true) → IfSome calls (λ r. LeavesImages r)
+leaves_images None kept = tt
+leaves_images (Some r) kept = left_is_image r kept

@@ -33,7 +33,7 @@ rooted_in folders (file ∷ files) rooted q k plain e =
 
 pub held_first : (first : Beginning) → are_rooted first.folders first.files ≡ true → Holds first [] []
 held_first first roots = record {
-  rooted = λ left q k are plain e. subst (λ n. is_reachable n.folders q ≡ true) (sym are) (rooted_in first.folders first.files roots q k plain (sym (ap (λ n. n.files q) are) ∙ e));
+  rooted = λ left q k are plain e. subst (λ (n : Standing). is_reachable n.folders q ≡ true) (sym are) (rooted_in first.folders first.files roots q k plain (sym (ap (λ (n : Standing). n.files q) are) ∙ e));
   firm = λ left q k are plain e. refl;
   image = λ left m are shows. same_files m (files_of first.files) (λ q. shows q ∙ ap (λ n. shown (bytes_after first []) n q) are ∙ sym (first_shown first.files (first_names first).folders q));
   now = λ q. first_shown first.files (first_names first).folders q;
@@ -46,7 +46,7 @@ pub held_append : (first : Beginning) (calls : List Call) (operations : List Ope
 held_append first calls operations number bytes unseen is_now held = record {
   rooted = held.rooted;
   firm = λ left q k are plain e.
-      ap (λ c. c.firm) (kept k (unseen left q k are plain e)) ∙ held.firm left q k are plain e ∙ ap (λ c. length c.bytes) (sym (kept k (unseen left q k are plain e)));
+      ap (λ (c : Contents). c.firm) (kept k (unseen left q k are plain e)) ∙ held.firm left q k are plain e ∙ ap (λ (c : Contents). length c.bytes) (sym (kept k (unseen left q k are plain e)));
   image = λ left m are shows. held.image left m are (λ q. shows q ∙ alike left are q);
   now = λ q. held.now q ∙ sym (alike (names_after first calls) is_now q);
 }
@@ -54,7 +54,7 @@ held_append first calls operations number bytes unseen is_now held = record {
     kept : (k : ℕ) → (k ≡ number → ⊥) → contents_after first (Append number bytes ∷ calls) k ≡ contents_after first calls k
     kept k apart = ap (λ b. cond b (more_bytes bytes (contents_after first calls k)) (contents_after first calls k)) (ne_eqb k number apart)
     alike : (left : Standing) → AreNamesLeft first [] calls left → (q : List ℕ) → shown (bytes_after first (Append number bytes ∷ calls)) left q ≡ shown (bytes_after first calls) left q
-    alike left are q = shown_alike (bytes_after first calls) (bytes_after first (Append number bytes ∷ calls)) left q (λ k plain e. ap (λ c. c.bytes) (kept k (unseen left q k are plain e)))
+    alike left are q = shown_alike (bytes_after first calls) (bytes_after first (Append number bytes ∷ calls)) left q (λ k plain e. ap (λ (c : Contents). c.bytes) (kept k (unseen left q k are plain e)))
 
 firm_bytes : (b : Bool) (c : Contents) → (cond b (made_firm c) c).bytes ≡ c.bytes
 firm_bytes true c = refl

@@ -8,7 +8,7 @@ use Rattle.fsfs_base.specs.Files.{Files, renamed}
 use Rattle.fsfs_disk.specs.Trace.{Operation, Done, Put, Rename, Remove, IsImage, files_after}
 use Rattle.fsfs_calls.specs.Paths.{same_text}
 use Rattle.fsfs_calls.specs.CallRecord as system
-use Rattle.fsfs_calls.specs.CallRecord.{Call, Named, MakeFolder, Create, Beginning, Standing, is_reachable, given, names_after, contents_after, no_contents, file_count}
+use Rattle.fsfs_calls.specs.CallRecord.{Call, Named, MakeFolder, Create, Beginning, Standing, Contents, is_reachable, given, names_after, contents_after, no_contents, file_count}
 use Rattle.fsfs_calls.specs.Remains.{AreNamesLeft, are_folders_firm}
 use Rattle.fsfs_calls.proofs.NameLemmas.{given_apart, comes_from, reachable_with}
 use Rattle.fsfs_calls.proofs.LeftLemmas.{now_is_left, number_within, folders_are_now}
@@ -52,9 +52,9 @@ naming_from first calls from to e =
 pub held_folder : (first : Beginning) (calls : List Call) (operations : List Operation) (path : List ℕ) → Holds first calls operations → Holds first (Named (MakeFolder path) ∷ calls) operations
 held_folder first calls operations path held = record {
   rooted = λ left q k are plain e. ⊎_elim (λ kept. held.rooted left q k kept.1 plain e)
-      (λ done. subst (λ n. is_reachable n.folders q ≡ true) (sym done.2) (reachable_with path done.0.folders q (held.rooted done.0 q k done.1 plain (sym (ap (λ n. n.files q) done.2) ∙ e)))) are;
+      (λ done. subst (λ (n : Standing). is_reachable n.folders q ≡ true) (sym done.2) (reachable_with path done.0.folders q (held.rooted done.0 q k done.1 plain (sym (ap (λ (n : Standing). n.files q) done.2) ∙ e)))) are;
   firm = λ left q k are plain e. ⊎_elim (λ kept. held.firm left q k kept.1 plain e)
-      (λ done. held.firm done.0 q k done.1 plain (sym (ap (λ n. n.files q) done.2) ∙ e)) are;
+      (λ done. held.firm done.0 q k done.1 plain (sym (ap (λ (n : Standing). n.files q) done.2) ∙ e)) are;
   image = λ left m are shows. ⊎_elim (λ kept. held.image left m kept.1 shows)
       (λ done. held.image done.0 m done.1 (λ q. shows q ∙ ap (λ n. shown (bytes_after first calls) n q) done.2)) are;
   now = held.now;
@@ -65,7 +65,7 @@ pub held_create : (first : Beginning) (calls : List Call) (operations : List Ope
     → Holds first calls operations → Holds first (Named (Create path) ∷ calls) operations
 held_create first calls operations path beside held = record {
   rooted = λ left q k are plain e. ⊎_elim (λ kept. held.rooted left q k kept.1 plain e)
-      (λ done. subst (λ n. is_reachable n.folders q ≡ true) (sym done.2) (held.rooted done.0 q k done.1 plain (before done.0 left q k plain done.2 e))) are;
+      (λ done. subst (λ (n : Standing). is_reachable n.folders q ≡ true) (sym done.2) (held.rooted done.0 q k done.1 plain (before done.0 left q k plain done.2 e))) are;
   firm = λ left q k are plain e. ⊎_elim (λ kept. firm_again left q k kept.1 plain e)
       (λ done. firm_again done.0 q k done.1 plain (before done.0 left q k plain done.2 e)) are;
   image = λ left m are shows. ⊎_elim (λ kept. held.image left m kept.1 (λ q. shows q ∙ alike left kept.1 q))
@@ -78,19 +78,19 @@ held_create first calls operations path beside held = record {
     kept_contents : (left : Standing) (q : List ℕ) (k : ℕ) → AreNamesLeft first [] calls left → left.files q ≡ Some k → contents_after first (Named (Create path) ∷ calls) k ≡ contents_after first calls k
     kept_contents left q k are e = ap (λ b. cond b no_contents (contents_after first calls k)) (ne_eqb k (file_count first calls) (λ same. omega (arith, same, number_within first [] calls left q k are e)))
     before : (was left : Standing) (q : List ℕ) (k : ℕ) → is_beside q ≡ false → left ≡ record was { files = given path (Some (file_count first calls)) was.files } → left.files q ≡ Some k → was.files q ≡ Some k
-    before was left q k plain is e = sym (given_apart path (Some (file_count first calls)) was.files q (apart_from_beside path q beside plain)) ∙ sym (ap (λ n. n.files q) is) ∙ e
+    before was left q k plain is e = sym (given_apart path (Some (file_count first calls)) was.files q (apart_from_beside path q beside plain)) ∙ sym (ap (λ (n : Standing). n.files q) is) ∙ e
     firm_again : (left : Standing) (q : List ℕ) (k : ℕ) → AreNamesLeft first [] calls left → is_beside q ≡ false → left.files q ≡ Some k
         → (contents_after first (Named (Create path) ∷ calls) k).firm ≡ length (contents_after first (Named (Create path) ∷ calls) k).bytes
-    firm_again left q k are plain e = ap (λ c. c.firm) (kept_contents left q k are e) ∙ held.firm left q k are plain e ∙ ap (λ c. length c.bytes) (sym (kept_contents left q k are e))
+    firm_again left q k are plain e = ap (λ (c : Contents). c.firm) (kept_contents left q k are e) ∙ held.firm left q k are plain e ∙ ap (λ (c : Contents). length c.bytes) (sym (kept_contents left q k are e))
     alike : (left : Standing) → AreNamesLeft first [] calls left → (q : List ℕ) → shown (bytes_after first (Named (Create path) ∷ calls)) left q ≡ shown (bytes_after first calls) left q
-    alike left are q = shown_alike (bytes_after first calls) (bytes_after first (Named (Create path) ∷ calls)) left q (λ k plain e. ap (λ c. c.bytes) (kept_contents left q k are e))
+    alike left are q = shown_alike (bytes_after first calls) (bytes_after first (Named (Create path) ∷ calls)) left q (λ k plain e. ap (λ (c : Contents). c.bytes) (kept_contents left q k are e))
 
 -- a name beside that is taken away
 pub held_remove_beside : (first : Beginning) (calls : List Call) (operations : List Operation) (path : List ℕ) → is_beside path ≡ true
     → Holds first calls operations → Holds first (Named (system.Remove path) ∷ calls) operations
 held_remove_beside first calls operations path beside held = record {
   rooted = λ left q k are plain e. ⊎_elim (λ kept. held.rooted left q k kept.1 plain e)
-      (λ done. subst (λ n. is_reachable n.folders q ≡ true) (sym done.2) (held.rooted done.0 q k done.1 plain (before done.0 left q k plain done.2 e))) are;
+      (λ done. subst (λ (n : Standing). is_reachable n.folders q ≡ true) (sym done.2) (held.rooted done.0 q k done.1 plain (before done.0 left q k plain done.2 e))) are;
   firm = λ left q k are plain e. ⊎_elim (λ kept. held.firm left q k kept.1 plain e)
       (λ done. held.firm done.0 q k done.1 plain (before done.0 left q k plain done.2 e)) are;
   image = λ left m are shows. ⊎_elim (λ kept. held.image left m kept.1 shows)
@@ -100,14 +100,14 @@ held_remove_beside first calls operations path beside held = record {
 }
   where
     before : (was left : Standing) (q : List ℕ) (k : ℕ) → is_beside q ≡ false → left ≡ record was { files = given path None was.files } → left.files q ≡ Some k → was.files q ≡ Some k
-    before was left q k plain is e = sym (given_apart path None was.files q (apart_from_beside path q beside plain)) ∙ sym (ap (λ n. n.files q) is) ∙ e
+    before was left q k plain is e = sym (given_apart path None was.files q (apart_from_beside path q beside plain)) ∙ sym (ap (λ (n : Standing). n.files q) is) ∙ e
 
 -- a name of the repository that is taken away
 pub held_remove : (first : Beginning) (calls : List Call) (operations : List Operation) (path : List ℕ) → is_beside path ≡ false
     → Holds first calls operations → Holds first (Named (system.Remove path) ∷ calls) (Done (Remove path) ∷ operations)
 held_remove first calls operations path at held = record {
   rooted = λ left q k are plain e. ⊎_elim (λ kept. held.rooted left q k kept.1 plain e)
-      (λ done. subst (λ n. is_reachable n.folders q ≡ true) (sym done.2) (held.rooted done.0 q k done.1 plain (before done.0 left q k done.2 e))) are;
+      (λ done. subst (λ (n : Standing). is_reachable n.folders q ≡ true) (sym done.2) (held.rooted done.0 q k done.1 plain (before done.0 left q k done.2 e))) are;
   firm = λ left q k are plain e. ⊎_elim (λ kept. held.firm left q k kept.1 plain e)
       (λ done. held.firm done.0 q k done.1 plain (before done.0 left q k done.2 e)) are;
   image = λ left m are shows. ⊎_elim (λ kept. inl (held.image left m kept.1 shows))
@@ -121,7 +121,7 @@ held_remove first calls operations path at held = record {
 }
   where
     before : (was left : Standing) (q : List ℕ) (k : ℕ) → left ≡ record was { files = given path None was.files } → left.files q ≡ Some k → was.files q ≡ Some k
-    before was left q k is e = ⊎_elim (λ w. w) (λ c. absurd c) (comes_from (system.Remove path) (file_count first calls) was was q k (sym (ap (λ n. n.files q) is) ∙ e))
+    before was left q k is e = ⊎_elim (λ w. w) (λ c. absurd c) (comes_from (system.Remove path) (file_count first calls) was was q k (sym (ap (λ (n : Standing). n.files q) is) ∙ e))
 
 module _ (first : Beginning) (calls : List Call) (operations : List Operation) (from to : List ℕ) (naming : IsNaming first calls from to) (held : Holds first calls operations) where
   abbrev pub names : Standing
@@ -148,10 +148,10 @@ module _ (first : Beginning) (calls : List Call) (operations : List Operation) (
 
   rooted_after : (left : Standing) (q : List ℕ) (k : ℕ) → AreNamesLeft first [] (Named (system.Rename from to) ∷ calls) left → is_beside q ≡ false → left.files q ≡ Some k → is_reachable left.folders q ≡ true
   rooted_after left q k are plain e = ⊎_elim (λ kept. held.rooted left q k kept.1 plain e)
-      (λ done. subst (λ n. is_reachable n.folders q ≡ true) (sym done.2)
+      (λ done. subst (λ (n : Standing). is_reachable n.folders q ≡ true) (sym done.2)
       (⊎_elim (λ old. held.rooted done.0 q k done.1 plain old)
-      (λ comes. subst (λ folders. is_reachable folders q ≡ true) (sym (folders_are_now first [] calls done.0 naming.folders done.1)) (subst (λ p. is_reachable names.folders p ≡ true) (sym comes.0) naming.above))
-      (comes_from (system.Rename from to) (file_count first calls) names done.0 q k (sym (ap (λ n. n.files q) done.2) ∙ e)))) are
+      (λ comes. subst (λ (folders : List ℕ → Bool). is_reachable folders q ≡ true) (sym (folders_are_now first [] calls done.0 naming.folders done.1)) (subst (λ (p : List ℕ). is_reachable names.folders p ≡ true) (sym comes.0) naming.above))
+      (comes_from (system.Rename from to) (file_count first calls) names done.0 q k (sym (ap (λ (n : Standing). n.files q) done.2) ∙ e)))) are
 
   firm_moved : (k : ℕ) → names.files from ≡ Some k → (contents_after first calls k).firm ≡ length (contents_after first calls k).bytes
   firm_moved k e = ⊎_elim (λ beside. naming.firm k beside e) (λ plain. held.firm names from k (now_is_left first [] calls) plain e) (cases_Bool (is_beside from))
@@ -160,7 +160,7 @@ module _ (first : Beginning) (calls : List Call) (operations : List Operation) (
       → (contents_after first calls k).firm ≡ length (contents_after first calls k).bytes
   firm_after left q k are plain e = ⊎_elim (λ kept. held.firm left q k kept.1 plain e)
       (λ done. ⊎_elim (λ old. held.firm done.0 q k done.1 plain old) (λ comes. firm_moved k comes.1)
-      (comes_from (system.Rename from to) (file_count first calls) names done.0 q k (sym (ap (λ n. n.files q) done.2) ∙ e))) are
+      (comes_from (system.Rename from to) (file_count first calls) names done.0 q k (sym (ap (λ (n : Standing). n.files q) done.2) ∙ e))) are
 
   -- what is shown with the new name
   shown_after : (was : Standing) (q : List ℕ) → shown bytes (after was) q ≡ cond (same_text q to) (Some moved) (shown bytes (without_from was) q)

@@ -4,3 +4,4 @@ pub mod HeldNames
 pub mod CrashTheorem
 pub mod QuietLemmas
 pub mod SoundLemmas
+pub mod PutLemmas

@@ -1,14 +1,15 @@
 -- Which calls are quiet, and that quiet calls follow one another.
-use Rattle.std.proofs.Common.{◌≡◌, ℕ, List, [], ◌∷◌, ◌++◌, Bool, true, false, refl, sym, ap, subst, ◌∙◌}
-use Rattle.std.proofs.lemmas.Bool.{and_from}
+use Rattle.std.proofs.Common.{◌≡◌, ◌⊎◌, ℕ, List, [], ◌∷◌, ◌++◌, Bool, true, false, cond, ⊎_elim, refl, sym, ap, subst, ◌∙◌}
+use Rattle.std.proofs.lemmas.Bool.{and_from, eq-eqb}
+use Rattle.std.proofs.lemmas.List.{append-nil, append_assoc}
 use Rattle.std.proofs.lemmas.Option.{none-some}
 use Rattle.std.specs.Prelude.{Option, Some, None, option_map}
-use Rattle.fsfs_calls.specs.CallRecord.{CallRecord, Call, Append, SyncFile, FailSync, SyncFolder, add_call, Does}
+use Rattle.fsfs_calls.specs.CallRecord.{CallRecord, Call, Append, SyncFile, FailSync, SyncFolder, Contents, add_call, contents_now, more_bytes, Does}
 use Rattle.fsfs_calls.specs.Remains.{are_firm}
 use Rattle.fsfs_calls.proofs.PathLemmas.{has_tail}
 use Rattle.fsfs_calls.proofs.LeftLemmas.{firm_more, folders_firm_more}
 use Rattle.fsfs_folders.specs.Keeping.{keeps, may_call, is_newest}
-use Rattle.fsfs_folders.specs.Quiet.{GoesOnQuietly, IsQuiet, IsSynced}
+use Rattle.fsfs_folders.specs.Quiet.{GoesOnQuietly, IsQuiet, IsSynced, IsNewestIn, IsAppended}
 
 pub quiet_none : (old : Option CallRecord) → IsQuiet old old
 quiet_none None = refl
@@ -88,3 +89,41 @@ synced_then folders folder None b c s e = tt
 synced_then folders folder (Some r) None c s e = absurd s
 synced_then folders folder (Some r) (Some t) c s e = subst (λ n. IsSynced (folders ++ folder ∷ []) (Some r) n) (sym e)
     (λ more h. s (folder ∷ more) (subst (λ fs. are_firm fs r.calls ≡ true) (concat_one folders folder more) h))
+
+-- more bytes at the end of the newest file
+pub append_more : (number : ℕ) (front bytes : List ℕ) (a b c : Option CallRecord) → IsNewestIn a number → IsNewestIn b number → IsQuiet a b → IsAppended number front a b
+    → Does (Append number bytes) b c → IsQuiet a c × IsNewestIn c number × IsAppended number (front ++ bytes) a c
+append_more number front bytes None b c newest_a newest q w e =
+    let none : c ≡ None = e ∙ ap (λ o. option_map (add_call (Append number bytes)) o) q in
+    (none, subst (λ o. IsNewestIn o number) (sym none) tt, tt)
+append_more number front bytes (Some r) None c newest_a newest q w e = absurd q
+append_more number front bytes (Some r) (Some s) c newest_a newest q w e = (
+  quiet_then (Some r) (Some s) c q (quiet_append number bytes s c newest e),
+  subst (λ o. IsNewestIn o number) (sym e) newest,
+  subst (λ o. IsAppended number (front ++ bytes) (Some r) o) (sym e) (at_number ∙ ap (λ (f : Contents). more_bytes bytes f) w ∙ joined),
+)
+  where
+    at_number : contents_now (add_call (Append number bytes) s) number ≡ more_bytes bytes (contents_now s number)
+    at_number = ap (λ b. cond b (more_bytes bytes (contents_now s number)) (contents_now s number)) (eq-eqb number number refl)
+    joined : more_bytes bytes (more_bytes front (contents_now r number)) ≡ more_bytes (front ++ bytes) (contents_now r number)
+    joined = ap {B = Contents} (λ x. record (contents_now r number) { bytes = x }) (append_assoc (contents_now r number).bytes front bytes)
+
+pub appended_none : (number : ℕ) (a : Option CallRecord) → IsAppended number [] a a
+appended_none number None = tt
+appended_none number (Some r) = ap {B = Contents} (λ x. record (contents_now r number) { bytes = x }) (sym (append-nil (contents_now r number).bytes))
+
+-- a failed write may leave any bytes at the end of the newest file
+pub append_failed : (number : ℕ) (a b c : Option CallRecord) → IsNewestIn b number → IsQuiet a b → (c ≡ b) ⊎ ((any : List ℕ) × Does (Append number any) b c) → IsQuiet a c
+append_failed number a b c newest q failed =
+    ⊎_elim (λ same. subst (λ o. IsQuiet a o) (sym same) q) (λ any. quiet_then a b c q (wrote b newest any.0 any.1)) failed
+  where
+    wrote : (b : Option CallRecord) → IsNewestIn b number → (any : List ℕ) → Does (Append number any) b c → IsQuiet b c
+    wrote None n any e = e
+    wrote (Some r) n any e = quiet_append number any r c n e
+
+-- a folder more was synced
+pub sync_more : (done : List (List ℕ)) (folder : List ℕ) (a b c : Option CallRecord) → IsQuiet a b → IsSynced done a b → Does (SyncFolder folder) b c → IsQuiet a c × IsSynced (done ++ folder ∷ []) a c
+sync_more done folder a b c q s e = (quiet_then a b c q (quiet_sync folder b c e), synced_then done folder a b c s e)
+
+pub sync_failed : (folder : List ℕ) (a b c : Option CallRecord) → IsQuiet a b → (c ≡ b) ⊎ Does (SyncFolder folder) b c → IsQuiet a c
+sync_failed folder a b c q failed = ⊎_elim (λ same. subst (λ o. IsQuiet a o) (sym same) q) (λ did. quiet_then a b c q (quiet_sync folder b c did)) failed

@@ -74,6 +74,29 @@ changed_again m p file before shows =
     same_files m (put_back (put_back m p (before p)) p file) (λ q.
     shows q ∙ ap (λ x. cond (same_text q p) file x) (sym (backed m p file before shows q)) ∙ sym (get_back (put_back m p (before p)) p file q))
 
+module _ (file : NamedFile) (files : List NamedFile) (folders : List ℕ → Bool) (q : List ℕ) where
+  abbrev behind : Standing
+  behind = record { folders = folders; files = first_number files }
+
+  abbrev bytes : ℕ → List ℕ
+  bytes = first_bytes (file ∷ files)
+
+  kept : (k : ℕ) → is_beside q ≡ false → first_number files q ≡ Some k → bytes k ≡ first_bytes files k
+  kept k plain e = ap (λ b. cond b file.1 (first_bytes files k)) (ne_eqb k (length files) (λ same. let h : k < length files = first_within files q k e in omega (arith, same, h)))
+
+  own : Some file.1 ≡ option_map bytes (Some (length files))
+  own = ap (λ b. Some (cond b file.1 (first_bytes files (length files)))) (sym (eq-eqb (length files) (length files) refl))
+
+  one_more : get (files_of files) q ≡ shown (first_bytes files) behind q → get (files_of (file ∷ files)) q ≡ shown bytes (record { folders = folders; files = first_number (file ∷ files) }) q
+  one_more before =
+      let rest : get (files_of files) q ≡ shown bytes behind q = before ∙ sym (shown_alike (first_bytes files) bytes behind q kept) in
+      ⊎_elim (λ t. ap (λ b. get (cond b (files_of files) (insert (files_of files) file.0 file.1)) q) t ∙ rest ∙ sym (shown_given_beside bytes file.0 (Some (length files)) behind q t))
+      (λ f. ap (λ b. get (cond b (files_of files) (insert (files_of files) file.0 file.1)) q) f
+      ∙ get-insert nat_list_cmp_total (files_of files) file.0 file.1 q
+      ∙ ap (λ x. cond (same_text q file.0) (Some file.1) x) rest
+      ∙ ap (λ x. cond (same_text q file.0) x (shown bytes behind q)) own
+      ∙ sym (shown_given bytes file.0 (Some (length files)) behind q f)) (cases_Bool (is_beside file.0))
+
 -- the files at the beginning
 pub first_shown : (files : List NamedFile) (folders : List ℕ → Bool) (q : List ℕ) → get (files_of files) q ≡ shown (first_bytes files) (record { folders = folders; files = first_number files }) q
 first_shown [] folders q = get-empty _ q ∙ sym (none (is_beside q))
@@ -81,21 +104,4 @@ first_shown [] folders q = get-empty _ q ∙ sym (none (is_beside q))
     none : (b : Bool) → cond b None (option_map (first_bytes []) None) ≡ None
     none true = refl
     none false = refl
-first_shown (file ∷ files) folders q =
-    ⊎_elim (λ t. ap (λ b. get (cond b (files_of files) (insert (files_of files) file.0 file.1)) q) t ∙ rest ∙ sym (hidden t))
-    (λ f. ap (λ b. get (cond b (files_of files) (insert (files_of files) file.0 file.1)) q) f
-    ∙ get-insert nat_list_cmp_total (files_of files) file.0 file.1 q
-    ∙ ap (λ x. cond (same_text q file.0) (Some file.1) x) rest
-    ∙ ap (λ x. cond (same_text q file.0) x (shown (first_bytes (file ∷ files)) behind q)) own
-    ∙ sym (shown_given (first_bytes (file ∷ files)) file.0 (Some (length files)) behind q f)) (cases_Bool (is_beside file.0))
-  where
-    behind : Standing
-    behind = record { folders = folders; files = first_number files }
-    kept : (k : ℕ) → is_beside q ≡ false → first_number files q ≡ Some k → first_bytes (file ∷ files) k ≡ first_bytes files k
-    kept k plain e = ap (λ b. cond b file.1 (first_bytes files k)) (ne_eqb k (length files) (λ same. let h : k < length files = first_within files q k e in omega (arith, same, h)))
-    rest : get (files_of files) q ≡ shown (first_bytes (file ∷ files)) behind q
-    rest = first_shown files folders q ∙ sym (shown_alike (first_bytes files) (first_bytes (file ∷ files)) behind q kept)
-    own : Some file.1 ≡ option_map (first_bytes (file ∷ files)) (Some (length files))
-    own = ap (λ b. Some (cond b file.1 (first_bytes files (length files)))) (sym (eq-eqb (length files) (length files) refl))
-    hidden : is_beside file.0 ≡ true → shown (first_bytes (file ∷ files)) (record { folders = folders; files = first_number (file ∷ files) }) q ≡ shown (first_bytes (file ∷ files)) behind q
-    hidden t = shown_given_beside (first_bytes (file ∷ files)) file.0 (Some (length files)) behind q t
+first_shown (file ∷ files) folders q = one_more file files folders q (first_shown files folders q)

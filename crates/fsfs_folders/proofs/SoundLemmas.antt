@@ -132,7 +132,7 @@ pub told_removed : (path : List ℕ) (old new : Option CallRecord) → is_beside
 told_removed path None new beside may = ap told (⊎_elim (λ s. s) (λ m. m) may)
 told_removed path (Some r) new beside may =
     ⊎_elim (λ s. ap told s)
-    (λ m. ap told m.1 ∙ ap (λ b. Some (record { first = files_of r.first.files; labels = []; operations = cond b (operations_of r.first r.calls) (Done (Remove path) ∷ operations_of r.first r.calls) })) beside) may
+    (λ m. ap told m.1 ∙ ap {B = Option Trace} (λ b. Some (record { first = files_of r.first.files; labels = []; operations = cond b (operations_of r.first r.calls) (Done (Remove path) ∷ operations_of r.first r.calls) })) beside) may
 
 pub told_created : (path : List ℕ) (old new : Option CallRecord) → MayMake (Create path) old new → told new ≡ told old
 told_created path None new may = ap told (⊎_elim (λ s. s) (λ m. m) may)

@@ -4,8 +4,9 @@ use Rattle.std.specs.Prelude.{◌≡◌, ℕ, List, [], ◌∷◌, Bool, true, f
 use Rattle.std.specs.List.{ends_with}
 use Rattle.std.specs.FinMap.{get, insert, remove, empty}
 use Rattle.fsfs_base.specs.Files.{Files, NamedFile}
-use Rattle.fsfs_disk.specs.Trace.{Operation, Done, Trace, Put, Rename, Remove, FirmNames}
+use Rattle.fsfs_disk.specs.Trace.{Operation, Done, Trace, Put, Rename, Remove, FirmNames, IsImage}
 use Rattle.fsfs_calls.specs.CallRecord as system
+use Rattle.fsfs_calls.specs.Remains.{IsLeft}
 use Rattle.fsfs_calls.specs.CallRecord.{Beginning, CallRecord, Call, Named, Firmed, Standing, is_reachable, names_after, contents_after}
 
 -- A file is written under this name first: no file of the repository has such a name.
@@ -47,3 +48,7 @@ trace_of r = record { first = files_of r.first.files; labels = []; operations = 
 pub record ShowsFiles (names : Standing) (bytes : ℕ → List ℕ) (m : Files) : Type 0 where
   pub there : (q : List ℕ) (n : ℕ) → is_beside q ≡ false → names.files q ≡ Some n → is_reachable names.folders q ≡ true → get m q ≡ Some (bytes n)
   pub only : (q file : List ℕ) → get m q ≡ Some file → (is_beside q ≡ false) × ((n : ℕ) × (names.files q ≡ Some n) × (is_reachable names.folders q ≡ true))
+
+-- whatever a crash may leave of names and bytes shows one of the images that are told
+abbrev pub LeavesImages : CallRecord → Type 0
+LeavesImages r = (names : Standing) (bytes : ℕ → List ℕ) (m : Files) → IsLeft r names bytes → ShowsFiles names bytes m → IsImage (trace_of r).first (trace_of r).operations m

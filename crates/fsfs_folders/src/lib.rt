@@ -1,9 +1,7 @@
-//! A disk over the bare calls of the system: what it tells is read off the record of its calls, and what a crash may leave of the
-//! system shows one of the images that it tells.
+//! What a disk over the bare calls of the system tells: it is read off the record of its calls, and what a crash may leave of the
+//! system shows one of the images that are told.
 #![tactic(auto)]
 
-mod folders;
-mod noted;
-mod writing;
+mod law;
 
-pub use folders::Folders;
+pub use law::leaves_images;
