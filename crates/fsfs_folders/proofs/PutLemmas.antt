@@ -2,7 +2,7 @@
 use Rattle.std.proofs.Common.{◌≡◌, ◌⊎◌, ℕ, List, [], ◌∷◌, ◌++◌, Bool, true, false, cond, inl, inr, ⊎_elim, refl, sym, ap, subst, ◌∙◌}
 use Rattle.std.proofs.lemmas.Bool.{and_from, eq-eqb, not_from_false}
 use Rattle.std.proofs.lemmas.Option.{none-some}
-use Rattle.std.specs.Prelude.{◌||◌, ◌&&◌, not, length, Option, Some, None, option_map, unwrap_or, IfSome, IsSome, is_some}
+use Rattle.std.specs.Prelude.{◌||◌, ◌&&◌, not, length, Option, Some, None, option_map, unwrap_or, IfSome, IsSome, is_some, Result, Ok, Err, OnOk}
 use Rattle.fsfs_disk.specs.Trace.{Trace, Operation, Done, Put, Rename, Remove, Performs}
 use Rattle.fsfs_calls.specs.CallRecord as system
 use Rattle.fsfs_calls.specs.CallRecord.{CallRecord, Call, Named, NameCall, Create, SyncFile, Standing, Contents, add_call, Makes, MayMake, Does, Allows, names_now, names_after, contents_now, contents_after, new_number, no_contents, more_bytes, made_firm, given, is_reachable}
@@ -103,3 +103,7 @@ pub told_gone : (path : List ℕ) (old new : Option CallRecord) → is_beside pa
 told_gone path None new is makes = ap told makes
 told_gone path (Some r) new is makes = ap told makes.1
     ∙ ap {B = Option Trace} (λ b. Some (record { first = files_of r.first.files; labels = []; operations = cond b (operations_of r.first r.calls) (Done (Remove path) ∷ operations_of r.first r.calls) })) is
+
+pub on_ok : {T E : Type 0} {P Q : Type 0} (r : Result T E) → (P → Q) → OnOk r P → OnOk r Q
+on_ok (Ok x) f p = f p
+on_ok (Err e) f p = p

@@ -141,3 +141,7 @@ told_created path (Some r) new may = ⊎_elim (λ s. ap told s) (λ m. ap told m
 pub told_folder : (path : List ℕ) (old new : Option CallRecord) → MayMake (MakeFolder path) old new → told new ≡ told old
 told_folder path None new may = ap told (⊎_elim (λ s. s) (λ m. m) may)
 told_folder path (Some r) new may = ⊎_elim (λ s. ap told s) (λ m. ap told m.1) may
+
+pub sound_keeps : (calls : Option CallRecord) (changed : List (List ℕ)) (settled : Bool) → is_sound calls changed settled ≡ true → IfSome calls (λ r. keeps r.first r.calls ≡ true)
+sound_keeps None changed settled e = tt
+sound_keeps (Some r) changed settled e = (sound_parts r changed settled e).0
