@@ -1,9 +1,9 @@
 -- The names that a crash may leave: those now are among them, a sync leaves no more, and where all is firm only those now are left.
-use Rattle.std.proofs.Common.{◌≡◌, ◌⊎◌, ℕ, List, [], ◌∷◌, Bool, true, false, inl, inr, ⊎_elim, refl, sym, ap, ◌∙◌, arith}
+use Rattle.std.proofs.Common.{◌≡◌, ℕ, List, [], ◌∷◌, Bool, true, false, inl, inr, ⊎_elim, refl, sym, ap, ◌∙◌, arith}
 use Rattle.std.proofs.lemmas.Bool.{and_parts, and_from, or_cases, false_from_ne_true}
 use Rattle.std.specs.Prelude.{◌<◌, ◌||◌, Some}
 use Rattle.fsfs_calls.specs.Paths.{same_text, has_path}
-use Rattle.fsfs_calls.specs.CallRecord.{NameCall, MakeFolder, Create, Rename, Remove, Call, Named, Append, SyncFile, FailSync, SyncFolder, Firmed, Beginning, Standing, renamed_by, names_after, file_count}
+use Rattle.fsfs_calls.specs.CallRecord.{MakeFolder, Create, Rename, Remove, Call, Named, Append, SyncFile, FailSync, SyncFolder, Firmed, Beginning, Standing, renamed_by, names_after, file_count}
 use Rattle.fsfs_calls.specs.Remains.{AreNamesLeft, are_firm, are_folders_firm, AreWithin, are_synced, folders_of}
 use Rattle.fsfs_calls.proofs.PathLemmas.{or_right}
 use Rattle.fsfs_calls.proofs.NameLemmas.{comes_from, comes_within, count_more, first_within}

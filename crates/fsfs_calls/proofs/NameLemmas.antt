@@ -2,7 +2,7 @@
 use Rattle.std.proofs.Common.{◌≡◌, ◌⊎◌, ℕ, List, [], ◌∷◌, Bool, true, false, cond, inl, inr, ⊎_elim, refl, sym, ap, ◌∙◌, arith}
 use Rattle.std.proofs.lemmas.Bool.{and_parts, and_from}
 use Rattle.std.proofs.lemmas.Option.{same_Some, none-some}
-use Rattle.std.specs.Prelude.{◌<◌, ◌≤◌, ◌++◌, ◌==◌, ◌||◌, ◌&&◌, if◌then◌else◌, length, Option, Some, None}
+use Rattle.std.specs.Prelude.{◌<◌, ◌≤◌, ◌++◌, ◌==◌, ◌||◌, if◌then◌else◌, length, Option, Some, None}
 use Rattle.fsfs_base.specs.Files.{NamedFile}
 use Rattle.fsfs_calls.specs.Paths.{same_text}
 use Rattle.fsfs_calls.specs.CallRecord.{NameCall, MakeFolder, Create, Rename, Remove, Call, Named, Beginning, Standing, given, first_number, renamed_by, file_count, are_there, is_reachable}

@@ -2,7 +2,7 @@
 -- one change.
 use Rattle.std.specs.Prelude.{◌≡◌, ◌⊎◌, ℕ, ◌<◌, List, [], ◌∷◌, ◌++◌, length, take, Bool, true, false, ◌&&◌}
 use Rattle.fsfs_calls.specs.Paths.{has_path, folder_of}
-use Rattle.fsfs_calls.specs.CallRecord.{NameCall, MakeFolder, Create, Rename, Remove, Call, Named, Append, SyncFile, FailSync, SyncFolder, Firmed, Beginning, CallRecord, Standing, Contents, first_names, file_count, renamed_by, names_after, contents_now}
+use Rattle.fsfs_calls.specs.CallRecord.{NameCall, MakeFolder, Create, Rename, Remove, Call, Named, SyncFolder, Beginning, CallRecord, Standing, Contents, first_names, file_count, renamed_by, names_after, contents_now}
 
 -- the folders whose names a change touches
 abbrev pub folders_of : NameCall → List (List ℕ)

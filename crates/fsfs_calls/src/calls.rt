@@ -42,7 +42,12 @@ pub trait Calls {
         ensures same { history self.new ≡ history self.old };
 
     /// Reads from an offset on as many bytes as the system gives at once, none only at the end or where none are asked for.
-    fn read_at(&mut self, file: &Self::File, offset: u64, buffer: &mut [u8]) -> Result<usize, CallError>
+    fn read_at(
+        &mut self,
+        file: &Self::File,
+        offset: u64,
+        buffer: &mut [u8],
+    ) -> Result<usize, CallError>
         ensures bound { IfOk result (λ n. n ≤ min (length buffer.new) (length buffer.old)) }
         ensures bytes { IfSome (history self.old) (λ r. IfOk result (λ n. buffer.new ≡ take n (drop offset (contents_now r (Self.File.number file.now)).bytes) ++ drop n buffer.old)) }
         ensures within { IfSome (history self.old) (λ r. IfOk result (λ n. n ≤ length (contents_now r (Self.File.number file.now)).bytes - offset)) }

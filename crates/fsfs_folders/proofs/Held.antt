@@ -1,17 +1,17 @@
 -- What holds of names, bytes and operations after calls that keep to the rules, where a call changes no name.
-use Rattle.std.proofs.Common.{◌≡◌, ◌⊎◌, ℕ, List, [], ◌∷◌, Bool, true, false, cond, inl, inr, ⊎_elim, refl, sym, ap, subst, ◌∙◌, arith}
+use Rattle.std.proofs.Common.{◌≡◌, ℕ, List, [], ◌∷◌, Bool, true, false, cond, ⊎_elim, refl, sym, ap, subst, ◌∙◌}
 use Rattle.std.proofs.lemmas.Bool.{ne_eqb, and_parts, or_cases}
 use Rattle.std.proofs.lemmas.Option.{none-some}
-use Rattle.std.specs.Prelude.{◌||◌, length, nat_eq, Option, Some}
+use Rattle.std.specs.Prelude.{◌||◌, length, nat_eq, Some}
 use Rattle.fsfs_base.specs.Files.{Files, NamedFile}
 use Rattle.fsfs_base.proofs.FileLemmas.{same_files}
 use Rattle.fsfs_disk.specs.Trace.{Operation, Done, FirmNames, IsImage, files_after}
-use Rattle.fsfs_calls.specs.CallRecord.{Call, Append, SyncFile, FailSync, SyncFolder, Firmed, Beginning, Standing, Contents, is_reachable, names_after, contents_after, more_bytes, made_firm, made_lost, first_names, first_number, first_bytes}
-use Rattle.fsfs_calls.specs.Paths.{same_text, has_path}
+use Rattle.fsfs_calls.specs.CallRecord.{Call, Append, SyncFile, FailSync, SyncFolder, Firmed, Beginning, Standing, Contents, is_reachable, names_after, contents_after, more_bytes, made_firm, made_lost, first_names, first_number}
+use Rattle.fsfs_calls.specs.Paths.{has_path}
 use Rattle.fsfs_calls.specs.Remains.{AreNamesLeft, are_firm}
 use Rattle.fsfs_calls.proofs.PathLemmas.{text_cases}
 use Rattle.fsfs_calls.proofs.LeftLemmas.{left_before_sync, firm_is_now}
-use Rattle.fsfs_folders.specs.Told.{is_beside, shown, AreShown, bytes_after, files_of, operations_of}
+use Rattle.fsfs_folders.specs.Told.{is_beside, shown, AreShown, bytes_after, files_of}
 use Rattle.fsfs_folders.specs.Keeping.{are_rooted}
 use Rattle.fsfs_folders.proofs.ShownLemmas.{shown_alike, first_shown}
 
@@ -53,6 +53,7 @@ held_append first calls operations number bytes unseen is_now held = record {
   where
     kept : (k : ℕ) → (k ≡ number → ⊥) → contents_after first (Append number bytes ∷ calls) k ≡ contents_after first calls k
     kept k apart = ap (λ b. cond b (more_bytes bytes (contents_after first calls k)) (contents_after first calls k)) (ne_eqb k number apart)
+
     alike : (left : Standing) → AreNamesLeft first [] calls left → (q : List ℕ) → shown (bytes_after first (Append number bytes ∷ calls)) left q ≡ shown (bytes_after first calls) left q
     alike left are q = shown_alike (bytes_after first calls) (bytes_after first (Append number bytes ∷ calls)) left q (λ k plain e. ap (λ (c : Contents). c.bytes) (kept k (unseen left q k are plain e)))
 

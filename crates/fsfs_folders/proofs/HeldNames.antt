@@ -1,20 +1,20 @@
 -- What holds after a change of names that keeps to the rules.
-use Rattle.std.proofs.Common.{◌≡◌, ◌⊎◌, ℕ, List, [], ◌∷◌, Bool, true, false, cond, inl, inr, ⊎_elim, refl, sym, ap, subst, ◌∙◌, arith}
+use Rattle.std.proofs.Common.{◌≡◌, ℕ, List, [], ◌∷◌, Bool, true, false, cond, inl, inr, ⊎_elim, refl, sym, ap, subst, ◌∙◌, arith}
 use Rattle.std.proofs.lemmas.Bool.{ne_eqb, cases_Bool, and_parts, or_cases, not-true, eqb-true}
-use Rattle.std.specs.Prelude.{◌<◌, ◌||◌, ◌&&◌, not, is_some, length, nat_eq, Option, Some, None, option_map, unwrap_or}
+use Rattle.std.specs.Prelude.{◌||◌, ◌&&◌, not, is_some, length, Option, Some, None, option_map, unwrap_or}
 use Rattle.std.specs.Cmp.Lexicographic.{nat_list_cmp_total}
 use Rattle.std.specs.FinMap.{get, insert, remove, get-insert, get-remove}
 use Rattle.fsfs_base.specs.Files.{Files, renamed}
-use Rattle.fsfs_disk.specs.Trace.{Operation, Done, Put, Rename, Remove, IsImage, files_after}
+use Rattle.fsfs_disk.specs.Trace.{Operation, Done, Put, Rename, Remove, files_after}
 use Rattle.fsfs_calls.specs.Paths.{same_text}
 use Rattle.fsfs_calls.specs.CallRecord as system
 use Rattle.fsfs_calls.specs.CallRecord.{Call, Named, MakeFolder, Create, Beginning, Standing, Contents, is_reachable, given, names_after, contents_after, no_contents, file_count}
 use Rattle.fsfs_calls.specs.Remains.{AreNamesLeft, are_folders_firm}
 use Rattle.fsfs_calls.proofs.NameLemmas.{given_apart, comes_from, reachable_with}
 use Rattle.fsfs_calls.proofs.LeftLemmas.{now_is_left, number_within, folders_are_now}
-use Rattle.fsfs_folders.specs.Told.{is_beside, shown, AreShown, bytes_after, bytes_at, files_of}
+use Rattle.fsfs_folders.specs.Told.{is_beside, shown, bytes_after, bytes_at, files_of}
 use Rattle.fsfs_folders.specs.Keeping.{is_naming, is_firm_file}
-use Rattle.fsfs_folders.proofs.ShownLemmas.{shown_alike, shown_given, shown_given_beside, shown_plain, apart_from_beside, put_back, get_back, backed, changed_again}
+use Rattle.fsfs_folders.proofs.ShownLemmas.{shown_alike, shown_given, shown_given_beside, shown_plain, apart_from_beside, put_back, backed, changed_again}
 use Rattle.fsfs_folders.proofs.Held.{Holds}
 
 -- A file gets a name of the repository, by the parts of what is asked.
@@ -33,10 +33,10 @@ pub naming_from : (first : Beginning) (calls : List Call) (from to : List ℕ) �
 naming_from first calls from to e =
     let names : Standing = names_after first calls in
     let whole : ((not (is_beside to) && are_folders_firm [] calls) ≡ true) × (((is_reachable names.folders to && is_some (names.files from)) && (not (is_beside from) || is_firm_file first calls (names.files from))) ≡ true) =
-        and_parts (not (is_beside to) && are_folders_firm [] calls) ((is_reachable names.folders to && is_some (names.files from)) && (not (is_beside from) || is_firm_file first calls (names.files from))) e in
+    and_parts (not (is_beside to) && are_folders_firm [] calls) ((is_reachable names.folders to && is_some (names.files from)) && (not (is_beside from) || is_firm_file first calls (names.files from))) e in
     let name : (not (is_beside to) ≡ true) × (are_folders_firm [] calls ≡ true) = and_parts (not (is_beside to)) (are_folders_firm [] calls) whole.0 in
     let rest : ((is_reachable names.folders to && is_some (names.files from)) ≡ true) × ((not (is_beside from) || is_firm_file first calls (names.files from)) ≡ true) =
-        and_parts (is_reachable names.folders to && is_some (names.files from)) (not (is_beside from) || is_firm_file first calls (names.files from)) whole.1 in
+    and_parts (is_reachable names.folders to && is_some (names.files from)) (not (is_beside from) || is_firm_file first calls (names.files from)) whole.1 in
     let there : (is_reachable names.folders to ≡ true) × (is_some (names.files from) ≡ true) = and_parts (is_reachable names.folders to) (is_some (names.files from)) rest.0 in
     record {
       plain = not-true (is_beside to) name.0;
@@ -77,11 +77,14 @@ held_create first calls operations path beside held = record {
   where
     kept_contents : (left : Standing) (q : List ℕ) (k : ℕ) → AreNamesLeft first [] calls left → left.files q ≡ Some k → contents_after first (Named (Create path) ∷ calls) k ≡ contents_after first calls k
     kept_contents left q k are e = ap (λ b. cond b no_contents (contents_after first calls k)) (ne_eqb k (file_count first calls) (λ same. omega (arith, same, number_within first [] calls left q k are e)))
+
     before : (was left : Standing) (q : List ℕ) (k : ℕ) → is_beside q ≡ false → left ≡ record was { files = given path (Some (file_count first calls)) was.files } → left.files q ≡ Some k → was.files q ≡ Some k
     before was left q k plain is e = sym (given_apart path (Some (file_count first calls)) was.files q (apart_from_beside path q beside plain)) ∙ sym (ap (λ (n : Standing). n.files q) is) ∙ e
+
     firm_again : (left : Standing) (q : List ℕ) (k : ℕ) → AreNamesLeft first [] calls left → is_beside q ≡ false → left.files q ≡ Some k
         → (contents_after first (Named (Create path) ∷ calls) k).firm ≡ length (contents_after first (Named (Create path) ∷ calls) k).bytes
     firm_again left q k are plain e = ap (λ (c : Contents). c.firm) (kept_contents left q k are e) ∙ held.firm left q k are plain e ∙ ap (λ (c : Contents). length c.bytes) (sym (kept_contents left q k are e))
+
     alike : (left : Standing) → AreNamesLeft first [] calls left → (q : List ℕ) → shown (bytes_after first (Named (Create path) ∷ calls)) left q ≡ shown (bytes_after first calls) left q
     alike left are q = shown_alike (bytes_after first calls) (bytes_after first (Named (Create path) ∷ calls)) left q (λ k plain e. ap (λ (c : Contents). c.bytes) (kept_contents left q k are e))
 
@@ -112,10 +115,12 @@ held_remove first calls operations path at held = record {
       (λ done. held.firm done.0 q k done.1 plain (before done.0 left q k done.2 e)) are;
   image = λ left m are shows. ⊎_elim (λ kept. inl (held.image left m kept.1 shows))
       (λ done. let changes : (q : List ℕ) → get m q ≡ cond (same_text q path) None (shown (bytes_after first calls) done.0 q) =
-          λ q. shows q ∙ ap (λ n. shown (bytes_after first calls) n q) done.2 ∙ shown_given (bytes_after first calls) path None done.0 q at in
-          inr (put_back m path (shown (bytes_after first calls) done.0 path),
-          held.image done.0 (put_back m path (shown (bytes_after first calls) done.0 path)) done.1 (backed m path None (shown (bytes_after first calls) done.0) changes),
-          changed_again m path None (shown (bytes_after first calls) done.0) changes)) are;
+      λ q. shows q ∙ ap (λ n. shown (bytes_after first calls) n q) done.2 ∙ shown_given (bytes_after first calls) path None done.0 q at in
+      inr (
+        put_back m path (shown (bytes_after first calls) done.0 path),
+        held.image done.0 (put_back m path (shown (bytes_after first calls) done.0 path)) done.1 (backed m path None (shown (bytes_after first calls) done.0) changes),
+        changed_again m path None (shown (bytes_after first calls) done.0) changes,
+      )) are;
   now = λ q. get-remove nat_list_cmp_total (files_after (files_of first.files) operations) path q
       ∙ ap (λ x. cond (same_text q path) None x) (held.now q) ∙ sym (shown_given (bytes_after first calls) path None (names_after first calls) q at);
 }
@@ -177,10 +182,12 @@ module _ (first : Beginning) (calls : List Call) (operations : List Operation) (
       firm = firm_after;
       image = λ left m are shows. ⊎_elim (λ kept. inl (held.image left m kept.1 shows))
           (λ done. let changes : (q : List ℕ) → get m q ≡ cond (same_text q to) (Some moved) (shown bytes done.0 q) =
-              λ q. shows q ∙ ap (λ n. shown bytes n q) done.2 ∙ put_shown done.0 q in
-              inr (put_back m to (shown bytes done.0 to),
-              held.image done.0 (put_back m to (shown bytes done.0 to)) done.1 (backed m to (Some moved) (shown bytes done.0) changes),
-              changed_again m to (Some moved) (shown bytes done.0) changes)) are;
+          λ q. shows q ∙ ap (λ n. shown bytes n q) done.2 ∙ put_shown done.0 q in
+          inr (
+            put_back m to (shown bytes done.0 to),
+            held.image done.0 (put_back m to (shown bytes done.0 to)) done.1 (backed m to (Some moved) (shown bytes done.0) changes),
+            changed_again m to (Some moved) (shown bytes done.0) changes,
+          )) are;
       now = λ q. get-insert nat_list_cmp_total (files_after (files_of first.files) operations) to moved q
           ∙ ap (λ x. cond (same_text q to) (Some moved) x) (held.now q) ∙ sym (put_shown names q);
     }
@@ -202,14 +209,16 @@ module _ (first : Beginning) (calls : List Call) (operations : List Operation) (
       firm = firm_after;
       image = λ left m are shows. ⊎_elim (λ kept. inl (held.image left m kept.1 shows))
           (λ done. let changes : (q : List ℕ) → get m q ≡ cond (same_text q to) (Some moved) (lacking done.0 q) =
-              λ q. shows q ∙ ap (λ n. shown bytes n q) done.2 ∙ rename_shown done.0 q in
-              let between : Files = put_back m to (lacking done.0 to) in
-              let lacks : (q : List ℕ) → get between q ≡ lacking done.0 q = backed m to (Some moved) (lacking done.0) changes in
-              inr (put_back between from (shown bytes done.0 from),
-              held.image done.0 (put_back between from (shown bytes done.0 from)) done.1 (backed between from None (shown bytes done.0) lacks),
-              changed_again m to (Some moved) (lacking done.0) changes
-              ∙ ap (λ n. insert n to moved) (changed_again between from None (shown bytes done.0) lacks)
-              ∙ ap (λ o. renamed (put_back between from (shown bytes done.0 from)) from to o) (sym had))) are;
+          λ q. shows q ∙ ap (λ n. shown bytes n q) done.2 ∙ rename_shown done.0 q in
+          let between : Files = put_back m to (lacking done.0 to) in
+          let lacks : (q : List ℕ) → get between q ≡ lacking done.0 q = backed m to (Some moved) (lacking done.0) changes in
+          inr (
+            put_back between from (shown bytes done.0 from),
+            held.image done.0 (put_back between from (shown bytes done.0 from)) done.1 (backed between from None (shown bytes done.0) lacks),
+            changed_again m to (Some moved) (lacking done.0) changes
+                ∙ ap (λ n. insert n to moved) (changed_again between from None (shown bytes done.0) lacks)
+                ∙ ap (λ o. renamed (put_back between from (shown bytes done.0 from)) from to o) (sym had),
+          )) are;
       now = λ q. ap (λ o. get (renamed (files_after (files_of first.files) operations) from to o) q) had
           ∙ get-insert nat_list_cmp_total (remove (files_after (files_of first.files) operations) from) to moved q
           ∙ ap (λ x. cond (same_text q to) (Some moved) x) (get-remove nat_list_cmp_total (files_after (files_of first.files) operations) from q ∙ ap (λ x. cond (same_text q from) None x) (held.now q))

@@ -1,15 +1,15 @@
 -- What a file has that was made, written and synced beside, and what is told once it gets its name.
-use Rattle.std.proofs.Common.{◌≡◌, ◌⊎◌, ℕ, List, [], ◌∷◌, ◌++◌, Bool, true, false, cond, inl, inr, ⊎_elim, refl, sym, ap, subst, ◌∙◌}
+use Rattle.std.proofs.Common.{◌≡◌, ℕ, List, [], ◌∷◌, Bool, true, false, cond, refl, sym, ap, subst, ◌∙◌}
 use Rattle.std.proofs.lemmas.Bool.{and_from, eq-eqb, not_from_false}
 use Rattle.std.proofs.lemmas.Option.{none-some}
-use Rattle.std.specs.Prelude.{◌||◌, ◌&&◌, not, length, Option, Some, None, option_map, unwrap_or, IfSome, IsSome, is_some, Result, Ok, Err, OnOk}
-use Rattle.fsfs_disk.specs.Trace.{Trace, Operation, Done, Put, Rename, Remove, Performs}
+use Rattle.std.specs.Prelude.{◌||◌, ◌&&◌, not, length, Option, Some, None, option_map, unwrap_or, IfSome, is_some, Result, Ok, Err, OnOk}
+use Rattle.fsfs_disk.specs.Trace.{Trace, Done, Put, Rename, Remove, Performs}
 use Rattle.fsfs_calls.specs.CallRecord as system
-use Rattle.fsfs_calls.specs.CallRecord.{CallRecord, Call, Named, NameCall, Create, SyncFile, Standing, Contents, add_call, Makes, MayMake, Does, Allows, names_now, names_after, contents_now, contents_after, new_number, no_contents, more_bytes, made_firm, given, is_reachable}
+use Rattle.fsfs_calls.specs.CallRecord.{CallRecord, Named, Create, SyncFile, Standing, Contents, add_call, Makes, Does, Allows, names_now, contents_now, new_number, no_contents, more_bytes, made_firm, is_reachable}
 use Rattle.fsfs_calls.specs.Remains.{are_folders_firm}
 use Rattle.fsfs_calls.proofs.NameLemmas.{given_at}
-use Rattle.fsfs_folders.specs.Told.{is_beside, trace_of, operations_of, files_of, bytes_at, bytes_after}
-use Rattle.fsfs_folders.specs.Keeping.{is_newest, is_naming, is_firm_file, is_sound}
+use Rattle.fsfs_folders.specs.Told.{is_beside, operations_of, files_of, bytes_at, bytes_after}
+use Rattle.fsfs_folders.specs.Keeping.{is_naming, is_firm_file, is_sound}
 use Rattle.fsfs_folders.specs.Quiet.{IsQuiet, IsNewestIn, IsAppended}
 use Rattle.fsfs_folders.specs.Standing.{told, IsWritten, IsFirmAt, bytes_under}
 use Rattle.fsfs_folders.proofs.SoundLemmas.{sound_parts}
@@ -37,8 +37,10 @@ written_beside path bytes number (Some r) b c d makes is quiet wrote does =
   where
     empty : contents_now (made_file path r) number ≡ no_contents
     empty = ap (λ b. cond b no_contents (contents_now r number)) (eq-eqb number (new_number r) is)
+
     has : (names_now (made_file path r)).files path ≡ Some number
     has = given_at path (Some (new_number r)) (names_now r).files ∙ ap (λ n. Some n) (sym is)
+
     after : (c : Option CallRecord) → IsQuiet (Some (made_file path r)) c → IsAppended number bytes (Some (made_file path r)) c → Does (SyncFile number) c d → IfSome d (λ s. IsWritten s path bytes)
     after None q w does = absurd q
     after (Some s) q w does = subst (λ n. IfSome n (λ s. IsWritten s path bytes)) (sym does) (record {
@@ -50,6 +52,7 @@ written_beside path bytes number (Some r) b c d makes is quiet wrote does =
       where
         held : contents_now s number ≡ record no_contents { bytes = bytes }
         held = w ∙ ap (λ (c : Contents). more_bytes bytes c) empty
+
         synced : contents_now (add_call (SyncFile number) s) number ≡ made_firm (record no_contents { bytes = bytes })
         synced = ap (λ b. cond b (made_firm (contents_now s number)) (contents_now s number)) (eq-eqb number number refl) ∙ ap made_firm held
 

@@ -1,14 +1,14 @@
 -- Which calls are quiet, and that quiet calls follow one another.
-use Rattle.std.proofs.Common.{◌≡◌, ◌⊎◌, ℕ, List, [], ◌∷◌, ◌++◌, Bool, true, false, cond, ⊎_elim, refl, sym, ap, subst, ◌∙◌}
+use Rattle.std.proofs.Common.{◌≡◌, ◌⊎◌, ℕ, List, [], ◌∷◌, ◌++◌, true, cond, ⊎_elim, refl, sym, ap, subst, ◌∙◌}
 use Rattle.std.proofs.lemmas.Bool.{and_from, eq-eqb}
 use Rattle.std.proofs.lemmas.List.{append-nil, append_assoc}
 use Rattle.std.proofs.lemmas.Option.{none-some}
 use Rattle.std.specs.Prelude.{Option, Some, None, option_map}
-use Rattle.fsfs_calls.specs.CallRecord.{CallRecord, Call, Append, SyncFile, FailSync, SyncFolder, Contents, add_call, contents_now, more_bytes, Does}
+use Rattle.fsfs_calls.specs.CallRecord.{CallRecord, Append, SyncFile, FailSync, SyncFolder, Contents, add_call, contents_now, more_bytes, Does}
 use Rattle.fsfs_calls.specs.Remains.{are_firm}
 use Rattle.fsfs_calls.proofs.PathLemmas.{has_tail}
 use Rattle.fsfs_calls.proofs.LeftLemmas.{firm_more, folders_firm_more}
-use Rattle.fsfs_folders.specs.Keeping.{keeps, may_call, is_newest}
+use Rattle.fsfs_folders.specs.Keeping.{keeps, is_newest}
 use Rattle.fsfs_folders.specs.Quiet.{GoesOnQuietly, IsQuiet, IsSynced, IsNewestIn, IsAppended}
 
 pub quiet_none : (old : Option CallRecord) → IsQuiet old old
@@ -105,6 +105,7 @@ append_more number front bytes (Some r) (Some s) c newest_a newest q w e = (
   where
     at_number : contents_now (add_call (Append number bytes) s) number ≡ more_bytes bytes (contents_now s number)
     at_number = ap (λ b. cond b (more_bytes bytes (contents_now s number)) (contents_now s number)) (eq-eqb number number refl)
+
     joined : more_bytes bytes (more_bytes front (contents_now r number)) ≡ more_bytes (front ++ bytes) (contents_now r number)
     joined = ap {B = Contents} (λ x. record (contents_now r number) { bytes = x }) (append_assoc (contents_now r number).bytes front bytes)
 

@@ -1,25 +1,25 @@
 -- What a disk knows stays true over its calls.
-use Rattle.std.proofs.Common.{◌≡◌, ◌⊎◌, ℕ, List, [], ◌∷◌, ◌++◌, Bool, true, false, cond, inl, inr, ⊎_elim, refl, sym, ap, subst, ◌∙◌}
+use Rattle.std.proofs.Common.{◌≡◌, ℕ, List, [], ◌∷◌, ◌++◌, Bool, true, false, cond, ⊎_elim, refl, sym, ap, subst, ◌∙◌}
 use Rattle.std.proofs.lemmas.Bool.{and_from, and_parts, or_cases, not-true}
-use Rattle.std.specs.Prelude.{◌||◌, ◌&&◌, not, Option, Some, None, option_map, IfSome}
-use Rattle.fsfs_disk.specs.Trace.{Trace, Operation, Done, Remove}
+use Rattle.std.specs.Prelude.{◌||◌, ◌&&◌, not, Option, Some, None, IfSome}
+use Rattle.fsfs_disk.specs.Trace.{Trace, Done, Remove}
 use Rattle.fsfs_calls.specs.Paths.{has_path, folder_of}
 use Rattle.fsfs_calls.specs.CallRecord as system
-use Rattle.fsfs_calls.specs.CallRecord.{CallRecord, Call, Named, NameCall, MakeFolder, Create, add_call, Makes, MayMake, Allows, names_now}
+use Rattle.fsfs_calls.specs.CallRecord.{CallRecord, Named, NameCall, MakeFolder, Create, add_call, MayMake, Allows, names_now}
 use Rattle.fsfs_calls.specs.Remains.{are_firm, are_folders_firm, are_synced, folders_of, AreWithin}
 use Rattle.fsfs_calls.proofs.LeftLemmas.{firm_more, firm_folders}
-use Rattle.fsfs_folders.specs.Told.{is_beside, trace_of, operations_of, files_of}
+use Rattle.fsfs_folders.specs.Told.{is_beside, operations_of, files_of}
 use Rattle.fsfs_folders.specs.Keeping.{keeps, may_call, is_naming, is_sound}
-use Rattle.fsfs_folders.specs.Quiet.{GoesOnQuietly, IsQuiet, IsSynced}
+use Rattle.fsfs_folders.specs.Quiet.{IsQuiet, IsSynced}
 use Rattle.fsfs_folders.specs.Standing.{told}
 
 pub sound_parts : (r : CallRecord) (changed : List (List ℕ)) (settled : Bool) → is_sound (Some r) changed settled ≡ true
     → (keeps r.first r.calls ≡ true) × (are_firm changed r.calls ≡ true) × (settled ≡ true → are_folders_firm [] r.calls ≡ true)
 sound_parts r changed settled e =
     let a : (keeps r.first r.calls ≡ true) × ((are_firm changed r.calls && (not settled || are_folders_firm [] r.calls)) ≡ true) =
-        and_parts (keeps r.first r.calls) (are_firm changed r.calls && (not settled || are_folders_firm [] r.calls)) e in
+    and_parts (keeps r.first r.calls) (are_firm changed r.calls && (not settled || are_folders_firm [] r.calls)) e in
     let b : (are_firm changed r.calls ≡ true) × ((not settled || are_folders_firm [] r.calls) ≡ true) =
-        and_parts (are_firm changed r.calls) (not settled || are_folders_firm [] r.calls) a.1 in
+    and_parts (are_firm changed r.calls) (not settled || are_folders_firm [] r.calls) a.1 in
     (a.0, b.0, λ s. ⊎_elim (λ n. let h : true ≡ false = sym s ∙ not-true settled n in cc) (λ f. f) (or_cases (not settled) (are_folders_firm [] r.calls) b.1))
 
 where_settled : (settled firm : Bool) → (settled ≡ true → firm ≡ true) → (not settled || firm) ≡ true

@@ -1,8 +1,8 @@
 -- What the calls of a disk keep to. So the crash model of disks holds of it, over the crash model of the system.
-use Rattle.std.specs.Prelude.{◌≡◌, ℕ, List, [], ◌∷◌, length, Bool, true, false, not, ◌==◌, ◌&&◌, ◌||◌, Option, Some, None, is_some}
+use Rattle.std.specs.Prelude.{ℕ, List, [], ◌∷◌, length, Bool, true, false, not, ◌==◌, ◌&&◌, ◌||◌, Option, Some, None, is_some}
 use Rattle.fsfs_base.specs.Files.{NamedFile}
 use Rattle.fsfs_calls.specs.Paths.{has_path}
-use Rattle.fsfs_calls.specs.CallRecord.{Beginning, CallRecord, NameCall, MakeFolder, Create, Rename, Remove, Call, Named, Append, SyncFile, FailSync, SyncFolder, Firmed, is_reachable, file_count, names_after, contents_after}
+use Rattle.fsfs_calls.specs.CallRecord.{Beginning, CallRecord, MakeFolder, Create, Rename, Remove, Call, Named, Append, SyncFile, FailSync, SyncFolder, Firmed, is_reachable, file_count, names_after, contents_after}
 use Rattle.fsfs_calls.specs.Remains.{are_firm, are_folders_firm}
 use Rattle.fsfs_folders.specs.Told.{is_beside}
 

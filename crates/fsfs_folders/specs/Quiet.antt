@@ -1,5 +1,5 @@
 -- Calls that change nothing of the repository.
-use Rattle.std.specs.Prelude.{◌≡◌, ℕ, List, [], ◌∷◌, ◌++◌, Bool, true, Option, Some, None}
+use Rattle.std.specs.Prelude.{◌≡◌, ℕ, List, [], ◌++◌, true, Option, Some, None}
 use Rattle.fsfs_calls.specs.CallRecord.{CallRecord, names_now, contents_now, more_bytes}
 use Rattle.fsfs_calls.specs.Remains.{are_firm, are_folders_firm}
 use Rattle.fsfs_folders.specs.Told.{trace_of}

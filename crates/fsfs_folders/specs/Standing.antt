@@ -1,5 +1,5 @@
 -- What a disk over the calls of the system knows between two of its own calls.
-use Rattle.std.specs.Prelude.{◌≡◌, ℕ, List, [], length, Bool, true, false, Option, Some, None, option_map}
+use Rattle.std.specs.Prelude.{◌≡◌, ℕ, List, [], length, true, Option, Some, None, option_map}
 use Rattle.fsfs_disk.specs.Trace.{Trace}
 use Rattle.fsfs_calls.specs.Paths.{has_path, folder_of}
 use Rattle.fsfs_calls.specs.CallRecord.{CallRecord, names_now, contents_now}

@@ -2,7 +2,7 @@
 -- and its operations are read off the record of calls.
 use Rattle.std.specs.Prelude.{◌≡◌, ℕ, List, [], ◌∷◌, Bool, true, false, nat_eq, if◌then◌else◌, Option, Some, None, option_map, unwrap_or, codes}
 use Rattle.std.specs.List.{ends_with}
-use Rattle.std.specs.FinMap.{get, insert, remove, empty}
+use Rattle.std.specs.FinMap.{get, insert, empty}
 use Rattle.fsfs_base.specs.Files.{Files, NamedFile}
 use Rattle.fsfs_disk.specs.Trace.{Operation, Done, Trace, Put, Rename, Remove, FirmNames, IsImage}
 use Rattle.fsfs_calls.specs.CallRecord as system
