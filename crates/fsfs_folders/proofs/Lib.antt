@@ -5,3 +5,5 @@ pub mod CrashTheorem
 pub mod QuietLemmas
 pub mod SoundLemmas
 pub mod PutLemmas
+pub mod WritingLemmas
+pub mod NotedLemmas

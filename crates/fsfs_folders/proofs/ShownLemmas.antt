@@ -1,9 +1,11 @@
 -- What the names show of the repository's files, after a change of names or of bytes.
-use Rattle.std.proofs.Common.{◌≡◌, ℕ, List, [], ◌∷◌, Bool, true, false, cond, ⊎_elim, refl, sym, ap, ◌∙◌, arith}
+use Rattle.std.proofs.Common.{◌≡◌, ◌⊎◌, ℕ, List, [], ◌∷◌, Bool, true, false, cond, inl, inr, ⊎_elim, refl, sym, ap, subst, ◌∙◌, arith}
 use Rattle.std.proofs.lemmas.Bool.{cases_Bool, ne_eqb, eq-eqb}
-use Rattle.std.specs.Prelude.{◌<◌, length, Option, Some, None, option_map}
-use Rattle.std.specs.Cmp.Lexicographic.{nat_list_cmp_total}
-use Rattle.std.specs.FinMap.{get, insert, remove, get-insert, get-remove, get-empty}
+use Rattle.std.proofs.Math.Seq.{drop-append_seam}
+use Rattle.std.proofs.lemmas.List.{length-append}
+use Rattle.std.specs.Prelude.{◌<◌, ◌-◌, ◌++◌, length, drop, codes, Option, Some, None, option_map, nat_eq}
+use Rattle.std.specs.Cmp.Lexicographic.{nat_list_cmp_total, pointwise}
+use Rattle.std.specs.FinMap.{get, insert, remove, empty, get-insert, get-remove, get-empty}
 use Rattle.fsfs_base.specs.Files.{Files, NamedFile}
 use Rattle.fsfs_base.proofs.FileLemmas.{same_files}
 use Rattle.fsfs_calls.specs.Paths.{same_text}
@@ -105,3 +107,11 @@ first_shown [] folders q = get-empty _ q ∙ sym (none (is_beside q))
     none true = refl
     none false = refl
 first_shown (file ∷ files) folders q = one_more file files folders q (first_shown files folders q)
+
+-- a name that was given the ending is one of those
+pub beside_ends : (name : List ℕ) → is_beside (name ++ codes ".beside") ≡ true
+unfolding is_beside
+beside_ends name =
+    let place : length (name ++ codes ".beside") - length (codes ".beside") ≡ length name = omega (arith, length-append name (codes ".beside")) in
+    ap (λ k. pointwise nat_eq (codes ".beside") (drop k (name ++ codes ".beside"))) place
+    ∙ ap (λ (xs : List ℕ). pointwise nat_eq (codes ".beside") xs) (drop-append_seam name (codes ".beside"))
