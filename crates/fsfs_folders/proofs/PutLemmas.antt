@@ -136,9 +136,9 @@ there_gone path (Some r) new changed settled sound plain makes =
     mapped_there None e = let h : false ≡ true = e in cc
     mapped_there (Some n) e = refl
 
-pub if_given : {P : CallRecord → Type 0} {Q : Type 0} (calls : Option CallRecord) → IfSome calls (λ r. Q → P r) → Q → IfSome calls P
-if_given None h q = tt
-if_given (Some r) h q = h q
+pub if_given : (P : CallRecord → Type 0) (Q : Type 0) (calls : Option CallRecord) → IfSome calls (λ r. Q → P r) → Q → IfSome calls P
+if_given P Q None h q = tt
+if_given P Q (Some r) h q = h q
 
 -- where nothing was told meanwhile
 pub performs_later : (change : NameChange) (old mid new : Option Trace) → mid ≡ old → Performs change mid new → Performs change old new

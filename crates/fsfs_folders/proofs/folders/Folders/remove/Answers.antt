@@ -23,4 +23,4 @@ returns-in-Err-NotFound-clause-there g c =
     (sym c.is_name_beside.ensures ∙ c.if-is_name_beside.false)
     (subst (λ p. IfSome (g.C.Calls.history c.args.self.now.calls) (λ r. (names_now r).files p ≡ None)) c.of-path.ensures
     (subst (λ k. IfSome (g.C.Calls.history k) (λ r. (names_now r).files c.of-path.result ≡ None)) c.note.ensures.same
-    (if_given (g.C.Calls.history c.note.new.self.calls) c.in-Err-NotFound.ensures.absent (search rules))))
+    (if_given _ _ (g.C.Calls.history c.note.new.self.calls) c.in-Err-NotFound.ensures.absent (search rules))))
