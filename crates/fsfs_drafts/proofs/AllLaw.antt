@@ -17,7 +17,7 @@ use Rattle.fsfs_drafts.specs.NodeDrafts as nodewise
 use Rattle.fsfs_drafts.specs.Met.{draft_nodes, AreNodes}
 use Rattle.fsfs_drafts.specs.Tied.{IsListed, IsTied, HasAll, TiedAreMet}
 use Rattle.fsfs_drafts.proofs.HangLaw as hanging
-use Rattle.fsfs_drafts.proofs.HangLaw.{some_same, both_ends}
+use Rattle.fsfs_drafts.proofs.HangLaw.{some_same}
 use Rattle.fsfs_drafts.proofs.Placing as placing
 use Rattle.std.proofs.lemmas.Bool.{cases_Bool}
 

@@ -18,7 +18,7 @@ use Rattle.fsfs_shows.specs.Reading.{DirEntry, OfContents, PairsAt, StandsAt}
 use Rattle.fsfs_shows.specs.Chains.{own_rev}
 use Rattle.fsfs_shows.specs.Shown.{IsTextOf}
 use Rattle.fsfs_shows.proofs.TreeLaw.{sound}
-use Rattle.fsfs_drafts.specs.Own.{OwnNode, Own, below, alone, nothing}
+use Rattle.fsfs_drafts.specs.Own.{OwnNode, below, alone}
 use Rattle.fsfs_drafts.specs.Rules.{lasting_root, at_top, Directory, Change}
 use Rattle.fsfs_drafts.specs.Drafts.{Folder, IsDraftText, HasContent, IsDraft, AreDraftProps, ShowTrees}
 use Rattle.fsfs_drafts.specs.Sides.{HasFiles, OwnFiles, DrawnOnce, goes_on_here, held, AreMarksOf, source_here, OwnSources}

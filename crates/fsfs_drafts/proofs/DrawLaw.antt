@@ -20,7 +20,7 @@ use Rattle.fsfs_shows.proofs.TreeLaw.{stands_home, root_le}
 use Rattle.fsfs_drafts.specs.Own.{OwnNode, Own, below, has_entry, draft_tree, shared_from, shared_under, shared_at, under}
 use Rattle.fsfs_drafts.specs.Rules.{Root, draft_root, root_after, ComesBy, Change, Copied, Made, stands_from, above_of, at_top}
 use Rattle.fsfs_drafts.specs.Drafts.{Folder, IsDraft, bare, ShowTrees}
-use Rattle.fsfs_drafts.specs.OwnSides.{NodesAt, in_txn, HasPathsOf}
+use Rattle.fsfs_drafts.specs.OwnSides.{NodesAt, in_txn}
 use Rattle.fsfs_drafts.specs.NodeDrafts.{root_in, IsOwn}
 use Rattle.fsfs_drafts.specs.NodeDrafts as nodewise
 use Rattle.fsfs_drafts.specs.Met.{draft_nodes, AreNodes}

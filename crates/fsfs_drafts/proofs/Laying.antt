@@ -1,22 +1,22 @@
 -- Something laid behind one name of an own directory, or taken away there.
 use Rattle.std.proofs.Common.{◌≡◌, ◌≤◌, ℕ, Bool, true, false, cond, List, [], ◌∷◌, ◌++◌, refl, sym, ap, subst, ◌∙◌, append-nil, inl, inr}
 use Rattle.std.specs.Prelude.{Option, Some, None, is_some, ◌⊎◌}
-use Rattle.fsfs_base.specs.Paths.{PathName, Path, same_name, same_path, covers}
+use Rattle.fsfs_base.specs.Paths.{PathName, Path, same_path, covers}
 use Rattle.fsfs_tree.specs.Nodes.{TreeFunction}
 use Rattle.fsfs_base.specs.declared.kind.Kind.{Kind}
 use Rattle.fsfs_base.specs.declared.kind.Kind.TheVariants.{Dir}
 use Rattle.fsfs_base.proofs.PathLemmas.{covers-refl}
 use Rattle.fsfs_fields.specs.declared.txn_name.TxnName.{TxnName}
 use Rattle.fsfs_book.specs.Told.{RevisionBytes}
-use Rattle.fsfs_noderev.specs.Ids.{PartValue, part_value}
+use Rattle.fsfs_noderev.specs.Ids.{part_value}
 use Rattle.fsfs_noderev.specs.declared.node_id.Place.TheVariants as places
 use Rattle.fsfs_noderev.specs.declared.node_id.NodeId.{NodeId}
 use Rattle.fsfs_noderev.specs.declared.node_rev.NodeRev.{NodeRev}
 use Rattle.fsfs_shows.specs.Reading.{DirEntry, named, StandsAt}
-use Rattle.fsfs_drafts.specs.Own.{OwnNode, Own, below, shared_under, has_entry, draft_tree, graft, under, alone, with_child, lives, shared_at, behind, opened}
-use Rattle.fsfs_drafts.specs.Rules.{Above, at_top, ComesBy, head_at, IsEntryOf, RuleAt, Rules, above_of, stands_under, above_at, stands_at}
-use Rattle.fsfs_drafts.specs.Drafts.{Kept, Folder, kept_of, IsDraftText, HasContent, IsBelow, IsDraft, ShowTrees}
-use Rattle.fsfs_drafts.specs.Steps.{same_key, kept_at, EntriesHere}
+use Rattle.fsfs_drafts.specs.Own.{OwnNode, Own, below, shared_under, has_entry, draft_tree, under, with_child, lives, shared_at, behind, opened}
+use Rattle.fsfs_drafts.specs.Rules.{Above, at_top, head_at, IsEntryOf, RuleAt, Rules, above_of, stands_under, above_at, stands_at}
+use Rattle.fsfs_drafts.specs.Drafts.{Folder, kept_of, IsDraftText, HasContent, IsDraft, ShowTrees}
+use Rattle.fsfs_drafts.specs.Steps.{same_key, EntriesHere}
 use Rattle.fsfs_drafts.specs.Laying.{laid_own, laid_in, stands_in, IsLaid, IsLaying}
 use Rattle.fsfs_drafts.proofs.Edited.{same_tree, put_tree, lay_tree, OthersStay, child_tree, changed_tree, made_tree, copied_tree, deleted_tree, behind-is, old_at}
 use Rattle.fsfs_drafts.proofs.RuleLemmas.{graft_rules, child_rules, alone_rules, nothing_rules}

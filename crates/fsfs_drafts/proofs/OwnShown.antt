@@ -1,9 +1,9 @@
 -- An own node-revision is shown as its node.
-use Rattle.std.proofs.Common.{◌≡◌, ◌≤◌, ℕ, cond, [], ◌∷◌, ◌++◌, sym, ap, ◌∙◌, append-nil}
+use Rattle.std.proofs.Common.{◌≡◌, ◌≤◌, ℕ, cond, [], ◌++◌, sym, ap, ◌∙◌, append-nil}
 use Rattle.std.specs.Prelude.{Option, Some}
 use Rattle.fsfs_base.specs.Paths.{Path}
 use Rattle.fsfs_base.proofs.PathLemmas.{covers-longer}
-use Rattle.fsfs_tree.specs.Nodes.{Node, TreeFunction}
+use Rattle.fsfs_tree.specs.Nodes.{TreeFunction}
 use Rattle.fsfs_fields.specs.declared.txn_name.TxnName.{TxnName}
 use Rattle.fsfs_book.specs.Told.{RevisionBytes}
 use Rattle.fsfs_drafts.specs.Own.{OwnNode, Own, node_here, draft_tree, under, shared_at}

@@ -1,23 +1,22 @@
 -- A text or a property put at an own node-revision of a draft.
 use Rattle.std.proofs.Common.{◌≡◌, ◌≤◌, ℕ, true, false, cond, List, [], ◌∷◌, ◌++◌, refl, sym, ap, subst, ◌∙◌, append-nil, inl, inr}
 use Rattle.std.specs.Prelude.{Option, Some, None, ◌⊎◌}
-use Rattle.fsfs_base.specs.Paths.{PathName, Path, same_path, covers}
+use Rattle.fsfs_base.specs.Paths.{Path, same_path, covers}
 use Rattle.fsfs_tree.specs.Nodes.{Node, TreeFunction, Bytes}
-use Rattle.fsfs_base.specs.declared.kind.Kind.TheVariants.{Dir}
 use Rattle.fsfs_flat.specs.Edits as edits
 use Rattle.fsfs_base.proofs.PathLemmas.{covers-refl}
 use Rattle.fsfs_fields.specs.declared.txn_name.TxnName.{TxnName}
 use Rattle.fsfs_book.specs.Told.{RevisionBytes}
-use Rattle.fsfs_noderev.specs.Ids.{PartValue, part_value}
+use Rattle.fsfs_noderev.specs.Ids.{part_value}
 use Rattle.fsfs_noderev.specs.declared.node_id.Place.TheVariants as places
 use Rattle.fsfs_noderev.specs.declared.node_id.NodeId.{NodeId}
 use Rattle.fsfs_noderev.specs.declared.node_rev.CopySource.{CopySource}
 use Rattle.fsfs_noderev.specs.declared.node_rev.NodeRev.{NodeRev}
 use Rattle.fsfs_shows.specs.Reading.{DirEntry, StandsAt}
-use Rattle.fsfs_drafts.specs.Own.{OwnNode, Own, below, shared_from, shared_under, has_entry, in_own, draft_tree, graft, under, with_node, shared_at}
+use Rattle.fsfs_drafts.specs.Own.{OwnNode, Own, below, shared_from, shared_under, has_entry, in_own, draft_tree, under, with_node, shared_at}
 use Rattle.fsfs_drafts.specs.Rules.{GoesOn, Above, at_top, CopyPartOf, Keeps, ComesBy, Change, Copied, Made as IsMade, Root, head_at, AreEntriesOf, RuleAt, Rules, above_of, above_under, stands_from, stands_under, above_at, stands_at, draft_root}
-use Rattle.fsfs_drafts.specs.Drafts.{Kept, Folder, kept_of, HasContent, IsBelow, IsDraft, ShowTrees}
-use Rattle.fsfs_drafts.specs.Steps.{same_key, kept_at}
+use Rattle.fsfs_drafts.specs.Drafts.{Folder, kept_of, HasContent, IsDraft, ShowTrees}
+use Rattle.fsfs_drafts.specs.Steps.{same_key}
 use Rattle.fsfs_drafts.specs.Setting.{IsSet, IsSetting, set_in}
 use Rattle.fsfs_drafts.proofs.Edited.{put_tree}
 use Rattle.fsfs_drafts.proofs.RuleLemmas.{graft_rules}

@@ -1,13 +1,12 @@
 -- A text or properties put at an own node-revision are the flat edit, and what the transaction keeps is kept.
-use Rattle.std.proofs.Common.{◌≡◌, ◌≤◌, ℕ, Bool, true, false, cond, [], ◌∷◌, ◌++◌, refl, sym, ap, subst, ◌∙◌}
-use Rattle.std.specs.Prelude.{Option, Some, None}
+use Rattle.std.proofs.Common.{◌≡◌, ℕ, Bool, true, false, cond, [], ◌∷◌, ◌++◌, refl, sym, ap, subst, ◌∙◌}
+use Rattle.std.specs.Prelude.{Some}
 use Rattle.fsfs_base.specs.Paths.{PathName, Path, same_name}
 use Rattle.fsfs_base.proofs.PathLemmas.{same_name-is}
-use Rattle.fsfs_tree.specs.Nodes.{Node, TreeFunction}
+use Rattle.fsfs_tree.specs.Nodes.{TreeFunction}
 use Rattle.fsfs_fields.specs.declared.txn_name.TxnName.{TxnName}
 use Rattle.fsfs_book.specs.Told.{RevisionBytes}
 use Rattle.fsfs_noderev.specs.declared.node_id.NodeId.{NodeId}
-use Rattle.fsfs_noderev.specs.declared.node_rev.CopySource.{CopySource}
 use Rattle.fsfs_drafts.specs.Own.{OwnNode, Own, below, graft, under, with_node, shared_at}
 use Rattle.fsfs_drafts.specs.Sides.{HasFiles, OwnFiles, DrawnOnce, source_here, OwnSources}
 use Rattle.fsfs_drafts.specs.Setting.{Setting, own_set, SettingsAreEdits}

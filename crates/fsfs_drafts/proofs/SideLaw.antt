@@ -31,7 +31,7 @@ use Rattle.fsfs_drafts.specs.Handed.{DraftsKeepSides}
 use Rattle.fsfs_drafts.proofs.Bases.{revision_agrees}
 use Rattle.fsfs_drafts.proofs.Here.{under_is, none_own, lives_there}
 use Rattle.fsfs_drafts.proofs.Lasting.{lasting}
-use Rattle.fsfs_drafts.proofs.Placing.{Place, Mine, Shared, place, got}
+use Rattle.fsfs_drafts.proofs.Placing.{Place, Mine, Shared, got}
 use Rattle.fsfs_drafts.proofs.Placing as placing
 use Rattle.fsfs_drafts.proofs.HangLaw.{some_same}
 use Rattle.fsfs_drafts.proofs.HangLaw as hanging

@@ -1,12 +1,11 @@
 -- A draft stays one while others commit.
-use Rattle.std.proofs.Common.{◌≡◌, ◌≤◌, ◌<◌, ◌⊎◌, ℕ, List, [], ◌∷◌, ◌++◌, refl, sym, ap, subst, ◌∙◌, arith, inl, inr}
+use Rattle.std.proofs.Common.{◌≡◌, ◌≤◌, ℕ, List, [], ◌∷◌, ◌++◌, refl, sym, ap, subst, ◌∙◌, arith, inl, inr}
 use Rattle.std.proofs.lemmas.Bool.{cases_lt}
-use Rattle.std.specs.Prelude.{Result, Ok, Err, Option, Some, None}
+use Rattle.std.specs.Prelude.{Ok, Err, Option, Some, None}
 use Rattle.fsfs_base.specs.Paths.{PathName, Path}
 use Rattle.fsfs_base.specs.declared.kind.Kind.{Kind}
 use Rattle.fsfs_base.specs.declared.kind.Kind.TheVariants.{File, Dir}
-use Rattle.fsfs_tree.specs.Nodes.{Node, TreeFunction, Content, Bytes, Closed}
-use Rattle.fsfs_flat.specs.declared.mark.Mark.{Mark}
+use Rattle.fsfs_tree.specs.Nodes.{TreeFunction, Content, Bytes, Closed}
 use Rattle.fsfs_fields.specs.declared.txn_name.TxnName.{TxnName}
 use Rattle.fsfs_damage.specs.Damages.{place_of}
 use Rattle.fsfs_damage.specs.declared.wrong.Wrong.TheVariants as wrongs
@@ -20,15 +19,13 @@ use Rattle.fsfs_noderev.specs.declared.node_rev.CopySource.{CopySource}
 use Rattle.fsfs_noderev.specs.declared.node_rev.NodeRev.{NodeRev}
 use Rattle.fsfs_rep.specs.Frames.{rev_of}
 use Rattle.fsfs_shows.specs.Reading.{DirEntry, named, RepAt, PairsAt, OfContents, StandsAt}
-use Rattle.fsfs_shows.specs.Shown.{IsTextOf}
 use Rattle.fsfs_ancestry.specs.Bounded.{AreSameUpTo}
 use Rattle.fsfs_ancestry.proofs.BoundedIds.{InTime, in_time, behind_to, stands_to}
 use Rattle.fsfs_drafts.specs.Own.{OwnNode, Own, below, shared_from, shared_under, node_here, in_own, draft_tree, shared_at}
 use Rattle.fsfs_drafts.specs.Rules.{Above, at_top, CopyPartOf, Directory, Same, Before, Drawn, ComesBy, Change, Copied, Made, stands_from, stands_under, above_under, Head, head_at, IsEntryOf, AreEntriesOf, NodeRule, RuleAt, Rules}
 use Rattle.fsfs_drafts.specs.Drafts.{Folder, IsFileText, Lasting, Put, IsDraftText, AreDraftProps, HasContent, IsDraft, bare}
-use Rattle.fsfs_drafts.specs.Sides.{AreMarksOf, source_here, OwnSources}
-use Rattle.fsfs_drafts.specs.Whole.{IsDraftOf}
-use Rattle.fsfs_drafts.specs.Staying.{IsYoungest, IsLater, DraftsStay}
+use Rattle.fsfs_drafts.specs.Sides.{AreMarksOf, source_here}
+use Rattle.fsfs_drafts.specs.Staying.{IsYoungest, DraftsStay}
 
 -- ---- copies are of revisions up to the youngest
 

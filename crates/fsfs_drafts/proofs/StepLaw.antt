@@ -1,15 +1,13 @@
 -- A step is the flat edit, and keeps what the transaction keeps.
-use Rattle.std.proofs.Common.{◌≡◌, ℕ, true, false, cond, [], ◌∷◌, ◌++◌, refl, sym, ap, subst, ◌∙◌}
+use Rattle.std.proofs.Common.{◌≡◌, ℕ, true, false, cond, [], ◌∷◌, refl, sym, ap, ◌∙◌}
 use Rattle.std.specs.Prelude.{Bool, Option, Some, None}
-use Rattle.fsfs_base.specs.Paths.{Path}
 use Rattle.fsfs_base.proofs.PathLemmas.{covers-longer}
 use Rattle.fsfs_tree.specs.Nodes.{Node, TreeFunction}
 use Rattle.fsfs_fields.specs.declared.txn_name.TxnName.{TxnName}
 use Rattle.fsfs_book.specs.Told.{RevisionBytes}
-use Rattle.fsfs_noderev.specs.declared.node_id.NodeId.{NodeId}
-use Rattle.fsfs_drafts.specs.Own.{OwnNode, Own, has_entry, draft_tree, shared_under, shared_at, under, below}
+use Rattle.fsfs_drafts.specs.Own.{has_entry, draft_tree, shared_under, shared_at, under}
 use Rattle.fsfs_drafts.specs.Rules.{head_at}
-use Rattle.fsfs_drafts.specs.Laying.{Step, place_in, own_after, tree_before, tree_after, StepsAreEdits, StepsKeepSides}
+use Rattle.fsfs_drafts.specs.Laying.{Step, place_in, tree_before, StepsAreEdits, StepsKeepSides}
 use Rattle.fsfs_drafts.proofs.Edited.{behind_own, old_tree, old_at}
 use Rattle.fsfs_drafts.proofs.Here.{under_is, live_here, old_here, inner_shared}
 use Rattle.fsfs_drafts.proofs.Laying.{laid_draft, others_show, made_shows, copied_shows, gone_shows, went_on_shows}
