@@ -1,0 +1,11 @@
+//! The bytes of a new revision, of a draft's node-revisions.
+#![tactic(auto)]
+
+mod laws;
+
+pub use laws::{
+    begun_is_a_draft, commits_add_revisions, contents_are_read, directories_are_enough, drafts_stay,
+    finals_are_in_order, finishing_is_final, held_drafts_are_read, landed_is_a_draft,
+    landings_are_shown, merges_keep_drafts, merges_keep_trees, merges_take_and_leave,
+    pieces_are_read, what_is_laid_is_held, written_drafts_keep_ids, written_drafts_show_the_landing,
+};
