@@ -29,7 +29,7 @@ use Rattle.fsfs_final.proofs.LandedTree.{merge_keeps_trees}
 less_or_same : (x y : ℕ) → x ≤ y → (x < y) ⊎ (x ≡ y)
 less_or_same x y h = grind arith
 
-shows_as : (look : RevisionBytes) (r : ℕ) (s u : TreeFunction) → ((p : Path) → s p ≡ u p) → Shows look r s → Shows look r u
+pub shows_as : (look : RevisionBytes) (r : ℕ) (s u : TreeFunction) → ((p : Path) → s p ≡ u p) → Shows look r s → Shows look r u
 shows_as look r s u same shows = record { each = λ p. let w = shows.each p in (w.0, w.1, subst (λ (o : Option Node). IsShownAs look r p w.0 o) (same p) w.2) }
 
 module _ (look : RevisionBytes) (top : ℕ) (tree : ℕ → TreeFunction) (next : TreeFunction) (shows : ShowTrees look top tree) where

@@ -4,8 +4,10 @@
 mod laws;
 
 pub use laws::{
-    begun_is_a_draft, commits_add_revisions, contents_are_read, directories_are_enough, drafts_stay,
-    finals_are_in_order, finishing_is_final, held_drafts_are_read, landed_is_a_draft,
-    landings_are_shown, merges_keep_drafts, merges_keep_trees, merges_take_and_leave,
-    pieces_are_read, what_is_laid_is_held, written_drafts_keep_ids, written_drafts_show_the_landing,
+    begun_is_a_draft, changes_fit_the_bytes, commits_add_revisions, contents_are_read,
+    directories_are_enough, drafts_stay, finals_are_in_order, finishing_is_final,
+    held_drafts_are_committed, held_drafts_are_read, landed_is_a_draft, landings_are_shown,
+    merges_keep_drafts, merges_keep_trees, merges_take_and_leave, pieces_are_read,
+    the_next_revision_is_shown, what_is_laid_is_held, written_drafts_keep_ids,
+    written_drafts_show_the_landing,
 };

@@ -83,7 +83,7 @@ module _ (base : ℕ) (a s t : TreeFunction) (marks : List Mark) (is : Premises 
       by None e h = absurd (false≢true (sym h))
       by (Some n) e h = is.later.kept q p n e (ltb-false base n.last_changed h) c
 
-  settled : (p : Path) (n : Node) → a p ≡ Some n → (effects marks p).touched ≡ true
+  pub settled : (p : Path) (n : Node) → a p ≡ Some n → (effects marks p).touched ≡ true
       → (s p ≡ a p) ⊎ ((goes_on base (effects marks p) (a p) (s p) ≡ true) × (is_dir n.kind ≡ true) × ((effects marks p).props_changed ≡ false))
   settled p n e u = elim (reached_or (go base a s marks) p) [
     | inl r ↦ elim (settled_at base (effects marks p) n (s p) (t p) (subst (λ o. clashes_at base (effects marks p) o (s p) (t p) ≡ false) e (other_false _ _ (is.clear p) r)) u) [
@@ -102,7 +102,7 @@ module _ (base : ℕ) (a s t : TreeFunction) (marks : List Mark) (is : Premises 
   ]
 
   -- what both hold is of one kind and source
-  older : (p : Path) (n v : Node) → a p ≡ Some n → s p ≡ Some v → goes_on base (effects marks p) (a p) (s p) ≡ true → v.kind ≡ n.kind
+  pub older : (p : Path) (n v : Node) → a p ≡ Some n → s p ≡ Some v → goes_on base (effects marks p) (a p) (s p) ≡ true → v.kind ≡ n.kind
   older p n v e f h =
       let held : held_by_head base (s p) ≡ true = (and_parts _ _ h).1 in
       let o = is.later.older p v f (leb-true v.added base (subst (λ o. held_by_head base o ≡ true) f held)) in

@@ -2,6 +2,7 @@
 ghost use Rattle.std.specs.Prelude.{List};
 ghost use Rattle.fsfs_tree.specs.Revisions.{Revision};
 ghost use Rattle.fsfs_flat.specs.Histories.{IsHistory};
+ghost use Rattle.fsfs_model.specs.FoldedFit.{FoldsFit};
 ghost use Rattle.fsfs_model.specs.Laws.{OuterMarks, TwoMergesAreOne, LandingLeavesATree, CommitsMakeAHistory, FoldingTells, PathHistoriesEnd};
 
 /// Which marks of a transaction are outer: those at or above whose path nothing is that the transaction made itself.
@@ -30,6 +31,12 @@ pub fn commits_make_a_history()
 /// changed path stands there or above. None stands below a delete, and a path that was made and deleted again has none.
 pub fn folding_tells()
     ensures { FoldingTells }
+{}
+
+/// What a folded change deletes is not in the transaction's tree, nor in that of its landing; what it adds, replaces or modifies is there,
+/// and of its kind.
+pub fn folds_fit_the_tree()
+    ensures { FoldsFit }
 {}
 
 /// The history of a path goes from each point to an earlier revision, where something stands, and so it ends; and each of
