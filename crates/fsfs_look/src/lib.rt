@@ -12,4 +12,5 @@ mod tree;
 
 pub use file::cat;
 pub use look_error::LookError;
+pub use piece::{write_full, write_last, write_piece};
 pub use tree::tree_text;
