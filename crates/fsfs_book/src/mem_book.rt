@@ -1,7 +1,7 @@
 //! A book in memory, for tests and small tools. Calls whose numbers are listed fail.
 ghost use Rattle.std.specs.Prelude.{◌≡◌, ◌<◌, ◌≤◌, ◌-◌, ◌↔◌, Ok, Err, IsTrue, IsErr, IfOk, IfErr, OnErr, MatchResult, vec_len, length, take};
 ghost use Rattle.fsfs_base.specs.Counts.{Rose};
-ghost use Rattle.fsfs_base.specs.Faults.{is_next_listed};
+ghost use Rattle.fsfs_base.specs.Faults.{fails_next};
 ghost use Rattle.fsfs_book.specs.declared.book.BookFault.TheVariants.{Short, DiskFault};
 ghost use Rattle.fsfs_damage.specs.declared.wrong.Refusal.TheVariants.{NoRev};
 ghost use Rattle.fsfs_book.specs.Told.{Gives, part_read, IsRefusalOf};
@@ -130,7 +130,7 @@ impl MemBook {
 
     // Counts a call. It fails where it is listed, and only there.
     fn call(&mut self) -> Result<(), BookFault>
-        ensures listed { IsErr result ↔ IsTrue (is_next_listed self.old.faults) }
+        ensures fails { IsErr result ↔ IsTrue (fails_next self.old.faults) }
         ensures revs { self.new.revs ≡ self.old.revs }
         ensures fault { IfErr result (λ e. e ≡ DiskFault) }
         ensures later { self.old.faults.count ≤ self.new.faults.count }

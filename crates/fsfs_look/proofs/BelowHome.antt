@@ -19,7 +19,6 @@ use Rattle.fsfs_damage.specs.Damages.{place_of}
 use Rattle.fsfs_revision.specs.Nodes.{place_before, is_own_place, is_directory}
 use Rattle.fsfs_damage.specs.declared.damage.RevOffset.{RevOffset}
 use Rattle.fsfs_dag.specs.Views.{home_of}
-use Rattle.fsfs_look.proofs.WeightLemmas.{place_rev}
 use Rattle.fsfs_dag.proofs.PairLemmas.{place_le}
 
 entry_id : (look : RevisionBytes) (entry : DirEntry) (v : NodeRev) → OfEntry look entry (Ok v) → v.id ≡ entry.id

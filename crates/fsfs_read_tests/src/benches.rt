@@ -1,5 +1,5 @@
 //! Benches in memory: which calls fail, what a crash leaves of labels, and which transactions are listed.
-use fsfs_base::{B36, Name, TxnName};
+use fsfs_base::{B36, Name, RevNum, TxnName};
 use fsfs_disk::{Bench, Disk, Label};
 use fsfs_memdisk::MemDisk;
 use std::alloc::Global;
@@ -8,8 +8,10 @@ use std::test::Fail;
 // The label of a transaction over revision 0.
 fn txn(number: u64) -> Label {
     Label::Txn(TxnName {
-        base: 0,
-        number: B36 { number },
+        base: RevNum::ZERO,
+        number: B36 {
+            number: u128::from(number),
+        },
     })
 }
 

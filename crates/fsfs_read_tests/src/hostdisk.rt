@@ -1,7 +1,7 @@
 //! A real folder: what a mount leaves, and what is read of it.
 ghost use Rattle.std.specs.Prelude.{◌≡◌, IsTrue};
 
-use fsfs_base::{B36, Failed, Name, TxnName};
+use fsfs_base::{B36, Failed, Name, RevNum, TxnName};
 use fsfs_disk::{Bench, Disk, Host, Label};
 use fsfs_hostdisk::{HostBench, HostDisk, Machine};
 use std::alloc::Global;
@@ -116,7 +116,7 @@ fn commit(
     ensures { ⟦<HostDisk<HostRuntime> as Disk>⟧.may_write disk.new ≡ ⟦<HostDisk<HostRuntime> as Disk>⟧.may_write disk.old }
 {
     let label = Label::Txn(TxnName {
-        base: 0,
+        base: RevNum::ZERO,
         number: B36 { number: 35 },
     });
     let (texts, to) = (Name::new("rev"), Name::new("db/revs/0/1"));
