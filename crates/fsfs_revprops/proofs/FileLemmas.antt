@@ -1,0 +1,51 @@
+-- The bytes of a property file, as they come, and what is answered of them.
+use Rattle.std.proofs.Common.{◌≡◌, ℕ, ◌+◌, ◌<◌, ◌≤◌, List, ◌++◌, length, take, drop, append_assoc, Result, Ok, Err, refl, sym, ap, ◌∙◌, arith, inl}
+use Rattle.std.specs.Prelude.{MatchResult}
+use Rattle.std.proofs.Math.Seq.{take-add, take-length}
+use Rattle.std.proofs.lemmas.List.{take-take, take_all, length-take, length-drop}
+use Rattle.fsfs_damage.specs.declared.wrong.Refusal.{Refusal}
+use Rattle.fsfs_damage.specs.declared.wrong.Wrong.TheVariants as wrongs
+use Rattle.fsfs_damage.specs.declared.wrong.ReadError.{ReadError}
+use Rattle.fsfs_damage.specs.declared.wrong.ReadError.TheVariants as errors
+use Rattle.fsfs_damage.specs.Readings.{IfWrong, Answers}
+use Rattle.fsfs_book.specs.Told.{RevisionBytes, BytesOf}
+use Rattle.fsfs_rep.specs.Faults.{IsRefusedFor}
+
+module _ (file items piece : List ℕ) (count room : ℕ) (front : items ≡ take (length items) file) (read : take count piece ≡ take room (drop (length items) file)) where
+  further : items ++ take count piece ≡ take (length items + room) file
+  further = ap (λ (xs : List ℕ). xs ++ take count piece) front ∙ ap (λ (xs : List ℕ). take (length items) file ++ xs) read ∙ sym (take-add (length items) room file)
+
+  -- what has come is a first part of the file
+  pub further_front : items ++ take count piece ≡ take (length (items ++ take count piece)) file
+  further_front = cut (items ++ take count piece) (length items + room) further
+    where
+      cut : (xs : List ℕ) (n : ℕ) → xs ≡ take n file → xs ≡ take (length xs) file
+      cut xs n is =
+          let short : length xs ≤ n = omega (arith, ap length is, length-take n file) in
+          sym (take-length xs) ∙ ap (take (length xs)) is ∙ take-take (length xs) n file short
+
+  -- and all of it, where a piece is not full
+  pub further_whole : count < room → items ++ take count piece ≡ file
+  further_whole less =
+      let got : length (take room (drop (length items) file)) ≤ count = omega (arith, ap length read, length-take count piece) in
+      let all : length file ≤ length items + room = omega (arith, less, got, length-take room (drop (length items) file), length-drop (length items) file) in
+      further ∙ take_all (length items + room) file all
+
+module _ {A : Type 0} (view : A → List ℕ) (files : RevisionBytes) (rev : ℕ) where
+  abbrev Seen : List ℕ → Result A ReadError → Type 0
+  Seen file result = MatchResult result (λ v. view v ≡ file) (IfWrong (λ w. ⊥))
+
+  abbrev Unseen : Refusal → Result A ReadError → Type 0
+  Unseen why result = MatchResult result (λ v. ⊥) (IsRefusedFor why)
+
+  bytes_in : (read : Result (List ℕ) Refusal) (result : Result A ReadError) → files rev ≡ read → ((file : List ℕ) → read ≡ Ok file → Seen file result) → ((why : Refusal) → read ≡ Err why → Unseen why result) → Answers view (BytesOf files rev) result
+  bytes_in (Ok file) (Ok v) is seen unseen = is ∙ ap (λ (xs : List ℕ). let r : Result (List ℕ) Refusal = Ok xs in r) (sym (seen file refl))
+  bytes_in (Ok file) (Err (errors.Wrong w)) is seen unseen = absurd (seen file refl)
+  bytes_in (Err why) (Ok v) is seen unseen = absurd (unseen why refl)
+  bytes_in (Err why) (Err (errors.Wrong w)) is seen unseen = (why, is, unseen why refl)
+  bytes_in read (Err errors.OutOfMemory) is seen unseen = tt
+  bytes_in read (Err errors.DiskFault) is seen unseen = tt
+
+  -- the bytes of a property file, by what is told of it
+  pub bytes_read : (result : Result A ReadError) → ((file : List ℕ) → files rev ≡ Ok file → Seen file result) → ((why : Refusal) → files rev ≡ Err why → Unseen why result) → Answers view (BytesOf files rev) result
+  bytes_read result seen unseen = bytes_in (files rev) result refl seen unseen
