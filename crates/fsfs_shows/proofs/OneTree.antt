@@ -45,7 +45,7 @@ chain_one {look} {b = b} (Goes w u id end f g c) (Goes v t other stop e h d) =
     let both = ok_same u t (of_id_one look other (Ok u) (Ok t) (subst (λ (i : NodeId). OfId look i (Ok u)) same g) h) in
     chain_one c (subst (λ (n : NodeRev). Chain look n b) (sym both) d)
 
-first_same : (look : RevisionBytes) (v : NodeRev) (a b : ℕ) → Chain look v (Ok a) → Chain look v (Ok b) → a ≡ b
+pub first_same : (look : RevisionBytes) (v : NodeRev) (a b : ℕ) → Chain look v (Ok a) → Chain look v (Ok b) → a ≡ b
 first_same look v a b c d = ok_same a b (chain_one c d)
 
 -- ---- copies
@@ -57,7 +57,7 @@ module _ (look : RevisionBytes) (r : ℕ) (p : Path) where
       let h = w.at_most s.0 s.1 s.2 s.3 in
       subst (λ (n : ℕ). n ≤ b) s.4 h
 
-  copied_same : (a b : ℕ) → IsCopiedIn look r p a → IsCopiedIn look r p b → a ≡ b
+  pub copied_same : (a b : ℕ) → IsCopiedIn look r p a → IsCopiedIn look r p b → a ≡ b
   copied_same a b v w = let h = copied_at_most a b v w in let g = copied_at_most b a w v in omega arith
 
   depth_at_most : (rev : ℕ) (a b : Nearest look r p rev) → a.depth < b.depth → ⊥
@@ -69,7 +69,7 @@ module _ (look : RevisionBytes) (r : ℕ) (p : Path) where
       by : (a.depth < b.depth → ⊥) → (b.depth < a.depth → ⊥) → a.depth ≡ b.depth
       by f g = grind arith
 
-  near_same : (rev : ℕ) (a b : Nearest look r p rev) → a.node ≡ b.node
+  pub near_same : (rev : ℕ) (a b : Nearest look r p rev) → a.node ≡ b.node
   near_same rev a b = stands_same look r (take b.depth p) a.node b.node (subst (λ (k : ℕ). StandsAt look r (take k p) a.node) (depth_same rev a b) a.stands) b.stands
 
   of_copy_same : (added : ℕ) (a b : Option (ℕ × Path)) → IsOfCopy look r p added a → IsOfCopy look r p added b → a ≡ b
@@ -87,7 +87,7 @@ module _ (look : RevisionBytes) (r : ℕ) (p : Path) where
 
 -- ---- texts
 
-text_same : (look : RevisionBytes) (kind : Kind) (v : NodeRev) (a b : Content) → IsTextOf look kind v a → IsTextOf look kind v b → a ≡ b
+pub text_same : (look : RevisionBytes) (kind : Kind) (v : NodeRev) (a b : Content) → IsTextOf look kind v a → IsTextOf look kind v b → a ≡ b
 text_same look Dir v a b g h = g ∙ sym h
 text_same look File v (Bytes a) (Bytes b) g h = ap (λ (t : List ℕ). Bytes t) (ok_same a b (text_one look v (Ok a) (Ok b) g h))
 text_same look File v (Bytes a) (Closed r o) g h = absurd (let e = text_one look v (Ok a) (Err _) g h in cc)

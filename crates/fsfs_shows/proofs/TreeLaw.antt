@@ -66,15 +66,16 @@ prefix_from look a v depth (name ∷ q) x rest at =
 
 -- ---- revisions fall
 
-before_le : (at : RevOffset) (p : Place) → place_before at p ≡ true → (offset_of p).rev ≤ at.rev
+pub before_le : (at : RevOffset) (p : Place) → place_before at p ≡ true → (offset_of p).rev ≤ at.rev
 before_le at (places.At rev offset) h = grind (arith, nat_tests)
 before_le at (places.In txn) h = absurd cc
 
 -- the parts of the order
-record Parts (at : RevOffset) (v : NodeRev) : Type 0 where
-  pred : pred_before at v.predecessor ≡ true
-  props : rep_before at v.props ≡ true
-  root : root_not_after at v.copy_root ≡ true
+pub record Parts (at : RevOffset) (v : NodeRev) : Type 0 where
+  pub pred : pred_before at v.predecessor ≡ true
+  pub text : rep_before at v.text ≡ true
+  pub props : rep_before at v.props ≡ true
+  pub root : root_not_after at v.copy_root ≡ true
 
 parts_of : (at : RevOffset) (v : NodeRev) → is_ordered at v ≡ true → Parts at v
 parts_of at v h =
@@ -82,20 +83,20 @@ parts_of at v h =
     let b = and_parts (pred_before at v.predecessor && rep_before at v.text && rep_before at v.props) (source_before at v.copy_from) a.0 in
     let c = and_parts (pred_before at v.predecessor && rep_before at v.text) (rep_before at v.props) b.0 in
     let d = and_parts (pred_before at v.predecessor) (rep_before at v.text) c.0 in
-    record { pred = d.0; props = c.1; root = a.1 }
+    record { pred = d.0; text = d.1; props = c.1; root = a.1 }
 
 -- a node-revision that was read at the place of its id
-abbrev IsHome : NodeRev → Type 0
+abbrev pub IsHome : NodeRev → Type 0
 IsHome v = Parts (offset_of v.id.place) v
 
-of_id_home : (look : RevisionBytes) (id : NodeId) (u : NodeRev) → OfId look id (Ok u) → IsHome u × (own_rev u ≡ (offset_of id.place).rev)
+pub of_id_home : (look : RevisionBytes) (id : NodeId) (u : NodeRev) → OfId look id (Ok u) → IsHome u × (own_rev u ≡ (offset_of id.place).rev)
 of_id_home look id u w =
     let same : u ≡ w.0 = w.2.0 in
     let id_is : u.id ≡ id = (λ i. (same i).id) ∙ w.2.1 in
     let ordered : is_ordered (offset_of id.place) u ≡ true = subst (λ (x : NodeRev). is_ordered (offset_of id.place) x ≡ true) (sym same) w.1.2.1 in
     (parts_of (offset_of u.id.place) u (subst (λ (i : NodeId). is_ordered (offset_of i.place) u ≡ true) (sym id_is) ordered), (λ i. (offset_of (id_is i).place).rev))
 
-own_place : (at : RevOffset) (p : Place) → is_own_place at p ≡ true → offset_of p ≡ at
+pub own_place : (at : RevOffset) (p : Place) → is_own_place at p ≡ true → offset_of p ≡ at
 own_place at (places.At rev offset) h =
     let both = and_parts (rev == at.rev) (offset == at.offset) h in
     let e : rev ≡ at.rev = grind (arith, nat_tests, both.0) in
@@ -107,7 +108,7 @@ is_dir : (kind : Kind) → is_directory kind ≡ true → kind ≡ Dir
 is_dir File h = absurd cc
 is_dir Dir h = refl
 
-root_home : (look : RevisionBytes) (rev : ℕ) (v : NodeRev) → RootOf look rev (Ok v) → IsHome v × (own_rev v ≡ rev) × (v.kind ≡ Dir)
+pub root_home : (look : RevisionBytes) (rev : ℕ) (v : NodeRev) → RootOf look rev (Ok v) → IsHome v × (own_rev v ≡ rev) × (v.kind ≡ Dir)
 root_home look rev v w =
     let at = place_of rev w.2.0.root in
     let n = w.2.2.0 in
@@ -128,7 +129,7 @@ named_before home name (p ∷ pairs) (f ∷ entries) e w is = first_or home e f 
     first_or home e f false rest here later got = later got
 
 module _ (look : RevisionBytes) where
-  entry_before : (a : NodeRev) (name : PathName) (o : Option Contents) (entries : List DirEntry) (e : DirEntry) → OfContents [] (EntriesAt look (offset_of a.id.place)) o (Ok entries) → named name entries ≡ Some e → place_before (offset_of a.id.place) e.id.place ≡ true
+  pub entry_before : (a : NodeRev) (name : PathName) (o : Option Contents) (entries : List DirEntry) (e : DirEntry) → OfContents [] (EntriesAt look (offset_of a.id.place)) o (Ok entries) → named name entries ≡ Some e → place_before (offset_of a.id.place) e.id.place ≡ true
   entry_before a name None entries e w is =
       let none : entries ≡ [] = ok_same entries [] w in
       let f = ap (λ (es : List DirEntry). named name es) none in
@@ -145,7 +146,7 @@ module _ (look : RevisionBytes) where
       let h : IsHome of.0 × (own_rev of.0 ≤ own_rev a) = (x.0, subst (λ (n : ℕ). n ≤ own_rev a) (sym x.1) le) in
       subst (λ (y : NodeRev). IsHome y × (own_rev y ≤ own_rev a)) (sym of.2.0) h
 
-  child_home : (a u : NodeRev) (name : PathName) → ChildOf look a name (Ok (Some u)) → IsHome u × (own_rev u ≤ own_rev a)
+  pub child_home : (a u : NodeRev) (name : PathName) → ChildOf look a name (Ok (Some u)) → IsHome u × (own_rev u ≤ own_rev a)
   child_home a u name w = named_home a u name w.0 (named name w.0) w.1 refl w.2
 
   home_in : (kind : Kind) (depth : ℕ) (R : Result (Option NodeRev) Wrong → Type 0) (S : NodeRev → Result Met Wrong → Type 0) (C : Type 0) (v : NodeRev) → InDirectory kind depth R S (Ok (Stands v)) → ((u : NodeRev) → R (Ok (Some u)) → S u (Ok (Stands v)) → C) → C
@@ -156,7 +157,7 @@ module _ (look : RevisionBytes) where
       by None child further = absurd cc
       by (Some u) child further = f u child further
 
-  walk_home : (a v : NodeRev) (depth : ℕ) (p : Path) → IsHome a → MetFrom look a depth p (Ok (Stands v)) → IsHome v × (own_rev v ≤ own_rev a)
+  pub walk_home : (a v : NodeRev) (depth : ℕ) (p : Path) → IsHome a → MetFrom look a depth p (Ok (Stands v)) → IsHome v × (own_rev v ≤ own_rev a)
   walk_home a v depth [] home at =
       let same : a ≡ v = cc in
       subst (λ (x : NodeRev). IsHome x × (own_rev x ≤ own_rev a)) same (home, omega arith)
@@ -164,13 +165,13 @@ module _ (look : RevisionBytes) where
       home_in a.kind depth (ChildOf look a name) (λ w. MetFrom look w (suc depth) p) (IsHome v × (own_rev v ≤ own_rev a)) v at
       (λ u child on. let c = child_home a u name child in let w = walk_home u v (suc depth) p c.0 on in (w.0, omega (arith, w.1, c.1)))
 
-  stands_home : (rev : ℕ) (p : Path) (v : NodeRev) → StandsAt look rev p v → IsHome v × (own_rev v ≤ rev)
+  pub stands_home : (rev : ℕ) (p : Path) (v : NodeRev) → StandsAt look rev p v → IsHome v × (own_rev v ≤ rev)
   stands_home rev p v at =
       let root = root_home look rev at.0 at.1 in
       let w = walk_home at.0 v 0 p root.0 at.2 in
       (w.0, subst (λ (n : ℕ). own_rev v ≤ n) root.1 w.1)
 
-  chain_le : (v : NodeRev) (end : Result ℕ Wrong) (first : ℕ) → Chain look v end → end ≡ Ok first → IsHome v → first ≤ own_rev v
+  pub chain_le : (v : NodeRev) (end : Result ℕ Wrong) (first : ℕ) → Chain look v end → end ≡ Ok first → IsHome v → first ≤ own_rev v
   chain_le _ _ first (First v e) is home = let h = ok_same (own_rev v) first is in omega arith
   chain_le _ _ first (Breaks v id w e o) is home = absurd cc
   chain_le _ _ first (Goes v u id end e o c) is home =
@@ -179,11 +180,11 @@ module _ (look : RevisionBytes) where
       let le = chain_le u end first c is h.0 in
       omega (arith, before, le, h.1)
 
-rep_le : (at : RevOffset) (o : Option ℕ) (offset : ℕ) → rep_place_before at o offset ≡ true → unwrap_or o 0 ≤ at.rev
+pub rep_le : (at : RevOffset) (o : Option ℕ) (offset : ℕ) → rep_place_before at o offset ≡ true → unwrap_or o 0 ≤ at.rev
 rep_le at None offset h = absurd cc
 rep_le at (Some rev) offset h = before_le at (places.At rev offset) h
 
-props_le : (at : RevOffset) (o : Option Contents) → rep_before at o ≡ true → contents_rev o ≤ at.rev
+pub props_le : (at : RevOffset) (o : Option Contents) → rep_before at o ≡ true → contents_rev o ≤ at.rev
 props_le at None h = omega arith
 props_le at (Some contents.Own) h = absurd cc
 props_le at (Some (contents.At rep)) h = rep_le at rep.rev rep.offset h
@@ -192,7 +193,7 @@ not_after : (at : RevOffset) (o : Option ℕ) → rev_not_after at o ≡ true �
 not_after at None h = absurd cc
 not_after at (Some rev) h = grind (arith, nat_tests)
 
-root_le : (v : NodeRev) (o : Option CopyRoot) → root_not_after (offset_of v.id.place) o ≡ true → (root_or_own v o).0 ≤ own_rev v
+pub root_le : (v : NodeRev) (o : Option CopyRoot) → root_not_after (offset_of v.id.place) o ≡ true → (root_or_own v o).0 ≤ own_rev v
 root_le v None h = omega arith
 root_le v (Some root) h = not_after (offset_of v.id.place) root.rev h
 
@@ -204,7 +205,7 @@ module _ (look : RevisionBytes) (rev : ℕ) (tree : TreeFunction) (shows : Shows
   node_of None p v n h is = absurd h
   node_of (Some m) p v n h is = let same : m ≡ n = cc in subst (λ (x : Node). IsShown look rev p v x) same h
 
-  shown_at : (p : Path) (n : Node) → tree p ≡ Some n → (v : NodeRev) × StandsAt look rev p v × IsShown look rev p v n
+  pub shown_at : (p : Path) (n : Node) → tree p ≡ Some n → (v : NodeRev) × StandsAt look rev p v × IsShown look rev p v n
   shown_at p n is = let w = shows.each p in by w.0 w.1 w.2
     where
       by : (m : Met) → MetAt look rev p (Ok m) → IsShownAs look rev p m (tree p) → (v : NodeRev) × StandsAt look rev p v × IsShown look rev p v n
@@ -212,7 +213,7 @@ module _ (look : RevisionBytes) (rev : ℕ) (tree : TreeFunction) (shows : Shows
       by (Lacking k) at h = absurd (let e = sym is ∙ h in cc)
       by (Blocked k) at h = absurd (let e = sym is ∙ h in cc)
 
-  there : (p : Path) (v : NodeRev) → StandsAt look rev p v → (n : Node) × (tree p ≡ Some n) × (n.kind ≡ v.kind)
+  pub there : (p : Path) (v : NodeRev) → StandsAt look rev p v → (n : Node) × (tree p ≡ Some n) × (n.kind ≡ v.kind)
   there p v at = let w = shows.each p in by (tree p) refl (subst (λ (m : Met). IsShownAs look rev p m (tree p)) (met_same look rev p w.0 (Stands v) w.1 at) w.2)
     where
       by : (o : Option Node) → tree p ≡ o → IsSomeAnd o (IsShown look rev p v) → (n : Node) × (tree p ≡ Some n) × (n.kind ≡ v.kind)
