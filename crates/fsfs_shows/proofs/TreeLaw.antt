@@ -33,7 +33,7 @@ and_false : (a b : Bool) → a ≡ true → (a && b) ≡ false → b ≡ false
 and_false true b e f = f
 and_false false b e f = absurd cc
 
-below : (q p : Path) → covers q p ≡ true → covers p q ≡ false → (x : PathName) × (rest : Path) × (p ≡ q ++ x ∷ rest)
+pub below : (q p : Path) → covers q p ≡ true → covers p q ≡ false → (x : PathName) × (rest : Path) × (p ≡ q ++ x ∷ rest)
 below [] [] c n = absurd cc
 below [] (y ∷ p) c n = (y, p, refl)
 below (x ∷ q) [] c n = absurd cc
