@@ -58,11 +58,11 @@ longer R S T before lines now line old new p e step = record {
 }
 
 -- the text ends here
-ends_here : (R S : List ℕ → End → Type 0) (before lines now line : List ℕ) (end : End) (old new : Option (List ℕ)) (p : Progress R S before lines old new) → now ≡ lines ++ line → S line end → Joins R before p.written end now
+pub ends_here : (R S : List ℕ → End → Type 0) (before lines now line : List ℕ) (end : End) (old new : Option (List ℕ)) (p : Progress R S before lines old new) → now ≡ lines ++ line → S line end → Joins R before p.written end now
 ends_here R S before lines now line end old new p e h =
     (p.so_far ++ line, p.goes line end h, sym (append_assoc before p.so_far line) ∙ ap (λ t. t ++ line) p.joined ∙ append_assoc p.written lines line ∙ ap (λ t. p.written ++ t) (sym e))
 
-stops_here : (R S : List ℕ → End → Type 0) (before lines : List ℕ) (old new : Option (List ℕ)) (p : Progress R S before lines old new) → S [] Stopped → JoinsSome R before p.written
+pub stops_here : (R S : List ℕ → End → Type 0) (before lines : List ℕ) (old new : Option (List ℕ)) (p : Progress R S before lines old new) → S [] Stopped → JoinsSome R before p.written
 stops_here R S before lines old new p h = (Stopped, lines, ends_here R S before lines lines [] Stopped old new p (sym (append-nil lines)) h)
 
 pub all_written : (R S : List ℕ → End → Type 0) (before lines : List ℕ) (old new : Option (List ℕ)) → Progress R S before lines old new → S [] Whole → Walks R before lines old new (Ok tt)

@@ -11,6 +11,7 @@ mod piece;
 mod tree;
 
 pub use file::cat;
+pub use lines::put_spaces;
 pub use look_error::LookError;
 pub use piece::{write_full, write_last, write_piece};
 pub use tree::tree_text;

@@ -8,7 +8,8 @@ use fsfs_base::Kind;
 use fsfs_noderev::{NodeId, NodeRev, put_id};
 use std::alloc::AllocError;
 
-fn put_spaces(lines: &mut Vec<u8>, count: usize) -> Result<(), AllocError>
+/// Puts so many spaces behind the lines.
+pub fn put_spaces(lines: &mut Vec<u8>, count: usize) -> Result<(), AllocError>
     ensures { OnOk result (lines.new.items ≡ lines.old.items ++ replicate count 32) }
 {
     for _ in 0..count {

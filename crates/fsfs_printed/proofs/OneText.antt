@@ -30,11 +30,11 @@ no_text_front a b none = (b, sym (ap (λ (t : List ℕ). t ++ b) none))
 front_longer : (a b rest : List ℕ) → IsFront a b → IsFront a (b ++ rest)
 front_longer a b rest front = (front.0 ++ rest, ap (λ (t : List ℕ). t ++ rest) front.1 ∙ append_assoc a front.0 rest)
 
-front_behind : (line a b : List ℕ) → IsFront a b → IsFront (line ++ a) (line ++ b)
+pub front_behind : (line a b : List ℕ) → IsFront a b → IsFront (line ++ a) (line ++ b)
 front_behind line a b front = (front.0, ap (λ (t : List ℕ). line ++ t) front.1 ∙ sym (append_assoc line a front.0))
 
 -- behind one first part
-agree_behind : (line a b : List ℕ) (e f : End) → Agree a e b f → Agree (line ++ a) e (line ++ b) f
+pub agree_behind : (line a b : List ℕ) (e f : End) → Agree a e b f → Agree (line ++ a) e (line ++ b) f
 agree_behind line a b e f (inl same) = inl (ap (λ (t : List ℕ). line ++ t) same.0, same.1)
 agree_behind line a b e f (inr (inl front)) = inr (inl (front.0, front_behind line a b front.1))
 agree_behind line a b e f (inr (inr front)) = inr (inr (front.0, front_behind line b a front.1))
@@ -55,16 +55,16 @@ agree_less a rest b e f more (inl same) = absurd (more (sym same.1))
 agree_less a rest b e f more (inr (inl front)) = whole_not_stopped front.0
 agree_less a rest b e f more (inr (inr front)) = inr (inr (front.0, front_longer b a rest front.1))
 
-stopped_first : (a b : List ℕ) (e f : End) → Nothing Stopped a e → Agree a e b f
+pub stopped_first : (a b : List ℕ) (e f : End) → Nothing Stopped a e → Agree a e b f
 stopped_first a b e f none = inr (inl (none.1, no_text_front a b none.0))
 
-stopped_second : (a b : List ℕ) (e f : End) → Nothing Stopped b f → Agree a e b f
+pub stopped_second : (a b : List ℕ) (e f : End) → Nothing Stopped b f → Agree a e b f
 stopped_second a b e f none = inr (inr (none.1, no_text_front b a none.0))
 
-nothing_one : (why : End) → HasOneText (Nothing why)
+pub nothing_one : (why : End) → HasOneText (Nothing why)
 nothing_one why a b e f g h = inl (g.0 ∙ sym h.0, g.1 ∙ sym h.1)
 
-wrong_same : (v w : Wrong) → v ≡ w → Refused (faults.Wrong v) ≡ Refused (faults.Wrong w)
+pub wrong_same : (v w : Wrong) → v ≡ w → Refused (faults.Wrong v) ≡ Refused (faults.Wrong w)
 wrong_same v w e = ap (λ (x : Wrong). Refused (faults.Wrong x)) e
 
 no_file_dir : {A : Type 0} (k : Kind) → k ≡ File → k ≡ Dir → A
@@ -153,7 +153,7 @@ module _ (look : RevisionBytes) (ids : Bool) where
 
 -- ---- what is met at a path
 
-at_path_one : (look : RevisionBytes) (rev : ℕ) (path : Path) (R : Met → List ℕ → End → Type 0) → ((met : Met) → HasOneText (R met)) → HasOneText (AtPath look rev path R)
+pub at_path_one : (look : RevisionBytes) (rev : ℕ) (path : Path) (R : Met → List ℕ → End → Type 0) → ((met : Met) → HasOneText (R met)) → HasOneText (AtPath look rev path R)
 at_path_one look rev path R each a b e f (inl none) h = stopped_first a b e f none
 at_path_one look rev path R each a b e f (inr g) (inl none) = stopped_second a b e f none
 at_path_one look rev path R each a b e f (inr (inl g)) (inr (inl h)) =

@@ -35,13 +35,13 @@ of_nothing : (whole : List ℕ) → IsOf whole [] Stopped
 of_nothing whole = (whole, refl)
 
 -- a text behind one that is whole
-of_behind : (front whole text : List ℕ) (end : End) → IsOf whole text end → IsOf (front ++ whole) (front ++ text) end
+pub of_behind : (front whole text : List ℕ) (end : End) → IsOf whole text end → IsOf (front ++ whole) (front ++ text) end
 of_behind front whole text Whole h = ap (λ (t : List ℕ). front ++ t) h
 of_behind front whole text (Refused fault) h = absurd h
 of_behind front whole text Stopped h = (h.0, ap (λ (t : List ℕ). front ++ t) h.1 ∙ sym (append_assoc front text h.0))
 
 -- a text that isn't whole, before more
-of_stopped : (whole more text : List ℕ) (end : End) → end ≢ Whole → IsOf whole text end → IsOf (whole ++ more) text end
+pub of_stopped : (whole more text : List ℕ) (end : End) → end ≢ Whole → IsOf whole text end → IsOf (whole ++ more) text end
 of_stopped whole more text Whole cut h = absurd (cut refl)
 of_stopped whole more text (Refused fault) cut h = absurd h
 of_stopped whole more text Stopped cut h = (h.0 ++ more, ap (λ (t : List ℕ). t ++ more) h.1 ∙ append_assoc text h.0 more)

@@ -1,0 +1,2 @@
+pub mod CopyRoots
+pub mod Trees

@@ -1,0 +1,7 @@
+//! The laws of what stood at a path before. Each of these functions does nothing: what it ensures is proved once for all bytes.
+ghost use Rattle.fsfs_ancestry.specs.Trees.{PredecessorsAreEarlier};
+
+/// Where the bytes show trees and obey the rules of ids, a predecessor is of an earlier revision.
+pub fn predecessors_are_earlier()
+    ensures { PredecessorsAreEarlier }
+{}
