@@ -27,6 +27,15 @@ front_first old new first second (front, rest, e, adds) = (front, rest ++ second
 pub front_second : (old mid new : Option (List ℕ)) (first second : List ℕ) → Adds old mid first → AddsFront mid new second → AddsFront old new (first ++ second)
 front_second old mid new first second before (front, rest, e, adds) = (first ++ front, rest, ap (λ (t : List ℕ). first ++ t) e ∙ sym (append_assoc first front rest), adds_then old mid new first front before adds)
 
+module _ {E : Type 0} (old mid new : Option (List ℕ)) (first second : List ℕ) (before : Adds old mid first) where
+  pub second_added : (r : Result (Unit {0}) E) → OnOk r (Adds mid new second) → OnOk r (Adds old new (first ++ second))
+  second_added (Ok x) adds = adds_then old mid new first second before adds
+  second_added (Err e) adds = tt
+
+  pub second_part : (r : Result (Unit {0}) E) → OnErr r (AddsFront mid new second) → OnErr r (AddsFront old new (first ++ second))
+  second_part (Ok x) part = tt
+  second_part (Err e) part = front_second old mid new first second before part
+
 -- ---- texts that are read
 
 -- nothing is written where the reading fails

@@ -10,11 +10,15 @@ mod dag;
 #[cfg(test)]
 mod fetch;
 #[cfg(test)]
+mod histories;
+#[cfg(test)]
 mod hostdisk;
 #[cfg(test)]
 mod look;
 #[cfg(test)]
 mod memdisk;
+#[cfg(test)]
+mod prop_looks;
 #[cfg(test)]
 mod rep;
 #[cfg(test)]

@@ -12,15 +12,15 @@ abbrev pub year_digits : Date → List ℕ
 year_digits date = four_digits (unsigned_abs date.year)
 
 -- `2014-07-21`
-abbrev pub numbered_day : Date → List ℕ
+unfoldable pub numbered_day : Date → List ℕ
 numbered_day date = year_digits date ++ codes "-" ++ two_digits date.month ++ codes "-" ++ two_digits date.day
 
 -- `09:25:14`
-abbrev pub time_of_day : Time → List ℕ
+unfoldable pub time_of_day : Time → List ℕ
 time_of_day time = two_digits time.hour ++ codes ":" ++ two_digits time.minute ++ codes ":" ++ two_digits time.second
 
 -- `Mon, 21 Jul 2014`
-abbrev pub named_day : Date → List ℕ
+unfoldable pub named_day : Date → List ℕ
 named_day date = weekday_text (weekday_of date) ++ codes ", " ++ two_digits date.day ++ codes " " ++ month_text date.month ++ codes " " ++ year_digits date
 
 abbrev pub shown_date : DateTime → List ℕ

@@ -34,6 +34,7 @@ fn put_year(out: &mut Vec<u8>, date: Date) -> Result<(), AllocError>
     Ok(())
 }
 
+#[tactic(auto, unfolding(crate::specs::ShownDates::numbered_day))]
 fn put_numbered_day(out: &mut Vec<u8>, date: Date) -> Result<(), AllocError>
     ensures { OnOk result (out.new.items ≡ out.old.items ++ numbered_day date) }
 {
@@ -45,6 +46,7 @@ fn put_numbered_day(out: &mut Vec<u8>, date: Date) -> Result<(), AllocError>
     Ok(())
 }
 
+#[tactic(auto, unfolding(crate::specs::ShownDates::time_of_day))]
 fn put_time(out: &mut Vec<u8>, time: Time) -> Result<(), AllocError>
     ensures { OnOk result (out.new.items ≡ out.old.items ++ time_of_day time) }
 {
@@ -90,6 +92,7 @@ fn month_name(month: u8) -> &'static str
     }
 }
 
+#[tactic(auto, unfolding(crate::specs::ShownDates::named_day))]
 fn put_named_day(out: &mut Vec<u8>, date: Date) -> Result<(), AllocError>
     ensures { OnOk result (out.new.items ≡ out.old.items ++ named_day date) }
 {
