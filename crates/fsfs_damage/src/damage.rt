@@ -53,6 +53,12 @@ pub enum DamageKind {
     EntryKind,
     /// The representation whose header is to begin there is damaged.
     Rep(RepWhat),
+    /// No item of changed-path data begins there, or one whose path an earlier item of the revision has.
+    Changes,
+    /// The property file of the revision is no dump; the offset is 0.
+    Props,
+    /// The date among the properties of the revision has another form than stored dates have; the offset is 0.
+    BadDate,
     /// The file isn't there; the offset is 0.
     Missing,
 }

@@ -78,6 +78,9 @@ what_values damaged.PlaceOrder = codes " PlaceOrder"
 what_values damaged.OtherId = codes " OtherId"
 what_values damaged.EntryKind = codes " EntryKind"
 what_values (damaged.Rep kind) = rep_what_values kind
+what_values damaged.Changes = codes " Changes"
+what_values damaged.Props = codes " Props"
+what_values damaged.BadDate = codes " BadDate"
 what_values damaged.Missing = codes " Missing"
 
 -- its values, a space before each

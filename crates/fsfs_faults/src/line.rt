@@ -169,6 +169,9 @@ fn what_text(what: &DamageKind) -> ArrayString<96>
         DamageKind::PlaceOrder => " PlaceOrder",
         DamageKind::OtherId => " OtherId",
         DamageKind::EntryKind => " EntryKind",
+        DamageKind::Changes => " Changes",
+        DamageKind::Props => " Props",
+        DamageKind::BadDate => " BadDate",
         DamageKind::Missing => " Missing",
     };
     let mut text = ArrayString::new();
