@@ -1,9 +1,8 @@
 -- A call of a section goes on where it was due; an edit is found where its transaction stands.
-use Rattle.std.proofs.Common.{◌≡◌, ◌<◌, ◌≤◌, ℕ, List, [], ◌∷◌, ◌++◌, length, Bool, true, false, cond, inl, inr, refl, sym, ap, subst, ◌∙◌, arith, get_or}
+use Rattle.std.proofs.Common.{◌≡◌, ◌<◌, ◌≤◌, ℕ, List, [], ◌∷◌, ◌++◌, length, Bool, true, false, cond, inl, inr, refl, sym, ap, subst, ◌∙◌, arith}
 use Rattle.std.proofs.lemmas.Option.{slice_get_past, slice_get_within, MatchOption-at_none, MatchOption-at_some}
 use Rattle.std.proofs.lemmas.Bool.{and_from}
-use Rattle.std.proofs.lemmas.Bool.Decides.{eqb_tells}
-use Rattle.std.specs.Prelude.{Option, Some, None, slice_get, Result, Ok, Err, IfOk, IfSome, MatchOption, MatchResult, is_some, nat_le, nat_lt, ◌&&◌, ◌==◌, if◌then◌else◌, ◌↔◌}
+use Rattle.std.specs.Prelude.{Option, Some, None, slice_get, Result, Ok, Err, IfOk, IfSome, MatchOption, MatchResult, is_some, nat_le, nat_lt, ◌&&◌, if◌then◌else◌, ◌↔◌}
 use Rattle.std.specs.FinMap.{FinMap, get}
 use Rattle.jiff_core.specs.declared.civil.datetime.DateTime.{DateTime}
 use Rattle.std.specs.Map.{lookup}
@@ -15,10 +14,10 @@ use Rattle.fsfs_flat.specs.declared.edit.Edit.{Edit}
 use Rattle.fsfs_flat.specs.declared.mark.Mark.{Mark}
 use Rattle.fsfs_base.specs.Paths.{Path, path_cmp}
 use Rattle.fsfs_tree.specs.Nodes.{Node}
-use Rattle.fsfs_flat.specs.Edits.{accepts, applied, mark_of, within_limits}
+use Rattle.fsfs_flat.specs.Edits.{applied, mark_of}
 use Rattle.fsfs_flat.specs.Landing.{land, NoClash, IsFirstClash}
 use Rattle.fsfs_tree.specs.Revisions.{Revision, tree_of}
-use Rattle.fsfs_tree.specs.Dated.{IsDated, date_name, last_of}
+use Rattle.fsfs_tree.specs.Dated.{IsDated, date_name}
 use Rattle.fsfs_flat.specs.Transactions.{IsNext}
 use Rattle.fsfs_machine.specs.declared.contents.NameChange.{NameChange}
 use Rattle.fsfs_machine.specs.declared.contents.FileName.TheVariants.{Rev}
@@ -30,17 +29,14 @@ use Rattle.fsfs_machine.specs.declared.machine.Recorded.{Recorded}
 use Rattle.fsfs_machine.specs.declared.machine.Txn.{Txn}
 use Rattle.fsfs_machine.specs.declared.machine.Section.{Section}
 use Rattle.fsfs_machine.specs.declared.machine.Section.TheVariants.{Begun, CountRead, CountPut, CountRenamed, RevPut, PropsPut, RevFirm, CurrentPut, CurrentRenamed, CurrentFirm, Doubtful, Over}
-use Rattle.fsfs_machine.specs.declared.machine.Lock.{Lock}
-use Rattle.fsfs_machine.specs.declared.machine.Lock.TheVariants.{Free, Held, Stuck, Down, DownDoubtful}
+use Rattle.fsfs_machine.specs.declared.machine.Lock.TheVariants.{Free}
 use Rattle.fsfs_machine.specs.declared.machine.Went.{Went}
 use Rattle.fsfs_machine.specs.declared.machine.Went.TheVariants.{Fine, Before, After, Torn}
 use Rattle.fsfs_machine.specs.declared.machine.Outcome.{Outcome}
 use Rattle.fsfs_machine.specs.declared.machine.Outcome.TheVariants as outcome
-use Rattle.fsfs_machine.specs.Machine.{World, did, barred, at_place, held_by, inside, is_due, due, called_by, called, edited, EditsIf, Edits, merged, MergesIf, Merges, revisions, created, recorded, file_of, at_call, answer, without_place, entry_of, Adds, AdoptsTxn}
-use Rattle.fsfs_machine.specs.Kept.{Kept}
+use Rattle.fsfs_machine.specs.Machine.{World, did, barred, at_place, held_by, inside, is_due, due, called_by, called, edited, EditsIf, Edits, merged, MergesIf, Merges, revisions, recorded, file_of, at_call, answer, without_place, entry_of, Adds, AdoptsTxn}
 use Rattle.fsfs_core.specs.Commits.{is_accepted, GivesEdit, AddsNext, IsUsed}
 use Rattle.fsfs_machine.proofs.Growing.{revisions_length}
-use Rattle.fsfs_machine.proofs.Created.{created_kept}
 
 free_due : (w : World) (s : Section) → due (record w { lock = Free }) s ≡ due w s
 free_due w Begun = refl
@@ -62,22 +58,6 @@ free_call w p place Before (CountRenamed x) change = refl
 free_call w p place After (CountRenamed x) change = refl
 free_call w p place (Torn any) (CountRenamed x) change = refl
 free_call w p place went s change = refl
-
-held_is : (p : ℕ) (lock : Lock) (s : Section) → held_by p lock ≡ Some s → lock ≡ Held p s
-held_is p (Held q t) s e =
-    elim (eqb_tells q p) [
-      | inl tells ↦ (
-          let same : q ≡ p = tells.1 in
-          let f : Some t ≡ Some s = sym (ap (λ b. cond b (Some t) None) tells.0) ∙ e in
-          let g : t ≡ s = cc in
-          ap (λ k. Held k t) same ∙ ap (λ k. Held p k) g
-          )
-      | inr tells ↦ (let f : None ≡ Some s = sym (ap (λ b. cond b (Some t) None) tells.0) ∙ e in absurd cc)
-    ]
-held_is p Free s e = absurd cc
-held_is p (Stuck place x) s e = absurd cc
-held_is p Down s e = absurd cc
-held_is p (DownDoubtful x) s e = absurd cc
 
 -- the change of the call, where its place is the one that is due
 abbrev pub due_at : World → Section → DiskPlace → Option NameChange
@@ -104,12 +84,6 @@ pub call_goes_on : {E : Type 0} (r : Result Outcome E) (w u v : World) (p : ℕ)
 call_goes_on (Ok a) w u v p place went s o change held is some found e =
     e ∙ ap (λ z. called_by z p place went s (Some change)) is ∙ free_call w p place went s change ∙ called_at w u p place went s (Some change) held is (sym some ∙ found)
 call_goes_on (Err x) w u v p place went s o change held is some found e = tt
-
-pub call_barred : (w u v : World) (p : ℕ) (place : DiskPlace) (went : Went) (s : Section) (o : Option NameChange) → held_by p w.lock ≡ Some s → u ≡ record w { lock = Free }
-    → o ≡ None → o ≡ due_at u s place → v ≡ record u { lock = Held p s } → did v outcome.Barred ≡ inside w (called w p place went) (held_by p w.lock)
-call_barred w u v p place went s o held is none found back =
-    ap (λ z. did z outcome.Barred) (back ∙ ap (λ z. record z { lock = Held p s }) is ∙ ap (λ k. record w { lock = k }) (sym (held_is p w.lock s held)))
-    ∙ called_at w u p place went s None held is (sym none ∙ found)
 
 pub edit_none : (w : World) (t : ℕ) (edit : Edit) → length w.txns ≤ t → Edits w t edit (slice_get w.txns t) (did w outcome.Barred)
 edit_none w t edit le = subst (λ o. Edits w t edit o (did w outcome.Barred)) (sym (slice_get_past w.txns t le)) refl
@@ -187,10 +161,6 @@ pub dated_by : (properties : List (List ℕ × List ℕ)) (text : List ℕ) (o :
     → IfSome o (IsDateText text) → ((date : DateTime) → IsDateText text date → o ≡ Some date) → b ≡ is_some o → (b ≡ true) ↔ IsDated properties
 dated_by properties text (Some date) b at found only is = ((λ t value e. let same : text ≡ value = (let f : Some text ≡ Some value = at ∙ e in cc) in (date, subst (λ v. IsDateText v date) same found)), (λ d. is))
 dated_by properties text None b at found only is = ((λ t. let f : true ≡ false = sym t ∙ is in absurd cc), (λ d. let k = d text (sym at) in let f : None ≡ Some k.0 = only k.0 k.1 in absurd cc))
-
-pub created_along : {T E : Type 0} (world : T → World) (r : Result T E) (properties : List (List ℕ × List ℕ)) (bytes : List ℕ) → IfOk r (λ s. world s ≡ created properties bytes) → IfOk r (λ s. Kept (world s))
-created_along world (Ok s) properties bytes e = created_kept (world s) properties bytes e
-created_along world (Err x) properties bytes e = tt
 
 -- the revision that a commit would add, or none
 abbrev pub Finds : List Revision → ℕ → Txn → List (List ℕ × List ℕ) → Option Revision → Type 0

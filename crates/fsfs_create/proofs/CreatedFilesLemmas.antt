@@ -1,5 +1,5 @@
 -- What the writing of a new repository makes of the files.
-use Rattle.std.proofs.Common.{◌≡◌, ℕ, List, [], ◌∷◌, ◌++◌, Bool, true, false, refl, sym, ap, subst, ◌∙◌}
+use Rattle.std.proofs.Common.{◌≡◌, ℕ, List, [], ◌∷◌, ◌++◌, true, refl, sym, ap, subst, ◌∙◌}
 use Rattle.std.specs.Prelude.{Option, Some, None, IfSome, option_map, codes, length, is_some}
 use Rattle.std.specs.FinMap.{insert, remove}
 use Rattle.fsfs_base.specs.Files.{Files, NamedFile, lay_over}

@@ -3,12 +3,12 @@ use Rattle.std.proofs.Common.{◌≡◌, ℕ, List, [], ◌∷◌, ◌++◌, len
 use Rattle.std.proofs.lemmas.List.{append-nil}
 use Rattle.fsfs_grammar.proofs.Unique.{numeral_decimal}
 use Rattle.fsfs_hash.specs.Dump.{dump_text}
-use Rattle.fsfs_tree.specs.Dated.{date_name}
 use Rattle.fsfs_layout.specs.CreatedFiles.{date_properties}
 use Rattle.std.specs.Prelude.{codes, decimal}
 use Rattle.std.proofs.Math.Nat.{zero-div}
 use Rattle.std.proofs.lemmas.Fmt.{decimal_digit}
-use Rattle.fsfs_grammar.proofs.Numerals.{numeral_one}
+use Rattle.fsfs_grammar.specs.Numeral.{numeral_at, plain_at}
+use Rattle.fsfs_grammar.proofs.Numerals.{numeral_one, numeral_found}
 use Rattle.fsfs_grammar.proofs.Unique.{numeral_same}
 use Rattle.fsfs_base.specs.Files.{NamedFile}
 use Rattle.fsfs_layout.specs.Names.{in_shard}
@@ -33,12 +33,12 @@ eight = decimal_digit 8 (omega arith)
 
 twenty_seven : decimal 27 ≡ codes "27"
 unfolding numeral_at plain_at
-twenty_seven = sym (numeral_decimal (codes "27") 27 (omega arith) (number_spells.found (codes "27") 27 refl).0)
+twenty_seven = sym (numeral_decimal (codes "27") 27 (omega arith) (numeral_found 10 99 (codes "27") 27 refl).0)
 
 -- the dump of a date alone
-pub dated_text : (date : List ℕ) → length date ≡ 27 → dump_text ((date_name, date) ∷ []) ≡ date_properties date
+pub dated_text : (date : List ℕ) → length date ≡ 27 → dump_text ((codes "svn:date", date) ∷ []) ≡ date_properties date
 dated_text date size =
-    let T : List ℕ → List ℕ → List ℕ = λ a b. (((75 ∷ 32 ∷ []) ++ ((a ++ 10 ∷ []) ++ (date_name ++ 10 ∷ [])) ++ ((86 ∷ 32 ∷ []) ++ ((b ++ 10 ∷ []) ++ (date ++ 10 ∷ [])))) ++ []) ++ codes "END\n" in
+    let T : List ℕ → List ℕ → List ℕ = λ a b. (((75 ∷ 32 ∷ []) ++ ((a ++ 10 ∷ []) ++ (codes "svn:date" ++ 10 ∷ [])) ++ ((86 ∷ 32 ∷ []) ++ ((b ++ 10 ∷ []) ++ (date ++ 10 ∷ [])))) ++ []) ++ codes "END\n" in
     let number : decimal (length date) ≡ codes "27" = ap decimal size ∙ twenty_seven in
     (λ i. T (eight i) (number i))
     ∙ ap (λ (t : List ℕ). codes "K 8\nsvn:date\nV 27\n" ++ t) (ap (λ (t : List ℕ). t ++ codes "END\n") (append-nil (date ++ 10 ∷ [])) ∙ append_assoc date (10 ∷ []) (codes "END\n"))

@@ -1,6 +1,6 @@
 -- Ids that are the same by their numbers are the same, and the other way round.
 use Rattle.std.proofs.Common.{◌≡◌, ℕ, true, false, refl, sym, ap, subst, ◌∙◌, arith, eq-eqb}
-use Rattle.std.specs.Prelude.{Bool, ◌==◌, ◌&&◌}
+use Rattle.std.specs.Prelude.{◌==◌, ◌&&◌}
 use Rattle.std.proofs.lemmas.Bool.Decides.{nat_tests}
 use Rattle.fsfs_grammar.specs.declared.base36.B36.{B36}
 use Rattle.fsfs_grammar.proofs.Base36Texts.{b36_same}

@@ -1,5 +1,5 @@
 -- What a book's answers say of a revision's length, its end and its node-revisions.
-use Rattle.std.proofs.Common.{◌≡◌, ℕ, ◌-◌, ◌≤◌, List, [], ◌++◌, length, take, drop, min, append_assoc, true, Result, Ok, Err, refl, sym, ap, subst, ◌∙◌, arith, inl, inr, zero-add}
+use Rattle.std.proofs.Common.{◌≡◌, ℕ, ◌-◌, ◌≤◌, List, ◌++◌, length, take, drop, min, append_assoc, true, Result, Ok, Err, refl, sym, ap, subst, ◌∙◌, arith, inl, inr, zero-add}
 use Rattle.std.specs.Prelude.{MatchResult, ◌==◌}
 use Rattle.std.proofs.lemmas.Bool.{and_parts}
 use Rattle.std.proofs.lemmas.Bool.Decides.{nat_tests}
@@ -24,7 +24,7 @@ use Rattle.fsfs_rep.specs.Faults.{IsRefusedFor}
 use Rattle.fsfs_revision.specs.declared.trailer.Trailer.{Trailer}
 use Rattle.fsfs_revision.specs.Trailers.{EndsWith}
 use Rattle.fsfs_revision.specs.Nodes.{Holds, IsNodeAt, is_root, is_ordered, is_own_place, is_directory}
-use Rattle.fsfs_revision.specs.Damages.{NodeIn, AsRoot, RootAt, RootIn}
+use Rattle.fsfs_revision.specs.Damages.{NodeIn, AsRoot, RootAt}
 use Rattle.fsfs_revision.proofs.TrailerLemmas.{from_tail, in_tail}
 use Rattle.fsfs_shows.specs.Reading.{NodeAt, RootOf, offset_of}
 use Rattle.fsfs_dag.specs.Told.{LengthOf, WindowAt, EndOf}

@@ -1,5 +1,5 @@
 -- What a book tells of a revision, and what is read of it.
-use Rattle.std.specs.Prelude.{◌≡◌, ℕ, List, length, take, drop, Some, Result, Ok, Err}
+use Rattle.std.specs.Prelude.{◌≡◌, ℕ, List, length, take, drop, Result, Ok, Err}
 use Rattle.fsfs_book.specs.Told.{RevisionBytes, BytesOf}
 use Rattle.fsfs_damage.specs.declared.damage.RevOffset.{RevOffset}
 use Rattle.fsfs_revision.specs.declared.trailer.Trailer.{Trailer}

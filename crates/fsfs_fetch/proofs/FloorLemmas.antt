@@ -1,6 +1,6 @@
 -- The floor, as it is read.
 use Rattle.std.proofs.Common.{◌≡◌, ℕ, ◌-◌, List, [], length, take, min, sym, ap, subst, ◌∙◌, arith}
-use Rattle.std.specs.Prelude.{Option, Some, None, Result, Ok, Err, IfSome, unwrap_or, codes}
+use Rattle.std.specs.Prelude.{Option, Some, None, Result, IfSome, unwrap_or, codes}
 use Rattle.std.proofs.lemmas.List.{take_min}
 use Rattle.std.specs.FinMap as map
 use Rattle.fsfs_base.specs.Files.{Files}

@@ -1,5 +1,5 @@
 -- Revisions in packs.
-use Rattle.std.proofs.Common.{◌≡◌, ◌≤◌, ◌<◌, ℕ, ◌+◌, ◌-◌, ◌/◌, ◌%◌, List, ◌++◌, length, take, drop, min, refl, sym, ap, subst, ◌∙◌, arith, true, false, nat_lt}
+use Rattle.std.proofs.Common.{◌≡◌, ◌≤◌, ◌<◌, ℕ, ◌+◌, ◌-◌, List, ◌++◌, length, take, drop, min, refl, sym, ap, subst, ◌∙◌, arith, true, false, nat_lt}
 use Rattle.std.specs.Prelude.{Option, Some, None, Result, Ok, Err, IfSome, codes}
 use Rattle.std.proofs.lemmas.List.{length-take, length-drop, drop-take, drop-drop, take-take, take_min, take-append-le}
 use Rattle.std.proofs.lemmas.Bool.Decides.{nat_tests}

@@ -41,16 +41,19 @@ impl<R: Files<File = File> + AllocGlobal + Clone + Drop> Machine<R> {
     }
 }
 
+// Whether the path is a path, and isn't mounted.
 fn is_free(mounted: &[String], path: &str) -> bool {
     !path.is_empty() && !mounted.iter().any(|other| other.as_str() == path)
 }
 
+// Opens the disk of a path.
 fn open_disk<R: Files<File = File> + AllocGlobal + Clone + Drop>(
     rt: &R,
     path: &str,
     writes: bool,
 ) -> io::Result<HostDisk<R>>
     ensures faults { IfOk result (λ disk. disk.faults ≡ 0) }
+    ensures benches { IfOk result (λ disk. disk.bench_faults ≡ 0) }
     ensures path { IfOk result (λ disk. string_bytes disk.folder.path ≡ path.now) }
     ensures writes { IfOk result (λ disk. disk.writes ≡ writes) }
 {

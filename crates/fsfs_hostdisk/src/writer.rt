@@ -91,7 +91,9 @@ fn require_name<R: Files<File = File> + AllocGlobal + Clone + Drop>(
 }
 
 // The lock, taken; the file for it is made where there is none.
-fn locked<R: Files<File = File> + AllocGlobal + Clone + Drop>(folder: &Folder<R>) -> io::Result<WriteLock> {
+fn locked<R: Files<File = File> + AllocGlobal + Clone + Drop>(
+    folder: &Folder<R>,
+) -> io::Result<WriteLock> {
     let lock = open_lock(folder)?;
     try_lock(folder, &lock)?;
     require_name(folder, &lock)?;
@@ -99,7 +101,10 @@ fn locked<R: Files<File = File> + AllocGlobal + Clone + Drop>(folder: &Folder<R>
 }
 
 // Where there is no repository, the folders that were made go again, as far as they are empty.
-fn unmake_folders<R: Files<File = File> + AllocGlobal + Clone + Drop>(folder: &Folder<R>, made: &[String]) {
+fn unmake_folders<R: Files<File = File> + AllocGlobal + Clone + Drop>(
+    folder: &Folder<R>,
+    made: &[String],
+) {
     if let Ok(None) = folder.size(FORMAT) {
         for name in made.iter().rev() {
             let _ = folder.unmake(name.as_str());

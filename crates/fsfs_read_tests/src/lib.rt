@@ -20,6 +20,8 @@ mod memdisk;
 #[cfg(test)]
 mod prop_looks;
 #[cfg(test)]
+mod publish;
+#[cfg(test)]
 mod rep;
 #[cfg(test)]
 mod revisions;

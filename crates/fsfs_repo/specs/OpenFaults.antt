@@ -1,5 +1,5 @@
 -- Why a repository is not opened.
-use Rattle.std.specs.Prelude.{Option, IfSome, option_map, ◌≡◌, ◌≤◌, ◌+◌, ◌⊎◌}
+use Rattle.std.specs.Prelude.{Option, IfSome, option_map, ◌≡◌, ◌⊎◌}
 use Rattle.fsfs_disk.specs.Trace.{Trace, files_now}
 use Rattle.fsfs_layout.specs.Opening.{SmallTexts, small_texts, IsNone, HasFormat, IsLinear, IsRefused}
 use Rattle.fsfs_repo.specs.declared.opening.SmallFiles.{SmallFiles}

@@ -8,7 +8,6 @@ use Rattle.fsfs_damage.specs.Readings.{HasOneAnswer}
 use Rattle.fsfs_damage.proofs.OneAnswer.{and_then_one}
 use Rattle.fsfs_book.specs.Told.{RevisionBytes, BytesOf}
 use Rattle.fsfs_noderev.specs.Lines.{line}
-use Rattle.fsfs_noderev.specs.declared.node_rev.NodeRev.{NodeRev}
 use Rattle.fsfs_noderev.proofs.Taking.{read_only}
 use Rattle.fsfs_revision.specs.Trailers.{IsTrailer, EndsWith}
 use Rattle.fsfs_revision.specs.Damages.{NodeIn, RootIn}

@@ -1,5 +1,5 @@
 -- What a disk tells of its files.
-use Rattle.std.proofs.Common.{◌≡◌, ℕ, List, refl, sym, subst}
+use Rattle.std.proofs.Common.{ℕ, List, refl, subst}
 use Rattle.std.specs.Prelude.{Option, Some, None, IfSome}
 use Rattle.fsfs_disk.specs.Trace.{Trace, file_at}
 use Rattle.fsfs_whole_file.specs.DiskParts.{TellsFile}

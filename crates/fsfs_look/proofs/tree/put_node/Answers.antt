@@ -36,5 +36,5 @@ returns-in_ok-below-in-Dir-clause-within g c = λ top le before.
 pub returns-in_ok-below-in-Dir-clause-total : goal.returns-in_ok-below-in-Dir-clause-total
 returns-in_ok-below-in-Dir-clause-total g c =
     let short : length c.in_ok-below-in-Dir.below.items < 2 ^ 64 = search rules in
-    let place : (home_of c.args.found.now.node).offset < 2 ^ 64 = subst (λ (at : RevOffset). at.offset < 2 ^ 64) c.place-_home.ensures (search rules) in
+    let place : (home_of c.args.found.now.node).offset < 2 ^ 64 = subst (λ (at : RevOffset). at.offset < 2 ^ 64) c.place-home.ensures (search rules) in
     on_ok_weaker c.put_entries.result (λ e. rw e (total_pend c.in-Some.next (home_of c.args.found.now.node) c.in_ok-below-in-Dir.below.items c.args.walk.now.todo.items short place c.in_ok-below-in-Dir.ensures.before)) c.put_entries.ensures.items
