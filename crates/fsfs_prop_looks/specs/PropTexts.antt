@@ -53,7 +53,7 @@ info_lines pairs line = value_line (value_of pairs author_name) ++ line ++ log_l
 -- a stored date is in its form, or the revision is damaged
 abbrev pub date_checks : ℕ → Option (List ℕ) → List Check
 date_checks rev None = []
-date_checks rev (Some stored) = must ((dt : DateTime) × IsDateText stored dt) (damaged (place_of rev 0) what.Missing) ∷ []
+date_checks rev (Some stored) = must ((dt : DateTime) × IsDateText stored dt) (damaged (place_of rev 0) what.BadDate) ∷ []
 
 abbrev pub DateLine : ℕ → Option (List ℕ) → Result (List ℕ) Wrong → Type 0
 DateLine rev stored = Judged (IsDateLine stored) (date_checks rev stored)

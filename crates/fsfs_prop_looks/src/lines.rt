@@ -41,7 +41,7 @@ pub(crate) fn date_line(alloc: Global, rev: u32, pairs: &Pairs) -> Result<Vec<u8
             None => {
                 return Err(ReadError::damaged(
                     RevOffset { rev, offset: 0 },
-                    DamageKind::Missing,
+                    DamageKind::BadDate,
                 ));
             }
         }

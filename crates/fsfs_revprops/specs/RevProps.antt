@@ -15,7 +15,7 @@ Pairs = List (List ℕ × List ℕ)
 
 -- the file is a dump, or it is wrong as a whole
 abbrev pub file_checks : ℕ → List ℕ → List Check
-file_checks rev bytes = must ((pairs : Pairs) × IsDump bytes pairs) (damaged (place_of rev 0) what.Missing) ∷ []
+file_checks rev bytes = must ((pairs : Pairs) × IsDump bytes pairs) (damaged (place_of rev 0) what.Props) ∷ []
 
 abbrev pub RevPropsIn : ℕ → List ℕ → Result Pairs Wrong → Type 0
 RevPropsIn rev bytes = Judged (IsDump bytes) (file_checks rev bytes)

@@ -66,7 +66,7 @@ fn pairs_in(alloc: Global, rev: u32, bytes: &[u8]) -> Result<Pairs, ReadError>
         Ok(pairs) => Ok(pairs),
         Err(HashError::OutOfMemory) => Err(ReadError::OutOfMemory),
         Err(HashError::Fault(_)) => {
-            Err(ReadError::damaged(RevOffset { rev, offset: 0 }, DamageKind::Missing))
+            Err(ReadError::damaged(RevOffset { rev, offset: 0 }, DamageKind::Props))
         }
     }
 }
