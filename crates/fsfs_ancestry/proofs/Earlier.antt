@@ -32,8 +32,9 @@ module _ (look : RevisionBytes) where
   pub root_of_id : (r : ℕ) (v : NodeRev) → RootOf look r (Ok v) → OfId look v.id (Ok v)
   root_of_id r v w =
       let at = place_of r w.2.0.root in
-      let both = and_parts (is_own_place at v.id.place) (is_directory v.kind) w.2.3 in
-      node_of_id at v (w.0, w.1, w.2.2) (own_place at v.id.place both.0)
+      let n = w.2.2.0 in
+      let both = and_parts (is_own_place at n.id.place) (is_directory n.kind) w.2.2.2.1 in
+      subst (λ (x : NodeRev). OfId look x.id (Ok x)) (sym w.2.2.2.0) (node_of_id at n (w.0, w.1, w.2.2.1) (own_place at n.id.place both.0))
 
   named_of_id : (u : NodeRev) (o : Option DirEntry) → OfNamed look o (Ok (Some u)) → OfId look u.id (Ok u)
   named_of_id u None of = absurd cc

@@ -1,3 +1,6 @@
 pub mod Roots
+pub mod Standing
 pub mod Earlier
 pub mod Behind
+pub mod Sources
+pub mod Revisions

@@ -2,6 +2,7 @@
 use Rattle.std.specs.Prelude.{◌≤◌, ◌<◌, ℕ}
 use Rattle.fsfs_base.specs.Paths.{Path}
 use Rattle.fsfs_tree.specs.Nodes.{TreeFunction}
+use Rattle.fsfs_flat.specs.Histories.{AreRevisions}
 use Rattle.fsfs_book.specs.Told.{RevisionBytes}
 use Rattle.fsfs_noderev.specs.declared.node_rev.NodeRev.{NodeRev}
 use Rattle.fsfs_shows.specs.Reading.{StandsAt}
@@ -18,3 +19,7 @@ pub record ShowTrees (look : RevisionBytes) (top : ℕ) (tree : ℕ → TreeFunc
 abbrev pub PredecessorsAreEarlier : Type 0
 PredecessorsAreEarlier = (look : RevisionBytes) (top : ℕ) (tree : ℕ → TreeFunction) → ShowTrees look top tree
     → (r : ℕ) (p : Path) (v u : NodeRev) → r ≤ top → StandsAt look r p v → IsPred look v u → own_rev u < own_rev v
+
+-- the trees are those of a history
+abbrev pub ShownTreesAreRevisions : Type 0
+ShownTreesAreRevisions = (look : RevisionBytes) (top : ℕ) (tree : ℕ → TreeFunction) → ShowTrees look top tree → AreRevisions tree top
