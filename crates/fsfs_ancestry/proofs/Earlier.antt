@@ -58,6 +58,10 @@ module _ (look : RevisionBytes) where
       let g = stands_rooted look r p v at in
       walk_of_id g.1.0 v (copy_root_of g.1.0) g.0 p (root_of_id r g.1.0 g.1.1) g.1.2
 
+  -- two node-revisions of one id are one
+  pub named_same : (u v : NodeRev) → OfId look u.id (Ok u) → OfId look v.id (Ok v) → u.id ≡ v.id → u ≡ v
+  named_same u v a b e = ok_same u v (of_id_one look v.id (Ok u) (Ok v) (subst (λ (i : NodeId). OfId look i (Ok u)) e a) b)
+
   -- the predecessor is what stands somewhere by its id
   pub pred_is : (v u w : NodeRev) → IsPred look v u → v.predecessor ≡ Some w.id → OfId look w.id (Ok w) → u ≡ w
   pred_is v u w p is of =

@@ -4,3 +4,5 @@ pub mod Earlier
 pub mod Behind
 pub mod Sources
 pub mod Revisions
+pub mod Bounded
+pub mod BoundedIds

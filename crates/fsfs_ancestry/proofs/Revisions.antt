@@ -301,7 +301,9 @@ module _ (look : RevisionBytes) (top : ℕ) (tree : ℕ → TreeFunction) (trees
       → copied_by b (s.from.rev, s.from.path ++ drop (length root) p) ≡ Some (from, f) → IsSourceOf c from f
   copied_to c le p root x s false from f e = absurd cc
   copied_to c le p root x s true from f e =
-      let pair : (s.from.rev, s.from.path ++ drop (length root) p) ≡ (from, f) = same_Some _ _ e in
+      let here : ℕ × Path = (s.from.rev, s.from.path ++ drop (length root) p) in
+      let to : ℕ × Path = (from, f) in
+      let pair : here ≡ to = same_Some here to e in
       let rev : s.from.rev ≡ from = ap (λ (y : ℕ × Path). y.0) pair in
       let earlier = s.earlier in
       let rest : drop (length root) p ≡ s.rest = ap (λ (q : Path). drop (length root) q) s.parts ∙ drop-append_seam root s.rest in

@@ -1,2 +1,3 @@
 pub mod CopyRoots
 pub mod Trees
+pub mod Bounded

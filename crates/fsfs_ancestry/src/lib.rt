@@ -6,4 +6,6 @@
 
 mod laws;
 
-pub use laws::{predecessors_are_earlier, shown_trees_are_a_history};
+pub use laws::{
+    later_bytes_change_nothing, predecessors_are_earlier, shown_trees_are_a_history,
+};

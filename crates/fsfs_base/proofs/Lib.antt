@@ -4,3 +4,4 @@ pub mod ClonedLists
 pub mod PairLemmas
 pub mod PathTextLemmas
 pub mod ResultLemmas
+pub mod TwoTests

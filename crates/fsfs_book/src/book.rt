@@ -4,6 +4,7 @@ ghost use Rattle.fsfs_damage.specs.declared.wrong.Refusal.{Refusal};
 ghost use Rattle.fsfs_book.specs.declared.book.BookFault.TheVariants.{DiskFault};
 ghost use Rattle.fsfs_book.specs.Told.{Telling, Keeps, Gives, part_read, size_read, HasCause, IsAbout};
 
+use fsfs_base::RevNum;
 use fsfs_damage::Refusal;
 use thiserror::Error;
 
@@ -15,7 +16,7 @@ pub enum BookFault {
     Refused(Refusal),
     /// The offset is past the end of the bytes.
     #[error("revision {rev} ends before {offset}")]
-    Short { rev: u32, offset: u64 },
+    Short { rev: RevNum, offset: u64 },
     /// A call of the disk below failed, and the book's count of faults rose.
     #[error("the disk failed")]
     DiskFault,
@@ -41,14 +42,14 @@ pub trait Book {
     ghost faults: { Self → ℕ };
 
     /// The youngest revision.
-    fn youngest(&mut self) -> Result<u64, BookFault>
+    fn youngest(&mut self) -> Result<RevNum, BookFault>
         ensures told { IfSome (told self.old).youngest (λ y. IfOk result (λ n. n ≡ y)) }
         ensures failed { IfErr result (λ e. e ≡ DiskFault) }
         ensures kept { Keeps (told self.old) (told self.new) }
         ensures cause { HasCause (faults self.old) (faults self.new) result };
 
     /// The length of a revision's bytes.
-    fn rev_len(&mut self, rev: u32) -> Result<u64, BookFault>
+    fn rev_len(&mut self, rev: RevNum) -> Result<u64, BookFault>
         ensures told { (read : Result (List ℕ) Refusal) → (told self.old).revs rev ≡ Some read → Gives (λ n. n) result (size_read read) }
         ensures about { IfErr result (IsAbout rev 0) }
         ensures kept { Keeps (told self.old) (told self.new) }
@@ -56,7 +57,7 @@ pub trait Book {
 
     /// Reads a revision's bytes from an offset on into the beginning of the buffer, and answers how many: as many as
     /// there are and as fit.
-    fn read_rev(&mut self, rev: u32, offset: u64, buffer: &mut [u8]) -> Result<usize, BookFault>
+    fn read_rev(&mut self, rev: RevNum, offset: u64, buffer: &mut [u8]) -> Result<usize, BookFault>
         ensures bound { IfOk result (λ n. n ≤ length buffer.new) }
         ensures told { (read : Result (List ℕ) Refusal) → (told self.old).revs rev ≡ Some read → Gives (λ n. take n buffer.new) result (part_read rev offset (length buffer.old) read) }
         ensures about { IfErr result (IsAbout rev offset) }
@@ -64,7 +65,7 @@ pub trait Book {
         ensures cause { HasCause (faults self.old) (faults self.new) result };
 
     /// The same of a revision's property file.
-    fn read_props(&mut self, rev: u32, offset: u64, buffer: &mut [u8]) -> Result<usize, BookFault>
+    fn read_props(&mut self, rev: RevNum, offset: u64, buffer: &mut [u8]) -> Result<usize, BookFault>
         ensures bound { IfOk result (λ n. n ≤ length buffer.new) }
         ensures told { (read : Result (List ℕ) Refusal) → (told self.old).props rev ≡ Some read → Gives (λ n. take n buffer.new) result (part_read rev offset (length buffer.old) read) }
         ensures about { IfErr result (IsAbout rev offset) }

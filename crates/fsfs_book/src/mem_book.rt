@@ -1,14 +1,14 @@
 //! A book in memory, for tests and small tools. Calls whose numbers are listed fail.
-ghost use Rattle.std.specs.Prelude.{◌≡◌, ◌<◌, ◌≤◌, ◌-◌, ◌↔◌, Ok, Err, IsTrue, IsErr, IfOk, IfErr, OnErr, MatchResult, vec_len, length, take};
+ghost use Rattle.std.specs.Prelude.{◌≡◌, ◌<◌, ◌≤◌, ◌+◌, ◌↔◌, Ok, Err, IsTrue, IsErr, IfOk, IfErr, OnErr, MatchResult, vec_len, length, take};
 ghost use Rattle.fsfs_base.specs.Counts.{Rose};
 ghost use Rattle.fsfs_base.specs.Faults.{fails_next};
+ghost use Rattle.fsfs_fields.specs.RevNums.{last_rev};
 ghost use Rattle.fsfs_book.specs.declared.book.BookFault.TheVariants.{Short, DiskFault};
-ghost use Rattle.fsfs_damage.specs.declared.wrong.Refusal.TheVariants.{NoRev};
 ghost use Rattle.fsfs_book.specs.Told.{Gives, part_read, IsRefusalOf};
 ghost use Rattle.fsfs_book.specs.MemBook.{bytes_in, props_in, read_of};
 
 use crate::book::{Book, BookFault};
-use fsfs_base::{Faults, SmallFault};
+use fsfs_base::{Faults, RevNum, SmallFault};
 use fsfs_damage::Refusal;
 use std::alloc::Global;
 
@@ -33,23 +33,12 @@ pub struct MemRev {
 #[derive(Drop)]
 pub struct MemBook {
     revs: Vec<MemRev>,
+    youngest: RevNum,
     faults: Faults,
-    ghost some: { 0 < vec_len revs },
+    ghost last: { vec_len revs ≡ youngest + 1 },
 }
 
-// A revision above the last.
-fn none_above(revs: &[MemRev], rev: u32) -> Refusal
-    requires some { 0 < length revs.now }
-    requires above { length revs.now ≤ rev }
-    ensures { result ≡ NoRev rev (length revs.now - 1) }
-{
-    Refusal::NoRev {
-        asked: rev,
-        youngest: revs.len() as u64 - 1,
-    }
-}
-
-fn read_kept(rev: u32, kept: &MemFile) -> Result<&[u8], Refusal>
+fn read_kept(rev: RevNum, kept: &MemFile) -> Result<&[u8], Refusal>
     ensures read { MatchResult result (λ b. read_of rev kept.now ≡ Ok b.now) (λ e. read_of rev kept.now ≡ Err e) }
     ensures about { IfErr result (IsRefusalOf rev) }
 {
@@ -60,30 +49,36 @@ fn read_kept(rev: u32, kept: &MemFile) -> Result<&[u8], Refusal>
     }
 }
 
-fn bytes_of(revs: &[MemRev], rev: u32) -> Result<&[u8], Refusal>
-    requires { 0 < length revs.now }
+fn bytes_of(revs: &[MemRev], youngest: RevNum, rev: RevNum) -> Result<&[u8], Refusal>
+    requires { length revs.now ≡ youngest + 1 }
     ensures read { MatchResult result (λ b. bytes_in revs.now rev ≡ Ok b.now) (λ e. bytes_in revs.now rev ≡ Err e) }
     ensures about { IfErr result (IsRefusalOf rev) }
 {
-    match revs.get(rev as usize) {
-        None => Err(none_above(revs, rev)),
+    match revs.get(rev.get() as usize) {
+        None => Err(Refusal::NoRev {
+            asked: rev,
+            youngest,
+        }),
         Some(found) => read_kept(rev, &found.bytes),
     }
 }
 
-fn props_of(revs: &[MemRev], rev: u32) -> Result<&[u8], Refusal>
-    requires { 0 < length revs.now }
+fn props_of(revs: &[MemRev], youngest: RevNum, rev: RevNum) -> Result<&[u8], Refusal>
+    requires { length revs.now ≡ youngest + 1 }
     ensures read { MatchResult result (λ b. props_in revs.now rev ≡ Ok b.now) (λ e. props_in revs.now rev ≡ Err e) }
     ensures about { IfErr result (IsRefusalOf rev) }
 {
-    match revs.get(rev as usize) {
-        None => Err(none_above(revs, rev)),
+    match revs.get(rev.get() as usize) {
+        None => Err(Refusal::NoRev {
+            asked: rev,
+            youngest,
+        }),
         Some(found) => read_kept(rev, &found.props),
     }
 }
 
 // The bytes from an offset on, as many as fit.
-fn copy_part(bytes: &[u8], rev: u32, offset: u64, buffer: &mut [u8]) -> Result<usize, BookFault>
+fn copy_part(bytes: &[u8], rev: RevNum, offset: u64, buffer: &mut [u8]) -> Result<usize, BookFault>
     ensures bound { IfOk result (λ n. n ≤ length buffer.new) }
     ensures part { Gives (λ n. take n buffer.new) result (part_read rev offset (length buffer.old) (Ok bytes.now)) }
     ensures short { IfErr result (λ e. e ≡ Short rev offset) }
@@ -100,7 +95,8 @@ fn copy_part(bytes: &[u8], rev: u32, offset: u64, buffer: &mut [u8]) -> Result<u
 impl MemBook {
     /// A book of these revisions, the first being revision 0.
     pub fn new(alloc: Global, revs: Vec<MemRev>) -> MemBook
-        requires { 0 < vec_len revs }
+        requires some { 0 < vec_len revs }
+        requires few { vec_len revs ≤ last_rev + 1 }
         ensures revs { result.revs.items ≡ revs.items }
         ensures faults { result.faults.count ≡ 0 }
     {
@@ -109,14 +105,19 @@ impl MemBook {
 
     /// The same, of which the calls with these numbers fail. The first call is 1.
     pub fn with_faults(revs: Vec<MemRev>, failing: Vec<u64>) -> MemBook
-        requires { 0 < vec_len revs }
+        requires some { 0 < vec_len revs }
+        requires few { vec_len revs ≤ last_rev + 1 }
         ensures revs { result.revs.items ≡ revs.items }
         ensures failing { result.faults.failing ≡ failing }
         ensures calls { result.faults.calls ≡ 0 }
         ensures faults { result.faults.count ≡ 0 }
     {
+        let Some(youngest) = RevNum::new(revs.len() as u64 - 1) else {
+            unreachable!()
+        };
         MemBook {
             revs,
+            youngest,
             faults: Faults::new(failing),
         }
     }
@@ -153,30 +154,32 @@ impl Book for MemBook {
 
     ghost faults = { λ b. b.faults.count };
 
-    fn youngest(&mut self) -> Result<u64, BookFault> {
-        self.call()?;
-        Ok(self.revs.len() as u64 - 1)
+    fn youngest(&mut self) -> Result<RevNum, BookFault> {
+        match self.call() {
+            Ok(()) => Ok(self.youngest),
+            Err(fault) => Err(fault),
+        }
     }
 
-    fn rev_len(&mut self, rev: u32) -> Result<u64, BookFault> {
+    fn rev_len(&mut self, rev: RevNum) -> Result<u64, BookFault> {
         self.call()?;
-        match bytes_of(&self.revs, rev) {
+        match bytes_of(&self.revs, self.youngest, rev) {
             Ok(bytes) => Ok(bytes.len() as u64),
             Err(refusal) => Err(BookFault::Refused(refusal)),
         }
     }
 
-    fn read_rev(&mut self, rev: u32, offset: u64, buffer: &mut [u8]) -> Result<usize, BookFault> {
+    fn read_rev(&mut self, rev: RevNum, offset: u64, buffer: &mut [u8]) -> Result<usize, BookFault> {
         self.call()?;
-        match bytes_of(&self.revs, rev) {
+        match bytes_of(&self.revs, self.youngest, rev) {
             Ok(bytes) => copy_part(bytes, rev, offset, buffer),
             Err(refusal) => Err(BookFault::Refused(refusal)),
         }
     }
 
-    fn read_props(&mut self, rev: u32, offset: u64, buffer: &mut [u8]) -> Result<usize, BookFault> {
+    fn read_props(&mut self, rev: RevNum, offset: u64, buffer: &mut [u8]) -> Result<usize, BookFault> {
         self.call()?;
-        match props_of(&self.revs, rev) {
+        match props_of(&self.revs, self.youngest, rev) {
             Ok(bytes) => copy_part(bytes, rev, offset, buffer),
             Err(refusal) => Err(BookFault::Refused(refusal)),
         }

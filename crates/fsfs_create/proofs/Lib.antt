@@ -2,3 +2,4 @@ pub mod CreationLemmas
 pub mod CreatedFilesLemmas
 pub mod CrashLemmas
 pub mod InitialLemmas
+pub mod FirstTexts

@@ -1,2 +1,3 @@
 pub mod NewFiles
 pub mod Creation
+pub mod FirstRoot

@@ -3,7 +3,8 @@ ghost use Rattle.std.specs.Prelude.{◌≡◌, ◌<◌, ◌++◌, ◌∷◌, [],
 ghost use Rattle.fsfs_create.specs.NewFiles.{named};
 ghost use Rattle.fsfs_layout.specs.CreatedFiles.{unpublished_files, date_properties, identifier_text as text_of_identifier};
 
-use fsfs_base::{B36, Name, Pairs};
+use crate::first_revision::write_first_revision;
+use fsfs_base::{B36, Name, Pairs, RevNum};
 use fsfs_hash::write_hash;
 use fsfs_layout::{
     Layout, Uuid as Identifier, names, write_current, write_min_unpacked_rev, write_txn_current,
@@ -63,10 +64,10 @@ pub fn created_files(
     let version = Vec::from_slice(alloc, b"5\n")?;
     let fs_type = Vec::from_slice(alloc, b"fsfs\n")?;
     let uuid = write_uuid(alloc, &identifier_of(identifier))?;
-    let current = write_current(alloc, 0)?;
+    let current = write_current(alloc, RevNum::ZERO)?;
     let txn_current = write_txn_current(alloc, &B36 { number: 0 })?;
-    let floor = write_min_unpacked_rev(alloc, layout, 0)?;
-    let revision = Vec::from_slice(alloc, REVISION_ZERO)?;
+    let floor = write_min_unpacked_rev(alloc, layout, RevNum::ZERO)?;
+    let revision = write_first_revision(alloc)?;
     let props = properties(alloc, date)?;
     let mut files = Vec::new(alloc);
     add(&mut files, names::repository_format(), version)?;
@@ -77,10 +78,7 @@ pub fn created_files(
     add(&mut files, names::min_unpacked_rev(), floor)?;
     add(&mut files, names::write_lock(), Vec::new(alloc))?;
     add(&mut files, names::txn_current_lock(), Vec::new(alloc))?;
-    add(&mut files, names::revision(layout, 0), revision)?;
-    add(&mut files, names::props(layout, 0), props)?;
+    add(&mut files, names::revision(layout, RevNum::ZERO), revision)?;
+    add(&mut files, names::props(layout, RevNum::ZERO), props)?;
     Ok(files)
 }
-
-const REVISION_ZERO: &[u8] =
-    b"PLAIN\nEND\nENDREP\nid: 0.0.r0/17\ntype: dir\ncount: 0\ntext: 0 0 4 4 2d2977d1c96f487abe4a1e202dd03b4e\ncpath: /\n\n\n17 107\n";

@@ -2,6 +2,7 @@
 #![tactic(auto)]
 
 mod creation;
+mod first_revision;
 mod initial;
 
 pub use creation::create;

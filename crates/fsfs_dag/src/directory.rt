@@ -68,8 +68,8 @@ fn name_of(name: &[u8]) -> Option<&str>
     }
 }
 
-fn stands_before(home: RevOffset, place: &Place) -> bool
-    ensures { result ≡ place_before home place.now }
+fn stands_before(home: &RevOffset, place: &Place) -> bool
+    ensures { result ≡ place_before home.now place.now }
 {
     match place {
         Place::At(rev, offset) => is_before(*rev, *offset, home),
@@ -80,14 +80,14 @@ fn stands_before(home: RevOffset, place: &Place) -> bool
 // An entry of the directory at `home`, of a pair of its dump.
 fn entry_of(
     alloc: Global,
-    home: RevOffset,
+    home: &RevOffset,
     rep: &Rep,
     name: &[u8],
     value: &[u8],
 ) -> Result<DirEntry, ReadError>
-    ensures told { Answers entry_value (EntryIn home rep.now (name.now, value.now)) result }
+    ensures told { Answers entry_value (EntryIn home.now rep.now (name.now, value.now)) result }
     ensures quiet { IsQuiet result }
-    ensures before { IfOk result (IsBefore home) }
+    ensures before { IfOk result (IsBefore home.now) }
 {
     let Some(name) = name_of(name) else {
         return Err(bad_rep(rep, RepWhat::BadName));
@@ -97,7 +97,7 @@ fn entry_of(
     };
     let (kind, id) = target;
     if !stands_before(home, &id.place) {
-        return Err(ReadError::damaged(home, DamageKind::PlaceOrder));
+        return Err(ReadError::damaged(*home, DamageKind::PlaceOrder));
     }
     match String::from_str(alloc, name) {
         Ok(name) => Ok(DirEntry { name, kind, id }),
@@ -108,13 +108,13 @@ fn entry_of(
 // The entries of the pairs, one by one.
 fn entries_of(
     alloc: Global,
-    home: RevOffset,
+    home: &RevOffset,
     rep: &Rep,
     pairs: &Pairs,
 ) -> Result<Vec<DirEntry>, ReadError>
-    ensures told { Answers (λ v. entry_values v.items) (EntriesIn home rep.now pairs.now) result }
+    ensures told { Answers (λ v. entry_values v.items) (EntriesIn home.now rep.now pairs.now) result }
     ensures quiet { IsQuiet result }
-    ensures before { IfOk result (λ v. AreBefore home v.items) }
+    ensures before { IfOk result (λ v. AreBefore home.now v.items) }
 {
     let map = pairs.as_map();
     let mut entries = Vec::new(alloc);
@@ -144,7 +144,7 @@ pub fn entries<B: Book>(
         None => Ok(Vec::new(alloc)),
         Some(rep) => {
             let pairs = pairs_in(alloc, book, rep)?;
-            entries_of(alloc, dir.place(), rep, &pairs)
+            entries_of(alloc, &dir.place(), rep, &pairs)
         }
     }
 }

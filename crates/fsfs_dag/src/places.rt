@@ -2,6 +2,7 @@
 ghost use Rattle.std.specs.Prelude.{◌≡◌};
 ghost use Rattle.fsfs_shows.specs.Reading.{offset_of};
 
+use fsfs_base::RevNum;
 use fsfs_damage::RevOffset;
 use fsfs_noderev::Place;
 
@@ -10,10 +11,10 @@ pub(crate) fn offset_of(place: Place) -> RevOffset
     ensures { result ≡ offset_of place }
 {
     match place {
-        Place::At(rev, offset) => RevOffset {
-            rev: rev.get(),
-            offset,
+        Place::At(rev, offset) => RevOffset { rev, offset },
+        Place::In(_) => RevOffset {
+            rev: RevNum::ZERO,
+            offset: 0,
         },
-        Place::In(_) => RevOffset { rev: 0, offset: 0 },
     }
 }

@@ -12,6 +12,7 @@ ghost use Rattle.fsfs_dag.specs.Views.{entry_value};
 use crate::directory::DirEntry;
 use crate::node::PlacedNode;
 use crate::places::offset_of;
+use fsfs_base::RevNum;
 use fsfs_book::{Book, BookFault};
 use fsfs_damage::{DamageKind, ReadError, RevOffset, Wrong};
 use fsfs_noderev::{MAX_NODE_REV, NodeId, NodeRev, Part, Place};
@@ -23,7 +24,7 @@ use std::alloc::Global;
 const USUAL_NODE_REV: usize = 1024;
 
 // How long a revision is.
-fn length<B: Book>(book: &mut B, rev: u32) -> Result<u64, ReadError>
+fn length<B: Book>(book: &mut B, rev: RevNum) -> Result<u64, ReadError>
     ensures told { (look : RevisionBytes) → IsTold (B.told book.old) look rev → Answers (λ n. n) (LengthOf look rev) result }
     ensures kept { Keeps (B.told book.old) (B.told book.new) }
     ensures cause { HasCause (B.faults book.old) (B.faults book.new) result }
@@ -38,9 +39,9 @@ fn length<B: Book>(book: &mut B, rev: u32) -> Result<u64, ReadError>
 }
 
 // Reads a revision's bytes from a place on, as many as there are and as fit; none past the end.
-fn window<B: Book>(book: &mut B, at: RevOffset, buffer: &mut [u8]) -> Result<usize, ReadError>
+fn window<B: Book>(book: &mut B, at: &RevOffset, buffer: &mut [u8]) -> Result<usize, ReadError>
     ensures bound { IfOk result (λ n. n ≤ length buffer.new) }
-    ensures told { (look : RevisionBytes) → IsTold (B.told book.old) look at.rev → Answers (λ n. take n buffer.new) (WindowAt look at (length buffer.old)) result }
+    ensures told { (look : RevisionBytes) → IsTold (B.told book.old) look at.now.rev → Answers (λ n. take n buffer.new) (WindowAt look at.now (length buffer.old)) result }
     ensures kept { Keeps (B.told book.old) (B.told book.new) }
     ensures cause { HasCause (B.faults book.old) (B.faults book.new) result }
 {
@@ -48,7 +49,7 @@ fn window<B: Book>(book: &mut B, at: RevOffset, buffer: &mut [u8]) -> Result<usi
 }
 
 // Where the trailer says that a revision's root stands.
-fn root_place<B: Book>(book: &mut B, rev: u32) -> Result<RevOffset, ReadError>
+fn root_place<B: Book>(book: &mut B, rev: RevNum) -> Result<RevOffset, ReadError>
     ensures told { (look : RevisionBytes) → IsTold (B.told book.old) look rev → Answers (λ at. at) (EndOf look rev) result }
     ensures rev { IfOk result (λ at. at.rev ≡ rev) }
     ensures kept { Keeps (B.told book.old) (B.told book.new) }
@@ -61,7 +62,7 @@ fn root_place<B: Book>(book: &mut B, rev: u32) -> Result<RevOffset, ReadError>
         offset: begins,
     };
     let mut tail = [0u8; TRAILER_LIMIT];
-    let count = window(book, at, &mut tail)?;
+    let count = window(book, &at, &mut tail)?;
     match read_tail(begins, &tail[..count]) {
         Some(trailer) => Ok(RevOffset {
             rev,
@@ -74,9 +75,9 @@ fn root_place<B: Book>(book: &mut B, rev: u32) -> Result<RevOffset, ReadError>
 // The node-revision that stands at a place, or why none does, of all the bytes that one may have. A function of its own, so
 // that their buffer is made only where it is wanted.
 #[inline(never)]
-fn node_in_whole<B: Book>(alloc: Global, book: &mut B, at: RevOffset) -> Result<NodeRev, ReadError>
-    ensures told { (look : RevisionBytes) → IsTold (B.told book.old) look at.rev → Answers (λ v. v) (NodeAt look at) result }
-    ensures ordered { IfOk result (λ v. is_ordered at v ≡ true) }
+fn node_in_whole<B: Book>(alloc: Global, book: &mut B, at: &RevOffset) -> Result<NodeRev, ReadError>
+    ensures told { (look : RevisionBytes) → IsTold (B.told book.old) look at.now.rev → Answers (λ v. v) (NodeAt look at.now) result }
+    ensures ordered { IfOk result (λ v. is_ordered at.now v ≡ true) }
     ensures kept { Keeps (B.told book.old) (B.told book.new) }
     ensures cause { HasCause (B.faults book.old) (B.faults book.new) result }
 {
@@ -87,9 +88,9 @@ fn node_in_whole<B: Book>(alloc: Global, book: &mut B, at: RevOffset) -> Result<
 
 // The node-revision that stands at a place. Bytes behind its text change nothing, so a front of them shows it, but what is
 // refused of a front may only be cut off: all the bytes decide.
-fn node_read<B: Book>(alloc: Global, book: &mut B, at: RevOffset) -> Result<NodeRev, ReadError>
-    ensures told { (look : RevisionBytes) → IsTold (B.told book.old) look at.rev → Answers (λ v. v) (NodeAt look at) result }
-    ensures ordered { IfOk result (λ v. is_ordered at v ≡ true) }
+fn node_read<B: Book>(alloc: Global, book: &mut B, at: &RevOffset) -> Result<NodeRev, ReadError>
+    ensures told { (look : RevisionBytes) → IsTold (B.told book.old) look at.now.rev → Answers (λ v. v) (NodeAt look at.now) result }
+    ensures ordered { IfOk result (λ v. is_ordered at.now v ≡ true) }
     ensures kept { Keeps (B.told book.old) (B.told book.new) }
     ensures cause { HasCause (B.faults book.old) (B.faults book.new) result }
 {
@@ -105,15 +106,15 @@ fn node_read<B: Book>(alloc: Global, book: &mut B, at: RevOffset) -> Result<Node
 
 /// The root of a revision: the node-revision that its trailer names. Trailer, NodeRev, PlaceOrder, OtherId and EntryKind
 /// are tried in this order.
-pub fn root_of<B: Book>(alloc: Global, book: &mut B, rev: u32) -> Result<PlacedNode, ReadError>
+pub fn root_of<B: Book>(alloc: Global, book: &mut B, rev: RevNum) -> Result<PlacedNode, ReadError>
     ensures told { (look : RevisionBytes) → Knows (B.told book.old).revs rev look → Answers (λ found. found.node) (RootOf look rev) result }
     ensures rev { IfOk result (λ found. (offset_of found.node.id.place).rev ≡ rev) }
     ensures kept { Keeps (B.told book.old) (B.told book.new) }
     ensures cause { HasCause (B.faults book.old) (B.faults book.new) result }
 {
     let at = root_place(book, rev)?;
-    let read = node_read(alloc, book, at)?;
-    let node = as_root(at, read)?;
+    let read = node_read(alloc, book, &at)?;
+    let node = as_root(&at, read)?;
     Ok(PlacedNode { node })
 }
 
@@ -183,7 +184,7 @@ pub fn named_node<B: Book>(
     ensures kept { Keeps (B.told book.old) (B.told book.new) }
     ensures cause { HasCause (B.faults book.old) (B.faults book.new) result }
 {
-    let read = node_read(alloc, book, offset_of(id.place))?;
+    let read = node_read(alloc, book, &offset_of(id.place))?;
     let node = with_id(id, read)?;
     Ok(PlacedNode { node })
 }

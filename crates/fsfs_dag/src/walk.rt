@@ -10,7 +10,7 @@ ghost use Rattle.fsfs_dag.specs.Views.{home_of, met_value};
 use crate::directory::{entries, entry_named};
 use crate::node::PlacedNode;
 use crate::reading::{child_of, root_of};
-use fsfs_base::{FsPath, Kind};
+use fsfs_base::{FsPath, Kind, RevNum};
 use fsfs_book::Book;
 use fsfs_damage::ReadError;
 use std::alloc::Global;
@@ -53,7 +53,7 @@ pub fn child_named<B: Book>(
 pub fn node_at<B: Book>(
     alloc: Global,
     book: &mut B,
-    rev: u32,
+    rev: RevNum,
     path: &FsPath,
 ) -> Result<Met, ReadError>
     ensures told { (look : RevisionBytes) → Knows (B.told book.old).revs rev look → Answers met_value (MetAt look rev path.now) result }

@@ -1,10 +1,10 @@
 //! Damage in the bytes of a revision.
-use fsfs_base::HexDigest;
+use fsfs_base::{HexDigest, RevNum};
 
 /// A place in the bytes of a revision.
 #[derive(Clone, Copy, Debug, PartialEq, Eq)]
 pub struct RevOffset {
-    pub rev: u32,
+    pub rev: RevNum,
     pub offset: u64,
 }
 

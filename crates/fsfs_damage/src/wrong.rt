@@ -4,7 +4,7 @@ ghost use Rattle.fsfs_damage.specs.Damages.{damaged};
 ghost use Rattle.fsfs_damage.specs.declared.wrong.ReadError.TheVariants.{Wrong as IsWrong};
 
 use crate::damage::{Damage, DamageKind, RevOffset};
-use fsfs_base::SmallFault;
+use fsfs_base::{RevNum, SmallFault};
 use std::alloc::AllocError;
 use thiserror::Error;
 
@@ -13,10 +13,10 @@ use thiserror::Error;
 pub enum Refusal {
     /// The revision that was asked for is above the youngest.
     #[error("there is no revision {asked}; the youngest is {youngest}")]
-    NoRev { asked: u32, youngest: u64 },
+    NoRev { asked: RevNum, youngest: RevNum },
     /// The revision's file is absent.
     #[error("the file of revision {rev} is absent")]
-    Missing { rev: u32 },
+    Missing { rev: RevNum },
     /// The small file that says where the revision stands is not in its format.
     #[error("a small file is damaged")]
     Small(SmallFault),

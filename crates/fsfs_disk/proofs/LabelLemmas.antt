@@ -1,17 +1,13 @@
 -- Which labels are kept after one was made or dropped.
-use Rattle.std.proofs.Common.{◌≡◌, ℕ, List, [], ◌∷◌, ◌++◌, Bool, true, false, cond, refl, sym, ap, subst, ◌∙◌, eq-eqb}
+use Rattle.std.proofs.Common.{◌≡◌, List, [], ◌∷◌, ◌++◌, Bool, true, false, cond, refl, sym, ap, ◌∙◌, eq-eqb}
 use Rattle.std.specs.Prelude.{◌==◌, ◌&&◌, ◌||◌, not}
-use Rattle.std.proofs.lemmas.Bool.{eqb-true}
+use Rattle.std.proofs.lemmas.Bool.{eqb-true, and_from}
 use Rattle.fsfs_disk.specs.Labels.{Label, Txn, Pack, HotCopy, same_label, has_label, without_label, with_label, AreLeft}
 use Rattle.fsfs_disk.specs.Trace.{NameChange, Put, Adopt, Rename, Remove, FirmNames, KeepLabel, DropLabel, relabelled}
 use Rattle.fsfs_disk.specs.Crash.{labels_amid}
 
-both_true : (a b : Bool) → a ≡ true → b ≡ true → (a && b) ≡ true
-both_true true b p q = q
-both_true false b p q = p
-
 pub same_label-itself : (l : Label) → same_label l l ≡ true
-same_label-itself (Txn base number) = both_true (base == base) (number == number) (eq-eqb base base refl) (eq-eqb number number refl)
+same_label-itself (Txn base number) = and_from (base == base) (number == number) (eq-eqb base base refl) (eq-eqb number number refl)
 same_label-itself (Pack shard) = eq-eqb shard shard refl
 same_label-itself HotCopy = refl
 
@@ -61,11 +57,13 @@ same_label-same HotCopy (Txn b n) is = cc
 same_label-same HotCopy (Pack b) is = cc
 same_label-same HotCopy HotCopy is = refl
 
-same_either : (b h : Bool) → (not b && h) ≡ (not b && (b || h))
+-- ---- a label behind another, by whether the two are one
+
+pub same_either : (b h : Bool) → (not b && h) ≡ (not b && (b || h))
 same_either true h = refl
 same_either false h = refl
 
-other_either : (a b h : Bool) → (a ≡ true → b ≡ false) → (a || (not b && h)) ≡ (not b && (a || h))
+pub other_either : (a b h : Bool) → (a ≡ true → b ≡ false) → (a || (not b && h)) ≡ (not b && (a || h))
 other_either true b h apart = sym (ap (λ x. not x && true) (apart refl))
 other_either false b h apart = refl
 

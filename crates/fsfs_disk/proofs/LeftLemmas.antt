@@ -3,9 +3,8 @@ use Rattle.std.proofs.Common.{◌≡◌, ◌⊎◌, ℕ, List, [], ◌∷◌, Bo
 use Rattle.std.specs.Prelude.{◌||◌, Option, Some, None}
 use Rattle.fsfs_base.specs.Files.{Files}
 use Rattle.fsfs_disk.specs.Labels.{Label, has_label, same_label, AreLeft}
-use Rattle.fsfs_disk.specs.Trace.{Trace, NameChange, KeepLabel, Operation, Done, Attempted, IsImage, ImageSince, change_of, add_operation, files_now, labels_after, labels_now, relabelled, FailsAt}
-use Rattle.fsfs_disk.specs.Crash.{IsLeftAmid, LeftSince, IsLeft, LeavesBothOnly, LeavesBoth, AllLeft, labels_amid, AreAll, AllLabels, KeepsLabels}
-use Rattle.fsfs_disk.proofs.CrashLemmas.{image_now}
+use Rattle.fsfs_disk.specs.Trace.{Trace, NameChange, KeepLabel, Operation, Done, Attempted, IsImage, ImageSince, change_of, add_operation, labels_after, labels_now, relabelled, FailsAt}
+use Rattle.fsfs_disk.specs.Crash.{IsLeftAmid, LeftSince, LeavesBothOnly, LeavesBoth, labels_amid, AreAll, AllLabels, KeepsLabels}
 use Rattle.fsfs_disk.proofs.LabelLemmas.{amid_after, left_then, has-append, same_label-same}
 
 -- this moment is one of those since an earlier one

@@ -1,11 +1,11 @@
 -- What a trace says after one call more.
-use Rattle.std.proofs.Common.{◌≡◌, ℕ, List, ◌⊎◌, inl, inr, ⊎_elim, refl, sym, ap, subst, ◌∙◌}
+use Rattle.std.proofs.Common.{◌≡◌, ℕ, List, inl, inr, ⊎_elim, refl, sym, ap, subst}
 use Rattle.std.specs.Prelude.{Option, Some, None, Result, Ok, Err, OnOk, OnErr, IfSome, IsSome, IfOk, option_map}
 use Rattle.std.specs.Prelude.{Bool, true, false}
 use Rattle.fsfs_base.specs.Files.{Files}
 use Rattle.fsfs_base.proofs.FileLemmas.{get_new}
-use Rattle.fsfs_disk.specs.Labels.{Label, has_label}
-use Rattle.fsfs_disk.specs.Trace.{Trace, NameChange, Put, Adopt, DropLabel, Performs, PerformsIfThere, Attempts, FailsAt, FailsToPut, FailsToAdopt, file_at, files_now, labels_now}
+use Rattle.fsfs_disk.specs.Labels.{Label}
+use Rattle.fsfs_disk.specs.Trace.{Trace, NameChange, Put, Adopt, DropLabel, Performs, PerformsIfThere, FailsAt, FailsToPut, FailsToAdopt, file_at, files_now}
 
 -- a file that was put is there
 pub file_at-put : (old new : Option Trace) (name bytes : List ℕ) → Performs (Put name bytes) old new → IfSome new (λ t. IsSome (file_at t name))

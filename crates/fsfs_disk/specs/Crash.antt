@@ -2,7 +2,7 @@
 use Rattle.std.specs.Prelude.{◌≡◌, ◌⊎◌, ◌≤◌, ℕ, List, [], ◌∷◌, ◌++◌, length, true, Option, Some, None}
 use Rattle.fsfs_base.specs.Files.{Files}
 use Rattle.fsfs_disk.specs.Labels.{Label, has_label, AreLeft}
-use Rattle.fsfs_disk.specs.Trace.{Trace, NameChange, Operation, Put, Adopt, Rename, Remove, FirmNames, KeepLabel, DropLabel, Done, Attempted, IsImage, ImageAfter, TornBy, ImageSince, change_of, files_now, files_after, labels_now, labels_after}
+use Rattle.fsfs_disk.specs.Trace.{Trace, NameChange, Operation, KeepLabel, IsImage, ImageAfter, TornBy, ImageSince, change_of, files_now, files_after, labels_now, labels_after}
 
 -- each image of this moment has P
 abbrev pub AllImages : Option Trace → (Files → Type 0) → Type 0

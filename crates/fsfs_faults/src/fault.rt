@@ -1,7 +1,7 @@
 //! What a command answers but success.
 ghost use Rattle.fsfs_faults.specs.Faults.{IsFromLook};
 
-use fsfs_base::{BadPath, FsPath, SmallFault};
+use fsfs_base::{BadPath, FsPath, RevNum, SmallFault};
 use fsfs_cli::WordsFault;
 use fsfs_damage::{Damage, DamageKind, Refusal, RevOffset, Wrong};
 use fsfs_places::{CreateFault, DiskPlace, OpenFault};
@@ -29,7 +29,7 @@ pub enum Fault {
     NotFile(FsPath),
     /// The revision is above the youngest.
     #[error("there is no such revision")]
-    NoRev { asked: u64, youngest: u64 },
+    NoRev { asked: u64, youngest: RevNum },
     /// There is a repository at the path.
     #[error("there is a repository")]
     AlreadyRepo,
@@ -122,7 +122,7 @@ impl From<Wrong> for Fault {
     fn from(wrong: Wrong) -> Fault {
         match wrong {
             Wrong::Refused(Refusal::NoRev { asked, youngest }) => Fault::NoRev {
-                asked: asked as u64,
+                asked: asked.get() as u64,
                 youngest,
             },
             Wrong::Refused(Refusal::Missing { rev }) => Fault::Corrupt(Damage {

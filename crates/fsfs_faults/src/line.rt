@@ -94,7 +94,7 @@ fn numbers_text(first: u64, second: u64) -> ArrayString<42>
 fn at_text(at: RevOffset) -> ArrayString<42>
     ensures { result.bytes ≡ at_values at }
 {
-    numbers_text(at.rev as u64, at.offset)
+    numbers_text(at.rev.get() as u64, at.offset)
 }
 
 // A hexadecimal digit.
@@ -192,7 +192,7 @@ fn fixed_values_text(fault: &Fault) -> ArrayString<192>
         }
         Fault::NotFound(_) | Fault::NotDir(_) | Fault::NotFile(_) => text.push_str(" "),
         Fault::NoRev { asked, youngest } => {
-            text.push_str(numbers_text(*asked, *youngest).as_str());
+            text.push_str(numbers_text(*asked, youngest.get() as u64).as_str());
         }
         Fault::OtherFormat(number) => text.push_str(number_text(*number).as_str()),
         Fault::Small(small) => {

@@ -16,6 +16,7 @@ use crate::manifests::KeptManifest;
 use crate::owned::OwnedReads;
 use crate::packs::{packed_len, packed_part};
 use crate::reads::Reads;
+use fsfs_base::RevNum;
 use fsfs_book::{Book, BookFault};
 use fsfs_damage::Refusal;
 use fsfs_disk::Disk;
@@ -29,14 +30,14 @@ use std::alloc::Global;
 pub struct Direct<R: Reads> {
     alloc: Global,
     reads: R,
-    floor: u32,
+    floor: RevNum,
     kept: Option<KeptManifest>,
 }
 
 impl<R: Reads> Direct<R> {
     /// A book over this store, which begins with this floor. With the floor that the files have, all is told that they say
     /// of the revisions that there are.
-    pub fn new(alloc: Global, reads: R, floor: u32) -> Direct<R>
+    pub fn new(alloc: Global, reads: R, floor: RevNum) -> Direct<R>
         ensures reads { result.reads ≡ reads }
         ensures floor { result.floor ≡ floor }
         ensures kept { result.kept ≡ None }
@@ -61,7 +62,7 @@ impl<R: Reads> Direct<R> {
     }
 
     /// The floor that it keeps.
-    pub fn floor(&self) -> u32
+    pub fn floor(&self) -> RevNum
         ensures { result ≡ self.now.floor }
     {
         self.floor
@@ -73,9 +74,9 @@ impl<R: Reads> Direct<R> {
 pub fn over_disk<D: Disk>(
     alloc: Global,
     disk: D,
-    youngest: u32,
+    youngest: RevNum,
     layout: Layout,
-    floor: u32,
+    floor: RevNum,
 ) -> Direct<OwnedReads<D>>
     ensures disk { result.reads.disk ≡ disk }
     ensures told { (t : Trace) → D.trace disk ≡ Some t → floor_in layout (files_now t) ≡ Ok floor
@@ -95,14 +96,14 @@ pub fn disk_of<D: Disk>(book: Direct<OwnedReads<D>>) -> D
 }
 
 // Refuses a revision above the youngest.
-fn check_rev<R: Reads>(reads: &mut R, rev: u32) -> Result<(), BookFault>
+fn check_rev<R: Reads>(reads: &mut R, rev: RevNum) -> Result<(), BookFault>
     ensures there { OnOk result ((n : ℕ) × IsYoungest (R.view reads.new).reach n × (rev ≤ n)) }
     ensures above { IfErr result (λ e. (n : ℕ) × IsYoungest (R.view reads.new).reach n × (n < rev) × (e ≡ Refused (NoRev rev n))) }
     ensures later { Later (R.view reads.old) (R.view reads.new) }
     ensures faults { R.faults reads.old ≤ R.faults reads.new }
 {
     let youngest = reads.youngest();
-    if youngest < rev as u64 {
+    if youngest < rev {
         return Err(BookFault::Refused(Refusal::NoRev {
             asked: rev,
             youngest,
@@ -115,9 +116,9 @@ fn check_rev<R: Reads>(reads: &mut R, rev: u32) -> Result<(), BookFault>
 fn part_once_more<R: Reads>(
     alloc: Global,
     reads: &mut R,
-    floor: &mut u32,
+    floor: &mut RevNum,
     kept: &mut Option<KeptManifest>,
-    rev: u32,
+    rev: RevNum,
     offset: u64,
     buffer: &mut [u8],
 ) -> Result<usize, BookFault>
@@ -143,9 +144,9 @@ fn part_once_more<R: Reads>(
 fn part_of<R: Reads>(
     alloc: Global,
     reads: &mut R,
-    floor: &mut u32,
+    floor: &mut RevNum,
     kept: &mut Option<KeptManifest>,
-    rev: u32,
+    rev: RevNum,
     offset: u64,
     buffer: &mut [u8],
 ) -> Result<usize, BookFault>
@@ -170,9 +171,9 @@ fn part_of<R: Reads>(
 fn len_once_more<R: Reads>(
     alloc: Global,
     reads: &mut R,
-    floor: &mut u32,
+    floor: &mut RevNum,
     kept: &mut Option<KeptManifest>,
-    rev: u32,
+    rev: RevNum,
 ) -> Result<u64, BookFault>
     ensures told { (m : Files) → IsGoneAt (R.view reads.old) rev m → Gives (λ n. n) result (size_read (rev_bytes (R.view reads.old).layout m rev)) }
     ensures finds { FindsAsWell (R.view reads.old) floor.old kept.old (R.view reads.new) floor.new kept.new }
@@ -195,9 +196,9 @@ fn len_once_more<R: Reads>(
 fn len_of<R: Reads>(
     alloc: Global,
     reads: &mut R,
-    floor: &mut u32,
+    floor: &mut RevNum,
     kept: &mut Option<KeptManifest>,
-    rev: u32,
+    rev: RevNum,
 ) -> Result<u64, BookFault>
     ensures told { (m : Files) → IsFoundAt (R.view reads.old) floor.old kept.old rev m → Gives (λ n. n) result (size_read (rev_bytes (R.view reads.old).layout m rev)) }
     ensures finds { FindsAsWell (R.view reads.old) floor.old kept.old (R.view reads.new) floor.new kept.new }
@@ -218,7 +219,7 @@ fn len_of<R: Reads>(
 // A part of the properties of a revision that there is.
 fn props_of<R: Reads>(
     reads: &mut R,
-    rev: u32,
+    rev: RevNum,
     offset: u64,
     buffer: &mut [u8],
 ) -> Result<usize, BookFault>
@@ -246,11 +247,11 @@ impl<R: Reads> Book for Direct<R> {
 
     ghost faults = { λ d. R.faults d.reads };
 
-    fn youngest(&mut self) -> Result<u64, BookFault> {
+    fn youngest(&mut self) -> Result<RevNum, BookFault> {
         Ok(self.reads.youngest())
     }
 
-    fn rev_len(&mut self, rev: u32) -> Result<u64, BookFault> {
+    fn rev_len(&mut self, rev: RevNum) -> Result<u64, BookFault> {
         check_rev(&mut self.reads, rev)?;
         len_of(
             self.alloc,
@@ -261,7 +262,7 @@ impl<R: Reads> Book for Direct<R> {
         )
     }
 
-    fn read_rev(&mut self, rev: u32, offset: u64, buffer: &mut [u8]) -> Result<usize, BookFault> {
+    fn read_rev(&mut self, rev: RevNum, offset: u64, buffer: &mut [u8]) -> Result<usize, BookFault> {
         check_rev(&mut self.reads, rev)?;
         part_of(
             self.alloc,
@@ -274,7 +275,7 @@ impl<R: Reads> Book for Direct<R> {
         )
     }
 
-    fn read_props(&mut self, rev: u32, offset: u64, buffer: &mut [u8]) -> Result<usize, BookFault> {
+    fn read_props(&mut self, rev: RevNum, offset: u64, buffer: &mut [u8]) -> Result<usize, BookFault> {
         check_rev(&mut self.reads, rev)?;
         props_of(&mut self.reads, rev, offset, buffer)
     }

@@ -10,7 +10,7 @@ ghost use Rattle.fsfs_fetch.specs.Answers.{Stays, MayGo, FromFile, part_of_file,
 
 use crate::parts::StoreParts;
 use crate::reads::Reads;
-use fsfs_base::Name;
+use fsfs_base::{Name, RevNum};
 use fsfs_book::BookFault;
 use fsfs_whole_file::{FileFault, read_file};
 use std::alloc::Global;
@@ -78,7 +78,7 @@ pub(crate) fn file_len<R: Reads>(reads: &mut R, name: &Name) -> Result<Option<u6
 pub(crate) fn file_part<R: Reads>(
     reads: &mut R,
     name: &Name,
-    rev: u32,
+    rev: RevNum,
     offset: u64,
     buffer: &mut [u8],
 ) -> Result<Option<usize>, BookFault>

@@ -8,12 +8,13 @@ ghost use Rattle.fsfs_fetch.specs.Answers.{refused};
 use crate::files::read_at;
 use crate::manifests::KeptManifest;
 use crate::reads::Reads;
+use fsfs_base::RevNum;
 use fsfs_book::BookFault;
 use fsfs_damage::Refusal;
 use fsfs_layout::{names, read_min_unpacked_rev};
 
 // Reads the floor, by one call.
-fn read_floor<R: Reads>(reads: &mut R) -> Result<u32, BookFault>
+fn read_floor<R: Reads>(reads: &mut R) -> Result<RevNum, BookFault>
     ensures told { IfSome (R.view reads.new).files (λ m. Gives (λ n. n) result (refused (floor_in (R.view reads.new).layout m))) }
     ensures about { (rev offset : ℕ) → IfErr result (IsAbout rev offset) }
     ensures later { Later (R.view reads.old) (R.view reads.new) }
@@ -32,7 +33,7 @@ fn read_floor<R: Reads>(reads: &mut R) -> Result<u32, BookFault>
 /// Reads the floor again, and lets go of the manifest that was kept.
 pub(crate) fn refresh<R: Reads>(
     reads: &mut R,
-    floor: &mut u32,
+    floor: &mut RevNum,
     kept: &mut Option<KeptManifest>,
 ) -> Result<(), BookFault>
     ensures told { IfSome (R.view reads.new).files (λ m. Gives (λ _. floor.new) result (refused (floor_in (R.view reads.new).layout m))) }

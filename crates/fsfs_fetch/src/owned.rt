@@ -2,7 +2,7 @@
 ghost use Rattle.std.specs.Prelude.{◌≡◌, ◌<◌};
 
 use crate::reads::Reads;
-use fsfs_base::{Failed, Name};
+use fsfs_base::{Failed, Name, RevNum};
 use fsfs_disk::Disk;
 use fsfs_layout::Layout;
 
@@ -10,12 +10,12 @@ use fsfs_layout::Layout;
 #[derive(Drop)]
 pub struct OwnedReads<D: Disk> {
     disk: D,
-    youngest: u32,
+    youngest: RevNum,
     layout: Layout,
 }
 
 impl<D: Disk> OwnedReads<D> {
-    pub fn new(disk: D, youngest: u32, layout: Layout) -> OwnedReads<D>
+    pub fn new(disk: D, youngest: RevNum, layout: Layout) -> OwnedReads<D>
         ensures disk { result.disk ≡ disk }
         ensures youngest { result.youngest ≡ youngest }
         ensures layout { result.layout ≡ layout }
@@ -48,8 +48,8 @@ impl<D: Disk> Reads for OwnedReads<D> {
         self.layout
     }
 
-    fn youngest(&mut self) -> u64 {
-        self.youngest as u64
+    fn youngest(&mut self) -> RevNum {
+        self.youngest
     }
 
     fn read(

@@ -12,7 +12,7 @@ ghost use Rattle.fsfs_fetch.specs.Answers.{as_book, Stays};
 use crate::files::{read_at, size_at};
 use crate::manifests::{KeptManifest, keep_manifest, offsets_of};
 use crate::reads::Reads;
-use fsfs_base::fitting;
+use fsfs_base::{RevNum, fitting};
 use fsfs_book::BookFault;
 use fsfs_damage::Refusal;
 use fsfs_layout::names;
@@ -37,7 +37,7 @@ fn packed_section<R: Reads>(
     alloc: Global,
     reads: &mut R,
     kept: &mut Option<KeptManifest>,
-    rev: u32,
+    rev: RevNum,
 ) -> Result<Section, BookFault>
     ensures told { (m : Files) → IsPackedAt (R.view reads.old) kept.old rev m
         → Gives (λ s. s) result (as_book (section_in_files (R.view reads.old).layout m rev)) }
@@ -61,7 +61,7 @@ pub(crate) fn packed_len<R: Reads>(
     alloc: Global,
     reads: &mut R,
     kept: &mut Option<KeptManifest>,
-    rev: u32,
+    rev: RevNum,
 ) -> Result<u64, BookFault>
     ensures told { (m : Files) → IsPackedAt (R.view reads.old) kept.old rev m
         → Gives (λ n. n) result (size_read (packed_bytes (R.view reads.old).layout m rev)) }
@@ -77,7 +77,7 @@ pub(crate) fn packed_len<R: Reads>(
 // A part of a section of a pack.
 fn section_part<R: Reads>(
     reads: &mut R,
-    rev: u32,
+    rev: RevNum,
     section: Section,
     offset: u64,
     buffer: &mut [u8],
@@ -109,7 +109,7 @@ pub(crate) fn packed_part<R: Reads>(
     alloc: Global,
     reads: &mut R,
     kept: &mut Option<KeptManifest>,
-    rev: u32,
+    rev: RevNum,
     offset: u64,
     buffer: &mut [u8],
 ) -> Result<usize, BookFault>

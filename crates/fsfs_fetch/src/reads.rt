@@ -6,7 +6,7 @@ ghost use Rattle.fsfs_disk.specs.Benches.{HasShortFiles};
 ghost use Rattle.fsfs_disk.specs.Trace.{IsRead, IsSize};
 ghost use Rattle.fsfs_fetch.specs.Views.{View, Later, IsYoungest};
 
-use fsfs_base::{Failed, Name};
+use fsfs_base::{Failed, Name, RevNum};
 use fsfs_layout::Layout;
 
 /// A store of revisions that is read: the files of a repository, of which others may make more, and pack some, between
@@ -23,7 +23,7 @@ pub trait Reads {
         ensures { result ≡ (view self.now).layout };
 
     /// The youngest revision.
-    fn youngest(&mut self) -> u64
+    fn youngest(&mut self) -> RevNum
         ensures youngest { IsYoungest (view self.new).reach result }
         ensures later { Later (view self.old) (view self.new) }
         ensures faults { faults self.old ≤ faults self.new };

@@ -6,6 +6,8 @@ ghost use Rattle.fsfs_fields.specs.RevNums.{last_rev, IsRev, IsRevEnded, rev_at,
 
 use fsfs_grammar::decimals::{decimal, plain_decimal, put_dec, put_decimal};
 use std::alloc::AllocError;
+use std::fmt;
+use std::fmt::Display;
 use std::marker::Model;
 
 /// The last number that a revision may have. (This project's profile.)
@@ -38,6 +40,16 @@ impl From<u16> for RevNum {
         RevNum {
             number: number as u32,
         }
+    }
+}
+
+impl Display for RevNum {
+    ghost use Rattle.std.specs.Prelude.{Some, decimal};
+
+    ghost output = { λ rev. Some (decimal rev) };
+
+    fn fmt<W: fmt::Write>(&self, f: &mut fmt::Formatter<W>) -> fmt::Result {
+        write!(f, "{}", self.number)
     }
 }
 

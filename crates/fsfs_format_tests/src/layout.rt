@@ -96,9 +96,9 @@ fn manifest_again(alloc: Global, bytes: &[u8]) -> Result<Vec<u8>, Fail> {
 #[test]
 fn written(rt: HostRuntime) -> Result<(), Fail> {
     let alloc = rt.alloc();
-    assert_eq!(rt; write_current(alloc, 12)?.as_slice(), b"12\n".as_slice());
+    assert_eq!(rt; write_current(alloc, RevNum::from(12))?.as_slice(), b"12\n".as_slice());
     assert_eq!(rt;
-        write_min_unpacked_rev(alloc, Layout::sharded(4), 8)?.as_slice(),
+        write_min_unpacked_rev(alloc, Layout::sharded(4), RevNum::from(8))?.as_slice(),
         b"8\n".as_slice()
     );
     let text = write_format(alloc, &Format::Sharded(1000))?;
@@ -120,11 +120,11 @@ fn written(rt: HostRuntime) -> Result<(), Fail> {
         b"0\n115\n".as_slice()
     );
     assert_eq!(rt;
-        names::revision(Layout::sharded(1000), 1234).as_str(),
+        names::revision(Layout::sharded(1000), RevNum::from(1234)).as_str(),
         "db/revs/1/1234"
     );
     assert_eq!(rt;
-        names::props(Layout::sharded(1000), 1234).as_str(),
+        names::props(Layout::sharded(1000), RevNum::from(1234)).as_str(),
         "db/revprops/1/1234"
     );
     assert_eq!(rt; names::manifest(3).as_str(), "db/revs/3.pack/manifest");

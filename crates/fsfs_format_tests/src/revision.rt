@@ -1,5 +1,5 @@
 //! Trailers and roots, worked out by hand.
-use fsfs_base::Kind;
+use fsfs_base::{Kind, RevNum};
 use fsfs_damage::{DamageKind, ReadError, RevOffset};
 use fsfs_noderev::read_id;
 use fsfs_revision::{Trailer, put_trailer, read_root, read_tail, read_trailer};
@@ -35,10 +35,11 @@ fn trailers_and_roots(rt: HostRuntime) -> Result<(), Fail> {
     put_trailer(&mut out, near)?;
     assert_eq!(rt; out.as_slice(), b"xyz\n2 3\n".as_slice());
     let bytes = b"id: 0.0.r7/0\ntype: dir\ncpath: /\n\n\n0 33\n".as_slice();
-    let root = read_root(rt.alloc(), 7, bytes).ok().ok_or("a root")?;
+    let root = read_root(rt.alloc(), RevNum::from(7), bytes).ok().ok_or("a root")?;
     assert_eq!(rt; root.id, read_id(b"0.0.r7/0").ok_or("an id")?);
     assert!(rt; root.kind == Kind::Dir && root.created_path.is_root());
-    let other = ReadError::damaged(RevOffset { rev: 8, offset: 0 }, DamageKind::OtherId);
-    assert_eq!(rt; read_root(rt.alloc(), 8, bytes).err(), Some(other));
+    let rev = RevNum::from(8);
+    let other = ReadError::damaged(RevOffset { rev, offset: 0 }, DamageKind::OtherId);
+    assert_eq!(rt; read_root(rt.alloc(), rev, bytes).err(), Some(other));
     Ok(())
 }

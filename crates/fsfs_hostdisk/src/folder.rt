@@ -91,6 +91,11 @@ pub fn file_length(file: &File) -> io::Result<u64> {
     length_in(&finished(|| file.metadata())?)
 }
 
+// Whether two looks at names saw one file or folder.
+fn is_one(one: &Metadata, two: &Metadata) -> bool {
+    one.dev() == two.dev() && one.ino() == two.ino()
+}
+
 fn length_in(found: &Metadata) -> io::Result<u64> {
     if found.is_file() {
         Ok(found.len())
@@ -129,9 +134,37 @@ impl<R: Files<File = File> + AllocGlobal + Clone + Drop> Folder<R> {
     pub fn has_name(&self, file: &File, name: &str) -> io::Result<bool> {
         let open = finished(|| file.metadata())?;
         match self.found(name)? {
-            Some(named) => Ok(named.dev() == open.dev() && named.ino() == open.ino()),
+            Some(named) => Ok(is_one(&named, &open)),
             None => Ok(false),
         }
+    }
+
+    // Whether two names are those of one file or folder.
+    pub fn is_same(&self, name: &str, other: &str) -> io::Result<bool> {
+        match (self.found(name)?, self.found(other)?) {
+            (Some(one), Some(two)) => Ok(is_one(&one, &two)),
+            _ => Ok(false),
+        }
+    }
+
+    // Whether something stands in a folder that isn't expected there.
+    pub fn has_other<F: Fn(&str, &str) -> bool>(
+        &self,
+        name: &str,
+        is_expected: F,
+    ) -> io::Result<bool>
+        requires { F.IsAlwaysCallable is_expected }
+    {
+        if !self.is_folder(name) {
+            return Ok(false);
+        }
+        for entry in fs::read_dir(&self.rt, self.path_of(name)?.as_str())? {
+            let entry = entry?;
+            if !is_expected(name, entry.file_name()) {
+                return Ok(true);
+            }
+        }
+        Ok(false)
     }
 
     // The length of a file. A folder in its place is an error.
@@ -142,8 +175,11 @@ impl<R: Files<File = File> + AllocGlobal + Clone + Drop> Folder<R> {
         }
     }
 
-    // A file, open for reading.
+    // A file, open for reading. What is no file isn't opened: a pipe would be waited for, and a device has no end.
     pub fn open_to_read(&self, name: &str) -> io::Result<Option<File>> {
+        if self.size(name)?.is_none() {
+            return Ok(None);
+        }
         match File::open(&self.rt, self.path_of(name)?) {
             Ok(file) => Ok(Some(file)),
             Err(error) if is_absent(&error) => Ok(None),

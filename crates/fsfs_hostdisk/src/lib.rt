@@ -8,6 +8,7 @@ mod bench;
 mod disk;
 mod faults;
 mod folder;
+mod ground;
 mod last_read;
 mod machine;
 mod once;

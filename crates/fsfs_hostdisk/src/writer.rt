@@ -1,6 +1,7 @@
 // What a disk that writes keeps: the lock, and what changed below its folder.
 use crate::bench::BenchPlace;
 use crate::folder::{Folder, parent_of, refuse_too_long};
+use crate::ground::{refuse_below_repository, refuse_other_files};
 use std::alloc::{AllocGlobal, Global};
 use std::fs::{File, Files, TryLockError};
 use std::io;
@@ -123,8 +124,8 @@ impl Writer {
         }
     }
 
-    // Takes the lock. Where the repository's folder isn't there and can't be
-    // made, there is nothing to lock, and the disk goes without.
+    // Takes the lock, where a repository may be written. Where the repository's folder isn't there and can't be made, there is
+    // nothing to lock, and the disk goes without.
     pub fn take_lock<R: Files<File = File> + AllocGlobal + Clone + Drop>(
         &mut self,
         folder: &Folder<R>,
@@ -132,6 +133,8 @@ impl Writer {
         if !folder.is_folder("") && self.make(folder, "").is_err() {
             return Ok(());
         }
+        refuse_below_repository(folder)?;
+        refuse_other_files(folder)?;
         self.make(folder, "db")?;
         self.lock = Some(locked(folder)?);
         self.note_unfinished(folder)

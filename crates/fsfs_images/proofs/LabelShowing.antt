@@ -1,24 +1,12 @@
 -- Labels of a disk are read as the machine's.
 use Rattle.std.proofs.Common.{◌≡◌, ℕ, List, [], ◌∷◌, Bool, true, false, cond, refl, sym, ap, ◌∙◌, eq-eqb}
-use Rattle.std.proofs.lemmas.Bool.{eqb-true}
+use Rattle.std.proofs.lemmas.Bool.{eqb-true, false_from_ne_true}
 use Rattle.std.specs.Prelude.{◌==◌, ◌&&◌, ◌||◌, not}
 use Rattle.fsfs_disk.specs.Labels.{Label, same_label, AreLeft}
 use Rattle.fsfs_disk.specs.Labels as held
-use Rattle.fsfs_disk.proofs.LabelLemmas.{has-with_label, has-without_label}
+use Rattle.fsfs_disk.proofs.LabelLemmas.{same_either, other_either, has-with_label, has-without_label}
 use Rattle.fsfs_machine.specs.Machine.{has_label, without, labels_left, label_where}
 use Rattle.fsfs_images.specs.Shown.{AreLabelNames, ShowsLabels, LabelsAreShown}
-
-same_either : (b h : Bool) → (not b && h) ≡ (not b && (b || h))
-same_either true h = refl
-same_either false h = refl
-
-other_either : (a b h : Bool) → (a ≡ true → b ≡ false) → (a || (not b && h)) ≡ (not b && (a || h))
-other_either true b h apart = sym (ap (λ x. not x && true) (apart refl))
-other_either false b h apart = refl
-
-false_from : (b : Bool) → (b ≡ true → ⊥) → b ≡ false
-false_from true no_way = absurd (no_way refl)
-false_from false no_way = refl
 
 -- which of the machine's labels are left after one was dropped
 has-without : (k q : ℕ) (xs : List ℕ) → has_label q (without k xs) ≡ (not (k == q) && has_label q xs)
@@ -32,7 +20,7 @@ has-without k q (x ∷ xs) = by_test (x == k) (has-without k q xs) refl where
   by_test false rest is =
       ap (λ b. x == q || b) rest
       ∙ other_either (x == q) (k == q) (has_label q xs)
-      (λ e. false_from (k == q) (λ t. let h : true ≡ false = sym (eq-eqb x k (eqb-true x q e ∙ sym (eqb-true k q t))) ∙ is in cc))
+      (λ e. false_from_ne_true (k == q) (λ t. let h : true ≡ false = sym (eq-eqb x k (eqb-true x q e ∙ sym (eqb-true k q t))) ∙ is in cc))
 
 picked_first : (a h f g : Bool) → (a ≡ true → f ≡ g) → cond f (a || (h && g)) (h && g) ≡ ((a || h) && g)
 picked_first true h true true is = refl

@@ -20,7 +20,7 @@ appended {X} {G} {a} {b} {x} none w =
     let e : w.text ≡ b = sym (w.parts ∙ ap (λ (t : List ℕ). t ++ w.text) none) in
     subst (λ (t : List ℕ). G t x) e w.text_is
 
-pub decimal_line : (a b : List ℕ) (n : ℕ) → a ≡ [] → n < 2 ^ 64 → Appends (IsNumber 10 18446744073709551615 10) a b n → b ≡ decimal n ++ 10 ∷ []
+pub decimal_line : {limit : ℕ} (a b : List ℕ) (n : ℕ) → a ≡ [] → n < 2 ^ 64 → Appends (IsNumber 10 limit 10) a b n → b ≡ decimal n ++ 10 ∷ []
 decimal_line a b n none lt w =
     let is = appended none w in
     is.parts ∙ ap (λ (t : List ℕ). t ++ 10 ∷ []) (numeral_decimal is.digits n lt is.numeral)

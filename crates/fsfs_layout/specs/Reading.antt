@@ -3,11 +3,12 @@ use Rattle.std.specs.Prelude.{ℕ, zero, suc, List, [], ◌∷◌, length, take,
 use Rattle.fsfs_grammar.specs.Grammar.{begins}
 use Rattle.fsfs_grammar.specs.Reading.{◌>>=◌, text_at, whole}
 use Rattle.fsfs_grammar.specs.Numeral.{number_at}
+use Rattle.fsfs_fields.specs.RevNums.{rev_ended_at}
 use Rattle.fsfs_layout.specs.declared.format_file.Format.{Format}
 use Rattle.fsfs_layout.specs.declared.format_file.Format.TheVariants.{Linear, Sharded, Other}
 
 abbrev pub rev_line_at : List ℕ → Result ℕ ℕ
-rev_line_at bytes = whole (number_at 10 2147483647 10 bytes)
+rev_line_at bytes = whole (rev_ended_at 10 bytes)
 
 abbrev pub base36_line_at : List ℕ → Result ℕ ℕ
 base36_line_at bytes = whole (number_at 36 170581728179578208255 10 bytes)

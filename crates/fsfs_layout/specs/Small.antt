@@ -2,6 +2,7 @@
 use Rattle.std.specs.Prelude.{◌≡◌, ◌≢◌, ℕ, List, [], ◌∷◌, length, ◌⊎◌}
 use Rattle.fsfs_grammar.specs.Grammar.{Then, IsText, Mapped, IsFaultAt}
 use Rattle.fsfs_grammar.specs.Numeral.{IsNumber}
+use Rattle.fsfs_fields.specs.RevNums.{IsRevEnded}
 use Rattle.fsfs_base.specs.declared.small_fault.SmallFile.{SmallFile}
 use Rattle.fsfs_base.specs.declared.small_fault.SmallFile.TheVariants.{MinUnpackedRev}
 use Rattle.fsfs_base.specs.declared.small_fault.SmallFault.{SmallFault}
@@ -11,7 +12,7 @@ use Rattle.fsfs_layout.specs.declared.layout.Layout.{Layout}
 
 -- `<revision>\n`
 abbrev pub IsRevLine : List ℕ → ℕ → Type 0
-IsRevLine = IsNumber 10 2147483647 10
+IsRevLine = IsRevEnded 10
 
 -- `<revision>\n` of the first revision of a shard
 abbrev pub IsMinUnpackedRev : Layout → List ℕ → ℕ → Type 0

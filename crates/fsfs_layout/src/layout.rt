@@ -1,6 +1,8 @@
 //! How the files of a repository are laid out.
 ghost use Rattle.std.specs.Prelude.{◌≡◌, ◌≤◌, ◌<◌, ◌/◌, ◌%◌};
 
+use fsfs_base::RevNum;
+
 /// How the files of a repository are laid out: format 4, with its revisions in shards of one size, from 1 to 2,147,483,647.
 #[derive(Clone, Copy, Debug, PartialEq, Eq)]
 pub struct Layout {
@@ -29,16 +31,16 @@ impl Layout {
     }
 
     /// The shard that a revision is in.
-    pub fn shard_of(self, rev: u32) -> u32
+    pub fn shard_of(self, rev: RevNum) -> u32
         ensures { result ≡ rev / self.shard_size }
     {
-        rev / self.shard_size
+        rev.get() / self.shard_size
     }
 
     /// How many revisions stand before this one in its shard.
-    pub fn place_in_shard(self, rev: u32) -> u32
+    pub fn place_in_shard(self, rev: RevNum) -> u32
         ensures { result ≡ rev % self.shard_size }
     {
-        rev % self.shard_size
+        rev.get() % self.shard_size
     }
 }

@@ -9,7 +9,7 @@ ghost use Rattle.fsfs_layout.specs.FileNames.{only_name, small_name, NamesAreApa
 
 use crate::layout::Layout;
 use crate::only_file::OnlyFile;
-use fsfs_base::{Name, SmallFile, TxnName};
+use fsfs_base::{Name, RevNum, SmallFile, TxnName};
 use itoa::Buffer;
 
 /// The file that says which version of the repository's own layout it has.
@@ -147,22 +147,22 @@ pub fn props_shard(shard: u32) -> Name
 }
 
 /// A revision's file, before it is packed.
-pub fn revision(layout: Layout, rev: u32) -> Name
+pub fn revision(layout: Layout, rev: RevNum) -> Name
     ensures { result ≡ in_shard (codes "db/revs") layout rev }
 {
     let mut name = shard(layout.shard_of(rev));
     name.push('/');
-    name.push_str(Buffer::new().format(rev));
+    name.push_str(Buffer::new().format(rev.get()));
     name
 }
 
 /// The file of a revision's properties.
-pub fn props(layout: Layout, rev: u32) -> Name
+pub fn props(layout: Layout, rev: RevNum) -> Name
     ensures { result ≡ in_shard (codes "db/revprops") layout rev }
 {
     let mut name = props_shard(layout.shard_of(rev));
     name.push('/');
-    name.push_str(Buffer::new().format(rev));
+    name.push_str(Buffer::new().format(rev.get()));
     name
 }
 

@@ -2,16 +2,16 @@
 
 use crate::layout::Layout;
 use crate::uuid_file::Uuid;
-use fsfs_base::B36;
+use fsfs_base::{B36, RevNum};
 
 /// What the small files of a repository say.
 #[derive(Drop)]
 pub struct Opened {
     pub uuid: Uuid,
     pub layout: Layout,
-    pub youngest: u32,
+    pub youngest: RevNum,
     /// The oldest revision that isn't packed: the first of a shard, at most the one that follows the youngest.
-    pub min_unpacked_rev: u32,
+    pub min_unpacked_rev: RevNum,
     /// The number that the next transaction gets.
     pub next_txn: B36,
 }

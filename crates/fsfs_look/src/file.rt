@@ -11,7 +11,7 @@ ghost use Rattle.fsfs_look.specs.Written.{Writes, HasDiskCause, HasSinkCause};
 use crate::look_error::LookError;
 use crate::path::found_at;
 use crate::piece::write_piece;
-use fsfs_base::{FsPath, Kind, fitting};
+use fsfs_base::{FsPath, Kind, RevNum, fitting};
 use fsfs_book::Book;
 use fsfs_damage::{ReadError, RepWhat};
 use fsfs_noderev::Rep;
@@ -68,7 +68,7 @@ fn read_piece<B: Book>(
 {
     let Some(rev) = rep.rev else { unreachable!() };
     let want = fitting(piece.len(), rep.length - done);
-    let count = window(book, rev.get(), position(rep, done), &mut piece[..want])?;
+    let count = window(book, rev, position(rep, done), &mut piece[..want])?;
     if count == 0 {
         return Err(bad_rep(rep, RepWhat::EndRep));
     }
@@ -108,7 +108,7 @@ fn write_rep<B: Book, S: Sink>(
 pub fn cat<B: Book, S: Sink>(
     alloc: Global,
     book: &mut B,
-    rev: u32,
+    rev: RevNum,
     path: &FsPath,
     sink: &mut S,
 ) -> Result<(), LookError>

@@ -6,7 +6,7 @@ ghost use Rattle.fsfs_look.specs.Paths.{IsFound};
 ghost use Rattle.fsfs_look.specs.Written.{HasDiskCause, HasSinkCause};
 
 use crate::look_error::LookError;
-use fsfs_base::FsPath;
+use fsfs_base::{FsPath, RevNum};
 use fsfs_book::Book;
 use fsfs_dag::{Met, PlacedNode, node_at};
 use fsfs_printed::LookFault;
@@ -16,7 +16,7 @@ use std::alloc::Global;
 pub(crate) fn found_at<B: Book>(
     alloc: Global,
     book: &mut B,
-    rev: u32,
+    rev: RevNum,
     path: &FsPath,
 ) -> Result<PlacedNode, LookError>
     ensures told { (look : RevisionBytes) → Knows (B.told book.old).revs rev look → IsFound look rev path.now result }

@@ -1,5 +1,5 @@
 -- What a step answers is true: bytes and properties are those of the history, names were given, and what was purged is gone.
-use Rattle.std.proofs.Common.{◌≡◌, ◌<◌, ◌≤◌, ◌+◌, ℕ, suc, zero, List, [], ◌∷◌, ◌++◌, length, Bool, true, false, cond, inr, ⊎_elim, refl, sym, subst, arith, ◌⊎◌}
+use Rattle.std.proofs.Common.{◌≡◌, ◌<◌, ◌≤◌, ℕ, suc, zero, List, [], ◌∷◌, ◌++◌, length, Bool, true, false, cond, inr, ⊎_elim, refl, sym, subst, arith}
 use Rattle.std.specs.Prelude.{Option, Some, None, IfSome, slice_get, nat_lt, nat_le, ◌&&◌, ◌||◌}
 use Rattle.fsfs_machine.specs.declared.contents.FileName.TheVariants.{Props}
 use Rattle.fsfs_machine.specs.declared.contents.Contents.TheVariants.{PropsFile}

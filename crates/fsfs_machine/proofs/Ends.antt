@@ -1,5 +1,5 @@
 -- An end of the object, a crash and an opening keep it.
-use Rattle.std.proofs.Common.{◌≡◌, ◌≤◌, ◌+◌, ◌-◌, ◌^◌, ℕ, suc, zero, List, [], ◌∷◌, ◌++◌, length, Bool, true, false, cond, inl, inr, ⊎_elim, refl, sym, ap, subst, ◌∙◌, arith, take, ◌⊎◌}
+use Rattle.std.proofs.Common.{◌≡◌, ◌≤◌, ◌+◌, ◌-◌, ◌^◌, ℕ, suc, zero, List, [], ◌∷◌, ◌++◌, length, Bool, true, false, cond, inl, inr, ⊎_elim, refl, sym, ap, subst, ◌∙◌, arith, take}
 use Rattle.std.proofs.lemmas.Bool.{both_ways}
 use Rattle.std.specs.Prelude.{Some, None, IfSome, slice_get, nat_lt}
 use Rattle.std.proofs.lemmas.List.{take_all}
@@ -9,14 +9,12 @@ use Rattle.fsfs_machine.specs.declared.contents.FileName.TheVariants.{Current, P
 use Rattle.fsfs_machine.specs.declared.contents.NameChange.TheVariants.{Firm}
 use Rattle.fsfs_machine.specs.declared.machine.Recorded.{Recorded}
 use Rattle.fsfs_machine.specs.declared.machine.Coming.{Coming}
-use Rattle.fsfs_machine.specs.declared.machine.DiskPlace.TheVariants as place
 use Rattle.fsfs_machine.specs.declared.machine.Section.TheVariants.{Begun, CountRead, CountPut, CountRenamed, RevPut, PropsPut, RevFirm, CurrentPut, CurrentRenamed, CurrentFirm, Doubtful, Over}
 use Rattle.fsfs_machine.specs.declared.machine.Lock.{Lock}
 use Rattle.fsfs_machine.specs.declared.machine.Lock.TheVariants.{Free, Held, Stuck, Down, DownDoubtful}
 use Rattle.fsfs_machine.specs.declared.machine.Went.{Went}
 use Rattle.fsfs_machine.specs.declared.machine.Went.TheVariants.{Fine, Before, After, Torn}
 use Rattle.fsfs_machine.specs.declared.machine.Outcome.TheVariants as outcome
-use Rattle.fsfs_machine.specs.declared.machine.Step.TheVariants as step
 use Rattle.fsfs_machine.specs.Disk.{Disk, found, shown, left}
 use Rattle.fsfs_machine.specs.Machine.{World, did, barred, disk_after, labels_left, revisions, with_next, is_up, file_of, number_of, down, ends, revision_in, read_one, read_back, opened, named, open_at}
 use Rattle.fsfs_machine.specs.Kept.{HasAll, StandsFor, StandsForEither, Stands, CountsOn, KnowsAt, coming, Follows, IsHolder, FloorIs, Kept, Grows, AllGiven}

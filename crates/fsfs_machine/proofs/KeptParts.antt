@@ -3,15 +3,12 @@ use Rattle.std.proofs.Common.{◌≡◌, ◌≤◌, ℕ, suc, zero, List, [], �
 use Rattle.std.specs.Prelude.{IfSome}
 use Rattle.fsfs_machine.specs.declared.machine.Txn.{Txn}
 use Rattle.fsfs_machine.specs.declared.machine.DiskPlace.{DiskPlace}
-use Rattle.fsfs_machine.specs.declared.machine.DiskPlace.TheVariants as place
 use Rattle.fsfs_machine.specs.declared.machine.Drawn.{Drawn}
 use Rattle.fsfs_machine.specs.declared.machine.Pass.{Pass}
 use Rattle.fsfs_machine.specs.declared.machine.Section.{Section}
 use Rattle.fsfs_machine.specs.declared.machine.Lock.{Lock}
 use Rattle.fsfs_machine.specs.declared.machine.Lock.TheVariants.{Held}
 use Rattle.fsfs_machine.specs.declared.machine.Went.{Went}
-use Rattle.fsfs_machine.specs.declared.machine.Outcome.TheVariants as outcome
-use Rattle.fsfs_machine.specs.declared.machine.Step.TheVariants as step
 use Rattle.fsfs_machine.specs.Disk.{Disk}
 use Rattle.fsfs_machine.specs.Machine.{World, learns, revisions, at_place, is_up, named, after}
 use Rattle.fsfs_machine.specs.Kept.{StandsIn, Stands, AllBelow, CountsOn, KnowsAt, coming, Follows, IsSeen, AreSeen, AreTransactions, Whose, IsHolder, FloorIs, Kept, AllGiven, AreNamed, AreApart, HaveLabels, Knows, coming_in, Carries}

@@ -1,13 +1,10 @@
 -- Each run keeps it.
-use Rattle.std.proofs.Common.{◌≡◌, ◌+◌, ◌-◌, ℕ, suc, zero, List, [], ◌∷◌, ◌++◌, length, ⊎_elim, refl, sym, ap, subst, ◌∙◌, arith, append_assoc, append-nil}
+use Rattle.std.proofs.Common.{◌≡◌, ℕ, suc, zero, List, [], ◌∷◌, ◌++◌, length, ⊎_elim, refl, sym, ap, subst, ◌∙◌, arith, append_assoc, append-nil}
 use Rattle.std.specs.Prelude.{Some, None, slice_get}
 use Rattle.fsfs_flat.specs.Transactions.{Entry, IsLegal}
 use Rattle.fsfs_machine.specs.declared.machine.Recorded.{Recorded}
-use Rattle.fsfs_machine.specs.declared.machine.DiskPlace.TheVariants as place
 use Rattle.fsfs_machine.specs.declared.machine.Outcome.{Outcome}
-use Rattle.fsfs_machine.specs.declared.machine.Outcome.TheVariants as outcome
 use Rattle.fsfs_machine.specs.declared.machine.Step.{Step}
-use Rattle.fsfs_machine.specs.declared.machine.Step.TheVariants as step
 use Rattle.fsfs_machine.specs.Machine.{World, recorded, revisions, Runs}
 use Rattle.fsfs_machine.specs.Kept.{IsSeen, Kept, Grows, Names, SeenStays, RunsKeep}
 use Rattle.fsfs_machine.proofs.Answering.{seen_of, some_at}

@@ -1,5 +1,5 @@
 -- No image of a disk in memory has a long file.
-use Rattle.std.proofs.Common.{◌≡◌, ℕ, List, ◌∷◌, Bool, true, false, sym, ap, subst, ◌∙◌}
+use Rattle.std.proofs.Common.{◌≡◌, List, ◌∷◌, Bool, true, false, sym, ap, subst, ◌∙◌}
 use Rattle.std.specs.Prelude.{Result, Ok, Err, OnOk, OnErr, is_ok}
 use Rattle.fsfs_disk.specs.Labels.{Label}
 use Rattle.fsfs_base.specs.Files.{Files}

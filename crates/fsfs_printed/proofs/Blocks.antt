@@ -16,7 +16,8 @@ use Rattle.fsfs_tree.proofs.TreeLemmas.{exact_paths}
 use Rattle.fsfs_base.proofs.PathLemmas.{same_name-refl, covers-refl, covers-antisym, covers-longer, split_at}
 use Rattle.fsfs_shows.specs.Reading.{DirEntry, named}
 use Rattle.fsfs_shows.specs.ByTree.{IsEntryByTree}
-use Rattle.fsfs_printed.proofs.SortedEntries.{both_hold, all_append, IsBelow, below_is, sorted_append, find_append, keys_found}
+use Rattle.fsfs_base.proofs.TwoTests.{both_hold}
+use Rattle.fsfs_printed.proofs.SortedEntries.{all_append, IsBelow, below_is, sorted_append, find_append, keys_found}
 use Rattle.fsfs_printed.proofs.EntryNames.{NamesRise}
 
 -- ---- paths below a path

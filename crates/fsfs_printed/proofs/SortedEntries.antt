@@ -5,18 +5,7 @@ use Rattle.std.specs.List.{AllByRecursion}
 use Rattle.std.specs.Ordering.{eq_by_cmp}
 use Rattle.std.specs.Cmp.{IsTotalOrder, tied_itself}
 use Rattle.std.specs.FinMap.Entries.{find, below_all, is_sorted}
-
-pub both_hold : (a b : Bool) → T a → T b → T (a && b)
-both_hold true b p q = q
-both_hold false b p q = p
-
-left_holds : (a b : Bool) → T (a && b) → T a
-left_holds true b p = tt
-left_holds false b p = p
-
-right_holds : (a b : Bool) → T (a && b) → T b
-right_holds true b p = p
-right_holds false b p = absurd p
+use Rattle.fsfs_base.proofs.TwoTests.{both_hold, left_holds, right_holds}
 
 pub all_append : {A : Type 0} (P : A → Type 0) (xs ys : List A) → AllByRecursion P xs → AllByRecursion P ys → AllByRecursion P (xs ++ ys)
 all_append P [] ys a b = b

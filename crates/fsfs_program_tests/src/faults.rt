@@ -1,5 +1,5 @@
 //! Lines of faults as the table of the README has them.
-use fsfs_base::{BadPath, FsPath, HexDigest, PathFault, SmallFault, SmallFile};
+use fsfs_base::{BadPath, FsPath, HexDigest, PathFault, RevNum, SmallFault, SmallFile};
 use fsfs_cli::WordsFault;
 use fsfs_damage::{Damage, DamageKind, Refusal, RepWhat, RevOffset, Wrong};
 use fsfs_faults::{Fault, Tool, print_fault, status};
@@ -23,8 +23,12 @@ fn digest_of<const N: usize>(digits: &[u8]) -> Result<HexDigest<N>, Fail> {
     }
 }
 
-fn bad_rep(rev: u32, offset: u64, what: RepWhat) -> Fault {
-    let at = RevOffset { rev, offset };
+fn at(rev: u16, offset: u64) -> RevOffset {
+    let rev = RevNum::from(rev);
+    RevOffset { rev, offset }
+}
+
+fn bad_rep(at: RevOffset, what: RepWhat) -> Fault {
     Fault::from(Wrong::Damaged(Damage {
         at,
         what: DamageKind::Rep(what),
@@ -46,8 +50,8 @@ fn lines_of_faults(rt: HostRuntime) -> Result<(), Fail> {
         why: PathFault::EmptyName,
     });
     let no_rev = Wrong::Refused(Refusal::NoRev {
-        asked: 9,
-        youngest: 2,
+        asked: RevNum::from(9),
+        youngest: RevNum::from(2),
     });
     let manifest = small(SmallFile::Manifest(7), 12);
     let md5 = RepWhat::Md5 {
@@ -87,34 +91,36 @@ fn lines_of_faults(rt: HostRuntime) -> Result<(), Fail> {
         ),
         (
             Fault::Corrupt(Damage {
-                at: RevOffset { rev: 1, offset: 59 },
+                at: at(1, 59),
                 what: DamageKind::PlaceOrder,
             }),
             3,
             "Corrupt 1 59 PlaceOrder",
         ),
         (
-            Fault::from(Wrong::Refused(Refusal::Missing { rev: 4 })),
+            Fault::from(Wrong::Refused(Refusal::Missing {
+                rev: RevNum::from(4),
+            })),
             3,
             "Corrupt 4 0 Missing",
         ),
         (
-            bad_rep(2, 17, RepWhat::Size { kept: 5, found: 4 }),
+            bad_rep(at(2, 17), RepWhat::Size { kept: 5, found: 4 }),
             3,
             "Corrupt 2 17 Size 5 4",
         ),
         (
-            bad_rep(1, 0, md5),
+            bad_rep(at(1, 0), md5),
             3,
             "Corrupt 1 0 Md5 900150983cd24fb0d6963f7d28e17f72 0bee89b07a248e27c83fc3d5951213c1",
         ),
         (
-            bad_rep(1, 0, sha1),
+            bad_rep(at(1, 0), sha1),
             3,
             "Corrupt 1 0 Sha1 a9993e364706816aba3e25717850c26c9cd0d89d 03cfd743661f07975fa2f1220c5194cbaff48451",
         ),
         (
-            Fault::from(Wrong::Delta(RevOffset { rev: 1, offset: 0 })),
+            Fault::from(Wrong::Delta(at(1, 0))),
             3,
             "Delta 1 0",
         ),

@@ -1,5 +1,5 @@
 //! A small book of four revisions, read as code reads any book.
-use fsfs_base::{SmallFault, SmallFile};
+use fsfs_base::{RevNum, SmallFault, SmallFile};
 use fsfs_book::{Book, BookFault, MemBook, MemFile, MemRev};
 use fsfs_damage::Refusal;
 use std::alloc::{AllocError, Global};
@@ -37,24 +37,30 @@ fn small_book(alloc: Global, failing: &[u64]) -> Result<MemBook, AllocError> {
 }
 
 // The answer, and what stands in a buffer of two bytes behind it.
-fn part<B: Book>(book: &mut B, rev: u32, offset: u64) -> (Result<usize, BookFault>, [u8; 2]) {
+fn part<B: Book>(book: &mut B, rev: u16, offset: u64) -> (Result<usize, BookFault>, [u8; 2]) {
     let mut buffer = [0u8; 2];
-    let answer = book.read_rev(rev, offset, &mut buffer);
+    let answer = book.read_rev(RevNum::from(rev), offset, &mut buffer);
     (answer, buffer)
 }
 
 #[test]
 fn parts_and_failing_calls(rt: HostRuntime) -> Result<(), Fail> {
-    let missing = Refusal::Missing { rev: 1 };
+    let missing = Refusal::Missing {
+        rev: RevNum::from(1),
+    };
     let above = Refusal::NoRev {
-        asked: 4,
-        youngest: 3,
+        asked: RevNum::from(4),
+        youngest: RevNum::from(3),
+    };
+    let short = BookFault::Short {
+        rev: RevNum::ZERO,
+        offset: 4,
     };
     let table = [
         (0, 0, Ok(2), *b"ab"),
         (0, 2, Ok(1), *b"c\0"),
         (0, 3, Ok(0), *b"\0\0"),
-        (0, 4, Err(BookFault::Short { rev: 0, offset: 4 }), *b"\0\0"),
+        (0, 4, Err(short), *b"\0\0"),
         (1, 0, Err(BookFault::Refused(missing)), *b"\0\0"),
         (
             2,
@@ -74,11 +80,11 @@ fn parts_and_failing_calls(rt: HostRuntime) -> Result<(), Fail> {
     }
     let mut book = small_book(rt.alloc(), &[2, 4])?;
     let mut buffer = [0u8; 8];
-    assert!(rt; book.youngest() == Ok(3));
-    assert!(rt; book.rev_len(0) == Err(BookFault::DiskFault));
-    assert!(rt; book.rev_len(0) == Ok(3));
-    assert!(rt; book.read_props(0, 0, &mut buffer) == Err(BookFault::DiskFault));
-    assert!(rt; book.read_props(0, 1, &mut buffer) == Ok(3));
+    assert!(rt; book.youngest() == Ok(RevNum::from(3)));
+    assert!(rt; book.rev_len(RevNum::ZERO) == Err(BookFault::DiskFault));
+    assert!(rt; book.rev_len(RevNum::ZERO) == Ok(3));
+    assert!(rt; book.read_props(RevNum::ZERO, 0, &mut buffer) == Err(BookFault::DiskFault));
+    assert!(rt; book.read_props(RevNum::ZERO, 1, &mut buffer) == Ok(3));
     assert!(rt; &buffer[..3] == b"ND\n".as_slice());
     assert!(rt; book.faults() == 2);
     Ok(())

@@ -1,6 +1,6 @@
 //! Nodes of small revisions whose bytes are given by hand: what stands at a path, and what a node has.
 use crate::revisions::{SHORT_TEXT, book_of, path_of};
-use fsfs_base::Kind;
+use fsfs_base::{Kind, RevNum};
 use fsfs_book::MemBook;
 use fsfs_dag::{
     Met, PlacedNode, TextError, entries, entry_named, node_at, props, root_of, text_of, text_to,
@@ -11,7 +11,7 @@ use std::alloc::Global;
 use std::test::Fail;
 
 fn node(alloc: Global, book: &mut MemBook, path: &str) -> Result<PlacedNode, Fail> {
-    match node_at(alloc, book, 1, &path_of(alloc, path)?)? {
+    match node_at(alloc, book, RevNum::from(1), &path_of(alloc, path)?)? {
         Met::Node(found) => Ok(found),
         _ => Err(Fail::from("no node")),
     }
@@ -21,21 +21,16 @@ fn node(alloc: Global, book: &mut MemBook, path: &str) -> Result<PlacedNode, Fai
 fn a_root_and_its_file(rt: HostRuntime) -> Result<(), Fail> {
     let alloc = rt.alloc();
     let mut book = book_of(alloc, &[SHORT_TEXT])?;
-    let root = root_of(alloc, &mut book, 1)?;
+    let rev = RevNum::from(1);
+    let root = root_of(alloc, &mut book, rev)?;
     assert!(rt; root.node.kind == Kind::Dir);
-    assert_eq!(rt;
-        root.place(),
-        RevOffset {
-            rev: 1,
-            offset: 219
-        }
-    );
+    assert_eq!(rt; root.place(), RevOffset { rev, offset: 219 });
     assert!(rt; props(alloc, &mut book, &root)?.as_map().is_empty());
     let all = entries(alloc, &mut book, &root)?;
     assert!(rt; entry_named(&all, "t").is_some() && entry_named(&all, "s").is_none());
     let file = node(alloc, &mut book, "/t")?;
     assert!(rt; file.node.kind == Kind::File);
-    assert_eq!(rt; file.place(), RevOffset { rev: 1, offset: 18 });
+    assert_eq!(rt; file.place(), RevOffset { rev, offset: 18 });
     assert_eq!(rt;
         text_of(alloc, &mut book, &file)?.as_slice(),
         b"line ".as_slice()

@@ -1,6 +1,6 @@
 //! Reads over a disk in memory: revisions in files of their own, and the first shard packed.
 use crate::revisions::{FIRST_DIRECTORY, REVISION_0};
-use fsfs_base::{Name, SmallFault, SmallFile};
+use fsfs_base::{Name, RevNum, SmallFault, SmallFile};
 use fsfs_book::{Book, BookFault};
 use fsfs_damage::Refusal;
 use fsfs_disk::Disk;
@@ -32,9 +32,9 @@ fn packed_disk(alloc: Global) -> Result<MemDisk, Fail> {
 }
 
 // The answer, and what stands in a buffer of eight bytes behind it.
-fn part<B: Book>(book: &mut B, rev: u32, offset: u64) -> (Result<usize, BookFault>, [u8; 8]) {
+fn part<B: Book>(book: &mut B, rev: u16, offset: u64) -> (Result<usize, BookFault>, [u8; 8]) {
     let mut buffer = [b'.'; 8];
-    let answer = book.read_rev(rev, offset, &mut buffer);
+    let answer = book.read_rev(RevNum::from(rev), offset, &mut buffer);
     (answer, buffer)
 }
 
@@ -46,14 +46,15 @@ fn small(file: SmallFile, at: usize) -> BookFault {
 #[test]
 fn packed_and_not(rt: HostRuntime) -> Result<(), Fail> {
     let disk = packed_disk(rt.alloc())?;
-    let mut book = over_disk(rt.alloc(), disk, 3, Layout::sharded(2), 2);
-    let missing = BookFault::Refused(Refusal::Missing { rev: 3 });
+    let (second, third) = (RevNum::from(2), RevNum::from(3));
+    let mut book = over_disk(rt.alloc(), disk, third, Layout::sharded(2), second);
+    let missing = BookFault::Refused(Refusal::Missing { rev: third });
     let above = BookFault::Refused(Refusal::NoRev {
-        asked: 4,
-        youngest: 3,
+        asked: RevNum::from(4),
+        youngest: third,
     });
     let behind = BookFault::Short {
-        rev: 0,
+        rev: RevNum::ZERO,
         offset: 116,
     };
     let table = [
@@ -73,21 +74,22 @@ fn packed_and_not(rt: HostRuntime) -> Result<(), Fail> {
             "at {rev} {offset}"
         );
     }
-    assert!(rt; book.youngest() == Ok(3));
+    assert!(rt; book.youngest() == Ok(third));
     for (rev, len) in [(0, Ok(115)), (1, Ok(270)), (2, Ok(10)), (3, Err(missing))] {
-        assert!(rt; book.rev_len(rev) == len, "of {rev}");
+        assert!(rt; book.rev_len(RevNum::from(rev)) == len, "of {rev}");
     }
     let mut props = [0; 4];
-    assert!(rt; book.read_props(1, 0, &mut props) == Ok(4));
+    assert!(rt; book.read_props(RevNum::from(1), 0, &mut props) == Ok(4));
     assert!(rt; props == *b"END\n");
-    let absent = BookFault::Refused(Refusal::Missing { rev: 2 });
-    assert!(rt; book.read_props(2, 0, &mut props) == Err(absent));
+    let absent = BookFault::Refused(Refusal::Missing { rev: second });
+    assert!(rt; book.read_props(second, 0, &mut props) == Err(absent));
     // The kept floor is 0 though the first shard is packed.
     let disk = disk_of(book);
     let before = disk.calls();
-    let mut book = Direct::new(rt.alloc(), OwnedReads::new(disk, 3, Layout::sharded(2)), 0);
+    let reads = OwnedReads::new(disk, third, Layout::sharded(2));
+    let mut book = Direct::new(rt.alloc(), reads, RevNum::ZERO);
     assert!(rt; part(&mut book, 1, 0) == (Ok(8), *b"id: 0-1."));
-    assert!(rt; book.floor() == 2);
+    assert!(rt; book.floor() == second);
     assert!(rt; part(&mut book, 0, 0) == (Ok(8), *b"PLAIN\nEN"));
     assert!(rt; part(&mut book, 3, 0).0 == Err(missing));
     // Revision 1: the file's size, the floor, the manifest in two calls, the pack's size and a part of it. Revision 0:
@@ -96,7 +98,8 @@ fn packed_and_not(rt: HostRuntime) -> Result<(), Fail> {
     assert!(rt; disk.calls() == before.saturating_add(11));
     disk.put(&Name::new("db/min-unpacked-rev"), b"3\n")?;
     disk.put(&Name::new("db/revs/0.pack/manifest"), b"0\n115")?;
-    let mut book = Direct::new(rt.alloc(), OwnedReads::new(disk, 4, Layout::sharded(2)), 2);
+    let reads = OwnedReads::new(disk, RevNum::from(4), Layout::sharded(2));
+    let mut book = Direct::new(rt.alloc(), reads, second);
     assert!(rt; part(&mut book, 4, 0).0 == Err(small(SmallFile::MinUnpackedRev, 0)));
     assert!(rt; part(&mut book, 1, 0).0 == Err(small(SmallFile::Manifest(0), 5)));
     Ok(())

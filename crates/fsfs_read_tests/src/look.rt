@@ -2,7 +2,7 @@
 use crate::revisions::{
     EMPTY_FILE, FIRST_DIRECTORY, MADE_1, MADE_2, MADE_3, SHORT_TEXT, book_of, path_of,
 };
-use fsfs_base::HexDigest;
+use fsfs_base::{HexDigest, RevNum};
 use fsfs_damage::{Damage, DamageKind, RepWhat, RevOffset, Wrong};
 use fsfs_look::{LookError, cat, tree_text};
 use fsfs_memstreams::MemSink;
@@ -10,7 +10,7 @@ use fsfs_printed::LookFault;
 use std::test::Fail;
 
 // The trees that Subversion's own `svnlook tree --show-ids` prints.
-const TREES: [(u32, &str, bool, &str); 5] = [
+const TREES: [(u16, &str, bool, &str); 5] = [
     (0, "/", true, "/ <0.0.r0/17>\n"),
     (
         2,
@@ -40,7 +40,7 @@ fn trees_of_subversion(rt: HostRuntime) -> Result<(), Fail> {
     for (rev, path, show_ids, want) in TREES {
         let mut sink = MemSink::new(alloc);
         let path = path_of(alloc, path)?;
-        tree_text(alloc, &mut book, rev, &path, show_ids, &mut sink)?;
+        tree_text(alloc, &mut book, RevNum::from(rev), &path, show_ids, &mut sink)?;
         assert_eq!(rt; sink.bytes(), want.as_bytes());
     }
     Ok(())
@@ -64,7 +64,8 @@ fn texts(rt: HostRuntime) -> Result<(), Fail> {
         kept: md5(b"f4c3d0d5c072ee9bda6d38a2a964f829"),
         found: md5(b"c83afca9f1e14c3a037a2a5ae9c32c78"),
     };
-    let at = RevOffset { rev: 1, offset: 0 };
+    let rev = RevNum::from(1);
+    let at = RevOffset { rev, offset: 0 };
     let what = DamageKind::Rep(what);
     let other_text = LookFault::Wrong(Wrong::Damaged(Damage { at, what }));
     let table = [
@@ -93,7 +94,7 @@ fn texts(rt: HostRuntime) -> Result<(), Fail> {
         let mut book = book_of(alloc, &[bytes])?;
         let mut sink = MemSink::new(alloc);
         let path = path_of(alloc, path)?;
-        assert_eq!(rt; cat(alloc, &mut book, 1, &path, &mut sink), answer);
+        assert_eq!(rt; cat(alloc, &mut book, rev, &path, &mut sink), answer);
         assert_eq!(rt; sink.bytes(), want.as_bytes());
     }
     Ok(())

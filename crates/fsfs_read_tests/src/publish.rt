@@ -54,8 +54,16 @@ fn a_stop_leaves_the_old_file_or_the_new_one(rt: HostRuntime) -> Result<(), Fail
         (4, true, 13, 13, 0),
     ];
     for (passing, done, none, all, labels) in cases {
-        assert_eq!(rt; stopped(alloc, passing, false)?, (done, none, 0), "{passing}");
-        assert_eq!(rt; stopped(alloc, passing, true)?, (done, all, labels), "{passing}");
+        assert_eq!(rt;
+            stopped(alloc, passing, false)?,
+            (done, none, 0),
+            "{passing}"
+        );
+        assert_eq!(rt;
+            stopped(alloc, passing, true)?,
+            (done, all, labels),
+            "{passing}"
+        );
     }
     Ok(())
 }
@@ -94,7 +102,14 @@ fn a_file_is_published_in_a_real_folder(rt: HostRuntime) -> Result<(), Fail> {
     disk.make_folder(&Name::new("db/revs/0"))?;
     disk.put(&Name::new("db/format"), b"4\n")?;
     let file = Name::new("rev");
-    let done = publish(&mut disk, &Label::Pack(3), &file, &to, b"PLAIN\n", b"ENDREP\n");
+    let done = publish(
+        &mut disk,
+        &Label::Pack(3),
+        &file,
+        &to,
+        b"PLAIN\n",
+        b"ENDREP\n",
+    );
     assert!(rt; done.is_ok());
     let mut bytes = [0; 16];
     assert_eq!(rt; disk.read(&to, 0, &mut bytes)?, Some(13));

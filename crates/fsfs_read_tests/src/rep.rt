@@ -1,5 +1,5 @@
 //! Digests of known texts, and representations of small revisions, whole and damaged.
-use fsfs_base::HexDigest;
+use fsfs_base::{HexDigest, RevNum};
 use fsfs_book::{MemBook, MemFile, MemRev};
 use fsfs_damage::{DamageKind, ReadError, Refusal, RepWhat, RevOffset, Wrong};
 use fsfs_noderev::read_rep;
@@ -116,19 +116,27 @@ fn fault(alloc: Global, bytes: &[u8], name: &[u8]) -> Result<Option<ReadError>, 
     Ok(read_rep_bytes(alloc, &mut book, &rep).err())
 }
 
-// Damage of the representation that begins at byte 2 of revision 1.
+// Byte 2 of revision 1.
+fn at_two() -> RevOffset {
+    RevOffset {
+        rev: RevNum::from(1),
+        offset: 2,
+    }
+}
+
+// Damage of the representation that begins there.
 fn bad(what: RepWhat) -> ReadError {
-    ReadError::damaged(RevOffset { rev: 1, offset: 2 }, DamageKind::Rep(what))
+    ReadError::damaged(at_two(), DamageKind::Rep(what))
 }
 
 fn delta() -> ReadError {
-    ReadError::Wrong(Wrong::Delta(RevOffset { rev: 1, offset: 2 }))
+    ReadError::Wrong(Wrong::Delta(at_two()))
 }
 
 fn above() -> ReadError {
     ReadError::Wrong(Wrong::Refused(Refusal::NoRev {
-        asked: 2,
-        youngest: 1,
+        asked: RevNum::from(2),
+        youngest: RevNum::from(1),
     }))
 }
 

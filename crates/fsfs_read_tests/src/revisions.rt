@@ -47,7 +47,7 @@ pub(crate) fn book_of(alloc: Global, revisions: &[&[u8]]) -> Result<MemBook, All
     for bytes in revisions {
         revs.push(kept(alloc, bytes)?)?;
     }
-    if revs.is_empty() {
+    if revs.is_empty() || revs.len() > 1000 {
         return Err(AllocError);
     }
     Ok(MemBook::new(alloc, revs))

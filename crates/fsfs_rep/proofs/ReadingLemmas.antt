@@ -14,10 +14,6 @@ use Rattle.fsfs_rep.proofs.HeaderLemmas.{stands_found, stands_not, stands_in, st
 pub at_rev : {A : Type 0} (told : ℕ → A) (rev : Option ℕ) (r : ℕ) (a : A) → rev ≡ Some r → told (unwrap_or rev 0) ≡ a → told r ≡ a
 at_rev told rev r a is e = ap (λ (o : Option ℕ). told (unwrap_or o 0)) (sym is) ∙ e
 
--- a revision is there, by what an equal number is
-pub named_by : {rev : Option ℕ} {n m : ℕ} → rev ≡ Some n → m ≡ n → rev ≡ Some m
-named_by is same = is ∙ ap (λ (k : ℕ). Some k) (sym same)
-
 pub differ : (xs ys : List ℕ) → true ≡ not (bytes_eq xs ys) → xs ≡ ys → ⊥
 differ xs ys h e =
     let same : bytes_eq xs ys ≡ true = (bytes_eq-Decides xs ys).1 e in

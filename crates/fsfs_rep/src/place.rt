@@ -12,7 +12,7 @@ pub fn rep_place(rep: &Rep) -> RevOffset
     ensures { result ≡ rep_place rep.now }
 {
     RevOffset {
-        rev: rep.rev.unwrap_or(RevNum::ZERO).get(),
+        rev: rep.rev.unwrap_or(RevNum::ZERO),
         offset: rep.offset,
     }
 }

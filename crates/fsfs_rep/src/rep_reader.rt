@@ -91,7 +91,7 @@ impl RepReader {
     {
         let Some(rev) = rep.rev else { unreachable!() };
         let mut line = [0u8; HEADER_LEN];
-        let count = window(book, rev.get(), rep.offset, &mut line)?;
+        let count = window(book, rev, rep.offset, &mut line)?;
         match header_of(&line[..count]) {
             Header::Plain => Ok(RepReader {
                 rep: *rep,
@@ -140,7 +140,7 @@ impl RepReader {
             return Ok(0);
         }
         let piece = &mut buffer[..want];
-        let count = window(book, rev.get(), self.position(), piece)?;
+        let count = window(book, rev, self.position(), piece)?;
         if count < want {
             return Err(bad_rep(&self.rep, RepWhat::EndRep));
         }
@@ -163,7 +163,7 @@ impl RepReader {
             unreachable!()
         };
         let mut line = [0u8; ENDREP_LEN];
-        let count = window(book, rev.get(), self.position(), &mut line)?;
+        let count = window(book, rev, self.position(), &mut line)?;
         match text(b"ENDREP\n", &line[..count]) {
             Ok(_) => {
                 let RepReader { rep, digester, .. } = self;

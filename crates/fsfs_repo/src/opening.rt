@@ -91,7 +91,7 @@ fn judge_sharded(files: &SmallFiles, layout: Layout) -> Result<Opened, SmallFaul
     let uuid = read_uuid(&files.uuid)?;
     let youngest = read_current(&files.current)?;
     let min_unpacked_rev = read_min_unpacked_rev(layout, &files.min_unpacked_rev)?;
-    if min_unpacked_rev as u64 > youngest as u64 + 1 {
+    if min_unpacked_rev.get() > youngest.get() + 1 {
         return Err(SmallFault {
             file: SmallFile::MinUnpackedRev,
             at: 0,

@@ -72,15 +72,14 @@ fn is_of_revision(node: &NodeRev) -> bool
 }
 
 /// Whether a place of a revision comes before another: by the revision, then by the offset.
-pub fn is_before(rev: RevNum, offset: u64, at: RevOffset) -> bool
-    ensures { result ≡ before rev offset at }
+pub fn is_before(rev: RevNum, offset: u64, at: &RevOffset) -> bool
+    ensures { result ≡ before rev offset at.now }
 {
-    let rev = rev.get();
     rev < at.rev || (rev == at.rev && offset < at.offset)
 }
 
-fn pred_before(at: RevOffset, pred: &Option<NodeId>) -> bool
-    ensures { result ≡ pred_before at pred.now }
+fn pred_before(at: &RevOffset, pred: &Option<NodeId>) -> bool
+    ensures { result ≡ pred_before at.now pred.now }
 {
     match pred {
         None => true,
@@ -91,8 +90,8 @@ fn pred_before(at: RevOffset, pred: &Option<NodeId>) -> bool
     }
 }
 
-fn rep_before(at: RevOffset, contents: &Option<Contents>) -> bool
-    ensures { result ≡ rep_before at contents.now }
+fn rep_before(at: &RevOffset, contents: &Option<Contents>) -> bool
+    ensures { result ≡ rep_before at.now contents.now }
 {
     match contents {
         None => true,
@@ -104,30 +103,30 @@ fn rep_before(at: RevOffset, contents: &Option<Contents>) -> bool
     }
 }
 
-fn source_before(at: RevOffset, source: &Option<CopySource>) -> bool
-    ensures { result ≡ source_before at source.now }
+fn source_before(at: &RevOffset, source: &Option<CopySource>) -> bool
+    ensures { result ≡ source_before at.now source.now }
 {
     match source {
         None => true,
-        Some(source) => source.rev.get() < at.rev,
+        Some(source) => source.rev < at.rev,
     }
 }
 
-fn root_not_after(at: RevOffset, root: &Option<CopyRoot>) -> bool
-    ensures { result ≡ root_not_after at root.now }
+fn root_not_after(at: &RevOffset, root: &Option<CopyRoot>) -> bool
+    ensures { result ≡ root_not_after at.now root.now }
 {
     match root {
         None => true,
         Some(root) => match root.rev {
             None => false,
-            Some(rev) => rev.get() <= at.rev,
+            Some(rev) => rev <= at.rev,
         },
     }
 }
 
 // Whether what it names stands before it.
-fn is_ordered(at: RevOffset, node: &NodeRev) -> bool
-    ensures { result ≡ is_ordered at node.now }
+fn is_ordered(at: &RevOffset, node: &NodeRev) -> bool
+    ensures { result ≡ is_ordered at.now node.now }
 {
     pred_before(at, &node.predecessor)
         && rep_before(at, &node.text)
@@ -139,20 +138,20 @@ fn is_ordered(at: RevOffset, node: &NodeRev) -> bool
 /// The node-revision that stands at a place of a revision, of the bytes from that place on; 65,536 of them are enough.
 /// It is NodeRev where none begins there, or one in a form that only a transaction has, and PlaceOrder where its predecessor
 /// or a representation isn't before it, its source isn't of an earlier revision, or its copy root is of a later one.
-pub fn read_node_at(alloc: Global, at: RevOffset, bytes: &[u8]) -> Result<NodeRev, ReadError>
-    ensures read { Answers (λ v. v) (NodeIn at bytes.now) result }
-    ensures ordered { IfOk result (λ v. is_ordered at v ≡ true) }
+pub fn read_node_at(alloc: Global, at: &RevOffset, bytes: &[u8]) -> Result<NodeRev, ReadError>
+    ensures read { Answers (λ v. v) (NodeIn at.now bytes.now) result }
+    ensures ordered { IfOk result (λ v. is_ordered at.now v ≡ true) }
     ensures quiet { IsQuiet result }
 {
     match read_noderev(alloc, bytes) {
         Err(NodeError::OutOfMemory) => Err(ReadError::OutOfMemory),
-        Err(NodeError::Fault(_)) => Err(ReadError::damaged(at, DamageKind::NodeRev)),
+        Err(NodeError::Fault(_)) => Err(ReadError::damaged(*at, DamageKind::NodeRev)),
         Ok(node) => {
             if !is_of_revision(&node) {
-                return Err(ReadError::damaged(at, DamageKind::NodeRev));
+                return Err(ReadError::damaged(*at, DamageKind::NodeRev));
             }
             if !is_ordered(at, &node) {
-                return Err(ReadError::damaged(at, DamageKind::PlaceOrder));
+                return Err(ReadError::damaged(*at, DamageKind::PlaceOrder));
             }
             Ok(node)
         }

@@ -7,31 +7,31 @@ ghost use Rattle.fsfs_revision.specs.Damages.{AsRoot, RootIn};
 
 use crate::node::read_node_at;
 use crate::trailer::read_trailer;
-use fsfs_base::Kind;
+use fsfs_base::{Kind, RevNum};
 use fsfs_damage::{DamageKind, ReadError, RevOffset};
 use fsfs_noderev::{NodeId, NodeRev, Place};
 use std::alloc::Global;
 
-fn is_own_place(at: RevOffset, id: &NodeId) -> bool
-    ensures { result ≡ own_place at id.now.place }
+fn is_own_place(at: &RevOffset, id: &NodeId) -> bool
+    ensures { result ≡ own_place at.now id.now.place }
 {
     match id.place {
-        Place::At(rev, offset) => rev.get() == at.rev && offset == at.offset,
+        Place::At(rev, offset) => rev == at.rev && offset == at.offset,
         Place::In(_) => false,
     }
 }
 
 /// The node-revision at a place as a revision's root: the place of its id is its own, else it is OtherId, and it is a
 /// directory, else EntryKind.
-pub fn as_root(at: RevOffset, node: NodeRev) -> Result<NodeRev, ReadError>
-    ensures read { Answers (λ v. v) (AsRoot at node) result }
+pub fn as_root(at: &RevOffset, node: NodeRev) -> Result<NodeRev, ReadError>
+    ensures read { Answers (λ v. v) (AsRoot at.now node) result }
     ensures quiet { IsQuiet result }
 {
     if !is_own_place(at, &node.id) {
-        return Err(ReadError::damaged(at, DamageKind::OtherId));
+        return Err(ReadError::damaged(*at, DamageKind::OtherId));
     }
     match node.kind {
-        Kind::File => Err(ReadError::damaged(at, DamageKind::EntryKind)),
+        Kind::File => Err(ReadError::damaged(*at, DamageKind::EntryKind)),
         Kind::Dir => Ok(node),
     }
 }
@@ -48,7 +48,7 @@ fn bytes_from(offset: u64, bytes: &[u8]) -> &[u8]
 
 /// The node-revision of the root of a revision, of all its bytes: the one that the trailer names. Trailer, NodeRev,
 /// PlaceOrder, OtherId and EntryKind are tried in this order.
-pub fn read_root(alloc: Global, rev: u32, bytes: &[u8]) -> Result<NodeRev, ReadError>
+pub fn read_root(alloc: Global, rev: RevNum, bytes: &[u8]) -> Result<NodeRev, ReadError>
     ensures read { Answers (λ v. v) (RootIn rev bytes.now) result }
     ensures quiet { IsQuiet result }
 {
@@ -63,6 +63,6 @@ pub fn read_root(alloc: Global, rev: u32, bytes: &[u8]) -> Result<NodeRev, ReadE
         rev,
         offset: trailer.root,
     };
-    let node = read_node_at(alloc, at, bytes_from(trailer.root, bytes))?;
-    as_root(at, node)
+    let node = read_node_at(alloc, &at, bytes_from(trailer.root, bytes))?;
+    as_root(&at, node)
 }

@@ -56,19 +56,19 @@ has_items_one bytes a b v w =
 
 kind_one : {look : RevisionBytes} {r : ℕ} {item : ChangeItem} {a b : Kind} → IsKindOf look r item a → IsKindOf look r item b → a ≡ b
 kind_one (Said k e) (Said l f) = same_Some k l (sym e ∙ f)
-kind_one {item = item} (Said k e) (Named u f i o) = no_both item.kind k e f
+kind_one {item = item} (Said k e) (Named u f i l o) = no_both item.kind k e f
 kind_one {item = item} (Said k e) (There v f i o) = no_both item.kind k e f
 kind_one {item = item} (Said k e) (NotThere f i o) = no_both item.kind k e f
-kind_one {item = item} (Named u f i o) (Said k e) = no_both item.kind k e f
-kind_one {look} {item = item} (Named u e h o) (Named v f i p) = ap (λ (x : NodeRev). x.kind) (ok_same u v (of_id_one look item.id (Ok u) (Ok v) o p))
-kind_one (Named u e h o) (There v f i p) = let g : true ≡ false = sym h ∙ i in absurd cc
-kind_one (Named u e h o) (NotThere f i p) = let g : true ≡ false = sym h ∙ i in absurd cc
+kind_one {item = item} (Named u f i l o) (Said k e) = no_both item.kind k e f
+kind_one {look} {item = item} (Named u e h l o) (Named v f i m p) = ap (λ (x : NodeRev). x.kind) (ok_same u v (of_id_one look item.id (Ok u) (Ok v) o p))
+kind_one (Named u e h l o) (There v f i p) = let g : true ≡ false = sym h ∙ i in absurd cc
+kind_one (Named u e h l o) (NotThere f i p) = let g : true ≡ false = sym h ∙ i in absurd cc
 kind_one {item = item} (There u f i o) (Said k e) = no_both item.kind k e f
-kind_one (There u e h o) (Named v f i p) = let g : true ≡ false = sym i ∙ h in absurd cc
+kind_one (There u e h o) (Named v f i l p) = let g : true ≡ false = sym i ∙ h in absurd cc
 kind_one {look} {r} {item} (There u e h o) (There v f i p) = ap (λ (x : NodeRev). x.kind) (stands_same look r item.path u v o p)
 kind_one (There u e h o) (NotThere f i p) = absurd (p u o)
 kind_one {item = item} (NotThere f i o) (Said k e) = no_both item.kind k e f
-kind_one (NotThere e h o) (Named v f i p) = let g : true ≡ false = sym i ∙ h in absurd cc
+kind_one (NotThere e h o) (Named v f i l p) = let g : true ≡ false = sym i ∙ h in absurd cc
 kind_one (NotThere e h o) (There v f i p) = absurd (o v p)
 kind_one (NotThere e h o) (NotThere f i p) = refl
 

@@ -2,7 +2,7 @@
 --
 -- The libsvn_fs_fs structure file has the form of the items ("Revision file format", changed-path data). What an item without a kind
 -- means, and that each path comes once, are this project's profile.
-use Rattle.std.specs.Prelude.{◌≡◌, ◌≢◌, ℕ, true, false, List, drop, Contains, Some, None, option_map, Ok}
+use Rattle.std.specs.Prelude.{◌≡◌, ◌≢◌, ◌≤◌, ℕ, true, false, List, drop, Contains, Some, None, option_map, Ok}
 use Rattle.std.specs.FinMap.{FinMap, get}
 use Rattle.fsfs_base.specs.Paths.{Path, path_cmp}
 use Rattle.fsfs_base.specs.declared.kind.Kind.{Kind}
@@ -16,7 +16,7 @@ use Rattle.fsfs_revision.specs.Trailers.{EndsWith}
 use Rattle.fsfs_revision.specs.declared.trailer.Trailer.{Trailer}
 use Rattle.fsfs_changes.specs.Changes.{AreRevisionChanges}
 use Rattle.fsfs_changes.specs.declared.item.ChangeItem.{ChangeItem}
-use Rattle.fsfs_shows.specs.Reading.{OfId, StandsAt}
+use Rattle.fsfs_shows.specs.Reading.{offset_of, OfId, StandsAt}
 
 -- the bytes of a revision have these items between the place that the trailer names and the trailer
 pub record HasItems (bytes : List ℕ) (items : List ChangeItem) : Type 0 where
@@ -24,11 +24,11 @@ pub record HasItems (bytes : List ℕ) (items : List ChangeItem) : Type 0 where
   pub ends : EndsWith 0 bytes trailer
   pub items_are : AreRevisionChanges (drop trailer.changes ends.front) items
 
--- the kind of what an item without a kind is about: that of the node-revision of its id; where the id is a transaction's, that of the
--- node at its path, and a file where none stands there
+-- the kind of what an item without a kind is about: that of the node-revision of its id, which is of no later revision; where the id is
+-- a transaction's, that of the node at its path, and a file where none stands there
 pub data IsKindOf (look : RevisionBytes) (r : ℕ) (item : ChangeItem) : Kind → Type 0 where
   Said : (kind : Kind) → item.kind ≡ Some kind → IsKindOf look r item kind
-  Named : (u : NodeRev) → item.kind ≡ None → is_revision_id item.id ≡ true → OfId look item.id (Ok u) → IsKindOf look r item u.kind
+  Named : (u : NodeRev) → item.kind ≡ None → is_revision_id item.id ≡ true → (offset_of item.id.place).rev ≤ r → OfId look item.id (Ok u) → IsKindOf look r item u.kind
   There : (v : NodeRev) → item.kind ≡ None → is_revision_id item.id ≡ false → StandsAt look r item.path v → IsKindOf look r item v.kind
   NotThere : item.kind ≡ None → is_revision_id item.id ≡ false → ((v : NodeRev) → StandsAt look r item.path v → ⊥) → IsKindOf look r item File
 

@@ -8,15 +8,11 @@ use Rattle.fsfs_base.specs.Paths.{PathName, Path, names_text, path_text}
 use Rattle.fsfs_base.specs.PathTexts.{HasNoSlash, IsName, IsPath, IsNameFault, HasBadName, IsBadJoin, IsBadPath}
 use Rattle.fsfs_base.specs.declared.bad_path.PathFault.{PathFault}
 use Rattle.fsfs_base.specs.declared.bad_path.PathFault.TheVariants.{NotAbsolute, PathTooLong, TooDeep, EmptyName, Control, NameTooLong, Dot}
-use Rattle.fsfs_base.proofs.PathTextLemmas.{names_text_injective, path_by_text, absolute}
+use Rattle.fsfs_base.proofs.PathTextLemmas.{names_text_injective, names_whole, path_by_text, absolute}
 use Rattle.fsfs_cli.specs.Grammars.{path_meant, IsPathOf}
 use Rattle.fsfs_cli.specs.Readings.{IsPathGiven}
 
 -- ---- a path by its text
-
-names_whole : (names : Path) → AllByRecursion IsName names → AllByRecursion HasNoSlash names
-names_whole [] good = tt
-names_whole (x ∷ p) good = (good.0.no_slash, names_whole p good.1)
 
 -- a word means one path at most
 pub one_path : (word : List ℕ) (p q : Path) → IsPathOf word p → IsPathOf word q → p ≡ q

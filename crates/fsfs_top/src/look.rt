@@ -9,7 +9,7 @@ ghost use Rattle.fsfs_layout.specs.Opening.{small_texts, IsOpened};
 ghost use Rattle.fsfs_top.specs.Command.{fault_of};
 ghost use Rattle.fsfs_top.specs.Looks.{TextOf, LacksRevision, LooksInto, PrintsLook, LookIsDecided, looked_revision, IsFaultAt};
 
-use fsfs_base::FsPath;
+use fsfs_base::{FsPath, RevNum};
 use fsfs_book::Book;
 use fsfs_disk::{Disk, Host};
 use fsfs_faults::Fault;
@@ -41,21 +41,19 @@ pub struct RevisionLook {
 }
 
 // The revision that is looked at.
-fn revision_of(look: &RevisionLook, opened: &Opened) -> Result<u32, Fault>
+fn revision_of(look: &RevisionLook, opened: &Opened) -> Result<RevNum, Fault>
     ensures found { IfOk result (λ rev. (rev ≡ looked_revision look.now opened.now) × (rev ≤ opened.now.youngest)) }
     ensures lacking { IfErr result (λ fault. (rev : ℕ) × LacksRevision look.now opened.now rev × (fault ≡ faults.NoRev rev opened.now.youngest)) }
 {
     match look.revision {
         None => Ok(opened.youngest),
-        Some(rev) => {
-            if rev > opened.youngest as u64 {
-                return Err(Fault::NoRev {
-                    asked: rev,
-                    youngest: opened.youngest as u64,
-                });
-            }
-            Ok(rev as u32)
-        }
+        Some(asked) => match RevNum::new(asked) {
+            Some(rev) if rev <= opened.youngest => Ok(rev),
+            _ => Err(Fault::NoRev {
+                asked,
+                youngest: opened.youngest,
+            }),
+        },
     }
 }
 
@@ -63,7 +61,7 @@ fn revision_of(look: &RevisionLook, opened: &Opened) -> Result<u32, Fault>
 fn print_look<B: Book, O: Sink>(
     alloc: Global,
     book: &mut B,
-    rev: u32,
+    rev: RevNum,
     look: &RevisionLook,
     out: &mut O,
 ) -> Result<(), LookError>

@@ -3,17 +3,17 @@ ghost use Rattle.fsfs_streams.specs.Output.{Prints};
 ghost use Rattle.fsfs_top.specs.Answers.{revision_line, uuid_line, shown_line};
 
 use arrayvec::ArrayString;
-use fsfs_base::Failed;
+use fsfs_base::{Failed, RevNum};
 use fsfs_layout::{Opened, Uuid};
 use fsfs_streams::{Sink, print};
 use itoa::Buffer;
 
 /// Writes a revision's number and the end of the line.
-pub fn print_revision<S: Sink>(sink: &mut S, rev: u32) -> Result<(), Failed>
+pub fn print_revision<S: Sink>(sink: &mut S, rev: RevNum) -> Result<(), Failed>
     ensures printed { Prints (S.written sink.old) (S.written sink.new) (revision_line rev) (S.faults sink.old) (S.faults sink.new) result }
 {
     let mut line = ArrayString::<11>::new();
-    line.push_str(Buffer::new().format(rev));
+    line.push_str(Buffer::new().format(rev.get()));
     line.push_str("\n");
     print(sink, line.as_str().as_bytes())
 }

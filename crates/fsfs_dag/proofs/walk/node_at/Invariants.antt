@@ -12,6 +12,6 @@ invariant-loop-name g l = record {
   depth : l.depth ≡ l.name-index;
   kept : Keeps (g.B.Book.told l.fn.book) (g.B.Book.told l.book);
   count : g.B.Book.faults l.fn.book ≤ g.B.Book.faults l.book;
-  below : (home_of l.node.node).rev ≤ l.rev;
-  met : (look : RevisionBytes) → Knows (g.B.Book.told l.fn.book).revs l.rev look → (r : Result Met Wrong) → MetFrom look l.node.node l.depth (map string_bytes (drop l.name-index l.name-items)) r → MetAt look l.rev l.path r;
+  below : (home_of l.node.node).rev ≤ l.fn.rev;
+  met : (look : RevisionBytes) → Knows (g.B.Book.told l.fn.book).revs l.fn.rev look → (r : Result Met Wrong) → MetFrom look l.node.node l.depth (map string_bytes (drop l.name-index l.name-items)) r → MetAt look l.fn.rev l.path r;
 }

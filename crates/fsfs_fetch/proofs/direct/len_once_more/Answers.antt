@@ -1,4 +1,4 @@
-use Rattle.std.proofs.Common.{ℕ, sym, ap, subst, ◌∙◌}
+use Rattle.std.proofs.Common.{ℕ, sym, ap, subst, ◌∙◌, rules}
 use Rattle.std.specs.Prelude.{Option, Ok}
 use Rattle.std.proofs.lemmas.Result.{err_from_is_err_and}
 use Rattle.fsfs_book.specs.Told.{size_read}
@@ -25,20 +25,20 @@ returns-in_err-refresh-clause-about g c =
     let r = err_from_is_err_and c.from_residual.result c.from_residual.ensures.1 in
     rw (r.1, r.2) (c.in_err-refresh.ensures.about c.args.rev 0)
 
-pub returns-then-rev-floor-clause-told : goal.returns-then-rev-floor-clause-told
-returns-then-rev-floor-clause-told g c = λ m p.
+pub returns-then-lt-clause-told : goal.returns-then-lt-clause-told
+returns-then-lt-clause-told g c = λ m p.
     let v = g.R.Reads.view c.args.reads.now in
     let w = g.R.Reads.view c.refresh.new.reads in
     let f = fresh_floor v w m c.args.rev c.refresh.new.floor c.in_ok-refresh.ensures.later p c.in_ok-refresh.ensures.told in
-    let q = fresh_found v w m c.args.rev c.refresh.new.floor c.refresh.new.kept f c.if-rev-floor.true c.in_ok-refresh.ensures.kept in
+    let q = fresh_found v w m c.args.rev c.refresh.new.floor c.refresh.new.kept f (search rules) c.in_ok-refresh.ensures.kept in
     gives_at {X = ℕ} {Y = ℕ} (λ n. n) c.packed_len.result size_read _ _ q.1 (c.packed_len.ensures.told f.new q.0)
 
-pub returns-then-rev-floor-clause-finds : goal.returns-then-rev-floor-clause-finds
-returns-then-rev-floor-clause-finds g c =
+pub returns-then-lt-clause-finds : goal.returns-then-lt-clause-finds
+returns-then-lt-clause-finds g c =
     finds_more _ _ _ _ _ _ _ _ _ (finds_read _ _ _ _ _ _ c.in_ok-refresh.ensures.later c.in_ok-refresh.ensures.told c.in_ok-refresh.ensures.kept) (finds_serving _ _ _ _ _ c.packed_len.ensures.later c.packed_len.ensures.serves)
 
-pub returns-then-rev-floor-clause-later : goal.returns-then-rev-floor-clause-later
-returns-then-rev-floor-clause-later g c =
+pub returns-then-lt-clause-later : goal.returns-then-lt-clause-later
+returns-then-lt-clause-later g c =
     later_more _ _ _ c.in_ok-refresh.ensures.later c.packed_len.ensures.later
 
 pub returns-in_err-file_len-clause-told : goal.returns-in_err-file_len-clause-told
@@ -80,7 +80,7 @@ returns-in-None-clause-told g c = λ m p.
     let v = g.R.Reads.view c.args.reads.now in
     let w = g.R.Reads.view c.refresh.new.reads in
     let f = fresh_floor v w m c.args.rev c.refresh.new.floor c.in_ok-refresh.ensures.later p c.in_ok-refresh.ensures.told in
-    ap size_read (fresh_missing v w m c.args.rev c.refresh.new.floor f c.if-rev-floor.false)
+    ap size_read (fresh_missing v w m c.args.rev c.refresh.new.floor f (search rules))
 
 pub returns-in-Some-clause-told : goal.returns-in-Some-clause-told
 returns-in-Some-clause-told g c = λ m p.

@@ -11,8 +11,8 @@ returns-in_err-min_unpacked_rev-clause-refused c =
     rw (p.1, p.2) (refused_floor c.args.layout (texts_of c.args.files.now) c.deref.result.now c.deref-2.result.now c.deref-3.result.now c.in_ok-uuid.uuid c.in_ok-youngest.youngest _
     c.deref.ensures.value c.in_ok-uuid.ensures.found c.deref-2.ensures.value c.in_ok-youngest.ensures.found c.deref-3.ensures.value c.in_err-min_unpacked_rev.ensures.fault)
 
-pub returns-then-min_unpacked_rev-youngest-clause-refused : goal.returns-then-min_unpacked_rev-youngest-clause-refused
-returns-then-min_unpacked_rev-youngest-clause-refused c =
+pub returns-then-get-clause-refused : goal.returns-then-get-clause-refused
+returns-then-get-clause-refused c =
     refused_past c.args.layout (texts_of c.args.files.now) c.deref.result.now c.deref-2.result.now c.deref-3.result.now c.in_ok-uuid.uuid c.in_ok-youngest.youngest c.in_ok-min_unpacked_rev.min_unpacked_rev _
     c.deref.ensures.value c.in_ok-uuid.ensures.found c.deref-2.ensures.value c.in_ok-youngest.ensures.found c.deref-3.ensures.value c.in_ok-min_unpacked_rev.ensures.found (omega arith) refl refl
 

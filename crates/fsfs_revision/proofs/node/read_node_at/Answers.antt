@@ -4,12 +4,12 @@ use Rattle.fsfs_revision.proofs.DamageLemmas.{nothing_read, of_transaction, not_
 use Rattle.fsfs_revision.proofs.node.read_node_at.Goals as goal
 
 pub returns-in-Err-Fault-clause-read : goal.returns-in-Err-Fault-clause-read
-returns-in-Err-Fault-clause-read c = nothing_read c.args.at c.args.bytes.now _ c.damaged.ensures (λ v w. subst IsOutOfMemory c.in-Err-Fault.field-0-is (c.in-Err-Fault.ensures.only v w))
+returns-in-Err-Fault-clause-read c = nothing_read c.args.at.now c.args.bytes.now _ c.damaged.ensures (λ v w. subst IsOutOfMemory c.in-Err-Fault.field-0-is (c.in-Err-Fault.ensures.only v w))
 
 pub returns-then-not-is_of_revision-clause-read : goal.returns-then-not-is_of_revision-clause-read
 returns-then-not-is_of_revision-clause-read c =
-    of_transaction c.args.at c.args.bytes.now _ c.in-Ok.node c.damaged-then-not-is_of_revision.ensures c.in-Ok.ensures.only (sym c.is_of_revision.ensures ∙ c.if-not-is_of_revision.true)
+    of_transaction c.args.at.now c.args.bytes.now _ c.in-Ok.node c.damaged-then-not-is_of_revision.ensures c.in-Ok.ensures.only (sym c.is_of_revision.ensures ∙ c.if-not-is_of_revision.true)
 
 pub returns-then-not-is_ordered-clause-read : goal.returns-then-not-is_ordered-clause-read
 returns-then-not-is_ordered-clause-read c =
-    not_ordered c.args.at c.args.bytes.now _ c.in-Ok.node c.damaged-then-not-is_ordered.ensures c.in-Ok.ensures.found c.in-Ok.ensures.only (sym c.is_of_revision.ensures ∙ c.if-not-is_of_revision.false) (sym c.is_ordered.ensures ∙ c.if-not-is_ordered.true)
+    not_ordered c.args.at.now c.args.bytes.now _ c.in-Ok.node c.damaged-then-not-is_ordered.ensures c.in-Ok.ensures.found c.in-Ok.ensures.only (sym c.is_of_revision.ensures ∙ c.if-not-is_of_revision.false) (sym c.is_ordered.ensures ∙ c.if-not-is_ordered.true)
