@@ -45,11 +45,11 @@ read_fails view R told reads.OutOfMemory h = ([], Stopped, inl (refl, refl), ([]
 read_fails view R told reads.DiskFault h = ([], Stopped, inl (refl, refl), ([], [], refl, adds_nothing told))
 
 -- all of it, or where the sink failed a first part
-read_written : (R : Result (List ℕ) Wrong → Type 0) (whole : List ℕ) (old new : Option (List ℕ)) (r : Result (Unit {0}) LookError) → R (Ok whole)
-    → OnOk r (Adds old new whole) → OnErr r (AddsFront old new whole) → IfErr r (λ e. e ≡ errors.WriteFault) → Writes (ReadText R) old new r
-read_written R whole old new (Ok x) gives added part failed = (whole, inr (inl (gives, refl)), added)
-read_written R whole old new (Err e) gives added part failed =
-    subst (λ (f : LookError). Writes (ReadText R) old new (Err f)) (sym failed) (whole, Whole, inr (inl (gives, refl)), part)
+read_written : (R : Result (List ℕ) Wrong → Type 0) (whole text : List ℕ) (old new : Option (List ℕ)) (r : Result (Unit {0}) LookError) → R (Ok whole) → text ≡ whole
+    → OnOk r (Adds old new text) → OnErr r (AddsFront old new text) → IfErr r (λ e. e ≡ errors.WriteFault) → Writes (ReadText R) old new r
+read_written R whole text old new (Ok x) gives same added part failed = (whole, inr (inl (gives, refl)), subst (λ (t : List ℕ). Adds old new t) same added)
+read_written R whole text old new (Err e) gives same added part failed =
+    subst (λ (f : LookError). Writes (ReadText R) old new (Err f)) (sym failed) (whole, Whole, inr (inl (gives, refl)), subst (λ (t : List ℕ). AddsFront old new t) same part)
 
 module _ (R : Pairs → Result (List ℕ) Wrong → Type 0) (files : RevisionBytes) (rev : ℕ) where
   pub no_props : (told : Option (List ℕ)) (e : ReadError) → Answers (λ (pairs : Pairs). pairs) (RevPropsOf files rev) (Err e) → Writes (PropText R files rev) told told (Err (of_read e))
@@ -63,6 +63,10 @@ module _ (R : Pairs → Result (List ℕ) Wrong → Type 0) (files : RevisionByt
     no_line view told reads.OutOfMemory h = read_fails view (AndThen (RevPropsOf files rev) R) told reads.OutOfMemory tt
     no_line view told reads.DiskFault h = read_fails view (AndThen (RevPropsOf files rev) R) told reads.DiskFault tt
 
-    pub props_written : (whole : List ℕ) (old new : Option (List ℕ)) (r : Result (Unit {0}) LookError) → R pairs (Ok whole)
-        → OnOk r (Adds old new whole) → OnErr r (AddsFront old new whole) → IfErr r (λ e. e ≡ errors.WriteFault) → Writes (PropText R files rev) old new r
-    props_written whole old new r gives = read_written (AndThen (RevPropsOf files rev) R) whole old new r (pairs, read, gives)
+    pub props_written : (whole text : List ℕ) (old new : Option (List ℕ)) (r : Result (Unit {0}) LookError) → R pairs (Ok whole) → text ≡ whole
+        → OnOk r (Adds old new text) → OnErr r (AddsFront old new text) → IfErr r (λ e. e ≡ errors.WriteFault) → Writes (PropText R files rev) old new r
+    props_written whole text old new r gives same = read_written (AndThen (RevPropsOf files rev) R) whole text old new r (pairs, read, gives) same
+
+    -- a first part alone
+    pub props_front : (whole text : List ℕ) (old new : Option (List ℕ)) (e : LookError) → R pairs (Ok whole) → text ≡ whole → AddsFront old new text → e ≡ errors.WriteFault → Writes (PropText R files rev) old new (Err e)
+    props_front whole text old new e gives same part failed = props_written whole text old new (Err e) gives same tt part failed
