@@ -1,6 +1,7 @@
 -- The root of revision 0 has one text, and so has the trailer behind it.
 use Rattle.std.proofs.Common.{◌≡◌, ◌≤◌, ℕ, List, [], ◌∷◌, ◌++◌, Some, Option, map, refl, sym, ap, subst, ◌∙◌, arith}
 use Rattle.std.specs.Prelude.{codes, is_some, unwrap_or}
+use Rattle.std.proofs.lemmas.Option.{same_Some}
 use Rattle.std.specs.List.{flat_map}
 use Rattle.hex.specs.Hex.{encode_lower, decode_pairs}
 use Rattle.fsfs_grammar.specs.Grammar.{Appends}
@@ -177,22 +178,19 @@ said a b c d e fields (_, s1, (_, id, id_is, e1), (_, s2, (_, kind, kind_is, e2)
 abbrev pub root_text : List ℕ
 root_text = codes "id: 0.0.r0/17\ntype: dir\ncount: 0\ntext: 0 0 4 4 2d2977d1c96f487abe4a1e202dd03b4e\ncpath: /\n\n"
 
-some_same : {X : Type 0} (a b : X) → Some a ≡ Some b → a ≡ b
-some_same a b e = cc
-
 pub first_root_text : (text : List ℕ) (node : NodeRev) → IsFirstRoot 4 17 node → IsWritten text node → text ≡ root_text
 first_root_text text node first w =
     let v = values w.lines (w.names ∙ names_are node first) in
     let s = said v.id v.kind v.count v.text v.path w.fields (subst (λ (ls : List (List ℕ × List ℕ)). Takes nothing ls w.fields) v.parts w.taken) in
-    let id : s.id ≡ node.id = some_same s.id node.id (sym s.id_there ∙ w.means.id) in
+    let id : s.id ≡ node.id = same_Some s.id node.id (sym s.id_there ∙ w.means.id) in
     let id_is : v.id ≡ codes "0.0.r0/17" = id_text v.id (subst (IsId v.id) (ap id_value id ∙ first.id) s.id_is) in
-    let kind : s.kind ≡ Dir = some_same s.kind Dir (sym s.kind_there ∙ w.means.kind ∙ ap (λ (k : Kind). Some k) first.kind) in
+    let kind : s.kind ≡ Dir = same_Some s.kind Dir (sym s.kind_there ∙ w.means.kind ∙ ap (λ (k : Kind). Some k) first.kind) in
     let kind_is : v.kind ≡ codes "dir" = subst (IsKindText v.kind) kind s.kind_is in
     let count : s.count ≡ 0 = ap (λ (o : Option ℕ). unwrap_or o 0) (sym s.count_there) ∙ sym w.means.count ∙ first.count in
     let count_is : v.count ≡ codes "0" = zero_10 v.count (subst (IsNumeral 10 v.count) count s.count_is.0) in
-    let text_same : s.text ≡ contents.At first.rep = some_same s.text (contents.At first.rep) (sym s.text_there ∙ sym w.means.text ∙ first.text) in
+    let text_same : s.text ≡ contents.At first.rep = same_Some s.text (contents.At first.rep) (sym s.text_there ∙ sym w.means.text ∙ first.text) in
     let text_is : v.text ≡ codes "0 0 4 4 2d2977d1c96f487abe4a1e202dd03b4e" = rep_text v.text (subst (IsRep v.text) first.rep_is (subst (AreContentsText v.text) text_same s.text_is)) in
-    let path : s.path ≡ [] = some_same s.path [] (sym s.path_there ∙ w.means.created_path ∙ ap (λ (p : Path). Some p) first.created_path) in
+    let path : s.path ≡ [] = same_Some s.path [] (sym s.path_there ∙ w.means.created_path ∙ ap (λ (p : Path). Some p) first.created_path) in
     let path_is : v.path ≡ codes "/" = sym (subst (IsPathText v.path) path s.path_is).text_is in
     w.parts ∙ ap (λ (ls : List (List ℕ × List ℕ)). flat_map line ls ++ 10 ∷ []) v.parts
     ∙ (λ i. flat_map line (lines_of (id_is i) (kind_is i) (count_is i) (text_is i) (path_is i)) ++ 10 ∷ [])

@@ -23,7 +23,7 @@ use Rattle.fsfs_shows.proofs.OneEntry.{entries_one}
 use Rattle.fsfs_shows.proofs.OneWalk.{stands_same}
 use Rattle.fsfs_shows.proofs.ByTree.{by_tree}
 use Rattle.fsfs_shows.proofs.TreeLaw.{sound}
-use Rattle.fsfs_ids.proofs.Standing.{standing_named}
+use Rattle.fsfs_ancestry.proofs.Earlier.{stands_of_id}
 use Rattle.fsfs_drafts.specs.Own.{OwnNode, Own, below, shared_from, shared_under, shared_at, lives_in, lives}
 use Rattle.fsfs_drafts.specs.Rules.{Above, ComesBy, Change, Copied, Made, NodeRule, Rules, above_under, stands_from, stands_under, stands_at, head_at}
 use Rattle.fsfs_drafts.specs.Drafts.{ShowTrees}
@@ -157,13 +157,13 @@ module _ (look : RevisionBytes) (rev : ℕ) (tree : TreeFunction) (shows : Shows
   module _ (top : ℕ) (le : rev ≤ top) where
     -- what stands in the revision agrees with its tree
     pub revision_agrees : Agrees look top (StandsAt look rev) tree
-    revision_agrees = record { shown = shown_there; read = standing_named look rev; within = λ q u at. (let h = stands_within q u at in omega (arith, h, le)); never = never_wrong; child = entry_child; lacks = entry_lacks }
+    revision_agrees = record { shown = shown_there; read = stands_of_id look rev; within = λ q u at. (let h = stands_within q u at in omega (arith, h, le)); never = never_wrong; child = entry_child; lacks = entry_lacks }
 
     -- and so does a copy of what stands at and below a path
     pub copy_agrees : (from : Path) → Agrees look top (λ q u. StandsAt look rev (from ++ q) u) (λ q. copied_node rev (from ++ q) (tree (from ++ q)))
     copy_agrees from = record {
       shown = λ q u at. (let n = shown_there (from ++ q) u at in (record n.0 { source = Some (rev, from ++ q) }, ap (λ (o : Option Node). copied_node rev (from ++ q) o) n.1, record { kind = n.2.kind; text = n.2.text; properties = n.2.properties }));
-      read = λ q u at. standing_named look rev (from ++ q) u at;
+      read = λ q u at. stands_of_id look rev (from ++ q) u at;
       within = λ q u at. (let h = stands_within (from ++ q) u at in omega (arith, h, le));
       never = λ q u w at dir of. never_wrong (from ++ q) u w at dir of;
       child = λ q u entries name e at dir of is. (let c = entry_child (from ++ q) u entries name e at dir of is in (c.0, subst (λ (p : Path). StandsAt look rev p c.0) (append_assoc from q (name ∷ [])) c.1, c.2));

@@ -1,11 +1,11 @@
 -- What is laid behind a name of an own directory keeps what a draft has beside `IsDraft`: its files, what it drew, and its sources.
-use Rattle.std.proofs.Common.{◌≡◌, ◌≤◌, ℕ, Bool, true, false, cond, List, [], ◌∷◌, ◌++◌, length, drop, refl, sym, ap, subst, ◌∙◌, inl, inr, append_assoc}
+use Rattle.std.proofs.Common.{◌≡◌, ◌≤◌, ℕ, Bool, true, false, cond, List, [], ◌∷◌, ◌++◌, refl, sym, ap, subst, ◌∙◌, inl, inr, append_assoc}
 use Rattle.std.specs.Prelude.{Option, Some, None}
 use mathlib.Core.Bool.{false≢true}
 use Rattle.fsfs_base.specs.Paths.{PathName, Path, same_name, covers}
 use Rattle.fsfs_tree.specs.Nodes.{TreeFunction}
 use Rattle.fsfs_base.specs.declared.kind.Kind.TheVariants.{Dir}
-use Rattle.fsfs_base.proofs.PathLemmas.{same_name-is, same_name-refl, split_at}
+use Rattle.fsfs_base.proofs.PathLemmas.{same_name-is, same_name-refl}
 use Rattle.fsfs_fields.specs.declared.txn_name.TxnName.{TxnName}
 use Rattle.fsfs_book.specs.Told.{RevisionBytes}
 use Rattle.fsfs_noderev.specs.declared.node_id.NodeId.{NodeId}
@@ -47,31 +47,36 @@ same_shared trees (y ∷ q) A B S same s =
 
 -- ---- a graft, path by path
 
-pub graft_here : (p : Path) (new own : Own) (r : Path) → graft p new own (p ++ r) ≡ new r
+graft_here : (p : Path) (new own : Own) (r : Path) → graft p new own (p ++ r) ≡ new r
 graft_here [] new own r = refl
 graft_here (x ∷ p) new own r = ap (λ (b : Bool). cond b (graft p new (below x own) (p ++ r)) (own (x ∷ (p ++ r)))) (same_name-refl x) ∙ graft_here p new (below x own) r
 
--- but at and below the name, what is the directory's and stays there stays
-pub stays_off : {X : Type 0} (f : Option OwnNode → X) (p : Path) (x : PathName) (d new : OwnNode) (child own : Own) (r : Path) → own p ≡ Some d → f (Some new) ≡ f (Some d) → covers (p ++ x ∷ []) r ≡ false → f (graft p (with_child new x child (under p own)) own r) ≡ f (own r)
-stays_off f [] x d new child own [] here same c = same ∙ ap f (sym here)
-stays_off f [] x d new child own (y ∷ r) here same c = by (same_name x y) refl
+behind_covers : (p r : Path) → covers p r ≡ true → (s : Path) × (r ≡ p ++ s)
+behind_covers [] r c = (r, refl)
+behind_covers (x ∷ p) [] c = absurd (false≢true c)
+behind_covers (x ∷ p) (y ∷ r) c = let w = behind_covers p r (and_parts _ _ c).1 in (w.0, λ i. sym (same_name-is x y (and_parts _ _ c).0) i ∷ w.1 i)
+
+-- but at and below the name, each goes on from what it went on from
+links_stay : (p : Path) (x : PathName) (d new : OwnNode) (child own : Own) (r : Path) → own p ≡ Some d → links (Some new) ≡ links (Some d) → covers (p ++ x ∷ []) r ≡ false → links (graft p (with_child new x child (under p own)) own r) ≡ links (own r)
+links_stay [] x d new child own [] here same c = same ∙ ap links (sym here)
+links_stay [] x d new child own (y ∷ r) here same c = by (same_name x y) refl
   where
-    by : (b : Bool) → same_name x y ≡ b → f (cond b (child r) (own (y ∷ r))) ≡ f (own (y ∷ r))
+    by : (b : Bool) → same_name x y ≡ b → links (cond b (child r) (own (y ∷ r))) ≡ links (own (y ∷ r))
     by true e = absurd (false≢true (sym c ∙ and_from _ _ e refl))
     by false e = refl
-stays_off f (z ∷ p) x d new child own [] here same c = refl
-stays_off f (z ∷ p) x d new child own (y ∷ r) here same c = by (same_name z y) refl (λ low. stays_off f p x d new child (below z own) r here same low)
+links_stay (z ∷ p) x d new child own [] here same c = refl
+links_stay (z ∷ p) x d new child own (y ∷ r) here same c = by (same_name z y) refl (λ low. links_stay p x d new child (below z own) r here same low)
   where
     Goal : PathName → Type 0
-    Goal y = f (graft p (with_child new x child (under p (below z own))) (below y own) r) ≡ f (own (y ∷ r))
+    Goal y = links (graft p (with_child new x child (under p (below z own))) (below y own) r) ≡ links (own (y ∷ r))
 
-    by : (b : Bool) → same_name z y ≡ b → (covers (p ++ x ∷ []) r ≡ false → Goal z) → f (cond b (graft p (with_child new x child (under p (below z own))) (below y own) r) (own (y ∷ r))) ≡ f (own (y ∷ r))
-    by false e g = refl
-    by true e g = subst Goal (same_name-is z y e) (g (low (covers (p ++ x ∷ []) r) refl))
+    by : (b : Bool) → same_name z y ≡ b → (covers (p ++ x ∷ []) r ≡ false → Goal z) → links (cond b (graft p (with_child new x child (under p (below z own))) (below y own) r) (own (y ∷ r))) ≡ links (own (y ∷ r))
+    by false e f = refl
+    by true e f = subst Goal (same_name-is z y e) (f (low (covers (p ++ x ∷ []) r) refl))
       where
         low : (b : Bool) → covers (p ++ x ∷ []) r ≡ b → covers (p ++ x ∷ []) r ≡ false
-        low false k = k
-        low true k = absurd (false≢true (sym c ∙ and_from _ _ e k))
+        low false g = g
+        low true g = absurd (false≢true (sym c ∙ and_from _ _ e g))
 
 last_same : (p q : Path) (x y : PathName) → p ++ x ∷ [] ≡ q ++ y ∷ [] → p ≡ q
 last_same [] [] x y e = refl
@@ -136,7 +141,7 @@ module _ (look : RevisionBytes) (top base : ℕ) (trees : ℕ → TreeFunction) 
       by (Another is not_here) = Was (record { old = a; was = is; id = refl; predecessor = refl; copy = refl })
 
   -- at and below the name stands what is laid
-  pub at_name : (s : Path) → now ((p ++ x ∷ []) ++ s) ≡ laid_own laid s
+  at_name : (s : Path) → now ((p ++ x ∷ []) ++ s) ≡ laid_own laid s
   at_name s = ap now (append_assoc p (x ∷ []) s) ∙ graft_here p (with_child (opened d new) x (laid_own laid) (under p own)) own (x ∷ s) ∙ ap (λ (b : Bool). cond b (laid_own laid s) (under p own (x ∷ s))) (same_name-refl x)
 
   below_laid : (o : Option OwnNode) (s : Path) (a : OwnNode) → laid_own o s ≡ Some a → s ≡ []
@@ -188,11 +193,10 @@ module _ (look : RevisionBytes) (top base : ℕ) (trees : ℕ → TreeFunction) 
     where
       same : (r t : Path) → q ≡ r ++ t → (t ≡ [] → ⊥) → links (now r) ≡ links (own r)
       same r t is n = elim (cases_Bool (covers (p ++ x ∷ []) r)) [
-        | inr off ↦ stays_off links p x d (opened d new) (laid_own laid) own r here refl off
-        | inl on ↦ (let w = split_at (p ++ x ∷ []) r on in
-            let rest = drop (length (p ++ x ∷ [])) r in
-            let there : q ≡ (p ++ x ∷ []) ++ (rest ++ t) = is ∙ ap (λ (z : Path). z ++ t) (sym w) ∙ append_assoc (p ++ x ∷ []) rest t in
-            absurd (not_empty rest t n (below_laid laid (rest ++ t) a (sym (at_name (rest ++ t)) ∙ ap now (sym there) ∙ e))))
+        | inr off ↦ links_stay p x d (opened d new) (laid_own laid) own r here refl off
+        | inl on ↦ (let w = behind_covers (p ++ x ∷ []) r on in
+            let there : q ≡ (p ++ x ∷ []) ++ (w.0 ++ t) = is ∙ ap (λ (z : Path). z ++ t) w.1 ∙ append_assoc (p ++ x ∷ []) w.0 t in
+            absurd (not_empty w.0 t n (below_laid laid (w.0 ++ t) a (sym (at_name (w.0 ++ t)) ∙ ap now (sym there) ∙ e))))
       ]
 
   pub sources_kept : OwnSources trees (trees base) own

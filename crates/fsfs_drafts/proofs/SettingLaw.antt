@@ -15,17 +15,17 @@ use Rattle.fsfs_drafts.proofs.LayingKeeps.{links, same_shared}
 use Rattle.fsfs_drafts.proofs.Setting.{which, TheNode, Another, set_draft, set_shows, text_shows, prop_shows}
 use Rattle.fsfs_drafts.proofs.Setting as setting_of
 
--- what stays at the path stays everywhere
-pub stays_set : {X : Type 0} (f : Option OwnNode → X) (p : Path) (v w : OwnNode) (own : Own) (r : Path) → own p ≡ Some v → f (Some w) ≡ f (Some v) → f (graft p (with_node w (under p own)) own r) ≡ f (own r)
-stays_set f [] v w own [] here same = same ∙ ap f (sym here)
-stays_set f [] v w own (y ∷ r) here same = refl
-stays_set f (z ∷ p) v w own [] here same = refl
-stays_set f (z ∷ p) v w own (y ∷ r) here same = by (same_name z y) refl (stays_set f p v w (below z own) r here same)
+-- each goes on from what it went on from
+links_set : (p : Path) (v w : OwnNode) (own : Own) (r : Path) → own p ≡ Some v → links (Some w) ≡ links (Some v) → links (graft p (with_node w (under p own)) own r) ≡ links (own r)
+links_set [] v w own [] here same = same ∙ ap links (sym here)
+links_set [] v w own (y ∷ r) here same = refl
+links_set (z ∷ p) v w own [] here same = refl
+links_set (z ∷ p) v w own (y ∷ r) here same = by (same_name z y) refl (links_set p v w (below z own) r here same)
   where
     Goal : PathName → Type 0
-    Goal y = f (graft p (with_node w (under p (below z own))) (below y own) r) ≡ f (own (y ∷ r))
+    Goal y = links (graft p (with_node w (under p (below z own))) (below y own) r) ≡ links (own (y ∷ r))
 
-    by : (b : Bool) → same_name z y ≡ b → Goal z → f (cond b (graft p (with_node w (under p (below z own))) (below y own) r) (own (y ∷ r))) ≡ f (own (y ∷ r))
+    by : (b : Bool) → same_name z y ≡ b → Goal z → links (cond b (graft p (with_node w (under p (below z own))) (below y own) r) (own (y ∷ r))) ≡ links (own (y ∷ r))
     by true e inner = subst Goal (same_name-is z y e) inner
     by false e inner = refl
 
@@ -76,7 +76,7 @@ module _ (look : RevisionBytes) (trees : ℕ → TreeFunction) (top base : ℕ) 
   }
 
   shared_set : (q : Path) → shared_at trees q (own_set s) (trees base) [] ≡ shared_at trees q s.own (trees base) []
-  shared_set q = same_shared trees q (own_set s) s.own (trees base) (λ r t is n. stays_set links s.path s.was s.is s.own r s.here (λ i. Some (s.set.copy_from i, s.set.predecessor i))) []
+  shared_set q = same_shared trees q (own_set s) s.own (trees base) (λ r t is n. links_set s.path s.was s.is s.own r s.here (λ i. Some (s.set.copy_from i, s.set.predecessor i))) []
 
   sources_set : OwnSources trees (trees base) s.own → s.is.shown.source ≡ s.was.shown.source → OwnSources trees (trees base) (own_set s)
   sources_set sources same_source q a e = by (which_is q a e) ∙ ap (source_here a.node.copy_from a.node.predecessor) (sym (shared_set q))

@@ -21,8 +21,8 @@ use Rattle.fsfs_noderev.specs.declared.node_rev.NodeRev.{NodeRev}
 use Rattle.fsfs_rep.specs.Frames.{rev_of}
 use Rattle.fsfs_shows.specs.Reading.{DirEntry, named, RepAt, PairsAt, OfContents, StandsAt}
 use Rattle.fsfs_shows.specs.Shown.{IsTextOf}
-use Rattle.fsfs_ids.specs.Bounded.{AreSameUpTo}
-use Rattle.fsfs_ids.proofs.BoundedIds.{InTime, in_time, behind_to, stands_to}
+use Rattle.fsfs_ancestry.specs.Bounded.{AreSameUpTo}
+use Rattle.fsfs_ancestry.proofs.BoundedIds.{InTime, in_time, behind_to, stands_to}
 use Rattle.fsfs_drafts.specs.Own.{OwnNode, Own, below, shared_from, shared_under, node_here, in_own, draft_tree, shared_at}
 use Rattle.fsfs_drafts.specs.Rules.{Above, at_top, CopyPartOf, Directory, Same, Before, Drawn, ComesBy, Change, Copied, Made, stands_from, stands_under, above_under, Head, head_at, IsEntryOf, AreEntriesOf, NodeRule, RuleAt, Rules}
 use Rattle.fsfs_drafts.specs.Drafts.{Folder, IsFileText, Lasting, Put, IsDraftText, AreDraftProps, HasContent, IsDraft, bare}

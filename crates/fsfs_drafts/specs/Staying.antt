@@ -5,7 +5,7 @@ use Rattle.fsfs_tree.specs.Nodes.{TreeFunction}
 use Rattle.fsfs_flat.specs.declared.mark.Mark.{Mark}
 use Rattle.fsfs_fields.specs.declared.txn_name.TxnName.{TxnName}
 use Rattle.fsfs_book.specs.Told.{RevisionBytes}
-use Rattle.fsfs_ids.specs.Bounded.{AreSameUpTo}
+use Rattle.fsfs_ancestry.specs.Bounded.{AreSameUpTo}
 use Rattle.fsfs_drafts.specs.Own.{Own, draft_tree}
 use Rattle.fsfs_drafts.specs.Drafts.{Folder, IsDraft}
 use Rattle.fsfs_drafts.specs.Whole.{IsDraftOf}

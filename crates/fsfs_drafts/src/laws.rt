@@ -8,7 +8,6 @@ ghost use Rattle.fsfs_drafts.specs.Beginning.{BegunDrafts};
 ghost use Rattle.fsfs_drafts.specs.Handed.{DraftsDraw, DraftsHang, DraftsKeepSides, SidesAreMarks};
 ghost use Rattle.fsfs_drafts.specs.Marking.{MarksAreKept};
 ghost use Rattle.fsfs_drafts.specs.Laying.{StepsAreEdits, StepsKeepSides};
-ghost use Rattle.fsfs_drafts.specs.Moving.{EditsMove, StepsMove};
 ghost use Rattle.fsfs_drafts.specs.Setting.{SettingsAreEdits};
 ghost use Rattle.fsfs_drafts.specs.Staying.{DraftsStay};
 ghost use Rattle.fsfs_drafts.specs.Tied.{TiedDrafts, TiedAreMet};
@@ -77,16 +76,6 @@ pub fn steps_keep_sides()
 /// A text or properties put at an own node-revision leave a draft, with the flat edit's tree, and the rest is kept.
 pub fn settings_are_edits()
     ensures { SettingsAreEdits }
-{}
-
-/// What a step does where the base has something: the base is held as it was, or no longer at and below the path.
-pub fn steps_move()
-    ensures { StepsMove }
-{}
-
-/// So an edit of opened directories and a last step moves what its mark says.
-pub fn edits_move()
-    ensures { EditsMove }
 {}
 
 /// A draft stays one of the same tree and marks while others commit.

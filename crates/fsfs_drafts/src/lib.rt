@@ -10,6 +10,6 @@ mod laws;
 
 pub use laws::{
     a_draft_begins_as_its_base, begun_drafts, drafts_are_handed, drafts_draw, drafts_hang,
-    drafts_keep_sides, drafts_stay, edits_move, marks_are_kept, settings_are_edits,
-    sides_are_marks, steps_are_edits, steps_keep_sides, steps_move, tied_are_met, tied_drafts,
+    drafts_keep_sides, drafts_stay, marks_are_kept, settings_are_edits, sides_are_marks,
+    steps_are_edits, steps_keep_sides, tied_are_met, tied_drafts,
 };

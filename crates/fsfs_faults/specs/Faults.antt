@@ -1,6 +1,7 @@
 -- The fault that a command answers where the words were not read, or a creation, an opening or a look failed.
 use Rattle.std.specs.Prelude.{◌≡◌, ◌⊎◌, take}
 use Rattle.fsfs_base.specs.Paths.{Path}
+use Rattle.fsfs_damage.specs.declared.wrong.Refusal.{Refusal}
 use Rattle.fsfs_damage.specs.declared.wrong.Refusal.TheVariants as refusal
 use Rattle.fsfs_places.specs.declared.create_fault.CreateFault.{CreateFault}
 use Rattle.fsfs_places.specs.declared.create_fault.CreateFault.TheVariants as create
@@ -35,10 +36,13 @@ fault_from_open (opening.DiskFault place) = DiskFault place
 fault_from_open opening.Memory = Memory
 
 -- a revision whose file is absent is damaged at its beginning
+abbrev pub fault_from_refusal : Refusal → Fault
+fault_from_refusal (refusal.NoRev asked youngest) = NoRev asked youngest
+fault_from_refusal (refusal.Missing rev) = Corrupt (record { at = record { rev = rev; offset = 0 }; what = damaged.Missing })
+fault_from_refusal (refusal.Small small) = Small small
+
 abbrev pub fault_from_wrong : Wrong → Fault
-fault_from_wrong (wrong.Refused (refusal.NoRev asked youngest)) = NoRev asked youngest
-fault_from_wrong (wrong.Refused (refusal.Missing rev)) = Corrupt (record { at = record { rev = rev; offset = 0 }; what = damaged.Missing })
-fault_from_wrong (wrong.Refused (refusal.Small small)) = Small small
+fault_from_wrong (wrong.Refused why) = fault_from_refusal why
 fault_from_wrong (wrong.Damaged damage) = Corrupt damage
 fault_from_wrong (wrong.Delta at) = Delta at
 

@@ -113,6 +113,27 @@ impl From<OpenFault> for Fault {
     }
 }
 
+impl From<Refusal> for Fault {
+    ghost use Rattle.std.specs.Prelude.{◌≡◌};
+    ghost use Rattle.fsfs_faults.specs.Faults.{fault_from_refusal};
+
+    ghost from_gives = { λ e f. f ≡ fault_from_refusal e };
+
+    fn from(refusal: Refusal) -> Fault {
+        match refusal {
+            Refusal::NoRev { asked, youngest } => Fault::NoRev {
+                asked: asked.get() as u64,
+                youngest,
+            },
+            Refusal::Missing { rev } => Fault::Corrupt(Damage {
+                at: RevOffset { rev, offset: 0 },
+                what: DamageKind::Missing,
+            }),
+            Refusal::Small(small) => Fault::Small(small),
+        }
+    }
+}
+
 impl From<Wrong> for Fault {
     ghost use Rattle.std.specs.Prelude.{◌≡◌};
     ghost use Rattle.fsfs_faults.specs.Faults.{fault_from_wrong};
@@ -121,15 +142,7 @@ impl From<Wrong> for Fault {
 
     fn from(wrong: Wrong) -> Fault {
         match wrong {
-            Wrong::Refused(Refusal::NoRev { asked, youngest }) => Fault::NoRev {
-                asked: asked.get() as u64,
-                youngest,
-            },
-            Wrong::Refused(Refusal::Missing { rev }) => Fault::Corrupt(Damage {
-                at: RevOffset { rev, offset: 0 },
-                what: DamageKind::Missing,
-            }),
-            Wrong::Refused(Refusal::Small(small)) => Fault::Small(small),
+            Wrong::Refused(refusal) => Fault::from(refusal),
             Wrong::Damaged(damage) => Fault::Corrupt(damage),
             Wrong::Delta(at) => Fault::Delta(at),
         }
