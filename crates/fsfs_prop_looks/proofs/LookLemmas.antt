@@ -1,6 +1,11 @@
 -- What is written of a revision's properties, and what of two parts of a text.
 use Rattle.std.proofs.Common.{◌≡◌, ◌∙◌, ℕ, List, [], ◌++◌, refl, sym, ap, subst, append_assoc, inl, inr}
-use Rattle.std.specs.Prelude.{Option, Result, Ok, Err, OnOk, OnErr, IfErr}
+use Rattle.std.specs.Prelude.{Option, Some, None, Result, Ok, Err, OnOk, OnErr, IfErr, codes}
+use Rattle.jiff_core.specs.declared.civil.datetime.DateTime.{DateTime}
+use Rattle.fsfs_fields.specs.Dates.{IsDateText}
+use Rattle.fsfs_damage.specs.declared.damage.DamageKind.TheVariants as what
+use Rattle.fsfs_damage.specs.Damages.{place_of, damaged}
+use Rattle.fsfs_revprops.specs.ShownDates.{shown_date}
 use Rattle.fsfs_streams.specs.Streams.{Adds}
 use Rattle.fsfs_streams.specs.Output.{AddsFront}
 use Rattle.fsfs_streams.proofs.StreamLemmas.{adds_then}
@@ -17,7 +22,7 @@ use Rattle.fsfs_look.specs.declared.look_error.LookError.TheVariants as errors
 use Rattle.fsfs_look.specs.Errors.{of_read}
 use Rattle.fsfs_look.specs.Written.{Writes}
 use Rattle.fsfs_look.proofs.ProgressLemmas.{adds_nothing}
-use Rattle.fsfs_prop_looks.specs.PropTexts.{ReadText, PropText}
+use Rattle.fsfs_prop_looks.specs.PropTexts.{DateLine, ReadText, PropText}
 
 -- ---- two parts
 
@@ -70,3 +75,14 @@ module _ (R : Pairs → Result (List ℕ) Wrong → Type 0) (files : RevisionByt
     -- a first part alone
     pub props_front : (whole text : List ℕ) (old new : Option (List ℕ)) (e : LookError) → R pairs (Ok whole) → text ≡ whole → AddsFront old new text → e ≡ errors.WriteFault → Writes (PropText R files rev) old new (Err e)
     props_front whole text old new e gives same part failed = props_written whole text old new (Err e) gives same tt part failed
+
+-- ---- the line of a date
+
+pub date_found : (rev : ℕ) (stored items : List ℕ) (dt : DateTime) → IsDateText stored dt → items ≡ shown_date dt ++ codes "\n" → DateLine rev (Some stored) (Ok items)
+date_found rev stored items dt is e = (dt, is, e)
+
+pub date_refused : (rev : ℕ) (stored : List ℕ) → ((dt : DateTime) → IsDateText stored dt → ⊥) → DateLine rev (Some stored) (Err (damaged (place_of rev 0) what.BadDate))
+date_refused rev stored none = inl ((λ some. none some.0 some.1), refl)
+
+pub date_absent : (rev : ℕ) (stored : Option (List ℕ)) (items : List ℕ) → None ≡ stored → items ≡ codes "\n" → DateLine rev stored (Ok items)
+date_absent rev stored items none e = subst (λ (o : Option (List ℕ)). DateLine rev o (Ok items)) none e

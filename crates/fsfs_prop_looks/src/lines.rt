@@ -1,5 +1,5 @@
 //! The lines of a value, of a date and of a log.
-ghost use Rattle.std.specs.Prelude.{◌≡◌, ◌++◌, OnOk, OnErr, IfErr, Option, option_map, unwrap_or, [], codes};
+ghost use Rattle.std.specs.Prelude.{◌≡◌, ◌++◌, OnOk, OnErr, IfErr, Some, option_map, unwrap_or, [], codes};
 ghost use Rattle.fsfs_tree.specs.Dated.{date_name};
 ghost use Rattle.fsfs_streams.specs.Streams.{Adds};
 ghost use Rattle.fsfs_streams.specs.Output.{AddsFront};
@@ -28,26 +28,38 @@ pub(crate) fn value<'a>(pairs: &'a Pairs, name: &[u8]) -> &'a [u8]
     }
 }
 
+// The line of a stored date.
+fn stored_line(alloc: Global, rev: u32, stored: &[u8]) -> Result<Vec<u8>, ReadError>
+    ensures told { Answers (λ v. v.items) (DateLine rev (Some stored.now)) result }
+    ensures quiet { IsQuiet result }
+{
+    match read_date(stored) {
+        None => Err(ReadError::damaged(
+            RevOffset { rev, offset: 0 },
+            DamageKind::BadDate,
+        )),
+        Some(date_time) => {
+            let mut line = Vec::new(alloc);
+            put_date(&mut line, date_time)?;
+            line.extend_from_slice(b"\n")?;
+            Ok(line)
+        }
+    }
+}
+
 /// The line of the date among the properties of a revision, an empty one where there is none. A date in another form than
 /// stored dates have is BadDate at 0.
 pub(crate) fn date_line(alloc: Global, rev: u32, pairs: &Pairs) -> Result<Vec<u8>, ReadError>
     ensures told { Answers (λ v. v.items) (DateLine rev (value_of pairs.now date_name)) result }
     ensures quiet { IsQuiet result }
 {
-    let mut line = Vec::new(alloc);
-    if let Some(stored) = pairs.get(b"svn:date") {
-        match read_date(stored) {
-            Some(date_time) => put_date(&mut line, date_time)?,
-            None => {
-                return Err(ReadError::damaged(
-                    RevOffset { rev, offset: 0 },
-                    DamageKind::BadDate,
-                ));
-            }
+    match pairs.get(b"svn:date") {
+        None => {
+            let line = Vec::from_slice(alloc, b"\n")?;
+            Ok(line)
         }
+        Some(stored) => stored_line(alloc, rev, stored),
     }
-    line.push(b'\n')?;
-    Ok(line)
 }
 
 /// Writes a text and the end of its line.
