@@ -19,7 +19,7 @@ ghost use Rattle.fsfs_history_look.specs.Points.{root_value, point_value, lead_v
 ghost use Rattle.fsfs_look.specs.Walks.{Walks};
 ghost use Rattle.fsfs_look.specs.Written.{Writes, HasDiskCause, HasSinkCause};
 
-use fsfs_base::{FsPath, Kind};
+use fsfs_base::{FsPath, Kind, RevNum};
 use fsfs_book::Book;
 use fsfs_damage::ReadError;
 use fsfs_dag::{PlacedNode, child_named, named_node, root_of};
@@ -33,7 +33,7 @@ use std::alloc::{AllocError, Global};
 /// The revision and path of a copy.
 #[derive(Debug, Drop)]
 pub(crate) struct CopyPlace {
-    rev: u32,
+    rev: RevNum,
     path: FsPath,
 }
 
@@ -67,16 +67,13 @@ pub(crate) enum Leading {
 }
 
 // The revision of a node's copy root.
-fn root_rev(found: &PlacedNode) -> u32
+fn root_rev(found: &PlacedNode) -> RevNum
     ensures value { result ≡ (copy_root_of found.now.node).0 }
     ensures before { result ≤ (home_of found.now.node).rev }
 {
     match &found.node.copy_root {
         None => found.place().rev,
-        Some(root) => match root.rev {
-            None => 0,
-            Some(rev) => rev.get(),
-        },
+        Some(root) => root.rev.unwrap_or(RevNum::ZERO),
     }
 }
 
@@ -104,7 +101,7 @@ fn later(root: CopyPlace, below: &PlacedNode) -> Result<CopyPlace, AllocError>
 }
 
 // Walks from the root down the names.
-fn way_to<B: Book>(alloc: Global, book: &mut B, rev: u32, path: &FsPath) -> Result<Way, ReadError>
+fn way_to<B: Book>(alloc: Global, book: &mut B, rev: RevNum, path: &FsPath) -> Result<Way, ReadError>
     ensures told { (look : RevisionBytes) → Knows (B.told book.old).revs rev look → Answers way_met (MetAt look rev path.now) result }
     ensures rooted { (look : RevisionBytes) → Knows (B.told book.old).revs rev look → IfOk result (IsRootedWay look rev path.now) }
     ensures within { IfOk result (IsWayWithin rev) }
@@ -165,7 +162,7 @@ fn source_of(
     root: &FsPath,
     path: &FsPath,
     copy: &PlacedNode,
-) -> Result<Option<(u32, FsPath)>, AllocError>
+) -> Result<Option<(RevNum, FsPath)>, AllocError>
     ensures value { IfOk result (λ source. source ≡ copied_from root.now path.now copy.now.node.copy_from) }
     ensures lower { IfOk result (λ source. IfSome source (λ from. from.0 < (home_of copy.now.node).rev)) }
 {
@@ -173,7 +170,7 @@ fn source_of(
         None => Ok(None),
         Some(source) => {
             if root.covers(path) {
-                Ok(Some((source.rev.get(), path.moved(root.depth(), &source.path)?)))
+                Ok(Some((source.rev, path.moved(root.depth(), &source.path)?)))
             } else {
                 Ok(None)
             }
@@ -185,7 +182,7 @@ fn source_of(
 fn point_at<B: Book>(
     alloc: Global,
     book: &mut B,
-    rev: u32,
+    rev: RevNum,
     path: &FsPath,
 ) -> Result<Option<HistoryPoint>, ReadError>
     ensures told { (look : RevisionBytes) → Knows (B.told book.old).revs rev look → Answers (option_map point_value) (PointAt look rev path.now) result }
@@ -266,19 +263,19 @@ fn step_back<B: Book>(
     }
 }
 
-fn point_rev(at: &HistoryPoint) -> u32
+fn point_rev(at: &HistoryPoint) -> RevNum
     ensures { result ≡ point_rev (point_value at.now) }
 {
     let own = at.found.place().rev;
     if own < at.root.rev { at.root.rev } else { own }
 }
 
-// Puts a number at the right of eight places.
-fn put_right(lines: &mut Vec<u8>, number: u32) -> Result<(), AllocError>
-    ensures { OnOk result (lines.new.items ≡ lines.old.items ++ right (decimal number)) }
+// Puts the number of a revision at the right of eight places.
+fn put_right(lines: &mut Vec<u8>, rev: RevNum) -> Result<(), AllocError>
+    ensures { OnOk result (lines.new.items ≡ lines.old.items ++ right (decimal rev)) }
 {
     let mut buffer = Buffer::new();
-    let digits = buffer.format(number);
+    let digits = buffer.format(rev.get());
     put_spaces(lines, 8usize.saturating_sub(digits.len()))?;
     lines.extend_from_slice(digits.as_bytes())?;
     Ok(())
@@ -360,7 +357,7 @@ fn write_history<B: Book, S: Sink>(
 fn point_found<B: Book>(
     alloc: Global,
     book: &mut B,
-    rev: u32,
+    rev: RevNum,
     path: &FsPath,
 ) -> Result<HistoryPoint, LookError>
     ensures told { (look : RevisionBytes) → Knows (B.told book.old).revs rev look → IsPointFound look rev path.now result }
@@ -383,7 +380,7 @@ fn point_found<B: Book>(
 pub fn history_text<B: Book, S: Sink>(
     alloc: Global,
     book: &mut B,
-    rev: u32,
+    rev: RevNum,
     path: &FsPath,
     sink: &mut S,
 ) -> Result<(), LookError>

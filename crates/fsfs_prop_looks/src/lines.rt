@@ -9,7 +9,7 @@ ghost use Rattle.fsfs_look.specs.declared.look_error.LookError.TheVariants.{Writ
 ghost use Rattle.fsfs_look.specs.Written.{HasSinkCause};
 ghost use Rattle.fsfs_prop_looks.specs.PropTexts.{value_of, log_lines, DateLine};
 
-use fsfs_base::Pairs;
+use fsfs_base::{Pairs, RevNum};
 use fsfs_damage::{DamageKind, ReadError, RevOffset};
 use fsfs_fields::read_date;
 use fsfs_look::{LookError, write_piece};
@@ -29,7 +29,7 @@ pub(crate) fn value<'a>(pairs: &'a Pairs, name: &[u8]) -> &'a [u8]
 }
 
 // The line of a stored date.
-fn stored_line(alloc: Global, rev: u32, stored: &[u8]) -> Result<Vec<u8>, ReadError>
+fn stored_line(alloc: Global, rev: RevNum, stored: &[u8]) -> Result<Vec<u8>, ReadError>
     ensures told { Answers (λ v. v.items) (DateLine rev (Some stored.now)) result }
     ensures quiet { IsQuiet result }
 {
@@ -49,7 +49,7 @@ fn stored_line(alloc: Global, rev: u32, stored: &[u8]) -> Result<Vec<u8>, ReadEr
 
 /// The line of the date among the properties of a revision, an empty one where there is none. A date in another form than
 /// stored dates have is BadDate at 0.
-pub(crate) fn date_line(alloc: Global, rev: u32, pairs: &Pairs) -> Result<Vec<u8>, ReadError>
+pub(crate) fn date_line(alloc: Global, rev: RevNum, pairs: &Pairs) -> Result<Vec<u8>, ReadError>
     ensures told { Answers (λ v. v.items) (DateLine rev (value_of pairs.now date_name)) result }
     ensures quiet { IsQuiet result }
 {

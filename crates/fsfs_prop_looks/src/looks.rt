@@ -5,6 +5,7 @@ ghost use Rattle.fsfs_revprops.specs.RevProps.{IsToldProps};
 ghost use Rattle.fsfs_prop_looks.specs.PropTexts.{AuthorText, DateText, LogText, InfoText};
 
 use crate::lines::{date_line, value, write_line, write_log};
+use fsfs_base::RevNum;
 use fsfs_book::Book;
 use fsfs_look::{LookError, write_piece};
 use fsfs_revprops::rev_props;
@@ -16,7 +17,7 @@ use std::alloc::Global;
 pub fn author<B: Book, S: Sink>(
     alloc: Global,
     book: &mut B,
-    rev: u32,
+    rev: RevNum,
     sink: &mut S,
 ) -> Result<(), LookError>
     ensures told { (files : RevisionBytes) → IsToldProps (B.told book.old) files rev → Writes (AuthorText files rev) (S.written sink.old) (S.written sink.new) result }
@@ -33,7 +34,7 @@ pub fn author<B: Book, S: Sink>(
 pub fn date<B: Book, S: Sink>(
     alloc: Global,
     book: &mut B,
-    rev: u32,
+    rev: RevNum,
     sink: &mut S,
 ) -> Result<(), LookError>
     ensures told { (files : RevisionBytes) → IsToldProps (B.told book.old) files rev → Writes (DateText files rev) (S.written sink.old) (S.written sink.new) result }
@@ -50,7 +51,7 @@ pub fn date<B: Book, S: Sink>(
 pub fn log<B: Book, S: Sink>(
     alloc: Global,
     book: &mut B,
-    rev: u32,
+    rev: RevNum,
     sink: &mut S,
 ) -> Result<(), LookError>
     ensures told { (files : RevisionBytes) → IsToldProps (B.told book.old) files rev → Writes (LogText files rev) (S.written sink.old) (S.written sink.new) result }
@@ -67,7 +68,7 @@ pub fn log<B: Book, S: Sink>(
 pub fn info<B: Book, S: Sink>(
     alloc: Global,
     book: &mut B,
-    rev: u32,
+    rev: RevNum,
     sink: &mut S,
 ) -> Result<(), LookError>
     ensures told { (files : RevisionBytes) → IsToldProps (B.told book.old) files rev → Writes (InfoText files rev) (S.written sink.old) (S.written sink.new) result }

@@ -1,4 +1,5 @@
 //! What is printed of the properties of a revision, of property files given by hand.
+use fsfs_base::RevNum;
 use fsfs_book::{MemBook, MemFile, MemRev};
 use fsfs_damage::{Damage, DamageKind, Refusal, RevOffset, Wrong};
 use fsfs_look::LookError;
@@ -32,7 +33,10 @@ fn props_of(alloc: Global, text: &str) -> Result<MemBook, AllocError> {
 }
 
 fn wrong(what: DamageKind) -> Result<(), LookError> {
-    let at = RevOffset { rev: 0, offset: 0 };
+    let at = RevOffset {
+        rev: RevNum::ZERO,
+        offset: 0,
+    };
     Err(LookError::Fault(LookFault::Wrong(Wrong::Damaged(Damage {
         at,
         what,
@@ -51,10 +55,10 @@ fn authors_and_logs(rt: HostRuntime) -> Result<(), Fail> {
     for (props, by, text, answer) in table {
         let mut book = props_of(alloc, props)?;
         let mut sink = MemSink::new(alloc);
-        assert_eq!(rt; author(alloc, &mut book, 0, &mut sink), answer);
+        assert_eq!(rt; author(alloc, &mut book, RevNum::ZERO, &mut sink), answer);
         assert_eq!(rt; sink.bytes(), by.as_bytes());
         let mut sink = MemSink::new(alloc);
-        assert_eq!(rt; log(alloc, &mut book, 0, &mut sink), answer);
+        assert_eq!(rt; log(alloc, &mut book, RevNum::ZERO, &mut sink), answer);
         assert_eq!(rt; sink.bytes(), text.as_bytes());
     }
     Ok(())
@@ -97,7 +101,7 @@ fn dates(rt: HostRuntime) -> Result<(), Fail> {
         file.extend_from_slice(b"\nEND\n")?;
         let mut book = book_with(alloc, MemFile::Bytes(file))?;
         let mut sink = MemSink::new(alloc);
-        date(alloc, &mut book, 0, &mut sink)?;
+        date(alloc, &mut book, RevNum::ZERO, &mut sink)?;
         assert_eq!(rt; sink.bytes(), want.as_bytes());
     }
     let table = [
@@ -108,7 +112,7 @@ fn dates(rt: HostRuntime) -> Result<(), Fail> {
     for (props, want, answer) in table {
         let mut book = props_of(alloc, props)?;
         let mut sink = MemSink::new(alloc);
-        assert_eq!(rt; date(alloc, &mut book, 0, &mut sink), answer);
+        assert_eq!(rt; date(alloc, &mut book, RevNum::ZERO, &mut sink), answer);
         assert_eq!(rt; sink.bytes(), want.as_bytes());
     }
     Ok(())
@@ -127,7 +131,7 @@ fn infos(rt: HostRuntime) -> Result<(), Fail> {
     for (props, want, answer) in table {
         let mut book = props_of(alloc, props)?;
         let mut sink = MemSink::new(alloc);
-        assert_eq!(rt; info(alloc, &mut book, 0, &mut sink), answer);
+        assert_eq!(rt; info(alloc, &mut book, RevNum::ZERO, &mut sink), answer);
         assert_eq!(rt; sink.bytes(), want.as_bytes());
     }
     Ok(())
@@ -139,13 +143,13 @@ fn absent_files(rt: HostRuntime) -> Result<(), Fail> {
     let alloc = rt.alloc();
     let mut book = book_with(alloc, MemFile::Absent)?;
     let mut sink = MemSink::new(alloc);
-    let missing = LookFault::Wrong(Wrong::Refused(Refusal::Missing { rev: 0 }));
-    assert_eq!(rt; info(alloc, &mut book, 0, &mut sink), Err(LookError::Fault(missing)));
+    let missing = LookFault::Wrong(Wrong::Refused(Refusal::Missing { rev: RevNum::ZERO }));
+    assert_eq!(rt; info(alloc, &mut book, RevNum::ZERO, &mut sink), Err(LookError::Fault(missing)));
     let above = LookFault::Wrong(Wrong::Refused(Refusal::NoRev {
-        asked: 1,
-        youngest: 0,
+        asked: RevNum::from(1),
+        youngest: RevNum::ZERO,
     }));
-    assert_eq!(rt; log(alloc, &mut book, 1, &mut sink), Err(LookError::Fault(above)));
+    assert_eq!(rt; log(alloc, &mut book, RevNum::from(1), &mut sink), Err(LookError::Fault(above)));
     assert_eq!(rt; sink.bytes(), b"".as_slice());
     Ok(())
 }

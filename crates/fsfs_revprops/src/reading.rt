@@ -7,7 +7,7 @@ ghost use Rattle.fsfs_book.specs.Told.{RevisionBytes, Keeps};
 ghost use Rattle.fsfs_rep.specs.Faults.{IsRefusedFor};
 ghost use Rattle.fsfs_revprops.specs.RevProps.{RevPropsIn, RevPropsOf, IsToldProps};
 
-use fsfs_base::Pairs;
+use fsfs_base::{Pairs, RevNum};
 use fsfs_book::{Book, BookFault};
 use fsfs_damage::{DamageKind, ReadError, RevOffset, Wrong};
 use fsfs_hash::{HashError, read_hash};
@@ -19,7 +19,7 @@ const PIECE: usize = 4096;
 // Reads a revision's property file from an offset on, as much as there is and as fits; nothing past the end.
 fn window<B: Book>(
     book: &mut B,
-    rev: u32,
+    rev: RevNum,
     offset: u64,
     buffer: &mut [u8],
 ) -> Result<usize, ReadError>
@@ -39,7 +39,7 @@ fn window<B: Book>(
 }
 
 // All bytes of a revision's property file.
-fn file_bytes<B: Book>(alloc: Global, book: &mut B, rev: u32) -> Result<Vec<u8>, ReadError>
+fn file_bytes<B: Book>(alloc: Global, book: &mut B, rev: RevNum) -> Result<Vec<u8>, ReadError>
     ensures bytes { (file : List ℕ) → (B.told book.old).props rev ≡ Some (Ok file) → MatchResult result (λ v. v.items ≡ file) (IfWrong (λ _. ⊥)) }
     ensures refused { (why : Refusal) → (B.told book.old).props rev ≡ Some (Err why) → MatchResult result (λ _. ⊥) (IsRefusedFor why) }
     ensures kept { Keeps (B.told book.old) (B.told book.new) }
@@ -58,7 +58,7 @@ fn file_bytes<B: Book>(alloc: Global, book: &mut B, rev: u32) -> Result<Vec<u8>,
 }
 
 // The pairs of the bytes of a property file.
-fn pairs_in(alloc: Global, rev: u32, bytes: &[u8]) -> Result<Pairs, ReadError>
+fn pairs_in(alloc: Global, rev: RevNum, bytes: &[u8]) -> Result<Pairs, ReadError>
     ensures told { Answers (λ pairs. pairs) (RevPropsIn rev bytes.now) result }
     ensures quiet { IsQuiet result }
 {
@@ -73,7 +73,7 @@ fn pairs_in(alloc: Global, rev: u32, bytes: &[u8]) -> Result<Pairs, ReadError>
 
 /// The properties of a revision. Its whole property file is in memory for a while, and the pairs are then; a file that is
 /// no dump is Props at 0.
-pub fn rev_props<B: Book>(alloc: Global, book: &mut B, rev: u32) -> Result<Pairs, ReadError>
+pub fn rev_props<B: Book>(alloc: Global, book: &mut B, rev: RevNum) -> Result<Pairs, ReadError>
     ensures told { (files : RevisionBytes) → IsToldProps (B.told book.old) files rev → Answers (λ pairs. pairs) (RevPropsOf files rev) result }
     ensures kept { Keeps (B.told book.old) (B.told book.new) }
     ensures cause { HasCause (B.faults book.old) (B.faults book.new) result }
