@@ -21,8 +21,8 @@ ghost use Rattle.fsfs_look.specs.Written.{Writes, HasDiskCause, HasSinkCause};
 
 use fsfs_base::{FsPath, Kind, RevNum};
 use fsfs_book::Book;
-use fsfs_damage::ReadError;
 use fsfs_dag::{PlacedNode, child_named, named_node, root_of};
+use fsfs_damage::ReadError;
 use fsfs_look::{LookError, put_spaces, write_full, write_last};
 use fsfs_noderev::NodeId;
 use fsfs_printed::LookFault;
@@ -101,7 +101,12 @@ fn later(root: CopyPlace, below: &PlacedNode) -> Result<CopyPlace, AllocError>
 }
 
 // Walks from the root down the names.
-fn way_to<B: Book>(alloc: Global, book: &mut B, rev: RevNum, path: &FsPath) -> Result<Way, ReadError>
+fn way_to<B: Book>(
+    alloc: Global,
+    book: &mut B,
+    rev: RevNum,
+    path: &FsPath,
+) -> Result<Way, ReadError>
     ensures told { (look : RevisionBytes) → Knows (B.told book.old).revs rev look → Answers way_met (MetAt look rev path.now) result }
     ensures rooted { (look : RevisionBytes) → Knows (B.told book.old).revs rev look → IfOk result (IsRootedWay look rev path.now) }
     ensures within { IfOk result (IsWayWithin rev) }

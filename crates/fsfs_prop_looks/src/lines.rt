@@ -34,10 +34,7 @@ fn stored_line(alloc: Global, rev: RevNum, stored: &[u8]) -> Result<Vec<u8>, Rea
     ensures quiet { IsQuiet result }
 {
     match read_date(stored) {
-        None => Err(ReadError::damaged(
-            RevOffset { rev, offset: 0 },
-            DamageKind::BadDate,
-        )),
+        None => Err(ReadError::damaged(RevOffset { rev, offset: 0 }, DamageKind::BadDate)),
         Some(date_time) => {
             let mut line = Vec::new(alloc);
             put_date(&mut line, date_time)?;
