@@ -13,10 +13,7 @@ fn damaged(rev: u16, offset: u64, what: DamageKind) -> Result<(), LookError> {
         rev: RevNum::from(rev),
         offset,
     };
-    Err(LookError::Fault(LookFault::Wrong(Wrong::Damaged(Damage {
-        at,
-        what,
-    }))))
+    Err(LookError::Fault(LookFault::Wrong(Wrong::Damaged(Damage { at, what }))))
 }
 
 // A file in a copy of a copy, what stands in a directory that was copied twice, a directory that was changed, and the root.
@@ -68,7 +65,10 @@ fn histories_that_end(rt: HostRuntime) -> Result<(), Fail> {
     let mut sink = MemSink::new(alloc);
     let path = path_of(alloc, "/a/x")?;
     let absent = Err(LookError::Fault(LookFault::NotFound { names: 2 }));
-    assert_eq!(rt; history_text(alloc, &mut book, RevNum::from(3), &path, &mut sink), absent);
+    assert_eq!(rt;
+        history_text(alloc, &mut book, RevNum::from(3), &path, &mut sink),
+        absent
+    );
     assert_eq!(rt; sink.bytes(), b"".as_slice());
     let mut broken = book_of(alloc, &[b"no trailer", MADE_2, MADE_3])?;
     let path = path_of(alloc, "/z")?;

@@ -9,9 +9,14 @@ use fsfs_prop_looks::{author, date, info, log};
 use std::alloc::{AllocError, Global};
 use std::test::Fail;
 
-const ALL: &str = "K 10\nsvn:author\nV 3\nsal\nK 8\nsvn:date\nV 27\n2014-07-21T09:25:14.123456Z\nK 7\nsvn:log\nV 10\nfür\n\nalle\nEND\n";
+const ALL: &str =
+    "K 10\nsvn:author\nV 3\nsal\nK 8\nsvn:date\nV 27\n2014-07-21T09:25:14.123456Z\nK 7\nsvn:log\nV 10\nfür\n\nalle\nEND\n";
+
 const NO_DUMP: &str = "K 10\nsvn:author\nV 4\nsal\nEND\n";
-const BAD_DATE: &str = "K 10\nsvn:author\nV 3\nsal\nK 8\nsvn:date\nV 27\n2014-02-30T09:25:14.123456Z\nEND\n";
+
+const BAD_DATE: &str =
+    "K 10\nsvn:author\nV 3\nsal\nK 8\nsvn:date\nV 27\n2014-02-30T09:25:14.123456Z\nEND\n";
+
 const NONE: &str = "END\n";
 
 // A book of one revision with this property file.
@@ -37,10 +42,7 @@ fn wrong(what: DamageKind) -> Result<(), LookError> {
         rev: RevNum::ZERO,
         offset: 0,
     };
-    Err(LookError::Fault(LookFault::Wrong(Wrong::Damaged(Damage {
-        at,
-        what,
-    }))))
+    Err(LookError::Fault(LookFault::Wrong(Wrong::Damaged(Damage { at, what }))))
 }
 
 #[test]
@@ -144,12 +146,18 @@ fn absent_files(rt: HostRuntime) -> Result<(), Fail> {
     let mut book = book_with(alloc, MemFile::Absent)?;
     let mut sink = MemSink::new(alloc);
     let missing = LookFault::Wrong(Wrong::Refused(Refusal::Missing { rev: RevNum::ZERO }));
-    assert_eq!(rt; info(alloc, &mut book, RevNum::ZERO, &mut sink), Err(LookError::Fault(missing)));
+    assert_eq!(rt;
+        info(alloc, &mut book, RevNum::ZERO, &mut sink),
+        Err(LookError::Fault(missing))
+    );
     let above = LookFault::Wrong(Wrong::Refused(Refusal::NoRev {
         asked: RevNum::from(1),
         youngest: RevNum::ZERO,
     }));
-    assert_eq!(rt; log(alloc, &mut book, RevNum::from(1), &mut sink), Err(LookError::Fault(above)));
+    assert_eq!(rt;
+        log(alloc, &mut book, RevNum::from(1), &mut sink),
+        Err(LookError::Fault(above))
+    );
     assert_eq!(rt; sink.bytes(), b"".as_slice());
     Ok(())
 }
