@@ -40,14 +40,7 @@ fn trees_of_subversion(rt: HostRuntime) -> Result<(), Fail> {
     for (rev, path, show_ids, want) in TREES {
         let mut sink = MemSink::new(alloc);
         let path = path_of(alloc, path)?;
-        tree_text(
-            alloc,
-            &mut book,
-            RevNum::from(rev),
-            &path,
-            show_ids,
-            &mut sink,
-        )?;
+        tree_text(alloc, &mut book, RevNum::from(rev), &path, show_ids, &mut sink)?;
         assert_eq!(rt; sink.bytes(), want.as_bytes());
     }
     Ok(())
