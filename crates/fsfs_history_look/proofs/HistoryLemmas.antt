@@ -5,7 +5,7 @@ use Rattle.std.proofs.lemmas.Bool.Decides.{nat_tests}
 use Rattle.fsfs_ancestry.proofs.Roots.{one_more}
 use Rattle.std.specs.Prelude.{◌⊎◌}
 use Rattle.std.specs.Prelude.{Option, Some, None, Result, Ok, Err, IfOk, IfSome, option_map}
-use Rattle.fsfs_base.specs.Paths.{Name, Path, covers, same_name}
+use Rattle.fsfs_base.specs.Paths.{PathName, Path, covers, same_name}
 use Rattle.fsfs_base.specs.declared.node.Kind.TheVariants.{Dir}
 use Rattle.fsfs_book.specs.Told.{RevisionBytes}
 use Rattle.fsfs_noderev.specs.declared.node_rev.NodeRev.{NodeRev}
@@ -42,7 +42,7 @@ pub rooted_from_root : (look : RevisionBytes) (rev : ℕ) (path : Path) (a : Nod
 rooted_from_root look rev path a root read is v last g = (a, read, subst (λ (x : ℕ × Path). IsRootedFrom look a x path v last) is g)
 
 -- down one name
-pub rooted_down : (look : RevisionBytes) (a u : NodeRev) (root now : ℕ × Path) (all names : Path) (name : Name) → all ≡ name ∷ names → a.kind ≡ Dir → ChildOf look a name (Ok (Some u)) → now ≡ later_root root (copy_root_of u)
+pub rooted_down : (look : RevisionBytes) (a u : NodeRev) (root now : ℕ × Path) (all names : Path) (name : PathName) → all ≡ name ∷ names → a.kind ≡ Dir → ChildOf look a name (Ok (Some u)) → now ≡ later_root root (copy_root_of u)
     → (v : NodeRev) (last : ℕ × Path) → IsRootedFrom look u now names v last → IsRootedFrom look a root all v last
 rooted_down look a u root now all names name is dir child later v last g =
     subst (λ (p : Path). IsRootedFrom look a root p v last) (sym is) (dir, u, child, subst (λ (x : ℕ × Path). IsRootedFrom look u x names v last) later g)
