@@ -6,7 +6,7 @@ use Rattle.fsfs_ancestry.proofs.Roots.{one_more}
 use Rattle.std.specs.Prelude.{◌⊎◌}
 use Rattle.std.specs.Prelude.{Option, Some, None, Result, Ok, Err, IfOk, IfSome, option_map}
 use Rattle.fsfs_base.specs.Paths.{PathName, Path, covers, same_name}
-use Rattle.fsfs_base.specs.declared.node.Kind.TheVariants.{Dir}
+use Rattle.fsfs_base.specs.declared.kind.Kind.TheVariants.{Dir}
 use Rattle.fsfs_book.specs.Told.{RevisionBytes}
 use Rattle.fsfs_noderev.specs.declared.node_rev.NodeRev.{NodeRev}
 use Rattle.fsfs_noderev.specs.declared.node_id.NodeId.{NodeId}
