@@ -283,7 +283,7 @@ module _ (look : RevisionBytes) (top : ℕ) (tree : ℕ → TreeFunction) (trees
   back_to zero le p v last g a chain less low = absurd (omega (arith, less, low))
   back_to (suc r) le p v last g a chain less low = by_age last.0 (suc r) low
       (λ under. let at_most : last.0 ≤ r = omega (arith, under) in
-          back_step r le p v last a chain less at_most (λ w rooted begins. back_to r (omega (arith, le)) p w last rooted a begins less at_most) (behind_at look top tree trees r le p v last g at_most))
+      back_step r le p v last a chain less at_most (λ w rooted begins. back_to r (omega (arith, le)) p w last rooted a begins less at_most) (behind_at look top tree trees r le p v last g at_most))
       (λ same. (v, subst (λ (n : ℕ). IsRootedAt look n p v last) (sym same) g, chain))
 
   -- ---- a source stands in its revision

@@ -6,6 +6,4 @@
 
 mod laws;
 
-pub use laws::{
-    later_bytes_change_nothing, predecessors_are_earlier, shown_trees_are_a_history,
-};
+pub use laws::{later_bytes_change_nothing, predecessors_are_earlier, shown_trees_are_a_history};

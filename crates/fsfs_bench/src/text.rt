@@ -1,6 +1,6 @@
 //! A text as a plain representation, in a book of one revision.
 use anyhow::{Result, bail};
-use fsfs_book::{MemBook, MemFile, MemRev};
+use fsfs_book::{Book, MemBook, MemFile, MemRev};
 use fsfs_noderev::{Rep, read_rep};
 use fsfs_rep::{Digester, RepReader};
 use std::alloc::{AllocError, Global};
@@ -57,22 +57,27 @@ impl Text {
 
     /// Reads the whole representation, with its digests, and answers how many bytes came.
     pub(crate) fn read(&mut self) -> Result<usize> {
-        if self.rep.rev.is_none() {
-            bail!("no revision");
-        }
-        let mut reader = RepReader::begin(&mut self.book, &self.rep)?;
-        let mut done = 0usize;
-        for _ in 0..u64::MAX {
-            let count = reader.next(&mut self.book, &mut self.piece)?;
-            if count == 0 {
-                break;
-            }
-            done = done.saturating_add(count);
-        }
-        if reader.left() != 0 {
-            bail!("the representation isn't read to its end");
-        }
-        reader.finish(&mut self.book)?;
-        Ok(done)
+        read_whole(&mut self.book, &self.rep, &mut self.piece)
     }
+}
+
+// Reads a representation of a book a piece at a time, and answers how many bytes came.
+fn read_whole<B: Book>(book: &mut B, rep: &Rep, piece: &mut [u8]) -> Result<usize> {
+    if rep.rev.is_none() {
+        bail!("no revision");
+    }
+    let mut reader = RepReader::begin(book, rep)?;
+    let mut done = 0usize;
+    for _ in 0..u64::MAX {
+        let count = reader.next(book, piece)?;
+        if count == 0 {
+            break;
+        }
+        done = done.saturating_add(count);
+    }
+    if reader.left() != 0 {
+        bail!("the representation isn't read to its end");
+    }
+    reader.finish(book)?;
+    Ok(done)
 }

@@ -65,7 +65,12 @@ pub trait Book {
         ensures cause { HasCause (faults self.old) (faults self.new) result };
 
     /// The same of a revision's property file.
-    fn read_props(&mut self, rev: RevNum, offset: u64, buffer: &mut [u8]) -> Result<usize, BookFault>
+    fn read_props(
+        &mut self,
+        rev: RevNum,
+        offset: u64,
+        buffer: &mut [u8],
+    ) -> Result<usize, BookFault>
         ensures bound { IfOk result (λ n. n ≤ length buffer.new) }
         ensures told { (read : Result (List ℕ) Refusal) → (told self.old).props rev ≡ Some read → Gives (λ n. take n buffer.new) result (part_read rev offset (length buffer.old) read) }
         ensures about { IfErr result (IsAbout rev offset) }

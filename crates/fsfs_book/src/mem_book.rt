@@ -169,7 +169,12 @@ impl Book for MemBook {
         }
     }
 
-    fn read_rev(&mut self, rev: RevNum, offset: u64, buffer: &mut [u8]) -> Result<usize, BookFault> {
+    fn read_rev(
+        &mut self,
+        rev: RevNum,
+        offset: u64,
+        buffer: &mut [u8],
+    ) -> Result<usize, BookFault> {
         self.call()?;
         match bytes_of(&self.revs, self.youngest, rev) {
             Ok(bytes) => copy_part(bytes, rev, offset, buffer),
@@ -177,7 +182,12 @@ impl Book for MemBook {
         }
     }
 
-    fn read_props(&mut self, rev: RevNum, offset: u64, buffer: &mut [u8]) -> Result<usize, BookFault> {
+    fn read_props(
+        &mut self,
+        rev: RevNum,
+        offset: u64,
+        buffer: &mut [u8],
+    ) -> Result<usize, BookFault> {
         self.call()?;
         match props_of(&self.revs, self.youngest, rev) {
             Ok(bytes) => copy_part(bytes, rev, offset, buffer),

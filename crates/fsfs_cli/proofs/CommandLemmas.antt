@@ -1,5 +1,5 @@
 -- Each command's required arguments have values.
-use Rattle.std.proofs.Common.{◌≡◌, ◌<◌, List, [], ◌∷◌, length, map, true, false, refl, ap, ◌∙◌, arith, codes}
+use Rattle.std.proofs.Common.{◌≡◌, [], ◌∷◌, map, true, false, refl, ap, ◌∙◌, arith, codes}
 use Rattle.clap.specs.Built.{AddsArg, FitsChain}
 use Rattle.clap.specs.Words.{App, Rule, app_of, rule_of, with_rule}
 use Rattle.clap.specs.declared.builder.arg.Arg.{Arg}

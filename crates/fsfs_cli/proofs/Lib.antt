@@ -4,4 +4,6 @@ pub mod TakenLemmas
 pub mod ReadLemmas
 pub mod ChainLemmas
 pub mod CommandLemmas
-pub mod CreateLemmas
+pub mod TaskLemmas
+pub mod PathWords
+pub mod OneMeaning

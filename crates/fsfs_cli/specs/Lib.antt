@@ -1,5 +1,6 @@
 pub mod Commands
 pub mod Grammars
+pub mod Requests
 pub mod Words
 pub mod Faults
 pub mod Readings

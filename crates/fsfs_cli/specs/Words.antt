@@ -1,26 +1,29 @@
 -- What the words of a program ask for, and when they ask for nothing.
-use Rattle.std.specs.Prelude.{◌≡◌, ℕ, List, [], ◌∷◌, Option, Some, None, Bool, false, codes, unwrap_or, option_map, option_and_then, if◌then◌else◌}
+use Rattle.std.specs.Prelude.{ℕ, List, [], ◌∷◌, Option, Some, None, Bool, false, codes, unwrap_or, option_map, option_and_then, if◌then◌else◌}
 use Rattle.std.specs.Option.{option_map_or}
 use Rattle.std.specs.Str.{bytes_eq}
 use Rattle.clap.specs.Words.{App, Row, fault_of, first_of, matches_of}
 use Rattle.clap.specs.Walk.{is_empty}
 use Rattle.fsfs_cli.specs.Commands.{verb_named, create_app, youngest_app, uuid_app, tree_app, cat_app}
 use Rattle.fsfs_cli.specs.Grammars.{revision_of, shard_of}
+use Rattle.fsfs_base.specs.Paths.{Path}
+use Rattle.fsfs_cli.specs.declared.request.Task.{Task}
+use Rattle.fsfs_cli.specs.declared.request.Task.TheVariants.{Create, Look}
+use Rattle.fsfs_cli.specs.declared.request.Look.TheVariants.{Youngest, Uuid, AtRevision}
+use Rattle.fsfs_cli.specs.declared.request.Printed.{Printed}
+use Rattle.fsfs_cli.specs.declared.request.Printed.TheVariants.{Tree, Text}
 use Rattle.fsfs_cli.specs.declared.tool.Tool.{Tool}
 use Rattle.fsfs_cli.specs.declared.verb.Verb.{Verb}
 use Rattle.fsfs_cli.specs.declared.verb.Verb.TheVariants as verb
 
--- What is asked for, each path and word as it stands among the words
-pub data Asked : Type 0 where
-  -- a new repository at this path, with so many revisions in a shard
-  Create : List ℕ → ℕ → Asked
-  -- of the repository at this path: the youngest revision, the identifier
-  Youngest : List ℕ → Asked
-  Uuid : List ℕ → Asked
-  -- the tree of a revision, or of the youngest, with ids or not, from the path of a word on, or from `/`
-  Tree : List ℕ → Option ℕ → Bool → Option (List ℕ) → Asked
-  -- the text of the file at the path of a word, in a revision or in the youngest
-  Cat : List ℕ → Option ℕ → List ℕ → Asked
+-- What is asked for, its paths as they stand among the words
+pub record Asked : Type 0 where
+  -- the path of the repository
+  pub repos : List ℕ
+  -- the word that means a path in it, where one is given
+  pub path : Option (List ℕ)
+  -- the task, at the path that this word means
+  pub task : Path → Task
 
 -- what clap finds in the words of a command; nothing where its definition of the command doesn't take them
 unfoldable pub taken : App → List (List ℕ) → Option (List Row)
@@ -55,20 +58,38 @@ repos_in rows = required_in (codes "REPOS") rows
 abbrev pub path_in : List Row → Option (List ℕ)
 path_in rows = first_of (codes "PATH") rows
 
+-- a task that has no path in the repository
+abbrev pub pathless : List Row → Task → Asked
+pathless rows task = record { repos = repos_in rows; path = None; task = λ path. task }
+
+-- a look at a revision, or at the youngest
+abbrev pub look_at : Option ℕ → Printed → Task
+look_at revision printed = Look (AtRevision (record { revision = revision; printed = printed }))
+
+abbrev pub create_in : List Row → ℕ → Asked
+create_in rows shard = pathless rows (Create shard)
+
+-- the tree from a path on, from `/` where it is left out
+abbrev pub tree_in : List Row → Option ℕ → Asked
+tree_in rows revision = record { repos = repos_in rows; path = path_in rows; task = λ path. look_at revision (Tree (shows_ids rows) path) }
+
+abbrev pub cat_in : List Row → Option ℕ → Asked
+cat_in rows revision = record { repos = repos_in rows; path = Some (required_in (codes "PATH") rows); task = λ path. look_at revision (Text path) }
+
 abbrev pub create_asked : List Row → Option Asked
-create_asked rows = option_map (Create (repos_in rows)) (shard_in rows)
+create_asked rows = option_map (create_in rows) (shard_in rows)
 
 abbrev pub tree_asked : List Row → Option Asked
-tree_asked rows = option_map (λ revision. Tree (repos_in rows) revision (shows_ids rows) (path_in rows)) (revision_in rows)
+tree_asked rows = option_map (tree_in rows) (revision_in rows)
 
 abbrev pub cat_asked : List Row → Option Asked
-cat_asked rows = option_map (λ revision. Cat (repos_in rows) revision (required_in (codes "PATH") rows)) (revision_in rows)
+cat_asked rows = option_map (cat_in rows) (revision_in rows)
 
 -- the words behind a command's own
 abbrev pub asked_by : Verb → List (List ℕ) → Option Asked
 asked_by verb.Create words = option_and_then create_asked (taken create_app words)
-asked_by verb.Youngest words = option_map (λ rows. Youngest (repos_in rows)) (taken youngest_app words)
-asked_by verb.Uuid words = option_map (λ rows. Uuid (repos_in rows)) (taken uuid_app words)
+asked_by verb.Youngest words = option_map (λ rows. pathless rows (Look Youngest)) (taken youngest_app words)
+asked_by verb.Uuid words = option_map (λ rows. pathless rows (Look Uuid)) (taken uuid_app words)
 asked_by verb.Tree words = option_and_then tree_asked (taken tree_app words)
 asked_by verb.Cat words = option_and_then cat_asked (taken cat_app words)
 

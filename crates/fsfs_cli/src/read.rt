@@ -6,8 +6,8 @@ ghost use Rattle.fsfs_cli.specs.Readings.{Reads, Finds, GivesPath};
 
 use crate::commands::{cat_command, create_command, look_command, tree_command};
 use crate::fault::WordsFault;
-use crate::order::{CatOrder, CreateOrder, Order, TreeOrder};
 use crate::path_word::read_path;
+use crate::request::{Look, Printed, Request, RevisionLook, Task};
 use crate::revision::read_revision;
 use crate::shard::read_shard;
 use crate::tool::Tool;
@@ -99,30 +99,35 @@ fn path_given(alloc: Global, matches: &ArgMatches<'_>) -> Result<FsPath, WordsFa
     }
 }
 
-fn read_create<'a>(alloc: Global, words: &'a [String]) -> Result<Order<'a>, WordsFault>
+fn read_create<'a>(alloc: Global, words: &'a [String]) -> Result<Request<'a>, WordsFault>
     ensures { Reads (asked_by Verb.Create (map string_bytes words.entry.now)) result }
 {
     let matches = matches_of(create_command(alloc)?, words)?;
     let repos = required(&matches, "REPOS");
     let shard = shard_given(&matches)?;
-    Ok(Order::Create(CreateOrder { repos, shard }))
+    let task = Task::Create { shard };
+    Ok(Request { repos, task })
 }
 
-fn read_youngest<'a>(alloc: Global, words: &'a [String]) -> Result<Order<'a>, WordsFault>
+fn read_youngest<'a>(alloc: Global, words: &'a [String]) -> Result<Request<'a>, WordsFault>
     ensures { Reads (asked_by Verb.Youngest (map string_bytes words.entry.now)) result }
 {
     let matches = matches_of(look_command(alloc, "youngest")?, words)?;
-    Ok(Order::Youngest(required(&matches, "REPOS")))
+    let repos = required(&matches, "REPOS");
+    let task = Task::Look(Look::Youngest);
+    Ok(Request { repos, task })
 }
 
-fn read_uuid<'a>(alloc: Global, words: &'a [String]) -> Result<Order<'a>, WordsFault>
+fn read_uuid<'a>(alloc: Global, words: &'a [String]) -> Result<Request<'a>, WordsFault>
     ensures { Reads (asked_by Verb.Uuid (map string_bytes words.entry.now)) result }
 {
     let matches = matches_of(look_command(alloc, "uuid")?, words)?;
-    Ok(Order::Uuid(required(&matches, "REPOS")))
+    let repos = required(&matches, "REPOS");
+    let task = Task::Look(Look::Uuid);
+    Ok(Request { repos, task })
 }
 
-fn read_tree<'a>(alloc: Global, words: &'a [String]) -> Result<Order<'a>, WordsFault>
+fn read_tree<'a>(alloc: Global, words: &'a [String]) -> Result<Request<'a>, WordsFault>
     ensures { Reads (asked_by Verb.Tree (map string_bytes words.entry.now)) result }
 {
     let matches = matches_of(tree_command(alloc)?, words)?;
@@ -130,15 +135,12 @@ fn read_tree<'a>(alloc: Global, words: &'a [String]) -> Result<Order<'a>, WordsF
     let revision = revision_given(&matches)?;
     let show_ids = shows_ids_given(&matches);
     let path = path_given(alloc, &matches)?;
-    Ok(Order::Tree(TreeOrder {
-        repos,
-        revision,
-        show_ids,
-        path,
-    }))
+    let printed = Printed::Tree { show_ids, path };
+    let task = Task::Look(Look::AtRevision(RevisionLook { revision, printed }));
+    Ok(Request { repos, task })
 }
 
-fn read_cat<'a>(alloc: Global, words: &'a [String]) -> Result<Order<'a>, WordsFault>
+fn read_cat<'a>(alloc: Global, words: &'a [String]) -> Result<Request<'a>, WordsFault>
     ensures { Reads (asked_by Verb.Cat (map string_bytes words.entry.now)) result }
 {
     let matches = matches_of(cat_command(alloc)?, words)?;
@@ -146,11 +148,9 @@ fn read_cat<'a>(alloc: Global, words: &'a [String]) -> Result<Order<'a>, WordsFa
     let word = required(&matches, "PATH");
     let revision = revision_given(&matches)?;
     let path = read_path(alloc, word)?;
-    Ok(Order::Cat(CatOrder {
-        repos,
-        revision,
-        path,
-    }))
+    let printed = Printed::Text { path };
+    let task = Task::Look(Look::AtRevision(RevisionLook { revision, printed }));
+    Ok(Request { repos, task })
 }
 
 /// What a program's words, those behind its name, ask for.
@@ -158,7 +158,7 @@ pub fn read_words<'a>(
     alloc: Global,
     tool: Tool,
     words: &'a [String],
-) -> Result<Order<'a>, WordsFault>
+) -> Result<Request<'a>, WordsFault>
     ensures { Reads (asked tool (map string_bytes words.entry.now)) result }
 {
     let [word, words @ ..] = words else {

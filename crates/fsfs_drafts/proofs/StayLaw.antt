@@ -60,7 +60,7 @@ module _ (top : ℕ) (trees more : ℕ → TreeFunction) (same : (r : ℕ) → r
   draft_same [] own S T within as_before = ap (node_here (own [])) (as_before [])
   draft_same (x ∷ p) own S T within as_before =
       let inner = draft_same p (below x own) (below x (shared_under trees (own []) S)) (below x (shared_under more (own []) T)) (λ q v from. within (x ∷ q) v from)
-          (λ q. under_same (own []) S T (λ v from. within [] v from) as_before (x ∷ q)) in
+      (λ q. under_same (own []) S T (λ v from. within [] v from) as_before (x ∷ q)) in
       λ i. in_own (own []) x (as_before (x ∷ p) i) (inner i)
 
   shared_at_same : (p : Path) (own : Own) (S T : TreeFunction) → AreCopiesWithin top own → ((q : Path) → S q ≡ T q) → (q : Path) → shared_at trees p own S q ≡ shared_at more p own T q

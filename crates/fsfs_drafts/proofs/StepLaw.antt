@@ -51,7 +51,7 @@ steps_are_edits = record {
       gone_shows look top base trees s.shown s.within txn s.before s.own s.draft s.path s.directory s.is_directory.here s.is_directory.kind s.name s.entries s.is_directory.listed s.laid s.new s.after s.laying is lacks q;
   changed = λ look trees top base txn s v id is no_copy goes_on none there q. (let w = was_shared look trees top base txn s none v.shown there in
       went_on_shows look top base trees s.shown s.within txn s.before s.own s.draft s.path s.directory s.is_directory.here s.is_directory.kind s.name s.entries s.is_directory.listed s.laid s.new s.after s.laying v id is no_copy goes_on
-          (no_head look trees top base txn s none) w.0 w.1 q);
+      (no_head look trees top base txn s none) w.0 w.1 q);
 }
 
 pub steps_keep_sides : StepsKeepSides

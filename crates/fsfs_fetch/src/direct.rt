@@ -262,7 +262,12 @@ impl<R: Reads> Book for Direct<R> {
         )
     }
 
-    fn read_rev(&mut self, rev: RevNum, offset: u64, buffer: &mut [u8]) -> Result<usize, BookFault> {
+    fn read_rev(
+        &mut self,
+        rev: RevNum,
+        offset: u64,
+        buffer: &mut [u8],
+    ) -> Result<usize, BookFault> {
         check_rev(&mut self.reads, rev)?;
         part_of(
             self.alloc,
@@ -275,7 +280,12 @@ impl<R: Reads> Book for Direct<R> {
         )
     }
 
-    fn read_props(&mut self, rev: RevNum, offset: u64, buffer: &mut [u8]) -> Result<usize, BookFault> {
+    fn read_props(
+        &mut self,
+        rev: RevNum,
+        offset: u64,
+        buffer: &mut [u8],
+    ) -> Result<usize, BookFault> {
         check_rev(&mut self.reads, rev)?;
         props_of(&mut self.reads, rev, offset, buffer)
     }

@@ -96,7 +96,10 @@ fn manifest_again(alloc: Global, bytes: &[u8]) -> Result<Vec<u8>, Fail> {
 #[test]
 fn written(rt: HostRuntime) -> Result<(), Fail> {
     let alloc = rt.alloc();
-    assert_eq!(rt; write_current(alloc, RevNum::from(12))?.as_slice(), b"12\n".as_slice());
+    assert_eq!(rt;
+        write_current(alloc, RevNum::from(12))?.as_slice(),
+        b"12\n".as_slice()
+    );
     assert_eq!(rt;
         write_min_unpacked_rev(alloc, Layout::sharded(4), RevNum::from(8))?.as_slice(),
         b"8\n".as_slice()

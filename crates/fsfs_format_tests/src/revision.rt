@@ -35,7 +35,9 @@ fn trailers_and_roots(rt: HostRuntime) -> Result<(), Fail> {
     put_trailer(&mut out, near)?;
     assert_eq!(rt; out.as_slice(), b"xyz\n2 3\n".as_slice());
     let bytes = b"id: 0.0.r7/0\ntype: dir\ncpath: /\n\n\n0 33\n".as_slice();
-    let root = read_root(rt.alloc(), RevNum::from(7), bytes).ok().ok_or("a root")?;
+    let root = read_root(rt.alloc(), RevNum::from(7), bytes)
+        .ok()
+        .ok_or("a root")?;
     assert_eq!(rt; root.id, read_id(b"0.0.r7/0").ok_or("an id")?);
     assert!(rt; root.kind == Kind::Dir && root.created_path.is_root());
     let rev = RevNum::from(8);

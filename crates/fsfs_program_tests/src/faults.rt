@@ -119,11 +119,7 @@ fn lines_of_faults(rt: HostRuntime) -> Result<(), Fail> {
             3,
             "Corrupt 1 0 Sha1 a9993e364706816aba3e25717850c26c9cd0d89d 03cfd743661f07975fa2f1220c5194cbaff48451",
         ),
-        (
-            Fault::from(Wrong::Delta(at(1, 0))),
-            3,
-            "Delta 1 0",
-        ),
+        (Fault::from(Wrong::Delta(at(1, 0))), 3, "Delta 1 0"),
         (
             Fault::from(CreateFault::DiskFault(DiskPlace::CreateRename)),
             4,

@@ -1,5 +1,5 @@
 //! Tables of words, and what they are read as.
-use fsfs_cli::{Order, Tool, WordsFault, read_words};
+use fsfs_cli::{Look, Printed, Request, Task, Tool, WordsFault, read_words};
 use std::alloc::{AllocError, Global};
 use std::test::Fail;
 
@@ -11,23 +11,29 @@ fn owned(alloc: Global, texts: &[&str]) -> Result<Vec<String>, AllocError> {
     Ok(words)
 }
 
-// An order or a refusal as a line.
-fn line(alloc: Global, read: &Result<Order<'_>, WordsFault>) -> Result<String, AllocError> {
+// What is looked at as a line.
+fn look_line(alloc: Global, repos: &str, look: &Look) -> Result<String, AllocError> {
+    let look = match look {
+        Look::Youngest => return format!(in alloc; "youngest {repos}"),
+        Look::Uuid => return format!(in alloc; "uuid {repos}"),
+        Look::AtRevision(look) => look,
+    };
+    let revision = look.revision.unwrap_or(9_999_999_999);
+    match &look.printed {
+        Printed::Tree { show_ids, path } => {
+            format!(in alloc; "tree {repos} {revision} {show_ids} {path}")
+        }
+        Printed::Text { path } => format!(in alloc; "cat {repos} {revision} {path}"),
+    }
+}
+
+// A request or a refusal as a line.
+fn line(alloc: Global, read: &Result<Request<'_>, WordsFault>) -> Result<String, AllocError> {
     match read {
-        Ok(Order::Create(order)) => format!(in alloc; "create {} {}", order.repos, order.shard),
-        Ok(Order::Youngest(repos)) => format!(in alloc; "youngest {repos}"),
-        Ok(Order::Uuid(repos)) => format!(in alloc; "uuid {repos}"),
-        Ok(Order::Tree(order)) => {
-            let revision = order.revision.unwrap_or(9_999_999_999);
-            format!(in alloc;
-                "tree {} {revision} {} {}",
-                order.repos, order.show_ids, order.path
-            )
-        }
-        Ok(Order::Cat(order)) => {
-            let revision = order.revision.unwrap_or(9_999_999_999);
-            format!(in alloc; "cat {} {revision} {}", order.repos, order.path)
-        }
+        Ok(request) => match &request.task {
+            Task::Create { shard } => format!(in alloc; "create {} {shard}", request.repos),
+            Task::Look(look) => look_line(alloc, request.repos, look),
+        },
         Err(WordsFault::Usage) => format!(in alloc; "Usage"),
         Err(WordsFault::BadPath(bad)) => format!(in alloc; "BadPath {} {:?}", bad.at, bad.why),
         Err(WordsFault::Memory) => format!(in alloc; "Memory"),

@@ -42,13 +42,16 @@ fn small(file: SmallFile, at: usize) -> BookFault {
     BookFault::Refused(Refusal::Small(SmallFault { file, at }))
 }
 
+fn missing(rev: RevNum) -> BookFault {
+    BookFault::Refused(Refusal::Missing { rev })
+}
+
 // Parts of a packed revision end where the next one begins.
 #[test]
 fn packed_and_not(rt: HostRuntime) -> Result<(), Fail> {
     let disk = packed_disk(rt.alloc())?;
     let (second, third) = (RevNum::from(2), RevNum::from(3));
     let mut book = over_disk(rt.alloc(), disk, third, Layout::sharded(2), second);
-    let missing = BookFault::Refused(Refusal::Missing { rev: third });
     let above = BookFault::Refused(Refusal::NoRev {
         asked: RevNum::from(4),
         youngest: third,
@@ -65,7 +68,7 @@ fn packed_and_not(rt: HostRuntime) -> Result<(), Fail> {
         (1, 59, Ok(8), *b"PLAIN\nK "),
         (1, 266, Ok(4), *b"226\n...."),
         (2, 3, Ok(7), *b"ision 2."),
-        (3, 0, Err(missing), *b"........"),
+        (3, 0, Err(missing(third)), *b"........"),
         (4, 0, Err(above), *b"........"),
     ];
     for (rev, offset, answer, bytes) in table {
@@ -75,14 +78,18 @@ fn packed_and_not(rt: HostRuntime) -> Result<(), Fail> {
         );
     }
     assert!(rt; book.youngest() == Ok(third));
-    for (rev, len) in [(0, Ok(115)), (1, Ok(270)), (2, Ok(10)), (3, Err(missing))] {
+    for (rev, len) in [
+        (0, Ok(115)),
+        (1, Ok(270)),
+        (2, Ok(10)),
+        (3, Err(missing(third))),
+    ] {
         assert!(rt; book.rev_len(RevNum::from(rev)) == len, "of {rev}");
     }
     let mut props = [0; 4];
     assert!(rt; book.read_props(RevNum::from(1), 0, &mut props) == Ok(4));
     assert!(rt; props == *b"END\n");
-    let absent = BookFault::Refused(Refusal::Missing { rev: second });
-    assert!(rt; book.read_props(second, 0, &mut props) == Err(absent));
+    assert!(rt; book.read_props(second, 0, &mut props) == Err(missing(second)));
     // The kept floor is 0 though the first shard is packed.
     let disk = disk_of(book);
     let before = disk.calls();
@@ -91,7 +98,7 @@ fn packed_and_not(rt: HostRuntime) -> Result<(), Fail> {
     assert!(rt; part(&mut book, 1, 0) == (Ok(8), *b"id: 0-1."));
     assert!(rt; book.floor() == second);
     assert!(rt; part(&mut book, 0, 0) == (Ok(8), *b"PLAIN\nEN"));
-    assert!(rt; part(&mut book, 3, 0).0 == Err(missing));
+    assert!(rt; part(&mut book, 3, 0).0 == Err(missing(third)));
     // Revision 1: the file's size, the floor, the manifest in two calls, the pack's size and a part of it. Revision 0:
     // the last two again. Revision 3: the file's size, the floor, the file's size.
     let mut disk = disk_of(book);

@@ -36,11 +36,18 @@ const TREES: [(u16, &str, bool, &str); 5] = [
 #[test]
 fn trees_of_subversion(rt: HostRuntime) -> Result<(), Fail> {
     let alloc = rt.alloc();
-    let mut book = book_of(alloc, &[MADE_1, MADE_2, MADE_3])?;
     for (rev, path, show_ids, want) in TREES {
+        let mut book = book_of(alloc, &[MADE_1, MADE_2, MADE_3])?;
         let mut sink = MemSink::new(alloc);
         let path = path_of(alloc, path)?;
-        tree_text(alloc, &mut book, RevNum::from(rev), &path, show_ids, &mut sink)?;
+        tree_text(
+            alloc,
+            &mut book,
+            RevNum::from(rev),
+            &path,
+            show_ids,
+            &mut sink,
+        )?;
         assert_eq!(rt; sink.bytes(), want.as_bytes());
     }
     Ok(())
@@ -48,6 +55,10 @@ fn trees_of_subversion(rt: HostRuntime) -> Result<(), Fail> {
 
 fn md5(digits: &[u8]) -> HexDigest<16> {
     HexDigest::<16>::read(digits).unwrap_or(HexDigest { bytes: [0; 16] })
+}
+
+fn start_of(rev: RevNum) -> RevOffset {
+    RevOffset { rev, offset: 0 }
 }
 
 // A text, and texts of which no byte is written. The digests are those of `line ` and of `lime `.
@@ -65,9 +76,11 @@ fn texts(rt: HostRuntime) -> Result<(), Fail> {
         found: md5(b"c83afca9f1e14c3a037a2a5ae9c32c78"),
     };
     let rev = RevNum::from(1);
-    let at = RevOffset { rev, offset: 0 };
     let what = DamageKind::Rep(what);
-    let other_text = LookFault::Wrong(Wrong::Damaged(Damage { at, what }));
+    let other_text = LookFault::Wrong(Wrong::Damaged(Damage {
+        at: start_of(rev),
+        what,
+    }));
     let table = [
         (SHORT_TEXT, "/t", "line ", Ok(())),
         (EMPTY_FILE, "/e", "", Ok(())),
@@ -81,7 +94,7 @@ fn texts(rt: HostRuntime) -> Result<(), Fail> {
             delta.as_slice(),
             "/e",
             "",
-            Err(LookError::Fault(LookFault::Wrong(Wrong::Delta(at)))),
+            Err(LookError::Fault(LookFault::Wrong(Wrong::Delta(start_of(rev))))),
         ),
         (
             FIRST_DIRECTORY,

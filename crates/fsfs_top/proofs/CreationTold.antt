@@ -6,20 +6,19 @@ use Rattle.std.specs.declared.cmp.Ordering.TheVariants.{Less, Equal, Greater}
 use Rattle.std.specs.Ordering.{nat_cmp, is_eq}
 use Rattle.std.specs.Cmp.Lexicographic.{slice_cmp}
 use Rattle.std.specs.FinMap.{slice_cmp-IsAntisymmetric, nat_cmp-IsAntisymmetric}
+use Rattle.fsfs_base.specs.Failures.{Rose}
 use Rattle.fsfs_base.proofs.FileLemmas.{apart_by}
 use Rattle.fsfs_disk.specs.Trace.{Trace, files_now}
 use Rattle.fsfs_disk.specs.Crash.{AllImages, Leaves}
 use Rattle.fsfs_disk.proofs.CrashLemmas.{leaves_with}
 use Rattle.fsfs_layout.specs.CreatedFiles.{identifier_text, random_identifier}
-use Rattle.fsfs_layout.specs.Opening.{small_texts, IsOpened}
-use Rattle.fsfs_layout.specs.declared.opened.Opened.{Opened}
 use Rattle.fsfs_create.specs.Creation.{IsCreated, IsNoneOrWhole, IsUnpublished, IsNoRepository, CreateFails}
 use Rattle.fsfs_places.specs.declared.create_fault.CreateFault.{CreateFault}
 use Rattle.fsfs_places.specs.declared.create_fault.CreateFault.TheVariants as create
 use Rattle.fsfs_faults.specs.Faults.{fault_from_create}
 use Rattle.fsfs_faults.specs.declared.fault.Fault.{Fault}
-use Rattle.fsfs_top.specs.Command.{Drawn, Created, IsNoneOrCreated}
-use Rattle.fsfs_top.specs.Looks.{OpensAs}
+use Rattle.fsfs_top.specs.Command.{Drawn, Created, IsNoneOrCreated, identifier_of}
+use Rattle.fsfs_top.specs.Scenes.{HostScene}
 
 given : {X : Type 0} (told : Option X) (x y : X) → x ≡ y → IfSome told (λ t. y ≡ t) → IfSome told (λ t. x ≡ t)
 given None x y e h = tt
@@ -30,12 +29,19 @@ abbrev pub drawn : (clock : Option ℕ) (dice : Option (List ℕ)) (moment : ℕ
 drawn clock dice moment bits m b = record { moment = moment; bits = bits; moment_is = m; bits_are = b }
 
 -- a creation that was done, on the disk that the host had
-pub created_done : (mount disk : Type 0) (shard : ℕ) (clock : Option ℕ) (dice : Option (List ℕ)) (d : Drawn clock dice) (id : List ℕ) (old new at_old at_new : Option Trace) → id ≡ random_identifier d.bits → old ≡ at_old → at_new ≡ new
-    → IsNoRepository old → IsCreated shard (identifier_text id) d.moment old new → Created mount disk shard clock dice at_old at_new None
-created_done mount disk shard clock dice d id old new at_old at_new named was is none_there made =
-    subst (λ o. Created mount disk shard clock dice o at_new None) was
-    (subst (λ o. Created mount disk shard clock dice old o None) (sym is)
-    (inr (inr (refl, none_there, (d, subst (λ i. IsCreated shard (identifier_text i) d.moment old new) named made)))))
+pub created_done : (repos : List ℕ) (a b : HostScene) (shard : ℕ) (clock : Option ℕ) (dice : Option (List ℕ)) (d : Drawn clock dice) (id : List ℕ) (old new : Option Trace) → id ≡ random_identifier d.bits → old ≡ a.disk_at repos → b.disk_at repos ≡ new
+    → IsNoRepository old → IsCreated shard (identifier_text id) d.moment old new → Created repos shard clock dice a b None
+created_done repos a b shard clock dice d id old new named was is none_there made =
+    inr (inr (
+      refl,
+      subst IsNoRepository was none_there,
+      (
+        d,
+        subst (λ o. IsCreated shard (identifier_of clock dice d) d.moment o (b.disk_at repos)) was
+            (subst (λ n. IsCreated shard (identifier_of clock dice d) d.moment old n) (sym is)
+            (subst (λ i. IsCreated shard (identifier_text i) d.moment old new) named made)),
+      ),
+    ))
 
 counted_failure : (rose disk : Type 0) (shard moment : ℕ) (identifier : List ℕ) (old new : Option Trace) (why : CreateFault) → (rose → disk) → CreateFails rose shard identifier moment old new why → CreateFails disk shard identifier moment old new why
 counted_failure rose disk shard moment identifier old new create.AlreadyRepo counted h = h
@@ -43,14 +49,22 @@ counted_failure rose disk shard moment identifier old new (create.DiskFault plac
 counted_failure rose disk shard moment identifier old new create.Memory counted h = h
 
 -- and one that failed
-pub created_failed : (mount disk rose : Type 0) (shard : ℕ) (clock : Option ℕ) (dice : Option (List ℕ)) (d : Drawn clock dice) (id : List ℕ) (old new at_old at_new : Option Trace) (why : CreateFault) (fault : Fault) → fault ≡ fault_from_create why
-    → id ≡ random_identifier d.bits → old ≡ at_old → at_new ≡ new → (rose → disk)
-    → CreateFails rose shard (identifier_text id) d.moment old new why → Created mount disk shard clock dice at_old at_new (Some fault)
-created_failed mount disk rose shard clock dice d id old new at_old at_new why fault from named was is counted failed =
-    subst (λ f. Created mount disk shard clock dice at_old at_new (Some f)) (sym from)
-    (subst (λ o. Created mount disk shard clock dice o at_new (Some (fault_from_create why))) was
-    (subst (λ o. Created mount disk shard clock dice old o (Some (fault_from_create why))) (sym is)
-    (inr (inl (why, refl, (d, subst (λ i. CreateFails disk shard (identifier_text i) d.moment old new why) named (counted_failure rose disk shard d.moment (identifier_text id) old new why counted failed)))))))
+pub created_failed : (repos : List ℕ) (a b : HostScene) (rose : Type 0) (shard : ℕ) (clock : Option ℕ) (dice : Option (List ℕ)) (d : Drawn clock dice) (id : List ℕ) (old new : Option Trace) (why : CreateFault) (fault : Fault) → fault ≡ fault_from_create why
+    → id ≡ random_identifier d.bits → old ≡ a.disk_at repos → b.disk_at repos ≡ new → (rose → Rose a.disk_faults b.disk_faults)
+    → CreateFails rose shard (identifier_text id) d.moment old new why → Created repos shard clock dice a b (Some fault)
+created_failed repos a b rose shard clock dice d id old new why fault from named was is counted failed =
+    let disk = Rose a.disk_faults b.disk_faults in
+    inr (inl (
+      why,
+      ap (λ (f : Fault). Some f) from,
+      (
+        d,
+        subst (λ o. CreateFails disk shard (identifier_of clock dice d) d.moment o (b.disk_at repos) why) was
+            (subst (λ n. CreateFails disk shard (identifier_of clock dice d) d.moment old n why) (sym is)
+            (subst (λ i. CreateFails disk shard (identifier_text i) d.moment old new why) named
+            (counted_failure rose disk shard d.moment (identifier_text id) old new why counted failed))),
+      ),
+    ))
 
 -- what a crash leaves, on the disk that the host had
 pub leaves_created : (shard : ℕ) (clock : Option ℕ) (dice : Option (List ℕ)) (d : Drawn clock dice) (id : List ℕ) (old new at_old at_new : Option Trace) → id ≡ random_identifier d.bits → old ≡ at_old → at_new ≡ new
@@ -60,10 +74,6 @@ leaves_created shard clock dice d id old new at_old at_new named was is leaves =
     (subst (λ o. AllImages old IsUnpublished → Leaves old o (IsNoneOrCreated shard clock dice old)) (sym is)
     (λ all. leaves_with old new (IsNoneOrWhole shard (identifier_text id) d.moment old) (IsNoneOrCreated shard clock dice old)
     (λ m h. (d, subst (λ i. IsNoneOrWhole shard (identifier_text i) d.moment old m) named h)) (leaves all)))
-
--- what the small files say of the repository that was opened, on the disk that the host had
-pub opens_as : (told at : Option Trace) (o : Opened) → told ≡ at → IfSome told (λ t. IsOpened (small_texts (files_now t)) o) → OpensAs at o
-opens_as told at o same opened = subst (λ d. OpensAs d o) same opened
 
 -- two paths are one or not
 path_cases : (p q : List ℕ) → (p ≡ q) ⊎ (p ≡ q → ⊥)

@@ -1,7 +1,8 @@
 -- What the files decide of a look, as the top call tells it.
-use Rattle.std.proofs.Common.{◌≡◌, ◌≤◌, ℕ, List, [], ◌∷◌, ◌⊎◌, ⊎_elim, length, inl, inr, refl, sym, ap, subst, ◌∙◌, arith}
+use Rattle.std.proofs.Common.{◌≡◌, ◌≤◌, ℕ, List, ◌⊎◌, ⊎_elim, inl, inr, refl, sym, ap, subst, ◌∙◌, arith}
 use Rattle.std.specs.Prelude.{Option, Some, None, IfSome, option_map, unwrap_or, Result, Ok, Err}
 use Rattle.std.proofs.lemmas.Option.{same_Some}
+use Rattle.fsfs_base.specs.Failures.{Rose}
 use Rattle.fsfs_base.specs.Files.{Files}
 use Rattle.fsfs_base.specs.Paths.{Path}
 use Rattle.fsfs_book.specs.Told.{RevisionBytes}
@@ -24,10 +25,14 @@ use Rattle.fsfs_places.specs.declared.place.DiskPlace.TheVariants.{Read}
 use Rattle.fsfs_printed.specs.Texts.{End, Whole, Refused}
 use Rattle.fsfs_printed.specs.declared.look_fault.LookFault.{LookFault}
 use Rattle.fsfs_printed.specs.declared.look_fault.LookFault.TheVariants as refusal
-use Rattle.fsfs_top.specs.Looks.{TextOf, TextIn, looked_revision, LacksRevision, IsFaultOf, LooksInto, DoesNotOpen, IsOutside, Agrees, DecidesOpening, DecidesShown, DecidesLook, ShownIsDecided, LookIsDecided}
-use Rattle.fsfs_top.specs.declared.look.RevisionLook.{RevisionLook}
-use Rattle.fsfs_top.specs.declared.look.Printed.{Printed}
-use Rattle.fsfs_top.specs.declared.look.Printed.TheVariants.{Tree, Text}
+use Rattle.fsfs_top.specs.Looks.{TextOf, TextIn, revision_line, uuid_line, looked_revision, LacksRevision, IsFaultOf, PrintsLine, LooksInto, DoesNotOpen, IsOutside, Agrees, DecidesRevision, DecidesOpened, DecidesLook, LookIsDecided}
+use Rattle.fsfs_top.specs.Scenes.{SinkScene}
+use Rattle.fsfs_cli.specs.Requests.{printed_path}
+use Rattle.fsfs_cli.specs.declared.request.Look.{Look}
+use Rattle.fsfs_cli.specs.declared.request.Look.TheVariants.{Youngest, Uuid, AtRevision}
+use Rattle.fsfs_cli.specs.declared.request.Printed.{Printed}
+use Rattle.fsfs_cli.specs.declared.request.Printed.TheVariants.{Tree, Text}
+use Rattle.fsfs_cli.specs.declared.request.RevisionLook.{RevisionLook}
 use Rattle.fsfs_printed.specs.Agreeing.{HasOneText}
 use Rattle.fsfs_printed.proofs.OneText.{tree_one, file_one}
 use Rattle.fsfs_printed.proofs.Prefixes.{whole_or_refused, refusals_same}
@@ -46,73 +51,45 @@ open_agrees : (why want : OpenFault) → (why ≡ want) ⊎ IsOpenOutside why �
 open_agrees why want (inl e) = inl (ap (λ x. Some (fault_from_open x)) (sym e))
 open_agrees why want (inr h) = inr (outside_of_open why h)
 
--- ---- an opening
+-- ---- a look that failed before
 
-opening_done : (m : Files) (o : Opened) (fault : Option Fault) → Decides (small_texts m) (Ok o) → DecidesOpening m fault
-opening_done m o fault d = record {
-  none = λ w. absurd (d.none w);
-  other = λ n w. absurd (d.other n w);
-  linear = λ w. absurd (d.linear w);
-}
+opened_outside : (look : Look) (o : Opened) (m : Files) (fault : Fault) → IsOutside fault → DecidesOpened look o m (Some fault)
+opened_outside Youngest o m fault out = inr out
+opened_outside Uuid o m fault out = inr out
+opened_outside (AtRevision look) o m fault out = record { lacking = λ rev lacks. inr out; whole = λ text there is. inr out; refused = λ text why there is. inr out }
 
-opening_refused : (m : Files) (why : OpenFault) → Decides (small_texts m) (Err why) → DecidesOpening m (Some (fault_from_open why))
-opening_refused m why d = record {
+pub look_outside : (look : Look) (at : Option Trace) (fault : Fault) → IsOutside fault → LookIsDecided look at (Some fault)
+look_outside look None fault out = tt
+look_outside look (Some t) fault out = record { none = λ w. inr out; other = λ n w. inr out; linear = λ w. inr out; opened = λ o w. opened_outside look o (files_now t) fault out }
+
+look_refused : (look : Look) (m : Files) (why : OpenFault) → Decides (small_texts m) (Err why) → DecidesLook look m (Some (fault_from_open why))
+look_refused look m why d = record {
   none = λ w. open_agrees why opening.NotRepo (d.none w);
   other = λ n w. open_agrees why (opening.OtherFormat n) (d.other n w);
   linear = λ w. open_agrees why opening.Linear (d.linear w);
+  opened = λ o w. opened_outside look o m (fault_from_open why) (outside_of_open why (d.opened o w));
 }
 
-opening_outside : (m : Files) (fault : Fault) → IsOutside fault → DecidesOpening m (Some fault)
-opening_outside m fault out = record { none = λ w. inr out; other = λ n w. inr out; linear = λ w. inr out }
-
--- ---- the small files
-
-shown_done : (m : Files) (o : Opened) → Decides (small_texts m) (Ok o) → DecidesShown m None
-shown_done m o d = record { opening = opening_done m o None d; opened = λ p w. refl }
-
-shown_refused : (m : Files) (why : OpenFault) → Decides (small_texts m) (Err why) → DecidesShown m (Some (fault_from_open why))
-shown_refused m why d = record { opening = opening_refused m why d; opened = λ p w. inr (outside_of_open why (d.opened p w)) }
-
-pub shown_decided : (told at : Option Trace) (o : Opened) → told ≡ at → IfSome told (λ t. Decides (small_texts (files_now t)) (Ok o)) → ShownIsDecided at None
-shown_decided told at o same d = subst (λ x. ShownIsDecided x None) same (so told d) where
-  so : (x : Option Trace) → IfSome x (λ t. Decides (small_texts (files_now t)) (Ok o)) → ShownIsDecided x None
+pub look_refusal : (look : Look) (told at : Option Trace) (why : OpenFault) (fault : Fault) → told ≡ at → fault ≡ fault_from_open why → IfSome told (λ t. Decides (small_texts (files_now t)) (Err why)) → LookIsDecided look at (Some fault)
+look_refusal look told at why fault same from d = subst (λ f. LookIsDecided look at (Some f)) (sym from) (subst (λ x. LookIsDecided look x (Some (fault_from_open why))) same (so told d)) where
+  so : (x : Option Trace) → IfSome x (λ t. Decides (small_texts (files_now t)) (Err why)) → LookIsDecided look x (Some (fault_from_open why))
   so None h = tt
-  so (Some t) h = shown_done (files_now t) o h
-
-pub shown_outside : (at : Option Trace) (fault : Fault) → IsOutside fault → ShownIsDecided at (Some fault)
-shown_outside None fault out = tt
-shown_outside (Some t) fault out = record { opening = opening_outside (files_now t) fault out; opened = λ p w. inr out }
-
-pub shown_refusal : (told at : Option Trace) (why : OpenFault) (fault : Fault) → told ≡ at → fault ≡ fault_from_open why → IfSome told (λ t. Decides (small_texts (files_now t)) (Err why)) → ShownIsDecided at (Some fault)
-shown_refusal told at why fault same from d = subst (λ f. ShownIsDecided at (Some f)) (sym from) (subst (λ x. ShownIsDecided x (Some (fault_from_open why))) same (so told d)) where
-  so : (x : Option Trace) → IfSome x (λ t. Decides (small_texts (files_now t)) (Err why)) → ShownIsDecided x (Some (fault_from_open why))
-  so None h = tt
-  so (Some t) h = shown_refused (files_now t) why h
-
--- ---- a revision
-
-look_refused : (look : RevisionLook) (m : Files) (why : OpenFault) → Decides (small_texts m) (Err why) → DecidesLook look m (Some (fault_from_open why))
-look_refused look m why d = record {
-  opening = opening_refused m why d;
-  lacking = λ p rev w lacks. inr (outside_of_open why (d.opened p w));
-  whole = λ p text w there is. inr (outside_of_open why (d.opened p w));
-  refused = λ p text f w there is. inr (outside_of_open why (d.opened p w));
-}
+  so (Some t) h = look_refused look (files_now t) why h
 
 -- ---- a revision that was looked at
 
-one_text : (printed : Printed) (look : RevisionBytes) (rev : ℕ) (path : Path) → HasOneText (TextOf printed look rev path)
-one_text (Tree ids) look rev path = tree_one look rev path ids
-one_text Text look rev path = file_one look rev path
+one_text : (printed : Printed) (bytes : RevisionBytes) (rev : ℕ) → HasOneText (TextOf printed bytes rev)
+one_text (Tree show_ids path) bytes rev = tree_one bytes rev path show_ids
+one_text (Text path) bytes rev = file_one bytes rev path
 
 in_one : (look : RevisionLook) (o : Opened) (m : Files) → HasOneText (TextIn look o m)
-in_one look o m = one_text look.printed (rev_bytes o.layout m) (looked_revision look o) look.path
+in_one look o m = one_text look.printed (rev_bytes o.layout m) (looked_revision look o)
 
 -- the text is by what every opening says
 pub same_text : (look : RevisionLook) (o p : Opened) (m : Files) (text : List ℕ) (end : End) → o.layout ≡ p.layout → o.youngest ≡ p.youngest → TextIn look p m text end → TextIn look o m text end
 same_text look o p m text end shard youngest is =
-    subst (λ (l : Layout). TextOf look.printed (rev_bytes l m) (looked_revision look o) look.path text end) (sym shard)
-    (subst (λ (y : ℕ). TextOf look.printed (rev_bytes p.layout m) (unwrap_or look.revision y) look.path text end) (sym youngest) is)
+    subst (λ (l : Layout). TextOf look.printed (rev_bytes l m) (looked_revision look o) text end) (sym shard)
+    (subst (λ (y : ℕ). TextOf look.printed (rev_bytes p.layout m) (unwrap_or look.revision y) text end) (sym youngest) is)
 
 lacks_or_has : (look : RevisionLook) (o p : Opened) (rev : ℕ) → LacksRevision look o rev → o.youngest ≡ p.youngest → looked_revision look p ≤ p.youngest → ⊥
 lacks_or_has look o p rev lacks e there =
@@ -126,7 +103,7 @@ look_or_memory path (refusal.NotDir names) fault h = h
 look_or_memory path refusal.NotFile fault h = h
 look_or_memory path (refusal.Wrong wrong) fault h = inl h
 
-whole_agrees : (disk write : Type 0) (look : RevisionLook) (o : Opened) (m : Files) (old new : Option (List ℕ)) (r : Result (Unit {0}) LookError) (fault : Option Fault) → Writes (TextIn look o m) old new r → IsFaultOf disk write look.path r fault
+whole_agrees : (disk write : Type 0) (look : RevisionLook) (o : Opened) (m : Files) (old new : Option (List ℕ)) (r : Result (Unit {0}) LookError) (fault : Option Fault) → Writes (TextIn look o m) old new r → IsFaultOf disk write (printed_path look.printed) r fault
     → (text : List ℕ) → TextIn look o m text Whole → Agrees None fault
 whole_agrees disk write look o m old new (Ok done) fault w is text t = subst (Agrees None) (sym is) refl
 whole_agrees disk write look o m old new (Err (errors.Fault why)) fault w is text t =
@@ -135,57 +112,57 @@ whole_agrees disk write look o m old new (Err errors.DiskFault) fault w is text 
 whole_agrees disk write look o m old new (Err errors.WriteFault) fault w is text t = subst (Agrees None) (sym is.1) (inr (inr (inr (inl refl))))
 whole_agrees disk write look o m old new (Err errors.OutOfMemory) fault w is text t = subst (Agrees None) (sym is) (inr (inr (inr (inr refl))))
 
-refused_agrees : (disk write : Type 0) (look : RevisionLook) (o : Opened) (m : Files) (old new : Option (List ℕ)) (r : Result (Unit {0}) LookError) (fault : Option Fault) → Writes (TextIn look o m) old new r → IsFaultOf disk write look.path r fault
-    → (text : List ℕ) (why : LookFault) → TextIn look o m text (Refused why) → Agrees (Some (fault_from_look look.path why)) fault
+refused_agrees : (disk write : Type 0) (look : RevisionLook) (o : Opened) (m : Files) (old new : Option (List ℕ)) (r : Result (Unit {0}) LookError) (fault : Option Fault) → Writes (TextIn look o m) old new r → IsFaultOf disk write (printed_path look.printed) r fault
+    → (text : List ℕ) (why : LookFault) → TextIn look o m text (Refused why) → Agrees (Some (fault_from_look (printed_path look.printed) why)) fault
 refused_agrees disk write look o m old new (Ok done) fault w is text why t =
     absurd (whole_or_refused (TextIn look o m) (in_one look o m) w.0 text why w.1 t)
 refused_agrees disk write look o m old new (Err (errors.Fault other)) fault w (told, is, from) text why t =
     let same = (refusals_same (TextIn look o m) (in_one look o m) text w.0 why other t w.1).1 in
-    let Want : Option Fault → Type 0 = Agrees (Some (fault_from_look look.path why)) in
+    let Want : Option Fault → Type 0 = Agrees (Some (fault_from_look (printed_path look.printed) why)) in
     subst Want (sym is)
-    (⊎_elim (λ e. subst Want (ap (λ (f : Fault). Some f) (sym e)) (inl (ap (λ (f : LookFault). Some (fault_from_look look.path f)) same)))
-    (λ e. subst Want (ap (λ (f : Fault). Some f) (sym e)) (inr (inr (inr (inr refl))))) (look_or_memory look.path other told from))
-refused_agrees disk write look o m old new (Err errors.DiskFault) fault w is text why t = subst (Agrees (Some (fault_from_look look.path why))) (sym is.1) (inr (inr (inl (Read, refl))))
-refused_agrees disk write look o m old new (Err errors.WriteFault) fault w is text why t = subst (Agrees (Some (fault_from_look look.path why))) (sym is.1) (inr (inr (inr (inl refl))))
-refused_agrees disk write look o m old new (Err errors.OutOfMemory) fault w is text why t = subst (Agrees (Some (fault_from_look look.path why))) (sym is) (inr (inr (inr (inr refl))))
+    (⊎_elim (λ e. subst Want (ap (λ (f : Fault). Some f) (sym e)) (inl (ap (λ (f : LookFault). Some (fault_from_look (printed_path look.printed) f)) same)))
+    (λ e. subst Want (ap (λ (f : Fault). Some f) (sym e)) (inr (inr (inr (inr refl))))) (look_or_memory (printed_path look.printed) other told from))
+refused_agrees disk write look o m old new (Err errors.DiskFault) fault w is text why t = subst (Agrees (Some (fault_from_look (printed_path look.printed) why))) (sym is.1) (inr (inr (inl (Read, refl))))
+refused_agrees disk write look o m old new (Err errors.WriteFault) fault w is text why t = subst (Agrees (Some (fault_from_look (printed_path look.printed) why))) (sym is.1) (inr (inr (inr (inl refl))))
+refused_agrees disk write look o m old new (Err errors.OutOfMemory) fault w is text why t = subst (Agrees (Some (fault_from_look (printed_path look.printed) why))) (sym is) (inr (inr (inr (inr refl))))
 
-look_done : (disk write : Type 0) (look : RevisionLook) (m : Files) (o : Opened) (old new : Option (List ℕ)) (fault : Option Fault) → IsOpened (small_texts m) o → Decides (small_texts m) (Ok o) → LooksInto disk write look o (Some m) old new fault → DecidesLook look m fault
-look_done disk write look m o old new fault opened d (inl (rev, lacks, is, kept)) = subst (DecidesLook look m) (sym is) (record {
-  opening = opening_done m o (Some (NoRev rev o.youngest)) d;
-  lacking = λ p other w also.
+revision_done : (disk : Type 0) (look : RevisionLook) (m : Files) (o p : Opened) (old new : SinkScene) (fault : Option Fault) → IsOpened (small_texts m) o → IsOpened (small_texts m) p → LooksInto disk (AtRevision look) o (Some m) old new fault
+    → DecidesRevision look p m fault
+revision_done disk look m o p old new fault opened w (inl (rev, lacks, is, kept)) = subst (DecidesRevision look p m) (sym is) (record {
+  lacking = λ other also.
       let named = same_Some other rev (sym also.named ∙ lacks.named) in
       inl (λ i. Some (NoRev (named i) (one_youngest (small_texts m) p o w opened i)));
-  whole = λ p text w there t. absurd (lacks_or_has look o p rev lacks (one_youngest (small_texts m) o p opened w) there);
-  refused = λ p text why w there t. absurd (lacks_or_has look o p rev lacks (one_youngest (small_texts m) o p opened w) there);
+  whole = λ text there t. absurd (lacks_or_has look o p rev lacks (one_youngest (small_texts m) o p opened w) there);
+  refused = λ text why there t. absurd (lacks_or_has look o p rev lacks (one_youngest (small_texts m) o p opened w) there);
 })
-look_done disk write look m o old new fault opened d (inr looked) = record {
-  opening = opening_done m o fault d;
-  lacking = λ p rev w lacks. absurd (lacks_or_has look p o rev lacks (one_youngest (small_texts m) p o w opened) looked.there);
-  whole = λ p text w there t. whole_agrees disk write look o m old new looked.result fault looked.writes looked.fault_is text (same_text look o p m text Whole (one_layout (small_texts m) o p opened w) (one_youngest (small_texts m) o p opened w) t);
-  refused = λ p text why w there t. refused_agrees disk write look o m old new looked.result fault looked.writes looked.fault_is text why (same_text look o p m text (Refused why) (one_layout (small_texts m) o p opened w) (one_youngest (small_texts m) o p opened w) t);
+revision_done disk look m o p old new fault opened w (inr looked) = record {
+  lacking = λ rev lacks. absurd (lacks_or_has look p o rev lacks (one_youngest (small_texts m) p o w opened) looked.there);
+  whole = λ text there t. whole_agrees disk (Rose old.faults new.faults) look o m old.written new.written looked.result fault looked.writes looked.fault_is text (same_text look o p m text Whole (one_layout (small_texts m) o p opened w) (one_youngest (small_texts m) o p opened w) t);
+  refused = λ text why there t. refused_agrees disk (Rose old.faults new.faults) look o m old.written new.written looked.result fault looked.writes looked.fault_is text why (same_text look o p m text (Refused why) (one_layout (small_texts m) o p opened w) (one_youngest (small_texts m) o p opened w) t);
 }
 
-pub look_decided : (disk write : Type 0) (look : RevisionLook) (told at : Option Trace) (o : Opened) (old new : Option (List ℕ)) (fault : Option Fault) → told ≡ at → IfSome told (λ t. IsOpened (small_texts (files_now t)) o)
-    → IfSome told (λ t. Decides (small_texts (files_now t)) (Ok o)) → LooksInto disk write look o (option_map files_now told) old new fault → LookIsDecided look at fault
-look_decided disk write look told at o old new fault same opened d into = subst (λ x. LookIsDecided look x fault) same (so told opened d into) where
-  so : (x : Option Trace) → IfSome x (λ t. IsOpened (small_texts (files_now t)) o) → IfSome x (λ t. Decides (small_texts (files_now t)) (Ok o)) → LooksInto disk write look o (option_map files_now x) old new fault → LookIsDecided look x fault
-  so None a b c = tt
-  so (Some t) a b c = look_done disk write look (files_now t) o old new fault a b c
+-- ---- a look at an opened repository
 
-pub look_refusal : (look : RevisionLook) (told at : Option Trace) (why : OpenFault) (fault : Fault) → told ≡ at → fault ≡ fault_from_open why → IfSome told (λ t. Decides (small_texts (files_now t)) (Err why)) → LookIsDecided look at (Some fault)
-look_refusal look told at why fault same from d = subst (λ f. LookIsDecided look at (Some f)) (sym from) (subst (λ x. LookIsDecided look x (Some (fault_from_open why))) same (so told d)) where
-  so : (x : Option Trace) → IfSome x (λ t. Decides (small_texts (files_now t)) (Err why)) → LookIsDecided look x (Some (fault_from_open why))
-  so None h = tt
-  so (Some t) h = look_refused look (files_now t) why h
+line_agrees : (line : List ℕ) (old new : SinkScene) (fault : Option Fault) → PrintsLine line old new fault → Agrees None fault
+line_agrees line old new fault (inl (is, adds)) = subst (Agrees None) (sym is) refl
+line_agrees line old new fault (inr (is, rose, part)) = subst (Agrees None) (sym is) (inr (inr (inr (inl refl))))
 
-pub look_outside : (look : RevisionLook) (at : Option Trace) (fault : Fault) → IsOutside fault → LookIsDecided look at (Some fault)
-look_outside look None fault out = tt
-look_outside look (Some t) fault out = record {
-  opening = opening_outside (files_now t) fault out;
-  lacking = λ p rev w lacks. inr out;
-  whole = λ p text w there is. inr out;
-  refused = λ p text f w there is. inr out;
-}
+opened_done : (disk : Type 0) (look : Look) (m : Files) (o p : Opened) (old new : SinkScene) (fault : Option Fault) → IsOpened (small_texts m) o → IsOpened (small_texts m) p → LooksInto disk look o (Some m) old new fault → DecidesOpened look p m fault
+opened_done disk Youngest m o p old new fault opened w into = line_agrees (revision_line o.youngest) old new fault into
+opened_done disk Uuid m o p old new fault opened w into = line_agrees (uuid_line o.uuid) old new fault into
+opened_done disk (AtRevision look) m o p old new fault opened w into = revision_done disk look m o p old new fault opened w into
+
+pub look_decided : (disk : Type 0) (look : Look) (told at : Option Trace) (o : Opened) (old new : SinkScene) (fault : Option Fault) → told ≡ at → IfSome told (λ t. IsOpened (small_texts (files_now t)) o)
+    → IfSome told (λ t. Decides (small_texts (files_now t)) (Ok o)) → LooksInto disk look o (option_map files_now told) old new fault → LookIsDecided look at fault
+look_decided disk look told at o old new fault same opened d into = subst (λ x. LookIsDecided look x fault) same (so told opened d into) where
+  so : (x : Option Trace) → IfSome x (λ t. IsOpened (small_texts (files_now t)) o) → IfSome x (λ t. Decides (small_texts (files_now t)) (Ok o)) → LooksInto disk look o (option_map files_now x) old new fault → LookIsDecided look x fault
+  so None is h into = tt
+  so (Some t) is h into = record {
+    none = λ w. absurd (h.none w);
+    other = λ n w. absurd (h.other n w);
+    linear = λ w. absurd (h.linear w);
+    opened = λ p w. opened_done disk look (files_now t) o p old new fault is w into;
+  }
 
 -- want of memory before a repository is opened
 pub unopened : (told : Option Trace) → DoesNotOpen told opening.Memory

@@ -1,8 +1,7 @@
 pub mod CreationTold
 pub mod FilesDecide
 pub mod LooksPrint
-pub mod PathWords
-pub mod OneRequest
+pub mod TaskDone
 pub mod LookReplies
 pub mod FlatTexts
 pub mod CommandReplies

@@ -1,7 +1,8 @@
 -- The replies of looks, from what a command did and printed.
 use Rattle.std.proofs.Common.{◌≡◌, ◌≤◌, ◌<◌, ℕ, List, [], ◌++◌, inl, inr, refl, sym, ap, subst, ◌∙◌, append-nil, append_assoc, length, arith, ⊎_elim}
-use Rattle.std.specs.Prelude.{Option, Some, None, unwrap_or, Ok, Err, Result, slice_get, is_some, true, codes}
-use Rattle.std.proofs.lemmas.Option.{slice_get_cases, slice_get_past}
+use Rattle.std.specs.Prelude.{Option, Some, None, option_map, unwrap_or, Ok, Err, Result, slice_get, is_some, true, codes}
+use Rattle.std.proofs.lemmas.Option.{none-some, slice_get_cases, slice_get_past}
+use Rattle.fsfs_base.specs.Failures.{Rose}
 use Rattle.fsfs_base.specs.Files.{Files}
 use Rattle.std.specs.FinMap.{get}
 use Rattle.fsfs_base.specs.Paths.{Path}
@@ -22,7 +23,7 @@ use Rattle.fsfs_streams.specs.Output.{AddsFront}
 use Rattle.fsfs_layout.specs.Opening.{SmallTexts, small_texts, IsFsfs, IsOpened, IsNone}
 use Rattle.fsfs_repo.specs.OpenFaults.{OpensBecause}
 use Rattle.fsfs_repo.specs.Deciding.{IsOutside as IsOpenOutside}
-use Rattle.fsfs_create.specs.Creation.{IsUnpublished}
+use Rattle.fsfs_create.specs.Creation.{CreateFails, IsUnpublished, IsNoRepository}
 use Rattle.fsfs_places.specs.declared.create_fault.CreateFault.TheVariants as create
 use Rattle.fsfs_places.specs.declared.place.DiskPlace.{DiskPlace}
 use Rattle.fsfs_places.specs.declared.place.DiskPlace.TheVariants.{Read}
@@ -32,13 +33,15 @@ use Rattle.fsfs_places.specs.declared.open_fault.OpenFault.{OpenFault}
 use Rattle.fsfs_places.specs.declared.open_fault.OpenFault.TheVariants as opening
 use Rattle.fsfs_printed.specs.Agreeing.{IsFront}
 use Rattle.fsfs_printed.specs.Texts.{End, Whole, Refused, Stopped}
-use Rattle.fsfs_top.specs.Answers.{answer_of, shown_line}
-use Rattle.fsfs_top.specs.Command.{Created, Tells}
-use Rattle.fsfs_top.specs.Looks.{TextOf, TextIn, looked_revision, IsFaultOf, PrintsShown, PrintsLook}
+use Rattle.fsfs_cli.specs.Requests.{printed_path}
+use Rattle.fsfs_cli.specs.declared.request.Look.{Look}
+use Rattle.fsfs_cli.specs.declared.request.Look.TheVariants.{Youngest, Uuid, AtRevision}
+use Rattle.fsfs_cli.specs.declared.request.RevisionLook.{RevisionLook}
+use Rattle.fsfs_top.specs.Command.{Created, Tells, answer_of, identifier_of}
+use Rattle.fsfs_top.specs.Looks.{TextOf, TextIn, revision_line, uuid_line, looked_revision, LacksRevision, IsFaultOf, Looked, LooksInto, OpensAs, DoesNotOpen, NotOpened, PrintsLine, PrintsLook}
 use Rattle.fsfs_top.specs.Replies.{Gives}
-use Rattle.fsfs_top.specs.declared.look.RevisionLook.{RevisionLook}
-use Rattle.fsfs_top.specs.declared.output.Shown.{Shown}
-use Rattle.fsfs_layout.proofs.OpeningLemmas.{one_youngest, one_layout}
+use Rattle.fsfs_top.specs.Scenes.{Scene, SinkScene}
+use Rattle.fsfs_layout.proofs.OpeningLemmas.{one_youngest, one_layout, same_uuid}
 use Rattle.fsfs_top.proofs.FilesDecide.{same_text, look_or_memory}
 use Rattle.fsfs_cli.specs.declared.tool.Tool.{Tool}
 
@@ -89,142 +92,173 @@ Fits tool path reply text Stopped = IsFront text reply.output
 
 -- ---- where the outside failed
 
-module _ (status : ℕ) (mount disk write told : Type 0) (tool : Tool) (old new err_old err_new : Option (List ℕ)) where
+module _ (status : ℕ) (tool : Tool) (a b : Scene) (err_old err_new : SinkScene) where
   abbrev pub Given : Reply → Type 0
-  Given = Gives status mount disk write told old new err_old err_new
+  Given = Gives status a b err_old err_new
 
   -- what is known of the status and of the error output
   abbrev pub Ended : Option Fault → Type 0
-  Ended fault = (status ≡ answer_of fault) × Tells err_old err_new told tool fault
+  Ended fault = (status ≡ answer_of fault) × Tells tool err_old err_new fault
 
   moved : (f g : Option Fault) → f ≡ g → Ended f → Ended g
   moved f g e is = subst Ended e is
 
-  mount_failed : (reply : Reply) → Ended (Some MountFault) → mount → new ≡ old → Given reply
-  mount_failed reply is m kept = inr (front_of_nothing old new reply.output kept, inl (is.0, inl m))
+  added_none : b.out ≡ a.out → Adds a.out.written b.out.written []
+  added_none kept = adds_nothing a.out.written b.out.written (ap (λ (s : SinkScene). s.written) kept)
 
-  refused_line : (reply : Reply) (fault : Fault) → reply ≡ refuses (line_of tool fault) (status_of fault) → Ended (Some fault) → Adds old new [] → Given reply
+  front_none : (text : List ℕ) → b.out ≡ a.out → AddsFront a.out.written b.out.written text
+  front_none text kept = front_of_nothing a.out.written b.out.written text (ap (λ (s : SinkScene). s.written) kept)
+
+  mount_failed : (reply : Reply) (fault : Option Fault) → fault ≡ Some MountFault → Ended fault → Rose a.host.mount_faults b.host.mount_faults → b.out ≡ a.out → Given reply
+  mount_failed reply fault is ends rose kept = inr (front_none reply.output kept, inl ((moved fault (Some MountFault) is ends).0, inl rose))
+
+  disk_failed : (reply : Reply) (place : DiskPlace) (fault : Option Fault) → fault ≡ Some (DiskFault place) → Ended fault → Rose a.host.disk_faults b.host.disk_faults → b.out ≡ a.out → Given reply
+  disk_failed reply place fault is ends rose kept = inr (front_none reply.output kept, inl ((moved fault (Some (DiskFault place)) is ends).0, inr (inl rose)))
+
+  starved : (reply : Reply) (fault : Option Fault) → fault ≡ Some Memory → Ended fault → b.out ≡ a.out → Given reply
+  starved reply fault is ends kept = inr (front_none reply.output kept, inr (moved fault (Some Memory) is ends).0)
+
+  refused_line : (reply : Reply) (fault : Fault) → reply ≡ refuses (line_of tool fault) (status_of fault) → Ended (Some fault) → Adds a.out.written b.out.written [] → Given reply
   refused_line reply fault is ends adds = subst Given (sym is) (inl (ends.0, adds, ends.1))
 
-  printed_text : (reply : Reply) (text : List ℕ) → reply ≡ prints text → Ended None → Adds old new text → Given reply
-  printed_text reply text is ends adds = subst Given (sym is) (inl (ends.0, adds, inl (adds_nothing err_old err_new ends.1)))
-
-  -- a repository that opens was not opened: the outside failed
-  outside_opening : (reply : Reply) (at : Option Trace) (why : OpenFault) → Ended (Some (fault_from_open why)) → new ≡ old → OpensBecause disk at why → IsOpenOutside why → Given reply
-  outside_opening reply at opening.NotRepo ends kept because out = absurd out
-  outside_opening reply at (opening.OtherFormat n) ends kept because out = absurd out
-  outside_opening reply at opening.Linear ends kept because out = absurd out
-  outside_opening reply at (opening.Small small) ends kept because out = absurd out
-  outside_opening reply at (opening.DiskFault place) ends kept because out = inr (front_of_nothing old new reply.output kept, inl (ends.0, inr (inl because.0)))
-  outside_opening reply at opening.Memory ends kept because out = inr (front_of_nothing old new reply.output kept, inr ends.0)
-
-  -- there is no repository
-  none_there : (reply : Reply) (t : Trace) (why : OpenFault) → reply ≡ refuses (line_of tool NotRepo) 1 → IsNone (small_texts (files_now t)) → Ended (Some (fault_from_open why)) → new ≡ old → OpensBecause disk (Some t) why → Given reply
-  none_there reply t opening.NotRepo is none ends kept because = refused_line reply NotRepo is ends (adds_nothing old new kept)
-  none_there reply t (opening.OtherFormat n) is none ends kept because = absurd (none_or_some (small_texts (files_now t)) because.0 none because.1)
-  none_there reply t opening.Linear is none ends kept because = absurd (none_or_some (small_texts (files_now t)) because.0 none because.1)
-  none_there reply t (opening.Small small) is none ends kept because = absurd (none_or_some (small_texts (files_now t)) because.0 none because.1)
-  none_there reply t (opening.DiskFault place) is none ends kept because = inr (front_of_nothing old new reply.output kept, inl (ends.0, inr (inl because.0)))
-  none_there reply t opening.Memory is none ends kept because = inr (front_of_nothing old new reply.output kept, inr ends.0)
-
-  pub no_shown : (shown : Shown) (reply : Reply) (t : Trace) (fault : Option Fault) → reply ≡ refuses (line_of tool NotRepo) 1 → IsNone (small_texts (files_now t)) → Ended fault → PrintsShown shown mount disk write (Some t) old new fault → Given reply
-  no_shown shown reply t fault is none ends (inl (inl (e, m, kept))) = mount_failed reply (moved fault (Some MountFault) e ends) m kept
-  no_shown shown reply t fault is none ends (inl (inr (why, e, because, unopened, kept))) = none_there reply t why is none (moved fault (Some (fault_from_open why)) e ends) kept because
-  no_shown shown reply t fault is none ends (inr (o, opens, line)) = absurd (none_or_some (small_texts (files_now t)) opens.format.0 none opens.format.1)
-
-  pub no_look : (look : RevisionLook) (reply : Reply) (t : Trace) (fault : Option Fault) → reply ≡ refuses (line_of tool NotRepo) 1 → IsNone (small_texts (files_now t)) → Ended fault → PrintsLook look mount disk write (Some t) old new fault → Given reply
-  no_look look reply t fault is none ends (inl (inl (e, m, kept))) = mount_failed reply (moved fault (Some MountFault) e ends) m kept
-  no_look look reply t fault is none ends (inl (inr (why, e, because, unopened, kept))) = none_there reply t why is none (moved fault (Some (fault_from_open why)) e ends) kept because
-  no_look look reply t fault is none ends (inr (o, opens, into)) = absurd (none_or_some (small_texts (files_now t)) opens.format.0 none opens.format.1)
+  printed_text : (reply : Reply) (text : List ℕ) → reply ≡ prints text → Ended None → Adds a.out.written b.out.written text → Given reply
+  printed_text reply text is ends adds = subst Given (sym is) (inl (ends.0, adds, inl (adds_nothing err_old.written err_new.written (ap (λ (s : SinkScene). s.written) ends.1))))
 
   -- ---- a creation
 
-  failed_create : (reply : Reply) (place : DiskPlace) (fault : Option Fault) → fault ≡ Some (DiskFault place) → Ended fault → disk → new ≡ old → Given reply
-  failed_create reply place fault is ends rose kept = inr (front_of_nothing old new reply.output kept, inl ((moved fault (Some (DiskFault place)) is ends).0, inr (inl rose)))
-
-  starved : (reply : Reply) (fault : Option Fault) → fault ≡ Some Memory → Ended fault → new ≡ old → Given reply
-  starved reply fault is ends kept = inr (front_of_nothing old new reply.output kept, inr (moved fault (Some Memory) is ends).0)
-
   -- where there is no repository
-  pub given_create : (shard : ℕ) (clock : Option ℕ) (dice : Option (List ℕ)) (t : Trace) (after : Option Trace) (fault : Option Fault) → IsUnpublished (files_now t) → Ended fault → Created mount disk shard clock dice (Some t) after fault → new ≡ old → Given (prints [])
-  given_create shard clock dice t after fault none ends (inl (e, m, same)) kept = mount_failed (prints []) (moved fault (Some MountFault) e ends) m kept
-  given_create shard clock dice t after fault none ends (inr (inl (create.AlreadyRepo, e, (d, there)))) kept = absurd (no_some (get (files_now t) (codes "db/format")) none there.0)
-  given_create shard clock dice t after fault none ends (inr (inl (create.DiskFault place, e, (d, why)))) kept = failed_create (prints []) place fault e ends why.0 kept
-  given_create shard clock dice t after fault none ends (inr (inl (create.Memory, e, (d, why)))) kept = starved (prints []) fault e ends kept
-  given_create shard clock dice t after fault none ends (inr (inr (e, absent, made))) kept = printed_text (prints []) [] refl (moved fault None e ends) (adds_nothing old new kept)
+  pub given_create : (repos : List ℕ) (shard : ℕ) (clock : Option ℕ) (dice : Option (List ℕ)) (t : Trace) (fault : Option Fault) → a.host.disk_at repos ≡ Some t → IsUnpublished (files_now t) → Ended fault → Created repos shard clock dice a.host b.host fault → b.out ≡ a.out
+      → Given (prints [])
+  given_create repos shard clock dice t fault here none ends (inl (e, rose, same)) kept = mount_failed (prints []) fault e ends rose kept
+  given_create repos shard clock dice t fault here none ends (inr (inl (create.AlreadyRepo, e, (d, there)))) kept =
+      absurd (no_some (get (files_now t) (codes "db/format")) none (subst (λ (x : Option Trace). CreateFails (Rose a.host.disk_faults b.host.disk_faults) shard (identifier_of clock dice d) d.moment x (b.host.disk_at repos) create.AlreadyRepo) here there).0)
+  given_create repos shard clock dice t fault here none ends (inr (inl (create.DiskFault place, e, (d, why)))) kept = disk_failed (prints []) place fault e ends why.0 kept
+  given_create repos shard clock dice t fault here none ends (inr (inl (create.Memory, e, (d, why)))) kept = starved (prints []) fault e ends kept
+  given_create repos shard clock dice t fault here none ends (inr (inr (e, absent, made))) kept = printed_text (prints []) [] refl (moved fault None e ends) (added_none kept)
 
   -- and where there is one
-  pub given_again : (shard : ℕ) (clock : Option ℕ) (dice : Option (List ℕ)) (t : Trace) (after : Option Trace) (fault : Option Fault) (reply : Reply) → reply ≡ refuses (line_of tool AlreadyRepo) 1 → (text : List ℕ) → get (files_now t) (codes "db/format") ≡ Some text
-      → Ended fault → Created mount disk shard clock dice (Some t) after fault → new ≡ old → Given reply
-  given_again shard clock dice t after fault reply is text there ends (inl (e, m, same)) kept = mount_failed reply (moved fault (Some MountFault) e ends) m kept
-  given_again shard clock dice t after fault reply is text there ends (inr (inl (create.AlreadyRepo, e, (d, why)))) kept = refused_line reply AlreadyRepo is (moved fault (Some AlreadyRepo) e ends) (adds_nothing old new kept)
-  given_again shard clock dice t after fault reply is text there ends (inr (inl (create.DiskFault place, e, (d, why)))) kept = failed_create reply place fault e ends why.0 kept
-  given_again shard clock dice t after fault reply is text there ends (inr (inl (create.Memory, e, (d, why)))) kept = starved reply fault e ends kept
-  given_again shard clock dice t after fault reply is text there ends (inr (inr (e, absent, made))) kept = absurd (let h = sym absent ∙ there in cc)
+  pub given_again : (repos : List ℕ) (shard : ℕ) (clock : Option ℕ) (dice : Option (List ℕ)) (t : Trace) (fault : Option Fault) (reply : Reply) (text : List ℕ) → a.host.disk_at repos ≡ Some t → get (files_now t) (codes "db/format") ≡ Some text
+      → reply ≡ refuses (line_of tool AlreadyRepo) 1 → Ended fault → Created repos shard clock dice a.host b.host fault → b.out ≡ a.out → Given reply
+  given_again repos shard clock dice t fault reply text here there is ends (inl (e, rose, same)) kept = mount_failed reply fault e ends rose kept
+  given_again repos shard clock dice t fault reply text here there is ends (inr (inl (create.AlreadyRepo, e, (d, why)))) kept = refused_line reply AlreadyRepo is (moved fault (Some AlreadyRepo) e ends) (added_none kept)
+  given_again repos shard clock dice t fault reply text here there is ends (inr (inl (create.DiskFault place, e, (d, why)))) kept = disk_failed reply place fault e ends why.0 kept
+  given_again repos shard clock dice t fault reply text here there is ends (inr (inl (create.Memory, e, (d, why)))) kept = starved reply fault e ends kept
+  given_again repos shard clock dice t fault reply text here there is ends (inr (inr (e, absent, made))) kept = absurd (none-some text (sym (subst IsNoRepository here absent) ∙ there))
 
-  -- ---- a look at the small files
+  -- ---- a repository that was not opened
 
-  pub given_shown : (shown : Shown) (t : Trace) (o : Opened) (text : List ℕ) (fault : Option Fault) → IsOpened (small_texts (files_now t)) o → ((p : Opened) → IsOpened (small_texts (files_now t)) p → shown_line shown p ≡ text)
-      → Ended fault → PrintsShown shown mount disk write (Some t) old new fault → Given (prints text)
-  given_shown shown t o text fault is same ends (inl (inl (e, m, kept))) = mount_failed (prints text) (moved fault (Some MountFault) e ends) m kept
-  given_shown shown t o text fault is same ends (inl (inr (why, e, because, unopened, kept))) =
-      outside_opening (prints text) (Some t) why (moved fault (Some (fault_from_open why)) e ends) kept because (unopened o is)
-  given_shown shown t o text fault is same ends (inr (p, opens, inl (e, adds))) = printed_text (prints text) text refl (moved fault None e ends) (subst (λ (x : List ℕ). Adds old new x) (same p opens) adds)
-  given_shown shown t o text fault is same ends (inr (p, opens, inr (e, rose, front))) =
-      inr (subst (λ (x : List ℕ). AddsFront old new x) (same p opens) front, inl ((moved fault (Some WriteFault) e ends).0, inr (inr rose)))
+  -- one that opens: the outside failed
+  outside_opening : (reply : Reply) (at : Option Trace) (why : OpenFault) (fault : Option Fault) → fault ≡ Some (fault_from_open why) → Ended fault → b.out ≡ a.out → OpensBecause (Rose a.host.disk_faults b.host.disk_faults) at why → IsOpenOutside why → Given reply
+  outside_opening reply at opening.NotRepo fault is ends kept because out = absurd out
+  outside_opening reply at (opening.OtherFormat n) fault is ends kept because out = absurd out
+  outside_opening reply at opening.Linear fault is ends kept because out = absurd out
+  outside_opening reply at (opening.Small small) fault is ends kept because out = absurd out
+  outside_opening reply at (opening.DiskFault place) fault is ends kept because out = disk_failed reply place fault is ends because.0 kept
+  outside_opening reply at opening.Memory fault is ends kept because out = starved reply fault is ends kept
 
-  -- ---- a look at a revision
+  -- none
+  none_there : (reply : Reply) (t : Trace) (why : OpenFault) (fault : Option Fault) → reply ≡ refuses (line_of tool NotRepo) 1 → IsNone (small_texts (files_now t)) → fault ≡ Some (fault_from_open why) → Ended fault → b.out ≡ a.out
+      → OpensBecause (Rose a.host.disk_faults b.host.disk_faults) (Some t) why → Given reply
+  none_there reply t opening.NotRepo fault is none e ends kept because = refused_line reply NotRepo is (moved fault (Some NotRepo) e ends) (added_none kept)
+  none_there reply t (opening.OtherFormat n) fault is none e ends kept because = absurd (none_or_some (small_texts (files_now t)) because.0 none because.1)
+  none_there reply t opening.Linear fault is none e ends kept because = absurd (none_or_some (small_texts (files_now t)) because.0 none because.1)
+  none_there reply t (opening.Small small) fault is none e ends kept because = absurd (none_or_some (small_texts (files_now t)) because.0 none because.1)
+  none_there reply t (opening.DiskFault place) fault is none e ends kept because = disk_failed reply place fault e ends because.0 kept
+  none_there reply t opening.Memory fault is none e ends kept because = starved reply fault e ends kept
 
-  front_of : (path : Path) (reply : Reply) (text : List ℕ) (end : End) → Fits tool path reply text end → IsFront text reply.output
-  front_of path reply text Whole fit = same_front text reply.output (ap (λ (r : Reply). r.output) (sym fit))
-  front_of path reply text (Refused why) fit = (reply.output, ap (λ (t : List ℕ). t ++ reply.output) (sym fit.0))
-  front_of path reply text Stopped fit = fit
+  -- ---- a look
 
-  -- a look that ended so
-  ended_look : (R : List ℕ → End → Type 0) (path : Path) (reply : Reply) (r : Result (Unit {0}) LookError) (fault : Option Fault) → ((text : List ℕ) (end : End) → R text end → Fits tool path reply text end)
-      → Writes R old new r → IsFaultOf disk write path r fault → Ended fault → Given reply
-  ended_look R path reply (Ok done) fault fits (text, t, adds) is ends = printed_text reply text (fits text Whole t) (moved fault None is ends) adds
-  ended_look R path reply (Err (errors.Fault why)) fault fits (text, t, adds) (said, is, from) ends =
-      let fit = fits text (Refused why) t in
-      let Here : Fault → Type 0 = λ f. Ended (Some f) in
-      let here : Here said = moved fault (Some said) is ends in
-      ⊎_elim (λ e. refused_line reply (fault_from_look path why) fit.1 (subst Here e here) (subst (λ (x : List ℕ). Adds old new x) fit.0 adds))
-      (λ e. inr (front_more old new text reply.output (front_of path reply text (Refused why) fit) (whole_front old new text adds), inr (subst Here e here).0)) (look_or_memory path why said from)
-  ended_look R path reply (Err errors.DiskFault) fault fits (text, end, t, front) is ends =
-      inr (front_more old new text reply.output (front_of path reply text end (fits text end t)) front, inl ((moved fault (Some (DiskFault Read)) is.1 ends).0, inr (inl is.0)))
-  ended_look R path reply (Err errors.WriteFault) fault fits (text, end, t, front) is ends =
-      inr (front_more old new text reply.output (front_of path reply text end (fits text end t)) front, inl ((moved fault (Some WriteFault) is.1 ends).0, inr (inr is.0)))
-  ended_look R path reply (Err errors.OutOfMemory) fault fits (text, end, t, front) is ends =
-      inr (front_more old new text reply.output (front_of path reply text end (fits text end t)) front, inr (moved fault (Some Memory) is ends).0)
+  module _ (repos : List ℕ) (t : Trace) (here : a.host.disk_at repos ≡ Some t) (fault : Option Fault) (ends : Ended fault) where
+    caused : (why : OpenFault) → OpensBecause (Rose a.host.disk_faults b.host.disk_faults) (a.host.disk_at repos) why → OpensBecause (Rose a.host.disk_faults b.host.disk_faults) (Some t) why
+    caused why because = subst (λ (x : Option Trace). OpensBecause (Rose a.host.disk_faults b.host.disk_faults) x why) here because
 
-  -- a look at a revision of a history, whose reply is by the revision
-  pub given_look : (look : RevisionLook) (t : Trace) (h : List Revision) (s : StandsFor (files_now t) h) (reply : Revision → Reply) (fault : Option Fault)
-      → ((rev : ℕ) (r : Revision) → rev ≡ asked_revision look.revision h → slice_get h rev ≡ Some r → (text : List ℕ) (end : End) → TextOf look.printed (rev_bytes s.opened.layout (files_now t)) rev look.path text end → Fits tool look.path (reply r) text end)
-      → ((asked youngest : ℕ) → in_revision reply asked youngest None ≡ refuses (line_of tool (NoRev asked youngest)) 1)
-      → Ended fault → PrintsLook look mount disk write (Some t) old new fault → Given (of_revision look.revision h reply)
-  given_look look t h s reply fault fits lacking ends (inl (inl (e, m, kept))) = mount_failed (of_revision look.revision h reply) (moved fault (Some MountFault) e ends) m kept
-  given_look look t h s reply fault fits lacking ends (inl (inr (why, e, because, unopened, kept))) =
-      outside_opening (of_revision look.revision h reply) (Some t) why (moved fault (Some (fault_from_open why)) e ends) kept because (unopened s.opened s.small)
-  given_look look t h s reply fault fits lacking ends (inr (o, opens, inl (rev, lacks, is, kept))) =
-      let last : o.youngest ≡ last_of h = one_youngest (small_texts (files_now t)) o s.opened opens s.small ∙ sym (last_is (files_now t) h s) in
-      let named : asked_revision look.revision h ≡ rev = ap (λ (r : Option ℕ). unwrap_or r (last_of h)) lacks.named in
-      let above : length h ≤ rev = omega (arith, lacks.above, last, s.count, last_is (files_now t) h s) in
-      let none : slice_get h rev ≡ None = slice_get_past h rev above in
-      let same : of_revision look.revision h reply ≡ in_revision reply rev o.youngest None =
-      ap (λ (a : ℕ). in_revision reply a (last_of h) (slice_get h a)) named ∙ ap (in_revision reply rev (last_of h)) none ∙ ap (λ (y : ℕ). in_revision reply rev y None) (sym last) in
-      refused_line (of_revision look.revision h reply) (NoRev rev o.youngest) (same ∙ lacking rev o.youngest) (moved fault (Some (NoRev rev o.youngest)) is ends) (adds_nothing old new kept)
-  given_look look t h s reply fault fits lacking ends (inr (o, opens, inr looked)) =
-      let p = s.opened in
-      let popens = s.small in
-      let youngest = one_youngest (small_texts (files_now t)) p o popens opens in
-      let last = last_is (files_now t) h s in
-      let asked = asked_revision look.revision h in
-      let is : looked_revision look p ≡ asked = ap (λ (y : ℕ). unwrap_or look.revision y) (sym last) in
-      let also : looked_revision look o ≡ looked_revision look p = ap (λ (y : ℕ). unwrap_or look.revision y) (sym youngest) in
-      let there = there_is h asked (omega (arith, looked.there, also, is, youngest, s.count)) in
-      let same : of_revision look.revision h reply ≡ reply there.0 = ap (in_revision reply asked (last_of h)) there.1 in
-      subst Given (sym same) (ended_look (TextIn look o (files_now t)) look.path (reply there.0) looked.result fault
-      (λ text end x. fits asked there.0 refl there.1 text end
-      (subst (λ (n : ℕ). TextOf look.printed (rev_bytes s.opened.layout (files_now t)) n look.path text end) is
-      (same_text look p o (files_now t) text end (one_layout (small_texts (files_now t)) p o popens opens) youngest x)))
-      looked.writes looked.fault_is ends)
+    not_opened : (reply : Reply) (o : Opened) → IsOpened (small_texts (files_now t)) o → NotOpened repos a b fault → Given reply
+    not_opened reply o is (inl (e, rose, kept)) = mount_failed reply fault e ends rose kept
+    not_opened reply o is (inr (why, e, because, unopened, kept)) = outside_opening reply (Some t) why fault e ends kept (caused why because) (subst (λ (x : Option Trace). DoesNotOpen x why) here unopened o is)
+
+    -- where there is no repository
+    pub given_none : (look : Look) (reply : Reply) → reply ≡ refuses (line_of tool NotRepo) 1 → IsNone (small_texts (files_now t)) → PrintsLook repos look a b fault → Given reply
+    given_none look reply is none (inl (inl (e, rose, kept))) = mount_failed reply fault e ends rose kept
+    given_none look reply is none (inl (inr (why, e, because, unopened, kept))) = none_there reply t why fault is none e ends kept (caused why because)
+    given_none look reply is none (inr (o, opens, into)) = let there = subst (λ (x : Option Trace). OpensAs x o) here opens in absurd (none_or_some (small_texts (files_now t)) there.format.0 none there.format.1)
+
+    -- at the small files
+    given_line : (line text : List ℕ) → line ≡ text → PrintsLine line a.out b.out fault → Given (prints text)
+    given_line line text same (inl (e, adds)) = printed_text (prints text) text refl (moved fault None e ends) (subst (λ (x : List ℕ). Adds a.out.written b.out.written x) same adds)
+    given_line line text same (inr (e, rose, front)) = inr (subst (λ (x : List ℕ). AddsFront a.out.written b.out.written x) same front, inl ((moved fault (Some WriteFault) e ends).0, inr (inr rose)))
+
+    pub given_youngest : (o : Opened) (h : List Revision) → IsOpened (small_texts (files_now t)) o → last_of h ≡ o.youngest → PrintsLook repos Youngest a b fault → Given (prints (revision_line (last_of h)))
+    given_youngest o h is last (inl not) = not_opened (prints (revision_line (last_of h))) o is not
+    given_youngest o h is last (inr (p, opens, line)) =
+        let there = subst (λ (x : Option Trace). OpensAs x p) here opens in
+        given_line (revision_line p.youngest) (revision_line (last_of h)) (ap revision_line (one_youngest (small_texts (files_now t)) p o there is ∙ sym last)) line
+
+    pub given_uuid : (o : Opened) → IsOpened (small_texts (files_now t)) o → PrintsLook repos Uuid a b fault → Given (prints (uuid_line o.uuid))
+    given_uuid o is (inl not) = not_opened (prints (uuid_line o.uuid)) o is not
+    given_uuid o is (inr (p, opens, line)) =
+        let there = subst (λ (x : Option Trace). OpensAs x p) here opens in
+        given_line (uuid_line p.uuid) (uuid_line o.uuid) (ap uuid_line (same_uuid (small_texts (files_now t)).uuid p.uuid o.uuid there.behind.uuid is.behind.uuid)) line
+
+    -- at a revision
+
+    front_of : (path : Path) (reply : Reply) (text : List ℕ) (end : End) → Fits tool path reply text end → IsFront text reply.output
+    front_of path reply text Whole fit = same_front text reply.output (ap (λ (r : Reply). r.output) (sym fit))
+    front_of path reply text (Refused why) fit = (reply.output, ap (λ (t : List ℕ). t ++ reply.output) (sym fit.0))
+    front_of path reply text Stopped fit = fit
+
+    -- a look that ended so
+    ended_look : (R : List ℕ → End → Type 0) (path : Path) (reply : Reply) (r : Result (Unit {0}) LookError) → ((text : List ℕ) (end : End) → R text end → Fits tool path reply text end)
+        → Writes R a.out.written b.out.written r → IsFaultOf (Rose a.host.disk_faults b.host.disk_faults) (Rose a.out.faults b.out.faults) path r fault → Given reply
+    ended_look R path reply (Ok done) fits (text, t, adds) is = printed_text reply text (fits text Whole t) (moved fault None is ends) adds
+    ended_look R path reply (Err (errors.Fault why)) fits (text, t, adds) (said, is, from) =
+        let fit = fits text (Refused why) t in
+        let Here : Fault → Type 0 = λ f. Ended (Some f) in
+        let now : Here said = moved fault (Some said) is ends in
+        ⊎_elim (λ e. refused_line reply (fault_from_look path why) fit.1 (subst Here e now) (subst (λ (x : List ℕ). Adds a.out.written b.out.written x) fit.0 adds))
+        (λ e. inr (front_more a.out.written b.out.written text reply.output (front_of path reply text (Refused why) fit) (whole_front a.out.written b.out.written text adds), inr (subst Here e now).0)) (look_or_memory path why said from)
+    ended_look R path reply (Err errors.DiskFault) fits (text, end, t, front) is =
+        inr (front_more a.out.written b.out.written text reply.output (front_of path reply text end (fits text end t)) front, inl ((moved fault (Some (DiskFault Read)) is.1 ends).0, inr (inl is.0)))
+    ended_look R path reply (Err errors.WriteFault) fits (text, end, t, front) is =
+        inr (front_more a.out.written b.out.written text reply.output (front_of path reply text end (fits text end t)) front, inl ((moved fault (Some WriteFault) is.1 ends).0, inr (inr is.0)))
+    ended_look R path reply (Err errors.OutOfMemory) fits (text, end, t, front) is =
+        inr (front_more a.out.written b.out.written text reply.output (front_of path reply text end (fits text end t)) front, inr (moved fault (Some Memory) is ends).0)
+
+    -- of a history, whose reply is by the revision
+    module _ (look : RevisionLook) (h : List Revision) (s : StandsFor (files_now t) h) (reply : Revision → Reply) where
+      given_lacking : (o : Opened) (rev : ℕ) → IsOpened (small_texts (files_now t)) o → LacksRevision look o rev → fault ≡ Some (NoRev rev o.youngest) → b.out ≡ a.out → in_revision reply rev o.youngest None ≡ refuses (line_of tool (NoRev rev o.youngest)) 1
+          → Given (of_revision look.revision h reply)
+      given_lacking o rev opens lacks is kept line =
+          let last : o.youngest ≡ last_of h = one_youngest (small_texts (files_now t)) o s.opened opens s.small ∙ sym (last_is (files_now t) h s) in
+          let named : asked_revision look.revision h ≡ rev = ap (λ (r : Option ℕ). unwrap_or r (last_of h)) lacks.named in
+          let above : length h ≤ rev = omega (arith, lacks.above, last, s.count, last_is (files_now t) h s) in
+          let none : slice_get h rev ≡ None = slice_get_past h rev above in
+          let same : of_revision look.revision h reply ≡ in_revision reply rev o.youngest None =
+          ap (λ (a : ℕ). in_revision reply a (last_of h) (slice_get h a)) named ∙ ap (in_revision reply rev (last_of h)) none ∙ ap (λ (y : ℕ). in_revision reply rev y None) (sym last) in
+          refused_line (of_revision look.revision h reply) (NoRev rev o.youngest) (same ∙ line) (moved fault (Some (NoRev rev o.youngest)) is ends) (added_none kept)
+
+      given_looked : (o : Opened) → IsOpened (small_texts (files_now t)) o → Looked (Rose a.host.disk_faults b.host.disk_faults) look o (Some (files_now t)) a.out b.out fault
+          → ((rev : ℕ) (r : Revision) → rev ≡ asked_revision look.revision h → slice_get h rev ≡ Some r → (text : List ℕ) (end : End) → TextOf look.printed (rev_bytes s.opened.layout (files_now t)) rev text end → Fits tool (printed_path look.printed) (reply r) text end)
+          → Given (of_revision look.revision h reply)
+      given_looked o opens looked fits =
+          let p = s.opened in
+          let youngest = one_youngest (small_texts (files_now t)) p o s.small opens in
+          let last = last_is (files_now t) h s in
+          let asked = asked_revision look.revision h in
+          let is : looked_revision look p ≡ asked = ap (λ (y : ℕ). unwrap_or look.revision y) (sym last) in
+          let also : looked_revision look o ≡ looked_revision look p = ap (λ (y : ℕ). unwrap_or look.revision y) (sym youngest) in
+          let there = there_is h asked (omega (arith, looked.there, also, is, youngest, s.count)) in
+          let same : of_revision look.revision h reply ≡ reply there.0 = ap (in_revision reply asked (last_of h)) there.1 in
+          subst Given (sym same) (ended_look (TextIn look o (files_now t)) (printed_path look.printed) (reply there.0) looked.result
+          (λ text end x. fits asked there.0 refl there.1 text end
+          (subst (λ (n : ℕ). TextOf look.printed (rev_bytes s.opened.layout (files_now t)) n text end) is
+          (same_text look p o (files_now t) text end (one_layout (small_texts (files_now t)) p o s.small opens) youngest x)))
+          looked.writes looked.fault_is)
+
+      pub given_look : ((rev : ℕ) (r : Revision) → rev ≡ asked_revision look.revision h → slice_get h rev ≡ Some r → (text : List ℕ) (end : End) → TextOf look.printed (rev_bytes s.opened.layout (files_now t)) rev text end
+          → Fits tool (printed_path look.printed) (reply r) text end)
+          → ((asked youngest : ℕ) → in_revision reply asked youngest None ≡ refuses (line_of tool (NoRev asked youngest)) 1) → PrintsLook repos (AtRevision look) a b fault → Given (of_revision look.revision h reply)
+      given_look fits lacking (inl not) = not_opened (of_revision look.revision h reply) s.opened s.small not
+      given_look fits lacking (inr (o, opens, into)) =
+          let there = subst (λ (x : Option Trace). OpensAs x o) here opens in
+          ⊎_elim (λ lacks. given_lacking o lacks.0 there lacks.1 lacks.2 lacks.3 (lacking lacks.0 o.youngest)) (λ looked. given_looked o there looked fits)
+          (subst (λ (x : Option Trace). LooksInto (Rose a.host.disk_faults b.host.disk_faults) (AtRevision look) o (option_map files_now x) a.out b.out fault) here into)

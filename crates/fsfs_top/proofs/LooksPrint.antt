@@ -19,8 +19,12 @@ use Rattle.fsfs_repo.specs.Deciding.{Decides}
 use Rattle.fsfs_layout.specs.declared.opened.Opened.{Opened}
 use Rattle.fsfs_places.specs.declared.open_fault.OpenFault.{OpenFault}
 use Rattle.fsfs_places.specs.declared.open_fault.OpenFault.TheVariants as opening
-use Rattle.fsfs_top.specs.Looks.{TextOf, TextIn, looked_revision, IsFaultAt, IsFaultOf, LooksInto, NotOpened, PrintsLook}
-use Rattle.fsfs_top.specs.declared.look.RevisionLook.{RevisionLook}
+use Rattle.fsfs_cli.specs.Requests.{printed_path}
+use Rattle.fsfs_cli.specs.declared.request.Look.{Look}
+use Rattle.fsfs_cli.specs.declared.request.Look.TheVariants.{Youngest, Uuid, AtRevision}
+use Rattle.fsfs_cli.specs.declared.request.RevisionLook.{RevisionLook}
+use Rattle.fsfs_top.specs.Looks.{TextOf, TextIn, looked_revision, IsFaultAt, IsFaultOf, LooksInto, OpensAs, DoesNotOpen, NotOpened, PrintsLook}
+use Rattle.fsfs_top.specs.Scenes.{Scene, SinkScene}
 use Rattle.fsfs_rev_file.proofs.FloorLemmas.{floor_is}
 use Rattle.fsfs_top.proofs.FilesDecide.{does_not_open}
 
@@ -30,12 +34,12 @@ use Rattle.fsfs_top.proofs.FilesDecide.{does_not_open}
 pub into_writes : {Below : Type 0} (trace : Option Trace) (look : RevisionLook) (o : Opened) (rev : ℕ) (telling : Telling Below) (old new : Option (List ℕ)) (r : Result (Unit {0}) LookError)
     → IfSome (option_map files_now trace) (λ m. IsOpened (small_texts m) o)
     → ((t : Trace) → trace ≡ Some t → floor_in o.layout (files_now t) ≡ Ok o.min_unpacked_rev → TellsAll o.youngest o.layout (files_now t) telling)
-    → rev ≡ looked_revision look o → rev ≤ o.youngest → ((bytes : RevisionBytes) → Knows telling.revs rev bytes → Writes (TextOf look.printed bytes rev look.path) old new r)
+    → rev ≡ looked_revision look o → rev ≤ o.youngest → ((bytes : RevisionBytes) → Knows telling.revs rev bytes → Writes (TextOf look.printed bytes rev) old new r)
     → IfSome (option_map files_now trace) (λ m. Writes (TextIn look o m) old new r)
 into_writes None look o rev telling old new r opened tells is le writes = tt
 into_writes (Some t) look o rev telling old new r opened tells is le writes =
     let all = tells t refl (floor_is o.layout o.min_unpacked_rev (files_now t) opened.behind.min_unpacked_rev) in
-    subst (λ (n : ℕ). Writes (TextOf look.printed (rev_bytes o.layout (files_now t)) n look.path) old new r) is
+    subst (λ (n : ℕ). Writes (TextOf look.printed (rev_bytes o.layout (files_now t)) n) old new r) is
     (writes (rev_bytes o.layout (files_now t)) (λ q below. all.revs q (omega (arith, below, le))))
 
 pub fault_with_cause : (disk write : Type 0) (path : Path) (e : LookError) (fault : Fault) → IsFaultAt path e fault → IfDisk e disk → IfWrite e write → IsFaultOf disk write path (Err e) (Some fault)
@@ -57,20 +61,27 @@ counted_fault rose disk write path (Err errors.DiskFault) fault counted is = (co
 counted_fault rose disk write path (Err errors.WriteFault) fault counted is = is
 counted_fault rose disk write path (Err errors.OutOfMemory) fault counted is = is
 
-pub counted_look : (rose disk write : Type 0) (look : RevisionLook) (o : Opened) (files : Option Files) (old new : Option (List ℕ)) (fault : Option Fault) → (rose → disk) → LooksInto rose write look o files old new fault → LooksInto disk write look o files old new fault
-counted_look rose disk write look o files old new fault counted (inl lacks) = inl lacks
-counted_look rose disk write look o files old new fault counted (inr looked) =
-    inr (record { there = looked.there; result = looked.result; writes = looked.writes; fault_is = counted_fault rose disk write look.path looked.result fault counted looked.fault_is })
+counted_look : (rose disk : Type 0) (look : Look) (o : Opened) (files : Option Files) (old new : SinkScene) (fault : Option Fault) → (rose → disk) → LooksInto rose look o files old new fault → LooksInto disk look o files old new fault
+counted_look rose disk Youngest o files old new fault counted into = into
+counted_look rose disk Uuid o files old new fault counted into = into
+counted_look rose disk (AtRevision look) o files old new fault counted (inl lacks) = inl lacks
+counted_look rose disk (AtRevision look) o files old new fault counted (inr looked) = inr (record {
+  there = looked.there;
+  result = looked.result;
+  writes = looked.writes;
+  fault_is = counted_fault rose disk (Rose old.faults new.faults) (printed_path look.printed) looked.result fault counted looked.fault_is;
+})
 
 -- a look at an opened repository, of the disk as the host had it
-pub look_now : (rose disk write : Type 0) (look : RevisionLook) (o : Opened) (told mid : Option Trace) (old new : Option (List ℕ)) (fault : Option Fault) → option_map files_now mid ≡ option_map files_now told → (rose → disk)
-    → LooksInto rose write look o (option_map files_now mid) old new fault → LooksInto disk write look o (option_map files_now told) old new fault
-look_now rose disk write look o told mid old new fault same counted into =
-    subst (λ (m : Option Files). LooksInto disk write look o m old new fault) same (counted_look rose disk write look o (option_map files_now mid) old new fault counted into)
+pub look_now : (rose disk : Type 0) (look : Look) (o : Opened) (told mid : Option Trace) (old new : SinkScene) (fault : Option Fault) → option_map files_now mid ≡ option_map files_now told → (rose → disk)
+    → LooksInto rose look o (option_map files_now mid) old new fault → LooksInto disk look o (option_map files_now told) old new fault
+look_now rose disk look o told mid old new fault same counted into =
+    subst (λ (m : Option Files). LooksInto disk look o m old new fault) same (counted_look rose disk look o (option_map files_now mid) old new fault counted into)
 
-pub look_printed : (mount disk write : Type 0) (look : RevisionLook) (o : Opened) (told at : Option Trace) (old new : Option (List ℕ)) (fault : Option Fault) → told ≡ at → IfSome told (λ t. IsOpened (small_texts (files_now t)) o)
-    → LooksInto disk write look o (option_map files_now told) old new fault → PrintsLook look mount disk write at old new fault
-look_printed mount disk write look o told at old new fault same opened into = subst (λ (x : Option Trace). PrintsLook look mount disk write x old new fault) same (inr (o, opened, into))
+pub look_printed : (repos : List ℕ) (look : Look) (a b : Scene) (o : Opened) (told : Option Trace) (fault : Option Fault) → told ≡ a.host.disk_at repos → IfSome told (λ t. IsOpened (small_texts (files_now t)) o)
+    → LooksInto (Rose a.host.disk_faults b.host.disk_faults) look o (option_map files_now told) a.out b.out fault → PrintsLook repos look a b fault
+look_printed repos look a b o told fault same opened into =
+    inr (o, subst (λ (x : Option Trace). OpensAs x o) same opened, subst (λ (x : Option Trace). LooksInto (Rose a.host.disk_faults b.host.disk_faults) look o (option_map files_now x) a.out b.out fault) same into)
 
 -- ---- a repository that was not opened
 
@@ -82,8 +93,13 @@ counted_cause rose disk told (opening.Small small) counted h = h
 counted_cause rose disk told (opening.DiskFault place) counted h = (counted h.0, h.1)
 counted_cause rose disk told opening.Memory counted h = h
 
-pub open_refused : (mount disk rose : Type 0) (told at : Option Trace) (old new : Option (List ℕ)) (why : OpenFault) (fault : Fault) → told ≡ at → fault ≡ fault_from_open why → (rose → disk) → new ≡ old → OpensBecause rose told why
-    → IfSome told (λ t. Decides (small_texts (files_now t)) (Err why)) → NotOpened mount disk at old new (Some fault)
-open_refused mount disk rose told at old new why fault same from counted kept because decides =
-    subst (λ (x : Option Trace). NotOpened mount disk x old new (Some fault)) same
-    (inr (why, ap (λ (f : Fault). Some f) from, counted_cause rose disk told why counted because, does_not_open told why decides, kept))
+pub open_refused : (repos : List ℕ) (a b : Scene) (rose : Type 0) (told : Option Trace) (why : OpenFault) (fault : Fault) → told ≡ a.host.disk_at repos → fault ≡ fault_from_open why → (rose → Rose a.host.disk_faults b.host.disk_faults) → b.out ≡ a.out
+    → OpensBecause rose told why → IfSome told (λ t. Decides (small_texts (files_now t)) (Err why)) → NotOpened repos a b (Some fault)
+open_refused repos a b rose told why fault same from counted kept because decides =
+    inr (
+      why,
+      ap (λ (f : Fault). Some f) from,
+      subst (λ (x : Option Trace). OpensBecause (Rose a.host.disk_faults b.host.disk_faults) x why) same (counted_cause rose (Rose a.host.disk_faults b.host.disk_faults) told why counted because),
+      subst (λ (x : Option Trace). DoesNotOpen x why) same (does_not_open told why decides),
+      kept,
+    )

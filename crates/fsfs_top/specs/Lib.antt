@@ -1,4 +1,4 @@
-pub mod Answers
+pub mod Scenes
 pub mod Looks
 pub mod Command
 pub mod Replies

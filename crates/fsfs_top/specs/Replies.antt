@@ -1,68 +1,106 @@
 -- The replies of commands, as the flat model answers them.
-use Rattle.std.specs.Prelude.{◌≡◌, ◌⊎◌, ℕ, Bool, false, List, [], Option, Some, None, IfSome}
+use Rattle.std.specs.Prelude.{◌≡◌, ◌⊎◌, ℕ, List, Option, Some, None, IfSome, option_map}
+use Rattle.fsfs_base.specs.Failures.{Rose}
+use Rattle.fsfs_base.specs.Files.{Files}
 use Rattle.fsfs_base.specs.Paths.{Path}
+use Rattle.fsfs_book.specs.Told.{RevisionBytes}
 use Rattle.fsfs_tree.specs.Revisions.{Revision}
 use Rattle.fsfs_tree.specs.Dated.{last_of}
 use Rattle.fsfs_fields.specs.Dates.{IsDateAt}
 use Rattle.fsfs_disk.specs.Trace.{Trace, files_now}
 use Rattle.fsfs_streams.specs.Streams.{Adds}
+use Rattle.fsfs_streams.specs.Output.{AddsFront}
 use Rattle.fsfs_create.specs.Creation.{IsUnpublished}
 use Rattle.fsfs_rev_file.specs.RevBytes.{rev_bytes}
-use Rattle.fsfs_answers.specs.Answers.{Reply, Answer, UuidAnswer, asked_revision}
+use Rattle.fsfs_answers.specs.Answers.{Reply, Answer, UuidAnswer, asked_revision, new_history}
 use Rattle.fsfs_answers.specs.Answers as model
-use Rattle.fsfs_streams.specs.Output.{AddsFront}
 use Rattle.fsfs_layout.specs.Opening.{small_texts, IsOpened, IsNone}
 use Rattle.fsfs_layout.specs.declared.opened.Opened.{Opened}
 use Rattle.fsfs_stands.specs.Files.{StandsFor}
-use Rattle.fsfs_stands.specs.NewRepository.{HoldsNew}
 use Rattle.fsfs_printed.specs.ByTree.{AreShownIds}
-use Rattle.fsfs_top.specs.Command.{AsksCreate, AsksShown, AsksPrinted}
-use Rattle.fsfs_top.specs.declared.look.Printed.TheVariants.{Tree, Text}
-use Rattle.fsfs_top.specs.declared.output.Shown.TheVariants.{Youngest, Uuid}
+use Rattle.fsfs_cli.specs.Readings.{Asks}
+use Rattle.fsfs_cli.specs.declared.request.Look.{Look as SomeLook}
+use Rattle.fsfs_cli.specs.declared.request.Look.TheVariants.{Youngest, Uuid, AtRevision}
+use Rattle.fsfs_cli.specs.declared.request.Printed.{Printed}
+use Rattle.fsfs_cli.specs.declared.request.Printed.TheVariants.{Tree, Text}
+use Rattle.fsfs_cli.specs.declared.request.Task.{Task}
+use Rattle.fsfs_cli.specs.declared.request.Task.TheVariants.{Create, Look}
 use Rattle.fsfs_cli.specs.declared.tool.Tool.{Tool}
+use Rattle.fsfs_top.specs.Scenes.{Scene, SinkScene}
+
+-- ---- how a reply is given
 
 -- the whole of this reply was given; where the error output failed, a first part of its line
-abbrev pub GivesWhole : Reply → ℕ → Type 0 → Option (List ℕ) → Option (List ℕ) → Option (List ℕ) → Option (List ℕ) → Type 0
-GivesWhole reply status told old new err_old err_new =
-    (status ≡ reply.status) × Adds old new reply.output × (Adds err_old err_new reply.line ⊎ (told × AddsFront err_old err_new reply.line))
+abbrev pub GivesWhole : Reply → ℕ → SinkScene → SinkScene → SinkScene → SinkScene → Type 0
+GivesWhole reply status old new err_old err_new =
+    (status ≡ reply.status) × Adds old.written new.written reply.output
+    × (Adds err_old.written err_new.written reply.line ⊎ (Rose err_old.faults err_new.faults × AddsFront err_old.written err_new.written reply.line))
 
--- Or a first part of its output: the outside failed, with status 4, or memory was wanting, with status 5. `mount`, `disk`, `write` and `told` say that the counts of the
--- host, of the output and of the error output rose.
-abbrev pub Gives : ℕ → Type 0 → Type 0 → Type 0 → Type 0 → Option (List ℕ) → Option (List ℕ) → Option (List ℕ) → Option (List ℕ) → Reply → Type 0
-Gives status mount disk write told old new err_old err_new reply =
-    GivesWhole reply status told old new err_old err_new
-    ⊎ (AddsFront old new reply.output × (((status ≡ 4) × (mount ⊎ (disk ⊎ write))) ⊎ (status ≡ 5)))
+-- the host or the output failed
+abbrev pub OutsideFailed : Scene → Scene → Type 0
+OutsideFailed a b = Rose a.host.mount_faults b.host.mount_faults ⊎ (Rose a.host.disk_faults b.host.disk_faults ⊎ Rose a.out.faults b.out.faults)
 
--- the replies of creations, and of looks at repositories, of the files that the disks of paths have
+-- or a first part of its output: the outside failed, with status 4, or memory was wanting, with status 5
+abbrev pub Gives : ℕ → Scene → Scene → SinkScene → SinkScene → Reply → Type 0
+Gives status a b err_old err_new reply =
+    GivesWhole reply status a.out b.out err_old err_new
+    ⊎ (AddsFront a.out.written b.out.written reply.output × (((status ≡ 4) × OutsideFailed a b) ⊎ (status ≡ 5)))
+
+-- ---- the flat model's replies
+
+-- what a repository is to the flat model: its history, and its identifier, which no history tells
+pub record Repository : Type 0 where
+  pub history : List Revision
+  pub identifier : List ℕ
+
+-- the model's command, with what it shows behind the name of each node of a tree
+abbrev pub look_command : Option ℕ → Printed → (Path → List ℕ) → model.Command
+look_command revision (Tree show_ids path) shown = model.Tree revision shown path
+look_command revision (Text path) shown = model.Cat revision path
+
+-- the reply to a task where the files stand for this repository, or for none
+abbrev pub answer_to : Task → (Path → List ℕ) → Option Repository → Reply
+answer_to (Create shard) shown r = Answer model.Create (option_map (λ (x : Repository). x.history) r)
+answer_to (Look Youngest) shown r = Answer model.Youngest (option_map (λ (x : Repository). x.history) r)
+answer_to (Look Uuid) shown r = UuidAnswer (option_map (λ (x : Repository). x.identifier) r)
+answer_to (Look (AtRevision look)) shown r = Answer (look_command look.revision look.printed shown) (option_map (λ (x : Repository). x.history) r)
+
+-- there is no repository: to a creation where there is no `db/format`, to a look also where it is of another type
+abbrev pub HasNone : Task → Files → Type 0
+HasNone (Create shard) files = IsUnpublished files
+HasNone (Look look) files = IsNone (small_texts files)
+
+-- what is shown are the ids of the node-revisions at the paths, or nothing
+abbrev pub ShowsIds : Printed → RevisionBytes → ℕ → (Path → List ℕ) → Type 0
+ShowsIds (Tree show_ids path) bytes rev shown = AreShownIds bytes rev show_ids shown
+ShowsIds (Text path) bytes rev shown = Unit {0}
+
+abbrev pub AreIds : Task → RevisionBytes → List Revision → (Path → List ℕ) → Type 0
+AreIds (Create shard) bytes h shown = Unit {0}
+AreIds (Look Youngest) bytes h shown = Unit {0}
+AreIds (Look Uuid) bytes h shown = Unit {0}
+AreIds (Look (AtRevision look)) bytes h shown = ShowsIds look.printed bytes (asked_revision look.revision h) shown
+
+-- the look is answered by the small files alone
+abbrev pub IsOfSmallFiles : SomeLook → Type 0
+IsOfSmallFiles Youngest = Unit {0}
+IsOfSmallFiles Uuid = Unit {0}
+IsOfSmallFiles (AtRevision look) = ⊥
+
+-- The replies to what the words ask for, of the files that the disks of paths have. (The files of a new repository stand for the history of revision 0:
+-- that is the law `new_repositories_stand`.)
 pub record Replies (tool : Tool) (words : List (List ℕ)) (at : List ℕ → Option Trace) (Given : Reply → Type 0) : Type 0 where
-  -- of a creation where there is no repository, and where one stands for a history
-  pub create : (repos : List ℕ) (shard : ℕ) (t : Trace) → AsksCreate tool words repos shard → at repos ≡ Some t → IsUnpublished (files_now t) → Given (Answer model.Create None)
-  pub create_again : (repos : List ℕ) (shard : ℕ) (t : Trace) (h : List Revision) → AsksCreate tool words repos shard → at repos ≡ Some t → StandsFor (files_now t) h → Given (Answer model.Create (Some h))
-  -- of any history that ends with the revision that the files name
-  pub youngest : (repos : List ℕ) (t : Trace) (o : Opened) (h : List Revision) → AsksShown Youngest tool words repos → at repos ≡ Some t → IsOpened (small_texts (files_now t)) o → last_of h ≡ o.youngest
-      → Given (Answer model.Youngest (Some h))
-  -- of the identifier that the files have
-  pub uuid : (repos : List ℕ) (t : Trace) (o : Opened) → AsksShown Uuid tool words repos → at repos ≡ Some t → IsOpened (small_texts (files_now t)) o → Given (UuidAnswer (Some o.uuid))
-  -- of the history that the files stand for; the ids that are shown are those of the node-revisions at the paths
-  pub tree : (repos : List ℕ) (t : Trace) (h : List Revision) (revision : Option ℕ) (ids : Bool) (path : Path) (shown : Path → List ℕ) → AsksPrinted (Tree ids) revision path tool words repos → at repos ≡ Some t
-      → (stands : StandsFor (files_now t) h) → AreShownIds (rev_bytes stands.opened.layout (files_now t)) (asked_revision revision h) ids shown → Given (Answer (model.Tree revision shown path) (Some h))
-  pub cat : (repos : List ℕ) (t : Trace) (h : List Revision) (revision : Option ℕ) (path : Path) → AsksPrinted Text revision path tool words repos → at repos ≡ Some t
-      → StandsFor (files_now t) h → Given (Answer (model.Cat revision path) (Some h))
   -- where there is no repository
-  pub no_youngest : (repos : List ℕ) (t : Trace) → AsksShown Youngest tool words repos → at repos ≡ Some t → IsNone (small_texts (files_now t)) → Given (Answer model.Youngest None)
-  pub no_uuid : (repos : List ℕ) (t : Trace) → AsksShown Uuid tool words repos → at repos ≡ Some t → IsNone (small_texts (files_now t)) → Given (UuidAnswer None)
-  pub no_tree : (repos : List ℕ) (t : Trace) (revision : Option ℕ) (ids : Bool) (path : Path) (shown : Path → List ℕ) → AsksPrinted (Tree ids) revision path tool words repos → at repos ≡ Some t
-      → IsNone (small_texts (files_now t)) → Given (Answer (model.Tree revision shown path) None)
-  pub no_cat : (repos : List ℕ) (t : Trace) (revision : Option ℕ) (path : Path) → AsksPrinted Text revision path tool words repos → at repos ≡ Some t
-      → IsNone (small_texts (files_now t)) → Given (Answer (model.Cat revision path) None)
-  -- of the files of a new repository, whatever its date, its identifier and the size of a shard
-  pub new_youngest : (repos : List ℕ) (t : Trace) (date : List ℕ) → AsksShown Youngest tool words repos → at repos ≡ Some t → HoldsNew (files_now t) date → Given (Answer model.Youngest (Some (model.new_history date)))
-  pub new_tree : (repos : List ℕ) (t : Trace) (date : List ℕ) (revision : Option ℕ) (path : Path) → AsksPrinted (Tree false) revision path tool words repos → at repos ≡ Some t → HoldsNew (files_now t) date
-      → Given (Answer (model.Tree revision (λ p. []) path) (Some (model.new_history date)))
-  pub new_uuid : (repos : List ℕ) (t : Trace) (date : List ℕ) → AsksShown Uuid tool words repos → at repos ≡ Some t → (new : HoldsNew (files_now t) date) → Given (UuidAnswer (Some new.identifier))
+  pub none : (repos : List ℕ) (task : Task) (t : Trace) (shown : Path → List ℕ) → Asks tool words repos task → at repos ≡ Some t → HasNone task (files_now t) → Given (answer_to task shown None)
+  -- where the files stand for a history
+  pub stands : (repos : List ℕ) (task : Task) (t : Trace) (h : List Revision) (shown : Path → List ℕ) → Asks tool words repos task → at repos ≡ Some t → (s : StandsFor (files_now t) h)
+      → AreIds task (rev_bytes s.opened.layout (files_now t)) h shown → Given (answer_to task shown (Some (record { history = h; identifier = s.opened.uuid })))
+  -- and of the small files wherever they open: of any history that ends with the revision that they name
+  pub opened : (repos : List ℕ) (look : SomeLook) (t : Trace) (o : Opened) (h : List Revision) (shown : Path → List ℕ) → Asks tool words repos (Look look) → at repos ≡ Some t → IsOfSmallFiles look → IsOpened (small_texts (files_now t)) o
+      → last_of h ≡ o.youngest → Given (answer_to (Look look) shown (Some (record { history = h; identifier = o.uuid })))
 
 -- the files at the path where a repository is made stand for the history of revision 0, with the date of the moment that the clock gave, where it tells
 abbrev pub MadeStands : Tool → List (List ℕ) → Option ℕ → (List ℕ → Option Trace) → Type 0
 MadeStands tool words clock at =
-    (repos : List ℕ) (shard : ℕ) (t : Trace) → AsksCreate tool words repos shard → at repos ≡ Some t
-    → (moment : ℕ) × (date : List ℕ) × IfSome clock (λ c. moment ≡ c) × IsDateAt moment date × StandsFor (files_now t) (model.new_history date)
+    (repos : List ℕ) (shard : ℕ) (t : Trace) → Asks tool words repos (Create shard) → at repos ≡ Some t
+    → (moment : ℕ) × (date : List ℕ) × IfSome clock (λ c. moment ≡ c) × IsDateAt moment date × StandsFor (files_now t) (new_history date)

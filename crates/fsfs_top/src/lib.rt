@@ -7,6 +7,5 @@ mod top;
 
 pub use fsfs_cli::Tool;
 pub use fsfs_faults::Fault;
-pub use look::{Printed, RevisionLook};
-pub use output::{Shown, print_revision, print_shown, print_uuid};
+pub use output::{print_revision, print_uuid};
 pub use top::command;

@@ -1,5 +1,5 @@
-// Looks at a revision of a repository.
-ghost use Rattle.std.specs.Prelude.{◌≡◌, ◌≢◌, ◌≤◌, ◌<◌, ◌⊎◌, ℕ, List, Some, IfOk, IfErr, IfSome, option_map};
+// Looks at a repository.
+ghost use Rattle.std.specs.Prelude.{◌≡◌, ◌≢◌, ◌≤◌, ◌<◌, ◌⊎◌, ℕ, List, Some, IfOk, IfErr, IfSome, MatchOption, option_map};
 ghost use Rattle.fsfs_book.specs.Told.{RevisionBytes, Knows, Keeps};
 ghost use Rattle.fsfs_base.specs.Failures.{Rose};
 ghost use Rattle.fsfs_disk.specs.Trace.{files_now};
@@ -7,10 +7,14 @@ ghost use Rattle.fsfs_faults.specs.declared.fault.Fault.TheVariants as faults;
 ghost use Rattle.fsfs_look.specs.Written.{Writes, HasDiskCause, HasSinkCause};
 ghost use Rattle.fsfs_layout.specs.Opening.{small_texts, IsOpened};
 ghost use Rattle.fsfs_top.specs.Command.{fault_of};
+ghost use Rattle.fsfs_cli.specs.declared.request.Look.TheVariants.{AtRevision};
 ghost use Rattle.fsfs_top.specs.Looks.{TextOf, LacksRevision, LooksInto, PrintsLook, LookIsDecided, looked_revision, IsFaultAt};
+ghost use Rattle.fsfs_top.specs.Scenes.{scene, sink_scene};
 
+use crate::output::{line_fault, print_revision, print_uuid};
 use fsfs_base::{FsPath, RevNum};
 use fsfs_book::Book;
+use fsfs_cli::{Look, Printed, RevisionLook};
 use fsfs_disk::{Disk, Host};
 use fsfs_faults::Fault;
 use fsfs_fetch::{disk_of, over_disk};
@@ -21,23 +25,15 @@ use fsfs_repo::open;
 use fsfs_streams::Sink;
 use std::alloc::Global;
 
-/// What is printed of a revision.
-#[derive(Clone, Copy, Debug, PartialEq, Eq)]
-pub enum Printed {
-    /// The nodes at and below the path, with their ids or without.
-    Tree { show_ids: bool },
-    /// The text of the file at the path.
-    Text,
-}
-
-/// A look at a revision.
-#[derive(Debug, Drop)]
-pub struct RevisionLook {
-    pub printed: Printed,
-    /// The revision; none for the youngest.
-    pub revision: Option<u64>,
-    /// The path in the repository.
-    pub path: FsPath,
+// The revision of this number, if there is one.
+fn up_to(youngest: RevNum, number: u64) -> Option<RevNum>
+    ensures { MatchOption result (youngest < number) (λ rev. (rev ≡ number) × (rev ≤ youngest)) }
+{
+    if number <= youngest.get() as u64 {
+        RevNum::new(number)
+    } else {
+        None
+    }
 }
 
 // The revision that is looked at.
@@ -47,9 +43,9 @@ fn revision_of(look: &RevisionLook, opened: &Opened) -> Result<RevNum, Fault>
 {
     match look.revision {
         None => Ok(opened.youngest),
-        Some(asked) => match RevNum::new(asked) {
-            Some(rev) if rev <= opened.youngest => Ok(rev),
-            _ => Err(Fault::NoRev {
+        Some(asked) => match up_to(opened.youngest, asked) {
+            Some(rev) => Ok(rev),
+            None => Err(Fault::NoRev {
                 asked,
                 youngest: opened.youngest,
             }),
@@ -62,17 +58,17 @@ fn print_look<B: Book, O: Sink>(
     alloc: Global,
     book: &mut B,
     rev: RevNum,
-    look: &RevisionLook,
+    printed: &Printed,
     out: &mut O,
 ) -> Result<(), LookError>
-    ensures told { (bytes : RevisionBytes) → Knows (B.told book.old).revs rev bytes → Writes (TextOf look.now.printed bytes rev look.now.path) (O.written out.old) (O.written out.new) result }
+    ensures told { (bytes : RevisionBytes) → Knows (B.told book.old).revs rev bytes → Writes (TextOf printed.now bytes rev) (O.written out.old) (O.written out.new) result }
     ensures kept { Keeps (B.told book.old) (B.told book.new) }
     ensures cause { HasDiskCause (B.faults book.old) (B.faults book.new) result }
     ensures sink { HasSinkCause (O.faults out.old) (O.faults out.new) result }
 {
-    match look.printed {
-        Printed::Tree { show_ids } => tree_text(alloc, book, rev, &look.path, show_ids, out),
-        Printed::Text => cat(alloc, book, rev, &look.path, out),
+    match printed {
+        Printed::Tree { show_ids, path } => tree_text(alloc, book, rev, path, *show_ids, out),
+        Printed::Text { path } => cat(alloc, book, rev, path, out),
     }
 }
 
@@ -88,8 +84,8 @@ fn fault_at(alloc: Global, path: &FsPath, error: LookError) -> Fault
     }
 }
 
-// Prints of an opened repository what is looked at, and gives its disk back.
-fn look_into<D: Disk, O: Sink>(
+// Prints a revision of an opened repository, and gives its disk back.
+fn look_at_revision<D: Disk, O: Sink>(
     alloc: Global,
     disk: D,
     opened: &Opened,
@@ -97,7 +93,7 @@ fn look_into<D: Disk, O: Sink>(
     out: &mut O,
 ) -> (D, Result<(), Fault>)
     requires { IfSome (option_map files_now (D.trace disk)) (λ m. IsOpened (small_texts m) opened.now) }
-    ensures printed { LooksInto (Rose (D.faults disk) (D.faults result.0)) (Rose (O.faults out.old) (O.faults out.new)) look.now opened.now (option_map files_now (D.trace disk)) (O.written out.old) (O.written out.new) (fault_of result.1) }
+    ensures printed { LooksInto (Rose (D.faults disk) (D.faults result.0)) (AtRevision look.now) opened.now (option_map files_now (D.trace disk)) (sink_scene O.Sink out.old) (sink_scene O.Sink out.new) (fault_of result.1) }
     ensures same { D.trace result.0 ≡ D.trace disk }
     ensures mounted { D.mount_path result.0 ≡ D.mount_path disk }
     ensures later { D.faults disk ≤ D.faults result.0 }
@@ -113,24 +109,44 @@ fn look_into<D: Disk, O: Sink>(
         opened.layout,
         opened.min_unpacked_rev,
     );
-    let printed = print_look(alloc, &mut book, rev, look, out);
+    let printed = print_look(alloc, &mut book, rev, &look.printed, out);
     let disk = disk_of(book);
     match printed {
         Ok(()) => (disk, Ok(())),
-        Err(error) => (disk, Err(fault_at(alloc, &look.path, error))),
+        Err(error) => (disk, Err(fault_at(alloc, look.printed.path(), error))),
     }
 }
 
-/// Mounts a path to read it, and prints what is looked at of a revision of the repository there.
+// Prints of an opened repository what is looked at, and gives its disk back.
+fn look_into<D: Disk, O: Sink>(
+    alloc: Global,
+    disk: D,
+    opened: &Opened,
+    look: &Look,
+    out: &mut O,
+) -> (D, Result<(), Fault>)
+    requires { IfSome (option_map files_now (D.trace disk)) (λ m. IsOpened (small_texts m) opened.now) }
+    ensures printed { LooksInto (Rose (D.faults disk) (D.faults result.0)) look.now opened.now (option_map files_now (D.trace disk)) (sink_scene O.Sink out.old) (sink_scene O.Sink out.new) (fault_of result.1) }
+    ensures same { D.trace result.0 ≡ D.trace disk }
+    ensures mounted { D.mount_path result.0 ≡ D.mount_path disk }
+    ensures later { D.faults disk ≤ D.faults result.0 }
+{
+    match look {
+        Look::Youngest => (disk, line_fault(print_revision(out, opened.youngest))),
+        Look::Uuid => (disk, line_fault(print_uuid(out, &opened.uuid))),
+        Look::AtRevision(look) => look_at_revision(alloc, disk, opened, look, out),
+    }
+}
+
+/// Mounts a path to read it, and prints what is looked at of the repository there.
 pub(crate) fn look_at<H: Host, O: Sink>(
     alloc: Global,
     repos: &str,
-    look: &RevisionLook,
+    look: &Look,
     host: &mut H,
     out: &mut O,
 ) -> Result<(), Fault>
-    ensures printed { PrintsLook look.now (Rose (H.mount_faults host.old) (H.mount_faults host.new)) (Rose (H.disk_faults host.old) (H.disk_faults host.new)) (Rose (O.faults out.old) (O.faults out.new))
-        (H.disk_at host.old repos.now) (O.written out.old) (O.written out.new) (fault_of result) }
+    ensures printed { PrintsLook repos.now look.now (scene H.Host O.Sink host.old out.old) (scene H.Host O.Sink host.new out.new) (fault_of result) }
     ensures decided { LookIsDecided look.now (H.disk_at host.old repos.now) (fault_of result) }
     ensures same { option_map files_now (H.disk_at host.new repos.now) ≡ option_map files_now (H.disk_at host.old repos.now) }
     ensures others { (path : List ℕ) → path ≢ repos.now → H.disk_at host.new path ≡ H.disk_at host.old path }

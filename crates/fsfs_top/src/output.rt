@@ -1,10 +1,14 @@
 // Printing what the small files of a repository say.
+ghost use Rattle.std.specs.Prelude.{ℕ, List};
 ghost use Rattle.fsfs_streams.specs.Output.{Prints};
-ghost use Rattle.fsfs_top.specs.Answers.{revision_line, uuid_line, shown_line};
+ghost use Rattle.fsfs_top.specs.Command.{fault_of};
+ghost use Rattle.fsfs_top.specs.Looks.{revision_line, uuid_line, PrintsLine};
+ghost use Rattle.fsfs_top.specs.Scenes.{SinkScene};
 
 use arrayvec::ArrayString;
 use fsfs_base::{Failed, RevNum};
-use fsfs_layout::{Opened, Uuid};
+use fsfs_faults::Fault;
+use fsfs_layout::Uuid;
 use fsfs_streams::{Sink, print};
 use itoa::Buffer;
 
@@ -26,21 +30,12 @@ pub fn print_uuid<S: Sink>(sink: &mut S, uuid: &Uuid) -> Result<(), Failed>
     print(sink, b"\n")
 }
 
-/// What a look at the small files of a repository shows.
-#[derive(Clone, Copy, Debug, PartialEq, Eq)]
-pub enum Shown {
-    /// The youngest revision.
-    Youngest,
-    /// The identifier.
-    Uuid,
-}
-
-/// Writes what a look at the small files shows, and the end of the line.
-pub fn print_shown<S: Sink>(sink: &mut S, shown: Shown, opened: &Opened) -> Result<(), Failed>
-    ensures printed { Prints (S.written sink.old) (S.written sink.new) (shown_line shown opened.now) (S.faults sink.old) (S.faults sink.new) result }
+// The fault of a line that was printed so.
+pub(crate) fn line_fault(printed: Result<(), Failed>) -> Result<(), Fault>
+    ensures { (line : List ℕ) (old new : SinkScene) → Prints old.written new.written line old.faults new.faults printed → PrintsLine line old new (fault_of result) }
 {
-    match shown {
-        Shown::Youngest => print_revision(sink, opened.youngest),
-        Shown::Uuid => print_uuid(sink, &opened.uuid),
+    match printed {
+        Ok(()) => Ok(()),
+        Err(_) => Err(Fault::WriteFault),
     }
 }

@@ -1,4 +1,4 @@
-use Rattle.std.proofs.Common.{◌≡◌, ◌∙◌, ap, rules, refl, ◌∷◌, ◌++◌, List, ℕ}
+use Rattle.std.proofs.Common.{◌∙◌, ap, refl, ◌++◌, List, ℕ}
 use Rattle.fsfs_cli.proofs.PathLemmas.{last_cut, first_cut, meant_is}
 use Rattle.fsfs_cli.proofs.path_word.meant.Goals as goal
 

@@ -1,4 +1,4 @@
-use Rattle.std.proofs.Common.{◌≡◌, ◌∙◌, sym, ap, map, string_bytes, ◌⊎◌, subst}
+use Rattle.std.proofs.Common.{◌≡◌, sym, map, string_bytes, ◌⊎◌, subst}
 use Rattle.std.specs.Prelude.{Err}
 use Rattle.clap.specs.Words.{app_of, found_of, rows_of, fault_of, IsAmong}
 use Rattle.clap.specs.declared.error.kind.ErrorKind.TheVariants as kind

@@ -1,16 +1,30 @@
-use Rattle.std.proofs.Common.{◌≡◌, ◌∙◌, sym, ap, map, string_bytes, refl}
+use Rattle.std.proofs.Common.{◌∙◌, sym, ap, map, string_bytes, refl, subst, codes, List, ℕ}
 use Rattle.std.proofs.lemmas.Result.{err_from_is_err_and}
+use Rattle.std.specs.Prelude.{Some, Ok, Err}
 use Rattle.clap.specs.Words.{App, found_of, rows_of}
-use Rattle.fsfs_cli.specs.Words.{Cat, taken, asked_by}
+use Rattle.fsfs_cli.specs.Commands.{cat_app}
+use Rattle.fsfs_cli.specs.Readings.{ReadsPath}
+use Rattle.fsfs_cli.specs.Words.{taken, cat_in, revision_in, required_in, asked_by}
 use Rattle.fsfs_cli.specs.declared.verb.Verb.TheVariants as verb
-use Rattle.fsfs_cli.proofs.ReadLemmas.{cat_found, bad_path, reads_fault}
+use Rattle.fsfs_cli.proofs.ReadLemmas.{asked_with, bad_given, reads_fault}
 use Rattle.fsfs_cli.proofs.read.read_cat.Goals as goal
 
 pub returns-in_err-path : goal.returns-in_err-path
 returns-in_err-path c =
     let words = map string_bytes c.args.words.now in
     let rows = rows_of (found_of c.in_ok-matches.matches) in
-    let says = cat_found words rows c.required-repos.result.now c.required-word.result.now c.in_ok-revision.revision (ap (λ (a : App). taken a words) (sym c.in_ok-cat_command.ensures.app) ∙ c.in_ok-matches.ensures.found) c.required-repos.ensures c.required-word.ensures c.in_ok-revision.ensures in
-    let refused = bad_path (asked_by verb.Cat words) (Cat c.required-repos.result.now c.in_ok-revision.revision c.required-word.result.now) c.required-word.result.now c.in_err-path.field-0.0 says refl c.in_err-path.ensures in
+    let found = ap (λ (a : App). taken a words) (sym c.in_ok-cat_command.ensures.app) ∙ c.in_ok-matches.ensures.found in
+    let says = asked_with cat_app words rows cat_in revision_in c.in_ok-revision.revision found c.in_ok-revision.ensures in
+    let bad = subst (λ (w : List ℕ). ReadsPath w (Err c.in_err-path.field-0.0)) c.required-word.ensures c.in_err-path.ensures in
+    let refused = bad_given (asked_by verb.Cat words) (cat_in rows c.in_ok-revision.revision) (Some (required_in (codes "PATH") rows)) c.in_err-path.field-0.0 says refl bad in
     let p = err_from_is_err_and c.from_residual-in_err-path.result c.from_residual-in_err-path.ensures.1 in
     reads_fault (asked_by verb.Cat words) c.from_residual-in_err-path.result p.0 c.in_err-path.field-0.0 p.1 p.2 refused
+
+pub returns : goal.returns
+returns c =
+    let words = map string_bytes c.args.words.now in
+    let rows = rows_of (found_of c.in_ok-matches.matches) in
+    let found = ap (λ (a : App). taken a words) (sym c.in_ok-cat_command.ensures.app) ∙ c.in_ok-matches.ensures.found in
+    let says = asked_with cat_app words rows cat_in revision_in c.in_ok-revision.revision found c.in_ok-revision.ensures in
+    let good = subst (λ (w : List ℕ). ReadsPath w (Ok c.in_ok-path.path)) c.required-word.ensures c.in_ok-path.ensures in
+    (cat_in rows c.in_ok-revision.revision, says, (c.required-repos.ensures, (c.in_ok-path.path, good, refl)))

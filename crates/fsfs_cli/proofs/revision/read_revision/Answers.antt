@@ -1,4 +1,4 @@
-use Rattle.std.proofs.Common.{◌≡◌, sym, ◌∙◌, ap}
+use Rattle.std.proofs.Common.{sym, ◌∙◌, ap}
 use Rattle.std.specs.Result.{result_ok}
 use Rattle.fsfs_cli.proofs.NumberLemmas.{revision_parsed, revision_is, revision_none}
 use Rattle.fsfs_cli.proofs.revision.read_revision.Goals as goal

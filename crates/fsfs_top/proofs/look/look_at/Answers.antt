@@ -1,6 +1,7 @@
 use Rattle.std.proofs.Common.{inl, refl, arith}
 use Rattle.fsfs_base.specs.Failures.{Rose}
 use Rattle.fsfs_top.specs.Command.{fault_of}
+use Rattle.fsfs_top.specs.Scenes.{scene, sink_scene}
 use Rattle.fsfs_top.proofs.FilesDecide.{look_decided, look_refusal}
 use Rattle.fsfs_top.proofs.LooksPrint.{look_now, look_printed, open_refused}
 use Rattle.fsfs_top.proofs.look.look_at.Goals as goal
@@ -10,23 +11,21 @@ returns-in-Ok-open-clause-printed g c =
     let told = g.H.Mounted.Disk.trace in
     let count = g.H.Mounted.Disk.faults in
     let disk = Rose (g.H.Host.disk_faults c.args.host.now) (g.H.Host.disk_faults c.unmount.new.self) in
-    let write = Rose (g.O.Sink.faults c.args.out.now) (g.O.Sink.faults c.look_into-disk.new.out) in
     let counted : Rose (count c.open.new.disk) (count c.look_into-disk.result.0) → disk = λ rose. omega (arith, rose, c.in-Ok.ensures.new, c.in-Ok.ensures.same_faults, c.unmount.ensures.faults) in
-    look_printed (Rose (g.H.Host.mount_faults c.args.host.now) (g.H.Host.mount_faults c.unmount.new.self)) disk write c.args.look.now c.in-Ok-open.opened (told c.in-Ok.disk) (g.H.Host.disk_at c.args.host.now c.args.repos.now)
-    (g.O.Sink.written c.args.out.now) (g.O.Sink.written c.look_into-disk.new.out) (fault_of c.look_into-disk.result.1) c.in-Ok.ensures.disk c.in-Ok-open.ensures.opened
-    (look_now (Rose (count c.open.new.disk) (count c.look_into-disk.result.0)) disk write c.args.look.now c.in-Ok-open.opened (told c.in-Ok.disk) (told c.open.new.disk)
-    (g.O.Sink.written c.args.out.now) (g.O.Sink.written c.look_into-disk.new.out) (fault_of c.look_into-disk.result.1) c.in-Ok-open.ensures.same counted c.look_into-disk.ensures.printed)
+    look_printed c.args.repos.now c.args.look.now (scene g.H.Host g.O.Sink c.args.host.now c.args.out.now) (scene g.H.Host g.O.Sink c.unmount.new.self c.look_into-disk.new.out) c.in-Ok-open.opened (told c.in-Ok.disk)
+    (fault_of c.look_into-disk.result.1) c.in-Ok.ensures.disk c.in-Ok-open.ensures.opened
+    (look_now (Rose (count c.open.new.disk) (count c.look_into-disk.result.0)) disk c.args.look.now c.in-Ok-open.opened (told c.in-Ok.disk) (told c.open.new.disk)
+    (sink_scene g.O.Sink c.args.out.now) (sink_scene g.O.Sink c.look_into-disk.new.out) (fault_of c.look_into-disk.result.1) c.in-Ok-open.ensures.same counted c.look_into-disk.ensures.printed)
 
 pub returns-in-Ok-open-clause-decided : goal.returns-in-Ok-open-clause-decided
 returns-in-Ok-open-clause-decided g c =
     let told = g.H.Mounted.Disk.trace in
     let count = g.H.Mounted.Disk.faults in
     let rose = Rose (count c.open.new.disk) (count c.look_into-disk.result.0) in
-    let write = Rose (g.O.Sink.faults c.args.out.now) (g.O.Sink.faults c.look_into-disk.new.out) in
-    look_decided rose write c.args.look.now (told c.in-Ok.disk) (g.H.Host.disk_at c.args.host.now c.args.repos.now) c.in-Ok-open.opened
-    (g.O.Sink.written c.args.out.now) (g.O.Sink.written c.look_into-disk.new.out) (fault_of c.look_into-disk.result.1) c.in-Ok.ensures.disk c.in-Ok-open.ensures.opened c.in-Ok-open.ensures.decided
-    (look_now rose rose write c.args.look.now c.in-Ok-open.opened (told c.in-Ok.disk) (told c.open.new.disk)
-    (g.O.Sink.written c.args.out.now) (g.O.Sink.written c.look_into-disk.new.out) (fault_of c.look_into-disk.result.1) c.in-Ok-open.ensures.same (λ r. r) c.look_into-disk.ensures.printed)
+    look_decided rose c.args.look.now (told c.in-Ok.disk) (g.H.Host.disk_at c.args.host.now c.args.repos.now) c.in-Ok-open.opened
+    (sink_scene g.O.Sink c.args.out.now) (sink_scene g.O.Sink c.look_into-disk.new.out) (fault_of c.look_into-disk.result.1) c.in-Ok.ensures.disk c.in-Ok-open.ensures.opened c.in-Ok-open.ensures.decided
+    (look_now rose rose c.args.look.now c.in-Ok-open.opened (told c.in-Ok.disk) (told c.open.new.disk)
+    (sink_scene g.O.Sink c.args.out.now) (sink_scene g.O.Sink c.look_into-disk.new.out) (fault_of c.look_into-disk.result.1) c.in-Ok-open.ensures.same (λ r. r) c.look_into-disk.ensures.printed)
 
 pub returns-in-Err-open-clause-printed : goal.returns-in-Err-open-clause-printed
 returns-in-Err-open-clause-printed g c =
@@ -34,9 +33,8 @@ returns-in-Err-open-clause-printed g c =
     let count = g.H.Mounted.Disk.faults in
     let disk = Rose (g.H.Host.disk_faults c.args.host.now) (g.H.Host.disk_faults c.unmount-in-Err-open.new.self) in
     let counted : Rose (count c.in-Ok.disk) (count c.open.new.disk) → disk = λ rose. omega (arith, rose, c.in-Ok.ensures.new, c.in-Ok.ensures.same_faults, c.unmount-in-Err-open.ensures.faults) in
-    inl (open_refused (Rose (g.H.Host.mount_faults c.args.host.now) (g.H.Host.mount_faults c.unmount-in-Err-open.new.self)) disk (Rose (count c.in-Ok.disk) (count c.open.new.disk))
-    (told c.in-Ok.disk) (g.H.Host.disk_at c.args.host.now c.args.repos.now) (g.O.Sink.written c.args.out.now) (g.O.Sink.written c.args.out.now) c.in-Err-open.fault c.from.result
-    c.in-Ok.ensures.disk c.from.ensures counted refl c.in-Err-open.ensures.refused c.in-Err-open.ensures.decided)
+    inl (open_refused c.args.repos.now (scene g.H.Host g.O.Sink c.args.host.now c.args.out.now) (scene g.H.Host g.O.Sink c.unmount-in-Err-open.new.self c.args.out.now) (Rose (count c.in-Ok.disk) (count c.open.new.disk))
+    (told c.in-Ok.disk) c.in-Err-open.fault c.from.result c.in-Ok.ensures.disk c.from.ensures counted refl c.in-Err-open.ensures.refused c.in-Err-open.ensures.decided)
 
 pub returns-in-Err-open-clause-decided : goal.returns-in-Err-open-clause-decided
 returns-in-Err-open-clause-decided g c =

@@ -1,36 +1,32 @@
-use Rattle.std.proofs.Common.{◌≤◌, refl, inr, subst}
-use Rattle.std.specs.Prelude.{Ok, Err, Result}
+use Rattle.std.proofs.Common.{sym, subst}
+use Rattle.std.specs.Prelude.{option_map}
 use Rattle.fsfs_base.specs.Failures.{Rose}
-use Rattle.fsfs_look.specs.declared.look_error.LookError.{LookError}
-use Rattle.fsfs_top.proofs.LooksPrint.{into_writes, fault_with_cause, same_counts}
+use Rattle.fsfs_disk.specs.Trace.{files_now}
+use Rattle.fsfs_cli.specs.declared.request.Look.{Look}
+use Rattle.fsfs_top.specs.Command.{fault_of}
+use Rattle.fsfs_top.specs.Looks.{LooksInto, revision_line, uuid_line}
+use Rattle.fsfs_top.specs.Scenes.{sink_scene}
 use Rattle.fsfs_top.proofs.look.look_into.Goals as goal
 
-pub returns-in-Ok-printed-clause-printed : goal.returns-in-Ok-printed-clause-printed
-returns-in-Ok-printed-clause-printed g c =
-    let look = c.args.look.now in
-    let o = c.args.opened.now in
-    let r : Result (Unit {0}) LookError = Ok tt in
-    inr (record {
-      there = subst (λ n. n ≤ o.youngest) c.in-Ok.ensures.found.0 c.in-Ok.ensures.found.1;
-      result = r;
-      writes = into_writes (g.D.Disk.trace c.args.disk) look o c.in-Ok.rev _ (g.O.Sink.written c.args.out.now) (g.O.Sink.written c.print_look-printed.new.out) r c.requires c.over_disk-book.ensures.told
-          c.in-Ok.ensures.found.0 c.in-Ok.ensures.found.1 c.in-Ok-printed.ensures.told;
-      fault_is = refl;
-    })
+pub returns-in-Youngest-clause-printed : goal.returns-in-Youngest-clause-printed
+returns-in-Youngest-clause-printed g c =
+    let count = g.D.Disk.faults c.args.disk in
+    let old = sink_scene g.O.Sink c.args.out.now in
+    let new = sink_scene g.O.Sink c.print_revision.new.sink in
+    subst (λ (l : Look). LooksInto (Rose count count) l c.args.opened.now (option_map files_now (g.D.Disk.trace c.args.disk)) old new (fault_of c.line_fault.result)) (sym c.in-Youngest.is)
+    (c.line_fault.ensures (revision_line c.args.opened.now.youngest) old new c.print_revision.ensures.printed)
 
-pub returns-in-Err-printed-clause-printed : goal.returns-in-Err-printed-clause-printed
-returns-in-Err-printed-clause-printed g c =
-    let look = c.args.look.now in
-    let o = c.args.opened.now in
-    let r : Result (Unit {0}) LookError = Err c.in-Err-printed.error in
-    let disk = Rose (g.D.Disk.faults c.args.disk) (g.D.Disk.faults c.disk_of-disk.result) in
-    let write = Rose (g.O.Sink.faults c.args.out.now) (g.O.Sink.faults c.print_look-printed.new.out) in
-    inr (record {
-      there = subst (λ n. n ≤ o.youngest) c.in-Ok.ensures.found.0 c.in-Ok.ensures.found.1;
-      result = r;
-      writes = into_writes (g.D.Disk.trace c.args.disk) look o c.in-Ok.rev _ (g.O.Sink.written c.args.out.now) (g.O.Sink.written c.print_look-printed.new.out) r c.requires c.over_disk-book.ensures.told
-          c.in-Ok.ensures.found.0 c.in-Ok.ensures.found.1 c.in-Err-printed.ensures.told;
-      fault_is = fault_with_cause disk write look.path c.in-Err-printed.error c.fault_at.result c.fault_at.ensures
-          (same_counts c.in-Err-printed.error _ _ (g.D.Disk.faults c.args.disk) (g.D.Disk.faults c.disk_of-disk.result) c.over_disk-book.ensures.faults c.disk_of-disk.ensures.faults c.in-Err-printed.ensures.cause.failed)
-          c.in-Err-printed.ensures.sink.failed;
-    })
+pub returns-in-Uuid-clause-printed : goal.returns-in-Uuid-clause-printed
+returns-in-Uuid-clause-printed g c =
+    let count = g.D.Disk.faults c.args.disk in
+    let old = sink_scene g.O.Sink c.args.out.now in
+    let new = sink_scene g.O.Sink c.print_uuid.new.sink in
+    subst (λ (l : Look). LooksInto (Rose count count) l c.args.opened.now (option_map files_now (g.D.Disk.trace c.args.disk)) old new (fault_of c.line_fault-in-Uuid.result)) (sym c.in-Uuid.is)
+    (c.line_fault-in-Uuid.ensures (uuid_line c.args.opened.now.uuid) old new c.print_uuid.ensures.printed)
+
+pub returns-in-AtRevision-clause-printed : goal.returns-in-AtRevision-clause-printed
+returns-in-AtRevision-clause-printed g c =
+    let old = sink_scene g.O.Sink c.args.out.now in
+    let new = sink_scene g.O.Sink c.look_at_revision.new.out in
+    subst (λ (l : Look). LooksInto (Rose (g.D.Disk.faults c.args.disk) (g.D.Disk.faults c.look_at_revision.result.0)) l c.args.opened.now (option_map files_now (g.D.Disk.trace c.args.disk)) old new (fault_of c.look_at_revision.result.1))
+    (sym c.in-AtRevision.is) c.look_at_revision.ensures.printed

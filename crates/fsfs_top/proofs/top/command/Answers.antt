@@ -1,34 +1,25 @@
 use Rattle.std.proofs.Common.{◌∙◌, map, refl, sym}
 use Rattle.std.specs.Prelude.{string_bytes, Some, None}
-use Rattle.fsfs_base.specs.Failures.{Rose}
 use Rattle.fsfs_faults.specs.Lines.{line_of}
+use Rattle.fsfs_top.specs.Scenes.{scene, sink_scene}
 use Rattle.fsfs_top.proofs.Making.{made_stands, no_zero}
 use Rattle.fsfs_top.proofs.CommandReplies.{replies, told_line}
 use Rattle.fsfs_top.proofs.top.command.Goals as goal
 
 pub returns-in-Ok-clause-replies : goal.returns-in-Ok-clause-replies
 returns-in-Ok-clause-replies g c =
-    replies (Rose (g.H.Host.mount_faults c.args.host.now) (g.H.Host.mount_faults c.run.new.host)) (Rose (g.H.Host.disk_faults c.args.host.now) (g.H.Host.disk_faults c.run.new.host))
-    (Rose (g.O.Sink.faults c.args.out.now) (g.O.Sink.faults c.run.new.out)) (Rose (g.E.Sink.faults c.args.err.now) (g.E.Sink.faults c.args.err.now))
-    c.args.tool (map string_bytes c.args.words.now) (g.C.Clock.next c.args.clock.now) (g.R.Dice.next c.args.dice.now) (g.H.Host.disk_at c.args.host.now) (g.H.Host.disk_at c.run.new.host)
-    (g.O.Sink.written c.args.out.now) (g.O.Sink.written c.run.new.out) (g.E.Sink.written c.args.err.now) (g.E.Sink.written c.args.err.now)
-    0 None c.in-Ok.ensures.did (refl, refl)
+    replies c.args.tool (map string_bytes c.args.words.now) (g.C.Clock.next c.args.clock.now) (g.R.Dice.next c.args.dice.now) (scene g.H.Host g.O.Sink c.args.host.now c.args.out.now) (scene g.H.Host g.O.Sink c.run.new.host c.run.new.out)
+    (sink_scene g.E.Sink c.args.err.now) (sink_scene g.E.Sink c.args.err.now) 0 None c.in-Ok.ensures.did (refl, refl)
 
 pub returns-in-Err-clause-replies : goal.returns-in-Err-clause-replies
 returns-in-Err-clause-replies g c =
     let tells = told_line (g.E.Sink.written c.args.err.now) (g.E.Sink.written c.print_fault.new.sink) (line_of c.args.tool c.in-Err.fault) (g.E.Sink.faults c.args.err.now) (g.E.Sink.faults c.print_fault.new.sink) c.print_fault.result c.print_fault.ensures.printed in
-    replies (Rose (g.H.Host.mount_faults c.args.host.now) (g.H.Host.mount_faults c.run.new.host)) (Rose (g.H.Host.disk_faults c.args.host.now) (g.H.Host.disk_faults c.run.new.host))
-    (Rose (g.O.Sink.faults c.args.out.now) (g.O.Sink.faults c.run.new.out)) (Rose (g.E.Sink.faults c.args.err.now) (g.E.Sink.faults c.print_fault.new.sink))
-    c.args.tool (map string_bytes c.args.words.now) (g.C.Clock.next c.args.clock.now) (g.R.Dice.next c.args.dice.now) (g.H.Host.disk_at c.args.host.now) (g.H.Host.disk_at c.run.new.host)
-    (g.O.Sink.written c.args.out.now) (g.O.Sink.written c.run.new.out) (g.E.Sink.written c.args.err.now) (g.E.Sink.written c.print_fault.new.sink)
-    c.status.result (Some c.in-Err.fault) c.in-Err.ensures.did (c.status.ensures, tells)
+    replies c.args.tool (map string_bytes c.args.words.now) (g.C.Clock.next c.args.clock.now) (g.R.Dice.next c.args.dice.now) (scene g.H.Host g.O.Sink c.args.host.now c.args.out.now) (scene g.H.Host g.O.Sink c.run.new.host c.run.new.out)
+    (sink_scene g.E.Sink c.args.err.now) (sink_scene g.E.Sink c.print_fault.new.sink) c.status.result (Some c.in-Err.fault) c.in-Err.ensures.did (c.status.ensures, tells)
 
 pub returns-in-Ok-clause-made : goal.returns-in-Ok-clause-made
 returns-in-Ok-clause-made g c = λ done.
-    made_stands (Rose (g.H.Host.mount_faults c.args.host.now) (g.H.Host.mount_faults c.run.new.host)) (Rose (g.H.Host.disk_faults c.args.host.now) (g.H.Host.disk_faults c.run.new.host))
-    (Rose (g.O.Sink.faults c.args.out.now) (g.O.Sink.faults c.run.new.out))
-    c.args.tool (map string_bytes c.args.words.now) (g.C.Clock.next c.args.clock.now) (g.R.Dice.next c.args.dice.now) (g.H.Host.disk_at c.args.host.now) (g.H.Host.disk_at c.run.new.host)
-    (g.O.Sink.written c.args.out.now) (g.O.Sink.written c.run.new.out) c.in-Ok.ensures.did
+    made_stands c.args.tool (map string_bytes c.args.words.now) (g.C.Clock.next c.args.clock.now) (g.R.Dice.next c.args.dice.now) (scene g.H.Host g.O.Sink c.args.host.now c.args.out.now) (scene g.H.Host g.O.Sink c.run.new.host c.run.new.out) c.in-Ok.ensures.did
 
 pub returns-in-Err-clause-made : goal.returns-in-Err-clause-made
 returns-in-Err-clause-made g c = λ zero. absurd (no_zero c.in-Err.fault (sym c.status.ensures ∙ zero))

@@ -1,0 +1,88 @@
+-- Each task is given to its program, and the size of a shard is in its range.
+use Rattle.std.proofs.Common.{◌≡◌, ◌≤◌, ℕ, Bool, true, false, List, [], ◌∷◌, refl, sym, ap, subst, arith}
+use Rattle.std.proofs.lemmas.Option.{same_Some, option_and_then_some}
+use Rattle.std.specs.Prelude.{Option, Some, None, option_map, unwrap_or, codes, if◌then◌else◌}
+use Rattle.std.specs.Str.{bytes_eq}
+use Rattle.clap.specs.Words.{first_of}
+use Rattle.fsfs_base.specs.Paths.{Path}
+use Rattle.fsfs_cli.specs.Commands.{create_app, youngest_app, uuid_app, tree_app, cat_app, verb_named}
+use Rattle.fsfs_cli.specs.Grammars.{shard_of}
+use Rattle.fsfs_cli.specs.Readings.{Asks}
+use Rattle.fsfs_cli.specs.Words.{Asked, asked, asked_by, taken, number_of, shard_in, revision_in, pathless, create_in, tree_in, cat_in, create_asked, tree_asked, cat_asked}
+use Rattle.fsfs_cli.specs.declared.request.Look.TheVariants.{Youngest, Uuid}
+use Rattle.fsfs_cli.specs.declared.request.Task.{Task}
+use Rattle.fsfs_cli.specs.declared.request.Task.TheVariants.{Create, Look}
+use Rattle.fsfs_cli.specs.declared.tool.Tool.{Tool}
+use Rattle.fsfs_cli.specs.declared.tool.Tool.TheVariants as tools
+use Rattle.fsfs_cli.specs.declared.verb.Verb.{Verb}
+use Rattle.fsfs_cli.specs.declared.verb.Verb.TheVariants as verb
+use Rattle.fsfs_cli.proofs.NumberLemmas.{shard_found}
+
+abbrev pub IsShardSize : ℕ → Type 0
+IsShardSize n = (1 ≤ n) × (n ≤ 100_000)
+
+-- the program does this task
+abbrev pub IsTaskOf : Tool → Task → Type 0
+IsTaskOf tool (Create shard) = (tool ≡ tools.Admin) × IsShardSize shard
+IsTaskOf tool (Look look) = tool ≡ tools.Look
+
+-- ---- the size of a shard
+
+word_size : (word : List ℕ) (n : ℕ) (o : Option ℕ) → shard_of word ≡ o → option_map (λ k. unwrap_or k 1000) (option_map (λ (k : ℕ). Some k) o) ≡ Some n → IsShardSize n
+word_size word n None is e = absurd cc
+word_size word n (Some k) is e =
+    let w = shard_found word k is in
+    let same : k ≡ n = cc in
+    subst IsShardSize same (w.1, w.2)
+
+given_size : (given : Option (List ℕ)) (n : ℕ) → option_map (λ k. unwrap_or k 1000) (number_of shard_of given) ≡ Some n → IsShardSize n
+given_size None n e = let same : 1000 ≡ n = cc in subst IsShardSize same (omega arith, omega arith)
+given_size (Some word) n e = word_size word n (shard_of word) refl e
+
+-- ---- the words behind a command's own
+
+mapped : {A B : Type 0} (f : A → B) (o : Option A) (b : B) → option_map f o ≡ Some b → (x : A) × (o ≡ Some x) × (f x ≡ b)
+mapped f None b e = absurd cc
+mapped f (Some x) b e = (x, refl, same_Some (f x) b e)
+
+abbrev tool_of : Verb → Tool
+tool_of verb.Create = tools.Admin
+tool_of verb.Youngest = tools.Look
+tool_of verb.Uuid = tools.Look
+tool_of verb.Tree = tools.Look
+tool_of verb.Cat = tools.Look
+
+by_verb : (v : Verb) (words : List (List ℕ)) (a : Asked) (path : Path) → asked_by v words ≡ Some a → IsTaskOf (tool_of v) (a.task path)
+by_verb verb.Create words a path e = option_and_then_some create_asked (taken create_app words) a e (λ rows found is.
+    let n = mapped (create_in rows) (shard_in rows) a is in
+    subst (λ (x : Asked). IsTaskOf tools.Admin (x.task path)) n.2 (refl, given_size (first_of (codes "shard") rows) n.0 n.1))
+by_verb verb.Youngest words a path e = subst (λ (x : Asked). IsTaskOf tools.Look (x.task path)) (mapped (λ rows. pathless rows (Look Youngest)) (taken youngest_app words) a e).2 refl
+by_verb verb.Uuid words a path e = subst (λ (x : Asked). IsTaskOf tools.Look (x.task path)) (mapped (λ rows. pathless rows (Look Uuid)) (taken uuid_app words) a e).2 refl
+by_verb verb.Tree words a path e = option_and_then_some tree_asked (taken tree_app words) a e (λ rows found is. subst (λ (x : Asked). IsTaskOf tools.Look (x.task path)) (mapped (tree_in rows) (revision_in rows) a is).2 refl)
+by_verb verb.Cat words a path e = option_and_then_some cat_asked (taken cat_app words) a e (λ rows found is. subst (λ (x : Asked). IsTaskOf tools.Look (x.task path)) (mapped (cat_in rows) (revision_in rows) a is).2 refl)
+
+-- ---- the word that names a command
+
+admin_named : (a : Bool) (v : Verb) → (if a then Some verb.Create else None) ≡ Some v → tools.Admin ≡ tool_of v
+admin_named true v e = ap tool_of (same_Some verb.Create v e)
+admin_named false v e = absurd cc
+
+look_named : (a b c d : Bool) (v : Verb) → (if a then Some verb.Youngest else if b then Some verb.Uuid else if c then Some verb.Tree else if d then Some verb.Cat else None) ≡ Some v → tools.Look ≡ tool_of v
+look_named true b c d v e = ap tool_of (same_Some verb.Youngest v e)
+look_named false true c d v e = ap tool_of (same_Some verb.Uuid v e)
+look_named false false true d v e = ap tool_of (same_Some verb.Tree v e)
+look_named false false false true v e = ap tool_of (same_Some verb.Cat v e)
+look_named false false false false v e = absurd cc
+
+tool_named : (tool : Tool) (word : List ℕ) (v : Verb) → verb_named tool word ≡ Some v → tool ≡ tool_of v
+tool_named tools.Admin word v e = admin_named (bytes_eq word (codes "create")) v e
+tool_named tools.Look word v e = look_named (bytes_eq word (codes "youngest")) (bytes_eq word (codes "uuid")) (bytes_eq word (codes "tree")) (bytes_eq word (codes "cat")) v e
+tool_named tools.Jobs word v e = absurd cc
+
+asked_of : (tool : Tool) (words : List (List ℕ)) (a : Asked) (path : Path) → asked tool words ≡ Some a → IsTaskOf tool (a.task path)
+asked_of tool [] a path e = absurd cc
+asked_of tool (word ∷ words) a path e = option_and_then_some (λ v. asked_by v words) (verb_named tool word) a e (λ v named is.
+    subst (λ (t : Tool). IsTaskOf t (a.task path)) (sym (tool_named tool word v named)) (by_verb v words a path is))
+
+pub asks_task : (tool : Tool) (words : List (List ℕ)) (repos : List ℕ) (task : Task) → Asks tool words repos task → IsTaskOf tool task
+asks_task tool words repos task (a, is, (same, (path, given, t))) = subst (IsTaskOf tool) (sym t) (asked_of tool words a path is)

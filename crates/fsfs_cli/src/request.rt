@@ -1,0 +1,64 @@
+//! What the words of a program ask for.
+ghost use Rattle.std.specs.Prelude.{◌≡◌};
+ghost use Rattle.fsfs_cli.specs.Requests.{printed_path};
+
+use fsfs_base::FsPath;
+
+/// What the words of a program ask for: a task, of the repository at a path.
+#[derive(Debug, Drop)]
+pub struct Request<'a> {
+    /// The path of the repository.
+    pub repos: &'a str,
+    pub task: Task,
+}
+
+/// What is to be done.
+#[derive(Debug, PartialEq, Eq, Drop)]
+pub enum Task {
+    /// `svnadmin create`: a new repository.
+    Create {
+        /// How many revisions a shard has, 1 to 100,000.
+        shard: u32,
+    },
+    /// A command of `svnlook`, which reads and prints.
+    Look(Look),
+}
+
+/// What is looked at.
+#[derive(Debug, PartialEq, Eq, Drop)]
+pub enum Look {
+    /// `youngest`: the number of the youngest revision.
+    Youngest,
+    /// `uuid`: the identifier.
+    Uuid,
+    /// One of the commands that look at a revision.
+    AtRevision(RevisionLook),
+}
+
+/// A look at a revision.
+#[derive(Debug, PartialEq, Eq, Drop)]
+pub struct RevisionLook {
+    /// The revision; none for the youngest.
+    pub revision: Option<u64>,
+    pub printed: Printed,
+}
+
+/// What is printed of a revision.
+#[derive(Debug, PartialEq, Eq, Drop)]
+pub enum Printed {
+    /// `tree`: the nodes at and below a path, with their ids or without.
+    Tree { show_ids: bool, path: FsPath },
+    /// `cat`: the text of the file at a path.
+    Text { path: FsPath },
+}
+
+impl Printed {
+    /// The path in the repository.
+    pub fn path(&self) -> &FsPath
+        ensures { result.now ≡ printed_path self.now }
+    {
+        match self {
+            Printed::Tree { path, .. } | Printed::Text { path } => path,
+        }
+    }
+}

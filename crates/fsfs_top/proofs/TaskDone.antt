@@ -1,0 +1,60 @@
+-- What a command did is what its row says of the task that its words ask for.
+use Rattle.std.proofs.Common.{◌≡◌, ℕ, List, [], inl, inr, refl, sym, ap, subst, ◌∙◌}
+use Rattle.std.specs.Prelude.{Option, Some, None, IfSome, unwrap_or}
+use Rattle.fsfs_faults.specs.Faults.{fault_from_words}
+use Rattle.fsfs_faults.specs.declared.fault.Fault.{Fault}
+use Rattle.fsfs_faults.specs.declared.fault.Fault.TheVariants.{Memory}
+use Rattle.fsfs_places.specs.declared.create_fault.CreateFault.TheVariants as create
+use Rattle.fsfs_places.specs.declared.open_fault.OpenFault.TheVariants as opening
+use Rattle.fsfs_cli.specs.Readings.{Asks}
+use Rattle.fsfs_cli.specs.declared.fault.WordsFault.{WordsFault}
+use Rattle.fsfs_cli.specs.declared.request.Look.{Look as SomeLook}
+use Rattle.fsfs_cli.specs.declared.request.Task.{Task}
+use Rattle.fsfs_cli.specs.declared.request.Task.TheVariants.{Create, Look}
+use Rattle.fsfs_cli.specs.declared.tool.Tool.{Tool}
+use Rattle.fsfs_cli.proofs.OneMeaning.{one_task, refused_for_memory}
+use Rattle.fsfs_top.specs.Command.{Drawn, Does, Did}
+use Rattle.fsfs_top.specs.Looks.{LookIsDecided}
+use Rattle.fsfs_top.specs.Scenes.{Scene}
+use Rattle.fsfs_top.proofs.FilesDecide.{look_outside, unopened}
+
+as_told : {X : Type 0} (told : Option X) (x : X) → IfSome told (λ t. unwrap_or told x ≡ t)
+as_told None x = tt
+as_told (Some t) x = refl
+
+-- what is drawn where nothing was
+some_draw : (clock : Option ℕ) (dice : Option (List ℕ)) → Drawn clock dice
+some_draw clock dice = record { moment = unwrap_or clock 0; bits = unwrap_or dice []; moment_is = as_told clock 0; bits_are = as_told dice [] }
+
+module _ (clock : Option ℕ) (dice : Option (List ℕ)) (a b : Scene) (fault : Option Fault) where
+  -- memory was wanting as the words were read
+  starved : (repos : List ℕ) (task : Task) → fault ≡ Some Memory → b ≡ a → Does repos task clock dice a b fault
+  starved repos (Create shard) is kept = (inr (inl (create.Memory, is, (some_draw clock dice, ap (λ (s : Scene). s.host.disk_at repos) kept))), ap (λ (s : Scene). s.out) kept)
+  starved repos (Look look) is kept =
+      (inl (inr (opening.Memory, is, tt, unopened (a.host.disk_at repos), ap (λ (s : Scene). s.out) kept)), subst (LookIsDecided look (a.host.disk_at repos)) (sym is) (look_outside look (a.host.disk_at repos) Memory (inr (inr (inr refl)))))
+
+  pub task_done : (tool : Tool) (words : List (List ℕ)) (repos : List ℕ) (task : Task) → Did tool words clock dice a b fault → Asks tool words repos task → Does repos task clock dice a b fault
+  task_done tool words repos task (inl (r, t, asks, does)) also =
+      let same = one_task tool words r repos t task asks also in
+      subst (λ (p : List ℕ). Does p task clock dice a b fault) same.0 (subst (λ (k : Task). Does r k clock dice a b fault) same.1 does)
+  task_done tool words repos task (inr (why, is, refuses, kept)) asks =
+      let memory = refused_for_memory tool words repos task why asks refuses in
+      starved repos task (is ∙ ap (λ (w : WordsFault). Some (fault_from_words w)) memory) kept
+
+-- ---- which task is asked for
+
+create_parts : (m n : ℕ) → Create m ≡ Create n → m ≡ n
+create_parts m n e = cc
+
+one_creation : (tool : Tool) (words : List (List ℕ)) (r s : List ℕ) (m n : ℕ) → Asks tool words r (Create m) → Asks tool words s (Create n) → (r ≡ s) × (m ≡ n)
+one_creation tool words r s m n x y = let same = one_task tool words r s (Create m) (Create n) x y in (same.0, create_parts m n same.1)
+
+-- what holds of the creation that is asked for, of whatever path and size
+pub at_creation : (P : List ℕ → ℕ → Type 0) (tool : Tool) (words : List (List ℕ)) (repos : List ℕ) (shard : ℕ) → Asks tool words repos (Create shard) → P repos shard → (r : List ℕ) (n : ℕ) → Asks tool words r (Create n) → P r n
+at_creation P tool words repos shard asks h r n also =
+    let same = one_creation tool words repos r shard n asks also in
+    subst (λ (p : List ℕ). P p n) same.0 (subst (λ (k : ℕ). P repos k) same.1 h)
+
+-- where a look is asked for, no creation is
+pub looks_alone : (tool : Tool) (words : List (List ℕ)) (repos r : List ℕ) (look : SomeLook) (n : ℕ) → Asks tool words repos (Look look) → Asks tool words r (Create n) → ⊥
+looks_alone tool words repos r look n x y = let e = (one_task tool words repos r (Look look) (Create n) x y).1 in cc

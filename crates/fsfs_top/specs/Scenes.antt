@@ -1,0 +1,31 @@
+-- What the outside has and tells at one moment. Two scenes, before and after a call, are what its clauses speak of.
+use Rattle.std.specs.Prelude.{ℕ, List, Option}
+use Rattle.fsfs_disk.specs.Trace.{Trace}
+use Rattle.fsfs_disk.specs.declared.host.Host as Host
+use Rattle.fsfs_streams.specs.declared.streams.Sink as Sink
+
+-- of a host: the disk of each path, where it tells, and how often mounts, disks and benches failed
+pub record HostScene : Type 0 where
+  pub disk_at : List ℕ → Option Trace
+  pub mount_faults : ℕ
+  pub disk_faults : ℕ
+  pub bench_faults : ℕ
+
+-- of an output: what was written to it, where it tells, and how often it failed
+pub record SinkScene : Type 0 where
+  pub written : Option (List ℕ)
+  pub faults : ℕ
+
+-- of the host and the output
+pub record Scene : Type 0 where
+  pub host : HostScene
+  pub out : SinkScene
+
+abbrev pub host_scene : {H M B : Type 0} → Host.Ghosts H M B → H → HostScene
+host_scene g h = record { disk_at = g.disk_at h; mount_faults = g.mount_faults h; disk_faults = g.disk_faults h; bench_faults = g.bench_faults h }
+
+abbrev pub sink_scene : {S : Type 0} → Sink.Ghosts S → S → SinkScene
+sink_scene g s = record { written = g.written s; faults = g.faults s }
+
+abbrev pub scene : {H M B O : Type 0} → Host.Ghosts H M B → Sink.Ghosts O → H → O → Scene
+scene g k h o = record { host = host_scene g h; out = sink_scene k o }
