@@ -40,14 +40,9 @@ fn trees_of_subversion(rt: HostRuntime) -> Result<(), Fail> {
         let mut book = book_of(alloc, &[MADE_1, MADE_2, MADE_3])?;
         let mut sink = MemSink::new(alloc);
         let path = path_of(alloc, path)?;
-        tree_text(
-            alloc,
-            &mut book,
-            RevNum::from(rev),
-            &path,
-            show_ids,
-            &mut sink,
-        )?;
+        let rev = RevNum::from(rev);
+        let done = tree_text(alloc, &mut book, rev, &path, show_ids, &mut sink);
+        assert_eq!(rt; done, Ok(()));
         assert_eq!(rt; sink.bytes(), want.as_bytes());
     }
     Ok(())
