@@ -1,5 +1,5 @@
 -- Where the property file of a revision shows properties, what is printed is of them.
-use Rattle.std.proofs.Common.{◌≡◌, ◌∙◌, ℕ, List, ◌++◌, Option, Some, None, refl, sym, inl, inr}
+use Rattle.std.proofs.Common.{◌≡◌, ℕ, List, ◌++◌, Option, Some, None, refl, sym, inl, inr}
 use Rattle.std.specs.Prelude.{Ok, codes}
 use Rattle.jiff_core.specs.declared.civil.datetime.DateTime.{DateTime}
 use Rattle.fsfs_fields.specs.Dates.{IsDateText}

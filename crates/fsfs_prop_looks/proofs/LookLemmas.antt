@@ -15,8 +15,7 @@ use Rattle.fsfs_damage.specs.declared.wrong.ReadError.TheVariants as reads
 use Rattle.fsfs_damage.specs.Readings.{AndThen, Answers}
 use Rattle.fsfs_book.specs.Told.{RevisionBytes}
 use Rattle.fsfs_revprops.specs.RevProps.{Pairs, RevPropsOf}
-use Rattle.fsfs_printed.specs.declared.look_fault.LookFault.TheVariants as faults
-use Rattle.fsfs_printed.specs.Texts.{Whole, Refused, Stopped}
+use Rattle.fsfs_printed.specs.Texts.{Whole, Stopped}
 use Rattle.fsfs_look.specs.declared.look_error.LookError.{LookError}
 use Rattle.fsfs_look.specs.declared.look_error.LookError.TheVariants as errors
 use Rattle.fsfs_look.specs.Errors.{of_read}

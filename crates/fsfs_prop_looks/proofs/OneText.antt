@@ -16,7 +16,6 @@ use Rattle.fsfs_shows.proofs.OneRep.{dump_one}
 use Rattle.fsfs_shows.proofs.OneStep.{bytes_one}
 use Rattle.fsfs_revprops.specs.RevProps.{Pairs, file_checks, RevPropsIn, RevPropsOf}
 use Rattle.fsfs_revprops.specs.ShownDates.{shown_date}
-use Rattle.fsfs_printed.specs.Texts.{End}
 use Rattle.fsfs_printed.specs.Agreeing.{HasOneText}
 use Rattle.fsfs_printed.proofs.OneText.{stopped_first, stopped_second, wrong_same}
 use Rattle.fsfs_prop_looks.specs.PropTexts.{value_of, author_name, log_name, value_line, IsDateLine, info_lines, date_checks, DateLine, ReadText, PropText, AuthorText, DateText, LogText, InfoText}
@@ -75,7 +74,7 @@ logs_one = prop_text_one (λ pairs r. r ≡ Ok (value_line (value_of pairs log_n
 pub dates_one : HaveOneText DateText
 dates_one files rev = prop_text_one (λ pairs. DateLine rev (value_of pairs date_name)) (λ pairs. date_line_one rev (value_of pairs date_name)) files rev
 
-info_in : ℕ → Pairs → Result (List ℕ) Wrong → Type 0
+abbrev info_in : ℕ → Pairs → Result (List ℕ) Wrong → Type 0
 info_in rev pairs = AndThen (DateLine rev (value_of pairs date_name)) (λ line r. r ≡ Ok (info_lines pairs line))
 
 info_in_one : (rev : ℕ) (pairs : Pairs) → HasOneAnswer (info_in rev pairs)

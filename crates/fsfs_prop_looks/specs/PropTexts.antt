@@ -42,7 +42,7 @@ IsDateLine (Some stored) line = (dt : DateTime) × IsDateText stored dt × (line
 -- the length of the log in bytes, and the log; `0` alone where there is none
 abbrev pub log_lines : Option (List ℕ) → List ℕ
 log_lines None = codes "0\n"
-log_lines (Some log) = (decimal (length log) ++ codes "\n") ++ log ++ codes "\n"
+log_lines (Some log) = (decimal (length log) ++ codes "\n") ++ (log ++ codes "\n")
 
 -- author, date and log, where this is the date's line
 abbrev pub info_lines : Pairs → List ℕ → List ℕ

@@ -72,8 +72,8 @@ pub(crate) fn write_line<S: Sink>(sink: &mut S, text: &[u8]) -> Result<(), LookE
 
 /// Writes the lines of a log: its length in bytes, and itself; `0` alone where there is none.
 pub(crate) fn write_log<S: Sink>(sink: &mut S, log: Option<&Vec<u8>>) -> Result<(), LookError>
-    ensures added { OnOk result (Adds (S.written sink.old) (S.written sink.new) (log_lines (option_map (λ v. v.now.items) log))) }
-    ensures part { OnErr result (AddsFront (S.written sink.old) (S.written sink.new) (log_lines (option_map (λ v. v.now.items) log))) }
+    ensures added { OnOk result (Adds (S.written sink.old) (S.written sink.new) (log_lines (option_map (λ v. v.now.items) log.entry))) }
+    ensures part { OnErr result (AddsFront (S.written sink.old) (S.written sink.new) (log_lines (option_map (λ v. v.now.items) log.entry))) }
     ensures failed { IfErr result (λ e. e ≡ WriteFault) }
     ensures sink { HasSinkCause (S.faults sink.old) (S.faults sink.new) result }
 {

@@ -1,10 +1,9 @@
 -- The bytes of a property file, as they come, and what is answered of them.
-use Rattle.std.proofs.Common.{◌≡◌, ℕ, ◌+◌, ◌<◌, ◌≤◌, List, ◌++◌, length, take, drop, append_assoc, Result, Ok, Err, refl, sym, ap, ◌∙◌, arith, inl}
+use Rattle.std.proofs.Common.{◌≡◌, ℕ, ◌+◌, ◌<◌, ◌≤◌, List, ◌++◌, length, take, drop, Result, Ok, Err, refl, sym, ap, ◌∙◌, arith}
 use Rattle.std.specs.Prelude.{MatchResult}
 use Rattle.std.proofs.Math.Seq.{take-add, take-length}
 use Rattle.std.proofs.lemmas.List.{take-take, take_all, length-take, length-drop}
 use Rattle.fsfs_damage.specs.declared.wrong.Refusal.{Refusal}
-use Rattle.fsfs_damage.specs.declared.wrong.Wrong.TheVariants as wrongs
 use Rattle.fsfs_damage.specs.declared.wrong.ReadError.{ReadError}
 use Rattle.fsfs_damage.specs.declared.wrong.ReadError.TheVariants as errors
 use Rattle.fsfs_damage.specs.Readings.{IfWrong, Answers}

@@ -6,12 +6,12 @@ use Rattle.std.specs.declared.alloc.Global.{Global}
 use Rattle.fsfs_tree.specs.Dated.{date_name}
 use Rattle.fsfs_streams.specs.Streams.{Adds}
 use Rattle.fsfs_streams.specs.Output.{AddsFront}
+use Rattle.fsfs_streams.proofs.StreamLemmas.{adds_then}
 use Rattle.fsfs_damage.specs.declared.wrong.Wrong.{Wrong}
-use Rattle.fsfs_damage.specs.declared.wrong.ReadError.{ReadError}
 use Rattle.fsfs_damage.specs.Readings.{AndThen, Answers}
 use Rattle.fsfs_damage.proofs.Answering.{stops}
 use Rattle.fsfs_revprops.specs.RevProps.{Pairs}
-use Rattle.fsfs_prop_looks.specs.PropTexts.{value_of, author_name, log_name, value_line, log_lines, info_lines, DateLine}
+use Rattle.fsfs_prop_looks.specs.PropTexts.{value_of, log_name, log_lines, info_lines, DateLine}
 use Rattle.fsfs_prop_looks.proofs.LookLemmas.{front_first, front_second, second_added, second_part, no_props, no_line, props_written, props_front}
 use Rattle.fsfs_prop_looks.proofs.looks.info.Goals as goal
 
@@ -47,7 +47,7 @@ returns-in_err-write_line-clause-told g c = λ files told.
     let old = g.S.Sink.written c.args.sink.now in
     let new = g.S.Sink.written c.write_line.new.sink in
     rw (e.1, e.2) (props_front (Info c.args.rev) files c.args.rev pairs (c.in_ok-pairs.ensures.told files told) (info_lines pairs line) (first ++ line ++ last) old new c.in_err-write_line.field-0.0
-    (line, c.in_ok-line.ensures.told, refl) (ap (λ (t : List ℕ). (t ++ codes "\n") ++ line ++ last) c.value.ensures) (front_first old new first (line ++ last) c.in_err-write_line.ensures.part) c.in_err-write_line.ensures.failed)
+    (line, c.in_ok-line.ensures.told, refl) (ap (λ (t : List ℕ). (t ++ codes "\n") ++ line ++ last) c.value.ensures) (front_first old new (first ++ line) last (front_first old new first line c.in_err-write_line.ensures.part)) c.in_err-write_line.ensures.failed)
 
 pub returns-in_err-write_piece-clause-told : goal.returns-in_err-write_piece-clause-told
 returns-in_err-write_piece-clause-told g c = λ files told.
@@ -62,7 +62,7 @@ returns-in_err-write_piece-clause-told g c = λ files told.
     let part : AddsFront mid new line = subst (λ (t : List ℕ). AddsFront mid new t) c.deref.ensures.value c.in_err-write_piece.ensures.part in
     rw (e.1, e.2) (props_front (Info c.args.rev) files c.args.rev pairs (c.in_ok-pairs.ensures.told files told) (info_lines pairs line) (first ++ line ++ last) old new c.in_err-write_piece.field-0.0
     (line, c.in_ok-line.ensures.told, refl) (ap (λ (t : List ℕ). (t ++ codes "\n") ++ line ++ last) c.value.ensures)
-    (front_second old mid new first (line ++ last) c.in_ok-write_line.ensures.added (front_first mid new line last part)) c.in_err-write_piece.ensures.failed)
+    (front_first old new (first ++ line) last (front_second old mid new first line c.in_ok-write_line.ensures.added part)) c.in_err-write_piece.ensures.failed)
 
 pub returns-clause-told : goal.returns-clause-told
 returns-clause-told g c = λ files told.
@@ -76,11 +76,11 @@ returns-clause-told g c = λ files told.
     let new = g.S.Sink.written c.write_log.new.sink in
     let r = c.write_log.result in
     let added : Adds mid more line = subst (λ (t : List ℕ). Adds mid more t) c.deref.ensures.value c.in_ok-write_piece.ensures.added in
+    let both : Adds old more (first ++ line) = adds_then old mid more first line c.in_ok-write_line.ensures.added added in
     let logged = ap (λ (o : Option (List ℕ)). log_lines o) c.get.ensures in
     let log_added : OnOk r (Adds more new last) = subst (λ (t : List ℕ). OnOk r (Adds more new t)) logged c.write_log.ensures.added in
     let log_part : OnErr r (AddsFront more new last) = subst (λ (t : List ℕ). OnErr r (AddsFront more new t)) logged c.write_log.ensures.part in
     props_written (Info c.args.rev) files c.args.rev pairs (c.in_ok-pairs.ensures.told files told) (info_lines pairs line) (first ++ line ++ last) old new r
     (line, c.in_ok-line.ensures.told, refl) (ap (λ (t : List ℕ). (t ++ codes "\n") ++ line ++ last) c.value.ensures)
-    (second_added old mid new first (line ++ last) c.in_ok-write_line.ensures.added r (second_added mid more new line last added r log_added))
-    (second_part old mid new first (line ++ last) c.in_ok-write_line.ensures.added r (second_part mid more new line last added r log_part))
+    (second_added old more new (first ++ line) last both r log_added) (second_part old more new (first ++ line) last both r log_part)
     c.write_log.ensures.failed

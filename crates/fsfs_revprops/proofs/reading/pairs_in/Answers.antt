@@ -1,4 +1,4 @@
-use Rattle.std.proofs.Common.{ℕ, List, Err, refl, sym, subst, inl}
+use Rattle.std.proofs.Common.{Err, refl, sym, subst, inl}
 use Rattle.fsfs_damage.specs.declared.wrong.ReadError.{ReadError}
 use Rattle.fsfs_damage.specs.Readings.{Answers}
 use Rattle.fsfs_revprops.specs.RevProps.{Pairs, RevPropsIn}

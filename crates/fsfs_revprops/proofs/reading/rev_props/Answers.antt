@@ -5,7 +5,7 @@ use Rattle.std.specs.declared.alloc.Global.{Global}
 use Rattle.fsfs_damage.specs.declared.wrong.Refusal.{Refusal}
 use Rattle.fsfs_damage.specs.Readings.{Answers}
 use Rattle.fsfs_damage.proofs.Answering.{stops, goes_on}
-use Rattle.fsfs_book.specs.Told.{RevisionBytes, BytesOf}
+use Rattle.fsfs_book.specs.Told.{BytesOf}
 use Rattle.fsfs_revprops.specs.RevProps.{Pairs, RevPropsIn}
 use Rattle.fsfs_revprops.proofs.FileLemmas.{bytes_read}
 use Rattle.fsfs_revprops.proofs.reading.rev_props.Goals as goal
