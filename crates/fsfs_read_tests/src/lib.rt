@@ -16,6 +16,8 @@ mod look;
 #[cfg(test)]
 mod memdisk;
 #[cfg(test)]
+mod prop_looks;
+#[cfg(test)]
 mod publish;
 #[cfg(test)]
 mod rep;

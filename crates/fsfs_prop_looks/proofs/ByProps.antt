@@ -1,0 +1,58 @@
+-- Where the property file of a revision shows properties, what is printed is of them.
+use Rattle.std.proofs.Common.{◌≡◌, ℕ, List, ◌++◌, Option, Some, None, refl, sym, inl, inr}
+use Rattle.std.specs.Prelude.{Ok, codes}
+use Rattle.jiff_core.specs.declared.civil.datetime.DateTime.{DateTime}
+use Rattle.fsfs_fields.specs.Dates.{IsDateText}
+use Rattle.fsfs_tree.specs.Dated.{date_name}
+use Rattle.fsfs_book.specs.Told.{RevisionBytes}
+use Rattle.fsfs_revprops.specs.RevProps.{Pairs, RevPropsOf}
+use Rattle.fsfs_revprops.specs.ShownDates.{shown_date}
+use Rattle.fsfs_printed.specs.Texts.{End, Whole, Refused, Stopped}
+use Rattle.fsfs_printed.specs.Agreeing.{Agree}
+use Rattle.fsfs_printed.specs.ByTree.{IsOf}
+use Rattle.fsfs_prop_looks.specs.PropTexts.{value_of, author_name, log_name, value_line, IsDateLine, info_lines}
+use Rattle.fsfs_prop_looks.specs.Laws.{ShowsProps, AuthorsAreByProps, LogsAreByProps, DatesAreByProps, InfosAreByProps}
+use Rattle.fsfs_prop_looks.proofs.OneText.{authors_one, logs_one, dates_one, infos_one}
+
+-- what agrees with a whole text is that, or a first part of it
+of_agree : (whole text : List ℕ) (end : End) → Agree whole Whole text end → IsOf whole text end
+of_agree whole text Whole (inl (e, f)) = sym e
+of_agree whole text (Refused fault) (inl (e, f)) = absurd cc
+of_agree whole text Stopped (inl (e, f)) = absurd cc
+of_agree whole text end (inr (inl (f, front))) = absurd cc
+of_agree whole text Whole (inr (inr (f, front))) = absurd cc
+of_agree whole text (Refused fault) (inr (inr (f, front))) = absurd cc
+of_agree whole text Stopped (inr (inr (f, front))) = front
+
+-- a date in the form of stored dates has a line
+dated_line : (stored : Option (List ℕ)) → ((value : List ℕ) → stored ≡ Some value → (dt : DateTime) × IsDateText value dt) → (line : List ℕ) × IsDateLine stored line
+dated_line None dated = (codes "\n", refl)
+dated_line (Some text) dated = let d = dated text refl in (shown_date d.0 ++ codes "\n", (d.0, d.1, refl))
+
+module _ (files : RevisionBytes) (rev : ℕ) (pairs : Pairs) (shown : ShowsProps files rev pairs) where
+  read : RevPropsOf files rev (Ok pairs)
+  read = (shown.file, shown.file_is, shown.dump)
+
+  pub line : (line : List ℕ) × IsDateLine (value_of pairs date_name) line
+  line = dated_line (value_of pairs date_name) shown.dated
+
+pub authors_by : AuthorsAreByProps
+authors_by files rev pairs shown text end h =
+    let whole : List ℕ = value_line (value_of pairs author_name) in
+    of_agree whole text end (authors_one files rev whole text Whole end (inr (inl ((pairs, read files rev pairs shown, refl), refl))) h)
+
+pub logs_by : LogsAreByProps
+logs_by files rev pairs shown text end h =
+    let whole : List ℕ = value_line (value_of pairs log_name) in
+    of_agree whole text end (logs_one files rev whole text Whole end (inr (inl ((pairs, read files rev pairs shown, refl), refl))) h)
+
+pub dates_by : DatesAreByProps
+dates_by files rev pairs shown text end h =
+    let l = line files rev pairs shown in
+    (l.0, l.1, of_agree l.0 text end (dates_one files rev l.0 text Whole end (inr (inl ((pairs, read files rev pairs shown, l.1), refl))) h))
+
+pub infos_by : InfosAreByProps
+infos_by files rev pairs shown text end h =
+    let l = line files rev pairs shown in
+    let whole : List ℕ = info_lines pairs l.0 in
+    (l.0, l.1, of_agree whole text end (infos_one files rev whole text Whole end (inr (inl ((pairs, read files rev pairs shown, (l.0, l.1, refl)), refl))) h))

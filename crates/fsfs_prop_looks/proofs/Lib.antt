@@ -1,0 +1,3 @@
+pub mod OneText
+pub mod ByProps
+pub mod LookLemmas

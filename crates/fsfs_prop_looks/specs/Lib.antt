@@ -1,0 +1,2 @@
+pub mod PropTexts
+pub mod Laws

@@ -1,0 +1,83 @@
+-- What is printed of a revision's properties, as it is read. (The texts are those of Subversion's own `svnlook author`, `date`, `log`
+-- and `info`.)
+use Rattle.std.specs.Prelude.{◌≡◌, ◌⊎◌, ℕ, List, [], ◌∷◌, ◌++◌, length, Option, Some, None, unwrap_or, Result, Ok, Err, codes, decimal}
+use Rattle.std.specs.Map.{lookup}
+use Rattle.std.specs.BTreeMap.{is_at}
+use Rattle.std.specs.Cmp.Lexicographic.{slice_cmp}
+use Rattle.std.specs.Ordering.{nat_cmp}
+use Rattle.jiff_core.specs.declared.civil.datetime.DateTime.{DateTime}
+use Rattle.fsfs_fields.specs.Dates.{IsDateText}
+use Rattle.fsfs_tree.specs.Dated.{date_name}
+use Rattle.fsfs_damage.specs.declared.damage.DamageKind.TheVariants as what
+use Rattle.fsfs_damage.specs.declared.wrong.Wrong.{Wrong}
+use Rattle.fsfs_damage.specs.Checks.{Check, must, Judged}
+use Rattle.fsfs_damage.specs.Damages.{place_of, damaged}
+use Rattle.fsfs_damage.specs.Readings.{AndThen}
+use Rattle.fsfs_book.specs.Told.{RevisionBytes}
+use Rattle.fsfs_revprops.specs.RevProps.{Pairs, RevPropsOf}
+use Rattle.fsfs_revprops.specs.ShownDates.{shown_date}
+use Rattle.fsfs_printed.specs.declared.look_fault.LookFault.TheVariants as faults
+use Rattle.fsfs_printed.specs.Texts.{End, Whole, Refused, Stopped, Nothing}
+
+-- ---- values
+
+abbrev pub value_of : Pairs → List ℕ → Option (List ℕ)
+value_of pairs name = lookup (is_at (slice_cmp nat_cmp name)) pairs
+
+abbrev pub author_name : List ℕ
+author_name = codes "svn:author"
+
+abbrev pub log_name : List ℕ
+log_name = codes "svn:log"
+
+-- the line of a value, an empty one where there is none
+abbrev pub value_line : Option (List ℕ) → List ℕ
+value_line value = unwrap_or value [] ++ codes "\n"
+
+-- the line of the date that is stored, an empty one where there is none
+abbrev pub IsDateLine : Option (List ℕ) → List ℕ → Type 0
+IsDateLine None line = line ≡ codes "\n"
+IsDateLine (Some stored) line = (dt : DateTime) × IsDateText stored dt × (line ≡ shown_date dt ++ codes "\n")
+
+-- the length of the log in bytes, and the log; `0` alone where there is none
+abbrev pub log_lines : Option (List ℕ) → List ℕ
+log_lines None = codes "0\n"
+log_lines (Some log) = (decimal (length log) ++ codes "\n") ++ (log ++ codes "\n")
+
+-- author, date and log, where this is the date's line
+abbrev pub info_lines : Pairs → List ℕ → List ℕ
+info_lines pairs line = value_line (value_of pairs author_name) ++ line ++ log_lines (value_of pairs log_name)
+
+-- ---- the date, as it is read
+
+-- a stored date is in its form, or the revision is damaged
+abbrev pub date_checks : ℕ → Option (List ℕ) → List Check
+date_checks rev None = []
+date_checks rev (Some stored) = must ((dt : DateTime) × IsDateText stored dt) (damaged (place_of rev 0) what.BadDate) ∷ []
+
+abbrev pub DateLine : ℕ → Option (List ℕ) → Result (List ℕ) Wrong → Type 0
+DateLine rev stored = Judged (IsDateLine stored) (date_checks rev stored)
+
+-- ---- texts: whole, or nothing and why
+
+abbrev pub ReadText : (Result (List ℕ) Wrong → Type 0) → List ℕ → End → Type 0
+ReadText R text end =
+    Nothing Stopped text end
+    ⊎ ((R (Ok text) × (end ≡ Whole)) ⊎ ((w : Wrong) × R (Err w) × Nothing (Refused (faults.Wrong w)) text end))
+
+-- what is read of the properties of a revision
+abbrev pub PropText : (Pairs → Result (List ℕ) Wrong → Type 0) → RevisionBytes → ℕ → List ℕ → End → Type 0
+PropText R files rev = ReadText (AndThen (RevPropsOf files rev) R)
+
+abbrev pub AuthorText : RevisionBytes → ℕ → List ℕ → End → Type 0
+AuthorText = PropText (λ pairs r. r ≡ Ok (value_line (value_of pairs author_name)))
+
+abbrev pub LogText : RevisionBytes → ℕ → List ℕ → End → Type 0
+LogText = PropText (λ pairs r. r ≡ Ok (value_line (value_of pairs log_name)))
+
+abbrev pub DateText : RevisionBytes → ℕ → List ℕ → End → Type 0
+DateText files rev = PropText (λ pairs. DateLine rev (value_of pairs date_name)) files rev
+
+-- the date is read before anything is written, so a bad one leaves no line
+abbrev pub InfoText : RevisionBytes → ℕ → List ℕ → End → Type 0
+InfoText files rev = PropText (λ pairs. AndThen (DateLine rev (value_of pairs date_name)) (λ line r. r ≡ Ok (info_lines pairs line))) files rev

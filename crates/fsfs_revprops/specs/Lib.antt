@@ -1,0 +1,2 @@
+pub mod RevProps
+pub mod ShownDates
