@@ -22,7 +22,7 @@ use Rattle.fsfs_model.proofs.MergeWalk.{Premises, reached_or, fresh}
 use Rattle.fsfs_model.proofs.TwoMergesLaw.{premises}
 use Rattle.fsfs_merge.specs.Walks.{Sight, merges, is_stopped, stays, down, is_own, merged}
 use Rattle.fsfs_merge.specs.Laws.{Agrees, KeepsTexts, AreSame, IdsAreMarks}
-use Rattle.fsfs_merge.proofs.Sides.{own, since, own_quiet, head_quiet, later_props}
+use Rattle.fsfs_merge.proofs.Sides.{le_from, own, since, own_quiet, head_quiet, later_props}
 use Rattle.fsfs_merge.proofs.Texts.{keeps_texts}
 use Rattle.fsfs_merge.proofs.WalkLaw.{merges_all, merges_not, not_is, stops_as, merged_goes, by_marks, same_clash}
 use Rattle.std.proofs.lemmas.Bool.{and_from, and_parts, both_ways, cases_Bool, false_from_ne_true, not-true}
@@ -113,9 +113,6 @@ stays_new s x a b = λ i. if a i then s.head_same || (not s.own_same && s.goes_o
 
 le_not : (a b : ℕ) → nat_lt a b ≡ false → b ≤ a
 le_not a b h = grind (arith, nat_tests)
-
-le_from : (a b : ℕ) → nat_le a b ≡ true → a ≤ b
-le_from a b h = grind (arith, nat_tests)
 
 module _ (tree : ℕ → TreeFunction) (last b h n : ℕ) (t : TreeFunction) (marks : List Mark) (see : Path → Sight)
     (is : AreRevisions tree last) (was : IsTransaction tree last b t marks) (texts : KeepsTexts (tree b) t marks) (le : b ≤ h) (ge : h ≤ last)

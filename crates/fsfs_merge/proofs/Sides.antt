@@ -18,7 +18,7 @@ use Rattle.fsfs_model.proofs.NextHistory.{IsWhole, whole, at_most}
 use Rattle.std.proofs.lemmas.Option.{same_Some}
 use Rattle.std.proofs.lemmas.Bool.{and_from, and_parts, both_ways, false_from_ne_true}
 
-le_from : (a b : ℕ) → nat_le a b ≡ true → a ≤ b
+pub le_from : (a b : ℕ) → nat_le a b ≡ true → a ≤ b
 le_from a b h = grind (arith, nat_tests)
 
 le_to : (a b : ℕ) → a ≤ b → nat_le a b ≡ true
