@@ -25,15 +25,12 @@ use Rattle.fsfs_drafts.specs.Moving.{IsOpened, IsCutOff, IsLaidAnew, StepsMove, 
 use Rattle.fsfs_drafts.proofs.Here.{under_is, live_here, none_at, are_here}
 use Rattle.fsfs_drafts.proofs.Laying.{has_entry_of}
 use Rattle.fsfs_drafts.proofs.LayingKeeps.{stays_off, graft_here, at_name}
+use Rattle.fsfs_model.proofs.LandedContents as landed
 use Rattle.fsfs_drafts.proofs.StepLaw.{no_head, was_shared}
 use Rattle.fsfs_drafts.proofs.SettingLaw.{stays_set}
 use Rattle.fsfs_drafts.proofs.SideLaw.{none_held}
 use Rattle.fsfs_drafts.proofs.MarkLaw.{covers_front, held_front}
 use Rattle.fsfs_drafts.proofs.Moving.{same_choice, covers_same, above_more, above_child, longer_covers_not, held_goes, held_has, goes_shared, shared_held, live_above, held_graft, held_off, set_off}
-
-some_of : (o : Option Node) → is_some o ≡ true → (n : Node) × (o ≡ Some n)
-some_of None h = absurd (false≢true h)
-some_of (Some n) h = (n, refl)
 
 module _ (look : RevisionBytes) (trees : ℕ → TreeFunction) (top base : ℕ) (txn : TxnName) (s : Step look trees top base txn) where
   abbrev Old : Own
@@ -161,7 +158,7 @@ module _ (look : RevisionBytes) (trees : ℕ → TreeFunction) (top base : ℕ) 
     none_below r = none_at look top base trees s.shown s.within txn s.before s.own s.draft s.path s.directory s.is_directory.here s.name (no_head look trees top base txn s none) r
 
     had : has_entry s.directory.entries s.name ≡ true
-    had = let n = some_of (tree_before s (place_in s)) there in (was_shared look trees top base txn s none n.0 n.1).0
+    had = let n = landed.there (tree_before s (place_in s)) there in (was_shared look trees top base txn s none n.0 n.1).0
 
     has : is_some (named s.name s.new) ≡ true
     has = has_entry_of look top base trees s.shown s.within txn s.before s.own s.draft s.path s.directory s.is_directory.here s.is_directory.kind s.name s.entries s.is_directory.listed s.laid s.new s.after s.laying v is

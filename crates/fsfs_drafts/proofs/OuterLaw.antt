@@ -15,6 +15,7 @@ use Rattle.fsfs_flat.specs.declared.mark.What.{What}
 use Rattle.fsfs_flat.specs.declared.mark.What.TheVariants as whats
 use Rattle.fsfs_flat.specs.Marks.{any_covers, made, made_after, is_make, touches, is_gone, changes_props}
 use Rattle.fsfs_model.proofs.Tests.{found, found_in}
+use Rattle.fsfs_model.proofs.Applied.{same_path-refl}
 use Rattle.fsfs_model.proofs.Owns.{made_push}
 use Rattle.fsfs_fields.specs.declared.txn_name.TxnName.{TxnName}
 use Rattle.fsfs_book.specs.Told.{RevisionBytes}
@@ -45,10 +46,6 @@ same_path-is [] [] e = refl
 same_path-is [] (y ∷ q) e = absurd (false≢true e)
 same_path-is (x ∷ p) [] e = absurd (false≢true e)
 same_path-is (x ∷ p) (y ∷ q) e = let h = and_parts (same_name x y) (same_path p q) e in λ i. same_name-is x y h.0 i ∷ same_path-is p q h.1 i
-
-same_path-refl : (p : Path) → same_path p p ≡ true
-same_path-refl [] = refl
-same_path-refl (x ∷ p) = and_from _ _ (same_name-refl x) (same_path-refl p)
 
 same_longer : (p : Path) (y : PathName) (r : Path) → same_path p (p ++ y ∷ r) ≡ false
 same_longer [] y r = refl
