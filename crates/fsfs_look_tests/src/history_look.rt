@@ -1,6 +1,7 @@
 //! Histories of paths in revisions that Subversion wrote, with the lines of its own `svnlook history`; and damaged ones.
 use crate::revisions::{
-    COPIED_3, FILES_2, FIRST_DIRECTORY, MADE_1, MADE_2, MADE_3, MADE_4, MADE_5, MADE_6, MADE_7, book_of, path_of,
+    COPIED_3, FILES_2, FIRST_DIRECTORY, MADE_1, MADE_2, MADE_3, MADE_4, MADE_5, MADE_6, MADE_7,
+    book_of, path_of,
 };
 use fsfs_base::RevNum;
 use fsfs_damage::{Damage, DamageKind, RevOffset, Wrong};
@@ -77,7 +78,11 @@ fn copied_directory(rt: HostRuntime) -> Result<(), Fail> {
     let mut book = book_of(alloc, &[FIRST_DIRECTORY, FILES_2, COPIED_3])?;
     let absent = LookError::Fault(LookFault::NotFound { names: 2 });
     let table = [
-        ("/b/y", "REVISION   PATH\n--------   ----\n       3   /b/y\n       2   /a/y\n", Ok(())),
+        (
+            "/b/y",
+            "REVISION   PATH\n--------   ----\n       3   /b/y\n       2   /a/y\n",
+            Ok(()),
+        ),
         ("/b/z", "", Err(absent)),
     ];
     for (path, want, answer) in table {
@@ -113,14 +118,62 @@ fn damaged_histories(rt: HostRuntime) -> Result<(), Fail> {
     let of_7 = "REVISION   PATH\n--------   ----\n       7   /\n";
     let of_4 = "REVISION   PATH\n--------   ----\n       4   /u\n";
     let table = [
-        (short, MADE_4, MADE_6, MADE_7, 4, "/u", of_4, damaged(3, 10, DamageKind::Trailer)),
-        (MADE_3, MADE_4, short, MADE_7, 7, "/", of_7, damaged(6, 473, DamageKind::NodeRev)),
-        (MADE_3, MADE_4, MADE_6, other_id.as_slice(), 7, "/", of_7, damaged(6, 473, DamageKind::OtherId)),
-        (MADE_3, MADE_4, MADE_6, later.as_slice(), 7, "/", "", damaged(7, 768, DamageKind::PlaceOrder)),
-        (MADE_3, no_source.as_slice(), MADE_6, MADE_7, 4, "/u", of_4, Ok(())),
+        (
+            short,
+            MADE_4,
+            MADE_6,
+            MADE_7,
+            4,
+            "/u",
+            of_4,
+            damaged(3, 10, DamageKind::Trailer),
+        ),
+        (
+            MADE_3,
+            MADE_4,
+            short,
+            MADE_7,
+            7,
+            "/",
+            of_7,
+            damaged(6, 473, DamageKind::NodeRev),
+        ),
+        (
+            MADE_3,
+            MADE_4,
+            MADE_6,
+            other_id.as_slice(),
+            7,
+            "/",
+            of_7,
+            damaged(6, 473, DamageKind::OtherId),
+        ),
+        (
+            MADE_3,
+            MADE_4,
+            MADE_6,
+            later.as_slice(),
+            7,
+            "/",
+            "",
+            damaged(7, 768, DamageKind::PlaceOrder),
+        ),
+        (
+            MADE_3,
+            no_source.as_slice(),
+            MADE_6,
+            MADE_7,
+            4,
+            "/u",
+            of_4,
+            Ok(()),
+        ),
     ];
     for (third, fourth, sixth, seventh, rev, path, want, answer) in table {
-        let mut book = book_of(alloc, &[MADE_1, MADE_2, third, fourth, MADE_5, sixth, seventh])?;
+        let mut book = book_of(
+            alloc,
+            &[MADE_1, MADE_2, third, fourth, MADE_5, sixth, seventh],
+        )?;
         let mut sink = MemSink::new(alloc);
         let path = path_of(alloc, path)?;
         let done = history_text(alloc, &mut book, RevNum::from(rev), &path, &mut sink);

@@ -132,8 +132,16 @@ fn infos(rt: HostRuntime) -> Result<(), Fail> {
     let whole = "sal\n2014-07-21 09:25:14 +0000 (Mon, 21 Jul 2014)\n10\nfür\n\nalle\n";
     let table = [
         (ALL, whole, Ok(())),
-        (NO_LOG, "\n2024-01-02 03:04:05 +0000 (Tue, 02 Jan 2024)\n0\n", Ok(())),
-        (SALLYS, "sally\n2024-01-02 03:04:05 +0000 (Tue, 02 Jan 2024)\n3\nhey\n", Ok(())),
+        (
+            NO_LOG,
+            "\n2024-01-02 03:04:05 +0000 (Tue, 02 Jan 2024)\n0\n",
+            Ok(()),
+        ),
+        (
+            SALLYS,
+            "sally\n2024-01-02 03:04:05 +0000 (Tue, 02 Jan 2024)\n3\nhey\n",
+            Ok(()),
+        ),
         (NONE, "\n\n0\n", Ok(())),
         (BAD_DATE, "", wrong(DamageKind::BadDate)),
         (NO_DUMP, "", wrong(DamageKind::Props)),

@@ -16,8 +16,8 @@ invariant-loop-name g l = record {
   depth : l.depth ≡ l.name-index;
   kept : Keeps (g.B.Book.told l.fn.book) (g.B.Book.told l.book);
   count : g.B.Book.faults l.fn.book ≤ g.B.Book.faults l.book;
-  below : (home_of l.node.node).rev ≤ l.rev;
-  root : l.root.rev ≤ l.rev;
-  met : (look : RevisionBytes) → Knows (g.B.Book.told l.fn.book).revs l.rev look → (r : Result Met Wrong) → MetFrom look l.node.node l.depth (map string_bytes (drop l.name-index l.name-items)) r → MetAt look l.rev l.path r;
-  rooted : (look : RevisionBytes) → Knows (g.B.Book.told l.fn.book).revs l.rev look → (v : NodeRev) (last : ℕ × Path) → IsRootedFrom look l.node.node (root_value l.root) (map string_bytes (drop l.name-index l.name-items)) v last → IsRootedAt look l.rev l.path v last;
+  below : (home_of l.node.node).rev ≤ l.fn.rev;
+  root : l.root.rev ≤ l.fn.rev;
+  met : (look : RevisionBytes) → Knows (g.B.Book.told l.fn.book).revs l.fn.rev look → (r : Result Met Wrong) → MetFrom look l.node.node l.depth (map string_bytes (drop l.name-index l.name-items)) r → MetAt look l.fn.rev l.path r;
+  rooted : (look : RevisionBytes) → Knows (g.B.Book.told l.fn.book).revs l.fn.rev look → (v : NodeRev) (last : ℕ × Path) → IsRootedFrom look l.node.node (root_value l.root) (map string_bytes (drop l.name-index l.name-items)) v last → IsRootedAt look l.fn.rev l.path v last;
 }
