@@ -14,7 +14,7 @@ use crate::files::load;
 use crate::reads::Reads;
 use fsfs_book::BookFault;
 use fsfs_damage::Refusal;
-use fsfs_layout::{ManifestError, names, read_manifest};
+use fsfs_layout::{ManifestError, RepositoryFile, read_manifest};
 use std::alloc::Global;
 
 /// The manifest of a shard that was read last.
@@ -38,7 +38,7 @@ pub(crate) fn shard_offsets<R: Reads>(
     ensures cause { HasCause (R.faults reads.old) (R.faults reads.new) result }
 {
     let layout = reads.layout();
-    let text = load(alloc, reads, &names::manifest(shard))?;
+    let text = load(alloc, reads, &RepositoryFile::Manifest(shard).name(layout))?;
     match read_manifest(alloc, &text, shard, layout) {
         Ok(offsets) => Ok(offsets),
         Err(ManifestError::OutOfMemory) => Err(BookFault::OutOfMemory),

@@ -13,10 +13,86 @@ use Rattle.fsfs_grammar.proofs.Base36Texts.{base36_numeral}
 use Rattle.fsfs_fields.specs.TxnNames.{txn_text}
 use Rattle.fsfs_layout.specs.Names.{in_shard, in_pack}
 use Rattle.fsfs_layout.specs.Layouts.{shard_of}
-use Rattle.fsfs_layout.specs.FileNames.{only_name, RevsFile, Shard, Revision, PackFolder, Pack, Manifest, PropsFile, PropsShard, Props, TxnFile, Folder, Below, txn_file_end, ProtoFile, Texts, Lock, proto_file_end, File, Only, InRevs, InProps, OfTxn, OfProto, revs_name, props_name, file_name, FitsRevs, FitsProps, FitsFile, NamesAreApart}
+use Rattle.fsfs_fields.specs.declared.txn_name.TxnName.{TxnName}
+use Rattle.fsfs_layout.specs.FileNames.{only_name, file_name as name_of, FitsFile as Fits, NamesAreApart}
+use Rattle.fsfs_layout.specs.declared.repository_file.RepositoryFile.{RepositoryFile}
+use Rattle.fsfs_layout.specs.declared.repository_file.RepositoryFile.TheVariants as file
+use Rattle.fsfs_layout.specs.declared.txn_file.TxnFile.TheVariants as part
 use Rattle.fsfs_layout.specs.declared.layout.Layout.{Layout}
 use Rattle.fsfs_layout.specs.declared.only_file.OnlyFile.{OnlyFile}
 use Rattle.fsfs_layout.specs.declared.only_file.OnlyFile.TheVariants.{RepositoryFormat, Format, FormatNext, FsType, Uuid, Current, CurrentNext, MinUnpackedRev, MinUnpackedRevNext, TxnCurrent, TxnCurrentNext, TxnCurrentLock, WriteLock, Revisions, RevisionProps, Transactions, ProtoRevisions}
+
+-- ---- files by the folder that they are in
+
+data RevsFile : Type 0 where
+  Shard : ℕ → RevsFile
+  Revision : ℕ → RevsFile
+  PackFolder : ℕ → RevsFile
+  Pack : ℕ → RevsFile
+  Manifest : ℕ → RevsFile
+
+data PropsFile : Type 0 where
+  PropsShard : ℕ → PropsFile
+  Props : ℕ → PropsFile
+
+data TxnFile : Type 0 where
+  Folder : TxnFile
+  Below : List ℕ → TxnFile
+
+abbrev txn_file_end : TxnFile → List ℕ
+txn_file_end Folder = codes ".txn"
+txn_file_end (Below part) = codes ".txn/" ++ part
+
+data ProtoFile : Type 0 where
+  Texts : ProtoFile
+  Lock : ProtoFile
+
+abbrev proto_file_end : ProtoFile → List ℕ
+proto_file_end Texts = codes ".rev"
+proto_file_end Lock = codes ".rev-lock"
+
+data File : Type 0 where
+  Only : OnlyFile → File
+  InRevs : RevsFile → File
+  InProps : PropsFile → File
+  OfTxn : ℕ → ℕ → TxnFile → File
+  OfProto : ℕ → ℕ → ProtoFile → File
+
+abbrev revs_name : Layout → RevsFile → List ℕ
+revs_name layout (Shard n) = codes "db/revs/" ++ decimal n
+revs_name layout (Revision rev) = in_shard (codes "db/revs") layout rev
+revs_name layout (PackFolder n) = codes "db/revs/" ++ decimal n ++ codes ".pack"
+revs_name layout (Pack n) = in_pack n (codes "/pack")
+revs_name layout (Manifest n) = in_pack n (codes "/manifest")
+
+abbrev props_name : Layout → PropsFile → List ℕ
+props_name layout (PropsShard n) = codes "db/revprops/" ++ decimal n
+props_name layout (Props rev) = in_shard (codes "db/revprops") layout rev
+
+abbrev file_name : Layout → File → List ℕ
+file_name layout (Only f) = only_name f
+file_name layout (InRevs f) = revs_name layout f
+file_name layout (InProps f) = props_name layout f
+file_name layout (OfTxn base number f) = codes "db/transactions/" ++ txn_text base number ++ txn_file_end f
+file_name layout (OfProto base number f) = codes "db/txn-protorevs/" ++ txn_text base number ++ proto_file_end f
+
+abbrev FitsRevs : RevsFile → Type 0
+FitsRevs (Shard n) = n < 2 ^ 32
+FitsRevs (Revision rev) = rev < 2 ^ 32
+FitsRevs (PackFolder n) = n < 2 ^ 32
+FitsRevs (Pack n) = n < 2 ^ 32
+FitsRevs (Manifest n) = n < 2 ^ 32
+
+abbrev FitsProps : PropsFile → Type 0
+FitsProps (PropsShard n) = n < 2 ^ 32
+FitsProps (Props rev) = rev < 2 ^ 32
+
+abbrev FitsFile : File → Type 0
+FitsFile (Only f) = Unit {0}
+FitsFile (InRevs f) = FitsRevs f
+FitsFile (InProps f) = FitsProps f
+FitsFile (OfTxn base number f) = (base < 2 ^ 32) × (number < 170581728179578208256)
+FitsFile (OfProto base number f) = (base < 2 ^ 32) × (number < 170581728179578208256)
 
 -- ---- numbers in names
 
@@ -285,8 +361,8 @@ proto_ends Lock Lock e = refl
 
 -- ---- all names
 
-pub names_apart : (layout : Layout) → NamesAreApart layout
-names_apart k a b fa fb e = go a b fa fb e (sym (name_group k a) ∙ ap group e ∙ name_group k b)
+nested_apart : (layout : Layout) (a b : File) → FitsFile a → FitsFile b → file_name layout a ≡ file_name layout b → a ≡ b
+nested_apart k a b fa fb e = go a b fa fb e (sym (name_group k a) ∙ ap group e ∙ name_group k b)
   where
     go : (a b : File) → FitsFile a → FitsFile b → file_name k a ≡ file_name k b → group_of a ≡ group_of b → a ≡ b
     go (Only f) (Only g) fa fb e same = ap (λ (x : OnlyFile). Only x) (sym (only_back f) ∙ ap only_of e ∙ only_back g)
@@ -320,3 +396,81 @@ names_apart k a b fa fb e = go a b fa fb e (sym (name_group k a) ∙ ap group e 
     go (OfProto b m f) (InRevs g) fa fb e same = absurd cc
     go (OfProto b m f) (InProps g) fa fb e same = absurd cc
     go (OfProto b m f) (OfTxn c n g) fa fb e same = absurd cc
+
+abbrev nested : RepositoryFile → File
+nested (file.Only f) = Only f
+nested (file.Shard n) = InRevs (Shard n)
+nested (file.Revision rev) = InRevs (Revision rev)
+nested (file.PackFolder n) = InRevs (PackFolder n)
+nested (file.Pack n) = InRevs (Pack n)
+nested (file.Manifest n) = InRevs (Manifest n)
+nested (file.PropsShard n) = InProps (PropsShard n)
+nested (file.Props rev) = InProps (Props rev)
+nested (file.OfTxn txn part.Folder) = OfTxn txn.base txn.number.number Folder
+nested (file.OfTxn txn (part.Part name)) = OfTxn txn.base txn.number.number (Below name)
+nested (file.OfTxn txn part.ProtoRevision) = OfProto txn.base txn.number.number Texts
+nested (file.OfTxn txn part.ProtoRevisionLock) = OfProto txn.base txn.number.number Lock
+
+abbrev txn_of : ℕ → ℕ → TxnName
+txn_of b n = record { base = b; number = record { number = n } }
+
+abbrev flat : File → RepositoryFile
+flat (Only f) = file.Only f
+flat (InRevs (Shard n)) = file.Shard n
+flat (InRevs (Revision rev)) = file.Revision rev
+flat (InRevs (PackFolder n)) = file.PackFolder n
+flat (InRevs (Pack n)) = file.Pack n
+flat (InRevs (Manifest n)) = file.Manifest n
+flat (InProps (PropsShard n)) = file.PropsShard n
+flat (InProps (Props rev)) = file.Props rev
+flat (OfTxn b n Folder) = file.OfTxn (txn_of b n) part.Folder
+flat (OfTxn b n (Below name)) = file.OfTxn (txn_of b n) (part.Part name)
+flat (OfProto b n Texts) = file.OfTxn (txn_of b n) part.ProtoRevision
+flat (OfProto b n Lock) = file.OfTxn (txn_of b n) part.ProtoRevisionLock
+
+flat_nested : (f : RepositoryFile) → flat (nested f) ≡ f
+flat_nested (file.Only f) = refl
+flat_nested (file.Shard n) = refl
+flat_nested (file.Revision rev) = refl
+flat_nested (file.PackFolder n) = refl
+flat_nested (file.Pack n) = refl
+flat_nested (file.Manifest n) = refl
+flat_nested (file.PropsShard n) = refl
+flat_nested (file.Props rev) = refl
+flat_nested (file.OfTxn txn part.Folder) = refl
+flat_nested (file.OfTxn txn (part.Part name)) = refl
+flat_nested (file.OfTxn txn part.ProtoRevision) = refl
+flat_nested (file.OfTxn txn part.ProtoRevisionLock) = refl
+
+nested_name : (k : Layout) (f : RepositoryFile) → file_name k (nested f) ≡ name_of k f
+nested_name k (file.Only f) = refl
+nested_name k (file.Shard n) = refl
+nested_name k (file.Revision rev) = refl
+nested_name k (file.PackFolder n) = refl
+nested_name k (file.Pack n) = refl
+nested_name k (file.Manifest n) = refl
+nested_name k (file.PropsShard n) = refl
+nested_name k (file.Props rev) = refl
+nested_name k (file.OfTxn txn part.Folder) = refl
+nested_name k (file.OfTxn txn (part.Part name)) = refl
+nested_name k (file.OfTxn txn part.ProtoRevision) = refl
+nested_name k (file.OfTxn txn part.ProtoRevisionLock) = refl
+
+nested_fits : (f : RepositoryFile) → Fits f → FitsFile (nested f)
+nested_fits (file.Only f) fits = fits
+nested_fits (file.Shard n) fits = fits
+nested_fits (file.Revision rev) fits = fits
+nested_fits (file.PackFolder n) fits = fits
+nested_fits (file.Pack n) fits = fits
+nested_fits (file.Manifest n) fits = fits
+nested_fits (file.PropsShard n) fits = fits
+nested_fits (file.Props rev) fits = fits
+nested_fits (file.OfTxn txn part.Folder) fits = fits
+nested_fits (file.OfTxn txn (part.Part name)) fits = fits
+nested_fits (file.OfTxn txn part.ProtoRevision) fits = fits
+nested_fits (file.OfTxn txn part.ProtoRevisionLock) fits = fits
+
+pub names_apart : (layout : Layout) → NamesAreApart layout
+names_apart k a b fa fb e =
+    let same = nested_apart k (nested a) (nested b) (nested_fits a fa) (nested_fits b fb) (nested_name k a ∙ e ∙ sym (nested_name k b)) in
+    sym (flat_nested a) ∙ ap flat same ∙ flat_nested b

@@ -10,7 +10,7 @@ ghost use Rattle.fsfs_layout.specs.declared.opened.Opened.{Opened};
 use fsfs_base::{Name, SmallFault, SmallFile};
 use fsfs_disk::Disk;
 use fsfs_layout::{
-    Format, Layout, Opened, names, read_current, read_format, read_min_unpacked_rev,
+    Format, Layout, OnlyFile, Opened, read_current, read_format, read_min_unpacked_rev,
     read_txn_current, read_uuid,
 };
 use fsfs_places::{DiskPlace, OpenFault};
@@ -62,15 +62,15 @@ fn read_small_files<D: Disk>(alloc: Global, disk: &mut D) -> Result<SmallFiles, 
     ensures later { D.faults disk.old ≤ D.faults disk.new }
     ensures failed { IfErr result (IfUnread (Rose (D.faults disk.old) (D.faults disk.new))) }
 {
-    let format = match read_disk_file(alloc, disk, &names::format()) {
+    let format = match read_disk_file(alloc, disk, &OnlyFile::Format.name()) {
         Ok(found) => found,
         Err(fault) => return Err(outside(fault)),
     };
-    let fs_type = text_of(alloc, disk, &names::fs_type())?;
-    let uuid = text_of(alloc, disk, &names::uuid())?;
-    let current = text_of(alloc, disk, &names::current())?;
-    let min_unpacked_rev = text_of(alloc, disk, &names::min_unpacked_rev())?;
-    let txn_current = text_of(alloc, disk, &names::txn_current())?;
+    let fs_type = text_of(alloc, disk, &OnlyFile::FsType.name())?;
+    let uuid = text_of(alloc, disk, &OnlyFile::Uuid.name())?;
+    let current = text_of(alloc, disk, &OnlyFile::Current.name())?;
+    let min_unpacked_rev = text_of(alloc, disk, &OnlyFile::MinUnpackedRev.name())?;
+    let txn_current = text_of(alloc, disk, &OnlyFile::TxnCurrent.name())?;
     Ok(SmallFiles {
         format,
         fs_type,
