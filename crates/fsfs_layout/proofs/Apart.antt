@@ -9,12 +9,12 @@ use Rattle.std.proofs.Math.Nat.{div-le_self}
 use Rattle.fsfs_grammar.specs.Numeral.{digit, value_after, IsNumeral}
 use Rattle.fsfs_grammar.specs.Base36.{base36}
 use Rattle.fsfs_grammar.proofs.Unique.{AreDigits, decimal_numeral, numeral_digits}
-use Rattle.fsfs_grammar.proofs.Base36Texts.{base36_numeral}
+use Rattle.fsfs_grammar.proofs.Base36Texts.{base36_numeral, b36_same}
 use Rattle.fsfs_fields.specs.TxnNames.{txn_text}
-use Rattle.fsfs_layout.specs.Names.{in_shard, in_pack}
+use Rattle.fsfs_layout.specs.Names.{in_shard, in_pack, with_txn}
 use Rattle.fsfs_layout.specs.Layouts.{shard_of}
 use Rattle.fsfs_fields.specs.declared.txn_name.TxnName.{TxnName}
-use Rattle.fsfs_layout.specs.FileNames.{only_name, file_name as name_of, FitsFile as Fits, NamesAreApart}
+use Rattle.fsfs_layout.specs.FileNames.{only_name, file_name as name_of, FitsTxn, FitsFile as Fits, NamesAreApart}
 use Rattle.fsfs_layout.specs.declared.repository_file.RepositoryFile.{RepositoryFile}
 use Rattle.fsfs_layout.specs.declared.repository_file.RepositoryFile.TheVariants as file
 use Rattle.fsfs_layout.specs.declared.txn_file.TxnFile.TheVariants as part
@@ -55,8 +55,8 @@ data File : Type 0 where
   Only : OnlyFile → File
   InRevs : RevsFile → File
   InProps : PropsFile → File
-  OfTxn : ℕ → ℕ → TxnFile → File
-  OfProto : ℕ → ℕ → ProtoFile → File
+  OfTxn : TxnName → TxnFile → File
+  OfProto : TxnName → ProtoFile → File
 
 abbrev revs_name : Layout → RevsFile → List ℕ
 revs_name layout (Shard n) = codes "db/revs/" ++ decimal n
@@ -73,8 +73,8 @@ abbrev file_name : Layout → File → List ℕ
 file_name layout (Only f) = only_name f
 file_name layout (InRevs f) = revs_name layout f
 file_name layout (InProps f) = props_name layout f
-file_name layout (OfTxn base number f) = codes "db/transactions/" ++ txn_text base number ++ txn_file_end f
-file_name layout (OfProto base number f) = codes "db/txn-protorevs/" ++ txn_text base number ++ proto_file_end f
+file_name layout (OfTxn txn f) = with_txn (codes "db/transactions/") txn (txn_file_end f)
+file_name layout (OfProto txn f) = with_txn (codes "db/txn-protorevs/") txn (proto_file_end f)
 
 abbrev FitsRevs : RevsFile → Type 0
 FitsRevs (Shard n) = n < 2 ^ 32
@@ -91,8 +91,8 @@ abbrev FitsFile : File → Type 0
 FitsFile (Only f) = Unit {0}
 FitsFile (InRevs f) = FitsRevs f
 FitsFile (InProps f) = FitsProps f
-FitsFile (OfTxn base number f) = (base < 2 ^ 32) × (number < 170581728179578208256)
-FitsFile (OfProto base number f) = (base < 2 ^ 32) × (number < 170581728179578208256)
+FitsFile (OfTxn txn f) = FitsTxn txn
+FitsFile (OfProto txn f) = FitsTxn txn
 
 -- ---- numbers in names
 
@@ -130,18 +130,24 @@ same_base36 m n p q fits fits' c d e =
     let w = same_front 36 (base36 m) (base36 n) p q (numeral_digits 36 (base36 m) m a).0 (numeral_digits 36 (base36 n) n b).0 c d e in
     (same_number 36 m n (base36 m) (base36 n) a b w.0, w.1)
 
-record SameTxn (b c m n : ℕ) (p q : List ℕ) : Type 0 where
-  pub base : b ≡ c
-  pub number : m ≡ n
+same_name : (a b : TxnName) → a.base ≡ b.base → a.number.number ≡ b.number.number → a ≡ b
+same_name a b base number = let same : a.number ≡ b.number = b36_same a.number b.number number in λ i. record { base = base i; number = same i }
+
+record SameTxn (a b : TxnName) (p q : List ℕ) : Type 0 where
+  pub txn : a ≡ b
   pub rest : p ≡ q
 
-same_txn : (front p q : List ℕ) (b c m n : ℕ) → b < 2 ^ 32 → c < 2 ^ 32 → m < 170581728179578208256 → n < 170581728179578208256 → NoDigit 36 p → NoDigit 36 q → front ++ txn_text b m ++ p ≡ front ++ txn_text c n ++ q → SameTxn b c m n p q
-same_txn front p q b c m n fb fc fm fn np nq e =
+same_txn : (front p q : List ℕ) (a b : TxnName) → FitsTxn a → FitsTxn b → NoDigit 36 p → NoDigit 36 q → with_txn front a p ≡ with_txn front b q → SameTxn a b p q
+same_txn front p q s t fs ft np nq e =
+    let b = s.base in
+    let c = t.base in
+    let m = s.number.number in
+    let n = t.number.number in
     let one : front ++ (decimal b ++ (45 ∷ (base36 m ++ p))) ≡ front ++ (decimal c ++ (45 ∷ (base36 n ++ q))) = sym (parts b m p) ∙ e ∙ parts c n q in
-    let two = same_decimal b c (45 ∷ (base36 m ++ p)) (45 ∷ (base36 n ++ q)) (omega arith) (omega arith) (omega arith) (omega arith) (append_cancel_left front (decimal b ++ (45 ∷ (base36 m ++ p))) (decimal c ++ (45 ∷ (base36 n ++ q))) one) in
+    let two = same_decimal b c (45 ∷ (base36 m ++ p)) (45 ∷ (base36 n ++ q)) (omega (arith, fs.0)) (omega (arith, ft.0)) (omega arith) (omega arith) (append_cancel_left front (decimal b ++ (45 ∷ (base36 m ++ p))) (decimal c ++ (45 ∷ (base36 n ++ q))) one) in
     let tail = two.1 in
-    let three = same_base36 m n p q fm fn np nq (let t : base36 m ++ p ≡ base36 n ++ q = cc in t) in
-    record { base = two.0; number = three.0; rest = three.1 }
+    let three = same_base36 m n p q fs.1 ft.1 np nq (let t : base36 m ++ p ≡ base36 n ++ q = cc in t) in
+    record { txn = same_name s t two.0 three.0; rest = three.1 }
   where
     parts : (b m : ℕ) (p : List ℕ) → front ++ txn_text b m ++ p ≡ front ++ (decimal b ++ (45 ∷ (base36 m ++ p)))
     parts b m p = simp append_assoc
@@ -160,8 +166,8 @@ abbrev group_of : File → ℕ
 group_of (Only f) = 0
 group_of (InRevs f) = 1
 group_of (InProps f) = 2
-group_of (OfTxn base number f) = 3
-group_of (OfProto base number f) = 4
+group_of (OfTxn txn f) = 3
+group_of (OfProto txn f) = 4
 
 only_group : (f : OnlyFile) → group (only_name f) ≡ 0
 only_group RepositoryFormat = refl
@@ -191,8 +197,8 @@ name_group layout (InRevs (Pack n)) = refl
 name_group layout (InRevs (Manifest n)) = refl
 name_group layout (InProps (PropsShard n)) = refl
 name_group layout (InProps (Props rev)) = refl
-name_group layout (OfTxn base number f) = refl
-name_group layout (OfProto base number f) = refl
+name_group layout (OfTxn txn f) = refl
+name_group layout (OfProto txn f) = refl
 
 -- ---- within a folder
 
@@ -368,34 +374,34 @@ nested_apart k a b fa fb e = go a b fa fb e (sym (name_group k a) ∙ ap group e
     go (Only f) (Only g) fa fb e same = ap (λ (x : OnlyFile). Only x) (sym (only_back f) ∙ ap only_of e ∙ only_back g)
     go (InRevs f) (InRevs g) fa fb e same = ap (λ (x : RevsFile). InRevs x) (revs_apart k f g fa fb e)
     go (InProps f) (InProps g) fa fb e same = ap (λ (x : PropsFile). InProps x) (props_apart k f g fa fb e)
-    go (OfTxn b m f) (OfTxn c n g) fa fb e same =
-        let w = same_txn (codes "db/transactions/") (txn_file_end f) (txn_file_end g) b c m n fa.0 fb.0 fa.1 fb.1 (txn_no_digit f) (txn_no_digit g) e in
+    go (OfTxn s f) (OfTxn t g) fa fb e same =
+        let w = same_txn (codes "db/transactions/") (txn_file_end f) (txn_file_end g) s t fa fb (txn_no_digit f) (txn_no_digit g) e in
         let file = txn_ends f g w.rest in
-        λ i. OfTxn (w.base i) (w.number i) (file i)
-    go (OfProto b m f) (OfProto c n g) fa fb e same =
-        let w = same_txn (codes "db/txn-protorevs/") (proto_file_end f) (proto_file_end g) b c m n fa.0 fb.0 fa.1 fb.1 (proto_no_digit f) (proto_no_digit g) e in
+        λ i. OfTxn (w.txn i) (file i)
+    go (OfProto s f) (OfProto t g) fa fb e same =
+        let w = same_txn (codes "db/txn-protorevs/") (proto_file_end f) (proto_file_end g) s t fa fb (proto_no_digit f) (proto_no_digit g) e in
         let file = proto_ends f g w.rest in
-        λ i. OfProto (w.base i) (w.number i) (file i)
+        λ i. OfProto (w.txn i) (file i)
     go (Only f) (InRevs g) fa fb e same = absurd cc
     go (Only f) (InProps g) fa fb e same = absurd cc
-    go (Only f) (OfTxn c n g) fa fb e same = absurd cc
-    go (Only f) (OfProto c n g) fa fb e same = absurd cc
+    go (Only f) (OfTxn t g) fa fb e same = absurd cc
+    go (Only f) (OfProto t g) fa fb e same = absurd cc
     go (InRevs f) (Only g) fa fb e same = absurd cc
     go (InRevs f) (InProps g) fa fb e same = absurd cc
-    go (InRevs f) (OfTxn c n g) fa fb e same = absurd cc
-    go (InRevs f) (OfProto c n g) fa fb e same = absurd cc
+    go (InRevs f) (OfTxn t g) fa fb e same = absurd cc
+    go (InRevs f) (OfProto t g) fa fb e same = absurd cc
     go (InProps f) (Only g) fa fb e same = absurd cc
     go (InProps f) (InRevs g) fa fb e same = absurd cc
-    go (InProps f) (OfTxn c n g) fa fb e same = absurd cc
-    go (InProps f) (OfProto c n g) fa fb e same = absurd cc
-    go (OfTxn b m f) (Only g) fa fb e same = absurd cc
-    go (OfTxn b m f) (InRevs g) fa fb e same = absurd cc
-    go (OfTxn b m f) (InProps g) fa fb e same = absurd cc
-    go (OfTxn b m f) (OfProto c n g) fa fb e same = absurd cc
-    go (OfProto b m f) (Only g) fa fb e same = absurd cc
-    go (OfProto b m f) (InRevs g) fa fb e same = absurd cc
-    go (OfProto b m f) (InProps g) fa fb e same = absurd cc
-    go (OfProto b m f) (OfTxn c n g) fa fb e same = absurd cc
+    go (InProps f) (OfTxn t g) fa fb e same = absurd cc
+    go (InProps f) (OfProto t g) fa fb e same = absurd cc
+    go (OfTxn s f) (Only g) fa fb e same = absurd cc
+    go (OfTxn s f) (InRevs g) fa fb e same = absurd cc
+    go (OfTxn s f) (InProps g) fa fb e same = absurd cc
+    go (OfTxn s f) (OfProto t g) fa fb e same = absurd cc
+    go (OfProto s f) (Only g) fa fb e same = absurd cc
+    go (OfProto s f) (InRevs g) fa fb e same = absurd cc
+    go (OfProto s f) (InProps g) fa fb e same = absurd cc
+    go (OfProto s f) (OfTxn t g) fa fb e same = absurd cc
 
 abbrev nested : RepositoryFile → File
 nested (file.Only f) = Only f
@@ -406,13 +412,10 @@ nested (file.Pack n) = InRevs (Pack n)
 nested (file.Manifest n) = InRevs (Manifest n)
 nested (file.PropsShard n) = InProps (PropsShard n)
 nested (file.Props rev) = InProps (Props rev)
-nested (file.OfTxn txn part.Folder) = OfTxn txn.base txn.number.number Folder
-nested (file.OfTxn txn (part.Part name)) = OfTxn txn.base txn.number.number (Below name)
-nested (file.OfTxn txn part.ProtoRevision) = OfProto txn.base txn.number.number Texts
-nested (file.OfTxn txn part.ProtoRevisionLock) = OfProto txn.base txn.number.number Lock
-
-abbrev txn_of : ℕ → ℕ → TxnName
-txn_of b n = record { base = b; number = record { number = n } }
+nested (file.OfTxn txn part.Folder) = OfTxn txn Folder
+nested (file.OfTxn txn (part.Part name)) = OfTxn txn (Below name)
+nested (file.OfTxn txn part.ProtoRevision) = OfProto txn Texts
+nested (file.OfTxn txn part.ProtoRevisionLock) = OfProto txn Lock
 
 abbrev flat : File → RepositoryFile
 flat (Only f) = file.Only f
@@ -423,10 +426,10 @@ flat (InRevs (Pack n)) = file.Pack n
 flat (InRevs (Manifest n)) = file.Manifest n
 flat (InProps (PropsShard n)) = file.PropsShard n
 flat (InProps (Props rev)) = file.Props rev
-flat (OfTxn b n Folder) = file.OfTxn (txn_of b n) part.Folder
-flat (OfTxn b n (Below name)) = file.OfTxn (txn_of b n) (part.Part name)
-flat (OfProto b n Texts) = file.OfTxn (txn_of b n) part.ProtoRevision
-flat (OfProto b n Lock) = file.OfTxn (txn_of b n) part.ProtoRevisionLock
+flat (OfTxn txn Folder) = file.OfTxn txn part.Folder
+flat (OfTxn txn (Below name)) = file.OfTxn txn (part.Part name)
+flat (OfProto txn Texts) = file.OfTxn txn part.ProtoRevision
+flat (OfProto txn Lock) = file.OfTxn txn part.ProtoRevisionLock
 
 flat_nested : (f : RepositoryFile) → flat (nested f) ≡ f
 flat_nested (file.Only f) = refl
