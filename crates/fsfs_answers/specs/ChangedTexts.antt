@@ -1,6 +1,6 @@
 -- The text of the changed paths of a revision: a line for each. (It is the text of Subversion's own `svnlook changed`; the order of the
 -- lines by the bytes of paths, and the kind of what a replace took away, are this project's profile.)
-use Rattle.std.specs.Prelude.{ℕ, zero, suc, ◌-◌, Bool, true, false, nat_lt, List, [], ◌∷◌, ◌++◌, length, take, drop, map, Option, Some, None, codes, if◌then◌else◌}
+use Rattle.std.specs.Prelude.{ℕ, zero, suc, Bool, true, false, nat_le, List, [], ◌∷◌, ◌++◌, length, take, drop, map, Option, Some, None, codes, if◌then◌else◌}
 use Rattle.std.specs.List.{flat_map}
 use Rattle.std.specs.BTreeMap.{insert_entry}
 use Rattle.std.specs.Cmp.Lexicographic.{slice_cmp}
@@ -25,36 +25,48 @@ in_text_order changes = map (λ e. e.1) (put_changes [] changes)
 
 -- ---- where what a replace took away stood
 
-abbrev pub source_of_change : Option Change → Option (ℕ × Path)
-source_of_change None = None
-source_of_change (Some change) = change.source
-
 abbrev pub below_source : Option (ℕ × Path) → Path → Option (ℕ × Path) → Option (ℕ × Path)
 below_source None rest other = other
 below_source (Some from) rest other = Some (from.0, from.1 ++ rest)
 
--- below the source of the nearest changed path among the first `depth` names that has one
-abbrev pub nearest_source : (Path → Option Change) → Path → (depth : ℕ) → Option (ℕ × Path)
-nearest_source changes p zero = below_source (source_of_change (changes [])) p None
-nearest_source changes p (suc k) = below_source (source_of_change (changes (take (suc k) p))) (drop (suc k) p) (nearest_source changes p k)
+-- below the source of the nearest path above, of fewer than `depth` names, that has one
+abbrev pub nearest_source : (Path → Option (ℕ × Path)) → Path → (depth : ℕ) → Option (ℕ × Path)
+nearest_source sources p zero = None
+nearest_source sources p (suc k) = below_source (sources (take k p)) (drop k p) (nearest_source sources p k)
 
--- or at the path itself in the revision before
-abbrev pub or_before : ℕ → Path → Option (ℕ × Path) → ℕ × Path
-or_before rev p None = (rev - 1, p)
-or_before rev p (Some from) = from
+-- the path in the revision before; before the first there is none
+abbrev pub place_before : ℕ → Path → Option (ℕ × Path)
+place_before zero p = None
+place_before (suc r) p = Some (r, p)
 
-abbrev pub taken_from : ℕ → (Path → Option Change) → Path → ℕ × Path
-taken_from rev changes p = or_before rev p (nearest_source changes p (length p - 1))
+-- a place in this revision or an earlier one
+abbrev pub place_upto : ℕ → ℕ × Path → Option (ℕ × Path)
+place_upto rev from = if nat_le from.0 rev then Some from else None
+
+abbrev pub or_before : ℕ → Path → Option (ℕ × Path) → Option (ℕ × Path)
+or_before rev p None = place_before rev p
+or_before rev p (Some from) = place_upto rev from
+
+-- below the source of the nearest changed path above that has one, or at the path itself in the revision before
+abbrev pub taken_from : ℕ → (Path → Option (ℕ × Path)) → Path → Option (ℕ × Path)
+taken_from rev sources p = or_before rev p (nearest_source sources p (length p))
+
+abbrev pub source_of_change : Option Change → Option (ℕ × Path)
+source_of_change None = None
+source_of_change (Some change) = change.source
 
 -- the kind of a node, or this one where there is none
 abbrev pub kind_or : Kind → Option Node → Kind
 kind_or kind None = kind
 kind_or kind (Some node) = node.kind
 
--- the kind of what stood there, in an earlier revision; or that of the replace
+abbrev pub node_of_place : (ℕ → TreeFunction) → Option (ℕ × Path) → Option Node
+node_of_place tree None = None
+node_of_place tree (Some from) = tree from.0 from.1
+
+-- the kind of what stood there; or that of the replace
 abbrev pub taken_kind : ℕ → (ℕ → TreeFunction) → (Path → Option Change) → Path → Kind → Kind
-taken_kind rev tree changes p kind =
-    if nat_lt (taken_from rev changes p).0 rev then kind_or kind (tree (taken_from rev changes p).0 (taken_from rev changes p).1) else kind
+taken_kind rev tree changes p kind = kind_or kind (node_of_place tree (taken_from rev (λ q. source_of_change (changes q)) p))
 
 -- ---- lines
 
@@ -69,11 +81,15 @@ modified_line true false p kind = changed_line (codes "U ") p kind
 modified_line false true p kind = changed_line (codes "_U") p kind
 modified_line true true p kind = changed_line (codes "UU") p kind
 
+-- of a replace, what was taken away and what came
+abbrev pub replaced_lines : Path → (taken kind : Kind) → List ℕ
+replaced_lines p taken kind = changed_line (codes "D ") p taken ++ changed_line (codes "A ") p kind
+
 -- of a path, the kind of what a replace took away and its change
 abbrev pub action_lines : Path → Kind → Change → Action → List ℕ
 action_lines p taken change Add = changed_line (codes "A ") p change.kind
 action_lines p taken change Delete = changed_line (codes "D ") p change.kind
-action_lines p taken change Replace = changed_line (codes "D ") p taken ++ changed_line (codes "A ") p change.kind
+action_lines p taken change Replace = replaced_lines p taken change.kind
 action_lines p taken change Modify = modified_line change.text_changed change.props_changed p change.kind
 
 abbrev pub change_lines : ℕ → (ℕ → TreeFunction) → (Path → Option Change) → Path × Change → List ℕ
