@@ -5,7 +5,7 @@ use Rattle.std.specs.Prelude.{Option, Some, None, option_map, unwrap_or, codes, 
 use Rattle.std.specs.Str.{bytes_eq}
 use Rattle.clap.specs.Words.{first_of}
 use Rattle.fsfs_base.specs.Paths.{Path}
-use Rattle.fsfs_cli.specs.Commands.{create_app, youngest_app, uuid_app, revision_app, tree_app, cat_app, prop_verb, verb_named}
+use Rattle.fsfs_cli.specs.Commands.{create_app, youngest_app, uuid_app, revision_app, tree_app, cat_app, revision_verb, verb_named}
 use Rattle.fsfs_cli.specs.Grammars.{shard_of}
 use Rattle.fsfs_cli.specs.Readings.{Asks}
 use Rattle.fsfs_cli.specs.Words.{Asked, asked, asked_by, taken, number_of, shard_in, revision_in, pathless, create_in, tree_in, cat_in, printed_in, create_asked, tree_asked, cat_asked, printed_asked, printed_by}
@@ -80,22 +80,22 @@ admin_named : (a : Bool) (v : Verb) → (if a then Some verb.Create else None) �
 admin_named true v e = ap tool_of (same_Some verb.Create v e)
 admin_named false v e = absurd cc
 
-prop_named : (a b c d : Bool) (v : Verb) → (if a then Some verb.Author else if b then Some verb.Date else if c then Some verb.Log else if d then Some verb.Info else None) ≡ Some v → tools.Look ≡ tool_of v
-prop_named true b c d v e = ap tool_of (same_Some verb.Author v e)
-prop_named false true c d v e = ap tool_of (same_Some verb.Date v e)
-prop_named false false true d v e = ap tool_of (same_Some verb.Log v e)
-prop_named false false false true v e = ap tool_of (same_Some verb.Info v e)
-prop_named false false false false v e = absurd cc
+revision_named : (a b c d : Bool) (v : Verb) → (if a then Some verb.Author else if b then Some verb.Date else if c then Some verb.Log else if d then Some verb.Info else None) ≡ Some v → tools.Look ≡ tool_of v
+revision_named true b c d v e = ap tool_of (same_Some verb.Author v e)
+revision_named false true c d v e = ap tool_of (same_Some verb.Date v e)
+revision_named false false true d v e = ap tool_of (same_Some verb.Log v e)
+revision_named false false false true v e = ap tool_of (same_Some verb.Info v e)
+revision_named false false false false v e = absurd cc
 
-prop_word : (word : List ℕ) (v : Verb) → prop_verb word ≡ Some v → tools.Look ≡ tool_of v
-prop_word word v e = prop_named (bytes_eq word (codes "author")) (bytes_eq word (codes "date")) (bytes_eq word (codes "log")) (bytes_eq word (codes "info")) v e
+revision_word : (word : List ℕ) (v : Verb) → revision_verb word ≡ Some v → tools.Look ≡ tool_of v
+revision_word word v e = revision_named (bytes_eq word (codes "author")) (bytes_eq word (codes "date")) (bytes_eq word (codes "log")) (bytes_eq word (codes "info")) v e
 
-look_named : (word : List ℕ) (a b c d : Bool) (v : Verb) → (if a then Some verb.Youngest else if b then Some verb.Uuid else if c then Some verb.Tree else if d then Some verb.Cat else prop_verb word) ≡ Some v → tools.Look ≡ tool_of v
+look_named : (word : List ℕ) (a b c d : Bool) (v : Verb) → (if a then Some verb.Youngest else if b then Some verb.Uuid else if c then Some verb.Tree else if d then Some verb.Cat else revision_verb word) ≡ Some v → tools.Look ≡ tool_of v
 look_named word true b c d v e = ap tool_of (same_Some verb.Youngest v e)
 look_named word false true c d v e = ap tool_of (same_Some verb.Uuid v e)
 look_named word false false true d v e = ap tool_of (same_Some verb.Tree v e)
 look_named word false false false true v e = ap tool_of (same_Some verb.Cat v e)
-look_named word false false false false v e = prop_word word v e
+look_named word false false false false v e = revision_word word v e
 
 tool_named : (tool : Tool) (word : List ℕ) (v : Verb) → verb_named tool word ≡ Some v → tool ≡ tool_of v
 tool_named tools.Admin word v e = admin_named (bytes_eq word (codes "create")) v e

@@ -13,9 +13,9 @@ tool_name Admin = codes "svnadmin"
 tool_name Look = codes "svnlook"
 tool_name Jobs = codes "svnjobs"
 
--- the command that a word names, of those that print of a revision's properties
-abbrev pub prop_verb : List ℕ → Option Verb
-prop_verb word =
+-- the command that a word names, of those that look at a revision as a whole
+abbrev pub revision_verb : List ℕ → Option Verb
+revision_verb word =
     if bytes_eq word (codes "author") then Some Author
     else if bytes_eq word (codes "date") then Some Date
     else if bytes_eq word (codes "log") then Some Log
@@ -29,7 +29,7 @@ look_verb word =
     else if bytes_eq word (codes "uuid") then Some Uuid
     else if bytes_eq word (codes "tree") then Some Tree
     else if bytes_eq word (codes "cat") then Some Cat
-    else prop_verb word
+    else revision_verb word
 
 abbrev pub verb_named : Tool → List ℕ → Option Verb
 verb_named Admin word = if bytes_eq word (codes "create") then Some Create else None

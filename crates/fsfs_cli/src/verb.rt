@@ -1,6 +1,6 @@
 //! The word that names a command.
 ghost use Rattle.std.specs.Prelude.{◌≡◌};
-ghost use Rattle.fsfs_cli.specs.Commands.{prop_verb as prop_verb_named, verb_named};
+ghost use Rattle.fsfs_cli.specs.Commands.{revision_verb as revision_verb_named, verb_named};
 
 use crate::tool::Tool;
 
@@ -60,13 +60,13 @@ fn look_verb(word: &str) -> Option<Verb>
     } else if word == "cat" {
         Some(Verb::Cat)
     } else {
-        prop_verb(word)
+        revision_verb(word)
     }
 }
 
-// The command that prints of a revision's properties.
-fn prop_verb(word: &str) -> Option<Verb>
-    ensures { result ≡ prop_verb_named word.now }
+// The command of those that look at a revision as a whole.
+fn revision_verb(word: &str) -> Option<Verb>
+    ensures { result ≡ revision_verb_named word.now }
 {
     if word == "author" {
         Some(Verb::Author)
