@@ -14,14 +14,14 @@ use Rattle.fsfs_tree.specs.declared.change_map.Change.{Change}
 use Rattle.fsfs_tree.specs.Nodes.{Node, TreeFunction}
 use Rattle.fsfs_answers.specs.TreeTexts.{kind_mark}
 
--- ---- changed paths by their texts, in the order of the bytes of these
+-- ---- things by a text of each, in the order of the bytes of these
 
-abbrev pub put_changes : List (List ℕ × (Path × Change)) → List (Path × Change) → List (List ℕ × (Path × Change))
-put_changes found [] = found
-put_changes found (e ∷ es) = put_changes (insert_entry (slice_cmp nat_cmp) found (path_text e.0) e) es
+abbrev pub put_by : {A : Type 0} → (A → List ℕ) → List (List ℕ × A) → List A → List (List ℕ × A)
+put_by text found [] = found
+put_by text found (x ∷ xs) = put_by text (insert_entry (slice_cmp nat_cmp) found (text x) x) xs
 
 abbrev pub in_text_order : List (Path × Change) → List (Path × Change)
-in_text_order changes = map (λ e. e.1) (put_changes [] changes)
+in_text_order changes = map (λ e. e.1) (put_by (λ e. path_text e.0) [] changes)
 
 -- ---- where what a replace took away stood
 
