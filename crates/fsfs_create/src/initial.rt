@@ -78,7 +78,15 @@ pub fn created_files(
     add(&mut files, OnlyFile::MinUnpackedRev.name(), floor)?;
     add(&mut files, OnlyFile::WriteLock.name(), Vec::new(alloc))?;
     add(&mut files, OnlyFile::TxnCurrentLock.name(), Vec::new(alloc))?;
-    add(&mut files, RepositoryFile::Revision(RevNum::ZERO).name(layout), revision)?;
-    add(&mut files, RepositoryFile::Props(RevNum::ZERO).name(layout), props)?;
+    add(
+        &mut files,
+        RepositoryFile::Revision(RevNum::ZERO).name(layout),
+        revision,
+    )?;
+    add(
+        &mut files,
+        RepositoryFile::Props(RevNum::ZERO).name(layout),
+        props,
+    )?;
     Ok(files)
 }

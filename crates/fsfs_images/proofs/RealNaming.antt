@@ -59,7 +59,7 @@ pub machine_names_apart : (layout : Layout) → AreMachineNames layout
 machine_names_apart k = record {
   same = λ a b e. ap (file_name k) (same_files a b e);
   apart = λ a b fa fb differ e.
-    let file : machine_file b ≡ machine_file a = names_apart k (machine_file b) (machine_file a) fb fa e in
-    let name : b ≡ a = sym (is_back b) ∙ ap back file ∙ is_back a in
-    not_false (same_name a b) (ap (λ (n : FileName). same_name a n) name ∙ is_same a) differ;
+      let file : machine_file b ≡ machine_file a = names_apart k (machine_file b) (machine_file a) fb fa e in
+      let name : b ≡ a = sym (is_back b) ∙ ap back file ∙ is_back a in
+      not_false (same_name a b) (ap (λ (n : FileName). same_name a n) name ∙ is_same a) differ;
 }

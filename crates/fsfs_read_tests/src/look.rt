@@ -5,9 +5,7 @@ use fsfs_damage::{Damage, DamageKind, RepWhat, RevOffset, Wrong};
 use fsfs_look::{LookError, cat, tree_text};
 use fsfs_memstreams::MemSink;
 use fsfs_printed::LookFault;
-use fsfs_samples::{
-    EMPTY_FILE, FIRST_DIRECTORY, MADE_1, MADE_2, MADE_3, SHORT_TEXT, book_of,
-};
+use fsfs_samples::{EMPTY_FILE, FIRST_DIRECTORY, MADE_1, MADE_2, MADE_3, SHORT_TEXT, book_of};
 use std::test::Fail;
 
 // The trees that Subversion's own `svnlook tree --show-ids` prints.

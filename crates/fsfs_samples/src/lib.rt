@@ -3,4 +3,6 @@
 
 mod revisions;
 
-pub use revisions::{EMPTY_FILE, FIRST_DIRECTORY, MADE_1, MADE_2, MADE_3, REVISION_0, SHORT_TEXT, book_of};
+pub use revisions::{
+    EMPTY_FILE, FIRST_DIRECTORY, MADE_1, MADE_2, MADE_3, REVISION_0, SHORT_TEXT, book_of,
+};
