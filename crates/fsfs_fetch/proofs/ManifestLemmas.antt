@@ -3,7 +3,7 @@ use Rattle.std.proofs.Common.{◌≡◌, ◌≤◌, ◌+◌, ◌*◌, ℕ, List,
 use Rattle.std.specs.Prelude.{Option, Some, None, Result, Ok, Err, ◌==◌, unwrap_or}
 use Rattle.std.specs.List.{AllByRecursion, flat_map}
 use Rattle.std.specs.Fmt.{decimal}
-use Rattle.std.proofs.lemmas.List.{length-append}
+use Rattle.std.proofs.lemmas.List.{length-append, take_all}
 use Rattle.std.proofs.lemmas.Fmt.{length-decimal-le}
 use Rattle.std.proofs.lemmas.Bool.{eqb-true}
 use Rattle.std.specs.Cmp.Lexicographic.{same_text, nat_list_eq_equiv}
@@ -74,7 +74,7 @@ read_serves n m rev shard offsets read =
 
 -- the first bytes of a file, or of nothing
 pub first_or : (most : ℕ) (file : Option (List ℕ)) → unwrap_or (first_of most file) [] ≡ take most (unwrap_or file [])
-first_or most None = refl
+first_or most None = sym (take_all most [] (omega arith))
 first_or most (Some bytes) = refl
 
 line_short : (n : ℕ) → n ≤ 18446744073709551615 → length (offset_line n) ≤ 21

@@ -1,18 +1,17 @@
 -- What the first bytes of the small files tell is what the files tell.
-use Rattle.std.proofs.Common.{◌≡◌, ◌⊎◌, ◌≤◌, ◌-◌, ℕ, zero, suc, List, [], ◌∷◌, ◌++◌, length, take, drop, inl, inr, ⊎_elim, refl, sym, ap, subst, ◌∙◌, append_assoc, arith}
-use Rattle.std.specs.Prelude.{Option, Some, None, IfSome, Result, Ok, Err, IfErr, IfOk, option_map, codes}
+use Rattle.std.proofs.Common.{◌≡◌, ◌≤◌, ◌-◌, ℕ, zero, suc, List, [], ◌∷◌, ◌++◌, length, take, drop, inl, inr, ⊎_elim, refl, sym, ap, subst, ◌∙◌, append_assoc, arith}
+use Rattle.std.specs.Prelude.{Option, Some, None, Result, Ok, Err, IfOk, option_map, codes}
 use Rattle.std.proofs.lemmas.Option.{same_Some}
-use Rattle.std.proofs.lemmas.List.{take-append-drop, take-append-le, length-take, take_all}
+use Rattle.std.proofs.lemmas.List.{take-append-drop}
 use Rattle.fsfs_base.specs.declared.small_fault.SmallFault.{SmallFault}
 use Rattle.fsfs_base.specs.declared.small_fault.SmallFile.{SmallFile}
-use Rattle.fsfs_disk.specs.Trace.{Trace, files_now}
-use Rattle.fsfs_layout.specs.Formats.{IsFormat, IsOurFormat, IsOtherFormat}
+use Rattle.fsfs_layout.specs.Formats.{IsFormat, IsOurFormat}
 use Rattle.fsfs_layout.specs.Small.{IsUuid, IsRevLine, IsBase36Line, IsRefusedFile, IsMinUnpackedFault}
 use Rattle.fsfs_layout.specs.declared.format_file.Format.{Format}
 use Rattle.fsfs_layout.specs.declared.format_file.Format.TheVariants.{Linear, Sharded, Other}
 use Rattle.fsfs_layout.specs.declared.layout.Layout.{Layout}
 use Rattle.fsfs_layout.specs.declared.opened.Opened.{Opened}
-use Rattle.fsfs_layout.specs.Opening.{SmallTexts, small_texts, IsFsfs, IsNone, HasFormat, IsLinear, IsOpened, IsOpenedBehind, IsRefused, IsRefusedFormat, IsRefusedBehind, IsPastYoungest}
+use Rattle.fsfs_layout.specs.Opening.{SmallTexts, IsFsfs, IsNone, IsOpened, IsOpenedBehind, IsRefused, IsRefusedFormat, IsRefusedBehind, IsPastYoungest}
 use Rattle.fsfs_whole_file.specs.FirstBytes.{IsShorter}
 use Rattle.fsfs_whole_file.proofs.FirstBytesLemmas.{all_of_short, text_of_first, first_of_text, fault_of_first}
 use Rattle.fsfs_repo.specs.FirstTexts.{first_texts}
@@ -163,18 +162,18 @@ behind_refused layout s fault (inr w) = inr (
   w.0,
   text_of_first IsUuid 64 s.uuid w.0 uuid_short w.1,
   ⊎_elim (λ current. inl (refused_of_first _ IsRevLine s.current fault rev_line_short current))
-  (λ v. inr (
-    v.0,
-    text_of_first IsRevLine 64 s.current v.0 rev_line_short v.1,
-    ⊎_elim (λ floor. inl (floor_of_first layout s.min_unpacked_rev fault floor))
-    (λ u. inr (⊎_elim (λ past. inl (past_of_first layout s fault past))
-    (λ x. inr (
-      x.0,
-      (text_of_first IsRevLine 64 s.min_unpacked_rev x.0 rev_line_short x.1.0, x.1.1),
-      x.2,
-      refused_of_first _ IsBase36Line s.txn_current fault base36_line_short x.3,
-    )) u)) v.2,
-  )) w.2,
+      (λ v. inr (
+        v.0,
+        text_of_first IsRevLine 64 s.current v.0 rev_line_short v.1,
+        ⊎_elim (λ floor. inl (floor_of_first layout s.min_unpacked_rev fault floor))
+            (λ u. inr (⊎_elim (λ past. inl (past_of_first layout s fault past))
+            (λ x. inr (
+              x.0,
+              (text_of_first IsRevLine 64 s.min_unpacked_rev x.0 rev_line_short x.1.0, x.1.1),
+              x.2,
+              refused_of_first _ IsBase36Line s.txn_current fault base36_line_short x.3,
+            )) u)) v.2,
+      )) w.2,
 )
 
 format_refused : (text : List ℕ) (fault : SmallFault) → IsRefusedFormat (take 64 text) fault → IsRefusedFormat text fault
@@ -189,11 +188,11 @@ small_of_first s fault w =
       h.text,
       h.is,
       ⊎_elim (λ format. inl (format_refused h.text fault (subst (λ (t : List ℕ). IsRefusedFormat t fault) (sym h.begins) format)))
-      (λ v. inr (
-        v.0,
-        format_of_first h.text (Sharded v.0.shard_size) (subst (λ (t : List ℕ). IsFormat t (Sharded v.0.shard_size)) (sym h.begins) v.1),
-        behind_refused v.0 s fault v.2,
-      )) w.2,
+          (λ v. inr (
+            v.0,
+            format_of_first h.text (Sharded v.0.shard_size) (subst (λ (t : List ℕ). IsFormat t (Sharded v.0.shard_size)) (sym h.begins) v.1),
+            behind_refused v.0 s fault v.2,
+          )) w.2,
     )
 
 -- ---- what is judged by the first bytes is judged by the files

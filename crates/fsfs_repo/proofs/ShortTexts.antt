@@ -1,9 +1,8 @@
 -- No text of a small file's format has 64 bytes.
-use Rattle.std.proofs.Common.{◌≡◌, ◌⊎◌, ℕ, ◌<◌, ◌≤◌, ◌+◌, List, [], ◌∷◌, ◌++◌, length, sym, ap, subst, ◌∙◌, ⊎_elim, arith}
+use Rattle.std.proofs.Common.{◌≡◌, ℕ, ◌≤◌, ◌+◌, List, [], ◌∷◌, length, sym, ap, subst, ◌∙◌, ⊎_elim, arith}
 use Rattle.std.proofs.lemmas.List.{length-append}
 use Rattle.std.proofs.lemmas.Fmt.{length-decimal-le}
 use Rattle.fsfs_grammar.specs.Numeral.{IsNumber}
-use Rattle.fsfs_grammar.specs.Base36.{base36}
 use Rattle.fsfs_grammar.proofs.Unique.{numeral_decimal}
 use Rattle.fsfs_grammar.proofs.Base36Texts.{numeral_base36, length-last_digits}
 use Rattle.fsfs_layout.specs.Formats.{IsLayout, IsOurFormat}
@@ -35,14 +34,14 @@ layout_short : (text : List ℕ) (f : Format) → IsLayout text f → length tex
 layout_short text f w =
     let word : length w.first ≡ 7 = ap length w.first_is in
     let rest : length w.second ≤ 29 = ⊎_elim
-        (λ s. let a : length s.first ≡ 8 = ap length s.first_is in
-        let b : length s.second ≤ 21 = decimal_line_short 2147483647 10 s.second s.second_is.inner (omega arith) s.second_is.inner_is.0 in
-        let c : length w.second ≡ length s.first + length s.second = ap length s.parts ∙ length-append s.first s.second in
-        omega (arith, a, b, c))
-        (λ l. let a : length l.first ≡ 6 = ap length l.first_is in
-        let b : length l.second ≡ 1 = ap length l.second_is.inner_is in
-        let c : length w.second ≡ length l.first + length l.second = ap length l.parts ∙ length-append l.first l.second in
-        omega (arith, a, b, c)) w.second_is in
+    (λ s. let a : length s.first ≡ 8 = ap length s.first_is in
+    let b : length s.second ≤ 21 = decimal_line_short 2147483647 10 s.second s.second_is.inner (omega arith) s.second_is.inner_is.0 in
+    let c : length w.second ≡ length s.first + length s.second = ap length s.parts ∙ length-append s.first s.second in
+    omega (arith, a, b, c))
+    (λ l. let a : length l.first ≡ 6 = ap length l.first_is in
+    let b : length l.second ≡ 1 = ap length l.second_is.inner_is in
+    let c : length w.second ≡ length l.first + length l.second = ap length l.parts ∙ length-append l.first l.second in
+    omega (arith, a, b, c)) w.second_is in
     omega (arith, ap length w.parts, length-append w.first w.second, word, rest)
 
 pub our_format_short : IsShorter 64 IsOurFormat

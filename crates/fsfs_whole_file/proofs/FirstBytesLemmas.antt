@@ -1,5 +1,5 @@
 -- What the first bytes of a file tell of it, where no text of its grammar has so many.
-use Rattle.std.proofs.Common.{◌≡◌, ◌≤◌, ◌<◌, ℕ, ◌+◌, List, [], ◌++◌, length, take, min, sym, ap, subst, ◌∙◌, arith}
+use Rattle.std.proofs.Common.{◌≡◌, ◌≤◌, ◌<◌, ℕ, ◌+◌, List, ◌++◌, length, take, min, sym, ap, subst, ◌∙◌, arith}
 use Rattle.std.specs.Prelude.{Option, Some, None}
 use Rattle.std.proofs.lemmas.List.{length-take, length-append, take_all, take-take}
 use Rattle.fsfs_grammar.specs.Grammar.{GoesOn, IsFaultAt}

@@ -1,4 +1,4 @@
-use Rattle.std.proofs.Common.{◌≡◌, ◌≤◌, ◌<◌, ℕ, List, length}
+use Rattle.std.proofs.Common.{◌≤◌, ◌<◌, ℕ, List, length}
 use Rattle.std.specs.Prelude.{Option}
 use Rattle.fsfs_disk.proofs.WholeFiles.{IsFrontOf}
 use Rattle.fsfs_whole_file.proofs.whole_file.read_file.Given as goal
