@@ -2,7 +2,6 @@
 ghost use Rattle.std.specs.Prelude.{◌≡◌, ◌≤◌, length, IfOk, string_bytes};
 
 use fsfs_base::{Name, read_txn_name};
-use libc::types::rlimit;
 use std::alloc::{AllocGlobal, Global};
 use std::fs::{File, Files, Metadata};
 use std::io::{ErrorKind, Write};
@@ -79,25 +78,9 @@ const MAX_OFFSET: u64 = 0x7fff_ffff_ffff_ffff;
 // No file grows longer than this.
 const MAX_LENGTH: u64 = 1 << 62;
 
-// What the system is asked for: how long a file the process may write (Linux's number).
-const RLIMIT_FSIZE: i32 = 1;
-
-// The greatest length of a file here. A write past the process's limit ends it by a signal, SIGXFSZ, which a program can't ignore
-// in this language, so it is refused before.
-fn longest() -> u64 {
-    let mut limit = rlimit {
-        rlim_cur: MAX_LENGTH,
-        rlim_max: MAX_LENGTH,
-    };
-    if libc::getrlimit(RLIMIT_FSIZE, &mut limit) != 0 {
-        return MAX_LENGTH;
-    }
-    limit.rlim_cur.min(MAX_LENGTH)
-}
-
 // Refuses so many bytes at the end of a file of this length where it would grow too long.
 pub fn refuse_too_long(length: u64, more: usize) -> io::Result<()> {
-    if longest() < length.saturating_add(more as u64) {
+    if MAX_LENGTH < length.saturating_add(more as u64) {
         return Err(io::Error::from(ErrorKind::FileTooLarge));
     }
     Ok(())
