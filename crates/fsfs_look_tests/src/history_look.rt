@@ -1,15 +1,23 @@
 //! Histories of paths in revisions that Subversion wrote, with the lines of its own `svnlook history`; and damaged ones.
 use crate::revisions::{
-    COPIED_3, FILES_2, FIRST_DIRECTORY, MADE_1, MADE_2, MADE_3, MADE_4, MADE_5, MADE_6, MADE_7,
-    book_of, path_of,
+    COPIED_DIRECTORY, NESTED_1, NESTED_2, NESTED_3, NESTED_4, NESTED_5, NESTED_6, NESTED_7, TWO_FILES,
 };
-use fsfs_base::RevNum;
+use fsfs_base::{FsPath, RevNum};
 use fsfs_damage::{Damage, DamageKind, RevOffset, Wrong};
 use fsfs_history_look::history_text;
 use fsfs_look::LookError;
 use fsfs_memstreams::MemSink;
 use fsfs_printed::LookFault;
+use fsfs_samples::{FIRST_DIRECTORY, book_of};
+use std::alloc::Global;
 use std::test::Fail;
+
+fn path_of(alloc: Global, path: &str) -> Result<FsPath, Fail> {
+    match FsPath::parse(alloc, path) {
+        Ok(path) => Ok(path),
+        Err(_) => Err(Fail::from("no path")),
+    }
+}
 
 // Through three copies inside one another; what replaced a file, of another kind or copied; a directory in which that was
 // done; a file replaced by a copied directory, and what stands in it; and the root.
@@ -59,7 +67,7 @@ const HISTORIES: [(u16, &str, &str); 8] = [
 #[test]
 fn histories_of_subversion(rt: HostRuntime) -> Result<(), Fail> {
     let alloc = rt.alloc();
-    let made = [MADE_1, MADE_2, MADE_3, MADE_4, MADE_5, MADE_6, MADE_7];
+    let made = [NESTED_1, NESTED_2, NESTED_3, NESTED_4, NESTED_5, NESTED_6, NESTED_7];
     let mut book = book_of(alloc, &made)?;
     for (rev, path, want) in HISTORIES {
         let mut sink = MemSink::new(alloc);
@@ -75,7 +83,7 @@ fn histories_of_subversion(rt: HostRuntime) -> Result<(), Fail> {
 #[test]
 fn copied_directory(rt: HostRuntime) -> Result<(), Fail> {
     let alloc = rt.alloc();
-    let mut book = book_of(alloc, &[FIRST_DIRECTORY, FILES_2, COPIED_3])?;
+    let mut book = book_of(alloc, &[FIRST_DIRECTORY, TWO_FILES, COPIED_DIRECTORY])?;
     let absent = LookError::Fault(LookFault::NotFound { names: 2 });
     let table = [
         (
@@ -108,11 +116,11 @@ fn damaged(rev: u16, offset: u64, what: DamageKind) -> Result<(), LookError> {
 #[test]
 fn damaged_histories(rt: HostRuntime) -> Result<(), Fail> {
     let alloc = rt.alloc();
-    let mut other_id = Vec::from_slice(alloc, MADE_7)?;
+    let mut other_id = Vec::from_slice(alloc, NESTED_7)?;
     other_id[799] = b'1';
-    let mut later = Vec::from_slice(alloc, MADE_7)?;
+    let mut later = Vec::from_slice(alloc, NESTED_7)?;
     later[804] = b'8';
-    let mut no_source = Vec::from_slice(alloc, MADE_4)?;
+    let mut no_source = Vec::from_slice(alloc, NESTED_4)?;
     no_source[129] = b'q';
     let short = b"no trailer".as_slice();
     let of_7 = "REVISION   PATH\n--------   ----\n       7   /\n";
@@ -120,28 +128,28 @@ fn damaged_histories(rt: HostRuntime) -> Result<(), Fail> {
     let table = [
         (
             short,
-            MADE_4,
-            MADE_6,
-            MADE_7,
+            NESTED_4,
+            NESTED_6,
+            NESTED_7,
             4,
             "/u",
             of_4,
             damaged(3, 10, DamageKind::Trailer),
         ),
         (
-            MADE_3,
-            MADE_4,
+            NESTED_3,
+            NESTED_4,
             short,
-            MADE_7,
+            NESTED_7,
             7,
             "/",
             of_7,
             damaged(6, 473, DamageKind::NodeRev),
         ),
         (
-            MADE_3,
-            MADE_4,
-            MADE_6,
+            NESTED_3,
+            NESTED_4,
+            NESTED_6,
             other_id.as_slice(),
             7,
             "/",
@@ -149,9 +157,9 @@ fn damaged_histories(rt: HostRuntime) -> Result<(), Fail> {
             damaged(6, 473, DamageKind::OtherId),
         ),
         (
-            MADE_3,
-            MADE_4,
-            MADE_6,
+            NESTED_3,
+            NESTED_4,
+            NESTED_6,
             later.as_slice(),
             7,
             "/",
@@ -159,10 +167,10 @@ fn damaged_histories(rt: HostRuntime) -> Result<(), Fail> {
             damaged(7, 768, DamageKind::PlaceOrder),
         ),
         (
-            MADE_3,
+            NESTED_3,
             no_source.as_slice(),
-            MADE_6,
-            MADE_7,
+            NESTED_6,
+            NESTED_7,
             4,
             "/u",
             of_4,
@@ -172,7 +180,7 @@ fn damaged_histories(rt: HostRuntime) -> Result<(), Fail> {
     for (third, fourth, sixth, seventh, rev, path, want, answer) in table {
         let mut book = book_of(
             alloc,
-            &[MADE_1, MADE_2, third, fourth, MADE_5, sixth, seventh],
+            &[NESTED_1, NESTED_2, third, fourth, NESTED_5, sixth, seventh],
         )?;
         let mut sink = MemSink::new(alloc);
         let path = path_of(alloc, path)?;
