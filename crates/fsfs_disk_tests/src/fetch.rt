@@ -1,5 +1,4 @@
 //! Reads over a disk in memory: revisions in files of their own, and the first shard packed.
-use crate::revisions::{FIRST_DIRECTORY, REVISION_0};
 use fsfs_base::{Name, RevNum, SmallFault, SmallFile};
 use fsfs_book::{Book, BookFault};
 use fsfs_damage::Refusal;
@@ -7,6 +6,7 @@ use fsfs_disk::Disk;
 use fsfs_fetch::{Direct, OwnedReads, disk_of, over_disk};
 use fsfs_layout::Layout;
 use fsfs_memdisk::MemDisk;
+use fsfs_samples::{FIRST_DIRECTORY, REVISION_0};
 use std::alloc::Global;
 use std::test::Fail;
 

@@ -3,7 +3,7 @@ use Rattle.std.specs.Prelude.{Some, IsSome}
 use Rattle.fsfs_disk.specs.Trace.{file_at}
 use Rattle.fsfs_disk.proofs.TraceLemmas.{file_at-put}
 use Rattle.fsfs_memdisk.specs.MemDisk.{trace_of}
-use Rattle.fsfs_read_tests.proofs.memdisk.renamed.Goals as goal
+use Rattle.fsfs_disk_tests.proofs.memdisk.renamed.Goals as goal
 
 pub rename-requires-clause-there : goal.rename-requires-clause-there
 rename-requires-clause-there c =
