@@ -82,7 +82,7 @@ fn print_look<B: Book, O: Sink>(
 
 // The fault of a look that was refused, at this path or at `/`.
 fn fault_below(alloc: Global, path: Option<&FsPath>, fault: LookFault) -> Fault
-    ensures { IsFromLook (unwrap_or (option_map (λ path. path.now) path) []) fault result }
+    ensures { IsFromLook (unwrap_or (option_map (λ path. path.now) path.entry) []) fault result }
 {
     match path {
         Some(path) => Fault::of_look(alloc, path, fault),
