@@ -1,0 +1,32 @@
+-- A copy at a path: the revision and the source.
+use Rattle.std.proofs.Common.{◌≡◌, ◌≤◌, ◌<◌, ℕ, true, refl, arith}
+use Rattle.std.specs.Prelude.{Option, Some, None, is_some, IsSomeAnd, Err}
+use Rattle.fsfs_base.specs.Paths.{Path}
+use Rattle.fsfs_tree.specs.Nodes.{Node, TreeFunction}
+use Rattle.fsfs_book.specs.Told.{RevisionBytes}
+use Rattle.fsfs_noderev.specs.declared.node_rev.NodeRev.{NodeRev}
+use Rattle.fsfs_shows.specs.ByTree.{IsMetByTree}
+use Rattle.fsfs_shows.specs.Shown.{IsShown}
+use Rattle.fsfs_damage.specs.Readings.{Answers}
+use Rattle.fsfs_damage.specs.declared.wrong.ReadError.{ReadError}
+use Rattle.fsfs_damage.specs.declared.wrong.ReadError.TheVariants as reads
+use Rattle.fsfs_dag.specs.Views.{met_value}
+use Rattle.fsfs_base.specs.declared.kind.Kind.{Kind}
+use Rattle.fsfs_edit.specs.Errors.{of_read, IsFailure}
+use Rattle.fsfs_edit.specs.Walks.{HasKind}
+
+pub not_above : (youngest rev top : ℕ) → youngest ≡ top → rev ≤ youngest → rev ≤ top
+not_above youngest rev top is e = omega (arith, is, e)
+
+pub above_top : (youngest rev top : ℕ) → youngest ≡ top → youngest < rev → top < rev
+above_top youngest rev top is e = omega (arith, is, e)
+
+pub shown_kind : (look : RevisionBytes) (r : ℕ) (p : Path) (u : NodeRev) (o : Option Node) → IsSomeAnd o (IsShown look r p u) → HasKind o u.kind
+shown_kind look r p u None h = absurd h
+shown_kind look r p u (Some n) h = h.kind
+
+-- over a sound revision no reading is wrong
+pub read_fails : (look : RevisionBytes) (r : ℕ) (tree : TreeFunction) (p : Path) (e : ReadError) → Answers met_value (IsMetByTree look r tree p) (Err e) → IsFailure (of_read e)
+read_fails look r tree p (reads.Wrong w) told = told
+read_fails look r tree p reads.OutOfMemory told = tt
+read_fails look r tree p reads.DiskFault told = tt
