@@ -24,20 +24,32 @@ use fsfs_dag::{DirEntry, entry_named};
 use fsfs_noderev::{CopySource, NodeId, NodeRev, Part, Place};
 use std::alloc::{AllocError, Global};
 
+/// The same revision and path.
+pub(crate) fn same_source(from: &CopySource) -> Result<CopySource, AllocError>
+    ensures { IfOk result (λ same. same ≡ from.now) }
+{
+    let path = from.path.clone()?;
+    Ok(CopySource {
+        rev: from.rev,
+        path,
+    })
+}
+
 // A copy of a node-revision under a name of the directory.
 fn copy_node(
     alloc: Global,
     txn: TxnName,
     dir: &NodeRev,
     source: &NodeRev,
-    from: CopySource,
+    from: &CopySource,
     copy: Part,
     name: &str,
 ) -> Result<NodeRev, AllocError>
-    ensures told { IfOk result (λ w. IsCopyNode txn dir.now source.now w from name.now) }
+    ensures told { IfOk result (λ w. IsCopyNode txn dir.now source.now w from.now name.now) }
     ensures copy { IfOk result (λ w. w.id.copy ≡ copy) }
 {
     let path = dir.created_path.child(alloc, name)?;
+    let origin = same_source(from)?;
     Ok(NodeRev {
         id: NodeId {
             node: source.id.node,
@@ -50,7 +62,7 @@ fn copy_node(
         text: source.text,
         props: source.props,
         created_path: path,
-        copy_from: Some(from),
+        copy_from: Some(origin),
         copy_root: None,
         is_fresh_txn_root: false,
         mergeinfo_count: source.mergeinfo_count,
@@ -66,9 +78,9 @@ fn copy_child<N: Own>(
     entries: Vec<DirEntry>,
     name: &str,
     source: &NodeRev,
-    from: CopySource,
+    from: &CopySource,
 ) -> Result<NodeId, EditError>
-    ensures done { IfOk result (IsCopyPut (N.folder own.old) (N.folder own.new) (N.txn own.old) dir.now (entry_values entries.items) name.now source.now from) }
+    ensures done { IfOk result (IsCopyPut (N.folder own.old) (N.folder own.new) (N.txn own.old) dir.now (entry_values entries.items) name.now source.now from.now) }
     ensures cause { IfErr result (λ e. IsWant e (IsAmiss (N.folder own.old) dir.now source.now.id)) }
     ensures settled { N.settled own.new ≡ N.settled own.old }
     ensures name { N.txn own.new ≡ N.txn own.old }
@@ -96,11 +108,11 @@ pub(crate) fn copy_to<B: Book, N: Own>(
     dir: &NodeId,
     name: &str,
     source: &NodeRev,
-    from: CopySource,
+    from: &CopySource,
 ) -> Result<NodeId, EditError>
     // Where the folder holds a draft, the directory stands at a path, nothing stands below it under the name, and the source stands
     // where it is said: the tree is that with a copy of the source and all below it there, and no reading is wrong.
-    ensures draft { (look : RevisionBytes) (trees : ℕ → TreeFunction) (top base : ℕ) (nodes : Owns) (p : Path) (d : OwnNode) → Knows (B.told book.old).revs top look → ShowTrees look top trees → base ≤ top → IsDraft look top base (N.txn own.old) (N.folder own.old) nodes → nodes p ≡ Some d → d.node.id ≡ dir.now → d.node.kind ≡ Dir → draft_tree trees nodes (trees base) (p ++ name.now ∷ []) ≡ None → from.rev ≤ top → StandsAt look from.rev from.path source.now → LeavesCopy look trees top base (N.txn own.old) (N.folder own.old) nodes p name.now from (N.folder own.new) result }
+    ensures draft { (look : RevisionBytes) (trees : ℕ → TreeFunction) (top base : ℕ) (nodes : Owns) (p : Path) (d : OwnNode) → Knows (B.told book.old).revs top look → ShowTrees look top trees → base ≤ top → IsDraft look top base (N.txn own.old) (N.folder own.old) nodes → nodes p ≡ Some d → d.node.id ≡ dir.now → d.node.kind ≡ Dir → draft_tree trees nodes (trees base) (p ++ name.now ∷ []) ≡ None → from.now.rev ≤ top → StandsAt look from.now.rev from.now.path source.now → LeavesCopy look trees top base (N.txn own.old) (N.folder own.old) nodes p name.now from.now (N.folder own.new) result }
     ensures settled { N.settled own.new ≡ N.settled own.old }
     ensures name { N.txn own.new ≡ N.txn own.old }
     ensures kept { Keeps (B.told book.old) (B.told book.new) }

@@ -1,9 +1,9 @@
 //! Putting a copy at a path, with its refusals.
-ghost use Rattle.std.specs.Prelude.{◌≡◌, IfOk};
+ghost use Rattle.std.specs.Prelude.{◌≡◌};
 ghost use Rattle.fsfs_book.specs.Told.{Keeps};
 ghost use Rattle.fsfs_edit.specs.Copying.{IsSource, FindsSource, CopiesIn, CopiesFree, MeetsCopy};
 
-use crate::copied::copy_to;
+use crate::copied::{copy_to, same_source};
 use crate::error::EditError;
 use crate::items::added;
 use crate::own::Own;
@@ -12,7 +12,7 @@ use fsfs_base::{FsPath, RevNum};
 use fsfs_book::Book;
 use fsfs_dag::{Met, PlacedNode, node_at};
 use fsfs_noderev::{CopySource, NodeRev};
-use std::alloc::{AllocError, Global};
+use std::alloc::Global;
 
 /// What became of a copy: it was put, or why it can't be.
 #[derive(Clone, Copy, Debug, PartialEq, Eq)]
@@ -39,15 +39,6 @@ enum Source {
     Absent(usize),
     File(usize),
     Node(PlacedNode),
-}
-
-fn same_source(from: &CopySource) -> Result<CopySource, AllocError>
-    ensures { IfOk result (λ same. same ≡ from.now) }
-{
-    Ok(CopySource {
-        rev: from.rev,
-        path: from.path.clone()?,
-    })
 }
 
 fn source_at<B: Book>(
@@ -86,8 +77,9 @@ fn copy_in<B: Book, N: Own>(
     ensures kept { Keeps (B.told book.old) (B.told book.new) }
 {
     let dir = opened_to(alloc, book, own, parent)?;
-    let id = copy_to(alloc, book, own, &dir, name, source, same_source(from)?)?;
-    let item = added(alloc, id, source.kind, parent, name, Some(same_source(from)?))?;
+    let id = copy_to(alloc, book, own, &dir, name, source, from)?;
+    let origin = same_source(from)?;
+    let item = added(alloc, id, source.kind, parent, name, Some(origin))?;
     own.settle(item)?;
     Ok(())
 }

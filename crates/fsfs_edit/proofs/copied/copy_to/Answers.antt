@@ -44,7 +44,7 @@ returns-clause-draft g c = λ look trees top base nodes p d knows shown le draft
     let listed = entries_here look top base trees shown le (g.N.Own.txn c.args.own.now) (g.N.Own.folder c.args.own.now) nodes draft p d here dir (entry_values items)
     (subst (λ (x : Kept). OfKept look x (Ok (entry_values items))) k (c.in_ok-entries.ensures.told look top knows within)) in
     let lacks = none_named look top base trees shown le (g.N.Own.txn c.args.own.now) (g.N.Own.folder c.args.own.now) nodes draft p d here dir c.args.name.now (entry_values items) listed none in
-    copying_leaves look top base trees shown le (g.N.Own.txn c.args.own.now) (g.N.Own.folder c.args.own.now) nodes draft p d here dir c.args.name.now (entry_values items) listed lacks c.args.source.now c.args.from from_le source
+    copying_leaves look top base trees shown le (g.N.Own.txn c.args.own.now) (g.N.Own.folder c.args.own.now) nodes draft p d here dir c.args.name.now (entry_values items) listed lacks c.args.source.now c.args.from.now from_le source
     (g.N.Own.folder c.copy_child.new.own) c.copy_child.result
-    (subst (λ (i : NodeId). IfOk c.copy_child.result (IsCopyPut (g.N.Own.folder c.args.own.now) (g.N.Own.folder c.copy_child.new.own) (g.N.Own.txn c.args.own.now) i (entry_values items) c.args.name.now c.args.source.now c.args.from)) (sym same) c.copy_child.ensures.done)
+    (subst (λ (i : NodeId). IfOk c.copy_child.result (IsCopyPut (g.N.Own.folder c.args.own.now) (g.N.Own.folder c.copy_child.new.own) (g.N.Own.txn c.args.own.now) i (entry_values items) c.args.name.now c.args.source.now c.args.from.now)) (sym same) c.copy_child.ensures.done)
     (subst (λ (i : NodeId). IfErr c.copy_child.result (λ y. IsWant y (IsAmiss (g.N.Own.folder c.args.own.now) i c.args.source.now.id))) (sym same) c.copy_child.ensures.cause)
