@@ -137,7 +137,7 @@ module _ (look : RevisionBytes) (top base : ℕ) (trees : ℕ → TreeFunction) 
     items_are : after.items ≡ f.items
     items_are = ap (λ (g : Folder). g.items) after_is
 
-    step : (item : ChangeItem) → Step look trees top base txn
+    abbrev step : (item : ChangeItem) → Step look trees top base txn
     step item = record {
       before = f;
       own = own;

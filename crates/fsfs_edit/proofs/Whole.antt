@@ -17,7 +17,7 @@ use Rattle.fsfs_noderev.specs.declared.node_rev.CopySource.{CopySource}
 use Rattle.fsfs_changes.specs.declared.item.ChangeItem.{ChangeItem}
 use Rattle.fsfs_shows.proofs.Walks.{take_front}
 use Rattle.fsfs_drafts.specs.Own.{Own}
-use Rattle.fsfs_drafts.specs.Drafts.{Folder, IsItemOf, pair_of}
+use Rattle.fsfs_drafts.specs.Drafts.{Kept, Folder, IsItemOf, pair_of}
 use Rattle.fsfs_drafts.specs.Edits.{IsEdited, IsDraftAfter}
 use Rattle.fsfs_drafts.specs.Steps.{Files, kept_at}
 use Rattle.fsfs_edit.specs.Errors.{IfMemory, IsFailure, IfStays, of_own}
@@ -132,7 +132,7 @@ module _ (look : RevisionBytes) (trees : ℕ → TreeFunction) (top base : ℕ) 
   -- ---- a delete
 
   gone_id : (step : Step) (id : NodeId) → IsDeletedId f.nodes step id → IsAt look trees base d.0.shows.own (p ++ name ∷ []) step → IsGoneId look trees base d.0.shows.own (p ++ name ∷ []) id
-  gone_id (steps.Own at) id is here = OfOwn here.0 here.1 (is ∙ (λ i. before_kept (here.2 (~ i)) (kept_at f.nodes (here.2 (~ i)))) ∙ ap (λ k. before_kept here.0.node.id k) (d.0.shows.is_draft.kept (p ++ name ∷ []) here.0 here.1))
+  gone_id (steps.Own at) id is here = OfOwn here.0 here.1 (is ∙ ap (λ (i : NodeId). before_kept i (kept_at f.nodes i)) (sym here.2) ∙ ap (λ (k : Option Kept). before_kept here.0.node.id k) (d.0.shows.is_draft.kept (p ++ name ∷ []) here.0 here.1))
   gone_id (steps.Lasting found) id is here = OfLasting found.node here is
 
   pub deleted_in : (step : Step) (kind : Kind) → HasKind (tree (p ++ name ∷ [])) kind → IsAt look trees base d.0.shows.own (p ++ name ∷ []) step → (after : Folder) (id : NodeId) → IsDeletedId f.nodes step id → Takes look trees top base txn mid o.now p name after

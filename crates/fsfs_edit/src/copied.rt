@@ -95,7 +95,7 @@ fn copy_child<N: Own>(
     };
     let child = copy_node(alloc, txn, &kept.node, source, from, copy, name)?;
     let id = id_of(&child);
-    let new = replaced(alloc, entries, name, source.kind, id)?;
+    let new = replaced(alloc, entries, name, source.kind, &id)?;
     own.put_child(dir, new, child)?;
     Ok(id)
 }

@@ -75,12 +75,19 @@ pub(crate) fn replaced(
     entries: Vec<DirEntry>,
     name: &str,
     kind: Kind,
-    id: NodeId,
+    id: &NodeId,
 ) -> Result<Vec<DirEntry>, AllocError>
-    ensures { IfOk result (λ v. IsReplaced (entry_values entries.items) name.now kind id (entry_values v.items)) }
+    ensures { IfOk result (λ v. IsReplaced (entry_values entries.items) name.now kind id.now (entry_values v.items)) }
 {
     let name = String::from_str(alloc, name)?;
     let mut all = entries;
-    all.insert(0, DirEntry { name, kind, id })?;
+    all.insert(
+        0,
+        DirEntry {
+            name,
+            kind,
+            id: *id,
+        },
+    )?;
     Ok(all)
 }

@@ -6,12 +6,12 @@ use fsfs_base::{B36, TxnName};
 use fsfs_noderev::{NodeId, NodeRev, Part, Place};
 
 /// The id with these parts, at the place of another.
-pub(crate) fn id_with(at: &NodeId, node: Part, copy: Part) -> NodeId
-    ensures { result ≡ record { node = node; copy = copy; place = at.now.place } }
+pub(crate) fn id_with(at: &NodeId, node: &Part, copy: &Part) -> NodeId
+    ensures { result ≡ record { node = node.now; copy = copy.now; place = at.now.place } }
 {
     NodeId {
-        node,
-        copy,
+        node: *node,
+        copy: *copy,
         place: at.place,
     }
 }

@@ -65,7 +65,7 @@ fn drawn_node_part<N: Own>(own: &mut N, dir: &NodeId) -> Result<Part, EditError>
 {
     let number = own.draw_node()?;
     let node = Part::New(number);
-    if own.kept(&id_with(dir, node, dir.copy)).is_some() {
+    if own.kept(&id_with(dir, &node, &dir.copy)).is_some() {
         return Err(EditError::Lacking);
     }
     Ok(node)
@@ -89,14 +89,14 @@ fn new_child<N: Own>(
         None => return Err(EditError::Lacking),
         Some(kept) => kept.node.id.copy,
     };
-    let node = drawn_node_part(own, &id_with(dir, dir.node, copy))?;
+    let node = drawn_node_part(own, &id_with(dir, &dir.node, &copy))?;
     let txn = own.name();
     let Some(kept) = own.kept(dir) else {
         return Err(EditError::Lacking);
     };
     let child = new_node(alloc, txn, &kept.node, node, kind, name)?;
     let id = id_of(&child);
-    let new = replaced(alloc, entries, name, kind, id)?;
+    let new = replaced(alloc, entries, name, kind, &id)?;
     own.put_child(dir, new, child)?;
     Ok(id)
 }

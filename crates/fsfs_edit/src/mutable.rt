@@ -33,7 +33,7 @@ pub(crate) fn drawn_part<N: Own>(own: &mut N, old: &NodeId) -> Result<Part, Edit
 {
     let number = own.draw_copy()?;
     let copy = Part::New(number);
-    if own.kept(&id_with(old, old.node, copy)).is_some() {
+    if own.kept(&id_with(old, &old.node, &copy)).is_some() {
         return Err(EditError::Lacking);
     }
     Ok(copy)
@@ -57,7 +57,7 @@ fn copy_part<N: Own>(
     } else {
         old.id.copy
     };
-    if own.kept(&id_with(&old.id, old.id.node, copy)).is_none() {
+    if own.kept(&id_with(&old.id, &old.id.node, &copy)).is_none() {
         return Ok(copy);
     }
     drawn_part(own, &old.id)
@@ -89,7 +89,7 @@ fn change_child<N: Own>(
     };
     let child = successor(alloc, txn, &kept.node, old, copy, name)?;
     let id = id_of(&child);
-    let new = replaced(alloc, entries, name, kind, id)?;
+    let new = replaced(alloc, entries, name, kind, &id)?;
     own.put_child(dir, new, child)?;
     Ok(id)
 }

@@ -49,7 +49,7 @@ fn beneath<B: Book, N: Own>(
 }
 
 // What stands under a name of the directory at a path, below the root of this id.
-fn target<B: Book, N: Own>(
+fn target_at<B: Book, N: Own>(
     alloc: Global,
     book: &mut B,
     own: &N,
@@ -82,7 +82,7 @@ pub(crate) fn way_to<B: Book, N: Own>(
     ensures kept { Keeps (B.told book.old) (B.told book.new) }
 {
     let root = root_id(own.name());
-    target(alloc, book, own, &root, parent, name)
+    target_at(alloc, book, own, &root, parent, name)
 }
 
 /// Makes all that stands on the way from the root to a directory the transaction's own, and answers the directory's id.

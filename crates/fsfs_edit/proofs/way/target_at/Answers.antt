@@ -9,7 +9,7 @@ use Rattle.fsfs_drafts.specs.Own.{draft_tree}
 use Rattle.fsfs_edit.specs.Walks.{HasKind, IsFound}
 use Rattle.fsfs_edit.specs.declared.walk.Found.{Found}
 use Rattle.fsfs_edit.specs.declared.walk.Found.TheVariants as founds
-use Rattle.fsfs_edit.proofs.way.target.Goals as goal
+use Rattle.fsfs_edit.proofs.way.target_at.Goals as goal
 
 pub returns-in_err-depth-clause-draft : goal.returns-in_err-depth-clause-draft
 returns-in_err-depth-clause-draft g c = λ look trees top base nodes v knows shown le draft here same dir.
@@ -32,13 +32,13 @@ returns-in-File-kind-clause-draft g c = λ look trees top base nodes v knows sho
     let found : IsFound look trees base nodes c.args.parent.now (Ok (founds.Node c.in-Node.child)) = subst (λ (x : Found). IsFound look trees base nodes c.args.parent.now (Ok x)) c.in-Node.is told in
     inr (c.depth.ensures, subst (λ (k : Kind). HasKind (draft_tree trees nodes (trees base) c.args.parent.now) k) c.in-File-kind.is found.1)
 
-pub returns-in-Dir-clause-draft : goal.returns-in-Dir-clause-draft
-returns-in-Dir-clause-draft g c = λ look trees top base nodes v knows shown le draft here same dir.
+pub returns-clause-draft : goal.returns-clause-draft
+returns-clause-draft g c = λ look trees top base nodes v knows shown le draft here same dir.
     let told : IsFound look trees base nodes c.args.parent.now (Ok c.in_ok-depth.field-0) = c.in_ok-depth.ensures.draft look trees top base nodes v knows shown le draft here same dir in
     let found : IsFound look trees base nodes c.args.parent.now (Ok (founds.Node c.in-Node.child)) = subst (λ (x : Found). IsFound look trees base nodes c.args.parent.now (Ok x)) c.in-Node.is told in
     let has : HasKind (draft_tree trees nodes (trees base) c.args.parent.now) Dir = subst (λ (k : Kind). HasKind (draft_tree trees nodes (trees base) c.args.parent.now) k) c.in-Dir.is found.1 in
     let later : Knows (g.B.Book.told c.met.new.book).revs top look = λ n h. c.in_ok-depth.ensures.kept.revs n (look n) (knows n h) in
     c.beneath.ensures.draft look trees top base nodes c.args.parent.now later shown le draft found.0 has
 
-pub returns-in-Dir-clause-kept : goal.returns-in-Dir-clause-kept
-returns-in-Dir-clause-kept g c = keeps_trans _ _ _ c.in_ok-depth.ensures.kept c.beneath.ensures.kept
+pub returns-clause-kept : goal.returns-clause-kept
+returns-clause-kept g c = keeps_trans _ _ _ c.in_ok-depth.ensures.kept c.beneath.ensures.kept
