@@ -1,5 +1,7 @@
 -- What the entries of an own directory are.
-use Rattle.std.specs.Prelude.{◌≡◌, ◌≤◌, ℕ, List, [], Option, Some, None, Result, Ok}
+use Rattle.std.specs.Prelude.{◌≡◌, ◌≤◌, ◌++◌, ℕ, not, List, [], ◌∷◌, Option, Some, None, Result, Ok}
+use Rattle.std.specs.List.{filter}
+use Rattle.fsfs_base.specs.Paths.{PathName, same_name}
 use Rattle.fsfs_base.specs.declared.kind.Kind.{Kind}
 use Rattle.fsfs_base.specs.declared.kind.Kind.TheVariants.{File, Dir}
 use Rattle.fsfs_book.specs.Told.{RevisionBytes}
@@ -9,6 +11,14 @@ use Rattle.fsfs_damage.specs.declared.wrong.Wrong.{Wrong}
 use Rattle.fsfs_damage.specs.Readings.{AndThen}
 use Rattle.fsfs_shows.specs.Reading.{DirEntry, EntriesOf, OfId, offset_of}
 use Rattle.fsfs_drafts.specs.Drafts.{Kept}
+
+-- the entries but the one of a name
+abbrev pub others : PathName → List DirEntry → List DirEntry
+others name entries = filter (λ (e : DirEntry). not (same_name e.name name)) entries
+
+-- with another node behind the name
+abbrev pub with_entry : List DirEntry → PathName → Kind → NodeId → List DirEntry
+with_entry entries name kind id = others name entries ++ record { name = name; kind = kind; id = id } ∷ []
 
 -- of a directory; a file has none
 abbrev pub OfKind : RevisionBytes → Kind → NodeRev → Result (List DirEntry) Wrong → Type 0

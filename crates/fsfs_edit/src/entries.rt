@@ -6,8 +6,7 @@ ghost use Rattle.fsfs_damage.specs.Readings.{Answers};
 ghost use Rattle.fsfs_shows.specs.Reading.{offset_of};
 ghost use Rattle.fsfs_damage.specs.Causes.{HasCause};
 ghost use Rattle.fsfs_dag.specs.Views.{entry_values};
-ghost use Rattle.fsfs_drafts.specs.Steps.{IsReplaced};
-ghost use Rattle.fsfs_edit.specs.Entries.{OfKept, OfIdEntries, IsWithin};
+ghost use Rattle.fsfs_edit.specs.Entries.{OfKept, OfIdEntries, IsWithin, with_entry};
 ghost use Rattle.fsfs_edit.specs.Views.{kept_value};
 
 use crate::own::KeptNode;
@@ -77,17 +76,15 @@ pub(crate) fn replaced(
     kind: Kind,
     id: &NodeId,
 ) -> Result<Vec<DirEntry>, AllocError>
-    ensures { IfOk result (λ v. IsReplaced (entry_values entries.items) name.now kind id.now (entry_values v.items)) }
+    ensures { IfOk result (λ v. entry_values v.items ≡ with_entry (entry_values entries.items) name.now kind id.now) }
 {
-    let name = String::from_str(alloc, name)?;
     let mut all = entries;
-    all.insert(
-        0,
-        DirEntry {
-            name,
-            kind,
-            id: *id,
-        },
-    )?;
+    all.retain(|entry| entry.name.as_str() != name);
+    let name = String::from_str(alloc, name)?;
+    all.push(DirEntry {
+        name,
+        kind,
+        id: *id,
+    })?;
     Ok(all)
 }
