@@ -5,8 +5,9 @@ use Rattle.fsfs_base.specs.Paths.{Path}
 use Rattle.fsfs_tree.specs.Nodes.{Node, TreeFunction}
 use Rattle.fsfs_book.specs.Told.{RevisionBytes}
 use Rattle.fsfs_noderev.specs.declared.node_rev.NodeRev.{NodeRev}
-use Rattle.fsfs_shows.specs.ByTree.{IsMetByTree}
-use Rattle.fsfs_shows.specs.Shown.{IsShown}
+use Rattle.fsfs_shows.specs.Reading.{MetAt}
+use Rattle.fsfs_shows.specs.Shown.{IsShown, Shows}
+use Rattle.fsfs_shows.proofs.ByTree.{by_tree}
 use Rattle.fsfs_damage.specs.Readings.{Answers}
 use Rattle.fsfs_damage.specs.declared.wrong.ReadError.{ReadError}
 use Rattle.fsfs_damage.specs.declared.wrong.ReadError.TheVariants as reads
@@ -26,7 +27,7 @@ shown_kind look r p u None h = absurd h
 shown_kind look r p u (Some n) h = h.kind
 
 -- over a sound revision no reading is wrong
-pub read_fails : (look : RevisionBytes) (r : ℕ) (tree : TreeFunction) (p : Path) (e : ReadError) → Answers met_value (IsMetByTree look r tree p) (Err e) → IsFailure (of_read e)
-read_fails look r tree p (reads.Wrong w) told = told
-read_fails look r tree p reads.OutOfMemory told = tt
-read_fails look r tree p reads.DiskFault told = tt
+pub read_fails : (look : RevisionBytes) (r : ℕ) (tree : TreeFunction) → Shows look r tree → (p : Path) (e : ReadError) → Answers met_value (MetAt look r p) (Err e) → IsFailure (of_read e)
+read_fails look r tree shows p (reads.Wrong w) told = (by_tree look r tree shows).paths p (Err w) told
+read_fails look r tree shows p reads.OutOfMemory told = tt
+read_fails look r tree shows p reads.DiskFault told = tt

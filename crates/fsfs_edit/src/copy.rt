@@ -124,7 +124,7 @@ fn copy_steps<B: Book, N: Own>(
     match way_to(alloc, book, own, parent, name)? {
         Target::NotFound(depth) => Ok(Copied::NotFound(depth)),
         Target::NotDir(depth) => Ok(Copied::NotDir(depth)),
-        Target::Taken(_) => Ok(Copied::Exists),
+        Target::Taken(_child) => Ok(Copied::Exists),
         Target::Free => copy_free(alloc, book, own, parent, name, from),
     }
 }

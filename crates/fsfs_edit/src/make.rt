@@ -60,7 +60,7 @@ fn make_steps<B: Book, N: Own>(
     match way_to(alloc, book, own, parent, name)? {
         Target::NotFound(depth) => Ok(Made::NotFound(depth)),
         Target::NotDir(depth) => Ok(Made::NotDir(depth)),
-        Target::Taken(_) => Ok(Made::Exists),
+        Target::Taken(_child) => Ok(Made::Exists),
         Target::Free => {
             make_in(alloc, book, own, parent, name, kind)?;
             Ok(Made::Done)

@@ -40,8 +40,8 @@ returns-in-Taken-clause-meets g c = λ look trees top base tree marks knows show
     let looks : LooksAt (g.B.Book.told c.args.book.now).revs (g.N.Own.txn c.args.own.now) (g.N.Own.settled c.args.own.now) c.args.parent.now c.args.name.now (Ok c.in_ok-depth.field-0) =
     subst (λ (h : Folder). LooksAt (g.B.Book.told c.args.book.now).revs (g.N.Own.txn c.args.own.now) h c.args.parent.now c.args.name.now (Ok c.in_ok-depth.field-0)) c.requires.whole c.in_ok-depth.ensures.looks in
     let t : IsTarget look trees base d.0.shows.own tree c.args.parent.now c.args.name.now (Ok c.in_ok-depth.field-0) = looks look trees top base tree marks knows shown le is_tree d in
-    let at : IsTarget look trees base d.0.shows.own tree c.args.parent.now c.args.name.now (Ok (targets.Taken c.in-Taken.field-0)) = subst (λ (x : Target). IsTarget look trees base d.0.shows.own tree c.args.parent.now c.args.name.now (Ok x)) c.in-Taken.is t in
-    (at.0, kind_some (tree (c.args.parent.now ++ c.args.name.now ∷ [])) c.in-Taken.field-0.kind at.1, refl)
+    let at : IsTarget look trees base d.0.shows.own tree c.args.parent.now c.args.name.now (Ok (targets.Taken c.in-Taken._child)) = subst (λ (x : Target). IsTarget look trees base d.0.shows.own tree c.args.parent.now c.args.name.now (Ok x)) c.in-Taken.is t in
+    (at.0, kind_some (tree (c.args.parent.now ++ c.args.name.now ∷ [])) c.in-Taken._child.kind at.1, refl)
 
 pub returns-in-Free-clause-meets : goal.returns-in-Free-clause-meets
 returns-in-Free-clause-meets g c = λ look trees top base tree marks knows shown le is_tree young d.

@@ -5,6 +5,7 @@ use Rattle.fsfs_book.specs.Told.{Knows}
 use Rattle.fsfs_book.proofs.Keeping.{keeps_trans}
 use Rattle.fsfs_shows.specs.Reading.{MetAt}
 use Rattle.fsfs_shows.specs.ByTree.{IsMetByTree}
+use Rattle.fsfs_shows.proofs.ByTree.{by_tree}
 use Rattle.fsfs_dag.specs.declared.walk.Met.{Met}
 use Rattle.fsfs_dag.specs.Views.{met_value}
 use Rattle.fsfs_edit.proofs.CopyingAt.{not_above, above_top, shown_kind, read_fails}
@@ -21,7 +22,7 @@ returns-in_err-depth-clause-finds g c = λ look trees top knows shown young.
     let le : c.args.from.now.rev ≤ top = not_above c.in-Ok.youngest c.args.from.now.rev top is_top (omega (arith, c.if-get.false)) in
     let later : Knows (g.B.Book.told c.youngest.new.self).revs top look = λ n h. c.in-Ok.ensures.kept.revs n (look n) (knows n h) in
     let r = err_from_is_err_and c.from_residual.result c.from_residual.ensures.1 in
-    rw (r.1, r.2) (read_fails look c.args.from.now.rev (trees c.args.from.now.rev) c.args.from.now.path c.in_err-depth.field-0.0 (c.in_err-depth.ensures.shown look (trees c.args.from.now.rev) (λ n h. later n (omega (arith, h, le))) (shown c.args.from.now.rev le)))
+    rw (r.1, r.2) (read_fails look c.args.from.now.rev (trees c.args.from.now.rev) (shown c.args.from.now.rev le) c.args.from.now.path c.in_err-depth.field-0.0 (c.in_err-depth.ensures.told look (λ n h. later n (omega (arith, h, le)))))
 
 pub returns-in_err-depth-clause-kept : goal.returns-in_err-depth-clause-kept
 returns-in_err-depth-clause-kept g c = keeps_trans _ _ _ c.in-Ok.ensures.kept c.in_err-depth.ensures.kept
@@ -31,7 +32,7 @@ returns-in-Absent-clause-finds g c = λ look trees top knows shown young.
     let is_top : c.in-Ok.youngest ≡ top = subst (λ (o : Option ℕ). IfSome o (λ y. c.in-Ok.youngest ≡ y)) young c.in-Ok.ensures.told in
     let le : c.args.from.now.rev ≤ top = not_above c.in-Ok.youngest c.args.from.now.rev top is_top (omega (arith, c.if-get.false)) in
     let later : Knows (g.B.Book.told c.youngest.new.self).revs top look = λ n h. c.in-Ok.ensures.kept.revs n (look n) (knows n h) in
-    let met_there : IsMetByTree look c.args.from.now.rev (trees c.args.from.now.rev) c.args.from.now.path (Ok (met_value c.in_ok-depth.field-0)) = c.in_ok-depth.ensures.shown look (trees c.args.from.now.rev) (λ n h. later n (omega (arith, h, le))) (shown c.args.from.now.rev le) in
+    let met_there : IsMetByTree look c.args.from.now.rev (trees c.args.from.now.rev) c.args.from.now.path (Ok (met_value c.in_ok-depth.field-0)) = (by_tree look c.args.from.now.rev (trees c.args.from.now.rev) (shown c.args.from.now.rev le)).paths c.args.from.now.path (Ok (met_value c.in_ok-depth.field-0)) (c.in_ok-depth.ensures.told look (λ n h. later n (omega (arith, h, le)))) in
     (le, subst (λ (x : Met). IsMetByTree look c.args.from.now.rev (trees c.args.from.now.rev) c.args.from.now.path (Ok (met_value x))) c.in-Absent.is met_there)
 
 pub returns-in-Absent-clause-kept : goal.returns-in-Absent-clause-kept
@@ -42,7 +43,7 @@ returns-in-File-clause-finds g c = λ look trees top knows shown young.
     let is_top : c.in-Ok.youngest ≡ top = subst (λ (o : Option ℕ). IfSome o (λ y. c.in-Ok.youngest ≡ y)) young c.in-Ok.ensures.told in
     let le : c.args.from.now.rev ≤ top = not_above c.in-Ok.youngest c.args.from.now.rev top is_top (omega (arith, c.if-get.false)) in
     let later : Knows (g.B.Book.told c.youngest.new.self).revs top look = λ n h. c.in-Ok.ensures.kept.revs n (look n) (knows n h) in
-    let met_there : IsMetByTree look c.args.from.now.rev (trees c.args.from.now.rev) c.args.from.now.path (Ok (met_value c.in_ok-depth.field-0)) = c.in_ok-depth.ensures.shown look (trees c.args.from.now.rev) (λ n h. later n (omega (arith, h, le))) (shown c.args.from.now.rev le) in
+    let met_there : IsMetByTree look c.args.from.now.rev (trees c.args.from.now.rev) c.args.from.now.path (Ok (met_value c.in_ok-depth.field-0)) = (by_tree look c.args.from.now.rev (trees c.args.from.now.rev) (shown c.args.from.now.rev le)).paths c.args.from.now.path (Ok (met_value c.in_ok-depth.field-0)) (c.in_ok-depth.ensures.told look (λ n h. later n (omega (arith, h, le)))) in
     (le, subst (λ (x : Met). IsMetByTree look c.args.from.now.rev (trees c.args.from.now.rev) c.args.from.now.path (Ok (met_value x))) c.in-File.is met_there)
 
 pub returns-in-File-clause-kept : goal.returns-in-File-clause-kept
@@ -53,7 +54,7 @@ returns-in-Node-clause-finds g c = λ look trees top knows shown young.
     let is_top : c.in-Ok.youngest ≡ top = subst (λ (o : Option ℕ). IfSome o (λ y. c.in-Ok.youngest ≡ y)) young c.in-Ok.ensures.told in
     let le : c.args.from.now.rev ≤ top = not_above c.in-Ok.youngest c.args.from.now.rev top is_top (omega (arith, c.if-get.false)) in
     let later : Knows (g.B.Book.told c.youngest.new.self).revs top look = λ n h. c.in-Ok.ensures.kept.revs n (look n) (knows n h) in
-    let met_there : IsMetByTree look c.args.from.now.rev (trees c.args.from.now.rev) c.args.from.now.path (Ok (met_value c.in_ok-depth.field-0)) = c.in_ok-depth.ensures.shown look (trees c.args.from.now.rev) (λ n h. later n (omega (arith, h, le))) (shown c.args.from.now.rev le) in
+    let met_there : IsMetByTree look c.args.from.now.rev (trees c.args.from.now.rev) c.args.from.now.path (Ok (met_value c.in_ok-depth.field-0)) = (by_tree look c.args.from.now.rev (trees c.args.from.now.rev) (shown c.args.from.now.rev le)).paths c.args.from.now.path (Ok (met_value c.in_ok-depth.field-0)) (c.in_ok-depth.ensures.told look (λ n h. later n (omega (arith, h, le)))) in
     let at_there : MetAt look c.args.from.now.rev c.args.from.now.path (Ok (met_value c.in_ok-depth.field-0)) = c.in_ok-depth.ensures.told look (λ n h. later n (omega (arith, h, le))) in (
       le,
       subst (λ (x : Met). MetAt look c.args.from.now.rev c.args.from.now.path (Ok (met_value x))) c.in-Node.is at_there,

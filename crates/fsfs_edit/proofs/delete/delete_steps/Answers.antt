@@ -42,31 +42,31 @@ returns-in-Free-clause-meets g c = λ look trees top base tree marks knows shown
     let at : IsTarget look trees base d.0.shows.own tree c.args.parent.now c.args.name.now (Ok (targets.Free)) = subst (λ (x : Target). IsTarget look trees base d.0.shows.own tree c.args.parent.now c.args.name.now (Ok x)) c.in-Free.is t in
     (at.0, at.1, refl)
 
-pub returns-in_err-delete_in-clause-meets : goal.returns-in_err-delete_in-clause-meets
-returns-in_err-delete_in-clause-meets g c = λ look trees top base tree marks knows shown le is_tree d.
+pub returns-in_err-delete_in-in-Taken-clause-meets : goal.returns-in_err-delete_in-in-Taken-clause-meets
+returns-in_err-delete_in-in-Taken-clause-meets g c = λ look trees top base tree marks knows shown le is_tree d.
     let looks : LooksAt (g.B.Book.told c.args.book.now).revs (g.N.Own.txn c.args.own.now) (g.N.Own.settled c.args.own.now) c.args.parent.now c.args.name.now (Ok c.in_ok-depth.field-0) =
     subst (λ (h : Folder). LooksAt (g.B.Book.told c.args.book.now).revs (g.N.Own.txn c.args.own.now) h c.args.parent.now c.args.name.now (Ok c.in_ok-depth.field-0)) c.requires.whole c.in_ok-depth.ensures.looks in
     let t : IsTarget look trees base d.0.shows.own tree c.args.parent.now c.args.name.now (Ok c.in_ok-depth.field-0) = looks look trees top base tree marks knows shown le is_tree d in
     let at : IsTarget look trees base d.0.shows.own tree c.args.parent.now c.args.name.now (Ok (targets.Taken c.in-Taken.child)) = subst (λ (x : Target). IsTarget look trees base d.0.shows.own tree c.args.parent.now c.args.name.now (Ok x)) c.in-Taken.is t in
     let later : Knows (g.B.Book.told c.way_to.new.book).revs top look = λ n h. c.in_ok-depth.ensures.kept.revs n (look n) (knows n h) in
-    let inner : DeletesIn (g.B.Book.told c.way_to.new.book).revs (g.N.Own.txn c.args.own.now) (g.N.Own.settled c.args.own.now) (g.N.Own.settled c.args.own.now) (g.N.Own.settled c.delete_in.new.own) c.args.parent.now c.args.name.now c.in-Taken.child (Err c.in_err-delete_in.field-0.0) =
-    subst (λ (h : Folder). DeletesIn (g.B.Book.told c.way_to.new.book).revs (g.N.Own.txn c.args.own.now) h (g.N.Own.settled c.args.own.now) (g.N.Own.settled c.delete_in.new.own) c.args.parent.now c.args.name.now c.in-Taken.child (Err c.in_err-delete_in.field-0.0)) c.requires.whole c.in_err-delete_in.ensures.deletes in
-    let r = err_from_is_err_and c.from_residual-in_err-delete_in.result c.from_residual-in_err-delete_in.ensures.1 in
+    let inner : DeletesIn (g.B.Book.told c.way_to.new.book).revs (g.N.Own.txn c.args.own.now) (g.N.Own.settled c.args.own.now) (g.N.Own.settled c.args.own.now) (g.N.Own.settled c.delete_in.new.own) c.args.parent.now c.args.name.now c.in-Taken.child (Err c.in_err-delete_in-in-Taken.field-0.0) =
+    subst (λ (h : Folder). DeletesIn (g.B.Book.told c.way_to.new.book).revs (g.N.Own.txn c.args.own.now) h (g.N.Own.settled c.args.own.now) (g.N.Own.settled c.delete_in.new.own) c.args.parent.now c.args.name.now c.in-Taken.child (Err c.in_err-delete_in-in-Taken.field-0.0)) c.requires.whole c.in_err-delete_in-in-Taken.ensures.deletes in
+    let r = err_from_is_err_and c.from_residual-in_err-delete_in-in-Taken.result c.from_residual-in_err-delete_in-in-Taken.ensures.1 in
     rw (r.1, r.2) (inner look trees top base tree marks later shown le is_tree d at.0 at.1 at.2)
 
-pub returns-in-Taken-clause-meets : goal.returns-in-Taken-clause-meets
-returns-in-Taken-clause-meets g c = λ look trees top base tree marks knows shown le is_tree d.
+pub returns-in_ok-delete_in-in-Taken-clause-meets : goal.returns-in_ok-delete_in-in-Taken-clause-meets
+returns-in_ok-delete_in-in-Taken-clause-meets g c = λ look trees top base tree marks knows shown le is_tree d.
     let looks : LooksAt (g.B.Book.told c.args.book.now).revs (g.N.Own.txn c.args.own.now) (g.N.Own.settled c.args.own.now) c.args.parent.now c.args.name.now (Ok c.in_ok-depth.field-0) =
     subst (λ (h : Folder). LooksAt (g.B.Book.told c.args.book.now).revs (g.N.Own.txn c.args.own.now) h c.args.parent.now c.args.name.now (Ok c.in_ok-depth.field-0)) c.requires.whole c.in_ok-depth.ensures.looks in
     let t : IsTarget look trees base d.0.shows.own tree c.args.parent.now c.args.name.now (Ok c.in_ok-depth.field-0) = looks look trees top base tree marks knows shown le is_tree d in
     let at : IsTarget look trees base d.0.shows.own tree c.args.parent.now c.args.name.now (Ok (targets.Taken c.in-Taken.child)) = subst (λ (x : Target). IsTarget look trees base d.0.shows.own tree c.args.parent.now c.args.name.now (Ok x)) c.in-Taken.is t in
     let later : Knows (g.B.Book.told c.way_to.new.book).revs top look = λ n h. c.in_ok-depth.ensures.kept.revs n (look n) (knows n h) in
     let inner : DeletesIn (g.B.Book.told c.way_to.new.book).revs (g.N.Own.txn c.args.own.now) (g.N.Own.settled c.args.own.now) (g.N.Own.settled c.args.own.now) (g.N.Own.settled c.delete_in.new.own) c.args.parent.now c.args.name.now c.in-Taken.child (Ok tt) =
-    subst (λ (h : Folder). DeletesIn (g.B.Book.told c.way_to.new.book).revs (g.N.Own.txn c.args.own.now) h (g.N.Own.settled c.args.own.now) (g.N.Own.settled c.delete_in.new.own) c.args.parent.now c.args.name.now c.in-Taken.child (Ok tt)) c.requires.whole c.in_ok-delete_in.ensures.deletes in
+    subst (λ (h : Folder). DeletesIn (g.B.Book.told c.way_to.new.book).revs (g.N.Own.txn c.args.own.now) h (g.N.Own.settled c.args.own.now) (g.N.Own.settled c.delete_in.new.own) c.args.parent.now c.args.name.now c.in-Taken.child (Ok tt)) c.requires.whole c.in_ok-delete_in-in-Taken.ensures.deletes in
     inner look trees top base tree marks later shown le is_tree d at.0 at.1 at.2
 
-pub returns-in_err-delete_in-clause-kept : goal.returns-in_err-delete_in-clause-kept
-returns-in_err-delete_in-clause-kept g c = keeps_trans _ _ _ c.in_ok-depth.ensures.kept c.in_err-delete_in.ensures.kept
+pub returns-in_err-delete_in-in-Taken-clause-kept : goal.returns-in_err-delete_in-in-Taken-clause-kept
+returns-in_err-delete_in-in-Taken-clause-kept g c = keeps_trans _ _ _ c.in_ok-depth.ensures.kept c.in_err-delete_in-in-Taken.ensures.kept
 
-pub returns-in-Taken-clause-kept : goal.returns-in-Taken-clause-kept
-returns-in-Taken-clause-kept g c = keeps_trans _ _ _ c.in_ok-depth.ensures.kept c.in_ok-delete_in.ensures.kept
+pub returns-in_ok-delete_in-in-Taken-clause-kept : goal.returns-in_ok-delete_in-in-Taken-clause-kept
+returns-in_ok-delete_in-in-Taken-clause-kept g c = keeps_trans _ _ _ c.in_ok-depth.ensures.kept c.in_ok-delete_in-in-Taken.ensures.kept
