@@ -1,6 +1,6 @@
 -- A copy at a path: the revision and the source.
-use Rattle.std.proofs.Common.{◌≡◌, ◌≤◌, ◌<◌, ℕ, true, refl, arith}
-use Rattle.std.specs.Prelude.{Option, Some, None, is_some, IsSomeAnd, Err}
+use Rattle.std.proofs.Common.{◌≡◌, ◌≤◌, ◌<◌, ℕ, arith}
+use Rattle.std.specs.Prelude.{Option, Some, None, IsSomeAnd, Err}
 use Rattle.fsfs_base.specs.Paths.{Path}
 use Rattle.fsfs_tree.specs.Nodes.{Node, TreeFunction}
 use Rattle.fsfs_book.specs.Told.{RevisionBytes}
@@ -12,7 +12,6 @@ use Rattle.fsfs_damage.specs.Readings.{Answers}
 use Rattle.fsfs_damage.specs.declared.wrong.ReadError.{ReadError}
 use Rattle.fsfs_damage.specs.declared.wrong.ReadError.TheVariants as reads
 use Rattle.fsfs_dag.specs.Views.{met_value}
-use Rattle.fsfs_base.specs.declared.kind.Kind.{Kind}
 use Rattle.fsfs_edit.specs.Errors.{of_read, IsFailure}
 use Rattle.fsfs_edit.specs.Walks.{HasKind}
 

@@ -1,8 +1,8 @@
 -- What stands in an own directory of a draft becomes the transaction's own.
-use Rattle.std.proofs.Common.{◌≡◌, ◌≤◌, ◌<◌, ◌+◌, ℕ, Bool, true, false, ◌&&◌, cond, List, [], ◌∷◌, ◌++◌, refl, sym, ap, subst, ◌∙◌, inl, inr, arith, append-nil, append_assoc}
+use Rattle.std.proofs.Common.{◌≡◌, ◌≤◌, ◌<◌, ◌+◌, ℕ, Bool, true, false, ◌&&◌, cond, List, [], ◌∷◌, ◌++◌, refl, sym, ap, subst, ◌∙◌, inl, inr, arith, append_assoc}
 use Rattle.std.specs.Prelude.{Option, Some, None, Result, Ok, Err, IfOk, IfErr, is_some}
-use Rattle.std.proofs.lemmas.Bool.{and_parts, and_from}
-use Rattle.fsfs_base.specs.Paths.{PathName, Path, covers}
+use Rattle.std.proofs.lemmas.Bool.{and_parts}
+use Rattle.fsfs_base.specs.Paths.{PathName, Path}
 use Rattle.fsfs_flat.specs.Edits.{is_dir, is_dir_node}
 use Rattle.fsfs_base.proofs.PathLemmas.{same_name-refl, covers-longer}
 use Rattle.fsfs_tree.specs.Nodes.{Node, TreeFunction}
@@ -24,7 +24,7 @@ use Rattle.fsfs_damage.specs.declared.wrong.Wrong.{Wrong}
 use Rattle.fsfs_shows.specs.Reading.{DirEntry, named, EntriesOf, OfId, OfEntry, kind_checks, StandsAt, offset_of}
 use Rattle.fsfs_damage.proofs.OneAnswer.{ok_same, pass_or_fail}
 use Rattle.fsfs_shows.proofs.OneWalk.{of_id_one}
-use Rattle.fsfs_drafts.specs.Own.{OwnNode, Own, below, shared_under, node_here, in_own, draft_tree, graft, under, alone, with_child, shared_at, behind, opened}
+use Rattle.fsfs_drafts.specs.Own.{OwnNode, Own, below, shared_under, node_here, in_own, draft_tree, under, alone, with_child, shared_at, opened}
 use Rattle.fsfs_drafts.specs.Rules.{Above, above_of, IsNew, ComesBy, Change, Copied, Made, CopyPartOf, Directory as OfDirectory, Same as OfSame, Drawn as OfDrawn, head_at, IsEntryOf, stands_under, above_at, stands_at, at_top}
 use Rattle.fsfs_drafts.specs.Drafts.{Kept, Folder, kept_of, IsBelow, IsDraft, ShowTrees}
 use Rattle.fsfs_drafts.specs.Agreeing.{Agrees}
@@ -33,7 +33,7 @@ use Rattle.fsfs_drafts.proofs.Edited.{behind_own, old_tree}
 use Rattle.fsfs_drafts.proofs.OwnShown.{own_shown}
 use Rattle.fsfs_drafts.proofs.Here.{under_is, goes_from, live_here, old_here, rule_here, agrees_below, AreHere, are_here, Inner, inner_shared}
 use Rattle.fsfs_drafts.proofs.LayingKeeps.{graft_here}
-use Rattle.fsfs_drafts.proofs.Changing.{of_id_lasting, below_more, changed_own, changed_draft, changed_shows, successor, step, opening}
+use Rattle.fsfs_drafts.proofs.Changing.{of_id_lasting, changed_own, changed_draft, changed_shows, successor, step, opening}
 use Rattle.fsfs_drafts.proofs.EditLaw.{edits_keep_drafts}
 use Rattle.fsfs_edit.specs.Entries.{OfKind, OfListed, OfKept, IsWithin}
 use Rattle.fsfs_edit.specs.Mutable.{IsAmiss, IsPartOf, Directory, Same, Drawn, IsChildChanged, LeavesMutable}

@@ -1,7 +1,7 @@
 -- A path at which a directory stands leads down a tree.
-use Rattle.std.proofs.Common.{◌≡◌, ℕ, true, false, ◌&&◌, cond, [], ◌∷◌, ◌++◌, refl, ap, subst, ◌∙◌}
-use Rattle.std.specs.Prelude.{Option, Some, None, Ok, is_some, not}
-use Rattle.fsfs_base.specs.Paths.{PathName, Path, same_name, same_path, covers, is_above}
+use Rattle.std.proofs.Common.{◌≡◌, true, [], ◌∷◌, ◌++◌, refl, ap, subst, ◌∙◌}
+use Rattle.std.specs.Prelude.{Option, Some, None, is_some, not}
+use Rattle.fsfs_base.specs.Paths.{PathName, Path, is_above}
 use Rattle.fsfs_tree.specs.Nodes.{Node, TreeFunction}
 use Rattle.fsfs_flat.specs.Edits.{is_dir, is_dir_node}
 use Rattle.fsfs_tree.specs.Trees.{IsTree}

@@ -1,5 +1,5 @@
 -- Readings one after another.
-use Rattle.std.proofs.Common.{◌≡◌, true, false, List, [], Result, Ok, Err, sym, ap, subst, ◌∙◌, inr}
+use Rattle.std.proofs.Common.{◌≡◌, true, false, List, [], Result, Ok, sym, ap, subst, ◌∙◌}
 use Rattle.std.specs.Prelude.{Option, Some, None, is_some, option_map}
 use Rattle.fsfs_noderev.specs.declared.node_id.Part.{Part}
 use Rattle.fsfs_noderev.specs.declared.node_id.NodeId.{NodeId}

@@ -1,25 +1,23 @@
 -- Whole edits, of opened directories, a last step and an item.
-use Rattle.std.proofs.Common.{◌≡◌, ◌≤◌, ◌+◌, ◌-◌, ℕ, Bool, true, false, ◌&&◌, List, [], ◌∷◌, ◌++◌, length, take, refl, sym, ap, subst, ◌∙◌, arith}
+use Rattle.std.proofs.Common.{◌≡◌, ◌≤◌, ◌-◌, ℕ, true, false, List, [], ◌∷◌, ◌++◌, length, take, refl, sym, ap, subst, ◌∙◌, arith}
 use Rattle.std.specs.Prelude.{Option, Some, None, is_some, not, nat_le}
 use Rattle.std.proofs.lemmas.Bool.{and_from}
 use Rattle.fsfs_base.specs.Paths.{PathName, Path, is_root}
 use Rattle.fsfs_base.specs.declared.kind.Kind.{Kind}
 use Rattle.fsfs_base.specs.declared.kind.Kind.TheVariants.{File, Dir}
 use Rattle.fsfs_tree.specs.Nodes.{Node, TreeFunction}
-use Rattle.fsfs_flat.specs.Edits.{is_dir_node, kind_of_node, parent, can_make, accepts, mark_of}
+use Rattle.fsfs_flat.specs.Edits.{is_dir_node, kind_of_node, parent, can_make, mark_of}
 use Rattle.fsfs_flat.specs.declared.edit.Edit.TheVariants.{MakeDir, MakeFile, Delete, Copy}
 use Rattle.fsfs_flat.specs.declared.mark.Mark.{Mark}
-use Rattle.fsfs_flat.specs.declared.mark.What.TheVariants as whats
 use Rattle.fsfs_fields.specs.declared.txn_name.TxnName.{TxnName}
 use Rattle.fsfs_book.specs.Told.{RevisionBytes}
 use Rattle.fsfs_noderev.specs.declared.node_id.NodeId.{NodeId}
 use Rattle.fsfs_noderev.specs.declared.node_rev.CopySource.{CopySource}
 use Rattle.fsfs_changes.specs.declared.item.ChangeItem.{ChangeItem}
 use Rattle.fsfs_shows.proofs.Walks.{take_front}
-use Rattle.fsfs_drafts.specs.Own.{Own}
-use Rattle.fsfs_drafts.specs.Drafts.{Kept, Folder, IsItemOf, pair_of}
+use Rattle.fsfs_drafts.specs.Drafts.{Kept, Folder, pair_of}
 use Rattle.fsfs_drafts.specs.Edits.{IsEdited, IsDraftAfter}
-use Rattle.fsfs_drafts.specs.Steps.{Files, kept_at}
+use Rattle.fsfs_drafts.specs.Steps.{kept_at}
 use Rattle.fsfs_edit.specs.Errors.{IfMemory, IsFailure, IfStays, of_own}
 use Rattle.fsfs_edit.specs.Items.{with_item, IsAddOf, IsDeleteOf, IsFileAt, AddsItem}
 use Rattle.fsfs_edit.specs.Made.{Makes}
@@ -29,7 +27,7 @@ use Rattle.fsfs_edit.specs.Walks.{IsAt, HasKind}
 use Rattle.fsfs_edit.specs.Ways.{HasRoom, IsOpenedAt}
 use Rattle.fsfs_edit.specs.Making.{IsMadeIn}
 use Rattle.fsfs_edit.specs.Copying.{IsCopiedTo}
-use Rattle.fsfs_edit.specs.Deleting.{before_or, before_kept, IsDeletedId, IsGoneId, OfOwn, OfLasting, IsGoneFrom}
+use Rattle.fsfs_edit.specs.Deleting.{before_kept, IsDeletedId, IsGoneId, OfOwn, OfLasting, IsGoneFrom}
 use Rattle.fsfs_edit.specs.declared.error.EditError.{EditError}
 use Rattle.fsfs_edit.specs.declared.error.EditError.TheVariants as errors
 use Rattle.fsfs_edit.specs.declared.own.OwnError.{OwnError}

@@ -15,8 +15,8 @@ ghost use Rattle.fsfs_edit.specs.Copied.{IsCopyNode, IsCopyPut, LeavesCopy};
 
 use crate::entries::{entries_in, replaced};
 use crate::error::EditError;
-use crate::mutable::drawn_part;
 use crate::ids::id_of;
+use crate::mutable::drawn_part;
 use crate::own::Own;
 use fsfs_base::TxnName;
 use fsfs_book::Book;

@@ -41,11 +41,7 @@ enum Source {
     Node(PlacedNode),
 }
 
-fn source_at<B: Book>(
-    alloc: Global,
-    book: &mut B,
-    from: &CopySource,
-) -> Result<Source, EditError>
+fn source_at<B: Book>(alloc: Global, book: &mut B, from: &CopySource) -> Result<Source, EditError>
     ensures finds { FindsSource (B.told book.old).revs (B.told book.old).youngest from.now result }
     ensures kept { Keeps (B.told book.old) (B.told book.new) }
 {

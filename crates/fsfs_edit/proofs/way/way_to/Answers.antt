@@ -1,4 +1,4 @@
-use Rattle.std.proofs.Common.{subst, ◌≡◌}
+use Rattle.std.proofs.Common.{subst}
 use Rattle.fsfs_fields.specs.declared.txn_name.TxnName.{TxnName}
 use Rattle.fsfs_edit.specs.Ways.{IsRootId}
 use Rattle.fsfs_edit.proofs.Reaching.{root, root_here, root_same, root_kind, by_tree}
