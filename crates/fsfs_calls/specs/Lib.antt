@@ -1,0 +1,4 @@
+pub mod Paths
+pub mod CallRecord
+pub mod Listing
+pub mod Remains

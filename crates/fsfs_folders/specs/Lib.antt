@@ -1,0 +1,4 @@
+pub mod Told
+pub mod Keeping
+pub mod Quiet
+pub mod Standing
