@@ -1,11 +1,11 @@
 -- The names that a crash may leave: those now are among them, a sync leaves no more, and where all is firm only those now are left.
 use Rattle.std.proofs.Common.{◌≡◌, ℕ, List, [], ◌∷◌, Bool, true, false, inl, inr, ⊎_elim, refl, sym, ap, ◌∙◌, arith}
-use Rattle.std.proofs.lemmas.Bool.{and_parts, and_from, or_cases, false_from_ne_true}
-use Rattle.std.specs.Prelude.{◌<◌, ◌||◌, ◌&&◌, not, Some}
+use Rattle.std.proofs.lemmas.Bool.{and_parts, and_from, or_cases, false_from_ne_true, not-false}
+use Rattle.std.specs.Prelude.{◌<◌, ◌||◌, ◌&&◌, not, Option, Some, None}
 use Rattle.fsfs_calls.specs.Paths.{same_text, has_path}
-use Rattle.fsfs_calls.specs.CallRecord.{MakeFolder, DropFolder, Create, Take, Rename, Remove, Call, Named, Append, SyncFile, FailSync, SyncFolder, Firmed, Beginning, Standing, renamed_by, names_after, file_count}
-use Rattle.fsfs_calls.specs.Remains.{AreNamesLeft, are_firm, are_folders_firm, AreWithin, are_synced, folders_of}
-use Rattle.fsfs_calls.proofs.PathLemmas.{or_right}
+use Rattle.fsfs_calls.specs.CallRecord.{NameCall, MakeFolder, DropFolder, Create, Take, Rename, Remove, Call, Named, Append, SyncFile, FailSync, SyncFolder, Firmed, Beginning, Standing, given, renamed_by, names_after, file_count}
+use Rattle.fsfs_calls.specs.Remains.{AreNamesLeft, of_names, of_folders, are_firm, AreWithin, are_synced, folders_of}
+use Rattle.fsfs_calls.proofs.PathLemmas.{text_cases, or_right}
 use Rattle.fsfs_calls.proofs.NameLemmas.{comes_from, comes_within, count_more, first_within}
 
 pub now_is_left : (first : Beginning) (synced : List (List ℕ)) (calls : List Call) → AreNamesLeft first synced calls (names_after first calls)
@@ -59,89 +59,118 @@ left_of_more first folders synced (Firmed ∷ calls) left within are = left_of_m
 pub left_before_sync : (first : Beginning) (folder : List ℕ) (calls : List Call) (left : Standing) → AreNamesLeft first (folder ∷ []) calls left → AreNamesLeft first [] calls left
 left_before_sync first folder calls left are = left_of_more first [] (folder ∷ []) calls left (λ q e. let h : false ≡ true = e in cc) are
 
-pub firm_is_now : (first : Beginning) (synced : List (List ℕ)) (calls : List Call) (left : Standing)
-    → are_firm synced calls ≡ true → AreNamesLeft first synced calls left → left ≡ names_after first calls
-firm_is_now first synced [] left firm are = are
-firm_is_now first synced (Named change ∷ calls) left firm are =
-    let parts : (are_synced synced (folders_of change) ≡ true) × (are_firm synced calls ≡ true) = and_parts (are_synced synced (folders_of change)) (are_firm synced calls) firm in
-    ⊎_elim (λ kept. let h : true ≡ false = sym parts.0 ∙ kept.0 in cc)
-    (λ done. done.2 ∙ ap (λ was. renamed_by change (file_count first calls) (names_after first calls) was) (firm_is_now first synced calls done.0 parts.1 done.1)) are
-firm_is_now first synced (Append number bytes ∷ calls) left firm are = firm_is_now first synced calls left firm are
-firm_is_now first synced (SyncFile number ∷ calls) left firm are = firm_is_now first synced calls left firm are
-firm_is_now first synced (FailSync number ∷ calls) left firm are = firm_is_now first synced calls left firm are
-firm_is_now first synced (SyncFolder folder ∷ calls) left firm are = firm_is_now first (folder ∷ synced) calls left firm are
-firm_is_now first synced (Firmed ∷ calls) left firm are = firm_is_now first synced calls left firm are
+-- where this doesn't count, it needs no sync
+counted_not : (counts synced : Bool) → (not counts || synced) ≡ true → synced ≡ false → counts ≡ false
+counted_not true synced firm off = let h : true ≡ false = sym firm ∙ off in cc
+counted_not false synced firm off = refl
 
--- where the folders are firm, each crash leaves them
-pub folders_are_now : (first : Beginning) (synced : List (List ℕ)) (calls : List Call) (left : Standing)
-    → are_folders_firm synced calls ≡ true → AreNamesLeft first synced calls left → left.folders ≡ (names_after first calls).folders
-folders_are_now first synced [] left firm are = ap (λ (n : Standing). n.folders) are
-folders_are_now first synced (Named (MakeFolder path) ∷ calls) left firm are =
-    let parts : (are_synced synced (folders_of (MakeFolder path)) ≡ true) × (are_folders_firm synced calls ≡ true) = and_parts (are_synced synced (folders_of (MakeFolder path))) (are_folders_firm synced calls) firm in
-    ⊎_elim (λ kept. let h : true ≡ false = sym parts.0 ∙ kept.0 in cc)
-    (λ done. ap (λ (n : Standing). n.folders) done.2 ∙ ap {B = List ℕ → Bool} (λ (folders : List ℕ → Bool) (q : List ℕ). same_text q path || folders q) (folders_are_now first synced calls done.0 parts.1 done.1)) are
-folders_are_now first synced (Named (DropFolder path) ∷ calls) left firm are =
-    let parts : (are_synced synced (folders_of (DropFolder path)) ≡ true) × (are_folders_firm synced calls ≡ true) = and_parts (are_synced synced (folders_of (DropFolder path))) (are_folders_firm synced calls) firm in
-    ⊎_elim (λ kept. let h : true ≡ false = sym parts.0 ∙ kept.0 in cc)
-    (λ done. ap (λ (n : Standing). n.folders) done.2 ∙ ap {B = List ℕ → Bool} (λ (folders : List ℕ → Bool) (q : List ℕ). not (same_text q path) && folders q) (folders_are_now first synced calls done.0 parts.1 done.1)) are
-folders_are_now first synced (Named (Take path contents) ∷ calls) left firm are =
-    ⊎_elim (λ kept. folders_are_now first synced calls left firm kept.1) (λ done. ap (λ (n : Standing). n.folders) done.2 ∙ folders_are_now first synced calls done.0 firm done.1) are
-folders_are_now first synced (Named (Create path) ∷ calls) left firm are =
-    ⊎_elim (λ kept. folders_are_now first synced calls left firm kept.1) (λ done. ap (λ (n : Standing). n.folders) done.2 ∙ folders_are_now first synced calls done.0 firm done.1) are
-folders_are_now first synced (Named (Rename from to) ∷ calls) left firm are =
-    ⊎_elim (λ kept. folders_are_now first synced calls left firm kept.1) (λ done. ap (λ (n : Standing). n.folders) done.2 ∙ folders_are_now first synced calls done.0 firm done.1) are
-folders_are_now first synced (Named (Remove path) ∷ calls) left firm are =
-    ⊎_elim (λ kept. folders_are_now first synced calls left firm kept.1) (λ done. ap (λ (n : Standing). n.folders) done.2 ∙ folders_are_now first synced calls done.0 firm done.1) are
-folders_are_now first synced (Append number bytes ∷ calls) left firm are = folders_are_now first synced calls left firm are
-folders_are_now first synced (SyncFile number ∷ calls) left firm are = folders_are_now first synced calls left firm are
-folders_are_now first synced (FailSync number ∷ calls) left firm are = folders_are_now first synced calls left firm are
-folders_are_now first synced (SyncFolder folder ∷ calls) left firm are = folders_are_now first (folder ∷ synced) calls left firm are
-folders_are_now first synced (Firmed ∷ calls) left firm are = folders_are_now first synced calls left firm are
+-- the files after a change, by what was there before it
+files_alike : (change : NameCall) (number : ℕ) (now was : Standing) → was.files ≡ now.files → (renamed_by change number now was).files ≡ (renamed_by change number now now).files
+files_alike (MakeFolder path) number now was e = e
+files_alike (DropFolder path) number now was e = e
+files_alike (Create path) number now was e = ap {B = List ℕ → Option ℕ} (λ files. given path (Some number) files) e
+files_alike (Take path contents) number now was e = ap {B = List ℕ → Option ℕ} (λ files. given path (Some number) files) e
+files_alike (Rename from to) number now was e = ap {B = List ℕ → Option ℕ} (λ files. given to (now.files from) (given from None files)) e
+files_alike (Remove path) number now was e = ap {B = List ℕ → Option ℕ} (λ files. given path None files) e
+
+files_spared : (is_spared : List ℕ → Bool) (change : NameCall) (number : ℕ) (now : Standing) → of_names is_spared change ≡ false → now.files ≡ (renamed_by change number now now).files
+files_spared is_spared (MakeFolder path) number now off = refl
+files_spared is_spared (DropFolder path) number now off = refl
+files_spared is_spared (Create path) number now off = let h : true ≡ false = off in cc
+files_spared is_spared (Take path contents) number now off = let h : true ≡ false = off in cc
+files_spared is_spared (Rename from to) number now off = let h : true ≡ false = off in cc
+files_spared is_spared (Remove path) number now off = let h : true ≡ false = off in cc
+
+-- where all names are firm but some folders', each crash leaves the files that are there
+pub files_are_now : (is_spared : List ℕ → Bool) (first : Beginning) (synced : List (List ℕ)) (calls : List Call) (left : Standing)
+    → are_firm (of_names is_spared) synced calls ≡ true → AreNamesLeft first synced calls left → left.files ≡ (names_after first calls).files
+files_are_now is_spared first synced [] left firm are = ap (λ (n : Standing). n.files) are
+files_are_now is_spared first synced (Named change ∷ calls) left firm are =
+    let parts : ((not (of_names is_spared change) || are_synced synced (folders_of change)) ≡ true) × (are_firm (of_names is_spared) synced calls ≡ true) =
+    and_parts (not (of_names is_spared change) || are_synced synced (folders_of change)) (are_firm (of_names is_spared) synced calls) firm in
+    ⊎_elim
+    (λ kept. files_are_now is_spared first synced calls left parts.1 kept.1
+    ∙ files_spared is_spared change (file_count first calls) (names_after first calls) (counted_not (of_names is_spared change) (are_synced synced (folders_of change)) parts.0 kept.0))
+    (λ done. ap (λ (n : Standing). n.files) done.2 ∙ files_alike change (file_count first calls) (names_after first calls) done.0 (files_are_now is_spared first synced calls done.0 parts.1 done.1)) are
+files_are_now is_spared first synced (Append number bytes ∷ calls) left firm are = files_are_now is_spared first synced calls left firm are
+files_are_now is_spared first synced (SyncFile number ∷ calls) left firm are = files_are_now is_spared first synced calls left firm are
+files_are_now is_spared first synced (FailSync number ∷ calls) left firm are = files_are_now is_spared first synced calls left firm are
+files_are_now is_spared first synced (SyncFolder folder ∷ calls) left firm are = files_are_now is_spared first (folder ∷ synced) calls left firm are
+files_are_now is_spared first synced (Firmed ∷ calls) left firm are = files_are_now is_spared first synced calls left firm are
+
+-- whether a folder is there after a change, by whether it was before
+folder_alike : (change : NameCall) (number : ℕ) (now was : Standing) (p : List ℕ) → was.folders p ≡ now.folders p → (renamed_by change number now was).folders p ≡ (renamed_by change number now now).folders p
+folder_alike (MakeFolder path) number now was p e = ap (λ b. same_text p path || b) e
+folder_alike (DropFolder path) number now was p e = ap (λ b. not (same_text p path) && b) e
+folder_alike (Create path) number now was p e = e
+folder_alike (Take path contents) number now was p e = e
+folder_alike (Rename from to) number now was p e = e
+folder_alike (Remove path) number now was p e = e
+
+module _ (is_spared : List ℕ → Bool) (p : List ℕ) (counts : is_spared p ≡ false) where
+  spared_apart : (path : List ℕ) → not (is_spared path) ≡ false → same_text p path ≡ false
+  spared_apart path off = ⊎_elim (λ s. let h : true ≡ false = sym (not-false (is_spared path) off) ∙ sym (ap is_spared s.0) ∙ counts in cc) (λ o. o.1) (text_cases p path)
+
+  folder_spared : (change : NameCall) (number : ℕ) (now : Standing) → of_folders is_spared change ≡ false → now.folders p ≡ (renamed_by change number now now).folders p
+  folder_spared (MakeFolder path) number now off = sym (ap (λ b. b || now.folders p) (spared_apart path off))
+  folder_spared (DropFolder path) number now off = sym (ap (λ b. not b && now.folders p) (spared_apart path off))
+  folder_spared (Create path) number now off = refl
+  folder_spared (Take path contents) number now off = refl
+  folder_spared (Rename from to) number now off = refl
+  folder_spared (Remove path) number now off = refl
+
+  -- where the folders are firm but some, each crash leaves the others that are there
+  pub folder_is_now : (first : Beginning) (synced : List (List ℕ)) (calls : List Call) (left : Standing)
+      → are_firm (of_folders is_spared) synced calls ≡ true → AreNamesLeft first synced calls left → left.folders p ≡ (names_after first calls).folders p
+  folder_is_now first synced [] left firm are = ap (λ (n : Standing). n.folders p) are
+  folder_is_now first synced (Named change ∷ calls) left firm are =
+      let parts : ((not (of_folders is_spared change) || are_synced synced (folders_of change)) ≡ true) × (are_firm (of_folders is_spared) synced calls ≡ true) =
+      and_parts (not (of_folders is_spared change) || are_synced synced (folders_of change)) (are_firm (of_folders is_spared) synced calls) firm in
+      ⊎_elim
+      (λ kept. folder_is_now first synced calls left parts.1 kept.1
+      ∙ folder_spared change (file_count first calls) (names_after first calls) (counted_not (of_folders is_spared change) (are_synced synced (folders_of change)) parts.0 kept.0))
+      (λ done. ap (λ (n : Standing). n.folders p) done.2 ∙ folder_alike change (file_count first calls) (names_after first calls) done.0 p (folder_is_now first synced calls done.0 parts.1 done.1)) are
+  folder_is_now first synced (Append number bytes ∷ calls) left firm are = folder_is_now first synced calls left firm are
+  folder_is_now first synced (SyncFile number ∷ calls) left firm are = folder_is_now first synced calls left firm are
+  folder_is_now first synced (FailSync number ∷ calls) left firm are = folder_is_now first synced calls left firm are
+  folder_is_now first synced (SyncFolder folder ∷ calls) left firm are = folder_is_now first (folder ∷ synced) calls left firm are
+  folder_is_now first synced (Firmed ∷ calls) left firm are = folder_is_now first synced calls left firm are
+
+either_more : (x y z : Bool) → (y ≡ true → z ≡ true) → (x || y) ≡ true → (x || z) ≡ true
+either_more true y z h e = refl
+either_more false y z h e = h e
 
 -- what is firm stays so
-pub firm_more : (folders synced : List (List ℕ)) (calls : List Call) → AreWithin folders synced → are_firm folders calls ≡ true → are_firm synced calls ≡ true
-firm_more folders synced [] within firm = refl
-firm_more folders synced (Named change ∷ calls) within firm =
-    let parts : (are_synced folders (folders_of change) ≡ true) × (are_firm folders calls ≡ true) = and_parts (are_synced folders (folders_of change)) (are_firm folders calls) firm in
-    and_from (are_synced synced (folders_of change)) (are_firm synced calls) (synced_more folders synced (folders_of change) within parts.0) (firm_more folders synced calls within parts.1)
-firm_more folders synced (Append number bytes ∷ calls) within firm = firm_more folders synced calls within firm
-firm_more folders synced (SyncFile number ∷ calls) within firm = firm_more folders synced calls within firm
-firm_more folders synced (FailSync number ∷ calls) within firm = firm_more folders synced calls within firm
-firm_more folders synced (SyncFolder folder ∷ calls) within firm = firm_more (folder ∷ folders) (folder ∷ synced) calls (within_more folder folders synced within) firm
-firm_more folders synced (Firmed ∷ calls) within firm = firm_more folders synced calls within firm
+pub firm_more : (counts : NameCall → Bool) (folders synced : List (List ℕ)) (calls : List Call) → AreWithin folders synced → are_firm counts folders calls ≡ true → are_firm counts synced calls ≡ true
+firm_more counts folders synced [] within firm = refl
+firm_more counts folders synced (Named change ∷ calls) within firm =
+    let parts : ((not (counts change) || are_synced folders (folders_of change)) ≡ true) × (are_firm counts folders calls ≡ true) = and_parts (not (counts change) || are_synced folders (folders_of change)) (are_firm counts folders calls) firm in
+    and_from (not (counts change) || are_synced synced (folders_of change)) (are_firm counts synced calls)
+    (either_more (not (counts change)) (are_synced folders (folders_of change)) (are_synced synced (folders_of change)) (λ h. synced_more folders synced (folders_of change) within h) parts.0) (firm_more counts folders synced calls within parts.1)
+firm_more counts folders synced (Append number bytes ∷ calls) within firm = firm_more counts folders synced calls within firm
+firm_more counts folders synced (SyncFile number ∷ calls) within firm = firm_more counts folders synced calls within firm
+firm_more counts folders synced (FailSync number ∷ calls) within firm = firm_more counts folders synced calls within firm
+firm_more counts folders synced (SyncFolder folder ∷ calls) within firm = firm_more counts (folder ∷ folders) (folder ∷ synced) calls (within_more folder folders synced within) firm
+firm_more counts folders synced (Firmed ∷ calls) within firm = firm_more counts folders synced calls within firm
 
-pub firm_folders : (synced : List (List ℕ)) (calls : List Call) → are_firm synced calls ≡ true → are_folders_firm synced calls ≡ true
-firm_folders synced [] firm = refl
-firm_folders synced (Named (MakeFolder path) ∷ calls) firm =
-    let parts : (are_synced synced (folders_of (MakeFolder path)) ≡ true) × (are_firm synced calls ≡ true) = and_parts (are_synced synced (folders_of (MakeFolder path))) (are_firm synced calls) firm in
-    and_from (are_synced synced (folders_of (MakeFolder path))) (are_folders_firm synced calls) parts.0 (firm_folders synced calls parts.1)
-firm_folders synced (Named (DropFolder path) ∷ calls) firm =
-    let parts : (are_synced synced (folders_of (DropFolder path)) ≡ true) × (are_firm synced calls ≡ true) = and_parts (are_synced synced (folders_of (DropFolder path))) (are_firm synced calls) firm in
-    and_from (are_synced synced (folders_of (DropFolder path))) (are_folders_firm synced calls) parts.0 (firm_folders synced calls parts.1)
-firm_folders synced (Named (Take path contents) ∷ calls) firm = firm_folders synced calls (and_parts (are_synced synced (folders_of (Take path contents))) (are_firm synced calls) firm).1
-firm_folders synced (Named (Create path) ∷ calls) firm = firm_folders synced calls (and_parts (are_synced synced (folders_of (Create path))) (are_firm synced calls) firm).1
-firm_folders synced (Named (Rename from to) ∷ calls) firm = firm_folders synced calls (and_parts (are_synced synced (folders_of (Rename from to))) (are_firm synced calls) firm).1
-firm_folders synced (Named (Remove path) ∷ calls) firm = firm_folders synced calls (and_parts (are_synced synced (folders_of (Remove path))) (are_firm synced calls) firm).1
-firm_folders synced (Append number bytes ∷ calls) firm = firm_folders synced calls firm
-firm_folders synced (SyncFile number ∷ calls) firm = firm_folders synced calls firm
-firm_folders synced (FailSync number ∷ calls) firm = firm_folders synced calls firm
-firm_folders synced (SyncFolder folder ∷ calls) firm = firm_folders (folder ∷ synced) calls firm
-firm_folders synced (Firmed ∷ calls) firm = firm_folders synced calls firm
+fewer_counted : (is_spared : List ℕ → Bool) (change : NameCall) (synced : Bool) → (not (of_names is_spared change) || synced) ≡ true → (not (of_folders is_spared change) || synced) ≡ true
+fewer_counted is_spared (MakeFolder path) synced e = e
+fewer_counted is_spared (DropFolder path) synced e = e
+fewer_counted is_spared (Create path) synced e = refl
+fewer_counted is_spared (Take path contents) synced e = refl
+fewer_counted is_spared (Rename from to) synced e = refl
+fewer_counted is_spared (Remove path) synced e = refl
 
-pub folders_firm_more : (folders synced : List (List ℕ)) (calls : List Call) → AreWithin folders synced → are_folders_firm folders calls ≡ true → are_folders_firm synced calls ≡ true
-folders_firm_more folders synced [] within firm = refl
-folders_firm_more folders synced (Named (MakeFolder path) ∷ calls) within firm =
-    let parts : (are_synced folders (folders_of (MakeFolder path)) ≡ true) × (are_folders_firm folders calls ≡ true) = and_parts (are_synced folders (folders_of (MakeFolder path))) (are_folders_firm folders calls) firm in
-    and_from (are_synced synced (folders_of (MakeFolder path))) (are_folders_firm synced calls) (synced_more folders synced (folders_of (MakeFolder path)) within parts.0) (folders_firm_more folders synced calls within parts.1)
-folders_firm_more folders synced (Named (DropFolder path) ∷ calls) within firm =
-    let parts : (are_synced folders (folders_of (DropFolder path)) ≡ true) × (are_folders_firm folders calls ≡ true) = and_parts (are_synced folders (folders_of (DropFolder path))) (are_folders_firm folders calls) firm in
-    and_from (are_synced synced (folders_of (DropFolder path))) (are_folders_firm synced calls) (synced_more folders synced (folders_of (DropFolder path)) within parts.0) (folders_firm_more folders synced calls within parts.1)
-folders_firm_more folders synced (Named (Take path contents) ∷ calls) within firm = folders_firm_more folders synced calls within firm
-folders_firm_more folders synced (Named (Create path) ∷ calls) within firm = folders_firm_more folders synced calls within firm
-folders_firm_more folders synced (Named (Rename from to) ∷ calls) within firm = folders_firm_more folders synced calls within firm
-folders_firm_more folders synced (Named (Remove path) ∷ calls) within firm = folders_firm_more folders synced calls within firm
-folders_firm_more folders synced (Append number bytes ∷ calls) within firm = folders_firm_more folders synced calls within firm
-folders_firm_more folders synced (SyncFile number ∷ calls) within firm = folders_firm_more folders synced calls within firm
-folders_firm_more folders synced (FailSync number ∷ calls) within firm = folders_firm_more folders synced calls within firm
-folders_firm_more folders synced (SyncFolder folder ∷ calls) within firm = folders_firm_more (folder ∷ folders) (folder ∷ synced) calls (within_more folder folders synced within) firm
-folders_firm_more folders synced (Firmed ∷ calls) within firm = folders_firm_more folders synced calls within firm
+-- where all names are firm, so are the folders
+pub firm_folders : (is_spared : List ℕ → Bool) (synced : List (List ℕ)) (calls : List Call) → are_firm (of_names is_spared) synced calls ≡ true → are_firm (of_folders is_spared) synced calls ≡ true
+firm_folders is_spared synced [] firm = refl
+firm_folders is_spared synced (Named change ∷ calls) firm =
+    let parts : ((not (of_names is_spared change) || are_synced synced (folders_of change)) ≡ true) × (are_firm (of_names is_spared) synced calls ≡ true) =
+    and_parts (not (of_names is_spared change) || are_synced synced (folders_of change)) (are_firm (of_names is_spared) synced calls) firm in
+    and_from (not (of_folders is_spared change) || are_synced synced (folders_of change)) (are_firm (of_folders is_spared) synced calls)
+    (fewer_counted is_spared change (are_synced synced (folders_of change)) parts.0) (firm_folders is_spared synced calls parts.1)
+firm_folders is_spared synced (Append number bytes ∷ calls) firm = firm_folders is_spared synced calls firm
+firm_folders is_spared synced (SyncFile number ∷ calls) firm = firm_folders is_spared synced calls firm
+firm_folders is_spared synced (FailSync number ∷ calls) firm = firm_folders is_spared synced calls firm
+firm_folders is_spared synced (SyncFolder folder ∷ calls) firm = firm_folders is_spared (folder ∷ synced) calls firm
+firm_folders is_spared synced (Firmed ∷ calls) firm = firm_folders is_spared synced calls firm

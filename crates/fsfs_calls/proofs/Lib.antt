@@ -1,3 +1,4 @@
 pub mod PathLemmas
 pub mod NameLemmas
+pub mod NamedLemmas
 pub mod LeftLemmas

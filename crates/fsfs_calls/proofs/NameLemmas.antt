@@ -1,5 +1,5 @@
 -- Where a file comes from that has a name after a change.
-use Rattle.std.proofs.Common.{◌≡◌, ◌⊎◌, ℕ, List, [], ◌∷◌, Bool, true, false, cond, inl, inr, ⊎_elim, refl, sym, ap, subst, ◌∙◌, arith}
+use Rattle.std.proofs.Common.{◌≡◌, ◌⊎◌, ℕ, List, [], ◌∷◌, Bool, true, false, cond, inl, inr, ⊎_elim, refl, sym, ap, ◌∙◌, arith}
 use Rattle.std.proofs.lemmas.Bool.{and_parts, and_from, eqb-true, eq-eqb, not_from_false}
 use Rattle.std.proofs.lemmas.List.{append_assoc}
 use Rattle.std.proofs.lemmas.Option.{same_Some, none-some}
@@ -69,51 +69,38 @@ first_within (file ∷ files) q k e = ⊎_elim (λ s. at_head (sym (ap (λ b. co
     at_head : Some (length files) ≡ Some k → k < length (file ∷ files)
     at_head h = let n : length files ≡ k = same_Some (length files) k h in omega (arith, n)
 
-there_more : (folders more : List ℕ → Bool) → ((p : List ℕ) → folders p ≡ true → more p ≡ true) → (before rest : List ℕ) → are_there folders before rest ≡ true → are_there more before rest ≡ true
-there_more folders more within before [] e = refl
-there_more folders more within before (c ∷ cs) e =
-    let parts : ((if c == 47 then folders before else true) ≡ true) × (are_there folders (before ++ c ∷ []) cs ≡ true) = and_parts (if c == 47 then folders before else true) (are_there folders (before ++ c ∷ []) cs) e in
-    and_from (if c == 47 then more before else true) (are_there more (before ++ c ∷ []) cs) (at_slash (c == 47) parts.0) (there_more folders more within (before ++ c ∷ []) cs parts.1)
-  where
-    at_slash : (b : Bool) → (if b then folders before else true) ≡ true → (if b then more before else true) ≡ true
-    at_slash true h = within before h
-    at_slash false h = refl
-
--- with more folders no less is reachable
-pub reachable_more : (folders more : List ℕ → Bool) → ((p : List ℕ) → folders p ≡ true → more p ≡ true) → (path : List ℕ) → is_reachable folders path ≡ true → is_reachable more path ≡ true
-reachable_more folders more within path e =
-    let parts : (folders [] ≡ true) × (are_there folders [] path ≡ true) = and_parts (folders []) (are_there folders [] path) e in
-    and_from (more []) (are_there more [] path) (within [] parts.0) (there_more folders more within [] path parts.1)
-
-pub reachable_with : (made : List ℕ) (folders : List ℕ → Bool) (path : List ℕ) → is_reachable folders path ≡ true → is_reachable (λ p. same_text p made || folders p) path ≡ true
-reachable_with made folders path e = reachable_more folders (λ p. same_text p made || folders p) (λ p h. or_right (same_text p made) (folders p) h) path e
-
 -- what follows a slash is below what stands before it
 pub below_slash : (path cs : List ℕ) → is_below path (path ++ 47 ∷ cs) ≡ true
 below_slash [] cs = refl
 below_slash (p ∷ ps) cs = and_from (p == p) (is_below ps (ps ++ 47 ∷ cs)) (eq-eqb p p refl) (below_slash ps cs)
 
-module _ (path : List ℕ) (folders : List ℕ → Bool) where
-  abbrev kept : List ℕ → Bool
-  kept p = not (same_text p path) && folders p
-
-  there_without : (before rest : List ℕ) → is_below path (before ++ rest) ≡ false → are_there folders before rest ≡ true → are_there kept before rest ≡ true
-  there_without before [] apart e = refl
-  there_without before (c ∷ cs) apart e =
+module _ (folders more : List ℕ → Bool) (q : List ℕ) (still : (p : List ℕ) → is_below p q ≡ true → folders p ≡ true → more p ≡ true) where
+  there_still : (before rest : List ℕ) → before ++ rest ≡ q → are_there folders before rest ≡ true → are_there more before rest ≡ true
+  there_still before [] whole e = refl
+  there_still before (c ∷ cs) whole e =
       let parts : ((if c == 47 then folders before else true) ≡ true) × (are_there folders (before ++ c ∷ []) cs ≡ true) = and_parts (if c == 47 then folders before else true) (are_there folders (before ++ c ∷ []) cs) e in
-      and_from (if c == 47 then kept before else true) (are_there kept (before ++ c ∷ []) cs) (at_slash (c == 47) refl parts.0)
-      (there_without (before ++ c ∷ []) cs (ap (λ q. is_below path q) (append_assoc before (c ∷ []) cs) ∙ apart) parts.1)
+      and_from (if c == 47 then more before else true) (are_there more (before ++ c ∷ []) cs) (at_slash (c == 47) refl parts.0)
+      (there_still (before ++ c ∷ []) cs (append_assoc before (c ∷ []) cs ∙ whole) parts.1)
     where
-      other : c ≡ 47 → (before ≡ path → ⊥)
-      other slash same = let h : true ≡ false = sym (below_slash path cs) ∙ ap (λ q. is_below path q) (ap (λ b. b ++ 47 ∷ cs) (sym same) ∙ ap (λ d. before ++ d ∷ cs) (sym slash)) ∙ apart in cc
-
-      at_slash : (b : Bool) → (c == 47) ≡ b → (if b then folders before else true) ≡ true → (if b then kept before else true) ≡ true
-      at_slash true slash h = and_from (not (same_text before path)) (folders before)
-          (⊎_elim (λ s. absurd (other (eqb-true c 47 slash) s.0)) (λ o. not_from_false (same_text before path) o.1) (text_cases before path)) h
+      at_slash : (b : Bool) → (c == 47) ≡ b → (if b then folders before else true) ≡ true → (if b then more before else true) ≡ true
+      at_slash true slash h = still before (sym (ap (λ p. is_below before p) (ap (λ d. before ++ d ∷ cs) (sym (eqb-true c 47 slash)) ∙ whole)) ∙ below_slash before cs) h
       at_slash false slash h = refl
 
-  -- what isn't below a folder is reachable without it
-  pub reachable_without : (q : List ℕ) → same_text [] path ≡ false → is_below path q ≡ false → is_reachable folders q ≡ true → is_reachable kept q ≡ true
-  reachable_without q other apart e =
+  -- a path is reachable still where each folder above it is still there
+  pub reachable_still : (folders [] ≡ true → more [] ≡ true) → is_reachable folders q ≡ true → is_reachable more q ≡ true
+  reachable_still root e =
       let parts : (folders [] ≡ true) × (are_there folders [] q ≡ true) = and_parts (folders []) (are_there folders [] q) e in
-      and_from (kept []) (are_there kept [] q) (and_from (not (same_text [] path)) (folders []) (not_from_false (same_text [] path) other) parts.0) (there_without [] q apart parts.1)
+      and_from (more []) (are_there more [] q) (root parts.0) (there_still [] q refl parts.1)
+
+pub reachable_with : (made : List ℕ) (folders : List ℕ → Bool) (path : List ℕ) → is_reachable folders path ≡ true → is_reachable (λ p. same_text p made || folders p) path ≡ true
+reachable_with made folders path e =
+    reachable_still folders (λ p. same_text p made || folders p) path (λ p below h. or_right (same_text p made) (folders p) h) (λ h. or_right (same_text [] made) (folders []) h) e
+
+-- what isn't below a folder is reachable without it
+pub reachable_without : (gone : List ℕ) (folders : List ℕ → Bool) (path : List ℕ) → same_text [] gone ≡ false → is_below gone path ≡ false
+    → is_reachable folders path ≡ true → is_reachable (λ p. not (same_text p gone) && folders p) path ≡ true
+reachable_without gone folders path other apart e =
+    reachable_still folders (λ p. not (same_text p gone) && folders p) path
+    (λ p below h. and_from (not (same_text p gone)) (folders p)
+    (⊎_elim (λ s. let f : true ≡ false = sym below ∙ ap (λ x. is_below x path) s.0 ∙ apart in cc) (λ o. not_from_false (same_text p gone) o.1) (text_cases p gone)) h)
+    (λ h. and_from (not (same_text [] gone)) (folders []) (not_from_false (same_text [] gone) other) h) e

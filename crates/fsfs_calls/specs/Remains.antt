@@ -1,6 +1,6 @@
 -- What a crash may leave: bytes are kept from the sync of their file on, a name from the sync of its folder on, and a rename is
 -- one change.
-use Rattle.std.specs.Prelude.{◌≡◌, ◌⊎◌, ℕ, ◌<◌, List, [], ◌∷◌, ◌++◌, length, take, Bool, true, false, ◌&&◌}
+use Rattle.std.specs.Prelude.{◌≡◌, ◌⊎◌, ℕ, ◌<◌, List, [], ◌∷◌, ◌++◌, length, take, Bool, true, false, not, ◌||◌, ◌&&◌}
 use Rattle.fsfs_calls.specs.Paths.{has_path, folder_of}
 use Rattle.fsfs_calls.specs.CallRecord.{NameCall, MakeFolder, DropFolder, Create, Take, Rename, Remove, Call, Named, SyncFolder, Beginning, CallRecord, Standing, Contents, first_names, file_count, renamed_by, names_after, contents_now}
 
@@ -37,21 +37,29 @@ pub record IsLeft (r : CallRecord) (names : Standing) (bytes : ℕ → List ℕ)
   pub named : AreNamesLeft r.first [] r.calls names
   pub each : (number : ℕ) → AreBytesLeft (contents_now r number) (bytes number)
 
--- each change of names is firm, where these folders were synced after it
-abbrev pub are_firm : List (List ℕ) → List Call → Bool
-are_firm synced [] = true
-are_firm synced (Named change ∷ calls) = are_synced synced (folders_of change) && are_firm synced calls
-are_firm synced (SyncFolder folder ∷ calls) = are_firm (folder ∷ synced) calls
-are_firm synced (call ∷ calls) = are_firm synced calls
+-- Which changes are of names: all but those of folders that are spared; which are of folders: those of the others.
+abbrev pub of_names : (List ℕ → Bool) → NameCall → Bool
+of_names is_spared (MakeFolder path) = not (is_spared path)
+of_names is_spared (DropFolder path) = not (is_spared path)
+of_names is_spared (Create path) = true
+of_names is_spared (Take path contents) = true
+of_names is_spared (Rename from to) = true
+of_names is_spared (Remove path) = true
 
--- the same of the folders that were made or dropped
-abbrev pub are_folders_firm : List (List ℕ) → List Call → Bool
-are_folders_firm synced [] = true
-are_folders_firm synced (Named (MakeFolder path) ∷ calls) = are_synced synced (folders_of (MakeFolder path)) && are_folders_firm synced calls
-are_folders_firm synced (Named (DropFolder path) ∷ calls) = are_synced synced (folders_of (DropFolder path)) && are_folders_firm synced calls
-are_folders_firm synced (Named change ∷ calls) = are_folders_firm synced calls
-are_folders_firm synced (SyncFolder folder ∷ calls) = are_folders_firm (folder ∷ synced) calls
-are_folders_firm synced (call ∷ calls) = are_folders_firm synced calls
+abbrev pub of_folders : (List ℕ → Bool) → NameCall → Bool
+of_folders is_spared (MakeFolder path) = not (is_spared path)
+of_folders is_spared (DropFolder path) = not (is_spared path)
+of_folders is_spared (Create path) = false
+of_folders is_spared (Take path contents) = false
+of_folders is_spared (Rename from to) = false
+of_folders is_spared (Remove path) = false
+
+-- each change that counts is firm, where these folders were synced after it
+abbrev pub are_firm : (NameCall → Bool) → List (List ℕ) → List Call → Bool
+are_firm counts synced [] = true
+are_firm counts synced (Named change ∷ calls) = (not (counts change) || are_synced synced (folders_of change)) && are_firm counts synced calls
+are_firm counts synced (SyncFolder folder ∷ calls) = are_firm counts (folder ∷ synced) calls
+are_firm counts synced (call ∷ calls) = are_firm counts synced calls
 
 -- each of these folders is one of those
 abbrev pub AreWithin : List (List ℕ) → List (List ℕ) → Type 0

@@ -91,12 +91,12 @@ pub trait Calls {
         ensures same { history self.new ≡ history self.old };
 
     /// Writes at the end of a file that is open to write as many bytes as the system takes at once, one at least. Where it fails any
-    /// bytes may stand there.
+    /// bytes may stand there, no more than were given.
     fn append(&mut self, file: &Self::File, bytes: &[u8]) -> Result<usize, CallError>
         requires { 0 < length bytes.now }
         ensures count { IfOk result (λ n. (0 < n) × (n ≤ length bytes.now)) }
         ensures ok { IfOk result (λ n. Does (Append (Self.File.number file.now) (take n bytes.now)) (history self.old) (history self.new)) }
-        ensures err { OnErr result ((history self.new ≡ history self.old) ⊎ ((any : List ℕ) × Does (Append (Self.File.number file.now) any) (history self.old) (history self.new))) };
+        ensures err { OnErr result ((history self.new ≡ history self.old) ⊎ ((any : List ℕ) × (length any ≤ length bytes.now) × Does (Append (Self.File.number file.now) any) (history self.old) (history self.new))) };
 
     /// Makes the bytes of a file firm.
     fn sync_file(&mut self, file: &Self::File) -> Result<(), CallError>

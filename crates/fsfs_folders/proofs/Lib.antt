@@ -1,7 +1,6 @@
+pub mod ApartLemmas
 pub mod ShownLemmas
 pub mod Held
 pub mod HeldNames
+pub mod HeldParts
 pub mod CrashTheorem
-pub mod QuietLemmas
-pub mod SoundLemmas
-pub mod PutLemmas

@@ -1,4 +1,3 @@
+pub mod LabelPaths
 pub mod Told
 pub mod Keeping
-pub mod Quiet
-pub mod Standing
