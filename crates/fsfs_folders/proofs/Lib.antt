@@ -1,6 +1,12 @@
 pub mod ApartLemmas
+pub mod LabelPathLemmas
 pub mod ShownLemmas
 pub mod Held
 pub mod HeldNames
 pub mod HeldParts
 pub mod CrashTheorem
+pub mod QuietLemmas
+pub mod SoundLemmas
+pub mod WritingLemmas
+pub mod PutLemmas
+pub mod NotedLemmas

@@ -1,3 +1,6 @@
 pub mod LabelPaths
 pub mod Told
 pub mod Keeping
+pub mod Quiet
+pub mod Writing
+pub mod Standing

@@ -1,7 +1,11 @@
-//! What a disk over the bare calls of the system tells: it is read off the record of its calls, and what a crash may leave of the
-//! system shows one of the images that are told.
+//! A disk over the bare calls of the system: what it tells is read off the record of its calls, and what a crash may leave of the
+//! system shows one of the images that it tells.
 #![tactic(auto)]
 
+mod folders;
 mod law;
+mod noted;
+mod writing;
 
+pub use folders::Folders;
 pub use law::leaves_images;

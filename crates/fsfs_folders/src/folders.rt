@@ -1,0 +1,263 @@
+// The files of a repository, over the calls of the system.
+ghost use Rattle.std.specs.Prelude.{◌≡◌, ◌⊎◌, ◌≤◌, ◌^◌, [], true, false, length, IfOk, IfSome, OnOk, OnErr};
+ghost use Rattle.fsfs_disk.specs.Trace.{Put, Rename, Remove, FirmNames, Performs, PerformsIfThere, IsThere, IsSize, file_at};
+ghost use Rattle.fsfs_calls.specs.Paths.{has_path, folder_of};
+ghost use Rattle.fsfs_folders.specs.Told.{is_apart as apart, is_in_bench as in_bench, LeavesImages};
+ghost use Rattle.fsfs_folders.specs.Keeping.{are_rooted, are_names_firm, is_sound};
+ghost use Rattle.fsfs_folders.specs.Quiet.{IsQuiet};
+ghost use Rattle.fsfs_folders.specs.Standing.{told, IsNoted, IsWritten, IsWholeAt, bytes_under};
+
+use crate::noted::Noted;
+use crate::writing::{append_all, sync_folders};
+use fsfs_base::Name;
+use fsfs_calls::{CallError, Calls, Path};
+use std::alloc::Global;
+
+// The name under which a file is written first ends so.
+const BESIDE: &str = ".beside";
+
+// No file grows longer than this.
+const LONGEST: usize = 1 << 62;
+
+/// The files of a repository below a folder, over the calls of the system. A file is written beside its name, made firm and then
+/// renamed, so no file that has a name is ever written. It tells the operations that its calls come to.
+#[derive(Drop)]
+pub struct Folders<C: Calls + Drop> {
+    calls: C,
+    // The folders whose names may not be firm.
+    changed: Noted,
+    // The folders themselves have firm names.
+    is_settled: bool,
+    ghost sound: { is_sound (C.Calls.history calls) changed is_settled ≡ true },
+}
+
+// Whether the folders of benches begin so, and what stands in them.
+fn is_in_bench(text: &str) -> bool
+    ensures { result ≡ in_bench text.now }
+{
+    text.starts_with("db/transactions/")
+        || text.starts_with("db/pack-")
+        || text.starts_with("db/copy.bench")
+}
+
+// Whether a name is none of the repository's: files are written under it first, or it is in a bench.
+fn is_apart(name: &Name) -> bool
+    ensures { result ≡ apart name.now }
+{
+    name.as_str().ends_with(BESIDE) || is_in_bench(name.as_str())
+}
+
+impl<C: Calls + Drop> Folders<C> {
+    /// Over calls that begin, in a folder where each file has its folders.
+    pub fn new(alloc: Global, calls: C) -> Folders<C>
+        requires { IfSome (C.history calls) (λ r. (r.calls ≡ []) × (are_rooted r.first.folders r.first.files ≡ true)) }
+        ensures { told (C.history result.calls) ≡ told (C.history calls) }
+    {
+        Folders {
+            calls,
+            changed: Noted::new(alloc),
+            is_settled: true,
+        }
+    }
+
+    /// Whatever a crash may leave now of names and of bytes shows one of the images that the disk tells.
+    pub fn leaves_images(&self)
+        ensures { IfSome (C.history self.now.calls) LeavesImages }
+    {
+    }
+
+    // Makes the names in all folders firm in which any may not be.
+    fn sync_changed(&mut self) -> Result<(), CallError>
+        ensures quiet { IsQuiet (C.history self.old.calls) (C.history self.new.calls) }
+        ensures firm { OnOk result (IfSome (C.history self.new.calls) (λ r. are_names_firm [] r.calls ≡ true)) }
+        ensures settled { OnOk result (self.new.is_settled ≡ true) }
+    {
+        sync_folders(&mut self.calls, self.changed.paths())?;
+        self.changed.clear();
+        self.is_settled = true;
+        Ok(())
+    }
+
+    // Makes the names of the folders firm, where they may not be.
+    fn settle(&mut self) -> Result<(), CallError>
+        ensures quiet { IsQuiet (C.history self.old.calls) (C.history self.new.calls) }
+        ensures settled { OnOk result (self.new.is_settled ≡ true) }
+    {
+        if self.is_settled {
+            return Ok(());
+        }
+        self.sync_changed()
+    }
+
+    // Notes that names of a folder change.
+    fn note(&mut self, path: &Path) -> Result<(), CallError>
+        ensures same { self.new.calls ≡ self.old.calls }
+        ensures settled { self.new.is_settled ≡ self.old.is_settled }
+        ensures noted { OnOk result (IsNoted self.old.changed self.new.changed path.now) }
+    {
+        match self.changed.add(path.folder()) {
+            Ok(()) => Ok(()),
+            Err(_) => Err(CallError::Memory),
+        }
+    }
+
+    // Takes away what an earlier call left beside.
+    fn clear(&mut self, beside: &Path) -> Result<(), CallError>
+        requires beside { apart beside.now ≡ true }
+        requires noted { has_path self.old.changed (folder_of beside.now) ≡ true }
+        ensures told { told (C.history self.new.calls) ≡ told (C.history self.old.calls) }
+        ensures changed { self.new.changed ≡ self.old.changed }
+        ensures settled { self.new.is_settled ≡ self.old.is_settled }
+    {
+        match self.calls.remove(beside) {
+            Ok(()) => Ok(()),
+            Err(CallError::NotFound) => Ok(()),
+            Err(error) => Err(error),
+        }
+    }
+
+    // Makes a new file of these bytes beside, firm.
+    fn write(&mut self, beside: &Path, bytes: &[u8]) -> Result<(), CallError>
+        requires beside { apart beside.now ≡ true }
+        requires noted { has_path self.old.changed (folder_of beside.now) ≡ true }
+        ensures told { told (C.history self.new.calls) ≡ told (C.history self.old.calls) }
+        ensures changed { self.new.changed ≡ self.old.changed }
+        ensures settled { self.new.is_settled ≡ self.old.is_settled }
+        ensures written { OnOk result (IfSome (C.history self.new.calls) (λ r. IsWritten r beside.now bytes.now)) }
+    {
+        let file = self.calls.create(beside)?;
+        append_all(&mut self.calls, &file, bytes)?;
+        self.calls.sync_file(&file)
+    }
+
+    // Gives what was written beside its name.
+    fn give(&mut self, beside: &Path, path: &Path) -> Result<(), CallError>
+        requires beside { apart beside.now ≡ true }
+        requires plain { apart path.now ≡ false }
+        requires from { has_path self.old.changed (folder_of beside.now) ≡ true }
+        requires to { has_path self.old.changed (folder_of path.now) ≡ true }
+        requires settled { self.old.is_settled ≡ true }
+        requires written { IfSome (C.history self.old.calls) (λ r. IsWholeAt r beside.now) }
+        ensures ok { OnOk result (Performs (Put path.now (bytes_under (C.history self.old.calls) beside.now)) (told (C.history self.old.calls)) (told (C.history self.new.calls))) }
+        ensures err { OnErr result ((told (C.history self.new.calls) ≡ told (C.history self.old.calls)) ⊎ Performs (Put path.now (bytes_under (C.history self.old.calls) beside.now)) (told (C.history self.old.calls)) (told (C.history self.new.calls))) }
+    {
+        self.calls.rename(beside, path)
+    }
+
+    /// Puts a new file of these bytes, firm, and gives it the name, also where the name is in use.
+    pub fn put(&mut self, name: &Name, bytes: &[u8]) -> Result<(), CallError>
+        ensures ok { OnOk result (Performs (Put name.now bytes.now) (told (C.history self.old.calls)) (told (C.history self.new.calls))) }
+        ensures err { OnErr result ((told (C.history self.new.calls) ≡ told (C.history self.old.calls)) ⊎ Performs (Put name.now bytes.now) (told (C.history self.old.calls)) (told (C.history self.new.calls))) }
+    {
+        if is_apart(name) {
+            return Err(CallError::OtherKind);
+        }
+        if LONGEST < bytes.len() {
+            return Err(CallError::Failed);
+        }
+        let beside = Path::with_ending(name, BESIDE);
+        let path = Path::of(name);
+        self.settle()?;
+        self.note(&beside)?;
+        self.note(&path)?;
+        self.clear(&beside)?;
+        self.write(&beside, bytes)?;
+        self.give(&beside, &path)
+    }
+
+    /// Gives a file another name, by one change, in place of the file that had that name.
+    pub fn rename(&mut self, from: &Name, to: &Name) -> Result<(), CallError>
+        ensures ok { OnOk result (Performs (Rename from.now to.now) (told (C.history self.old.calls)) (told (C.history self.new.calls))) }
+        ensures err { OnErr result ((told (C.history self.new.calls) ≡ told (C.history self.old.calls)) ⊎ Performs (Rename from.now to.now) (told (C.history self.old.calls)) (told (C.history self.new.calls))) }
+    {
+        if is_apart(from) || is_apart(to) {
+            return Err(CallError::OtherKind);
+        }
+        let (from, to) = (Path::of(from), Path::of(to));
+        self.settle()?;
+        self.note(&from)?;
+        self.note(&to)?;
+        self.calls.rename(&from, &to)
+    }
+
+    /// Takes a name away. `false`: there is no such file.
+    pub fn remove(&mut self, name: &Name) -> Result<bool, CallError>
+        ensures there { IfOk result (λ there. IfSome (told (C.history self.old.calls)) (λ t. IsThere (file_at t name.now) there)) }
+        ensures ok { IfOk result (λ there. PerformsIfThere there (Remove name.now) (told (C.history self.old.calls)) (told (C.history self.new.calls))) }
+        ensures err { OnErr result ((told (C.history self.new.calls) ≡ told (C.history self.old.calls)) ⊎ Performs (Remove name.now) (told (C.history self.old.calls)) (told (C.history self.new.calls))) }
+    {
+        if is_apart(name) {
+            return Ok(false);
+        }
+        let path = Path::of(name);
+        self.note(&path)?;
+        match self.calls.remove(&path) {
+            Ok(()) => Ok(true),
+            Err(CallError::NotFound) => Ok(false),
+            Err(error) => Err(error),
+        }
+    }
+
+    /// Makes all changes of names firm.
+    pub fn firm_names(&mut self) -> Result<(), CallError>
+        ensures ok { OnOk result (Performs FirmNames (told (C.history self.old.calls)) (told (C.history self.new.calls))) }
+        ensures err { OnErr result (told (C.history self.new.calls) ≡ told (C.history self.old.calls)) }
+    {
+        self.sync_changed()?;
+        self.calls.firmed()
+    }
+
+    // Makes one folder in a folder that is there, also where it is there itself.
+    fn make_one(&mut self, path: &Path) -> Result<(), CallError>
+        ensures told { told (C.history self.new.calls) ≡ told (C.history self.old.calls) }
+    {
+        if is_in_bench(path.as_str()) {
+            return Err(CallError::OtherKind);
+        }
+        self.note(path)?;
+        self.is_settled = false;
+        self.calls.make_folder(path)
+    }
+
+    /// Makes a folder and those above it, also where they are there. None is made where benches stand.
+    pub fn make_folder(&mut self, name: &Name) -> Result<(), CallError>
+        ensures { told (C.history self.new.calls) ≡ told (C.history self.old.calls) }
+    {
+        let text = name.as_str();
+        for at in 0..text.len() {
+            if text.as_bytes()[at] == b'/' {
+                self.make_one(&Path::before(text, at))?;
+            }
+        }
+        self.make_one(&Path::of(name))
+    }
+
+    /// Drops a folder in which nothing stands. None is dropped where benches stand.
+    pub fn drop_folder(&mut self, name: &Name) -> Result<(), CallError>
+        ensures { told (C.history self.new.calls) ≡ told (C.history self.old.calls) }
+    {
+        if name.as_str().is_empty() || is_in_bench(name.as_str()) {
+            return Err(CallError::OtherKind);
+        }
+        let path = Path::of(name);
+        self.sync_changed()?;
+        self.note(&path)?;
+        self.is_settled = false;
+        self.calls.drop_folder(&path)
+    }
+
+    /// The length of a file in bytes. `None`: there is no such file.
+    pub fn size(&mut self, name: &Name) -> Result<Option<u64>, CallError>
+        ensures length { IfOk result (λ found. IfSome (told (C.history self.old.calls)) (λ t. IsSize (file_at t name.now) found)) }
+        ensures same { told (C.history self.new.calls) ≡ told (C.history self.old.calls) }
+    {
+        if is_apart(name) {
+            return Ok(None);
+        }
+        match self.calls.open(&Path::of(name)) {
+            Ok(file) => Ok(Some(self.calls.length(&file)?)),
+            Err(CallError::NotFound) => Ok(None),
+            Err(error) => Err(error),
+        }
+    }
+}
