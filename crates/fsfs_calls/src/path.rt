@@ -51,16 +51,6 @@ impl Path {
         Path::new(name.as_str())
     }
 
-    /// The path of so many bytes of a name's text; the whole text's where a character would be cut.
-    pub fn before(text: &str, at: usize) -> Path
-        requires { length text.now ≤ 160 }
-    {
-        match text.get(..at) {
-            Some(front) => Path::new(front),
-            None => Path::new(text),
-        }
-    }
-
     /// A path beside another: its text and these letters.
     pub fn with_ending(name: &Name, ending: &str) -> Path
         requires { length ending.now ≤ 32 }

@@ -1,6 +1,7 @@
 pub mod ApartLemmas
 pub mod LabelPathLemmas
 pub mod ShownLemmas
+pub mod KeptLabels
 pub mod Held
 pub mod HeldNames
 pub mod HeldParts

@@ -1,7 +1,8 @@
 -- The folder of a bench, and the label that a folder is of.
-use Rattle.std.specs.Prelude.{ℕ, ◌-◌, List, [], ◌∷◌, ◌++◌, length, take, drop, if◌then◌else◌, Option, Some, None, codes}
+use Rattle.std.specs.Prelude.{ℕ, ◌≤◌, ◌-◌, List, [], ◌∷◌, ◌++◌, length, take, drop, if◌then◌else◌, Option, Some, None, codes}
 use Rattle.std.specs.Fmt.{decimal}
 use Rattle.fsfs_grammar.specs.Numeral.{numeral_at}
+use Rattle.fsfs_fields.specs.RevNums.{last_rev}
 use Rattle.fsfs_fields.specs.TxnNames.{txn_text, txn_name_at}
 use Rattle.fsfs_disk.specs.Labels.{Label, Txn, Pack, HotCopy}
 use Rattle.fsfs_calls.specs.Paths.{same_text}
@@ -32,3 +33,9 @@ first_of path (label ∷ labels) = if same_text (bench_folder label) path then S
 -- the label whose folder it is
 unfoldable pub label_at : List ℕ → Option Label
 label_at path = first_of path (txns_of (txn_name_at (between 16 4 path)) ++ (packs_of (numeral_at 10 4294967295 (between 8 6 path)) ++ HotCopy ∷ []))
+
+-- the numbers that a label may have
+abbrev pub IsFitting : Label → Type 0
+IsFitting (Txn base number) = (base ≤ last_rev) × (number ≤ 170581728179578208255)
+IsFitting (Pack shard) = shard ≤ 4294967295
+IsFitting HotCopy = Unit {0}

@@ -225,8 +225,8 @@ impl<C: Calls + Drop> Folders<C> {
     {
         let text = name.as_str();
         for at in 0..text.len() {
-            if text.as_bytes()[at] == b'/' {
-                self.make_one(&Path::before(text, at))?;
+            if text.as_bytes()[at] == b'/' && let Some(above) = text.get(..at) {
+                self.make_one(&Path::new(above))?;
             }
         }
         self.make_one(&Path::of(name))
