@@ -11,3 +11,4 @@ pub mod SoundLemmas
 pub mod WritingLemmas
 pub mod PutLemmas
 pub mod NotedLemmas
+pub mod HeldFiles

@@ -4,3 +4,4 @@ pub mod Keeping
 pub mod Quiet
 pub mod Writing
 pub mod Standing
+pub mod BenchFiles

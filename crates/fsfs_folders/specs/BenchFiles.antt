@@ -1,0 +1,51 @@
+-- What a bench tells that stands on calls on its folder: the files that stand right in it.
+use Rattle.std.specs.Prelude.{◌≡◌, ◌≤◌, ◌^◌, ℕ, List, [], ◌∷◌, length, false, cond, if◌then◌else◌, Option, Some, None, option_map, unwrap_or}
+use Rattle.std.specs.FinMap.{empty}
+use Rattle.fsfs_base.specs.Files.{Files}
+use Rattle.fsfs_disk.specs.Benches.{with_file}
+use Rattle.fsfs_calls.specs.Paths.{same_text}
+use Rattle.fsfs_calls.specs.Listing.{is_entry}
+use Rattle.fsfs_calls.specs.Named.{named_paths}
+use Rattle.fsfs_calls.specs.CallRecord.{CallRecord, Contents, no_contents, names_now, contents_now}
+
+-- what the file with a name has; none where the name is none of a file right in the folder
+abbrev pub file_held : CallRecord → List ℕ → Option Contents
+file_held r name = if is_entry name then option_map (contents_now r) ((names_now r).files name) else None
+
+-- the same of a file that may be new
+abbrev pub file_or_new : CallRecord → List ℕ → Contents
+file_or_new r name = unwrap_or (file_held r name) no_contents
+
+abbrev pub bytes_of : Option Contents → Option (List ℕ)
+bytes_of file = option_map (λ (c : Contents). c.bytes) file
+
+-- the files of these names
+abbrev pub gathered : List (List ℕ) → (List ℕ → Option (List ℕ)) → Files
+gathered [] file_of = empty
+gathered (name ∷ names) file_of = with_file name (file_of name) (gathered names file_of)
+
+abbrev pub files_held : CallRecord → Files
+files_held r = gathered (named_paths r.first r.calls) (λ name. bytes_of (file_held r name))
+
+abbrev pub firm_part : Option Contents → ℕ
+firm_part None = 0
+firm_part (Some file) = file.firm
+
+abbrev pub firm_held : Option CallRecord → List ℕ → ℕ
+firm_held None name = 0
+firm_held (Some r) name = firm_part (file_held r name)
+
+-- this one file changed, to what it says
+abbrev pub Sets : List ℕ → (CallRecord → Option Contents) → Option CallRecord → Option CallRecord → Type 0
+Sets name file None new = new ≡ None
+Sets name file (Some r) None = ⊥
+Sets name file (Some r) (Some s) = (q : List ℕ) → file_held s q ≡ cond (same_text q name) (file r) (file_held r q)
+
+-- what a file may have after a call that failed: at most 2^62 bytes, and lost only if it was
+pub record Follows (was file : Contents) : Type 0 where
+  pub short : length file.bytes ≤ 2 ^ 62
+  pub kept : file.is_lost ≡ was.is_lost
+
+-- this one file has any bytes, or is none
+abbrev pub SetsAny : List ℕ → Option CallRecord → Option CallRecord → Type 0
+SetsAny name old new = (any : CallRecord → Option Contents) × ((r : CallRecord) (file : Contents) → any r ≡ Some file → Follows (file_or_new r name) file) × Sets name any old new
