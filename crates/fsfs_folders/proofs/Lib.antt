@@ -12,3 +12,4 @@ pub mod WritingLemmas
 pub mod PutLemmas
 pub mod NotedLemmas
 pub mod HeldFiles
+pub mod BenchTold
