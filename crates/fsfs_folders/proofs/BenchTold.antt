@@ -75,9 +75,13 @@ removed_told name (Some r) None sets = absurd sets
 removed_told name (Some r) (Some s) sets = ap {B = Option Files} (λ m. Some m) (sets_files name None r s sets)
 
 pub spoils_told : (name : List ℕ) (old new : Option CallRecord) → SetsAny name old new → Spoils name (bench_told old) (bench_told new)
-spoils_told name None new sets = inl (ap bench_told sets.2)
-spoils_told name (Some r) None sets = absurd sets.2
-spoils_told name (Some r) (Some s) sets = inr (bytes_of (sets.0 r), ap {B = Option Files} (λ m. Some m) (sets_files name (sets.0 r) r s sets.2))
+spoils_told name old new (inl same) = inl (ap bench_told same)
+spoils_told name old new (inr sets) = set old new sets.0 sets.2
+  where
+    set : (old new : Option CallRecord) (any : CallRecord → Option Contents) → Sets name any old new → Spoils name (bench_told old) (bench_told new)
+    set None new any sets = inl (ap bench_told sets)
+    set (Some r) None any sets = absurd sets
+    set (Some r) (Some s) any sets = inr (bytes_of (any r), ap {B = Option Files} (λ m. Some m) (sets_files name (any r) r s sets))
 
 -- how far the other files are firm
 pub firm_others : (name : List ℕ) (f : CallRecord → Option Contents) (old new : Option CallRecord) → Sets name f old new → (q : List ℕ) → (q ≡ name → ⊥) → firm_held new q ≡ firm_held old q
@@ -141,3 +145,19 @@ short_told r short name bytes e = by_file (file_held r name) refl (sym (files_to
     by_file : (o : Option Contents) → file_held r name ≡ o → bytes_of (file_held r name) ≡ Some bytes → length bytes ≤ 2 ^ 62
     by_file None h k = absurd (none-some bytes (sym (ap bytes_of h) ∙ k))
     by_file (Some file) h k = subst (λ (b : List ℕ). length b ≤ 2 ^ 62) (same_Some file.bytes bytes (sym (ap bytes_of h) ∙ k)) (short name file h)
+
+-- how far the others are firm after any change
+pub any_others : (name : List ℕ) (old new : Option CallRecord) → SetsAny name old new → (q : List ℕ) → (q ≡ name → ⊥) → firm_held new q ≡ firm_held old q
+any_others name old new (inl same) q other = ap (λ o. firm_held o q) same
+any_others name old new (inr sets) q other = firm_others name sets.0 old new sets.2 q other
+
+pub any_short : (name : List ℕ) (old new : Option CallRecord) → SetsAny name old new → AreShort old → AreShort new
+any_short name old new (inl same) before = subst AreShort (sym same) before
+any_short name old new (inr any) before = short_still name any.0 old new any.2 (λ r is file e. (any.1 r is file e).short) before
+
+pub any_kept : (name : List ℕ) (old new : Option CallRecord) → SetsAny name old new → AreKept old → AreKept new
+any_kept name old new (inl same) before = subst AreKept (sym same) before
+any_kept name old new (inr any) before = kept_still name any.0 old new any.2 (λ r is file e. (any.1 r is file e).kept (kept_or_new old before r is name)) before
+
+pub any_none : (name : List ℕ) (old new : Option CallRecord) → Sets name (λ r. None) old new → SetsAny name old new
+any_none name old new sets = inr ((λ r. None), (λ r is file e. absurd (none-some file e)), sets)

@@ -13,3 +13,4 @@ pub mod PutLemmas
 pub mod NotedLemmas
 pub mod HeldFiles
 pub mod BenchTold
+pub mod BenchWriting

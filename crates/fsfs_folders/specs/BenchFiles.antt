@@ -1,5 +1,5 @@
 -- What a bench tells that stands on calls on its folder: the files that stand right in it.
-use Rattle.std.specs.Prelude.{◌≡◌, ◌≤◌, ◌^◌, ℕ, List, [], ◌∷◌, length, false, cond, if◌then◌else◌, Option, Some, None, option_map, unwrap_or}
+use Rattle.std.specs.Prelude.{◌≡◌, ◌⊎◌, ◌≤◌, ◌+◌, ◌^◌, ℕ, List, [], ◌∷◌, length, false, cond, if◌then◌else◌, Option, Some, None, option_map, unwrap_or}
 use Rattle.std.specs.FinMap.{empty}
 use Rattle.fsfs_base.specs.Files.{Files}
 use Rattle.fsfs_disk.specs.Benches.{with_file}
@@ -44,8 +44,18 @@ Sets name file (Some r) (Some s) = (q : List ℕ) → file_held s q ≡ cond (sa
 -- what a file may have after a call that failed: at most 2^62 bytes, and lost only if it was
 pub record Follows (was file : Contents) : Type 0 where
   pub short : length file.bytes ≤ 2 ^ 62
-  pub kept : file.is_lost ≡ was.is_lost
+  pub kept : was.is_lost ≡ false → file.is_lost ≡ false
 
--- this one file has any bytes, or is none
+-- this one file was touched, if any: it has some bytes, or is none
 abbrev pub SetsAny : List ℕ → Option CallRecord → Option CallRecord → Type 0
-SetsAny name old new = (any : CallRecord → Option Contents) × ((r : CallRecord) (file : Contents) → any r ≡ Some file → Follows (file_or_new r name) file) × Sets name any old new
+SetsAny name old new =
+    (new ≡ old)
+    ⊎ ((any : CallRecord → Option Contents) × ((r : CallRecord) → old ≡ Some r → (file : Contents) → any r ≡ Some file → Follows (file_or_new r name) file) × Sets name any old new)
+
+-- A file is open at whose end so many bytes may be written. It was made where there was none.
+abbrev pub Opens : List ℕ → ℕ → ℕ → Option CallRecord → Option CallRecord → Type 0
+Opens name number more None new = new ≡ None
+Opens name number more (Some r) None = ⊥
+Opens name number more (Some r) (Some s) =
+    ((names_now s).files name ≡ Some number) × (contents_now s number ≡ file_or_new r name) × (length (file_or_new r name).bytes + more ≤ 2 ^ 62)
+    × ((q : List ℕ) → file_held s q ≡ cond (same_text q name) (Some (file_or_new r name)) (file_held r q))
