@@ -1,5 +1,5 @@
 // A path below one folder, kept by value.
-ghost use Rattle.std.specs.Prelude.{◌≡◌, ◌≤◌, ◌++◌, ◌↔◌, ℕ, List, length, IsTrue, codes, true, false, MatchOption};
+ghost use Rattle.std.specs.Prelude.{◌≡◌, ◌≤◌, ◌+◌, ◌++◌, ◌↔◌, ℕ, List, length, IsTrue, codes, true, false, MatchOption};
 ghost use Rattle.fsfs_calls.specs.Paths.{before_slash, folder_of, same_text};
 
 use arrayvec::ArrayString;
@@ -49,6 +49,14 @@ impl Path {
         ensures { result ≡ name.now }
     {
         Path::new(name.as_str())
+    }
+
+    /// Puts more text at its end.
+    pub fn push_str(&mut self, text: &str)
+        requires { length self.old + length text.now ≤ 160 }
+        ensures { self.new ≡ self.old ++ text.now }
+    {
+        self.text.push_str(text);
     }
 
     /// A path beside another: its text and these letters.

@@ -1,7 +1,7 @@
 -- What a bench tells after one of its files has changed.
 use Rattle.std.proofs.Common.{◌≡◌, ◌⊎◌, ℕ, List, [], ◌∷◌, ◌++◌, Bool, true, false, cond, inl, inr, ⊎_elim, refl, sym, ap, subst, ◌∙◌, arith}
 use Rattle.std.proofs.lemmas.Option.{same_Some, none-some}
-use Rattle.std.specs.Prelude.{◌≤◌, ◌^◌, length, Option, Some, None, option_map, unwrap_or}
+use Rattle.std.specs.Prelude.{◌≤◌, ◌^◌, length, Option, Some, None, option_map, unwrap_or, IfSome}
 use Rattle.std.specs.FinMap.{get}
 use Rattle.fsfs_base.specs.Files.{Files}
 use Rattle.fsfs_base.proofs.FileLemmas.{same_files}
@@ -9,11 +9,8 @@ use Rattle.fsfs_disk.specs.Benches.{with_file, appended, written, removed, bytes
 use Rattle.fsfs_calls.specs.Paths.{same_text}
 use Rattle.fsfs_calls.specs.CallRecord.{CallRecord, Contents, no_contents, more_bytes, made_firm, contents_now}
 use Rattle.fsfs_calls.proofs.PathLemmas.{text_cases, same_itself}
-use Rattle.fsfs_folders.specs.BenchFiles.{file_held, file_or_new, bytes_of, files_held, firm_part, firm_held, Follows, Sets, SetsAny}
+use Rattle.fsfs_folders.specs.BenchFiles.{file_held, file_or_new, bytes_of, files_held, bench_told, firm_part, firm_held, Follows, Sets, SetsAny}
 use Rattle.fsfs_folders.proofs.HeldFiles.{get_with, files_told}
-
-abbrev pub bench_told : Option CallRecord → Option Files
-bench_told calls = option_map files_held calls
 
 chosen : (b : Bool) (file was : Option Contents) → bytes_of (cond b file was) ≡ cond b (bytes_of file) (bytes_of was)
 chosen true file was = refl
@@ -161,3 +158,7 @@ any_kept name old new (inr any) before = kept_still name any.0 old new any.2 (λ
 
 pub any_none : (name : List ℕ) (old new : Option CallRecord) → Sets name (λ r. None) old new → SetsAny name old new
 any_none name old new sets = inr ((λ r. None), (λ r is file e. absurd (none-some file e)), sets)
+
+pub bench_short : (calls : Option CallRecord) → AreShort calls → IfSome (bench_told calls) HasShortFiles
+bench_short None short = tt
+bench_short (Some r) short = short_told r (short r refl)

@@ -14,3 +14,4 @@ pub mod NotedLemmas
 pub mod HeldFiles
 pub mod BenchTold
 pub mod BenchWriting
+pub mod LabelCalls

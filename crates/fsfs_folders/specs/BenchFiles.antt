@@ -27,6 +27,10 @@ gathered (name ∷ names) file_of = with_file name (file_of name) (gathered name
 abbrev pub files_held : CallRecord → Files
 files_held r = gathered (named_paths r.first r.calls) (λ name. bytes_of (file_held r name))
 
+-- what a bench tells
+abbrev pub bench_told : Option CallRecord → Option Files
+bench_told calls = option_map files_held calls
+
 abbrev pub firm_part : Option Contents → ℕ
 firm_part None = 0
 firm_part (Some file) = file.firm

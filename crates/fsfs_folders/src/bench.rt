@@ -1,67 +1,173 @@
 // A bench in a folder that no other has.
-ghost use Rattle.std.specs.Prelude.{◌≡◌, ◌≤◌, ◌+◌, ◌^◌, ◌⊎◌, ℕ, List, Some, None, true, false, length, IfOk, IfSome, OnOk, OnErr, IsTrue};
-ghost use Rattle.fsfs_base.specs.Failures.{HasCause};
-ghost use Rattle.fsfs_calls.specs.CallRecord.{CallRecord, Contents, more_bytes, no_contents, names_now, contents_now};
-ghost use Rattle.fsfs_calls.specs.Listing.{is_entry as entry};
-ghost use Rattle.fsfs_folders.specs.BenchFiles.{file_held, file_or_new, files_held, firm_held, Sets, SetsAny, Opens};
-ghost use Rattle.fsfs_folders.specs.Writing.{IsFilled};
+ghost use Rattle.std.specs.Prelude.{◌≡◌, ◌≢◌, ◌≤◌, ◌^◌, ℕ, List, Some, false, length, option_map, IfOk, IfSome, OnOk, OnErr};
+ghost use Rattle.std.specs.FinMap.{get};
+ghost use Rattle.fsfs_disk.specs.Benches.{appended, written, removed, bytes_on, Spoils};
+ghost use Rattle.fsfs_disk.specs.Trace.{IsRead, IsSize, IsThere};
+ghost use Rattle.fsfs_calls.specs.CallRecord.{CallRecord, Contents};
+ghost use Rattle.fsfs_folders.specs.BenchFiles.{file_held, bench_told, firm_held};
 
+use crate::bench_files::{append_to, is_entry, remove_from, write_to};
 use crate::faults::counted;
-use crate::folders::LONGEST;
 use crate::reading::fill;
-use crate::writing::append_all;
 use fsfs_base::{Failed, Name};
 use fsfs_calls::{CallError, Calls, Path};
 use fsfs_disk::Bench;
 
-/// The files of a transaction, a pack or a copy, in a folder of its own. A name with a slash is none of its files'.
+/// The files of a transaction, a pack or a copy, right in a folder of their own, over calls on that folder. A name with a slash is
+/// refused.
 #[derive(Drop)]
 pub struct FolderBench<C: Calls + Drop> {
     calls: C,
     faults: u64,
-    // The sync of a file has failed. So no later one says that its bytes are firm.
+    // The sync of a file has failed, so no later one says that its bytes are firm.
     is_lost: bool,
     ghost short: { (r : CallRecord) → C.Calls.history calls ≡ Some r → (name : List ℕ) (file : Contents) → file_held r name ≡ Some file → length file.bytes ≤ 2 ^ 62 },
     ghost kept: { is_lost ≡ false → (r : CallRecord) → C.Calls.history calls ≡ Some r → (name : List ℕ) (file : Contents) → file_held r name ≡ Some file → file.is_lost ≡ false },
 }
 
-// Whether a name is one of a file right in the folder.
-fn is_entry(name: &Name) -> bool
-    ensures { result ≡ entry name.now }
-{
-    !name.as_str().is_empty() && !name.as_str().contains('/')
-}
-
-// Opens a file at whose end so many bytes may be written. It is made where there is none.
-fn open_for<C: Calls>(calls: &mut C, name: &Name, more: usize) -> Result<C::File, CallError>
-    requires entry { entry name.now ≡ true }
-    requires more { more ≤ 2 ^ 62 }
-    ensures ok { IfOk result (λ file. Opens name.now (C.File.number file) more (C.history calls.old) (C.history calls.new)) }
-    ensures err { OnErr result (SetsAny name.now (C.history calls.old) (C.history calls.new)) }
-{
-    let path = Path::of(name);
-    match calls.open_to_append(&path) {
-        Ok(file) => {
-            if LONGEST as u64 - (more as u64) < calls.length(&file)? {
-                return Err(CallError::Failed);
-            }
-            Ok(file)
+impl<C: Calls + Drop> FolderBench<C> {
+    fn try_append(&mut self, file: &Name, bytes: &[u8]) -> Result<(), CallError>
+        ensures ok { OnOk result (bench_told (C.history self.new.calls) ≡ option_map (appended file.now bytes.now) (bench_told (C.history self.old.calls))) }
+        ensures err { OnErr result (Spoils file.now (bench_told (C.history self.old.calls)) (bench_told (C.history self.new.calls))) }
+        ensures firm { OnOk result (firm_held (C.history self.new.calls) file.now ≡ firm_held (C.history self.old.calls) file.now) }
+        ensures others { (q : List ℕ) → q ≢ file.now → firm_held (C.history self.new.calls) q ≡ firm_held (C.history self.old.calls) q }
+        ensures faults { self.new.faults ≡ self.old.faults }
+    {
+        if !is_entry(file) {
+            return Err(CallError::OtherKind);
         }
-        Err(CallError::NotFound) => calls.create(&path),
-        Err(error) => Err(error),
+        append_to(&mut self.calls, file, bytes)
+    }
+
+    fn try_write(&mut self, file: &Name, bytes: &[u8]) -> Result<(), CallError>
+        ensures ok { OnOk result (bench_told (C.history self.new.calls) ≡ option_map (written file.now bytes.now) (bench_told (C.history self.old.calls))) }
+        ensures err { OnErr result (Spoils file.now (bench_told (C.history self.old.calls)) (bench_told (C.history self.new.calls))) }
+        ensures firm { OnOk result (firm_held (C.history self.new.calls) file.now ≡ 0) }
+        ensures others { (q : List ℕ) → q ≢ file.now → firm_held (C.history self.new.calls) q ≡ firm_held (C.history self.old.calls) q }
+        ensures faults { self.new.faults ≡ self.old.faults }
+    {
+        if !is_entry(file) {
+            return Err(CallError::OtherKind);
+        }
+        write_to(&mut self.calls, file, bytes)
+    }
+
+    fn try_read(
+        &mut self,
+        file: &Name,
+        offset: u64,
+        buffer: &mut [u8],
+    ) -> Result<Option<usize>, CallError>
+        ensures bound { IfOk result (λ found. IfSome found (λ n. n ≤ length buffer.new)) }
+        ensures bytes { IfSome (bench_told (C.history self.old.calls)) (λ m. IfOk result (IsRead (get m file.now) offset buffer.old buffer.new)) }
+        ensures same { C.history self.new.calls ≡ C.history self.old.calls }
+        ensures faults { self.new.faults ≡ self.old.faults }
+    {
+        if !is_entry(file) {
+            return Ok(None);
+        }
+        match self.calls.open(&Path::of(file)) {
+            Ok(open) => Ok(Some(fill(&mut self.calls, &open, offset, buffer)?)),
+            Err(CallError::NotFound) => Ok(None),
+            Err(error) => Err(error),
+        }
+    }
+
+    fn try_len(&mut self, file: &Name) -> Result<Option<u64>, CallError>
+        ensures length { IfSome (bench_told (C.history self.old.calls)) (λ m. IfOk result (IsSize (get m file.now))) }
+        ensures same { C.history self.new.calls ≡ C.history self.old.calls }
+        ensures faults { self.new.faults ≡ self.old.faults }
+    {
+        if !is_entry(file) {
+            return Ok(None);
+        }
+        match self.calls.open(&Path::of(file)) {
+            Ok(open) => Ok(Some(self.calls.length(&open)?)),
+            Err(CallError::NotFound) => Ok(None),
+            Err(error) => Err(error),
+        }
+    }
+
+    fn try_firm(&mut self, file: &Name) -> Result<(), CallError>
+        ensures ok { OnOk result (bench_told (C.history self.new.calls) ≡ bench_told (C.history self.old.calls)) }
+        ensures err { OnErr result (Spoils file.now (bench_told (C.history self.old.calls)) (bench_told (C.history self.new.calls))) }
+        ensures firm { OnOk result (firm_held (C.history self.new.calls) file.now ≡ length (bytes_on (bench_told (C.history self.old.calls)) file.now)) }
+        ensures others { (q : List ℕ) → q ≢ file.now → firm_held (C.history self.new.calls) q ≡ firm_held (C.history self.old.calls) q }
+        ensures faults { self.new.faults ≡ self.old.faults }
+    {
+        if self.is_lost || !is_entry(file) {
+            return Err(CallError::Failed);
+        }
+        match self.calls.open(&Path::of(file)) {
+            Ok(open) => {
+                let synced = self.calls.sync_file(&open);
+                self.is_lost = synced.is_err();
+                synced
+            }
+            Err(CallError::NotFound) => Ok(()),
+            Err(error) => Err(error),
+        }
+    }
+
+    fn try_remove(&mut self, file: &Name) -> Result<bool, CallError>
+        ensures there { IfSome (bench_told (C.history self.old.calls)) (λ m. IfOk result (IsThere (get m file.now))) }
+        ensures ok { OnOk result (bench_told (C.history self.new.calls) ≡ option_map (removed file.now) (bench_told (C.history self.old.calls))) }
+        ensures err { OnErr result (Spoils file.now (bench_told (C.history self.old.calls)) (bench_told (C.history self.new.calls))) }
+        ensures firm { OnOk result (firm_held (C.history self.new.calls) file.now ≡ 0) }
+        ensures others { (q : List ℕ) → q ≢ file.now → firm_held (C.history self.new.calls) q ≡ firm_held (C.history self.old.calls) q }
+        ensures faults { self.new.faults ≡ self.old.faults }
+    {
+        if !is_entry(file) {
+            return Err(CallError::OtherKind);
+        }
+        remove_from(&mut self.calls, file)
     }
 }
 
-// Adds bytes at the end of a file, which begins with them where there is none.
-fn append_to<C: Calls>(calls: &mut C, name: &Name, bytes: &[u8]) -> Result<(), CallError>
-    requires { entry name.now ≡ true }
-    ensures ok { OnOk result (Sets name.now (λ r. Some (more_bytes bytes.now (file_or_new r name.now))) (C.history calls.old) (C.history calls.new)) }
-    ensures short { OnOk result (AppendsShort name.now bytes.now (C.history calls.old)) }
-    ensures err { OnErr result (SetsAny name.now (C.history calls.old) (C.history calls.new)) }
-{
-    if LONGEST < bytes.len() {
-        return Err(CallError::Failed);
+impl<C: Calls + Drop> Bench for FolderBench<C> {
+    ghost use Rattle.fsfs_folders.specs.BenchFiles.{bench_told, firm_held};
+    ghost use Rattle.fsfs_folders.proofs.BenchTold.{bench_short};
+
+    ghost contents = { λ bench. bench_told (C.Calls.history bench.calls) };
+
+    ghost firm_to = { λ bench. firm_held (C.Calls.history bench.calls) };
+
+    ghost faults = { λ bench. bench.faults };
+
+    fn append(&mut self, file: &Name, bytes: &[u8]) -> Result<(), Failed> {
+        let done = self.try_append(file, bytes);
+        counted(&mut self.faults, done)
     }
-    let file = open_for(calls, name, bytes.len())?;
-    append_all(calls, &file, bytes)
+
+    fn write(&mut self, file: &Name, bytes: &[u8]) -> Result<(), Failed> {
+        let done = self.try_write(file, bytes);
+        counted(&mut self.faults, done)
+    }
+
+    fn read(
+        &mut self,
+        file: &Name,
+        offset: u64,
+        buffer: &mut [u8],
+    ) -> Result<Option<usize>, Failed> {
+        let found = self.try_read(file, offset, buffer);
+        counted(&mut self.faults, found)
+    }
+
+    fn len(&mut self, file: &Name) -> Result<Option<u64>, Failed> {
+        let found = self.try_len(file);
+        counted(&mut self.faults, found)
+    }
+
+    fn firm(&mut self, file: &Name) -> Result<(), Failed> {
+        let done = self.try_firm(file);
+        counted(&mut self.faults, done)
+    }
+
+    fn remove(&mut self, file: &Name) -> Result<bool, Failed> {
+        let was_there = self.try_remove(file);
+        counted(&mut self.faults, was_there)
+    }
+
+    ghost short = { λ bench. bench_short (C.Calls.history bench.calls) bench.short };
 }

@@ -1,23 +1,26 @@
 // The files of a repository, over the calls of the system.
 ghost use Rattle.std.specs.Prelude.{◌≡◌, ◌⊎◌, ◌≤◌, ◌^◌, [], true, false, length, IfOk, IfSome, OnOk, OnErr};
-ghost use Rattle.fsfs_disk.specs.Trace.{Put, Rename, Remove, FirmNames, Performs, PerformsIfThere, IsThere, IsSize, file_at};
+ghost use Rattle.fsfs_disk.specs.Labels.{label_of, has_label};
+ghost use Rattle.fsfs_disk.specs.Trace.{Put, Rename, Remove, FirmNames, KeepLabel, DropLabel, labels_now, Performs, PerformsIfThere, IsThere, IsSize, file_at};
 ghost use Rattle.fsfs_calls.specs.Paths.{has_path, folder_of};
 ghost use Rattle.fsfs_folders.specs.Told.{is_apart as apart, is_in_bench as in_bench, LeavesImages};
 ghost use Rattle.fsfs_folders.specs.Keeping.{are_rooted, are_names_firm, is_sound};
 ghost use Rattle.fsfs_folders.specs.Quiet.{IsQuiet};
 ghost use Rattle.fsfs_folders.specs.Standing.{told, IsNoted, IsWritten, IsWholeAt, bytes_under};
 
+use crate::label_paths::bench_path;
 use crate::noted::Noted;
 use crate::writing::{append_all, sync_folders};
 use fsfs_base::Name;
 use fsfs_calls::{CallError, Calls, Path};
+use fsfs_disk::Label;
 use std::alloc::Global;
 
 // The name under which a file is written first ends so.
 const BESIDE: &str = ".beside";
 
 // No file grows longer than this.
-const LONGEST: usize = 1 << 62;
+pub const LONGEST: usize = 1 << 62;
 
 /// The files of a repository below a folder, over the calls of the system. A file is written beside its name, made firm and then
 /// renamed, so no file that has a name is ever written. It tells the operations that its calls come to.
@@ -244,6 +247,32 @@ impl<C: Calls + Drop> Folders<C> {
         self.note(&path)?;
         self.is_settled = false;
         self.calls.drop_folder(&path)
+    }
+
+    /// Makes the folder of a label's bench, also where it is there.
+    pub fn keep_label(&mut self, label: &Label) -> Result<(), CallError>
+        ensures ok { OnOk result (Performs (KeepLabel (label_of label.now)) (told (C.history self.old.calls)) (told (C.history self.new.calls))) }
+        ensures err { OnErr result ((told (C.history self.new.calls) ≡ told (C.history self.old.calls)) ⊎ Performs (KeepLabel (label_of label.now)) (told (C.history self.old.calls)) (told (C.history self.new.calls))) }
+    {
+        self.calls.make_folder(&bench_path(label))
+    }
+
+    /// Drops the folder of a label's bench, in which nothing stands, and makes that firm: else a crash could bring the label back.
+    /// `false`: it isn't there.
+    pub fn drop_label(&mut self, label: &Label) -> Result<bool, CallError>
+        ensures there { IfOk result (λ there. IfSome (told (C.history self.old.calls)) (λ t. there ≡ has_label (label_of label.now) (labels_now t))) }
+        ensures ok { IfOk result (λ there. PerformsIfThere there (DropLabel (label_of label.now)) (told (C.history self.old.calls)) (told (C.history self.new.calls))) }
+        ensures err { OnErr result ((told (C.history self.new.calls) ≡ told (C.history self.old.calls)) ⊎ Performs (DropLabel (label_of label.now)) (told (C.history self.old.calls)) (told (C.history self.new.calls))) }
+    {
+        let path = bench_path(label);
+        match self.calls.drop_folder(&path) {
+            Ok(()) => {
+                self.calls.sync_folder(&path.folder())?;
+                Ok(true)
+            }
+            Err(CallError::NotFound) => Ok(false),
+            Err(error) => Err(error),
+        }
     }
 
     /// The length of a file in bytes. `None`: there is no such file.

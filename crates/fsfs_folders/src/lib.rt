@@ -3,6 +3,7 @@
 #![tactic(auto)]
 
 mod folders;
+mod label_paths;
 mod law;
 mod noted;
 mod writing;
