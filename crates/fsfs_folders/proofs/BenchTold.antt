@@ -9,7 +9,7 @@ use Rattle.fsfs_disk.specs.Benches.{with_file, appended, written, removed, bytes
 use Rattle.fsfs_calls.specs.Paths.{same_text}
 use Rattle.fsfs_calls.specs.CallRecord.{CallRecord, Contents, no_contents, more_bytes, made_firm, contents_now}
 use Rattle.fsfs_calls.proofs.PathLemmas.{text_cases, same_itself}
-use Rattle.fsfs_folders.specs.BenchFiles.{file_held, file_or_new, bytes_of, files_held, bench_told, firm_part, firm_held, Follows, Sets, SetsAny}
+use Rattle.fsfs_folders.specs.BenchFiles.{file_held, file_or_new, bytes_of, files_held, bench_told, firm_part, firm_held, Follows, Sets, SetsAny, AreShort, AreKept}
 use Rattle.fsfs_folders.proofs.HeldFiles.{get_with, files_told}
 
 chosen : (b : Bool) (file was : Option Contents) → bytes_of (cond b file was) ≡ cond b (bytes_of file) (bytes_of was)
@@ -105,12 +105,6 @@ pub firm_zero : (name : List ℕ) (f : CallRecord → Option Contents) (old new 
 firm_zero name f old new sets zero = firm_here name f 0 old new sets (λ e. refl) (λ r e. zero r)
 
 -- the files of a bench are short still, and lost only where some were
-abbrev pub AreShort : Option CallRecord → Type 0
-AreShort calls = (r : CallRecord) → calls ≡ Some r → (name : List ℕ) (file : Contents) → file_held r name ≡ Some file → length file.bytes ≤ 2 ^ 62
-
-abbrev pub AreKept : Option CallRecord → Type 0
-AreKept calls = (r : CallRecord) → calls ≡ Some r → (name : List ℕ) (file : Contents) → file_held r name ≡ Some file → file.is_lost ≡ false
-
 module _ (name : List ℕ) (f : CallRecord → Option Contents) where
   at_name : (P : Contents → Type 0) (old new : Option CallRecord) → Sets name f old new → ((r : CallRecord) → old ≡ Some r → (file : Contents) → f r ≡ Some file → P file)
       → ((r : CallRecord) → old ≡ Some r → (q : List ℕ) (file : Contents) → file_held r q ≡ Some file → P file)

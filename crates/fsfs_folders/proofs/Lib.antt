@@ -15,3 +15,5 @@ pub mod HeldFiles
 pub mod BenchTold
 pub mod BenchWriting
 pub mod LabelCalls
+pub mod Adopting
+pub mod ShortFiles

@@ -63,3 +63,11 @@ Opens name number more (Some r) None = ⊥
 Opens name number more (Some r) (Some s) =
     ((names_now s).files name ≡ Some number) × (contents_now s number ≡ file_or_new r name) × (length (file_or_new r name).bytes + more ≤ 2 ^ 62)
     × ((q : List ℕ) → file_held s q ≡ cond (same_text q name) (Some (file_or_new r name)) (file_held r q))
+
+-- no file is longer than 2^62 bytes
+abbrev pub AreShort : Option CallRecord → Type 0
+AreShort calls = (r : CallRecord) → calls ≡ Some r → (name : List ℕ) (file : Contents) → file_held r name ≡ Some file → length file.bytes ≤ 2 ^ 62
+
+-- no sync of a file has failed
+abbrev pub AreKept : Option CallRecord → Type 0
+AreKept calls = (r : CallRecord) → calls ≡ Some r → (name : List ℕ) (file : Contents) → file_held r name ≡ Some file → file.is_lost ≡ false

@@ -3,5 +3,5 @@ pub mod Told
 pub mod Keeping
 pub mod Quiet
 pub mod Writing
-pub mod Standing
 pub mod BenchFiles
+pub mod Standing

@@ -2,11 +2,16 @@
 //! system shows one of the images that it tells.
 #![tactic(auto)]
 
+mod bench;
+mod bench_files;
+mod faults;
 mod folders;
 mod label_paths;
 mod law;
 mod noted;
+mod reading;
 mod writing;
 
+pub use bench::FolderBench;
 pub use folders::Folders;
 pub use law::leaves_images;
