@@ -53,10 +53,14 @@ in_bench_below path q bench below =
     (λ s. or_right (starts_with nat_eq q txns) (starts_with nat_eq q packs || starts_with nat_eq q copies) (or_right (starts_with nat_eq q packs) (starts_with nat_eq q copies) (starts_below copies path q s below)))
     bench
 
+root_outside : is_in_bench [] ≡ false
+unfolding is_in_bench
+root_outside = refl
+
 -- a path outside the benches is reachable by folders outside them
 pub reachable_outside : (folders more : List ℕ → Bool) (q : List ℕ) → is_apart q ≡ false → ((p : List ℕ) → is_in_bench p ≡ false → more p ≡ folders p) → is_reachable folders q ≡ true → is_reachable more q ≡ true
 reachable_outside folders more q plain same e =
-    reachable_still folders more q (λ p below h. same p (outside p below) ∙ h) (λ h. same [] root ∙ h) e
+    reachable_still folders more q (λ p below h. same p (outside p below) ∙ h) (λ h. same [] root_outside ∙ h) e
   where
     by_test : (b : Bool) → (b ≡ true → ⊥) → b ≡ false
     by_test true h = absurd (h refl)
@@ -64,7 +68,3 @@ reachable_outside folders more q plain same e =
 
     outside : (p : List ℕ) → is_below p q ≡ true → is_in_bench p ≡ false
     outside p below = by_test (is_in_bench p) (λ bench. let h : true ≡ false = sym (bench_apart q (in_bench_below p q bench below)) ∙ plain in cc)
-
-    root : is_in_bench [] ≡ false
-    unfolding is_in_bench
-    root = refl

@@ -1,7 +1,7 @@
 -- What a bench tells after one of its files has changed.
 use Rattle.std.proofs.Common.{◌≡◌, ◌⊎◌, ℕ, List, [], ◌∷◌, ◌++◌, Bool, true, false, cond, inl, inr, ⊎_elim, refl, sym, ap, subst, ◌∙◌, arith}
 use Rattle.std.proofs.lemmas.Option.{same_Some, none-some}
-use Rattle.std.specs.Prelude.{◌≤◌, ◌^◌, length, Option, Some, None, option_map, unwrap_or, IfSome}
+use Rattle.std.specs.Prelude.{◌≤◌, ◌^◌, length, Option, Some, None, option_map, unwrap_or, IfSome, is_some}
 use Rattle.std.specs.FinMap.{get}
 use Rattle.fsfs_base.specs.Files.{Files}
 use Rattle.fsfs_base.proofs.FileLemmas.{same_files}
@@ -10,6 +10,7 @@ use Rattle.fsfs_calls.specs.Paths.{same_text}
 use Rattle.fsfs_calls.specs.CallRecord.{CallRecord, Contents, no_contents, more_bytes, made_firm, contents_now}
 use Rattle.fsfs_calls.proofs.PathLemmas.{text_cases, same_itself}
 use Rattle.fsfs_folders.specs.BenchFiles.{file_held, file_or_new, bytes_of, files_held, bench_told, firm_part, firm_held, Follows, Sets, SetsAny, AreShort, AreKept}
+use Rattle.fsfs_folders.specs.Standing.{told}
 use Rattle.fsfs_folders.proofs.HeldFiles.{get_with, files_told}
 
 chosen : (b : Bool) (file was : Option Contents) → bytes_of (cond b file was) ≡ cond b (bytes_of file) (bytes_of was)
@@ -156,3 +157,9 @@ any_none name old new sets = inr ((λ r. None), (λ r is file e. absurd (none-so
 pub bench_short : (calls : Option CallRecord) → AreShort calls → IfSome (bench_told calls) HasShortFiles
 bench_short None short = tt
 bench_short (Some r) short = short_told r (short r refl)
+
+pub benches_tell : (disk bench : Option CallRecord) → is_some bench ≡ is_some disk → is_some (bench_told bench) ≡ is_some (told disk)
+benches_tell None None e = e
+benches_tell None (Some p) e = e
+benches_tell (Some r) None e = e
+benches_tell (Some r) (Some p) e = e

@@ -47,10 +47,14 @@ module _ (name : List ℕ) (entry : is_entry name ≡ true) where
   )
 
   pub made_failed : (old new : Option CallRecord) → IfSome old (λ r. (names_now r).files name ≡ None) → MayMake (Create name) old new → SetsAny name old new
-  made_failed old new lacks may = ⊎_elim (λ same. inl same) (λ makes. inr ((λ r. Some no_contents), (λ r is file e. record {
-    short = omega (arith, ap (λ (c : Contents). length c.bytes) (same_Some no_contents file e));
-    kept = λ k. ap (λ (c : Contents). c.is_lost) (sym (same_Some no_contents file e));
-  }), created name entry old new makes)) may
+  made_failed old new lacks may = ⊎_elim (λ same. inl same) (λ makes. inr (
+    (λ r. Some no_contents),
+    (λ r is file e. record {
+      short = omega (arith, ap (λ (c : Contents). length c.bytes) (same_Some no_contents file e));
+      kept = λ k. ap (λ (c : Contents). c.is_lost) (sym (same_Some no_contents file e));
+    }),
+    created name entry old new makes,
+  )) may
 
   opens_sets : (n more : ℕ) (old mid : Option CallRecord) → Opens name n more old mid → Sets name (λ r. Some (file_or_new r name)) old mid
   opens_sets n more None mid opens = opens
@@ -80,10 +84,14 @@ module _ (name : List ℕ) (entry : is_entry name ≡ true) where
       (λ r s is then. ap (λ c. Some (more_bytes bytes c)) (opens_file n more old mid opens r s is then))
 
   pub opens_any : (n more : ℕ) (old mid new : Option CallRecord) → Opens name n more old mid → WritesSome n more mid new → SetsAny name old new
-  opens_any n more old mid new opens w = inr ((λ r. Some (more_bytes w.0 (file_or_new r name))), (λ r is file e. record {
-    short = omega (arith, ap (λ (c : Contents). length c.bytes) (same_Some (more_bytes w.0 (file_or_new r name)) file e), length-append (file_or_new r name).bytes w.0, w.1, opens_room n more old mid opens r is);
-    kept = λ k. ap (λ (c : Contents). c.is_lost) (sym (same_Some (more_bytes w.0 (file_or_new r name)) file e)) ∙ k;
-  }), opens_wrote n more w.0 old mid new opens w.2)
+  opens_any n more old mid new opens w = inr (
+    (λ r. Some (more_bytes w.0 (file_or_new r name))),
+    (λ r is file e. record {
+      short = omega (arith, ap (λ (c : Contents). length c.bytes) (same_Some (more_bytes w.0 (file_or_new r name)) file e), length-append (file_or_new r name).bytes w.0, w.1, opens_room n more old mid opens r is);
+      kept = λ k. ap (λ (c : Contents). c.is_lost) (sym (same_Some (more_bytes w.0 (file_or_new r name)) file e)) ∙ k;
+    }),
+    opens_wrote n more w.0 old mid new opens w.2,
+  )
 
   pub opens_all : (n : ℕ) (bytes : List ℕ) (old mid new : Option CallRecord) → Opens name n (length bytes) old mid → Writes n bytes mid new → SetsAny name old new
   opens_all n bytes old mid new opens w = opens_any n (length bytes) old mid new opens (bytes, omega arith, w)
@@ -106,16 +114,24 @@ module _ (name : List ℕ) (entry : is_entry name ≡ true) where
       (λ r s _ _. refl)
 
   pub written_any : (n most : ℕ) (a b c d : Option CallRecord) → Sets name (λ r. None) a b → Makes (Create name) b c → IfSome b (λ r. n ≡ new_number r) → most ≤ 2 ^ 62 → WritesSome n most c d → SetsAny name a d
-  written_any n most a b c d away makes is fits w = inr ((λ r. Some (more_bytes w.0 no_contents)), (λ r _ file e. record {
-    short = omega (arith, ap (λ (c : Contents). length c.bytes) (same_Some (more_bytes w.0 no_contents) file e), w.1, fits);
-    kept = λ k. ap (λ (c : Contents). c.is_lost) (sym (same_Some (more_bytes w.0 no_contents) file e));
-  }), written_new n w.0 a b c d away makes is w.2)
+  written_any n most a b c d away makes is fits w = inr (
+    (λ r. Some (more_bytes w.0 no_contents)),
+    (λ r _ file e. record {
+      short = omega (arith, ap (λ (c : Contents). length c.bytes) (same_Some (more_bytes w.0 no_contents) file e), w.1, fits);
+      kept = λ k. ap (λ (c : Contents). c.is_lost) (sym (same_Some (more_bytes w.0 no_contents) file e));
+    }),
+    written_new n w.0 a b c d away makes is w.2,
+  )
 
   pub made_any : (a b c : Option CallRecord) → Sets name (λ r. None) a b → MayMake (Create name) b c → SetsAny name a c
-  made_any a b c away may = ⊎_elim (λ same. any_none name a c (subst (λ o. Sets name (λ r. None) a o) (sym same) away)) (λ makes. inr ((λ r. Some no_contents), (λ r _ file e. record {
-    short = omega (arith, ap (λ (c : Contents). length c.bytes) (same_Some no_contents file e));
-    kept = λ k. ap (λ (c : Contents). c.is_lost) (sym (same_Some no_contents file e));
-  }), sets_then name (λ r. None) (λ r. Some no_contents) (λ r. Some no_contents) a b c away (created name entry b c makes) (λ r s _ _. refl))) may
+  made_any a b c away may = ⊎_elim (λ same. any_none name a c (subst (λ o. Sets name (λ r. None) a o) (sym same) away)) (λ makes. inr (
+    (λ r. Some no_contents),
+    (λ r _ file e. record {
+      short = omega (arith, ap (λ (c : Contents). length c.bytes) (same_Some no_contents file e));
+      kept = λ k. ap (λ (c : Contents). c.is_lost) (sym (same_Some no_contents file e));
+    }),
+    sets_then name (λ r. None) (λ r. Some no_contents) (λ r. Some no_contents) a b c away (created name entry b c makes) (λ r s _ _. refl),
+  )) may
 
   -- one that isn't there needn't be taken away
   pub gone_already : (old new : Option CallRecord) → IfSome old (λ r. (names_now r).files name ≡ None) → new ≡ old → Sets name (λ r. None) old new

@@ -26,7 +26,7 @@ none_is_below : (names : Standing) (folder : List ℕ) (paths : List (List ℕ))
 none_is_below names folder [] none q k has e = let h : false ≡ true = has in cc
 none_is_below names folder (p ∷ ps) none q k has e =
     let parts : (not (is_below folder p && is_some (names.files p)) ≡ true) × (are_none_below names folder ps ≡ true) = and_parts (not (is_below folder p && is_some (names.files p))) (are_none_below names folder ps) none in
-    ⊎_elim (λ s. here (is_below folder q) (sym (ap (λ (x : List ℕ). not (is_below folder x && is_some (names.files x))) s.0) ∙ parts.0))
+    ⊎_elim (λ s. here (is_below folder q) (ap (λ (x : List ℕ). not (is_below folder x && is_some (names.files x))) s.0 ∙ parts.0))
     (λ o. none_is_below names folder ps parts.1 q k (sym (ap (λ b. b || has_path ps q) o.1) ∙ has) e) (text_cases q p)
   where
     here : (b : Bool) → not (b && is_some (names.files q)) ≡ true → b ≡ false

@@ -1,11 +1,11 @@
 -- A label is kept as long as the folder of its bench is there.
 use Rattle.std.proofs.Common.{◌≡◌, ◌⊎◌, ℕ, List, [], ◌∷◌, ◌++◌, Bool, true, false, cond, inl, inr, ⊎_elim, refl, sym, ap, ◌∙◌}
-use Rattle.std.proofs.lemmas.Bool.{cases_Bool, or_cases, and_parts}
+use Rattle.std.proofs.lemmas.Bool.{or_cases, and_from, and_parts, not-true, not_from_false}
 use Rattle.std.proofs.lemmas.Option.{same_Some, none-some}
 use Rattle.std.specs.Prelude.{◌||◌, ◌&&◌, not, Option, Some, None}
 use Rattle.fsfs_disk.specs.Labels.{Label, same_label, has_label, with_label, without_label}
 use Rattle.fsfs_disk.specs.Trace.{NameChange, Operation, Done, Put, Rename, Remove, KeepLabel, DropLabel, relabelled, labels_after, labels_now}
-use Rattle.fsfs_disk.proofs.LabelLemmas.{same_label-itself, same_label-same, has-without_label, has-with_label}
+use Rattle.fsfs_disk.proofs.LabelLemmas.{same_label-itself, same_label-same, has-append, has-without, has-without_label, has-with_label}
 use Rattle.fsfs_calls.specs.Paths.{same_text, has_path}
 use Rattle.fsfs_calls.specs.CallRecord as system
 use Rattle.fsfs_calls.specs.CallRecord.{Call, Named, MakeFolder, DropFolder, Create, Take, Append, SyncFile, FailSync, SyncFolder, Firmed, Beginning, CallRecord, names_after, names_now}
@@ -117,3 +117,69 @@ kept_is_own first (SyncFile number ∷ calls) l has = kept_is_own first calls l 
 kept_is_own first (FailSync number ∷ calls) l has = kept_is_own first calls l has
 kept_is_own first (SyncFolder folder ∷ calls) l has = kept_is_own first calls l has
 kept_is_own first (Firmed ∷ calls) l has = kept_is_own first calls l has
+
+-- each label is kept once
+abbrev pub are_once : List Label → Bool
+are_once [] = true
+are_once (l ∷ ls) = not (has_label l ls) && are_once ls
+
+and_false : (x y : Bool) → y ≡ false → (x && y) ≡ false
+and_false true y e = e
+and_false false y e = refl
+
+once_without : (k : Label) (ls : List Label) → are_once ls ≡ true → are_once (without_label k ls) ≡ true
+once_without k [] once = refl
+once_without k (l ∷ ls) once =
+    let parts : (not (has_label l ls) ≡ true) × (are_once ls ≡ true) = and_parts (not (has_label l ls)) (are_once ls) once in
+    by_test (same_label l k) (once_without k ls parts.1) parts.0
+  where
+    by_test : (b : Bool) → are_once (without_label k ls) ≡ true → not (has_label l ls) ≡ true → are_once (cond b (without_label k ls) (l ∷ without_label k ls)) ≡ true
+    by_test true rest new = rest
+    by_test false rest new = and_from (not (has_label l (without_label k ls))) (are_once (without_label k ls))
+        (not_from_false (has_label l (without_label k ls)) (has-without_label k l ls ∙ and_false (not (same_label k l)) (has_label l ls) (not-true (has_label l ls) new))) rest
+
+once_more : (ls : List Label) (l : Label) → are_once ls ≡ true → has_label l ls ≡ false → are_once (ls ++ l ∷ []) ≡ true
+once_more [] l once new = refl
+once_more (k ∷ ls) l once new =
+    let parts : (not (has_label k ls) ≡ true) × (are_once ls ≡ true) = and_parts (not (has_label k ls)) (are_once ls) once in
+    let apart : (same_label k l ≡ false) × (has_label l ls ≡ false) = neither (same_label k l) (has_label l ls) new in
+    and_from (not (has_label k (ls ++ l ∷ []))) (are_once (ls ++ l ∷ []))
+    (not_from_false (has_label k (ls ++ l ∷ [])) (has-append k ls (l ∷ []) ∙ ap (λ b. b || (same_label l k || false)) (not-true (has_label k ls) parts.0)
+    ∙ ap (λ b. b || false) (by_test (same_label l k) (λ same. let h : true ≡ false = sym (same_label-itself l) ∙ ap (λ x. same_label x l) (same_label-same l k same) ∙ apart.0 in cc))))
+    (once_more ls l parts.1 apart.1)
+  where
+    neither : (x y : Bool) → (x || y) ≡ false → (x ≡ false) × (y ≡ false)
+    neither true y e = let h : true ≡ false = e in cc
+    neither false y e = (refl, e)
+
+    by_test : (b : Bool) → (b ≡ true → ⊥) → b ≡ false
+    by_test true h = absurd (h refl)
+    by_test false h = refl
+
+once_kept : (labels : List Label) (o : Option Label) → are_once labels ≡ true → are_once (with_folder o labels) ≡ true
+once_kept labels None once = once
+once_kept labels (Some l) once = once_more (without_label l labels) l (once_without l labels once) (has-without l labels)
+
+once_dropped : (labels : List Label) (o : Option Label) → are_once labels ≡ true → are_once (without_folder o labels) ≡ true
+once_dropped labels None once = once
+once_dropped labels (Some l) once = once_without l labels once
+
+once_first : (folders : List (List ℕ)) → are_once (labels_of folders) ≡ true
+once_first [] = refl
+once_first (folder ∷ folders) = once_kept (labels_of folders) (label_at folder) (once_first folders)
+
+pub kept_once : (first : Beginning) (calls : List Call) → are_once (labels_after (labels_of first.folders) (operations_of first calls)) ≡ true
+kept_once first [] = once_first first.folders
+kept_once first (Named (MakeFolder path) ∷ calls) =
+    ap are_once (kept_after (labels_of first.folders) (operations_of first calls) (label_at path)) ∙ once_kept (labels_after (labels_of first.folders) (operations_of first calls)) (label_at path) (kept_once first calls)
+kept_once first (Named (DropFolder path) ∷ calls) =
+    ap are_once (dropped_after (labels_of first.folders) (operations_of first calls) (label_at path)) ∙ once_dropped (labels_after (labels_of first.folders) (operations_of first calls)) (label_at path) (kept_once first calls)
+kept_once first (Named (Create path) ∷ calls) = kept_once first calls
+kept_once first (Named (Take path contents) ∷ calls) = kept_once first calls
+kept_once first (Named (system.Rename from to) ∷ calls) = ap are_once (same_after (labels_of first.folders) (operations_of first calls) (is_apart from) from to (bytes_at first calls from)) ∙ kept_once first calls
+kept_once first (Named (system.Remove path) ∷ calls) = ap are_once (gone_after (labels_of first.folders) (operations_of first calls) (is_apart path) path) ∙ kept_once first calls
+kept_once first (Append number bytes ∷ calls) = kept_once first calls
+kept_once first (SyncFile number ∷ calls) = kept_once first calls
+kept_once first (FailSync number ∷ calls) = kept_once first calls
+kept_once first (SyncFolder folder ∷ calls) = kept_once first calls
+kept_once first (Firmed ∷ calls) = kept_once first calls

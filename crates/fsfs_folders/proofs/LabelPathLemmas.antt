@@ -43,7 +43,7 @@ no_label path outside = by_label (label_at path) refl
     by_label (Some l) e = let h : true ≡ false = sym (folder_in_bench l) ∙ ap is_in_bench (label_is path l e) ∙ outside in cc
 
 -- what stands between is found
-between_is : (text back : List ℕ) (k : ℕ) → length back ≡ k → take (length (text ++ back) - k) (text ++ back) ≡ text
+pub between_is : (text back : List ℕ) (k : ℕ) → length back ≡ k → take (length (text ++ back) - k) (text ++ back) ≡ text
 between_is text back k is =
     let place : length (text ++ back) - k ≡ length text = omega (arith, length-append text back, is) in
     ap (λ n. take n (text ++ back)) place ∙ take_at text back (length text) refl
@@ -55,7 +55,7 @@ skip_txns : (path : List ℕ) (o : Option (ℕ × ℕ)) (labels : List Label) �
 skip_txns path None labels apart = refl
 skip_txns path (Some p) labels apart = ap (λ b. cond b (Some (Txn p.0 p.1)) (first_of path labels)) (apart p.0 p.1)
 
-skip_packs : (path : List ℕ) (o : Option ℕ) (labels : List Label) → ((shard : ℕ) → same_text (bench_folder (Pack shard)) path ≡ false) → first_of path (packs_of o ++ labels) ≡ first_of path labels
+pub skip_packs : (path : List ℕ) (o : Option ℕ) (labels : List Label) → ((shard : ℕ) → same_text (bench_folder (Pack shard)) path ≡ false) → first_of path (packs_of o ++ labels) ≡ first_of path labels
 skip_packs path None labels apart = refl
 skip_packs path (Some s) labels apart = ap (λ b. cond b (Some (Pack s)) (first_of path labels)) (apart s)
 

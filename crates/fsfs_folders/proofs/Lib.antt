@@ -17,3 +17,5 @@ pub mod BenchWriting
 pub mod LabelCalls
 pub mod Adopting
 pub mod ShortFiles
+pub mod Permuted
+pub mod TxnEntries

@@ -26,9 +26,11 @@ pieces_quiet : (number : ℕ) (pieces : List (List ℕ)) (r : CallRecord) → is
     → IsQuiet (Some r) (Some (with_pieces number pieces r)) × (is_newest (with_pieces number pieces r).first (with_pieces number pieces r).calls number ≡ true)
 pieces_quiet number [] r newest = (quiet_none (Some r), newest)
 pieces_quiet number (piece ∷ pieces) r newest =
-    let before : IsQuiet (Some r) (Some (with_pieces number pieces r)) × (is_newest (with_pieces number pieces r).first (with_pieces number pieces r).calls number ≡ true) = pieces_quiet number pieces r newest in
-    (quiet_then (Some r) (Some (with_pieces number pieces r)) (Some (with_pieces number (piece ∷ pieces) r)) before.0
-    (quiet_append number piece (with_pieces number pieces r) (Some (with_pieces number (piece ∷ pieces) r)) before.1 refl), before.1)
+    let before : IsQuiet (Some r) (Some (with_pieces number pieces r)) × (is_newest (with_pieces number pieces r).first (with_pieces number pieces r).calls number ≡ true) = pieces_quiet number pieces r newest in (
+      quiet_then (Some r) (Some (with_pieces number pieces r)) (Some (with_pieces number (piece ∷ pieces) r)) before.0
+          (quiet_append number piece (with_pieces number pieces r) (Some (with_pieces number (piece ∷ pieces) r)) before.1 refl),
+      before.1,
+    )
 
 quiet_none_of : (b : Option CallRecord) → b ≡ None → IsQuiet None b
 quiet_none_of b e = e
@@ -58,12 +60,16 @@ written_beside path bytes number (Some r) b c d makes is wrote does =
   where
     written : CallRecord
     written = with_pieces number wrote.0 (made_file path r)
+
     empty : contents_now (made_file path r) number ≡ no_contents
     empty = ap (λ b. cond b no_contents (contents_now r number)) (eq-eqb number (new_number r) is)
+
     has : (names_now (made_file path r)).files path ≡ Some number
     has = given_at path (Some (new_number r)) (names_now r).files ∙ ap (λ n. Some n) (sym is)
+
     held : contents_now written number ≡ record no_contents { bytes = bytes }
     held = pieces_bytes number wrote.0 (made_file path r) ∙ ap (λ (c : Contents). more_bytes (joined wrote.0) c) empty ∙ ap {B = Contents} (λ x. record no_contents { bytes = x }) wrote.1
+
     synced : contents_now (add_call (SyncFile number) written) number ≡ made_firm (record no_contents { bytes = bytes })
     synced = ap (λ b. cond b (made_firm (contents_now written number)) (contents_now written number)) (eq-eqb number number refl) ∙ ap made_firm held
 

@@ -71,3 +71,7 @@ AreShort calls = (r : CallRecord) → calls ≡ Some r → (name : List ℕ) (fi
 -- no sync of a file has failed
 abbrev pub AreKept : Option CallRecord → Type 0
 AreKept calls = (r : CallRecord) → calls ≡ Some r → (name : List ℕ) (file : Contents) → file_held r name ≡ Some file → file.is_lost ≡ false
+
+-- there is no file
+abbrev pub HoldsNothing : CallRecord → Type 0
+HoldsNothing r = (name : List ℕ) → file_held r name ≡ None

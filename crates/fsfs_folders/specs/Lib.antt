@@ -1,4 +1,5 @@
 pub mod LabelPaths
+pub mod TxnEntries
 pub mod Told
 pub mod Keeping
 pub mod Quiet

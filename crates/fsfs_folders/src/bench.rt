@@ -1,13 +1,15 @@
 // A bench in a folder that no other has.
 ghost use Rattle.std.specs.Prelude.{◌≡◌, ◌≢◌, ◌≤◌, ◌^◌, ℕ, List, Some, false, length, option_map, IfOk, IfSome, OnOk, OnErr};
 ghost use Rattle.std.specs.FinMap.{get};
-ghost use Rattle.fsfs_disk.specs.Benches.{appended, written, removed, bytes_on, Spoils};
+ghost use Rattle.fsfs_disk.specs.Benches.{appended, written, removed, bytes_on, IsFirmFile, Spoils};
 ghost use Rattle.fsfs_disk.specs.Trace.{IsRead, IsSize, IsThere};
 ghost use Rattle.fsfs_calls.specs.CallRecord.{CallRecord, Contents};
-ghost use Rattle.fsfs_folders.specs.BenchFiles.{file_held, bench_told, firm_held};
+ghost use Rattle.fsfs_folders.specs.BenchFiles.{file_held, bench_told, firm_held, HoldsNothing};
+ghost use Rattle.fsfs_folders.specs.Standing.{Adopts, FailsToTake};
 
 use crate::bench_files::{append_to, is_entry, remove_from, write_to};
 use crate::faults::counted;
+use crate::folders::Folders;
 use crate::reading::fill;
 use fsfs_base::{Failed, Name};
 use fsfs_calls::{CallError, Calls, Path};
@@ -26,6 +28,44 @@ pub struct FolderBench<C: Calls + Drop> {
 }
 
 impl<C: Calls + Drop> FolderBench<C> {
+    /// A bench over calls on a folder with nothing in it.
+    pub fn new(calls: C) -> FolderBench<C>
+        requires { IfSome (C.history calls) HoldsNothing }
+        ensures calls { result.calls ≡ calls }
+        ensures faults { result.faults ≡ 0 }
+    {
+        FolderBench {
+            calls,
+            faults: 0,
+            is_lost: false,
+        }
+    }
+
+    /// How often it has failed.
+    pub fn faults(&self) -> u64
+        ensures { result ≡ self.now.faults }
+    {
+        self.faults
+    }
+
+    /// Gives a firm file of it a name of the repository.
+    pub fn give(
+        &mut self,
+        folders: &mut Folders<C>,
+        file: &Name,
+        to: &Name,
+    ) -> Result<(), CallError>
+        requires { IsFirmFile (bench_told (C.history self.old.calls)) (firm_held (C.history self.old.calls) file.now) file.now }
+        ensures ok { OnOk result (Adopts file.now to.now (C.history folders.old.calls) (C.history self.old.calls) (C.history folders.new.calls) (C.history self.new.calls)) }
+        ensures err { OnErr result (FailsToTake file.now to.now (C.history folders.old.calls) (C.history self.old.calls) (C.history folders.new.calls) (C.history self.new.calls)) }
+        ensures faults { self.new.faults ≡ self.old.faults }
+    {
+        if !is_entry(file) {
+            return Err(CallError::OtherKind);
+        }
+        folders.adopt(&mut self.calls, file, to)
+    }
+
     fn try_append(&mut self, file: &Name, bytes: &[u8]) -> Result<(), CallError>
         ensures ok { OnOk result (bench_told (C.history self.new.calls) ≡ option_map (appended file.now bytes.now) (bench_told (C.history self.old.calls))) }
         ensures err { OnErr result (Spoils file.now (bench_told (C.history self.old.calls)) (bench_told (C.history self.new.calls))) }
@@ -126,7 +166,6 @@ impl<C: Calls + Drop> FolderBench<C> {
 
 impl<C: Calls + Drop> Bench for FolderBench<C> {
     ghost use Rattle.fsfs_folders.specs.BenchFiles.{bench_told, firm_held};
-    ghost use Rattle.fsfs_folders.proofs.BenchTold.{bench_short};
 
     ghost contents = { λ bench. bench_told (C.Calls.history bench.calls) };
 
@@ -169,5 +208,5 @@ impl<C: Calls + Drop> Bench for FolderBench<C> {
         counted(&mut self.faults, was_there)
     }
 
-    ghost short = { λ bench. bench_short (C.Calls.history bench.calls) bench.short };
+    ghost short = { λ bench. Rattle.fsfs_folders.proofs.BenchTold.bench_short (C.Calls.history bench.calls) bench.short };
 }

@@ -2,12 +2,13 @@
 ghost use Rattle.std.specs.Prelude.{◌≡◌, ◌≤◌, ◌^◌, Some, None, true, IfOk, IfSome, OnOk, OnErr, is_some};
 ghost use Rattle.fsfs_calls.specs.CallRecord.{more_bytes, no_contents};
 ghost use Rattle.fsfs_calls.specs.Listing.{is_entry as entry};
-ghost use Rattle.fsfs_folders.specs.BenchFiles.{file_held, file_or_new, Sets, SetsAny, Opens};
+ghost use Rattle.fsfs_folders.specs.BenchFiles.{file_held, file_or_new, Sets, SetsAny, Opens, HoldsNothing};
 
 use crate::folders::LONGEST;
 use crate::writing::append_all;
 use fsfs_base::Name;
 use fsfs_calls::{CallError, Calls, Path};
+use std::alloc::Global;
 
 /// Whether a name is one of a file right in the folder.
 pub fn is_entry(name: &Name) -> bool
@@ -26,7 +27,8 @@ fn open_for<C: Calls>(calls: &mut C, name: &Name, more: usize) -> Result<C::File
     let path = Path::of(name);
     match calls.open_to_append(&path) {
         Ok(file) => {
-            if (LONGEST - more) as u64 < calls.length(&file)? {
+            let length = calls.length(&file)?;
+            if ((LONGEST - more) as u64) < length {
                 return Err(CallError::Failed);
             }
             Ok(file)
@@ -75,4 +77,18 @@ pub fn write_to<C: Calls>(calls: &mut C, name: &Name, bytes: &[u8]) -> Result<()
     let _ = remove_from(calls, name)?;
     let file = calls.create(&Path::of(name))?;
     append_all(calls, &file, bytes)
+}
+
+/// Takes away all files right in the folder.
+pub fn clear<C: Calls>(calls: &mut C, alloc: Global) -> Result<(), CallError>
+    ensures none { OnOk result (IfSome (C.history calls.new) HoldsNothing) }
+    ensures tells { is_some (C.history calls.new) ≡ is_some (C.history calls.old) }
+{
+    let names = calls.files_in(alloc, &Path::new(""))?;
+    for name in &names {
+        if is_entry(name) {
+            let _ = remove_from(calls, name)?;
+        }
+    }
+    Ok(())
 }

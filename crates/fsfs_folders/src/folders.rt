@@ -1,15 +1,23 @@
 // The files of a repository, over the calls of the system.
-ghost use Rattle.std.specs.Prelude.{◌≡◌, ◌⊎◌, ◌≤◌, ◌^◌, [], true, false, length, IfOk, IfSome, OnOk, OnErr};
-ghost use Rattle.fsfs_disk.specs.Labels.{label_of, has_label};
-ghost use Rattle.fsfs_disk.specs.Trace.{Put, Rename, Remove, FirmNames, KeepLabel, DropLabel, labels_now, Performs, PerformsIfThere, IsThere, IsSize, file_at};
+ghost use Rattle.std.specs.Prelude.{◌≡◌, ◌⊎◌, ◌≤◌, ◌^◌, [], true, false, length, is_some, option_map, IfOk, IfSome, OnOk, OnErr};
+ghost use Rattle.std.specs.FinMap.{empty};
+ghost use Rattle.fsfs_disk.specs.Labels.{label_of, has_label, IsListing};
+ghost use Rattle.fsfs_disk.specs.Benches.{IsFirmFile};
+ghost use Rattle.fsfs_disk.specs.Trace.{Put, Rename, Remove, FirmNames, KeepLabel, DropLabel, labels_now, Performs, PerformsIfThere, FailsAt, IsRead, IsThere, IsSize, file_at};
 ghost use Rattle.fsfs_calls.specs.Paths.{has_path, folder_of};
+ghost use Rattle.fsfs_calls.specs.Listing.{is_entry as entry};
 ghost use Rattle.fsfs_folders.specs.Told.{is_apart as apart, is_in_bench as in_bench, LeavesImages};
 ghost use Rattle.fsfs_folders.specs.Keeping.{are_rooted, are_names_firm, is_sound};
 ghost use Rattle.fsfs_folders.specs.Quiet.{IsQuiet};
-ghost use Rattle.fsfs_folders.specs.Standing.{told, IsNoted, IsWritten, IsWholeAt, bytes_under};
+ghost use Rattle.fsfs_folders.specs.Standing.{told, IsNoted, IsWritten, IsWholeAt, bytes_under, Adopts, FailsToTake};
+ghost use Rattle.fsfs_folders.specs.BenchFiles.{bench_told, firm_held, AreShort, HoldsNothing};
 
+use crate::bench::FolderBench;
+use crate::bench_files::clear;
 use crate::label_paths::bench_path;
+use crate::listing::txns_among;
 use crate::noted::Noted;
+use crate::reading::fill;
 use crate::writing::{append_all, sync_folders};
 use fsfs_base::Name;
 use fsfs_calls::{CallError, Calls, Path};
@@ -66,8 +74,7 @@ impl<C: Calls + Drop> Folders<C> {
     /// Whatever a crash may leave now of names and of bytes shows one of the images that the disk tells.
     pub fn leaves_images(&self)
         ensures { IfSome (C.history self.now.calls) LeavesImages }
-    {
-    }
+    {}
 
     // Makes the names in all folders firm in which any may not be.
     fn sync_changed(&mut self) -> Result<(), CallError>
@@ -228,7 +235,9 @@ impl<C: Calls + Drop> Folders<C> {
     {
         let text = name.as_str();
         for at in 0..text.len() {
-            if text.as_bytes()[at] == b'/' && let Some(above) = text.get(..at) {
+            if text.as_bytes()[at] == b'/'
+                && let Some(above) = text.get(..at)
+            {
                 self.make_one(&Path::new(above))?;
             }
         }
@@ -271,6 +280,95 @@ impl<C: Calls + Drop> Folders<C> {
                 Ok(true)
             }
             Err(CallError::NotFound) => Ok(false),
+            Err(error) => Err(error),
+        }
+    }
+
+    /// Gives a firm file of a bench a name here. The bench has it no more.
+    pub fn adopt(&mut self, part: &mut C, file: &Name, to: &Name) -> Result<(), CallError>
+        requires entry { entry file.now ≡ true }
+        requires firm { IsFirmFile (bench_told (C.history part.old)) (firm_held (C.history part.old) file.now) file.now }
+        requires short { AreShort (C.history part.old) }
+        ensures ok { OnOk result (Adopts file.now to.now (C.history self.old.calls) (C.history part.old) (C.history self.new.calls) (C.history part.new)) }
+        ensures err { OnErr result (FailsToTake file.now to.now (C.history self.old.calls) (C.history part.old) (C.history self.new.calls) (C.history part.new)) }
+    {
+        if is_apart(to) {
+            return Err(CallError::OtherKind);
+        }
+        let path = Path::of(to);
+        self.settle()?;
+        self.note(&path)?;
+        self.calls.take(part, &Path::of(file), &path)
+    }
+
+    /// The calls on the folder of a label's bench, with nothing in it.
+    fn cleared(&mut self, alloc: Global, label: &Label) -> Result<C, CallError>
+        ensures none { IfOk result (λ part. IfSome (C.history part) HoldsNothing) }
+        ensures tells { IfOk result (λ part. is_some (C.history part) ≡ is_some (C.history self.old.calls)) }
+        ensures same { C.history self.new.calls ≡ C.history self.old.calls }
+    {
+        let mut part = self.calls.part(&bench_path(label))?;
+        clear(&mut part, alloc)?;
+        Ok(part)
+    }
+
+    /// Makes an empty bench for a label.
+    pub fn bench(&mut self, alloc: Global, label: &Label) -> Result<FolderBench<C>, CallError>
+        ensures ok { OnOk result (Performs (KeepLabel (label_of label.now)) (told (C.history self.old.calls)) (told (C.history self.new.calls))) }
+        ensures err { OnErr result (FailsAt (KeepLabel (label_of label.now)) (told (C.history self.old.calls)) (told (C.history self.new.calls))) }
+        ensures empty { IfOk result (λ bench. bench_told (C.history bench.calls) ≡ option_map (λ _. empty) (told (C.history self.old.calls))) }
+        ensures new { IfOk result (λ bench. bench.faults ≡ 0) }
+    {
+        self.keep_label(label)?;
+        Ok(FolderBench::new(self.cleared(alloc, label)?))
+    }
+
+    /// Drops the bench of a label with all that is in it, and then the label. `false`: the label isn't kept.
+    pub fn drop_bench(&mut self, alloc: Global, label: &Label) -> Result<bool, CallError>
+        ensures there { IfOk result (λ there. IfSome (told (C.history self.old.calls)) (λ t. there ≡ has_label (label_of label.now) (labels_now t))) }
+        ensures ok { IfOk result (λ there. PerformsIfThere there (DropLabel (label_of label.now)) (told (C.history self.old.calls)) (told (C.history self.new.calls))) }
+        ensures err { OnErr result (FailsAt (DropLabel (label_of label.now)) (told (C.history self.old.calls)) (told (C.history self.new.calls))) }
+    {
+        match self.cleared(alloc, label) {
+            Ok(_) => {}
+            Err(CallError::NotFound) => {}
+            Err(error) => return Err(error),
+        }
+        self.drop_label(label)
+    }
+
+    /// The names of the folders of the transactions whose labels are kept, in the order of their bytes.
+    pub fn txn_entries(&mut self, alloc: Global) -> Result<Vec<Name>, CallError>
+        ensures names { IfSome (told (C.history self.old.calls)) (λ t. IfOk result (λ found. IsListing (labels_now t) found.items)) }
+        ensures same { told (C.history self.new.calls) ≡ told (C.history self.old.calls) }
+    {
+        let folders = self.calls.folders_in(alloc, &Path::new("db/transactions"))?;
+        let Ok(mut found) = txns_among(alloc, folders.as_slice()) else {
+            return Err(CallError::Memory);
+        };
+        if found.sort().is_err() {
+            return Err(CallError::Memory);
+        }
+        Ok(found)
+    }
+
+    /// Fills the buffer from an offset on, as far as the file goes. `None`: there is no such file.
+    pub fn read(
+        &mut self,
+        name: &Name,
+        offset: u64,
+        buffer: &mut [u8],
+    ) -> Result<Option<usize>, CallError>
+        ensures bound { IfOk result (λ found. IfSome found (λ n. n ≤ length buffer.new)) }
+        ensures bytes { IfSome (told (C.history self.old.calls)) (λ t. IfOk result (IsRead (file_at t name.now) offset buffer.old buffer.new)) }
+        ensures same { told (C.history self.new.calls) ≡ told (C.history self.old.calls) }
+    {
+        if is_apart(name) {
+            return Ok(None);
+        }
+        match self.calls.open(&Path::of(name)) {
+            Ok(file) => Ok(Some(fill(&mut self.calls, &file, offset, buffer)?)),
+            Err(CallError::NotFound) => Ok(None),
             Err(error) => Err(error),
         }
     }

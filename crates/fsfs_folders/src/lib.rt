@@ -4,14 +4,17 @@
 
 mod bench;
 mod bench_files;
+mod disk;
 mod faults;
 mod folders;
 mod label_paths;
 mod law;
+mod listing;
 mod noted;
 mod reading;
 mod writing;
 
 pub use bench::FolderBench;
+pub use disk::FolderDisk;
 pub use folders::Folders;
 pub use law::leaves_images;

@@ -11,9 +11,9 @@ pub loop-rest-preserved : goal.loop-rest-preserved
 loop-rest-preserved g c =
     let so = c.loop-rest.invariant in
     let next = went_on (g.C.File.OpenFile.number c.args.file.now) (g.C.Calls.history c.args.calls.now) (g.C.Calls.history c.loop-rest.calls) (g.C.Calls.history c.append.new.self)
-        c.args.bytes.now c.loop-rest.rest.now so.0 c.in_ok-count.count so.1 so.2 (c.in_ok-count.ensures.count).1 so.3 c.in_ok-count.ensures.ok in
+    c.args.bytes.now c.loop-rest.rest.now so.0 c.in_ok-count.count so.1 so.2 (c.in_ok-count.ensures.count).1 so.3 c.in_ok-count.ensures.ok in
     let whole : take (length c.loop-rest.rest.now - c.in_ok-count.count) (drop c.in_ok-count.count c.loop-rest.rest.now) ≡ drop c.in_ok-count.count c.loop-rest.rest.now =
-        take_all (length c.loop-rest.rest.now - c.in_ok-count.count) (drop c.in_ok-count.count c.loop-rest.rest.now) (omega (arith, length-drop c.in_ok-count.count c.loop-rest.rest.now)) in
+    take_all (length c.loop-rest.rest.now - c.in_ok-count.count) (drop c.in_ok-count.count c.loop-rest.rest.now) (omega (arith, length-drop c.in_ok-count.count c.loop-rest.rest.now)) in
     (next.0, next.1, whole ∙ next.2, next.3)
 
 pub returns-in_err-count-clause-err : goal.returns-in_err-count-clause-err
