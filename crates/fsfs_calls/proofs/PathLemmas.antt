@@ -54,7 +54,7 @@ before_none (c ∷ cs) e = ap (λ t. if t then c ∷ before_slash cs else []) (n
     no_tail true y e = cc
     no_tail false y e = e
 
-lacks_slash : (bs : List ℕ) → ((i : ℕ) → i < length bs → get_or bs i 0 ≡ 47 → ⊥) → has_slash bs ≡ false
+pub lacks_slash : (bs : List ℕ) → ((i : ℕ) → i < length bs → get_or bs i 0 ≡ 47 → ⊥) → has_slash bs ≡ false
 lacks_slash [] h = refl
 lacks_slash (c ∷ cs) h =
     ap (λ b. b || has_slash cs) (ne_eqb c 47 (λ e. h 0 (omega arith) e)) ∙ lacks_slash cs (λ i lt e. h (suc i) (omega (arith, lt)) e)

@@ -3,14 +3,14 @@ use Rattle.std.proofs.Common.{◌≡◌, ◌⊎◌, ℕ, List, [], ◌∷◌, �
 use Rattle.std.proofs.lemmas.Bool.{eq-eqb}
 use Rattle.std.proofs.lemmas.List.{length-append}
 use Rattle.std.proofs.lemmas.Option.{same_Some, none-some}
-use Rattle.std.specs.Prelude.{◌≤◌, ◌^◌, length, is_some, Option, Some, None, option_map, unwrap_or, IfSome}
+use Rattle.std.specs.Prelude.{◌≤◌, ◌^◌, length, is_some, Option, Some, None, option_map, unwrap_or, IfSome, Result, Ok, Err, IfOk, OnOk, OnErr}
 use Rattle.fsfs_calls.specs.Paths.{same_text}
 use Rattle.fsfs_calls.specs.Listing.{is_entry}
-use Rattle.fsfs_calls.specs.CallRecord.{CallRecord, Named, Create, Remove, Contents, Standing, no_contents, more_bytes, add_call, names_now, contents_now, new_number, Makes, MayMake}
+use Rattle.fsfs_calls.specs.CallRecord.{CallRecord, Named, Create, Remove, SyncFile, FailSync, Does, made_firm, made_lost, Contents, Standing, no_contents, more_bytes, add_call, names_now, contents_now, new_number, Makes, MayMake}
 use Rattle.fsfs_calls.proofs.NameLemmas.{given_at}
 use Rattle.fsfs_folders.specs.Writing.{Writes, WritesSome}
 use Rattle.fsfs_folders.specs.BenchFiles.{file_held, file_or_new, Follows, Sets, SetsAny, Opens}
-use Rattle.fsfs_folders.proofs.HeldFiles.{held_at, held_none, created, gone, wrote}
+use Rattle.fsfs_folders.proofs.HeldFiles.{held_at, held_none, created, gone, wrote, synced, lost}
 use Rattle.fsfs_folders.proofs.BenchTold.{sets_as, sets_then, sets_same, any_none}
 
 module _ (name : List ℕ) (entry : is_entry name ≡ true) where
@@ -19,6 +19,10 @@ module _ (name : List ℕ) (entry : is_entry name ≡ true) where
 
   old_here : (r : CallRecord) (n : ℕ) → (names_now r).files name ≡ Some n → file_or_new r name ≡ contents_now r n
   old_here r n has = ap (λ o. unwrap_or o no_contents) (held_at r name n entry has)
+
+  at_number : (path : List ℕ) (n : ℕ) (old : Option CallRecord) → path ≡ name → IfSome old (λ r. (names_now r).files path ≡ Some n) → (r : CallRecord) → old ≡ Some r → (names_now r).files name ≡ Some n
+  at_number path n None p has r is = absurd (none-some r is)
+  at_number path n (Some s) p has r is = subst (λ x. (names_now x).files name ≡ Some n) (same_Some s r is) (subst (λ q. (names_now s).files q ≡ Some n) p has)
 
   -- one that is there is open
   pub opened : (n len more : ℕ) (old : Option CallRecord) → IfSome old (λ r. (names_now r).files name ≡ Some n) → IfSome old (λ r. len ≡ length (contents_now r n).bytes) → len + more ≤ 2 ^ 62 → Opens name n more old old
@@ -156,3 +160,64 @@ module _ (name : List ℕ) (entry : is_entry name ≡ true) where
   pub was_absent : (old : Option CallRecord) → IfSome old (λ r. (names_now r).files name ≡ None) → IfSome old (λ r. false ≡ is_some (file_held r name))
   was_absent None lacks = tt
   was_absent (Some r) lacks = sym (ap is_some (held_none r name lacks))
+
+  -- the same by what a call answers on a path that is the name's
+  pub made_open_ok : {T E : Type 0} (number_of : T → ℕ) (more : ℕ) (path : List ℕ) (old mid new : Option CallRecord) (result : Result T E) → path ≡ name → mid ≡ old → IfSome old (λ r. (names_now r).files path ≡ None)
+      → OnOk result (Makes (Create path) mid new) → IfSome mid (λ r. IfOk result (λ file. number_of file ≡ new_number r)) → more ≤ 2 ^ 62 → IfOk result (λ file. Opens name (number_of file) more old new)
+  made_open_ok number_of more path old mid new (Ok file) p m lacks makes is fits =
+      made_open (number_of file) more old new (subst (λ x. IfSome old (λ r. (names_now r).files x ≡ None)) p lacks)
+      (subst (λ x. Makes (Create x) old new) p (subst (λ o. Makes (Create path) o new) m makes)) (subst (λ o. IfSome o (λ r. number_of file ≡ new_number r)) m is) fits
+  made_open_ok number_of more path old mid new (Err e) p m lacks makes is fits = tt
+
+  pub made_failed_err : {T E : Type 0} (path : List ℕ) (old mid new : Option CallRecord) (result : Result T E) → path ≡ name → mid ≡ old → IfSome old (λ r. (names_now r).files path ≡ None)
+      → OnErr result (MayMake (Create path) mid new) → OnErr result (SetsAny name old new)
+  made_failed_err path old mid new (Ok file) p m lacks may = tt
+  made_failed_err path old mid new (Err e) p m lacks may =
+      made_failed old new (subst (λ x. IfSome old (λ r. (names_now r).files x ≡ None)) p lacks) (subst (λ x. MayMake (Create x) old new) p (subst (λ o. MayMake (Create path) o new) m may))
+
+  pub gone_any : (path : List ℕ) (old new : Option CallRecord) → path ≡ name → Makes (Remove path) old new → SetsAny name old new
+  gone_any path old new p makes = any_none name old new (gone name entry old new (subst (λ x. Makes (Remove x) old new) p makes))
+
+  pub gone_none : (path : List ℕ) (old new : Option CallRecord) → path ≡ name → IfSome old (λ r. (names_now r).files path ≡ None) → new ≡ old → Sets name (λ r. None) old new
+  gone_none path old new p lacks same = gone_already old new (subst (λ x. IfSome old (λ r. (names_now r).files x ≡ None)) p lacks) same
+
+  pub gone_failed_any : (path : List ℕ) (old new : Option CallRecord) → path ≡ name → MayMake (Remove path) old new → SetsAny name old new
+  gone_failed_any path old new p may = gone_failed old new (subst (λ x. MayMake (Remove x) old new) p may)
+
+  -- a sync of the file
+  pub synced_ok : {T E : Type 0} (path : List ℕ) (n : ℕ) (old mid new : Option CallRecord) (result : Result T E) → path ≡ name → mid ≡ old → IfSome old (λ r. (names_now r).files path ≡ Some n)
+      → OnOk result (Does (SyncFile n) mid new) → OnOk result (Sets name (λ r. option_map made_firm (file_held r name)) old new)
+  synced_ok path n old mid new (Ok x) p m has does = sets_as name (λ r. Some (made_firm (contents_now r n))) (λ r. option_map made_firm (file_held r name)) old new
+      (λ r is. sym (ap (λ o. option_map made_firm o) (held_at r name n entry (at_number path n old p has r is)))) (synced name entry n old new (at_number path n old p has) (subst (λ o. Does (SyncFile n) o new) m does))
+  synced_ok path n old mid new (Err e) p m has does = tt
+
+  pub synced_err : {T E : Type 0} (path : List ℕ) (n : ℕ) (old mid new : Option CallRecord) (result : Result T E) → path ≡ name → mid ≡ old → IfSome old (λ r. (names_now r).files path ≡ Some n)
+      → OnErr result ((new ≡ mid) ⊎ Does (FailSync n) mid new) → OnErr result ((new ≡ old) ⊎ Sets name (λ r. option_map made_lost (file_held r name)) old new)
+  synced_err path n old mid new (Ok x) p m has failed = tt
+  synced_err path n old mid new (Err e) p m has failed = ⊎_elim (λ same. inl (same ∙ m)) (λ does. inr (sets_as name (λ r. Some (made_lost (contents_now r n))) (λ r. option_map made_lost (file_held r name)) old new
+      (λ r is. sym (ap (λ o. option_map made_lost o) (held_at r name n entry (at_number path n old p has r is)))) (lost name entry n old new (at_number path n old p has) (subst (λ o. Does (FailSync n) o new) m does)))) failed
+
+  -- no file, no sync
+  pub synced_none : (path : List ℕ) (old new : Option CallRecord) → path ≡ name → IfSome old (λ r. (names_now r).files path ≡ None) → new ≡ old → Sets name (λ r. option_map made_firm (file_held r name)) old new
+  synced_none path old new p lacks same = subst (λ o. Sets name (λ r. option_map made_firm (file_held r name)) old o) (sym same)
+      (sets_as name (λ r. file_held r name) (λ r. option_map made_firm (file_held r name)) old old (λ r is. none old lacks r is ∙ sym (ap (λ o. option_map made_firm o) (none old lacks r is))) (sets_same name old))
+    where
+      none : (o : Option CallRecord) → IfSome o (λ r. (names_now r).files path ≡ None) → (r : CallRecord) → o ≡ Some r → file_held r name ≡ None
+      none None lacks r is = absurd (none-some r is)
+      none (Some s) lacks r is = subst (λ x. file_held x name ≡ None) (same_Some s r is) (held_none s name (subst (λ q. (names_now s).files q ≡ None) p lacks))
+
+  pub opens_either : {T E : Type 0} (n : ℕ) (bytes : List ℕ) (old mid new : Option CallRecord) (result : Result T E) → Opens name n (length bytes) old mid → OnOk result (Writes n bytes mid new) → OnErr result (WritesSome n (length bytes) mid new) → SetsAny name old new
+  opens_either n bytes old mid new (Ok x) opens done failed = opens_all n bytes old mid new opens done
+  opens_either n bytes old mid new (Err e) opens done failed = opens_any n (length bytes) old mid new opens failed
+
+  pub made_any_at : (path : List ℕ) (a b c : Option CallRecord) → path ≡ name → Sets name (λ r. None) a b → MayMake (Create path) b c → SetsAny name a c
+  made_any_at path a b c p away may = made_any a b c away (subst (λ x. MayMake (Create x) b c) p may)
+
+  pub written_new_at : (path : List ℕ) (n : ℕ) (bytes : List ℕ) (a b c d : Option CallRecord) → path ≡ name → Sets name (λ r. None) a b → Makes (Create path) b c → IfSome b (λ r. n ≡ new_number r) → Writes n bytes c d
+      → Sets name (λ r. Some (more_bytes bytes no_contents)) a d
+  written_new_at path n bytes a b c d p away makes is w = written_new n bytes a b c d away (subst (λ x. Makes (Create x) b c) p makes) is w
+
+  pub written_either : {T E : Type 0} (path : List ℕ) (n : ℕ) (bytes : List ℕ) (a b c d : Option CallRecord) (result : Result T E) → path ≡ name → Sets name (λ r. None) a b → Makes (Create path) b c → IfSome b (λ r. n ≡ new_number r) → length bytes ≤ 2 ^ 62
+      → OnOk result (Writes n bytes c d) → OnErr result (WritesSome n (length bytes) c d) → SetsAny name a d
+  written_either path n bytes a b c d (Ok x) p away makes is fits done failed = written_any n (length bytes) a b c d away (subst (λ x. Makes (Create x) b c) p makes) is fits (bytes, omega arith, done)
+  written_either path n bytes a b c d (Err e) p away makes is fits done failed = written_any n (length bytes) a b c d away (subst (λ x. Makes (Create x) b c) p makes) is fits failed

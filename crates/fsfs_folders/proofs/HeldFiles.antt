@@ -2,7 +2,7 @@
 use Rattle.std.proofs.Common.{◌≡◌, ◌⊎◌, ℕ, List, [], ◌∷◌, ◌++◌, Bool, true, false, cond, inl, inr, ⊎_elim, refl, sym, ap, subst, ◌∙◌, arith}
 use Rattle.std.proofs.lemmas.Bool.{ne_eqb, eq-eqb}
 use Rattle.std.proofs.lemmas.Option.{same_Some, none-some}
-use Rattle.std.specs.Prelude.{length, Option, Some, None, option_map, unwrap_or}
+use Rattle.std.specs.Prelude.{◌||◌, length, Option, Some, None, option_map, unwrap_or}
 use Rattle.std.specs.Cmp.Lexicographic.{nat_list_cmp_total}
 use Rattle.std.specs.FinMap.{get, get-insert, get-remove, get-empty}
 use Rattle.fsfs_base.specs.Files.{Files}
@@ -30,7 +30,7 @@ gathered_has [] file_of q has = let h : false ≡ true = has in cc
 gathered_has (p ∷ ps) file_of q has =
     get_with (gathered ps file_of) p (file_of p) q
     ∙ ⊎_elim (λ s. ap (λ b. cond b (file_of p) (get (gathered ps file_of) q)) s.1 ∙ sym (ap file_of s.0))
-    (λ o. ap (λ b. cond b (file_of p) (get (gathered ps file_of) q)) o.1 ∙ gathered_has ps file_of q (sym (ap (λ b. cond b true (has_path ps q)) o.1) ∙ has)) (text_cases q p)
+    (λ o. ap (λ b. cond b (file_of p) (get (gathered ps file_of) q)) o.1 ∙ gathered_has ps file_of q (sym (ap (λ b. b || has_path ps q) o.1) ∙ has)) (text_cases q p)
 
 gathered_lacks : (names : List (List ℕ)) (file_of : List ℕ → Option (List ℕ)) (q : List ℕ) → file_of q ≡ None → get (gathered names file_of) q ≡ None
 gathered_lacks [] file_of q none = get-empty _ q

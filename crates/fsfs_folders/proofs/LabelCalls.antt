@@ -17,7 +17,7 @@ use Rattle.fsfs_folders.proofs.KeptLabels.{kept_by_folder}
 use Rattle.fsfs_folders.proofs.QuietLemmas.{quiet_sync}
 use Rattle.fsfs_folders.proofs.SoundLemmas.{sound_parts, sound_of, sound_quiet, told_quiet, sound_bench_made}
 
-told_with : CallRecord → (Label → NameChange) → Option Label → Option Trace
+abbrev told_with : CallRecord → (Label → NameChange) → Option Label → Option Trace
 told_with r change l = Some (record { first = files_of r.first.files; labels = labels_of r.first.folders; operations = on_label l change (operations_of r.first r.calls) })
 
 -- the folder of a bench is made

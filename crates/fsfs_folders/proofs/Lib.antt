@@ -1,3 +1,4 @@
+pub mod TextLemmas
 pub mod ApartLemmas
 pub mod LabelPathLemmas
 pub mod ShownLemmas
@@ -16,6 +17,8 @@ pub mod BenchTold
 pub mod BenchWriting
 pub mod LabelCalls
 pub mod Adopting
-pub mod ShortFiles
 pub mod Permuted
 pub mod TxnEntries
+pub mod FolderCalls
+pub mod Clearing
+pub mod Filling

@@ -54,7 +54,7 @@ in_front (p ∷ ps) q has =
     (IsPermutation-cons p (q ∷ erase ps q) ps (in_front ps q (sym (none_from_head q p ps o.1) ∙ has))))) (text_cases q p)
   where
     two : (a b : List ℕ) (l : List (List ℕ)) → IsPermutation (a ∷ b ∷ l) (b ∷ a ∷ l)
-    two a b l = record { moves = (0, 1) ∷ []; below = ((omega arith, omega arith), tt); is = refl }
+    two a b l = record { moves = (0, 1) ∷ []; below = (omega arith, omega arith, tt); is = refl }
 
 pub permuted : (xs ys : List (List ℕ)) → are_apart xs ≡ true → are_apart ys ≡ true → ((q : List ℕ) → has_path xs q ≡ true → has_path ys q ≡ true) → ((q : List ℕ) → has_path ys q ≡ true → has_path xs q ≡ true) → IsPermutation xs ys
 permuted [] ys apart_x apart_y to from = none ys from

@@ -2,21 +2,22 @@
 use Rattle.std.proofs.Common.{◌≡◌, ◌⊎◌, ℕ, List, [], ◌∷◌, ◌++◌, Bool, true, false, cond, inl, inr, ⊎_elim, refl, sym, ap, subst, ◌∙◌, arith}
 use Rattle.std.proofs.lemmas.Bool.{and_from, eq-eqb, le-leb, not_from_false}
 use Rattle.std.proofs.lemmas.Option.{none-some}
-use Rattle.std.specs.Prelude.{◌≤◌, ◌^◌, ◌||◌, ◌&&◌, ◌==◌, not, nat_le, length, Option, Some, None, option_map, unwrap_or, IfSome, IsSome, is_some, Result, Ok, Err, OnOk}
+use Rattle.std.specs.Prelude.{◌≤◌, ◌^◌, ◌||◌, ◌&&◌, ◌==◌, not, nat_le, length, Option, Some, None, option_map, unwrap_or, IfSome, IsSome, is_some, Result, Ok, Err, OnOk, OnErr}
 use Rattle.fsfs_disk.specs.Trace.{Trace, Operation, Done, Put, NameChange, Rename, Remove, FirmNames, Performs, IsThere, IsSize, file_at, add_operation}
+use Rattle.fsfs_calls.specs.Paths.{has_path, folder_of}
 use Rattle.fsfs_calls.specs.CallRecord as system
-use Rattle.fsfs_calls.specs.CallRecord.{CallRecord, Call, Named, NameCall, Create, SyncFile, Firmed, Standing, Contents, add_call, Makes, MayMake, Does, Allows, names_now, names_after, contents_now, contents_after, new_number, no_contents, more_bytes, made_firm, given, is_reachable}
+use Rattle.fsfs_calls.specs.CallRecord.{CallRecord, Call, Named, NameCall, Create, SyncFile, FailSync, Firmed, Standing, Contents, add_call, Makes, MayMake, Does, Allows, names_now, names_after, contents_now, contents_after, new_number, no_contents, more_bytes, made_firm, given, is_reachable}
 use Rattle.fsfs_calls.proofs.NameLemmas.{given_at}
 use Rattle.fsfs_folders.specs.Told.{is_apart, shown, trace_of, operations_of, files_of, labels_of, bytes_at, bytes_after}
 use Rattle.fsfs_folders.specs.Keeping.{keeps, is_newest, are_names_firm, are_folders_firm, is_place, is_whole, is_whole_file, is_naming, is_sound}
-use Rattle.fsfs_folders.specs.Quiet.{IsQuiet}
+use Rattle.fsfs_folders.specs.Quiet.{IsQuiet, MakesQuietly}
 use Rattle.fsfs_folders.specs.Writing.{joined, with_pieces, Writes, WritesSome}
 use Rattle.fsfs_folders.specs.Standing.{told, IsWritten, IsWholeAt, bytes_under}
 use Rattle.fsfs_folders.proofs.ShownLemmas.{shown_beside, shown_plain}
 use Rattle.fsfs_folders.proofs.CrashTheorem.{now_told}
-use Rattle.fsfs_folders.proofs.QuietLemmas.{quiet_none, quiet_then, quiet_append}
+use Rattle.fsfs_folders.proofs.QuietLemmas.{quiet_none, quiet_then, quiet_append, quiet_file, quiet_fail}
 use Rattle.fsfs_folders.proofs.WritingLemmas.{pieces_names, pieces_bytes}
-use Rattle.fsfs_folders.proofs.SoundLemmas.{sound_parts, sound_of}
+use Rattle.fsfs_folders.proofs.SoundLemmas.{sound_parts, sound_of, sound_quiet, sound_created, told_quiet, told_created}
 
 abbrev made_file : List ℕ → CallRecord → CallRecord
 made_file path r = add_call (Named (Create path)) r
@@ -44,6 +45,25 @@ made_quiet path bytes number (Some r) b c makes is wrote =
 
 pub made_quiet_some : (path : List ℕ) (most number : ℕ) (a b c : Option CallRecord) → Makes (Create path) a b → IfSome a (λ r. number ≡ new_number r) → WritesSome number most b c → IsQuiet b c
 made_quiet_some path most number a b c makes is wrote = made_quiet path wrote.0 number a b c makes is wrote.2
+
+pub made_err : (path : List ℕ) (a b : Option CallRecord) → MayMake (Create path) a b → MakesQuietly path a b
+made_err path a b may = (b, may, quiet_none b)
+
+pub made_wrote_err : (path : List ℕ) (most number : ℕ) (a b c : Option CallRecord) → Makes (Create path) a b → IfSome a (λ r. number ≡ new_number r) → WritesSome number most b c → MakesQuietly path a c
+made_wrote_err path most number a b c makes is wrote = (b, inr makes, made_quiet_some path most number a b c makes is wrote)
+
+pub made_synced : {T E : Type 0} (result : Result T E) (path bytes : List ℕ) (number : ℕ) (a b c d : Option CallRecord) → Makes (Create path) a b → IfSome a (λ r. number ≡ new_number r) → Writes number bytes b c
+    → OnOk result (Does (SyncFile number) c d) → OnErr result ((d ≡ c) ⊎ Does (FailSync number) c d) → MakesQuietly path a d
+made_synced (Ok x) path bytes number a b c d makes is wrote done failed = (b, inr makes, quiet_then b c d (made_quiet path bytes number a b c makes is wrote) (quiet_file number c d done))
+made_synced (Err e) path bytes number a b c d makes is wrote done failed =
+    (b, inr makes, ⊎_elim (λ same. subst (λ o. IsQuiet b o) (sym same) (made_quiet path bytes number a b c makes is wrote)) (λ does. quiet_then b c d (made_quiet path bytes number a b c makes is wrote) (quiet_fail number c d does)) failed)
+
+pub sound_written : (path : List ℕ) (old new : Option CallRecord) (changed : List (List ℕ)) (settled : Bool) → is_apart path ≡ true → has_path changed (folder_of path) ≡ true → MakesQuietly path old new
+    → is_sound old changed settled ≡ true → is_sound new changed settled ≡ true
+sound_written path old new changed settled apart has made e = sound_quiet made.0 new changed settled made.2 (sound_created path old made.0 changed settled apart has made.1 e)
+
+pub told_written : (path : List ℕ) (old new : Option CallRecord) → MakesQuietly path old new → told new ≡ told old
+told_written path old new made = told_quiet made.0 new made.2 ∙ told_created path old made.0 made.1
 
 -- made, written and synced
 pub written_beside : (path bytes : List ℕ) (number : ℕ) (a b c d : Option CallRecord) → Makes (Create path) a b → IfSome a (λ r. number ≡ new_number r)

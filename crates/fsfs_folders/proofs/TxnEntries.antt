@@ -2,11 +2,14 @@
 use Rattle.std.proofs.Common.{◌≡◌, ◌⊎◌, ℕ, List, [], ◌∷◌, ◌++◌, Bool, true, false, cond, inl, inr, ⊎_elim, refl, sym, ap, subst, ◌∙◌, arith}
 use Rattle.std.proofs.lemmas.Bool.{cases_Bool, and_from, and_parts, or_cases, not-true, not_from_false, le-leb}
 use Rattle.std.proofs.lemmas.Fmt.{length-decimal-le}
-use Rattle.std.proofs.lemmas.List.{length-append, append_cancel_left}
+use Rattle.std.proofs.lemmas.List.{length-append, append-nil, append_cancel_left}
 use Rattle.std.proofs.lemmas.Option.{same_Some, none-some}
 use Rattle.std.specs.Prelude.{◌≤◌, ◌<◌, ◌-◌, ◌^◌, ◌==◌, ◌||◌, ◌&&◌, not, nat_le, length, get_or, take, is_some, codes, Option, Some, None, IfSome}
 use Rattle.std.specs.Fmt.{decimal}
-use Rattle.std.specs.List.Sorted.{IsPermutation}
+use Rattle.std.proofs.lemmas.List.Sorted.{IsPermutation-trans}
+use Rattle.std.specs.Ordering.{nat_cmp}
+use Rattle.std.specs.Cmp.Lexicographic.{slice_cmp}
+use Rattle.std.specs.List.Sorted.{IsSorted, IsPermutation}
 use Rattle.fsfs_grammar.specs.Base36.{base36}
 use Rattle.fsfs_grammar.specs.Cuts.{Lacks}
 use Rattle.fsfs_grammar.specs.Numeral.{IsPlain, numeral_at}
@@ -17,7 +20,7 @@ use Rattle.fsfs_fields.specs.RevNums.{IsRev, last_rev}
 use Rattle.fsfs_fields.proofs.RevNumTexts.{rev_text_lacks}
 use Rattle.fsfs_fields.specs.TxnNames.{IsTxnName, txn_text, txn_name_at}
 use Rattle.fsfs_fields.proofs.TxnNameTexts.{txn_name_spells}
-use Rattle.fsfs_disk.specs.Labels.{Label, Txn, Pack, HotCopy, same_label, has_label, with_label, without_label, txn_entries}
+use Rattle.fsfs_disk.specs.Labels.{Label, Txn, Pack, HotCopy, same_label, has_label, with_label, without_label, txn_entries, IsListing}
 use Rattle.fsfs_disk.specs.Trace.{labels_after, labels_now}
 use Rattle.fsfs_disk.proofs.LabelLemmas.{same_label-itself, same_label-same, has-without_label, has-without}
 use Rattle.fsfs_calls.specs.Paths.{same_text, has_path, has_slash, within}
@@ -28,7 +31,7 @@ use Rattle.fsfs_folders.specs.LabelPaths.{bench_folder, between, txns_of, packs_
 use Rattle.fsfs_folders.specs.TxnEntries.{is_txn_entry, txns_among}
 use Rattle.fsfs_folders.specs.Told.{labels_of, operations_of, trace_of}
 use Rattle.fsfs_folders.specs.Standing.{told}
-use Rattle.fsfs_folders.proofs.LabelPathLemmas.{label_is}
+use Rattle.fsfs_folders.proofs.LabelPathLemmas.{label_is, between_is, skip_packs}
 use Rattle.fsfs_folders.proofs.KeptLabels.{kept_by_folder, kept_is_own, kept_once, are_once}
 use Rattle.fsfs_folders.proofs.Permuted.{permuted}
 
@@ -57,6 +60,22 @@ among_apart (n ∷ ns) apart =
     by_test : (b : Bool) → not (has_path ns n) ≡ true → are_apart (txns_among ns) ≡ true → are_apart (cond b (n ∷ txns_among ns) (txns_among ns)) ≡ true
     by_test true new rest = and_from (not (has_path (txns_among ns) n)) (are_apart (txns_among ns)) (not_from_false (has_path (txns_among ns) n) (among_has ns n ∙ ap (λ b. b && is_txn_entry n) (not-true (has_path ns n) new))) rest
     by_test false new rest = rest
+
+-- one name more
+pub among_append : (names : List (List ℕ)) (name : List ℕ) → txns_among (names ++ name ∷ []) ≡ txns_among names ++ cond (is_txn_entry name) (name ∷ []) []
+among_append [] name = refl
+among_append (n ∷ ns) name = by_test (is_txn_entry n) (among_append ns name)
+  where
+    by_test : (b : Bool) → txns_among (ns ++ name ∷ []) ≡ txns_among ns ++ cond (is_txn_entry name) (name ∷ []) []
+        → cond b (n ∷ txns_among (ns ++ name ∷ [])) (txns_among (ns ++ name ∷ [])) ≡ cond b (n ∷ txns_among ns) (txns_among ns) ++ cond (is_txn_entry name) (name ∷ []) []
+    by_test true e = ap (λ l. n ∷ l) e
+    by_test false e = e
+
+pub none_pushed : (found : List (List ℕ)) (name : List ℕ) → is_txn_entry name ≡ false → found ≡ found ++ cond (is_txn_entry name) (name ∷ []) []
+none_pushed found name e = sym (ap (λ b. found ++ cond b (name ∷ []) []) e ∙ append-nil found)
+
+pub one_pushed : (found more : List (List ℕ)) (name copy : List ℕ) → copy ≡ name → is_txn_entry name ≡ true → more ≡ found ++ copy ∷ [] → more ≡ found ++ cond (is_txn_entry name) (name ∷ []) []
+one_pushed found more name copy same e is = is ∙ ap (λ c. found ++ c ∷ []) same ∙ sym (ap (λ b. found ++ cond b (name ∷ []) []) e)
 
 -- the entry of a transaction
 abbrev entry : ℕ → ℕ → List ℕ
@@ -110,12 +129,12 @@ no_slash : (text : List ℕ) → Lacks 47 text → has_slash (text ++ codes ".tx
 no_slash [] lacks = refl
 no_slash (c ∷ cs) lacks = ap (λ b. b || has_slash (cs ++ codes ".txn")) lacks.0 ∙ no_slash cs lacks.1
 
-base_of : Label → ℕ
+abbrev base_of : Label → ℕ
 base_of (Txn base number) = base
 base_of (Pack shard) = 0
 base_of HotCopy = 0
 
-number_of : Label → ℕ
+abbrev number_of : Label → ℕ
 number_of (Txn base number) = number
 number_of (Pack shard) = 0
 number_of HotCopy = 0
@@ -166,7 +185,7 @@ entry_fits base number name =
     of_text (c ∷ cs) some slashes short = and_from (not (has_slash (c ∷ cs))) (nat_le (length (c ∷ cs)) 128) (not_from_false (has_slash (c ∷ cs)) slashes) (le-leb (length (c ∷ cs)) 128 short)
 
 -- a path of a transaction's folder is that of no pack or copy
-third : List ℕ → ℕ
+abbrev third : List ℕ → ℕ
 third text = get_or text 3 0
 
 module _ (r : CallRecord) (found : List (List ℕ)) (list : IsListOf (names_now r).folders (codes "db/transactions") found) where
@@ -200,3 +219,44 @@ module _ (r : CallRecord) (found : List (List ℕ)) (list : IsListOf (names_now 
 
   pub listed : IsPermutation (txn_entries labels) (txns_among found)
   listed = permuted (txn_entries labels) (txns_among found) (entries_apart labels (kept_once r.first r.calls) (kept_is_own r.first r.calls)) (among_apart found list.once) to from
+
+-- a name that has a transaction's text before its ending is one where it is that of the transaction
+pub entry_named : (name : List ℕ) (p : ℕ × ℕ) (r : Bool) → txn_name_at (take (length name - 4) name) ≡ Some p → r ≡ same_text (txn_text p.0 p.1 ++ codes ".txn") name → r ≡ is_txn_entry name
+unfolding label_at
+entry_named name p r e is = is ∙ by_test (same_text (bench_folder (Txn p.0 p.1)) path) ∙ sym (ap is_some (ap (λ o. first_of path (txns_of o ++ others)) e))
+  where
+    path : List ℕ
+    path = codes "db/transactions/" ++ name
+
+    others : List Label
+    others = packs_of (numeral_at 10 4294967295 (between 8 6 path)) ++ HotCopy ∷ []
+
+    no_others : first_of path others ≡ None
+    no_others = skip_packs path (numeral_at 10 4294967295 (between 8 6 path)) (HotCopy ∷ []) (λ shard. refl)
+
+    by_test : (b : Bool) → b ≡ is_some (cond b (Some (Txn p.0 p.1)) (first_of path others))
+    by_test true = refl
+    by_test false = sym (ap is_some no_others)
+
+pub entry_none : (name : List ℕ) → txn_name_at (take (length name - 4) name) ≡ None → false ≡ is_txn_entry name
+unfolding label_at
+entry_none name e = sym (ap is_some (ap (λ o. first_of path (txns_of o ++ others)) e ∙ skip_packs path (numeral_at 10 4294967295 (between 8 6 path)) (HotCopy ∷ []) (λ shard. refl)))
+  where
+    path : List ℕ
+    path = codes "db/transactions/" ++ name
+
+    others : List Label
+    others = packs_of (numeral_at 10 4294967295 (between 8 6 path)) ++ HotCopy ∷ []
+
+pub same_tested : (r : Bool) (a b : List ℕ) → (r ≡ true → a ≡ b) × (a ≡ b → r ≡ true) → r ≡ same_text a b
+same_tested r a b tests = ⊎_elim (λ s. tests.1 s.0 ∙ sym s.1) (λ o. by_test r (λ t. o.0 (tests.0 t)) ∙ sym o.1) (text_cases a b)
+  where
+    by_test : (x : Bool) → (x ≡ true → ⊥) → x ≡ false
+    by_test true h = absurd (h refl)
+    by_test false h = refl
+
+-- what is told of labels is listed
+pub listing_told : (old : Option CallRecord) (found sorted : List (List ℕ)) → IfSome old (λ r. IsListOf (names_now r).folders (codes "db/transactions") found) → IsSorted (slice_cmp nat_cmp) sorted → IsPermutation (txns_among found) sorted
+    → IfSome (told old) (λ t. IsListing (labels_now t) sorted)
+listing_told None found sorted list ordered same = tt
+listing_told (Some r) found sorted list ordered same = record { ordered = ordered; all = IsPermutation-trans (txn_entries (labels_now (trace_of r))) (txns_among found) sorted (listed r found list) same }

@@ -3,7 +3,7 @@ use Rattle.std.proofs.Common.{◌≡◌, ◌⊎◌, ℕ, List, [], ◌∷◌, �
 use Rattle.std.proofs.Math.Seq.{take-add}
 use Rattle.std.proofs.lemmas.Bool.{eq-eqb, ne_eqb}
 use Rattle.std.proofs.lemmas.List.{drop-drop, length-drop, length-take, length-append, take_all, append-nil, append_assoc}
-use Rattle.std.specs.Prelude.{◌≤◌, ◌<◌, ◌-◌, nat_eq, Option, Some, None, option_map}
+use Rattle.std.specs.Prelude.{◌≤◌, ◌<◌, ◌-◌, nat_eq, Option, Some, None, option_map, Result, Ok, Err, OnErr}
 use Rattle.fsfs_calls.specs.CallRecord.{CallRecord, Append, Contents, Does, add_call, names_now, contents_now, new_number, more_bytes}
 use Rattle.fsfs_folders.specs.Writing.{joined, with_pieces, Writes, WritesSome}
 
@@ -73,3 +73,8 @@ pub pieces_others : (number : ℕ) (pieces : List (List ℕ)) (r : CallRecord) (
 pieces_others number [] r k other = refl
 pieces_others number (piece ∷ pieces) r k other =
     ap (λ b. cond b (more_bytes piece (contents_now (with_pieces number pieces r) k)) (contents_now (with_pieces number pieces r) k)) (ne_eqb k number other) ∙ pieces_others number pieces r k other
+
+-- what holds anyhow holds of an error
+pub on_err : {T E : Type 0} {P : Type 0} (r : Result T E) → P → OnErr r P
+on_err (Ok x) p = tt
+on_err (Err e) p = p

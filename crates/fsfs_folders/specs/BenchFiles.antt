@@ -3,7 +3,7 @@ use Rattle.std.specs.Prelude.{◌≡◌, ◌⊎◌, ◌≤◌, ◌+◌, ◌^◌,
 use Rattle.std.specs.FinMap.{empty}
 use Rattle.fsfs_base.specs.Files.{Files}
 use Rattle.fsfs_disk.specs.Benches.{with_file}
-use Rattle.fsfs_calls.specs.Paths.{same_text}
+use Rattle.fsfs_calls.specs.Paths.{same_text, has_path}
 use Rattle.fsfs_calls.specs.Listing.{is_entry}
 use Rattle.fsfs_calls.specs.Named.{named_paths}
 use Rattle.fsfs_calls.specs.CallRecord.{CallRecord, Contents, no_contents, names_now, contents_now}
@@ -75,3 +75,9 @@ AreKept calls = (r : CallRecord) → calls ≡ Some r → (name : List ℕ) (fil
 -- there is no file
 abbrev pub HoldsNothing : CallRecord → Type 0
 HoldsNothing r = (name : List ℕ) → file_held r name ≡ None
+
+-- of these names no file is there, and all others are as they were
+abbrev pub Clears : List (List ℕ) → Option CallRecord → Option CallRecord → Type 0
+Clears names None new = new ≡ None
+Clears names (Some r) None = ⊥
+Clears names (Some r) (Some s) = (q : List ℕ) → (file_held s q ≡ None) ⊎ ((has_path names q ≡ false) × (file_held s q ≡ file_held r q))

@@ -6,3 +6,4 @@ pub mod Quiet
 pub mod Writing
 pub mod BenchFiles
 pub mod Standing
+pub mod Laws

@@ -1,6 +1,6 @@
 -- Calls that change nothing of the repository.
 use Rattle.std.specs.Prelude.{◌≡◌, ℕ, List, ◌++◌, true, Option, Some, None}
-use Rattle.fsfs_calls.specs.CallRecord.{CallRecord, names_now}
+use Rattle.fsfs_calls.specs.CallRecord.{CallRecord, Create, MayMake, names_now}
 use Rattle.fsfs_folders.specs.Told.{trace_of}
 use Rattle.fsfs_folders.specs.Keeping.{keeps, is_newest, are_names_firm, are_folders_firm}
 
@@ -27,3 +27,7 @@ IsSynced folders (Some r) (Some s) = (more : List (List ℕ)) → are_names_firm
 abbrev pub IsNewestIn : Option CallRecord → ℕ → Type 0
 IsNewestIn None number = Unit {0}
 IsNewestIn (Some r) number = is_newest r.first r.calls number ≡ true
+
+-- a file was made, if it was, and then nothing changed of the repository
+abbrev pub MakesQuietly : List ℕ → Option CallRecord → Option CallRecord → Type 0
+MakesQuietly path old new = (mid : Option CallRecord) × MayMake (Create path) old mid × IsQuiet mid new

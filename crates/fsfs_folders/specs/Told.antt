@@ -1,11 +1,12 @@
 -- What a disk tells that stands on the calls of the system: the files of its repository are those names that aren't apart, its labels
 -- are the folders of benches, and its operations are read off the record of calls.
-use Rattle.std.specs.Prelude.{◌≡◌, ℕ, List, [], ◌∷◌, Bool, true, false, nat_eq, ◌||◌, if◌then◌else◌, Option, Some, None, option_map, unwrap_or, codes}
+use Rattle.std.specs.Prelude.{◌≡◌, ℕ, List, [], ◌∷◌, Bool, true, false, not, nat_eq, ◌||◌, ◌&&◌, if◌then◌else◌, Option, Some, None, option_map, unwrap_or, codes}
 use Rattle.std.specs.List.{starts_with, ends_with}
 use Rattle.std.specs.FinMap.{get, insert, empty}
 use Rattle.fsfs_base.specs.Files.{Files, NamedFile}
 use Rattle.fsfs_disk.specs.Labels.{Label, with_label}
 use Rattle.fsfs_disk.specs.Trace.{NameChange, Operation, Done, Trace, Put, Adopt, Rename, Remove, FirmNames, KeepLabel, DropLabel, IsImage}
+use Rattle.fsfs_calls.specs.Paths.{same_text}
 use Rattle.fsfs_calls.specs.CallRecord as system
 use Rattle.fsfs_calls.specs.Remains.{IsLeft}
 use Rattle.fsfs_calls.specs.CallRecord.{Beginning, CallRecord, Call, Named, Firmed, Standing, is_reachable, names_after, contents_after}
@@ -22,6 +23,10 @@ is_in_bench path = starts_with nat_eq path (codes "db/transactions/") || (starts
 -- no file of the repository has such a name
 unfoldable pub is_apart : List ℕ → Bool
 is_apart path = is_beside path || is_in_bench path
+
+-- a folder of the repository that isn't the whole of it
+abbrev pub is_inner_folder : List ℕ → Bool
+is_inner_folder path = not (same_text [] path) && not (is_in_bench path)
 
 -- the repository's file of a name, by the bytes of each file
 abbrev pub shown : (ℕ → List ℕ) → Standing → List ℕ → Option (List ℕ)

@@ -1,6 +1,6 @@
 -- How a file is written and read, piece by piece.
 use Rattle.std.specs.Prelude.{◌≡◌, ◌≤◌, ℕ, ◌-◌, min, List, [], ◌∷◌, ◌++◌, length, take, drop, Option, option_map}
-use Rattle.fsfs_calls.specs.CallRecord.{CallRecord, Append, add_call}
+use Rattle.fsfs_calls.specs.CallRecord.{CallRecord, Append, add_call, names_now, contents_now}
 
 -- pieces as they were written, the last in front
 abbrev pub joined : List (List ℕ) → List ℕ
@@ -22,3 +22,7 @@ WritesSome number most old new = (any : List ℕ) × (length any ≤ most) × Wr
 -- a buffer was filled from an offset on, as far as the bytes go
 abbrev pub IsFilled : List ℕ → ℕ → List ℕ → List ℕ → ℕ → Type 0
 IsFilled bytes offset old new n = (n ≡ min (length old) (length bytes - offset)) × (new ≡ take n (drop offset bytes) ++ drop n old)
+
+-- the bytes of the file with a path
+abbrev pub bytes_there : CallRecord → List ℕ → Option (List ℕ)
+bytes_there r path = option_map (λ n. (contents_now r n).bytes) ((names_now r).files path)

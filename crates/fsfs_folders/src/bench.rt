@@ -2,15 +2,15 @@
 ghost use Rattle.std.specs.Prelude.{◌≡◌, ◌≢◌, ◌≤◌, ◌^◌, ℕ, List, Some, false, length, option_map, IfOk, IfSome, OnOk, OnErr};
 ghost use Rattle.std.specs.FinMap.{get};
 ghost use Rattle.fsfs_disk.specs.Benches.{appended, written, removed, bytes_on, IsFirmFile, Spoils};
-ghost use Rattle.fsfs_disk.specs.Trace.{IsRead, IsSize, IsThere};
+ghost use Rattle.fsfs_disk.specs.Trace.{Adopt, Performs, FailsToAdopt, IsRead, IsSize, IsThere};
 ghost use Rattle.fsfs_calls.specs.CallRecord.{CallRecord, Contents};
 ghost use Rattle.fsfs_folders.specs.BenchFiles.{file_held, bench_told, firm_held, HoldsNothing};
-ghost use Rattle.fsfs_folders.specs.Standing.{Adopts, FailsToTake};
+ghost use Rattle.fsfs_folders.specs.Standing.{told};
 
-use crate::bench_files::{append_to, is_entry, remove_from, write_to};
+use crate::bench_files::{append_to, is_entry, remove_from, sync_in, write_to};
 use crate::faults::counted;
 use crate::folders::Folders;
-use crate::reading::fill;
+use crate::reading::{file_size, read_file};
 use fsfs_base::{Failed, Name};
 use fsfs_calls::{CallError, Calls, Path};
 use fsfs_disk::Bench;
@@ -56,8 +56,10 @@ impl<C: Calls + Drop> FolderBench<C> {
         to: &Name,
     ) -> Result<(), CallError>
         requires { IsFirmFile (bench_told (C.history self.old.calls)) (firm_held (C.history self.old.calls) file.now) file.now }
-        ensures ok { OnOk result (Adopts file.now to.now (C.history folders.old.calls) (C.history self.old.calls) (C.history folders.new.calls) (C.history self.new.calls)) }
-        ensures err { OnErr result (FailsToTake file.now to.now (C.history folders.old.calls) (C.history self.old.calls) (C.history folders.new.calls) (C.history self.new.calls)) }
+        ensures ok { OnOk result (Performs (Adopt to.now (bytes_on (bench_told (C.history self.old.calls)) file.now)) (told (C.history folders.old.calls)) (told (C.history folders.new.calls))) }
+        ensures gone { OnOk result (bench_told (C.history self.new.calls) ≡ option_map (removed file.now) (bench_told (C.history self.old.calls))) }
+        ensures err { OnErr result (FailsToAdopt (Adopt to.now (bytes_on (bench_told (C.history self.old.calls)) file.now)) (told (C.history folders.old.calls)) (told (C.history folders.new.calls)) (removed file.now) (bench_told (C.history self.old.calls)) (bench_told (C.history self.new.calls))) }
+        ensures others { (q : List ℕ) → q ≢ file.now → firm_held (C.history self.new.calls) q ≡ firm_held (C.history self.old.calls) q }
         ensures faults { self.new.faults ≡ self.old.faults }
     {
         if !is_entry(file) {
@@ -106,11 +108,7 @@ impl<C: Calls + Drop> FolderBench<C> {
         if !is_entry(file) {
             return Ok(None);
         }
-        match self.calls.open(&Path::of(file)) {
-            Ok(open) => Ok(Some(fill(&mut self.calls, &open, offset, buffer)?)),
-            Err(CallError::NotFound) => Ok(None),
-            Err(error) => Err(error),
-        }
+        read_file(&mut self.calls, &Path::of(file), offset, buffer)
     }
 
     fn try_len(&mut self, file: &Name) -> Result<Option<u64>, CallError>
@@ -121,11 +119,7 @@ impl<C: Calls + Drop> FolderBench<C> {
         if !is_entry(file) {
             return Ok(None);
         }
-        match self.calls.open(&Path::of(file)) {
-            Ok(open) => Ok(Some(self.calls.length(&open)?)),
-            Err(CallError::NotFound) => Ok(None),
-            Err(error) => Err(error),
-        }
+        file_size(&mut self.calls, &Path::of(file))
     }
 
     fn try_firm(&mut self, file: &Name) -> Result<(), CallError>
@@ -138,19 +132,13 @@ impl<C: Calls + Drop> FolderBench<C> {
         if self.is_lost || !is_entry(file) {
             return Err(CallError::Failed);
         }
-        match self.calls.open(&Path::of(file)) {
-            Ok(open) => {
-                let synced = self.calls.sync_file(&open);
-                self.is_lost = synced.is_err();
-                synced
-            }
-            Err(CallError::NotFound) => Ok(()),
-            Err(error) => Err(error),
-        }
+        let synced = sync_in(&mut self.calls, file);
+        self.is_lost = synced.is_err();
+        synced
     }
 
     fn try_remove(&mut self, file: &Name) -> Result<bool, CallError>
-        ensures there { IfSome (bench_told (C.history self.old.calls)) (λ m. IfOk result (IsThere (get m file.now))) }
+        ensures there { IfOk result (λ there. IfSome (bench_told (C.history self.old.calls)) (λ m. IsThere (get m file.now) there)) }
         ensures ok { OnOk result (bench_told (C.history self.new.calls) ≡ option_map (removed file.now) (bench_told (C.history self.old.calls))) }
         ensures err { OnErr result (Spoils file.now (bench_told (C.history self.old.calls)) (bench_told (C.history self.new.calls))) }
         ensures firm { OnOk result (firm_held (C.history self.new.calls) file.now ≡ 0) }
@@ -166,6 +154,7 @@ impl<C: Calls + Drop> FolderBench<C> {
 
 impl<C: Calls + Drop> Bench for FolderBench<C> {
     ghost use Rattle.fsfs_folders.specs.BenchFiles.{bench_told, firm_held};
+    ghost use Rattle.fsfs_folders.specs.Laws.{bench_is_short};
 
     ghost contents = { λ bench. bench_told (C.Calls.history bench.calls) };
 
@@ -208,5 +197,5 @@ impl<C: Calls + Drop> Bench for FolderBench<C> {
         counted(&mut self.faults, was_there)
     }
 
-    ghost short = { λ bench. Rattle.fsfs_folders.proofs.BenchTold.bench_short (C.Calls.history bench.calls) bench.short };
+    ghost short = { λ bench. bench_is_short (C.Calls.history bench.calls) bench.short };
 }

@@ -1,10 +1,11 @@
 // Calls on the files right in a folder.
-ghost use Rattle.std.specs.Prelude.{◌≡◌, ◌≤◌, ◌^◌, Some, None, true, IfOk, IfSome, OnOk, OnErr, is_some};
-ghost use Rattle.fsfs_calls.specs.CallRecord.{more_bytes, no_contents};
+ghost use Rattle.std.specs.Prelude.{◌≡◌, ◌⊎◌, ◌≤◌, ◌^◌, Some, None, true, IfOk, IfSome, OnOk, OnErr, is_some, option_map};
+ghost use Rattle.fsfs_calls.specs.CallRecord.{more_bytes, no_contents, made_firm, made_lost};
 ghost use Rattle.fsfs_calls.specs.Listing.{is_entry as entry};
-ghost use Rattle.fsfs_folders.specs.BenchFiles.{file_held, file_or_new, Sets, SetsAny, Opens, HoldsNothing};
+ghost use Rattle.fsfs_folders.specs.BenchFiles.{file_held, file_or_new, Sets, SetsAny, Opens, Clears, HoldsNothing};
 
 use crate::folders::LONGEST;
+use crate::texts::has_slash;
 use crate::writing::append_all;
 use fsfs_base::Name;
 use fsfs_calls::{CallError, Calls, Path};
@@ -14,7 +15,7 @@ use std::alloc::Global;
 pub fn is_entry(name: &Name) -> bool
     ensures { result ≡ entry name.now }
 {
-    !name.as_str().is_empty() && !name.as_str().contains('/')
+    !name.as_str().is_empty() && !has_slash(name.as_str())
 }
 
 // Opens a file at whose end so many bytes may be written. It is made where there is none.
@@ -54,7 +55,7 @@ pub fn append_to<C: Calls>(calls: &mut C, name: &Name, bytes: &[u8]) -> Result<(
 /// Takes a file away. `false`: there was none.
 pub fn remove_from<C: Calls>(calls: &mut C, name: &Name) -> Result<bool, CallError>
     requires { entry name.now ≡ true }
-    ensures there { IfSome (C.history calls.old) (λ r. IfOk result (λ there. there ≡ is_some (file_held r name.now))) }
+    ensures there { IfOk result (λ there. IfSome (C.history calls.old) (λ r. there ≡ is_some (file_held r name.now))) }
     ensures ok { OnOk result (Sets name.now (λ r. None) (C.history calls.old) (C.history calls.new)) }
     ensures any { SetsAny name.now (C.history calls.old) (C.history calls.new) }
 {
@@ -79,16 +80,37 @@ pub fn write_to<C: Calls>(calls: &mut C, name: &Name, bytes: &[u8]) -> Result<()
     append_all(calls, &file, bytes)
 }
 
+// Takes these files away.
+fn remove_all<C: Calls>(calls: &mut C, names: &[Name]) -> Result<(), CallError>
+    ensures { OnOk result (Clears names.now (C.history calls.old) (C.history calls.new)) }
+{
+    for name in names {
+        if !is_entry(name) {
+            return Err(CallError::OtherKind);
+        }
+        let _ = remove_from(calls, name)?;
+    }
+    Ok(())
+}
+
 /// Takes away all files right in the folder.
 pub fn clear<C: Calls>(calls: &mut C, alloc: Global) -> Result<(), CallError>
     ensures none { OnOk result (IfSome (C.history calls.new) HoldsNothing) }
-    ensures tells { is_some (C.history calls.new) ≡ is_some (C.history calls.old) }
+    ensures tells { OnOk result (is_some (C.history calls.new) ≡ is_some (C.history calls.old)) }
 {
     let names = calls.files_in(alloc, &Path::new(""))?;
-    for name in &names {
-        if is_entry(name) {
-            let _ = remove_from(calls, name)?;
-        }
+    remove_all(calls, names.as_slice())
+}
+
+/// Makes the bytes of a file firm, if there is one.
+pub fn sync_in<C: Calls>(calls: &mut C, name: &Name) -> Result<(), CallError>
+    requires { entry name.now ≡ true }
+    ensures ok { OnOk result (Sets name.now (λ r. option_map made_firm (file_held r name.now)) (C.history calls.old) (C.history calls.new)) }
+    ensures err { OnErr result ((C.history calls.new ≡ C.history calls.old) ⊎ Sets name.now (λ r. option_map made_lost (file_held r name.now)) (C.history calls.old) (C.history calls.new)) }
+{
+    match calls.open(&Path::of(name)) {
+        Ok(file) => calls.sync_file(&file),
+        Err(CallError::NotFound) => Ok(()),
+        Err(error) => Err(error),
     }
-    Ok(())
 }

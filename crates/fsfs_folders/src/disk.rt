@@ -59,6 +59,7 @@ impl<C: Calls + Drop> FolderDisk<C> {
 
 impl<C: Calls + Drop> Disk for FolderDisk<C> {
     ghost use Rattle.fsfs_folders.specs.Standing.{told};
+    ghost use Rattle.fsfs_folders.specs.Laws.{images_are_short, both_tell};
 
     type Bench = FolderBench<C>;
 
@@ -154,7 +155,7 @@ impl<C: Calls + Drop> Disk for FolderDisk<C> {
         counted(&mut self.faults, done)
     }
 
-    ghost short = { λ disk. Rattle.fsfs_folders.proofs.ShortFiles.short_images (C.Calls.history disk.folders.calls) disk.folders.changed disk.folders.is_settled disk.folders.sound };
+    ghost short = { λ disk. images_are_short (C.Calls.history disk.folders.calls) disk.folders.changed disk.folders.is_settled disk.folders.sound };
 
-    ghost benches_tell = { λ disk bench. Rattle.fsfs_folders.proofs.BenchTold.benches_tell (C.Calls.history disk.folders.calls) (C.Calls.history bench.calls) (C.Calls.all_tell bench.calls disk.folders.calls) };
+    ghost benches_tell = { λ disk bench. both_tell (C.Calls.history disk.folders.calls) (C.Calls.history bench.calls) (C.Calls.all_tell bench.calls disk.folders.calls) };
 }

@@ -6,7 +6,7 @@ ghost use Rattle.fsfs_disk.specs.Benches.{IsFirmFile};
 ghost use Rattle.fsfs_disk.specs.Trace.{Put, Rename, Remove, FirmNames, KeepLabel, DropLabel, labels_now, Performs, PerformsIfThere, FailsAt, IsRead, IsThere, IsSize, file_at};
 ghost use Rattle.fsfs_calls.specs.Paths.{has_path, folder_of};
 ghost use Rattle.fsfs_calls.specs.Listing.{is_entry as entry};
-ghost use Rattle.fsfs_folders.specs.Told.{is_apart as apart, is_in_bench as in_bench, LeavesImages};
+ghost use Rattle.fsfs_folders.specs.Told.{is_apart as apart, LeavesImages};
 ghost use Rattle.fsfs_folders.specs.Keeping.{are_rooted, are_names_firm, is_sound};
 ghost use Rattle.fsfs_folders.specs.Quiet.{IsQuiet};
 ghost use Rattle.fsfs_folders.specs.Standing.{told, IsNoted, IsWritten, IsWholeAt, bytes_under, Adopts, FailsToTake};
@@ -17,15 +17,13 @@ use crate::bench_files::clear;
 use crate::label_paths::bench_path;
 use crate::listing::txns_among;
 use crate::noted::Noted;
-use crate::reading::fill;
-use crate::writing::{append_all, sync_folders};
+use crate::reading::{file_size, read_file};
+use crate::texts::{BESIDE, is_apart, is_in_bench, is_inner_folder};
+use crate::writing::{sync_folders, write_new};
 use fsfs_base::Name;
 use fsfs_calls::{CallError, Calls, Path};
 use fsfs_disk::Label;
 use std::alloc::Global;
-
-// The name under which a file is written first ends so.
-const BESIDE: &str = ".beside";
 
 // No file grows longer than this.
 pub const LONGEST: usize = 1 << 62;
@@ -40,22 +38,6 @@ pub struct Folders<C: Calls + Drop> {
     // The folders themselves have firm names.
     is_settled: bool,
     ghost sound: { is_sound (C.Calls.history calls) changed is_settled ≡ true },
-}
-
-// Whether the folders of benches begin so, and what stands in them.
-fn is_in_bench(text: &str) -> bool
-    ensures { result ≡ in_bench text.now }
-{
-    text.starts_with("db/transactions/")
-        || text.starts_with("db/pack-")
-        || text.starts_with("db/copy.bench")
-}
-
-// Whether a name is none of the repository's: files are written under it first, or it is in a bench.
-fn is_apart(name: &Name) -> bool
-    ensures { result ≡ apart name.now }
-{
-    name.as_str().ends_with(BESIDE) || is_in_bench(name.as_str())
 }
 
 impl<C: Calls + Drop> Folders<C> {
@@ -135,9 +117,7 @@ impl<C: Calls + Drop> Folders<C> {
         ensures settled { self.new.is_settled ≡ self.old.is_settled }
         ensures written { OnOk result (IfSome (C.history self.new.calls) (λ r. IsWritten r beside.now bytes.now)) }
     {
-        let file = self.calls.create(beside)?;
-        append_all(&mut self.calls, &file, bytes)?;
-        self.calls.sync_file(&file)
+        write_new(&mut self.calls, beside, bytes)
     }
 
     // Gives what was written beside its name.
@@ -248,7 +228,7 @@ impl<C: Calls + Drop> Folders<C> {
     pub fn drop_folder(&mut self, name: &Name) -> Result<(), CallError>
         ensures { told (C.history self.new.calls) ≡ told (C.history self.old.calls) }
     {
-        if name.as_str().is_empty() || is_in_bench(name.as_str()) {
+        if !is_inner_folder(name) {
             return Err(CallError::OtherKind);
         }
         let path = Path::of(name);
@@ -366,25 +346,17 @@ impl<C: Calls + Drop> Folders<C> {
         if is_apart(name) {
             return Ok(None);
         }
-        match self.calls.open(&Path::of(name)) {
-            Ok(file) => Ok(Some(fill(&mut self.calls, &file, offset, buffer)?)),
-            Err(CallError::NotFound) => Ok(None),
-            Err(error) => Err(error),
-        }
+        read_file(&mut self.calls, &Path::of(name), offset, buffer)
     }
 
     /// The length of a file in bytes. `None`: there is no such file.
     pub fn size(&mut self, name: &Name) -> Result<Option<u64>, CallError>
-        ensures length { IfOk result (λ found. IfSome (told (C.history self.old.calls)) (λ t. IsSize (file_at t name.now) found)) }
+        ensures length { IfSome (told (C.history self.old.calls)) (λ t. IfOk result (IsSize (file_at t name.now))) }
         ensures same { told (C.history self.new.calls) ≡ told (C.history self.old.calls) }
     {
         if is_apart(name) {
             return Ok(None);
         }
-        match self.calls.open(&Path::of(name)) {
-            Ok(file) => Ok(Some(self.calls.length(&file)?)),
-            Err(CallError::NotFound) => Ok(None),
-            Err(error) => Err(error),
-        }
+        file_size(&mut self.calls, &Path::of(name))
     }
 }

@@ -12,6 +12,7 @@ mod law;
 mod listing;
 mod noted;
 mod reading;
+mod texts;
 mod writing;
 
 pub use bench::FolderBench;

@@ -1,7 +1,8 @@
 // Calls on files and folders, made as often as it takes.
-ghost use Rattle.std.specs.Prelude.{◌≡◌, length, OnOk, OnErr};
-ghost use Rattle.fsfs_folders.specs.Quiet.{IsQuiet, IsSynced};
+ghost use Rattle.std.specs.Prelude.{length, IfSome, OnOk, OnErr};
+ghost use Rattle.fsfs_folders.specs.Quiet.{IsQuiet, IsSynced, MakesQuietly};
 ghost use Rattle.fsfs_folders.specs.Writing.{Writes, WritesSome};
+ghost use Rattle.fsfs_folders.specs.Standing.{IsWritten};
 
 use fsfs_calls::{CallError, Calls, Path};
 
@@ -27,4 +28,14 @@ pub fn append_all<C: Calls>(calls: &mut C, file: &C::File, bytes: &[u8]) -> Resu
         rest = &rest[count..];
     }
     Ok(())
+}
+
+/// Makes a new file of these bytes, firm.
+pub fn write_new<C: Calls>(calls: &mut C, path: &Path, bytes: &[u8]) -> Result<(), CallError>
+    ensures made { MakesQuietly path.now (C.history calls.old) (C.history calls.new) }
+    ensures written { OnOk result (IfSome (C.history calls.new) (λ r. IsWritten r path.now bytes.now)) }
+{
+    let file = calls.create(path)?;
+    append_all(calls, &file, bytes)?;
+    calls.sync_file(&file)
 }

@@ -1,7 +1,7 @@
 use Rattle.std.proofs.Common.{rules, ◌≡◌, ℕ, ◌-◌, take, drop, length, refl, ap, subst, ◌∙◌, arith}
 use Rattle.std.proofs.lemmas.List.{length-drop, take_all}
 use Rattle.fsfs_folders.specs.Writing.{Writes}
-use Rattle.fsfs_folders.proofs.WritingLemmas.{wrote_none, went_on, ended, wrote_some}
+use Rattle.fsfs_folders.proofs.WritingLemmas.{wrote_none, went_on, ended, wrote_some, on_err}
 use Rattle.fsfs_folders.proofs.writing.append_all.Goals as goal
 
 pub loop-rest-init : goal.loop-rest-init
@@ -19,8 +19,8 @@ loop-rest-preserved g c =
 pub returns-in_err-count-clause-err : goal.returns-in_err-count-clause-err
 returns-in_err-count-clause-err g c =
     let so = c.loop-rest.invariant in
-    wrote_some (g.C.File.OpenFile.number c.args.file.now) (g.C.Calls.history c.args.calls.now) (g.C.Calls.history c.loop-rest.calls) (g.C.Calls.history c.append.new.self)
-    c.args.bytes.now c.loop-rest.rest.now so.0 so.1 so.2 so.3 c.in_err-count.ensures.err
+    on_err c.from_residual.result (wrote_some (g.C.File.OpenFile.number c.args.file.now) (g.C.Calls.history c.args.calls.now) (g.C.Calls.history c.loop-rest.calls) (g.C.Calls.history c.append.new.self)
+    c.args.bytes.now c.loop-rest.rest.now so.0 so.1 so.2 so.3 c.in_err-count.ensures.err)
 
 pub returns-clause-ok : goal.returns-clause-ok
 returns-clause-ok g c =
