@@ -27,7 +27,8 @@ fn push_txn(found: &mut Vec<Name>, name: &Name) -> Result<(), AllocError>
     if !is_txn_entry(name) {
         return Ok(());
     }
-    found.push(name.copy())
+    found.push(name.copy())?;
+    Ok(())
 }
 
 /// Those of some names in the folder of transactions that are a transaction's folder's.

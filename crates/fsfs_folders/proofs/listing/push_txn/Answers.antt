@@ -1,5 +1,4 @@
 use Rattle.std.proofs.Common.{◌≡◌, rules, List, ℕ, [], ◌∷◌, ◌++◌, ◌+◌, ◌-◌, Bool, cond, take, length, refl, true, false, sym, ap, subst, ◌∙◌, arith}
-use Rattle.fsfs_folders.proofs.PutLemmas.{on_ok}
 use Rattle.fsfs_folders.proofs.TxnEntries.{none_pushed, one_pushed}
 use Rattle.fsfs_folders.proofs.listing.push_txn.Goals as goal
 
@@ -7,4 +6,4 @@ pub returns-then-not-is_txn_entry : goal.returns-then-not-is_txn_entry
 returns-then-not-is_txn_entry c = none_pushed c.args.found.now.items c.args.name.now (search rules)
 
 pub returns : goal.returns
-returns c = on_ok c.push.result (one_pushed c.args.found.now.items c.push.new.self.items c.args.name.now c.copy.result c.copy.ensures (search rules)) c.push.ensures.items
+returns c = one_pushed c.args.found.now.items c.push.new.self.items c.args.name.now c.copy.result c.copy.ensures (search rules) c.in_ok-push.ensures.items
