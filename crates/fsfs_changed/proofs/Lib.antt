@@ -1,0 +1,2 @@
+pub mod OneItems
+pub mod OneText

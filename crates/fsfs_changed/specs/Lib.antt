@@ -1,0 +1,4 @@
+pub mod Lines
+pub mod Items
+pub mod ChangedTexts
+pub mod Laws

@@ -1,0 +1,4 @@
+pub mod EndLemmas
+pub mod ItemLemmas
+pub mod TextKeys
+pub mod LineLemmas
