@@ -1,2 +1,6 @@
 pub mod OneItems
 pub mod OneText
+pub mod TextOrder
+pub mod Entries
+pub mod ByTrees
+pub mod Flat

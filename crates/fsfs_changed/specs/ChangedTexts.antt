@@ -2,7 +2,7 @@
 -- lines by the bytes of paths, and the kind of what a replace took away, are this project's profile.)
 use Rattle.std.specs.Prelude.{◌≡◌, ◌⊎◌, ℕ, Bool, true, false, ◌&&◌, nat_le, List, [], ◌∷◌, ◌++◌, map, Option, Some, None, option_map, Result, Ok, Err, codes}
 use Rattle.std.specs.Map.{lookup}
-use Rattle.std.specs.BTreeMap.{is_at, insert_entry}
+use Rattle.std.specs.BTreeMap.{is_at}
 use Rattle.std.specs.Cmp.Lexicographic.{slice_cmp}
 use Rattle.std.specs.Ordering.{nat_cmp}
 use Rattle.fsfs_base.specs.Paths.{Path, path_text}
@@ -19,7 +19,7 @@ use Rattle.fsfs_changes.specs.declared.item.ChangeItem.{ChangeItem}
 use Rattle.fsfs_shows.specs.Reading.{offset_of, OfId, Met, Stands, Lacking, Blocked, MetAt}
 use Rattle.fsfs_printed.specs.declared.look_fault.LookFault.TheVariants as faults
 use Rattle.fsfs_printed.specs.Texts.{End, Whole, Refused, Stopped, Nothing}
-use Rattle.fsfs_changed.specs.Lines.{taken_from, changed_line, modified_line, replaced_lines}
+use Rattle.fsfs_changed.specs.Lines.{put_by, taken_from, changed_line, modified_line, replaced_lines}
 use Rattle.fsfs_changed.specs.Items.{ItemsOf}
 
 -- ---- the items by the texts of their paths, in the order of the bytes of these
@@ -27,12 +27,8 @@ use Rattle.fsfs_changed.specs.Items.{ItemsOf}
 abbrev pub ByText : Type 0
 ByText = List (List ℕ × ChangeItem)
 
-abbrev pub put_items : ByText → List ChangeItem → ByText
-put_items found [] = found
-put_items found (item ∷ items) = put_items (insert_entry (slice_cmp nat_cmp) found (path_text item.path) item) items
-
 abbrev pub by_text : List ChangeItem → ByText
-by_text items = put_items [] items
+by_text items = put_by (λ item. path_text item.path) [] items
 
 abbrev pub in_order : ByText → List ChangeItem
 in_order = map (λ e. e.1)

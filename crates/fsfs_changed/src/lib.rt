@@ -5,4 +5,4 @@
 
 mod laws;
 
-pub use laws::changed_paths_have_one_text;
+pub use laws::{changed_paths_are_flat, changed_paths_have_one_text};
