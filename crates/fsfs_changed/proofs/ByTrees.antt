@@ -66,7 +66,7 @@ front_path p k is = record {
 -- the items of data have paths
 items_paths : (May : List ChangeItem → ChangeItem → Type 0) (a : List ChangeItem) (text : List ℕ) (items : List ChangeItem) → Items May a text items → (item : ChangeItem) → Contains items item → IsPath item.path
 items_paths May a text [] w item (k, less, is) = absurd (omega (arith, less))
-items_paths May a text (x ∷ items) w item (0, less, is) =
+items_paths May a text (x ∷ items) w item (zero, less, is) =
     subst (λ (y : ChangeItem). IsPath y.path) is (let first = w.2.first_is in let second = first.3 in let third = second.3 in let fourth = third.3 in fourth.3.path_is)
 items_paths May a text (x ∷ items) w item (suc k, less, is) = items_paths May (a ++ x ∷ []) w.1 items w.4 item (k, omega (arith, less), is)
 
@@ -143,13 +143,13 @@ nearest_same S S' p (suc k) h = λ i. below_source (h k i) (drop k p) (nearest_s
 -- ---- the items against the changes
 
 module _ (look : RevisionBytes) (rev : ℕ) (tree : ℕ → TreeFunction) (changes : FinMap path_cmp Change) (shown : ShowChanges look rev tree changes) where
-  all : AreChangesOf look rev shown.bytes changes
+  abbrev all : AreChangesOf look rev shown.bytes changes
   all = shown.changes_are
 
-  items : List ChangeItem
+  abbrev items : List ChangeItem
   items = all.items
 
-  found : ByText
+  abbrev found : ByText
   found = by_text items
 
   is_path : (item : ChangeItem) → Contains items item → IsPath item.path
@@ -214,7 +214,7 @@ module _ (look : RevisionBytes) (rev : ℕ) (tree : ℕ → TreeFunction) (chang
   abbrev Pair : Type 0
   Pair = Path × Change
 
-  flat : List (List ℕ × Pair)
+  abbrev flat : List (List ℕ × Pair)
   flat = put_by (λ (e : Pair). path_text e.0) [] (entries changes)
 
   has : (e : Pair) → Contains (entries changes) e → get changes e.0 ≡ Some e.1

@@ -1,5 +1,5 @@
 -- What files that stand for a history print of its changed paths.
-use Rattle.std.proofs.Common.{◌≡◌, ℕ, suc, ◌≤◌, ◌<◌, List, [], ◌∷◌, length, Option, Some, None, refl, sym, ap, subst, arith}
+use Rattle.std.proofs.Common.{◌≡◌, ℕ, zero, suc, ◌≤◌, ◌<◌, List, [], ◌∷◌, length, Option, Some, None, refl, sym, ap, subst, arith}
 use Rattle.std.specs.Prelude.{slice_get}
 use Rattle.std.specs.FinMap.{get}
 use Rattle.fsfs_base.specs.Files.{Files}
@@ -14,8 +14,8 @@ use Rattle.fsfs_changed.proofs.ByTrees.{changed_by}
 -- what stands before an element is there
 earlier : {A : Type 0} (xs : List A) (n r : ℕ) (x : A) → r ≤ n → slice_get xs n ≡ Some x → (y : A) × (slice_get xs r ≡ Some y)
 earlier [] n r x le e = absurd cc
-earlier (y ∷ xs) n 0 x le e = (y, refl)
-earlier (y ∷ xs) 0 (suc r) x le e = absurd (omega (arith, le))
+earlier (y ∷ xs) n zero x le e = (y, refl)
+earlier (y ∷ xs) zero (suc r) x le e = absurd (omega (arith, le))
 earlier (y ∷ xs) (suc n) (suc r) x le e = earlier xs n r x (omega (arith, le)) e
 
 module _ (files : Files) (h : List Revision) (s : StandsFor files h) (rev : ℕ) (revision : Revision) (is : slice_get h rev ≡ Some revision) where

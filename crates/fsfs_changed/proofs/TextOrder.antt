@@ -1,5 +1,5 @@
 -- Things that were put by their texts stand in the order of these, and each is found.
-use Rattle.std.proofs.Common.{◌≡◌, ℕ, suc, ◌+◌, ◌<◌, Bool, true, false, cond, List, [], ◌∷◌, length, Option, Some, None, refl, sym, ap, subst, ◌∙◌, arith, inl, inr}
+use Rattle.std.proofs.Common.{◌≡◌, ℕ, zero, suc, ◌+◌, ◌<◌, Bool, true, false, cond, List, [], ◌∷◌, length, Option, Some, None, refl, sym, ap, subst, ◌∙◌, arith, inl, inr}
 use Rattle.std.specs.Prelude.{◌⊎◌, ◌&&◌, T, Contains, map, option_map}
 use Rattle.std.specs.List.{AllByRecursion}
 use Rattle.std.specs.Cmp.{tied_itself}
@@ -91,7 +91,7 @@ module _ {A : Type 0} (text : A → List ℕ) where
 
   is_there : (es : List (List ℕ × A)) (xs : List A) (x : A) → Contains xs x → IsThere (put_by text es xs) (text x)
   is_there es [] x (k, less, is) = absurd (omega (arith, less))
-  is_there es (y ∷ xs) x (0, less, is) =
+  is_there es (y ∷ xs) x (zero, less, is) =
       subst (λ (z : A). IsThere (put_by text (insert_entry text_cmp es (text y) y) xs) (text z)) is (stays (insert_entry text_cmp es (text y) y) xs (text y) (put_there es y))
   is_there es (y ∷ xs) x (suc k, less, is) = is_there (insert_entry text_cmp es (text y) y) xs x (k, omega (arith, less), is)
 

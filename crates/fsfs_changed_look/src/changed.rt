@@ -44,7 +44,7 @@ fn write_items<B: Book, S: Sink>(
     ensures cause { HasDiskCause (B.faults book.old) (B.faults book.new) result }
     ensures sink { HasSinkCause (S.faults sink.old) (S.faults sink.new) result }
 {
-    for (_, item) in &items.items {
+    for item in items.items.values() {
         write_full(sink, lines)?;
         let more = item_lines(alloc, book, rev, items, item)?;
         lines.extend_from_slice(&more)?;

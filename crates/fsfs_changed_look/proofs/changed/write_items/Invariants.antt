@@ -1,4 +1,4 @@
-use Rattle.std.proofs.Common.{◌≡◌, ◌≤◌, ℕ, [], map}
+use Rattle.std.proofs.Common.{◌≡◌, ◌≤◌, ℕ, []}
 use Rattle.fsfs_book.specs.Told.{RevisionBytes, Knows, Keeps}
 use Rattle.fsfs_look.proofs.ProgressLemmas.{Progress}
 use Rattle.fsfs_changed.specs.ChangedTexts.{LinesText, end_of, in_order}
@@ -13,5 +13,5 @@ invariant-loop-item g l = record {
   sink : g.S.Sink.faults l.fn.sink ≤ g.S.Sink.faults l.sink;
   text : (look : RevisionBytes) → Knows (g.B.Book.told l.fn.book).revs l.fn.rev look
       → Progress (LinesText look l.fn.rev (by_text_value l.items) (end_of l.wrong) (in_order (by_text_value l.items)))
-      (LinesText look l.fn.rev (by_text_value l.items) (end_of l.wrong) (map (λ e. e.1) l.item-iterator)) [] l.lines.items (g.S.Sink.written l.fn.sink) (g.S.Sink.written l.sink);
+      (LinesText look l.fn.rev (by_text_value l.items) (end_of l.wrong) l.item-iterator) [] l.lines.items (g.S.Sink.written l.fn.sink) (g.S.Sink.written l.sink);
 }
