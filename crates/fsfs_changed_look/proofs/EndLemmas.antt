@@ -58,8 +58,8 @@ pub trailer_length : (text : List ℕ) (root changes : ℕ) → IsTrailer text (
 trailer_length text root changes w =
     let a = w.second_is.first_is in
     let b = w.second_is.second_is.inner_is in
-    let root_is : w.second_is.between ≡ root = ap (λ (p : ℕ × ℕ). p.0) w.second_is.second_is.value_is in
-    let changes_is : w.second_is.second_is.inner ≡ changes = ap (λ (p : ℕ × ℕ). p.1) w.second_is.second_is.value_is in
+    let root_is : w.second_is.between ≡ root = sym (ap (λ (p : ℕ × ℕ). p.0) w.second_is.second_is.value_is) in
+    let changes_is : w.second_is.second_is.inner ≡ changes = sym (ap (λ (p : ℕ × ℕ). p.1) w.second_is.second_is.value_is) in
     let one = numeral_decimal a.digits w.second_is.between (omega (arith, a.fits)) a.numeral ∙ ap decimal root_is in
     let two = numeral_decimal b.digits w.second_is.second_is.inner (omega (arith, b.fits)) b.numeral ∙ ap decimal changes_is in
     omega (
@@ -96,10 +96,7 @@ module _ (look : RevisionBytes) (rev from : ℕ) (items old piece : List ℕ) (o
   behind : (bytes : List ℕ) → look rev ≡ Ok bytes → from ≤ length bytes → take count piece ≡ take (length old) (drop (length items) (drop from bytes))
   behind bytes is le =
       window.2 ∙ ap (λ (xs : List ℕ). take (length old) (drop offset xs)) (one_bytes (look rev) window.0 bytes window.1 is)
-      ∙ ap (λ (n : ℕ). take (length old) (drop n bytes)) (stands bytes is le) ∙ ap (take (length old)) (sym (drop_twice from (length items) bytes))
-    where
-      drop_twice : (m n : ℕ) (xs : List ℕ) → drop n (drop m xs) ≡ drop (m + n) xs
-      drop_twice m n xs = search (rules, drop-drop)
+      ∙ ap (λ (n : ℕ). take (length old) (drop n bytes)) (stands bytes is le) ∙ ap (take (length old)) (sym (drop-drop (length items) from bytes))
 
   pub rest_further : Rest look rev from (items ++ take count piece)
   rest_further bytes is le = further_front (drop from bytes) items old piece (length items) count (so_far bytes is le) refl (behind bytes is le)
@@ -124,10 +121,10 @@ no_rest first second look rev from errors.OutOfMemory h = tt
 no_rest first second look rev from errors.DiskFault h = tt
 
 module _ (look : RevisionBytes) (rev : ℕ) (t : Trailer) (rest items : List ℕ) (cut : ℕ) (trailer : TrailerOf look rev (Ok t)) (read : RestOf look rev t.changes (Ok rest)) (is : items ≡ take (length rest - cut) rest) (long : (text : List ℕ) → IsTrailer text (t.root, t.changes) → cut ≡ length text) where
-  front : List ℕ
+  abbrev front : List ℕ
   front = trailer.2.front
 
-  text : List ℕ
+  abbrev text : List ℕ
   text = trailer.2.text
 
   rest_is : rest ≡ drop t.changes front ++ text

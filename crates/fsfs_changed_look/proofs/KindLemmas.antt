@@ -1,23 +1,26 @@
 -- Kinds of what is met, of what an id names, and of what was taken away.
-use Rattle.std.proofs.Common.{◌≡◌, ℕ, ◌≤◌, Bool, true, false, List, Option, Some, None, Result, Ok, Err, refl, sym, ap, subst, ◌∙◌}
-use Rattle.std.specs.Prelude.{option_map}
+use Rattle.std.proofs.Common.{◌≡◌, ℕ, suc, ◌≤◌, Bool, true, false, List, ◌++◌, take, drop, Option, Some, None, Result, Ok, Err, refl, sym, ap, subst, ◌∙◌, arith}
+use Rattle.std.specs.Prelude.{nat_le}
+use Rattle.std.proofs.lemmas.Bool.{and_parts}
+use Rattle.std.proofs.lemmas.Bool.Decides.{nat_tests}
 use Rattle.fsfs_base.specs.Paths.{Path}
 use Rattle.fsfs_base.specs.declared.kind.Kind.{Kind}
 use Rattle.fsfs_damage.specs.declared.wrong.Wrong.{Wrong}
 use Rattle.fsfs_damage.specs.declared.wrong.ReadError.{ReadError}
 use Rattle.fsfs_damage.specs.declared.wrong.ReadError.TheVariants as errors
-use Rattle.fsfs_damage.specs.Readings.{AndThen, Answers}
-use Rattle.fsfs_damage.proofs.Answering.{stops, goes_on}
+use Rattle.fsfs_damage.specs.Readings.{Answers}
+use Rattle.fsfs_damage.proofs.Answering.{stops}
 use Rattle.fsfs_book.specs.Told.{RevisionBytes}
-use Rattle.fsfs_noderev.specs.declared.node_rev.CopySource.{CopySource}
+use Rattle.fsfs_noderev.specs.declared.node_id.NodeId.{NodeId}
 use Rattle.fsfs_noderev.specs.declared.node_rev.NodeRev.{NodeRev}
 use Rattle.fsfs_changes.specs.declared.item.ChangeItem.{ChangeItem}
-use Rattle.fsfs_shows.specs.Reading.{MetAt, OfId}
+use Rattle.fsfs_revision.specs.Nodes.{is_revision_id}
+use Rattle.fsfs_shows.specs.Reading.{offset_of, MetAt, OfId}
 use Rattle.fsfs_dag.specs.declared.node.PlacedNode.{PlacedNode}
 use Rattle.fsfs_dag.specs.declared.walk.Met.{Met as Rust}
 use Rattle.fsfs_dag.specs.Views.{met_value}
-use Rattle.fsfs_changed.specs.ChangedTexts.{kind_met, KindAt, KindUnsaid, KindOf, KindFrom}
-use Rattle.fsfs_changed_look.specs.Views.{source_place}
+use Rattle.fsfs_changed.specs.Lines.{below_source, nearest_source}
+use Rattle.fsfs_changed.specs.ChangedTexts.{kind_met, KindAt, is_nameable, KindUnsaid}
 
 abbrev pub same : Kind → Kind
 same kind = kind
@@ -37,3 +40,19 @@ module _ (look : RevisionBytes) (rev : ℕ) (item : ChangeItem) (nameable : Bool
   pub named_fails : (e : ReadError) → Answers (λ (found : PlacedNode). found.node) (OfId look item.id) (Err e) → Answers same (KindUnsaid look rev item nameable) (Err e)
   named_fails e h =
       subst (λ (b : Bool). Answers same (KindUnsaid look rev item b) (Err e)) (sym is) (stops (λ (found : PlacedNode). found.node) same e (OfId look item.id) (λ u r. r ≡ Ok u.kind) h)
+
+-- an id that the revision could name is of no later one
+pub nameable_le : (rev : ℕ) (id : NodeId) → is_nameable rev id ≡ true → (offset_of id.place).rev ≤ rev
+nameable_le rev id e =
+    let two = and_parts (is_revision_id id) (nat_le (offset_of id.place).rev rev) e in
+    let le : nat_le (offset_of id.place).rev rev ≡ true = two.1 in
+    grind (arith, nat_tests)
+
+-- ---- where what was taken away stood
+
+module _ (S : Path → Option (ℕ × Path)) (p : Path) (d k : ℕ) (is : d ≡ suc k) where
+  pub nearest_above : S (take k p) ≡ None → nearest_source S p d ≡ nearest_source S p k
+  nearest_above none = ap (nearest_source S p) is ∙ ap (λ (o : Option (ℕ × Path)). below_source o (drop k p) (nearest_source S p k)) none
+
+  pub nearest_here : (from : ℕ × Path) → S (take k p) ≡ Some from → nearest_source S p d ≡ Some (from.0, from.1 ++ drop k p)
+  nearest_here from some = ap (nearest_source S p) is ∙ ap (λ (o : Option (ℕ × Path)). below_source o (drop k p) (nearest_source S p k)) some

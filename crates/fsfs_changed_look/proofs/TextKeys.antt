@@ -8,6 +8,7 @@ use Rattle.std.specs.Ordering.{nat_cmp, match_ordering}
 use Rattle.std.specs.BTreeMap.{insert_entry, is_at}
 use Rattle.std.specs.Map.{lookup}
 use Rattle.fsfs_base.specs.Paths.{Path, path_text}
+use Rattle.fsfs_noderev.specs.declared.node_rev.CopySource.{CopySource}
 use Rattle.fsfs_changes.specs.declared.item.ChangeItem.{ChangeItem}
 use Rattle.fsfs_changed.specs.ChangedTexts.{ByText, source_value, source_at}
 
@@ -41,11 +42,13 @@ found_plain (e ∷ es) name = by (is_at (slice_cmp nat_cmp name) e.0.items) (fou
     by false rest = rest
 
 module _ (es : List (Key × ChangeItem)) (p : Path) (name : List ℕ) (is : name ≡ path_text p) where
-  found : ByText
-  found = plain es
-
   item_is : lookup (λ k. is_at (slice_cmp nat_cmp name) k.items) es ≡ lookup (is_at (slice_cmp nat_cmp (path_text p))) (plain es)
   item_is = found_plain es name ∙ ap (λ (t : List ℕ). lookup (is_at (slice_cmp nat_cmp t)) (plain es)) is
 
   pub source_of_found : (o : Option ChangeItem) → o ≡ lookup (λ k. is_at (slice_cmp nat_cmp name) k.items) es → source_value o ≡ source_at (plain es) p
   source_of_found o e = ap source_value (e ∙ item_is)
+
+-- what a reference to a source tells
+pub through_source : (o : Option (Bor CopySource)) → option_map {U = ℕ × Path} (λ s. (s.now.rev, s.now.path)) o ≡ option_map {U = ℕ × Path} (λ (s : CopySource). (s.rev, s.path)) (option_copied o)
+through_source None = refl
+through_source (Some s) = refl

@@ -1,5 +1,5 @@
 //! The bytes of a revision's changed-path data.
-ghost use Rattle.std.specs.Prelude.{◌≡◌, ◌+◌, ◌<◌, ◌^◌, ℕ, List, length};
+ghost use Rattle.std.specs.Prelude.{◌≡◌, ◌+◌, ◌<◌, ◌≤◌, ◌^◌, ℕ, List, length, decimal};
 ghost use Rattle.fsfs_damage.specs.Causes.{HasCause};
 ghost use Rattle.fsfs_damage.specs.Readings.{Answers};
 ghost use Rattle.fsfs_book.specs.Told.{RevisionBytes, Keeps, IsTold};
@@ -57,13 +57,20 @@ fn trailer_of<B: Book>(book: &mut B, rev: RevNum) -> Result<Trailer, ReadError>
     }
 }
 
+// How many digits a number has.
+fn digits(number: u64) -> usize
+    ensures count { result ≡ length (decimal number) }
+    ensures few { result ≤ 40 }
+{
+    let mut buffer = Buffer::new();
+    buffer.format(number).len()
+}
+
 // How many bytes the trailer takes.
 fn trailer_len(trailer: Trailer) -> usize
     ensures { (text : List ℕ) → IsTrailer text (trailer.root, trailer.changes) → result ≡ length text }
 {
-    let mut root = Buffer::new();
-    let mut changes = Buffer::new();
-    root.format(trailer.root).len() + changes.format(trailer.changes).len() + 3
+    digits(trailer.root) + digits(trailer.changes) + 3
 }
 
 // Where the next byte stands behind so many from a place on. None is above the last number of a u64.

@@ -23,17 +23,17 @@ pub(crate) struct ReadItems {
 fn items_before(
     alloc: Global,
     rev: RevNum,
-    data: &ChangesData,
+    changes: &ChangesData,
     at: usize,
 ) -> Result<ReadItems, ReadError>
-    requires { IsItemFault HasNewPath data.now.bytes.items at }
-    ensures told { Answers (λ r. (r.items.items, r.wrong)) (ItemsIn rev (data.now.begins, data.now.bytes.items)) result }
+    requires { IsItemFault HasNewPath changes.now.bytes.items at }
+    ensures told { Answers (λ r. (r.items.items, r.wrong)) (ItemsIn rev (changes.now.begins, changes.now.bytes.items)) result }
     ensures quiet { IsQuiet result }
 {
-    let Some(offset) = data.begins.checked_add(at as u64) else {
+    let Some(offset) = changes.begins.checked_add(at as u64) else {
         return Err(ReadError::OutOfMemory);
     };
-    match read_revision_changes(alloc, &data.bytes[..at]) {
+    match read_revision_changes(alloc, &changes.bytes[..at]) {
         Ok(items) => Ok(ReadItems {
             items,
             wrong: Some(Wrong::Damaged(Damage {
@@ -45,14 +45,14 @@ fn items_before(
     }
 }
 
-fn items_in(alloc: Global, rev: RevNum, data: &ChangesData) -> Result<ReadItems, ReadError>
-    ensures told { Answers (λ r. (r.items.items, r.wrong)) (ItemsIn rev (data.now.begins, data.now.bytes.items)) result }
+fn items_in(alloc: Global, rev: RevNum, changes: &ChangesData) -> Result<ReadItems, ReadError>
+    ensures told { Answers (λ r. (r.items.items, r.wrong)) (ItemsIn rev (changes.now.begins, changes.now.bytes.items)) result }
     ensures quiet { IsQuiet result }
 {
-    match read_revision_changes(alloc, &data.bytes) {
+    match read_revision_changes(alloc, &changes.bytes) {
         Ok(items) => Ok(ReadItems { items, wrong: None }),
         Err(ChangeError::OutOfMemory) => Err(ReadError::OutOfMemory),
-        Err(ChangeError::Fault(fault)) => items_before(alloc, rev, data, fault.at),
+        Err(ChangeError::Fault(fault)) => items_before(alloc, rev, changes, fault.at),
     }
 }
 
@@ -66,6 +66,6 @@ pub(crate) fn items_of<B: Book>(
     ensures kept { Keeps (B.told book.old) (B.told book.new) }
     ensures cause { HasCause (B.faults book.old) (B.faults book.new) result }
 {
-    let data = changes_data(alloc, book, rev)?;
-    items_in(alloc, rev, &data)
+    let changes = changes_data(alloc, book, rev)?;
+    items_in(alloc, rev, &changes)
 }

@@ -22,9 +22,10 @@ fn put_mark(lines: &mut Vec<u8>, kind: Kind) -> Result<(), AllocError>
     ensures { OnOk result (lines.new.items ≡ lines.old.items ++ kind_mark kind) }
 {
     match kind {
-        Kind::File => Ok(()),
-        Kind::Dir => lines.push(b'/'),
+        Kind::File => {}
+        Kind::Dir => lines.push(b'/')?,
     }
+    Ok(())
 }
 
 // Puts a line: the status, two blanks, the path without its first `/`, and `/` for a directory.

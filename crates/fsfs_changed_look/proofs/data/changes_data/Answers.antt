@@ -1,4 +1,5 @@
-use Rattle.std.proofs.Common.{ℕ, List, length, Ok, Err, ap, ◌∙◌}
+use Rattle.std.proofs.Common.{◌≡◌, ◌-◌, ℕ, List, length, take, Ok, Err, ap, ◌∙◌, arith}
+use Rattle.std.proofs.lemmas.Grind.{common_steps}
 use Rattle.std.specs.declared.vec.Vec.{Vec}
 use Rattle.std.specs.declared.alloc.Global.{Global}
 use Rattle.std.proofs.lemmas.Result.{err_from_is_err_and}
@@ -25,4 +26,6 @@ returns-in_err-bytes-clause-told g c = λ look told.
 pub returns-clause-told : goal.returns-clause-told
 returns-clause-told g c = λ look told.
     let later = told_later _ _ look c.args.rev c.in_ok-trailer.ensures.kept told in
-    data_found look c.args.rev c.in_ok-trailer.trailer c.in_ok-bytes.bytes.items c.truncate.new.self.items c.trailer_len.result (c.in_ok-trailer.ensures.told look told) (c.in_ok-bytes.ensures.told look later) c.truncate.ensures.items c.trailer_len.ensures
+    let rest = c.in_ok-bytes.bytes.items in
+    let count : c.saturating_sub.result ≡ length rest - c.trailer_len.result = grind (arith, common_steps) in
+    data_found look c.args.rev c.in_ok-trailer.trailer rest c.truncate.new.self.items c.trailer_len.result (c.in_ok-trailer.ensures.told look told) (c.in_ok-bytes.ensures.told look later) (c.truncate.ensures.items ∙ ap (λ (n : ℕ). take n rest) count) c.trailer_len.ensures
