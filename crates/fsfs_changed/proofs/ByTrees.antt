@@ -31,11 +31,12 @@ use Rattle.fsfs_stands.specs.Changes.{HasItems, IsKindOf, Said, Named, There, No
 use Rattle.fsfs_printed.specs.Texts.{End, Whole, Refused, Stopped}
 use Rattle.fsfs_printed.specs.Agreeing.{Agree}
 use Rattle.fsfs_printed.specs.ByTree.{IsOf}
-use Rattle.fsfs_changed.specs.Lines.{put_by, in_text_order, nearest_source, below_source, place_upto, or_before, taken_from, source_of_change, kind_or, node_of_place, taken_kind, modified_line, action_lines, change_lines, changed_text}
+use Rattle.fsfs_changed.specs.Lines.{put_by, in_text_order, nearest_source, below_source, or_before, taken_from, source_of_change, kind_or, node_of_place, taken_kind, modified_line, action_lines, change_lines, changed_text}
 use Rattle.fsfs_changed.specs.Items.{ItemsOf}
 use Rattle.fsfs_changed.specs.ChangedTexts.{ByText, by_text, in_order, kind_met, KindAt, is_nameable, KindUnsaid, KindOf, source_value, source_at, KindFrom, TakenKind, ActionLines, ItemLines, LinesText, OfNone, OfItem, ChangedText}
 use Rattle.fsfs_changed.specs.Laws.{ShowChanges, ChangedPathsAreByTheTrees}
 use Rattle.fsfs_changed.proofs.Entries.{got_in, in_got}
+use Rattle.fsfs_changed.proofs.Places.{taken_within}
 use Rattle.fsfs_changed.proofs.TextOrder.{text_cmp, put_sorted, found_is, put_found, all_put, each_in, valued, sorted_valued, find_valued, lookup_find}
 use Rattle.fsfs_changed.proofs.OneText.{changed_one}
 
@@ -120,18 +121,6 @@ module _ (look : RevisionBytes) (rev : ℕ) (tree : ℕ → TreeFunction) (shows
 
   -- ---- where what a replace took away stood
 
-  upto_within : (b : Bool) (s from : ℕ × Path) → nat_le s.0 rev ≡ b → cond b (Some s) None ≡ Some from → from.0 ≤ rev
-  upto_within true s from e f = let same = same_Some s from f in let le : s.0 ≤ rev = grind (arith, nat_tests) in subst (λ (t : ℕ × Path). t.0 ≤ rev) same le
-  upto_within false s from e f = absurd cc
-
-  before_within : (r : ℕ) (p : Path) (from : ℕ × Path) → or_before r p None ≡ Some from → from.0 ≤ r
-  before_within zero p from e = absurd cc
-  before_within (suc r) p from e = let same = same_Some {A = ℕ × Path} (r, p) from e in omega (arith, ap (λ (t : ℕ × Path). t.0) same)
-
-  from_within : (p : Path) (o : Option (ℕ × Path)) (from : ℕ × Path) → or_before rev p o ≡ Some from → from.0 ≤ rev
-  from_within p None from e = before_within rev p from e
-  from_within p (Some s) from e = upto_within (nat_le s.0 rev) s from refl e
-
   kind_there : (kind : Kind) (o : Option (ℕ × Path)) → ((from : ℕ × Path) → o ≡ Some from → from.0 ≤ rev) → KindFrom look o kind (Ok (kind_or kind (node_of_place tree o)))
   kind_there kind None within = refl
   kind_there kind (Some from) within = kind_shown from.0 from.1 kind (within from refl)
@@ -188,7 +177,7 @@ module _ (look : RevisionBytes) (rev : ℕ) (tree : ℕ → TreeFunction) (chang
   kind_taken : (p : Path) (kind : Kind) → IsPath p → TakenKind look rev found p kind (Ok (taken_kind rev tree (get changes) p kind))
   kind_taken p kind is =
       subst (λ (o : Option (ℕ × Path)). KindFrom look o kind (Ok (taken_kind rev tree (get changes) p kind))) (sym (taken_same p is))
-      (kind_there look rev tree shown.trees kind (taken_from rev sources p) (from_within look rev tree shown.trees p (nearest_source sources p (length p))))
+      (kind_there look rev tree shown.trees kind (taken_from rev sources p) (taken_within rev sources p))
 
   -- ---- lines
 

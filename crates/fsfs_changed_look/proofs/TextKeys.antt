@@ -10,7 +10,7 @@ use Rattle.std.specs.Map.{lookup}
 use Rattle.fsfs_base.specs.Paths.{Path, path_text}
 use Rattle.fsfs_noderev.specs.declared.node_rev.CopySource.{CopySource}
 use Rattle.fsfs_changes.specs.declared.item.ChangeItem.{ChangeItem}
-use Rattle.fsfs_changed.specs.ChangedTexts.{ByText, source_value, source_at}
+use Rattle.fsfs_changed.specs.ChangedTexts.{ByText, in_order, source_value, source_at}
 
 abbrev pub Key : Type 0
 Key = Vec ℕ Global
@@ -52,3 +52,8 @@ module _ (es : List (Key × ChangeItem)) (p : Path) (name : List ℕ) (is : name
 pub through_source : (o : Option (Bor CopySource)) → option_map {U = ℕ × Path} (λ s. (s.now.rev, s.now.path)) o ≡ option_map {U = ℕ × Path} (λ (s : CopySource). (s.rev, s.path)) (option_copied o)
 through_source None = refl
 through_source (Some s) = refl
+
+-- in the order of their texts
+pub in_order_plain : (es : List (Key × ChangeItem)) → in_order (plain es) ≡ map (λ e. e.1) es
+in_order_plain [] = refl
+in_order_plain (e ∷ es) = ap (λ (items : List ChangeItem). e.1 ∷ items) (in_order_plain es)

@@ -70,8 +70,8 @@ pub fn changed_text<B: Book, S: Sink>(
     ensures sink { HasSinkCause (S.faults sink.old) (S.faults sink.new) result }
 {
     let ReadItems { items, wrong } = items_of(alloc, book, rev)?;
-    let items = ItemsByText::of(alloc, items)?;
+    let found = ItemsByText::of(alloc, items)?;
     let mut lines = Vec::new(alloc);
-    let walked = write_items(alloc, book, rev, &items, wrong, &mut lines, sink);
+    let walked = write_items(alloc, book, rev, &found, wrong, &mut lines, sink);
     write_last(sink, &mut lines, walked)
 }

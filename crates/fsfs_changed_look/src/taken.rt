@@ -36,12 +36,15 @@ fn nearest_source(
     ensures { IfOk result (λ o. option_map source_place o ≡ nearest_source (source_at (by_text_value items.now)) path.now (length path.now)) }
 {
     let mut depth = path.depth();
-    'above: while depth > 0 {
+    'names: while depth > 0 {
         depth -= 1;
         let above = path.prefix(alloc, depth)?;
-        if let Some(source) = items.source_at(alloc, &above)? {
-            let from = below_source(source, path, depth)?;
-            return Ok(Some(from));
+        match items.source_at(alloc, &above)? {
+            None => {}
+            Some(source) => {
+                let from = below_source(source, path, depth)?;
+                return Ok(Some(from));
+            }
         }
     }
     Ok(None)

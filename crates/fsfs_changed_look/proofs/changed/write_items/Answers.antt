@@ -12,6 +12,7 @@ use Rattle.fsfs_look.proofs.ProgressLemmas.{Progress, begins, flushed, write_fai
 use Rattle.fsfs_printed.specs.Texts.{End}
 use Rattle.fsfs_changed.specs.ChangedTexts.{LinesText, Stops, end_of, in_order}
 use Rattle.fsfs_changed_look.specs.Views.{by_text_value}
+use Rattle.fsfs_changed_look.proofs.TextKeys.{Key, in_order_plain}
 use Rattle.fsfs_changed_look.proofs.LineLemmas.{item_put, item_fails, no_room, all_put}
 use Rattle.fsfs_changed_look.proofs.changed.write_items.Goals as goal
 
@@ -28,7 +29,8 @@ loop-item-init g c = record {
       let all = in_order found in
       let R : List ℕ → End → Type 0 = LinesText look c.args.rev found (end_of c.args.wrong) all in
       let W = g.S.Sink.written c.args.sink.now in
-      let left : all ≡ c.into_iter-item-iterator.result = search rules in
+      let values : c.into_iter-item-iterator.result ≡ map (λ (e : Key × ChangeItem). e.1) c.args.items.now.items.entries = search rules in
+      let left : all ≡ c.into_iter-item-iterator.result = in_order_plain c.args.items.now.items.entries ∙ sym values in
       subst (λ (t : List ChangeItem). Progress R (LinesText look c.args.rev found (end_of c.args.wrong) t) [] c.args.lines.now.items W W) left
       (subst (λ (ls : List ℕ). Progress R R [] ls W W) (sym c.requires) (begins R [] W));
 }

@@ -7,10 +7,16 @@ use Rattle.fsfs_changes.specs.declared.item.ChangeItem.{ChangeItem}
 use Rattle.fsfs_changed.specs.Lines.{put_by}
 use Rattle.fsfs_changed.specs.ChangedTexts.{ByText}
 use Rattle.fsfs_changed_look.specs.Views.{by_text_value}
+use Rattle.fsfs_changed_look.proofs.TextKeys.{plain}
 use Rattle.fsfs_changed_look.proofs.by_text.ItemsByText.of.Goals as goal
 
 pub loop-item-init : goal.loop-item-init
-loop-item-init c = ?
+loop-item-init c =
+    let gives = c.into_iter-item-iterator.ensures.into_iter_gives in
+    record {
+      long = gives.1 ∙ c.args.items.ok.0 ∙ ap length (sym gives.0);
+      put = λ i. put_by (λ (item : ChangeItem). path_text item.path) (plain (c.new.ensures.empty i)) (gives.0 i);
+    }
 
 pub loop-item-preserved : goal.loop-item-preserved
 loop-item-preserved c =
