@@ -31,7 +31,7 @@ use Rattle.fsfs_stands.specs.Changes.{HasItems, IsKindOf, Said, Named, There, No
 use Rattle.fsfs_printed.specs.Texts.{End, Whole, Refused, Stopped}
 use Rattle.fsfs_printed.specs.Agreeing.{Agree}
 use Rattle.fsfs_printed.specs.ByTree.{IsOf}
-use Rattle.fsfs_changed.specs.Lines.{put_by, in_text_order, nearest_source, below_source, or_before, taken_from, source_of_change, kind_or, node_of_place, taken_kind, modified_line, action_lines, change_lines, changed_text}
+use Rattle.fsfs_answers.specs.ChangedTexts.{put_by, in_text_order, nearest_source, below_source, or_before, taken_from, source_of_change, kind_or, node_of_place, taken_kind, modified_line, action_lines, change_lines, changed_text}
 use Rattle.fsfs_changed.specs.Items.{ItemsOf}
 use Rattle.fsfs_changed.specs.ChangedTexts.{ByText, by_text, in_order, kind_met, KindAt, is_nameable, KindUnsaid, KindOf, source_value, source_at, KindFrom, TakenKind, ActionLines, ItemLines, LinesText, OfNone, OfItem, ChangedText}
 use Rattle.fsfs_changed.specs.Laws.{ShowChanges, ChangedPathsAreByTheTrees}

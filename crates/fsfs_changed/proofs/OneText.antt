@@ -18,7 +18,7 @@ use Rattle.fsfs_printed.specs.Texts.{End, Refused, Stopped}
 use Rattle.fsfs_printed.specs.Agreeing.{Agree}
 use Rattle.fsfs_printed.proofs.OneText.{agree_behind, stopped_first, stopped_second, wrong_same}
 use Rattle.fsfs_changed.specs.Items.{ItemsOf}
-use Rattle.fsfs_changed.specs.Lines.{taken_from, replaced_lines}
+use Rattle.fsfs_answers.specs.ChangedTexts.{taken_from, replaced_lines}
 use Rattle.fsfs_changed.specs.ChangedTexts.{ByText, by_text, in_order, kind_met, KindAt, KindUnsaid, KindOf, is_nameable, source_at, KindFrom, TakenKind, ActionLines, ItemLines, LinesText, OfNone, OfItem, OfWrong, Stops, end_of, ByItems}
 use Rattle.fsfs_changed.specs.Laws.{ChangedPathsHaveOneText}
 use Rattle.fsfs_changed.proofs.OneItems.{items_of_one}

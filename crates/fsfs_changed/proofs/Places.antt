@@ -4,7 +4,7 @@ use Rattle.std.specs.Prelude.{nat_le}
 use Rattle.std.proofs.lemmas.Option.{same_Some}
 use Rattle.std.proofs.lemmas.Bool.Decides.{nat_tests}
 use Rattle.fsfs_base.specs.Paths.{Path}
-use Rattle.fsfs_changed.specs.Lines.{nearest_source, place_upto, or_before, taken_from}
+use Rattle.fsfs_answers.specs.ChangedTexts.{nearest_source, place_upto, or_before, taken_from}
 
 upto_within : (rev : ℕ) (b : Bool) (s from : ℕ × Path) → nat_le s.0 rev ≡ b → cond b (Some s) None ≡ Some from → from.0 ≤ rev
 upto_within rev true s from e f = let same = same_Some s from f in let le : s.0 ≤ rev = grind (arith, nat_tests) in subst (λ (t : ℕ × Path). t.0 ≤ rev) same le

@@ -12,7 +12,7 @@ use Rattle.std.specs.Map.{lookup}
 use Rattle.std.specs.FinMap.Entries.{by_order, find, put, is_sorted, below_all, is_sorted-put, find-put}
 use Rattle.std.proofs.lemmas.Map.Lookups.{exact_bytes}
 use Rattle.std.proofs.lemmas.Option.{same_Some}
-use Rattle.fsfs_changed.specs.Lines.{put_by}
+use Rattle.fsfs_answers.specs.ChangedTexts.{put_by}
 
 abbrev pub text_cmp : List ℕ → List ℕ → Ordering
 text_cmp = slice_cmp nat_cmp

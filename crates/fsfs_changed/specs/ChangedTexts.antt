@@ -19,7 +19,7 @@ use Rattle.fsfs_changes.specs.declared.item.ChangeItem.{ChangeItem}
 use Rattle.fsfs_shows.specs.Reading.{offset_of, OfId, Met, Stands, Lacking, Blocked, MetAt}
 use Rattle.fsfs_printed.specs.declared.look_fault.LookFault.TheVariants as faults
 use Rattle.fsfs_printed.specs.Texts.{End, Whole, Refused, Stopped, Nothing}
-use Rattle.fsfs_changed.specs.Lines.{put_by, taken_from, changed_line, modified_line, replaced_lines}
+use Rattle.fsfs_answers.specs.ChangedTexts.{put_by, taken_from, changed_line, modified_line, replaced_lines}
 use Rattle.fsfs_changed.specs.Items.{ItemsOf}
 
 -- ---- the items by the texts of their paths, in the order of the bytes of these

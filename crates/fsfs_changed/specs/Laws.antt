@@ -15,7 +15,7 @@ use Rattle.fsfs_stands.specs.Files.{StandsFor}
 use Rattle.fsfs_printed.specs.Texts.{End}
 use Rattle.fsfs_printed.specs.Agreeing.{HasOneText}
 use Rattle.fsfs_printed.specs.ByTree.{IsOf}
-use Rattle.fsfs_changed.specs.Lines.{changed_text}
+use Rattle.fsfs_answers.specs.ChangedTexts.{changed_text}
 use Rattle.fsfs_changed.specs.Items.{ItemsOf}
 use Rattle.fsfs_changed.specs.ChangedTexts.{ChangedText}
 

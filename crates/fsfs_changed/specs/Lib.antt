@@ -1,4 +1,3 @@
-pub mod Lines
 pub mod Items
 pub mod ChangedTexts
 pub mod Laws

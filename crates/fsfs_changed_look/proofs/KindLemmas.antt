@@ -19,7 +19,7 @@ use Rattle.fsfs_shows.specs.Reading.{offset_of, MetAt, OfId}
 use Rattle.fsfs_dag.specs.declared.node.PlacedNode.{PlacedNode}
 use Rattle.fsfs_dag.specs.declared.walk.Met.{Met as Rust}
 use Rattle.fsfs_dag.specs.Views.{met_value}
-use Rattle.fsfs_changed.specs.Lines.{below_source, nearest_source}
+use Rattle.fsfs_answers.specs.ChangedTexts.{below_source, nearest_source}
 use Rattle.fsfs_changed.specs.ChangedTexts.{kind_met, KindAt, is_nameable, KindUnsaid}
 
 abbrev pub same : Kind → Kind

@@ -9,7 +9,7 @@ use Rattle.fsfs_book.specs.Told.{RevisionBytes}
 use Rattle.fsfs_look.specs.declared.look_error.LookError.{LookError}
 use Rattle.fsfs_look.specs.declared.look_error.LookError.TheVariants as errors
 use Rattle.fsfs_printed.specs.declared.look_fault.LookFault.TheVariants as faults
-use Rattle.fsfs_changed.specs.Lines.{replaced_lines}
+use Rattle.fsfs_answers.specs.ChangedTexts.{replaced_lines}
 use Rattle.fsfs_changed.specs.ChangedTexts.{ByText, TakenKind}
 use Rattle.fsfs_changed_look.specs.declared.by_text.ItemsByText.{ItemsByText}
 

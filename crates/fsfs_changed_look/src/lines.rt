@@ -4,7 +4,7 @@ ghost use Rattle.fsfs_answers.specs.Answers.{kind_mark};
 ghost use Rattle.fsfs_damage.specs.Causes.{HasCause, IsQuiet};
 ghost use Rattle.fsfs_damage.specs.Readings.{Answers};
 ghost use Rattle.fsfs_book.specs.Told.{RevisionBytes, Knows, Keeps};
-ghost use Rattle.fsfs_changed.specs.Lines.{changed_line, modified_line, replaced_lines};
+ghost use Rattle.fsfs_answers.specs.ChangedTexts.{changed_line, modified_line, replaced_lines};
 ghost use Rattle.fsfs_changed.specs.ChangedTexts.{ActionLines, ItemLines};
 ghost use Rattle.fsfs_changed_look.specs.Views.{by_text_value, Replaced};
 

@@ -3,7 +3,7 @@ ghost use Rattle.std.specs.Prelude.{◌≡◌, ◌≤◌, ◌++◌, IfOk, option
 ghost use Rattle.fsfs_damage.specs.Causes.{HasCause};
 ghost use Rattle.fsfs_damage.specs.Readings.{Answers};
 ghost use Rattle.fsfs_book.specs.Told.{RevisionBytes, Knows, Keeps};
-ghost use Rattle.fsfs_changed.specs.Lines.{nearest_source, place_before, place_upto, taken_from};
+ghost use Rattle.fsfs_answers.specs.ChangedTexts.{nearest_source, place_before, place_upto, taken_from};
 ghost use Rattle.fsfs_changed.specs.ChangedTexts.{source_at, TakenKind};
 ghost use Rattle.fsfs_changed_look.specs.Views.{by_text_value, source_place};
 

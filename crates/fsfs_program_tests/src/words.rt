@@ -24,6 +24,10 @@ fn look_line(alloc: Global, repos: &str, look: &Look) -> Result<String, AllocErr
             format!(in alloc; "tree {repos} {revision} {show_ids} {path}")
         }
         Printed::Text { path } => format!(in alloc; "cat {repos} {revision} {path}"),
+        Printed::Author => format!(in alloc; "author {repos} {revision}"),
+        Printed::Date => format!(in alloc; "date {repos} {revision}"),
+        Printed::Log => format!(in alloc; "log {repos} {revision}"),
+        Printed::Info => format!(in alloc; "info {repos} {revision}"),
     }
 }
 
@@ -41,7 +45,7 @@ fn line(alloc: Global, read: &Result<Request<'_>, WordsFault>) -> Result<String,
 }
 
 // Where no revision is given the line has 9999999999.
-const LOOKS: [(&[&str], &str); 29] = [
+const LOOKS: [(&[&str], &str); 37] = [
     (&["youngest", "R"], "youngest R"),
     (&["uuid", "R"], "uuid R"),
     (&["tree", "R"], "tree R 9999999999 false /"),
@@ -53,6 +57,10 @@ const LOOKS: [(&[&str], &str); 29] = [
     (&["tree", "-r1", "--", "-x"], "tree -x 1 false /"),
     (&["tree", "R", "/"], "tree R 9999999999 false /"),
     (&["cat", "R", "a/b", "-r", "0"], "cat R 0 /a/b"),
+    (&["author", "R"], "author R 9999999999"),
+    (&["date", "R", "-r", "0"], "date R 0"),
+    (&["log", "-r1", "--", "-x"], "log -x 1"),
+    (&["info", "--revision", "07", "R"], "info R 7"),
     (&["cat", "R", "a//b"], "BadPath 3 EmptyName"),
     (&["tree", "R", "../a"], "BadPath 1 Dot"),
     (&[], "Usage"),
@@ -72,6 +80,10 @@ const LOOKS: [(&[&str], &str); 29] = [
     (&["help"], "Usage"),
     (&["--help"], "Usage"),
     (&["tree", "--help"], "Usage"),
+    (&["author"], "Usage"),
+    (&["date", "-r", "x", "R"], "Usage"),
+    (&["log", "R", "/a"], "Usage"),
+    (&["info", "R", "--show-ids"], "Usage"),
     (&["tree", "-h", "R"], "Usage"),
     (&["--version"], "Usage"),
 ];

@@ -4,7 +4,7 @@ use Rattle.std.specs.declared.vec.Vec.{Vec}
 use Rattle.std.specs.declared.alloc.Global.{Global}
 use Rattle.fsfs_base.specs.declared.action.Action.{Action}
 use Rattle.fsfs_damage.specs.Readings.{Answers}
-use Rattle.fsfs_changed.specs.Lines.{changed_line, modified_line}
+use Rattle.fsfs_answers.specs.ChangedTexts.{changed_line, modified_line}
 use Rattle.fsfs_changed.specs.ChangedTexts.{ActionLines}
 use Rattle.fsfs_changed_look.specs.Views.{by_text_value}
 use Rattle.fsfs_changed_look.proofs.lines.action_lines.Goals as goal

@@ -2,7 +2,7 @@ use Rattle.std.proofs.Common.{◌≡◌, ℕ, List, Ok}
 use Rattle.std.specs.declared.vec.Vec.{Vec}
 use Rattle.std.specs.declared.alloc.Global.{Global}
 use Rattle.fsfs_damage.proofs.Answering.{goes_on}
-use Rattle.fsfs_changed.specs.Lines.{replaced_lines}
+use Rattle.fsfs_answers.specs.ChangedTexts.{replaced_lines}
 use Rattle.fsfs_changed.specs.ChangedTexts.{TakenKind}
 use Rattle.fsfs_changed_look.specs.Views.{by_text_value}
 use Rattle.fsfs_changed_look.proofs.lines.replace_lines.Goals as goal

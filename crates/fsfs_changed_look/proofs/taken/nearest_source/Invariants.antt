@@ -1,5 +1,5 @@
 use Rattle.std.proofs.Common.{◌≡◌, ◌≤◌, length}
-use Rattle.fsfs_changed.specs.Lines.{nearest_source}
+use Rattle.fsfs_answers.specs.ChangedTexts.{nearest_source}
 use Rattle.fsfs_changed.specs.ChangedTexts.{source_at}
 use Rattle.fsfs_changed_look.specs.Views.{by_text_value}
 use Rattle.fsfs_changed_look.proofs.taken.nearest_source.Given as goal

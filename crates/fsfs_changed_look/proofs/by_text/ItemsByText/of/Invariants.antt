@@ -2,7 +2,7 @@ use Rattle.std.proofs.Common.{◌≡◌, length}
 use Rattle.std.specs.Vec.Iter.{into_iter_items, into_iter_len}
 use Rattle.fsfs_base.specs.Paths.{path_text}
 use Rattle.fsfs_changes.specs.declared.item.ChangeItem.{ChangeItem}
-use Rattle.fsfs_changed.specs.Lines.{put_by}
+use Rattle.fsfs_answers.specs.ChangedTexts.{put_by}
 use Rattle.fsfs_changed.specs.ChangedTexts.{by_text}
 use Rattle.fsfs_changed_look.specs.Views.{by_text_value}
 use Rattle.fsfs_changed_look.proofs.by_text.ItemsByText.of.Given as goal

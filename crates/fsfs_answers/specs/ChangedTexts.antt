@@ -12,7 +12,7 @@ use Rattle.fsfs_base.specs.declared.action.Action.{Action}
 use Rattle.fsfs_base.specs.declared.action.Action.TheVariants.{Add, Delete, Replace, Modify}
 use Rattle.fsfs_tree.specs.declared.change_map.Change.{Change}
 use Rattle.fsfs_tree.specs.Nodes.{Node, TreeFunction}
-use Rattle.fsfs_answers.specs.Answers.{kind_mark}
+use Rattle.fsfs_answers.specs.TreeTexts.{kind_mark}
 
 -- ---- things by a text of each, in the order of the bytes of these
 
