@@ -1,7 +1,7 @@
 //! The changed paths of revisions whose bytes are given, whole and damaged.
 use crate::revisions::{
-    COPIED_DIRECTORY, FIRST_DIRECTORY, MADE_1, MADE_2, MADE_3, MADE_AND_REMOVED,
-    REMOVED_AND_MADE, REPLACED_IN_A_COPY, TWO_FILES, book_of, book_with,
+    COPIED_DIRECTORY, FIRST_DIRECTORY, MADE_1, MADE_2, MADE_3, MADE_AND_REMOVED, REMOVED_AND_MADE,
+    REPLACED_IN_A_COPY, TWO_FILES, book_of, book_with,
 };
 use fsfs_base::RevNum;
 use fsfs_changed_look::changed_text;
@@ -17,7 +17,11 @@ const TEXTS: [(&[&[u8]], u16, &str); 9] = [
     (&[FIRST_DIRECTORY], 1, "A   a/\n"),
     (&[FIRST_DIRECTORY, MADE_AND_REMOVED], 2, ""),
     (&[FIRST_DIRECTORY, REMOVED_AND_MADE], 2, "D   a/\nA   a\n"),
-    (&[FIRST_DIRECTORY, TWO_FILES, COPIED_DIRECTORY], 3, "A   b/\nU   b/x\n"),
+    (
+        &[FIRST_DIRECTORY, TWO_FILES, COPIED_DIRECTORY],
+        3,
+        "A   b/\nU   b/x\n",
+    ),
     (
         &[FIRST_DIRECTORY, TWO_FILES, REPLACED_IN_A_COPY],
         3,
@@ -25,7 +29,11 @@ const TEXTS: [(&[&[u8]], u16, &str); 9] = [
     ),
     (&[MADE_1], 1, "A   a/\nA   a/b/\nA   a/x\nA   z\n"),
     (&[MADE_1, MADE_2], 2, "A   c/\nU   c/x\n"),
-    (&[MADE_1, MADE_2, MADE_3], 3, "A   a/b/d/\nD   a/x\nA   a/é/\n"),
+    (
+        &[MADE_1, MADE_2, MADE_3],
+        3,
+        "A   a/b/d/\nD   a/x\nA   a/é/\n",
+    ),
 ];
 
 #[test]
@@ -107,7 +115,10 @@ fn refusals(rt: HostRuntime) -> Result<(), Fail> {
         youngest: RevNum::from(1),
     };
     let done = changed_text(alloc, &mut book, RevNum::from(2), &mut sink);
-    assert_eq!(rt; done, Err(LookError::Fault(LookFault::Wrong(Wrong::Refused(refusal)))));
+    assert_eq!(rt;
+        done,
+        Err(LookError::Fault(LookFault::Wrong(Wrong::Refused(refusal))))
+    );
     assert_eq!(rt; sink.bytes(), b"".as_slice());
     let failing = Vec::from_slice(alloc, &[1u64])?;
     let mut sink = MemSink::with_faults(alloc, failing);
