@@ -1,0 +1,43 @@
+-- Entries by their names, one more at the front; and the names of a directory, one more at the end.
+use Rattle.std.proofs.Common.{◌≡◌, ◌∙◌, Bool, true, false, cond, List, [], ◌∷◌, ◌++◌, map, refl, sym, ap, Option, Some, None, append_assoc, append-nil}
+use Rattle.std.specs.Prelude.{option_map, if◌then◌else◌}
+use Rattle.fsfs_base.specs.Paths.{PathName, Path, same_name}
+use Rattle.fsfs_shows.specs.Reading.{DirEntry, named}
+use Rattle.fsfs_damage.specs.declared.damage.RevOffset.{RevOffset}
+use Rattle.fsfs_dag.specs.declared.directory.DirEntry.{DirEntry as PlacedEntry}
+use Rattle.fsfs_dag.specs.Views.{entry_value, entry_values, AreBefore}
+use Rattle.fsfs_revision.specs.Nodes.{place_before}
+use Rattle.fsfs_clash.specs.declared.three.Target.{Target}
+use Rattle.fsfs_clash.specs.declared.entries.Sides.{Sides}
+use Rattle.fsfs_clash.specs.declared.walk.Pending.{Pending}
+use Rattle.fsfs_clash.specs.Lists.{three_in}
+use Rattle.fsfs_clash.specs.Threes.{entry_target, is_changed}
+use Rattle.fsfs_clash.specs.Walks.{pending, if_changed, changed}
+
+-- what is put last counts first
+pub put_front : (name : PathName) (e : PlacedEntry) (done : List PlacedEntry) (o : Option Target) → o ≡ option_map entry_target (named name (entry_values done))
+    → cond (same_name (entry_value e).name name) (Some (entry_target (entry_value e))) o ≡ option_map entry_target (named name (entry_values (e ∷ done)))
+put_front name e done o h = by (same_name (entry_value e).name name)
+  where
+    by : (b : Bool) → cond b (Some (entry_target (entry_value e))) o ≡ option_map entry_target (if b then Some (entry_value e) else named name (entry_values done))
+    by true = refl
+    by false = h
+
+-- what an entry names stands before the directory
+pub named_before : (home : RevOffset) (name : PathName) (entries : List PlacedEntry) (t : Target) → AreBefore home entries → option_map entry_target (named name (entry_values entries)) ≡ Some t → place_before home t.id.place ≡ true
+named_before home name [] t all h = absurd (let g : None ≡ Some t = h in cc)
+named_before home name (e ∷ entries) t all h = by (same_name (entry_value e).name name) h
+  where
+    by : (b : Bool) → option_map entry_target (if b then Some (entry_value e) else named name (entry_values entries)) ≡ Some t → place_before home t.id.place ≡ true
+    by true k = let same : entry_target (entry_value e) ≡ t = (let g = k in cc) in ap (λ (z : Target). place_before home z.id.place) (sym same) ∙ all.0
+    by false k = named_before home name entries t all.1 k
+
+-- one name more
+pub changed_append : (path : Path) (sides : Sides) (xs ys : List PathName) → changed path sides (xs ++ ys) ≡ changed path sides xs ++ changed path sides ys
+changed_append path sides [] ys = refl
+changed_append path sides (x ∷ xs) ys =
+    ap (λ (t : List Pending). if_changed (path ++ x ∷ []) (three_in sides x) ++ t) (changed_append path sides xs ys) ∙ sym (append_assoc (if_changed (path ++ x ∷ []) (three_in sides x)) (changed path sides xs) (changed path sides ys))
+
+pub changed_push : (path : Path) (sides : Sides) (done : List PathName) (name : PathName) → changed path sides (done ++ name ∷ []) ≡ changed path sides done ++ if_changed (path ++ name ∷ []) (three_in sides name)
+changed_push path sides done name =
+    changed_append path sides done (name ∷ []) ∙ ap (λ (t : List Pending). changed path sides done ++ t) (append-nil (if_changed (path ++ name ∷ []) (three_in sides name)))

@@ -1,0 +1,172 @@
+//! The walk that finds the first clash.
+//!
+//! What is left to look at stands on a stack of its own, so that a chain of directories of any length takes no more of the
+//! machine's own stack.
+ghost use Rattle.std.specs.Prelude.{◌≡◌, ◌<◌, ◌+◌, ◌++◌, List, true, Some, OnOk, IfErr};
+ghost use Rattle.fsfs_damage.specs.Causes.{HasCause};
+ghost use Rattle.fsfs_damage.specs.declared.wrong.ReadError.TheVariants.{OutOfMemory};
+ghost use Rattle.fsfs_drafts.specs.OwnSides.{NodesAt};
+ghost use Rattle.fsfs_revision.specs.Nodes.{is_revision_place};
+ghost use Rattle.fsfs_shows.specs.Reading.{DirEntry, offset_of};
+ghost use Rattle.fsfs_clash.specs.Lists.{names_in};
+ghost use Rattle.fsfs_clash.specs.Nodes.{KeepsNodes, TellsTrees};
+ghost use Rattle.fsfs_clash.specs.Sights.{sights};
+ghost use Rattle.fsfs_clash.specs.Walks.{changed, least, root_target, AreRoots, FindsFirst, Opens, IsWalk, HasPlaces};
+ghost use Rattle.fsfs_clash.specs.Weights.{total, weight};
+
+use crate::entries::{Entries, Sides, sides_of};
+use crate::nodes::Nodes;
+use crate::sides::{Dirs, merged_dirs};
+use crate::three::{Target, Three};
+use fsfs_base::{FsPath, Kind, RevNum};
+use fsfs_damage::{ReadError, RevOffset};
+use fsfs_noderev::{NodeId, Place};
+use std::alloc::Global;
+use std::cmp::Ordering;
+
+/// A path that both sides changed, and what the three have there.
+#[derive(Debug, Drop)]
+pub(crate) struct Pending {
+    pub path: FsPath,
+    pub three: Three,
+}
+
+/// The ids of three roots: of the base, of the head, and of the transaction.
+#[derive(Clone, Copy, Debug)]
+pub struct Roots {
+    pub base: NodeId,
+    pub head: NodeId,
+    pub own: NodeId,
+}
+
+// Puts those of the names behind which both sides changed something.
+fn push_changed(
+    alloc: Global,
+    todo: &mut Vec<Pending>,
+    path: &FsPath,
+    names: &Entries,
+    sides: &Sides,
+) -> Result<(), ReadError>
+    ensures items { OnOk result (todo.new.items ≡ todo.old.items ++ changed path.now sides.now (names_in names.now)) }
+    ensures memory { IfErr result (λ e. e ≡ OutOfMemory) }
+{
+    for (name, _) in &names.targets {
+        let three = sides.three(name.as_str());
+        if three.is_changed() {
+            let path = path.child(alloc, name.as_str())?;
+            if todo.push(Pending { path, three }).is_err() {
+                return Err(ReadError::OutOfMemory);
+            }
+        }
+    }
+    Ok(())
+}
+
+// Where the node-revision of an id stands.
+fn home(place: Place) -> RevOffset
+    ensures { result ≡ offset_of place }
+{
+    match place {
+        Place::At(rev, offset) => RevOffset { rev, offset },
+        Place::In(_) => RevOffset {
+            rev: RevNum::ZERO,
+            offset: 0,
+        },
+    }
+}
+
+// Puts what both sides changed in three directories.
+fn open<N: Nodes>(
+    alloc: Global,
+    nodes: &mut N,
+    todo: &mut Vec<Pending>,
+    path: &FsPath,
+    dirs: &Dirs,
+) -> Result<(), ReadError>
+    requires place { is_revision_place dirs.now.base.place ≡ true }
+    ensures told { (x y v : List DirEntry) → (N.told nodes.old).list dirs.now.base ≡ Some x → (N.told nodes.old).list dirs.now.head ≡ Some y → (N.told nodes.old).list dirs.now.own ≡ Some v
+        → Opens x y v path.now todo.old.items todo.new.items result }
+    ensures places { OnOk result (HasPlaces todo.old.items → HasPlaces todo.new.items) }
+    ensures total { OnOk result (total todo.new.items < total todo.old.items + weight (offset_of dirs.now.base.place)) }
+    ensures kept { KeepsNodes (N.told nodes.old) (N.told nodes.new) }
+    ensures cause { HasCause (N.faults nodes.old) (N.faults nodes.new) result }
+{
+    // What stands below weighs less, since an offset has 64 bits.
+    let _home = home(dirs.base.place);
+    let sides = sides_of(alloc, nodes, dirs)?;
+    push_changed(alloc, todo, path, &sides.base, &sides)?;
+    push_changed(alloc, todo, path, &sides.own, &sides)
+}
+
+// Keeps the lesser of two paths.
+fn note(first: &mut Option<FsPath>, path: FsPath)
+    ensures { first.new ≡ Some (least first.old path) }
+{
+    match first {
+        None => *first = Some(path),
+        Some(other) => match path.cmp(other) {
+            Ordering::Less => *other = path,
+            _ => {}
+        },
+    }
+}
+
+// The first clash among what is left to look at and what is below it.
+fn walk<N: Nodes>(
+    alloc: Global,
+    nodes: &mut N,
+    base: RevNum,
+    mut todo: Vec<Pending>,
+) -> Result<Option<FsPath>, ReadError>
+    requires places { HasPlaces todo.items }
+    ensures found { (x y v : NodesAt) → TellsTrees (N.told nodes.old) x y v → IsWalk x y v base todo.items → FindsFirst (sights base x y v) result }
+    ensures kept { KeepsNodes (N.told nodes.old) (N.told nodes.new) }
+    ensures cause { HasCause (N.faults nodes.old) (N.faults nodes.new) result }
+{
+    let mut first = None;
+    while let Some(next) = todo.pop() {
+        match merged_dirs(nodes, base, &next.three)? {
+            None => note(&mut first, next.path),
+            Some(dirs) => open(alloc, nodes, &mut todo, &next.path, &dirs)?,
+        }
+    }
+    Ok(first)
+}
+
+fn root(id: NodeId) -> Option<Target>
+    ensures { result ≡ Some (root_target id) }
+{
+    Some(Target {
+        kind: Kind::Dir,
+        id,
+    })
+}
+
+/// The path of the first clash in the order of paths, a prefix first; none: there is none. Nothing is written. Of two
+/// directories of which one is the base's the walk reads nothing.
+pub fn first_clash<N: Nodes>(
+    alloc: Global,
+    nodes: &mut N,
+    base: RevNum,
+    roots: &Roots,
+) -> Result<Option<FsPath>, ReadError>
+    requires place { is_revision_place roots.now.base.place ≡ true }
+    ensures found { (x y v : NodesAt) → TellsTrees (N.told nodes.old) x y v → AreRoots roots.now x y v → FindsFirst (sights base x y v) result }
+    ensures kept { KeepsNodes (N.told nodes.old) (N.told nodes.new) }
+    ensures cause { HasCause (N.faults nodes.old) (N.faults nodes.new) result }
+{
+    let three = Three {
+        base: root(roots.base),
+        head: root(roots.head),
+        own: root(roots.own),
+    };
+    if !three.is_changed() {
+        return Ok(None);
+    }
+    let mut todo = Vec::new(alloc);
+    let path = FsPath::root(alloc);
+    if todo.push(Pending { path, three }).is_err() {
+        return Err(ReadError::OutOfMemory);
+    }
+    walk(alloc, nodes, base, todo)
+}
