@@ -1,6 +1,6 @@
 -- One step of the walk.
 use Rattle.std.proofs.Common.{◌≡◌, ◌∙◌, ℕ, Bool, true, false, ◌&&◌, List, [], ◌∷◌, ◌++◌, refl, sym, ap, subst, Option, Some, None, Ok}
-use Rattle.std.specs.Prelude.{option_map, if◌then◌else◌}
+use Rattle.std.specs.Prelude.{option_map, if◌then◌else◌, nat_le, not}
 use mathlib.Core.Bool.{false≢true}
 use Rattle.std.proofs.lemmas.Bool.{and_parts}
 use Rattle.fsfs_base.specs.Paths.{PathName, Path}
@@ -20,7 +20,10 @@ use Rattle.fsfs_clash.specs.declared.walk.Pending.{Pending}
 use Rattle.fsfs_clash.specs.Dirs.{dirs_in, AreTold}
 use Rattle.fsfs_clash.specs.Lists.{target_in, three_in, AreListed, AreAllListed}
 use Rattle.fsfs_clash.specs.Nodes.{Telling, KeepsNodes, TellsTree, TellsTrees}
-use Rattle.fsfs_clash.specs.Sights.{sights, go_on_in, same_props_in}
+use Rattle.fsfs_shows.specs.Chains.{copy_root_of}
+use Rattle.fsfs_dag.specs.Same.{same_part}
+use Rattle.fsfs_drafts.specs.OwnSides.{is_own_copy}
+use Rattle.fsfs_clash.specs.Sights.{sights, go_on, have_same_props, go_on_in, same_props_in}
 use Rattle.fsfs_clash.specs.Threes.{three_of, entry_target, node_target, is_changed}
 use Rattle.fsfs_clash.specs.Walks.{IsPending, ArePending, AreFoundOrLeft, IsWalk, least, opened, FindsFirst}
 use Rattle.fsfs_clash.proofs.Turns.{merged, stopped}
@@ -95,6 +98,25 @@ are_dirs (Some a) (Some c) (Some e) d h = by (is_dir a.kind && is_dir c.kind && 
           head_id = sym (ap (λ (k : Dirs). k.head) same);
           own_id = sym (ap (λ (k : Dirs). k.own) same);
         }
+
+-- where one of the three is no directory, nothing goes on
+pub no_dirs : (n : ℕ) (x y v : Option NodeRev) → dirs_in (three_of x y v) ≡ None → (go_on_in n x y v && same_props_in x y v) ≡ false
+no_dirs n None y v h = refl
+no_dirs n (Some a) None v h = refl
+no_dirs n (Some a) (Some c) None h = refl
+no_dirs n (Some a) (Some c) (Some e) h = by (is_dir a.kind && is_dir c.kind && is_dir e.kind) refl h
+  where
+    all : Dirs
+    all = record { base = a.id; head = c.id; own = e.id }
+
+    by : (b : Bool) → (is_dir a.kind && is_dir c.kind && is_dir e.kind) ≡ b → (if b then Some all else None) ≡ None → (go_on n a c e && have_same_props a c e) ≡ false
+    by true f g = absurd (let k : Some all ≡ None = g in cc)
+    by false f g =
+        ap (λ (z : Bool). (z && same_part a.id.node c.id.node && same_part a.id.node e.id.node && nat_le (copy_root_of c).0 n && not (is_own_copy e)) && have_same_props a c e) f
+
+-- what are_merged says of three that are told
+pub all_three : (n : ℕ) (x y v : Option NodeRev) (a c e : NodeRev) → x ≡ Some a → y ≡ Some c → v ≡ Some e → (go_on_in n x y v && same_props_in x y v) ≡ (go_on n a c e && have_same_props a c e)
+all_three n x y v a c e f g h = λ i. go_on_in n (f i) (g i) (h i) && same_props_in (f i) (g i) (h i)
 
 -- the entries of a directory that is told
 pub record IsToldDir (t : Telling) (tree : NodesAt) (p : Path) (id : NodeId) : Type 0 where
