@@ -1,16 +1,25 @@
 -- Entries by their names, one more at the front; and the names of a directory, one more at the end.
 use Rattle.std.proofs.Common.{◌≡◌, ◌∙◌, Bool, true, false, cond, List, [], ◌∷◌, ◌++◌, map, refl, sym, ap, Option, Some, None, append_assoc, append-nil}
-use Rattle.std.specs.Prelude.{option_map, if◌then◌else◌}
+use Rattle.std.specs.Prelude.{option_map, if◌then◌else◌, Result, Ok, Err, IfOk}
+use Rattle.std.specs.BTreeMap.{BTreeMap, IsEmpty, is_at, get_by_text}
+use Rattle.std.specs.Map.{lookup}
+use Rattle.std.specs.Ordering.{nat_cmp}
+use Rattle.std.specs.Cmp.Lexicographic.{slice_cmp}
+use Rattle.std.specs.String.{string_bytes}
+use Rattle.std.specs.declared.string.String.{String}
 use Rattle.fsfs_base.specs.Paths.{PathName, Path, same_name}
 use Rattle.fsfs_shows.specs.Reading.{DirEntry, named}
 use Rattle.fsfs_damage.specs.declared.damage.RevOffset.{RevOffset}
+use Rattle.fsfs_damage.specs.declared.wrong.ReadError.{ReadError}
 use Rattle.fsfs_dag.specs.declared.directory.DirEntry.{DirEntry as PlacedEntry}
 use Rattle.fsfs_dag.specs.Views.{entry_value, entry_values, AreBefore}
 use Rattle.fsfs_revision.specs.Nodes.{place_before}
 use Rattle.fsfs_clash.specs.declared.three.Target.{Target}
+use Rattle.fsfs_clash.specs.declared.three.Three.{Three}
+use Rattle.fsfs_clash.specs.declared.entries.Entries.{Entries}
 use Rattle.fsfs_clash.specs.declared.entries.Sides.{Sides}
 use Rattle.fsfs_clash.specs.declared.walk.Pending.{Pending}
-use Rattle.fsfs_clash.specs.Lists.{three_in}
+use Rattle.fsfs_clash.specs.Lists.{three_in, AreListed, AreTargetsBefore}
 use Rattle.fsfs_clash.specs.Threes.{entry_target, is_changed}
 use Rattle.fsfs_clash.specs.Walks.{pending, if_changed, changed}
 
@@ -23,6 +32,14 @@ put_front name e done o h = by (same_name (entry_value e).name name)
     by true = refl
     by false = h
 
+-- a map without entries has nothing
+pub empty_map : {Y X : Type 0} (m : BTreeMap (String Y) X) (name : PathName) → IsEmpty m → get_by_text m name ≡ None
+empty_map m name e = ap (λ es. lookup (is_at (λ k. slice_cmp nat_cmp name (string_bytes k))) es) e
+
+-- when none is left all were put
+pub whole_list : (name : PathName) (all left done : List PlacedEntry) → all ≡ left ++ done → left ≡ [] → option_map entry_target (named name (entry_values done)) ≡ option_map entry_target (named name (entry_values all))
+whole_list name all left done e none = ap (λ (es : List PlacedEntry). option_map entry_target (named name (entry_values es))) (sym (e ∙ ap (λ (l : List PlacedEntry). l ++ done) none))
+
 -- what an entry names stands before the directory
 pub named_before : (home : RevOffset) (name : PathName) (entries : List PlacedEntry) (t : Target) → AreBefore home entries → option_map entry_target (named name (entry_values entries)) ≡ Some t → place_before home t.id.place ≡ true
 named_before home name [] t all h = absurd (let g : None ≡ Some t = h in cc)
@@ -31,6 +48,17 @@ named_before home name (e ∷ entries) t all h = by (same_name (entry_value e).n
     by : (b : Bool) → option_map entry_target (if b then Some (entry_value e) else named name (entry_values entries)) ≡ Some t → place_before home t.id.place ≡ true
     by true k = let same : entry_target (entry_value e) ≡ t = (let g = k in cc) in ap (λ (z : Target). place_before home z.id.place) (sym same) ∙ all.0
     by false k = named_before home name entries t all.1 k
+
+pub all_before : (home : RevOffset) (entries : List PlacedEntry) (r : Result Entries ReadError) → IfOk r (AreListed (entry_values entries)) → AreBefore home entries → IfOk r (AreTargetsBefore home)
+all_before home entries (Ok e) listed before = λ name t h. named_before home name entries t before (sym (listed name) ∙ h)
+all_before home entries (Err x) listed before = tt
+
+-- what is put behind a name
+pub none_more : (todo : List Pending) (path : Path) (three : Three) → is_changed three ≡ false → todo ≡ todo ++ if_changed path three
+none_more todo path three h = sym (append-nil todo) ∙ ap (λ (b : Bool). todo ++ (if b then pending path three ∷ [] else [])) (sym h)
+
+pub one_more : (todo : List Pending) (path : Path) (three : Three) → is_changed three ≡ true → todo ++ pending path three ∷ [] ≡ todo ++ if_changed path three
+one_more todo path three h = ap (λ (b : Bool). todo ++ (if b then pending path three ∷ [] else [])) (sym h)
 
 -- one name more
 pub changed_append : (path : Path) (sides : Sides) (xs ys : List PathName) → changed path sides (xs ++ ys) ≡ changed path sides xs ++ changed path sides ys

@@ -17,7 +17,6 @@ use Rattle.fsfs_base.specs.Paths.{PathName, Path, path_cmp, covers, same_name}
 use Rattle.fsfs_base.proofs.PathLemmas.{same_name-is, same_name-refl, covers-refl, covers-longer, split_at}
 use Rattle.fsfs_flat.specs.Landing.{reached}
 use Rattle.fsfs_noderev.specs.declared.node_rev.NodeRev.{NodeRev}
-use Rattle.fsfs_damage.specs.declared.wrong.ReadError.{ReadError}
 use Rattle.fsfs_drafts.specs.OwnSides.{NodesAt}
 use Rattle.fsfs_merge.specs.Walks.{Sight, merges, is_stopped, down, clashes_by_ids}
 use Rattle.fsfs_merge.specs.FirstStops.{NoStop, FirstStop, WalksFindTheFirst}
@@ -30,7 +29,7 @@ use Rattle.fsfs_clash.specs.declared.walk.Pending.{Pending}
 use Rattle.fsfs_clash.specs.Lists.{target_in, names_in, three_in}
 use Rattle.fsfs_clash.specs.Sights.{sight, sights}
 use Rattle.fsfs_clash.specs.Threes.{three_of, node_target, is_changed}
-use Rattle.fsfs_clash.specs.Walks.{pending, if_changed, changed, IsPending, ArePending, NotAfter, IsFoundOrLeft, AreFoundOrLeft, least, opened, FindsFirst}
+use Rattle.fsfs_clash.specs.Walks.{pending, if_changed, changed, IsPending, ArePending, NotAfter, IsFoundOrLeft, AreFoundOrLeft, least, opened, IsFirstStop}
 use Rattle.fsfs_clash.proofs.Turns.{unchanged, merged, stopped}
 use Rattle.fsfs_clash.proofs.Orders.{least_new, least_old, least_is}
 
@@ -208,7 +207,7 @@ module _ (x y v : NodesAt) (base : ℕ) where
             ]
 
   -- nothing is left
-  pub ends : (first : Option Path) → ((c : Path) → first ≡ Some c → clashes_by_ids see c ≡ true) → AreFoundOrLeft see [] first → FindsFirst see (Rattle.std.specs.Prelude.Ok first)
+  pub ends : (first : Option Path) → ((c : Path) → first ≡ Some c → clashes_by_ids see c ≡ true) → AreFoundOrLeft see [] first → IsFirstStop see first
   ends None stops all q = by (clashes_by_ids see q) refl
     where
       by : (b : Bool) → clashes_by_ids see q ≡ b → clashes_by_ids see q ≡ false

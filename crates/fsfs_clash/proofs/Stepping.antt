@@ -1,6 +1,6 @@
 -- One step of the walk.
-use Rattle.std.proofs.Common.{◌≡◌, ◌∙◌, ℕ, Bool, true, false, ◌&&◌, List, [], ◌∷◌, ◌++◌, refl, sym, ap, subst, Option, Some, None, Ok}
-use Rattle.std.specs.Prelude.{option_map, if◌then◌else◌, nat_le, not}
+use Rattle.std.proofs.Common.{◌≡◌, ◌∙◌, ℕ, Bool, true, false, ◌&&◌, List, [], ◌∷◌, ◌++◌, refl, sym, ap, subst, Option, Some, None, Ok, Err, inl}
+use Rattle.std.specs.Prelude.{option_map, if◌then◌else◌, nat_le, not, Result, IfOk, IfErr, OnOk}
 use mathlib.Core.Bool.{false≢true}
 use Rattle.std.proofs.lemmas.Bool.{and_parts}
 use Rattle.fsfs_base.specs.Paths.{PathName, Path}
@@ -10,6 +10,8 @@ use Rattle.fsfs_flat.specs.Edits.{is_dir}
 use Rattle.fsfs_noderev.specs.declared.node_id.NodeId.{NodeId}
 use Rattle.fsfs_noderev.specs.declared.node_rev.NodeRev.{NodeRev}
 use Rattle.fsfs_shows.specs.Reading.{DirEntry, named}
+use Rattle.fsfs_damage.specs.declared.wrong.ReadError.{ReadError}
+use Rattle.fsfs_damage.specs.declared.wrong.ReadError.TheVariants as errors
 use Rattle.fsfs_drafts.specs.OwnSides.{NodesAt}
 use Rattle.fsfs_merge.specs.Walks.{clashes_by_ids}
 use Rattle.fsfs_clash.specs.declared.three.Three.{Three}
@@ -18,16 +20,30 @@ use Rattle.fsfs_clash.specs.declared.entries.Entries.{Entries}
 use Rattle.fsfs_clash.specs.declared.entries.Sides.{Sides}
 use Rattle.fsfs_clash.specs.declared.walk.Pending.{Pending}
 use Rattle.fsfs_clash.specs.Dirs.{dirs_in, AreTold}
-use Rattle.fsfs_clash.specs.Lists.{target_in, three_in, AreListed, AreAllListed}
-use Rattle.fsfs_clash.specs.Nodes.{Telling, KeepsNodes, TellsTree, TellsTrees}
+use Rattle.fsfs_clash.specs.Lists.{target_in, names_in, three_in, AreListed, AreAllListed}
+use Rattle.fsfs_clash.specs.Nodes.{Reads, Telling, KeepsNodes, TellsTree, TellsTrees}
 use Rattle.fsfs_shows.specs.Chains.{copy_root_of}
 use Rattle.fsfs_dag.specs.Same.{same_part}
 use Rattle.fsfs_drafts.specs.OwnSides.{is_own_copy}
 use Rattle.fsfs_clash.specs.Sights.{sights, go_on, have_same_props, go_on_in, same_props_in}
 use Rattle.fsfs_clash.specs.Threes.{three_of, entry_target, node_target, is_changed}
-use Rattle.fsfs_clash.specs.Walks.{IsPending, ArePending, AreFoundOrLeft, IsWalk, least, opened, FindsFirst}
-use Rattle.fsfs_clash.proofs.Turns.{merged, stopped}
+use Rattle.fsfs_clash.specs.Walks.{IsPending, ArePending, AreFoundOrLeft, IsWalk, least, opened, changed, pending, IsOpened, IsFirstStop, IsRoot, AreRoots, root_target}
+use Rattle.fsfs_merge.specs.FirstStops.{NoStop}
+use Rattle.fsfs_merge.proofs.FirstStopLaw.{walks_find_the_first}
+use Rattle.fsfs_clash.specs.declared.walk.Roots.{Roots}
+use Rattle.fsfs_clash.proofs.Turns.{unchanged, merged, stopped}
 use Rattle.fsfs_clash.proofs.Opening.{all_front, found, found_stops, still, left, ends}
+
+-- ---- what is read
+
+pub reads_err : {X Y : Type 0} {P : X → Type 0} {Q : Y → Type 0} (e : ReadError) → Reads P (Err e) → Reads Q (Err e)
+reads_err errors.OutOfMemory h = tt
+reads_err errors.DiskFault h = tt
+reads_err (errors.Wrong w) h = absurd h
+
+pub reads_memory : {X : Type 0} {P : X → Type 0} (r : Result X ReadError) → IfOk r P → IfErr r (λ e. e ≡ errors.OutOfMemory) → Reads P r
+reads_memory (Ok x) h m = h
+reads_memory {P = P} (Err e) h m = subst (λ (z : ReadError). Reads P (Err z)) (sym m) tt
 
 -- ---- what is told
 
@@ -118,6 +134,10 @@ no_dirs n (Some a) (Some c) (Some e) h = by (is_dir a.kind && is_dir c.kind && i
 pub all_three : (n : ℕ) (x y v : Option NodeRev) (a c e : NodeRev) → x ≡ Some a → y ≡ Some c → v ≡ Some e → (go_on_in n x y v && same_props_in x y v) ≡ (go_on n a c e && have_same_props a c e)
 all_three n x y v a c e f g h = λ i. go_on_in n (f i) (g i) (h i) && same_props_in (f i) (g i) (h i)
 
+-- the three ids are told
+pub told_ids : (t : Telling) (x y v : Option NodeRev) (d : Dirs) (a : AreDirs x y v d) → AreTold t x y v → (t.node d.base ≡ Some a.base) × (t.node d.head ≡ Some a.head) × (t.node d.own ≡ Some a.own)
+told_ids t x y v d a told = (ap t.node a.base_id ∙ told.base a.base a.base_is, ap t.node a.head_id ∙ told.head a.head a.head_is, ap t.node a.own_id ∙ told.own a.own a.own_is)
+
 -- the entries of a directory that is told
 pub record IsToldDir (t : Telling) (tree : NodesAt) (p : Path) (id : NodeId) : Type 0 where
   pub entries : List DirEntry
@@ -129,7 +149,34 @@ told_dir t tree p v id told e dir same =
     let w = told.list p v e dir in
     record { entries = w.0; told = ap t.list same ∙ w.1; names = w.2 }
 
+-- ---- the roots
+
+root_of : (id : NodeId) (o : Option NodeRev) → IsRoot id o → Some (root_target id) ≡ option_map node_target o
+root_of id o (v, e, dir, same) = (λ i. Some (record { kind = sym dir i; id = sym same i })) ∙ ap (option_map node_target) (sym e)
+
+abbrev pub root_three : Roots → Three
+root_three roots = record { base = Some (root_target roots.base); head = Some (root_target roots.head); own = Some (root_target roots.own) }
+
+roots_are : (roots : Roots) (x y v : NodesAt) → AreRoots roots x y v → root_three roots ≡ three_of (x []) (y []) (v [])
+roots_are roots x y v are = λ i. record { base = root_of roots.base (x []) are.base i; head = root_of roots.head (y []) are.head i; own = root_of roots.own (v []) are.own i }
+
+pub roots_walk : (base : ℕ) (roots : Roots) (x y v : NodesAt) → AreRoots roots x y v → is_changed (root_three roots) ≡ true → IsWalk x y v base (pending [] (root_three roots) ∷ [])
+roots_walk base roots x y v are c = record {
+  pending = (record { three = roots_are roots x y v are; is_changed = c; comes = refl }, tt);
+  all = λ q h. inl refl;
+}
+
+pub roots_quiet : (base : ℕ) (roots : Roots) (x y v : NodesAt) → AreRoots roots x y v → is_changed (root_three roots) ≡ false → NoStop (sights base x y v) []
+roots_quiet base roots x y v are c =
+    let w = unchanged base (x []) (y []) (v []) (subst (λ (t : Three). is_changed t ≡ false) (roots_are roots x y v are) c) in
+    walks_find_the_first.left (sights base x y v) [] w.0 w.1
+
 -- ---- steps
+
+pub opens_all : (x y v : List DirEntry) (path : Path) (old mid new : List Pending) (sides : Sides) (r : Result (Unit {0}) ReadError) → IfErr r (λ e. e ≡ errors.OutOfMemory) → OnOk r (new ≡ mid ++ changed path sides (names_in sides.own))
+    → mid ≡ old ++ changed path sides (names_in sides.base) → AreAllListed x y v sides → Reads (λ _. IsOpened x y v path old new) r
+opens_all x y v path old mid new sides (Ok t) m h e listed = (sides, listed, h ∙ ap (λ (l : List Pending). l ++ changed path sides (names_in sides.own)) e)
+opens_all x y v path old mid new sides (Err z) m h e listed = subst (λ (k : ReadError). Reads (λ (t : Unit {0}). IsOpened x y v path old new) (Err k)) (sym m) tt
 
 module _ (x y v : NodesAt) (base : ℕ) where
   pub record IsUnderWay (todo : List Pending) (first : Option Path) : Type 0 where
@@ -168,5 +215,5 @@ module _ (x y v : NodesAt) (base : ℕ) where
         stops = was.stops;
       }
 
-  pub walk_ends : (first : Option Path) → IsUnderWay [] first → FindsFirst (sights base x y v) (Ok first)
+  pub walk_ends : (first : Option Path) → IsUnderWay [] first → IsFirstStop (sights base x y v) first
   walk_ends first was = ends x y v base first was.stops was.all

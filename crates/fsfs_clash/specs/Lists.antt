@@ -1,11 +1,9 @@
 -- The entries of directories, by their names.
-use Rattle.std.specs.Prelude.{◌≡◌, true, List, map, Option, Some, option_map, Result, Ok, Err}
+use Rattle.std.specs.Prelude.{◌≡◌, true, List, map, Option, Some, option_map}
 use Rattle.std.specs.BTreeMap.{get_by_text}
 use Rattle.std.specs.String.{string_bytes}
 use Rattle.fsfs_base.specs.Paths.{PathName}
 use Rattle.fsfs_damage.specs.declared.damage.RevOffset.{RevOffset}
-use Rattle.fsfs_damage.specs.declared.wrong.ReadError.{ReadError}
-use Rattle.fsfs_damage.specs.declared.wrong.ReadError.TheVariants as errors
 use Rattle.fsfs_revision.specs.Nodes.{place_before}
 use Rattle.fsfs_shows.specs.Reading.{DirEntry, named}
 use Rattle.fsfs_clash.specs.declared.three.Target.{Target}
@@ -27,22 +25,10 @@ three_in s name = record { base = target_in s.base name; head = target_in s.head
 abbrev pub AreListed : List DirEntry → Entries → Type 0
 AreListed entries e = (name : PathName) → target_in e name ≡ option_map entry_target (named name entries)
 
-abbrev pub TellsList : List DirEntry → Result Entries ReadError → Type 0
-TellsList entries (Ok e) = AreListed entries e
-TellsList entries (Err (errors.Wrong w)) = ⊥
-TellsList entries (Err errors.OutOfMemory) = Unit {0}
-TellsList entries (Err errors.DiskFault) = Unit {0}
-
 pub record AreAllListed (x y v : List DirEntry) (s : Sides) : Type 0 where
   pub base : AreListed x s.base
   pub head : AreListed y s.head
   pub own : AreListed v s.own
-
-abbrev pub TellsLists : List DirEntry → List DirEntry → List DirEntry → Result Sides ReadError → Type 0
-TellsLists x y v (Ok s) = AreAllListed x y v s
-TellsLists x y v (Err (errors.Wrong w)) = ⊥
-TellsLists x y v (Err errors.OutOfMemory) = Unit {0}
-TellsLists x y v (Err errors.DiskFault) = Unit {0}
 
 -- what they name stands before this place
 abbrev pub AreTargetsBefore : RevOffset → Entries → Type 0

@@ -20,12 +20,12 @@ pub record KeepsNodes (before now : Telling) : Type 0 where
   pub node : (id : NodeId) (v : NodeRev) → before.node id ≡ Some v → now.node id ≡ Some v
   pub list : (id : NodeId) (entries : List DirEntry) → before.list id ≡ Some entries → now.list id ≡ Some entries
 
--- the value is given, or the call failed for want of memory or of the disk: nothing is wrong
-abbrev pub Gives : {X Y : Type 0} → (X → Y) → Y → Result X ReadError → Type 0
-Gives view y (Ok x) = view x ≡ y
-Gives view y (Err (errors.Wrong w)) = ⊥
-Gives view y (Err errors.OutOfMemory) = Unit {0}
-Gives view y (Err errors.DiskFault) = Unit {0}
+-- what was read is so, or the call failed for want of memory or of the disk: nothing is wrong
+abbrev pub Reads : {X : Type 0} → (X → Type 0) → Result X ReadError → Type 0
+Reads P (Ok x) = P x
+Reads P (Err (errors.Wrong w)) = ⊥
+Reads P (Err errors.OutOfMemory) = Unit {0}
+Reads P (Err errors.DiskFault) = Unit {0}
 
 -- all of a tree is told: each node-revision by its id, and of each directory the names that stand in it
 pub record TellsTree (t : Telling) (tree : NodesAt) : Type 0 where

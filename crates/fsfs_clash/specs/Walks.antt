@@ -1,5 +1,5 @@
 -- What is left to look at, and what a walk finds.
-use Rattle.std.specs.Prelude.{◌≡◌, ◌⊎◌, ◌++◌, ℕ, Bool, true, false, List, [], ◌∷◌, Option, Some, None, Result, Ok, Err, if◌then◌else◌}
+use Rattle.std.specs.Prelude.{◌≡◌, ◌⊎◌, ◌++◌, ℕ, Bool, true, false, List, [], ◌∷◌, Option, Some, None, if◌then◌else◌}
 use Rattle.std.specs.List.{AllByRecursion, list_any}
 use Rattle.std.specs.Ordering.{is_lt}
 use Rattle.std.specs.declared.cmp.Ordering.TheVariants.{Less}
@@ -8,8 +8,6 @@ use Rattle.fsfs_base.specs.declared.kind.Kind.TheVariants.{Dir}
 use Rattle.fsfs_flat.specs.Landing.{reached}
 use Rattle.fsfs_noderev.specs.declared.node_id.NodeId.{NodeId}
 use Rattle.fsfs_noderev.specs.declared.node_rev.NodeRev.{NodeRev}
-use Rattle.fsfs_damage.specs.declared.wrong.ReadError.{ReadError}
-use Rattle.fsfs_damage.specs.declared.wrong.ReadError.TheVariants as errors
 use Rattle.fsfs_revision.specs.Nodes.{is_revision_place}
 use Rattle.fsfs_shows.specs.Reading.{DirEntry}
 use Rattle.fsfs_drafts.specs.OwnSides.{NodesAt}
@@ -26,13 +24,10 @@ use Rattle.fsfs_clash.specs.Threes.{three_of, is_changed}
 
 -- ---- what is found
 
--- the least path that stops a merge; or none does; nothing is wrong
-abbrev pub FindsFirst : (Path → Sight) → Result (Option Path) ReadError → Type 0
-FindsFirst see (Ok None) = NoStop see []
-FindsFirst see (Ok (Some c)) = FirstStop see [] c
-FindsFirst see (Err (errors.Wrong w)) = ⊥
-FindsFirst see (Err errors.OutOfMemory) = Unit {0}
-FindsFirst see (Err errors.DiskFault) = Unit {0}
+-- the least path that stops a merge; or none does
+abbrev pub IsFirstStop : (Path → Sight) → Option Path → Type 0
+IsFirstStop see None = NoStop see []
+IsFirstStop see (Some c) = FirstStop see [] c
 
 abbrev pub IsRoot : NodeId → Option NodeRev → Type 0
 IsRoot id o = (v : NodeRev) × (o ≡ Some v) × (v.kind ≡ Dir) × (v.id ≡ id)
@@ -92,11 +87,9 @@ least (Some other) path = if is_lt (path_cmp path other) then path else other
 abbrev pub opened : Path → Sides → List Pending → List Pending
 opened path sides todo = (todo ++ changed path sides (names_in sides.base)) ++ changed path sides (names_in sides.own)
 
-abbrev pub Opens : List DirEntry → List DirEntry → List DirEntry → Path → List Pending → List Pending → Result (Unit {0}) ReadError → Type 0
-Opens x y v path old new (Ok t) = (sides : Sides) × AreAllListed x y v sides × (new ≡ opened path sides old)
-Opens x y v path old new (Err (errors.Wrong w)) = ⊥
-Opens x y v path old new (Err errors.OutOfMemory) = Unit {0}
-Opens x y v path old new (Err errors.DiskFault) = Unit {0}
+-- with these entries
+abbrev pub IsOpened : List DirEntry → List DirEntry → List DirEntry → Path → List Pending → List Pending → Type 0
+IsOpened x y v path old new = (sides : Sides) × AreAllListed x y v sides × (new ≡ opened path sides old)
 
 -- ---- places
 

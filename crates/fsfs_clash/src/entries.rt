@@ -1,14 +1,12 @@
 //! The entries of directories, by their names.
-ghost use Rattle.std.specs.Prelude.{◌≡◌, List, Some, true, IfOk, IfErr, option_map};
-ghost use Rattle.fsfs_base.specs.Paths.{PathName};
+ghost use Rattle.std.specs.Prelude.{◌≡◌, List, Some, true, IfOk, IfErr};
 ghost use Rattle.fsfs_damage.specs.Causes.{HasCause};
 ghost use Rattle.fsfs_damage.specs.declared.wrong.ReadError.TheVariants.{OutOfMemory};
-ghost use Rattle.fsfs_shows.specs.Reading.{DirEntry, named, offset_of};
+ghost use Rattle.fsfs_shows.specs.Reading.{DirEntry, offset_of};
 ghost use Rattle.fsfs_dag.specs.Views.{entry_values, AreBefore};
 ghost use Rattle.fsfs_revision.specs.Nodes.{is_revision_place};
-ghost use Rattle.fsfs_clash.specs.Nodes.{KeepsNodes};
-ghost use Rattle.fsfs_clash.specs.Threes.{entry_target};
-ghost use Rattle.fsfs_clash.specs.Lists.{target_in, three_in, TellsList, TellsLists, AreTargetsBefore};
+ghost use Rattle.fsfs_clash.specs.Nodes.{KeepsNodes, Reads};
+ghost use Rattle.fsfs_clash.specs.Lists.{target_in, three_in, AreListed, AreAllListed, AreTargetsBefore};
 
 use crate::nodes::Nodes;
 use crate::sides::Dirs;
@@ -35,7 +33,7 @@ pub(crate) struct Sides {
 
 // The entries by their names.
 fn by_name(alloc: Global, mut entries: Vec<DirEntry>) -> Result<Entries, ReadError>
-    ensures listed { IfOk result (λ e. (name : PathName) → target_in e name ≡ option_map entry_target (named name (entry_values entries.items))) }
+    ensures listed { IfOk result (λ e. AreListed (entry_values entries.items) e) }
     ensures memory { IfErr result (λ e. e ≡ OutOfMemory) }
 {
     let mut targets = BTreeMap::new(alloc);
@@ -44,8 +42,9 @@ fn by_name(alloc: Global, mut entries: Vec<DirEntry>) -> Result<Entries, ReadErr
             kind: entry.kind,
             id: entry.id,
         };
-        if targets.insert(entry.name, target).is_err() {
-            return Err(ReadError::OutOfMemory);
+        match targets.insert(entry.name, target) {
+            Ok(_) => {}
+            Err(_) => return Err(ReadError::OutOfMemory),
         }
     }
     Ok(Entries { targets })
@@ -53,7 +52,7 @@ fn by_name(alloc: Global, mut entries: Vec<DirEntry>) -> Result<Entries, ReadErr
 
 // The entries of the directory of an id.
 fn entries_of<N: Nodes>(alloc: Global, nodes: &mut N, id: &NodeId) -> Result<Entries, ReadError>
-    ensures told { (entries : List DirEntry) → (N.told nodes.old).list id.now ≡ Some entries → TellsList entries result }
+    ensures told { (entries : List DirEntry) → (N.told nodes.old).list id.now ≡ Some entries → Reads (AreListed entries) result }
     ensures before { is_revision_place id.now.place ≡ true → IfOk result (AreTargetsBefore (offset_of id.now.place)) }
     ensures kept { KeepsNodes (N.told nodes.old) (N.told nodes.new) }
     ensures cause { HasCause (N.faults nodes.old) (N.faults nodes.new) result }
@@ -90,7 +89,7 @@ pub(crate) fn sides_of<N: Nodes>(
     nodes: &mut N,
     dirs: &Dirs,
 ) -> Result<Sides, ReadError>
-    ensures told { (x y v : List DirEntry) → (N.told nodes.old).list dirs.now.base ≡ Some x → (N.told nodes.old).list dirs.now.head ≡ Some y → (N.told nodes.old).list dirs.now.own ≡ Some v → TellsLists x y v result }
+    ensures told { (x y v : List DirEntry) → (N.told nodes.old).list dirs.now.base ≡ Some x → (N.told nodes.old).list dirs.now.head ≡ Some y → (N.told nodes.old).list dirs.now.own ≡ Some v → Reads (AreAllListed x y v) result }
     ensures before { is_revision_place dirs.now.base.place ≡ true → IfOk result (λ s. AreTargetsBefore (offset_of dirs.now.base.place) s.base) }
     ensures kept { KeepsNodes (N.told nodes.old) (N.told nodes.new) }
     ensures cause { HasCause (N.faults nodes.old) (N.faults nodes.new) result }

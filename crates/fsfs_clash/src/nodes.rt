@@ -5,7 +5,7 @@ ghost use Rattle.fsfs_revision.specs.Nodes.{is_revision_place};
 ghost use Rattle.fsfs_damage.specs.Causes.{HasCause};
 ghost use Rattle.fsfs_shows.specs.Reading.{DirEntry, offset_of};
 ghost use Rattle.fsfs_dag.specs.Views.{entry_values, AreBefore};
-ghost use Rattle.fsfs_clash.specs.Nodes.{Telling, KeepsNodes, Gives};
+ghost use Rattle.fsfs_clash.specs.Nodes.{Telling, KeepsNodes, Reads};
 
 use fsfs_dag::DirEntry;
 use fsfs_damage::ReadError;
@@ -23,13 +23,13 @@ pub trait Nodes {
 
     /// The node-revision of an id.
     fn node(&mut self, id: &NodeId) -> Result<NodeRev, ReadError>
-        ensures told { (v : NodeRev) → (told self.old).node id.now ≡ Some v → Gives (λ n. n) v result }
+        ensures told { (v : NodeRev) → (told self.old).node id.now ≡ Some v → Reads (λ n. n ≡ v) result }
         ensures kept { KeepsNodes (told self.old) (told self.new) }
         ensures cause { HasCause (faults self.old) (faults self.new) result };
 
     /// The entries of the directory of an id. Those of a revision's directory stand before it.
     fn entries(&mut self, id: &NodeId) -> Result<Vec<DirEntry>, ReadError>
-        ensures told { (entries : List DirEntry) → (told self.old).list id.now ≡ Some entries → Gives (λ v. entry_values v.items) entries result }
+        ensures told { (entries : List DirEntry) → (told self.old).list id.now ≡ Some entries → Reads (λ v. entry_values v.items ≡ entries) result }
         ensures before { is_revision_place id.now.place ≡ true → IfOk result (λ v. AreBefore (offset_of id.now.place) v.items) }
         ensures kept { KeepsNodes (told self.old) (told self.new) }
         ensures cause { HasCause (faults self.old) (faults self.new) result };

@@ -5,7 +5,7 @@ ghost use Rattle.fsfs_noderev.specs.declared.node_rev.NodeRev.{NodeRev};
 ghost use Rattle.fsfs_damage.specs.Causes.{HasCause};
 ghost use Rattle.fsfs_shows.specs.Chains.{own_rev, copy_root_of};
 ghost use Rattle.fsfs_drafts.specs.OwnSides.{in_txn, is_own_copy};
-ghost use Rattle.fsfs_clash.specs.Nodes.{KeepsNodes, Gives};
+ghost use Rattle.fsfs_clash.specs.Nodes.{KeepsNodes, Reads};
 ghost use Rattle.fsfs_clash.specs.Sights.{go_on, go_on_in, have_same_props, same_props_in};
 ghost use Rattle.fsfs_clash.specs.Dirs.{dirs_in, AreTold};
 ghost use Rattle.fsfs_clash.specs.Threes.{three_of};
@@ -98,14 +98,16 @@ pub(crate) struct Dirs {
 // Whether three directories are merged, by their node-revisions.
 fn are_merged<N: Nodes>(nodes: &mut N, rev: RevNum, dirs: &Dirs) -> Result<bool, ReadError>
     ensures told { (x y v : NodeRev) → (N.told nodes.old).node dirs.now.base ≡ Some x → (N.told nodes.old).node dirs.now.head ≡ Some y → (N.told nodes.old).node dirs.now.own ≡ Some v
-        → Gives (λ b. b) (go_on rev x y v && have_same_props x y v) result }
+        → Reads (λ b. b ≡ (go_on rev x y v && have_same_props x y v)) result }
     ensures kept { KeepsNodes (N.told nodes.old) (N.told nodes.new) }
     ensures cause { HasCause (N.faults nodes.old) (N.faults nodes.new) result }
 {
     let base = nodes.node(&dirs.base)?;
     let head = nodes.node(&dirs.head)?;
     let own = nodes.node(&dirs.own)?;
-    Ok(go_on(rev, &base, &head, &own) && have_same_props(&base, &head, &own))
+    let goes = go_on(rev, &base, &head, &own);
+    let same = have_same_props(&base, &head, &own);
+    Ok(goes && same)
 }
 
 // The three ids, where all three are directories.
@@ -138,7 +140,7 @@ pub(crate) fn merged_dirs<N: Nodes>(
     rev: RevNum,
     three: &Three,
 ) -> Result<Option<Dirs>, ReadError>
-    ensures told { (x y v : Option NodeRev) → three.now ≡ three_of x y v → AreTold (N.told nodes.old) x y v → Gives is_some (go_on_in rev x y v && same_props_in x y v) result }
+    ensures told { (x y v : Option NodeRev) → three.now ≡ three_of x y v → AreTold (N.told nodes.old) x y v → Reads (λ o. is_some o ≡ (go_on_in rev x y v && same_props_in x y v)) result }
     ensures dirs { IfOk result (λ o. IfSome o (λ d. dirs_in three.now ≡ Some d)) }
     ensures kept { KeepsNodes (N.told nodes.old) (N.told nodes.new) }
     ensures cause { HasCause (N.faults nodes.old) (N.faults nodes.new) result }
@@ -146,7 +148,8 @@ pub(crate) fn merged_dirs<N: Nodes>(
     let Some(dirs) = as_dirs(three) else {
         return Ok(None);
     };
-    if are_merged(nodes, rev, &dirs)? {
+    let goes = are_merged(nodes, rev, &dirs)?;
+    if goes {
         Ok(Some(dirs))
     } else {
         Ok(None)

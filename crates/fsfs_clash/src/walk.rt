@@ -2,16 +2,16 @@
 //!
 //! What is left to look at stands on a stack of its own, so that a chain of directories of any length takes no more of the
 //! machine's own stack.
-ghost use Rattle.std.specs.Prelude.{◌≡◌, ◌<◌, ◌+◌, ◌++◌, List, true, Some, OnOk, IfErr};
+ghost use Rattle.std.specs.Prelude.{◌≡◌, ◌<◌, ◌+◌, ◌++◌, [], ◌∷◌, List, true, Some, OnOk, IfErr};
 ghost use Rattle.fsfs_damage.specs.Causes.{HasCause};
 ghost use Rattle.fsfs_damage.specs.declared.wrong.ReadError.TheVariants.{OutOfMemory};
 ghost use Rattle.fsfs_drafts.specs.OwnSides.{NodesAt};
 ghost use Rattle.fsfs_revision.specs.Nodes.{is_revision_place};
 ghost use Rattle.fsfs_shows.specs.Reading.{DirEntry, offset_of};
-ghost use Rattle.fsfs_clash.specs.Lists.{names_in};
-ghost use Rattle.fsfs_clash.specs.Nodes.{KeepsNodes, TellsTrees};
+ghost use Rattle.fsfs_clash.specs.Lists.{names_in, three_in};
+ghost use Rattle.fsfs_clash.specs.Nodes.{KeepsNodes, Reads, TellsTrees};
 ghost use Rattle.fsfs_clash.specs.Sights.{sights};
-ghost use Rattle.fsfs_clash.specs.Walks.{changed, least, root_target, AreRoots, FindsFirst, Opens, IsWalk, HasPlaces};
+ghost use Rattle.fsfs_clash.specs.Walks.{if_changed, changed, least, root_target, AreRoots, IsFirstStop, IsOpened, IsWalk, HasPlaces};
 ghost use Rattle.fsfs_clash.specs.Weights.{total, weight};
 
 use crate::entries::{Entries, Sides, sides_of};
@@ -39,6 +39,28 @@ pub struct Roots {
     pub own: NodeId,
 }
 
+// Puts what stands behind a name, where both sides changed it.
+fn push_if_changed(
+    alloc: Global,
+    todo: &mut Vec<Pending>,
+    path: &FsPath,
+    name: &str,
+    sides: &Sides,
+) -> Result<(), ReadError>
+    ensures items { OnOk result (todo.new.items ≡ todo.old.items ++ if_changed (path.now ++ name.now ∷ []) (three_in sides.now name.now)) }
+    ensures memory { IfErr result (λ e. e ≡ OutOfMemory) }
+{
+    let three = sides.three(name);
+    if !three.is_changed() {
+        return Ok(());
+    }
+    let path = path.child(alloc, name)?;
+    match todo.push(Pending { path, three }) {
+        Ok(()) => Ok(()),
+        Err(_) => Err(ReadError::OutOfMemory),
+    }
+}
+
 // Puts those of the names behind which both sides changed something.
 fn push_changed(
     alloc: Global,
@@ -51,13 +73,7 @@ fn push_changed(
     ensures memory { IfErr result (λ e. e ≡ OutOfMemory) }
 {
     for (name, _) in &names.targets {
-        let three = sides.three(name.as_str());
-        if three.is_changed() {
-            let path = path.child(alloc, name.as_str())?;
-            if todo.push(Pending { path, three }).is_err() {
-                return Err(ReadError::OutOfMemory);
-            }
-        }
+        push_if_changed(alloc, todo, path, name.as_str(), sides)?;
     }
     Ok(())
 }
@@ -85,7 +101,7 @@ fn open<N: Nodes>(
 ) -> Result<(), ReadError>
     requires place { is_revision_place dirs.now.base.place ≡ true }
     ensures told { (x y v : List DirEntry) → (N.told nodes.old).list dirs.now.base ≡ Some x → (N.told nodes.old).list dirs.now.head ≡ Some y → (N.told nodes.old).list dirs.now.own ≡ Some v
-        → Opens x y v path.now todo.old.items todo.new.items result }
+        → Reads (λ _. IsOpened x y v path.now todo.old.items todo.new.items) result }
     ensures places { OnOk result (HasPlaces todo.old.items → HasPlaces todo.new.items) }
     ensures total { OnOk result (total todo.new.items < total todo.old.items + weight (offset_of dirs.now.base.place)) }
     ensures kept { KeepsNodes (N.told nodes.old) (N.told nodes.new) }
@@ -119,7 +135,7 @@ fn walk<N: Nodes>(
     mut todo: Vec<Pending>,
 ) -> Result<Option<FsPath>, ReadError>
     requires places { HasPlaces todo.items }
-    ensures found { (x y v : NodesAt) → TellsTrees (N.told nodes.old) x y v → IsWalk x y v base todo.items → FindsFirst (sights base x y v) result }
+    ensures found { (x y v : NodesAt) → TellsTrees (N.told nodes.old) x y v → IsWalk x y v base todo.items → Reads (IsFirstStop (sights base x y v)) result }
     ensures kept { KeepsNodes (N.told nodes.old) (N.told nodes.new) }
     ensures cause { HasCause (N.faults nodes.old) (N.faults nodes.new) result }
 {
@@ -151,7 +167,7 @@ pub fn first_clash<N: Nodes>(
     roots: &Roots,
 ) -> Result<Option<FsPath>, ReadError>
     requires place { is_revision_place roots.now.base.place ≡ true }
-    ensures found { (x y v : NodesAt) → TellsTrees (N.told nodes.old) x y v → AreRoots roots.now x y v → FindsFirst (sights base x y v) result }
+    ensures found { (x y v : NodesAt) → TellsTrees (N.told nodes.old) x y v → AreRoots roots.now x y v → Reads (IsFirstStop (sights base x y v)) result }
     ensures kept { KeepsNodes (N.told nodes.old) (N.told nodes.new) }
     ensures cause { HasCause (N.faults nodes.old) (N.faults nodes.new) result }
 {
@@ -165,8 +181,8 @@ pub fn first_clash<N: Nodes>(
     }
     let mut todo = Vec::new(alloc);
     let path = FsPath::root(alloc);
-    if todo.push(Pending { path, three }).is_err() {
-        return Err(ReadError::OutOfMemory);
+    match todo.push(Pending { path, three }) {
+        Ok(()) => walk(alloc, nodes, base, todo),
+        Err(_) => Err(ReadError::OutOfMemory),
     }
-    walk(alloc, nodes, base, todo)
 }

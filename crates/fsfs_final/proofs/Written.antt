@@ -146,7 +146,7 @@ module _ (look : RevisionBytes) (top : ℕ) (tree : ℕ → TreeFunction) (own :
           by None e = none d.2
             where
               none : Read p d.0 dir → (u : NodeRev) × (own (p ++ name ∷ []) ≡ Some u) × Read (p ++ name ∷ []) u v
-              none (inl r) = absurd (let f = sym e ∙ all p name d.0 v d.1 r.0 (subst (λ (z : NodeRev). ChildOf look z name (Ok (Some v))) r.1 child) in cc)
+              none (inl r) = absurd (let f = sym e ∙ all p name d.0 v d.1 r.0 (sym (ap (λ (z : NodeRev). z.kind) r.1) ∙ kind) (subst (λ (z : NodeRev). ChildOf look z name (Ok (Some v))) r.1 child) in cc)
               none (inr r) =
                   let is_dir : d.0.kind ≡ Dir = sym (reads.final p d.0 d.1 r.0).kind ∙ ap (λ (z : NodeRev). z.kind) (sym r.1) ∙ kind in
                   let lacks = subst (λ (z : NodeRev). ChildOf look z name (Ok None)) (sym r.1) (reads.lacking p name d.0 d.1 r.0 is_dir e) in

@@ -22,9 +22,9 @@ pub record ReadsAsDraft (look : RevisionBytes) (n : ℕ) (own : NodesAt) (done :
   -- they stand at different places
   pub apart : (p q : Path) (u w : NodeRev) → own p ≡ Some u → own q ≡ Some w → IsOwn u → IsOwn w → done p ≡ done q → p ≡ q
 
--- the draft has all that is below what is not of the transaction
+-- the draft has all that is below a directory that is not of the transaction. (Of a file it says nothing: its text may read as a directory's.)
 abbrev pub HasAllBelow : RevisionBytes → NodesAt → Type 0
-HasAllBelow look own = (p : Path) (name : PathName) (d v : NodeRev) → own p ≡ Some d → in_txn d.id.place ≡ false → ChildOf look d name (Ok (Some v)) → own (p ++ name ∷ []) ≡ Some v
+HasAllBelow look own = (p : Path) (name : PathName) (d v : NodeRev) → own p ≡ Some d → in_txn d.id.place ≡ false → d.kind ≡ Dir → ChildOf look d name (Ok (Some v)) → own (p ++ name ∷ []) ≡ Some v
 
 abbrev pub DirectoriesAreEnough : Type 0
 DirectoriesAreEnough = (look : RevisionBytes) (top : ℕ) (tree : ℕ → TreeFunction) (own : NodesAt) (done : Path → NodeRev)
