@@ -145,13 +145,13 @@ reached_push f (x ∷ p) name r m = let w = and_parts (f []) (reached (λ (q : P
 -- ---- the walk
 
 module _ (x y v : NodesAt) (base : ℕ) where
-  abbrev see : Path → Sight
+  abbrev pub see : Path → Sight
   see = sights base x y v
 
   -- a path that stops the walk is found
   pub found : (todo : List Pending) (p : Pending) (first : Option Path) → IsPending x y v base p → is_stopped (see p.path) ≡ true → AreFoundOrLeft see (todo ++ p ∷ []) first → AreFoundOrLeft see todo (Some (least first p.path))
   found todo p first is s all q h = elim (all q h) [
-    | inl left ↦ elim (any_parts (λ (z : Pending). covers z.path q) todo (p ∷ []) left) [
+    | inl rest ↦ elim (any_parts (λ (z : Pending). covers z.path q) todo (p ∷ []) rest) [
       | inl w ↦ inl w
       | inr w ↦ inr (least first p.path, refl, least_new first p.path q (below (any_one (λ (z : Pending). covers z.path q) p w)))
     ]
@@ -176,7 +176,7 @@ module _ (x y v : NodesAt) (base : ℕ) where
 
   -- what stands below a directory that was opened is left, where both sides changed it
   module _ (p : Pending) (is : IsPending x y v base p) (sides : Sides) (lists : (name : PathName) → three_in sides name ≡ three_of (x (p.path ++ name ∷ [])) (y (p.path ++ name ∷ [])) (v (p.path ++ name ∷ [])))
-    (m : merges (see p.path) ≡ true) (s : is_stopped (see p.path) ≡ false) where
+      (m : merges (see p.path) ≡ true) (s : is_stopped (see p.path) ≡ false) where
     pub still : (todo : List Pending) → ArePending x y v base todo → ArePending x y v base (opened p.path sides todo)
     still todo was = all_opened p.path sides todo (λ name c. record { three = lists name; is_changed = c; comes = reached_push (down see) p.path name is.comes m }) was
 

@@ -45,6 +45,9 @@ pub reads_memory : {X : Type 0} {P : X → Type 0} (r : Result X ReadError) → 
 reads_memory (Ok x) h m = h
 reads_memory {P = P} (Err e) h m = subst (λ (z : ReadError). Reads P (Err z)) (sym m) tt
 
+pub reads_only : {X : Type 0} {P : X → Type 0} (e : ReadError) → e ≡ errors.OutOfMemory → Reads P (Err e)
+reads_only {P = P} e m = subst (λ (z : ReadError). Reads P (Err z)) (sym m) tt
+
 -- ---- what is told
 
 pub keeps_refl : (t : Telling) → KeepsNodes t t

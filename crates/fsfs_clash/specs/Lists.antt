@@ -2,6 +2,8 @@
 use Rattle.std.specs.Prelude.{◌≡◌, true, List, map, Option, Some, option_map}
 use Rattle.std.specs.BTreeMap.{get_by_text}
 use Rattle.std.specs.String.{string_bytes}
+use Rattle.std.specs.declared.string.String.{String}
+use Rattle.std.specs.declared.alloc.Global.{Global}
 use Rattle.fsfs_base.specs.Paths.{PathName}
 use Rattle.fsfs_damage.specs.declared.damage.RevOffset.{RevOffset}
 use Rattle.fsfs_revision.specs.Nodes.{place_before}
@@ -16,7 +18,7 @@ abbrev pub target_in : Entries → PathName → Option Target
 target_in e name = get_by_text e.targets name
 
 abbrev pub names_in : Entries → List PathName
-names_in e = map (λ p. string_bytes p.0) e.targets.entries
+names_in e = map (λ (p : String Global × Target). string_bytes p.0) e.targets.entries
 
 abbrev pub three_in : Sides → PathName → Three
 three_in s name = record { base = target_in s.base name; head = target_in s.head name; own = target_in s.own name }

@@ -68,7 +68,7 @@ NotAfter c q = path_cmp q c ≡ Less → ⊥
 
 -- the path is at or below something that is left, or a path that was found is not after it
 abbrev pub IsFoundOrLeft : List Pending → Option Path → Path → Type 0
-IsFoundOrLeft todo first q = (list_any (λ p. covers p.path q) todo ≡ true) ⊎ ((c : Path) × (first ≡ Some c) × NotAfter c q)
+IsFoundOrLeft todo first q = (list_any (λ (p : Pending). covers p.path q) todo ≡ true) ⊎ ((c : Path) × (first ≡ Some c) × NotAfter c q)
 
 -- each path that stops the walk
 abbrev pub AreFoundOrLeft : (Path → Sight) → List Pending → Option Path → Type 0

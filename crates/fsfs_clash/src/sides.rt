@@ -149,9 +149,5 @@ pub(crate) fn merged_dirs<N: Nodes>(
         return Ok(None);
     };
     let goes = are_merged(nodes, rev, &dirs)?;
-    if goes {
-        Ok(Some(dirs))
-    } else {
-        Ok(None)
-    }
+    if goes { Ok(Some(dirs)) } else { Ok(None) }
 }

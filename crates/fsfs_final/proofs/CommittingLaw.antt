@@ -68,7 +68,7 @@ module _ (look : RevisionBytes) (top : ℕ) (tree : ℕ → TreeFunction) (b h :
           let c' = covers-trans q p (p ++ name ∷ []) c longer in
           let here = keep look top tree b h t marks base head own see is 0 clear p (own_of look top tree b h t marks base head own see is 0 clear p q c r m true s) n in
           let there = keep look top tree b h t marks base head own see is 0 clear (p ++ name ∷ []) (own_of look top tree b h t marks base head own see is 0 clear (p ++ name ∷ []) q c' r m true s)
-              (drafted.not_merged look top tree b h t marks base head own see is clear draft q (p ++ name ∷ []) c' m) in
+          (drafted.not_merged look top tree b h t marks base head own see is clear draft q (p ++ name ∷ []) c' m) in
           there ∙ below p name d v (sym here ∙ e) plain kind child
       taken q c r m n false s =
           let c' = covers-trans q p (p ++ name ∷ []) c longer in
@@ -104,11 +104,10 @@ adds look top tree t marks base own bytes done off shows has holds mine =
     let written = directories_are_enough look top tree own done shows has.draft has.below reads in
     let contents = content_laws.read look top tree t marks own shows has.transaction has.draws written has.contents mine in
     let le : top ≤ top = omega arith in
-    let clear = (self tree top top top t marks (shown_revisions look top tree shows) has.transaction le le).clear in
-    (
+    let clear = (self tree top top top t marks (shown_revisions look top tree shows) has.transaction le le).clear in (
       commits_add_revisions.plain look top tree t marks base own shows has.transaction has.base_nodes has.side has.draft has.draws written contents,
       changes_fit look top tree top t marks (shown_revisions look top tree shows) has.transaction le clear
-        (written_shows_landing look top tree t marks base own shows has.transaction has.base_nodes has.side has.draft has.draws written contents),
+          (written_shows_landing look top tree t marks base own shows has.transaction has.base_nodes has.side has.draft has.draws written contents),
     )
 
 module _ (look : RevisionBytes) (top : ℕ) (tree : ℕ → TreeFunction) (b n : ℕ) (base : NodesAt) (x v : NodeRev)
@@ -170,7 +169,7 @@ stay_txn tree next last more _ _ _ same up (Edited b t before edit was h) = stay
 stay_txn tree next last more _ _ _ same up (Landed b h n t marks was le ge clear) =
     let low : b ≤ last = omega (arith, le, ge) in
     let now : NoClash b (next b) (next h) t marks
-        = subst (λ (z : TreeFunction). NoClash b z (next h) t marks) (sym (same b low)) (subst (λ (z : TreeFunction). NoClash b (tree b) z t marks) (sym (same h ge)) clear) in
+    = subst (λ (z : TreeFunction). NoClash b z (next h) t marks) (sym (same b low)) (subst (λ (z : TreeFunction). NoClash b (tree b) z t marks) (sym (same h ge)) clear) in
     subst (λ (z : TreeFunction). IsTransaction next more h (land z (tree h) t marks n) marks) (same b low)
     (subst (λ (z : TreeFunction). IsTransaction next more h (land (next b) z t marks n) marks) (same h ge)
     (Landed b h n t marks (stay_txn tree next last more b t marks same up was) le (omega (arith, ge, up)) now))

@@ -240,9 +240,10 @@ module _ (look : RevisionBytes) (top : ℕ) (tree : ℕ → TreeFunction) (b h n
 
       linked : (v : NodeRev) → own p ≡ Some v → merges (see p) ≡ true → v.id ≡ u.id → v.props ≡ u.props → ReadsAs look u y
       linked v k f ids props =
-          let old = lasting p v m k (ap (λ z. in_txn z.place) ids ∙ plain) g in
-          (λ file. file_dir (sym file ∙ sym same.kind ∙ kinds p v m k g ∙ merged_dir p v f k),
-            subst (λ z. Rattle.fsfs_shows.specs.Reading.OfContents [] (Rattle.fsfs_shows.specs.Reading.PairsAt look) z (Ok y.properties)) props (subst (λ x. PropsOf look v (Ok x)) same.properties old.1))
+          let old = lasting p v m k (ap (λ z. in_txn z.place) ids ∙ plain) g in (
+            λ file. file_dir (sym file ∙ sym same.kind ∙ kinds p v m k g ∙ merged_dir p v f k),
+            subst (λ z. Rattle.fsfs_shows.specs.Reading.OfContents [] (Rattle.fsfs_shows.specs.Reading.PairsAt look) z (Ok y.properties)) props (subst (λ x. PropsOf look v (Ok x)) same.properties old.1),
+          )
 
       by : (c : Bool) → is_merged see p ≡ c → (s o : Option NodeRev) → own p ≡ o → relinked c s o ≡ Some u → ReadsAs look u y
       by false f s o k e = reads_as_same u m y same (lasting p u m (k ∙ e) plain g)

@@ -72,6 +72,8 @@ module _ (look : RevisionBytes) (top o : ℕ) (own : NodesAt) (p : Path) (u : No
 
 pub finishing_is_final : FinishingIsFinal
 finishing_is_final look top o own p u text props draft e mine has_text has_props before before_props sets =
-    let f = final look top o own p u text props draft e mine has_text has_props sets in
-    (f, of_revision look top o own p u text props draft e mine has_text has_props sets,
-      finals_are_in_order look top o own p u (finish (suc top) o text props u) draft e mine f (root_lasts (suc top) u.copy_root) before before_props)
+    let f = final look top o own p u text props draft e mine has_text has_props sets in (
+      f,
+      of_revision look top o own p u text props draft e mine has_text has_props sets,
+      finals_are_in_order look top o own p u (finish (suc top) o text props u) draft e mine f (root_lasts (suc top) u.copy_root) before before_props,
+    )

@@ -33,8 +33,8 @@ got_more (z ∷ h) next (suc r) x e = elim (got_more h next r x e) [
   | inr b ↦ inr (ap (λ n. suc n) b.0, b.1)
 ]
 
-module _ (look props : RevisionBytes) (h : List Revision) (e : Entry) (next : Revision) (shows : ShowsHistory look props h) (entry : IsEntry h e) (is : IsNext h e next) (w : IsWrittenAs look props h e next) where
-  count : length h ≡ suc (last_of h)
+module _ (look props : RevisionBytes) (h : List Revision) (e : Entry) (next : Revision) (shows : ShowsHistory look props h) (entry : IsEntry h e) (is : IsNext h e next) where
+  pub count : length h ≡ suc (last_of h)
   count = let based = is.based in omega (arith, based)
 
   there : (r : ℕ) → r ≤ last_of h → (revision : Revision) × (slice_get h r ≡ Some revision)
@@ -43,7 +43,7 @@ module _ (look props : RevisionBytes) (h : List Revision) (e : Entry) (next : Re
     | inr past ↦ (let over = past.0 in absurd (omega (arith, over, le, count)))
   ]
 
-  trees : ShowTrees look (last_of h) (tree_of h)
+  pub trees : ShowTrees look (last_of h) (tree_of h)
   trees = record {
     each = λ r le.
         (let x = there r le in
@@ -52,43 +52,44 @@ module _ (look props : RevisionBytes) (h : List Revision) (e : Entry) (next : Re
     ids = shows.ids;
   }
 
-  was : IsTransaction (tree_of h) (last_of h) (last_of h) (get e.tree) e.marks
-  was = subst (λ (b : ℕ). IsTransaction (tree_of h) (last_of h) b (get e.tree) e.marks) w.youngest entry.transaction
+  pub was : e.base ≡ last_of h → IsTransaction (tree_of h) (last_of h) (last_of h) (get e.tree) e.marks
+  was youngest = subst (λ (b : ℕ). IsTransaction (tree_of h) (last_of h) b (get e.tree) e.marks) youngest entry.transaction
 
-  abbrev Landing : ℕ → TreeFunction
-  Landing n = land (tree_of h (last_of h)) (tree_of h (last_of h)) (get e.tree) e.marks n
+  module _ (w : IsWrittenAs look props h e next) where
+    abbrev Landing : ℕ → TreeFunction
+    Landing n = land (tree_of h (last_of h)) (tree_of h (last_of h)) (get e.tree) e.marks n
 
-  shown : Shows look (length h) (Landing (length h))
-  shown = subst (λ (n : ℕ). Shows look n (Landing n)) (sym count)
-      (written_shows_landing look (last_of h) (tree_of h) (get e.tree) e.marks w.base w.own trees was w.nodes w.side w.draft (subst (λ (n : ℕ). DrawsTree n (tree_of h (last_of h)) (get e.tree) e.marks w.own) count w.draws)
-      (subst (λ (n : ℕ). IsWritten look n w.own) count w.written) (subst (λ (n : ℕ). ReadsContents look n (Landing n)) count w.contents))
+    shown : Shows look (length h) (Landing (length h))
+    shown = subst (λ (n : ℕ). Shows look n (Landing n)) (sym count)
+        (written_shows_landing look (last_of h) (tree_of h) (get e.tree) e.marks w.base w.own trees (was w.youngest) w.nodes w.side w.draft (subst (λ (n : ℕ). DrawsTree n (tree_of h (last_of h)) (get e.tree) e.marks w.own) count w.draws)
+        (subst (λ (n : ℕ). IsWritten look n w.own) count w.written) (subst (λ (n : ℕ). ReadsContents look n (Landing n)) count w.contents))
 
-  tree_is : (p : Path) → Landing (length h) p ≡ get next.tree p
-  tree_is p = sym (is.tree p ∙ ap (λ (b : ℕ). land (tree_of h b) (tree_of h (last_of h)) (get e.tree) e.marks (length h) p) w.youngest)
+    tree_is : (p : Path) → Landing (length h) p ≡ get next.tree p
+    tree_is p = sym (is.tree p ∙ ap (λ (b : ℕ). land (tree_of h b) (tree_of h (last_of h)) (get e.tree) e.marks (length h) p) w.youngest)
 
-  last : ShowsRevision look props (length h) next
-  last = record {
-    bytes = w.bytes;
-    bytes_are = w.bytes_are;
-    tree = shows_as look (length h) (Landing (length h)) (get next.tree) tree_is shown;
-    changes = w.changes;
-    file = w.file;
-    file_is = w.file_is;
-    properties = w.properties;
-    dated = subst IsDated (sym is.properties) entry.dated;
-  }
+    last : ShowsRevision look props (length h) next
+    last = record {
+      bytes = w.bytes;
+      bytes_are = w.bytes_are;
+      tree = shows_as look (length h) (Landing (length h)) (get next.tree) tree_is shown;
+      changes = w.changes;
+      file = w.file;
+      file_is = w.file_is;
+      properties = w.properties;
+      dated = subst IsDated (sym is.properties) entry.dated;
+    }
 
-  each : (r : ℕ) (revision : Revision) → slice_get (h ++ next ∷ []) r ≡ Some revision → ShowsRevision look props r revision
-  each r revision got = elim (got_more h next r revision got) [
-    | inl before ↦ shows.each r revision before
-    | inr now ↦ subst (λ (x : ℕ). ShowsRevision look props x revision) (sym now.0) (subst (λ (x : Revision). ShowsRevision look props (length h) x) now.1 last)
-  ]
+    each : (r : ℕ) (revision : Revision) → slice_get (h ++ next ∷ []) r ≡ Some revision → ShowsRevision look props r revision
+    each r revision got = elim (got_more h next r revision got) [
+      | inl before ↦ shows.each r revision before
+      | inr now ↦ subst (λ (x : ℕ). ShowsRevision look props x revision) (sym now.0) (subst (λ (x : Revision). ShowsRevision look props (length h) x) now.1 last)
+    ]
 
-  ids : IdRule look (last_of (h ++ next ∷ []))
-  ids =
-      let long = length-append h (next ∷ []) in
-      let top : suc (last_of h) ≡ last_of (h ++ next ∷ []) = omega (arith, long, count) in
-      subst (λ (n : ℕ). IdRule look n) top (written_keeps_ids look (last_of h) w.own shows.ids w.draft (subst (λ (n : ℕ). IsWritten look n w.own) count w.written))
+    ids : IdRule look (last_of (h ++ next ∷ []))
+    ids =
+        let long = length-append h (next ∷ []) in
+        let top : suc (last_of h) ≡ last_of (h ++ next ∷ []) = omega (arith, long, count) in
+        subst (λ (n : ℕ). IdRule look n) top (written_keeps_ids look (last_of h) w.own shows.ids w.draft (subst (λ (n : ℕ). IsWritten look n w.own) count w.written))
 
 pub next_is_shown : NextIsShown
 next_is_shown look props h e next shows entry is w = record { each = each look props h e next shows entry is w; ids = ids look props h e next shows entry is w }

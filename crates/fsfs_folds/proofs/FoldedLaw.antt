@@ -192,16 +192,20 @@ module _ (tree : ℕ → TreeFunction) (last : ℕ) (t : TreeFunction) (marks : 
       (λ q w. inl (ap (λ (b : Bool). cond b (with_text text.items (t path)) (t q)) (same_flip path q w)))
     where
       here : (f : Folded) → joined (said_of marks path) (kind_of_node (t path)) Text ≡ Some f → Stood (applied (PutText path text) tree t path) f
-      here f e = let n = there (t path) (file_some (t path) h) in
-          (record n.0 { text = Bytes text.items }, ap (λ (b : Bool). cond b (with_text text.items (t path)) (t path)) (same_path-refl path) ∙ ap (with_text text.items) n.1,
-            sym (ap kind_of_node n.1) ∙ sym (text_kind (said_of marks path) (kind_of_node (t path)) f e (said_kind path)))
+      here f e = let n = there (t path) (file_some (t path) h) in (
+        record n.0 { text = Bytes text.items },
+        ap (λ (b : Bool). cond b (with_text text.items (t path)) (t path)) (same_path-refl path) ∙ ap (with_text text.items) n.1,
+        sym (ap kind_of_node n.1) ∙ sym (text_kind (said_of marks path) (kind_of_node (t path)) f e (said_kind path)),
+      )
   edited (SetProp path name value) h = put t (applied (SetProp path name value) tree t) marks (mark_of (SetProp path name value) tree t) was (λ e. cc) here
       (λ q w. inl (ap (λ (b : Bool). cond b (with_prop name (bytes_of value) (t path)) (t q)) (same_flip path q w)))
     where
       here : (f : Folded) → joined (said_of marks path) (kind_of_node (t path)) Prop ≡ Some f → Stood (applied (SetProp path name value) tree t path) f
-      here f e = let n = there (t path) h in
-          (record n.0 { properties = changed_props name (bytes_of value) n.0.properties }, ap (λ (b : Bool). cond b (with_prop name (bytes_of value) (t path)) (t path)) (same_path-refl path) ∙ ap (with_prop name (bytes_of value)) n.1,
-            sym (ap kind_of_node n.1) ∙ sym (prop_kind (said_of marks path) (kind_of_node (t path)) f e (said_kind path)))
+      here f e = let n = there (t path) h in (
+        record n.0 { properties = changed_props name (bytes_of value) n.0.properties },
+        ap (λ (b : Bool). cond b (with_prop name (bytes_of value) (t path)) (t path)) (same_path-refl path) ∙ ap (with_prop name (bytes_of value)) n.1,
+        sym (ap kind_of_node n.1) ∙ sym (prop_kind (said_of marks path) (kind_of_node (t path)) f e (said_kind path)),
+      )
 
 -- ---- a landing
 

@@ -1,4 +1,4 @@
-use Rattle.std.proofs.Common.{◌≡◌, ◌∙◌, refl, sym, ap, subst, arith, rules, None}
+use Rattle.std.proofs.Common.{◌≡◌, ◌∙◌, [], refl, sym, ap, subst, arith, rules, None}
 use Rattle.std.proofs.lemmas.List.{nil_from_length}
 use Rattle.std.proofs.lemmas.Result.{err_from_is_err_and}
 use Rattle.fsfs_clash.specs.Nodes.{KeepsNodes, TellsTrees}
@@ -12,3 +12,8 @@ loop-next-init g c = record {
   places = c.requires;
   found = λ x y v told w. begins x y v c.args.base c.args.todo.items w;
 }
+
+pub returns-clause-found : goal.returns-clause-found
+returns-clause-found g c = λ x y v told w.
+    let none : c.loop-next.todo.items ≡ [] = nil_from_length c.loop-next.todo.items (search rules) in
+    walk_ends x y v c.args.base c.loop-next.first (subst (λ t. IsUnderWay x y v c.args.base t c.loop-next.first) none (c.loop-next.invariant.found x y v told w))
