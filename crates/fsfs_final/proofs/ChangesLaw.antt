@@ -1,19 +1,16 @@
 -- The folded changes of what landed fit the bytes that show the landing.
-use Rattle.std.proofs.Common.{◌≡◌, ◌∙◌, ◌≤◌, ℕ, suc, List, Option, Some, None, refl, sym, ap, subst, arith, true, false, Bool}
-use Rattle.std.specs.Prelude.{Ok, is_some, ◌≢◌}
+use Rattle.std.proofs.Common.{◌≡◌, ◌∙◌, ℕ, suc, List, Option, Some, None, sym, ap, arith, true, false}
+use Rattle.std.specs.Prelude.{Ok, is_some}
 use mathlib.Core.Bool.{false≢true}
 use Rattle.fsfs_flat.specs.declared.mark.Mark.{Mark}
-use Rattle.fsfs_tree.specs.declared.change_map.Change.{Change}
-use Rattle.fsfs_base.specs.declared.action.Action.TheVariants.{Delete}
 use Rattle.fsfs_base.specs.Paths.{Path}
 use Rattle.fsfs_tree.specs.Nodes.{Node, TreeFunction}
-use Rattle.fsfs_flat.specs.Folding.{fold}
 use Rattle.fsfs_flat.specs.Landing.{land}
 use Rattle.fsfs_flat.specs.Transactions.{Landed}
 use Rattle.fsfs_book.specs.Told.{RevisionBytes}
 use Rattle.fsfs_noderev.specs.declared.node_rev.NodeRev.{NodeRev}
 use Rattle.fsfs_shows.specs.Reading.{Met, Stands, Lacking, Blocked, MetAt, StandsAt}
-use Rattle.fsfs_shows.specs.Shown.{Shows, IsShown, IsShownAs}
+use Rattle.fsfs_shows.specs.Shown.{Shows, IsShownAs}
 use Rattle.fsfs_ancestry.proofs.Behind.{shown_there}
 use Rattle.fsfs_folds.specs.FoldedFit.{FoldFits}
 use Rattle.fsfs_folds.proofs.FoldedLaw.{folds_fit}

@@ -1,7 +1,7 @@
 -- What is committed adds its revision to what the bytes show.
 use Rattle.std.proofs.lemmas.Bool.{le-leb, lt-leb}
-use Rattle.std.proofs.Common.{◌≡◌, ◌≤◌, ◌<◌, ◌⊎◌, ℕ, suc, Bool, true, false, List, sym, ap, subst, ◌∙◌, arith, inl, inr}
-use Rattle.std.specs.Prelude.{Option, nat_le, if◌then◌else◌}
+use Rattle.std.proofs.Common.{◌≡◌, ◌≤◌, ◌<◌, ◌⊎◌, ℕ, suc, Bool, List, sym, ap, subst, ◌∙◌, arith, inl, inr}
+use Rattle.std.specs.Prelude.{Option, if◌then◌else◌}
 use Rattle.fsfs_base.specs.Paths.{Path}
 use Rattle.fsfs_tree.specs.Nodes.{Node, TreeFunction}
 use Rattle.fsfs_flat.specs.declared.mark.Mark.{Mark}

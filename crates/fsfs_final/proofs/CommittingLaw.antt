@@ -1,13 +1,11 @@
 -- The whole chain of a commit.
 use Rattle.fsfs_ancestry.proofs.Revisions.{shown_revisions}
-use Rattle.std.proofs.Common.{◌≡◌, ◌∙◌, ◌≤◌, ◌<◌, ℕ, suc, Bool, true, false, List, [], ◌∷◌, ◌++◌, Option, Some, None, refl, sym, ap, subst, arith, inl, inr, ◌⊎◌}
+use Rattle.std.proofs.Common.{◌≡◌, ◌∙◌, ◌≤◌, ◌<◌, ℕ, suc, Bool, true, false, List, [], ◌∷◌, ◌++◌, Option, Some, refl, sym, subst, arith}
 use Rattle.std.specs.Prelude.{Ok, is_some, nat_le}
 use Rattle.std.proofs.lemmas.Bool.{leb-true, and_from, and_parts, both_ways}
 use Rattle.std.proofs.lemmas.Bool.Decides.{nat_tests}
-use mathlib.Core.Bool.{false≢true}
-use Rattle.fsfs_base.specs.Paths.{PathName, Path, covers}
+use Rattle.fsfs_base.specs.Paths.{Path, covers}
 use Rattle.fsfs_tree.specs.Nodes.{Node, TreeFunction}
-use Rattle.fsfs_base.specs.declared.kind.Kind.TheVariants.{Dir}
 use Rattle.fsfs_flat.specs.declared.mark.Mark.{Mark}
 use Rattle.fsfs_flat.specs.declared.mark.What.TheVariants.{Make}
 use Rattle.fsfs_flat.specs.declared.edit.Edit.{Edit}
@@ -18,7 +16,7 @@ use Rattle.fsfs_flat.specs.Transactions.{IsTransaction, Begun, Edited, Landed}
 use Rattle.fsfs_base.proofs.PathLemmas.{covers-trans, covers-longer}
 use Rattle.fsfs_book.specs.Told.{RevisionBytes}
 use Rattle.fsfs_noderev.specs.declared.node_rev.NodeRev.{NodeRev}
-use Rattle.fsfs_shows.specs.Reading.{ChildOf, StandsAt}
+use Rattle.fsfs_shows.specs.Reading.{StandsAt}
 use Rattle.fsfs_shows.proofs.Walks.{child_stands}
 use Rattle.fsfs_ancestry.specs.Trees.{ShowTrees}
 use Rattle.fsfs_ancestry.specs.Bounded.{AreSameUpTo}
@@ -26,7 +24,7 @@ use Rattle.fsfs_ancestry.proofs.Behind.{shown_there}
 use Rattle.fsfs_ancestry.proofs.Bounded.{back_same, stands_same_bytes, child_same, text_shown, props_same}
 use Rattle.fsfs_shows.specs.Chains.{own_rev}
 use Rattle.fsfs_shows.proofs.TreeLaw.{stands_home}
-use Rattle.fsfs_merge.specs.Walks.{Sight, is_own, merges, stays, down}
+use Rattle.fsfs_merge.specs.Walks.{Sight, merges, stays, down}
 use Rattle.fsfs_drafts.specs.OwnSides.{NodesAt, in_txn, AreNodesOf}
 use Rattle.fsfs_merge.specs.MergeLaws.{IsMerge, is_merged, landed_nodes}
 use Rattle.fsfs_merge.proofs.MergeLaw.{Way, Through, Stopped, way, keep, take_head, own_of, side}

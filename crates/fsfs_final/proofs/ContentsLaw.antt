@@ -1,6 +1,6 @@
 -- What the new revision's node-revisions read as, from what the draft's do.
 use Rattle.fsfs_ancestry.proofs.Revisions.{shown_revisions}
-use Rattle.std.proofs.Common.{◌≡◌, ◌∙◌, ◌≤◌, ◌⊎◌, ℕ, suc, Bool, true, false, ◌&&◌, cond, if◌then◌else◌, not, List, [], ◌∷◌, ◌++◌, Option, Some, None, refl, sym, ap, subst, arith, inl, inr}
+use Rattle.std.proofs.Common.{◌≡◌, ◌∙◌, ◌≤◌, ℕ, suc, Bool, true, false, cond, if◌then◌else◌, not, List, [], ◌++◌, Option, Some, None, refl, sym, ap, subst, arith, inl, inr}
 use Rattle.std.specs.Prelude.{Ok, is_some}
 use mathlib.Core.Bool.{false≢true}
 use Rattle.fsfs_flat.specs.declared.edit.Edit.{Edit}
@@ -11,34 +11,32 @@ use Rattle.fsfs_base.specs.declared.kind.Kind.TheVariants.{File, Dir}
 use Rattle.fsfs_base.specs.Paths.{Path, covers, same_path}
 use Rattle.fsfs_tree.specs.Nodes.{Node, TreeFunction, Bytes, empty_node}
 use Rattle.fsfs_flat.specs.Marks.{effects}
-use Rattle.fsfs_flat.specs.Edits.{can_make, accepts, applied, with_text, with_prop, bytes_of, copied_node, rest_after, is_file_node}
-use Rattle.fsfs_flat.specs.Histories.{AreRevisions}
-use Rattle.fsfs_flat.specs.Landing.{NoClash, land, reached}
+use Rattle.fsfs_flat.specs.Edits.{accepts, applied, with_text, with_prop, bytes_of, copied_node, rest_after, is_file_node}
+use Rattle.fsfs_flat.specs.Landing.{NoClash, land}
 use Rattle.fsfs_flat.specs.Transactions.{IsTransaction, Begun, Edited, Landed}
 use Rattle.fsfs_book.specs.Told.{RevisionBytes}
 use Rattle.fsfs_model.proofs.Origins.{Origin, Head, Changed, Own, origin}
-use Rattle.fsfs_model.proofs.Contents.{KeepsContent}
 use Rattle.fsfs_model.proofs.NextHistory.{whole}
 use Rattle.std.proofs.lemmas.Bool.{leb-true, and_parts, both_ways}
 use Rattle.fsfs_noderev.specs.declared.node_id.NodeId.{NodeId}
 use Rattle.fsfs_noderev.specs.declared.rep.Contents.{Contents}
 use Rattle.fsfs_noderev.specs.declared.node_rev.NodeRev.{NodeRev}
 use Rattle.fsfs_shows.specs.Reading.{StandsAt, PropsOf}
-use Rattle.fsfs_shows.specs.Shown.{IsTextOf, Shows, IsShown}
+use Rattle.fsfs_shows.specs.Shown.{IsTextOf, Shows}
 use Rattle.fsfs_ancestry.specs.Trees.{ShowTrees}
 use Rattle.fsfs_ancestry.proofs.Behind.{shown_there}
 use Rattle.fsfs_merge.specs.Laws.{AreSame, IsSameNode}
-use Rattle.fsfs_merge.specs.Walks.{Sight, is_own, merged, merges, down}
-use Rattle.fsfs_drafts.specs.OwnSides.{NodesAt, in_txn, AreNodesOf}
-use Rattle.fsfs_merge.specs.MergeLaws.{IsMerge, IsSight, BothGoOn, is_merged, relinked, landed_nodes}
+use Rattle.fsfs_merge.specs.Walks.{Sight, is_own, merged, merges}
+use Rattle.fsfs_drafts.specs.OwnSides.{NodesAt, in_txn}
+use Rattle.fsfs_merge.specs.MergeLaws.{IsMerge, is_merged, relinked, landed_nodes}
 use Rattle.fsfs_merge.proofs.MergeLaw.{merging_is_by_ids}
 use Rattle.fsfs_merge.proofs.MergedLaw.{kept_props}
 use Rattle.fsfs_merge.proofs.Sides.{self}
 use Rattle.fsfs_merge.proofs.Texts.{keeps_texts}
-use Rattle.fsfs_final.specs.Final.{IsFinal, Finished, AsItWas, Done, IsWritten}
+use Rattle.fsfs_final.specs.Final.{Finished, AsItWas, Done, IsWritten}
 use Rattle.fsfs_drafts.specs.Draws.{DrawsTree}
 use Rattle.fsfs_final.specs.Shown.{ReadsContents}
-use Rattle.fsfs_final.specs.Contents.{HasBareDirs, TransactionsHaveBareDirs, ReadsAs, LastingContents, OwnContents, ContentsAreRead, MergesKeepContents, ContentLaws}
+use Rattle.fsfs_final.specs.Contents.{HasBareDirs, TransactionsHaveBareDirs, ReadsAs, LastingContents, OwnContents, ContentLaws}
 
 no_node : {A : Type 0} (n : Node) → None ≡ Some n → A
 no_node n e = absurd (false≢true (ap is_some e))

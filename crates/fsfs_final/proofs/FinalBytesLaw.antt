@@ -1,22 +1,20 @@
 -- A whole draft, its bytes behind the history's: they show the next revision.
-use Rattle.std.proofs.Common.{◌≡◌, ◌≤◌, ◌∙◌, ℕ, suc, List, [], ◌∷◌, ◌++◌, cond, refl, sym, ap, subst, arith, true, false}
-use Rattle.std.specs.Prelude.{Option, Some, None, Ok, Bool, length}
+use Rattle.std.proofs.Common.{◌≡◌, ◌≤◌, ◌∙◌, ℕ, suc, List, [], ◌∷◌, ◌++◌, cond, sym, ap, subst, arith}
+use Rattle.std.specs.Prelude.{Some, None, Ok, Bool, length}
 use Rattle.std.specs.FinMap.{get}
 use Rattle.std.proofs.lemmas.Option.{same_Some}
-use Rattle.fsfs_base.specs.Paths.{PathName, Path}
-use Rattle.fsfs_tree.specs.Nodes.{Node, TreeFunction, Content}
+use Rattle.fsfs_tree.specs.Nodes.{Node, Content}
 use Rattle.fsfs_tree.specs.Revisions.{Revision, tree_of}
 use Rattle.fsfs_tree.specs.Dated.{last_of}
 use Rattle.fsfs_flat.specs.Landing.{land}
 use Rattle.fsfs_flat.specs.Transactions.{Entry, IsEntry, IsNext}
 use Rattle.fsfs_book.specs.Told.{RevisionBytes}
-use Rattle.fsfs_noderev.specs.declared.node_rev.NodeRev.{NodeRev}
 use Rattle.fsfs_shows.specs.Reading.{PropsOf}
 use Rattle.fsfs_shows.specs.Shown.{IsTextOf}
 use Rattle.fsfs_stands.specs.History.{ShowsHistory}
 use Rattle.fsfs_drafts.specs.Own.{draft_tree}
 use Rattle.fsfs_drafts.specs.Drafts.{bare}
-use Rattle.fsfs_drafts.specs.OwnSides.{NodesAt, in_txn}
+use Rattle.fsfs_drafts.specs.OwnSides.{NodesAt}
 use Rattle.fsfs_drafts.specs.Met.{draft_nodes}
 use Rattle.fsfs_drafts.specs.Whole.{IsHanded}
 use Rattle.fsfs_drafts.proofs.AllLaw.{met_below}
@@ -24,11 +22,11 @@ use Rattle.fsfs_drafts.proofs.HangLaw as hanging
 use Rattle.fsfs_drafts.proofs.Placing as placing
 use Rattle.fsfs_drafts.proofs.WholeLaw.{drafts_are_handed}
 use Rattle.fsfs_final.specs.Bytes.{HoldsDraft}
-use Rattle.fsfs_final.specs.Contents.{ReadsAs, LastingContents, OwnContents}
+use Rattle.fsfs_final.specs.Contents.{LastingContents, OwnContents}
 use Rattle.fsfs_final.specs.Directories.{HasAllBelow}
 use Rattle.fsfs_final.specs.Final.{IsWritten}
 use Rattle.fsfs_final.specs.Shown.{ReadsContents}
-use Rattle.fsfs_final.specs.FinalBytes.{IsFinalBytes, IsCommittedAs, FinalBytesAreEnough}
+use Rattle.fsfs_final.specs.FinalBytes.{IsCommittedAs, FinalBytesAreEnough}
 use Rattle.fsfs_final.proofs.ContentsLaw.{content_laws}
 use Rattle.fsfs_final.proofs.Held.{held_drafts_are_read}
 use Rattle.fsfs_final.proofs.Written.{directories_are_enough}

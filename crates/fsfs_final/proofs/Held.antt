@@ -4,7 +4,7 @@ use Rattle.std.specs.Prelude.{Ok, Option, Some, None}
 use Rattle.std.proofs.lemmas.Bool.Decides.{nat_tests}
 use Rattle.fsfs_base.specs.Paths.{PathName, Path}
 use Rattle.fsfs_base.specs.declared.kind.Kind.TheVariants.{Dir}
-use Rattle.fsfs_book.specs.Told.{RevisionBytes, BytesOf}
+use Rattle.fsfs_book.specs.Told.{RevisionBytes}
 use Rattle.fsfs_noderev.specs.declared.node_id.Place.{Place}
 use Rattle.fsfs_noderev.specs.declared.node_id.Place.TheVariants as places
 use Rattle.fsfs_noderev.specs.declared.node_id.NodeId.{NodeId}
@@ -16,7 +16,7 @@ use Rattle.fsfs_rep.specs.Frames.{rev_of}
 use Rattle.fsfs_revision.specs.Nodes.{IsNodeAt, is_root, is_before, place_before}
 use Rattle.fsfs_damage.specs.Damages.{place_of}
 use Rattle.fsfs_damage.specs.declared.damage.RevOffset.{RevOffset}
-use Rattle.fsfs_shows.specs.Reading.{NodeAt, RootOf, offset_of, OfContents, Pairs, IsEntry, AreEntries, EntriesAt, EntriesOf, OfId, DirEntry, OfEntry, OfNamed, named, ChildOf}
+use Rattle.fsfs_shows.specs.Reading.{NodeAt, RootOf, offset_of, OfContents, Pairs, AreEntries, EntriesAt, EntriesOf, OfId, DirEntry, OfNamed, named, ChildOf}
 use Rattle.fsfs_ancestry.proofs.Earlier.{stands_of_id}
 use Rattle.fsfs_drafts.specs.OwnSides.{NodesAt, in_txn}
 use Rattle.fsfs_drafts.specs.NodeDrafts.{IsOwn, IsDraft}

@@ -1,6 +1,6 @@
 -- The rules of ids hold of the revision that is made of a draft, beside those before it.
-use Rattle.std.proofs.Common.{◌≡◌, ◌≤◌, ◌<◌, ◌⊎◌, ℕ, suc, Bool, true, false, ◌&&◌, [], ◌∷◌, ◌++◌, refl, sym, ap, subst, ◌∙◌, arith, inl, inr}
-use Rattle.std.specs.Prelude.{◌≢◌, Result, Ok, Option, Some, None, nat_lt, min, ◌+◌, ◌-◌, ◌^◌, if◌then◌else◌}
+use Rattle.std.proofs.Common.{◌≡◌, ◌≤◌, ◌<◌, ◌⊎◌, ℕ, suc, true, false, ◌&&◌, [], ◌∷◌, ◌++◌, refl, sym, ap, subst, ◌∙◌, arith, inl, inr}
+use Rattle.std.specs.Prelude.{◌≢◌, Ok, Option, Some, None, nat_lt, min, ◌+◌, ◌-◌, ◌^◌, if◌then◌else◌}
 use Rattle.std.proofs.lemmas.Bool.{and_parts, cases_Bool}
 use mathlib.Core.Bool.{false≢true}
 use Rattle.fsfs_base.specs.Paths.{PathName, Path}
@@ -22,7 +22,7 @@ use Rattle.fsfs_shows.proofs.TreeLaw.{stands_home}
 use Rattle.fsfs_ancestry.proofs.Earlier.{pred_same}
 use Rattle.fsfs_drafts.specs.OwnSides.{NodesAt, in_txn}
 use Rattle.fsfs_merge.proofs.SightLaw.{lasting_id}
-use Rattle.fsfs_drafts.specs.NodeDrafts.{draft_root, IsOwn, is_new_part, DraftPart, IsDraft}
+use Rattle.fsfs_drafts.specs.NodeDrafts.{IsOwn, is_new_part, DraftPart, IsDraft}
 use Rattle.fsfs_drafts.specs.NodeDrafts as drafts
 use Rattle.fsfs_ancestry.proofs.Roots.{one_more}
 use Rattle.fsfs_final.proofs.LastNames.{Ends, Root, Named, ends}

@@ -1,5 +1,5 @@
 -- What the writer has laid down stays while it appends, and is read.
-use Rattle.std.proofs.Common.{◌≡◌, ◌≤◌, ◌<◌, ◌+◌, suc, ℕ, Bool, true, false, cond, List, [], ◌∷◌, ◌++◌, length, drop, refl, sym, ap, subst, ◌∙◌, arith, inl, inr, append_assoc}
+use Rattle.std.proofs.Common.{◌≡◌, ◌≤◌, ◌<◌, ◌+◌, ℕ, Bool, true, false, cond, List, [], ◌∷◌, ◌++◌, length, drop, refl, sym, ap, subst, ◌∙◌, arith, inl, inr, append_assoc}
 use Rattle.std.specs.Prelude.{Option, Some, None, Ok, codes, is_some}
 use Rattle.std.specs.List.{flat_map}
 use Rattle.std.proofs.lemmas.List.{append-nil, length-append}
@@ -16,7 +16,7 @@ use Rattle.fsfs_damage.specs.Damages.{place_of}
 use Rattle.fsfs_rep.specs.Frames.{RepIn}
 use Rattle.fsfs_drafts.specs.OwnSides.{NodesAt}
 use Rattle.fsfs_final.specs.Bytes.{HoldsDraft}
-use Rattle.fsfs_final.specs.Laid.{IsTextAt, IsPlaced, IsRepAt, IsFramed, Laid, nothing_laid, with_laid, IsLaid, LaysDraft, LoopLaws}
+use Rattle.fsfs_final.specs.Laid.{IsTextAt, IsPlaced, IsRepAt, IsFramed, Laid, with_laid, IsLaid, LaysDraft, LoopLaws}
 use Rattle.fsfs_final.proofs.PiecesLaw.{pieces_are_read}
 use Rattle.std.proofs.lemmas.Bool.{cases_Bool}
 

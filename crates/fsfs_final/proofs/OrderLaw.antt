@@ -1,5 +1,5 @@
 -- A finished node-revision of a draft names only what stands before it.
-use Rattle.std.proofs.Common.{◌≡◌, ◌∙◌, ◌≤◌, ◌<◌, ℕ, zero, suc, Bool, true, false, ◌&&◌, if◌then◌else◌, List, [], ◌∷◌, ◌++◌, length, Option, Some, None, refl, sym, ap, subst, arith, inl, inr, ◌⊎◌}
+use Rattle.std.proofs.Common.{◌≡◌, ◌∙◌, ◌≤◌, ◌<◌, ℕ, zero, suc, Bool, true, false, if◌then◌else◌, [], ◌∷◌, ◌++◌, length, Option, Some, None, refl, sym, ap, subst, arith, inl, inr, ◌⊎◌}
 use Rattle.std.specs.Prelude.{nat_lt, nat_le}
 use Rattle.std.proofs.lemmas.Bool.Decides.{nat_tests}
 use mathlib.Core.Bool.{false≢true}
@@ -11,9 +11,9 @@ use Rattle.fsfs_noderev.specs.declared.node_id.Place.TheVariants as places
 use Rattle.fsfs_noderev.specs.declared.node_rev.CopyRoot.{CopyRoot}
 use Rattle.fsfs_noderev.specs.declared.node_rev.CopySource.{CopySource}
 use Rattle.fsfs_noderev.specs.declared.node_rev.NodeRev.{NodeRev}
-use Rattle.fsfs_revision.specs.Nodes.{has_revision_root, is_some_rev, rep_before, pred_before, place_before, source_before, root_not_after, rev_not_after, is_ordered}
+use Rattle.fsfs_revision.specs.Nodes.{has_revision_root, is_some_rev, pred_before, place_before, source_before, root_not_after, rev_not_after}
 use Rattle.fsfs_damage.specs.Damages.{place_of}
-use Rattle.fsfs_shows.specs.Reading.{offset_of, StandsAt}
+use Rattle.fsfs_shows.specs.Reading.{offset_of}
 use Rattle.fsfs_shows.specs.Chains.{own_rev, copy_root_of, root_or_own}
 use Rattle.fsfs_shows.specs.IdRules.{IsOf}
 use Rattle.fsfs_shows.proofs.TreeLaw.{stands_home, root_le}
@@ -23,7 +23,7 @@ use Rattle.fsfs_merge.proofs.SightLaw.{lasting_id}
 use Rattle.fsfs_drafts.specs.NodeDrafts.{draft_root, IsOwn, IsDraft}
 use Rattle.fsfs_final.specs.Final.{IsFinal}
 use Rattle.fsfs_final.specs.Ordered.{FinalsAreInOrder}
-use Rattle.fsfs_final.proofs.LastNames.{Ends, Root, Named, ends}
+use Rattle.fsfs_final.proofs.LastNames.{Root, Named, ends}
 use Rattle.fsfs_final.proofs.Stays.{copy_or, own_dir, ready}
 use Rattle.std.proofs.lemmas.Bool.{and_from}
 

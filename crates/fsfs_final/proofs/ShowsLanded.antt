@@ -15,13 +15,13 @@ use Rattle.fsfs_book.specs.Told.{RevisionBytes}
 use Rattle.fsfs_noderev.specs.declared.rep.Contents.TheVariants as contents
 use Rattle.fsfs_noderev.specs.declared.node_rev.CopySource.{CopySource}
 use Rattle.fsfs_noderev.specs.declared.node_rev.NodeRev.{NodeRev}
-use Rattle.fsfs_shows.specs.Reading.{OfId, ChildOf, PropsOf, Met, Stands, Lacking, Blocked, MetAt, StandsAt}
+use Rattle.fsfs_shows.specs.Reading.{ChildOf, Met, Stands, Lacking, Blocked, MetAt, StandsAt}
 use Rattle.fsfs_shows.specs.Chains.{own_rev, IsPred, Chain, First, Goes, copy_root_of, IsCopiedIn, contents_rev}
 use Rattle.fsfs_shows.specs.Shown.{Nearest, copied_from, source_by, IsOfCopy, IsSource, IsShown, IsShownAs, Shows}
 use Rattle.fsfs_shows.specs.IdRules.{IsOf}
 use Rattle.fsfs_shows.proofs.OneWalk.{met_same, stands_same}
 use Rattle.fsfs_shows.proofs.TreeLaw.{IsHome, stands_home, chain_le, root_le, props_le}
-use Rattle.fsfs_base.proofs.PathLemmas.{covers-refl, covers-trans, covers-either, covers-antisym, covers-longer, covers-length, split_at}
+use Rattle.fsfs_base.proofs.PathLemmas.{covers-longer, covers-length, split_at}
 use Rattle.fsfs_model.proofs.MergeWalk.{gone_down}
 use Rattle.fsfs_model.proofs.NextHistory.{IsWhole, whole, at_most}
 use Rattle.fsfs_ancestry.specs.Trees.{ShowTrees}

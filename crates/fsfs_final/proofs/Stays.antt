@@ -17,9 +17,9 @@ use Rattle.fsfs_ancestry.proofs.Roots.{length_push}
 use Rattle.fsfs_ancestry.proofs.Bounded.{back_same, of_id_same, child_same}
 use Rattle.fsfs_ancestry.proofs.BoundedIds.{InTime, in_time, behind_to, stands_to}
 use Rattle.fsfs_drafts.specs.OwnSides.{NodesAt, in_txn}
-use Rattle.fsfs_drafts.specs.NodeDrafts.{draft_root, IsOwn, DraftPart, IsDraft}
+use Rattle.fsfs_drafts.specs.NodeDrafts.{IsOwn, DraftPart, IsDraft}
 use Rattle.fsfs_drafts.specs.NodeDrafts as drafts
-use Rattle.fsfs_final.proofs.LastNames.{Ends, Root, Named, ends}
+use Rattle.fsfs_final.proofs.LastNames.{Root, Named, ends}
 use Rattle.fsfs_final.specs.Staying.{DraftsStay}
 use Rattle.std.proofs.lemmas.Bool.{both_ways, cases_Bool}
 

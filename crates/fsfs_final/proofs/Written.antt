@@ -17,7 +17,7 @@ use Rattle.fsfs_ancestry.proofs.Standing.{for_each}
 use Rattle.fsfs_ancestry.proofs.Roots.{length_push}
 use Rattle.fsfs_drafts.specs.OwnSides.{NodesAt, in_txn}
 use Rattle.fsfs_drafts.specs.NodeDrafts.{IsOwn, IsDraft}
-use Rattle.fsfs_final.proofs.LastNames.{Ends, Root, Named, ends}
+use Rattle.fsfs_final.proofs.LastNames.{Root, Named, ends}
 use Rattle.fsfs_final.specs.Final.{IsFinal, Finished, AsItWas, Done, IsWritten}
 use Rattle.fsfs_final.specs.Directories.{ReadsAsDraft, HasAllBelow, DirectoriesAreEnough}
 use Rattle.std.proofs.lemmas.Bool.{both_ways, cases_Bool}

@@ -1,5 +1,5 @@
 -- A folded change that is no delete stands in the tree, with its kind.
-use Rattle.std.proofs.Common.{◌≡◌, ◌∙◌, ◌≤◌, ℕ, sym, ap, refl, subst, Some, None, Option, List, [], ◌∷◌, ◌++◌, Bool, true, false, ◌&&◌, cond, not, inl, inr, ◌⊎◌}
+use Rattle.std.proofs.Common.{◌≡◌, ◌∙◌, ℕ, sym, ap, refl, subst, Some, None, Option, List, [], ◌∷◌, ◌++◌, Bool, true, false, ◌&&◌, cond, not, inl, inr, ◌⊎◌}
 use Rattle.std.specs.Prelude.{is_some, nat_le, ◌≢◌}
 use Rattle.std.proofs.lemmas.List.{append-nil}
 use borrow.Author.Tests.{ltb-false}
@@ -9,7 +9,6 @@ use Rattle.fsfs_flat.specs.declared.edit.Edit.TheVariants.{MakeDir, MakeFile, De
 use Rattle.fsfs_base.specs.declared.kind.Kind.{Kind}
 use Rattle.fsfs_base.specs.declared.kind.Kind.TheVariants.{File, Dir}
 use Rattle.fsfs_flat.specs.declared.mark.Mark.{Mark}
-use Rattle.fsfs_flat.specs.declared.mark.What.{What}
 use Rattle.fsfs_flat.specs.declared.mark.What.TheVariants.{Make, Gone, Text, Prop}
 use Rattle.fsfs_tree.specs.declared.change_map.Change.{Change}
 use Rattle.fsfs_flat.specs.declared.folded.Folded.{Folded}
@@ -20,25 +19,24 @@ use Rattle.fsfs_tree.specs.Nodes.{Node, TreeFunction, Bytes, empty_node}
 use Rattle.fsfs_flat.specs.Marks.{made, effects}
 use Rattle.fsfs_flat.specs.Edits.{can_make, changed_props, accepts, applied, mark_of, with_text, with_prop, bytes_of, copied_node, rest_after, kind_of_node, is_file_node}
 use Rattle.fsfs_flat.specs.Landing.{land, reached, goes_on, clashes_at, touched_by_head, held_by_head}
-use Rattle.fsfs_flat.specs.Folding.{fold, fold_from, fold_mark, joined, forgotten, begun, flagged, after_add, after_delete, after_modify, change_in}
+use Rattle.fsfs_flat.specs.Folding.{fold_mark, joined, begun, flagged, after_add, after_delete, after_modify, change_in}
 use Rattle.fsfs_flat.specs.Histories.{AreRevisions}
 use Rattle.fsfs_flat.specs.Transactions.{IsTransaction, Begun, Edited, Landed}
 use Rattle.fsfs_model.specs.Laws.{In}
-use Rattle.fsfs_model.proofs.Bases.{IsClosed}
 use Rattle.fsfs_model.proofs.Applied.{same_path-is, same_path-refl, nothing_after}
 use Rattle.fsfs_base.proofs.PathLemmas.{covers-refl, covers-antisym}
 use Rattle.fsfs_model.proofs.MergeWalk.{Premises, region, go, reached_or, quiet_side, touched_up, gone_down}
 use Rattle.fsfs_model.proofs.Tests.{other_false}
-use Rattle.fsfs_model.proofs.Origins.{IsSameNode, Origin, Head, Changed, Own, origin}
+use Rattle.fsfs_model.proofs.Origins.{Origin, Head, Changed, Own, origin}
 use Rattle.fsfs_model.proofs.LandedAt.{in_head, comes, all_three}
 use Rattle.fsfs_model.proofs.LandedContents.{there}
-use Rattle.fsfs_model.proofs.Contents.{KeepsContent, IsKept}
-use Rattle.fsfs_model.proofs.Joined.{says, adds, deletes, fold_push, fold_here, fold_beside, fold_other, fold_below, says_some, adds_makes}
+use Rattle.fsfs_model.proofs.Contents.{KeepsContent}
+use Rattle.fsfs_model.proofs.Joined.{says, adds, deletes, fold_push, fold_here, fold_beside, fold_other, fold_below, adds_makes}
 use Rattle.fsfs_model.proofs.Folds.{said_of, FoldTells}
 use Rattle.fsfs_model.proofs.FoldingLaw.{fold_tells}
 use Rattle.fsfs_model.proofs.TwoMergesLaw.{premises}
-use Rattle.fsfs_model.proofs.NextHistory.{IsWhole, whole}
-use Rattle.fsfs_folds.specs.FoldedFit.{FoldFits, FoldsFit}
+use Rattle.fsfs_model.proofs.NextHistory.{whole}
+use Rattle.fsfs_folds.specs.FoldedFit.{FoldsFit}
 use Rattle.std.proofs.lemmas.Bool.{and_from, and_parts, both_ways, cases_Bool, false_from_ne_true, not-true, leb-true}
 use Rattle.std.proofs.lemmas.Option.{same_Some}
 

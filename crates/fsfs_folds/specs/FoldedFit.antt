@@ -1,5 +1,5 @@
 -- What the folded changes of a transaction tell of its tree, and of that of the revision that it becomes.
-use Rattle.std.specs.Prelude.{◌≡◌, ◌≢◌, ℕ, Bool, List, Option, Some, None}
+use Rattle.std.specs.Prelude.{◌≡◌, ◌≢◌, ℕ, List, Some, None}
 use Rattle.fsfs_flat.specs.declared.mark.Mark.{Mark}
 use Rattle.fsfs_base.specs.declared.action.Action.TheVariants.{Delete}
 use Rattle.fsfs_tree.specs.declared.change_map.Change.{Change}

@@ -1,8 +1,7 @@
 -- What a merge leaves of a draft shows the landing.
 use Rattle.fsfs_ancestry.proofs.Revisions.{shown_revisions}
 use Rattle.std.proofs.Common.{◌≡◌, ◌≤◌, ◌<◌, ◌⊎◌, ℕ, suc, not, Bool, true, false, ◌&&◌, cond, List, [], ◌∷◌, ◌++◌, refl, sym, ap, subst, ◌∙◌, arith, inl, inr, append-nil, append_assoc}
-use Rattle.std.specs.Prelude.{Option, Some, None, is_some, nat_le, ◌||◌, if◌then◌else◌}
-use Rattle.std.proofs.lemmas.Bool.Decides.{nat_tests}
+use Rattle.std.specs.Prelude.{Option, Some, None, is_some, ◌||◌, if◌then◌else◌}
 use mathlib.Core.Bool.{false≢true}
 use Rattle.fsfs_base.specs.Paths.{PathName, Path, covers}
 use Rattle.fsfs_tree.specs.Nodes.{Node, TreeFunction, Content, Bytes}
@@ -19,7 +18,7 @@ use Rattle.fsfs_noderev.specs.declared.node_rev.CopySource.{CopySource}
 use Rattle.fsfs_noderev.specs.declared.node_rev.NodeRev.{NodeRev}
 use Rattle.fsfs_shows.specs.Reading.{DirEntry, StandsAt}
 use Rattle.fsfs_shows.specs.Shown.{IsTextOf}
-use Rattle.fsfs_base.proofs.PathLemmas.{same_name-is, covers-refl, covers-trans, covers-antisym, covers-either, covers-longer}
+use Rattle.fsfs_base.proofs.PathLemmas.{same_name-is, covers-trans, covers-either, covers-longer}
 use Rattle.fsfs_model.proofs.MergeWalk.{goes_gone, reached_above}
 use Rattle.fsfs_drafts.specs.Own.{OwnNode, Own, has_entry, draft_tree, shared_from, shared_under, shared_at}
 use Rattle.fsfs_drafts.specs.Rules.{ComesBy, Change, Copied, Made, stands_at, above_at, at_top, above_of}
@@ -28,9 +27,9 @@ use Rattle.fsfs_drafts.specs.OwnSides.{NodesAt}
 use Rattle.fsfs_drafts.specs.Met.{draft_nodes, AreNodes}
 use Rattle.fsfs_drafts.specs.Sides.{OwnFiles, DrawnOnce, held, goes_on_here, AreMarksOf, source_here, OwnSources}
 use Rattle.fsfs_drafts.proofs.Bases.{revision_agrees, met_there}
-use Rattle.fsfs_drafts.proofs.Placing.{Place, Mine, Shared, place, got}
+use Rattle.fsfs_drafts.proofs.Placing.{Place, Mine, Shared, got}
 use Rattle.fsfs_drafts.proofs.Placing as placing
-use Rattle.fsfs_drafts.proofs.HangLaw.{some_same, both_ends}
+use Rattle.fsfs_drafts.proofs.HangLaw.{some_same}
 use Rattle.fsfs_drafts.proofs.HangLaw as hanging
 use Rattle.fsfs_drafts.proofs.SideLaw as sides
 use Rattle.fsfs_drafts.proofs.DrawLaw.{shared_last}
@@ -43,7 +42,7 @@ use Rattle.fsfs_merge.proofs.MergedLaw.{own_here}
 use Rattle.fsfs_merge.proofs.MergeLaw.{Through, Stopped, way, Taken, FromOwn, FromHead, HeadSame, OwnSame, pre, taken_at, own_of, leaves}
 use Rattle.fsfs_landed.specs.LandedOwn.{relinked_own, landed_own, AreLists, IsLandedFolder}
 use Rattle.fsfs_landed.specs.LandedShown.{LandedIsShown, LandingsAreShown}
-use Rattle.fsfs_landed.proofs.LandedOwnLaw.{LinkedOwn, relinked_none, OwnNow, Link, Kept, LinkAt}
+use Rattle.fsfs_landed.proofs.LandedOwnLaw.{OwnNow, Link, Kept}
 use Rattle.fsfs_landed.proofs.LandedOwnLaw as landing
 use Rattle.std.proofs.lemmas.Bool.{and_parts, both_ways, cases_Bool, leb-true}
 

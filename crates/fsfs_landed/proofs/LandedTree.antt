@@ -22,7 +22,7 @@ use Rattle.fsfs_merge.proofs.MergeLaw.{Way, Through, Stopped, way, Taken, FromOw
 use Rattle.fsfs_drafts.specs.NodeDrafts.{IsDraft}
 use Rattle.fsfs_drafts.specs.Draws.{FreshAt, MadeHere, CameWith, DrawsTree}
 use Rattle.fsfs_landed.specs.Landed.{MergeKeepsTrees}
-use Rattle.fsfs_landed.proofs.LandedDraft.{Merged, merged}
+use Rattle.fsfs_landed.proofs.LandedDraft.{merged}
 use Rattle.fsfs_landed.proofs.LandedDraft as drafted
 use Rattle.std.proofs.lemmas.Bool.{and_from, and_parts, both_ways, cases_Bool, false_from_ne_true}
 

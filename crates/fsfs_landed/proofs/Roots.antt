@@ -1,7 +1,7 @@
 -- Both sides of a merge find one copy root: that of a directory that both sides changed is the same in the head and in the draft.
 use Rattle.fsfs_ancestry.proofs.Revisions.{shown_revisions}
 use Rattle.std.proofs.Common.{◌≡◌, ◌≤◌, ◌<◌, ◌⊎◌, ◌+◌, ℕ, zero, suc, Bool, true, false, List, [], ◌∷◌, ◌++◌, refl, sym, ap, subst, ◌∙◌, arith, inl, inr}
-use Rattle.std.specs.Prelude.{◌≢◌, Result, Ok, Option, Some, None, nat_lt, nat_le, if◌then◌else◌}
+use Rattle.std.specs.Prelude.{Result, Ok, Option, Some, None, nat_lt, if◌then◌else◌}
 use Rattle.std.proofs.lemmas.Bool.Decides.{nat_tests}
 use Rattle.fsfs_base.specs.Paths.{PathName, Path, covers}
 use Rattle.fsfs_tree.specs.Nodes.{Node, TreeFunction}
@@ -16,12 +16,12 @@ use Rattle.fsfs_damage.specs.declared.wrong.Wrong.{Wrong}
 use Rattle.fsfs_shows.specs.Reading.{ChildOf, Met, Stands, Lacking, Blocked, OrLacking, InDirectory, MetFrom, MetAt, StandsAt}
 use Rattle.fsfs_shows.specs.Chains.{own_rev, copy_root_of}
 use Rattle.fsfs_shows.specs.Shown.{IsShownAs}
-use Rattle.fsfs_shows.specs.IdRules.{IsBehind, root_after}
+use Rattle.fsfs_shows.specs.IdRules.{IsBehind}
 use Rattle.fsfs_shows.specs.IdRules as rules
 use Rattle.fsfs_damage.proofs.OneAnswer.{ok_same}
 use Rattle.fsfs_shows.proofs.OneWalk.{stands_same}
 use Rattle.fsfs_shows.proofs.TreeLaw.{stands_home, child_home, root_le}
-use Rattle.fsfs_base.proofs.PathLemmas.{same_name-refl, same_name-is, covers-longer}
+use Rattle.fsfs_base.proofs.PathLemmas.{covers-longer}
 use Rattle.fsfs_model.proofs.Later.{later}
 use Rattle.fsfs_ancestry.specs.Trees.{ShowTrees}
 use Rattle.fsfs_ancestry.proofs.Standing.{for_each}
