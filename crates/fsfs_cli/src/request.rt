@@ -73,11 +73,8 @@ impl Printed {
             Printed::Tree { path, .. } | Printed::Text { path } | Printed::History { path } => {
                 Some(path)
             }
-            Printed::Author
-            | Printed::Date
-            | Printed::Log
-            | Printed::Info
-            | Printed::Changed => None,
+            Printed::Author | Printed::Date | Printed::Log | Printed::Info | Printed::Changed =>
+                None,
         }
     }
 }
