@@ -20,7 +20,7 @@ use Rattle.fsfs_printed.specs.Agreeing.{IsFront, Agree, HasOneText}
 use Rattle.fsfs_printed.proofs.OneText.{agree_behind, nothing_one, at_path_one, wrong_same}
 use Rattle.fsfs_ancestry.specs.CopyRoots.{later_root, IsRootedFrom, IsRootedAt}
 use Rattle.fsfs_histories.specs.Steps.{Point, IsPointIn, PointAt, Lead, Nowhere, Back, Across, lead_of, IsBefore, OfSource, AcrossCopy, Leads, HistoryStep}
-use Rattle.fsfs_histories.specs.Lines.{history_head}
+use Rattle.fsfs_answers.specs.HistoryTexts.{history_head}
 use Rattle.fsfs_histories.specs.HistoryTexts.{line_of, PointsText, OfLast, OfNext, OfWrong, Stops, HeadedText, MetHistory}
 use Rattle.fsfs_histories.specs.Laws.{StepsAreOne, HistoriesHaveOneText}
 

@@ -18,7 +18,7 @@ use Rattle.fsfs_printed.proofs.FoundAt.{IsFoundAs, never_wrong, found_as}
 use Rattle.fsfs_printed.proofs.TreeByTree.{of_behind}
 use Rattle.fsfs_ancestry.specs.CopyRoots.{IsRootedAt}
 use Rattle.fsfs_histories.specs.Steps.{Point, HistoryStep}
-use Rattle.fsfs_histories.specs.Lines.{history_head, point_line, history_text}
+use Rattle.fsfs_answers.specs.HistoryTexts.{history_head, point_line, history_text}
 use Rattle.fsfs_histories.specs.HistoryTexts.{line_of, PointsText, OfLast, OfNext, OfWrong, Stops, HeadedText, MetHistory, HistoryText}
 use Rattle.fsfs_ancestry.specs.Trees.{ShowTrees}
 use Rattle.fsfs_histories.specs.Laws.{IsAt, IsStepByTrees, IsPointByTrees, IsHistoryOf, HistoriesAreByTrees}

@@ -7,7 +7,7 @@ use Rattle.fsfs_shows.specs.Reading.{Met, Stands, Lacking, Blocked}
 use Rattle.fsfs_printed.specs.declared.look_fault.LookFault.TheVariants as faults
 use Rattle.fsfs_printed.specs.Texts.{End, Whole, Refused, Stopped, Nothing, AtPath}
 use Rattle.fsfs_histories.specs.Steps.{Point, point_rev, IsPointIn, HistoryStep}
-use Rattle.fsfs_histories.specs.Lines.{history_head, point_line}
+use Rattle.fsfs_answers.specs.HistoryTexts.{history_head, point_line}
 
 abbrev pub line_of : Point → List ℕ
 line_of at = point_line (point_rev at, at.path)

@@ -13,7 +13,7 @@ use Rattle.fsfs_printed.specs.ByTree.{IsOf, IsRefusedFor, IsNotFoundAt, IsNotDir
 use Rattle.fsfs_ancestry.specs.CopyRoots.{IsRootedAt}
 use Rattle.fsfs_ancestry.specs.Trees.{ShowTrees}
 use Rattle.fsfs_histories.specs.Steps.{Point, point_rev, HistoryStep}
-use Rattle.fsfs_histories.specs.Lines.{history_text}
+use Rattle.fsfs_answers.specs.HistoryTexts.{history_text}
 use Rattle.fsfs_histories.specs.HistoryTexts.{HistoryText}
 
 -- ---- one text

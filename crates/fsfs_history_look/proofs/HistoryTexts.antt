@@ -9,7 +9,7 @@ use Rattle.fsfs_damage.specs.Readings.{Answers}
 use Rattle.fsfs_shows.specs.Reading.{Stands, MetAt}
 use Rattle.fsfs_printed.specs.declared.look_fault.LookFault.TheVariants as faults
 use Rattle.fsfs_printed.specs.Texts.{End, Whole, Refused, Stopped}
-use Rattle.fsfs_histories.specs.Lines.{history_head}
+use Rattle.fsfs_answers.specs.HistoryTexts.{history_head}
 use Rattle.fsfs_histories.specs.Steps.{HistoryStep}
 use Rattle.fsfs_histories.specs.HistoryTexts.{line_of, PointsText, OfLast, OfNext, OfWrong, Stops, HistoryText}
 use Rattle.fsfs_history_look.specs.declared.history.HistoryPoint.{HistoryPoint}

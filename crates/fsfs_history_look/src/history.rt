@@ -13,7 +13,7 @@ ghost use Rattle.fsfs_shows.specs.Reading.{MetAt, Stands};
 ghost use Rattle.fsfs_shows.specs.Shown.{copied_from, source_by};
 ghost use Rattle.fsfs_ancestry.specs.CopyRoots.{later_root};
 ghost use Rattle.fsfs_histories.specs.Steps.{point_rev, PointAt, lead_of, OfSource, AcrossCopy, HistoryStep};
-ghost use Rattle.fsfs_histories.specs.Lines.{right};
+ghost use Rattle.fsfs_answers.specs.HistoryTexts.{right};
 ghost use Rattle.fsfs_histories.specs.HistoryTexts.{line_of, HistoryText};
 ghost use Rattle.fsfs_history_look.specs.Points.{root_value, point_value, lead_value, way_met, IsRootedWay, IsWithin, IsWayWithin, IsPointFound, next_line, BehindText, HistoryFrom, LeadsLower, height};
 ghost use Rattle.fsfs_look.specs.Walks.{Walks};

@@ -27,8 +27,8 @@ returns-in_err-found-clause-told g c = λ look knows.
 pub returns-clause-told : goal.returns-clause-told
 returns-clause-told g c = λ look knows.
     let rev = c.args.rev in
-    let items = c.in_ok-items.items.items in
-    let wrong = c.in_ok-items.wrong in
+    let items = c.in_ok-items.field-0.items.items in
+    let wrong = c.in_ok-items.field-0.wrong in
     let found = by_text_value c.in_ok-found.found in
     let R : List ℕ → End → Type 0 = LinesText look rev found (end_of wrong) (in_order found) in
     let old = g.S.Sink.written c.args.sink.now in

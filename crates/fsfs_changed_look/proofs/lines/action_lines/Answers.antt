@@ -24,9 +24,9 @@ returns-in-Add-clause-told g c = λ look knows.
 pub returns-in-Delete-clause-told : goal.returns-in-Delete-clause-told
 returns-in-Delete-clause-told g c = λ look knows.
     let item = c.args.item.now in
-    subst (λ (a : Action). Answers items (ActionLines look c.args.rev (by_text_value c.args.items.now) item a c.args.kind) c.read.result) (sym c.in-Delete.is) (c.read.ensures.put (changed_line (codes "D ") item.path c.args.kind) c.line.ensures)
+    subst (λ (a : Action). Answers items (ActionLines look c.args.rev (by_text_value c.args.items.now) item a c.args.kind) c.read-in-Delete.result) (sym c.in-Delete.is) (c.read-in-Delete.ensures.put (changed_line (codes "D ") item.path c.args.kind) c.line-in-Delete.ensures)
 
 pub returns-in-Modify-clause-told : goal.returns-in-Modify-clause-told
 returns-in-Modify-clause-told g c = λ look knows.
     let item = c.args.item.now in
-    subst (λ (a : Action). Answers items (ActionLines look c.args.rev (by_text_value c.args.items.now) item a c.args.kind) c.read.result) (sym c.in-Modify.is) (c.read.ensures.put (modified_line item.text_changed item.props_changed item.path c.args.kind) c.modified.ensures)
+    subst (λ (a : Action). Answers items (ActionLines look c.args.rev (by_text_value c.args.items.now) item a c.args.kind) c.read-in-Modify.result) (sym c.in-Modify.is) (c.read-in-Modify.ensures.put (modified_line item.text_changed item.props_changed item.path c.args.kind) c.modified.ensures)

@@ -1,6 +1,6 @@
 use Rattle.std.proofs.Common.{◌++◌, ap, ◌∙◌}
 use Rattle.std.proofs.lemmas.Result.{err_from_is_err_and}
-use Rattle.fsfs_histories.specs.Lines.{history_head}
+use Rattle.fsfs_answers.specs.HistoryTexts.{history_head}
 use Rattle.fsfs_histories.specs.HistoryTexts.{line_of}
 use Rattle.fsfs_history_look.specs.Points.{point_value}
 use Rattle.fsfs_history_look.proofs.HistoryTexts.{none_yet, history_goes}
