@@ -61,7 +61,7 @@ front_path p k is = record {
   names = names_taken p k is.names;
   deep = omega (arith, is.deep, length-take k p);
   fits = (let whole = ap names_text (sym (take-append-drop k p)) ∙ names_text-append (take k p) (drop k p) in
-    names_fit (take k p) (omega (arith, text_fits p is.fits, ap length whole, length-append (names_text (take k p)) (names_text (drop k p)))));
+      names_fit (take k p) (omega (arith, text_fits p is.fits, ap length whole, length-append (names_text (take k p)) (names_text (drop k p)))));
 }
 
 -- the items of data have paths

@@ -76,10 +76,10 @@ module _ (May : List ChangeItem → ChangeItem → Type 0) where
       let tail = subst (λ (z : ChangeItem). Items May (a ++ z ∷ []) w.1 ys) (sym same.0) w.4 in
       let here : Refuses ((a ++ x ∷ []) ++ xs) rest = λ item behind b. subst (λ (zs : List ChangeItem). ¬ May zs item) (sym (append_assoc a (x ∷ []) xs)) (f item behind b) in
       let there : Refuses ((a ++ x ∷ []) ++ ys) more =
-          λ item behind b. subst (λ (zs : List ChangeItem). ¬ May zs item) (sym (append_assoc a (x ∷ []) ys)) (subst (λ (z : ChangeItem). ¬ May (a ++ z ∷ ys) item) (sym same.0) (g item behind b)) in
+      λ item behind b. subst (λ (zs : List ChangeItem). ¬ May zs item) (sym (append_assoc a (x ∷ []) ys)) (subst (λ (z : ChangeItem). ¬ May (a ++ z ∷ ys) item) (sym same.0) (g item behind b)) in
       let inner = fault_front (a ++ x ∷ []) xs ys v.1 w.1 rest more v.4 tail same.1 here there in
       let long : length front ≡ length back =
-          omega (arith, inner.0, ap length whole, ap length same.1, ap length v.5, ap length w.5, length-append v.0 v.1, length-append w.0 w.1, length-append v.0 (v.1 ++ rest), length-append w.0 (w.1 ++ more), length-append v.1 rest, length-append w.1 more) in
+      omega (arith, inner.0, ap length whole, ap length same.1, ap length v.5, ap length w.5, length-append v.0 v.1, length-append w.0 w.1, length-append v.0 (v.1 ++ rest), length-append w.0 (w.1 ++ more), length-append v.1 rest, length-append w.1 more) in
       (long, λ i. same.0 i ∷ inner.1 i)
 
   fault_same : (bytes : List ℕ) (at to : ℕ) (v : IsItemFault May bytes at) (w : IsItemFault May bytes to) → SameFront v.front w.front v.earlier w.earlier
