@@ -1,6 +1,7 @@
 //! Histories of paths in revisions that Subversion wrote, with the lines of its own `svnlook history`; and damaged ones.
 use crate::revisions::{
-    COPIED_DIRECTORY, NESTED_1, NESTED_2, NESTED_3, NESTED_4, NESTED_5, NESTED_6, NESTED_7, TWO_FILES,
+    COPIED_DIRECTORY, NESTED_1, NESTED_2, NESTED_3, NESTED_4, NESTED_5, NESTED_6, NESTED_7,
+    TWO_FILES,
 };
 use fsfs_base::{FsPath, RevNum};
 use fsfs_damage::{Damage, DamageKind, RevOffset, Wrong};
@@ -67,7 +68,9 @@ const HISTORIES: [(u16, &str, &str); 8] = [
 #[test]
 fn histories_of_subversion(rt: HostRuntime) -> Result<(), Fail> {
     let alloc = rt.alloc();
-    let made = [NESTED_1, NESTED_2, NESTED_3, NESTED_4, NESTED_5, NESTED_6, NESTED_7];
+    let made = [
+        NESTED_1, NESTED_2, NESTED_3, NESTED_4, NESTED_5, NESTED_6, NESTED_7,
+    ];
     let mut book = book_of(alloc, &made)?;
     for (rev, path, want) in HISTORIES {
         let mut sink = MemSink::new(alloc);

@@ -1,0 +1,362 @@
+// The files of a repository, over the calls of the system.
+ghost use Rattle.std.specs.Prelude.{◌≡◌, ◌⊎◌, ◌≤◌, ◌^◌, [], true, false, length, is_some, option_map, IfOk, IfSome, OnOk, OnErr};
+ghost use Rattle.std.specs.FinMap.{empty};
+ghost use Rattle.fsfs_disk.specs.Labels.{label_of, has_label, IsListing};
+ghost use Rattle.fsfs_disk.specs.Benches.{IsFirmFile};
+ghost use Rattle.fsfs_disk.specs.Trace.{Put, Rename, Remove, FirmNames, KeepLabel, DropLabel, labels_now, Performs, PerformsIfThere, FailsAt, IsRead, IsThere, IsSize, file_at};
+ghost use Rattle.fsfs_calls.specs.Paths.{has_path, folder_of};
+ghost use Rattle.fsfs_calls.specs.Listing.{is_entry as entry};
+ghost use Rattle.fsfs_folders.specs.Told.{is_apart as apart, LeavesImages};
+ghost use Rattle.fsfs_folders.specs.Keeping.{are_rooted, are_names_firm, is_sound};
+ghost use Rattle.fsfs_folders.specs.Quiet.{IsQuiet};
+ghost use Rattle.fsfs_folders.specs.Standing.{told, IsNoted, IsWritten, IsWholeAt, bytes_under, Adopts, FailsToTake};
+ghost use Rattle.fsfs_folders.specs.BenchFiles.{bench_told, firm_held, AreShort, HoldsNothing};
+
+use crate::bench::FolderBench;
+use crate::bench_files::clear;
+use crate::label_paths::bench_path;
+use crate::listing::txns_among;
+use crate::noted::Noted;
+use crate::reading::{file_size, read_file};
+use crate::texts::{BESIDE, is_apart, is_in_bench, is_inner_folder};
+use crate::writing::{sync_folders, write_new};
+use fsfs_base::Name;
+use fsfs_calls::{CallError, Calls, Path};
+use fsfs_disk::Label;
+use std::alloc::Global;
+
+// No file grows longer than this.
+pub const LONGEST: usize = 1 << 62;
+
+/// The files of a repository below a folder, over the calls of the system. A file is written beside its name, made firm and then
+/// renamed, so no file that has a name is ever written. It tells the operations that its calls come to.
+#[derive(Drop)]
+pub struct Folders<C: Calls + Drop> {
+    calls: C,
+    // The folders whose names may not be firm.
+    changed: Noted,
+    // The folders themselves have firm names.
+    is_settled: bool,
+    ghost sound: { is_sound (C.Calls.history calls) changed is_settled ≡ true },
+}
+
+impl<C: Calls + Drop> Folders<C> {
+    /// Over calls that begin, in a folder where each file has its folders.
+    pub fn new(alloc: Global, calls: C) -> Folders<C>
+        requires { IfSome (C.history calls) (λ r. (r.calls ≡ []) × (are_rooted r.first.folders r.first.files ≡ true)) }
+        ensures { told (C.history result.calls) ≡ told (C.history calls) }
+    {
+        Folders {
+            calls,
+            changed: Noted::new(alloc),
+            is_settled: true,
+        }
+    }
+
+    /// Whatever a crash may leave now of names and of bytes shows one of the images that the disk tells.
+    pub fn leaves_images(&self)
+        ensures { IfSome (C.history self.now.calls) LeavesImages }
+    {}
+
+    // Makes the names in all folders firm in which any may not be.
+    fn sync_changed(&mut self) -> Result<(), CallError>
+        ensures quiet { IsQuiet (C.history self.old.calls) (C.history self.new.calls) }
+        ensures firm { OnOk result (IfSome (C.history self.new.calls) (λ r. are_names_firm [] r.calls ≡ true)) }
+        ensures settled { OnOk result (self.new.is_settled ≡ true) }
+    {
+        sync_folders(&mut self.calls, self.changed.paths())?;
+        self.changed.clear();
+        self.is_settled = true;
+        Ok(())
+    }
+
+    // Makes the names of the folders firm, where they may not be.
+    fn settle(&mut self) -> Result<(), CallError>
+        ensures quiet { IsQuiet (C.history self.old.calls) (C.history self.new.calls) }
+        ensures settled { OnOk result (self.new.is_settled ≡ true) }
+    {
+        if self.is_settled {
+            return Ok(());
+        }
+        self.sync_changed()
+    }
+
+    // Notes that names of a folder change.
+    fn note(&mut self, path: &Path) -> Result<(), CallError>
+        ensures same { self.new.calls ≡ self.old.calls }
+        ensures settled { self.new.is_settled ≡ self.old.is_settled }
+        ensures noted { OnOk result (IsNoted self.old.changed self.new.changed path.now) }
+    {
+        match self.changed.add(path.folder()) {
+            Ok(()) => Ok(()),
+            Err(_) => Err(CallError::Memory),
+        }
+    }
+
+    // Takes away what an earlier call left beside.
+    fn clear(&mut self, beside: &Path) -> Result<(), CallError>
+        requires beside { apart beside.now ≡ true }
+        requires noted { has_path self.old.changed (folder_of beside.now) ≡ true }
+        ensures told { told (C.history self.new.calls) ≡ told (C.history self.old.calls) }
+        ensures changed { self.new.changed ≡ self.old.changed }
+        ensures settled { self.new.is_settled ≡ self.old.is_settled }
+    {
+        match self.calls.remove(beside) {
+            Ok(()) => Ok(()),
+            Err(CallError::NotFound) => Ok(()),
+            Err(error) => Err(error),
+        }
+    }
+
+    // Makes a new file of these bytes beside, firm.
+    fn write(&mut self, beside: &Path, bytes: &[u8]) -> Result<(), CallError>
+        requires beside { apart beside.now ≡ true }
+        requires noted { has_path self.old.changed (folder_of beside.now) ≡ true }
+        ensures told { told (C.history self.new.calls) ≡ told (C.history self.old.calls) }
+        ensures changed { self.new.changed ≡ self.old.changed }
+        ensures settled { self.new.is_settled ≡ self.old.is_settled }
+        ensures written { OnOk result (IfSome (C.history self.new.calls) (λ r. IsWritten r beside.now bytes.now)) }
+    {
+        write_new(&mut self.calls, beside, bytes)
+    }
+
+    // Gives what was written beside its name.
+    fn give(&mut self, beside: &Path, path: &Path) -> Result<(), CallError>
+        requires beside { apart beside.now ≡ true }
+        requires plain { apart path.now ≡ false }
+        requires from { has_path self.old.changed (folder_of beside.now) ≡ true }
+        requires to { has_path self.old.changed (folder_of path.now) ≡ true }
+        requires settled { self.old.is_settled ≡ true }
+        requires written { IfSome (C.history self.old.calls) (λ r. IsWholeAt r beside.now) }
+        ensures ok { OnOk result (Performs (Put path.now (bytes_under (C.history self.old.calls) beside.now)) (told (C.history self.old.calls)) (told (C.history self.new.calls))) }
+        ensures err { OnErr result ((told (C.history self.new.calls) ≡ told (C.history self.old.calls)) ⊎ Performs (Put path.now (bytes_under (C.history self.old.calls) beside.now)) (told (C.history self.old.calls)) (told (C.history self.new.calls))) }
+    {
+        self.calls.rename(beside, path)
+    }
+
+    /// Puts a new file of these bytes, firm, and gives it the name, also where the name is in use.
+    pub fn put(&mut self, name: &Name, bytes: &[u8]) -> Result<(), CallError>
+        ensures ok { OnOk result (Performs (Put name.now bytes.now) (told (C.history self.old.calls)) (told (C.history self.new.calls))) }
+        ensures err { OnErr result ((told (C.history self.new.calls) ≡ told (C.history self.old.calls)) ⊎ Performs (Put name.now bytes.now) (told (C.history self.old.calls)) (told (C.history self.new.calls))) }
+    {
+        if is_apart(name) {
+            return Err(CallError::OtherKind);
+        }
+        if LONGEST < bytes.len() {
+            return Err(CallError::Failed);
+        }
+        let beside = Path::with_ending(name, BESIDE);
+        let path = Path::of(name);
+        self.settle()?;
+        self.note(&beside)?;
+        self.note(&path)?;
+        self.clear(&beside)?;
+        self.write(&beside, bytes)?;
+        self.give(&beside, &path)
+    }
+
+    /// Gives a file another name, by one change, in place of the file that had that name.
+    pub fn rename(&mut self, from: &Name, to: &Name) -> Result<(), CallError>
+        ensures ok { OnOk result (Performs (Rename from.now to.now) (told (C.history self.old.calls)) (told (C.history self.new.calls))) }
+        ensures err { OnErr result ((told (C.history self.new.calls) ≡ told (C.history self.old.calls)) ⊎ Performs (Rename from.now to.now) (told (C.history self.old.calls)) (told (C.history self.new.calls))) }
+    {
+        if is_apart(from) || is_apart(to) {
+            return Err(CallError::OtherKind);
+        }
+        let (from, to) = (Path::of(from), Path::of(to));
+        self.settle()?;
+        self.note(&from)?;
+        self.note(&to)?;
+        self.calls.rename(&from, &to)
+    }
+
+    /// Takes a name away. `false`: there is no such file.
+    pub fn remove(&mut self, name: &Name) -> Result<bool, CallError>
+        ensures there { IfOk result (λ there. IfSome (told (C.history self.old.calls)) (λ t. IsThere (file_at t name.now) there)) }
+        ensures ok { IfOk result (λ there. PerformsIfThere there (Remove name.now) (told (C.history self.old.calls)) (told (C.history self.new.calls))) }
+        ensures err { OnErr result ((told (C.history self.new.calls) ≡ told (C.history self.old.calls)) ⊎ Performs (Remove name.now) (told (C.history self.old.calls)) (told (C.history self.new.calls))) }
+    {
+        if is_apart(name) {
+            return Ok(false);
+        }
+        let path = Path::of(name);
+        self.note(&path)?;
+        match self.calls.remove(&path) {
+            Ok(()) => Ok(true),
+            Err(CallError::NotFound) => Ok(false),
+            Err(error) => Err(error),
+        }
+    }
+
+    /// Makes all changes of names firm.
+    pub fn firm_names(&mut self) -> Result<(), CallError>
+        ensures ok { OnOk result (Performs FirmNames (told (C.history self.old.calls)) (told (C.history self.new.calls))) }
+        ensures err { OnErr result (told (C.history self.new.calls) ≡ told (C.history self.old.calls)) }
+    {
+        self.sync_changed()?;
+        self.calls.firmed()
+    }
+
+    // Makes one folder in a folder that is there, also where it is there itself.
+    fn make_one(&mut self, path: &Path) -> Result<(), CallError>
+        ensures told { told (C.history self.new.calls) ≡ told (C.history self.old.calls) }
+    {
+        if is_in_bench(path.as_str()) {
+            return Err(CallError::OtherKind);
+        }
+        self.note(path)?;
+        self.is_settled = false;
+        self.calls.make_folder(path)
+    }
+
+    /// Makes a folder and those above it, also where they are there. None is made where benches stand.
+    pub fn make_folder(&mut self, name: &Name) -> Result<(), CallError>
+        ensures { told (C.history self.new.calls) ≡ told (C.history self.old.calls) }
+    {
+        let text = name.as_str();
+        for at in 0..text.len() {
+            if text.as_bytes()[at] == b'/'
+                && let Some(above) = text.get(..at)
+            {
+                self.make_one(&Path::new(above))?;
+            }
+        }
+        self.make_one(&Path::of(name))
+    }
+
+    /// Drops a folder in which nothing stands. None is dropped where benches stand.
+    pub fn drop_folder(&mut self, name: &Name) -> Result<(), CallError>
+        ensures { told (C.history self.new.calls) ≡ told (C.history self.old.calls) }
+    {
+        if !is_inner_folder(name) {
+            return Err(CallError::OtherKind);
+        }
+        let path = Path::of(name);
+        self.sync_changed()?;
+        self.note(&path)?;
+        self.is_settled = false;
+        self.calls.drop_folder(&path)
+    }
+
+    /// Makes the folder of a label's bench, also where it is there.
+    pub fn keep_label(&mut self, label: &Label) -> Result<(), CallError>
+        ensures ok { OnOk result (Performs (KeepLabel (label_of label.now)) (told (C.history self.old.calls)) (told (C.history self.new.calls))) }
+        ensures err { OnErr result ((told (C.history self.new.calls) ≡ told (C.history self.old.calls)) ⊎ Performs (KeepLabel (label_of label.now)) (told (C.history self.old.calls)) (told (C.history self.new.calls))) }
+    {
+        self.calls.make_folder(&bench_path(label))
+    }
+
+    /// Drops the folder of a label's bench, in which nothing stands, and makes that firm: else a crash could bring the label back.
+    /// `false`: it isn't there.
+    pub fn drop_label(&mut self, label: &Label) -> Result<bool, CallError>
+        ensures there { IfOk result (λ there. IfSome (told (C.history self.old.calls)) (λ t. there ≡ has_label (label_of label.now) (labels_now t))) }
+        ensures ok { IfOk result (λ there. PerformsIfThere there (DropLabel (label_of label.now)) (told (C.history self.old.calls)) (told (C.history self.new.calls))) }
+        ensures err { OnErr result ((told (C.history self.new.calls) ≡ told (C.history self.old.calls)) ⊎ Performs (DropLabel (label_of label.now)) (told (C.history self.old.calls)) (told (C.history self.new.calls))) }
+    {
+        let path = bench_path(label);
+        match self.calls.drop_folder(&path) {
+            Ok(()) => {
+                self.calls.sync_folder(&path.folder())?;
+                Ok(true)
+            }
+            Err(CallError::NotFound) => Ok(false),
+            Err(error) => Err(error),
+        }
+    }
+
+    /// Gives a firm file of a bench a name here. The bench has it no more.
+    pub fn adopt(&mut self, part: &mut C, file: &Name, to: &Name) -> Result<(), CallError>
+        requires entry { entry file.now ≡ true }
+        requires firm { IsFirmFile (bench_told (C.history part.old)) (firm_held (C.history part.old) file.now) file.now }
+        requires short { AreShort (C.history part.old) }
+        ensures ok { OnOk result (Adopts file.now to.now (C.history self.old.calls) (C.history part.old) (C.history self.new.calls) (C.history part.new)) }
+        ensures err { OnErr result (FailsToTake file.now to.now (C.history self.old.calls) (C.history part.old) (C.history self.new.calls) (C.history part.new)) }
+    {
+        if is_apart(to) {
+            return Err(CallError::OtherKind);
+        }
+        let path = Path::of(to);
+        self.settle()?;
+        self.note(&path)?;
+        self.calls.take(part, &Path::of(file), &path)
+    }
+
+    /// The calls on the folder of a label's bench, with nothing in it.
+    fn cleared(&mut self, alloc: Global, label: &Label) -> Result<C, CallError>
+        ensures none { IfOk result (λ part. IfSome (C.history part) HoldsNothing) }
+        ensures tells { IfOk result (λ part. is_some (C.history part) ≡ is_some (C.history self.old.calls)) }
+        ensures same { C.history self.new.calls ≡ C.history self.old.calls }
+    {
+        let mut part = self.calls.part(&bench_path(label))?;
+        clear(&mut part, alloc)?;
+        Ok(part)
+    }
+
+    /// Makes an empty bench for a label.
+    pub fn bench(&mut self, alloc: Global, label: &Label) -> Result<FolderBench<C>, CallError>
+        ensures ok { OnOk result (Performs (KeepLabel (label_of label.now)) (told (C.history self.old.calls)) (told (C.history self.new.calls))) }
+        ensures err { OnErr result (FailsAt (KeepLabel (label_of label.now)) (told (C.history self.old.calls)) (told (C.history self.new.calls))) }
+        ensures empty { IfOk result (λ bench. bench_told (C.history bench.calls) ≡ option_map (λ _. empty) (told (C.history self.old.calls))) }
+        ensures new { IfOk result (λ bench. bench.faults ≡ 0) }
+    {
+        self.keep_label(label)?;
+        Ok(FolderBench::new(self.cleared(alloc, label)?))
+    }
+
+    /// Drops the bench of a label with all that is in it, and then the label. `false`: the label isn't kept.
+    pub fn drop_bench(&mut self, alloc: Global, label: &Label) -> Result<bool, CallError>
+        ensures there { IfOk result (λ there. IfSome (told (C.history self.old.calls)) (λ t. there ≡ has_label (label_of label.now) (labels_now t))) }
+        ensures ok { IfOk result (λ there. PerformsIfThere there (DropLabel (label_of label.now)) (told (C.history self.old.calls)) (told (C.history self.new.calls))) }
+        ensures err { OnErr result (FailsAt (DropLabel (label_of label.now)) (told (C.history self.old.calls)) (told (C.history self.new.calls))) }
+    {
+        match self.cleared(alloc, label) {
+            Ok(_) => {}
+            Err(CallError::NotFound) => {}
+            Err(error) => return Err(error),
+        }
+        self.drop_label(label)
+    }
+
+    /// The names of the folders of the transactions whose labels are kept, in the order of their bytes.
+    pub fn txn_entries(&mut self, alloc: Global) -> Result<Vec<Name>, CallError>
+        ensures names { IfSome (told (C.history self.old.calls)) (λ t. IfOk result (λ found. IsListing (labels_now t) found.items)) }
+        ensures same { told (C.history self.new.calls) ≡ told (C.history self.old.calls) }
+    {
+        let folders = self.calls.folders_in(alloc, &Path::new("db/transactions"))?;
+        let Ok(mut found) = txns_among(alloc, folders.as_slice()) else {
+            return Err(CallError::Memory);
+        };
+        if found.sort().is_err() {
+            return Err(CallError::Memory);
+        }
+        Ok(found)
+    }
+
+    /// Fills the buffer from an offset on, as far as the file goes. `None`: there is no such file.
+    pub fn read(
+        &mut self,
+        name: &Name,
+        offset: u64,
+        buffer: &mut [u8],
+    ) -> Result<Option<usize>, CallError>
+        ensures bound { IfOk result (λ found. IfSome found (λ n. n ≤ length buffer.new)) }
+        ensures bytes { IfSome (told (C.history self.old.calls)) (λ t. IfOk result (IsRead (file_at t name.now) offset buffer.old buffer.new)) }
+        ensures same { told (C.history self.new.calls) ≡ told (C.history self.old.calls) }
+    {
+        if is_apart(name) {
+            return Ok(None);
+        }
+        read_file(&mut self.calls, &Path::of(name), offset, buffer)
+    }
+
+    /// The length of a file in bytes. `None`: there is no such file.
+    pub fn size(&mut self, name: &Name) -> Result<Option<u64>, CallError>
+        ensures length { IfSome (told (C.history self.old.calls)) (λ t. IfOk result (IsSize (file_at t name.now))) }
+        ensures same { told (C.history self.new.calls) ≡ told (C.history self.old.calls) }
+    {
+        if is_apart(name) {
+            return Ok(None);
+        }
+        file_size(&mut self.calls, &Path::of(name))
+    }
+}

@@ -1,0 +1,15 @@
+// What a crash leaves.
+ghost use Rattle.std.specs.Prelude.{◌≡◌, true, IfSome};
+ghost use Rattle.fsfs_folders.specs.Told.{LeavesImages};
+ghost use Rattle.fsfs_folders.specs.Keeping.{keeps};
+
+use fsfs_calls::Calls;
+
+/// Of calls that keep to the rules: whatever a crash may leave now, of names and of bytes, shows one of the images that are told. It
+/// does nothing.
+pub fn leaves_images<C: Calls>(calls: &C)
+    requires { IfSome (C.history calls.now) (λ r. keeps r.first r.calls ≡ true) }
+    ensures { IfSome (C.history calls.now) LeavesImages }
+{
+    let _ = calls;
+}
