@@ -45,6 +45,15 @@ tree_repos c1 c2 c3 c4 repos path revision ids r p v i chain a b c =
 cat_chain : (c1 c2 c3 : Command) (repos path revision : Arg) → IsChain (repos ∷ []) c1 → AddsArg c1 path c2 → AddsArg c2 revision c3 → IsChain (repos ∷ path ∷ revision ∷ []) c3
 cat_chain c1 c2 c3 repos path revision chain a b = chain_more c2 c3 (repos ∷ path ∷ []) revision (chain_more c1 c2 (repos ∷ []) path chain a) b
 
+pub history_repos : (c1 c2 c3 : Command) (repos path revision : Arg) → NeedsValue (codes "REPOS") repos → Fits (codes "PATH") path → Fits (codes "revision") revision
+    → IsChain (repos ∷ []) c1 → AddsArg c1 path c2 → AddsArg c2 revision c3 → HasValue (codes "REPOS") c3
+history_repos c1 c2 c3 repos path revision r p v chain a b =
+    let apart : all_apart (map (λ (a : Arg). a.id.now) (repos ∷ path ∷ revision ∷ [])) ≡ true = rw (r.fits.id, p.id, v.id) refl in
+    has_value c3 (repos ∷ path ∷ revision ∷ []) 0 repos (codes "REPOS") (cat_chain c1 c2 c3 repos path revision chain a b)
+    (all_more FitsChain repos (path ∷ revision ∷ []) (fits_chain (codes "REPOS") repos own_repos r.fits)
+    (all_more FitsChain path (revision ∷ []) (fits_chain (codes "PATH") path own_path p)
+    (all_more FitsChain revision [] (fits_chain (codes "revision") revision own_revision v) (all_none FitsChain)))) apart (omega arith) r.value r.fits.id
+
 cat_apart : (repos path revision : Arg) → NeedsValue (codes "REPOS") repos → NeedsValue (codes "PATH") path → Fits (codes "revision") revision → all_apart (map (λ (a : Arg). a.id.now) (repos ∷ path ∷ revision ∷ [])) ≡ true
 cat_apart repos path revision r p v = rw (r.fits.id, p.fits.id, v.id) refl
 

@@ -9,7 +9,7 @@ use Rattle.clap.specs.Walk.{is_empty}
 use Rattle.clap.specs.declared.error.kind.ErrorKind.{ErrorKind}
 use Rattle.clap.specs.declared.error.kind.ErrorKind.TheVariants as kind
 use Rattle.clap.proofs.OnLiterals.{clap_on_literals}
-use Rattle.fsfs_cli.specs.Commands.{create_app, youngest_app, uuid_app, revision_app, tree_app, cat_app}
+use Rattle.fsfs_cli.specs.Commands.{create_app, youngest_app, uuid_app, revision_app, tree_app, history_app, cat_app}
 use Rattle.fsfs_cli.specs.Words.{taken}
 
 pub is_simple_too : (app : App) → is_simple_and_free app ≡ true → is_simple app ≡ true
@@ -65,6 +65,14 @@ date_is_free = refl
 pub log_is_free : is_simple_and_free (revision_app (codes "log")) ≡ true
 unfolding clap_on_literals
 log_is_free = refl
+
+pub history_is_free : is_simple_and_free history_app ≡ true
+unfolding clap_on_literals
+history_is_free = refl
+
+pub changed_is_free : is_simple_and_free (revision_app (codes "changed")) ≡ true
+unfolding clap_on_literals
+changed_is_free = refl
 
 pub info_is_free : is_simple_and_free (revision_app (codes "info")) ≡ true
 unfolding clap_on_literals

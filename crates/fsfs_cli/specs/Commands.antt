@@ -6,7 +6,7 @@ use Rattle.clap.specs.declared.builder.action.ArgAction.TheVariants.{Set, SetTru
 use Rattle.fsfs_cli.specs.declared.tool.Tool.{Tool}
 use Rattle.fsfs_cli.specs.declared.tool.Tool.TheVariants.{Admin, Look, Jobs}
 use Rattle.fsfs_cli.specs.declared.verb.Verb.{Verb}
-use Rattle.fsfs_cli.specs.declared.verb.Verb.TheVariants.{Create, Youngest, Uuid, Tree, Cat, Author, Date, Log, Info}
+use Rattle.fsfs_cli.specs.declared.verb.Verb.TheVariants.{Create, Youngest, Uuid, Tree, Cat, Author, Date, Log, Info, Changed, History}
 
 abbrev pub tool_name : Tool → List ℕ
 tool_name Admin = codes "svnadmin"
@@ -20,6 +20,7 @@ revision_verb word =
     else if bytes_eq word (codes "date") then Some Date
     else if bytes_eq word (codes "log") then Some Log
     else if bytes_eq word (codes "info") then Some Info
+    else if bytes_eq word (codes "changed") then Some Changed
     else None
 
 -- and of all
@@ -29,6 +30,7 @@ look_verb word =
     else if bytes_eq word (codes "uuid") then Some Uuid
     else if bytes_eq word (codes "tree") then Some Tree
     else if bytes_eq word (codes "cat") then Some Cat
+    else if bytes_eq word (codes "history") then Some History
     else revision_verb word
 
 abbrev pub verb_named : Tool → List ℕ → Option Verb
@@ -87,6 +89,10 @@ revision_app word = with_rule (with_rule (bare word) repos_rule) revision_rule
 -- tree [-r REV] [--show-ids] REPOS [PATH]
 abbrev pub tree_app : App
 tree_app = with_rule (with_rule (with_rule (with_rule (bare (codes "tree")) repos_rule) path_rule) revision_rule) show_ids_rule
+
+-- history [-r REV] REPOS [PATH]
+abbrev pub history_app : App
+history_app = with_rule (with_rule (with_rule (bare (codes "history")) repos_rule) path_rule) revision_rule
 
 -- cat [-r REV] REPOS PATH
 abbrev pub cat_app : App

@@ -2,7 +2,7 @@
 use Rattle.std.specs.Prelude.{[], Option, Some, None, unwrap_or}
 use Rattle.fsfs_base.specs.Paths.{Path}
 use Rattle.fsfs_cli.specs.declared.request.Printed.{Printed}
-use Rattle.fsfs_cli.specs.declared.request.Printed.TheVariants.{Tree, Text, Author, Date, Log, Info}
+use Rattle.fsfs_cli.specs.declared.request.Printed.TheVariants.{Tree, Text, Author, Date, Log, Info, Changed, History}
 
 -- the path in the repository, where one is looked at
 abbrev pub path_in_it : Printed → Option Path
@@ -12,6 +12,8 @@ path_in_it Author = None
 path_in_it Date = None
 path_in_it Log = None
 path_in_it Info = None
+path_in_it Changed = None
+path_in_it (History path) = Some path
 
 -- the same, and `/` where none is
 abbrev pub printed_path : Printed → Path

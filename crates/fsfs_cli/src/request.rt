@@ -58,6 +58,10 @@ pub enum Printed {
     Log,
     /// `info`: author, date, the length of the log, and the log.
     Info,
+    /// `changed`: the changed paths.
+    Changed,
+    /// `history`: where what stands at a path was changed, from this revision on back.
+    History { path: FsPath },
 }
 
 impl Printed {
@@ -66,8 +70,11 @@ impl Printed {
         ensures { option_map (λ path. path.now) result ≡ path_in_it self.now }
     {
         match self {
-            Printed::Tree { path, .. } | Printed::Text { path } => Some(path),
-            Printed::Author | Printed::Date | Printed::Log | Printed::Info => None,
+            Printed::Tree { path, .. } | Printed::Text { path } | Printed::History { path } => {
+                Some(path)
+            }
+            Printed::Author | Printed::Date | Printed::Log | Printed::Info | Printed::Changed =>
+                None,
         }
     }
 }

@@ -25,6 +25,10 @@ pub enum Verb {
     Log,
     /// `svnlook info`.
     Info,
+    /// `svnlook changed`.
+    Changed,
+    /// `svnlook history`.
+    History,
 }
 
 /// The command that a word names, where the program has one of that name.
@@ -59,6 +63,8 @@ fn look_verb(word: &str) -> Option<Verb>
         Some(Verb::Tree)
     } else if word == "cat" {
         Some(Verb::Cat)
+    } else if word == "history" {
+        Some(Verb::History)
     } else {
         revision_verb(word)
     }
@@ -76,6 +82,8 @@ fn revision_verb(word: &str) -> Option<Verb>
         Some(Verb::Log)
     } else if word == "info" {
         Some(Verb::Info)
+    } else if word == "changed" {
+        Some(Verb::Changed)
     } else {
         None
     }

@@ -28,6 +28,8 @@ fn look_line(alloc: Global, repos: &str, look: &Look) -> Result<String, AllocErr
         Printed::Date => format!(in alloc; "date {repos} {revision}"),
         Printed::Log => format!(in alloc; "log {repos} {revision}"),
         Printed::Info => format!(in alloc; "info {repos} {revision}"),
+        Printed::Changed => format!(in alloc; "changed {repos} {revision}"),
+        Printed::History { path } => format!(in alloc; "history {repos} {revision} {path}"),
     }
 }
 
@@ -45,7 +47,7 @@ fn line(alloc: Global, read: &Result<Request<'_>, WordsFault>) -> Result<String,
 }
 
 // Where no revision is given the line has 9999999999.
-const LOOKS: [(&[&str], &str); 37] = [
+const LOOKS: [(&[&str], &str); 43] = [
     (&["youngest", "R"], "youngest R"),
     (&["uuid", "R"], "uuid R"),
     (&["tree", "R"], "tree R 9999999999 false /"),
@@ -61,6 +63,9 @@ const LOOKS: [(&[&str], &str); 37] = [
     (&["date", "R", "-r", "0"], "date R 0"),
     (&["log", "-r1", "--", "-x"], "log -x 1"),
     (&["info", "--revision", "07", "R"], "info R 7"),
+    (&["changed", "R"], "changed R 9999999999"),
+    (&["history", "R"], "history R 9999999999 /"),
+    (&["history", "-r", "3", "R", "a/b/"], "history R 3 /a/b"),
     (&["cat", "R", "a//b"], "BadPath 3 EmptyName"),
     (&["tree", "R", "../a"], "BadPath 1 Dot"),
     (&[], "Usage"),
@@ -84,6 +89,9 @@ const LOOKS: [(&[&str], &str); 37] = [
     (&["date", "-r", "x", "R"], "Usage"),
     (&["log", "R", "/a"], "Usage"),
     (&["info", "R", "--show-ids"], "Usage"),
+    (&["changed", "R", "/a"], "Usage"),
+    (&["history", "R", "--show-ids"], "Usage"),
+    (&["history", "R", "a//"], "BadPath 3 EmptyName"),
     (&["tree", "-h", "R"], "Usage"),
     (&["--version"], "Usage"),
 ];

@@ -29,11 +29,13 @@ use Rattle.fsfs_cli.specs.Requests.{printed_path}
 use Rattle.fsfs_cli.specs.declared.request.Look.{Look}
 use Rattle.fsfs_cli.specs.declared.request.Look.TheVariants.{Youngest, Uuid, AtRevision}
 use Rattle.fsfs_cli.specs.declared.request.Printed.{Printed}
-use Rattle.fsfs_cli.specs.declared.request.Printed.TheVariants.{Tree, Text, Author, Date, Log, Info}
+use Rattle.fsfs_cli.specs.declared.request.Printed.TheVariants.{Tree, Text, Author, Date, Log, Info, Changed, History}
 use Rattle.fsfs_cli.specs.declared.request.RevisionLook.{RevisionLook}
 use Rattle.fsfs_printed.specs.Agreeing.{HasOneText}
 use Rattle.fsfs_printed.proofs.OneText.{tree_one, file_one}
 use Rattle.fsfs_prop_looks.proofs.OneText.{authors_one, dates_one, logs_one, infos_one}
+use Rattle.fsfs_changed.proofs.OneText.{changed_one}
+use Rattle.fsfs_histories.proofs.OnePoint.{histories_one}
 use Rattle.fsfs_printed.proofs.Prefixes.{whole_or_refused, refusals_same}
 
 -- ---- failures of the outside
@@ -84,6 +86,8 @@ one_text Author bytes rev = authors_one bytes.props rev
 one_text Date bytes rev = dates_one bytes.props rev
 one_text Log bytes rev = logs_one bytes.props rev
 one_text Info bytes rev = infos_one bytes.props rev
+one_text Changed bytes rev = changed_one bytes.revs rev
+one_text (History path) bytes rev = histories_one bytes.revs rev path
 
 in_one : (look : RevisionLook) (o : Opened) (m : Files) → HasOneText (TextIn look o m)
 in_one look o m = one_text look.printed (all_bytes o.layout m) (looked_revision look o)

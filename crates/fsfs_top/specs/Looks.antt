@@ -27,11 +27,13 @@ use Rattle.fsfs_printed.specs.TreeTexts.{TreeText}
 use Rattle.fsfs_printed.specs.FileTexts.{FileText}
 use Rattle.fsfs_printed.specs.declared.look_fault.LookFault.{LookFault}
 use Rattle.fsfs_prop_looks.specs.PropTexts.{AuthorText, DateText, LogText, InfoText}
+use Rattle.fsfs_changed.specs.ChangedTexts.{ChangedText}
+use Rattle.fsfs_histories.specs.HistoryTexts.{HistoryText}
 use Rattle.fsfs_cli.specs.Requests.{printed_path}
 use Rattle.fsfs_cli.specs.declared.request.Look.{Look}
 use Rattle.fsfs_cli.specs.declared.request.Look.TheVariants.{Youngest, Uuid, AtRevision}
 use Rattle.fsfs_cli.specs.declared.request.Printed.{Printed}
-use Rattle.fsfs_cli.specs.declared.request.Printed.TheVariants.{Tree, Text, Author, Date, Log, Info}
+use Rattle.fsfs_cli.specs.declared.request.Printed.TheVariants.{Tree, Text, Author, Date, Log, Info, Changed, History}
 use Rattle.fsfs_cli.specs.declared.request.RevisionLook.{RevisionLook}
 use Rattle.fsfs_top.specs.Scenes.{Scene, SinkScene}
 
@@ -86,6 +88,8 @@ TextOf Author bytes rev = AuthorText bytes.props rev
 TextOf Date bytes rev = DateText bytes.props rev
 TextOf Log bytes rev = LogText bytes.props rev
 TextOf Info bytes rev = InfoText bytes.props rev
+TextOf Changed bytes rev = ChangedText bytes.revs rev
+TextOf (History path) bytes rev = HistoryText bytes.revs rev path
 
 -- the revision that is looked at: the youngest where none is named
 abbrev pub looked_revision : RevisionLook → Opened → ℕ

@@ -16,10 +16,12 @@ ghost use Rattle.fsfs_top.specs.Scenes.{scene, sink_scene};
 use crate::output::{line_fault, print_revision, print_uuid};
 use fsfs_base::{FsPath, RevNum};
 use fsfs_book::Book;
+use fsfs_changed_look::changed_text;
 use fsfs_cli::{Look, Printed, RevisionLook};
 use fsfs_disk::{Disk, Host};
 use fsfs_faults::Fault;
 use fsfs_fetch::{disk_of, over_disk};
+use fsfs_history_look::history_text;
 use fsfs_layout::Opened;
 use fsfs_look::{LookError, cat, tree_text};
 use fsfs_places::DiskPlace;
@@ -77,6 +79,8 @@ fn print_look<B: Book, O: Sink>(
         Printed::Date => date(alloc, book, rev, out),
         Printed::Log => log(alloc, book, rev, out),
         Printed::Info => info(alloc, book, rev, out),
+        Printed::Changed => changed_text(alloc, book, rev, out),
+        Printed::History { path } => history_text(alloc, book, rev, path, out),
     }
 }
 

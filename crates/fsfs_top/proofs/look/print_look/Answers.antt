@@ -33,3 +33,13 @@ pub returns-in-Info-clause-told : goal.returns-in-Info-clause-told
 returns-in-Info-clause-told g c = λ bytes knows.
     subst (λ (p : Printed). Writes (TextOf p bytes c.args.rev) (g.O.Sink.written c.args.out.now) (g.O.Sink.written c.info.new.sink) c.info.result) (sym c.in-Info.is)
     (c.info.ensures.told bytes.props (knows.1 c.args.rev (omega arith)))
+
+pub returns-in-Changed-clause-told : goal.returns-in-Changed-clause-told
+returns-in-Changed-clause-told g c = λ bytes knows.
+    subst (λ (p : Printed). Writes (TextOf p bytes c.args.rev) (g.O.Sink.written c.args.out.now) (g.O.Sink.written c.changed_text.new.sink) c.changed_text.result) (sym c.in-Changed.is)
+    (c.changed_text.ensures.told bytes.revs knows.0)
+
+pub returns-in-History-clause-told : goal.returns-in-History-clause-told
+returns-in-History-clause-told g c = λ bytes knows.
+    subst (λ (p : Printed). Writes (TextOf p bytes c.args.rev) (g.O.Sink.written c.args.out.now) (g.O.Sink.written c.history_text.new.sink) c.history_text.result) (sym c.in-History.is)
+    (c.history_text.ensures.told bytes.revs knows.0)
