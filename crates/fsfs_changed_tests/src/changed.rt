@@ -9,40 +9,53 @@ use fsfs_damage::{Damage, DamageKind, Refusal, RevOffset, Wrong};
 use fsfs_look::LookError;
 use fsfs_memstreams::MemSink;
 use fsfs_printed::LookFault;
+use std::alloc::Global;
 use std::test::Fail;
 
-// Revisions, one of them, and what `svnlook changed` prints of it.
-const TEXTS: [(&[&[u8]], u16, &str); 9] = [
-    (&[], 0, ""),
-    (&[FIRST_DIRECTORY], 1, "A   a/\n"),
-    (&[FIRST_DIRECTORY, MADE_AND_REMOVED], 2, ""),
-    (&[FIRST_DIRECTORY, REMOVED_AND_MADE], 2, "D   a/\nA   a\n"),
-    (
-        &[FIRST_DIRECTORY, TWO_FILES, COPIED_DIRECTORY],
-        3,
-        "A   b/\nU   b/x\n",
-    ),
-    (
-        &[FIRST_DIRECTORY, TWO_FILES, REPLACED_IN_A_COPY],
-        3,
-        "A   b/\nD   b/x\nA   b/x/\n",
-    ),
-    (&[MADE_1], 1, "A   a/\nA   a/b/\nA   a/x\nA   z\n"),
-    (&[MADE_1, MADE_2], 2, "A   c/\nU   c/x\n"),
-    (
-        &[MADE_1, MADE_2, MADE_3],
-        3,
-        "A   a/b/d/\nD   a/x\nA   a/é/\n",
-    ),
-];
+// What `svnlook changed` prints of the last of these revisions.
+fn text(alloc: Global, revisions: &[&[u8]]) -> Result<(MemSink, Result<(), LookError>), Fail> {
+    let mut book = book_of(alloc, revisions)?;
+    let mut sink = MemSink::new(alloc);
+    let rev = RevNum::new(revisions.len() as u64).unwrap_or(RevNum::ZERO);
+    let done = changed_text(alloc, &mut book, rev, &mut sink);
+    Ok((sink, done))
+}
 
 #[test]
-fn texts(rt: HostRuntime) -> Result<(), Fail> {
+fn by_hand(rt: HostRuntime) -> Result<(), Fail> {
     let alloc = rt.alloc();
-    for (revisions, rev, want) in TEXTS {
-        let mut book = book_of(alloc, revisions)?;
-        let mut sink = MemSink::new(alloc);
-        let done = changed_text(alloc, &mut book, RevNum::from(rev), &mut sink);
+    let table: [(&[&[u8]], &str); 6] = [
+        (&[], ""),
+        (&[FIRST_DIRECTORY], "A   a/\n"),
+        (&[FIRST_DIRECTORY, MADE_AND_REMOVED], ""),
+        (&[FIRST_DIRECTORY, REMOVED_AND_MADE], "D   a/\nA   a\n"),
+        (
+            &[FIRST_DIRECTORY, TWO_FILES, COPIED_DIRECTORY],
+            "A   b/\nU   b/x\n",
+        ),
+        (
+            &[FIRST_DIRECTORY, TWO_FILES, REPLACED_IN_A_COPY],
+            "A   b/\nD   b/x\nA   b/x/\n",
+        ),
+    ];
+    for (revisions, want) in table {
+        let (sink, done) = text(alloc, revisions)?;
+        assert_eq!(rt; done, Ok(()));
+        assert_eq!(rt; sink.bytes(), want.as_bytes());
+    }
+    Ok(())
+}
+
+#[test]
+fn of_subversion(rt: HostRuntime) -> Result<(), Fail> {
+    let alloc = rt.alloc();
+    let table: [(&[&[u8]], &str); 3] = [
+        (&[MADE_1], "A   a/\nA   a/b/\nA   a/x\nA   z\n"),
+        (&[MADE_1, MADE_2], "A   c/\nU   c/x\n"),
+        (&[MADE_1, MADE_2, MADE_3], "A   a/b/d/\nD   a/x\nA   a/é/\n"),
+    ];
+    for (revisions, want) in table {
+        let (sink, done) = text(alloc, revisions)?;
         assert_eq!(rt; done, Ok(()));
         assert_eq!(rt; sink.bytes(), want.as_bytes());
     }
