@@ -18,7 +18,8 @@ use Rattle.fsfs_base.proofs.PathLemmas.{same_name-is, same_name-refl, covers-ref
 use Rattle.fsfs_flat.specs.Landing.{reached}
 use Rattle.fsfs_noderev.specs.declared.node_rev.NodeRev.{NodeRev}
 use Rattle.fsfs_drafts.specs.OwnSides.{NodesAt}
-use Rattle.fsfs_merge.specs.Walks.{Sight, merges, is_stopped, down, clashes_by_ids}
+use Rattle.fsfs_merge.specs.declared.sight.Sight.{Sight}
+use Rattle.fsfs_merge.specs.Walks.{merges, is_stopped, down, clashes_by_ids}
 use Rattle.fsfs_merge.specs.FirstStops.{NoStop, FirstStop, WalksFindTheFirst}
 use Rattle.fsfs_merge.proofs.FirstStopLaw.{walks_find_the_first}
 use Rattle.fsfs_clash.specs.declared.three.Target.{Target}

@@ -6,7 +6,7 @@ use Rattle.fsfs_noderev.specs.declared.node_rev.NodeRev.{NodeRev}
 use Rattle.fsfs_shows.specs.Chains.{copy_root_of}
 use Rattle.fsfs_dag.specs.Same.{same_part, same_id}
 use Rattle.fsfs_drafts.specs.OwnSides.{NodesAt, is_own_copy}
-use Rattle.fsfs_merge.specs.Walks.{Sight}
+use Rattle.fsfs_merge.specs.declared.sight.Sight.{Sight}
 use Rattle.fsfs_clash.specs.Same.{same_contents}
 
 abbrev pub same_ids : Option NodeRev → Option NodeRev → Bool

@@ -11,7 +11,8 @@ use Rattle.fsfs_noderev.specs.declared.node_rev.NodeRev.{NodeRev}
 use Rattle.fsfs_revision.specs.Nodes.{is_revision_place}
 use Rattle.fsfs_shows.specs.Reading.{DirEntry}
 use Rattle.fsfs_drafts.specs.OwnSides.{NodesAt}
-use Rattle.fsfs_merge.specs.Walks.{Sight, down, clashes_by_ids}
+use Rattle.fsfs_merge.specs.declared.sight.Sight.{Sight}
+use Rattle.fsfs_merge.specs.Walks.{down, clashes_by_ids}
 use Rattle.fsfs_merge.specs.FirstStops.{NoStop, FirstStop}
 use Rattle.fsfs_clash.specs.declared.three.Target.{Target}
 use Rattle.fsfs_clash.specs.declared.three.Three.{Three}

@@ -12,7 +12,7 @@ use Rattle.fsfs_shows.specs.Shown.{IsShownAs, Shows}
 use Rattle.fsfs_shows.specs.IdRules.{IdRule}
 use Rattle.fsfs_model.proofs.TwoMerges.{land_twice}
 use Rattle.fsfs_ancestry.specs.Trees.{ShowTrees}
-use Rattle.fsfs_merge.specs.Walks.{Sight}
+use Rattle.fsfs_merge.specs.declared.sight.Sight.{Sight}
 use Rattle.fsfs_drafts.specs.OwnSides.{NodesAt, IsOwnSide, AreNodesOf}
 use Rattle.fsfs_merge.specs.MergeLaws.{IsMerge, landed_nodes}
 use Rattle.fsfs_merge.proofs.MergeLaw.{pre, side}

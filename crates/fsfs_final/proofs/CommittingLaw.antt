@@ -24,7 +24,8 @@ use Rattle.fsfs_ancestry.proofs.Behind.{shown_there}
 use Rattle.fsfs_ancestry.proofs.Bounded.{back_same, stands_same_bytes, child_same, text_shown, props_same}
 use Rattle.fsfs_shows.specs.Chains.{own_rev}
 use Rattle.fsfs_shows.proofs.TreeLaw.{stands_home}
-use Rattle.fsfs_merge.specs.Walks.{Sight, merges, stays, down}
+use Rattle.fsfs_merge.specs.declared.sight.Sight.{Sight}
+use Rattle.fsfs_merge.specs.Walks.{merges, stays, down}
 use Rattle.fsfs_drafts.specs.OwnSides.{NodesAt, in_txn, AreNodesOf}
 use Rattle.fsfs_merge.specs.MergeLaws.{IsMerge, is_merged, landed_nodes}
 use Rattle.fsfs_merge.proofs.MergeLaw.{Way, Through, Stopped, way, keep, take_head, own_of, side}

@@ -26,7 +26,8 @@ use Rattle.fsfs_shows.specs.Shown.{IsTextOf, Shows}
 use Rattle.fsfs_ancestry.specs.Trees.{ShowTrees}
 use Rattle.fsfs_ancestry.proofs.Behind.{shown_there}
 use Rattle.fsfs_merge.specs.Laws.{AreSame, IsSameNode}
-use Rattle.fsfs_merge.specs.Walks.{Sight, is_own, merged, merges}
+use Rattle.fsfs_merge.specs.declared.sight.Sight.{Sight}
+use Rattle.fsfs_merge.specs.Walks.{is_own, merged, merges}
 use Rattle.fsfs_drafts.specs.OwnSides.{NodesAt, in_txn}
 use Rattle.fsfs_merge.specs.MergeLaws.{IsMerge, is_merged, relinked, landed_nodes}
 use Rattle.fsfs_merge.proofs.MergeLaw.{merging_is_by_ids}

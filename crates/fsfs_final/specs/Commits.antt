@@ -7,7 +7,7 @@ use Rattle.fsfs_flat.specs.Landing.{NoClash, land}
 use Rattle.fsfs_flat.specs.Transactions.{IsTransaction}
 use Rattle.fsfs_book.specs.Told.{RevisionBytes}
 use Rattle.fsfs_ancestry.specs.Trees.{ShowTrees}
-use Rattle.fsfs_merge.specs.Walks.{Sight}
+use Rattle.fsfs_merge.specs.declared.sight.Sight.{Sight}
 use Rattle.fsfs_drafts.specs.OwnSides.{NodesAt, IsOwnSide, AreNodesOf}
 use Rattle.fsfs_merge.specs.MergeLaws.{IsMerge, landed_nodes}
 use Rattle.fsfs_drafts.specs.NodeDrafts.{IsDraft}

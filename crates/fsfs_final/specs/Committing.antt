@@ -10,7 +10,7 @@ use Rattle.fsfs_noderev.specs.declared.node_rev.NodeRev.{NodeRev}
 use Rattle.fsfs_shows.specs.Reading.{StandsAt}
 use Rattle.fsfs_ancestry.specs.Bounded.{AreSameUpTo}
 use Rattle.fsfs_ancestry.specs.Trees.{ShowTrees}
-use Rattle.fsfs_merge.specs.Walks.{Sight}
+use Rattle.fsfs_merge.specs.declared.sight.Sight.{Sight}
 use Rattle.fsfs_drafts.specs.OwnSides.{NodesAt, IsOwnSide, AreNodesOf}
 use Rattle.fsfs_merge.specs.MergeLaws.{IsMerge, landed_nodes}
 use Rattle.fsfs_drafts.specs.NodeDrafts.{IsDraft}

@@ -12,7 +12,7 @@ use Rattle.fsfs_noderev.specs.declared.node_rev.NodeRev.{NodeRev}
 use Rattle.fsfs_shows.specs.Reading.{StandsAt, PropsOf}
 use Rattle.fsfs_shows.specs.Shown.{IsTextOf}
 use Rattle.fsfs_ancestry.specs.Trees.{ShowTrees}
-use Rattle.fsfs_merge.specs.Walks.{Sight}
+use Rattle.fsfs_merge.specs.declared.sight.Sight.{Sight}
 use Rattle.fsfs_drafts.specs.OwnSides.{NodesAt, in_txn}
 use Rattle.fsfs_merge.specs.MergeLaws.{IsMerge, landed_nodes}
 use Rattle.fsfs_drafts.specs.NodeDrafts.{IsOwn}

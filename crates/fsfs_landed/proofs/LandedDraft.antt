@@ -21,7 +21,8 @@ use Rattle.fsfs_shows.proofs.OneWalk.{stands_same}
 use Rattle.fsfs_base.proofs.PathLemmas.{covers-refl, covers-trans, covers-antisym, same_name-is, covers-longer}
 use Rattle.fsfs_model.proofs.MergeWalk.{goes_base, goes_gone, reached_above}
 use Rattle.fsfs_ancestry.proofs.Earlier.{stands_of_id, pred_same}
-use Rattle.fsfs_merge.specs.Walks.{Sight, merges, down, is_own}
+use Rattle.fsfs_merge.specs.declared.sight.Sight.{Sight}
+use Rattle.fsfs_merge.specs.Walks.{merges, down, is_own}
 use Rattle.fsfs_drafts.specs.OwnSides.{NodesAt, in_txn, IsSuccessor, IsOwnSide}
 use Rattle.fsfs_merge.specs.MergeLaws.{IsMerge, is_merged, landed_nodes}
 use Rattle.fsfs_merge.proofs.WalkLaw.{merges_all, merged_goes}

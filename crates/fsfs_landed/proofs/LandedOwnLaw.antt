@@ -39,7 +39,8 @@ use Rattle.fsfs_drafts.proofs.SideLaw as sides
 use Rattle.fsfs_drafts.proofs.TiedLaw.{tied_drafts}
 use Rattle.fsfs_drafts.proofs.AllLaw.{met_below, met_inherited, tied_are_met}
 use Rattle.fsfs_drafts.proofs.MarkLaw.{sides_are_marks}
-use Rattle.fsfs_merge.specs.Walks.{Sight, stays, down, is_own}
+use Rattle.fsfs_merge.specs.declared.sight.Sight.{Sight}
+use Rattle.fsfs_merge.specs.Walks.{stays, down, is_own}
 use Rattle.fsfs_merge.specs.MergeLaws.{IsMerge, is_merged, landed_nodes}
 use Rattle.fsfs_merge.proofs.MergeLaw.{keep, take_head, own_of, side}
 use Rattle.fsfs_landed.specs.LandedOwn.{relinked_own, landed_own, AreLists, IsLandedFolder, LandedIsADraft}

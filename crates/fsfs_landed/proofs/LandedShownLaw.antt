@@ -34,7 +34,8 @@ use Rattle.fsfs_drafts.proofs.HangLaw as hanging
 use Rattle.fsfs_drafts.proofs.SideLaw as sides
 use Rattle.fsfs_drafts.proofs.DrawLaw.{shared_last}
 use Rattle.fsfs_drafts.proofs.DrawLaw as drawing
-use Rattle.fsfs_merge.specs.Walks.{Sight, merges, stays, down, is_own, merged}
+use Rattle.fsfs_merge.specs.declared.sight.Sight.{Sight}
+use Rattle.fsfs_merge.specs.Walks.{merges, stays, down, is_own, merged}
 use Rattle.fsfs_merge.specs.Laws.{AreSame}
 use Rattle.fsfs_merge.specs.MergeLaws.{IsMerge, is_merged, landed_nodes}
 use Rattle.fsfs_merge.proofs.Sides.{since, head_quiet}

@@ -12,7 +12,8 @@ use Rattle.fsfs_book.specs.Told.{RevisionBytes}
 use Rattle.fsfs_noderev.specs.declared.node_rev.NodeRev.{NodeRev}
 use Rattle.fsfs_base.proofs.PathLemmas.{same_name-is, covers-trans, covers-antisym, covers-either}
 use Rattle.fsfs_model.proofs.MergeWalk.{goes_gone, goes_head, reached_above, fresh}
-use Rattle.fsfs_merge.specs.Walks.{Sight, merges, down, is_own, stays, merged as merged_tree}
+use Rattle.fsfs_merge.specs.declared.sight.Sight.{Sight}
+use Rattle.fsfs_merge.specs.Walks.{merges, down, is_own, stays, merged as merged_tree}
 use Rattle.fsfs_merge.specs.Laws.{IsSameNode, AreSame}
 use Rattle.fsfs_drafts.specs.OwnSides.{NodesAt, IsOwnSide, HasPathsOf}
 use Rattle.fsfs_merge.specs.MergeLaws.{IsMerge, is_merged, relinked, landed_nodes}

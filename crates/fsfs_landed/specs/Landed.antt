@@ -5,7 +5,7 @@ use Rattle.fsfs_tree.specs.Nodes.{TreeFunction}
 use Rattle.fsfs_flat.specs.declared.mark.Mark.{Mark}
 use Rattle.fsfs_flat.specs.Landing.{NoClash, land}
 use Rattle.fsfs_book.specs.Told.{RevisionBytes}
-use Rattle.fsfs_merge.specs.Walks.{Sight}
+use Rattle.fsfs_merge.specs.declared.sight.Sight.{Sight}
 use Rattle.fsfs_drafts.specs.OwnSides.{NodesAt}
 use Rattle.fsfs_merge.specs.MergeLaws.{IsMerge, landed_nodes}
 use Rattle.fsfs_drafts.specs.NodeDrafts.{IsDraft}

@@ -16,7 +16,8 @@ use Rattle.fsfs_drafts.specs.OwnSides.{NodesAt}
 use Rattle.fsfs_drafts.specs.Met.{draft_nodes, AreNodes}
 use Rattle.fsfs_drafts.specs.Sides.{OwnFiles, DrawnOnce, AreMarksOf}
 use Rattle.fsfs_drafts.specs.Tied.{IsListed}
-use Rattle.fsfs_merge.specs.Walks.{Sight, is_own}
+use Rattle.fsfs_merge.specs.declared.sight.Sight.{Sight}
+use Rattle.fsfs_merge.specs.Walks.{is_own}
 use Rattle.fsfs_merge.specs.MergeLaws.{IsMerge, is_merged, landed_nodes}
 
 -- a merged directory goes on from the head's, with the entries that the merge wrote

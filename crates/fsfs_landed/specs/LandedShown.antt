@@ -12,7 +12,7 @@ use Rattle.fsfs_drafts.specs.Drafts.{Folder, IsDraft, bare}
 use Rattle.fsfs_drafts.specs.OwnSides.{NodesAt}
 use Rattle.fsfs_drafts.specs.Met.{draft_nodes, AreNodes}
 use Rattle.fsfs_drafts.specs.Sides.{OwnFiles, DrawnOnce, AreMarksOf, OwnSources}
-use Rattle.fsfs_merge.specs.Walks.{Sight}
+use Rattle.fsfs_merge.specs.declared.sight.Sight.{Sight}
 use Rattle.fsfs_merge.specs.MergeLaws.{IsMerge}
 use Rattle.fsfs_landed.specs.LandedOwn.{landed_own, AreLists, IsLandedFolder}
 
