@@ -44,8 +44,7 @@ use Rattle.fsfs_merge.specs.Walks.{stays, down, is_own}
 use Rattle.fsfs_merge.specs.MergeLaws.{IsMerge, is_merged, landed_nodes}
 use Rattle.fsfs_merge.proofs.MergeLaw.{keep, take_head, own_of, side}
 use Rattle.fsfs_landed.specs.LandedOwn.{relinked_own, landed_own, AreLists, IsLandedFolder, LandedIsADraft}
-use Rattle.fsfs_landed.proofs.LandedDraft.{Linked, Merged, merged, Both, Under, step, reached_front, not_merged, merge_keeps_drafts}
-use Rattle.fsfs_flat.specs.Transactions.{Entry as InMerged}
+use Rattle.fsfs_landed.proofs.LandedDraft.{Linked, Merged, merged, Both, Entry as InMerged, Under, step, reached_front, not_merged, merge_keeps_drafts}
 use Rattle.std.proofs.lemmas.Bool.{and_parts, both_ways, cases_Bool}
 
 pub relinked_none : (m : Bool) (y : Option NodeRev) (entries : List DirEntry) → relinked_own m y entries None ≡ None
