@@ -9,17 +9,19 @@ use Rattle.fsfs_base.specs.declared.kind.Kind.TheVariants.{File, Dir}
 use Rattle.fsfs_flat.specs.Edits.{is_dir}
 use Rattle.fsfs_noderev.specs.declared.node_id.NodeId.{NodeId}
 use Rattle.fsfs_noderev.specs.declared.node_rev.NodeRev.{NodeRev}
-use Rattle.fsfs_shows.specs.Reading.{DirEntry, named}
+use Rattle.fsfs_revision.specs.Nodes.{is_revision_place}
+use Rattle.fsfs_shows.specs.Reading.{DirEntry, named, offset_of}
 use Rattle.fsfs_damage.specs.declared.wrong.ReadError.{ReadError}
 use Rattle.fsfs_damage.specs.declared.wrong.ReadError.TheVariants as errors
 use Rattle.fsfs_drafts.specs.OwnSides.{NodesAt}
 use Rattle.fsfs_merge.specs.Walks.{clashes_by_ids}
+use Rattle.fsfs_clash.specs.declared.three.Target.{Target}
 use Rattle.fsfs_clash.specs.declared.three.Three.{Three}
 use Rattle.fsfs_clash.specs.declared.sides.Dirs.{Dirs}
 use Rattle.fsfs_clash.specs.declared.entries.Entries.{Entries}
 use Rattle.fsfs_clash.specs.declared.entries.Sides.{Sides}
 use Rattle.fsfs_clash.specs.declared.walk.Pending.{Pending}
-use Rattle.fsfs_clash.specs.Dirs.{dirs_in, AreTold}
+use Rattle.fsfs_clash.specs.Dirs.{dirs_of, dirs_in, AreTold}
 use Rattle.fsfs_clash.specs.Lists.{target_in, names_in, three_in, AreListed, AreAllListed}
 use Rattle.fsfs_clash.specs.Nodes.{Reads, Telling, KeepsNodes, TellsTree, TellsTrees}
 use Rattle.fsfs_shows.specs.Chains.{copy_root_of}
@@ -27,7 +29,8 @@ use Rattle.fsfs_dag.specs.Same.{same_part}
 use Rattle.fsfs_drafts.specs.OwnSides.{is_own_copy}
 use Rattle.fsfs_clash.specs.Sights.{sights, go_on, have_same_props, go_on_in, same_props_in}
 use Rattle.fsfs_clash.specs.Threes.{three_of, entry_target, node_target, is_changed}
-use Rattle.fsfs_clash.specs.Walks.{IsPending, ArePending, AreFoundOrLeft, IsWalk, least, opened, changed, pending, IsOpened, IsFirstStop, IsRoot, AreRoots, root_target}
+use Rattle.fsfs_clash.specs.Walks.{IsPending, ArePending, AreFoundOrLeft, IsUnderWay, IsWalk, least, opened, changed, pending, IsOpened, IsFirstStop, IsRoot, AreRoots, root_target, IsLastingBase}
+use Rattle.fsfs_clash.specs.Weights.{weight, weight_in}
 use Rattle.fsfs_merge.specs.FirstStops.{NoStop}
 use Rattle.fsfs_merge.proofs.FirstStopLaw.{walks_find_the_first}
 use Rattle.fsfs_clash.specs.declared.walk.Roots.{Roots}
@@ -40,6 +43,12 @@ pub reads_err : {X Y : Type 0} {P : X → Type 0} {Q : Y → Type 0} (e : ReadEr
 reads_err errors.OutOfMemory h = tt
 reads_err errors.DiskFault h = tt
 reads_err (errors.Wrong w) h = absurd h
+
+pub reads_map : {X : Type 0} {P : X → Type 0} {Q : X → Type 0} (r : Result X ReadError) → ((x : X) → P x → Q x) → Reads P r → Reads Q r
+reads_map (Ok x) f h = f x h
+reads_map (Err errors.OutOfMemory) f h = tt
+reads_map (Err errors.DiskFault) f h = tt
+reads_map (Err (errors.Wrong w)) f h = absurd h
 
 pub reads_memory : {X : Type 0} {P : X → Type 0} (r : Result X ReadError) → IfOk r P → IfErr r (λ e. e ≡ errors.OutOfMemory) → Reads P r
 reads_memory (Ok x) h m = h
@@ -137,6 +146,29 @@ no_dirs n (Some a) (Some c) (Some e) h = by (is_dir a.kind && is_dir c.kind && i
 pub all_three : (n : ℕ) (x y v : Option NodeRev) (a c e : NodeRev) → x ≡ Some a → y ≡ Some c → v ≡ Some e → (go_on_in n x y v && same_props_in x y v) ≡ (go_on n a c e && have_same_props a c e)
 all_three n x y v a c e f g h = λ i. go_on_in n (f i) (g i) (h i) && same_props_in (f i) (g i) (h i)
 
+-- the base's id among them
+dirs_base : (x y v : Option Target) (d : Dirs) → dirs_of x y v ≡ Some d → (b : Target) × (x ≡ Some b) × (d.base ≡ b.id)
+dirs_base None y v d h = absurd (let g : None ≡ Some d = h in cc)
+dirs_base (Some a) None v d h = absurd (let g : None ≡ Some d = h in cc)
+dirs_base (Some a) (Some c) None d h = absurd (let g : None ≡ Some d = h in cc)
+dirs_base (Some a) (Some c) (Some e) d h = by (is_dir a.kind && is_dir c.kind && is_dir e.kind) h
+  where
+    all : Dirs
+    all = record { base = a.id; head = c.id; own = e.id }
+
+    by : (b : Bool) → (if b then Some all else None) ≡ Some d → (b : Target) × (Some a ≡ Some b) × (d.base ≡ b.id)
+    by false g = absurd (let k : None ≡ Some d = g in cc)
+    by true g = let same : all ≡ d = (let k = g in cc) in (a, refl, sym (ap (λ (k : Dirs). k.base) same))
+
+pub dirs_weight : (t : Three) (d : Dirs) → dirs_in t ≡ Some d → weight_in t.base ≡ weight (offset_of d.base.place)
+dirs_weight t d h = let w = dirs_base t.base t.head t.own d h in ap weight_in w.1 ∙ ap (λ (id : NodeId). weight (offset_of id.place)) (sym w.2)
+
+pub dirs_place : (t : Three) (d : Dirs) → dirs_in t ≡ Some d → IsLastingBase t.base → is_revision_place d.base.place ≡ true
+dirs_place t d h lasts =
+    let w = dirs_base t.base t.head t.own d h in
+    let place : is_revision_place w.0.id.place ≡ true = subst IsLastingBase w.1 lasts in
+    ap (λ (id : NodeId). is_revision_place id.place) w.2 ∙ place
+
 -- the three ids are told
 pub told_ids : (t : Telling) (x y v : Option NodeRev) (d : Dirs) (a : AreDirs x y v d) → AreTold t x y v → (t.node d.base ≡ Some a.base) × (t.node d.head ≡ Some a.head) × (t.node d.own ≡ Some a.own)
 told_ids t x y v d a told = (ap t.node a.base_id ∙ told.base a.base a.base_is, ap t.node a.head_id ∙ told.head a.head a.head_is, ap t.node a.own_id ∙ told.own a.own a.own_is)
@@ -167,6 +199,7 @@ pub roots_walk : (base : ℕ) (roots : Roots) (x y v : NodesAt) → AreRoots roo
 roots_walk base roots x y v are c = record {
   pending = (record { three = roots_are roots x y v are; is_changed = c; comes = refl }, tt);
   all = λ q h. inl refl;
+  stops = λ c e. absurd (let g : None ≡ Some c = e in cc);
 }
 
 pub roots_quiet : (base : ℕ) (roots : Roots) (x y v : NodesAt) → AreRoots roots x y v → is_changed (root_three roots) ≡ false → NoStop (sights base x y v) []
@@ -182,20 +215,12 @@ opens_all x y v path old mid new sides (Ok t) m h e listed = (sides, listed, h �
 opens_all x y v path old mid new sides (Err z) m h e listed = subst (λ (k : ReadError). Reads (λ (t : Unit {0}). IsOpened x y v path old new) (Err k)) (sym m) tt
 
 module _ (x y v : NodesAt) (base : ℕ) where
-  pub record IsUnderWay (todo : List Pending) (first : Option Path) : Type 0 where
-    pub pending : ArePending x y v base todo
-    pub all : AreFoundOrLeft (sights base x y v) todo first
-    pub stops : (c : Path) → first ≡ Some c → clashes_by_ids (sights base x y v) c ≡ true
-
-  pub begins : (todo : List Pending) → IsWalk x y v base todo → IsUnderWay todo None
-  begins todo w = record { pending = w.pending; all = w.all; stops = λ c e. absurd (let g : None ≡ Some c = e in cc) }
-
   -- what stands there, changed on both sides
   changed_there : (next : Pending) → IsPending x y v base next → is_changed (three_of (x next.path) (y next.path) (v next.path)) ≡ true
   changed_there next is = subst (λ (t : Three). is_changed t ≡ true) is.three is.is_changed
 
-  pub clash_step : (todo : List Pending) (next : Pending) (first : Option Path) → IsUnderWay (todo ++ next ∷ []) first → (go_on_in base (x next.path) (y next.path) (v next.path) && same_props_in (x next.path) (y next.path) (v next.path)) ≡ false
-      → IsUnderWay todo (Some (least first next.path))
+  pub clash_step : (todo : List Pending) (next : Pending) (first : Option Path) → IsUnderWay x y v base (todo ++ next ∷ []) first → (go_on_in base (x next.path) (y next.path) (v next.path) && same_props_in (x next.path) (y next.path) (v next.path)) ≡ false
+      → IsUnderWay x y v base todo (Some (least first next.path))
   clash_step todo next first was h =
       let front = all_front todo next was.pending in
       let s = stopped base (x next.path) (y next.path) (v next.path) (changed_there next front.1) h in
@@ -205,8 +230,8 @@ module _ (x y v : NodesAt) (base : ℕ) where
         stops = found_stops x y v base next first front.1 s was.stops;
       }
 
-  pub open_step : (t : Telling) (todo : List Pending) (next : Pending) (first : Option Path) (d : Dirs) (sides : Sides) → IsUnderWay (todo ++ next ∷ []) first → (go_on_in base (x next.path) (y next.path) (v next.path) && same_props_in (x next.path) (y next.path) (v next.path)) ≡ true
-      → (a : IsToldDir t x next.path d.base) → (c : IsToldDir t y next.path d.head) → (e : IsToldDir t v next.path d.own) → AreAllListed a.entries c.entries e.entries sides → IsUnderWay (opened next.path sides todo) first
+  pub open_step : (t : Telling) (todo : List Pending) (next : Pending) (first : Option Path) (d : Dirs) (sides : Sides) → IsUnderWay x y v base (todo ++ next ∷ []) first → (go_on_in base (x next.path) (y next.path) (v next.path) && same_props_in (x next.path) (y next.path) (v next.path)) ≡ true
+      → (a : IsToldDir t x next.path d.base) → (c : IsToldDir t y next.path d.head) → (e : IsToldDir t v next.path d.own) → AreAllListed a.entries c.entries e.entries sides → IsUnderWay x y v base (opened next.path sides todo) first
   open_step t todo next first d sides was h a c e listed =
       let front = all_front todo next was.pending in
       let m = merged base (x next.path) (y next.path) (v next.path) (changed_there next front.1) h in
@@ -218,5 +243,5 @@ module _ (x y v : NodesAt) (base : ℕ) where
         stops = was.stops;
       }
 
-  pub walk_ends : (first : Option Path) → IsUnderWay [] first → IsFirstStop (sights base x y v) first
+  pub walk_ends : (first : Option Path) → IsUnderWay x y v base [] first → IsFirstStop (sights base x y v) first
   walk_ends first was = ends x y v base first was.stops was.all

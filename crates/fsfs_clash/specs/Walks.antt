@@ -75,9 +75,14 @@ IsFoundOrLeft todo first q = (list_any (λ (p : Pending). covers p.path q) todo 
 abbrev pub AreFoundOrLeft : (Path → Sight) → List Pending → Option Path → Type 0
 AreFoundOrLeft see todo first = (q : Path) → clashes_by_ids see q ≡ true → IsFoundOrLeft todo first q
 
-pub record IsWalk (x y v : NodesAt) (base : ℕ) (todo : List Pending) : Type 0 where
+-- and what was found stops it
+pub record IsUnderWay (x y v : NodesAt) (base : ℕ) (todo : List Pending) (first : Option Path) : Type 0 where
   pub pending : ArePending x y v base todo
-  pub all : AreFoundOrLeft (sights base x y v) todo None
+  pub all : AreFoundOrLeft (sights base x y v) todo first
+  pub stops : (c : Path) → first ≡ Some c → clashes_by_ids (sights base x y v) c ≡ true
+
+abbrev pub IsWalk : NodesAt → NodesAt → NodesAt → ℕ → List Pending → Type 0
+IsWalk x y v base todo = IsUnderWay x y v base todo None
 
 abbrev pub least : Option Path → Path → Path
 least None path = path

@@ -11,8 +11,8 @@ ghost use Rattle.fsfs_shows.specs.Reading.{DirEntry, offset_of};
 ghost use Rattle.fsfs_clash.specs.Lists.{names_in, three_in};
 ghost use Rattle.fsfs_clash.specs.Nodes.{KeepsNodes, Reads, TellsTrees};
 ghost use Rattle.fsfs_clash.specs.Sights.{sights};
-ghost use Rattle.fsfs_clash.specs.Walks.{if_changed, changed, least, root_target, AreRoots, IsFirstStop, IsOpened, IsWalk, HasPlaces};
-ghost use Rattle.fsfs_clash.specs.Weights.{total, weight};
+ghost use Rattle.fsfs_clash.specs.Walks.{if_changed, changed, least, root_target, AreRoots, IsFirstStop, IsOpened, IsWalk, IsUnderWay, HasPlaces, IsLastingBase};
+ghost use Rattle.fsfs_clash.specs.Weights.{total, weight, weight_in};
 
 use crate::entries::{Entries, Sides, sides_of};
 use crate::nodes::Nodes;
@@ -127,6 +127,32 @@ fn note(first: &mut Option<FsPath>, path: FsPath)
     }
 }
 
+// Looks at one path: it is a clash, or what both sides changed in the three directories is put.
+fn step<N: Nodes>(
+    alloc: Global,
+    nodes: &mut N,
+    base: RevNum,
+    todo: &mut Vec<Pending>,
+    first: &mut Option<FsPath>,
+    next: Pending,
+) -> Result<(), ReadError>
+    requires place { IsLastingBase next.three.base }
+    ensures told { (x y v : NodesAt) → TellsTrees (N.told nodes.old) x y v → IsUnderWay x y v base (todo.old.items ++ next ∷ []) first.old → Reads (λ _. IsUnderWay x y v base todo.new.items first.new) result }
+    ensures places { OnOk result (HasPlaces todo.old.items → HasPlaces todo.new.items) }
+    ensures total { OnOk result (total todo.new.items < total todo.old.items + weight_in next.three.base) }
+    ensures kept { KeepsNodes (N.told nodes.old) (N.told nodes.new) }
+    ensures cause { HasCause (N.faults nodes.old) (N.faults nodes.new) result }
+{
+    let dirs = merged_dirs(nodes, base, &next.three)?;
+    match dirs {
+        None => {
+            note(first, next.path);
+            Ok(())
+        }
+        Some(dirs) => open(alloc, nodes, todo, &next.path, &dirs),
+    }
+}
+
 // The first clash among what is left to look at and what is below it.
 fn walk<N: Nodes>(
     alloc: Global,
@@ -141,10 +167,7 @@ fn walk<N: Nodes>(
 {
     let mut first = None;
     while let Some(next) = todo.pop() {
-        match merged_dirs(nodes, base, &next.three)? {
-            None => note(&mut first, next.path),
-            Some(dirs) => open(alloc, nodes, &mut todo, &next.path, &dirs)?,
-        }
+        step(alloc, nodes, base, &mut todo, &mut first, next)?;
     }
     Ok(first)
 }

@@ -1,9 +1,8 @@
 use Rattle.std.proofs.Common.{◌≡◌, ◌≤◌}
 use Rattle.fsfs_drafts.specs.OwnSides.{NodesAt}
 use Rattle.fsfs_clash.specs.Nodes.{KeepsNodes, TellsTrees}
-use Rattle.fsfs_clash.specs.Walks.{IsWalk, HasPlaces}
+use Rattle.fsfs_clash.specs.Walks.{IsUnderWay, IsWalk, HasPlaces}
 use Rattle.fsfs_clash.specs.Weights.{total}
-use Rattle.fsfs_clash.proofs.Stepping.{IsUnderWay}
 use Rattle.fsfs_clash.proofs.walk.walk.Given as goal
 
 abbrev pub invariant-loop-next : goal.invariant-loop-next
