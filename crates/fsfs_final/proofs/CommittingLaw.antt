@@ -1,6 +1,6 @@
 -- The whole chain of a commit.
 use Rattle.fsfs_ancestry.proofs.Revisions.{shown_revisions}
-use Rattle.std.proofs.Common.{◌≡◌, ◌∙◌, ◌≤◌, ◌<◌, ℕ, suc, Bool, true, false, List, [], ◌∷◌, ◌++◌, Option, Some, refl, sym, subst, arith}
+use Rattle.std.proofs.Common.{◌≡◌, ◌∙◌, ◌≤◌, ◌<◌, ℕ, suc, Bool, true, false, ◌&&◌, List, [], ◌∷◌, ◌++◌, Option, Some, refl, sym, subst, arith}
 use Rattle.std.specs.Prelude.{Ok, is_some, nat_le}
 use Rattle.std.proofs.lemmas.Bool.{leb-true, and_from, and_parts, both_ways}
 use Rattle.std.proofs.lemmas.Bool.Decides.{nat_tests}
@@ -154,10 +154,12 @@ stay_edit tree next last more b t before same up was (Delete path) h = Edited b 
 stay_edit tree next last more b t before same up was (PutText path text) h = Edited b t before (PutText path text) was h
 stay_edit tree next last more b t before same up was (SetProp path name value) h = Edited b t before (SetProp path name value) was h
 stay_edit tree next last more b t before same up was (Copy rev from to) h =
-    let le : rev ≤ last = leb-true rev last ((and_parts _ _ ((and_parts _ _ h).0)).1) in
-    let e = same rev le in
-    let there : is_some (next rev from) ≡ true = subst (λ (z : TreeFunction). is_some (z from) ≡ true) (sym e) ((and_parts _ _ h).1) in
-    let can : can_make t to ≡ true = (and_parts _ _ ((and_parts _ _ h).0)).0 in
+    let ends = and_parts (can_make t to && nat_le rev last) (is_some (tree rev from)) h in
+    let front = and_parts (can_make t to) (nat_le rev last) ends.0 in
+    let le : rev ≤ last = leb-true rev last front.1 in
+    let e : next rev ≡ tree rev = same rev le in
+    let there : is_some (next rev from) ≡ true = subst (λ (z : TreeFunction). is_some (z from) ≡ true) (sym e) ends.1 in
+    let can : can_make t to ≡ true = front.0 in
     let ok : accepts (Copy rev from to) next more t ≡ true = and_from _ _ (and_from _ _ can (test_le rev more (omega (arith, le, up)))) there in
     subst (λ (z : TreeFunction). IsTransaction next more b (with_copy t rev z from to) (before ++ record { path = to; kind = kind_of_node (z from); what = Make (Some (rev, from)) } ∷ [])) e
     (Edited b t before (Copy rev from to) was ok)

@@ -12,7 +12,7 @@ use Rattle.fsfs_noderev.specs.declared.rep.Rep.{Rep}
 use Rattle.fsfs_noderev.specs.declared.rep.Contents.{Contents}
 use Rattle.fsfs_noderev.specs.declared.rep.Contents.TheVariants as contents
 use Rattle.fsfs_noderev.specs.declared.node_rev.NodeRev.{NodeRev}
-use Rattle.fsfs_rep.specs.Frames.{rev_of}
+use Rattle.fsfs_rep.specs.Frames.{RepIn, rev_of}
 use Rattle.fsfs_revision.specs.Nodes.{IsNodeAt, is_root, is_before, place_before}
 use Rattle.fsfs_damage.specs.Damages.{place_of}
 use Rattle.fsfs_damage.specs.declared.damage.RevOffset.{RevOffset}
@@ -59,7 +59,7 @@ module _ (look : RevisionBytes) (top n : ℕ) (bytes : List ℕ) (own : NodesAt)
   lasting_at p u e plain = let l = draft.lasting p u e plain in stands_of_id look l.0 l.1 u l.3
 
   -- a directory's list
-  entries_of : (p : Path) (rep : Rep) (text : List ℕ) (pairs : Pairs) (entries : List DirEntry) → (done p).text ≡ Some (contents.At rep) → rev_of rep ≡ n → Rattle.fsfs_shows.specs.Reading.RepIn rep bytes (Ok text)
+  entries_of : (p : Path) (rep : Rep) (text : List ℕ) (pairs : Pairs) (entries : List DirEntry) → (done p).text ≡ Some (contents.At rep) → rev_of rep ≡ n → RepIn rep bytes (Ok text)
       → Rattle.fsfs_hash.specs.Dump.IsDump text pairs → AreEntries (offset_of (done p).id.place) pairs entries → EntriesOf look (done p) (Ok entries)
   entries_of p rep text pairs entries t r i d a =
       subst (λ (o : Option Contents). OfContents [] (EntriesAt look (offset_of (done p).id.place)) o (Ok entries)) (sym t)

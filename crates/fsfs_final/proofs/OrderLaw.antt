@@ -18,6 +18,7 @@ use Rattle.fsfs_shows.specs.Chains.{own_rev, copy_root_of, root_or_own}
 use Rattle.fsfs_shows.specs.IdRules.{IsOf}
 use Rattle.fsfs_shows.proofs.TreeLaw.{stands_home, root_le}
 use Rattle.fsfs_ancestry.proofs.Roots.{length_push}
+use Rattle.fsfs_ancestry.proofs.Earlier.{pred_same}
 use Rattle.fsfs_drafts.specs.OwnSides.{NodesAt, in_txn}
 use Rattle.fsfs_merge.proofs.SightLaw.{lasting_id}
 use Rattle.fsfs_drafts.specs.NodeDrafts.{draft_root, IsOwn, IsDraft}
@@ -85,7 +86,7 @@ module _ (look : RevisionBytes) (top : ℕ) (own : NodesAt) (draft : IsDraft loo
                   let some : u.predecessor ≡ None → ⊥ = λ none. (let f = sym none ∙ id.1 in cc) in
                   let g = draft.goes_on q name a.0 u a.1 e mine plain some in
                   let r = ready look top top own (omega arith) draft (q ++ name ∷ []) u e mine some in
-                  let w = Rattle.fsfs_ids.proofs.Standing.pred_same look u r.0 g.1 r.1 g.4 in
+                  let w = pred_same look u r.0 g.1 r.1 g.4 in
                   let root = g.5 (suc top) (omega arith) in
                   let from : (copy_root_of g.1).0 ≤ suc top = root_of g.1 (subst (IsOf look top) w r.2) in
                   subst (λ (z : ℕ × Path). z.0 ≤ suc top) (sym root) (pick (nat_lt (own_rev g.1) (draft_root (suc top) a.0).0) (draft_root (suc top) a.0) (copy_root_of g.1) up from)
