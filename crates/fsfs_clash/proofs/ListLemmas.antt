@@ -43,11 +43,11 @@ whole_list name all left done e none = ap (λ (es : List PlacedEntry). option_ma
 -- what an entry names stands before the directory
 pub named_before : (home : RevOffset) (name : PathName) (entries : List PlacedEntry) (t : Target) → AreBefore home entries → option_map entry_target (named name (entry_values entries)) ≡ Some t → place_before home t.id.place ≡ true
 named_before home name [] t all h = absurd (let g : None ≡ Some t = h in cc)
-named_before home name (e ∷ entries) t all h = by (same_name (entry_value e).name name) h
+named_before home name (e ∷ entries) t all h = by (same_name (entry_value e).name name) h (λ k. named_before home name entries t all.1 k)
   where
-    by : (b : Bool) → option_map entry_target (if b then Some (entry_value e) else named name (entry_values entries)) ≡ Some t → place_before home t.id.place ≡ true
-    by true k = let same : entry_target (entry_value e) ≡ t = (let g = k in cc) in ap (λ (z : Target). place_before home z.id.place) (sym same) ∙ all.0
-    by false k = named_before home name entries t all.1 k
+    by : (b : Bool) → option_map entry_target (if b then Some (entry_value e) else named name (entry_values entries)) ≡ Some t → (option_map entry_target (named name (entry_values entries)) ≡ Some t → place_before home t.id.place ≡ true) → place_before home t.id.place ≡ true
+    by true k further = let same : entry_target (entry_value e) ≡ t = (let g = k in cc) in ap (λ (z : Target). place_before home z.id.place) (sym same) ∙ all.0
+    by false k further = further k
 
 pub all_before : (home : RevOffset) (entries : List PlacedEntry) (r : Result Entries ReadError) → IfOk r (AreListed (entry_values entries)) → AreBefore home entries → IfOk r (AreTargetsBefore home)
 all_before home entries (Ok e) listed before = λ name t h. named_before home name entries t before (sym (listed name) ∙ h)

@@ -71,13 +71,13 @@ any_one f x h = elim (or_cases _ _ h) [
   | inr w ↦ absurd (false≢true w)
 ]
 
-all_append : {X : Type 0} {P : X → Type 0} (xs ys : List X) → AllByRecursion P xs → AllByRecursion P ys → AllByRecursion P (xs ++ ys)
-all_append [] ys a b = b
-all_append (x ∷ xs) ys a b = (a.0, all_append xs ys a.1 b)
+all_append : {X : Type 0} (P : X → Type 0) (xs ys : List X) → AllByRecursion P xs → AllByRecursion P ys → AllByRecursion P (xs ++ ys)
+all_append P [] ys a b = b
+all_append P (x ∷ xs) ys a b = (a.0, all_append P xs ys a.1 b)
 
-pub all_front : {X : Type 0} {P : X → Type 0} (xs : List X) (x : X) → AllByRecursion P (xs ++ x ∷ []) → AllByRecursion P xs × P x
-all_front [] x a = (tt, a.0)
-all_front (y ∷ xs) x a = let w = all_front xs x a.1 in ((a.0, w.0), w.1)
+pub all_front : {X : Type 0} (P : X → Type 0) (xs : List X) (x : X) → AllByRecursion P (xs ++ x ∷ []) → AllByRecursion P xs × P x
+all_front P [] x a = (tt, a.0)
+all_front P (y ∷ xs) x a = let w = all_front P xs x a.1 in ((a.0, w.0), w.1)
 
 -- ---- names of a directory
 
@@ -109,19 +109,19 @@ any_changed path sides name (x ∷ names) q h c w = elim (or_cases _ _ h) [
   | inr further ↦ any_right (λ (p : Pending). covers p.path q) (if_changed (path ++ x ∷ []) (three_in sides x)) (changed path sides names) (any_changed path sides name names q further c w)
 ]
 
-all_if : {P : Pending → Type 0} (path : Path) (three : Three) (b : Bool) → (b ≡ true → P (pending path three)) → AllByRecursion P (if b then pending path three ∷ [] else [])
-all_if path three true h = (h refl, tt)
-all_if path three false h = tt
+all_if : (P : Pending → Type 0) (path : Path) (three : Three) (b : Bool) → (b ≡ true → P (pending path three)) → AllByRecursion P (if b then pending path three ∷ [] else [])
+all_if P path three true h = (h refl, tt)
+all_if P path three false h = tt
 
-pub all_changed : {P : Pending → Type 0} (path : Path) (sides : Sides) (names : List PathName) → ((name : PathName) → is_changed (three_in sides name) ≡ true → P (pending (path ++ name ∷ []) (three_in sides name))) → AllByRecursion P (changed path sides names)
-all_changed path sides [] h = tt
-all_changed path sides (x ∷ names) h =
-    all_append (if_changed (path ++ x ∷ []) (three_in sides x)) (changed path sides names) (all_if (path ++ x ∷ []) (three_in sides x) (is_changed (three_in sides x)) (h x)) (all_changed path sides names h)
+pub all_changed : (P : Pending → Type 0) (path : Path) (sides : Sides) (names : List PathName) → ((name : PathName) → is_changed (three_in sides name) ≡ true → P (pending (path ++ name ∷ []) (three_in sides name))) → AllByRecursion P (changed path sides names)
+all_changed P path sides [] h = tt
+all_changed P path sides (x ∷ names) h =
+    all_append P (if_changed (path ++ x ∷ []) (three_in sides x)) (changed path sides names) (all_if P (path ++ x ∷ []) (three_in sides x) (is_changed (three_in sides x)) (h x)) (all_changed P path sides names h)
 
-pub all_opened : {P : Pending → Type 0} (path : Path) (sides : Sides) (todo : List Pending) → ((name : PathName) → is_changed (three_in sides name) ≡ true → P (pending (path ++ name ∷ []) (three_in sides name))) → AllByRecursion P todo → AllByRecursion P (opened path sides todo)
-all_opened path sides todo h was =
-    all_append (todo ++ changed path sides (names_in sides.base)) (changed path sides (names_in sides.own)) (all_append todo (changed path sides (names_in sides.base)) was (all_changed path sides (names_in sides.base) h))
-    (all_changed path sides (names_in sides.own) h)
+pub all_opened : (P : Pending → Type 0) (path : Path) (sides : Sides) (todo : List Pending) → ((name : PathName) → is_changed (three_in sides name) ≡ true → P (pending (path ++ name ∷ []) (three_in sides name))) → AllByRecursion P todo → AllByRecursion P (opened path sides todo)
+all_opened P path sides todo h was =
+    all_append P (todo ++ changed path sides (names_in sides.base)) (changed path sides (names_in sides.own)) (all_append P todo (changed path sides (names_in sides.base)) was (all_changed P path sides (names_in sides.base) h))
+    (all_changed P path sides (names_in sides.own) h)
 
 -- the names of the base and of the transaction are enough
 changed_some : (three : Three) → is_changed three ≡ true → (is_some three.base ≡ true) ⊎ (is_some three.own ≡ true)
@@ -179,7 +179,7 @@ module _ (x y v : NodesAt) (base : ℕ) where
   module _ (p : Pending) (is : IsPending x y v base p) (sides : Sides) (lists : (name : PathName) → three_in sides name ≡ three_of (x (p.path ++ name ∷ [])) (y (p.path ++ name ∷ [])) (v (p.path ++ name ∷ [])))
       (m : merges (see p.path) ≡ true) (s : is_stopped (see p.path) ≡ false) where
     pub still : (todo : List Pending) → ArePending x y v base todo → ArePending x y v base (opened p.path sides todo)
-    still todo was = all_opened p.path sides todo (λ name c. record { three = lists name; is_changed = c; comes = reached_push (down see) p.path name is.comes m }) was
+    still todo was = all_opened (IsPending x y v base) p.path sides todo (λ name c. record { three = lists name; is_changed = c; comes = reached_push (down see) p.path name is.comes m }) was
 
     -- nothing stops the walk where one side has the base's
     quiet : (name : PathName) → is_changed (three_in sides name) ≡ false → NoStop see (p.path ++ name ∷ [])
@@ -209,11 +209,11 @@ module _ (x y v : NodesAt) (base : ℕ) where
 
   -- nothing is left
   pub ends : (first : Option Path) → ((c : Path) → first ≡ Some c → clashes_by_ids see c ≡ true) → AreFoundOrLeft see [] first → IsFirstStop see first
-  ends None stops all q = by (clashes_by_ids see q) refl
+  ends None stops all = λ q. by q (clashes_by_ids see q) refl
     where
-      by : (b : Bool) → clashes_by_ids see q ≡ b → clashes_by_ids see q ≡ false
-      by false e = e
-      by true e = elim (all q e) [
+      by : (q : Path) (b : Bool) → clashes_by_ids see q ≡ b → clashes_by_ids see q ≡ false
+      by q false e = e
+      by q true e = elim (all q e) [
         | inl w ↦ absurd (false≢true w)
         | inr w ↦ absurd (let g : None ≡ Some w.0 = w.1 in cc)
       ]

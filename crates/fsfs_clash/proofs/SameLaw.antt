@@ -28,7 +28,7 @@ itself n = eq-eqb n n refl
 -- ---- parts of ids
 
 -- an id with this node part
-with_part : Part → NodeId
+abbrev with_part : Part → NodeId
 with_part p = record { node = p; copy = p; place = At 0 0 }
 
 pub part_true : (a b : Part) → same_part a b ≡ true → a ≡ b

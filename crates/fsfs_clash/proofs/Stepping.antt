@@ -29,7 +29,7 @@ use Rattle.fsfs_dag.specs.Same.{same_part}
 use Rattle.fsfs_drafts.specs.OwnSides.{is_own_copy}
 use Rattle.fsfs_clash.specs.Sights.{sights, go_on, have_same_props, go_on_in, same_props_in}
 use Rattle.fsfs_clash.specs.Threes.{three_of, entry_target, node_target, is_changed}
-use Rattle.fsfs_clash.specs.Walks.{IsPending, ArePending, AreFoundOrLeft, IsUnderWay, IsWalk, least, opened, changed, pending, IsOpened, IsFirstStop, IsRoot, AreRoots, root_target, IsLastingBase}
+use Rattle.fsfs_clash.specs.Walks.{IsPending, ArePending, AreFoundOrLeft, IsUnderWay, IsWalk, least, opened, changed, pending, IsOpened, IsFirstStop, IsRoot, AreRoots, root_target, root_three, IsLastingBase}
 use Rattle.fsfs_clash.specs.Weights.{weight, weight_in}
 use Rattle.fsfs_merge.specs.FirstStops.{NoStop}
 use Rattle.fsfs_merge.proofs.FirstStopLaw.{walks_find_the_first}
@@ -39,10 +39,10 @@ use Rattle.fsfs_clash.proofs.Opening.{all_front, found, found_stops, still, left
 
 -- ---- what is read
 
-pub reads_err : {X Y : Type 0} {P : X → Type 0} {Q : Y → Type 0} (e : ReadError) → Reads P (Err e) → Reads Q (Err e)
-reads_err errors.OutOfMemory h = tt
-reads_err errors.DiskFault h = tt
-reads_err (errors.Wrong w) h = absurd h
+pub reads_err : {X Y : Type 0} (P : X → Type 0) (Q : Y → Type 0) (e : ReadError) → Reads P (Err e) → Reads Q (Err e)
+reads_err P Q errors.OutOfMemory h = tt
+reads_err P Q errors.DiskFault h = tt
+reads_err P Q (errors.Wrong w) h = absurd h
 
 pub reads_map : {X : Type 0} {P : X → Type 0} {Q : X → Type 0} (r : Result X ReadError) → ((x : X) → P x → Q x) → Reads P r → Reads Q r
 reads_map (Ok x) f h = f x h
@@ -50,12 +50,9 @@ reads_map (Err errors.OutOfMemory) f h = tt
 reads_map (Err errors.DiskFault) f h = tt
 reads_map (Err (errors.Wrong w)) f h = absurd h
 
-pub reads_memory : {X : Type 0} {P : X → Type 0} (r : Result X ReadError) → IfOk r P → IfErr r (λ e. e ≡ errors.OutOfMemory) → Reads P r
-reads_memory (Ok x) h m = h
-reads_memory {P = P} (Err e) h m = subst (λ (z : ReadError). Reads P (Err z)) (sym m) tt
-
-pub reads_only : {X : Type 0} {P : X → Type 0} (e : ReadError) → e ≡ errors.OutOfMemory → Reads P (Err e)
-reads_only {P = P} e m = subst (λ (z : ReadError). Reads P (Err z)) (sym m) tt
+pub reads_memory : {X : Type 0} (P : X → Type 0) (r : Result X ReadError) → IfOk r P → IfErr r (λ e. e ≡ errors.OutOfMemory) → Reads P r
+reads_memory P (Ok x) h m = h
+reads_memory P (Err e) h m = subst (λ (z : ReadError). Reads P (Err z)) (sym m) tt
 
 -- ---- what is told
 
@@ -189,9 +186,6 @@ told_dir t tree p v id told e dir same =
 root_of : (id : NodeId) (o : Option NodeRev) → IsRoot id o → Some (root_target id) ≡ option_map node_target o
 root_of id o (v, e, dir, same) = (λ i. Some (record { kind = sym dir i; id = sym same i })) ∙ ap (option_map node_target) (sym e)
 
-abbrev pub root_three : Roots → Three
-root_three roots = record { base = Some (root_target roots.base); head = Some (root_target roots.head); own = Some (root_target roots.own) }
-
 roots_are : (roots : Roots) (x y v : NodesAt) → AreRoots roots x y v → root_three roots ≡ three_of (x []) (y []) (v [])
 roots_are roots x y v are = λ i. record { base = root_of roots.base (x []) are.base i; head = root_of roots.head (y []) are.head i; own = root_of roots.own (v []) are.own i }
 
@@ -209,11 +203,6 @@ roots_quiet base roots x y v are c =
 
 -- ---- steps
 
-pub opens_all : (x y v : List DirEntry) (path : Path) (old mid new : List Pending) (sides : Sides) (r : Result (Unit {0}) ReadError) → IfErr r (λ e. e ≡ errors.OutOfMemory) → OnOk r (new ≡ mid ++ changed path sides (names_in sides.own))
-    → mid ≡ old ++ changed path sides (names_in sides.base) → AreAllListed x y v sides → Reads (λ _. IsOpened x y v path old new) r
-opens_all x y v path old mid new sides (Ok t) m h e listed = (sides, listed, h ∙ ap (λ (l : List Pending). l ++ changed path sides (names_in sides.own)) e)
-opens_all x y v path old mid new sides (Err z) m h e listed = subst (λ (k : ReadError). Reads (λ (t : Unit {0}). IsOpened x y v path old new) (Err k)) (sym m) tt
-
 module _ (x y v : NodesAt) (base : ℕ) where
   -- what stands there, changed on both sides
   changed_there : (next : Pending) → IsPending x y v base next → is_changed (three_of (x next.path) (y next.path) (v next.path)) ≡ true
@@ -222,7 +211,7 @@ module _ (x y v : NodesAt) (base : ℕ) where
   pub clash_step : (todo : List Pending) (next : Pending) (first : Option Path) → IsUnderWay x y v base (todo ++ next ∷ []) first → (go_on_in base (x next.path) (y next.path) (v next.path) && same_props_in (x next.path) (y next.path) (v next.path)) ≡ false
       → IsUnderWay x y v base todo (Some (least first next.path))
   clash_step todo next first was h =
-      let front = all_front todo next was.pending in
+      let front = all_front (IsPending x y v base) todo next was.pending in
       let s = stopped base (x next.path) (y next.path) (v next.path) (changed_there next front.1) h in
       record {
         pending = front.0;
@@ -233,7 +222,7 @@ module _ (x y v : NodesAt) (base : ℕ) where
   pub open_step : (t : Telling) (todo : List Pending) (next : Pending) (first : Option Path) (d : Dirs) (sides : Sides) → IsUnderWay x y v base (todo ++ next ∷ []) first → (go_on_in base (x next.path) (y next.path) (v next.path) && same_props_in (x next.path) (y next.path) (v next.path)) ≡ true
       → (a : IsToldDir t x next.path d.base) → (c : IsToldDir t y next.path d.head) → (e : IsToldDir t v next.path d.own) → AreAllListed a.entries c.entries e.entries sides → IsUnderWay x y v base (opened next.path sides todo) first
   open_step t todo next first d sides was h a c e listed =
-      let front = all_front todo next was.pending in
+      let front = all_front (IsPending x y v base) todo next was.pending in
       let m = merged base (x next.path) (y next.path) (v next.path) (changed_there next front.1) h in
       let lists : (name : PathName) → three_in sides name ≡ three_of (x (next.path ++ name ∷ [])) (y (next.path ++ name ∷ [])) (v (next.path ++ name ∷ []))
       = λ name i. record { base = (listed.base name ∙ a.names name) i; head = (listed.head name ∙ c.names name) i; own = (listed.own name ∙ e.names name) i } in

@@ -98,7 +98,7 @@ module _ (home : RevOffset) (fits : home.offset < 2 ^ 64) where
       omega (arith, k, sum)
 
 pub places_opened : (home : RevOffset) (path : Path) (sides : Sides) (todo : List Pending) → AreTargetsBefore home sides.base → HasPlaces todo → HasPlaces (opened path sides todo)
-places_opened home path sides todo before was = all_opened path sides todo (λ name c. lasts (target_in sides.base name) (before name)) was
+places_opened home path sides todo before was = all_opened (λ (p : Pending). IsLastingBase p.three.base) path sides todo (λ name c. lasts (target_in sides.base name) (before name)) was
   where
     lasts : (o : Option Target) → ((t : Target) → o ≡ Some t → place_before home t.id.place ≡ true) → IsLastingBase o
     lasts None h = tt

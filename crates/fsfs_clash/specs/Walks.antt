@@ -41,6 +41,9 @@ pub record AreRoots (roots : Roots) (x y v : NodesAt) : Type 0 where
 abbrev pub root_target : NodeId → Target
 root_target id = record { kind = Dir; id = id }
 
+abbrev pub root_three : Roots → Three
+root_three roots = record { base = Some (root_target roots.base); head = Some (root_target roots.head); own = Some (root_target roots.own) }
+
 -- ---- what is left to look at
 
 abbrev pub pending : Path → Three → Pending

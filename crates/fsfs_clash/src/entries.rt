@@ -2,7 +2,7 @@
 ghost use Rattle.std.specs.Prelude.{◌≡◌, List, Some, true, IfOk, IfErr};
 ghost use Rattle.fsfs_damage.specs.Causes.{HasCause};
 ghost use Rattle.fsfs_damage.specs.declared.wrong.ReadError.TheVariants.{OutOfMemory};
-ghost use Rattle.fsfs_shows.specs.Reading.{DirEntry, offset_of};
+ghost use Rattle.fsfs_shows.specs.Reading.{DirEntry as EntryValue, offset_of};
 ghost use Rattle.fsfs_dag.specs.Views.{entry_values, AreBefore};
 ghost use Rattle.fsfs_revision.specs.Nodes.{is_revision_place};
 ghost use Rattle.fsfs_clash.specs.Nodes.{KeepsNodes, Reads};
@@ -52,7 +52,7 @@ fn by_name(alloc: Global, mut entries: Vec<DirEntry>) -> Result<Entries, ReadErr
 
 // The entries of the directory of an id.
 fn entries_of<N: Nodes>(alloc: Global, nodes: &mut N, id: &NodeId) -> Result<Entries, ReadError>
-    ensures told { (entries : List DirEntry) → (N.told nodes.old).list id.now ≡ Some entries → Reads (AreListed entries) result }
+    ensures told { (entries : List EntryValue) → (N.told nodes.old).list id.now ≡ Some entries → Reads (AreListed entries) result }
     ensures before { is_revision_place id.now.place ≡ true → IfOk result (AreTargetsBefore (offset_of id.now.place)) }
     ensures kept { KeepsNodes (N.told nodes.old) (N.told nodes.new) }
     ensures cause { HasCause (N.faults nodes.old) (N.faults nodes.new) result }
@@ -89,7 +89,7 @@ pub(crate) fn sides_of<N: Nodes>(
     nodes: &mut N,
     dirs: &Dirs,
 ) -> Result<Sides, ReadError>
-    ensures told { (x y v : List DirEntry) → (N.told nodes.old).list dirs.now.base ≡ Some x → (N.told nodes.old).list dirs.now.head ≡ Some y → (N.told nodes.old).list dirs.now.own ≡ Some v → Reads (AreAllListed x y v) result }
+    ensures told { (x y v : List EntryValue) → (N.told nodes.old).list dirs.now.base ≡ Some x → (N.told nodes.old).list dirs.now.head ≡ Some y → (N.told nodes.old).list dirs.now.own ≡ Some v → Reads (AreAllListed x y v) result }
     ensures before { is_revision_place dirs.now.base.place ≡ true → IfOk result (λ s. AreTargetsBefore (offset_of dirs.now.base.place) s.base) }
     ensures kept { KeepsNodes (N.told nodes.old) (N.told nodes.new) }
     ensures cause { HasCause (N.faults nodes.old) (N.faults nodes.new) result }

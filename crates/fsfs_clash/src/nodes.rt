@@ -3,7 +3,7 @@ ghost use Rattle.std.specs.Prelude.{◌≡◌, ℕ, List, true, Some, IfOk};
 ghost use Rattle.fsfs_noderev.specs.declared.node_rev.NodeRev.{NodeRev};
 ghost use Rattle.fsfs_revision.specs.Nodes.{is_revision_place};
 ghost use Rattle.fsfs_damage.specs.Causes.{HasCause};
-ghost use Rattle.fsfs_shows.specs.Reading.{DirEntry, offset_of};
+ghost use Rattle.fsfs_shows.specs.Reading.{DirEntry as EntryValue, offset_of};
 ghost use Rattle.fsfs_dag.specs.Views.{entry_values, AreBefore};
 ghost use Rattle.fsfs_clash.specs.Nodes.{Telling, KeepsNodes, Reads};
 
@@ -29,7 +29,7 @@ pub trait Nodes {
 
     /// The entries of the directory of an id. Those of a revision's directory stand before it.
     fn entries(&mut self, id: &NodeId) -> Result<Vec<DirEntry>, ReadError>
-        ensures told { (entries : List DirEntry) → (told self.old).list id.now ≡ Some entries → Reads (λ v. entry_values v.items ≡ entries) result }
+        ensures told { (entries : List EntryValue) → (told self.old).list id.now ≡ Some entries → Reads (λ v. entry_values v.items ≡ entries) result }
         ensures before { is_revision_place id.now.place ≡ true → IfOk result (λ v. AreBefore (offset_of id.now.place) v.items) }
         ensures kept { KeepsNodes (told self.old) (told self.new) }
         ensures cause { HasCause (faults self.old) (faults self.new) result };

@@ -1,5 +1,5 @@
 //! Whether ids and representations are the same.
-ghost use Rattle.std.specs.Prelude.{◌≡◌};
+ghost use Rattle.std.specs.Prelude.{◌≡◌, ◌==◌, ◌&&◌};
 ghost use Rattle.fsfs_dag.specs.Same.{same_part, same_place, same_id};
 ghost use Rattle.fsfs_clash.specs.Same.{same_rev, same_unique, same_rep, same_contents};
 

@@ -2,16 +2,15 @@
 //!
 //! What is left to look at stands on a stack of its own, so that a chain of directories of any length takes no more of the
 //! machine's own stack.
-ghost use Rattle.std.specs.Prelude.{◌≡◌, ◌<◌, ◌+◌, ◌++◌, [], ◌∷◌, List, true, Some, OnOk, IfErr};
+ghost use Rattle.std.specs.Prelude.{◌≡◌, ◌<◌, ◌+◌, ◌++◌, [], ◌∷◌, List, true, Some, OnOk};
 ghost use Rattle.fsfs_damage.specs.Causes.{HasCause};
-ghost use Rattle.fsfs_damage.specs.declared.wrong.ReadError.TheVariants.{OutOfMemory};
 ghost use Rattle.fsfs_drafts.specs.OwnSides.{NodesAt};
 ghost use Rattle.fsfs_revision.specs.Nodes.{is_revision_place};
 ghost use Rattle.fsfs_shows.specs.Reading.{DirEntry, offset_of};
 ghost use Rattle.fsfs_clash.specs.Lists.{names_in, three_in};
 ghost use Rattle.fsfs_clash.specs.Nodes.{KeepsNodes, Reads, TellsTrees};
 ghost use Rattle.fsfs_clash.specs.Sights.{sights};
-ghost use Rattle.fsfs_clash.specs.Walks.{if_changed, changed, least, root_target, AreRoots, IsFirstStop, IsOpened, IsWalk, IsUnderWay, HasPlaces, IsLastingBase};
+ghost use Rattle.fsfs_clash.specs.Walks.{if_changed, changed, least, root_target, root_three, AreRoots, IsFirstStop, IsOpened, IsWalk, IsUnderWay, HasPlaces, IsLastingBase};
 ghost use Rattle.fsfs_clash.specs.Weights.{total, weight, weight_in};
 
 use crate::entries::{Entries, Sides, sides_of};
@@ -21,7 +20,7 @@ use crate::three::{Target, Three};
 use fsfs_base::{FsPath, Kind, RevNum};
 use fsfs_damage::{ReadError, RevOffset};
 use fsfs_noderev::{NodeId, Place};
-use std::alloc::Global;
+use std::alloc::{AllocError, Global};
 use std::cmp::Ordering;
 
 /// A path that both sides changed, and what the three have there.
@@ -46,19 +45,16 @@ fn push_if_changed(
     path: &FsPath,
     name: &str,
     sides: &Sides,
-) -> Result<(), ReadError>
-    ensures items { OnOk result (todo.new.items ≡ todo.old.items ++ if_changed (path.now ++ name.now ∷ []) (three_in sides.now name.now)) }
-    ensures memory { IfErr result (λ e. e ≡ OutOfMemory) }
+) -> Result<(), AllocError>
+    ensures { OnOk result (todo.new.items ≡ todo.old.items ++ if_changed (path.now ++ name.now ∷ []) (three_in sides.now name.now)) }
 {
     let three = sides.three(name);
     if !three.is_changed() {
         return Ok(());
     }
     let path = path.child(alloc, name)?;
-    match todo.push(Pending { path, three }) {
-        Ok(()) => Ok(()),
-        Err(_) => Err(ReadError::OutOfMemory),
-    }
+    todo.push(Pending { path, three })?;
+    Ok(())
 }
 
 // Puts those of the names behind which both sides changed something.
@@ -68,11 +64,10 @@ fn push_changed(
     path: &FsPath,
     names: &Entries,
     sides: &Sides,
-) -> Result<(), ReadError>
-    ensures items { OnOk result (todo.new.items ≡ todo.old.items ++ changed path.now sides.now (names_in names.now)) }
-    ensures memory { IfErr result (λ e. e ≡ OutOfMemory) }
+) -> Result<(), AllocError>
+    ensures { OnOk result (todo.new.items ≡ todo.old.items ++ changed path.now sides.now (names_in names.now)) }
 {
-    for (name, _) in &names.targets {
+    for (name, _target) in &names.targets {
         push_if_changed(alloc, todo, path, name.as_str(), sides)?;
     }
     Ok(())
@@ -111,7 +106,8 @@ fn open<N: Nodes>(
     let _home = home(dirs.base.place);
     let sides = sides_of(alloc, nodes, dirs)?;
     push_changed(alloc, todo, path, &sides.base, &sides)?;
-    push_changed(alloc, todo, path, &sides.own, &sides)
+    push_changed(alloc, todo, path, &sides.own, &sides)?;
+    Ok(())
 }
 
 // Keeps the lesser of two paths.
@@ -181,6 +177,16 @@ fn root(id: NodeId) -> Option<Target>
     })
 }
 
+fn three_roots(roots: &Roots) -> Three
+    ensures { result ≡ root_three roots.now }
+{
+    Three {
+        base: root(roots.base),
+        head: root(roots.head),
+        own: root(roots.own),
+    }
+}
+
 /// The path of the first clash in the order of paths, a prefix first; none: there is none. Nothing is written. Of two
 /// directories of which one is the base's the walk reads nothing.
 pub fn first_clash<N: Nodes>(
@@ -194,11 +200,7 @@ pub fn first_clash<N: Nodes>(
     ensures kept { KeepsNodes (N.told nodes.old) (N.told nodes.new) }
     ensures cause { HasCause (N.faults nodes.old) (N.faults nodes.new) result }
 {
-    let three = Three {
-        base: root(roots.base),
-        head: root(roots.head),
-        own: root(roots.own),
-    };
+    let three = three_roots(roots);
     if !three.is_changed() {
         return Ok(None);
     }

@@ -17,7 +17,7 @@ returns-in_err-goes-clause-told g c = λ x y v is told.
     let r = err_from_is_err_and c.from_residual.result c.from_residual.ensures.1 in
     let d = are_dirs x y v c.in-Some.dirs (ap dirs_in (sym is) ∙ sym c.as_dirs.ensures ∙ c.in-Some.is) in
     let t = told_ids _ x y v c.in-Some.dirs d told in
-    rw (r.1, r.2) (reads_err c.in_err-goes.field-0.0 (c.in_err-goes.ensures.told d.base d.head d.own t.0 t.1 t.2))
+    rw (r.1, r.2) (reads_err _ _ c.in_err-goes.field-0.0 (c.in_err-goes.ensures.told d.base d.head d.own t.0 t.1 t.2))
 
 pub returns-then-goes-clause-told : goal.returns-then-goes-clause-told
 returns-then-goes-clause-told g c = λ x y v is told.

@@ -4,7 +4,7 @@ use Rattle.std.proofs.lemmas.Result.{err_from_is_err_and, on_ok_weaker}
 use Rattle.fsfs_base.specs.Paths.{Path}
 use Rattle.fsfs_clash.specs.declared.sides.Dirs.{Dirs}
 use Rattle.fsfs_clash.specs.Dirs.{dirs_in}
-use Rattle.fsfs_clash.specs.Walks.{IsUnderWay}
+use Rattle.fsfs_clash.specs.Walks.{IsPending, IsUnderWay}
 use Rattle.fsfs_clash.proofs.Opening.{all_front}
 use Rattle.fsfs_clash.proofs.Stepping.{reads_err, reads_map, keeps_trans, told_at, told_dir, trees_kept, are_dirs, dirs_place, dirs_weight, clash_step, open_step}
 use Rattle.fsfs_clash.proofs.WeightLemmas.{weight_some}
@@ -14,13 +14,13 @@ pub returns-in_err-dirs-clause-told : goal.returns-in_err-dirs-clause-told
 returns-in_err-dirs-clause-told g c = λ x y v told way.
     let r = err_from_is_err_and c.from_residual.result c.from_residual.ensures.1 in
     let next = c.args.next in
-    let is = (all_front c.args.todo.now.items next way.pending).1 in
-    rw (r.1, r.2) (reads_err c.in_err-dirs.field-0.0 (c.in_err-dirs.ensures.told (x next.path) (y next.path) (v next.path) is.three (told_at _ x y v next.path told)))
+    let is = (all_front (IsPending x y v c.args.base) c.args.todo.now.items next way.pending).1 in
+    rw (r.1, r.2) (reads_err _ _ c.in_err-dirs.field-0.0 (c.in_err-dirs.ensures.told (x next.path) (y next.path) (v next.path) is.three (told_at _ x y v next.path told)))
 
 pub returns-in-None-clause-told : goal.returns-in-None-clause-told
 returns-in-None-clause-told g c = λ x y v told way.
     let next = c.args.next in
-    let is = (all_front c.args.todo.now.items next way.pending).1 in
+    let is = (all_front (IsPending x y v c.args.base) c.args.todo.now.items next way.pending).1 in
     let none = sym (c.in_ok-dirs.ensures.told (x next.path) (y next.path) (v next.path) is.three (told_at _ x y v next.path told)) ∙ ap (λ (o : Option Dirs). is_some o) c.in-None.is in
     subst (λ (o : Option Path). IsUnderWay x y v c.args.base c.args.todo.now.items o) (sym c.note.ensures) (clash_step x y v c.args.base c.args.todo.now.items next c.args.first.now way none)
 
@@ -28,13 +28,13 @@ pub returns-in-None-clause-total : goal.returns-in-None-clause-total
 returns-in-None-clause-total g c = weight_some c.args.next.three.base _
 
 -- the three directories that were read are those of the path
-pub open-in-Some-requires : goal.open-in-Some-requires
-open-in-Some-requires g c = dirs_place c.args.next.three c.in-Some.dirs (subst (λ (o : Option Dirs). IfSome o (λ d. dirs_in c.args.next.three ≡ Some d)) c.in-Some.is c.in_ok-dirs.ensures.dirs) c.requires
+pub open-requires : goal.open-requires
+open-requires g c = dirs_place c.args.next.three c.in-Some.dirs (subst (λ (o : Option Dirs). IfSome o (λ d. dirs_in c.args.next.three ≡ Some d)) c.in-Some.is c.in_ok-dirs.ensures.dirs) c.requires
 
 pub returns-in-Some-clause-told : goal.returns-in-Some-clause-told
 returns-in-Some-clause-told g c = λ x y v told way.
     let next = c.args.next in
-    let is = (all_front c.args.todo.now.items next way.pending).1 in
+    let is = (all_front (IsPending x y v c.args.base) c.args.todo.now.items next way.pending).1 in
     let yes = sym (c.in_ok-dirs.ensures.told (x next.path) (y next.path) (v next.path) is.three (told_at _ x y v next.path told)) ∙ ap (λ (o : Option Dirs). is_some o) c.in-Some.is in
     let ids = subst (λ (o : Option Dirs). IfSome o (λ d. dirs_in next.three ≡ Some d)) c.in-Some.is c.in_ok-dirs.ensures.dirs in
     let d = are_dirs (x next.path) (y next.path) (v next.path) c.in-Some.dirs (ap dirs_in (sym is.three) ∙ ids) in
