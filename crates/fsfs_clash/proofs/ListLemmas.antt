@@ -7,6 +7,7 @@ use Rattle.std.specs.Ordering.{nat_cmp}
 use Rattle.std.specs.Cmp.Lexicographic.{slice_cmp}
 use Rattle.std.specs.String.{string_bytes}
 use Rattle.std.specs.declared.string.String.{String}
+use Rattle.std.specs.declared.alloc.Global.{Global}
 use Rattle.fsfs_base.specs.Paths.{PathName, Path, same_name}
 use Rattle.fsfs_shows.specs.Reading.{DirEntry, named}
 use Rattle.fsfs_damage.specs.declared.damage.RevOffset.{RevOffset}
@@ -22,6 +23,12 @@ use Rattle.fsfs_clash.specs.declared.walk.Pending.{Pending}
 use Rattle.fsfs_clash.specs.Lists.{three_in, AreListed, AreTargetsBefore}
 use Rattle.fsfs_clash.specs.Threes.{entry_target, is_changed}
 use Rattle.fsfs_clash.specs.Walks.{pending, if_changed, changed}
+
+abbrev pub Named : Type 0
+Named = String Global × Target
+
+abbrev pub name_of : Named → PathName
+name_of p = string_bytes p.0
 
 -- what is put last counts first
 pub put_front : (name : PathName) (e : PlacedEntry) (done : List PlacedEntry) (o : Option Target) → o ≡ option_map entry_target (named name (entry_values done))

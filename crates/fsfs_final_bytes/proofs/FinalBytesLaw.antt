@@ -26,7 +26,7 @@ use Rattle.fsfs_final.specs.Contents.{LastingContents, OwnContents}
 use Rattle.fsfs_final.specs.Directories.{HasAllBelow}
 use Rattle.fsfs_final.specs.Final.{IsWritten}
 use Rattle.fsfs_final.specs.Shown.{ReadsContents}
-use Rattle.fsfs_final.specs.FinalBytes.{IsCommittedAs, FinalBytesAreEnough}
+use Rattle.fsfs_final_bytes.specs.FinalBytes.{IsCommittedAs, FinalBytesAreEnough}
 use Rattle.fsfs_final.proofs.ContentsLaw.{content_laws}
 use Rattle.fsfs_final.proofs.Held.{held_drafts_are_read}
 use Rattle.fsfs_final.proofs.Written.{directories_are_enough}
