@@ -1,9 +1,0 @@
-pub mod SameLaw
-pub mod SightLaw
-pub mod Turns
-pub mod Orders
-pub mod Opening
-pub mod Stepping
-pub mod ListLemmas
-pub mod WeightLemmas
-pub mod ClashLaw

@@ -1,9 +1,0 @@
-pub mod Nodes
-pub mod Same
-pub mod Sights
-pub mod Dirs
-pub mod Lists
-pub mod Threes
-pub mod Walks
-pub mod Weights
-pub mod Clashes
