@@ -1,0 +1,10 @@
+-- A draft stays one while later revisions come.
+use Rattle.std.specs.Prelude.{◌≤◌, ℕ}
+use Rattle.fsfs_book.specs.Told.{RevisionBytes}
+use Rattle.fsfs_ancestry.specs.Bounded.{AreSameUpTo}
+use Rattle.fsfs_drafts.specs.OwnSides.{NodesAt}
+use Rattle.fsfs_drafts.specs.NodeDrafts.{IsDraft}
+
+abbrev pub DraftsStay : Type 0
+DraftsStay = (look other : RevisionBytes) (top more b : ℕ) (own : NodesAt) → AreSameUpTo top look other → top ≤ more → b ≤ top
+    → IsDraft look top b own → IsDraft other more b own
