@@ -1,15 +1,19 @@
 -- What each command answers, from what the files of a repository stand for. (svnlook's texts are those of Subversion's own;
 -- the lines about a fault and the statuses are this project's profile.)
-use Rattle.std.specs.Prelude.{ℕ, List, [], ◌∷◌, ◌++◌, ◌-◌, replicate, length, Option, Some, None, unwrap_or, codes, decimal, slice_get}
-use Rattle.std.specs.List.{flat_map}
-use Rattle.std.specs.FinMap.{FinMap, empty, insert, get, entries, retain_keys}
+use Rattle.std.specs.Prelude.{ℕ, List, [], ◌∷◌, ◌++◌, Option, Some, None, unwrap_or, codes, decimal, slice_get}
+use Rattle.std.specs.FinMap.{FinMap, empty, insert, get}
 use Rattle.fsfs_base.specs.declared.kind.Kind.{Kind}
 use Rattle.fsfs_base.specs.declared.kind.Kind.TheVariants.{File, Dir}
-use Rattle.fsfs_base.specs.Paths.{Path, path_cmp, covers}
+use Rattle.fsfs_base.specs.Paths.{Path, path_cmp}
 use Rattle.fsfs_tree.specs.Nodes.{Node, Content, Bytes, Closed, TreeFunction, empty_node}
-use Rattle.fsfs_tree.specs.Revisions.{Revision}
+use Rattle.fsfs_tree.specs.Revisions.{Revision, tree_of}
 use Rattle.fsfs_tree.specs.Dated.{last_of, date_name}
+use Rattle.fsfs_flat.specs.PathHistories.{path_history}
 use Rattle.fsfs_answers.specs.FaultWords.{not_found, not_dir, not_file, no_rev, already_repo, not_repo, delta, path_value, two_numbers}
+pub use Rattle.fsfs_answers.specs.TreeTexts.{last_name, kind_mark, tree_line, tree_text}
+use Rattle.fsfs_answers.specs.PropTexts.{author_text, date_text, log_text, info_text}
+use Rattle.fsfs_answers.specs.HistoryTexts.{history_text}
+use Rattle.fsfs_answers.specs.ChangedTexts.{changed_text}
 
 -- a command
 pub data Command : Type 0 where
@@ -19,6 +23,14 @@ pub data Command : Type 0 where
   Tree : Option ℕ → (Path → List ℕ) → Path → Command
   -- of a revision, or of the youngest; the path of the file
   Cat : Option ℕ → Path → Command
+  -- of a revision, or of the youngest
+  Author : Option ℕ → Command
+  Date : Option ℕ → Command
+  Log : Option ℕ → Command
+  Info : Option ℕ → Command
+  Changed : Option ℕ → Command
+  -- from a revision, or from the youngest, on back; the path
+  History : Option ℕ → Path → Command
 
 -- what a command writes to its output, the line about a fault that it writes to its error output, if any, and its status
 pub record Reply : Type 0 where
@@ -65,25 +77,6 @@ found_from tree at (name ∷ names) (Some node) = through node.kind at (found_fr
 abbrev pub found_at : TreeFunction → Path → Found
 found_at tree path = found_from tree [] path (tree [])
 
--- ---- the text of a tree: a line for each node, parents first, names in the order of their bytes
-
-abbrev pub last_name : Path → List ℕ
-last_name [] = []
-last_name (name ∷ []) = name
-last_name (name ∷ next ∷ names) = last_name (next ∷ names)
-
-abbrev pub kind_mark : Kind → List ℕ
-kind_mark File = []
-kind_mark Dir = codes "/"
-
--- a space for each level below the path, the last name, `/` for a directory, and what is shown behind it
-abbrev pub tree_line : (Path → List ℕ) → Path → Path × Node → List ℕ
-tree_line shown top e = replicate (length e.0 - length top) 32 ++ last_name e.0 ++ kind_mark e.1.kind ++ shown e.0 ++ codes "\n"
-
--- of the nodes at the path and below it, in the order of their paths
-abbrev pub tree_text : (Path → List ℕ) → Path → FinMap path_cmp Node → List ℕ
-tree_text shown top tree = flat_map (tree_line shown top) (entries (retain_keys tree (covers top)))
-
 -- ---- the answer of each command
 
 abbrev pub tree_reply : (Path → List ℕ) → Path → FinMap path_cmp Node → Found → Reply
@@ -101,6 +94,11 @@ abbrev pub text_reply : Path → Found → Reply
 text_reply path (Stands node) = node_reply path node.kind node.text
 text_reply path (Lacking at) = refuses_at not_found at
 text_reply path (Blocked at) = refuses_at not_dir at
+
+abbrev pub history_reply : List (ℕ × Path) → Found → Reply
+history_reply points (Stands node) = prints (history_text points)
+history_reply points (Lacking at) = refuses_at not_found at
+history_reply points (Blocked at) = refuses_at not_dir at
 
 -- the revision that is asked for
 abbrev pub asked_revision : Option ℕ → List Revision → ℕ
@@ -124,6 +122,19 @@ Answer (Tree revision shown path) None = refuses_look not_repo 1
 Answer (Tree revision shown path) (Some history) = of_revision revision history (λ r. tree_reply shown path r.tree (found_at (get r.tree) path))
 Answer (Cat revision path) None = refuses_look not_repo 1
 Answer (Cat revision path) (Some history) = of_revision revision history (λ r. text_reply path (found_at (get r.tree) path))
+Answer (Author revision) None = refuses_look not_repo 1
+Answer (Author revision) (Some history) = of_revision revision history (λ r. prints (author_text r.properties))
+Answer (Date revision) None = refuses_look not_repo 1
+Answer (Date revision) (Some history) = of_revision revision history (λ r. prints (date_text r.properties))
+Answer (Log revision) None = refuses_look not_repo 1
+Answer (Log revision) (Some history) = of_revision revision history (λ r. prints (log_text r.properties))
+Answer (Info revision) None = refuses_look not_repo 1
+Answer (Info revision) (Some history) = of_revision revision history (λ r. prints (info_text r.properties))
+Answer (Changed revision) None = refuses_look not_repo 1
+Answer (Changed revision) (Some history) = of_revision revision history (λ r. prints (changed_text (asked_revision revision history) (tree_of history) r.changes))
+Answer (History revision path) None = refuses_look not_repo 1
+Answer (History revision path) (Some history) =
+    of_revision revision history (λ r. history_reply (path_history (tree_of history) (asked_revision revision history) path) (found_at (get r.tree) path))
 
 -- `uuid`, of the identifier of the repository, which no history tells; none where there is no repository at the path
 abbrev pub UuidAnswer : Option (List ℕ) → Reply

@@ -1,11 +1,11 @@
 -- Each command's required arguments have values.
-use Rattle.std.proofs.Common.{◌≡◌, [], ◌∷◌, map, true, false, refl, ap, ◌∙◌, arith, codes}
+use Rattle.std.proofs.Common.{◌≡◌, ℕ, List, [], ◌∷◌, map, true, false, refl, ap, ◌∙◌, arith, codes}
 use Rattle.clap.specs.Built.{AddsArg, FitsChain}
 use Rattle.clap.specs.Words.{App, Rule, app_of, rule_of, with_rule}
 use Rattle.clap.specs.declared.builder.arg.Arg.{Arg}
 use Rattle.clap.specs.declared.builder.command.Command.{Command}
 use Rattle.fsfs_cli.specs.Chains.{Fits, NeedsValue, IsChain, HasValue}
-use Rattle.fsfs_cli.proofs.ChainLemmas.{chain_more, all_apart, all_none, all_more, fits_chain, has_value, own_repos, own_path, own_shard, own_revision, own_show_ids}
+use Rattle.fsfs_cli.proofs.ChainLemmas.{chain_more, all_apart, all_none, all_more, IsOwn, fits_chain, has_value, own_repos, own_path, own_shard, own_revision, own_show_ids}
 
 -- what clap is told, an argument more
 pub told_more : (c d : Command) (a : Arg) (app : App) (rule : Rule) → AddsArg c a d → a.global ≡ false → app_of c ≡ app → rule_of a ≡ rule → app_of d ≡ with_rule app rule
@@ -16,12 +16,19 @@ look_repos c repos r chain =
     let apart : all_apart (map (λ (a : Arg). a.id.now) (repos ∷ [])) ≡ true = refl in
     has_value c (repos ∷ []) 0 repos (codes "REPOS") chain (all_more FitsChain repos [] (fits_chain (codes "REPOS") repos own_repos r.fits) (all_none FitsChain)) apart (omega arith) r.value r.fits.id
 
+-- and one more argument
+more_repos : (c d : Command) (repos more : Arg) (name : List ℕ) → IsOwn name → all_apart (codes "REPOS" ∷ name ∷ []) ≡ true → NeedsValue (codes "REPOS") repos → Fits name more → IsChain (repos ∷ []) c → AddsArg c more d → HasValue (codes "REPOS") d
+more_repos c d repos more name own other r f chain added =
+    let apart : all_apart (map (λ (a : Arg). a.id.now) (repos ∷ more ∷ [])) ≡ true = rw (r.fits.id, f.id) other in
+    has_value d (repos ∷ more ∷ []) 0 repos (codes "REPOS") (chain_more c d (repos ∷ []) more chain added)
+    (all_more FitsChain repos (more ∷ []) (fits_chain (codes "REPOS") repos own_repos r.fits)
+    (all_more FitsChain more [] (fits_chain name more own f) (all_none FitsChain))) apart (omega arith) r.value r.fits.id
+
 pub create_repos : (c d : Command) (repos shard : Arg) → NeedsValue (codes "REPOS") repos → Fits (codes "shard") shard → IsChain (repos ∷ []) c → AddsArg c shard d → HasValue (codes "REPOS") d
-create_repos c d repos shard r s chain added =
-    let apart : all_apart (map (λ (a : Arg). a.id.now) (repos ∷ shard ∷ [])) ≡ true = rw (r.fits.id, s.id) refl in
-    has_value d (repos ∷ shard ∷ []) 0 repos (codes "REPOS") (chain_more c d (repos ∷ []) shard chain added)
-    (all_more FitsChain repos (shard ∷ []) (fits_chain (codes "REPOS") repos own_repos r.fits)
-    (all_more FitsChain shard [] (fits_chain (codes "shard") shard own_shard s) (all_none FitsChain))) apart (omega arith) r.value r.fits.id
+create_repos c d repos shard = more_repos c d repos shard (codes "shard") own_shard refl
+
+pub revision_repos : (c d : Command) (repos revision : Arg) → NeedsValue (codes "REPOS") repos → Fits (codes "revision") revision → IsChain (repos ∷ []) c → AddsArg c revision d → HasValue (codes "REPOS") d
+revision_repos c d repos revision = more_repos c d repos revision (codes "revision") own_revision refl
 
 pub tree_repos : (c1 c2 c3 c4 : Command) (repos path revision ids : Arg) → NeedsValue (codes "REPOS") repos → Fits (codes "PATH") path → Fits (codes "revision") revision → Fits (codes "show-ids") ids
     → IsChain (repos ∷ []) c1 → AddsArg c1 path c2 → AddsArg c2 revision c3 → AddsArg c3 ids c4 → HasValue (codes "REPOS") c4
@@ -37,6 +44,15 @@ tree_repos c1 c2 c3 c4 repos path revision ids r p v i chain a b c =
 
 cat_chain : (c1 c2 c3 : Command) (repos path revision : Arg) → IsChain (repos ∷ []) c1 → AddsArg c1 path c2 → AddsArg c2 revision c3 → IsChain (repos ∷ path ∷ revision ∷ []) c3
 cat_chain c1 c2 c3 repos path revision chain a b = chain_more c2 c3 (repos ∷ path ∷ []) revision (chain_more c1 c2 (repos ∷ []) path chain a) b
+
+pub history_repos : (c1 c2 c3 : Command) (repos path revision : Arg) → NeedsValue (codes "REPOS") repos → Fits (codes "PATH") path → Fits (codes "revision") revision
+    → IsChain (repos ∷ []) c1 → AddsArg c1 path c2 → AddsArg c2 revision c3 → HasValue (codes "REPOS") c3
+history_repos c1 c2 c3 repos path revision r p v chain a b =
+    let apart : all_apart (map (λ (a : Arg). a.id.now) (repos ∷ path ∷ revision ∷ [])) ≡ true = rw (r.fits.id, p.id, v.id) refl in
+    has_value c3 (repos ∷ path ∷ revision ∷ []) 0 repos (codes "REPOS") (cat_chain c1 c2 c3 repos path revision chain a b)
+    (all_more FitsChain repos (path ∷ revision ∷ []) (fits_chain (codes "REPOS") repos own_repos r.fits)
+    (all_more FitsChain path (revision ∷ []) (fits_chain (codes "PATH") path own_path p)
+    (all_more FitsChain revision [] (fits_chain (codes "revision") revision own_revision v) (all_none FitsChain)))) apart (omega arith) r.value r.fits.id
 
 cat_apart : (repos path revision : Arg) → NeedsValue (codes "REPOS") repos → NeedsValue (codes "PATH") path → Fits (codes "revision") revision → all_apart (map (λ (a : Arg). a.id.now) (repos ∷ path ∷ revision ∷ [])) ≡ true
 cat_apart repos path revision r p v = rw (r.fits.id, p.fits.id, v.id) refl

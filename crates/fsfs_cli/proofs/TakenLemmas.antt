@@ -1,7 +1,7 @@
 -- What clap answers, and what it finds in the words.
 use Rattle.std.proofs.Common.{◌≡◌, ℕ, List, [], ◌∷◌, Bool, true, false, cond, ◌⊎◌, inl, inr, refl, sym, ap, ◌∙◌, arith}
 use Rattle.std.proofs.lemmas.Bool.{and_parts}
-use Rattle.std.specs.Prelude.{Some, None}
+use Rattle.std.specs.Prelude.{Some, None, codes}
 use Rattle.clap.specs.Words.{App, Row, fault_of, matches_of, is_simple, is_simple_and_free, IsAmong, Kinds}
 use Rattle.clap.specs.Faults.{is_free_app}
 use Rattle.clap.specs.Simple.{built}
@@ -9,7 +9,7 @@ use Rattle.clap.specs.Walk.{is_empty}
 use Rattle.clap.specs.declared.error.kind.ErrorKind.{ErrorKind}
 use Rattle.clap.specs.declared.error.kind.ErrorKind.TheVariants as kind
 use Rattle.clap.proofs.OnLiterals.{clap_on_literals}
-use Rattle.fsfs_cli.specs.Commands.{create_app, youngest_app, uuid_app, tree_app, cat_app}
+use Rattle.fsfs_cli.specs.Commands.{create_app, youngest_app, uuid_app, revision_app, tree_app, history_app, cat_app}
 use Rattle.fsfs_cli.specs.Words.{taken}
 
 pub is_simple_too : (app : App) → is_simple_and_free app ≡ true → is_simple app ≡ true
@@ -53,3 +53,27 @@ tree_is_free = refl
 pub cat_is_free : is_simple_and_free cat_app ≡ true
 unfolding clap_on_literals
 cat_is_free = refl
+
+pub author_is_free : is_simple_and_free (revision_app (codes "author")) ≡ true
+unfolding clap_on_literals
+author_is_free = refl
+
+pub date_is_free : is_simple_and_free (revision_app (codes "date")) ≡ true
+unfolding clap_on_literals
+date_is_free = refl
+
+pub log_is_free : is_simple_and_free (revision_app (codes "log")) ≡ true
+unfolding clap_on_literals
+log_is_free = refl
+
+pub history_is_free : is_simple_and_free history_app ≡ true
+unfolding clap_on_literals
+history_is_free = refl
+
+pub changed_is_free : is_simple_and_free (revision_app (codes "changed")) ≡ true
+unfolding clap_on_literals
+changed_is_free = refl
+
+pub info_is_free : is_simple_and_free (revision_app (codes "info")) ≡ true
+unfolding clap_on_literals
+info_is_free = refl

@@ -5,11 +5,13 @@ use Rattle.std.specs.Prelude.{Option, Some, None, option_map, unwrap_or, codes, 
 use Rattle.std.specs.Str.{bytes_eq}
 use Rattle.clap.specs.Words.{first_of}
 use Rattle.fsfs_base.specs.Paths.{Path}
-use Rattle.fsfs_cli.specs.Commands.{create_app, youngest_app, uuid_app, tree_app, cat_app, verb_named}
+use Rattle.fsfs_cli.specs.Commands.{create_app, youngest_app, uuid_app, revision_app, tree_app, history_app, cat_app, revision_verb, verb_named}
 use Rattle.fsfs_cli.specs.Grammars.{shard_of}
 use Rattle.fsfs_cli.specs.Readings.{Asks}
-use Rattle.fsfs_cli.specs.Words.{Asked, asked, asked_by, taken, number_of, shard_in, revision_in, pathless, create_in, tree_in, cat_in, create_asked, tree_asked, cat_asked}
+use Rattle.fsfs_cli.specs.Words.{Asked, asked, asked_by, taken, number_of, shard_in, revision_in, pathless, create_in, tree_in, cat_in, history_in, printed_in, create_asked, tree_asked, cat_asked, history_asked, printed_asked, printed_by}
 use Rattle.fsfs_cli.specs.declared.request.Look.TheVariants.{Youngest, Uuid}
+use Rattle.fsfs_cli.specs.declared.request.Printed.{Printed}
+use Rattle.fsfs_cli.specs.declared.request.Printed.TheVariants.{Author, Date, Log, Info, Changed}
 use Rattle.fsfs_cli.specs.declared.request.Task.{Task}
 use Rattle.fsfs_cli.specs.declared.request.Task.TheVariants.{Create, Look}
 use Rattle.fsfs_cli.specs.declared.tool.Tool.{Tool}
@@ -51,6 +53,15 @@ tool_of verb.Youngest = tools.Look
 tool_of verb.Uuid = tools.Look
 tool_of verb.Tree = tools.Look
 tool_of verb.Cat = tools.Look
+tool_of verb.Author = tools.Look
+tool_of verb.Date = tools.Look
+tool_of verb.Log = tools.Look
+tool_of verb.Info = tools.Look
+tool_of verb.Changed = tools.Look
+tool_of verb.History = tools.Look
+
+by_printed : (word : List ℕ) (printed : Printed) (words : List (List ℕ)) (a : Asked) (path : Path) → printed_by word printed words ≡ Some a → IsTaskOf tools.Look (a.task path)
+by_printed word printed words a path e = option_and_then_some (printed_asked printed) (taken (revision_app word) words) a e (λ rows found is. subst (λ (x : Asked). IsTaskOf tools.Look (x.task path)) (mapped (printed_in printed rows) (revision_in rows) a is).2 refl)
 
 by_verb : (v : Verb) (words : List (List ℕ)) (a : Asked) (path : Path) → asked_by v words ≡ Some a → IsTaskOf (tool_of v) (a.task path)
 by_verb verb.Create words a path e = option_and_then_some create_asked (taken create_app words) a e (λ rows found is.
@@ -60,6 +71,12 @@ by_verb verb.Youngest words a path e = subst (λ (x : Asked). IsTaskOf tools.Loo
 by_verb verb.Uuid words a path e = subst (λ (x : Asked). IsTaskOf tools.Look (x.task path)) (mapped (λ rows. pathless rows (Look Uuid)) (taken uuid_app words) a e).2 refl
 by_verb verb.Tree words a path e = option_and_then_some tree_asked (taken tree_app words) a e (λ rows found is. subst (λ (x : Asked). IsTaskOf tools.Look (x.task path)) (mapped (tree_in rows) (revision_in rows) a is).2 refl)
 by_verb verb.Cat words a path e = option_and_then_some cat_asked (taken cat_app words) a e (λ rows found is. subst (λ (x : Asked). IsTaskOf tools.Look (x.task path)) (mapped (cat_in rows) (revision_in rows) a is).2 refl)
+by_verb verb.Author words a path e = by_printed (codes "author") Author words a path e
+by_verb verb.Date words a path e = by_printed (codes "date") Date words a path e
+by_verb verb.Log words a path e = by_printed (codes "log") Log words a path e
+by_verb verb.Info words a path e = by_printed (codes "info") Info words a path e
+by_verb verb.Changed words a path e = by_printed (codes "changed") Changed words a path e
+by_verb verb.History words a path e = option_and_then_some history_asked (taken history_app words) a e (λ rows found is. subst (λ (x : Asked). IsTaskOf tools.Look (x.task path)) (mapped (history_in rows) (revision_in rows) a is).2 refl)
 
 -- ---- the word that names a command
 
@@ -67,16 +84,28 @@ admin_named : (a : Bool) (v : Verb) → (if a then Some verb.Create else None) �
 admin_named true v e = ap tool_of (same_Some verb.Create v e)
 admin_named false v e = absurd cc
 
-look_named : (a b c d : Bool) (v : Verb) → (if a then Some verb.Youngest else if b then Some verb.Uuid else if c then Some verb.Tree else if d then Some verb.Cat else None) ≡ Some v → tools.Look ≡ tool_of v
-look_named true b c d v e = ap tool_of (same_Some verb.Youngest v e)
-look_named false true c d v e = ap tool_of (same_Some verb.Uuid v e)
-look_named false false true d v e = ap tool_of (same_Some verb.Tree v e)
-look_named false false false true v e = ap tool_of (same_Some verb.Cat v e)
-look_named false false false false v e = absurd cc
+revision_named : (a b c d e : Bool) (v : Verb) → (if a then Some verb.Author else if b then Some verb.Date else if c then Some verb.Log else if d then Some verb.Info else if e then Some verb.Changed else None) ≡ Some v → tools.Look ≡ tool_of v
+revision_named true b c d e v is = ap tool_of (same_Some verb.Author v is)
+revision_named false true c d e v is = ap tool_of (same_Some verb.Date v is)
+revision_named false false true d e v is = ap tool_of (same_Some verb.Log v is)
+revision_named false false false true e v is = ap tool_of (same_Some verb.Info v is)
+revision_named false false false false true v is = ap tool_of (same_Some verb.Changed v is)
+revision_named false false false false false v is = absurd cc
+
+revision_word : (word : List ℕ) (v : Verb) → revision_verb word ≡ Some v → tools.Look ≡ tool_of v
+revision_word word v e = revision_named (bytes_eq word (codes "author")) (bytes_eq word (codes "date")) (bytes_eq word (codes "log")) (bytes_eq word (codes "info")) (bytes_eq word (codes "changed")) v e
+
+look_named : (word : List ℕ) (a b c d e : Bool) (v : Verb) → (if a then Some verb.Youngest else if b then Some verb.Uuid else if c then Some verb.Tree else if d then Some verb.Cat else if e then Some verb.History else revision_verb word) ≡ Some v → tools.Look ≡ tool_of v
+look_named word true b c d e v is = ap tool_of (same_Some verb.Youngest v is)
+look_named word false true c d e v is = ap tool_of (same_Some verb.Uuid v is)
+look_named word false false true d e v is = ap tool_of (same_Some verb.Tree v is)
+look_named word false false false true e v is = ap tool_of (same_Some verb.Cat v is)
+look_named word false false false false true v is = ap tool_of (same_Some verb.History v is)
+look_named word false false false false false v is = revision_word word v is
 
 tool_named : (tool : Tool) (word : List ℕ) (v : Verb) → verb_named tool word ≡ Some v → tool ≡ tool_of v
 tool_named tools.Admin word v e = admin_named (bytes_eq word (codes "create")) v e
-tool_named tools.Look word v e = look_named (bytes_eq word (codes "youngest")) (bytes_eq word (codes "uuid")) (bytes_eq word (codes "tree")) (bytes_eq word (codes "cat")) v e
+tool_named tools.Look word v e = look_named word (bytes_eq word (codes "youngest")) (bytes_eq word (codes "uuid")) (bytes_eq word (codes "tree")) (bytes_eq word (codes "cat")) (bytes_eq word (codes "history")) v e
 tool_named tools.Jobs word v e = absurd cc
 
 asked_of : (tool : Tool) (words : List (List ℕ)) (a : Asked) (path : Path) → asked tool words ≡ Some a → IsTaskOf tool (a.task path)

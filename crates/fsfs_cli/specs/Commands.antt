@@ -6,21 +6,32 @@ use Rattle.clap.specs.declared.builder.action.ArgAction.TheVariants.{Set, SetTru
 use Rattle.fsfs_cli.specs.declared.tool.Tool.{Tool}
 use Rattle.fsfs_cli.specs.declared.tool.Tool.TheVariants.{Admin, Look, Jobs}
 use Rattle.fsfs_cli.specs.declared.verb.Verb.{Verb}
-use Rattle.fsfs_cli.specs.declared.verb.Verb.TheVariants.{Create, Youngest, Uuid, Tree, Cat}
+use Rattle.fsfs_cli.specs.declared.verb.Verb.TheVariants.{Create, Youngest, Uuid, Tree, Cat, Author, Date, Log, Info, Changed, History}
 
 abbrev pub tool_name : Tool → List ℕ
 tool_name Admin = codes "svnadmin"
 tool_name Look = codes "svnlook"
 tool_name Jobs = codes "svnjobs"
 
--- the command that a word names
+-- the command that a word names, of those that look at a revision as a whole
+abbrev pub revision_verb : List ℕ → Option Verb
+revision_verb word =
+    if bytes_eq word (codes "author") then Some Author
+    else if bytes_eq word (codes "date") then Some Date
+    else if bytes_eq word (codes "log") then Some Log
+    else if bytes_eq word (codes "info") then Some Info
+    else if bytes_eq word (codes "changed") then Some Changed
+    else None
+
+-- and of all
 abbrev pub look_verb : List ℕ → Option Verb
 look_verb word =
     if bytes_eq word (codes "youngest") then Some Youngest
     else if bytes_eq word (codes "uuid") then Some Uuid
     else if bytes_eq word (codes "tree") then Some Tree
     else if bytes_eq word (codes "cat") then Some Cat
-    else None
+    else if bytes_eq word (codes "history") then Some History
+    else revision_verb word
 
 abbrev pub verb_named : Tool → List ℕ → Option Verb
 verb_named Admin word = if bytes_eq word (codes "create") then Some Create else None
@@ -71,9 +82,17 @@ youngest_app = with_rule (bare (codes "youngest")) repos_rule
 abbrev pub uuid_app : App
 uuid_app = with_rule (bare (codes "uuid")) repos_rule
 
+-- WORD [-r REV] REPOS
+abbrev pub revision_app : List ℕ → App
+revision_app word = with_rule (with_rule (bare word) repos_rule) revision_rule
+
 -- tree [-r REV] [--show-ids] REPOS [PATH]
 abbrev pub tree_app : App
 tree_app = with_rule (with_rule (with_rule (with_rule (bare (codes "tree")) repos_rule) path_rule) revision_rule) show_ids_rule
+
+-- history [-r REV] REPOS [PATH]
+abbrev pub history_app : App
+history_app = with_rule (with_rule (with_rule (bare (codes "history")) repos_rule) path_rule) revision_rule
 
 -- cat [-r REV] REPOS PATH
 abbrev pub cat_app : App

@@ -1,9 +1,20 @@
 -- What is asked for, as a value.
+use Rattle.std.specs.Prelude.{[], Option, Some, None, unwrap_or}
 use Rattle.fsfs_base.specs.Paths.{Path}
 use Rattle.fsfs_cli.specs.declared.request.Printed.{Printed}
-use Rattle.fsfs_cli.specs.declared.request.Printed.TheVariants.{Tree, Text}
+use Rattle.fsfs_cli.specs.declared.request.Printed.TheVariants.{Tree, Text, Author, Date, Log, Info, Changed, History}
 
--- the path in the repository
+-- the path in the repository, where one is looked at
+abbrev pub path_in_it : Printed → Option Path
+path_in_it (Tree show_ids path) = Some path
+path_in_it (Text path) = Some path
+path_in_it Author = None
+path_in_it Date = None
+path_in_it Log = None
+path_in_it Info = None
+path_in_it Changed = None
+path_in_it (History path) = Some path
+
+-- the same, and `/` where none is
 abbrev pub printed_path : Printed → Path
-printed_path (Tree show_ids path) = path
-printed_path (Text path) = path
+printed_path printed = unwrap_or (path_in_it printed) []

@@ -4,14 +4,14 @@ use Rattle.std.specs.Option.{option_map_or}
 use Rattle.std.specs.Str.{bytes_eq}
 use Rattle.clap.specs.Words.{App, Row, fault_of, first_of, matches_of}
 use Rattle.clap.specs.Walk.{is_empty}
-use Rattle.fsfs_cli.specs.Commands.{verb_named, create_app, youngest_app, uuid_app, tree_app, cat_app}
+use Rattle.fsfs_cli.specs.Commands.{verb_named, create_app, youngest_app, uuid_app, revision_app, tree_app, history_app, cat_app}
 use Rattle.fsfs_cli.specs.Grammars.{revision_of, shard_of}
 use Rattle.fsfs_base.specs.Paths.{Path}
 use Rattle.fsfs_cli.specs.declared.request.Task.{Task}
 use Rattle.fsfs_cli.specs.declared.request.Task.TheVariants.{Create, Look}
 use Rattle.fsfs_cli.specs.declared.request.Look.TheVariants.{Youngest, Uuid, AtRevision}
 use Rattle.fsfs_cli.specs.declared.request.Printed.{Printed}
-use Rattle.fsfs_cli.specs.declared.request.Printed.TheVariants.{Tree, Text}
+use Rattle.fsfs_cli.specs.declared.request.Printed.TheVariants.{Tree, Text, Author, Date, Log, Info, Changed, History}
 use Rattle.fsfs_cli.specs.declared.tool.Tool.{Tool}
 use Rattle.fsfs_cli.specs.declared.verb.Verb.{Verb}
 use Rattle.fsfs_cli.specs.declared.verb.Verb.TheVariants as verb
@@ -76,6 +76,14 @@ tree_in rows revision = record { repos = repos_in rows; path = path_in rows; tas
 abbrev pub cat_in : List Row → Option ℕ → Asked
 cat_in rows revision = record { repos = repos_in rows; path = Some (required_in (codes "PATH") rows); task = λ path. look_at revision (Text path) }
 
+-- the history of a path, of `/` where it is left out
+abbrev pub history_in : List Row → Option ℕ → Asked
+history_in rows revision = record { repos = repos_in rows; path = path_in rows; task = λ path. look_at revision (History path) }
+
+-- what has no path in the repository
+abbrev pub printed_in : Printed → List Row → Option ℕ → Asked
+printed_in printed rows revision = pathless rows (look_at revision printed)
+
 abbrev pub create_asked : List Row → Option Asked
 create_asked rows = option_map (create_in rows) (shard_in rows)
 
@@ -85,6 +93,16 @@ tree_asked rows = option_map (tree_in rows) (revision_in rows)
 abbrev pub cat_asked : List Row → Option Asked
 cat_asked rows = option_map (cat_in rows) (revision_in rows)
 
+abbrev pub history_asked : List Row → Option Asked
+history_asked rows = option_map (history_in rows) (revision_in rows)
+
+abbrev pub printed_asked : Printed → List Row → Option Asked
+printed_asked printed rows = option_map (printed_in printed rows) (revision_in rows)
+
+-- `WORD [-r REV] REPOS`, of which this is printed
+abbrev pub printed_by : List ℕ → Printed → List (List ℕ) → Option Asked
+printed_by word printed words = option_and_then (printed_asked printed) (taken (revision_app word) words)
+
 -- the words behind a command's own
 abbrev pub asked_by : Verb → List (List ℕ) → Option Asked
 asked_by verb.Create words = option_and_then create_asked (taken create_app words)
@@ -92,6 +110,12 @@ asked_by verb.Youngest words = option_map (λ rows. pathless rows (Look Youngest
 asked_by verb.Uuid words = option_map (λ rows. pathless rows (Look Uuid)) (taken uuid_app words)
 asked_by verb.Tree words = option_and_then tree_asked (taken tree_app words)
 asked_by verb.Cat words = option_and_then cat_asked (taken cat_app words)
+asked_by verb.Author words = printed_by (codes "author") Author words
+asked_by verb.Date words = printed_by (codes "date") Date words
+asked_by verb.Log words = printed_by (codes "log") Log words
+asked_by verb.Info words = printed_by (codes "info") Info words
+asked_by verb.Changed words = printed_by (codes "changed") Changed words
+asked_by verb.History words = option_and_then history_asked (taken history_app words)
 
 -- What a program's words ask for. Nothing where the first names none of its commands, where clap doesn't take the others,
 -- or where a number is outside its grammar.

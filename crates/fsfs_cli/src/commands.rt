@@ -3,7 +3,7 @@ ghost use Rattle.std.specs.Prelude.{◌≡◌, ◌∷◌, [], IfOk, codes};
 ghost use Rattle.clap.specs.Words.{app_of, rule_of, with_rule};
 ghost use Rattle.clap.specs.declared.builder.arg.Arg.{Arg};
 ghost use Rattle.fsfs_cli.specs.Chains.{Fits, NeedsValue, IsChain, HasValue};
-ghost use Rattle.fsfs_cli.specs.Commands.{bare as bare_app, repos_rule, shard_rule, revision_rule, show_ids_rule, path_rule, needed_path_rule, create_app, tree_app, cat_app};
+ghost use Rattle.fsfs_cli.specs.Commands.{bare as bare_app, repos_rule, shard_rule, revision_rule, show_ids_rule, path_rule, needed_path_rule, create_app, revision_app, tree_app, history_app, cat_app};
 
 use clap::{Arg, ArgAction, Command};
 use std::alloc::{AllocError, Global};
@@ -86,6 +86,14 @@ pub fn create_command<'a>(alloc: Global) -> Result<Command<'a>, AllocError>
     look_command(alloc, "create")?.arg(shard(alloc))
 }
 
+/// A command with a revision and REPOS: `WORD [-r REV] REPOS`.
+pub fn revision_command<'a>(alloc: Global, word: &'a str) -> Result<Command<'a>, AllocError>
+    ensures app { IfOk result (λ c. app_of c ≡ revision_app word.entry.now) }
+    ensures repos { IfOk result (HasValue (codes "REPOS")) }
+{
+    look_command(alloc, word)?.arg(revision(alloc))
+}
+
 /// `tree [-r REV] [--show-ids] REPOS [PATH]`.
 pub fn tree_command<'a>(alloc: Global) -> Result<Command<'a>, AllocError>
     ensures app { IfOk result (λ c. app_of c ≡ tree_app) }
@@ -94,6 +102,15 @@ pub fn tree_command<'a>(alloc: Global) -> Result<Command<'a>, AllocError>
     let with_path = look_command(alloc, "tree")?.arg(path(alloc))?;
     let with_revision = with_path.arg(revision(alloc))?;
     with_revision.arg(show_ids(alloc))
+}
+
+/// `history [-r REV] REPOS [PATH]`.
+pub fn history_command<'a>(alloc: Global) -> Result<Command<'a>, AllocError>
+    ensures app { IfOk result (λ c. app_of c ≡ history_app) }
+    ensures repos { IfOk result (HasValue (codes "REPOS")) }
+{
+    let with_path = look_command(alloc, "history")?.arg(path(alloc))?;
+    with_path.arg(revision(alloc))
 }
 
 /// `cat [-r REV] REPOS PATH`.

@@ -1,10 +1,13 @@
 //! Words are read.
 ghost use Rattle.std.specs.Prelude.{◌≡◌, ◌==◌, ℕ, List, map, string_bytes, true, is_some, option_map, IfOk};
 ghost use Rattle.clap.specs.Words.{app_of, found_of, is_simple_and_free, rows_of, first_of, IsParsedFrom};
-ghost use Rattle.fsfs_cli.specs.Words.{taken, asked, asked_by, revision_in, shard_in, shows_ids, path_in, required_in};
+ghost use Rattle.fsfs_cli.specs.Commands.{revision_app};
+ghost use Rattle.fsfs_cli.specs.Words.{taken, asked, asked_by, printed_by, revision_in, shard_in, shows_ids, path_in, required_in};
 ghost use Rattle.fsfs_cli.specs.Readings.{Reads, Finds, GivesPath};
 
-use crate::commands::{cat_command, create_command, look_command, tree_command};
+use crate::commands::{
+    cat_command, create_command, history_command, look_command, revision_command, tree_command,
+};
 use crate::fault::WordsFault;
 use crate::path_word::read_path;
 use crate::request::{Look, Printed, Request, RevisionLook, Task};
@@ -153,6 +156,35 @@ fn read_cat<'a>(alloc: Global, words: &'a [String]) -> Result<Request<'a>, Words
     Ok(Request { repos, task })
 }
 
+fn read_history<'a>(alloc: Global, words: &'a [String]) -> Result<Request<'a>, WordsFault>
+    ensures { Reads (asked_by Verb.History (map string_bytes words.entry.now)) result }
+{
+    let matches = matches_of(history_command(alloc)?, words)?;
+    let repos = required(&matches, "REPOS");
+    let revision = revision_given(&matches)?;
+    let path = path_given(alloc, &matches)?;
+    let printed = Printed::History { path };
+    let task = Task::Look(Look::AtRevision(RevisionLook { revision, printed }));
+    Ok(Request { repos, task })
+}
+
+// `WORD [-r REV] REPOS`
+fn read_printed<'a>(
+    alloc: Global,
+    word: &'a str,
+    printed: Printed,
+    words: &'a [String],
+) -> Result<Request<'a>, WordsFault>
+    requires { is_simple_and_free (revision_app word.now) ≡ true }
+    ensures { Reads (printed_by word.entry.now printed (map string_bytes words.entry.now)) result }
+{
+    let matches = matches_of(revision_command(alloc, word)?, words)?;
+    let repos = required(&matches, "REPOS");
+    let revision = revision_given(&matches)?;
+    let task = Task::Look(Look::AtRevision(RevisionLook { revision, printed }));
+    Ok(Request { repos, task })
+}
+
 /// What a program's words, those behind its name, ask for.
 pub fn read_words<'a>(
     alloc: Global,
@@ -170,6 +202,12 @@ pub fn read_words<'a>(
         Some(Verb::Uuid) => read_uuid(alloc, words),
         Some(Verb::Tree) => read_tree(alloc, words),
         Some(Verb::Cat) => read_cat(alloc, words),
+        Some(Verb::Author) => read_printed(alloc, "author", Printed::Author, words),
+        Some(Verb::Date) => read_printed(alloc, "date", Printed::Date, words),
+        Some(Verb::Log) => read_printed(alloc, "log", Printed::Log, words),
+        Some(Verb::Info) => read_printed(alloc, "info", Printed::Info, words),
+        Some(Verb::Changed) => read_printed(alloc, "changed", Printed::Changed, words),
+        Some(Verb::History) => read_history(alloc, words),
         None => Err(WordsFault::Usage),
     }
 }

@@ -1,6 +1,6 @@
 //! What the words of a program ask for.
-ghost use Rattle.std.specs.Prelude.{◌≡◌};
-ghost use Rattle.fsfs_cli.specs.Requests.{printed_path};
+ghost use Rattle.std.specs.Prelude.{◌≡◌, option_map};
+ghost use Rattle.fsfs_cli.specs.Requests.{path_in_it};
 
 use fsfs_base::FsPath;
 
@@ -50,15 +50,31 @@ pub enum Printed {
     Tree { show_ids: bool, path: FsPath },
     /// `cat`: the text of the file at a path.
     Text { path: FsPath },
+    /// `author`: who committed it.
+    Author,
+    /// `date`: when it was committed.
+    Date,
+    /// `log`: what was said of it.
+    Log,
+    /// `info`: author, date, the length of the log, and the log.
+    Info,
+    /// `changed`: the changed paths.
+    Changed,
+    /// `history`: where what stands at a path was changed, from this revision on back.
+    History { path: FsPath },
 }
 
 impl Printed {
-    /// The path in the repository.
-    pub fn path(&self) -> &FsPath
-        ensures { result.now ≡ printed_path self.now }
+    /// The path in the repository, where one is looked at.
+    pub fn path(&self) -> Option<&FsPath>
+        ensures { option_map (λ path. path.now) result ≡ path_in_it self.now }
     {
         match self {
-            Printed::Tree { path, .. } | Printed::Text { path } => path,
+            Printed::Tree { path, .. } | Printed::Text { path } | Printed::History { path } => {
+                Some(path)
+            }
+            Printed::Author | Printed::Date | Printed::Log | Printed::Info | Printed::Changed =>
+                None,
         }
     }
 }

@@ -1,6 +1,6 @@
 //! The word that names a command.
 ghost use Rattle.std.specs.Prelude.{◌≡◌};
-ghost use Rattle.fsfs_cli.specs.Commands.{verb_named};
+ghost use Rattle.fsfs_cli.specs.Commands.{revision_verb as revision_verb_named, verb_named};
 
 use crate::tool::Tool;
 
@@ -17,6 +17,18 @@ pub enum Verb {
     Tree,
     /// `svnlook cat`.
     Cat,
+    /// `svnlook author`.
+    Author,
+    /// `svnlook date`.
+    Date,
+    /// `svnlook log`.
+    Log,
+    /// `svnlook info`.
+    Info,
+    /// `svnlook changed`.
+    Changed,
+    /// `svnlook history`.
+    History,
 }
 
 /// The command that a word names, where the program has one of that name.
@@ -51,6 +63,27 @@ fn look_verb(word: &str) -> Option<Verb>
         Some(Verb::Tree)
     } else if word == "cat" {
         Some(Verb::Cat)
+    } else if word == "history" {
+        Some(Verb::History)
+    } else {
+        revision_verb(word)
+    }
+}
+
+// The command of those that look at a revision as a whole.
+fn revision_verb(word: &str) -> Option<Verb>
+    ensures { result ≡ revision_verb_named word.now }
+{
+    if word == "author" {
+        Some(Verb::Author)
+    } else if word == "date" {
+        Some(Verb::Date)
+    } else if word == "log" {
+        Some(Verb::Log)
+    } else if word == "info" {
+        Some(Verb::Info)
+    } else if word == "changed" {
+        Some(Verb::Changed)
     } else {
         None
     }

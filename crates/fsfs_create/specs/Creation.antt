@@ -1,11 +1,13 @@
 -- The course of a creation on a disk: what it has done at each place, and what a crash may leave of it.
-use Rattle.std.specs.Prelude.{◌≡◌, ◌⊎◌, ℕ, List, [], ◌∷◌, ◌++◌, Option, None, IfSome, IsSome, option_map, codes}
+use Rattle.std.specs.Prelude.{◌≡◌, ◌⊎◌, ℕ, List, [], ◌∷◌, ◌++◌, Option, None, IfSome, IsSome, option_map}
 use Rattle.std.specs.FinMap.{get}
 use Rattle.fsfs_base.specs.Files.{Files, NamedFile}
 use Rattle.fsfs_fields.specs.Dates.{IsDateAt}
 use Rattle.fsfs_disk.specs.Trace.{Trace, add_operation, files_now, file_at, FailsAt, FailsToPut}
 use Rattle.fsfs_disk.specs.Trace.Operation.{Done}
 use Rattle.fsfs_disk.specs.Trace.NameChange.{Put, Rename, FirmNames}
+use Rattle.fsfs_layout.specs.FileNames.{only_name}
+use Rattle.fsfs_layout.specs.declared.only_file.OnlyFile.TheVariants.{Format, FormatNext}
 use Rattle.fsfs_layout.specs.CreatedFiles.{unpublished_files, format_text, created_over}
 use Rattle.fsfs_places.specs.declared.create_fault.CreateFault.{CreateFault}
 use Rattle.fsfs_places.specs.declared.create_fault.CreateFault.TheVariants.{AlreadyRepo, DiskFault, Memory}
@@ -23,11 +25,11 @@ after_firm files t = add_operation (Done FirmNames) (after_puts files t)
 
 -- db/format was written under its other name
 abbrev pub after_next : List ℕ → Trace → Trace
-after_next format t = add_operation (Done (Put (codes "db/format-next") format)) t
+after_next format t = add_operation (Done (Put (only_name FormatNext) format)) t
 
 -- and got its name
 abbrev pub after_rename : List ℕ → Trace → Trace
-after_rename format t = add_operation (Done (Rename (codes "db/format-next") (codes "db/format"))) (after_next format t)
+after_rename format t = add_operation (Done (Rename (only_name FormatNext) (only_name Format))) (after_next format t)
 
 -- and that name was made firm
 abbrev pub after_publishing : List ℕ → Trace → Trace
@@ -47,9 +49,9 @@ abbrev pub StopsPublishing : DiskPlace → List ℕ → Option Trace → Option 
 StopsPublishing OpenFirm format old new = ⊥
 StopsPublishing OpenRead format old new = ⊥
 StopsPublishing Read format old new = ⊥
-StopsPublishing CreatePut format old new = FailsToPut (codes "db/format-next") format old new
+StopsPublishing CreatePut format old new = FailsToPut (only_name FormatNext) format old new
 StopsPublishing CreateFirm format old new = ⊥
-StopsPublishing CreateRename format old new = FailsAt (Rename (codes "db/format-next") (codes "db/format")) (option_map (after_next format) old) new
+StopsPublishing CreateRename format old new = FailsAt (Rename (only_name FormatNext) (only_name Format)) (option_map (after_next format) old) new
 StopsPublishing CreateLast format old new = FailsAt FirmNames (option_map (after_rename format) old) new
 
 -- where a creation failed, and what had been done. At CreatePut a folder failed, a file's put, or that of `db/format-next`.
@@ -64,7 +66,7 @@ StopsAt CreateLast files format old new = StopsPublishing CreateLast format (opt
 
 -- there is a repository: `db/format` is there
 abbrev pub HasRepository : Trace → Type 0
-HasRepository t = IsSome (file_at t (codes "db/format"))
+HasRepository t = IsSome (file_at t (only_name Format))
 
 -- the same, as far as the disk tells
 abbrev pub IsRepository : Option Trace → Type 0
@@ -72,11 +74,11 @@ IsRepository told = IfSome told HasRepository
 
 -- there is none
 abbrev pub IsNoRepository : Option Trace → Type 0
-IsNoRepository told = IfSome told (λ t. file_at t (codes "db/format") ≡ None)
+IsNoRepository told = IfSome told (λ t. file_at t (only_name Format) ≡ None)
 
 -- files that are no repository
 abbrev pub IsUnpublished : Files → Type 0
-IsUnpublished m = get m (codes "db/format") ≡ None
+IsUnpublished m = get m (only_name Format) ≡ None
 
 -- The files are those from before without `db/format-next`, with those of a new repository laid over them.
 abbrev pub IsCreated : ℕ → List ℕ → ℕ → Option Trace → Option Trace → Type 0

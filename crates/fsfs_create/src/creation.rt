@@ -10,13 +10,13 @@ ghost use Rattle.fsfs_create.specs.Creation.{after_puts, after_publishing, after
 use crate::initial::{NewFile, created_files};
 use fsfs_base::{Failed, write_date};
 use fsfs_disk::Disk;
-use fsfs_layout::{Format, Layout, names, write_format};
+use fsfs_layout::{Format, Layout, OnlyFile, RepositoryFile, write_format};
 use fsfs_places::{CreateFault, DiskPlace};
 use std::alloc::Global;
 use uuid::Uuid;
 
 // Makes the folders of a repository.
-fn make_folders<D: Disk>(disk: &mut D) -> Result<(), Failed>
+fn make_folders<D: Disk>(disk: &mut D, layout: Layout) -> Result<(), Failed>
     requires { IsTrue (D.may_write disk.old) }
     ensures same { D.trace disk.new ≡ D.trace disk.old }
     ensures mounted { D.mount_path disk.new ≡ D.mount_path disk.old }
@@ -24,10 +24,10 @@ fn make_folders<D: Disk>(disk: &mut D) -> Result<(), Failed>
     ensures later { D.faults disk.old ≤ D.faults disk.new }
     ensures failed { OnErr result (Rose (D.faults disk.old) (D.faults disk.new)) }
 {
-    disk.make_folder(&names::shard(0))?;
-    disk.make_folder(&names::props_shard(0))?;
-    disk.make_folder(&names::transactions())?;
-    disk.make_folder(&names::proto_revisions())
+    disk.make_folder(&RepositoryFile::Shard(0).name(layout))?;
+    disk.make_folder(&RepositoryFile::PropsShard(0).name(layout))?;
+    disk.make_folder(&OnlyFile::Transactions.name())?;
+    disk.make_folder(&OnlyFile::ProtoRevisions.name())
 }
 
 // Puts files, in order.
@@ -56,15 +56,20 @@ fn publish<D: Disk>(disk: &mut D, format: &[u8]) -> Result<(), DiskPlace>
     ensures later { D.faults disk.old ≤ D.faults disk.new }
     ensures failed { OnErr result (Rose (D.faults disk.old) (D.faults disk.new)) }
 {
-    let next = names::format_next();
+    let next = OnlyFile::FormatNext.name();
     disk.put(&next, format).map_err(|_| DiskPlace::CreatePut)?;
-    disk.rename(&next, &names::format())
+    disk.rename(&next, &OnlyFile::Format.name())
         .map_err(|_| DiskPlace::CreateRename)?;
     disk.firm_names().map_err(|_| DiskPlace::CreateLast)
 }
 
 // Writes all files of a repository.
-fn write_files<D: Disk>(disk: &mut D, files: &[NewFile], format: &[u8]) -> Result<(), DiskPlace>
+fn write_files<D: Disk>(
+    disk: &mut D,
+    layout: Layout,
+    files: &[NewFile],
+    format: &[u8],
+) -> Result<(), DiskPlace>
     requires { IsTrue (D.may_write disk.old) }
     ensures done { OnOk result (D.trace disk.new ≡ option_map (after_creation (map named files.now) format.now) (D.trace disk.old)) }
     ensures stopped { IfErr result (λ place. StopsAt place (map named files.now) format.now (D.trace disk.old) (D.trace disk.new)) }
@@ -73,7 +78,7 @@ fn write_files<D: Disk>(disk: &mut D, files: &[NewFile], format: &[u8]) -> Resul
     ensures later { D.faults disk.old ≤ D.faults disk.new }
     ensures failed { OnErr result (Rose (D.faults disk.old) (D.faults disk.new)) }
 {
-    make_folders(disk).map_err(|_| DiskPlace::CreatePut)?;
+    make_folders(disk, layout).map_err(|_| DiskPlace::CreatePut)?;
     put_all(disk, files).map_err(|_| DiskPlace::CreatePut)?;
     disk.firm_names().map_err(|_| DiskPlace::CreateFirm)?;
     publish(disk, format)
@@ -110,7 +115,7 @@ pub fn create<D: Disk>(
     ensures right { D.may_write disk.new ≡ D.may_write disk.old }
     ensures later { D.faults disk.old ≤ D.faults disk.new }
 {
-    match disk.size(&names::format()) {
+    match disk.size(&OnlyFile::Format.name()) {
         Err(_) => return Err(CreateFault::DiskFault(DiskPlace::Read)),
         Ok(Some(_)) => return Err(CreateFault::AlreadyRepo),
         Ok(None) => {}
@@ -118,7 +123,7 @@ pub fn create<D: Disk>(
     let date = write_date(alloc, moment)?;
     let files = created_files(alloc, identifier, layout, &date)?;
     let format = write_format(alloc, &Format::Sharded(layout.shard_size()))?;
-    match write_files(disk, &files, &format) {
+    match write_files(disk, layout, &files, &format) {
         Ok(()) => Ok(()),
         Err(place) => Err(CreateFault::DiskFault(place)),
     }

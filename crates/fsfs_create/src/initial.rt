@@ -7,8 +7,8 @@ use crate::first_revision::write_first_revision;
 use fsfs_base::{B36, Name, Pairs, RevNum};
 use fsfs_hash::write_hash;
 use fsfs_layout::{
-    Layout, Uuid as Identifier, names, write_current, write_min_unpacked_rev, write_txn_current,
-    write_uuid,
+    Layout, OnlyFile, RepositoryFile, Uuid as Identifier, write_current, write_min_unpacked_rev,
+    write_txn_current, write_uuid,
 };
 use std::alloc::{AllocError, Global};
 use uuid::Uuid;
@@ -70,15 +70,23 @@ pub fn created_files(
     let revision = write_first_revision(alloc)?;
     let props = properties(alloc, date)?;
     let mut files = Vec::new(alloc);
-    add(&mut files, names::repository_format(), version)?;
-    add(&mut files, names::fs_type(), fs_type)?;
-    add(&mut files, names::uuid(), uuid)?;
-    add(&mut files, names::current(), current)?;
-    add(&mut files, names::txn_current(), txn_current)?;
-    add(&mut files, names::min_unpacked_rev(), floor)?;
-    add(&mut files, names::write_lock(), Vec::new(alloc))?;
-    add(&mut files, names::txn_current_lock(), Vec::new(alloc))?;
-    add(&mut files, names::revision(layout, RevNum::ZERO), revision)?;
-    add(&mut files, names::props(layout, RevNum::ZERO), props)?;
+    add(&mut files, OnlyFile::RepositoryFormat.name(), version)?;
+    add(&mut files, OnlyFile::FsType.name(), fs_type)?;
+    add(&mut files, OnlyFile::Uuid.name(), uuid)?;
+    add(&mut files, OnlyFile::Current.name(), current)?;
+    add(&mut files, OnlyFile::TxnCurrent.name(), txn_current)?;
+    add(&mut files, OnlyFile::MinUnpackedRev.name(), floor)?;
+    add(&mut files, OnlyFile::WriteLock.name(), Vec::new(alloc))?;
+    add(&mut files, OnlyFile::TxnCurrentLock.name(), Vec::new(alloc))?;
+    add(
+        &mut files,
+        RepositoryFile::Revision(RevNum::ZERO).name(layout),
+        revision,
+    )?;
+    add(
+        &mut files,
+        RepositoryFile::Props(RevNum::ZERO).name(layout),
+        props,
+    )?;
     Ok(files)
 }

@@ -9,7 +9,7 @@ use arrayvec::ArrayString;
 use fsfs_base::{HexDigest, PathFault};
 use fsfs_cli::Tool;
 use fsfs_damage::{DamageKind, RepWhat, RevOffset};
-use fsfs_layout::names::small_file;
+use fsfs_layout::small_file_name;
 use fsfs_places::DiskPlace;
 use itoa::Buffer;
 
@@ -197,7 +197,7 @@ fn fixed_values_text(fault: &Fault) -> ArrayString<192>
         Fault::OtherFormat(number) => text.push_str(number_text(*number).as_str()),
         Fault::Small(small) => {
             text.push_str(" ");
-            text.push_str(small_file(&small.file).as_str());
+            text.push_str(small_file_name(&small.file).as_str());
             text.push_str(number_text(small.at as u64).as_str());
         }
         Fault::Corrupt(damage) => {

@@ -20,7 +20,7 @@ use fsfs_base::RevNum;
 use fsfs_book::{Book, BookFault};
 use fsfs_damage::Refusal;
 use fsfs_disk::Disk;
-use fsfs_layout::{Layout, names};
+use fsfs_layout::{Layout, RepositoryFile};
 use std::alloc::Global;
 
 /// A book over a store that is read. It keeps the last floor that it read, the oldest revision that isn't packed, and the
@@ -133,7 +133,7 @@ fn part_once_more<R: Reads>(
     if rev < *floor {
         return packed_part(alloc, reads, kept, rev, offset, buffer);
     }
-    let name = names::revision(reads.layout(), rev);
+    let name = RepositoryFile::Revision(rev).name(reads.layout());
     match file_part(reads, &name, rev, offset, buffer)? {
         None => Err(BookFault::Refused(Refusal::Missing { rev })),
         Some(count) => Ok(count),
@@ -160,7 +160,7 @@ fn part_of<R: Reads>(
     if rev < *floor {
         return packed_part(alloc, reads, kept, rev, offset, buffer);
     }
-    let name = names::revision(reads.layout(), rev);
+    let name = RepositoryFile::Revision(rev).name(reads.layout());
     match file_part(reads, &name, rev, offset, buffer)? {
         None => part_once_more(alloc, reads, floor, kept, rev, offset, buffer),
         Some(count) => Ok(count),
@@ -185,7 +185,7 @@ fn len_once_more<R: Reads>(
     if rev < *floor {
         return packed_len(alloc, reads, kept, rev);
     }
-    let name = names::revision(reads.layout(), rev);
+    let name = RepositoryFile::Revision(rev).name(reads.layout());
     match file_len(reads, &name)? {
         None => Err(BookFault::Refused(Refusal::Missing { rev })),
         Some(length) => Ok(length),
@@ -209,7 +209,7 @@ fn len_of<R: Reads>(
     if rev < *floor {
         return packed_len(alloc, reads, kept, rev);
     }
-    let name = names::revision(reads.layout(), rev);
+    let name = RepositoryFile::Revision(rev).name(reads.layout());
     match file_len(reads, &name)? {
         None => len_once_more(alloc, reads, floor, kept, rev),
         Some(length) => Ok(length),
@@ -229,7 +229,7 @@ fn props_of<R: Reads>(
     ensures later { Later (R.view reads.old) (R.view reads.new) }
     ensures cause { HasCause (R.faults reads.old) (R.faults reads.new) result }
 {
-    let name = names::props(reads.layout(), rev);
+    let name = RepositoryFile::Props(rev).name(reads.layout());
     match file_part(reads, &name, rev, offset, buffer)? {
         None => Err(BookFault::Refused(Refusal::Missing { rev })),
         Some(count) => Ok(count),

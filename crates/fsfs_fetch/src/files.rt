@@ -1,5 +1,5 @@
 //! Reads of single files, as a book answers.
-ghost use Rattle.std.specs.Prelude.{◌≡◌, ◌≤◌, ℕ, List, Option, length, take, unwrap_or, [], IfOk, IfErr, IfSome};
+ghost use Rattle.std.specs.Prelude.{◌≡◌, ◌≤◌, ◌<◌, ℕ, List, Option, length, take, unwrap_or, [], IfOk, IfErr, IfSome};
 ghost use Rattle.std.specs.FinMap.{get};
 ghost use Rattle.fsfs_disk.specs.Trace.{IsRead, IsSize};
 ghost use Rattle.fsfs_book.specs.declared.book.BookFault.{BookFault};
@@ -45,18 +45,20 @@ pub(crate) fn size_at<R: Reads>(reads: &mut R, name: &Name) -> Result<Option<u64
     }
 }
 
-// All bytes of a small file; none where there is no such file.
+// The bytes of a small file, no more than its first `most`; none where there is no such file.
 pub(crate) fn load<R: Reads>(
     alloc: Global,
     reads: &mut R,
     name: &Name,
+    most: usize,
 ) -> Result<Vec<u8>, BookFault>
-    ensures told { (file : Option (List ℕ)) → Stays (R.view reads.old) name.now file → IfOk result (λ v. v.items ≡ unwrap_or file []) }
+    requires { 0 < most }
+    ensures told { (file : Option (List ℕ)) → Stays (R.view reads.old) name.now file → IfOk result (λ v. v.items ≡ take most (unwrap_or file [])) }
     ensures failed { IfErr result OnlyMemory }
     ensures later { Later (R.view reads.old) (R.view reads.new) }
     ensures cause { HasCause (R.faults reads.old) (R.faults reads.new) result }
 {
-    match read_file(alloc, &mut StoreParts { reads }, name) {
+    match read_file(alloc, &mut StoreParts { reads }, name, most) {
         Ok(Some(bytes)) => Ok(bytes),
         Ok(None) => Ok(Vec::new(alloc)),
         Err(FileFault::Failed) => Err(BookFault::DiskFault),

@@ -11,7 +11,7 @@ use crate::reads::Reads;
 use fsfs_base::RevNum;
 use fsfs_book::BookFault;
 use fsfs_damage::Refusal;
-use fsfs_layout::{names, read_min_unpacked_rev};
+use fsfs_layout::{OnlyFile, read_min_unpacked_rev};
 
 // Reads the floor, by one call.
 fn read_floor<R: Reads>(reads: &mut R) -> Result<RevNum, BookFault>
@@ -22,7 +22,7 @@ fn read_floor<R: Reads>(reads: &mut R) -> Result<RevNum, BookFault>
 {
     let layout = reads.layout();
     let mut text = [0; 64];
-    let found = read_at(reads, &names::min_unpacked_rev(), 0, &mut text)?;
+    let found = read_at(reads, &OnlyFile::MinUnpackedRev.name(), 0, &mut text)?;
     let count = found.unwrap_or(0);
     match read_min_unpacked_rev(layout, &text[..count]) {
         Ok(floor) => Ok(floor),

@@ -14,7 +14,7 @@ use crate::files::load;
 use crate::reads::Reads;
 use fsfs_book::BookFault;
 use fsfs_damage::Refusal;
-use fsfs_layout::{ManifestError, names, read_manifest};
+use fsfs_layout::{ManifestError, RepositoryFile, read_manifest};
 use std::alloc::Global;
 
 /// The manifest of a shard that was read last.
@@ -25,7 +25,11 @@ pub(crate) struct KeptManifest {
     pub offsets: Vec<u64>,
 }
 
-/// Where each revision of a shard begins in the shard's pack.
+// A line of a manifest has at most so many bytes: the digits of a number of 64 bits, and a newline.
+const LINE: usize = 21;
+
+/// Where each revision of a shard begins in the shard's pack. Of the manifest no more is read than a line for each, and one byte
+/// behind them.
 pub(crate) fn shard_offsets<R: Reads>(
     alloc: Global,
     reads: &mut R,
@@ -38,7 +42,13 @@ pub(crate) fn shard_offsets<R: Reads>(
     ensures cause { HasCause (R.faults reads.old) (R.faults reads.new) result }
 {
     let layout = reads.layout();
-    let text = load(alloc, reads, &names::manifest(shard))?;
+    let most = layout.shard_size() as usize * LINE + 1;
+    let text = load(
+        alloc,
+        reads,
+        &RepositoryFile::Manifest(shard).name(layout),
+        most,
+    )?;
     match read_manifest(alloc, &text, shard, layout) {
         Ok(offsets) => Ok(offsets),
         Err(ManifestError::OutOfMemory) => Err(BookFault::OutOfMemory),

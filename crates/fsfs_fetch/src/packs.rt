@@ -15,7 +15,7 @@ use crate::reads::Reads;
 use fsfs_base::{RevNum, fitting};
 use fsfs_book::BookFault;
 use fsfs_damage::Refusal;
-use fsfs_layout::names;
+use fsfs_layout::RepositoryFile;
 use fsfs_rev_file::Section;
 use std::alloc::Global;
 
@@ -50,7 +50,7 @@ fn packed_section<R: Reads>(
     let layout = reads.layout();
     let shard = layout.shard_of(rev);
     keep_manifest(alloc, reads, kept, shard)?;
-    match size_at(reads, &names::pack(shard))? {
+    match size_at(reads, &RepositoryFile::Pack(shard).name(layout))? {
         None => Err(BookFault::Refused(Refusal::Missing { rev })),
         Some(size) => Ok(section_in(offsets_of(kept), layout.place_in_shard(rev), size)),
     }
@@ -91,11 +91,12 @@ fn section_part<R: Reads>(
     ensures later { Later (R.view reads.old) (R.view reads.new) }
     ensures cause { HasCause (R.faults reads.old) (R.faults reads.new) result }
 {
-    let shard = reads.layout().shard_of(rev);
+    let layout = reads.layout();
+    let shard = layout.shard_of(rev);
     let count = fitting(buffer.len(), section.length - offset);
     match read_at(
         reads,
-        &names::pack(shard),
+        &RepositoryFile::Pack(shard).name(layout),
         section.start + offset,
         &mut buffer[..count],
     )? {

@@ -24,7 +24,7 @@ module _ (look props : RevisionBytes) (h : List Revision) (last : ℕ) (count : 
     | inr past ↦ (let over = past.0 in absurd (omega (arith, over, le, count)))
   ]
 
-  trees : ShowTrees look last (tree_of h)
+  pub trees : ShowTrees look last (tree_of h)
   trees = record {
     each = λ r le.
         (let x = there r le in

@@ -1,5 +1,6 @@
 //! The laws of what files stand for. Each of these functions does nothing: what it ensures is proved once for all files.
 ghost use Rattle.fsfs_flat_history.specs.Histories.{ShownIsAHistory, StoodForIsAHistory};
+ghost use Rattle.fsfs_flat_history.specs.PathHistories.{PathHistoriesAreFlat};
 ghost use Rattle.fsfs_flat_history.specs.Seen.{LaterFilesAreNotSeen};
 
 /// What bytes show, and what files stand for, is a history: the first revision has `/` alone, and the tree of each later one
@@ -7,6 +8,12 @@ ghost use Rattle.fsfs_flat_history.specs.Seen.{LaterFilesAreNotSeen};
 pub fn what_files_stand_for_is_a_history()
     ensures bytes { ShownIsAHistory }
     ensures files { StoodForIsAHistory }
+{}
+
+/// The text of a path's history, as the node-revisions give it, is that of the flat model: a line for each of its points, or
+/// nothing and the refusal that the tree gives, and never damage.
+pub fn path_histories_are_flat()
+    ensures { PathHistoriesAreFlat }
 {}
 
 /// Files stand for what the revisions up to the youngest hold: other files that say the same in the small files, and have the same

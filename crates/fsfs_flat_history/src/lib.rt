@@ -3,4 +3,6 @@
 
 mod laws;
 
-pub use laws::{later_files_are_not_seen, what_files_stand_for_is_a_history};
+pub use laws::{
+    later_files_are_not_seen, path_histories_are_flat, what_files_stand_for_is_a_history,
+};

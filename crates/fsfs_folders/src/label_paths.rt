@@ -5,7 +5,7 @@ ghost use Rattle.fsfs_folders.specs.LabelPaths.{bench_folder, IsFitting};
 
 use fsfs_calls::Path;
 use fsfs_disk::Label;
-use fsfs_layout::names::txn_folder;
+use fsfs_layout::TxnFile;
 use itoa::Buffer;
 
 /// The folder of a label's bench.
@@ -16,7 +16,7 @@ pub fn bench_path(label: &Label) -> Path
     match label {
         Label::Txn(txn) => {
             let _ = txn.base.get();
-            Path::of(&txn_folder(txn))
+            Path::of(&TxnFile::Folder.name(txn))
         }
         Label::Pack(shard) => {
             let mut path = Path::new("db/pack-");

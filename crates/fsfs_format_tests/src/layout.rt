@@ -1,9 +1,10 @@
 //! The small files: where each is refused, and how it is written; and the names of files.
 use fsfs_base::{RevNum, SmallFault, SmallFile, TxnName, read_b36};
 use fsfs_layout::{
-    Format, Layout, ManifestError, names, read_current, read_format, read_manifest,
-    read_min_unpacked_rev, read_next_ids, read_txn_current, read_uuid, write_current, write_format,
-    write_manifest, write_min_unpacked_rev, write_next_ids, write_txn_current, write_uuid,
+    Format, Layout, ManifestError, PartName, RepositoryFile, TxnFile, read_current, read_format,
+    read_manifest, read_min_unpacked_rev, read_next_ids, read_txn_current, read_uuid,
+    write_current, write_format, write_manifest, write_min_unpacked_rev, write_next_ids,
+    write_txn_current, write_uuid,
 };
 use std::alloc::Global;
 use std::test::Fail;
@@ -123,25 +124,34 @@ fn written(rt: HostRuntime) -> Result<(), Fail> {
         b"0\n115\n".as_slice()
     );
     assert_eq!(rt;
-        names::revision(Layout::sharded(1000), RevNum::from(1234)).as_str(),
+        RepositoryFile::Revision(RevNum::from(1234))
+            .name(Layout::sharded(1000))
+            .as_str(),
         "db/revs/1/1234"
     );
     assert_eq!(rt;
-        names::props(Layout::sharded(1000), RevNum::from(1234)).as_str(),
+        RepositoryFile::Props(RevNum::from(1234))
+            .name(Layout::sharded(1000))
+            .as_str(),
         "db/revprops/1/1234"
     );
-    assert_eq!(rt; names::manifest(3).as_str(), "db/revs/3.pack/manifest");
+    assert_eq!(rt;
+        RepositoryFile::Manifest(3)
+            .name(Layout::sharded(1000))
+            .as_str(),
+        "db/revs/3.pack/manifest"
+    );
     let number = read_b36(b"1z").ok_or("a number")?;
     let txn = TxnName {
         base: RevNum::from(17),
         number,
     };
     assert_eq!(rt;
-        names::txn_file(&txn, "next-ids").as_str(),
+        TxnFile::Part(PartName::new("next-ids")).name(&txn).as_str(),
         "db/transactions/17-1z.txn/next-ids"
     );
     assert_eq!(rt;
-        names::proto_revision_lock(&txn).as_str(),
+        TxnFile::ProtoRevisionLock.name(&txn).as_str(),
         "db/txn-protorevs/17-1z.rev-lock"
     );
     Ok(())

@@ -5,7 +5,7 @@ use crate::faults::counted;
 use crate::folder::{Folder, fill, refuse_too_long};
 use fsfs_base::{Failed, Name};
 use fsfs_disk::{Bench, Label};
-use fsfs_layout::names;
+use fsfs_layout::TxnFile;
 use std::alloc::{AllocGlobal, Global};
 use std::fs::{File, Files};
 use std::io;
@@ -27,11 +27,14 @@ impl BenchPlace {
     pub fn of(alloc: Global, label: &Label) -> io::Result<BenchPlace> {
         match label {
             Label::Txn(txn) => Ok(BenchPlace {
-                folder: String::from_str(alloc, names::txn_folder(txn).as_str())?,
-                proto_revision: Some(String::from_str(alloc, names::proto_revision(txn).as_str())?),
+                folder: String::from_str(alloc, TxnFile::Folder.name(txn).as_str())?,
+                proto_revision: Some(String::from_str(
+                    alloc,
+                    TxnFile::ProtoRevision.name(txn).as_str(),
+                )?),
                 proto_lock: Some(String::from_str(
                     alloc,
-                    names::proto_revision_lock(txn).as_str(),
+                    TxnFile::ProtoRevisionLock.name(txn).as_str(),
                 )?),
             }),
             Label::Pack(shard) => Ok(BenchPlace {

@@ -4,4 +4,4 @@
 
 mod laws;
 
-pub use laws::{images_are_shown, labels_are_shown};
+pub use laws::{images_are_shown, labels_are_shown, machine_files_have_names};

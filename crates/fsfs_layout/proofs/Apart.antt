@@ -9,14 +9,90 @@ use Rattle.std.proofs.Math.Nat.{div-le_self}
 use Rattle.fsfs_grammar.specs.Numeral.{digit, value_after, IsNumeral}
 use Rattle.fsfs_grammar.specs.Base36.{base36}
 use Rattle.fsfs_grammar.proofs.Unique.{AreDigits, decimal_numeral, numeral_digits}
-use Rattle.fsfs_grammar.proofs.Base36Texts.{base36_numeral}
+use Rattle.fsfs_grammar.proofs.Base36Texts.{base36_numeral, b36_same}
 use Rattle.fsfs_fields.specs.TxnNames.{txn_text}
-use Rattle.fsfs_layout.specs.Names.{in_shard, in_pack}
+use Rattle.fsfs_layout.specs.Names.{in_shard, in_pack, with_txn}
 use Rattle.fsfs_layout.specs.Layouts.{shard_of}
-use Rattle.fsfs_layout.specs.FileNames.{only_name, RevsFile, Shard, Revision, PackFolder, Pack, Manifest, PropsFile, PropsShard, Props, TxnFile, Folder, Below, txn_file_end, ProtoFile, Texts, Lock, proto_file_end, File, Only, InRevs, InProps, OfTxn, OfProto, revs_name, props_name, file_name, FitsRevs, FitsProps, FitsFile, NamesAreApart}
+use Rattle.fsfs_fields.specs.declared.txn_name.TxnName.{TxnName}
+use Rattle.fsfs_layout.specs.FileNames.{only_name, file_name as name_of, FitsTxn, FitsFile as Fits, NamesAreApart}
+use Rattle.fsfs_layout.specs.declared.repository_file.RepositoryFile.{RepositoryFile}
+use Rattle.fsfs_layout.specs.declared.repository_file.RepositoryFile.TheVariants as file
+use Rattle.fsfs_layout.specs.declared.txn_file.TxnFile.TheVariants as part
 use Rattle.fsfs_layout.specs.declared.layout.Layout.{Layout}
 use Rattle.fsfs_layout.specs.declared.only_file.OnlyFile.{OnlyFile}
 use Rattle.fsfs_layout.specs.declared.only_file.OnlyFile.TheVariants.{RepositoryFormat, Format, FormatNext, FsType, Uuid, Current, CurrentNext, MinUnpackedRev, MinUnpackedRevNext, TxnCurrent, TxnCurrentNext, TxnCurrentLock, WriteLock, Revisions, RevisionProps, Transactions, ProtoRevisions}
+
+-- ---- files by the folder that they are in
+
+data RevsFile : Type 0 where
+  Shard : ℕ → RevsFile
+  Revision : ℕ → RevsFile
+  PackFolder : ℕ → RevsFile
+  Pack : ℕ → RevsFile
+  Manifest : ℕ → RevsFile
+
+data PropsFile : Type 0 where
+  PropsShard : ℕ → PropsFile
+  Props : ℕ → PropsFile
+
+data TxnFile : Type 0 where
+  Folder : TxnFile
+  Below : List ℕ → TxnFile
+
+abbrev txn_file_end : TxnFile → List ℕ
+txn_file_end Folder = codes ".txn"
+txn_file_end (Below part) = codes ".txn/" ++ part
+
+data ProtoFile : Type 0 where
+  Texts : ProtoFile
+  Lock : ProtoFile
+
+abbrev proto_file_end : ProtoFile → List ℕ
+proto_file_end Texts = codes ".rev"
+proto_file_end Lock = codes ".rev-lock"
+
+data File : Type 0 where
+  Only : OnlyFile → File
+  InRevs : RevsFile → File
+  InProps : PropsFile → File
+  OfTxn : TxnName → TxnFile → File
+  OfProto : TxnName → ProtoFile → File
+
+abbrev revs_name : Layout → RevsFile → List ℕ
+revs_name layout (Shard n) = codes "db/revs/" ++ decimal n
+revs_name layout (Revision rev) = in_shard (codes "db/revs") layout rev
+revs_name layout (PackFolder n) = codes "db/revs/" ++ decimal n ++ codes ".pack"
+revs_name layout (Pack n) = in_pack n (codes "/pack")
+revs_name layout (Manifest n) = in_pack n (codes "/manifest")
+
+abbrev props_name : Layout → PropsFile → List ℕ
+props_name layout (PropsShard n) = codes "db/revprops/" ++ decimal n
+props_name layout (Props rev) = in_shard (codes "db/revprops") layout rev
+
+abbrev file_name : Layout → File → List ℕ
+file_name layout (Only f) = only_name f
+file_name layout (InRevs f) = revs_name layout f
+file_name layout (InProps f) = props_name layout f
+file_name layout (OfTxn txn f) = with_txn (codes "db/transactions/") txn (txn_file_end f)
+file_name layout (OfProto txn f) = with_txn (codes "db/txn-protorevs/") txn (proto_file_end f)
+
+abbrev FitsRevs : RevsFile → Type 0
+FitsRevs (Shard n) = n < 2 ^ 32
+FitsRevs (Revision rev) = rev < 2 ^ 32
+FitsRevs (PackFolder n) = n < 2 ^ 32
+FitsRevs (Pack n) = n < 2 ^ 32
+FitsRevs (Manifest n) = n < 2 ^ 32
+
+abbrev FitsProps : PropsFile → Type 0
+FitsProps (PropsShard n) = n < 2 ^ 32
+FitsProps (Props rev) = rev < 2 ^ 32
+
+abbrev FitsFile : File → Type 0
+FitsFile (Only f) = Unit {0}
+FitsFile (InRevs f) = FitsRevs f
+FitsFile (InProps f) = FitsProps f
+FitsFile (OfTxn txn f) = FitsTxn txn
+FitsFile (OfProto txn f) = FitsTxn txn
 
 -- ---- numbers in names
 
@@ -54,18 +130,24 @@ same_base36 m n p q fits fits' c d e =
     let w = same_front 36 (base36 m) (base36 n) p q (numeral_digits 36 (base36 m) m a).0 (numeral_digits 36 (base36 n) n b).0 c d e in
     (same_number 36 m n (base36 m) (base36 n) a b w.0, w.1)
 
-record SameTxn (b c m n : ℕ) (p q : List ℕ) : Type 0 where
-  pub base : b ≡ c
-  pub number : m ≡ n
+same_name : (a b : TxnName) → a.base ≡ b.base → a.number.number ≡ b.number.number → a ≡ b
+same_name a b base number = let same : a.number ≡ b.number = b36_same a.number b.number number in λ i. record { base = base i; number = same i }
+
+record SameTxn (a b : TxnName) (p q : List ℕ) : Type 0 where
+  pub txn : a ≡ b
   pub rest : p ≡ q
 
-same_txn : (front p q : List ℕ) (b c m n : ℕ) → b < 2 ^ 32 → c < 2 ^ 32 → m < 170581728179578208256 → n < 170581728179578208256 → NoDigit 36 p → NoDigit 36 q → front ++ txn_text b m ++ p ≡ front ++ txn_text c n ++ q → SameTxn b c m n p q
-same_txn front p q b c m n fb fc fm fn np nq e =
+same_txn : (front p q : List ℕ) (a b : TxnName) → FitsTxn a → FitsTxn b → NoDigit 36 p → NoDigit 36 q → with_txn front a p ≡ with_txn front b q → SameTxn a b p q
+same_txn front p q s t fs ft np nq e =
+    let b = s.base in
+    let c = t.base in
+    let m = s.number.number in
+    let n = t.number.number in
     let one : front ++ (decimal b ++ (45 ∷ (base36 m ++ p))) ≡ front ++ (decimal c ++ (45 ∷ (base36 n ++ q))) = sym (parts b m p) ∙ e ∙ parts c n q in
-    let two = same_decimal b c (45 ∷ (base36 m ++ p)) (45 ∷ (base36 n ++ q)) (omega arith) (omega arith) (omega arith) (omega arith) (append_cancel_left front (decimal b ++ (45 ∷ (base36 m ++ p))) (decimal c ++ (45 ∷ (base36 n ++ q))) one) in
+    let two = same_decimal b c (45 ∷ (base36 m ++ p)) (45 ∷ (base36 n ++ q)) (omega (arith, fs.0)) (omega (arith, ft.0)) (omega arith) (omega arith) (append_cancel_left front (decimal b ++ (45 ∷ (base36 m ++ p))) (decimal c ++ (45 ∷ (base36 n ++ q))) one) in
     let tail = two.1 in
-    let three = same_base36 m n p q fm fn np nq (let t : base36 m ++ p ≡ base36 n ++ q = cc in t) in
-    record { base = two.0; number = three.0; rest = three.1 }
+    let three = same_base36 m n p q fs.1 ft.1 np nq (let t : base36 m ++ p ≡ base36 n ++ q = cc in t) in
+    record { txn = same_name s t two.0 three.0; rest = three.1 }
   where
     parts : (b m : ℕ) (p : List ℕ) → front ++ txn_text b m ++ p ≡ front ++ (decimal b ++ (45 ∷ (base36 m ++ p)))
     parts b m p = simp append_assoc
@@ -84,8 +166,8 @@ abbrev group_of : File → ℕ
 group_of (Only f) = 0
 group_of (InRevs f) = 1
 group_of (InProps f) = 2
-group_of (OfTxn base number f) = 3
-group_of (OfProto base number f) = 4
+group_of (OfTxn txn f) = 3
+group_of (OfProto txn f) = 4
 
 only_group : (f : OnlyFile) → group (only_name f) ≡ 0
 only_group RepositoryFormat = refl
@@ -115,8 +197,8 @@ name_group layout (InRevs (Pack n)) = refl
 name_group layout (InRevs (Manifest n)) = refl
 name_group layout (InProps (PropsShard n)) = refl
 name_group layout (InProps (Props rev)) = refl
-name_group layout (OfTxn base number f) = refl
-name_group layout (OfProto base number f) = refl
+name_group layout (OfTxn txn f) = refl
+name_group layout (OfProto txn f) = refl
 
 -- ---- within a folder
 
@@ -285,38 +367,113 @@ proto_ends Lock Lock e = refl
 
 -- ---- all names
 
-pub names_apart : (layout : Layout) → NamesAreApart layout
-names_apart k a b fa fb e = go a b fa fb e (sym (name_group k a) ∙ ap group e ∙ name_group k b)
+nested_apart : (layout : Layout) (a b : File) → FitsFile a → FitsFile b → file_name layout a ≡ file_name layout b → a ≡ b
+nested_apart k a b fa fb e = go a b fa fb e (sym (name_group k a) ∙ ap group e ∙ name_group k b)
   where
     go : (a b : File) → FitsFile a → FitsFile b → file_name k a ≡ file_name k b → group_of a ≡ group_of b → a ≡ b
     go (Only f) (Only g) fa fb e same = ap (λ (x : OnlyFile). Only x) (sym (only_back f) ∙ ap only_of e ∙ only_back g)
     go (InRevs f) (InRevs g) fa fb e same = ap (λ (x : RevsFile). InRevs x) (revs_apart k f g fa fb e)
     go (InProps f) (InProps g) fa fb e same = ap (λ (x : PropsFile). InProps x) (props_apart k f g fa fb e)
-    go (OfTxn b m f) (OfTxn c n g) fa fb e same =
-        let w = same_txn (codes "db/transactions/") (txn_file_end f) (txn_file_end g) b c m n fa.0 fb.0 fa.1 fb.1 (txn_no_digit f) (txn_no_digit g) e in
+    go (OfTxn s f) (OfTxn t g) fa fb e same =
+        let w = same_txn (codes "db/transactions/") (txn_file_end f) (txn_file_end g) s t fa fb (txn_no_digit f) (txn_no_digit g) e in
         let file = txn_ends f g w.rest in
-        λ i. OfTxn (w.base i) (w.number i) (file i)
-    go (OfProto b m f) (OfProto c n g) fa fb e same =
-        let w = same_txn (codes "db/txn-protorevs/") (proto_file_end f) (proto_file_end g) b c m n fa.0 fb.0 fa.1 fb.1 (proto_no_digit f) (proto_no_digit g) e in
+        λ i. OfTxn (w.txn i) (file i)
+    go (OfProto s f) (OfProto t g) fa fb e same =
+        let w = same_txn (codes "db/txn-protorevs/") (proto_file_end f) (proto_file_end g) s t fa fb (proto_no_digit f) (proto_no_digit g) e in
         let file = proto_ends f g w.rest in
-        λ i. OfProto (w.base i) (w.number i) (file i)
+        λ i. OfProto (w.txn i) (file i)
     go (Only f) (InRevs g) fa fb e same = absurd cc
     go (Only f) (InProps g) fa fb e same = absurd cc
-    go (Only f) (OfTxn c n g) fa fb e same = absurd cc
-    go (Only f) (OfProto c n g) fa fb e same = absurd cc
+    go (Only f) (OfTxn t g) fa fb e same = absurd cc
+    go (Only f) (OfProto t g) fa fb e same = absurd cc
     go (InRevs f) (Only g) fa fb e same = absurd cc
     go (InRevs f) (InProps g) fa fb e same = absurd cc
-    go (InRevs f) (OfTxn c n g) fa fb e same = absurd cc
-    go (InRevs f) (OfProto c n g) fa fb e same = absurd cc
+    go (InRevs f) (OfTxn t g) fa fb e same = absurd cc
+    go (InRevs f) (OfProto t g) fa fb e same = absurd cc
     go (InProps f) (Only g) fa fb e same = absurd cc
     go (InProps f) (InRevs g) fa fb e same = absurd cc
-    go (InProps f) (OfTxn c n g) fa fb e same = absurd cc
-    go (InProps f) (OfProto c n g) fa fb e same = absurd cc
-    go (OfTxn b m f) (Only g) fa fb e same = absurd cc
-    go (OfTxn b m f) (InRevs g) fa fb e same = absurd cc
-    go (OfTxn b m f) (InProps g) fa fb e same = absurd cc
-    go (OfTxn b m f) (OfProto c n g) fa fb e same = absurd cc
-    go (OfProto b m f) (Only g) fa fb e same = absurd cc
-    go (OfProto b m f) (InRevs g) fa fb e same = absurd cc
-    go (OfProto b m f) (InProps g) fa fb e same = absurd cc
-    go (OfProto b m f) (OfTxn c n g) fa fb e same = absurd cc
+    go (InProps f) (OfTxn t g) fa fb e same = absurd cc
+    go (InProps f) (OfProto t g) fa fb e same = absurd cc
+    go (OfTxn s f) (Only g) fa fb e same = absurd cc
+    go (OfTxn s f) (InRevs g) fa fb e same = absurd cc
+    go (OfTxn s f) (InProps g) fa fb e same = absurd cc
+    go (OfTxn s f) (OfProto t g) fa fb e same = absurd cc
+    go (OfProto s f) (Only g) fa fb e same = absurd cc
+    go (OfProto s f) (InRevs g) fa fb e same = absurd cc
+    go (OfProto s f) (InProps g) fa fb e same = absurd cc
+    go (OfProto s f) (OfTxn t g) fa fb e same = absurd cc
+
+abbrev nested : RepositoryFile → File
+nested (file.Only f) = Only f
+nested (file.Shard n) = InRevs (Shard n)
+nested (file.Revision rev) = InRevs (Revision rev)
+nested (file.PackFolder n) = InRevs (PackFolder n)
+nested (file.Pack n) = InRevs (Pack n)
+nested (file.Manifest n) = InRevs (Manifest n)
+nested (file.PropsShard n) = InProps (PropsShard n)
+nested (file.Props rev) = InProps (Props rev)
+nested (file.OfTxn txn part.Folder) = OfTxn txn Folder
+nested (file.OfTxn txn (part.Part name)) = OfTxn txn (Below name)
+nested (file.OfTxn txn part.ProtoRevision) = OfProto txn Texts
+nested (file.OfTxn txn part.ProtoRevisionLock) = OfProto txn Lock
+
+abbrev flat : File → RepositoryFile
+flat (Only f) = file.Only f
+flat (InRevs (Shard n)) = file.Shard n
+flat (InRevs (Revision rev)) = file.Revision rev
+flat (InRevs (PackFolder n)) = file.PackFolder n
+flat (InRevs (Pack n)) = file.Pack n
+flat (InRevs (Manifest n)) = file.Manifest n
+flat (InProps (PropsShard n)) = file.PropsShard n
+flat (InProps (Props rev)) = file.Props rev
+flat (OfTxn txn Folder) = file.OfTxn txn part.Folder
+flat (OfTxn txn (Below name)) = file.OfTxn txn (part.Part name)
+flat (OfProto txn Texts) = file.OfTxn txn part.ProtoRevision
+flat (OfProto txn Lock) = file.OfTxn txn part.ProtoRevisionLock
+
+flat_nested : (f : RepositoryFile) → flat (nested f) ≡ f
+flat_nested (file.Only f) = refl
+flat_nested (file.Shard n) = refl
+flat_nested (file.Revision rev) = refl
+flat_nested (file.PackFolder n) = refl
+flat_nested (file.Pack n) = refl
+flat_nested (file.Manifest n) = refl
+flat_nested (file.PropsShard n) = refl
+flat_nested (file.Props rev) = refl
+flat_nested (file.OfTxn txn part.Folder) = refl
+flat_nested (file.OfTxn txn (part.Part name)) = refl
+flat_nested (file.OfTxn txn part.ProtoRevision) = refl
+flat_nested (file.OfTxn txn part.ProtoRevisionLock) = refl
+
+nested_name : (k : Layout) (f : RepositoryFile) → file_name k (nested f) ≡ name_of k f
+nested_name k (file.Only f) = refl
+nested_name k (file.Shard n) = refl
+nested_name k (file.Revision rev) = refl
+nested_name k (file.PackFolder n) = refl
+nested_name k (file.Pack n) = refl
+nested_name k (file.Manifest n) = refl
+nested_name k (file.PropsShard n) = refl
+nested_name k (file.Props rev) = refl
+nested_name k (file.OfTxn txn part.Folder) = refl
+nested_name k (file.OfTxn txn (part.Part name)) = refl
+nested_name k (file.OfTxn txn part.ProtoRevision) = refl
+nested_name k (file.OfTxn txn part.ProtoRevisionLock) = refl
+
+nested_fits : (f : RepositoryFile) → Fits f → FitsFile (nested f)
+nested_fits (file.Only f) fits = fits
+nested_fits (file.Shard n) fits = fits
+nested_fits (file.Revision rev) fits = fits
+nested_fits (file.PackFolder n) fits = fits
+nested_fits (file.Pack n) fits = fits
+nested_fits (file.Manifest n) fits = fits
+nested_fits (file.PropsShard n) fits = fits
+nested_fits (file.Props rev) fits = fits
+nested_fits (file.OfTxn txn part.Folder) fits = fits
+nested_fits (file.OfTxn txn (part.Part name)) fits = fits
+nested_fits (file.OfTxn txn part.ProtoRevision) fits = fits
+nested_fits (file.OfTxn txn part.ProtoRevisionLock) fits = fits
+
+pub names_apart : (layout : Layout) → NamesAreApart layout
+names_apart k a b fa fb e =
+    let same = nested_apart k (nested a) (nested b) (nested_fits a fa) (nested_fits b fb) (nested_name k a ∙ e ∙ sym (nested_name k b)) in
+    sym (flat_nested a) ∙ ap flat same ∙ flat_nested b

@@ -8,6 +8,8 @@ use Rattle.uuid.specs.declared.Variant.TheVariants.{RFC4122}
 use Rattle.uuid.specs.declared.Version.TheVariants.{Random}
 use Rattle.fsfs_base.specs.Files.{Files, NamedFile, lay_over}
 use Rattle.fsfs_base.specs.FirstRevision.{first_bytes}
+use Rattle.fsfs_layout.specs.FileNames.{only_name}
+use Rattle.fsfs_layout.specs.declared.only_file.OnlyFile.TheVariants.{RepositoryFormat, Format, FormatNext, FsType, Uuid, Current, MinUnpackedRev, TxnCurrent, TxnCurrentLock, WriteLock}
 
 -- db/format: the format's number, and how many revisions a shard has
 abbrev pub format_text : ℕ → List ℕ
@@ -28,25 +30,25 @@ random_identifier bits = with_version (with_variant bits RFC4122) Random
 -- all files but db/format, by which the others become a repository
 abbrev pub unpublished_files : List ℕ → List ℕ → List NamedFile
 unpublished_files identifier date =
-    (codes "format", codes "5\n")
-    ∷ (codes "db/fs-type", codes "fsfs\n")
-    ∷ (codes "db/uuid", identifier ++ codes "\n")
-    ∷ (codes "db/current", codes "0\n")
-    ∷ (codes "db/txn-current", codes "0\n")
-    ∷ (codes "db/min-unpacked-rev", codes "0\n")
-    ∷ (codes "db/write-lock", [])
-    ∷ (codes "db/txn-current-lock", [])
+    (only_name RepositoryFormat, codes "5\n")
+    ∷ (only_name FsType, codes "fsfs\n")
+    ∷ (only_name Uuid, identifier ++ codes "\n")
+    ∷ (only_name Current, codes "0\n")
+    ∷ (only_name TxnCurrent, codes "0\n")
+    ∷ (only_name MinUnpackedRev, codes "0\n")
+    ∷ (only_name WriteLock, [])
+    ∷ (only_name TxnCurrentLock, [])
     ∷ (codes "db/revs/0/0", first_bytes)
     ∷ (codes "db/revprops/0/0", date_properties date)
     ∷ []
 
 -- the files of a new repository, from the size of a shard, the identifier's text and the date's text
 abbrev pub created_files : ℕ → List ℕ → List ℕ → List NamedFile
-created_files shard identifier date = unpublished_files identifier date ++ (codes "db/format", format_text shard) ∷ []
+created_files shard identifier date = unpublished_files identifier date ++ (only_name Format, format_text shard) ∷ []
 
 -- these files laid over what was there; `db/format-next` is the name under which db/format is written first
 abbrev pub created_over : ℕ → List ℕ → List ℕ → Files → Files
-created_over shard identifier date m = lay_over (created_files shard identifier date) (remove m (codes "db/format-next"))
+created_over shard identifier date m = lay_over (created_files shard identifier date) (remove m (only_name FormatNext))
 
 -- each of these files is there, with just its bytes
 abbrev pub Holds : List NamedFile → Files → Type 0

@@ -5,6 +5,8 @@ use Rattle.std.specs.FinMap.{get}
 use Rattle.fsfs_base.specs.Files.{Files}
 use Rattle.fsfs_base.specs.declared.small_fault.SmallFault.{SmallFault}
 use Rattle.fsfs_base.specs.declared.small_fault.SmallFile.TheVariants as file
+use Rattle.fsfs_layout.specs.FileNames.{only_name}
+use Rattle.fsfs_layout.specs.declared.only_file.OnlyFile.TheVariants as only
 use Rattle.fsfs_layout.specs.Formats.{IsFormat, IsOurFormat}
 use Rattle.fsfs_layout.specs.Small.{IsUuid, IsRevLine, IsMinUnpackedRev, IsBase36Line, IsFaultOf, IsRefusedFile, IsMinUnpackedFault}
 use Rattle.fsfs_layout.specs.declared.format_file.Format.{Format}
@@ -27,12 +29,12 @@ text_at m name = unwrap_or (get m name) []
 -- the small files of a repository
 abbrev pub small_texts : Files → SmallTexts
 small_texts m = record {
-  format = get m (codes "db/format");
-  fs_type = text_at m (codes "db/fs-type");
-  uuid = text_at m (codes "db/uuid");
-  current = text_at m (codes "db/current");
-  min_unpacked_rev = text_at m (codes "db/min-unpacked-rev");
-  txn_current = text_at m (codes "db/txn-current");
+  format = get m (only_name only.Format);
+  fs_type = text_at m (only_name only.FsType);
+  uuid = text_at m (only_name only.Uuid);
+  current = text_at m (only_name only.Current);
+  min_unpacked_rev = text_at m (only_name only.MinUnpackedRev);
+  txn_current = text_at m (only_name only.TxnCurrent);
 }
 
 -- a repository of this type of filesystem, with this text of db/format

@@ -1,133 +1,17 @@
-//! The names of a repository's files and folders, from the repository's folder on. (The libsvn_fs_fs structure file;
-//! the names that end in `-next`, under which the new text of a small file is written first, are this project's profile.)
+// The texts of names of files and folders that have a number, a revision or a transaction in them.
 ghost use Rattle.std.specs.Prelude.{◌≡◌, ◌≤◌, ◌<◌, ◌+◌, ◌++◌, codes, length};
 ghost use Rattle.std.specs.Fmt.{decimal};
 ghost use Rattle.fsfs_grammar.specs.Base36.{glyph, last_digits};
 ghost use Rattle.fsfs_fields.specs.TxnNames.{txn_text};
 ghost use Rattle.fsfs_layout.specs.Names.{in_shard, in_pack, with_txn};
-ghost use Rattle.fsfs_layout.specs.FileNames.{only_name, small_name, NamesAreApart};
 
 use crate::layout::Layout;
-use crate::only_file::OnlyFile;
-use fsfs_base::{Name, RevNum, SmallFile, TxnName};
+use crate::part_name::PartName;
+use fsfs_base::{Name, RevNum, TxnName};
 use itoa::Buffer;
 
-/// The file that says which version of the repository's own layout it has.
-pub fn repository_format() -> Name
-    ensures { result ≡ only_name OnlyFile.RepositoryFormat }
-{
-    OnlyFile::RepositoryFormat.name()
-}
-
-pub fn format() -> Name
-    ensures { result ≡ only_name OnlyFile.Format }
-{
-    OnlyFile::Format.name()
-}
-
-/// Where the new text of `db/format` is written first.
-pub fn format_next() -> Name
-    ensures { result ≡ only_name OnlyFile.FormatNext }
-{
-    OnlyFile::FormatNext.name()
-}
-
-pub fn fs_type() -> Name
-    ensures { result ≡ only_name OnlyFile.FsType }
-{
-    OnlyFile::FsType.name()
-}
-
-pub fn uuid() -> Name
-    ensures { result ≡ only_name OnlyFile.Uuid }
-{
-    OnlyFile::Uuid.name()
-}
-
-/// The file with the youngest revision.
-pub fn current() -> Name
-    ensures { result ≡ only_name OnlyFile.Current }
-{
-    OnlyFile::Current.name()
-}
-
-/// Where the new text of `db/current` is written first.
-pub fn current_next() -> Name
-    ensures { result ≡ only_name OnlyFile.CurrentNext }
-{
-    OnlyFile::CurrentNext.name()
-}
-
-/// The file with the oldest revision that isn't packed.
-pub fn min_unpacked_rev() -> Name
-    ensures { result ≡ only_name OnlyFile.MinUnpackedRev }
-{
-    OnlyFile::MinUnpackedRev.name()
-}
-
-/// Where the new text of `db/min-unpacked-rev` is written first.
-pub fn min_unpacked_rev_next() -> Name
-    ensures { result ≡ only_name OnlyFile.MinUnpackedRevNext }
-{
-    OnlyFile::MinUnpackedRevNext.name()
-}
-
-/// The file with the number that the next transaction gets.
-pub fn txn_current() -> Name
-    ensures { result ≡ only_name OnlyFile.TxnCurrent }
-{
-    OnlyFile::TxnCurrent.name()
-}
-
-/// Where the new text of `db/txn-current` is written first.
-pub fn txn_current_next() -> Name
-    ensures { result ≡ only_name OnlyFile.TxnCurrentNext }
-{
-    OnlyFile::TxnCurrentNext.name()
-}
-
-pub fn txn_current_lock() -> Name
-    ensures { result ≡ only_name OnlyFile.TxnCurrentLock }
-{
-    OnlyFile::TxnCurrentLock.name()
-}
-
-pub fn write_lock() -> Name
-    ensures { result ≡ only_name OnlyFile.WriteLock }
-{
-    OnlyFile::WriteLock.name()
-}
-
-/// The folder of the shards of revision files.
-pub fn revisions() -> Name
-    ensures { result ≡ only_name OnlyFile.Revisions }
-{
-    OnlyFile::Revisions.name()
-}
-
-/// The folder of the shards of revision property files.
-pub fn revision_props() -> Name
-    ensures { result ≡ only_name OnlyFile.RevisionProps }
-{
-    OnlyFile::RevisionProps.name()
-}
-
-/// The folder of the folders of transactions.
-pub fn transactions() -> Name
-    ensures { result ≡ only_name OnlyFile.Transactions }
-{
-    OnlyFile::Transactions.name()
-}
-
-/// The folder of the prototype revision files of transactions.
-pub fn proto_revisions() -> Name
-    ensures { result ≡ only_name OnlyFile.ProtoRevisions }
-{
-    OnlyFile::ProtoRevisions.name()
-}
-
-/// The folder of a shard's revision files.
-pub fn shard(shard: u32) -> Name
+// The folder of a shard's revision files.
+pub(crate) fn shard(shard: u32) -> Name
     ensures text { result ≡ codes "db/revs/" ++ decimal shard }
     ensures short { length result ≤ 18 }
 {
@@ -136,8 +20,8 @@ pub fn shard(shard: u32) -> Name
     name
 }
 
-/// The folder of a shard's revision property files.
-pub fn props_shard(shard: u32) -> Name
+// The folder of a shard's revision property files.
+pub(crate) fn props_shard(shard: u32) -> Name
     ensures text { result ≡ codes "db/revprops/" ++ decimal shard }
     ensures short { length result ≤ 22 }
 {
@@ -146,8 +30,8 @@ pub fn props_shard(shard: u32) -> Name
     name
 }
 
-/// A revision's file, before it is packed.
-pub fn revision(layout: Layout, rev: RevNum) -> Name
+// A revision's file, before it is packed.
+pub(crate) fn revision(layout: Layout, rev: RevNum) -> Name
     ensures { result ≡ in_shard (codes "db/revs") layout rev }
 {
     let mut name = shard(layout.shard_of(rev));
@@ -156,8 +40,8 @@ pub fn revision(layout: Layout, rev: RevNum) -> Name
     name
 }
 
-/// The file of a revision's properties.
-pub fn props(layout: Layout, rev: RevNum) -> Name
+// The file of a revision's properties.
+pub(crate) fn props(layout: Layout, rev: RevNum) -> Name
     ensures { result ≡ in_shard (codes "db/revprops") layout rev }
 {
     let mut name = props_shard(layout.shard_of(rev));
@@ -166,8 +50,8 @@ pub fn props(layout: Layout, rev: RevNum) -> Name
     name
 }
 
-/// The folder of a packed shard.
-pub fn pack_folder(packed: u32) -> Name
+// The folder of a packed shard.
+pub(crate) fn pack_folder(packed: u32) -> Name
     ensures text { result ≡ codes "db/revs/" ++ decimal packed ++ codes ".pack" }
     ensures short { length result ≤ 23 }
 {
@@ -176,8 +60,8 @@ pub fn pack_folder(packed: u32) -> Name
     name
 }
 
-/// The revision files of a packed shard, one after another.
-pub fn pack(shard: u32) -> Name
+// The revision files of a packed shard, one after another.
+pub(crate) fn pack(shard: u32) -> Name
     ensures { result ≡ in_pack shard (codes "/pack") }
 {
     let mut name = pack_folder(shard);
@@ -185,28 +69,13 @@ pub fn pack(shard: u32) -> Name
     name
 }
 
-/// Where each revision begins in the pack of its shard.
-pub fn manifest(shard: u32) -> Name
+// Where each revision begins in the pack of its shard.
+pub(crate) fn manifest(shard: u32) -> Name
     ensures { result ≡ in_pack shard (codes "/manifest") }
 {
     let mut name = pack_folder(shard);
     name.push_str("/manifest");
     name
-}
-
-/// A small file's name; of a transaction's `next-ids` the last part.
-pub fn small_file(file: &SmallFile) -> Name
-    ensures { result ≡ small_name file.now }
-{
-    match *file {
-        SmallFile::Format => format(),
-        SmallFile::Uuid => uuid(),
-        SmallFile::Current => current(),
-        SmallFile::MinUnpackedRev => min_unpacked_rev(),
-        SmallFile::TxnCurrent => txn_current(),
-        SmallFile::NextIds => Name::new("next-ids"),
-        SmallFile::Manifest(shard) => manifest(shard),
-    }
 }
 
 fn digit(d: u8) -> char
@@ -221,7 +90,7 @@ fn digit(d: u8) -> char
     }
 }
 
-/// Puts the last digits of a number in base 36 at the end.
+// Puts the last digits of a number in base 36 at the end.
 #[tactic(auto, unfolding(fsfs_grammar::specs::Base36::last_digits))]
 fn push_base36(name: &mut Name, digits: usize, number: u128)
     requires { length name.old + digits ≤ 128 }
@@ -249,8 +118,8 @@ fn push_txn(name: &mut Name, txn: &TxnName)
     push_base36(name, 13, txn.number.number);
 }
 
-/// A transaction's folder.
-pub fn txn_folder(txn: &TxnName) -> Name
+// A transaction's folder.
+pub(crate) fn txn_folder(txn: &TxnName) -> Name
     ensures text { result ≡ with_txn (codes "db/transactions/") txn.now (codes ".txn") }
     ensures short { length result ≤ 44 }
 {
@@ -270,19 +139,18 @@ pub fn txn_entry(txn: &TxnName) -> Name
     name
 }
 
-/// A file in a transaction's folder, by the end of its name.
-pub fn txn_file(txn: &TxnName, file: &str) -> Name
-    requires { length file.now ≤ 80 }
-    ensures { result ≡ with_txn (codes "db/transactions/") txn.now (codes ".txn/" ++ file.now) }
+// A file in a transaction's folder.
+pub(crate) fn in_txn(txn: &TxnName, part: &PartName) -> Name
+    ensures { result ≡ with_txn (codes "db/transactions/") txn.now (codes ".txn/" ++ part.now) }
 {
     let mut name = txn_folder(txn);
     name.push('/');
-    name.push_str(file);
+    name.push_str(part.as_str());
     name
 }
 
-/// The prototype revision file of a transaction.
-pub fn proto_revision(txn: &TxnName) -> Name
+// The prototype revision file of a transaction.
+pub(crate) fn proto_revision(txn: &TxnName) -> Name
     ensures { result ≡ with_txn (codes "db/txn-protorevs/") txn.now (codes ".rev") }
 {
     let mut name = Name::new("db/txn-protorevs/");
@@ -291,19 +159,12 @@ pub fn proto_revision(txn: &TxnName) -> Name
     name
 }
 
-/// The lock file beside a transaction's prototype revision file.
-pub fn proto_revision_lock(txn: &TxnName) -> Name
+// The lock file beside a transaction's prototype revision file.
+pub(crate) fn proto_revision_lock(txn: &TxnName) -> Name
     ensures { result ≡ with_txn (codes "db/txn-protorevs/") txn.now (codes ".rev-lock") }
 {
     let mut name = Name::new("db/txn-protorevs/");
     push_txn(&mut name, txn);
     name.push_str(".rev-lock");
     name
-}
-
-/// A law: no two files or folders of a repository have one name, whatever its layout.
-pub fn names_are_apart(layout: Layout)
-    ensures { NamesAreApart layout }
-{
-    let _ = layout;
 }

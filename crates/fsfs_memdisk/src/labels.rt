@@ -5,7 +5,7 @@ ghost use Rattle.fsfs_memdisk.specs.Stored.{labels_of};
 
 use fsfs_base::Name;
 use fsfs_disk::Label;
-use fsfs_layout::names::txn_entry;
+use fsfs_layout::txn_entry;
 use std::alloc::{AllocError, Global};
 use std::collections::VecDeque;
 

@@ -1,6 +1,6 @@
 -- Where the walk by ids has no clash, what it leaves is the landing.
 use Rattle.std.proofs.Common.{◌≡◌, ◌≤◌, ◌⊎◌, ℕ, not, Bool, true, false, ◌&&◌, ◌||◌, List, [], ◌∷◌, refl, sym, ap, subst, ◌∙◌, inl, inr, Option, Some, None, arith}
-use Rattle.std.specs.Prelude.{is_some, if◌then◌else◌, nat_lt, nat_le}
+use Rattle.std.specs.Prelude.{is_some, if◌then◌else◌, nat_lt}
 use Rattle.std.proofs.lemmas.Bool.Decides.{nat_tests}
 use mathlib.Core.Bool.{false≢true}
 use Rattle.fsfs_flat.specs.Edits.{is_dir, is_dir_node}
@@ -22,10 +22,10 @@ use Rattle.fsfs_model.proofs.MergeWalk.{Premises, reached_or, fresh}
 use Rattle.fsfs_model.proofs.TwoMergesLaw.{premises}
 use Rattle.fsfs_merge.specs.Walks.{Sight, merges, is_stopped, stays, down, is_own, merged}
 use Rattle.fsfs_merge.specs.Laws.{Agrees, KeepsTexts, AreSame, IdsAreMarks}
-use Rattle.fsfs_merge.proofs.Sides.{le_from, own, since, own_quiet, head_quiet, later_props}
+use Rattle.fsfs_merge.proofs.Sides.{own, since, own_quiet, head_quiet, later_props}
 use Rattle.fsfs_merge.proofs.Texts.{keeps_texts}
 use Rattle.fsfs_merge.proofs.WalkLaw.{merges_all, merges_not, not_is, stops_as, merged_goes, by_marks, same_clash}
-use Rattle.std.proofs.lemmas.Bool.{and_from, and_parts, both_ways, cases_Bool, false_from_ne_true, not-true}
+use Rattle.std.proofs.lemmas.Bool.{and_from, and_parts, both_ways, cases_Bool, false_from_ne_true, not-true, leb-true}
 use Rattle.std.proofs.lemmas.Option.{same_Some}
 
 -- ---- whose entry stands at a path
@@ -80,7 +80,7 @@ prop_rewrites Text q p h = absurd (false≢true h)
 prop_rewrites Gone q p h = absurd (false≢true h)
 prop_rewrites (Make src) q p h = absurd (false≢true h)
 
-kept_props : (marks : List Mark) (p : Path) → (effects marks p).rewritten ≡ false → (effects marks p).props_changed ≡ false
+pub kept_props : (marks : List Mark) (p : Path) → (effects marks p).rewritten ≡ false → (effects marks p).props_changed ≡ false
 kept_props marks p un = false_from_ne_true _ (λ h. let f = found (λ m. changes_props m.what m.path p) (outer marks) h in
     both_ways _ un (found_in (λ m. is_rewritten m.what m.path p) (outer marks) f.0 f.1 (prop_rewrites f.0.what f.0.path p f.2)))
 
@@ -286,7 +286,7 @@ module _ (tree : ℕ → TreeFunction) (last b h n : ℕ) (t : TreeFunction) (ma
         | inr re ↦
             let k = (own tree last b h t marks is was le ge).keeps.same p x e (not-true _ ((and_parts _ _ ((and_parts _ _ g).0)).1)) in
             let held : held_by_head b (Some y) ≡ true = sym (ap (held_by_head b) v) ∙ (and_parts _ _ g).1 in
-            let o = (since tree last b h t marks is was le ge).older p y v (le_from y.added b held) in
+            let o = (since tree last b h t marks is was le ge).older p y v (leb-true y.added b held) in
             let props = later_props tree last b h t marks is was le ge p y v (le_not b y.props_changed (sym (ap (props_changed_by_head b) v) ∙ hp)) in
             let same_o : o.0 ≡ x = same_Some o.0 x (sym o.1 ∙ e) in
             let same_p : props.0 ≡ x = same_Some props.0 x (sym props.1 ∙ e) in

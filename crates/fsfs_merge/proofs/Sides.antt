@@ -1,6 +1,6 @@
 -- What a history and a transaction say of the three trees of a merge.
 use Rattle.std.proofs.Common.{◌≡◌, ◌≤◌, ◌+◌, ℕ, zero, suc, Bool, true, false, List, [], ◌∷◌, refl, sym, ap, subst, ◌∙◌, arith, Option, Some, None}
-use Rattle.std.specs.Prelude.{is_some, nat_lt, nat_le}
+use Rattle.std.specs.Prelude.{is_some, nat_lt}
 use Rattle.std.proofs.lemmas.Bool.Decides.{nat_tests}
 use mathlib.Core.Bool.{false≢true}
 use Rattle.fsfs_base.specs.Paths.{Path, covers}
@@ -16,16 +16,7 @@ use Rattle.fsfs_model.proofs.MergeWalk.{Premises, go, touched_up, untouched}
 use Rattle.fsfs_model.proofs.TwoMergesLaw.{premises}
 use Rattle.fsfs_model.proofs.NextHistory.{IsWhole, whole, at_most}
 use Rattle.std.proofs.lemmas.Option.{same_Some}
-use Rattle.std.proofs.lemmas.Bool.{and_from, and_parts, both_ways, false_from_ne_true}
-
-pub le_from : (a b : ℕ) → nat_le a b ≡ true → a ≤ b
-le_from a b h = grind (arith, nat_tests)
-
-le_to : (a b : ℕ) → a ≤ b → nat_le a b ≡ true
-le_to a b h = grind (arith, nat_tests)
-
-lt_not : (a b : ℕ) → b ≤ a → nat_lt a b ≡ false
-lt_not a b h = grind (arith, nat_tests)
+use Rattle.std.proofs.lemmas.Bool.{and_from, and_parts, both_ways, false_from_ne_true, le-leb, le-ltb, leb-true}
 
 module _ (tree : ℕ → TreeFunction) (last b h : ℕ) (t : TreeFunction) (marks : List Mark) (is : AreRevisions tree last) (was : IsTransaction tree last b t marks) (le : b ≤ h) (ge : h ≤ last) where
   pub own : IsWhole tree last b t marks
@@ -45,7 +36,7 @@ module _ (tree : ℕ → TreeFunction) (last b h : ℕ) (t : TreeFunction) (mark
 
   -- the base against itself: nothing clashes
   touched_self : (p : Path) (n : Node) → tree b p ≡ Some n → touched_by_head b (Some n) ≡ false
-  touched_self p n e = lt_not b n.last_changed (base_most p n e)
+  touched_self p n e = le-ltb b n.last_changed (base_most p n e)
 
   self_clear : NoClash b (tree b) (tree b) t marks
   self_clear p = false_from_ne_true _ (λ k. by (tree b p) refl ((and_parts _ _ k).1))
@@ -66,7 +57,7 @@ module _ (tree : ℕ → TreeFunction) (last b h : ℕ) (t : TreeFunction) (mark
       by (Some n) e w =
           let o = self.ordered q n e in
           let m = base_most q n e in
-          and_from _ _ w (le_to n.added b (omega (arith, o.added, o.props_changed, m)))
+          and_from _ _ w (le-leb n.added b (omega (arith, o.added, o.props_changed, m)))
 
   mono : (f g : Path → Bool) → ((q : Path) → f q ≡ true → g q ≡ true) → (p : Path) → reached f p ≡ true → reached g p ≡ true
   mono f g e [] r = refl
@@ -103,7 +94,7 @@ module _ (tree : ℕ → TreeFunction) (last b h : ℕ) (t : TreeFunction) (mark
   -- what the head holds is of the base's kind
   pub same_kind : (p : Path) (m n : Node) → tree b p ≡ Some m → tree h p ≡ Some n → held_by_head b (tree h p) ≡ true → m.kind ≡ n.kind
   same_kind p m n e f k =
-      let o = since.older p n f (le_from n.added b (subst (λ o. held_by_head b o ≡ true) f k)) in
+      let o = since.older p n f (leb-true n.added b (subst (λ o. held_by_head b o ≡ true) f k)) in
       ap (λ v. v.kind) (same_Some m o.0 (sym e ∙ o.1)) ∙ o.2.kind
 
   -- properties that the head did not set are the base's

@@ -6,18 +6,7 @@
 use Rattle.std.specs.Prelude.{Bool, true, false, ◌&&◌, ◌||◌, not, [], ◌∷◌, if◌then◌else◌}
 use Rattle.fsfs_base.specs.Paths.{Path}
 use Rattle.fsfs_flat.specs.Landing.{reached}
-
-pub record Sight : Type 0 where
-  pub in_base : Bool
-  pub in_head : Bool
-  pub in_own : Bool
-  -- the id is the base's
-  pub head_same : Bool
-  pub own_same : Bool
-  -- all three are directories, and both sides go on from the base's
-  pub goes_on : Bool
-  -- both sides have the base's representation of properties
-  pub same_props : Bool
+pub use Rattle.fsfs_merge.specs.declared.sight.Sight.{Sight}
 
 -- the roots of the three, which are always merged
 abbrev pub roots : Bool → Sight

@@ -24,6 +24,12 @@ fn look_line(alloc: Global, repos: &str, look: &Look) -> Result<String, AllocErr
             format!(in alloc; "tree {repos} {revision} {show_ids} {path}")
         }
         Printed::Text { path } => format!(in alloc; "cat {repos} {revision} {path}"),
+        Printed::Author => format!(in alloc; "author {repos} {revision}"),
+        Printed::Date => format!(in alloc; "date {repos} {revision}"),
+        Printed::Log => format!(in alloc; "log {repos} {revision}"),
+        Printed::Info => format!(in alloc; "info {repos} {revision}"),
+        Printed::Changed => format!(in alloc; "changed {repos} {revision}"),
+        Printed::History { path } => format!(in alloc; "history {repos} {revision} {path}"),
     }
 }
 
@@ -41,7 +47,7 @@ fn line(alloc: Global, read: &Result<Request<'_>, WordsFault>) -> Result<String,
 }
 
 // Where no revision is given the line has 9999999999.
-const LOOKS: [(&[&str], &str); 29] = [
+const LOOKS: [(&[&str], &str); 43] = [
     (&["youngest", "R"], "youngest R"),
     (&["uuid", "R"], "uuid R"),
     (&["tree", "R"], "tree R 9999999999 false /"),
@@ -53,6 +59,13 @@ const LOOKS: [(&[&str], &str); 29] = [
     (&["tree", "-r1", "--", "-x"], "tree -x 1 false /"),
     (&["tree", "R", "/"], "tree R 9999999999 false /"),
     (&["cat", "R", "a/b", "-r", "0"], "cat R 0 /a/b"),
+    (&["author", "R"], "author R 9999999999"),
+    (&["date", "R", "-r", "0"], "date R 0"),
+    (&["log", "-r1", "--", "-x"], "log -x 1"),
+    (&["info", "--revision", "07", "R"], "info R 7"),
+    (&["changed", "R"], "changed R 9999999999"),
+    (&["history", "R"], "history R 9999999999 /"),
+    (&["history", "-r", "3", "R", "a/b/"], "history R 3 /a/b"),
     (&["cat", "R", "a//b"], "BadPath 3 EmptyName"),
     (&["tree", "R", "../a"], "BadPath 1 Dot"),
     (&[], "Usage"),
@@ -72,6 +85,13 @@ const LOOKS: [(&[&str], &str); 29] = [
     (&["help"], "Usage"),
     (&["--help"], "Usage"),
     (&["tree", "--help"], "Usage"),
+    (&["author"], "Usage"),
+    (&["date", "-r", "x", "R"], "Usage"),
+    (&["log", "R", "/a"], "Usage"),
+    (&["info", "R", "--show-ids"], "Usage"),
+    (&["changed", "R", "/a"], "Usage"),
+    (&["history", "R", "--show-ids"], "Usage"),
+    (&["history", "R", "a//"], "BadPath 3 EmptyName"),
     (&["tree", "-h", "R"], "Usage"),
     (&["--version"], "Usage"),
 ];

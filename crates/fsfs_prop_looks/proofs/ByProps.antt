@@ -1,8 +1,11 @@
 -- Where the property file of a revision shows properties, what is printed is of them.
-use Rattle.std.proofs.Common.{◌≡◌, ℕ, List, ◌++◌, Option, Some, None, refl, sym, inl, inr}
+use Rattle.std.proofs.Common.{◌≡◌, ◌∙◌, ℕ, ℤ, List, ◌++◌, Option, Some, None, refl, sym, ap, subst, inl, inr}
 use Rattle.std.specs.Prelude.{Ok, codes}
 use Rattle.jiff_core.specs.declared.civil.datetime.DateTime.{DateTime}
 use Rattle.fsfs_fields.specs.Dates.{IsDateText}
+use Rattle.fsfs_fields.proofs.DateReadings.{numbers_of, shown_as, numbers_again}
+use Rattle.fsfs_answers.specs.PropTexts.{date_line}
+use Rattle.fsfs_answers.specs.ShownDates.{printed_date, printed_numbers}
 use Rattle.fsfs_tree.specs.Dated.{date_name}
 use Rattle.fsfs_book.specs.Told.{RevisionBytes}
 use Rattle.fsfs_revprops.specs.RevProps.{Pairs, RevPropsOf}
@@ -29,6 +32,14 @@ dated_line : (stored : Option (List ℕ)) → ((value : List ℕ) → stored ≡
 dated_line None dated = (codes "\n", refl)
 dated_line (Some text) dated = let d = dated text refl in (shown_date d.0 ++ codes "\n", (d.0, d.1, refl))
 
+-- and that is the line of its numbers
+line_is : (stored : Option (List ℕ)) (line : List ℕ) → IsDateLine stored line → line ≡ date_line stored
+line_is None line e = e
+line_is (Some text) line (dt, is, e) =
+    let numbers = numbers_again text (numbers_of text dt is) (shown_as text dt is) in
+    let year = ap (λ (y : ℤ). printed_date y dt.date.month dt.date.day dt.time.hour dt.time.minute dt.time.second) is.year_is in
+    e ∙ ap (λ (t : List ℕ). t ++ codes "\n") (year ∙ sym (ap printed_numbers numbers))
+
 module _ (files : RevisionBytes) (rev : ℕ) (pairs : Pairs) (shown : ShowsProps files rev pairs) where
   read : RevPropsOf files rev (Ok pairs)
   read = (shown.file, shown.file_is, shown.dump)
@@ -49,10 +60,12 @@ logs_by files rev pairs shown text end h =
 pub dates_by : DatesAreByProps
 dates_by files rev pairs shown text end h =
     let l = line files rev pairs shown in
-    (l.0, l.1, of_agree l.0 text end (dates_one files rev l.0 text Whole end (inr (inl ((pairs, read files rev pairs shown, l.1), refl))) h))
+    let printed = of_agree l.0 text end (dates_one files rev l.0 text Whole end (inr (inl ((pairs, read files rev pairs shown, l.1), refl))) h) in
+    subst (λ (whole : List ℕ). IsOf whole text end) (line_is (value_of pairs date_name) l.0 l.1) printed
 
 pub infos_by : InfosAreByProps
 infos_by files rev pairs shown text end h =
     let l = line files rev pairs shown in
     let whole : List ℕ = info_lines pairs l.0 in
-    (l.0, l.1, of_agree whole text end (infos_one files rev whole text Whole end (inr (inl ((pairs, read files rev pairs shown, (l.0, l.1, refl)), refl))) h))
+    let printed = of_agree whole text end (infos_one files rev whole text Whole end (inr (inl ((pairs, read files rev pairs shown, (l.0, l.1, refl)), refl))) h) in
+    subst (λ (date : List ℕ). IsOf (info_lines pairs date) text end) (line_is (value_of pairs date_name) l.0 l.1) printed

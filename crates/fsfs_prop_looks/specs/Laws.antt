@@ -1,13 +1,14 @@
 -- The laws of what is printed of a revision's properties.
 use Rattle.std.specs.Prelude.{◌≡◌, ℕ, List, Ok}
-use Rattle.fsfs_tree.specs.Dated.{date_name, IsDated}
+use Rattle.fsfs_tree.specs.Dated.{IsDated}
+use Rattle.fsfs_answers.specs.PropTexts.{author_text, date_text, log_text, info_text}
 use Rattle.fsfs_hash.specs.Dump.{IsDump}
 use Rattle.fsfs_book.specs.Told.{RevisionBytes}
 use Rattle.fsfs_revprops.specs.RevProps.{Pairs}
 use Rattle.fsfs_printed.specs.Texts.{End}
 use Rattle.fsfs_printed.specs.Agreeing.{HasOneText}
 use Rattle.fsfs_printed.specs.ByTree.{IsOf}
-use Rattle.fsfs_prop_looks.specs.PropTexts.{value_of, author_name, log_name, value_line, IsDateLine, info_lines, AuthorText, DateText, LogText, InfoText}
+use Rattle.fsfs_prop_looks.specs.PropTexts.{AuthorText, DateText, LogText, InfoText}
 
 -- ---- one text
 
@@ -27,13 +28,13 @@ abbrev pub AreByProps : (RevisionBytes → ℕ → List ℕ → End → Type 0) 
 AreByProps T P = (files : RevisionBytes) (rev : ℕ) (pairs : Pairs) → ShowsProps files rev pairs → (text : List ℕ) (end : End) → T files rev text end → P pairs text end
 
 abbrev pub AuthorsAreByProps : Type 0
-AuthorsAreByProps = AreByProps AuthorText (λ pairs. IsOf (value_line (value_of pairs author_name)))
+AuthorsAreByProps = AreByProps AuthorText (λ pairs. IsOf (author_text pairs))
 
 abbrev pub LogsAreByProps : Type 0
-LogsAreByProps = AreByProps LogText (λ pairs. IsOf (value_line (value_of pairs log_name)))
+LogsAreByProps = AreByProps LogText (λ pairs. IsOf (log_text pairs))
 
 abbrev pub DatesAreByProps : Type 0
-DatesAreByProps = AreByProps DateText (λ pairs text end. (line : List ℕ) × IsDateLine (value_of pairs date_name) line × IsOf line text end)
+DatesAreByProps = AreByProps DateText (λ pairs. IsOf (date_text pairs))
 
 abbrev pub InfosAreByProps : Type 0
-InfosAreByProps = AreByProps InfoText (λ pairs text end. (line : List ℕ) × IsDateLine (value_of pairs date_name) line × IsOf (info_lines pairs line) text end)
+InfosAreByProps = AreByProps InfoText (λ pairs. IsOf (info_text pairs))

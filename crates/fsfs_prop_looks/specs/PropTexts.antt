@@ -1,13 +1,10 @@
 -- What is printed of a revision's properties, as it is read. (The texts are those of Subversion's own `svnlook author`, `date`, `log`
 -- and `info`.)
-use Rattle.std.specs.Prelude.{◌≡◌, ◌⊎◌, ℕ, List, [], ◌∷◌, ◌++◌, length, Option, Some, None, unwrap_or, Result, Ok, Err, codes, decimal}
-use Rattle.std.specs.Map.{lookup}
-use Rattle.std.specs.BTreeMap.{is_at}
-use Rattle.std.specs.Cmp.Lexicographic.{slice_cmp}
-use Rattle.std.specs.Ordering.{nat_cmp}
+use Rattle.std.specs.Prelude.{◌≡◌, ◌⊎◌, ℕ, List, [], ◌∷◌, ◌++◌, Option, Some, None, Result, Ok, Err, codes}
 use Rattle.jiff_core.specs.declared.civil.datetime.DateTime.{DateTime}
 use Rattle.fsfs_fields.specs.Dates.{IsDateText}
 use Rattle.fsfs_tree.specs.Dated.{date_name}
+pub use Rattle.fsfs_answers.specs.PropTexts.{value_of, author_name, log_name, value_line, log_lines, info_lines}
 use Rattle.fsfs_damage.specs.declared.damage.DamageKind.TheVariants as what
 use Rattle.fsfs_damage.specs.declared.wrong.Wrong.{Wrong}
 use Rattle.fsfs_damage.specs.Checks.{Check, must, Judged}
@@ -19,36 +16,12 @@ use Rattle.fsfs_revprops.specs.ShownDates.{shown_date}
 use Rattle.fsfs_printed.specs.declared.look_fault.LookFault.TheVariants as faults
 use Rattle.fsfs_printed.specs.Texts.{End, Whole, Refused, Stopped, Nothing}
 
--- ---- values
-
-abbrev pub value_of : Pairs → List ℕ → Option (List ℕ)
-value_of pairs name = lookup (is_at (slice_cmp nat_cmp name)) pairs
-
-abbrev pub author_name : List ℕ
-author_name = codes "svn:author"
-
-abbrev pub log_name : List ℕ
-log_name = codes "svn:log"
-
--- the line of a value, an empty one where there is none
-abbrev pub value_line : Option (List ℕ) → List ℕ
-value_line value = unwrap_or value [] ++ codes "\n"
+-- ---- the date, as it is read
 
 -- the line of the date that is stored, an empty one where there is none
 abbrev pub IsDateLine : Option (List ℕ) → List ℕ → Type 0
 IsDateLine None line = line ≡ codes "\n"
 IsDateLine (Some stored) line = (dt : DateTime) × IsDateText stored dt × (line ≡ shown_date dt ++ codes "\n")
-
--- the length of the log in bytes, and the log; `0` alone where there is none
-abbrev pub log_lines : Option (List ℕ) → List ℕ
-log_lines None = codes "0\n"
-log_lines (Some log) = (decimal (length log) ++ codes "\n") ++ (log ++ codes "\n")
-
--- author, date and log, where this is the date's line
-abbrev pub info_lines : Pairs → List ℕ → List ℕ
-info_lines pairs line = value_line (value_of pairs author_name) ++ line ++ log_lines (value_of pairs log_name)
-
--- ---- the date, as it is read
 
 -- a stored date is in its form, or the revision is damaged
 abbrev pub date_checks : ℕ → Option (List ℕ) → List Check

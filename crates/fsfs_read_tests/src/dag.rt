@@ -1,5 +1,5 @@
 //! Nodes of small revisions whose bytes are given by hand: what stands at a path, and what a node has.
-use crate::revisions::{SHORT_TEXT, book_of, path_of};
+use crate::paths::path_of;
 use fsfs_base::{Kind, RevNum};
 use fsfs_book::MemBook;
 use fsfs_dag::{
@@ -7,6 +7,7 @@ use fsfs_dag::{
 };
 use fsfs_damage::RevOffset;
 use fsfs_memstreams::MemSink;
+use fsfs_samples::{SHORT_TEXT, book_of};
 use std::alloc::Global;
 use std::test::Fail;
 

@@ -1,12 +1,11 @@
 //! Texts of small revisions whose bytes are given by hand, whole and damaged, and of revisions that Subversion wrote.
-use crate::revisions::{
-    EMPTY_FILE, FIRST_DIRECTORY, MADE_1, MADE_2, MADE_3, SHORT_TEXT, book_of, path_of,
-};
+use crate::paths::path_of;
 use fsfs_base::{HexDigest, RevNum};
 use fsfs_damage::{Damage, DamageKind, RepWhat, RevOffset, Wrong};
 use fsfs_look::{LookError, cat, tree_text};
 use fsfs_memstreams::MemSink;
 use fsfs_printed::LookFault;
+use fsfs_samples::{EMPTY_FILE, FIRST_DIRECTORY, MADE_1, MADE_2, MADE_3, SHORT_TEXT, book_of};
 use std::test::Fail;
 
 // The trees that Subversion's own `svnlook tree --show-ids` prints.

@@ -1,6 +1,6 @@
 -- What the small files decide, by what `db/format` says.
 use Rattle.std.proofs.Common.{◌≡◌, ℕ, List, inl, inr, refl, sym, subst, ◌∙◌}
-use Rattle.std.specs.Prelude.{Option, Some, None, IfSome, Result, Ok, Err}
+use Rattle.std.specs.Prelude.{Option, Some, None, IfSome, IfOk, Result, Ok, Err}
 use Rattle.std.proofs.lemmas.Option.{same_Some}
 use Rattle.fsfs_base.specs.declared.small_fault.SmallFault.{SmallFault}
 use Rattle.fsfs_disk.specs.Trace.{Trace, files_now}
@@ -11,6 +11,8 @@ use Rattle.fsfs_layout.specs.declared.layout.Layout.{Layout}
 use Rattle.fsfs_layout.proofs.OpeningLemmas.{layout_same}
 use Rattle.fsfs_layout.specs.Opening.{SmallTexts, small_texts, IsFsfs, IsNone, IsOpened, IsOpenedBehind}
 use Rattle.fsfs_repo.specs.Deciding.{Decides}
+use Rattle.fsfs_repo.specs.FirstTexts.{first_texts}
+use Rattle.fsfs_repo.proofs.FirstTextLemmas.{decides_of_first, ok_of_first}
 use Rattle.fsfs_layout.specs.declared.opened.Opened.{Opened}
 use Rattle.fsfs_places.specs.declared.open_fault.OpenFault.{OpenFault}
 use Rattle.fsfs_places.specs.declared.open_fault.OpenFault.TheVariants as why_not
@@ -78,7 +80,11 @@ decides_refused s text n fault h only = record {
   linear = λ w. absurd (let e = says s text w.0 (λ g. Sharded n.shard_size ≡ g) Linear h w.1 w.2 in cc);
 }
 
--- the texts are those of the files of the disk
-pub decides_now : (told : Option Trace) (s : SmallTexts) (r : Result Opened OpenFault) → IfSome told (λ t. s ≡ small_texts (files_now t)) → Decides s r → IfSome told (λ t. Decides (small_texts (files_now t)) r)
+-- the texts are the first bytes of the files of the disk
+pub decides_now : (told : Option Trace) (s : SmallTexts) (r : Result Opened OpenFault) → IfSome told (λ t. s ≡ first_texts (small_texts (files_now t))) → Decides s r → IfSome told (λ t. Decides (small_texts (files_now t)) r)
 decides_now None s r is d = tt
-decides_now (Some t) s r is d = subst (λ (x : SmallTexts). Decides x r) is d
+decides_now (Some t) s r is d = decides_of_first (small_texts (files_now t)) r (subst (λ (x : SmallTexts). Decides x r) is d)
+
+pub opened_now : (told : Option Trace) (s : SmallTexts) (r : Result Opened OpenFault) → IfSome told (λ t. s ≡ first_texts (small_texts (files_now t))) → IfOk r (IsOpened s) → IfSome told (λ t. IfOk r (IsOpened (small_texts (files_now t))))
+opened_now None s r is d = tt
+opened_now (Some t) s r is d = ok_of_first (small_texts (files_now t)) r (subst (λ (x : SmallTexts). IfOk r (IsOpened x)) is d)

@@ -1,2 +1,4 @@
 pub mod OpeningLemmas
 pub mod DecidingLemmas
+pub mod ShortTexts
+pub mod FirstTextLemmas

@@ -2,6 +2,7 @@
 use Rattle.std.proofs.Common.{◌≡◌, ◌≤◌, ◌<◌, ◌+◌, ℕ, zero, suc, List, [], ◌∷◌, ◌++◌, true, false, inl, inr, ⊎_elim, refl, sym, ap, subst, ◌∙◌, arith}
 use Rattle.std.specs.Prelude.{Option, Some, None, IfSome, Result, Ok, Err, IfErr, option_map}
 use Rattle.std.proofs.lemmas.Option.{same_Some}
+use Rattle.fsfs_base.specs.Files.{Files}
 use Rattle.fsfs_base.specs.declared.small_fault.SmallFault.{SmallFault}
 use Rattle.fsfs_grammar.specs.Grammar.{begins}
 use Rattle.std.proofs.lemmas.Fmt.{decimal_digit}
@@ -13,7 +14,9 @@ use Rattle.fsfs_layout.specs.Small.{IsUuid, IsRevLine, IsMinUnpackedRev, IsBase3
 use Rattle.fsfs_base.specs.declared.small_fault.SmallFile.TheVariants as file
 use Rattle.fsfs_layout.specs.declared.layout.Layout.{Layout}
 use Rattle.fsfs_layout.specs.Opening.{SmallTexts, small_texts, IsRefusedBehind, IsPastYoungest}
+use Rattle.fsfs_repo.specs.FirstTexts.{first_texts}
 use Rattle.fsfs_repo.specs.OpenFaults.{JudgedBecause, OpensBecause}
+use Rattle.fsfs_repo.proofs.FirstTextLemmas.{because_of_first}
 use Rattle.fsfs_places.specs.declared.open_fault.OpenFault.{OpenFault}
 use Rattle.fsfs_places.specs.declared.open_fault.OpenFault.TheVariants as why_not
 
@@ -81,29 +84,29 @@ shards_fit text n h = ⊎_elim
     (λ other. absurd (not_other n other.number other.is)) h
 
 -- the cause of a refusal, in the files of the disk
-pub opens_because : (rose : Type 0) (told : Option Trace) (s : SmallTexts) (why : OpenFault) → IfSome told (λ t. s ≡ small_texts (files_now t)) → JudgedBecause s why → OpensBecause rose told why
+pub opens_because : (rose : Type 0) (told : Option Trace) (s : SmallTexts) (why : OpenFault) → IfSome told (λ t. s ≡ first_texts (small_texts (files_now t))) → JudgedBecause s why → OpensBecause rose told why
 opens_because rose None s why_not.NotRepo is h = tt
 opens_because rose None s (why_not.OtherFormat number) is h = tt
 opens_because rose None s why_not.Linear is h = tt
 opens_because rose None s (why_not.Small fault) is h = tt
 opens_because rose None s (why_not.DiskFault place) is h = absurd h
 opens_because rose None s why_not.Memory is h = absurd h
-opens_because rose (Some t) s why_not.NotRepo is h = subst (λ x. JudgedBecause x why_not.NotRepo) is h
-opens_because rose (Some t) s (why_not.OtherFormat number) is h = subst (λ x. JudgedBecause x (why_not.OtherFormat number)) is h
-opens_because rose (Some t) s why_not.Linear is h = subst (λ x. JudgedBecause x why_not.Linear) is h
-opens_because rose (Some t) s (why_not.Small fault) is h = subst (λ x. JudgedBecause x (why_not.Small fault)) is h
+opens_because rose (Some t) s why_not.NotRepo is h = because_of_first (small_texts (files_now t)) why_not.NotRepo (subst (λ x. JudgedBecause x why_not.NotRepo) is h)
+opens_because rose (Some t) s (why_not.OtherFormat number) is h = because_of_first (small_texts (files_now t)) (why_not.OtherFormat number) (subst (λ x. JudgedBecause x (why_not.OtherFormat number)) is h)
+opens_because rose (Some t) s why_not.Linear is h = because_of_first (small_texts (files_now t)) why_not.Linear (subst (λ x. JudgedBecause x why_not.Linear) is h)
+opens_because rose (Some t) s (why_not.Small fault) is h = because_of_first (small_texts (files_now t)) (why_not.Small fault) (subst (λ x. JudgedBecause x (why_not.Small fault)) is h)
 opens_because rose (Some t) s (why_not.DiskFault place) is h = absurd h
 opens_because rose (Some t) s why_not.Memory is h = absurd h
 
-pub all_because : {T : Type 0} (rose : Type 0) (told : Option Trace) (s : SmallTexts) (r : Result T OpenFault) → IfSome told (λ t. s ≡ small_texts (files_now t)) → IfErr r (JudgedBecause s) → IfErr r (OpensBecause rose told)
+pub all_because : {T : Type 0} (rose : Type 0) (told : Option Trace) (s : SmallTexts) (r : Result T OpenFault) → IfSome told (λ t. s ≡ first_texts (small_texts (files_now t))) → IfErr r (JudgedBecause s) → IfErr r (OpensBecause rose told)
 all_because rose told s (Ok x) is h = tt
 all_because rose told s (Err why) is h = opens_because rose told s why is h
 
 -- firm names leave the files as they are
-pub same_texts : (old new : Option Trace) (s : SmallTexts) → option_map files_now new ≡ option_map files_now old → IfSome new (λ t. s ≡ small_texts (files_now t)) → IfSome old (λ t. s ≡ small_texts (files_now t))
+pub same_texts : (old new : Option Trace) (s : SmallTexts) → option_map files_now new ≡ option_map files_now old → IfSome new (λ t. s ≡ first_texts (small_texts (files_now t))) → IfSome old (λ t. s ≡ first_texts (small_texts (files_now t)))
 same_texts None new s is h = tt
 same_texts (Some t) None s is h = let bad : ◌≡◌ {A = Option _} None (Some (files_now t)) = is in cc
-same_texts (Some t) (Some u) s is h = h ∙ ap small_texts (same_Some (files_now u) (files_now t) is)
+same_texts (Some t) (Some u) s is h = h ∙ ap (λ (m : Files). first_texts (small_texts m)) (same_Some (files_now u) (files_now t) is)
 
 -- firm names are the same files, whichever way the call ended
 pub firm_same : (old new : Option Trace) → FailsAt FirmNames old new → option_map files_now new ≡ option_map files_now old

@@ -1,2 +1,3 @@
 pub mod OpenFaults
 pub mod Deciding
+pub mod FirstTexts

@@ -1,8 +1,9 @@
 // Opening a repository: what its small files say.
-ghost use Rattle.std.specs.Prelude.{◌≡◌, ◌≤◌, IfOk, IfErr, IfSome, MatchResult, option_map};
+ghost use Rattle.std.specs.Prelude.{◌≡◌, ◌≤◌, take, IfOk, IfErr, IfSome, MatchResult, option_map};
 ghost use Rattle.fsfs_base.specs.Failures.{Rose};
 ghost use Rattle.fsfs_disk.specs.Trace.{files_now};
 ghost use Rattle.fsfs_layout.specs.Opening.{IsOpened, IsOpenedBehind, IsRefusedBehind, small_texts, text_at};
+ghost use Rattle.fsfs_repo.specs.FirstTexts.{first_texts};
 ghost use Rattle.fsfs_repo.specs.OpenFaults.{texts_of, JudgedBecause, OpensBecause, outside_of, IfUnread};
 ghost use Rattle.fsfs_repo.specs.Deciding.{Decides};
 ghost use Rattle.fsfs_layout.specs.declared.opened.Opened.{Opened};
@@ -10,14 +11,18 @@ ghost use Rattle.fsfs_layout.specs.declared.opened.Opened.{Opened};
 use fsfs_base::{Name, SmallFault, SmallFile};
 use fsfs_disk::Disk;
 use fsfs_layout::{
-    Format, Layout, Opened, names, read_current, read_format, read_min_unpacked_rev,
+    Format, Layout, OnlyFile, Opened, read_current, read_format, read_min_unpacked_rev,
     read_txn_current, read_uuid,
 };
 use fsfs_places::{DiskPlace, OpenFault};
 use fsfs_whole_file::{FileFault, read_disk_file};
 use std::alloc::Global;
 
-// The bytes of the small files; an absent file counts as empty, but for `db/format`.
+// No text of a small file has so many bytes. The longest of our own, a `db/format`, has 28; the line of another format at most 21,
+// whatever stands behind it. So these first bytes tell of a file what all of it would.
+const MOST: usize = 64;
+
+// The first bytes of the small files; an absent file counts as empty, but for `db/format`.
 #[derive(Drop)]
 struct SmallFiles {
     format: Option<Vec<u8>>,
@@ -28,16 +33,16 @@ struct SmallFiles {
     txn_current: Vec<u8>,
 }
 
-// The bytes of a small file, none where it isn't there.
+// The first bytes of a small file, none where it isn't there.
 fn text_of<D: Disk>(alloc: Global, disk: &mut D, name: &Name) -> Result<Vec<u8>, OpenFault>
-    ensures bytes { IfSome (D.trace disk.old) (λ t. IfOk result (λ v. v.items ≡ text_at (files_now t) name.now)) }
+    ensures bytes { IfSome (D.trace disk.old) (λ t. IfOk result (λ v. v.items ≡ take 64 (text_at (files_now t) name.now))) }
     ensures same { D.trace disk.new ≡ D.trace disk.old }
     ensures mounted { D.mount_path disk.new ≡ D.mount_path disk.old }
     ensures right { D.may_write disk.new ≡ D.may_write disk.old }
     ensures later { D.faults disk.old ≤ D.faults disk.new }
     ensures failed { IfErr result (IfUnread (Rose (D.faults disk.old) (D.faults disk.new))) }
 {
-    match read_disk_file(alloc, disk, name) {
+    match read_disk_file(alloc, disk, name, MOST) {
         Ok(Some(bytes)) => Ok(bytes),
         Ok(None) => Ok(Vec::new(alloc)),
         Err(fault) => Err(outside(fault)),
@@ -53,24 +58,25 @@ fn outside(fault: FileFault) -> OpenFault
     }
 }
 
-// Reads the small files.
+// Reads the small files. Others may commit and pack meanwhile, and the youngest revision only rises: so a floor that is read
+// before it is never too high for it.
 fn read_small_files<D: Disk>(alloc: Global, disk: &mut D) -> Result<SmallFiles, OpenFault>
-    ensures texts { IfSome (D.trace disk.old) (λ t. IfOk result (λ s. texts_of s ≡ small_texts (files_now t))) }
+    ensures texts { IfSome (D.trace disk.old) (λ t. IfOk result (λ s. texts_of s ≡ first_texts (small_texts (files_now t)))) }
     ensures same { D.trace disk.new ≡ D.trace disk.old }
     ensures mounted { D.mount_path disk.new ≡ D.mount_path disk.old }
     ensures right { D.may_write disk.new ≡ D.may_write disk.old }
     ensures later { D.faults disk.old ≤ D.faults disk.new }
     ensures failed { IfErr result (IfUnread (Rose (D.faults disk.old) (D.faults disk.new))) }
 {
-    let format = match read_disk_file(alloc, disk, &names::format()) {
+    let format = match read_disk_file(alloc, disk, &OnlyFile::Format.name(), MOST) {
         Ok(found) => found,
         Err(fault) => return Err(outside(fault)),
     };
-    let fs_type = text_of(alloc, disk, &names::fs_type())?;
-    let uuid = text_of(alloc, disk, &names::uuid())?;
-    let current = text_of(alloc, disk, &names::current())?;
-    let min_unpacked_rev = text_of(alloc, disk, &names::min_unpacked_rev())?;
-    let txn_current = text_of(alloc, disk, &names::txn_current())?;
+    let fs_type = text_of(alloc, disk, &OnlyFile::FsType.name())?;
+    let uuid = text_of(alloc, disk, &OnlyFile::Uuid.name())?;
+    let min_unpacked_rev = text_of(alloc, disk, &OnlyFile::MinUnpackedRev.name())?;
+    let current = text_of(alloc, disk, &OnlyFile::Current.name())?;
+    let txn_current = text_of(alloc, disk, &OnlyFile::TxnCurrent.name())?;
     Ok(SmallFiles {
         format,
         fs_type,
@@ -132,7 +138,8 @@ fn judge(files: &SmallFiles) -> Result<Opened, OpenFault>
     }
 }
 
-/// Opens a repository: makes its names firm, and reads what its small files say.
+/// Opens a repository: makes its names firm, and reads what its small files say: of each no more than its first 64 bytes, which is
+/// more than any text of it has, and `db/min-unpacked-rev` before `db/current`, since others may commit and pack meanwhile.
 pub fn open<D: Disk>(alloc: Global, disk: &mut D) -> Result<Opened, OpenFault>
     ensures opened { IfSome (D.trace disk.old) (λ t. IfOk result (IsOpened (small_texts (files_now t)))) }
     ensures refused { IfErr result (OpensBecause (Rose (D.faults disk.old) (D.faults disk.new)) (D.trace disk.old)) }

@@ -5,10 +5,11 @@ use Rattle.fsfs_base.specs.Files.{Files}
 use Rattle.fsfs_base.specs.declared.small_fault.SmallFile.{SmallFile}
 use Rattle.fsfs_base.specs.declared.small_fault.SmallFile.TheVariants.{MinUnpackedRev, Manifest}
 use Rattle.fsfs_base.specs.declared.small_fault.SmallFault.{SmallFault}
-use Rattle.fsfs_layout.specs.FileNames.{small_name}
+use Rattle.fsfs_layout.specs.FileNames.{file_name, small_name}
 use Rattle.fsfs_layout.specs.declared.layout.Layout.{Layout}
+use Rattle.fsfs_layout.specs.declared.repository_file.RepositoryFile.TheVariants as repository
 use Rattle.fsfs_layout.specs.Layouts.{shard_of, place_in_shard}
-use Rattle.fsfs_layout.specs.Names.{in_shard, in_pack}
+use Rattle.fsfs_layout.specs.Names.{in_pack}
 use Rattle.fsfs_layout.specs.Opening.{text_at}
 use Rattle.fsfs_layout.specs.Reading.{rev_line_at}
 use Rattle.fsfs_layout.specs.ManifestReading.{manifest_at}
@@ -80,7 +81,7 @@ or_missing rev None = Err (Missing rev)
 or_missing rev (Some bytes) = Ok bytes
 
 abbrev pub rev_file : Layout → Files → ℕ → Option (List ℕ)
-rev_file layout files rev = map.get files (in_shard (codes "db/revs") layout rev)
+rev_file layout files rev = map.get files (file_name layout (repository.Revision rev))
 
 abbrev pub by_floor : Layout → Files → ℕ → Result ℕ SmallFault → Result (List ℕ) Refusal
 by_floor layout files rev (Err fault) = Err (Small fault)
@@ -92,7 +93,7 @@ rev_bytes layout files rev = by_floor layout files rev (floor_in layout files)
 
 -- the file of a revision's properties, which is never packed
 abbrev pub props_file : Layout → Files → ℕ → Option (List ℕ)
-props_file layout files rev = map.get files (in_shard (codes "db/revprops") layout rev)
+props_file layout files rev = map.get files (file_name layout (repository.Props rev))
 
 abbrev pub props_bytes : Layout → Files → ℕ → Result (List ℕ) Refusal
 props_bytes layout files rev = or_missing rev (props_file layout files rev)

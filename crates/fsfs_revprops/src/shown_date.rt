@@ -3,7 +3,8 @@ ghost use Rattle.std.specs.Prelude.{◌≡◌, ◌<◌, ◌≤◌, ◌++◌, len
 ghost use Rattle.jiff_core.specs.Weekday.{monday_zero};
 ghost use Rattle.jiff_fmt.specs.Rfc2822.{weekday_text, month_text};
 ghost use Rattle.fsfs_fields.specs.Dates.{two_digits, four_digits};
-ghost use Rattle.fsfs_revprops.specs.ShownDates.{year_digits, numbered_day, time_of_day, named_day, shown_date};
+ghost use Rattle.fsfs_answers.specs.ShownDates.{year_digits, numbered_day, time_of_day, named_day};
+ghost use Rattle.fsfs_revprops.specs.ShownDates.{shown_date};
 
 use jiff::civil::{Date, DateTime, Time, Weekday};
 use std::alloc::AllocError;
@@ -26,7 +27,7 @@ fn put_two(out: &mut Vec<u8>, number: u8) -> Result<(), AllocError>
 
 // Puts the four digits of a year.
 fn put_year(out: &mut Vec<u8>, date: Date) -> Result<(), AllocError>
-    ensures { OnOk result (out.new.items ≡ out.old.items ++ year_digits date) }
+    ensures { OnOk result (out.new.items ≡ out.old.items ++ year_digits date.year) }
 {
     let year = date.year().unsigned_abs();
     put_two(out, (year / 100) as u8)?;
@@ -34,9 +35,9 @@ fn put_year(out: &mut Vec<u8>, date: Date) -> Result<(), AllocError>
     Ok(())
 }
 
-#[tactic(auto, unfolding(crate::specs::ShownDates::numbered_day))]
+#[tactic(auto, unfolding(fsfs_answers::specs::ShownDates::numbered_day))]
 fn put_numbered_day(out: &mut Vec<u8>, date: Date) -> Result<(), AllocError>
-    ensures { OnOk result (out.new.items ≡ out.old.items ++ numbered_day date) }
+    ensures { OnOk result (out.new.items ≡ out.old.items ++ numbered_day date.year date.month date.day) }
 {
     put_year(out, date)?;
     put_text(out, "-")?;
@@ -46,9 +47,9 @@ fn put_numbered_day(out: &mut Vec<u8>, date: Date) -> Result<(), AllocError>
     Ok(())
 }
 
-#[tactic(auto, unfolding(crate::specs::ShownDates::time_of_day))]
+#[tactic(auto, unfolding(fsfs_answers::specs::ShownDates::time_of_day))]
 fn put_time(out: &mut Vec<u8>, time: Time) -> Result<(), AllocError>
-    ensures { OnOk result (out.new.items ≡ out.old.items ++ time_of_day time) }
+    ensures { OnOk result (out.new.items ≡ out.old.items ++ time_of_day time.hour time.minute time.second) }
 {
     put_two(out, time.hour() as u8)?;
     put_text(out, ":")?;
@@ -92,9 +93,9 @@ fn month_name(month: u8) -> &'static str
     }
 }
 
-#[tactic(auto, unfolding(crate::specs::ShownDates::named_day))]
+#[tactic(auto, unfolding(fsfs_answers::specs::ShownDates::named_day))]
 fn put_named_day(out: &mut Vec<u8>, date: Date) -> Result<(), AllocError>
-    ensures { OnOk result (out.new.items ≡ out.old.items ++ named_day date) }
+    ensures { OnOk result (out.new.items ≡ out.old.items ++ named_day date.year date.month date.day) }
 {
     put_text(out, weekday_name(date.weekday()))?;
     put_text(out, ", ")?;

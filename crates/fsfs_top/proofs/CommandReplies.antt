@@ -1,11 +1,11 @@
 -- The replies of a command are those of the flat model.
-use Rattle.std.proofs.Common.{◌≡◌, ℕ, List, ◌++◌, ◌⊎◌, inl, inr, refl, sym, ap, subst}
+use Rattle.std.proofs.Common.{◌≡◌, ℕ, List, [], ◌++◌, ◌⊎◌, inl, inr, refl, sym, ap, subst}
 use Rattle.std.specs.Prelude.{Option, Some, None, codes, Ok, Err, Result, slice_get}
 use Rattle.std.specs.FinMap.{get}
 use Rattle.fsfs_base.specs.Failures.{Rose}
 use Rattle.fsfs_base.specs.Files.{Files}
 use Rattle.fsfs_base.specs.Paths.{Path}
-use Rattle.fsfs_tree.specs.Revisions.{Revision}
+use Rattle.fsfs_tree.specs.Revisions.{Revision, tree_of}
 use Rattle.fsfs_tree.specs.Dated.{last_of}
 use Rattle.fsfs_disk.specs.Trace.{Trace, files_now}
 use Rattle.fsfs_streams.specs.Streams.{Adds}
@@ -15,7 +15,10 @@ use Rattle.fsfs_faults.specs.declared.fault.Fault.{Fault}
 use Rattle.fsfs_faults.specs.declared.fault.Fault.TheVariants.{AlreadyRepo, NotRepo}
 use Rattle.fsfs_rev_file.specs.RevBytes.{rev_bytes}
 use Rattle.fsfs_answers.specs.FaultWords.{already_repo, not_repo}
-use Rattle.fsfs_answers.specs.Answers.{Answer, Reply, refuses, refuses_look, tree_reply, text_reply, found_at, asked_revision, of_revision}
+use Rattle.fsfs_answers.specs.Answers.{Answer, Reply, refuses, prints, refuses_look, tree_reply, text_reply, history_reply, found_at, asked_revision, of_revision}
+use Rattle.fsfs_answers.specs.PropTexts.{author_text, date_text, log_text, info_text}
+use Rattle.fsfs_answers.specs.ChangedTexts.{changed_text}
+use Rattle.fsfs_flat.specs.PathHistories.{path_history}
 use Rattle.fsfs_layout.specs.Opening.{small_texts, IsOpened}
 use Rattle.fsfs_layout.specs.declared.opened.Opened.{Opened}
 use Rattle.fsfs_stands.specs.Files.{StandsFor}
@@ -25,7 +28,7 @@ use Rattle.fsfs_cli.specs.Requests.{printed_path}
 use Rattle.fsfs_cli.specs.declared.request.Look.{Look as SomeLook}
 use Rattle.fsfs_cli.specs.declared.request.Look.TheVariants.{Youngest, Uuid, AtRevision}
 use Rattle.fsfs_cli.specs.declared.request.Printed.{Printed}
-use Rattle.fsfs_cli.specs.declared.request.Printed.TheVariants.{Tree, Text}
+use Rattle.fsfs_cli.specs.declared.request.Printed.TheVariants.{Tree, Text, Author, Date, Log, Info, Changed, History}
 use Rattle.fsfs_cli.specs.declared.request.RevisionLook.{RevisionLook}
 use Rattle.fsfs_cli.specs.declared.request.Task.{Task}
 use Rattle.fsfs_cli.specs.declared.request.Task.TheVariants.{Create, Look}
@@ -33,31 +36,56 @@ use Rattle.fsfs_cli.specs.declared.tool.Tool.{Tool}
 use Rattle.fsfs_cli.specs.declared.tool.Tool.TheVariants as tools
 use Rattle.fsfs_cli.proofs.TaskLemmas.{asks_task}
 use Rattle.fsfs_top.specs.Command.{Did, Tells, answer_of}
-use Rattle.fsfs_top.specs.Looks.{TextOf}
+use Rattle.fsfs_top.specs.Looks.{all_bytes, TextOf}
 use Rattle.fsfs_top.specs.Replies.{Gives, HasNone, ShowsIds, AreIds, IsOfSmallFiles, look_command, answer_to, Replies}
 use Rattle.fsfs_top.specs.Scenes.{Scene, SinkScene}
 use Rattle.fsfs_top.proofs.TaskDone.{task_done}
-use Rattle.fsfs_top.proofs.FlatTexts.{tree_is_by_tree, file_is_by_tree, no_rev_line}
+use Rattle.fsfs_top.proofs.FlatTexts.{tree_is_by_tree, file_is_by_tree, author_is_by_props, date_is_by_props, log_is_by_props, info_is_by_props, changed_is_by_changes, history_is_by_trees, no_rev_line}
 use Rattle.fsfs_top.proofs.LookReplies.{last_is, Fits, given_none, given_youngest, given_uuid, given_look, given_create, given_again}
 
 -- ---- a look at a revision, by what is printed
 
-abbrev revision_reply : Printed → (Path → List ℕ) → Revision → Reply
-revision_reply (Tree show_ids path) shown r = tree_reply shown path r.tree (found_at (get r.tree) path)
-revision_reply (Text path) shown r = text_reply path (found_at (get r.tree) path)
+-- over this history, at this revision of it
+abbrev revision_reply : Printed → (Path → List ℕ) → List Revision → ℕ → Revision → Reply
+revision_reply (Tree show_ids path) shown h rev r = tree_reply shown path r.tree (found_at (get r.tree) path)
+revision_reply (Text path) shown h rev r = text_reply path (found_at (get r.tree) path)
+revision_reply Author shown h rev r = prints (author_text r.properties)
+revision_reply Date shown h rev r = prints (date_text r.properties)
+revision_reply Log shown h rev r = prints (log_text r.properties)
+revision_reply Info shown h rev r = prints (info_text r.properties)
+revision_reply Changed shown h rev r = prints (changed_text rev (tree_of h) r.changes)
+revision_reply (History path) shown h rev r = history_reply (path_history (tree_of h) rev path) (found_at (get r.tree) path)
 
-answer_at : (revision : Option ℕ) (printed : Printed) (shown : Path → List ℕ) (h : List Revision) → of_revision revision h (revision_reply printed shown) ≡ Answer (look_command revision printed shown) (Some h)
+answer_at : (revision : Option ℕ) (printed : Printed) (shown : Path → List ℕ) (h : List Revision) → of_revision revision h (revision_reply printed shown h (asked_revision revision h)) ≡ Answer (look_command revision printed shown) (Some h)
 answer_at revision (Tree show_ids path) shown h = refl
 answer_at revision (Text path) shown h = refl
+answer_at revision Author shown h = refl
+answer_at revision Date shown h = refl
+answer_at revision Log shown h = refl
+answer_at revision Info shown h = refl
+answer_at revision Changed shown h = refl
+answer_at revision (History path) shown h = refl
 
 none_at : (revision : Option ℕ) (printed : Printed) (shown : Path → List ℕ) → refuses_look not_repo 1 ≡ Answer (look_command revision printed shown) None
 none_at revision (Tree show_ids path) shown = refl
 none_at revision (Text path) shown = refl
+none_at revision Author shown = refl
+none_at revision Date shown = refl
+none_at revision Log shown = refl
+none_at revision Info shown = refl
+none_at revision Changed shown = refl
+none_at revision (History path) shown = refl
 
 fits_at : (printed : Printed) (files : Files) (h : List Revision) (s : StandsFor files h) (rev : ℕ) (r : Revision) (shown : Path → List ℕ) → slice_get h rev ≡ Some r → ShowsIds printed (rev_bytes s.opened.layout files) rev shown
-    → (text : List ℕ) (end : End) → TextOf printed (rev_bytes s.opened.layout files) rev text end → Fits tools.Look (printed_path printed) (revision_reply printed shown r) text end
+    → (text : List ℕ) (end : End) → TextOf printed (all_bytes s.opened.layout files) rev text end → Fits tools.Look (printed_path printed) (revision_reply printed shown h rev r) text end
 fits_at (Tree show_ids path) files h s rev r shown there are text end x = tree_is_by_tree files h s rev r path show_ids shown there are text end x
 fits_at (Text path) files h s rev r shown there are text end x = file_is_by_tree files h s rev r path there text end x
+fits_at Author files h s rev r shown there are text end x = author_is_by_props files h s rev r [] there text end x
+fits_at Date files h s rev r shown there are text end x = date_is_by_props files h s rev r [] there text end x
+fits_at Log files h s rev r shown there are text end x = log_is_by_props files h s rev r [] there text end x
+fits_at Info files h s rev r shown there are text end x = info_is_by_props files h s rev r [] there text end x
+fits_at Changed files h s rev r shown there are text end x = changed_is_by_changes files h s rev r [] there text end x
+fits_at (History path) files h s rev r shown there are text end x = history_is_by_trees files h s rev r path there text end x
 
 none_of : (look : SomeLook) (shown : Path → List ℕ) → refuses_look not_repo 1 ≡ answer_to (Look look) shown None
 none_of Youngest shown = refl
@@ -80,15 +108,18 @@ module _ (tool : Tool) (ws : List (List ℕ)) (clock : Option ℕ) (dice : Optio
       (given_none status tool a b err_old err_new repos t here fault ends look (refuses_look not_repo 1) (ap (λ (k : Tool). refuses (line_of k NotRepo) 1) (sym by_look)) absent looked.0)
 
   at_revision : (repos : List ℕ) (look : RevisionLook) (t : Trace) (h : List Revision) (shown : Path → List ℕ) → Asks tool ws repos (Look (AtRevision look)) → a.host.disk_at repos ≡ Some t → (s : StandsFor (files_now t) h)
-      → ShowsIds look.printed (rev_bytes s.opened.layout (files_now t)) (asked_revision look.revision h) shown → Given (of_revision look.revision h (revision_reply look.printed shown))
+      → ShowsIds look.printed (rev_bytes s.opened.layout (files_now t)) (asked_revision look.revision h) shown → Given (of_revision look.revision h (revision_reply look.printed shown h (asked_revision look.revision h)))
   at_revision repos look t h shown asks here s are =
       let looked = task_done clock dice a b fault tool ws repos (Look (AtRevision look)) did asks in
       let by_look : tool ≡ tools.Look = asks_task tool ws repos (Look (AtRevision look)) asks in
       let bytes = rev_bytes s.opened.layout (files_now t) in
-      given_look status tool a b err_old err_new repos t here fault ends look h s (revision_reply look.printed shown)
-      (λ rev r is there text end x. subst (λ (k : Tool). Fits k (printed_path look.printed) (revision_reply look.printed shown r) text end) (sym by_look)
-      (fits_at look.printed (files_now t) h s rev r shown there (subst (λ (n : ℕ). ShowsIds look.printed bytes n shown) (sym is) are) text end x))
-      (λ asked youngest. no_rev_line tool (revision_reply look.printed shown) asked youngest by_look) looked.0
+      let reply : ℕ → Revision → Reply = revision_reply look.printed shown h in
+      let asked = asked_revision look.revision h in
+      given_look status tool a b err_old err_new repos t here fault ends look h s (reply asked)
+      (λ rev r is there text end x. subst (λ (k : Tool). Fits k (printed_path look.printed) (reply asked r) text end) (sym by_look)
+      (subst (λ (n : ℕ). Fits tools.Look (printed_path look.printed) (reply n r) text end) is
+      (fits_at look.printed (files_now t) h s rev r shown there (subst (λ (n : ℕ). ShowsIds look.printed bytes n shown) (sym is) are) text end x)))
+      (λ n youngest. no_rev_line tool (reply asked) n youngest by_look) looked.0
 
   opened : (repos : List ℕ) (look : SomeLook) (t : Trace) (o : Opened) (h : List Revision) (shown : Path → List ℕ) → Asks tool ws repos (Look look) → a.host.disk_at repos ≡ Some t → IsOfSmallFiles look → IsOpened (small_texts (files_now t)) o
       → last_of h ≡ o.youngest → Given (answer_to (Look look) shown (Some (record { history = h; identifier = o.uuid })))

@@ -5,12 +5,10 @@ use Rattle.std.proofs.lemmas.Option.{same_Some}
 use Rattle.fsfs_base.specs.Failures.{Rose}
 use Rattle.fsfs_base.specs.Files.{Files}
 use Rattle.fsfs_base.specs.Paths.{Path}
-use Rattle.fsfs_book.specs.Told.{RevisionBytes}
 use Rattle.fsfs_disk.specs.Trace.{Trace, files_now}
 use Rattle.fsfs_faults.specs.Faults.{fault_from_open, fault_from_look, IsFromLook}
 use Rattle.fsfs_faults.specs.declared.fault.Fault.{Fault}
 use Rattle.fsfs_faults.specs.declared.fault.Fault.TheVariants.{NoRev, Memory}
-use Rattle.fsfs_rev_file.specs.RevBytes.{rev_bytes}
 use Rattle.fsfs_layout.specs.declared.layout.Layout.{Layout}
 use Rattle.fsfs_layout.proofs.OpeningLemmas.{one_youngest, one_layout}
 use Rattle.fsfs_look.specs.declared.look_error.LookError.TheVariants as errors
@@ -25,16 +23,19 @@ use Rattle.fsfs_places.specs.declared.place.DiskPlace.TheVariants.{Read}
 use Rattle.fsfs_printed.specs.Texts.{End, Whole, Refused}
 use Rattle.fsfs_printed.specs.declared.look_fault.LookFault.{LookFault}
 use Rattle.fsfs_printed.specs.declared.look_fault.LookFault.TheVariants as refusal
-use Rattle.fsfs_top.specs.Looks.{TextOf, TextIn, revision_line, uuid_line, looked_revision, LacksRevision, IsFaultOf, PrintsLine, LooksInto, DoesNotOpen, IsOutside, Agrees, DecidesRevision, DecidesOpened, DecidesLook, LookIsDecided}
+use Rattle.fsfs_top.specs.Looks.{AllBytes, all_bytes, TextOf, TextIn, revision_line, uuid_line, looked_revision, LacksRevision, IsFaultOf, PrintsLine, LooksInto, DoesNotOpen, IsOutside, Agrees, DecidesRevision, DecidesOpened, DecidesLook, LookIsDecided}
 use Rattle.fsfs_top.specs.Scenes.{SinkScene}
 use Rattle.fsfs_cli.specs.Requests.{printed_path}
 use Rattle.fsfs_cli.specs.declared.request.Look.{Look}
 use Rattle.fsfs_cli.specs.declared.request.Look.TheVariants.{Youngest, Uuid, AtRevision}
 use Rattle.fsfs_cli.specs.declared.request.Printed.{Printed}
-use Rattle.fsfs_cli.specs.declared.request.Printed.TheVariants.{Tree, Text}
+use Rattle.fsfs_cli.specs.declared.request.Printed.TheVariants.{Tree, Text, Author, Date, Log, Info, Changed, History}
 use Rattle.fsfs_cli.specs.declared.request.RevisionLook.{RevisionLook}
 use Rattle.fsfs_printed.specs.Agreeing.{HasOneText}
 use Rattle.fsfs_printed.proofs.OneText.{tree_one, file_one}
+use Rattle.fsfs_prop_looks.proofs.OneText.{authors_one, dates_one, logs_one, infos_one}
+use Rattle.fsfs_changed.proofs.OneText.{changed_one}
+use Rattle.fsfs_histories.proofs.OnePoint.{histories_one}
 use Rattle.fsfs_printed.proofs.Prefixes.{whole_or_refused, refusals_same}
 
 -- ---- failures of the outside
@@ -78,18 +79,24 @@ look_refusal look told at why fault same from d = subst (λ f. LookIsDecided loo
 
 -- ---- a revision that was looked at
 
-one_text : (printed : Printed) (bytes : RevisionBytes) (rev : ℕ) → HasOneText (TextOf printed bytes rev)
-one_text (Tree show_ids path) bytes rev = tree_one bytes rev path show_ids
-one_text (Text path) bytes rev = file_one bytes rev path
+one_text : (printed : Printed) (bytes : AllBytes) (rev : ℕ) → HasOneText (TextOf printed bytes rev)
+one_text (Tree show_ids path) bytes rev = tree_one bytes.revs rev path show_ids
+one_text (Text path) bytes rev = file_one bytes.revs rev path
+one_text Author bytes rev = authors_one bytes.props rev
+one_text Date bytes rev = dates_one bytes.props rev
+one_text Log bytes rev = logs_one bytes.props rev
+one_text Info bytes rev = infos_one bytes.props rev
+one_text Changed bytes rev = changed_one bytes.revs rev
+one_text (History path) bytes rev = histories_one bytes.revs rev path
 
 in_one : (look : RevisionLook) (o : Opened) (m : Files) → HasOneText (TextIn look o m)
-in_one look o m = one_text look.printed (rev_bytes o.layout m) (looked_revision look o)
+in_one look o m = one_text look.printed (all_bytes o.layout m) (looked_revision look o)
 
 -- the text is by what every opening says
 pub same_text : (look : RevisionLook) (o p : Opened) (m : Files) (text : List ℕ) (end : End) → o.layout ≡ p.layout → o.youngest ≡ p.youngest → TextIn look p m text end → TextIn look o m text end
 same_text look o p m text end shard youngest is =
-    subst (λ (l : Layout). TextOf look.printed (rev_bytes l m) (looked_revision look o) text end) (sym shard)
-    (subst (λ (y : ℕ). TextOf look.printed (rev_bytes p.layout m) (unwrap_or look.revision y) text end) (sym youngest) is)
+    subst (λ (l : Layout). TextOf look.printed (all_bytes l m) (looked_revision look o) text end) (sym shard)
+    (subst (λ (y : ℕ). TextOf look.printed (all_bytes p.layout m) (unwrap_or look.revision y) text end) (sym youngest) is)
 
 lacks_or_has : (look : RevisionLook) (o p : Opened) (rev : ℕ) → LacksRevision look o rev → o.youngest ≡ p.youngest → looked_revision look p ≤ p.youngest → ⊥
 lacks_or_has look o p rev lacks e there =

@@ -1,23 +1,30 @@
 -- The texts of looks, as the flat model prints them.
-use Rattle.std.proofs.Common.{◌≡◌, ℕ, Bool, List, [], ◌++◌, refl, sym, ap, subst, ◌∙◌, append-nil}
-use Rattle.std.specs.Prelude.{Some, None, slice_get}
+use Rattle.std.proofs.Common.{◌≡◌, ◌≤◌, ℕ, Bool, List, [], ◌++◌, refl, sym, ap, subst, ◌∙◌, append-nil, inl, inr, arith}
+use Rattle.std.specs.Prelude.{Option, Some, None, slice_get}
+use Rattle.std.proofs.lemmas.Option.{none-some, slice_get_cases, slice_get_past}
 use Rattle.std.specs.FinMap.{FinMap, get}
 use Rattle.fsfs_base.specs.Files.{Files}
 use Rattle.fsfs_base.specs.Paths.{Path, path_cmp}
 use Rattle.fsfs_tree.specs.Nodes.{Node, Content, Bytes, Closed}
-use Rattle.fsfs_tree.specs.Revisions.{Revision}
+use Rattle.fsfs_tree.specs.Revisions.{Revision, node_in, tree_of}
 use Rattle.fsfs_base.specs.declared.kind.Kind.{Kind}
 use Rattle.fsfs_base.specs.declared.kind.Kind.TheVariants.{File, Dir}
 use Rattle.fsfs_faults.specs.Lines.{line_of, status_of}
 use Rattle.fsfs_faults.specs.Faults.{fault_from_look}
 use Rattle.fsfs_faults.specs.declared.fault.Fault.TheVariants as fault
-use Rattle.fsfs_rev_file.specs.RevBytes.{rev_bytes}
+use Rattle.fsfs_book.specs.Told.{RevisionBytes}
+use Rattle.fsfs_rev_file.specs.RevBytes.{rev_bytes, props_bytes}
 use Rattle.fsfs_answers.specs.FaultWords.{not_found, not_dir, not_file, delta, two_numbers}
-use Rattle.fsfs_answers.specs.Answers.{Reply, Found, Stands, Lacking, Blocked, found_at, tree_reply, node_reply, text_reply, prints, refuses, refuses_at, refuses_look, in_revision}
+use Rattle.fsfs_answers.specs.Answers.{Reply, Found, Stands, Lacking, Blocked, found_at, tree_reply, node_reply, text_reply, history_reply, prints, refuses, refuses_at, refuses_look, in_revision}
+use Rattle.fsfs_answers.specs.PropTexts.{author_text, date_text, log_text, info_text}
+use Rattle.fsfs_answers.specs.ChangedTexts.{changed_text}
+use Rattle.fsfs_answers.specs.HistoryTexts.{history_text}
+use Rattle.fsfs_flat.specs.PathHistories.{path_history}
+use Rattle.fsfs_tree.specs.Dated.{last_of}
 use Rattle.fsfs_damage.specs.Damages.{place_of}
 use Rattle.fsfs_damage.specs.declared.wrong.Wrong.TheVariants as wrongs
 use Rattle.fsfs_stands.specs.Files.{StandsFor}
-use Rattle.fsfs_printed.specs.ByTree.{IsTreeOf, IsFileOf, IsContent, IsNotFoundAt, IsNotDirAt, AreShownIds}
+use Rattle.fsfs_printed.specs.ByTree.{IsOf, IsTreeOf, IsFileOf, IsContent, IsNotFoundAt, IsNotDirAt, AreShownIds}
 use Rattle.fsfs_printed.specs.Texts.{End, Whole, Refused, Stopped}
 use Rattle.fsfs_printed.specs.TreeTexts.{TreeText}
 use Rattle.fsfs_printed.specs.FileTexts.{FileText}
@@ -25,6 +32,14 @@ use Rattle.fsfs_printed.specs.declared.look_fault.LookFault.{LookFault}
 use Rattle.fsfs_printed.specs.declared.look_fault.LookFault.TheVariants as faults
 use Rattle.fsfs_printed.proofs.TreeByTree.{trees_by_tree}
 use Rattle.fsfs_printed.proofs.FileByTree.{files_by_tree}
+use Rattle.fsfs_prop_looks.specs.PropTexts.{AuthorText, DateText, LogText, InfoText}
+use Rattle.fsfs_prop_looks.specs.Laws.{ShowsProps}
+use Rattle.fsfs_prop_looks.proofs.ByProps.{authors_by, dates_by, logs_by, infos_by}
+use Rattle.fsfs_changed.specs.ChangedTexts.{ChangedText}
+use Rattle.fsfs_changed.proofs.Flat.{changed_flat}
+use Rattle.fsfs_histories.specs.HistoryTexts.{HistoryText}
+use Rattle.fsfs_histories.specs.Laws.{IsHistoryOf}
+use Rattle.fsfs_flat_history.proofs.PathHistories.{path_histories_flat}
 use Rattle.fsfs_cli.specs.declared.tool.Tool.{Tool}
 use Rattle.fsfs_cli.specs.declared.tool.Tool.TheVariants.{Look}
 use Rattle.fsfs_top.proofs.LookReplies.{Fits}
@@ -104,3 +119,56 @@ pub file_is_by_tree : (files : Files) (h : List Revision) (s : StandsFor files h
     → (text : List ℕ) (end : End) → FileText (rev_bytes s.opened.layout files) rev path text end → LookFits path (text_reply path (found_at (get r.tree) path)) text end
 file_is_by_tree files h s rev r path there text end is =
     file_fits path (found_at (get r.tree) path) text end (files_by_tree (rev_bytes s.opened.layout files) rev (get r.tree) path (s.history.each rev r there).tree text end is)
+
+-- ---- the properties of a revision
+
+text_fits : (path : Path) (whole text : List ℕ) (end : End) → IsOf whole text end → LookFits path (prints whole) text end
+text_fits path whole text Whole is = ap prints (sym is)
+text_fits path whole text (Refused why) is = absurd is
+text_fits path whole text Stopped is = is
+
+module _ (files : Files) (h : List Revision) (s : StandsFor files h) (rev : ℕ) (r : Revision) (path : Path) (there : slice_get h rev ≡ Some r) where
+  abbrev props : RevisionBytes
+  props = props_bytes s.opened.layout files
+
+  shows_props : ShowsProps props rev r.properties
+  shows_props = let shown = s.history.each rev r there in record { file = shown.file; file_is = shown.file_is; dump = shown.properties; dated = shown.dated }
+
+  pub author_is_by_props : (text : List ℕ) (end : End) → AuthorText props rev text end → LookFits path (prints (author_text r.properties)) text end
+  author_is_by_props text end is = text_fits path (author_text r.properties) text end (authors_by props rev r.properties shows_props text end is)
+
+  pub date_is_by_props : (text : List ℕ) (end : End) → DateText props rev text end → LookFits path (prints (date_text r.properties)) text end
+  date_is_by_props text end is = text_fits path (date_text r.properties) text end (dates_by props rev r.properties shows_props text end is)
+
+  pub log_is_by_props : (text : List ℕ) (end : End) → LogText props rev text end → LookFits path (prints (log_text r.properties)) text end
+  log_is_by_props text end is = text_fits path (log_text r.properties) text end (logs_by props rev r.properties shows_props text end is)
+
+  pub info_is_by_props : (text : List ℕ) (end : End) → InfoText props rev text end → LookFits path (prints (info_text r.properties)) text end
+  info_is_by_props text end is = text_fits path (info_text r.properties) text end (infos_by props rev r.properties shows_props text end is)
+
+-- ---- the changed paths of a revision, and the history of a path
+
+module _ (files : Files) (h : List Revision) (s : StandsFor files h) (rev : ℕ) (r : Revision) (path : Path) (there : slice_get h rev ≡ Some r) where
+  abbrev revs : RevisionBytes
+  revs = rev_bytes s.opened.layout files
+
+  upto : rev ≤ last_of h
+  upto = elim (slice_get_cases h rev).1 [ inl w ↦ omega (arith, w.1) | inr w ↦ absurd (none-some r (sym (slice_get_past h rev w.0) ∙ there)) ]
+
+  pub changed_is_by_changes : (text : List ℕ) (end : End) → ChangedText revs rev text end → LookFits path (prints (changed_text rev (tree_of h) r.changes)) text end
+  changed_is_by_changes text end is = text_fits path (changed_text rev (tree_of h) r.changes) text end (changed_flat files h s rev r there text end is)
+
+  history_fits : (points : List (ℕ × Path)) (found : Found) (text : List ℕ) (end : End) → IsHistoryOf path points found text end → LookFits path (history_reply points found) text end
+  history_fits points (Stands node) text end is = text_fits path (history_text points) text end is
+  history_fits points (Lacking at) text Whole is = absurd is
+  history_fits points (Lacking at) text (Refused why) is = (is.0, not_found_line path at why is.1)
+  history_fits points (Lacking at) text Stopped is = nothing_of text is
+  history_fits points (Blocked at) text Whole is = absurd is
+  history_fits points (Blocked at) text (Refused why) is = (is.0, not_dir_line path at why is.1)
+  history_fits points (Blocked at) text Stopped is = nothing_of text is
+
+  pub history_is_by_trees : (text : List ℕ) (end : End) → HistoryText revs rev path text end → LookFits path (history_reply (path_history (tree_of h) rev path) (found_at (get r.tree) path)) text end
+  history_is_by_trees text end is =
+      let points = path_history (tree_of h) rev path in
+      history_fits points (found_at (get r.tree) path) text end
+      (subst (λ (o : Option Revision). IsHistoryOf path points (found_at (node_in o) path) text end) there (path_histories_flat files h s rev path upto text end is))

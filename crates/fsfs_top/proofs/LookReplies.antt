@@ -14,7 +14,6 @@ use Rattle.fsfs_faults.specs.Lines.{line_of, status_of}
 use Rattle.fsfs_faults.specs.Faults.{fault_from_open, fault_from_look}
 use Rattle.fsfs_faults.specs.declared.fault.Fault.{Fault}
 use Rattle.fsfs_faults.specs.declared.fault.Fault.TheVariants.{AlreadyRepo, NotRepo, NoRev, MountFault, DiskFault, WriteFault, Memory}
-use Rattle.fsfs_rev_file.specs.RevBytes.{rev_bytes}
 use Rattle.fsfs_look.specs.declared.look_error.LookError.{LookError}
 use Rattle.fsfs_look.specs.declared.look_error.LookError.TheVariants as errors
 use Rattle.fsfs_look.specs.Written.{Writes}
@@ -38,7 +37,7 @@ use Rattle.fsfs_cli.specs.declared.request.Look.{Look}
 use Rattle.fsfs_cli.specs.declared.request.Look.TheVariants.{Youngest, Uuid, AtRevision}
 use Rattle.fsfs_cli.specs.declared.request.RevisionLook.{RevisionLook}
 use Rattle.fsfs_top.specs.Command.{Created, Tells, answer_of, identifier_of}
-use Rattle.fsfs_top.specs.Looks.{TextOf, TextIn, revision_line, uuid_line, looked_revision, LacksRevision, IsFaultOf, Looked, LooksInto, OpensAs, DoesNotOpen, NotOpened, PrintsLine, PrintsLook}
+use Rattle.fsfs_top.specs.Looks.{all_bytes, TextOf, TextIn, revision_line, uuid_line, looked_revision, LacksRevision, IsFaultOf, Looked, LooksInto, OpensAs, DoesNotOpen, NotOpened, PrintsLine, PrintsLook}
 use Rattle.fsfs_top.specs.Replies.{Gives}
 use Rattle.fsfs_top.specs.Scenes.{Scene, SinkScene}
 use Rattle.fsfs_layout.proofs.OpeningLemmas.{one_youngest, one_layout, same_uuid}
@@ -237,7 +236,7 @@ module _ (status : ℕ) (tool : Tool) (a b : Scene) (err_old err_new : SinkScene
           refused_line (of_revision look.revision h reply) (NoRev rev o.youngest) (same ∙ line) (moved fault (Some (NoRev rev o.youngest)) is ends) (added_none kept)
 
       given_looked : (o : Opened) → IsOpened (small_texts (files_now t)) o → Looked (Rose a.host.disk_faults b.host.disk_faults) look o (Some (files_now t)) a.out b.out fault
-          → ((rev : ℕ) (r : Revision) → rev ≡ asked_revision look.revision h → slice_get h rev ≡ Some r → (text : List ℕ) (end : End) → TextOf look.printed (rev_bytes s.opened.layout (files_now t)) rev text end → Fits tool (printed_path look.printed) (reply r) text end)
+          → ((rev : ℕ) (r : Revision) → rev ≡ asked_revision look.revision h → slice_get h rev ≡ Some r → (text : List ℕ) (end : End) → TextOf look.printed (all_bytes s.opened.layout (files_now t)) rev text end → Fits tool (printed_path look.printed) (reply r) text end)
           → Given (of_revision look.revision h reply)
       given_looked o opens looked fits =
           let p = s.opened in
@@ -250,11 +249,11 @@ module _ (status : ℕ) (tool : Tool) (a b : Scene) (err_old err_new : SinkScene
           let same : of_revision look.revision h reply ≡ reply there.0 = ap (in_revision reply asked (last_of h)) there.1 in
           subst Given (sym same) (ended_look (TextIn look o (files_now t)) (printed_path look.printed) (reply there.0) looked.result
           (λ text end x. fits asked there.0 refl there.1 text end
-          (subst (λ (n : ℕ). TextOf look.printed (rev_bytes s.opened.layout (files_now t)) n text end) is
+          (subst (λ (n : ℕ). TextOf look.printed (all_bytes s.opened.layout (files_now t)) n text end) is
           (same_text look p o (files_now t) text end (one_layout (small_texts (files_now t)) p o s.small opens) youngest x)))
           looked.writes looked.fault_is)
 
-      pub given_look : ((rev : ℕ) (r : Revision) → rev ≡ asked_revision look.revision h → slice_get h rev ≡ Some r → (text : List ℕ) (end : End) → TextOf look.printed (rev_bytes s.opened.layout (files_now t)) rev text end
+      pub given_look : ((rev : ℕ) (r : Revision) → rev ≡ asked_revision look.revision h → slice_get h rev ≡ Some r → (text : List ℕ) (end : End) → TextOf look.printed (all_bytes s.opened.layout (files_now t)) rev text end
           → Fits tool (printed_path look.printed) (reply r) text end)
           → ((asked youngest : ℕ) → in_revision reply asked youngest None ≡ refuses (line_of tool (NoRev asked youngest)) 1) → PrintsLook repos (AtRevision look) a b fault → Given (of_revision look.revision h reply)
       given_look fits lacking (inl not) = not_opened (of_revision look.revision h reply) s.opened s.small not

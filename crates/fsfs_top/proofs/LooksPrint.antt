@@ -3,13 +3,13 @@ use Rattle.std.proofs.Common.{◌≡◌, ◌≤◌, ℕ, List, inl, inr, refl, a
 use Rattle.std.specs.Prelude.{Option, Some, None, IfSome, option_map, Result, Ok, Err}
 use Rattle.fsfs_base.specs.Files.{Files}
 use Rattle.fsfs_base.specs.Paths.{Path}
-use Rattle.fsfs_book.specs.Told.{RevisionBytes, Knows, Telling}
+use Rattle.fsfs_book.specs.Told.{Telling}
 use Rattle.fsfs_base.specs.Failures.{Rose}
 use Rattle.fsfs_disk.specs.Trace.{Trace, files_now}
 use Rattle.fsfs_faults.specs.Faults.{fault_from_open}
 use Rattle.fsfs_faults.specs.declared.fault.Fault.{Fault}
 use Rattle.fsfs_fetch.specs.Owned.{TellsAll}
-use Rattle.fsfs_rev_file.specs.RevBytes.{floor_in, rev_bytes}
+use Rattle.fsfs_rev_file.specs.RevBytes.{floor_in}
 use Rattle.fsfs_look.specs.Written.{Writes, IfDisk, IfWrite}
 use Rattle.fsfs_look.specs.declared.look_error.LookError.{LookError}
 use Rattle.fsfs_look.specs.declared.look_error.LookError.TheVariants as errors
@@ -23,7 +23,7 @@ use Rattle.fsfs_cli.specs.Requests.{printed_path}
 use Rattle.fsfs_cli.specs.declared.request.Look.{Look}
 use Rattle.fsfs_cli.specs.declared.request.Look.TheVariants.{Youngest, Uuid, AtRevision}
 use Rattle.fsfs_cli.specs.declared.request.RevisionLook.{RevisionLook}
-use Rattle.fsfs_top.specs.Looks.{TextOf, TextIn, looked_revision, IsFaultAt, IsFaultOf, LooksInto, OpensAs, DoesNotOpen, NotOpened, PrintsLook}
+use Rattle.fsfs_top.specs.Looks.{AllBytes, all_bytes, KnowsAll, TextOf, TextIn, looked_revision, IsFaultAt, IsFaultOf, LooksInto, OpensAs, DoesNotOpen, NotOpened, PrintsLook}
 use Rattle.fsfs_top.specs.Scenes.{Scene, SinkScene}
 use Rattle.fsfs_rev_file.proofs.FloorLemmas.{floor_is}
 use Rattle.fsfs_top.proofs.FilesDecide.{does_not_open}
@@ -34,13 +34,13 @@ use Rattle.fsfs_top.proofs.FilesDecide.{does_not_open}
 pub into_writes : {Below : Type 0} (trace : Option Trace) (look : RevisionLook) (o : Opened) (rev : ℕ) (telling : Telling Below) (old new : Option (List ℕ)) (r : Result (Unit {0}) LookError)
     → IfSome (option_map files_now trace) (λ m. IsOpened (small_texts m) o)
     → ((t : Trace) → trace ≡ Some t → floor_in o.layout (files_now t) ≡ Ok o.min_unpacked_rev → TellsAll o.youngest o.layout (files_now t) telling)
-    → rev ≡ looked_revision look o → rev ≤ o.youngest → ((bytes : RevisionBytes) → Knows telling.revs rev bytes → Writes (TextOf look.printed bytes rev) old new r)
+    → rev ≡ looked_revision look o → rev ≤ o.youngest → ((bytes : AllBytes) → KnowsAll telling rev bytes → Writes (TextOf look.printed bytes rev) old new r)
     → IfSome (option_map files_now trace) (λ m. Writes (TextIn look o m) old new r)
 into_writes None look o rev telling old new r opened tells is le writes = tt
 into_writes (Some t) look o rev telling old new r opened tells is le writes =
     let all = tells t refl (floor_is o.layout o.min_unpacked_rev (files_now t) opened.behind.min_unpacked_rev) in
-    subst (λ (n : ℕ). Writes (TextOf look.printed (rev_bytes o.layout (files_now t)) n) old new r) is
-    (writes (rev_bytes o.layout (files_now t)) (λ q below. all.revs q (omega (arith, below, le))))
+    subst (λ (n : ℕ). Writes (TextOf look.printed (all_bytes o.layout (files_now t)) n) old new r) is
+    (writes (all_bytes o.layout (files_now t)) (λ q below. all.revs q (omega (arith, below, le)), λ q below. all.props q (omega (arith, below, le))))
 
 pub fault_with_cause : (disk write : Type 0) (path : Path) (e : LookError) (fault : Fault) → IsFaultAt path e fault → IfDisk e disk → IfWrite e write → IsFaultOf disk write path (Err e) (Some fault)
 fault_with_cause disk write path (errors.Fault why) fault is d w = (fault, refl, is)

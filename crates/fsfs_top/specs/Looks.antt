@@ -3,20 +3,21 @@ use Rattle.std.specs.Prelude.{◌≡◌, ◌≤◌, ◌<◌, ◌⊎◌, ℕ, Lis
 use Rattle.fsfs_base.specs.Failures.{Rose}
 use Rattle.fsfs_base.specs.Files.{Files}
 use Rattle.fsfs_base.specs.Paths.{Path}
-use Rattle.fsfs_book.specs.Told.{RevisionBytes}
+use Rattle.fsfs_book.specs.Told.{RevisionBytes, Telling, Knows}
 use Rattle.fsfs_disk.specs.Trace.{Trace, files_now}
 use Rattle.fsfs_streams.specs.Streams.{Adds}
 use Rattle.fsfs_streams.specs.Output.{AddsFront}
 use Rattle.fsfs_faults.specs.Faults.{fault_from_open, fault_from_look, IsFromLook}
 use Rattle.fsfs_faults.specs.declared.fault.Fault.{Fault}
 use Rattle.fsfs_faults.specs.declared.fault.Fault.TheVariants.{NotRepo, OtherFormat, Linear, NoRev, MountFault, DiskFault, WriteFault, Memory}
-use Rattle.fsfs_rev_file.specs.RevBytes.{rev_bytes}
+use Rattle.fsfs_rev_file.specs.RevBytes.{rev_bytes, props_bytes}
 use Rattle.fsfs_look.specs.Written.{Writes}
 use Rattle.fsfs_look.specs.declared.look_error.LookError.{LookError}
 use Rattle.fsfs_look.specs.declared.look_error.LookError.TheVariants as errors
 use Rattle.fsfs_layout.specs.Opening.{small_texts, IsOpened, IsNone, HasFormat, IsLinear}
 use Rattle.fsfs_repo.specs.OpenFaults.{OpensBecause}
 use Rattle.fsfs_repo.specs.Deciding.{IsOutside as IsOpenOutside}
+use Rattle.fsfs_layout.specs.declared.layout.Layout.{Layout}
 use Rattle.fsfs_layout.specs.declared.opened.Opened.{Opened}
 use Rattle.fsfs_places.specs.declared.open_fault.OpenFault.{OpenFault}
 use Rattle.fsfs_places.specs.declared.place.DiskPlace.{DiskPlace}
@@ -25,11 +26,14 @@ use Rattle.fsfs_printed.specs.Texts.{End, Whole, Refused}
 use Rattle.fsfs_printed.specs.TreeTexts.{TreeText}
 use Rattle.fsfs_printed.specs.FileTexts.{FileText}
 use Rattle.fsfs_printed.specs.declared.look_fault.LookFault.{LookFault}
+use Rattle.fsfs_prop_looks.specs.PropTexts.{AuthorText, DateText, LogText, InfoText}
+use Rattle.fsfs_changed.specs.ChangedTexts.{ChangedText}
+use Rattle.fsfs_histories.specs.HistoryTexts.{HistoryText}
 use Rattle.fsfs_cli.specs.Requests.{printed_path}
 use Rattle.fsfs_cli.specs.declared.request.Look.{Look}
 use Rattle.fsfs_cli.specs.declared.request.Look.TheVariants.{Youngest, Uuid, AtRevision}
 use Rattle.fsfs_cli.specs.declared.request.Printed.{Printed}
-use Rattle.fsfs_cli.specs.declared.request.Printed.TheVariants.{Tree, Text}
+use Rattle.fsfs_cli.specs.declared.request.Printed.TheVariants.{Tree, Text, Author, Date, Log, Info, Changed, History}
 use Rattle.fsfs_cli.specs.declared.request.RevisionLook.{RevisionLook}
 use Rattle.fsfs_top.specs.Scenes.{Scene, SinkScene}
 
@@ -63,10 +67,29 @@ PrintsLine line old new fault = ((fault ≡ None) × Adds old.written new.writte
 
 -- ---- a look at a revision
 
--- what is printed of a revision, as a reading of the bytes of all revisions
-abbrev pub TextOf : Printed → RevisionBytes → ℕ → List ℕ → End → Type 0
-TextOf (Tree show_ids path) bytes rev = TreeText bytes rev path show_ids
-TextOf (Text path) bytes rev = FileText bytes rev path
+-- the bytes of all revisions, and those of their property files
+pub record AllBytes : Type 0 where
+  pub revs : RevisionBytes
+  pub props : RevisionBytes
+
+-- of a repository's files
+abbrev pub all_bytes : Layout → Files → AllBytes
+all_bytes layout files = record { revs = rev_bytes layout files; props = props_bytes layout files }
+
+-- all of them is what is told of the revisions up to top
+abbrev pub KnowsAll : {Below : Type 0} → Telling Below → ℕ → AllBytes → Type 0
+KnowsAll told top bytes = Knows told.revs top bytes.revs × Knows told.props top bytes.props
+
+-- what is printed of a revision, as a reading of the bytes
+abbrev pub TextOf : Printed → AllBytes → ℕ → List ℕ → End → Type 0
+TextOf (Tree show_ids path) bytes rev = TreeText bytes.revs rev path show_ids
+TextOf (Text path) bytes rev = FileText bytes.revs rev path
+TextOf Author bytes rev = AuthorText bytes.props rev
+TextOf Date bytes rev = DateText bytes.props rev
+TextOf Log bytes rev = LogText bytes.props rev
+TextOf Info bytes rev = InfoText bytes.props rev
+TextOf Changed bytes rev = ChangedText bytes.revs rev
+TextOf (History path) bytes rev = HistoryText bytes.revs rev path
 
 -- the revision that is looked at: the youngest where none is named
 abbrev pub looked_revision : RevisionLook → Opened → ℕ
@@ -74,7 +97,7 @@ looked_revision look o = unwrap_or look.revision o.youngest
 
 -- the same of the files of an opened repository
 abbrev pub TextIn : RevisionLook → Opened → Files → List ℕ → End → Type 0
-TextIn look o files = TextOf look.printed (rev_bytes o.layout files) (looked_revision look o)
+TextIn look o files = TextOf look.printed (all_bytes o.layout files) (looked_revision look o)
 
 -- the named revision is above the youngest
 pub record LacksRevision (look : RevisionLook) (o : Opened) (rev : ℕ) : Type 0 where

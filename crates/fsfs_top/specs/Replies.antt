@@ -22,7 +22,7 @@ use Rattle.fsfs_cli.specs.Readings.{Asks}
 use Rattle.fsfs_cli.specs.declared.request.Look.{Look as SomeLook}
 use Rattle.fsfs_cli.specs.declared.request.Look.TheVariants.{Youngest, Uuid, AtRevision}
 use Rattle.fsfs_cli.specs.declared.request.Printed.{Printed}
-use Rattle.fsfs_cli.specs.declared.request.Printed.TheVariants.{Tree, Text}
+use Rattle.fsfs_cli.specs.declared.request.Printed.TheVariants.{Tree, Text, Author, Date, Log, Info, Changed, History}
 use Rattle.fsfs_cli.specs.declared.request.Task.{Task}
 use Rattle.fsfs_cli.specs.declared.request.Task.TheVariants.{Create, Look}
 use Rattle.fsfs_cli.specs.declared.tool.Tool.{Tool}
@@ -57,6 +57,12 @@ pub record Repository : Type 0 where
 abbrev pub look_command : Option ℕ → Printed → (Path → List ℕ) → model.Command
 look_command revision (Tree show_ids path) shown = model.Tree revision shown path
 look_command revision (Text path) shown = model.Cat revision path
+look_command revision Author shown = model.Author revision
+look_command revision Date shown = model.Date revision
+look_command revision Log shown = model.Log revision
+look_command revision Info shown = model.Info revision
+look_command revision Changed shown = model.Changed revision
+look_command revision (History path) shown = model.History revision path
 
 -- the reply to a task where the files stand for this repository, or for none
 abbrev pub answer_to : Task → (Path → List ℕ) → Option Repository → Reply
@@ -74,6 +80,12 @@ HasNone (Look look) files = IsNone (small_texts files)
 abbrev pub ShowsIds : Printed → RevisionBytes → ℕ → (Path → List ℕ) → Type 0
 ShowsIds (Tree show_ids path) bytes rev shown = AreShownIds bytes rev show_ids shown
 ShowsIds (Text path) bytes rev shown = Unit {0}
+ShowsIds Author bytes rev shown = Unit {0}
+ShowsIds Date bytes rev shown = Unit {0}
+ShowsIds Log bytes rev shown = Unit {0}
+ShowsIds Info bytes rev shown = Unit {0}
+ShowsIds Changed bytes rev shown = Unit {0}
+ShowsIds (History path) bytes rev shown = Unit {0}
 
 abbrev pub AreIds : Task → RevisionBytes → List Revision → (Path → List ℕ) → Type 0
 AreIds (Create shard) bytes h shown = Unit {0}

@@ -1,26 +1,32 @@
 // Looks at a repository.
-ghost use Rattle.std.specs.Prelude.{◌≡◌, ◌≢◌, ◌≤◌, ◌<◌, ◌⊎◌, ℕ, List, Some, IfOk, IfErr, IfSome, MatchOption, option_map};
-ghost use Rattle.fsfs_book.specs.Told.{RevisionBytes, Knows, Keeps};
+ghost use Rattle.std.specs.Prelude.{◌≡◌, ◌≢◌, ◌≤◌, ◌<◌, ◌⊎◌, ℕ, List, [], Some, IfOk, IfErr, IfSome, MatchOption, option_map, unwrap_or};
+ghost use Rattle.fsfs_book.specs.Told.{Keeps};
 ghost use Rattle.fsfs_base.specs.Failures.{Rose};
 ghost use Rattle.fsfs_disk.specs.Trace.{files_now};
+ghost use Rattle.fsfs_faults.specs.Faults.{IsFromLook};
 ghost use Rattle.fsfs_faults.specs.declared.fault.Fault.TheVariants as faults;
 ghost use Rattle.fsfs_look.specs.Written.{Writes, HasDiskCause, HasSinkCause};
 ghost use Rattle.fsfs_layout.specs.Opening.{small_texts, IsOpened};
 ghost use Rattle.fsfs_top.specs.Command.{fault_of};
+ghost use Rattle.fsfs_cli.specs.Requests.{printed_path};
 ghost use Rattle.fsfs_cli.specs.declared.request.Look.TheVariants.{AtRevision};
-ghost use Rattle.fsfs_top.specs.Looks.{TextOf, LacksRevision, LooksInto, PrintsLook, LookIsDecided, looked_revision, IsFaultAt};
+ghost use Rattle.fsfs_top.specs.Looks.{AllBytes, KnowsAll, TextOf, LacksRevision, LooksInto, PrintsLook, LookIsDecided, looked_revision, IsFaultAt};
 ghost use Rattle.fsfs_top.specs.Scenes.{scene, sink_scene};
 
 use crate::output::{line_fault, print_revision, print_uuid};
 use fsfs_base::{FsPath, RevNum};
 use fsfs_book::Book;
+use fsfs_changed_look::changed_text;
 use fsfs_cli::{Look, Printed, RevisionLook};
 use fsfs_disk::{Disk, Host};
 use fsfs_faults::Fault;
 use fsfs_fetch::{disk_of, over_disk};
+use fsfs_history_look::history_text;
 use fsfs_layout::Opened;
 use fsfs_look::{LookError, cat, tree_text};
 use fsfs_places::DiskPlace;
+use fsfs_printed::LookFault;
+use fsfs_prop_looks::{author, date, info, log};
 use fsfs_repo::open;
 use fsfs_streams::Sink;
 use std::alloc::Global;
@@ -61,7 +67,7 @@ fn print_look<B: Book, O: Sink>(
     printed: &Printed,
     out: &mut O,
 ) -> Result<(), LookError>
-    ensures told { (bytes : RevisionBytes) → Knows (B.told book.old).revs rev bytes → Writes (TextOf printed.now bytes rev) (O.written out.old) (O.written out.new) result }
+    ensures told { (bytes : AllBytes) → KnowsAll (B.told book.old) rev bytes → Writes (TextOf printed.now bytes rev) (O.written out.old) (O.written out.new) result }
     ensures kept { Keeps (B.told book.old) (B.told book.new) }
     ensures cause { HasDiskCause (B.faults book.old) (B.faults book.new) result }
     ensures sink { HasSinkCause (O.faults out.old) (O.faults out.new) result }
@@ -69,18 +75,34 @@ fn print_look<B: Book, O: Sink>(
     match printed {
         Printed::Tree { show_ids, path } => tree_text(alloc, book, rev, path, *show_ids, out),
         Printed::Text { path } => cat(alloc, book, rev, path, out),
+        Printed::Author => author(alloc, book, rev, out),
+        Printed::Date => date(alloc, book, rev, out),
+        Printed::Log => log(alloc, book, rev, out),
+        Printed::Info => info(alloc, book, rev, out),
+        Printed::Changed => changed_text(alloc, book, rev, out),
+        Printed::History { path } => history_text(alloc, book, rev, path, out),
     }
 }
 
-// The fault of a look at this path that ended so.
-fn fault_at(alloc: Global, path: &FsPath, error: LookError) -> Fault
-    ensures { IsFaultAt path.now error result }
+// The fault of a look that was refused, at this path or at `/`.
+fn fault_below(alloc: Global, path: Option<&FsPath>, fault: LookFault) -> Fault
+    ensures { IsFromLook (unwrap_or (option_map (λ path. path.now) path.entry) []) fault result }
+{
+    match path {
+        Some(path) => Fault::of_look(alloc, path, fault),
+        None => Fault::of_look(alloc, &FsPath::root(alloc), fault),
+    }
+}
+
+// The fault of a look that ended so.
+fn fault_at(alloc: Global, printed: &Printed, error: LookError) -> Fault
+    ensures { IsFaultAt (printed_path printed.now) error result }
 {
     match error {
         LookError::OutOfMemory => Fault::Memory,
         LookError::DiskFault => Fault::DiskFault(DiskPlace::Read),
         LookError::WriteFault => Fault::WriteFault,
-        LookError::Fault(fault) => Fault::of_look(alloc, path, fault),
+        LookError::Fault(fault) => fault_below(alloc, printed.path(), fault),
     }
 }
 
@@ -113,7 +135,7 @@ fn look_at_revision<D: Disk, O: Sink>(
     let disk = disk_of(book);
     match printed {
         Ok(()) => (disk, Ok(())),
-        Err(error) => (disk, Err(fault_at(alloc, look.printed.path(), error))),
+        Err(error) => (disk, Err(fault_at(alloc, &look.printed, error))),
     }
 }
 

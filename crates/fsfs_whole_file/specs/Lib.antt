@@ -1,2 +1,3 @@
 pub mod FileFaults
 pub mod DiskParts
+pub mod FirstBytes

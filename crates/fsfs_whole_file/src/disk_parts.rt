@@ -1,8 +1,9 @@
 //! The files of a disk.
-ghost use Rattle.std.specs.Prelude.{◌≡◌, ◌≤◌, IfOk, IfErr, IfSome, option_map};
+ghost use Rattle.std.specs.Prelude.{◌≡◌, ◌≤◌, ◌<◌, IfOk, IfErr, IfSome, option_map};
 ghost use Rattle.fsfs_base.specs.Failures.{Rose};
 ghost use Rattle.fsfs_disk.specs.Trace.{file_at};
 ghost use Rattle.fsfs_whole_file.specs.FileFaults.{IfFailed};
+ghost use Rattle.fsfs_whole_file.specs.FirstBytes.{first_of};
 
 use crate::file_fault::FileFault;
 use crate::parts::Parts;
@@ -42,18 +43,20 @@ impl<D: Disk> Parts for DiskParts<'_, D> {
     ghost stays = { λ a b name file e t. tells_again (D.trace a.disk.now) (D.trace b.disk.now) name file e.trace t };
 }
 
-/// All bytes of a file of a disk. `None`: there is no such file.
+/// The bytes of a file of a disk, no more than its first `most`. `None`: there is no such file.
 pub fn read_disk_file<D: Disk>(
     alloc: Global,
     disk: &mut D,
     name: &Name,
+    most: usize,
 ) -> Result<Option<Vec<u8>>, FileFault>
-    ensures bytes { IfSome (D.trace disk.old) (λ t. IfOk result (λ found. option_map (λ v. v.items) found ≡ file_at t name.now)) }
+    requires { 0 < most }
+    ensures bytes { IfSome (D.trace disk.old) (λ t. IfOk result (λ found. option_map (λ v. v.items) found ≡ first_of most (file_at t name.now))) }
     ensures same { D.trace disk.new ≡ D.trace disk.old }
     ensures mounted { D.mount_path disk.new ≡ D.mount_path disk.old }
     ensures right { D.may_write disk.new ≡ D.may_write disk.old }
     ensures later { D.faults disk.old ≤ D.faults disk.new }
     ensures failed { IfErr result (IfFailed (Rose (D.faults disk.old) (D.faults disk.new))) }
 {
-    read_file(alloc, &mut DiskParts { disk }, name)
+    read_file(alloc, &mut DiskParts { disk }, name, most)
 }

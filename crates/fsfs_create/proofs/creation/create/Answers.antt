@@ -22,10 +22,10 @@ returns-in-Ok-clause-created g c =
     (date, c.in_ok-date.ensures, created_files_now c.args.layout.shard_size id date old new done)
 
 pub returns-in-Ok-clause-fresh : goal.returns-in-Ok-clause-fresh
-returns-in-Ok-clause-fresh g c = not_there (g.D.Disk.trace c.args.disk.now) c.format.result c.in-Ok-None.field-0 c.format.ensures c.in-Ok-None.field-0-is c.in-Ok-None.ensures.length
+returns-in-Ok-clause-fresh g c = not_there (g.D.Disk.trace c.args.disk.now) c.name.result c.in-Ok-None.field-0 c.name.ensures c.in-Ok-None.field-0-is c.in-Ok-None.ensures.length
 
 pub returns-in-Ok-clause-there_same : goal.returns-in-Ok-clause-there_same
-returns-in-Ok-clause-there_same g c = λ t is here. absurd (not_both (g.D.Disk.trace c.args.disk.now) t (not_there (g.D.Disk.trace c.args.disk.now) c.format.result c.in-Ok-None.field-0 c.format.ensures c.in-Ok-None.field-0-is c.in-Ok-None.ensures.length) is here)
+returns-in-Ok-clause-there_same g c = λ t is here. absurd (not_both (g.D.Disk.trace c.args.disk.now) t (not_there (g.D.Disk.trace c.args.disk.now) c.name.result c.in-Ok-None.field-0 c.name.ensures c.in-Ok-None.field-0-is c.in-Ok-None.ensures.length) is here)
 
 pub returns-in-Ok-clause-any_moment : goal.returns-in-Ok-clause-any_moment
 returns-in-Ok-clause-any_moment g c = λ all.
@@ -53,7 +53,7 @@ returns-clause-refused g c =
     (rose, is_stopped c.in-Err-write_files.place c.args.layout.shard_size id date c.args.moment old new c.in_ok-date.ensures stopped)
 
 pub returns-clause-there_same : goal.returns-clause-there_same
-returns-clause-there_same g c = λ t is here. absurd (not_both (g.D.Disk.trace c.args.disk.now) t (not_there (g.D.Disk.trace c.args.disk.now) c.format.result c.in-Ok-None.field-0 c.format.ensures c.in-Ok-None.field-0-is c.in-Ok-None.ensures.length) is here)
+returns-clause-there_same g c = λ t is here. absurd (not_both (g.D.Disk.trace c.args.disk.now) t (not_there (g.D.Disk.trace c.args.disk.now) c.name.result c.in-Ok-None.field-0 c.name.ensures c.in-Ok-None.field-0-is c.in-Ok-None.ensures.length) is here)
 
 pub returns-clause-any_moment : goal.returns-clause-any_moment
 returns-clause-any_moment g c = λ all.

@@ -5,5 +5,5 @@ use Rattle.fsfs_create.proofs.creation.publish.Goals as goal
 
 pub rename-requires-clause-there : goal.rename-requires-clause-there
 rename-requires-clause-there g c =
-    let performed : Performs (Put c.format_next-next.result c.args.format.now) (g.D.Disk.trace c.args.disk.now) (g.D.Disk.trace c.put.new.self) = search rules in
-    file_at-put (g.D.Disk.trace c.args.disk.now) (g.D.Disk.trace c.put.new.self) c.format_next-next.result c.args.format.now performed
+    let performed : Performs (Put c.name-next.result c.args.format.now) (g.D.Disk.trace c.args.disk.now) (g.D.Disk.trace c.put.new.self) = search rules in
+    file_at-put (g.D.Disk.trace c.args.disk.now) (g.D.Disk.trace c.put.new.self) c.name-next.result c.args.format.now performed

@@ -22,10 +22,10 @@ pub returns-in_err-file_len-clause-told : goal.returns-in_err-file_len-clause-to
 returns-in_err-file_len-clause-told g c = λ m p.
     let v = g.R.Reads.view c.args.reads.now in
     let w = g.R.Reads.view c.file_len.new.reads in
-    let goes = own_goes v m c.args.rev c.layout.result c.revision-name.result p.told p.known c.layout.ensures c.revision-name.ensures in
+    let goes = own_goes v m c.args.rev c.layout.result c.name-name.result p.told p.known c.layout.ensures c.name-name.ensures in
     let right = own_right v c.args.floor.now c.args.kept.now m c.args.rev (search rules) p in
     let r = err_from_is_err_and c.from_residual.result c.from_residual.ensures.1 in
-    rw (r.1, r.2) (own_err {X = ℕ} {Y = ℕ} {Z = ℕ} (λ n. n) (λ n. n) size_read (rev_file v.layout m c.args.rev) _ w.files c.revision-name.result c.in_err-file_len.field-0.0 right (c.in_err-file_len.ensures.told _ goes))
+    rw (r.1, r.2) (own_err {X = ℕ} {Y = ℕ} {Z = ℕ} (λ n. n) (λ n. n) size_read (rev_file v.layout m c.args.rev) _ w.files c.name-name.result c.in_err-file_len.field-0.0 right (c.in_err-file_len.ensures.told _ goes))
 
 pub returns-in_err-file_len-clause-finds : goal.returns-in_err-file_len-clause-finds
 returns-in_err-file_len-clause-finds g c =
@@ -39,18 +39,18 @@ pub returns-in-Some-clause-told : goal.returns-in-Some-clause-told
 returns-in-Some-clause-told g c = λ m p.
     let v = g.R.Reads.view c.args.reads.now in
     let w = g.R.Reads.view c.file_len.new.reads in
-    let goes = own_goes v m c.args.rev c.layout.result c.revision-name.result p.told p.known c.layout.ensures c.revision-name.ensures in
+    let goes = own_goes v m c.args.rev c.layout.result c.name-name.result p.told p.known c.layout.ensures c.name-name.ensures in
     let right = own_right v c.args.floor.now c.args.kept.now m c.args.rev (search rules) p in
-    let P : Option ℕ → Type 0 = λ o. FromFile {X = ℕ} {Y = ℕ} (rev_file v.layout m c.args.rev) w.files c.revision-name.result (λ n. n) size_of_file (Ok o) in
-    own_some {X = ℕ} {Y = ℕ} (λ n. n) size_read (rev_file v.layout m c.args.rev) _ w.files c.revision-name.result c.in-Some.length right (subst P c.in-Some.is (c.in_ok-file_len.ensures.told _ goes))
+    let P : Option ℕ → Type 0 = λ o. FromFile {X = ℕ} {Y = ℕ} (rev_file v.layout m c.args.rev) w.files c.name-name.result (λ n. n) size_of_file (Ok o) in
+    own_some {X = ℕ} {Y = ℕ} (λ n. n) size_read (rev_file v.layout m c.args.rev) _ w.files c.name-name.result c.in-Some.length right (subst P c.in-Some.is (c.in_ok-file_len.ensures.told _ goes))
 
 pub returns-in-None-clause-told : goal.returns-in-None-clause-told
 returns-in-None-clause-told g c = λ m p.
     let v = g.R.Reads.view c.args.reads.now in
     let w = g.R.Reads.view c.file_len.new.reads in
-    let goes = own_goes v m c.args.rev c.layout.result c.revision-name.result p.told p.known c.layout.ensures c.revision-name.ensures in
-    let P : Option ℕ → Type 0 = λ o. FromFile {X = ℕ} {Y = ℕ} (rev_file v.layout m c.args.rev) w.files c.revision-name.result (λ n. n) size_of_file (Ok o) in
-    let k = gone_at v w m c.args.rev c.layout.result c.revision-name.result c.in_ok-file_len.ensures.later p.told p.known c.layout.ensures c.revision-name.ensures (subst P c.in-None.is (c.in_ok-file_len.ensures.told _ goes)) in
+    let goes = own_goes v m c.args.rev c.layout.result c.name-name.result p.told p.known c.layout.ensures c.name-name.ensures in
+    let P : Option ℕ → Type 0 = λ o. FromFile {X = ℕ} {Y = ℕ} (rev_file v.layout m c.args.rev) w.files c.name-name.result (λ n. n) size_of_file (Ok o) in
+    let k = gone_at v w m c.args.rev c.layout.result c.name-name.result c.in_ok-file_len.ensures.later p.told p.known c.layout.ensures c.name-name.ensures (subst P c.in-None.is (c.in_ok-file_len.ensures.told _ goes)) in
     gives_at {X = ℕ} {Y = ℕ} (λ n. n) c.len_once_more.result size_read _ _ k.2 (c.len_once_more.ensures.told k.0 k.1)
 
 pub returns-in-None-clause-finds : goal.returns-in-None-clause-finds

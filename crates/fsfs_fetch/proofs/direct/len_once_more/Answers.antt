@@ -47,9 +47,9 @@ returns-in_err-file_len-clause-told g c = λ m p.
     let w = g.R.Reads.view c.refresh.new.reads in
     let x = g.R.Reads.view c.file_len.new.reads in
     let f = fresh_floor v w m c.args.rev c.refresh.new.floor c.in_ok-refresh.ensures.later p c.in_ok-refresh.ensures.told in
-    let goes = fresh_goes v w m c.args.rev c.refresh.new.floor c.layout.result c.revision-name.result f c.layout.ensures c.revision-name.ensures in
+    let goes = fresh_goes v w m c.args.rev c.refresh.new.floor c.layout.result c.name-name.result f c.layout.ensures c.name-name.ensures in
     let r = err_from_is_err_and c.from_residual-in_err-file_len.result c.from_residual-in_err-file_len.ensures.1 in
-    rw (r.1, r.2) (gone_err {X = ℕ} {Y = ℕ} {Z = ℕ} (λ n. n) (λ n. n) size_of_file (rev_file w.layout f.new c.args.rev) _ x.files c.revision-name.result c.in_err-file_len.field-0.0 f.gone (c.in_err-file_len.ensures.told _ goes))
+    rw (r.1, r.2) (gone_err {X = ℕ} {Y = ℕ} {Z = ℕ} (λ n. n) (λ n. n) size_of_file (rev_file w.layout f.new c.args.rev) _ x.files c.name-name.result c.in_err-file_len.field-0.0 f.gone (c.in_err-file_len.ensures.told _ goes))
 
 pub returns-in_err-file_len-clause-finds : goal.returns-in_err-file_len-clause-finds
 returns-in_err-file_len-clause-finds g c =
@@ -88,6 +88,6 @@ returns-in-Some-clause-told g c = λ m p.
     let w = g.R.Reads.view c.refresh.new.reads in
     let x = g.R.Reads.view c.file_len.new.reads in
     let f = fresh_floor v w m c.args.rev c.refresh.new.floor c.in_ok-refresh.ensures.later p c.in_ok-refresh.ensures.told in
-    let goes = fresh_goes v w m c.args.rev c.refresh.new.floor c.layout.result c.revision-name.result f c.layout.ensures c.revision-name.ensures in
-    let P : Option ℕ → Type 0 = λ o. FromFile {X = ℕ} {Y = ℕ} (rev_file w.layout f.new c.args.rev) x.files c.revision-name.result (λ n. n) size_of_file (Ok o) in
-    gone_some {X = ℕ} {Y = ℕ} (λ n. n) size_of_file (rev_file w.layout f.new c.args.rev) _ x.files c.revision-name.result c.in-Some.length f.gone (subst P c.in-Some.is (c.in_ok-file_len.ensures.told _ goes))
+    let goes = fresh_goes v w m c.args.rev c.refresh.new.floor c.layout.result c.name-name.result f c.layout.ensures c.name-name.ensures in
+    let P : Option ℕ → Type 0 = λ o. FromFile {X = ℕ} {Y = ℕ} (rev_file w.layout f.new c.args.rev) x.files c.name-name.result (λ n. n) size_of_file (Ok o) in
+    gone_some {X = ℕ} {Y = ℕ} (λ n. n) size_of_file (rev_file w.layout f.new c.args.rev) _ x.files c.name-name.result c.in-Some.length f.gone (subst P c.in-Some.is (c.in_ok-file_len.ensures.told _ goes))

@@ -29,10 +29,10 @@ returns-in-Some-clause-told g c = λ m p.
     let w = g.R.Reads.view c.size_at.new.reads in
     let shard : c.shard_of-shard.result ≡ shard_of v.layout c.args.rev = c.shard_of-shard.ensures ∙ ap (λ k. shard_of k c.args.rev) c.layout-layout.ensures in
     let read = c.in_ok-keep_manifest.ensures.told m c.args.rev p (sym shard) in
-    let h = subst (λ o. IfSome w.files (λ f. IsSize (map.get f c.pack.result) o)) c.in-Some.is c.in_ok-size_at.ensures.length in
+    let h = subst (λ o. IfSome w.files (λ f. IsSize (map.get f c.name.result) o)) c.in-Some.is c.in_ok-size_at.ensures.length in
     let index : c.place_in_shard.result ≡ place_in_shard v.layout c.args.rev = c.place_in_shard.ensures ∙ ap (λ k. place_in_shard k c.args.rev) c.layout-layout.ensures in
-    section_is v v w c.args.kept.now c.args.rev c.shard_of-shard.result c.place_in_shard.result c.in-Some.size m (kept_offsets c.keep_manifest.new.kept) c.offsets_of.result.now c.pack.result c.section_in.result p shard index
-    (later_more _ _ _ c.in_ok-keep_manifest.ensures.later c.in_ok-size_at.ensures.later) read c.pack.ensures h c.offsets_of.ensures c.section_in.ensures.section
+    section_is v v w c.args.kept.now c.args.rev c.shard_of-shard.result c.place_in_shard.result c.in-Some.size m (kept_offsets c.keep_manifest.new.kept) c.offsets_of.result.now c.name.result c.section_in.result p shard index
+    (later_more _ _ _ c.in_ok-keep_manifest.ensures.later c.in_ok-size_at.ensures.later) read c.name.ensures h c.offsets_of.ensures c.section_in.ensures.section
 
 pub returns-in-None-clause-told : goal.returns-in-None-clause-told
 returns-in-None-clause-told g c = λ m p.
@@ -40,9 +40,9 @@ returns-in-None-clause-told g c = λ m p.
     let w = g.R.Reads.view c.size_at.new.reads in
     let shard : c.shard_of-shard.result ≡ shard_of v.layout c.args.rev = c.shard_of-shard.ensures ∙ ap (λ k. shard_of k c.args.rev) c.layout-layout.ensures in
     let read = c.in_ok-keep_manifest.ensures.told m c.args.rev p (sym shard) in
-    let h = subst (λ o. IfSome w.files (λ f. IsSize (map.get f c.pack.result) o)) c.in-None.is c.in_ok-size_at.ensures.length in
-    missing_is v w c.args.kept.now c.args.rev c.shard_of-shard.result m (kept_offsets c.keep_manifest.new.kept) c.pack.result p shard
-    (later_more _ _ _ c.in_ok-keep_manifest.ensures.later c.in_ok-size_at.ensures.later) read c.pack.ensures h
+    let h = subst (λ o. IfSome w.files (λ f. IsSize (map.get f c.name.result) o)) c.in-None.is c.in_ok-size_at.ensures.length in
+    missing_is v w c.args.kept.now c.args.rev c.shard_of-shard.result m (kept_offsets c.keep_manifest.new.kept) c.name.result p shard
+    (later_more _ _ _ c.in_ok-keep_manifest.ensures.later c.in_ok-size_at.ensures.later) read c.name.ensures h
 
 pub returns-in_err-keep_manifest-clause-told : goal.returns-in_err-keep_manifest-clause-told
 returns-in_err-keep_manifest-clause-told g c = λ m p.

@@ -17,10 +17,10 @@ returns-in-Some-clause-told g c = λ pack s within.
     let count = c.fitting-count.result in
     let at = c.args.section.start + c.args.offset in
     let sub = take count c.args.buffer.now in
-    let named : in_pack (shard_of v.layout c.args.rev) (codes "/pack") ≡ c.pack.result = ap (λ k. in_pack k (codes "/pack")) (sym (c.shard_of-shard.ensures ∙ ap (λ l. shard_of l c.args.rev) c.layout.ensures)) ∙ sym c.pack.ensures in
-    let t : Stays v c.pack.result (Some pack) = subst (λ n. Stays v n (Some pack)) named s in
-    let h = subst (λ o. IfSome w.files (λ m. IsRead (map.get m c.pack.result) at sub c.read_at.new.buffer o)) c.in-Some.is c.in_ok-read_at.ensures.bytes in
+    let named : in_pack (shard_of v.layout c.args.rev) (codes "/pack") ≡ c.name.result = ap (λ k. in_pack k (codes "/pack")) (sym (c.shard_of-shard.ensures ∙ ap (λ l. shard_of l c.args.rev) c.layout-layout.ensures)) ∙ sym c.name.ensures in
+    let t : Stays v c.name.result (Some pack) = subst (λ n. Stays v n (Some pack)) named s in
+    let h = subst (λ o. IfSome w.files (λ m. IsRead (map.get m c.name.result) at sub c.read_at.new.buffer o)) c.in-Some.is c.in_ok-read_at.ensures.bytes in
     let P : Option (List ℕ) → Type 0 = λ f. IsRead f at sub c.read_at.new.buffer (Some c.in-Some.found) in
-    let read = read_stays v w c.pack.result (Some pack) P c.in_ok-read_at.ensures.later t h in
+    let read = read_stays v w c.name.result (Some pack) P c.in_ok-read_at.ensures.later t h in
     let long : length sub ≡ count = length-take count c.args.buffer.now ∙ omega (arith, c.fitting-count.ensures) in
     section_part_ok pack c.args.buffer.now sub c.read_at.new.buffer _ c.args.rev c.args.offset at count c.in-Some.found c.args.section c.requires.within within refl (omega (arith, c.fitting-count.ensures)) long read c.read_at.auto.buffer refl

@@ -4,7 +4,7 @@ use Rattle.fsfs_disk.proofs.TraceLemmas.{ended}
 use Rattle.fsfs_base.specs.Failures.{Rose}
 use Rattle.fsfs_repo.specs.OpenFaults.{texts_of}
 use Rattle.fsfs_repo.proofs.OpeningLemmas.{all_because, same_texts, firm_same}
-use Rattle.fsfs_repo.proofs.DecidingLemmas.{decides_now}
+use Rattle.fsfs_repo.proofs.DecidingLemmas.{decides_now, opened_now}
 use Rattle.fsfs_repo.proofs.opening.open.Goals as goal
 
 pub returns-clause-refused : goal.returns-clause-refused
@@ -22,3 +22,11 @@ returns-clause-decided g c =
     firm_same (told c.args.disk.now) (told c.firm_names.new.self) (ended FirmNames (told c.args.disk.now) (told c.firm_names.new.self) c.firm_names.result c.firm_names.ensures.ok c.firm_names.ensures.err) in
     decides_now (told c.args.disk.now) (texts_of c.in_ok-files.files) c.judge.result
     (same_texts (told c.args.disk.now) (told c.firm_names.new.self) (texts_of c.in_ok-files.files) firm c.in_ok-files.ensures.texts) c.judge.ensures.decided
+
+pub returns-clause-opened : goal.returns-clause-opened
+returns-clause-opened g c =
+    let told = g.D.Disk.trace in
+    let firm : option_map files_now (told c.firm_names.new.self) ≡ option_map files_now (told c.args.disk.now) =
+    firm_same (told c.args.disk.now) (told c.firm_names.new.self) (ended FirmNames (told c.args.disk.now) (told c.firm_names.new.self) c.firm_names.result c.firm_names.ensures.ok c.firm_names.ensures.err) in
+    opened_now (told c.args.disk.now) (texts_of c.in_ok-files.files) c.judge.result
+    (same_texts (told c.args.disk.now) (told c.firm_names.new.self) (texts_of c.in_ok-files.files) firm c.in_ok-files.ensures.texts) c.judge.ensures.opened

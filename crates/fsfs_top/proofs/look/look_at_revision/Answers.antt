@@ -2,9 +2,7 @@ use Rattle.std.proofs.Common.{◌≤◌, refl, inr, subst}
 use Rattle.std.specs.Prelude.{Ok, Err, Result}
 use Rattle.fsfs_base.specs.Failures.{Rose}
 use Rattle.fsfs_look.specs.declared.look_error.LookError.{LookError}
-use Rattle.fsfs_base.specs.Paths.{Path}
 use Rattle.fsfs_cli.specs.Requests.{printed_path}
-use Rattle.fsfs_top.specs.Looks.{IsFaultAt}
 use Rattle.fsfs_top.proofs.LooksPrint.{into_writes, fault_with_cause, same_counts}
 use Rattle.fsfs_top.proofs.look.look_at_revision.Goals as goal
 
@@ -33,7 +31,7 @@ returns-in-Err-printed-clause-printed g c =
       result = r;
       writes = into_writes (g.D.Disk.trace c.args.disk) look o c.in-Ok.rev _ (g.O.Sink.written c.args.out.now) (g.O.Sink.written c.print_look-printed.new.out) r c.requires c.over_disk-book.ensures.told
           c.in-Ok.ensures.found.0 c.in-Ok.ensures.found.1 c.in-Err-printed.ensures.told;
-      fault_is = fault_with_cause disk write (printed_path look.printed) c.in-Err-printed.error c.fault_at.result (subst (λ (p : Path). IsFaultAt p c.in-Err-printed.error c.fault_at.result) c.path.ensures c.fault_at.ensures)
+      fault_is = fault_with_cause disk write (printed_path look.printed) c.in-Err-printed.error c.fault_at.result c.fault_at.ensures
           (same_counts c.in-Err-printed.error _ _ (g.D.Disk.faults c.args.disk) (g.D.Disk.faults c.disk_of-disk.result) c.over_disk-book.ensures.faults c.disk_of-disk.ensures.faults c.in-Err-printed.ensures.cause.failed)
           c.in-Err-printed.ensures.sink.failed;
     })

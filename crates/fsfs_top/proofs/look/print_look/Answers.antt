@@ -1,4 +1,4 @@
-use Rattle.std.proofs.Common.{sym, subst}
+use Rattle.std.proofs.Common.{sym, subst, arith}
 use Rattle.fsfs_look.specs.Written.{Writes}
 use Rattle.fsfs_top.specs.Looks.{TextOf}
 use Rattle.fsfs_cli.specs.declared.request.Printed.{Printed}
@@ -7,9 +7,39 @@ use Rattle.fsfs_top.proofs.look.print_look.Goals as goal
 pub returns-in-Tree-clause-told : goal.returns-in-Tree-clause-told
 returns-in-Tree-clause-told g c = λ bytes knows.
     subst (λ (p : Printed). Writes (TextOf p bytes c.args.rev) (g.O.Sink.written c.args.out.now) (g.O.Sink.written c.tree_text.new.sink) c.tree_text.result) (sym c.in-Tree.is)
-    (c.tree_text.ensures.told bytes knows)
+    (c.tree_text.ensures.told bytes.revs knows.0)
 
 pub returns-in-Text-clause-told : goal.returns-in-Text-clause-told
 returns-in-Text-clause-told g c = λ bytes knows.
     subst (λ (p : Printed). Writes (TextOf p bytes c.args.rev) (g.O.Sink.written c.args.out.now) (g.O.Sink.written c.cat.new.sink) c.cat.result) (sym c.in-Text.is)
-    (c.cat.ensures.told bytes knows)
+    (c.cat.ensures.told bytes.revs knows.0)
+
+pub returns-in-Author-clause-told : goal.returns-in-Author-clause-told
+returns-in-Author-clause-told g c = λ bytes knows.
+    subst (λ (p : Printed). Writes (TextOf p bytes c.args.rev) (g.O.Sink.written c.args.out.now) (g.O.Sink.written c.author.new.sink) c.author.result) (sym c.in-Author.is)
+    (c.author.ensures.told bytes.props (knows.1 c.args.rev (omega arith)))
+
+pub returns-in-Date-clause-told : goal.returns-in-Date-clause-told
+returns-in-Date-clause-told g c = λ bytes knows.
+    subst (λ (p : Printed). Writes (TextOf p bytes c.args.rev) (g.O.Sink.written c.args.out.now) (g.O.Sink.written c.date.new.sink) c.date.result) (sym c.in-Date.is)
+    (c.date.ensures.told bytes.props (knows.1 c.args.rev (omega arith)))
+
+pub returns-in-Log-clause-told : goal.returns-in-Log-clause-told
+returns-in-Log-clause-told g c = λ bytes knows.
+    subst (λ (p : Printed). Writes (TextOf p bytes c.args.rev) (g.O.Sink.written c.args.out.now) (g.O.Sink.written c.log.new.sink) c.log.result) (sym c.in-Log.is)
+    (c.log.ensures.told bytes.props (knows.1 c.args.rev (omega arith)))
+
+pub returns-in-Info-clause-told : goal.returns-in-Info-clause-told
+returns-in-Info-clause-told g c = λ bytes knows.
+    subst (λ (p : Printed). Writes (TextOf p bytes c.args.rev) (g.O.Sink.written c.args.out.now) (g.O.Sink.written c.info.new.sink) c.info.result) (sym c.in-Info.is)
+    (c.info.ensures.told bytes.props (knows.1 c.args.rev (omega arith)))
+
+pub returns-in-Changed-clause-told : goal.returns-in-Changed-clause-told
+returns-in-Changed-clause-told g c = λ bytes knows.
+    subst (λ (p : Printed). Writes (TextOf p bytes c.args.rev) (g.O.Sink.written c.args.out.now) (g.O.Sink.written c.changed_text.new.sink) c.changed_text.result) (sym c.in-Changed.is)
+    (c.changed_text.ensures.told bytes.revs knows.0)
+
+pub returns-in-History-clause-told : goal.returns-in-History-clause-told
+returns-in-History-clause-told g c = λ bytes knows.
+    subst (λ (p : Printed). Writes (TextOf p bytes c.args.rev) (g.O.Sink.written c.args.out.now) (g.O.Sink.written c.history_text.new.sink) c.history_text.result) (sym c.in-History.is)
+    (c.history_text.ensures.told bytes.revs knows.0)

@@ -1,0 +1,5 @@
+pub mod EndLemmas
+pub mod ItemLemmas
+pub mod TextKeys
+pub mod KindLemmas
+pub mod LineLemmas

@@ -1,0 +1,14 @@
+//! What `svnlook changed` prints of a revision, over any book into any sink.
+//!
+//! The text is that of Subversion's own `svnlook`, its lines in the order of the bytes of paths.
+#![tactic(auto)]
+
+mod by_text;
+mod changed;
+mod data;
+mod items;
+mod kinds;
+mod lines;
+mod taken;
+
+pub use changed::changed_text;

@@ -1,0 +1,7 @@
+//! Tests of the changed paths of small revisions.
+#![tactic(auto)]
+
+#[cfg(test)]
+mod changed;
+#[cfg(test)]
+mod revisions;

@@ -1,0 +1,15 @@
+use Rattle.std.proofs.lemmas.Result.{IfOk-weaker}
+use Rattle.clap.specs.Words.{with_rule}
+use Rattle.fsfs_cli.specs.Commands.{bare, repos_rule, revision_rule}
+use Rattle.fsfs_cli.proofs.CommandLemmas.{told_more, revision_repos}
+use Rattle.fsfs_cli.proofs.commands.revision_command.Goals as goal
+
+pub returns-clause-app : goal.returns-clause-app
+returns-clause-app c =
+    IfOk-weaker c.arg.result _ _ (λ command added.
+    told_more c.in_ok-look_command.field-0 command c.revision.result (with_rule (bare c.args.word.now) repos_rule) revision_rule added c.revision.ensures.fits.global c.in_ok-look_command.ensures.app c.revision.ensures.rule) c.arg.ensures
+
+pub returns-clause-repos : goal.returns-clause-repos
+returns-clause-repos c =
+    let look = c.in_ok-look_command.ensures.chain in
+    IfOk-weaker c.arg.result _ _ (λ command added. revision_repos c.in_ok-look_command.field-0 command look.0 c.revision.result look.1 c.revision.ensures.fits look.2 added) c.arg.ensures

@@ -1,0 +1,66 @@
+-- The root of a draft, and the directory at a path of it.
+use Rattle.std.proofs.Common.{◌≡◌, ◌≤◌, ℕ, List, [], sym, ◌∙◌}
+use Rattle.std.specs.Prelude.{Some, Result, Ok, Err}
+use Rattle.fsfs_base.specs.Paths.{PathName, Path}
+use Rattle.fsfs_base.specs.declared.kind.Kind.TheVariants.{Dir}
+use Rattle.fsfs_tree.specs.Nodes.{TreeFunction}
+use Rattle.fsfs_tree.specs.Trees.{IsTree}
+use Rattle.fsfs_flat.specs.declared.mark.Mark.{Mark}
+use Rattle.fsfs_fields.specs.declared.txn_name.TxnName.{TxnName}
+use Rattle.fsfs_book.specs.Told.{RevisionBytes}
+use Rattle.fsfs_noderev.specs.Ids.{place_value}
+use Rattle.fsfs_noderev.specs.declared.node_id.NodeId.{NodeId}
+use Rattle.fsfs_noderev.proofs.Same.{id_same}
+use Rattle.fsfs_drafts.specs.Own.{OwnNode, Own, draft_tree}
+use Rattle.fsfs_drafts.specs.Drafts.{Folder, ShowTrees}
+use Rattle.fsfs_drafts.specs.Edits.{IsDraftAfter}
+use Rattle.fsfs_drafts.proofs.EditLaw.{edits_keep_drafts}
+use Rattle.fsfs_edit.specs.Mutable.{LeadsTo, LeavesAbove}
+use Rattle.fsfs_edit.specs.Walks.{HasKind}
+use Rattle.fsfs_edit.specs.Ways.{IsRootId, IsTarget, LeavesOpened}
+use Rattle.fsfs_edit.specs.declared.error.EditError.{EditError}
+use Rattle.fsfs_edit.specs.declared.way.Target.{Target}
+use Rattle.fsfs_edit.proofs.Making.{has_kind}
+use Rattle.fsfs_edit.proofs.Walking.{own_kind}
+use Rattle.fsfs_edit.proofs.MakingAt.{leads_to}
+use Rattle.fsfs_edit.proofs.Bare.{bare_kind, target_over, leads_over}
+
+module _ (look : RevisionBytes) (trees : ℕ → TreeFunction) (top base : ℕ) (shown : ShowTrees look top trees) (le : base ≤ top) (txn : TxnName) (f : Folder) (tree : TreeFunction) (marks : List Mark) (is_tree : IsTree tree)
+    (d : IsDraftAfter look trees top base txn f tree marks) where
+  abbrev First : Own
+  First = d.0.shows.own
+
+  abbrev pub root : OwnNode
+  root = d.0.shows.is_draft.root
+
+  pub root_here : First [] ≡ Some root
+  root_here = d.0.shows.is_draft.root_is
+
+  pub root_same : (id : NodeId) → IsRootId txn id → root.node.id ≡ id
+  root_same id is = id_same root.node.id id (λ i. record {
+    node = (d.0.shows.is_draft.root_id.0 ∙ sym is.node) i;
+    copy = (d.0.shows.is_draft.root_id.1 ∙ sym is.copy) i;
+    place = place_value ((d.0.shows.is_draft.places [] root root_here ∙ sym is.place) i);
+  })
+
+  pub root_kind : root.node.kind ≡ Dir
+  root_kind = own_kind look top base trees shown le txn f First d.0.shows.is_draft [] root root_here (bare_kind (tree []) (draft_tree trees First (trees base) []) Dir (d.0.shows.each []) (has_kind (tree []) is_tree.root.0 Dir is_tree.root.1 is_tree.root.2))
+
+  pub by_tree : (p : Path) (name : PathName) (result : Result Target EditError) → IsTarget look trees base First (draft_tree trees First (trees base)) p name result → IsTarget look trees base First tree p name result
+  by_tree p name result h = target_over (draft_tree trees First (trees base)) tree (λ q. sym (d.0.shows.each q)) look trees base First p name result h
+
+  pub leads : (p : Path) → HasKind (tree p) Dir → LeadsTo (draft_tree trees First (trees base)) p
+  leads p has = leads_over tree (draft_tree trees First (trees base)) d.0.shows.each p (leads_to tree p is_tree has)
+
+  pub opened_leaves : (p : Path) (after : Folder) (result : Result NodeId EditError) → HasKind (tree p) Dir → LeavesAbove look trees top base txn f First p after result → LeavesOpened look trees top base txn marks tree First p after result
+  opened_leaves p after (Err e) has h = h
+  opened_leaves p after (Ok id) has h =
+      let o = h.5 tree marks First (edits_keep_drafts.begins look trees top base txn f tree marks d.0 d.1) in
+      record {
+        now = h.0;
+        opened = o;
+        v = h.2;
+        here = h.3;
+        id_is = h.4;
+        kind = own_kind look top base trees shown le txn after h.0 h.1.0 p h.2 h.3 (bare_kind (tree p) (draft_tree trees h.0 (trees base) p) Dir (o.each p) has);
+      }

@@ -1,0 +1,72 @@
+use Rattle.std.proofs.Common.{refl, subst}
+use Rattle.std.specs.Prelude.{Ok, Err}
+use Rattle.std.proofs.lemmas.Result.{err_from_is_err_and}
+use Rattle.fsfs_book.specs.Told.{Knows}
+use Rattle.fsfs_book.proofs.Keeping.{keeps_trans}
+use Rattle.fsfs_drafts.specs.Drafts.{Folder}
+use Rattle.fsfs_edit.specs.Ways.{IsTarget, LooksAt}
+use Rattle.fsfs_edit.specs.declared.way.Target.{Target}
+use Rattle.fsfs_edit.specs.declared.way.Target.TheVariants as targets
+use Rattle.fsfs_edit.specs.Deleting.{DeletesIn}
+use Rattle.fsfs_edit.proofs.Whole.{stays}
+use Rattle.fsfs_edit.proofs.delete.delete_steps.Goals as goal
+
+pub returns-in_err-depth-clause-meets : goal.returns-in_err-depth-clause-meets
+returns-in_err-depth-clause-meets g c = λ look trees top base tree marks knows shown le is_tree d.
+    let looks : LooksAt (g.B.Book.told c.args.book.now).revs (g.N.Own.txn c.args.own.now) (g.N.Own.settled c.args.own.now) c.args.parent.now c.args.name.now (Err c.in_err-depth.field-0.0) =
+    subst (λ (h : Folder). LooksAt (g.B.Book.told c.args.book.now).revs (g.N.Own.txn c.args.own.now) h c.args.parent.now c.args.name.now (Err c.in_err-depth.field-0.0)) c.requires.whole c.in_err-depth.ensures.looks in
+    let r = err_from_is_err_and c.from_residual.result c.from_residual.ensures.1 in
+    rw (r.1, r.2) (stays c.in_err-depth.field-0.0 _ (looks look trees top base tree marks knows shown le is_tree d) refl)
+
+pub returns-in-NotFound-clause-meets : goal.returns-in-NotFound-clause-meets
+returns-in-NotFound-clause-meets g c = λ look trees top base tree marks knows shown le is_tree d.
+    let looks : LooksAt (g.B.Book.told c.args.book.now).revs (g.N.Own.txn c.args.own.now) (g.N.Own.settled c.args.own.now) c.args.parent.now c.args.name.now (Ok c.in_ok-depth.field-0) =
+    subst (λ (h : Folder). LooksAt (g.B.Book.told c.args.book.now).revs (g.N.Own.txn c.args.own.now) h c.args.parent.now c.args.name.now (Ok c.in_ok-depth.field-0)) c.requires.whole c.in_ok-depth.ensures.looks in
+    let t : IsTarget look trees base d.0.shows.own tree c.args.parent.now c.args.name.now (Ok c.in_ok-depth.field-0) = looks look trees top base tree marks knows shown le is_tree d in
+    let at : IsTarget look trees base d.0.shows.own tree c.args.parent.now c.args.name.now (Ok (targets.NotFound c.in-NotFound.depth)) = subst (λ (x : Target). IsTarget look trees base d.0.shows.own tree c.args.parent.now c.args.name.now (Ok x)) c.in-NotFound.is t in
+    (at, refl)
+
+pub returns-in-NotDir-clause-meets : goal.returns-in-NotDir-clause-meets
+returns-in-NotDir-clause-meets g c = λ look trees top base tree marks knows shown le is_tree d.
+    let looks : LooksAt (g.B.Book.told c.args.book.now).revs (g.N.Own.txn c.args.own.now) (g.N.Own.settled c.args.own.now) c.args.parent.now c.args.name.now (Ok c.in_ok-depth.field-0) =
+    subst (λ (h : Folder). LooksAt (g.B.Book.told c.args.book.now).revs (g.N.Own.txn c.args.own.now) h c.args.parent.now c.args.name.now (Ok c.in_ok-depth.field-0)) c.requires.whole c.in_ok-depth.ensures.looks in
+    let t : IsTarget look trees base d.0.shows.own tree c.args.parent.now c.args.name.now (Ok c.in_ok-depth.field-0) = looks look trees top base tree marks knows shown le is_tree d in
+    let at : IsTarget look trees base d.0.shows.own tree c.args.parent.now c.args.name.now (Ok (targets.NotDir c.in-NotDir.depth)) = subst (λ (x : Target). IsTarget look trees base d.0.shows.own tree c.args.parent.now c.args.name.now (Ok x)) c.in-NotDir.is t in
+    (at, refl)
+
+pub returns-in-Free-clause-meets : goal.returns-in-Free-clause-meets
+returns-in-Free-clause-meets g c = λ look trees top base tree marks knows shown le is_tree d.
+    let looks : LooksAt (g.B.Book.told c.args.book.now).revs (g.N.Own.txn c.args.own.now) (g.N.Own.settled c.args.own.now) c.args.parent.now c.args.name.now (Ok c.in_ok-depth.field-0) =
+    subst (λ (h : Folder). LooksAt (g.B.Book.told c.args.book.now).revs (g.N.Own.txn c.args.own.now) h c.args.parent.now c.args.name.now (Ok c.in_ok-depth.field-0)) c.requires.whole c.in_ok-depth.ensures.looks in
+    let t : IsTarget look trees base d.0.shows.own tree c.args.parent.now c.args.name.now (Ok c.in_ok-depth.field-0) = looks look trees top base tree marks knows shown le is_tree d in
+    let at : IsTarget look trees base d.0.shows.own tree c.args.parent.now c.args.name.now (Ok (targets.Free)) = subst (λ (x : Target). IsTarget look trees base d.0.shows.own tree c.args.parent.now c.args.name.now (Ok x)) c.in-Free.is t in
+    (at.0, at.1, refl)
+
+pub returns-in_err-delete_in-in-Taken-clause-meets : goal.returns-in_err-delete_in-in-Taken-clause-meets
+returns-in_err-delete_in-in-Taken-clause-meets g c = λ look trees top base tree marks knows shown le is_tree d.
+    let looks : LooksAt (g.B.Book.told c.args.book.now).revs (g.N.Own.txn c.args.own.now) (g.N.Own.settled c.args.own.now) c.args.parent.now c.args.name.now (Ok c.in_ok-depth.field-0) =
+    subst (λ (h : Folder). LooksAt (g.B.Book.told c.args.book.now).revs (g.N.Own.txn c.args.own.now) h c.args.parent.now c.args.name.now (Ok c.in_ok-depth.field-0)) c.requires.whole c.in_ok-depth.ensures.looks in
+    let t : IsTarget look trees base d.0.shows.own tree c.args.parent.now c.args.name.now (Ok c.in_ok-depth.field-0) = looks look trees top base tree marks knows shown le is_tree d in
+    let at : IsTarget look trees base d.0.shows.own tree c.args.parent.now c.args.name.now (Ok (targets.Taken c.in-Taken.child)) = subst (λ (x : Target). IsTarget look trees base d.0.shows.own tree c.args.parent.now c.args.name.now (Ok x)) c.in-Taken.is t in
+    let later : Knows (g.B.Book.told c.way_to.new.book).revs top look = λ n h. c.in_ok-depth.ensures.kept.revs n (look n) (knows n h) in
+    let inner : DeletesIn (g.B.Book.told c.way_to.new.book).revs (g.N.Own.txn c.args.own.now) (g.N.Own.settled c.args.own.now) (g.N.Own.settled c.args.own.now) (g.N.Own.settled c.delete_in.new.own) c.args.parent.now c.args.name.now c.in-Taken.child (Err c.in_err-delete_in-in-Taken.field-0.0) =
+    subst (λ (h : Folder). DeletesIn (g.B.Book.told c.way_to.new.book).revs (g.N.Own.txn c.args.own.now) h (g.N.Own.settled c.args.own.now) (g.N.Own.settled c.delete_in.new.own) c.args.parent.now c.args.name.now c.in-Taken.child (Err c.in_err-delete_in-in-Taken.field-0.0)) c.requires.whole c.in_err-delete_in-in-Taken.ensures.deletes in
+    let r = err_from_is_err_and c.from_residual-in_err-delete_in-in-Taken.result c.from_residual-in_err-delete_in-in-Taken.ensures.1 in
+    rw (r.1, r.2) (inner look trees top base tree marks later shown le is_tree d at.0 at.1 at.2)
+
+pub returns-in_ok-delete_in-in-Taken-clause-meets : goal.returns-in_ok-delete_in-in-Taken-clause-meets
+returns-in_ok-delete_in-in-Taken-clause-meets g c = λ look trees top base tree marks knows shown le is_tree d.
+    let looks : LooksAt (g.B.Book.told c.args.book.now).revs (g.N.Own.txn c.args.own.now) (g.N.Own.settled c.args.own.now) c.args.parent.now c.args.name.now (Ok c.in_ok-depth.field-0) =
+    subst (λ (h : Folder). LooksAt (g.B.Book.told c.args.book.now).revs (g.N.Own.txn c.args.own.now) h c.args.parent.now c.args.name.now (Ok c.in_ok-depth.field-0)) c.requires.whole c.in_ok-depth.ensures.looks in
+    let t : IsTarget look trees base d.0.shows.own tree c.args.parent.now c.args.name.now (Ok c.in_ok-depth.field-0) = looks look trees top base tree marks knows shown le is_tree d in
+    let at : IsTarget look trees base d.0.shows.own tree c.args.parent.now c.args.name.now (Ok (targets.Taken c.in-Taken.child)) = subst (λ (x : Target). IsTarget look trees base d.0.shows.own tree c.args.parent.now c.args.name.now (Ok x)) c.in-Taken.is t in
+    let later : Knows (g.B.Book.told c.way_to.new.book).revs top look = λ n h. c.in_ok-depth.ensures.kept.revs n (look n) (knows n h) in
+    let inner : DeletesIn (g.B.Book.told c.way_to.new.book).revs (g.N.Own.txn c.args.own.now) (g.N.Own.settled c.args.own.now) (g.N.Own.settled c.args.own.now) (g.N.Own.settled c.delete_in.new.own) c.args.parent.now c.args.name.now c.in-Taken.child (Ok tt) =
+    subst (λ (h : Folder). DeletesIn (g.B.Book.told c.way_to.new.book).revs (g.N.Own.txn c.args.own.now) h (g.N.Own.settled c.args.own.now) (g.N.Own.settled c.delete_in.new.own) c.args.parent.now c.args.name.now c.in-Taken.child (Ok tt)) c.requires.whole c.in_ok-delete_in-in-Taken.ensures.deletes in
+    inner look trees top base tree marks later shown le is_tree d at.0 at.1 at.2
+
+pub returns-in_err-delete_in-in-Taken-clause-kept : goal.returns-in_err-delete_in-in-Taken-clause-kept
+returns-in_err-delete_in-in-Taken-clause-kept g c = keeps_trans _ _ _ c.in_ok-depth.ensures.kept c.in_err-delete_in-in-Taken.ensures.kept
+
+pub returns-in_ok-delete_in-in-Taken-clause-kept : goal.returns-in_ok-delete_in-in-Taken-clause-kept
+returns-in_ok-delete_in-in-Taken-clause-kept g c = keeps_trans _ _ _ c.in_ok-depth.ensures.kept c.in_ok-delete_in-in-Taken.ensures.kept

@@ -1,0 +1,48 @@
+-- The items of the `changes` file that edits leave.
+use Rattle.std.specs.Prelude.{◌≡◌, ◌++◌, false, List, [], ◌∷◌, Option, Some, None}
+use Rattle.fsfs_base.specs.Paths.{Path}
+use Rattle.fsfs_base.specs.declared.kind.Kind.{Kind}
+use Rattle.fsfs_base.specs.declared.action.Action.TheVariants as actions
+use Rattle.fsfs_noderev.specs.declared.node_id.NodeId.{NodeId}
+use Rattle.fsfs_noderev.specs.declared.node_rev.CopySource.{CopySource}
+use Rattle.fsfs_changes.specs.declared.item.ChangeItem.{ChangeItem}
+use Rattle.fsfs_drafts.specs.Drafts.{Kept, Folder}
+use Rattle.fsfs_drafts.specs.Steps.{kept_at}
+
+-- the folder with an item more
+abbrev pub with_item : Folder → ChangeItem → Folder
+with_item f item = record f { items = f.items ++ item ∷ [] }
+
+-- the item of a node that was put at the path
+pub record IsAddOf (item : ChangeItem) (id : NodeId) (kind : Kind) (path : Path) (source : Option CopySource) : Type 0 where
+  pub id_is : item.id ≡ id
+  pub action : item.action ≡ actions.Add
+  pub kind_is : item.kind ≡ Some kind
+  pub text : item.text_changed ≡ false
+  pub props : item.props_changed ≡ false
+  pub path_is : item.path ≡ path
+  pub source_is : item.source ≡ source
+
+-- the item of a node that was taken away from the path
+pub record IsDeleteOf (item : ChangeItem) (id : NodeId) (kind : Kind) (path : Path) : Type 0 where
+  pub id_is : item.id ≡ id
+  pub action : item.action ≡ actions.Delete
+  pub kind_is : item.kind ≡ Some kind
+  pub text : item.text_changed ≡ false
+  pub props : item.props_changed ≡ false
+  pub path_is : item.path ≡ path
+  pub source_is : item.source ≡ None
+
+-- the id is that of a file of the folder, of a node-revision made at the path
+pub record IsFileAt (f : Folder) (path : Path) (id : NodeId) : Type 0 where
+  pub k : Kept
+  pub here : kept_at f.nodes id ≡ Some k
+  pub path_is : k.node.created_path ≡ path
+
+-- the last item says that a node was put at the path, and names its file
+pub record AddsItem (f : Folder) (kind : Kind) (path : Path) (source : Option CopySource) : Type 0 where
+  pub front : List ChangeItem
+  pub item : ChangeItem
+  pub items : f.items ≡ front ++ item ∷ []
+  pub is : IsAddOf item item.id kind path source
+  pub file : IsFileAt f path item.id

@@ -1,0 +1,53 @@
+//! The items of the `changes` file that edits leave.
+ghost use Rattle.std.specs.Prelude.{IfOk, ◌++◌, ◌∷◌, []};
+ghost use Rattle.fsfs_edit.specs.Items.{IsAddOf, IsDeleteOf};
+
+use fsfs_base::{Action, FsPath, Kind};
+use fsfs_changes::ChangeItem;
+use fsfs_noderev::{CopySource, NodeId};
+use std::alloc::{AllocError, Global};
+
+/// The item of a node that was put under a name of a directory.
+pub(crate) fn added(
+    alloc: Global,
+    id: NodeId,
+    kind: Kind,
+    parent: &FsPath,
+    name: &str,
+    source: Option<CopySource>,
+) -> Result<ChangeItem, AllocError>
+    ensures { IfOk result (λ item. IsAddOf item id kind (parent.now ++ name.now ∷ []) source) }
+{
+    let path = parent.child(alloc, name)?;
+    Ok(ChangeItem {
+        id,
+        action: Action::Add,
+        kind: Some(kind),
+        text_changed: false,
+        props_changed: false,
+        path,
+        source,
+    })
+}
+
+/// The item of a node that was taken away.
+pub(crate) fn deleted(
+    alloc: Global,
+    id: NodeId,
+    kind: Kind,
+    parent: &FsPath,
+    name: &str,
+) -> Result<ChangeItem, AllocError>
+    ensures { IfOk result (λ item. IsDeleteOf item id kind (parent.now ++ name.now ∷ [])) }
+{
+    let path = parent.child(alloc, name)?;
+    Ok(ChangeItem {
+        id,
+        action: Action::Delete,
+        kind: Some(kind),
+        text_changed: false,
+        props_changed: false,
+        path,
+        source: None,
+    })
+}

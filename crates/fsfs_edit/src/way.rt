@@ -1,0 +1,102 @@
+//! The way to the directory in which an edit is asked for.
+ghost use Rattle.std.specs.Prelude.{◌≡◌, ◌≤◌, ◌++◌, ◌∷◌, [], ℕ, Some};
+ghost use Rattle.fsfs_tree.specs.Nodes.{TreeFunction};
+ghost use Rattle.fsfs_base.specs.Paths.{Path};
+ghost use Rattle.fsfs_base.specs.declared.kind.Kind.TheVariants.{Dir};
+ghost use Rattle.fsfs_book.specs.Told.{RevisionBytes, Knows, Keeps};
+ghost use Rattle.fsfs_drafts.specs.Own.{Own as Owns, OwnNode, draft_tree};
+ghost use Rattle.fsfs_drafts.specs.Drafts.{IsDraft, ShowTrees};
+ghost use Rattle.fsfs_edit.specs.Walks.{IsAt, HasKind};
+ghost use Rattle.fsfs_edit.specs.Ways.{IsTarget, LooksAt, Opens};
+
+use crate::bubble::bubble_up;
+use crate::error::EditError;
+use crate::ids::root_id;
+use crate::own::Own;
+use crate::walk::{Child, Found, Step, met, next};
+use fsfs_base::{FsPath, Kind};
+use fsfs_book::Book;
+use fsfs_noderev::NodeId;
+use std::alloc::Global;
+
+/// What stands where an edit is asked for.
+#[derive(Debug, Drop)]
+pub(crate) enum Target {
+    /// So many names of the directory's path lead to nothing.
+    NotFound(usize),
+    /// So many names of the directory's path lead to a file.
+    NotDir(usize),
+    /// The directory has nothing of the name.
+    Free,
+    Taken(Child),
+}
+
+// What stands under a name of a directory that a walk came to.
+fn beneath<B: Book, N: Own>(
+    alloc: Global,
+    book: &mut B,
+    own: &N,
+    dir: &Step,
+    name: &str,
+) -> Result<Target, EditError>
+    ensures draft { (look : RevisionBytes) (trees : ℕ → TreeFunction) (top base : ℕ) (nodes : Owns) (path : Path) → Knows (B.told book.old).revs top look → ShowTrees look top trees → base ≤ top → IsDraft look top base (N.txn own.now) (N.folder own.now) nodes → IsAt look trees base nodes path dir.now → HasKind (draft_tree trees nodes (trees base) path) Dir → IsTarget look trees base nodes (draft_tree trees nodes (trees base)) path name.now result }
+    ensures kept { Keeps (B.told book.old) (B.told book.new) }
+{
+    match next(alloc, book, own, dir, name)? {
+        None => Ok(Target::Free),
+        Some(child) => Ok(Target::Taken(child)),
+    }
+}
+
+// What stands under a name of the directory at a path, below the root of this id.
+fn target_at<B: Book, N: Own>(
+    alloc: Global,
+    book: &mut B,
+    own: &N,
+    root: &NodeId,
+    parent: &FsPath,
+    name: &str,
+) -> Result<Target, EditError>
+    ensures draft { (look : RevisionBytes) (trees : ℕ → TreeFunction) (top base : ℕ) (nodes : Owns) (v : OwnNode) → Knows (B.told book.old).revs top look → ShowTrees look top trees → base ≤ top → IsDraft look top base (N.txn own.now) (N.folder own.now) nodes → nodes [] ≡ Some v → v.node.id ≡ root.now → v.node.kind ≡ Dir → IsTarget look trees base nodes (draft_tree trees nodes (trees base)) parent.now name.now result }
+    ensures kept { Keeps (B.told book.old) (B.told book.new) }
+{
+    match met(alloc, book, own, root, parent)? {
+        Found::Absent(depth) => Ok(Target::NotFound(depth)),
+        Found::File(depth) => Ok(Target::NotDir(depth)),
+        Found::Node(child) => match child.kind {
+            Kind::File => Ok(Target::NotDir(parent.depth())),
+            Kind::Dir => beneath(alloc, book, own, &child.step, name),
+        },
+    }
+}
+
+/// What stands under a name of the directory at a path.
+pub(crate) fn way_to<B: Book, N: Own>(
+    alloc: Global,
+    book: &mut B,
+    own: &N,
+    parent: &FsPath,
+    name: &str,
+) -> Result<Target, EditError>
+    ensures looks { LooksAt (B.told book.old).revs (N.txn own.now) (N.folder own.now) parent.now name.now result }
+    ensures kept { Keeps (B.told book.old) (B.told book.new) }
+{
+    let root = root_id(own.name());
+    target_at(alloc, book, own, &root, parent, name)
+}
+
+/// Makes all that stands on the way from the root to a directory the transaction's own, and answers the directory's id.
+pub(crate) fn opened_to<B: Book, N: Own>(
+    alloc: Global,
+    book: &mut B,
+    own: &mut N,
+    parent: &FsPath,
+) -> Result<NodeId, EditError>
+    ensures opens { Opens (B.told book.old).revs (N.txn own.old) (N.folder own.old) (N.folder own.new) parent.now result }
+    ensures settled { N.settled own.new ≡ N.settled own.old }
+    ensures name { N.txn own.new ≡ N.txn own.old }
+    ensures kept { Keeps (B.told book.old) (B.told book.new) }
+{
+    let root = root_id(own.name());
+    bubble_up(alloc, book, own, &root, parent)
+}

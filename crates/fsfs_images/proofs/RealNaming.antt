@@ -1,0 +1,65 @@
+-- The machine's files are told apart by their names.
+use Rattle.std.proofs.Common.{◌≡◌, ℕ, List, Bool, true, false, refl, sym, ap, ◌∙◌}
+use Rattle.std.proofs.lemmas.Bool.{eqb-true, eq-eqb}
+use Rattle.fsfs_layout.specs.FileNames.{file_name, FitsFile}
+use Rattle.fsfs_layout.specs.declared.layout.Layout.{Layout}
+use Rattle.fsfs_layout.specs.declared.only_file.OnlyFile.{OnlyFile}
+use Rattle.fsfs_layout.specs.declared.only_file.OnlyFile.TheVariants as only
+use Rattle.fsfs_layout.specs.declared.repository_file.RepositoryFile.{RepositoryFile}
+use Rattle.fsfs_layout.specs.declared.repository_file.RepositoryFile.TheVariants as real
+use Rattle.fsfs_layout.proofs.Apart.{names_apart}
+use Rattle.fsfs_machine.specs.declared.contents.FileName.{FileName}
+use Rattle.fsfs_machine.specs.declared.contents.FileName.TheVariants.{Current, CurrentNext, Counter, CounterNext, Floor, Rev, Props}
+use Rattle.fsfs_machine.specs.Disk.{same_name}
+use Rattle.fsfs_images.specs.RealNames.{machine_file, machine_name, AreMachineNames}
+
+-- the machine's name of a file, for those that it has one of
+abbrev back : RepositoryFile → FileName
+back (real.Only only.CurrentNext) = CurrentNext
+back (real.Only only.TxnCurrent) = Counter
+back (real.Only only.TxnCurrentNext) = CounterNext
+back (real.Only only.MinUnpackedRev) = Floor
+back (real.Revision r) = Rev r
+back (real.Props r) = Props r
+back f = Current
+
+is_back : (n : FileName) → back (machine_file n) ≡ n
+is_back Current = refl
+is_back CurrentNext = refl
+is_back Counter = refl
+is_back CounterNext = refl
+is_back Floor = refl
+is_back (Rev r) = refl
+is_back (Props r) = refl
+
+is_same : (n : FileName) → same_name n n ≡ true
+is_same Current = refl
+is_same CurrentNext = refl
+is_same Counter = refl
+is_same CounterNext = refl
+is_same Floor = refl
+is_same (Rev r) = eq-eqb r r refl
+is_same (Props r) = eq-eqb r r refl
+
+same_files : (a b : FileName) → same_name a b ≡ true → machine_file a ≡ machine_file b
+same_files Current Current e = refl
+same_files CurrentNext CurrentNext e = refl
+same_files Counter Counter e = refl
+same_files CounterNext CounterNext e = refl
+same_files Floor Floor e = refl
+same_files (Rev r) (Rev s) e = ap (λ (n : ℕ). real.Revision n) (eqb-true r s e)
+same_files (Props r) (Props s) e = ap (λ (n : ℕ). real.Props n) (eqb-true r s e)
+same_files a b e = absurd cc
+
+not_false : (b : Bool) → b ≡ true → b ≡ false → ⊥
+not_false true e f = cc
+not_false false e f = cc
+
+pub machine_names_apart : (layout : Layout) → AreMachineNames layout
+machine_names_apart k = record {
+  same = λ a b e. ap (file_name k) (same_files a b e);
+  apart = λ a b fa fb differ e.
+      let file : machine_file b ≡ machine_file a = names_apart k (machine_file b) (machine_file a) fb fa e in
+      let name : b ≡ a = sym (is_back b) ∙ ap back file ∙ is_back a in
+      not_false (same_name a b) (ap (λ (n : FileName). same_name a n) name ∙ is_same a) differ;
+}

@@ -1,0 +1,4 @@
+pub mod Landed
+pub mod LandedOwn
+pub mod LandedShown
+pub mod LandedWhole
