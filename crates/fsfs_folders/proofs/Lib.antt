@@ -22,3 +22,4 @@ pub mod TxnEntries
 pub mod FolderCalls
 pub mod Clearing
 pub mod Filling
+pub mod LabelsLeft

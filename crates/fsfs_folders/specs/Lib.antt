@@ -7,3 +7,4 @@ pub mod Writing
 pub mod BenchFiles
 pub mod Standing
 pub mod Laws
+pub mod LabelsLeft

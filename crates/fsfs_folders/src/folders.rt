@@ -8,6 +8,7 @@ ghost use Rattle.fsfs_calls.specs.Paths.{has_path, folder_of};
 ghost use Rattle.fsfs_calls.specs.Listing.{is_entry as entry};
 ghost use Rattle.fsfs_folders.specs.Told.{is_apart as apart, LeavesImages};
 ghost use Rattle.fsfs_folders.specs.Keeping.{are_rooted, are_names_firm, is_sound};
+ghost use Rattle.fsfs_folders.specs.LabelsLeft.{KeepsDropsFirm};
 ghost use Rattle.fsfs_folders.specs.Quiet.{IsQuiet};
 ghost use Rattle.fsfs_folders.specs.Standing.{told, IsNoted, IsWritten, IsWholeAt, bytes_under, Adopts, FailsToTake};
 ghost use Rattle.fsfs_folders.specs.BenchFiles.{bench_told, firm_held, AreShort, HoldsNothing};
@@ -252,6 +253,7 @@ impl<C: Calls + Drop> Folders<C> {
         ensures there { IfOk result (λ there. IfSome (told (C.history self.old.calls)) (λ t. there ≡ has_label (label_of label.now) (labels_now t))) }
         ensures ok { IfOk result (λ there. PerformsIfThere there (DropLabel (label_of label.now)) (told (C.history self.old.calls)) (told (C.history self.new.calls))) }
         ensures err { OnErr result ((told (C.history self.new.calls) ≡ told (C.history self.old.calls)) ⊎ Performs (DropLabel (label_of label.now)) (told (C.history self.old.calls)) (told (C.history self.new.calls))) }
+        ensures firm { OnOk result (KeepsDropsFirm (C.history self.old.calls) (C.history self.new.calls)) }
     {
         let path = bench_path(label);
         match self.calls.drop_folder(&path) {

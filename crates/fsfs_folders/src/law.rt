@@ -2,6 +2,7 @@
 ghost use Rattle.std.specs.Prelude.{◌≡◌, true, IfSome};
 ghost use Rattle.fsfs_folders.specs.Told.{LeavesImages};
 ghost use Rattle.fsfs_folders.specs.Keeping.{keeps};
+ghost use Rattle.fsfs_folders.specs.LabelsLeft.{are_drops_firm, LeavesLabels};
 
 use fsfs_calls::Calls;
 
@@ -10,6 +11,15 @@ use fsfs_calls::Calls;
 pub fn leaves_images<C: Calls>(calls: &C)
     requires { IfSome (C.history calls.now) (λ r. keeps r.first r.calls ≡ true) }
     ensures { IfSome (C.history calls.now) LeavesImages }
+{
+    let _ = calls;
+}
+
+/// Of calls after which each folder of a bench that was dropped is so firmly: each label whose folder a crash may leave now is kept.
+/// It does nothing.
+pub fn leaves_labels<C: Calls>(calls: &C)
+    requires { IfSome (C.history calls.now) (λ r. are_drops_firm r.calls ≡ true) }
+    ensures { IfSome (C.history calls.now) LeavesLabels }
 {
     let _ = calls;
 }

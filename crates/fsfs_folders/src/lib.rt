@@ -18,4 +18,4 @@ mod writing;
 pub use bench::FolderBench;
 pub use disk::FolderDisk;
 pub use folders::Folders;
-pub use law::leaves_images;
+pub use law::{leaves_images, leaves_labels};

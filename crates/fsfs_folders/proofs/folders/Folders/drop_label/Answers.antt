@@ -4,6 +4,7 @@ use Rattle.fsfs_calls.specs.CallRecord.{DropFolder}
 use Rattle.fsfs_folders.proofs.PutLemmas.{if_given}
 use Rattle.fsfs_folders.proofs.WritingLemmas.{on_err}
 use Rattle.fsfs_folders.proofs.FolderCalls.{made_or_not, sound_label_dropped, sound_label_synced, label_dropped, label_dropped_failed, label_not_dropped, label_was_there, label_was_absent}
+use Rattle.fsfs_folders.proofs.LabelsLeft.{drops_firm, drops_same}
 use Rattle.fsfs_folders.proofs.folders.Folders.drop_label.Goals as goal
 
 pub invariant_of-self : goal.invariant_of-self
@@ -40,3 +41,10 @@ invariant_of-self-in-Err-1 g c = record {
 pub returns-in-Err-clause-err : goal.returns-in-Err-clause-err
 returns-in-Err-clause-err g c =
     label_not_dropped (label_of c.args.label.now) c.bench_path-path.result c.bench_path-path.ensures.path c.bench_path-path.ensures.fits (g.C.Calls.history c.args.self.now.calls) (g.C.Calls.history c.drop_folder.new.self) c.in-Err.ensures.err
+
+pub returns-in_ok-sync_folder-in-Ok-clause-firm : goal.returns-in_ok-sync_folder-in-Ok-clause-firm
+returns-in_ok-sync_folder-in-Ok-clause-firm g c =
+    drops_firm c.bench_path-path.result c.folder.result (g.C.Calls.history c.args.self.now.calls) (g.C.Calls.history c.drop_folder.new.self) (g.C.Calls.history c.sync_folder.new.self) c.folder.ensures c.in-Ok.ensures.ok c.in_ok-sync_folder-in-Ok.ensures.ok
+
+pub returns-in-Err-NotFound-clause-firm : goal.returns-in-Err-NotFound-clause-firm
+returns-in-Err-NotFound-clause-firm g c = drops_same (g.C.Calls.history c.args.self.now.calls) (g.C.Calls.history c.drop_folder.new.self) (c.in-Err-NotFound.ensures.same (search rules))
