@@ -1,7 +1,6 @@
 //! The changed paths of revisions whose bytes are given, whole and damaged.
 use crate::revisions::{
-    COPIED_DIRECTORY, FIRST_DIRECTORY, MADE_1, MADE_2, MADE_3, MADE_AND_REMOVED, REMOVED_AND_MADE,
-    REPLACED_IN_A_COPY, TWO_FILES, book_of, book_with,
+    COPIED_DIRECTORY, MADE_AND_REMOVED, REMOVED_AND_MADE, REPLACED_IN_A_COPY, TWO_FILES, book_with,
 };
 use fsfs_base::RevNum;
 use fsfs_changed_look::changed_text;
@@ -9,6 +8,7 @@ use fsfs_damage::{Damage, DamageKind, Refusal, RevOffset, Wrong};
 use fsfs_look::LookError;
 use fsfs_memstreams::MemSink;
 use fsfs_printed::LookFault;
+use fsfs_samples::{FIRST_DIRECTORY, MADE_1, MADE_2, MADE_3, book_of};
 use std::alloc::Global;
 use std::test::Fail;
 
