@@ -1,0 +1,5 @@
+pub mod PathLemmas
+pub mod NameLemmas
+pub mod NamedLemmas
+pub mod LeftLemmas
+pub mod OneName

@@ -1,0 +1,5 @@
+pub mod Paths
+pub mod CallRecord
+pub mod Listing
+pub mod Named
+pub mod Remains

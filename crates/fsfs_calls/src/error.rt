@@ -1,0 +1,25 @@
+// Why a call of the system was not done.
+use thiserror::Error;
+
+/// Why a call of the system was not done.
+#[derive(Clone, Copy, Debug, PartialEq, Eq, Error)]
+pub enum CallError {
+    /// Nothing has this name.
+    #[error("nothing has this name")]
+    NotFound,
+    /// Something has this name already.
+    #[error("something has this name")]
+    Exists,
+    /// What has the name is no file, or no folder.
+    #[error("this is of another kind")]
+    OtherKind,
+    /// Another process holds the lock.
+    #[error("another process holds the lock")]
+    Locked,
+    /// There was no memory for the answer.
+    #[error("out of memory")]
+    Memory,
+    /// The system failed.
+    #[error("the call failed")]
+    Failed,
+}

@@ -1,0 +1,4 @@
+pub mod PlaceLemmas
+pub mod StandingLemmas
+pub mod EntryLemmas
+pub mod ListLemmas
