@@ -8,7 +8,7 @@ use Rattle.fsfs_base.specs.Paths.{Path, path_cmp}
 use Rattle.fsfs_tree.specs.Nodes.{Node, Content, Bytes, Closed, TreeFunction, empty_node}
 use Rattle.fsfs_tree.specs.Revisions.{Revision, tree_of}
 use Rattle.fsfs_tree.specs.Dated.{last_of, date_name}
-use Rattle.fsfs_flat.specs.PathHistories.{path_history}
+use Rattle.fsfs_tree.specs.PathHistories.{path_history}
 use Rattle.fsfs_answers.specs.FaultWords.{not_found, not_dir, not_file, no_rev, already_repo, not_repo, delta, path_value, two_numbers}
 pub use Rattle.fsfs_answers.specs.TreeTexts.{last_name, kind_mark, tree_line, tree_text}
 use Rattle.fsfs_answers.specs.PropTexts.{author_text, date_text, log_text, info_text}

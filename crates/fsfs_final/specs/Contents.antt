@@ -4,7 +4,7 @@ use Rattle.fsfs_flat.specs.declared.mark.Mark.{Mark}
 use Rattle.fsfs_base.specs.declared.kind.Kind.TheVariants.{File, Dir}
 use Rattle.fsfs_base.specs.Paths.{Path}
 use Rattle.fsfs_tree.specs.Nodes.{Node, TreeFunction, Bytes}
-use Rattle.fsfs_flat.specs.Histories.{AreRevisions}
+use Rattle.fsfs_tree.specs.Histories.{AreRevisions}
 use Rattle.fsfs_flat.specs.Landing.{NoClash, land}
 use Rattle.fsfs_flat.specs.Transactions.{IsTransaction}
 use Rattle.fsfs_book.specs.Told.{RevisionBytes}

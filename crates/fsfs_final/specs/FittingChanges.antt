@@ -6,7 +6,7 @@ use Rattle.fsfs_tree.specs.declared.change_map.Change.{Change}
 use Rattle.fsfs_base.specs.Paths.{Path}
 use Rattle.fsfs_tree.specs.Nodes.{TreeFunction}
 use Rattle.fsfs_flat.specs.Folding.{fold}
-use Rattle.fsfs_flat.specs.Histories.{AreRevisions}
+use Rattle.fsfs_tree.specs.Histories.{AreRevisions}
 use Rattle.fsfs_flat.specs.Landing.{NoClash, land}
 use Rattle.fsfs_flat.specs.Transactions.{IsTransaction}
 use Rattle.fsfs_book.specs.Told.{RevisionBytes}

@@ -6,7 +6,7 @@ use Rattle.std.specs.FinMap.{get}
 use Rattle.fsfs_tree.specs.Nodes.{TreeFunction}
 use Rattle.fsfs_tree.specs.Revisions.{Revision, node_in, tree_of}
 use Rattle.fsfs_tree.specs.Dated.{last_of}
-use Rattle.fsfs_flat.specs.Histories.{IsHistory}
+use Rattle.fsfs_tree.specs.Histories.{IsHistory}
 use Rattle.fsfs_book.specs.Told.{RevisionBytes}
 use Rattle.fsfs_rev_file.specs.RevBytes.{rev_bytes, props_bytes}
 use Rattle.fsfs_shows.specs.Shown.{Shows}

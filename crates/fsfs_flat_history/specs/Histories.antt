@@ -2,7 +2,7 @@
 use Rattle.std.specs.Prelude.{◌≡◌, ℕ, suc, List, length}
 use Rattle.fsfs_base.specs.Files.{Files}
 use Rattle.fsfs_tree.specs.Revisions.{Revision}
-use Rattle.fsfs_flat.specs.Histories.{IsHistory}
+use Rattle.fsfs_tree.specs.Histories.{IsHistory}
 use Rattle.fsfs_book.specs.Told.{RevisionBytes}
 use Rattle.fsfs_stands.specs.History.{ShowsHistory}
 use Rattle.fsfs_stands.specs.Files.{StandsFor}

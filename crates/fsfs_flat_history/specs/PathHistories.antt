@@ -4,7 +4,7 @@ use Rattle.fsfs_base.specs.Files.{Files}
 use Rattle.fsfs_base.specs.Paths.{Path}
 use Rattle.fsfs_tree.specs.Revisions.{Revision, tree_of}
 use Rattle.fsfs_tree.specs.Dated.{last_of}
-use Rattle.fsfs_flat.specs.PathHistories.{path_history}
+use Rattle.fsfs_tree.specs.PathHistories.{path_history}
 use Rattle.fsfs_answers.specs.Answers.{found_at}
 use Rattle.fsfs_rev_file.specs.RevBytes.{rev_bytes}
 use Rattle.fsfs_printed.specs.Texts.{End}

@@ -20,7 +20,7 @@ use Rattle.fsfs_flat.specs.Marks.{made, effects}
 use Rattle.fsfs_flat.specs.Edits.{can_make, changed_props, accepts, applied, mark_of, with_text, with_prop, bytes_of, copied_node, rest_after, kind_of_node, is_file_node}
 use Rattle.fsfs_flat.specs.Landing.{land, reached, goes_on, clashes_at, touched_by_head, held_by_head}
 use Rattle.fsfs_flat.specs.Folding.{fold_mark, joined, begun, flagged, after_add, after_delete, after_modify, change_in}
-use Rattle.fsfs_flat.specs.Histories.{AreRevisions}
+use Rattle.fsfs_tree.specs.Histories.{AreRevisions}
 use Rattle.fsfs_flat.specs.Transactions.{IsTransaction, Begun, Edited, Landed}
 use Rattle.fsfs_model.specs.Laws.{In}
 use Rattle.fsfs_model.proofs.Applied.{same_path-is, same_path-refl, nothing_after}

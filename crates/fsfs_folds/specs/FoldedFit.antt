@@ -7,7 +7,7 @@ use Rattle.fsfs_base.specs.Paths.{Path}
 use Rattle.fsfs_tree.specs.Nodes.{Node}
 use Rattle.fsfs_tree.specs.Nodes.{TreeFunction}
 use Rattle.fsfs_flat.specs.Folding.{fold}
-use Rattle.fsfs_flat.specs.Histories.{AreRevisions}
+use Rattle.fsfs_tree.specs.Histories.{AreRevisions}
 use Rattle.fsfs_flat.specs.Transactions.{IsTransaction}
 
 -- what is deleted is gone; what is added, replaced or modified is there, and of the change's kind

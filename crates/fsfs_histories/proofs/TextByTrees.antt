@@ -3,7 +3,7 @@ use Rattle.std.proofs.Common.{◌≡◌, ◌≤◌, ◌<◌, ◌+◌, ℕ, zero,
 use Rattle.std.specs.Prelude.{Ok, Err, Option, Some, None}
 use Rattle.fsfs_base.specs.Paths.{Path}
 use Rattle.fsfs_tree.specs.Nodes.{Node, TreeFunction}
-use Rattle.fsfs_flat.specs.PathHistories.{leads_to, go_on, points_at, history_within, path_history}
+use Rattle.fsfs_tree.specs.PathHistories.{leads_to, go_on, points_at, history_within, path_history}
 use Rattle.fsfs_book.specs.Told.{RevisionBytes}
 use Rattle.fsfs_answers.specs.Answers as answers
 use Rattle.fsfs_answers.specs.Answers.{Found, found_at}

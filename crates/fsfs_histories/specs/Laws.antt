@@ -2,7 +2,7 @@
 use Rattle.std.specs.Prelude.{◌≡◌, ◌≤◌, ◌<◌, ℕ, List, Option, Some, None, Result, Ok, Err}
 use Rattle.fsfs_base.specs.Paths.{Path}
 use Rattle.fsfs_tree.specs.Nodes.{Node, TreeFunction}
-use Rattle.fsfs_flat.specs.PathHistories.{leads_to, path_history}
+use Rattle.fsfs_tree.specs.PathHistories.{leads_to, path_history}
 use Rattle.fsfs_book.specs.Told.{RevisionBytes}
 use Rattle.fsfs_answers.specs.Answers.{Found, Stands, Lacking, Blocked, found_at}
 use Rattle.fsfs_damage.specs.Readings.{HasOneAnswer}

@@ -8,7 +8,7 @@ use Rattle.std.proofs.lemmas.List.{take-append-drop}
 use Rattle.fsfs_base.specs.Paths.{PathName, Path, same_name, covers, is_above}
 use Rattle.fsfs_tree.specs.Nodes.{Node, TreeFunction}
 use Rattle.fsfs_flat.specs.Landing.{touched_by_head, held_by_head, props_changed_by_head}
-use Rattle.fsfs_flat.specs.Histories.{IsRevision, AreRevisions}
+use Rattle.fsfs_tree.specs.Histories.{IsRevision, AreRevisions}
 use Rattle.fsfs_book.specs.Told.{RevisionBytes}
 use Rattle.fsfs_noderev.specs.declared.node_id.NodeId.{NodeId}
 use Rattle.fsfs_noderev.specs.declared.rep.Contents.{Contents}

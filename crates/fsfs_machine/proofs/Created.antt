@@ -5,7 +5,7 @@ use Rattle.std.specs.FinMap.{empty, get-insert, get-empty}
 use Rattle.fsfs_base.specs.declared.kind.Kind.TheVariants.{Dir}
 use Rattle.fsfs_base.specs.Paths.{path_cmp, path_cmp_total}
 use Rattle.fsfs_tree.specs.Nodes.{empty_node}
-use Rattle.fsfs_flat.specs.Histories.{IsHistory}
+use Rattle.fsfs_tree.specs.Histories.{IsHistory}
 use Rattle.fsfs_machine.specs.declared.contents.FileName.TheVariants.{Current, Counter, Floor, Rev, Props}
 use Rattle.fsfs_machine.specs.declared.contents.Contents.TheVariants.{PropsFile, Number}
 use Rattle.fsfs_machine.specs.declared.contents.NameChange.TheVariants.{Put}

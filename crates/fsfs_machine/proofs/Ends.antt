@@ -3,7 +3,7 @@ use Rattle.std.proofs.Common.{◌≡◌, ◌≤◌, ◌+◌, ◌-◌, ◌^◌, �
 use Rattle.std.proofs.lemmas.Bool.{both_ways}
 use Rattle.std.specs.Prelude.{Some, None, IfSome, slice_get, nat_lt}
 use Rattle.std.proofs.lemmas.List.{take_all}
-use Rattle.fsfs_flat.specs.Histories.{IsHistory}
+use Rattle.fsfs_tree.specs.Histories.{IsHistory}
 use Rattle.fsfs_model.proofs.Legal.{commits_make_a_history}
 use Rattle.fsfs_machine.specs.declared.contents.FileName.TheVariants.{Current, Props}
 use Rattle.fsfs_machine.specs.declared.contents.NameChange.TheVariants.{Firm}

@@ -9,7 +9,7 @@ use Rattle.fsfs_tree.specs.Nodes.{Node}
 use Rattle.fsfs_flat.specs.Edits.{accepts, applied, mark_of, within_limits}
 use Rattle.fsfs_flat.specs.Landing.{land, NoClash}
 use Rattle.fsfs_tree.specs.Revisions.{Revision, tree_of}
-use Rattle.fsfs_flat.specs.Histories.{IsHistory}
+use Rattle.fsfs_tree.specs.Histories.{IsHistory}
 use Rattle.fsfs_flat.specs.Transactions.{Entry, IsTransaction, Edited, Landed, IsEntry, IsNext}
 use Rattle.fsfs_tree.specs.Dated.{last_of}
 use Rattle.fsfs_machine.specs.declared.contents.FileName.TheVariants.{Counter, Floor, Rev, Props}

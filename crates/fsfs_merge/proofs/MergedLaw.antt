@@ -14,7 +14,7 @@ use Rattle.fsfs_flat.specs.declared.mark.Mark.{Mark}
 use Rattle.fsfs_flat.specs.declared.mark.Effects.{Effects}
 use Rattle.fsfs_flat.specs.Marks.{effects, outer, changes_props, is_rewritten}
 use Rattle.fsfs_flat.specs.Landing.{held_by_own, held_by_head, touched_by_head, props_changed_by_head, goes_on, reached, NoClash, chosen, numbered_some, land}
-use Rattle.fsfs_flat.specs.Histories.{AreRevisions}
+use Rattle.fsfs_tree.specs.Histories.{AreRevisions}
 use Rattle.fsfs_flat.specs.Transactions.{IsTransaction}
 use Rattle.fsfs_model.proofs.Tests.{found, found_in, other_false}
 use Rattle.fsfs_base.proofs.PathLemmas.{covers-refl, same_name-is}

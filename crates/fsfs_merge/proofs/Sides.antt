@@ -8,7 +8,7 @@ use Rattle.fsfs_tree.specs.Nodes.{Node, TreeFunction}
 use Rattle.fsfs_flat.specs.declared.mark.Mark.{Mark}
 use Rattle.fsfs_flat.specs.Marks.{effects}
 use Rattle.fsfs_flat.specs.Landing.{held_by_own, held_by_head, touched_by_head, goes_on, clashes_at, reached, NoClash}
-use Rattle.fsfs_flat.specs.Histories.{AreRevisions}
+use Rattle.fsfs_tree.specs.Histories.{AreRevisions}
 use Rattle.fsfs_flat.specs.Transactions.{IsTransaction, Begun}
 use Rattle.fsfs_model.proofs.Bases.{IsLater}
 use Rattle.fsfs_model.proofs.Later.{later}

@@ -12,7 +12,7 @@ use Rattle.fsfs_base.specs.Paths.{Path, covers, same_path}
 use Rattle.fsfs_tree.specs.Nodes.{Node, TreeFunction, empty_node}
 use Rattle.fsfs_flat.specs.Marks.{outer, made, effects, any_covers, is_rewritten}
 use Rattle.fsfs_flat.specs.Edits.{accepts, applied, mark_of, can_make, with_text, with_prop, bytes_of, copied_node, rest_after}
-use Rattle.fsfs_flat.specs.Histories.{AreRevisions}
+use Rattle.fsfs_tree.specs.Histories.{AreRevisions}
 use Rattle.fsfs_flat.specs.Transactions.{IsTransaction, Begun, Edited, Landed}
 use Rattle.fsfs_model.proofs.Bases.{IsClosed, DescribesBase}
 use Rattle.fsfs_model.proofs.Applied.{same_path-is}

@@ -8,7 +8,7 @@ use Rattle.fsfs_flat.specs.declared.mark.Mark.{Mark}
 use Rattle.fsfs_flat.specs.declared.mark.Effects.{Effects}
 use Rattle.fsfs_flat.specs.Marks.{effects}
 use Rattle.fsfs_flat.specs.Landing.{touched_by_head, props_changed_by_head, goes_on, reached, is_clash, NoClash, land}
-use Rattle.fsfs_flat.specs.Histories.{AreRevisions}
+use Rattle.fsfs_tree.specs.Histories.{AreRevisions}
 use Rattle.fsfs_flat.specs.Transactions.{IsTransaction}
 use Rattle.fsfs_merge.specs.Walks.{Sight, clashes_by_ids, merged}
 

@@ -17,7 +17,7 @@ use Rattle.fsfs_flat.specs.Marks.{made, effects, is_make}
 use Rattle.fsfs_flat.specs.Edits.{applied, mark_of}
 use Rattle.fsfs_flat.specs.Landing.{land}
 use Rattle.fsfs_flat.specs.Folding.{fold, fold_from, fold_mark, joined, change_in}
-use Rattle.fsfs_flat.specs.Histories.{AreRevisions, IsHistory}
+use Rattle.fsfs_tree.specs.Histories.{AreRevisions, IsHistory}
 use Rattle.fsfs_tree.specs.Revisions.{Revision, tree_of}
 use Rattle.fsfs_flat.specs.Transactions.{IsTransaction, Begun, Edited, Landed, Entry, IsEntry, IsNext}
 use Rattle.fsfs_tree.specs.Dated.{last_of}

@@ -4,7 +4,7 @@ use Rattle.std.proofs.lemmas.Bool.{and_from, cases_Bool}
 use Rattle.std.specs.Prelude.{is_some}
 use Rattle.fsfs_base.specs.Paths.{Path, covers, is_above}
 use Rattle.fsfs_tree.specs.Nodes.{Node, TreeFunction}
-use Rattle.fsfs_flat.specs.Histories.{IsRevision, AreRevisions}
+use Rattle.fsfs_tree.specs.Histories.{IsRevision, AreRevisions}
 use Rattle.fsfs_base.proofs.PathLemmas.{covers-antisym}
 use Rattle.fsfs_model.proofs.Bases.{IsLater}
 

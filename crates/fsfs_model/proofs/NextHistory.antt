@@ -15,7 +15,7 @@ use Rattle.fsfs_tree.specs.Nodes.{Node, TreeFunction, empty_node, Bytes}
 use Rattle.fsfs_flat.specs.Marks.{effects}
 use Rattle.fsfs_flat.specs.Edits.{accepts, applied, mark_of, with_node, copied_node, with_text, with_prop, bytes_of, rest_after, is_dir_node, changed_props}
 use Rattle.fsfs_flat.specs.Landing.{land, NoClash}
-use Rattle.fsfs_flat.specs.Histories.{IsRevision, AreRevisions}
+use Rattle.fsfs_tree.specs.Histories.{IsRevision, AreRevisions}
 use Rattle.fsfs_tree.specs.Trees.{IsOrdered}
 use Rattle.fsfs_flat.specs.Transactions.{IsTransaction, Begun, Edited, Landed}
 use Rattle.fsfs_base.proofs.PathLemmas.{covers-refl}

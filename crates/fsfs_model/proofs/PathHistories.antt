@@ -6,8 +6,8 @@ use Rattle.std.specs.Prelude.{nat_lt}
 use Rattle.fsfs_base.specs.Paths.{Path}
 use Rattle.fsfs_tree.specs.Nodes.{Node, TreeFunction, empty_node}
 use Rattle.fsfs_base.specs.declared.kind.Kind.TheVariants.{Dir}
-use Rattle.fsfs_flat.specs.Histories.{AreRevisions}
-use Rattle.fsfs_flat.specs.PathHistories.{history_within, path_history, points_at, go_on, leads_to}
+use Rattle.fsfs_tree.specs.Histories.{AreRevisions}
+use Rattle.fsfs_tree.specs.PathHistories.{history_within, path_history, points_at, go_on, leads_to}
 
 -- each point leads to a lower revision
 abbrev pub Falls : (ℕ → TreeFunction) → Type 0

@@ -2,7 +2,7 @@
 use Rattle.std.proofs.Common.{◌≡◌, ℕ, zero, suc, ◌-◌, ◌<◌, List, [], ◌∷◌, ◌++◌, refl, sym, ap, ◌∙◌, Option, Some, arith, append_assoc}
 use Rattle.fsfs_base.specs.Paths.{Path}
 use Rattle.fsfs_tree.specs.Nodes.{Node, TreeFunction}
-use Rattle.fsfs_flat.specs.PathHistories.{history_within, points_at, go_on, leads_to}
+use Rattle.fsfs_tree.specs.PathHistories.{history_within, points_at, go_on, leads_to}
 
 pub one_point : (done new all : List (ℕ × Path)) (left : ℕ) (tree : ℕ → TreeFunction) (r : ℕ) (p : Path) (n : Node) (next : Option (ℕ × Path)) → 0 < left → tree r p ≡ Some n → new ≡ done ++ (n.last_changed, p) ∷ [] → next ≡ leads_to p n
     → done ++ history_within left tree r p ≡ all → new ++ go_on (λ to. history_within (left - 1) tree to.0 to.1) next ≡ all

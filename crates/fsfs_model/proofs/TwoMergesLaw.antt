@@ -13,7 +13,7 @@ use Rattle.fsfs_base.specs.declared.kind.Kind.TheVariants.{Dir}
 use Rattle.fsfs_flat.specs.Edits.{applied, mark_of}
 use Rattle.fsfs_flat.specs.Marks.{is_make, made, made_after}
 use Rattle.fsfs_flat.specs.Landing.{NoClash}
-use Rattle.fsfs_flat.specs.Histories.{AreRevisions}
+use Rattle.fsfs_tree.specs.Histories.{AreRevisions}
 use Rattle.fsfs_tree.specs.Trees.{IsTree, IsOrdered, AreOrdered}
 use Rattle.fsfs_flat.specs.Transactions.{IsTransaction, Begun, Edited, Landed}
 use Rattle.fsfs_base.proofs.PathLemmas.{covers-antisym}

@@ -12,8 +12,8 @@ use Rattle.fsfs_flat.specs.Marks.{outer, made, made_after, any_covers, is_make}
 use Rattle.fsfs_flat.specs.Folding.{fold}
 use Rattle.fsfs_flat.specs.Landing.{land, is_clash, NoClash}
 use Rattle.fsfs_tree.specs.Trees.{IsTree}
-use Rattle.fsfs_flat.specs.Histories.{AreRevisions, IsHistory}
-use Rattle.fsfs_flat.specs.PathHistories.{path_history, leads_to, go_on}
+use Rattle.fsfs_tree.specs.Histories.{AreRevisions, IsHistory}
+use Rattle.fsfs_tree.specs.PathHistories.{path_history, leads_to, go_on}
 use Rattle.fsfs_tree.specs.Revisions.{Revision, tree_of}
 use Rattle.fsfs_flat.specs.Transactions.{IsTransaction, Entry, IsEntry, IsNext, IsLegal}
 use Rattle.fsfs_tree.specs.Dated.{last_of}

@@ -3,7 +3,7 @@ ghost use Rattle.std.specs.Prelude.{◌≡◌, IfOk, IsSome};
 ghost use Rattle.std.specs.Option.{option_copied};
 ghost use Rattle.std.specs.FinMap as map;
 ghost use Rattle.fsfs_tree.specs.Revisions.{tree_of};
-ghost use Rattle.fsfs_flat.specs.PathHistories.{path_history, leads_to};
+ghost use Rattle.fsfs_tree.specs.PathHistories.{path_history, leads_to};
 
 use fsfs_base::{FsPath, RevNum};
 use fsfs_tree::{History, Node};

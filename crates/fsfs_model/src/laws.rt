@@ -1,7 +1,7 @@
 //! The laws of the flat model. Each of these functions does nothing: what it ensures is proved once for all trees.
 ghost use Rattle.std.specs.Prelude.{List};
 ghost use Rattle.fsfs_tree.specs.Revisions.{Revision};
-ghost use Rattle.fsfs_flat.specs.Histories.{IsHistory};
+ghost use Rattle.fsfs_tree.specs.Histories.{IsHistory};
 ghost use Rattle.fsfs_model.specs.Laws.{OuterMarks, TwoMergesAreOne, LandingLeavesATree, CommitsMakeAHistory, FoldingTells, PathHistoriesEnd};
 
 /// Which marks of a transaction are outer: those at or above whose path nothing is that the transaction made itself.

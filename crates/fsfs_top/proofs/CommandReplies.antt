@@ -18,7 +18,7 @@ use Rattle.fsfs_answers.specs.FaultWords.{already_repo, not_repo}
 use Rattle.fsfs_answers.specs.Answers.{Answer, Reply, refuses, prints, refuses_look, tree_reply, text_reply, history_reply, found_at, asked_revision, of_revision}
 use Rattle.fsfs_answers.specs.PropTexts.{author_text, date_text, log_text, info_text}
 use Rattle.fsfs_answers.specs.ChangedTexts.{changed_text}
-use Rattle.fsfs_flat.specs.PathHistories.{path_history}
+use Rattle.fsfs_tree.specs.PathHistories.{path_history}
 use Rattle.fsfs_layout.specs.Opening.{small_texts, IsOpened}
 use Rattle.fsfs_layout.specs.declared.opened.Opened.{Opened}
 use Rattle.fsfs_stands.specs.Files.{StandsFor}

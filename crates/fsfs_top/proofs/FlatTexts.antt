@@ -19,7 +19,7 @@ use Rattle.fsfs_answers.specs.Answers.{Reply, Found, Stands, Lacking, Blocked, f
 use Rattle.fsfs_answers.specs.PropTexts.{author_text, date_text, log_text, info_text}
 use Rattle.fsfs_answers.specs.ChangedTexts.{changed_text}
 use Rattle.fsfs_answers.specs.HistoryTexts.{history_text}
-use Rattle.fsfs_flat.specs.PathHistories.{path_history}
+use Rattle.fsfs_tree.specs.PathHistories.{path_history}
 use Rattle.fsfs_tree.specs.Dated.{last_of}
 use Rattle.fsfs_damage.specs.Damages.{place_of}
 use Rattle.fsfs_damage.specs.declared.wrong.Wrong.TheVariants as wrongs

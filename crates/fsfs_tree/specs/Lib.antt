@@ -5,3 +5,5 @@ pub mod Revisions
 pub mod Trees
 pub mod Dated
 pub mod Entries
+pub mod Histories
+pub mod PathHistories

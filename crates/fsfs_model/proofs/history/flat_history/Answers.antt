@@ -1,7 +1,7 @@
 use Rattle.std.proofs.Common.{◌≡◌, ◌∙◌, sym, ap, ◌++◌, ◌∷◌, [], Some, Option, arith, ◌-◌}
 use Rattle.std.specs.Option.{option_copied}
 use Rattle.fsfs_tree.specs.Revisions.{tree_of}
-use Rattle.fsfs_flat.specs.PathHistories.{go_on, history_within, path_history}
+use Rattle.fsfs_tree.specs.PathHistories.{go_on, history_within, path_history}
 use Rattle.fsfs_model.proofs.Points.{one_point}
 use Rattle.fsfs_model.proofs.history.flat_history.Goals as goal
 

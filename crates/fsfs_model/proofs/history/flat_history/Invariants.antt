@@ -1,6 +1,6 @@
 use Rattle.std.proofs.Common.{◌≡◌, ◌++◌}
 use Rattle.fsfs_tree.specs.Revisions.{tree_of}
-use Rattle.fsfs_flat.specs.PathHistories.{path_history, history_within}
+use Rattle.fsfs_tree.specs.PathHistories.{path_history, history_within}
 use Rattle.fsfs_model.proofs.history.flat_history.Given as goal
 
 -- the points so far, and those to come
