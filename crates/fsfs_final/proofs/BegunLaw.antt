@@ -14,15 +14,14 @@ use Rattle.fsfs_shows.specs.Chains.{IsPred}
 use Rattle.fsfs_ancestry.specs.Trees.{ShowTrees}
 use Rattle.fsfs_ancestry.proofs.Earlier.{stands_of_id, pred_same}
 use Rattle.fsfs_drafts.specs.OwnSides.{NodesAt, in_txn, IsSuccessor, IsOwnSide, AreNodesOf}
-use Rattle.fsfs_merge.proofs.SightLaw.{lasting, some_node, same_some}
+use Rattle.fsfs_drafts.proofs.Lasting.{lasting}
+use Rattle.fsfs_merge.proofs.SightLaw.{some_node, same_some}
 use Rattle.fsfs_drafts.specs.NodeDrafts.{IsOwn, IsDraft}
 use Rattle.fsfs_drafts.specs.Draws.{DrawsTree}
 use Rattle.fsfs_final.specs.Begun.{IsFirstRoot, begun, BegunIsADraft}
 use Rattle.fsfs_landed.proofs.Roots.{parent, child_at}
 use Rattle.std.proofs.lemmas.Bool.{both_ways}
-
-some_rev : (o : Option NodeRev) (a c : NodeRev) → o ≡ Some a → o ≡ Some c → a ≡ c
-some_rev o a c e f = let g = sym e ∙ f in cc
+use Rattle.fsfs_drafts.proofs.HangLaw.{some_same}
 
 module _ (look : RevisionBytes) (top : ℕ) (tree : ℕ → TreeFunction) (b : ℕ) (base : NodesAt) (x v : NodeRev)
     (shows : ShowTrees look top tree) (le : b ≤ top) (are : AreNodesOf look b base) (at : StandsAt look b [] x) (first : IsFirstRoot top x v) where
@@ -33,7 +32,7 @@ module _ (look : RevisionBytes) (top : ℕ) (tree : ℕ → TreeFunction) (b : �
   at_base p w e = (are.each p w).0 e
 
   root_of : (w : NodeRev) → base [] ≡ Some w → w ≡ x
-  root_of w e = some_rev (base []) w x e ((are.each [] x).1 at)
+  root_of w e = some_same (base []) w x e ((are.each [] x).1 at)
 
   side : IsOwnSide base [] own
   side = record { untouched = untouched; touched = touched; another = λ p a c e del. absurd (false≢true del) }
@@ -56,7 +55,7 @@ module _ (look : RevisionBytes) (top : ℕ) (tree : ℕ → TreeFunction) (b : �
 
   -- only the root is of the transaction
   is_root : (p : Path) (w : NodeRev) → own p ≡ Some w → IsOwn w → (p ≡ []) × (w ≡ v)
-  is_root [] w e mine = (refl, some_rev (own []) w v e refl)
+  is_root [] w e mine = (refl, some_same (own []) w v e refl)
   is_root (y ∷ p) w e mine = absurd (both_ways _ (lasting look b (y ∷ p) w (at_base (y ∷ p) w e)).place mine)
 
   goes : v.predecessor ≡ None → ⊥
@@ -106,15 +105,15 @@ module _ (look : RevisionBytes) (top : ℕ) (tree : ℕ → TreeFunction) (b : �
       above (y ∷ p) name w e = let d = parent look b (y ∷ p) name w (at_base ((y ∷ p) ++ name ∷ []) w e) in (d.0, (are.each (y ∷ p) d.0).1 d.1, d.2.0)
 
       lasts : (p : Path) (w : NodeRev) → own p ≡ Some w → in_txn w.id.place ≡ false → (r : ℕ) × (q : Path) × (r ≤ top) × StandsAt look r q w
-      lasts [] w e pl = absurd (both_ways _ pl (subst IsOwn (some_rev (own []) v w refl e) first.next.own))
+      lasts [] w e pl = absurd (both_ways _ pl (subst IsOwn (some_same (own []) v w refl e) first.next.own))
       lasts (y ∷ p) w e pl = (b, y ∷ p, le, at_base (y ∷ p) w e)
 
       below_lasting : (p : Path) (name : PathName) (dir w : NodeRev) → own p ≡ Some dir → in_txn dir.id.place ≡ false → own (p ++ name ∷ []) ≡ Some w → ChildOf look dir name (Ok (Some w)) × (in_txn w.id.place ≡ false)
-      below_lasting [] name dir w e pl f = absurd (both_ways _ pl (subst IsOwn (some_rev (own []) v dir refl e) first.next.own))
+      below_lasting [] name dir w e pl f = absurd (both_ways _ pl (subst IsOwn (some_same (own []) v dir refl e) first.next.own))
       below_lasting (y ∷ p) name dir w e pl f = (child_at look b (y ∷ p) name dir w (at_base (y ∷ p) dir e) (at_base ((y ∷ p) ++ name ∷ []) w f), plain (y ∷ p) name w f)
 
       older : (p : Path) (name : PathName) (dir w : NodeRev) → own p ≡ Some dir → IsOwn dir → own (p ++ name ∷ []) ≡ Some w → in_txn w.id.place ≡ false → (u : NodeRev) × IsPred look dir u × ChildOf look u name (Ok (Some w))
-      older [] name dir w e mine f pl = (x, subst (λ (z : NodeRev). IsPred look z x) (some_rev (own []) v dir refl e) back, child_at look b [] name x w at (at_base ([] ++ name ∷ []) w f))
+      older [] name dir w e mine f pl = (x, subst (λ (z : NodeRev). IsPred look z x) (some_same (own []) v dir refl e) back, child_at look b [] name x w at (at_base ([] ++ name ∷ []) w f))
       older (y ∷ p) name dir w e mine f pl = absurd (both_ways _ (lasting look b (y ∷ p) dir (at_base (y ∷ p) dir e)).place mine)
 
   draws : (n : ℕ) → DrawsTree n (tree b) (tree b) [] own
@@ -132,7 +131,7 @@ module _ (look : RevisionBytes) (top : ℕ) (tree : ℕ → TreeFunction) (b : �
       at_node p w m e f = let n = some_node look b (tree b) (shows.each b le) base are p w e in ap (λ (z : Node). z.kind) (let g = sym f ∙ n.1 in let same : m ≡ n.0 = cc in same) ∙ n.2
 
       kinds : (p : Path) (w : NodeRev) (m : Node) → own p ≡ Some w → tree b p ≡ Some m → m.kind ≡ w.kind
-      kinds [] w m e f = at_node [] x m ((are.each [] x).1 at) f ∙ sym first.next.kind ∙ ap (λ (z : NodeRev). z.kind) (some_rev (own []) v w refl e)
+      kinds [] w m e f = at_node [] x m ((are.each [] x).1 at) f ∙ sym first.next.kind ∙ ap (λ (z : NodeRev). z.kind) (some_same (own []) v w refl e)
       kinds (y ∷ p) w m e f = at_node (y ∷ p) w m e f
 
 pub begun_is_a_draft : BegunIsADraft

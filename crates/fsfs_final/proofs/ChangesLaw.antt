@@ -15,12 +15,10 @@ use Rattle.fsfs_ancestry.proofs.Behind.{shown_there}
 use Rattle.fsfs_folds.specs.FoldedFit.{FoldFits}
 use Rattle.fsfs_folds.proofs.FoldedLaw.{folds_fit}
 use Rattle.fsfs_final.specs.FittingChanges.{ChangesFit, LandedChangesFit}
+use Rattle.fsfs_drafts.proofs.HangLaw.{some_same}
 
 clash_none : {A : Type 0} (n : Node) → Some n ≡ None → A
 clash_none n e = absurd (false≢true (sym (ap is_some e)))
-
-same_node : (x y : Node) (o : Option Node) → o ≡ Some x → o ≡ Some y → x ≡ y
-same_node x y o e f = let g = sym e ∙ f in cc
 
 -- a node of a shown tree is that of a node-revision at its path
 stands_for : (look : RevisionBytes) (r : ℕ) (tree : TreeFunction) → Shows look r tree → (p : Path) (n : Node) → tree p ≡ Some n → (v : NodeRev) × StandsAt look r p v × (v.kind ≡ n.kind)
@@ -29,7 +27,7 @@ stands_for look r tree shows p n e = let w = shows.each p in by w.0 w.1 w.2
     by : (m : Met) → MetAt look r p (Ok m) → IsShownAs look r p m (tree p) → (v : NodeRev) × StandsAt look r p v × (v.kind ≡ n.kind)
     by (Stands v) at is =
         let k = shown_there look r tree shows p v at in
-        (v, at, sym k.2.kind ∙ ap (λ (x : Node). x.kind) (same_node k.0 n (tree p) k.1 e))
+        (v, at, sym k.2.kind ∙ ap (λ (x : Node). x.kind) (some_same (tree p) k.0 n k.1 e))
     by (Lacking d) at is = clash_none n (sym e ∙ is)
     by (Blocked d) at is = clash_none n (sym e ∙ is)
 

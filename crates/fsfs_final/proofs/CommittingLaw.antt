@@ -50,9 +50,7 @@ use Rattle.fsfs_final.proofs.Held.{held_drafts_are_read}
 use Rattle.fsfs_final.proofs.Commit.{commits_add_revisions}
 use Rattle.fsfs_final.proofs.ChangesLaw.{changes_fit}
 use Rattle.fsfs_final.proofs.ShowsLanded.{written_shows_landing}
-
-some_same : (o : Option NodeRev) (a c : NodeRev) → o ≡ Some a → o ≡ Some c → a ≡ c
-some_same o a c e f = let g = sym e ∙ f in cc
+use Rattle.fsfs_drafts.proofs.HangLaw.{some_same}
 
 module _ (look : RevisionBytes) (top : ℕ) (tree : ℕ → TreeFunction) (b h : ℕ) (t : TreeFunction) (marks : List Mark) (base head own : NodesAt) (see : Path → Sight)
     (is : IsMerge look top tree b h t marks base head own see) (clear : NoClash b (tree b) (tree h) t marks) (draft : IsDraft look top b own) (below : HasAllBelow look own) where

@@ -38,12 +38,10 @@ use Rattle.fsfs_final.specs.Final.{Finished, AsItWas, Done, IsWritten}
 use Rattle.fsfs_drafts.specs.Draws.{DrawsTree}
 use Rattle.fsfs_final.specs.Shown.{ReadsContents}
 use Rattle.fsfs_final.specs.Contents.{HasBareDirs, TransactionsHaveBareDirs, ReadsAs, LastingContents, OwnContents, ContentLaws}
+use Rattle.fsfs_drafts.proofs.HangLaw.{some_same}
 
 no_node : {A : Type 0} (n : Node) → None ≡ Some n → A
 no_node n e = absurd (false≢true (ap is_some e))
-
-one_node : (o : Option Node) (x y : Node) → o ≡ Some x → o ≡ Some y → x ≡ y
-one_node o x y e f = let g = sym e ∙ f in cc
 
 file_dir : {A : Type 0} → File ≡ Dir → A
 file_dir e = absurd cc
@@ -119,7 +117,7 @@ shown_bare look r tree shows p n e k = let w = shows.each p in by w.0 w.1 w.2
     by : (m : Rattle.fsfs_shows.specs.Reading.Met) → Rattle.fsfs_shows.specs.Reading.MetAt look r p (Ok m) → Rattle.fsfs_shows.specs.Shown.IsShownAs look r p m (tree p) → n.text ≡ Bytes []
     by (Rattle.fsfs_shows.specs.Reading.Stands v) at is =
         let s = shown_there look r tree shows p v at in
-        let same : s.0 ≡ n = one_node (tree p) s.0 n s.1 e in
+        let same : s.0 ≡ n = some_same (tree p) s.0 n s.1 e in
         text v.kind v (sym s.2.kind ∙ ap (λ (x : Node). x.kind) same ∙ k) (subst (λ (x : Node). IsTextOf look v.kind v x.text) same s.2.text)
     by (Rattle.fsfs_shows.specs.Reading.Lacking d) at is = no_node n (sym is ∙ e)
     by (Rattle.fsfs_shows.specs.Reading.Blocked d) at is = no_node n (sym is ∙ e)
@@ -146,7 +144,7 @@ module _ (look : RevisionBytes) (top : ℕ) (tree : ℕ → TreeFunction) (t : T
     where
       its : (x : Node) → t p ≡ Some x → Rattle.fsfs_model.proofs.Origins.IsSameNode y x → SameContents m y
       its x g s =
-          let k : x ≡ m = one_node (t p) x m g e in
+          let k : x ≡ m = some_same (t p) x m g e in
           record { kind = s.kind ∙ ap (λ (z : Node). z.kind) k; text = s.text ∙ ap (λ (z : Node). z.text) k; properties = s.properties ∙ ap (λ (z : Node). z.properties) k }
 
       by : Origin (suc top) (effects marks p) (tree top p) (tree top p) (t p) y → SameContents m y
@@ -155,7 +153,7 @@ module _ (look : RevisionBytes) (top : ℕ) (tree : ℕ → TreeFunction) (t : T
       by (Head x g (inr lack) s) = absurd (both_ways _ lack.1 (ap is_some e))
       by (Head x g (inl w) s) =
           let kept = (whole tree top top t marks (shown_revisions look top tree shows) was).keeps.same p x g w.1 in
-          let k : kept.0 ≡ m = one_node (t p) kept.0 m kept.1 e in
+          let k : kept.0 ≡ m = some_same (t p) kept.0 m kept.1 e in
           let texts : m.text ≡ x.text = keeps_texts tree top top t marks (shown_revisions look top tree shows) was p x m g e w.1 w.2 in
           record {
             kind = s.kind ∙ sym kept.2.kind ∙ ap (λ (z : Node). z.kind) k;

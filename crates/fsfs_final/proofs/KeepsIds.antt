@@ -21,12 +21,13 @@ use Rattle.fsfs_shows.proofs.Walks.{child_stands}
 use Rattle.fsfs_shows.proofs.TreeLaw.{stands_home}
 use Rattle.fsfs_ancestry.proofs.Earlier.{pred_same}
 use Rattle.fsfs_drafts.specs.OwnSides.{NodesAt, in_txn}
-use Rattle.fsfs_merge.proofs.SightLaw.{lasting_id}
+use Rattle.fsfs_drafts.proofs.Lasting.{lasting_id}
 use Rattle.fsfs_drafts.specs.NodeDrafts.{IsOwn, is_new_part, DraftPart, IsDraft}
 use Rattle.fsfs_drafts.specs.NodeDrafts as drafts
 use Rattle.fsfs_ancestry.proofs.Roots.{one_more}
 use Rattle.fsfs_final.proofs.LastNames.{Ends, Root, Named, ends}
 use Rattle.fsfs_final.specs.Final.{final_part, IsFinal, Finished, AsItWas, Done, IsWritten, WrittenKeepsIds}
+use Rattle.fsfs_drafts.proofs.HangLaw.{some_same}
 
 -- ---- parts
 
@@ -88,9 +89,6 @@ not_earlier n m p (parts.New c) less s h e = by p s e
     by (parts.Made b r) s e = let same : r ≡ n = cc in let k : r ≡ m = s in absurd (omega arith)
 not_earlier n m p (parts.Old c) less s h e = false≢true h
 not_earlier n m p (parts.Made c r) less s h e = false≢true h
-
-some_same : (o : Option NodeRev) (a b : NodeRev) → o ≡ Some a → o ≡ Some b → a ≡ b
-some_same o a b e f = let g = sym e ∙ f in cc
 
 module _ (look : RevisionBytes) (top : ℕ) (own : NodesAt) (ids : IdRule look top) (draft : IsDraft look top top own) (written : IsWritten look (suc top) own) where
   abbrev N : ℕ

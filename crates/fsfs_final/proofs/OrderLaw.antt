@@ -20,16 +20,14 @@ use Rattle.fsfs_shows.proofs.TreeLaw.{stands_home, root_le}
 use Rattle.fsfs_ancestry.proofs.Roots.{length_push}
 use Rattle.fsfs_ancestry.proofs.Earlier.{pred_same}
 use Rattle.fsfs_drafts.specs.OwnSides.{NodesAt, in_txn}
-use Rattle.fsfs_merge.proofs.SightLaw.{lasting_id}
+use Rattle.fsfs_drafts.proofs.Lasting.{lasting_id}
 use Rattle.fsfs_drafts.specs.NodeDrafts.{draft_root, IsOwn, IsDraft}
 use Rattle.fsfs_final.specs.Final.{IsFinal}
 use Rattle.fsfs_final.specs.Ordered.{FinalsAreInOrder}
 use Rattle.fsfs_final.proofs.LastNames.{Root, Named, ends}
 use Rattle.fsfs_final.proofs.Stays.{copy_or, own_dir, ready}
 use Rattle.std.proofs.lemmas.Bool.{and_from}
-
-some_rev : (o : Option NodeRev) (a c : NodeRev) → o ≡ Some a → o ≡ Some c → a ≡ c
-some_rev o a c e f = let g = sym e ∙ f in cc
+use Rattle.fsfs_drafts.proofs.HangLaw.{some_same}
 
 pred_or : (o : Option NodeId) → (o ≡ None) ⊎ ((id : NodeId) × (o ≡ Some id))
 pred_or None = inl refl
@@ -61,7 +59,7 @@ module _ (look : RevisionBytes) (top : ℕ) (own : NodesAt) (draft : IsDraft loo
   low_in zero p u short e mine = absurd (omega (arith, short))
   low_in (suc k) p u short e mine = elim (ends p) [
     | Root is ↦
-        let same = some_rev (own []) draft.root.0 u draft.root.2 (sym (ap own is) ∙ e) in
+        let same = some_same (own []) draft.root.0 u draft.root.2 (sym (ap own is) ∙ e) in
         let root : draft_root (suc top) draft.root.0 ≡ copy_root_of draft.root.1 = draft.root.9 (suc top) (omega arith) in
         subst (λ (z : NodeRev). (draft_root (suc top) z).0 ≤ suc top) same
         (subst (λ (z : ℕ × Path). z.0 ≤ suc top) (sym root) (root_of draft.root.1 (top, [], (omega arith), draft.root.3)))

@@ -30,7 +30,8 @@ use Rattle.fsfs_ancestry.proofs.Earlier.{stands_of_id, pred_same}
 use Rattle.fsfs_ancestry.proofs.Behind.{shown_there}
 use Rattle.fsfs_ancestry.proofs.Roots.{length_push}
 use Rattle.fsfs_drafts.specs.OwnSides.{NodesAt, in_txn, IsSuccessor, IsOwnSide, AreNodesOf}
-use Rattle.fsfs_merge.proofs.SightLaw.{lasting, some_node, node_some, props_touched}
+use Rattle.fsfs_drafts.proofs.Lasting.{lasting}
+use Rattle.fsfs_merge.proofs.SightLaw.{some_node, node_some, props_touched}
 use Rattle.fsfs_drafts.specs.NodeDrafts.{draft_root, IsOwn, IsDraft}
 use Rattle.fsfs_final.specs.Final.{IsFinal, Finished, AsItWas, Done, IsWritten}
 use Rattle.fsfs_drafts.specs.Draws.{FreshAt, MadeHere, CameWith, DrawsTree}
@@ -38,12 +39,7 @@ use Rattle.fsfs_final.specs.Shown.{ReadsContents, WrittenShowsLanding}
 use Rattle.std.proofs.Math.Seq.{take-length}
 use Rattle.fsfs_final.proofs.Copies.{short, split, same_or_not, copied_down, nearest_here, nearest_above, NearestIs, AtPath, Above, nearest_is, nearest_at}
 use Rattle.std.proofs.lemmas.Bool.{and_from, and_parts, both_ways, cases_Bool, false_from_ne_true, not-true}
-
-some_rev : (o : Option NodeRev) (a b : NodeRev) → o ≡ Some a → o ≡ Some b → a ≡ b
-some_rev o a b e f = let g = sym e ∙ f in cc
-
-some_flat : (o : Option Node) (a b : Node) → o ≡ Some a → o ≡ Some b → a ≡ b
-some_flat o a b e f = let g = sym e ∙ f in cc
+use Rattle.fsfs_drafts.proofs.HangLaw.{some_same}
 
 -- ---- the landing on the base itself
 
@@ -172,10 +168,10 @@ module _ (look : RevisionBytes) (top : ℕ) (tree : ℕ → TreeFunction) (t : T
   held_at : (p : Path) (v x : NodeRev) → StandsAt look N p v → StandsAt look top p x → (effects marks p).deleted ≡ false → HeldAt p v x
   held_at p v x at atx del = let w = written.only p v at in elim (cases_Bool (effects marks p).touched) [
     | inr un ↦ (let e = side.untouched p x (base_at p x atx) del un in
-        let same = some_rev (own p) w.0 x w.1 e in
+        let same = some_same (own p) w.0 x w.1 e in
         record { node = w.0; own_is = w.1; finished = w.2; either = inl same; untouched = λ _. same; touched = λ h. absurd (both_ways _ un h) })
     | inl yes' ↦ (let s = side.touched p x (base_at p x atx) del yes' in
-        let same = some_rev (own p) s.0 w.0 s.1 w.1 in
+        let same = some_same (own p) s.0 w.0 s.1 w.1 in
         let is : IsSuccessor x w.0 (effects marks p).props_changed = subst (λ (u : NodeRev). IsSuccessor x u (effects marks p).props_changed) same s.2 in
         record { node = w.0; own_is = w.1; finished = w.2; either = inr is; untouched = λ h. absurd (both_ways _ h yes'); touched = λ _. is })
   ]
@@ -279,7 +275,7 @@ module _ (look : RevisionBytes) (top : ℕ) (tree : ℕ → TreeFunction) (t : T
       root : (v : NodeRev) → StandsAt look N [] v → Copies [] v
       root v at =
           let w = written.only [] v at in
-          let same = some_rev (own []) w.0 draft.root.0 w.1 draft.root.2 in
+          let same = some_same (own []) w.0 draft.root.0 w.1 draft.root.2 in
           let mine : IsOwn w.0 = subst IsOwn (sym same) draft.root.4 in
           let as_top : copy_root_of v ≡ copy_root_of draft.root.1 = final_root w.0 v w.2 mine ∙ ap (draft_root N) same ∙ draft.root.9 N lt in
           let here : (r : ℕ) (u : NodeRev) → StandsAt look r [] u → IsCopiedIn look r [] (copy_root_of u).0
@@ -387,7 +383,7 @@ module _ (look : RevisionBytes) (top : ℕ) (tree : ℕ → TreeFunction) (t : T
     where
       root : (v : NodeRev) → StandsAt look N [] v → (u : NodeRev) → own [] ≡ Some u → IsOwn u → u.predecessor ≢ None → (w : NodeRev) × IsPred look u w × IsOf look top w
       root v at u e mine some =
-          let same = some_rev (own []) u draft.root.0 e draft.root.2 in
+          let same = some_same (own []) u draft.root.0 e draft.root.2 in
           (draft.root.1, (draft.root.1.id, ap (λ (x : NodeRev). x.predecessor) same ∙ draft.root.5, stands_of_id look top [] draft.root.1 draft.root.3), (top, [], omega arith, draft.root.3))
 
       copy_or : (o : Option CopySource) → (o ≡ None) ⊎ ((from : CopySource) × (o ≡ Some from))
@@ -455,7 +451,7 @@ module _ (look : RevisionBytes) (top : ℕ) (tree : ℕ → TreeFunction) (t : T
         let b = node_some look top (tree top) (shows.each top (omega arith)) base are p x ex in
         let atx = (are.each p b.0).0 b.1 in
         let n = shown_there look top (tree top) (shows.each top (omega arith)) p b.0 atx in
-        let one : n.0 ≡ x = some_flat (tree top p) n.0 x n.1 ex in
+        let one : n.0 ≡ x = some_same (tree top p) n.0 x n.1 ex in
         let h = held_at p v b.0 at atx del in
         whole_node b.0 atx n.0 n.2 one h
       where
@@ -564,7 +560,7 @@ module _ (look : RevisionBytes) (top : ℕ) (tree : ℕ → TreeFunction) (t : T
     -- what it made, or copied
     its : (m : Node) → t p ≡ Some m → y.kind ≡ m.kind → y.source ≡ m.source → y.added ≡ N → y.props_changed ≡ N → y.last_changed ≡ N → FreshAt N own p m → IsShown look N p v y
     its m em ekind esource eadded eprops elast (MadeHere u eu mine none plain) =
-        let same = some_rev (own p) w.0 u w.1 eu in
+        let same = some_same (own p) w.0 u w.1 eu in
         let f : IsFinal N u v = done u (subst (λ (z : NodeRev). Finished N z v) same w.2) mine in
         let r = f.rev in
         let k = c.most in

@@ -22,9 +22,7 @@ use Rattle.fsfs_drafts.specs.NodeDrafts as drafts
 use Rattle.fsfs_final.proofs.LastNames.{Root, Named, ends}
 use Rattle.fsfs_final.specs.Staying.{DraftsStay}
 use Rattle.std.proofs.lemmas.Bool.{both_ways, cases_Bool}
-
-some_rev : (o : Option NodeRev) (a c : NodeRev) → o ≡ Some a → o ≡ Some c → a ≡ c
-some_rev o a c e f = let g = sym e ∙ f in cc
+use Rattle.fsfs_drafts.proofs.HangLaw.{some_same}
 
 pub copy_or : (o : Option CopySource) → (o ≡ None) ⊎ ((from : CopySource) × (o ≡ Some from))
 copy_or None = inl refl
@@ -43,7 +41,7 @@ module _ (look : RevisionBytes) (top b : ℕ) (own : NodesAt) (low : b ≤ top) 
 
   root_ready : (u : NodeRev) → own [] ≡ Some u → HasPred u
   root_ready u e =
-      let same = some_rev (own []) u draft.root.0 e draft.root.2 in
+      let same = some_same (own []) u draft.root.0 e draft.root.2 in
       (draft.root.1, (draft.root.1.id, ap (λ (x : NodeRev). x.predecessor) same ∙ draft.root.5, stands_of_id look b [] draft.root.1 draft.root.3), (b, [], low, draft.root.3))
 
   below_ready : (q : Path) (name : PathName) (u : NodeRev) → own (q ++ name ∷ []) ≡ Some u → IsOwn u → u.predecessor ≢ None → ((d : NodeRev) → own q ≡ Some d → IsOwn d → d.predecessor ≢ None → HasPred d) → HasPred u

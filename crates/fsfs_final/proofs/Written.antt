@@ -21,9 +21,7 @@ use Rattle.fsfs_final.proofs.LastNames.{Root, Named, ends}
 use Rattle.fsfs_final.specs.Final.{IsFinal, Finished, AsItWas, Done, IsWritten}
 use Rattle.fsfs_final.specs.Directories.{ReadsAsDraft, HasAllBelow, DirectoriesAreEnough}
 use Rattle.std.proofs.lemmas.Bool.{both_ways, cases_Bool}
-
-some_rev : (o : Option NodeRev) (a c : NodeRev) → o ≡ Some a → o ≡ Some c → a ≡ c
-some_rev o a c e f = let g = sym e ∙ f in cc
+use Rattle.fsfs_drafts.proofs.HangLaw.{some_same}
 
 -- ---- walks that end early go on so
 
@@ -108,7 +106,7 @@ module _ (look : RevisionBytes) (top : ℕ) (tree : ℕ → TreeFunction) (own :
 
   root_there : (p : Path) (u : NodeRev) → p ≡ [] → own p ≡ Some u → (v : NodeRev) × StandsAt look N p v × Read p u v
   root_there p u is e =
-      let same = some_rev (own []) u draft.root.0 (subst (λ (x : Path). own x ≡ Some u) is e) draft.root.2 in
+      let same = some_same (own []) u draft.root.0 (subst (λ (x : Path). own x ≡ Some u) is e) draft.root.2 in
       let mine : IsOwn u = subst IsOwn (sym same) draft.root.4 in
       (done p, subst (λ (x : Path). StandsAt look N x (done x)) (sym is) root_stands, inr (mine, refl))
 
@@ -210,7 +208,7 @@ module _ (look : RevisionBytes) (top : ℕ) (tree : ℕ → TreeFunction) (own :
   }
     where
       is_done : (p : Path) (u v : NodeRev) → own p ≡ Some u → in_txn u.id.place ≡ true → StandsAt look N p v → v ≡ done p
-      is_done p u v e mine at = let w = only p v at in by w.2 (some_rev (own p) w.0 u w.1 e)
+      is_done p u v e mine at = let w = only p v at in by w.2 (some_same (own p) w.0 u w.1 e)
         where
           by : {x : NodeRev} → Read p x v → x ≡ u → v ≡ done p
           by (inl r) same = absurd (both_ways _ r.0 (subst IsOwn (sym same) mine))

@@ -27,13 +27,14 @@ use Rattle.fsfs_drafts.specs.OwnSides.{NodesAt, in_txn, IsSuccessor, IsOwnSide}
 use Rattle.fsfs_merge.specs.MergeLaws.{IsMerge, is_merged, landed_nodes}
 use Rattle.fsfs_merge.proofs.WalkLaw.{merges_all, merged_goes}
 use Rattle.fsfs_merge.proofs.MergedLaw.{own_here, stays_merged}
-use Rattle.fsfs_merge.proofs.SightLaw.{lasting}
+use Rattle.fsfs_drafts.proofs.Lasting.{lasting}
 use Rattle.fsfs_merge.proofs.MergeLaw.{Through, Stopped, way, Taken, FromOwn, FromHead, HeadSame, OwnSame, by_walk, agree_at, taken_at, base_some, head_some, base_of, keep, take_head, link, own_of, side}
 use Rattle.fsfs_drafts.specs.NodeDrafts.{draft_root, IsOwn, is_new_part, DraftPart, IsDraft}
 use Rattle.fsfs_drafts.specs.NodeDrafts as drafts
 use Rattle.fsfs_landed.specs.Landed.{MergeKeepsDrafts}
 use Rattle.fsfs_landed.proofs.Roots.{parent, child_at, behind_trans, BothHold, OneRoot, one_root, back_low, chain_back}
 use Rattle.std.proofs.lemmas.Bool.{and_from, and_parts, both_ways, cases_Bool, false_from_ne_true}
+use Rattle.fsfs_drafts.proofs.HangLaw.{some_same}
 
 -- ---- a path and one name
 
@@ -52,9 +53,6 @@ covers_front (x ∷ q) (y ∷ p) name c = elim (covers_front q p name ((and_part
   | inl w ↦ inl (and_from _ _ ((and_parts _ _ c).0) w)
   | inr e ↦ inr (λ i. same_name-is x y ((and_parts _ _ c).0) i ∷ e i)
 ]
-
-some_same : (o : Option NodeRev) (a c : NodeRev) → o ≡ Some a → o ≡ Some c → a ≡ c
-some_same o a c e f = let g = sym e ∙ f in cc
 
 -- a directory of the transaction that goes on from y in place of what it went on from
 abbrev pub Linked : NodeRev → NodeRev → NodeRev

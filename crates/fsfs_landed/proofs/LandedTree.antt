@@ -26,12 +26,7 @@ use Rattle.fsfs_landed.specs.Landed.{MergeKeepsTrees}
 use Rattle.fsfs_landed.proofs.LandedDraft.{merged}
 use Rattle.fsfs_landed.proofs.LandedDraft as drafted
 use Rattle.std.proofs.lemmas.Bool.{and_from, and_parts, both_ways, cases_Bool, false_from_ne_true}
-
-some_rev : (o : Option NodeRev) (a c : NodeRev) → o ≡ Some a → o ≡ Some c → a ≡ c
-some_rev o a c e f = let g = sym e ∙ f in cc
-
-some_flat : (o : Option Node) (a c : Node) → o ≡ Some a → o ≡ Some c → a ≡ c
-some_flat o a c e f = let g = sym e ∙ f in cc
+use Rattle.fsfs_drafts.proofs.HangLaw.{some_same}
 
 module _ (look : RevisionBytes) (top : ℕ) (tree : ℕ → TreeFunction) (b h n k : ℕ) (t : TreeFunction) (marks : List Mark) (base head own : NodesAt) (see : Path → Sight)
     (is : IsMerge look top tree b h t marks base head own see) (clear : NoClash b (tree b) (tree h) t marks) (draft : IsDraft look top b own) (draws : DrawsTree n (tree b) t marks own) where
@@ -81,7 +76,7 @@ module _ (look : RevisionBytes) (top : ℕ) (tree : ℕ → TreeFunction) (b h n
       by (TheHeads o m g s) =
           let q : head p ≡ Some u = (λ i. if (sym o) i then relinked (is_merged see p) (head p) (own p) else head p) ∙ e in
           let w = some_node look h (tree h) (is.shows.each h is.within) head is.head_nodes p u q in
-          sym s.kind ∙ ap (λ (z : Node). z.kind) (some_flat (tree h p) m w.0 g w.1) ∙ w.2
+          sym s.kind ∙ ap (λ (z : Node). z.kind) (some_same (tree h p) m w.0 g w.1) ∙ w.2
 
   abbrev reached_at : Path → Type 0
   reached_at q = reached (down see) q ≡ true
@@ -128,7 +123,7 @@ module _ (look : RevisionBytes) (top : ℕ) (tree : ℕ → TreeFunction) (b h n
           not_here w apart =
               let through = reached_above (down see) at q r w apart in
               let d = merged look top tree b h t marks base head own see is clear draft at (front at q r w) through in
-              let one = some_rev (own at) cp d.v e d.own_is in
+              let one = some_same (own at) cp d.v e d.own_is in
               (let f = sym copy ∙ ap (λ (z : NodeRev). z.copy_from) one ∙ d.next.no_copy in cc)
 
   abbrev Lost : Path → Type 0

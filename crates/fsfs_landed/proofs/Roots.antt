@@ -29,7 +29,8 @@ use Rattle.fsfs_ancestry.proofs.Earlier.{stands_of_id, pred_same}
 use Rattle.fsfs_ids.proofs.Coming.{IsFresh, Comes, Same, Next, Fresh, comes}
 use Rattle.fsfs_ids.proofs.HeadLaw.{node_at, not_fresh, held_le}
 use Rattle.fsfs_drafts.specs.OwnSides.{NodesAt, in_txn, IsSuccessor, IsOwnSide, AreNodesOf}
-use Rattle.fsfs_merge.proofs.SightLaw.{lasting}
+use Rattle.fsfs_drafts.proofs.Lasting.{lasting}
+use Rattle.fsfs_drafts.proofs.HangLaw.{some_same}
 use Rattle.fsfs_drafts.specs.NodeDrafts.{draft_root, IsOwn, IsDraft}
 use Rattle.std.proofs.lemmas.Bool.{both_ways, cases_Bool}
 
@@ -132,9 +133,6 @@ module _ (look : RevisionBytes) (top : ℕ) (tree : ℕ → TreeFunction) (b h :
   root_low : (r : ℕ) (p : Path) (v : NodeRev) → StandsAt look r p v → (copy_root_of v).0 ≤ own_rev v
   root_low r p v at = root_le v v.copy_root (stands_home look r p v at).0.root
 
-  same_some : (o : Option NodeRev) (a c : NodeRev) → o ≡ Some a → o ≡ Some c → a ≡ c
-  same_some o a c e f = let g = sym e ∙ f in cc
-
   base_root : OneRoot []
   base_root = record { root = copy_root_of draft.root.1; low = low; by_head = roots; by_draft = by_draft }
     where
@@ -153,7 +151,7 @@ module _ (look : RevisionBytes) (top : ℕ) (tree : ℕ → TreeFunction) (b h :
       roots r y less up s own = down_to (Rattle.std.specs.Prelude.◌-◌ r b) r y (omega arith) up s
 
       by_draft : (u : NodeRev) → own [] ≡ Some u → IsOwn u → (n : ℕ) → top < n → draft_root n u ≡ copy_root_of draft.root.1
-      by_draft u e mine n lt = subst (λ (x : NodeRev). draft_root n x ≡ copy_root_of draft.root.1) (same_some (own []) draft.root.0 u draft.root.2 e) (draft.root.9 n lt)
+      by_draft u e mine n lt = subst (λ (x : NodeRev). draft_root n x ≡ copy_root_of draft.root.1) (some_same (own []) draft.root.0 u draft.root.2 e) (draft.root.9 n lt)
 
   -- the choice between the directory's root and one's own
   abbrev pick : ℕ → ℕ × Path → ℕ × Path → ℕ × Path
@@ -214,9 +212,9 @@ module _ (look : RevisionBytes) (top : ℕ) (tree : ℕ → TreeFunction) (b h :
           let bx = (are.each (p ++ name ∷ []) x).1 atx in
           elim (cases_Bool (effects marks (p ++ name ∷ [])).touched) [
             | inr un ↦ (let f = side.untouched (p ++ name ∷ []) x bx both.kept un in
-                absurd (both_ways _ (lasting look b (p ++ name ∷ []) x atx).place (subst IsOwn (same_some (own (p ++ name ∷ [])) u x e f) mine)))
+                absurd (both_ways _ (lasting look b (p ++ name ∷ []) x atx).place (subst IsOwn (some_same (own (p ++ name ∷ [])) u x e f) mine)))
             | inl w ↦ (let s = side.touched (p ++ name ∷ []) x bx both.kept w in
-                let same = same_some (own (p ++ name ∷ [])) s.0 u s.1 e in
+                let same = some_same (own (p ++ name ∷ [])) s.0 u s.1 e in
                 let next : IsSuccessor x u (effects marks (p ++ name ∷ [])).props_changed = subst (λ (z : NodeRev). IsSuccessor x z (effects marks (p ++ name ∷ [])).props_changed) same s.2 in
                 let a = draft.above p name u e in
                 let mine_dir = own_above a.0 a.1 in

@@ -28,6 +28,7 @@ use Rattle.fsfs_merge.proofs.MergedLaw.{same_landing, own_here, own_stop, stays_
 use Rattle.fsfs_merge.proofs.SightLaw.{agrees, same_some}
 use Rattle.std.proofs.lemmas.Bool.{and_from, and_parts, both_ways, cases_Bool, false_from_ne_true}
 use Rattle.fsfs_model.proofs.Tests.{other_false}
+use Rattle.fsfs_drafts.proofs.HangLaw.{some_same}
 
 -- ---- how the walk comes to a path: through it, or to a path at or above it where it takes one side's
 
@@ -85,12 +86,6 @@ taken b d a s t see agree m clear = elim (cases_Bool (is_some a)) [
             | inr other ↦ OwnSame some (not_is _ _ (agree.own_same some) os) (stays_head see inside other os)
           ]
         ]
-
-same_as : (x y : NodeRev) (o : Option NodeRev) → o ≡ Some x → o ≡ Some y → x ≡ y
-same_as x y o e f = let g = sym e ∙ f in cc
-
-some_flat : (x y : Node) (o : Option Node) → o ≡ Some x → o ≡ Some y → x ≡ y
-some_flat x y o e f = let g = sym e ∙ f in cc
 
 module _ (look : RevisionBytes) (top : ℕ) (tree : ℕ → TreeFunction) (b h : ℕ) (t : TreeFunction) (marks : List Mark) (base head own : NodesAt) (see : Path → Sight)
     (is : IsMerge look top tree b h t marks base head own see) where
@@ -204,7 +199,7 @@ module _ (look : RevisionBytes) (top : ℕ) (tree : ℕ → TreeFunction) (b h :
                 let x = at_base (Rattle.fsfs_model.proofs.MergeWalk.goes_base b (effects marks p) (tree b p) (tree h p) g.0) in
                 let go = ((is.sights p).goes_on x.0 x.1).0 k.3 in
                 let both = go.4 in
-                let same_y : go.0 ≡ y = same_as go.0 y (head p) go.2 e in
+                let same_y : go.0 ≡ y = some_same (head p) go.0 y go.2 e in
                 let v = is.side.touched p x.0 x.1 stay w in
                 let stop : is_stopped (see p) ≡ false = stops_as b (effects marks p) (tree h p) (t p) (see p) (tree b p) (agree_at p r) ∙ other_false _ _ (clear p) (by_walk p r) in
                 let tests : not (see p).same_props ≡ false = (λ i. if (sym k.0) i then not ((sym k.1) i) && not ((sym k.2) i) && not ((sym k.3) i && (see p).same_props) else (see p).in_head && (see p).in_own) ∙ stop in

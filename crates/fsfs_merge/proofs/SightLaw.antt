@@ -21,62 +21,21 @@ use Rattle.fsfs_noderev.specs.declared.node_id.Place.TheVariants as places
 use Rattle.fsfs_noderev.specs.declared.node_id.NodeId.{NodeId}
 use Rattle.fsfs_noderev.specs.declared.rep.Contents.{Contents}
 use Rattle.fsfs_noderev.specs.declared.rep.Contents.TheVariants as contents
-use Rattle.fsfs_noderev.specs.declared.node_rev.CopyRoot.{CopyRoot}
 use Rattle.fsfs_noderev.specs.declared.node_rev.NodeRev.{NodeRev}
-use Rattle.fsfs_revision.specs.Nodes.{is_lasting_part, is_revision_place, is_revision_id, has_revision_pred, has_revision_rep, has_revision_root, is_some_rev, is_of_revision}
-use Rattle.fsfs_shows.specs.Reading.{OfId, Met, Stands, Lacking, Blocked, MetAt, StandsAt}
+use Rattle.fsfs_shows.specs.Reading.{Met, Stands, Lacking, Blocked, MetAt, StandsAt}
 use Rattle.fsfs_shows.specs.Shown.{IsShown, IsShownAs, Shows}
 use Rattle.fsfs_model.proofs.Tests.{found}
 use Rattle.fsfs_model.proofs.MergeWalk.{goes_gone, reached_above, quiet, touched_below}
 use Rattle.fsfs_ids.specs.HeadLaws.{IsHeldAbove, AgreeAt}
-use Rattle.fsfs_ancestry.proofs.Earlier.{stands_of_id}
 use Rattle.fsfs_ancestry.proofs.Behind.{shown_there}
 use Rattle.fsfs_ids.proofs.HeadLaw.{head_laws}
 use Rattle.fsfs_merge.specs.Walks.{Sight}
 use Rattle.fsfs_merge.specs.Laws.{Agrees}
-use Rattle.fsfs_drafts.specs.OwnSides.{NodesAt, in_txn, has_own_root, is_own_copy, IsAnother, AreNodesOf}
+use Rattle.fsfs_drafts.specs.OwnSides.{NodesAt, in_txn, is_own_copy, IsAnother, AreNodesOf}
 use Rattle.fsfs_merge.specs.MergeLaws.{BothGoOn, IsMerge}
 use Rattle.fsfs_merge.proofs.Sides.{self, going_self, same_kind}
-
--- ---- what stands in a revision has none of the forms of a transaction
-
-pub record IsLasting (x : NodeRev) : Type 0 where
-  pub place : in_txn x.id.place ≡ false
-  pub props : x.props ≡ Some contents.Own → ⊥
-  pub root : is_own_copy x ≡ false
-
-place_of_rev : (p : Place) → is_revision_place p ≡ true → in_txn p ≡ false
-place_of_rev (places.At rev offset) e = refl
-place_of_rev (places.In txn) e = absurd (false≢true e)
-
-rep_of_rev : (o : Option Contents) → has_revision_rep o ≡ true → o ≡ Some contents.Own → ⊥
-rep_of_rev o h e = false≢true (sym (ap has_revision_rep e) ∙ h)
-
-root_of_rev : (mine : Bool) (o : Option CopyRoot) → mine ≡ false → has_revision_root o ≡ true → has_own_root mine o ≡ false
-root_of_rev mine None e h = e
-root_of_rev mine (Some root) e h = by root.rev h
-  where
-    by : (o : Option ℕ) → is_some_rev o ≡ true → (if is_some o then false else true) ≡ false
-    by None h = absurd (false≢true h)
-    by (Some r) h = refl
-
-of_revision : (v : NodeRev) → is_of_revision v ≡ true → IsLasting v
-of_revision v h =
-    let a = and_parts (is_revision_id v.id && has_revision_pred v.predecessor && has_revision_rep v.text && has_revision_rep v.props && has_revision_root v.copy_root) (not v.is_fresh_txn_root) h in
-    let b = and_parts (is_revision_id v.id && has_revision_pred v.predecessor && has_revision_rep v.text && has_revision_rep v.props) (has_revision_root v.copy_root) a.0 in
-    let c = and_parts (is_revision_id v.id && has_revision_pred v.predecessor && has_revision_rep v.text) (has_revision_rep v.props) b.0 in
-    let d = and_parts (is_revision_id v.id && has_revision_pred v.predecessor) (has_revision_rep v.text) c.0 in
-    let e = and_parts (is_revision_id v.id) (has_revision_pred v.predecessor) d.0 in
-    let f = and_parts (is_lasting_part v.id.node && is_lasting_part v.id.copy) (is_revision_place v.id.place) e.0 in
-    record { place = place_of_rev v.id.place f.1; props = rep_of_rev v.props c.1; root = root_of_rev (in_txn v.id.place) v.copy_root (place_of_rev v.id.place f.1) b.1 }
-
-pub lasting_id : (look : RevisionBytes) (id : NodeId) (v : NodeRev) → OfId look id (Ok v) → IsLasting v
-lasting_id look id v w =
-    let same : v ≡ w.0 = w.2.0 in
-    subst IsLasting (sym same) (of_revision w.0 w.1.2.0.1)
-
-pub lasting : (look : RevisionBytes) (r : ℕ) (p : Path) (v : NodeRev) → StandsAt look r p v → IsLasting v
-lasting look r p v at = lasting_id look v.id v (stands_of_id look r p v at)
+use Rattle.fsfs_drafts.proofs.HangLaw.{some_same}
+use Rattle.fsfs_drafts.proofs.Lasting.{IsLasting, lasting}
 
 -- ---- what stands at a path, as node-revision and as node
 
@@ -135,12 +94,6 @@ props_touched marks p un = false_from_ne_true _ (λ h.
 
 in_txn_not : (x v : NodeRev) → in_txn x.id.place ≡ false → in_txn v.id.place ≡ true → x.id ≡ v.id → ⊥
 in_txn_not x v a b e = both_ways _ (ap (λ (i : NodeId). in_txn i.place) (sym e) ∙ a) b
-
-some_rev : (x y : NodeRev) (o : Option NodeRev) → o ≡ Some x → o ≡ Some y → x ≡ y
-some_rev x y o e f = let g = sym e ∙ f in cc
-
-some_flat : (x y : Node) (o : Option Node) → o ≡ Some x → o ≡ Some y → x ≡ y
-some_flat x y o e f = let g = sym e ∙ f in cc
 
 kind_is : (k : Kind) → is_dir k ≡ true → k ≡ Dir
 kind_is Dir h = refl
@@ -218,7 +171,7 @@ module _ (look : RevisionBytes) (top : ℕ) (tree : ℕ → TreeFunction) (b h :
           | inl del ↦ in_txn_not x c (lasts x e).place (is.side.another p x c e del kept f).own i
           | inr stays ↦
               let s = is.side.touched p x e stays w in
-              let one : s.0 ≡ c = some_rev s.0 c (own p) s.1 f in
+              let one : s.0 ≡ c = some_same (own p) s.0 c s.1 f in
               in_txn_not x c (lasts x e).place (subst (λ (y : NodeRev). in_txn y.id.place ≡ true) one s.2.own) i
         ])
 

@@ -27,9 +27,7 @@ use Rattle.fsfs_model.proofs.TwoMergesLaw.{premises}
 use Rattle.fsfs_model.proofs.NextHistory.{whole}
 use Rattle.fsfs_merge.specs.Laws.{KeepsTexts}
 use Rattle.std.proofs.lemmas.Bool.{and_from, and_parts, both_ways, cases_Bool, false_from_ne_true, not-true}
-
-some_is : (x y : Node) (o : Option Node) → o ≡ Some x → o ≡ Some y → x ≡ y
-some_is x y o e f = let g = sym e ∙ f in cc
+use Rattle.fsfs_drafts.proofs.HangLaw.{some_same}
 
 rewrites : (k : What) (p : Path) → (k ≡ Text) ⊎ (k ≡ Prop) → is_rewritten k p p ≡ true
 rewrites Text p w = and_from _ _ (covers-refl p) (covers-refl p)
@@ -101,7 +99,7 @@ module _ (tree : ℕ → TreeFunction) (last : ℕ) (base t : TreeFunction) (mar
       (λ p out. ap (λ (b : Bool). cond b (with_prop name (bytes_of value) (t path)) (t p)) out)
 
 pub keeps_texts : (tree : ℕ → TreeFunction) (last b : ℕ) (t : TreeFunction) (marks : List Mark) → AreRevisions tree last → IsTransaction tree last b t marks → KeepsTexts (tree b) t marks
-keeps_texts tree last _ _ _ is (Begun b le) = λ p m n e f del re. ap (λ (x : Node). x.text) (some_is n m (tree b p) f e)
+keeps_texts tree last _ _ _ is (Begun b le) = λ p m n e f del re. ap (λ (x : Node). x.text) (some_same (tree b p) n m f e)
 keeps_texts tree last _ _ _ is (Edited b t before edit was h) =
     let w = whole tree last b t before is was in
     let base = whole tree last b (tree b) [] is (Begun b w.sound.known) in
@@ -112,7 +110,7 @@ keeps_texts tree last _ _ _ is (Landed b h n t marks was le ge clear) =
     λ p m y e f del re. by p m y e del re (region b (tree b) (tree h) t marks pre p) (origin n (effects marks p) (tree b p) (tree h p) (t p) y f)
   where
     by : (p : Path) (m y : Node) → tree h p ≡ Some m → (effects marks p).deleted ≡ false → (effects marks p).rewritten ≡ false → Rattle.fsfs_model.proofs.TwiceAt.Region (effects marks p) (tree b p) (tree h p) (t p) → Origin n (effects marks p) (tree b p) (tree h p) (t p) y → y.text ≡ m.text
-    by p m y e del re at (Head x f alt k) = k.text ∙ ap (λ (z : Node). z.text) (some_is x m (tree h p) f e)
+    by p m y e del re at (Head x f alt k) = k.text ∙ ap (λ (z : Node). z.text) (some_same (tree h p) x m f e)
     by p m y e del re at (Changed x f a g r k) = absurd (both_ways _ re r)
     by p m y e del re at (Own x f (inr g) p1 p2 p3 k) = absurd (both_ways _ del g)
     by p m y e del re at (Own x f (inl none) p1 p2 p3 k) = absurd (elim (lacks (effects marks p) (tree b p) (tree h p) (t p) at none (ap is_some f)) [
