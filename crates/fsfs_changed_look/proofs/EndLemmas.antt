@@ -1,7 +1,7 @@
 -- The end of a revision, and the changed-path data before its trailer.
-use Rattle.std.proofs.Common.{◌≡◌, ℕ, ◌+◌, ◌-◌, ◌<◌, ◌≤◌, ◌^◌, List, [], ◌∷◌, ◌++◌, length, take, drop, Result, Ok, Err, refl, sym, ap, subst, ◌∙◌, arith, inl, inr, zero-add}
+use Rattle.std.proofs.Common.{◌≡◌, ℕ, ◌+◌, ◌-◌, ◌<◌, ◌≤◌, ◌^◌, List, [], ◌∷◌, ◌++◌, length, take, drop, Result, Ok, Err, refl, sym, ap, subst, ◌∙◌, arith, inl, inr}
 use Rattle.std.specs.Fmt.{decimal}
-use Rattle.std.proofs.lemmas.List.{length-append, length-take, length-drop, take_all, drop-append-le, drop-drop}
+use Rattle.std.proofs.lemmas.List.{length-append, length-take, length-drop, drop-append-le, drop-drop}
 use Rattle.std.proofs.Math.Seq.{take-append_seam}
 use Rattle.fsfs_grammar.proofs.Unique.{numeral_decimal}
 use Rattle.fsfs_damage.specs.declared.damage.DamageKind.TheVariants as what
@@ -14,28 +14,13 @@ use Rattle.fsfs_damage.specs.Readings.{Answers}
 use Rattle.fsfs_book.specs.Told.{RevisionBytes}
 use Rattle.fsfs_revision.specs.declared.trailer.Trailer.{Trailer}
 use Rattle.fsfs_revision.specs.Trailers.{IsTrailer, EndsWith}
-use Rattle.fsfs_revision.proofs.TrailerLemmas.{from_tail, in_tail}
 use Rattle.fsfs_revprops.proofs.FileLemmas.{further_front, further_whole}
 use Rattle.fsfs_dag.specs.Told.{LengthOf, WindowAt}
+use Rattle.fsfs_dag.proofs.Windows.{one_bytes, tail_ends, tail_seen}
 use Rattle.fsfs_changed.specs.Items.{IsData, DataOf}
 use Rattle.fsfs_changed_look.specs.Ends.{TrailerOf, RestOf}
 
-one_bytes : (read : Result (List ℕ) Refusal) (a b : List ℕ) → read ≡ Ok a → read ≡ Ok b → a ≡ b
-one_bytes read a b e f = cc
-
 -- ---- the trailer
-
--- the last 64 bytes
-tail_is : (bytes seen : List ℕ) (cut : ℕ) → cut ≡ length bytes - 64 → seen ≡ take 64 (drop cut bytes) → seen ≡ drop cut bytes
-tail_is bytes seen cut is window = window ∙ take_all 64 (drop cut bytes) (omega (arith, is, length-drop cut bytes))
-
-tail_ends : (bytes seen : List ℕ) (cut : ℕ) (t : Trailer) → cut ≡ length bytes - 64 → seen ≡ take 64 (drop cut bytes) → EndsWith cut seen t → EndsWith 0 bytes t
-tail_ends bytes seen cut t is window h =
-    from_tail 0 cut bytes t (omega (arith, is)) (subst (λ (n : ℕ). EndsWith n (drop cut bytes) t) (sym (zero-add cut)) (subst (λ (xs : List ℕ). EndsWith cut xs t) (tail_is bytes seen cut is window) h))
-
-tail_seen : (bytes seen : List ℕ) (cut : ℕ) (t : Trailer) → cut ≡ length bytes - 64 → seen ≡ take 64 (drop cut bytes) → EndsWith 0 bytes t → EndsWith cut seen t
-tail_seen bytes seen cut t is window h =
-    subst (λ (xs : List ℕ). EndsWith cut xs t) (sym (tail_is bytes seen cut is window)) (subst (λ (n : ℕ). EndsWith n (drop cut bytes) t) (zero-add cut) (in_tail 0 cut bytes t is h))
 
 module _ (look : RevisionBytes) (rev len cut : ℕ) (seen : List ℕ) (size : LengthOf look rev (Ok len)) (is : cut ≡ len - 64) (window : WindowAt look (place_of rev cut) 64 (Ok seen)) where
   same : window.0 ≡ size.0

@@ -8,6 +8,7 @@ ghost use Rattle.fsfs_changed_look.specs.Views.{by_text_value, EndsText};
 
 use crate::by_text::ItemsByText;
 use crate::items::{ReadItems, items_of};
+use crate::kept_dir::KeptDir;
 use crate::lines::item_lines;
 use fsfs_base::RevNum;
 use fsfs_book::Book;
@@ -44,9 +45,10 @@ fn write_items<B: Book, S: Sink>(
     ensures cause { HasDiskCause (B.faults book.old) (B.faults book.new) result }
     ensures sink { HasSinkCause (S.faults sink.old) (S.faults sink.new) result }
 {
+    let mut kept: Option<KeptDir> = None;
     for item in items.items.values() {
         write_full(sink, lines)?;
-        let more = item_lines(alloc, book, rev, items, item)?;
+        let more = item_lines(alloc, book, rev, items, item, &mut kept)?;
         lines.extend_from_slice(&more)?;
     }
     ending(wrong)
@@ -57,7 +59,8 @@ fn write_items<B: Book, S: Sink>(
 /// changed properties, `UU` both; a replaced path has a line `D ` and a line `A `. Where an item is damaged, the lines of those
 /// before it are written.
 ///
-/// The changed-path data of the revision are in memory; of a replaced path the directories above what was taken away are read.
+/// The changed-path data of the revision are in memory, and the entries of one directory: of a replaced path the directories
+/// above what was taken away are read, but for the one that was read last.
 pub fn changed_text<B: Book, S: Sink>(
     alloc: Global,
     book: &mut B,

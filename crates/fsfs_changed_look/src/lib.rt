@@ -6,7 +6,9 @@
 mod by_text;
 mod changed;
 mod data;
+mod entries_by_name;
 mod items;
+mod kept_dir;
 mod kinds;
 mod lines;
 mod taken;

@@ -6,9 +6,11 @@ ghost use Rattle.fsfs_damage.specs.Readings.{Answers};
 ghost use Rattle.fsfs_book.specs.Told.{RevisionBytes, Knows, Keeps};
 ghost use Rattle.fsfs_answers.specs.ChangedTexts.{changed_line, modified_line, replaced_lines};
 ghost use Rattle.fsfs_changed.specs.ChangedTexts.{ActionLines, ItemLines};
+ghost use Rattle.fsfs_changed_look.specs.KeptDirs.{IsKept};
 ghost use Rattle.fsfs_changed_look.specs.Views.{by_text_value, Replaced};
 
 use crate::by_text::{ItemsByText, text_of};
+use crate::kept_dir::KeptDir;
 use crate::kinds::kind_of;
 use crate::taken::taken_kind;
 use fsfs_base::{Action, FsPath, Kind, RevNum};
@@ -96,12 +98,14 @@ fn replace_lines<B: Book>(
     items: &ItemsByText,
     path: &FsPath,
     kind: Kind,
+    kept: &mut Option<KeptDir>,
 ) -> Result<Vec<u8>, ReadError>
-    ensures told { (look : RevisionBytes) → Knows (B.told book.old).revs rev look → Answers (λ v. v.items) (Replaced look rev (by_text_value items.now) path.now kind) result }
+    ensures told { (look : RevisionBytes) → Knows (B.told book.old).revs rev look → IsKept look kept.old → Answers (λ v. v.items) (Replaced look rev (by_text_value items.now) path.now kind) result }
+    ensures dir { (look : RevisionBytes) → Knows (B.told book.old).revs rev look → IsKept look kept.old → IsKept look kept.new }
     ensures kept { Keeps (B.told book.old) (B.told book.new) }
     ensures cause { HasCause (B.faults book.old) (B.faults book.new) result }
 {
-    let taken = taken_kind(alloc, book, rev, items, path, kind)?;
+    let taken = taken_kind(alloc, book, rev, items, path, kind, kept)?;
     read(replaced(alloc, path, taken, kind))
 }
 
@@ -113,8 +117,10 @@ fn action_lines<B: Book>(
     items: &ItemsByText,
     item: &ChangeItem,
     kind: Kind,
+    kept: &mut Option<KeptDir>,
 ) -> Result<Vec<u8>, ReadError>
-    ensures told { (look : RevisionBytes) → Knows (B.told book.old).revs rev look → Answers (λ v. v.items) (ActionLines look rev (by_text_value items.now) item.now item.now.action kind) result }
+    ensures told { (look : RevisionBytes) → Knows (B.told book.old).revs rev look → IsKept look kept.old → Answers (λ v. v.items) (ActionLines look rev (by_text_value items.now) item.now item.now.action kind) result }
+    ensures dir { (look : RevisionBytes) → Knows (B.told book.old).revs rev look → IsKept look kept.old → IsKept look kept.new }
     ensures kept { Keeps (B.told book.old) (B.told book.new) }
     ensures cause { HasCause (B.faults book.old) (B.faults book.new) result }
 {
@@ -122,22 +128,24 @@ fn action_lines<B: Book>(
         Action::Add => read(line(alloc, b"A ", &item.path, kind)),
         Action::Delete => read(line(alloc, b"D ", &item.path, kind)),
         Action::Modify => read(modified(alloc, item, kind)),
-        Action::Replace => replace_lines(alloc, book, rev, items, &item.path, kind),
+        Action::Replace => replace_lines(alloc, book, rev, items, &item.path, kind, kept),
     }
 }
 
-/// The lines of an item.
+/// The lines of an item. The directory that was read last is kept from call to call.
 pub(crate) fn item_lines<B: Book>(
     alloc: Global,
     book: &mut B,
     rev: RevNum,
     items: &ItemsByText,
     item: &ChangeItem,
+    kept: &mut Option<KeptDir>,
 ) -> Result<Vec<u8>, ReadError>
-    ensures told { (look : RevisionBytes) → Knows (B.told book.old).revs rev look → Answers (λ v. v.items) (ItemLines look rev (by_text_value items.now) item.now) result }
+    ensures told { (look : RevisionBytes) → Knows (B.told book.old).revs rev look → IsKept look kept.old → Answers (λ v. v.items) (ItemLines look rev (by_text_value items.now) item.now) result }
+    ensures dir { (look : RevisionBytes) → Knows (B.told book.old).revs rev look → IsKept look kept.old → IsKept look kept.new }
     ensures kept { Keeps (B.told book.old) (B.told book.new) }
     ensures cause { HasCause (B.faults book.old) (B.faults book.new) result }
 {
     let kind = kind_of(alloc, book, rev, item)?;
-    action_lines(alloc, book, rev, items, item, kind)
+    action_lines(alloc, book, rev, items, item, kind, kept)
 }

@@ -5,10 +5,11 @@ ghost use Rattle.fsfs_damage.specs.Readings.{Answers};
 ghost use Rattle.fsfs_book.specs.Told.{RevisionBytes, Knows, Keeps};
 ghost use Rattle.fsfs_answers.specs.ChangedTexts.{nearest_source, place_before, place_upto, taken_from};
 ghost use Rattle.fsfs_changed.specs.ChangedTexts.{source_at, TakenKind};
+ghost use Rattle.fsfs_changed_look.specs.KeptDirs.{IsKept};
 ghost use Rattle.fsfs_changed_look.specs.Views.{by_text_value, source_place};
 
 use crate::by_text::ItemsByText;
-use crate::kinds::kind_at;
+use crate::kept_dir::{KeptDir, kind_kept};
 use fsfs_base::{FsPath, Kind, RevNum};
 use fsfs_book::Book;
 use fsfs_damage::ReadError;
@@ -86,7 +87,8 @@ fn taken_from(
 }
 
 /// The kind of what a replace at this path took away: that of the node at the path in the revision before, or, where an item
-/// above has a copy source, at the same place below the nearest such source; this kind where no node stands there.
+/// above has a copy source, at the same place below the nearest such source; this kind where no node stands there. The directory
+/// that was read last is kept from call to call.
 pub(crate) fn taken_kind<B: Book>(
     alloc: Global,
     book: &mut B,
@@ -94,13 +96,15 @@ pub(crate) fn taken_kind<B: Book>(
     items: &ItemsByText,
     path: &FsPath,
     kind: Kind,
+    kept: &mut Option<KeptDir>,
 ) -> Result<Kind, ReadError>
-    ensures told { (look : RevisionBytes) → Knows (B.told book.old).revs rev look → Answers (λ k. k) (TakenKind look rev (by_text_value items.now) path.now kind) result }
+    ensures told { (look : RevisionBytes) → Knows (B.told book.old).revs rev look → IsKept look kept.old → Answers (λ k. k) (TakenKind look rev (by_text_value items.now) path.now kind) result }
+    ensures dir { (look : RevisionBytes) → Knows (B.told book.old).revs rev look → IsKept look kept.old → IsKept look kept.new }
     ensures kept { Keeps (B.told book.old) (B.told book.new) }
     ensures cause { HasCause (B.faults book.old) (B.faults book.new) result }
 {
     match taken_from(alloc, rev, items, path)? {
         None => Ok(kind),
-        Some(from) => kind_at(alloc, book, from.rev, &from.path, kind),
+        Some(from) => kind_kept(alloc, book, kept, from.rev, &from.path, kind),
     }
 }

@@ -153,18 +153,18 @@ node_found_in_front look at count seen v fits w h = (w.0, w.1, node_in_front cou
 -- ---- the end of a revision
 
 -- the last 64 bytes
-tail_is : (bytes seen : List ℕ) (cut : ℕ) → cut ≡ length bytes - 64 → seen ≡ take 64 (drop cut bytes) → seen ≡ drop cut bytes
+pub tail_is : (bytes seen : List ℕ) (cut : ℕ) → cut ≡ length bytes - 64 → seen ≡ take 64 (drop cut bytes) → seen ≡ drop cut bytes
 tail_is bytes seen cut is window = window ∙ take_all 64 (drop cut bytes) (omega (arith, is, length-drop cut bytes))
 
-tail_ends : (bytes seen : List ℕ) (cut : ℕ) (t : Trailer) → cut ≡ length bytes - 64 → seen ≡ take 64 (drop cut bytes) → EndsWith cut seen t → EndsWith 0 bytes t
+pub tail_ends : (bytes seen : List ℕ) (cut : ℕ) (t : Trailer) → cut ≡ length bytes - 64 → seen ≡ take 64 (drop cut bytes) → EndsWith cut seen t → EndsWith 0 bytes t
 tail_ends bytes seen cut t is window h =
     from_tail 0 cut bytes t (omega (arith, is)) (subst (λ (n : ℕ). EndsWith n (drop cut bytes) t) (sym (zero-add cut)) (subst (λ (xs : List ℕ). EndsWith cut xs t) (tail_is bytes seen cut is window) h))
 
-tail_seen : (bytes seen : List ℕ) (cut : ℕ) (t : Trailer) → cut ≡ length bytes - 64 → seen ≡ take 64 (drop cut bytes) → EndsWith 0 bytes t → EndsWith cut seen t
+pub tail_seen : (bytes seen : List ℕ) (cut : ℕ) (t : Trailer) → cut ≡ length bytes - 64 → seen ≡ take 64 (drop cut bytes) → EndsWith 0 bytes t → EndsWith cut seen t
 tail_seen bytes seen cut t is window h =
     subst (λ (xs : List ℕ). EndsWith cut xs t) (sym (tail_is bytes seen cut is window)) (subst (λ (n : ℕ). EndsWith n (drop cut bytes) t) (zero-add cut) (in_tail 0 cut bytes t is h))
 
-one_bytes : (read : Result (List ℕ) Refusal) (a b : List ℕ) → read ≡ Ok a → read ≡ Ok b → a ≡ b
+pub one_bytes : (read : Result (List ℕ) Refusal) (a b : List ℕ) → read ≡ Ok a → read ≡ Ok b → a ≡ b
 one_bytes read a b e f = cc
 
 module _ (look : RevisionBytes) (rev len cut : ℕ) (seen : List ℕ) (size : LengthOf look rev (Ok len)) (is : cut ≡ len - 64) (window : WindowAt look (place_of rev cut) 64 (Ok seen)) where

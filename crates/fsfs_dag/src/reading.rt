@@ -39,7 +39,11 @@ fn length<B: Book>(book: &mut B, rev: RevNum) -> Result<u64, ReadError>
 }
 
 // Reads a revision's bytes from a place on, as many as there are and as fit; none past the end.
-fn window<B: Book>(book: &mut B, at: &RevOffset, buffer: &mut [u8]) -> Result<usize, ReadError>
+pub(crate) fn window<B: Book>(
+    book: &mut B,
+    at: &RevOffset,
+    buffer: &mut [u8],
+) -> Result<usize, ReadError>
     ensures bound { IfOk result (λ n. n ≤ length buffer.new) }
     ensures told { (look : RevisionBytes) → IsTold (B.told book.old) look at.now.rev → Answers (λ n. take n buffer.new) (WindowAt look at.now (length buffer.old)) result }
     ensures kept { Keeps (B.told book.old) (B.told book.new) }
@@ -75,7 +79,11 @@ fn root_place<B: Book>(book: &mut B, rev: RevNum) -> Result<RevOffset, ReadError
 // The node-revision that stands at a place, or why none does, of all the bytes that one may have. A function of its own, so
 // that their buffer is made only where it is wanted.
 #[inline(never)]
-fn node_in_whole<B: Book>(alloc: Global, book: &mut B, at: &RevOffset) -> Result<NodeRev, ReadError>
+pub(crate) fn node_in_whole<B: Book>(
+    alloc: Global,
+    book: &mut B,
+    at: &RevOffset,
+) -> Result<NodeRev, ReadError>
     ensures told { (look : RevisionBytes) → IsTold (B.told book.old) look at.now.rev → Answers (λ v. v) (NodeAt look at.now) result }
     ensures ordered { IfOk result (λ v. is_ordered at.now v ≡ true) }
     ensures kept { Keeps (B.told book.old) (B.told book.new) }
@@ -88,7 +96,11 @@ fn node_in_whole<B: Book>(alloc: Global, book: &mut B, at: &RevOffset) -> Result
 
 // The node-revision that stands at a place. Bytes behind its text change nothing, so a front of them shows it, but what is
 // refused of a front may only be cut off: all the bytes decide.
-fn node_read<B: Book>(alloc: Global, book: &mut B, at: &RevOffset) -> Result<NodeRev, ReadError>
+pub(crate) fn node_read<B: Book>(
+    alloc: Global,
+    book: &mut B,
+    at: &RevOffset,
+) -> Result<NodeRev, ReadError>
     ensures told { (look : RevisionBytes) → IsTold (B.told book.old) look at.now.rev → Answers (λ v. v) (NodeAt look at.now) result }
     ensures ordered { IfOk result (λ v. is_ordered at.now v ≡ true) }
     ensures kept { Keeps (B.told book.old) (B.told book.new) }
@@ -160,14 +172,13 @@ fn same_id(a: &NodeId, b: &NodeId) -> bool
     same_part(a.node, b.node) && same_part(a.copy, b.copy) && same_place(a.place, b.place)
 }
 
-// The node-revision, if it has the id that names it.
-fn with_id(id: &NodeId, node: NodeRev) -> Result<NodeRev, ReadError>
-    ensures told { Answers (λ v. v) (HasId id.now node) result }
-    ensures same { IfOk result (λ v. v ≡ node) }
+// Whether the node-revision has the id that names it. It only looks at it, since a node-revision is dear to move.
+pub(crate) fn check_id(id: &NodeId, node: &NodeRev) -> Result<(), ReadError>
+    ensures told { Answers (λ _. node.now) (HasId id.now node.now) result }
     ensures quiet { IsQuiet result }
 {
     if same_id(&node.id, id) {
-        Ok(node)
+        Ok(())
     } else {
         Err(ReadError::damaged(offset_of(id.place), DamageKind::OtherId))
     }
@@ -184,19 +195,18 @@ pub fn named_node<B: Book>(
     ensures kept { Keeps (B.told book.old) (B.told book.new) }
     ensures cause { HasCause (B.faults book.old) (B.faults book.new) result }
 {
-    let read = node_read(alloc, book, &offset_of(id.place))?;
-    let node = with_id(id, read)?;
+    let node = node_read(alloc, book, &offset_of(id.place))?;
+    check_id(id, &node)?;
     Ok(PlacedNode { node })
 }
 
-// The child, if it has the kind that its entry says.
-fn with_kind(entry: &DirEntry, child: PlacedNode) -> Result<PlacedNode, ReadError>
-    ensures told { Answers (λ found. found.node) (HasKind (entry_value entry.now) child.node) result }
-    ensures same { IfOk result (λ found. found ≡ child) }
+// Whether the child has the kind that its entry says.
+pub(crate) fn check_kind(entry: &DirEntry, child: &NodeRev) -> Result<(), ReadError>
+    ensures told { Answers (λ _. child.now) (HasKind (entry_value entry.now) child.now) result }
     ensures quiet { IsQuiet result }
 {
-    if child.node.kind == entry.kind {
-        Ok(child)
+    if child.kind == entry.kind {
+        Ok(())
     } else {
         Err(ReadError::damaged(offset_of(entry.id.place), DamageKind::EntryKind))
     }
@@ -214,5 +224,6 @@ pub fn child_of<B: Book>(
     ensures cause { HasCause (B.faults book.old) (B.faults book.new) result }
 {
     let child = named_node(alloc, book, &entry.id)?;
-    with_kind(entry, child)
+    check_kind(entry, &child.node)?;
+    Ok(child)
 }

@@ -28,7 +28,7 @@ use Rattle.fsfs_history_look.specs.declared.history.Way.TheVariants as ways
 use Rattle.fsfs_history_look.specs.declared.history.Leading.{Leading}
 use Rattle.fsfs_history_look.specs.declared.history.Leading.TheVariants as leadings
 use Rattle.fsfs_history_look.specs.Points.{LeadsLower, lead_value, point_value, root_value, way_met, IsRootedWay, IsWithin, IsWayWithin, steps_to, height}
-use Rattle.fsfs_look.specs.Weights.{rank}
+use Rattle.fsfs_dag.specs.TreeWalks.{rank}
 use Rattle.fsfs_shows.specs.Chains.{copy_root_of}
 use Rattle.fsfs_ancestry.specs.CopyRoots.{later_root, IsRootedFrom, IsRootedAt}
 

@@ -18,7 +18,7 @@ use Rattle.fsfs_history_look.specs.declared.history.Leading.TheVariants as leadi
 use Rattle.fsfs_look.specs.declared.look_error.LookError.{LookError}
 use Rattle.fsfs_look.specs.declared.look_error.LookError.TheVariants as errors
 use Rattle.fsfs_look.specs.Paths.{IsNotFound}
-use Rattle.fsfs_look.specs.Weights.{rank}
+use Rattle.fsfs_dag.specs.TreeWalks.{rank}
 
 abbrev pub root_value : CopyPlace → ℕ × Path
 root_value root = (root.rev, root.path)

@@ -6,7 +6,7 @@ use Rattle.fsfs_book.specs.Told.{RevisionBytes}
 use Rattle.fsfs_noderev.specs.declared.node_rev.NodeRev.{NodeRev}
 use Rattle.fsfs_base.specs.declared.kind.Kind.{Kind}
 use Rattle.fsfs_base.specs.declared.kind.Kind.TheVariants.{File, Dir}
-use Rattle.fsfs_shows.specs.Reading.{DirEntry, OfEntry, named, OfNamed, ChildOf, OrLacking, InDirectory, MetFrom, MetAt, Stands, Pairs, AreEntries, EntriesAt, OfContents, offset_of}
+use Rattle.fsfs_shows.specs.Reading.{DirEntry, OfEntry, named, OfNamed, ChildOf, OrLacking, InDirectory, MetFrom, MetAt, Stands, Pairs, AreEntries, EntriesAt, EntriesOf, OfContents, offset_of}
 use Rattle.std.proofs.lemmas.Bool.{and_parts}
 use Rattle.std.proofs.lemmas.Bool.Decides.{nat_tests}
 use Rattle.std.specs.List.{AllByRecursion}
@@ -70,11 +70,13 @@ module _ (look : RevisionBytes) where
     from_all [] v depth w p h = let same : v ≡ w = cc in subst (λ n. P n) same p
     from_all (name ∷ names) v depth w p h = in_kind v depth name names w v.kind p (λ u k m. from_all names u (suc depth) w k m) h
 
+  pub entry_within : (v : NodeRev) (name : PathName) (entries : List DirEntry) (entry : DirEntry) → EntriesOf look v (Ok entries) → named name entries ≡ Some entry → (offset_of entry.id.place).rev ≤ (home_of v).rev
+  entry_within v name entries entry read is = place_le (home_of v) entry.id.place (named_before (home_of v) name entries entry (contents_before look (home_of v) v.text entries read) is)
+
   child_within : (top : ℕ) (v : NodeRev) (name : PathName) (u : NodeRev) → (home_of v).rev ≤ top → ChildOf look v name (Ok (Some u)) → (home_of u).rev ≤ top
   child_within top v name u le (entries, read, h) =
       let k = child_named v name entries (named name entries) u refl h in
-      let before = named_before (home_of v) name entries k.0 (contents_before look (home_of v) v.text entries read) k.1 in
-      let lower : (offset_of k.0.id.place).rev ≤ (home_of v).rev = place_le (home_of v) k.0.id.place before in
+      let lower : (offset_of k.0.id.place).rev ≤ (home_of v).rev = entry_within v name entries k.0 read k.1 in
       let same : (home_of u).rev ≡ (offset_of k.0.id.place).rev = ap (λ (id : NodeId). (offset_of id.place).rev) (entry_id look k.0 u k.2) in
       omega (arith, lower, same, le)
 

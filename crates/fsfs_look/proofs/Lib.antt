@@ -1,5 +1,4 @@
 pub mod TextsLeft
-pub mod WeightLemmas
 pub mod LookAnswers
 pub mod LineLemmas
 pub mod ProgressLemmas

@@ -10,12 +10,12 @@ use Rattle.fsfs_shows.specs.Reading.{MetAt, Met, Stands, Lacking, Blocked}
 use Rattle.fsfs_look.specs.declared.look_error.LookError.{LookError}
 use Rattle.fsfs_look.specs.declared.look_error.LookError.TheVariants as errors
 use Rattle.fsfs_printed.specs.declared.look_fault.LookFault.TheVariants as faults
-use Rattle.fsfs_look.specs.declared.tree.Pending.{Pending}
+use Rattle.fsfs_dag.specs.TreeWalks.{Left}
 use Rattle.fsfs_streams.specs.Output.{AddsFront}
 use Rattle.fsfs_look.specs.Paths.{IsFound}
 use Rattle.fsfs_printed.specs.Texts.{End, Whole, Refused, Stopped, AtPath}
 use Rattle.fsfs_printed.specs.TreeTexts.{NodeText, TreeText}
-use Rattle.fsfs_look.specs.Walks.{left, Then, LeftText, NodeFrom, Puts, Joins, JoinsSome, Walks, EndsSo}
+use Rattle.fsfs_look.specs.Walks.{Then, LeftText, NodeFrom, Puts, Joins, JoinsSome, Walks, EndsSo}
 use Rattle.fsfs_look.specs.Written.{Writes, WritesFront}
 use Rattle.fsfs_look.proofs.ProgressLemmas.{adds_nothing}
 
@@ -27,21 +27,21 @@ module _ (look : RevisionBytes) (ids : Bool) (name : PathName) (v : NodeRev) whe
   alone text end (inr (first, rest, h, (none, whole), e)) =
       subst (λ t. NodeText look ids 0 name v t end) (sym (e ∙ ap (λ t. first ++ t) none ∙ append-nil first)) (subst (λ x. NodeText look ids 0 name v first x) (sym whole) h)
 
-  pub start_fails : (before now : List ℕ) (after : List Pending) (told : Option (List ℕ)) (e : LookError) → before ≡ [] → Puts look ids 0 name v [] after before now (Err e) → Walks (NodeFrom look ids name v) [] now told told (Err e)
+  pub start_fails : (before now : List ℕ) (after : Left) (told : Option (List ℕ)) (e : LookError) → before ≡ [] → Puts look ids 0 name v [] after before now (Err e) → Walks (NodeFrom look ids name v) [] now told told (Err e)
   start_fails before now after told (errors.Fault fault) none (line, is, h) = ([], adds_nothing told, (line, inr h, sym (is ∙ ap (λ t. t ++ line) none)))
   start_fails before now after told errors.OutOfMemory none h = ([], adds_nothing told, (Stopped, [], ([], inl (refl, refl), refl)))
   start_fails before now after told errors.DiskFault none h = ([], adds_nothing told, (Stopped, [], ([], inl (refl, refl), refl)))
   start_fails before now after told errors.WriteFault none h = ([], adds_nothing told, (Stopped, [], ([], inl (refl, refl), refl)))
 
-  module _ (before now : List ℕ) (after : List Pending) (none : before ≡ []) (put : Puts look ids 0 name v [] after before now (Ok tt)) where
-    joins_on : (written : List ℕ) (end : End) (rest : List ℕ) → Joins (LeftText look ids (left after)) now written end rest → Joins (NodeFrom look ids name v) [] written end rest
+  module _ (before now : List ℕ) (after : Left) (none : before ≡ []) (put : Puts look ids 0 name v [] after before now (Ok tt)) where
+    joins_on : (written : List ℕ) (end : End) (rest : List ℕ) → Joins (LeftText look ids after) now written end rest → Joins (NodeFrom look ids name v) [] written end rest
     joins_on written end rest (text, h, e) =
         (put.0 ++ text, inr (alone (put.0 ++ text) end (put.2 text end h)), ap (λ t. t ++ text) (sym (put.1 ∙ ap (λ t. t ++ put.0) none)) ∙ e)
 
-    some_on : (written : List ℕ) → JoinsSome (LeftText look ids (left after)) now written → JoinsSome (NodeFrom look ids name v) [] written
+    some_on : (written : List ℕ) → JoinsSome (LeftText look ids after) now written → JoinsSome (NodeFrom look ids name v) [] written
     some_on written (end, rest, h) = (end, rest, joins_on written end rest h)
 
-    pub start_goes : (last : List ℕ) (old new : Option (List ℕ)) (r : Result (Unit {0}) LookError) → Walks (LeftText look ids (left after)) now last old new r → Walks (NodeFrom look ids name v) [] last old new r
+    pub start_goes : (last : List ℕ) (old new : Option (List ℕ)) (r : Result (Unit {0}) LookError) → Walks (LeftText look ids after) now last old new r → Walks (NodeFrom look ids name v) [] last old new r
     start_goes last old new (Ok x) (written, adds, h) = (written, adds, joins_on written Whole last h)
     start_goes last old new (Err (errors.Fault fault)) (written, adds, h) = (written, adds, joins_on written (Refused fault) last h)
     start_goes last old new (Err errors.OutOfMemory) (written, adds, h) = (written, adds, some_on written h)

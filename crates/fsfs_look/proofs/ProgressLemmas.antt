@@ -8,18 +8,17 @@ use Rattle.fsfs_damage.specs.declared.wrong.ReadError.{ReadError}
 use Rattle.fsfs_damage.specs.declared.wrong.ReadError.TheVariants as reads
 use Rattle.fsfs_damage.specs.Readings.{Answers}
 use Rattle.fsfs_shows.specs.Reading.{DirEntry, OfEntry}
+use Rattle.fsfs_dag.specs.TreeWalks.{Left}
 use Rattle.fsfs_dag.specs.declared.node.PlacedNode.{PlacedNode}
 use Rattle.fsfs_look.specs.declared.look_error.LookError.{LookError}
 use Rattle.fsfs_look.specs.declared.look_error.LookError.TheVariants as errors
 use Rattle.fsfs_printed.specs.declared.look_fault.LookFault.TheVariants as faults
-use Rattle.fsfs_look.specs.declared.tree.Pending.{Pending}
 use Rattle.fsfs_look.specs.Errors.{of_read}
 use Rattle.fsfs_streams.specs.Output.{AddsFront}
 use Rattle.fsfs_printed.specs.Texts.{End, Whole, Refused, Stopped}
 use Rattle.fsfs_printed.specs.TreeTexts.{EntryText}
-use Rattle.fsfs_look.specs.Walks.{left, Then, LeftText, Puts, Joins, JoinsSome, Walks}
-use Rattle.fsfs_dag.specs.Views.{entry_value}
-use Rattle.fsfs_look.proofs.TextsLeft.{left_push, wrong_first, refused_first, stops_first, node_first}
+use Rattle.fsfs_look.specs.Walks.{Then, LeftText, Puts, Joins, JoinsSome, Walks}
+use Rattle.fsfs_look.proofs.TextsLeft.{wrong_first, refused_first, stops_first, node_first}
 
 -- what was kept before and the text so far are what was written and the lines; what S gives goes on behind that text, as R has it
 pub record Progress (R S : List ℕ → End → Type 0) (before lines : List ℕ) (old new : Option (List ℕ)) : Type 0 where
@@ -83,7 +82,7 @@ read_fails look ids R S level entry before lines old new p reads.OutOfMemory h =
 read_fails look ids R S level entry before lines old new p reads.DiskFault h = (p.written, p.adds, stops_here R (Then (EntryText look ids level entry) S) before lines old new p (stops_first look ids S level entry))
 
 -- its node isn't put
-pub put_fails : (look : RevisionBytes) (ids : Bool) (R S : List ℕ → End → Type 0) (level : ℕ) (entry : DirEntry) (v : NodeRev) (todo after : List Pending) (before lines now : List ℕ) (old new : Option (List ℕ))
+pub put_fails : (look : RevisionBytes) (ids : Bool) (R S : List ℕ → End → Type 0) (level : ℕ) (entry : DirEntry) (v : NodeRev) (todo after : Left) (before lines now : List ℕ) (old new : Option (List ℕ))
     → Progress R (Then (EntryText look ids level entry) S) before lines old new → OfEntry look entry (Ok v)
     → (e : LookError) → Puts look ids level entry.name v todo after lines now (Err e) → Walks R before now old new (Err e)
 put_fails look ids R S level entry v todo after before lines now old new p read (errors.Fault fault) h =
@@ -93,18 +92,18 @@ put_fails look ids R S level entry v todo after before lines now old new p read 
 put_fails look ids R S level entry v todo after before lines now old new p read errors.WriteFault h = (p.written, p.adds, stops_here R (Then (EntryText look ids level entry) S) before lines old new p (stops_first look ids S level entry))
 
 -- its node is put
-pub put_goes : (look : RevisionBytes) (ids : Bool) (R : List ℕ → End → Type 0) (level : ℕ) (entry : DirEntry) (v : NodeRev) (todo after : List Pending) (before lines now : List ℕ) (old new : Option (List ℕ))
-    → Progress R (Then (EntryText look ids level entry) (LeftText look ids (left todo))) before lines old new → OfEntry look entry (Ok v)
-    → Puts look ids level entry.name v todo after lines now (Ok tt) → Progress R (LeftText look ids (left after)) before now old new
+pub put_goes : (look : RevisionBytes) (ids : Bool) (R : List ℕ → End → Type 0) (level : ℕ) (entry : DirEntry) (v : NodeRev) (todo after : Left) (before lines now : List ℕ) (old new : Option (List ℕ))
+    → Progress R (Then (EntryText look ids level entry) (LeftText look ids todo)) before lines old new → OfEntry look entry (Ok v)
+    → Puts look ids level entry.name v todo after lines now (Ok tt) → Progress R (LeftText look ids after) before now old new
 put_goes look ids R level entry v todo after before lines now old new p read h =
-    longer R (Then (EntryText look ids level entry) (LeftText look ids (left todo))) (LeftText look ids (left after)) before lines now h.0 old new p h.1
-    (λ text end t. node_first look ids (LeftText look ids (left todo)) level entry v (h.0 ++ text) end read (h.2 text end t))
+    longer R (Then (EntryText look ids level entry) (LeftText look ids todo)) (LeftText look ids after) before lines now h.0 old new p h.1
+    (λ text end t. node_first look ids (LeftText look ids todo) level entry v (h.0 ++ text) end read (h.2 text end t))
 
 -- ---- the first of what is left
 
-pub popped : (look : RevisionBytes) (ids : Bool) (R : List ℕ → End → Type 0) (before lines : List ℕ) (old new : Option (List ℕ)) (todo rest : List Pending) (next : Pending) → todo ≡ rest ++ next ∷ []
-    → Progress R (LeftText look ids (left todo)) before lines old new → Progress R (Then (EntryText look ids next.level (entry_value next.entry)) (LeftText look ids (left rest))) before lines old new
-popped look ids R before lines old new todo rest next e p = subst (λ t. Progress R (LeftText look ids t) before lines old new) (ap left e ∙ left_push rest next) p
+pub popped : (look : RevisionBytes) (ids : Bool) (R : List ℕ → End → Type 0) (before lines : List ℕ) (old new : Option (List ℕ)) (todo rest : Left) (level : ℕ) (entry : DirEntry) → todo ≡ (level, entry) ∷ rest
+    → Progress R (LeftText look ids todo) before lines old new → Progress R (Then (EntryText look ids level entry) (LeftText look ids rest)) before lines old new
+popped look ids R before lines old new todo rest level entry e p = subst (λ (t : Left). Progress R (LeftText look ids t) before lines old new) e p
 
 pub knows_upto : {Below : Type 0} (old new : Telling Below) (look : RevisionBytes) (top upto : ℕ) → Keeps old new → upto ≤ top → Knows old.revs top look → Knows new.revs upto look
 knows_upto old new look top upto kept le knows r lower = kept.revs r (look r) (knows r (omega (arith, lower, le)))

@@ -1,41 +1,25 @@
 -- The text of what is left to write.
-use Rattle.std.proofs.Common.{◌≡◌, ℕ, Bool, suc, List, [], ◌∷◌, ◌++◌, map, length, arith, Result, Ok, Err, refl, sym, ap, subst, ◌∙◌, append_assoc, inl, inr, Vec, Global}
-use Rattle.std.specs.Prelude.{◌≢◌, OnOk, IfErr}
-use Rattle.std.proofs.lemmas.List.{reverse-append}
+use Rattle.std.proofs.Common.{◌≡◌, ℕ, Bool, suc, List, [], ◌∷◌, ◌++◌, Result, Ok, Err, refl, sym, ap, subst, ◌∙◌, append_assoc, inl, inr}
+use Rattle.std.specs.Prelude.{◌≢◌}
 use Rattle.fsfs_base.specs.Paths.{PathName}
 use Rattle.fsfs_base.specs.declared.kind.Kind.TheVariants.{File, Dir}
 use Rattle.fsfs_book.specs.Told.{RevisionBytes}
 use Rattle.fsfs_noderev.specs.declared.node_rev.NodeRev.{NodeRev}
 use Rattle.fsfs_damage.specs.declared.wrong.Wrong.{Wrong}
 use Rattle.fsfs_shows.specs.Reading.{DirEntry, EntriesOf, OfEntry}
-use Rattle.fsfs_dag.specs.declared.directory.DirEntry.{DirEntry as PlacedEntry}
-use Rattle.fsfs_dag.specs.Views.{entry_value, entry_values}
-use Rattle.fsfs_look.specs.declared.tree.Pending.{Pending}
+use Rattle.fsfs_dag.specs.TreeWalks.{Left, at_level, Enters}
 use Rattle.fsfs_printed.specs.declared.look_fault.LookFault.TheVariants as faults
 use Rattle.fsfs_damage.specs.declared.wrong.ReadError.{ReadError}
 use Rattle.fsfs_damage.specs.declared.wrong.ReadError.TheVariants as reads
-use Rattle.fsfs_damage.specs.Readings.{Answers}
 use Rattle.fsfs_look.specs.declared.look_error.LookError.{LookError}
-use Rattle.fsfs_look.specs.declared.look_error.LookError.TheVariants as errors
 use Rattle.fsfs_look.specs.Errors.{of_read}
 use Rattle.fsfs_printed.specs.Texts.{End, Whole, Refused, Stopped}
 use Rattle.fsfs_printed.specs.TreeTexts.{IsLine, NodeText, OfFile, OfDir, OfWrongDir, EntryText, OfNode, OfWrong, Stops, EntriesText, OfNone, OfLast, OfNext}
-use Rattle.fsfs_look.specs.Walks.{pending_value, pending, pend, left, at_level, Then, LeftText, Puts}
-
--- ---- what is left, as a list
-
-pub left_push : (todo : List Pending) (p : Pending) → left (todo ++ p ∷ []) ≡ pending_value p ∷ left todo
-left_push todo p = ap (map pending_value) (reverse-append todo (p ∷ []))
-
-pub left_pend : (level : ℕ) (entries : List PlacedEntry) (todo : List Pending) → left (pend level entries todo) ≡ at_level level (entry_values entries) ++ left todo
-left_pend level [] todo = refl
-left_pend level (e ∷ entries) todo = left_push (pend level entries todo) (pending level e) ∙ ap (λ t. (level, entry_value e) ∷ t) (left_pend level entries todo)
-
--- ---- its text
+use Rattle.fsfs_look.specs.Walks.{Then, LeftText, Puts}
 
 module _ (look : RevisionBytes) (ids : Bool) where
   -- the entries of a directory, and then the rest
-  pub entries_then : (level : ℕ) (entries : List DirEntry) (rest : List (ℕ × DirEntry)) (text : List ℕ) (end : End) → LeftText look ids (at_level level entries ++ rest) text end
+  pub entries_then : (level : ℕ) (entries : List DirEntry) (rest : Left) (text : List ℕ) (end : End) → LeftText look ids (at_level level entries ++ rest) text end
       → Then (EntriesText look ids level entries) (LeftText look ids rest) text end
   entries_then level [] rest text end h = inr ([], text, OfNone level, h, refl)
   entries_then level (e ∷ entries) rest text end (inl (h, ne)) = inl (OfLast level e entries text end h ne, ne)
@@ -82,26 +66,24 @@ module _ (look : RevisionBytes) (ids : Bool) where
 
   -- ---- a node's line and its entries, as they were put
 
-  pub puts_file : (level : ℕ) (name : PathName) (v : NodeRev) (todo : List Pending) (before now line : List ℕ) → IsLine ids level name v line → now ≡ before ++ line → v.kind ≡ File → Puts look ids level name v todo todo before now (Ok tt)
-  puts_file level name v todo before now line is e kind = (line, e, λ text end h. file_then (LeftText look ids (left todo)) level name v line text end is kind h)
+  pub puts_file : (level : ℕ) (name : PathName) (v : NodeRev) (rest : Left) (before now line : List ℕ) → IsLine ids level name v line → now ≡ before ++ line → v.kind ≡ File → Puts look ids level name v rest rest before now (Ok tt)
+  puts_file level name v rest before now line is e kind = (line, e, λ text end h. file_then (LeftText look ids rest) level name v line text end is kind h)
 
-  pub puts_wrong : (level : ℕ) (name : PathName) (v : NodeRev) (old new : List Pending) (before now line : List ℕ) → IsLine ids level name v line → now ≡ before ++ line → v.kind ≡ Dir → (e : ReadError)
-      → Answers (λ (found : Vec PlacedEntry Global). entry_values found.items) (EntriesOf look v) (Err e) → Puts look ids level name v old new before now (Err (of_read e))
-  puts_wrong level name v old new before now line is e kind (reads.Wrong w) read = (line, e, OfWrongDir level name v line w is kind read)
-  puts_wrong level name v old new before now line is e kind reads.OutOfMemory read = tt
-  puts_wrong level name v old new before now line is e kind reads.DiskFault read = tt
+  pub puts_wrong : (level : ℕ) (name : PathName) (v : NodeRev) (old new : Left) (before now line : List ℕ) → IsLine ids level name v line → now ≡ before ++ line → v.kind ≡ Dir → (e : ReadError) → Enters look level v old new (Err e)
+      → Puts look ids level name v old new before now (Err (of_read e))
+  puts_wrong level name v old new before now line is e kind (reads.Wrong w) entered = (line, e, OfWrongDir level name v line w is kind entered.0)
+  puts_wrong level name v old new before now line is e kind reads.OutOfMemory entered = tt
+  puts_wrong level name v old new before now line is e kind reads.DiskFault entered = tt
 
-  pub puts_dir : (level next : ℕ) (name : PathName) (v : NodeRev) (old new : List Pending) (before now line : List ℕ) → IsLine ids level name v line → now ≡ before ++ line → v.kind ≡ Dir → next ≡ suc level
-      → (below : List PlacedEntry) → EntriesOf look v (Ok (entry_values below)) → (r : Result (Unit {0}) LookError) → OnOk r (new ≡ pend next below old) → IfErr r (λ e. e ≡ errors.OutOfMemory) → Puts look ids level name v old new before now r
-  puts_dir level next name v old new before now line is e kind one below read (Ok x) items memory = (line, e, text_of) where
-    text_of : (text : List ℕ) (end : End) → LeftText look ids (left new) text end → Then (NodeText look ids level name v) (LeftText look ids (left old)) (line ++ text) end
+  pub puts_dir : (level : ℕ) (name : PathName) (v : NodeRev) (old new : Left) (before now line : List ℕ) → IsLine ids level name v line → now ≡ before ++ line → v.kind ≡ Dir → Enters look level v old new (Ok tt) → Puts look ids level name v old new before now (Ok tt)
+  puts_dir level name v old new before now line is e kind (entries, read, items) = (line, e, text_of) where
+    text_of : (text : List ℕ) (end : End) → LeftText look ids new text end → Then (NodeText look ids level name v) (LeftText look ids old) (line ++ text) end
     text_of text end h =
-        let same : left new ≡ at_level (suc level) (entry_values below) ++ left old = ap left (items ∙ ap (λ n. pend n below old) one) ∙ left_pend (suc level) below old in
-        let k : LeftText look ids (at_level (suc level) (entry_values below) ++ left old) text end = subst (λ t. LeftText look ids t text end) same h in
-        dir_then (LeftText look ids (left old)) level name v line (entry_values below) text end is kind read (entries_then (suc level) (entry_values below) (left old) text end k)
-  puts_dir level next name v old new before now line is e kind one below read (Err f) items memory = subst (λ x. Puts look ids level name v old new before now (Err x)) (sym memory) tt
+        let k : LeftText look ids (at_level (suc level) entries ++ old) text end = subst (λ (t : Left). LeftText look ids t text end) items h in
+        dir_then (LeftText look ids old) level name v line entries text end is kind read (entries_then (suc level) entries old text end k)
 
-  -- the same, where ids are shown as they were, and of the same name
-  pub puts_as : (other : Bool) (level : ℕ) (written name : PathName) (v : NodeRev) (old new : List Pending) (before now : List ℕ) (r : Result (Unit {0}) LookError) → ids ≡ other → written ≡ name
-      → Puts look ids level written v old new before now r → Puts look other level name v old new before now r
-  puts_as other level written name v old new before now r same same_name h = subst (λ b. Puts look b level name v old new before now r) same (subst (λ n. Puts look ids level n v old new before now r) same_name h)
+  -- the same, where ids are shown as they were, of the same name, and before what was left
+  pub puts_as : (other : Bool) (level : ℕ) (written name : PathName) (v : NodeRev) (was old new : Left) (before now : List ℕ) (r : Result (Unit {0}) LookError) → ids ≡ other → written ≡ name → was ≡ old
+      → Puts look ids level written v was new before now r → Puts look other level name v old new before now r
+  puts_as other level written name v was old new before now r same same_name same_left h =
+      subst (λ b. Puts look b level name v old new before now r) same (subst (λ n. Puts look ids level n v old new before now r) same_name (subst (λ (t : Left). Puts look ids level written v t new before now r) same_left h))

@@ -2,4 +2,3 @@ pub mod Errors
 pub mod Paths
 pub mod Written
 pub mod Walks
-pub mod Weights

@@ -1,45 +1,22 @@
 -- What is left to write of a tree.
-use Rattle.std.specs.Prelude.{◌≡◌, ◌≢◌, ◌≤◌, ◌⊎◌, ℕ, Bool, List, [], ◌∷◌, ◌++◌, map, reverse, Option, Result, Ok, Err}
-use Rattle.std.specs.List.{AllByRecursion}
+use Rattle.std.specs.Prelude.{◌≡◌, ◌≢◌, ◌⊎◌, ℕ, Bool, List, [], ◌∷◌, ◌++◌, Option, Result, Ok, Err}
 use Rattle.fsfs_base.specs.Paths.{PathName}
 use Rattle.fsfs_book.specs.Told.{RevisionBytes}
 use Rattle.fsfs_streams.specs.Streams.{Adds}
 use Rattle.fsfs_noderev.specs.declared.node_rev.NodeRev.{NodeRev}
-use Rattle.fsfs_shows.specs.Reading.{DirEntry, offset_of}
-use Rattle.fsfs_dag.specs.Views.{entry_value}
-use Rattle.fsfs_dag.specs.declared.directory.DirEntry.{DirEntry as PlacedEntry}
-use Rattle.fsfs_look.specs.declared.tree.Pending.{Pending}
+use Rattle.fsfs_dag.specs.TreeWalks.{Left}
 use Rattle.fsfs_look.specs.declared.look_error.LookError.{LookError}
 use Rattle.fsfs_look.specs.declared.look_error.LookError.TheVariants as errors
 use Rattle.fsfs_streams.specs.Output.{AddsFront}
 use Rattle.fsfs_printed.specs.Texts.{End, Whole, Refused, Stopped, Nothing}
 use Rattle.fsfs_printed.specs.TreeTexts.{NodeText, EntryText}
 
--- an entry, and how many levels it stands below the path
-abbrev pub pending_value : Pending → ℕ × DirEntry
-pending_value p = (p.level, entry_value p.entry)
-
--- in the order in which it is written: the last is the first
-abbrev pub left : List Pending → List (ℕ × DirEntry)
-left todo = map pending_value (reverse todo)
-
-abbrev pub pending : ℕ → PlacedEntry → Pending
-pending level entry = record { level = level; entry = entry }
-
--- the entries of a directory above what is left to write, the first on top
-abbrev pub pend : ℕ → List PlacedEntry → List Pending → List Pending
-pend level [] todo = todo
-pend level (entry ∷ entries) todo = pend level entries todo ++ pending level entry ∷ []
-
-abbrev pub at_level : ℕ → List DirEntry → List (ℕ × DirEntry)
-at_level level = map (λ entry. (level, entry))
-
 -- one text behind another, if that is whole
 abbrev pub Then : (List ℕ → End → Type 0) → (List ℕ → End → Type 0) → List ℕ → End → Type 0
 Then R S text end = (R text end × (end ≢ Whole)) ⊎ ((first : List ℕ) × (rest : List ℕ) × R first Whole × S rest end × (text ≡ first ++ rest))
 
 -- the text of what is left
-abbrev pub LeftText : RevisionBytes → Bool → List (ℕ × DirEntry) → List ℕ → End → Type 0
+abbrev pub LeftText : RevisionBytes → Bool → Left → List ℕ → End → Type 0
 LeftText look ids [] text end = (text ≡ []) × (end ≡ Whole)
 LeftText look ids (p ∷ ps) text end = Then (EntryText look ids p.0 p.1) (LeftText look ids ps) text end
 
@@ -47,14 +24,10 @@ LeftText look ids (p ∷ ps) text end = Then (EntryText look ids p.0 p.1) (LeftT
 abbrev pub NodeFrom : RevisionBytes → Bool → PathName → NodeRev → List ℕ → End → Type 0
 NodeFrom look ids name v text end = Nothing Stopped text end ⊎ NodeText look ids 0 name v text end
 
--- all that is left stands in revisions up to this one
-abbrev pub AreWithin : ℕ → List Pending → Type 0
-AreWithin top = AllByRecursion (λ p. (offset_of p.entry.id.place).rev ≤ top)
-
 -- a node's line was put behind the lines, and its entries before what is left; or what is wrong is in it
-abbrev pub Puts : RevisionBytes → Bool → ℕ → PathName → NodeRev → List Pending → List Pending → List ℕ → List ℕ → Result (Unit {0}) LookError → Type 0
+abbrev pub Puts : RevisionBytes → Bool → ℕ → PathName → NodeRev → Left → Left → List ℕ → List ℕ → Result (Unit {0}) LookError → Type 0
 Puts look ids level name v old new before now (Ok x) =
-    (line : List ℕ) × (now ≡ before ++ line) × ((text : List ℕ) (end : End) → LeftText look ids (left new) text end → Then (NodeText look ids level name v) (LeftText look ids (left old)) (line ++ text) end)
+    (line : List ℕ) × (now ≡ before ++ line) × ((text : List ℕ) (end : End) → LeftText look ids new text end → Then (NodeText look ids level name v) (LeftText look ids old) (line ++ text) end)
 Puts look ids level name v old new before now (Err (errors.Fault fault)) = (line : List ℕ) × (now ≡ before ++ line) × NodeText look ids level name v line (Refused fault)
 Puts look ids level name v old new before now (Err errors.OutOfMemory) = Unit {0}
 Puts look ids level name v old new before now (Err errors.DiskFault) = Unit {0}

@@ -24,6 +24,7 @@ loop-item-init g c = record {
   kept = keeps_refl _;
   later = omega arith;
   sink = omega arith;
+  dir = λ look knows. tt;
   text = λ look knows.
       let found = by_text_value c.args.items.now in
       let all = in_order found in
@@ -56,7 +57,7 @@ returns-in_err-more-clause-told g c = λ look knows.
     let e = err_from_is_err_and c.from_residual-in_err-more.result c.from_residual-in_err-more.ensures.1 in
     rw (e.1, e.2)
     (item_fails look c.args.rev found c.args.wrong R [] c.write_full.new.lines.items (g.S.Sink.written c.args.sink.now) (g.S.Sink.written c.write_full.new.sink) items c.in-Some.item.now c.next.new.self c.in_err-more.field-0.0 q
-    (c.in_err-more.ensures.told look (knows_later _ _ look c.args.rev c.loop-item.invariant.kept knows)))
+    (c.in_err-more.ensures.told look (knows_later _ _ look c.args.rev c.loop-item.invariant.kept knows) (c.loop-item.invariant.dir look knows)))
 
 pub returns-in_err-more-clause-kept : goal.returns-in_err-more-clause-kept
 returns-in_err-more-clause-kept g c = keeps_trans _ _ _ c.loop-item.invariant.kept c.in_err-more.ensures.kept
@@ -79,6 +80,7 @@ loop-item-preserved g c = record {
   kept = keeps_trans _ _ _ c.loop-item.invariant.kept c.in_ok-more.ensures.kept;
   later = omega (arith, c.loop-item.invariant.later, c.in_ok-more.ensures.cause.later);
   sink = omega (arith, c.loop-item.invariant.sink, c.in_ok-write_full.ensures.sink.later);
+  dir = λ look knows. c.in_ok-more.ensures.dir look (knows_later _ _ look c.args.rev c.loop-item.invariant.kept knows) (c.loop-item.invariant.dir look knows);
   text = λ look knows.
       let found = by_text_value c.args.items.now in
       let R : List ℕ → End → Type 0 = LinesText look c.args.rev found (end_of c.args.wrong) (in_order found) in
@@ -87,7 +89,7 @@ loop-item-preserved g c = record {
       let f = c.in_ok-write_full.ensures.added in
       let q = flushed R (LinesText look c.args.rev found (end_of c.args.wrong) (c.in-Some.item.now ∷ c.next.new.self)) [] c.loop-item.lines.items c.write_full.new.lines.items f.0 (g.S.Sink.written c.args.sink.now) (g.S.Sink.written c.loop-item.sink) (g.S.Sink.written c.write_full.new.sink) p f.1 f.2 in
       item_put look c.args.rev found c.args.wrong R [] c.write_full.new.lines.items (g.S.Sink.written c.args.sink.now) (g.S.Sink.written c.write_full.new.sink) c.in-Some.item.now c.next.new.self c.in_ok-more.more.items c.extend_from_slice.new.self.items q
-      (c.in_ok-more.ensures.told look (knows_later _ _ look c.args.rev c.loop-item.invariant.kept knows)) (c.in_ok-extend_from_slice.ensures.items ∙ ap (λ (t : List ℕ). c.write_full.new.lines.items ++ t) c.deref.ensures.value);
+      (c.in_ok-more.ensures.told look (knows_later _ _ look c.args.rev c.loop-item.invariant.kept knows) (c.loop-item.invariant.dir look knows)) (c.in_ok-extend_from_slice.ensures.items ∙ ap (λ (t : List ℕ). c.write_full.new.lines.items ++ t) c.deref.ensures.value);
 }
 
 pub returns-clause-told : goal.returns-clause-told

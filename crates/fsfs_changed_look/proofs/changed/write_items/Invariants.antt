@@ -2,6 +2,7 @@ use Rattle.std.proofs.Common.{◌≡◌, ◌≤◌, ℕ, []}
 use Rattle.fsfs_book.specs.Told.{RevisionBytes, Knows, Keeps}
 use Rattle.fsfs_look.proofs.ProgressLemmas.{Progress}
 use Rattle.fsfs_changed.specs.ChangedTexts.{LinesText, end_of, in_order}
+use Rattle.fsfs_changed_look.specs.KeptDirs.{IsKept}
 use Rattle.fsfs_changed_look.specs.Views.{by_text_value}
 use Rattle.fsfs_changed_look.proofs.changed.write_items.Given as goal
 
@@ -11,6 +12,7 @@ invariant-loop-item g l = record {
   kept : Keeps (g.B.Book.told l.fn.book) (g.B.Book.told l.book);
   later : g.B.Book.faults l.fn.book ≤ g.B.Book.faults l.book;
   sink : g.S.Sink.faults l.fn.sink ≤ g.S.Sink.faults l.sink;
+  dir : (look : RevisionBytes) → Knows (g.B.Book.told l.fn.book).revs l.fn.rev look → IsKept look l.kept;
   text : (look : RevisionBytes) → Knows (g.B.Book.told l.fn.book).revs l.fn.rev look
       → Progress (LinesText look l.fn.rev (by_text_value l.items) (end_of l.wrong) (in_order (by_text_value l.items)))
       (LinesText look l.fn.rev (by_text_value l.items) (end_of l.wrong) l.item-iterator) [] l.lines.items (g.S.Sink.written l.fn.sink) (g.S.Sink.written l.sink);

@@ -5,15 +5,14 @@ use Rattle.fsfs_damage.specs.declared.wrong.ReadError.{ReadError}
 use Rattle.fsfs_damage.specs.declared.wrong.ReadError.TheVariants.{Wrong}
 use Rattle.fsfs_damage.specs.Damages.{damaged}
 use Rattle.fsfs_damage.specs.Readings.{Answers}
-use Rattle.fsfs_noderev.specs.declared.node_rev.NodeRev.{NodeRev}
 use Rattle.fsfs_shows.specs.Reading.{HasId}
 use Rattle.fsfs_dag.proofs.IdLemmas.{id_true, id_false}
-use Rattle.fsfs_dag.proofs.reading.with_id.Goals as goal
+use Rattle.fsfs_dag.proofs.reading.check_id.Goals as goal
 
 pub returns-then-same_id-clause-told : goal.returns-then-same_id-clause-told
-returns-then-same_id-clause-told c = (refl, id_true c.args.node.id c.args.id.now (sym c.same_id.ensures ∙ c.if-same_id.true))
+returns-then-same_id-clause-told c = (refl, id_true c.args.node.now.id c.args.id.now (sym c.same_id.ensures ∙ c.if-same_id.true))
 
 pub returns-else-same_id-clause-told : goal.returns-else-same_id-clause-told
 returns-else-same_id-clause-told c =
     let is = c.damaged.ensures ∙ ap (λ (a : RevOffset). Wrong (damaged a OtherId)) c.offset_of.ensures in
-    subst (λ (e : ReadError). Answers (λ (v : NodeRev). v) (HasId c.args.id.now c.args.node) (Err e)) (sym is) (inl (id_false c.args.node.id c.args.id.now (sym c.same_id.ensures ∙ c.if-same_id.false), refl))
+    subst (λ (e : ReadError). Answers (λ (u : Unit {0}). c.args.node.now) (HasId c.args.id.now c.args.node.now) (Err e)) (sym is) (inl (id_false c.args.node.now.id c.args.id.now (sym c.same_id.ensures ∙ c.if-same_id.false), refl))

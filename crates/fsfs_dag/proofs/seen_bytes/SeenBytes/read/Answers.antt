@@ -1,0 +1,6 @@
+use Rattle.fsfs_dag.proofs.seen_bytes.SeenBytes.read.Goals as goal
+
+pub returns-clause-told : goal.returns-clause-told
+returns-clause-told g c = λ look told.
+    let read = c.in_ok-self.ensures.told look told in
+    rw c.turn_to.ensures.room at read

@@ -1,0 +1,161 @@
+//! The bytes that were read last, kept for the node-revisions that stand beside the one that was read.
+//!
+//! The nodes of a directory are mostly written in one revision, one behind the other and before the directory itself.
+ghost use Rattle.std.specs.Prelude.{◌≡◌, ℕ, true, length, take, Ok, IfOk, IfErr, IfSome};
+ghost use Rattle.fsfs_book.specs.Told.{RevisionBytes, Knows, Keeps, IsTold};
+ghost use Rattle.fsfs_revision.specs.Nodes.{is_ordered};
+ghost use Rattle.fsfs_damage.specs.Readings.{Answers};
+ghost use Rattle.fsfs_damage.specs.Causes.{HasCause};
+ghost use Rattle.fsfs_damage.specs.declared.wrong.ReadError.TheVariants.{OutOfMemory};
+ghost use Rattle.fsfs_shows.specs.Reading.{NodeAt, OfEntry, offset_of};
+ghost use Rattle.fsfs_dag.specs.Told.{WindowAt};
+ghost use Rattle.fsfs_dag.specs.Seen.{IsSeen};
+ghost use Rattle.fsfs_dag.specs.Views.{entry_value};
+
+use crate::directory::DirEntry;
+use crate::node::PlacedNode;
+use crate::places::offset_of;
+use crate::reading::{check_id, check_kind, node_in_whole, node_read, window};
+use fsfs_base::RevNum;
+use fsfs_book::Book;
+use fsfs_damage::{ReadError, RevOffset};
+use fsfs_noderev::NodeRev;
+use fsfs_revision::read_node_at;
+use std::alloc::Global;
+
+// How many bytes are kept: some twenty node-revisions with short texts between them.
+const KEPT: usize = 8192;
+
+// How many of them stand before the node-revision for which they are read, so that they show the nodes of a small directory
+// too.
+const BEFORE: u64 = 1024;
+
+/// The bytes of a revision that were read last, and their place.
+#[derive(Drop)]
+pub struct SeenBytes {
+    at: RevOffset,
+    count: usize,
+    bytes: [u8; KEPT],
+}
+
+impl SeenBytes {
+    /// Nothing is kept.
+    pub fn new() -> SeenBytes
+        ensures { (look : RevisionBytes) → IsSeen look result }
+    {
+        SeenBytes {
+            at: RevOffset {
+                rev: RevNum::ZERO,
+                offset: 0,
+            },
+            count: 0,
+            bytes: [0u8; KEPT],
+        }
+    }
+
+    // Keeps nothing, from this place on.
+    fn turn_to(&mut self, at: RevOffset)
+        ensures at { self.new.at ≡ at }
+        ensures none { self.new.count ≡ 0 }
+        ensures room { self.new.bytes ≡ self.old.bytes }
+    {
+        self.at = at;
+        self.count = 0;
+    }
+
+    // What is kept from a place on.
+    fn from_place(&self, at: &RevOffset) -> Option<&[u8]>
+        ensures { (look : RevisionBytes) → IsSeen look self.now → IfSome result (λ seen. (count : ℕ) × WindowAt look at.now count (Ok seen.now)) }
+    {
+        let kept = self.bytes.get(..self.count)?;
+        if at.rev.get() != self.at.rev.get() || at.offset < self.at.offset {
+            return None;
+        }
+        let skipped = at.offset - self.at.offset;
+        if skipped >= kept.len() as u64 {
+            return None;
+        }
+        Some(&kept[skipped as usize..])
+    }
+
+    // Keeps a revision's bytes from a place on.
+    fn read<B: Book>(&mut self, book: &mut B, at: RevOffset) -> Result<(), ReadError>
+        ensures told { (look : RevisionBytes) → IsTold (B.told book.old) look at.rev → Answers (λ _. take self.new.count self.new.bytes) (WindowAt look at (length self.old.bytes)) result }
+        ensures seen { (look : RevisionBytes) → IsTold (B.told book.old) look at.rev → IsSeen look self.new }
+        ensures kept { Keeps (B.told book.old) (B.told book.new) }
+        ensures cause { HasCause (B.faults book.old) (B.faults book.new) result }
+    {
+        self.turn_to(at);
+        self.count = window(book, &at, &mut self.bytes)?;
+        Ok(())
+    }
+}
+
+// The node-revision at a place, if what is kept shows one. What is kept may end within it, so that its damage says nothing.
+fn node_kept(alloc: Global, at: &RevOffset, seen: &SeenBytes) -> Option<Result<NodeRev, ReadError>>
+    ensures told { (look : RevisionBytes) → IsSeen look seen.now → IfSome result (λ found. Answers (λ v. v) (NodeAt look at.now) found) }
+    ensures ordered { IfSome result (λ found. IfOk found (λ v. is_ordered at.now v ≡ true)) }
+    ensures memory { IfSome result (λ found. IfErr found (λ e. e ≡ OutOfMemory)) }
+{
+    let bytes = seen.from_place(at)?;
+    match read_node_at(alloc, at, bytes) {
+        Ok(node) => Some(Ok(node)),
+        Err(ReadError::OutOfMemory) => Some(Err(ReadError::OutOfMemory)),
+        Err(ReadError::DiskFault) | Err(ReadError::Wrong(_)) => None,
+    }
+}
+
+// The node-revision at a place, of what is kept, of what is read anew, or, where neither shows one, of all its bytes. The
+// first of a revision may be the only one that is asked for there, so that it is read alone.
+fn node_seen<B: Book>(
+    alloc: Global,
+    book: &mut B,
+    at: &RevOffset,
+    seen: &mut SeenBytes,
+) -> Result<NodeRev, ReadError>
+    ensures told { (look : RevisionBytes) → IsTold (B.told book.old) look at.now.rev → IsSeen look seen.old → Answers (λ v. v) (NodeAt look at.now) result }
+    ensures seen { (look : RevisionBytes) → IsTold (B.told book.old) look at.now.rev → IsSeen look seen.old → IsSeen look seen.new }
+    ensures ordered { IfOk result (λ v. is_ordered at.now v ≡ true) }
+    ensures kept { Keeps (B.told book.old) (B.told book.new) }
+    ensures cause { HasCause (B.faults book.old) (B.faults book.new) result }
+{
+    if let Some(found) = node_kept(alloc, at, seen) {
+        return found;
+    }
+    if seen.at.rev.get() != at.rev.get() {
+        seen.turn_to(*at);
+        return node_read(alloc, book, at);
+    }
+    let begins = RevOffset {
+        rev: at.rev,
+        offset: at.offset.saturating_sub(BEFORE),
+    };
+    seen.read(book, begins)?;
+    match node_kept(alloc, at, seen) {
+        Some(found) => found,
+        None => node_in_whole(alloc, book, at),
+    }
+}
+
+/// The node-revision that an entry names, as `child_of` reads it, where what was read last is kept from call to call: it is
+/// to be kept for calls of one book.
+pub(crate) fn child_seen<B: Book>(
+    alloc: Global,
+    book: &mut B,
+    entry: &DirEntry,
+    seen: &mut SeenBytes,
+) -> Result<PlacedNode, ReadError>
+    ensures told { (look : RevisionBytes) → Knows (B.told book.old).revs (offset_of entry.now.id.place).rev look → IsSeen look seen.old → Answers (λ found. found.node) (OfEntry look (entry_value entry.now)) result }
+    ensures seen { (look : RevisionBytes) → Knows (B.told book.old).revs (offset_of entry.now.id.place).rev look → IsSeen look seen.old → IsSeen look seen.new }
+    ensures id { IfOk result (λ found. found.node.id ≡ entry.now.id) }
+    ensures kept { Keeps (B.told book.old) (B.told book.new) }
+    ensures cause { HasCause (B.faults book.old) (B.faults book.new) result }
+{
+    let node = match node_seen(alloc, book, &offset_of(entry.id.place), seen) {
+        Ok(node) => node,
+        Err(error) => return Err(error),
+    };
+    check_id(&entry.id, &node)?;
+    check_kind(entry, &node)?;
+    Ok(PlacedNode { node })
+}
