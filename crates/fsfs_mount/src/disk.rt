@@ -6,27 +6,32 @@ ghost use Rattle.fsfs_disk.specs.Trace.{DropLabel, labels_now, PerformsIfThere, 
 ghost use Rattle.fsfs_folders.specs.Standing.{told};
 ghost use Rattle.fsfs_folders.specs.Told.{LeavesImages};
 ghost use Rattle.fsfs_folders.specs.Keeping.{are_rooted};
+ghost use Rattle.fsfs_folders.specs.OpenFiles.{is_still};
 
-use crate::bench::FolderBench;
-use crate::faults::counted;
-use crate::folders::Folders;
+use crate::last_read::{read_last, size_last};
 use fsfs_base::{Failed, Name};
 use fsfs_calls::{CallError, Calls};
 use fsfs_disk::{Disk, Label, ListFault};
+use fsfs_folders::{FolderBench, Folders, Opened, counted};
 use std::alloc::Global;
 
 /// The files of a repository below a folder, over the calls of the system. It tells the operations that its calls come to.
 ///
 /// `put` writes a file beside the name, makes it firm and renames it. `firm_names` syncs each folder in which a name changed since
 /// the last one. A bench is the folder of its label, with calls of its own; its label is that the folder is there.
+///
+/// The file that was read last stays open: a read of it that doesn't begin at its beginning costs no call but the read. Each call but
+/// reads and sizes closes it.
 #[derive(Drop)]
 pub struct FolderDisk<C: Calls + Drop> {
     alloc: Global,
     folders: Folders<C>,
+    last_read: Option<Opened<C>>,
     path: String,
     writes: bool,
     faults: u64,
     bench_faults: u64,
+    ghost still: { is_still last_read (λ opened. opened.name) (λ opened. C.File.OpenFile.number opened.file) (C.Calls.history folders.calls) ≡ true },
 }
 
 impl<C: Calls + Drop> FolderDisk<C> {
@@ -39,14 +44,64 @@ impl<C: Calls + Drop> FolderDisk<C> {
         ensures faults { result.faults ≡ 0 }
         ensures bench_faults { result.bench_faults ≡ 0 }
     {
+        FolderDisk::over(alloc, Folders::new(alloc, calls), path, writes)
+    }
+
+    /// The disk of a path over what stands there.
+    pub fn over(alloc: Global, folders: Folders<C>, path: String, writes: bool) -> FolderDisk<C>
+        ensures folders { result.folders ≡ folders }
+        ensures path { result.path ≡ path }
+        ensures writes { result.writes ≡ writes }
+        ensures faults { result.faults ≡ 0 }
+        ensures bench_faults { result.bench_faults ≡ 0 }
+    {
         FolderDisk {
             alloc,
-            folders: Folders::new(alloc, calls),
+            folders,
+            last_read: None,
             path,
             writes,
             faults: 0,
             bench_faults: 0,
         }
+    }
+
+    /// Its path, and what stands there.
+    pub fn into_parts(self) -> (String, Folders<C>)
+        ensures path { result.0 ≡ self.path }
+        ensures folders { result.1 ≡ self.folders }
+    {
+        let FolderDisk {
+            alloc: _,
+            folders,
+            last_read: _,
+            path,
+            writes: _,
+            faults: _,
+            bench_faults: _,
+        } = self;
+        (path, folders)
+    }
+
+    /// The calls that it stands on.
+    pub fn calls(&self) -> &C
+        ensures { result.now ≡ self.now.folders.calls }
+    {
+        self.folders.calls()
+    }
+
+    /// How often it has failed.
+    pub fn faults(&self) -> u64
+        ensures { result ≡ self.now.faults }
+    {
+        self.faults
+    }
+
+    /// How often the benches have failed that it took back.
+    pub fn bench_faults(&self) -> u64
+        ensures { result ≡ self.now.bench_faults }
+    {
+        self.bench_faults
     }
 
     /// Whatever a crash may leave now of names and of bytes shows one of the images that the disk tells.
@@ -79,46 +134,53 @@ impl<C: Calls + Drop> Disk for FolderDisk<C> {
         offset: u64,
         buffer: &mut [u8],
     ) -> Result<Option<usize>, Failed> {
-        let found = self.folders.read(name, offset, buffer);
+        let found = read_last(&mut self.folders, &mut self.last_read, name, offset, buffer);
         counted(&mut self.faults, found)
     }
 
     fn size(&mut self, name: &Name) -> Result<Option<u64>, Failed> {
-        let found = self.folders.size(name);
+        let found = size_last(&mut self.folders, &mut self.last_read, name);
         counted(&mut self.faults, found)
     }
 
     fn put(&mut self, name: &Name, bytes: &[u8]) -> Result<(), Failed> {
+        self.last_read = None;
         let done = self.folders.put(name, bytes);
         counted(&mut self.faults, done)
     }
 
     fn rename(&mut self, from: &Name, to: &Name) -> Result<(), Failed> {
+        self.last_read = None;
         let done = self.folders.rename(from, to);
         counted(&mut self.faults, done)
     }
 
     fn remove(&mut self, name: &Name) -> Result<bool, Failed> {
+        self.last_read = None;
         let was_there = self.folders.remove(name);
         counted(&mut self.faults, was_there)
     }
 
     fn firm_names(&mut self) -> Result<(), Failed> {
+        self.last_read = None;
         let done = self.folders.firm_names();
         counted(&mut self.faults, done)
     }
 
     fn make_folder(&mut self, name: &Name) -> Result<(), Failed> {
+        self.last_read = None;
         let done = self.folders.make_folder(name);
         counted(&mut self.faults, done)
     }
 
     fn drop_folder(&mut self, name: &Name) -> Result<(), Failed> {
+        self.last_read = None;
         let done = self.folders.drop_folder(name);
         counted(&mut self.faults, done)
     }
 
     fn list(&mut self, alloc: Global, _folder: &Name) -> Result<Vec<Name>, ListFault> {
+        self.last_read = None;
         match self.folders.txn_entries(alloc) {
             Ok(found) => Ok(found),
             Err(CallError::Memory) => Err(ListFault::Memory),
@@ -130,6 +192,7 @@ impl<C: Calls + Drop> Disk for FolderDisk<C> {
     }
 
     fn bench(&mut self, label: &Label) -> Result<FolderBench<C>, Failed> {
+        self.last_read = None;
         let made = self.folders.bench(self.alloc, label);
         counted(&mut self.faults, made)
     }
@@ -146,11 +209,13 @@ impl<C: Calls + Drop> Disk for FolderDisk<C> {
         if let Some(bench) = bench {
             self.bench_faults = self.bench_faults.saturating_add(bench.faults());
         }
+        self.last_read = None;
         let was_there = self.folders.drop_bench(self.alloc, label);
         counted(&mut self.faults, was_there)
     }
 
     fn adopt(&mut self, bench: &mut FolderBench<C>, file: &Name, to: &Name) -> Result<(), Failed> {
+        self.last_read = None;
         let done = bench.give(&mut self.folders, file, to);
         counted(&mut self.faults, done)
     }
