@@ -1,4 +1,7 @@
 // Why a call of the system was not done.
+ghost use Rattle.std.specs.Prelude.{◌≡◌};
+
+use std::alloc::{AllocError, AllocFailed};
 use thiserror::Error;
 
 /// Why a call of the system was not done.
@@ -22,4 +25,24 @@ pub enum CallError {
     /// The system failed.
     #[error("the call failed")]
     Failed,
+}
+
+impl From<AllocError> for CallError {
+    ghost use Rattle.fsfs_calls.specs.declared.error.CallError.TheVariants.{Memory};
+
+    ghost from_gives = { λ _ e. e ≡ Memory };
+
+    fn from(_error: AllocError) -> CallError {
+        CallError::Memory
+    }
+}
+
+impl<T: Drop> From<AllocFailed<T>> for CallError {
+    ghost use Rattle.fsfs_calls.specs.declared.error.CallError.TheVariants.{Memory};
+
+    ghost from_gives = { λ _ e. e ≡ Memory };
+
+    fn from(_error: AllocFailed<T>) -> CallError {
+        CallError::Memory
+    }
 }

@@ -23,3 +23,4 @@ pub mod FolderCalls
 pub mod Clearing
 pub mod Filling
 pub mod LabelsLeft
+pub mod OpenLemmas

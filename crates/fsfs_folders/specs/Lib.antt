@@ -8,3 +8,4 @@ pub mod BenchFiles
 pub mod Standing
 pub mod Laws
 pub mod LabelsLeft
+pub mod OpenFiles

@@ -1,5 +1,5 @@
 // The files of a repository, over the calls of the system.
-ghost use Rattle.std.specs.Prelude.{◌≡◌, ◌⊎◌, ◌≤◌, ◌^◌, [], true, false, length, is_some, option_map, IfOk, IfSome, OnOk, OnErr};
+ghost use Rattle.std.specs.Prelude.{◌≡◌, ◌⊎◌, ◌≤◌, ◌^◌, [], Some, None, true, false, length, is_some, option_map, IfOk, IfSome, MatchOption, OnOk, OnErr};
 ghost use Rattle.std.specs.FinMap.{empty};
 ghost use Rattle.fsfs_disk.specs.Labels.{label_of, has_label, IsListing};
 ghost use Rattle.fsfs_disk.specs.Benches.{IsFirmFile};
@@ -9,6 +9,7 @@ ghost use Rattle.fsfs_calls.specs.Listing.{is_entry as entry};
 ghost use Rattle.fsfs_folders.specs.Told.{is_apart as apart, LeavesImages};
 ghost use Rattle.fsfs_folders.specs.Keeping.{are_rooted, are_names_firm, is_sound};
 ghost use Rattle.fsfs_folders.specs.LabelsLeft.{KeepsDropsFirm};
+ghost use Rattle.fsfs_folders.specs.OpenFiles.{is_file_of, is_still};
 ghost use Rattle.fsfs_folders.specs.Quiet.{IsQuiet};
 ghost use Rattle.fsfs_folders.specs.Standing.{told, IsNoted, IsWritten, IsWholeAt, bytes_under, Adopts, FailsToTake};
 ghost use Rattle.fsfs_folders.specs.BenchFiles.{bench_told, firm_held, AreShort, HoldsNothing};
@@ -18,7 +19,8 @@ use crate::bench_files::clear;
 use crate::label_paths::bench_path;
 use crate::listing::txns_among;
 use crate::noted::Noted;
-use crate::reading::{file_size, read_file};
+use crate::opened::Opened;
+use crate::reading::{file_size, fill, open_file, read_file};
 use crate::texts::{BESIDE, is_apart, is_in_bench, is_inner_folder};
 use crate::writing::{sync_folders, write_new};
 use fsfs_base::Name;
@@ -51,6 +53,33 @@ impl<C: Calls + Drop> Folders<C> {
             calls,
             changed: Noted::new(alloc),
             is_settled: true,
+        }
+    }
+
+    /// The calls that they stand on.
+    pub fn calls(&self) -> &C
+        ensures { result.now ≡ self.now.calls }
+    {
+        &self.calls
+    }
+
+    /// Takes the lock of a file or a folder that is there, and holds it until these are let go. `Locked`: another process holds it.
+    pub fn lock(&mut self, path: &Path) -> Result<(), CallError>
+        ensures { C.history self.new.calls ≡ C.history self.old.calls }
+    {
+        self.calls.lock(path)
+    }
+
+    /// Notes a folder whose names may not be firm, whoever changed them: the next `firm_names` syncs it, and so does a new name.
+    pub fn doubt(&mut self, folder: Path) -> Result<(), CallError>
+        ensures same { self.new.calls ≡ self.old.calls }
+        ensures noted { OnOk result (has_path self.new.changed folder ≡ true) }
+        ensures unsettled { self.new.is_settled ≡ false }
+    {
+        self.is_settled = false;
+        match self.changed.add(folder) {
+            Ok(()) => Ok(()),
+            Err(_) => Err(CallError::Memory),
         }
     }
 
@@ -349,6 +378,48 @@ impl<C: Calls + Drop> Folders<C> {
             return Ok(None);
         }
         read_file(&mut self.calls, &Path::of(name), offset, buffer)
+    }
+
+    /// Opens a file to read it. `None`: there is no such file.
+    pub fn open(&mut self, name: &Name) -> Result<Option<Opened<C>>, CallError>
+        ensures found { IfOk result (λ found. MatchOption found (IfSome (told (C.history self.old.calls)) (λ t. file_at t name.now ≡ None)) (λ opened. opened.name ≡ name.now)) }
+        ensures still { IfOk result (λ found. is_still found (λ opened. opened.name) (λ opened. C.File.number opened.file) (C.history self.old.calls) ≡ true) }
+        ensures same { C.history self.new.calls ≡ C.history self.old.calls }
+    {
+        if is_apart(name) {
+            return Ok(None);
+        }
+        match open_file(&mut self.calls, &Path::of(name))? {
+            Some(file) => Ok(Some(Opened {
+                name: name.copy(),
+                file,
+            })),
+            None => Ok(None),
+        }
+    }
+
+    /// Fills the buffer from an offset on, as far as the file goes that is open and still has its name.
+    pub fn read_open(
+        &mut self,
+        opened: &Opened<C>,
+        offset: u64,
+        buffer: &mut [u8],
+    ) -> Result<usize, CallError>
+        requires { is_file_of (C.history self.old.calls) opened.now.name (C.File.number opened.now.file) ≡ true }
+        ensures bound { IfOk result (λ n. n ≤ length buffer.new) }
+        ensures bytes { IfSome (told (C.history self.old.calls)) (λ t. IfOk result (λ n. IsRead (file_at t opened.now.name) offset buffer.old buffer.new (Some n))) }
+        ensures same { C.history self.new.calls ≡ C.history self.old.calls }
+    {
+        fill(&mut self.calls, &opened.file, offset, buffer)
+    }
+
+    /// The length in bytes of a file that is open and still has its name.
+    pub fn size_open(&mut self, opened: &Opened<C>) -> Result<u64, CallError>
+        requires { is_file_of (C.history self.old.calls) opened.now.name (C.File.number opened.now.file) ≡ true }
+        ensures length { IfSome (told (C.history self.old.calls)) (λ t. IfOk result (λ n. IsSize (file_at t opened.now.name) (Some n))) }
+        ensures same { C.history self.new.calls ≡ C.history self.old.calls }
+    {
+        self.calls.length(&opened.file)
     }
 
     /// The length of a file in bytes. `None`: there is no such file.

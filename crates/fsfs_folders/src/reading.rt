@@ -1,6 +1,6 @@
 // Reads that go on until the buffer is full.
-ghost use Rattle.std.specs.Prelude.{◌≡◌, ◌≤◌, length, IfOk, IfSome};
-ghost use Rattle.fsfs_calls.specs.CallRecord.{contents_now};
+ghost use Rattle.std.specs.Prelude.{◌≡◌, ◌≤◌, Some, None, length, IfOk, IfSome, MatchOption};
+ghost use Rattle.fsfs_calls.specs.CallRecord.{names_now, contents_now};
 ghost use Rattle.fsfs_folders.specs.Writing.{IsFilled, bytes_there};
 ghost use Rattle.fsfs_disk.specs.Trace.{IsRead, IsSize};
 
@@ -29,6 +29,18 @@ pub fn fill<C: Calls>(
         filled += count;
     }
     Ok(filled)
+}
+
+/// Opens a file to read it. `None`: there is no such file.
+pub fn open_file<C: Calls>(calls: &mut C, path: &Path) -> Result<Option<C::File>, CallError>
+    ensures there { IfSome (C.history calls.old) (λ r. IfOk result (λ found. MatchOption found ((names_now r).files path.now ≡ None) (λ file. (names_now r).files path.now ≡ Some (C.File.number file)))) }
+    ensures same { C.history calls.new ≡ C.history calls.old }
+{
+    match calls.open(path) {
+        Ok(file) => Ok(Some(file)),
+        Err(CallError::NotFound) => Ok(None),
+        Err(error) => Err(error),
+    }
 }
 
 /// Fills the buffer from an offset of a file on, as far as that goes. `None`: there is no such file.

@@ -1,0 +1,10 @@
+// A file that is open.
+use fsfs_base::Name;
+use fsfs_calls::Calls;
+
+/// A file of the repository that is open, by the name that it was opened by.
+#[derive(Drop)]
+pub struct Opened<C: Calls + Drop> {
+    pub name: Name,
+    pub file: C::File,
+}

@@ -1,0 +1,7 @@
+pub mod PlaceLemmas
+pub mod StandingLemmas
+pub mod EntryLemmas
+pub mod ListLemmas
+pub mod EmptyLemmas
+pub mod LeftLemmas
+pub mod FoundLemmas

@@ -1,0 +1,11 @@
+use Rattle.std.proofs.Common.{◌≡◌, [], take, drop}
+use Rattle.fsfs_calls.specs.CallRecord.{are_there}
+use Rattle.fsfs_memcalls.specs.Told.{beginning_of, calls_of}
+use Rattle.fsfs_memcalls.specs.Left.{left_names}
+use Rattle.fsfs_memcalls.proofs.crash.is_left_reached.Given as goal
+
+-- the folders before this letter are there
+abbrev pub invariant-loop-i : goal.invariant-loop-i
+invariant-loop-i l =
+    are_there (left_names (beginning_of l.first) (calls_of l.calls) l.kept).folders (take l.i l.text) (drop l.i l.text)
+    ≡ are_there (left_names (beginning_of l.first) (calls_of l.calls) l.kept).folders [] l.text

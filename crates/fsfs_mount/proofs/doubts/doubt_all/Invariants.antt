@@ -1,0 +1,7 @@
+use Rattle.std.proofs.Common.{◌≡◌}
+use Rattle.fsfs_folders.specs.Standing.{told}
+use Rattle.fsfs_mount.proofs.doubts.doubt_all.Given as goal
+
+-- nothing is told of folders
+abbrev pub invariant-loop-name : goal.invariant-loop-name
+invariant-loop-name g l = told (g.C.Calls.history l.folders.calls) ≡ told (g.C.Calls.history l.fn.folders.calls)
