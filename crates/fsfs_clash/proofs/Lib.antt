@@ -1,0 +1,15 @@
+pub mod SameLaw
+pub mod SightLaw
+pub mod ReadingLemmas
+pub mod Turns
+pub mod Orders
+pub mod Opening
+pub mod Stepping
+pub mod ListLemmas
+pub mod WeightLemmas
+pub mod FinerLaw
+pub mod NodesOf
+pub mod DirLemmas
+pub mod SideSeen
+pub mod DraftSeen
+pub mod DraftLaw

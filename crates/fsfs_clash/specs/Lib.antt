@@ -1,0 +1,12 @@
+pub mod Same
+pub mod Sights
+pub mod Dirs
+pub mod Lists
+pub mod Threes
+pub mod Readings
+pub mod Turning
+pub mod Points
+pub mod Walks
+pub mod UnderWay
+pub mod Weights
+pub mod Clashes
