@@ -1,23 +1,28 @@
 //! The text of a file.
-ghost use Rattle.std.specs.Prelude.{◌≡◌, ◌≤◌, ◌<◌, ◌+◌, ◌-◌, ◌^◌, min, ℕ, List, Some, Ok, Err, IsSome, IfOk, MatchResult, length, take, drop};
+ghost use Rattle.std.specs.Prelude.{◌≡◌, ◌≤◌, ◌<◌, ◌+◌, ◌-◌, ◌^◌, min, ℕ, List, Some, Ok, Err, IsSome, IfOk, OnOk, MatchResult, length, take, drop};
+ghost use Rattle.md5.specs.Md5.{md5, Holds};
+ghost use Rattle.fsfs_streams.specs.Streams.{Adds};
 ghost use Rattle.fsfs_damage.specs.declared.wrong.Refusal.{Refusal};
 ghost use Rattle.fsfs_book.specs.Told.{RevisionBytes, Knows, Keeps};
 ghost use Rattle.fsfs_damage.specs.Causes.{HasCause};
 ghost use Rattle.fsfs_rep.specs.Faults.{IsRefusedFor};
-ghost use Rattle.fsfs_rep.specs.Frames.{rev_of, text_of, IsWhole, IsFaultOf};
+ghost use Rattle.fsfs_damage.specs.declared.damage.RepWhat.TheVariants.{Md5 as OtherMd5};
+ghost use Rattle.fsfs_damage.specs.declared.wrong.ReadError.TheVariants.{Wrong};
+ghost use Rattle.fsfs_rep.specs.Frames.{rev_of, text_of, HasMd5, IsWhole, IsFaultOf, bad_rep as bad};
 ghost use Rattle.fsfs_printed.specs.FileTexts.{FileText, IsWholeText};
 ghost use Rattle.fsfs_look.specs.Written.{Writes, HasDiskCause, HasSinkCause};
 
 use crate::look_error::LookError;
 use crate::path::found_at;
 use crate::piece::write_piece;
-use fsfs_base::{FsPath, Kind, RevNum, fitting};
+use fsfs_base::{FsPath, HexDigest, Kind, RevNum, fitting};
 use fsfs_book::Book;
 use fsfs_damage::{ReadError, RepWhat};
 use fsfs_noderev::Rep;
 use fsfs_printed::LookFault;
 use fsfs_rep::{PLAIN_LEN, RepReader, bad_rep, window};
 use fsfs_streams::Sink;
+use md5::{Digest, Md5};
 use std::alloc::Global;
 
 // How many bytes are read and written at a time.
@@ -47,8 +52,7 @@ fn position(rep: &Rep, done: u64) -> u64
     rep.offset.saturating_add(PLAIN_LEN).saturating_add(done)
 }
 
-// Reads the next bytes of a text into the beginning of the piece, and answers how many: at least one. They are not
-// digested.
+// Reads the next bytes of a text into the beginning of the piece, and answers how many: at least one.
 fn read_piece<B: Book>(
     book: &mut B,
     rep: &Rep,
@@ -75,7 +79,27 @@ fn read_piece<B: Book>(
     Ok(count)
 }
 
-// Writes the text of a representation that was checked.
+// The text that was read has the MD5 that the representation names.
+fn check_md5(rep: &Rep, digest: Md5) -> Result<(), ReadError>
+    ensures { (text : List ℕ) → Holds digest text → MatchResult result (λ _. HasMd5 rep.now text) (λ e. ¬ HasMd5 rep.now text × (e ≡ Wrong (bad rep.now (OtherMd5 rep.now.md5 (record { bytes = md5 text }))))) }
+{
+    let found = HexDigest {
+        bytes: digest.finalize(),
+    };
+    if rep.md5 != found {
+        return Err(bad_rep(
+            rep,
+            RepWhat::Md5 {
+                kept: rep.md5,
+                found,
+            },
+        ));
+    }
+    Ok(())
+}
+
+// Writes the text of a representation that was checked. Its MD5 is taken once more, so that a text that is another by now
+// is found out at its end.
 fn write_rep<B: Book, S: Sink>(
     book: &mut B,
     rep: &Rep,
@@ -86,25 +110,34 @@ fn write_rep<B: Book, S: Sink>(
     requires room { 0 < length piece.old }
     ensures told { (bytes : List ℕ) → (B.told book.old).revs (rev_of rep.now) ≡ Some (Ok bytes) → IsWhole rep.now bytes
         → Writes (IsWholeText (text_of rep.now bytes)) (S.written sink.old) (S.written sink.new) result }
+    // Whatever the book tells, what was written then has this MD5.
+    ensures digested { OnOk result ((text : List ℕ) × Adds (S.written sink.old) (S.written sink.new) text × HasMd5 rep.now text) }
     ensures kept { Keeps (B.told book.old) (B.told book.new) }
     ensures cause { HasDiskCause (B.faults book.old) (B.faults book.new) result }
     ensures sink { HasSinkCause (S.faults sink.old) (S.faults sink.new) result }
 {
     let length = rep.length;
+    let mut digest = Md5::new();
     let mut done: u64 = 0;
     'pieces: while done < length {
         let count = match read_piece(book, rep, done, piece) {
             Ok(count) => count,
             Err(error) => return Err(LookError::from(error)),
         };
-        write_piece(sink, &piece[..count])?;
+        let part = &piece[..count];
+        digest.update(part);
+        write_piece(sink, part)?;
         done += count as u64;
     }
-    Ok(())
+    match check_md5(rep, digest) {
+        Ok(()) => Ok(()),
+        Err(error) => Err(LookError::from(error)),
+    }
 }
 
 /// Writes the text of the file at a path of a revision. All of it is read and its size and both digests are checked before
-/// the first byte is written; then its bytes are read again, without digests.
+/// the first byte is written; then its bytes are read again, with the MD5 alone, which is checked at their end: a text that
+/// was changed in between is damage like any other, behind all that was written of it.
 pub fn cat<B: Book, S: Sink>(
     alloc: Global,
     book: &mut B,
