@@ -23,8 +23,9 @@ use Rattle.fsfs_machine.specs.declared.contents.NameChange.{NameChange}
 use Rattle.fsfs_machine.specs.declared.contents.FileName.TheVariants.{Rev}
 use Rattle.fsfs_machine.specs.declared.contents.NameChange.TheVariants.{Put}
 use Rattle.fsfs_machine.specs.declared.machine.Coming.{Coming}
-use Rattle.fsfs_machine.specs.declared.machine.DiskPlace.TheVariants.{PutRev}
-use Rattle.fsfs_machine.specs.declared.machine.DiskPlace.{DiskPlace}
+use Rattle.fsfs_places.specs.declared.place.DiskPlace.{DiskPlace}
+use Rattle.fsfs_places.specs.declared.place.DiskPlace.TheVariants.{Commit}
+use Rattle.fsfs_places.specs.declared.place.CommitPlace.TheVariants.{PutRev}
 use Rattle.fsfs_machine.specs.declared.machine.Recorded.{Recorded}
 use Rattle.fsfs_machine.specs.declared.machine.Txn.{Txn}
 use Rattle.fsfs_machine.specs.declared.machine.Section.{Section}
@@ -196,7 +197,7 @@ adopts_none w p t properties bytes went (Some x) o none adds = inr (MatchOption-
 
 pub adopts_some : {E : Type 0} (r : Result Outcome E) (w u v : World) (p t : ℕ) (properties : List (List ℕ × List ℕ)) (bytes : List ℕ) (went : Went) (z : Option Txn) (o : Option Revision) (next : Revision) (coming : Coming)
     → o ≡ Some next → AddsNext w.history p z properties o → IsUsed w p t properties next bytes z coming u
-    → IfOk r (λ a. did v a ≡ did (at_call u p PutRev (Put (Rev (length u.history)) (file_of (recorded coming))) (RevPut coming) Over went) (answer went))
+    → IfOk r (λ a. did v a ≡ did (at_call u p (Commit PutRev) (Put (Rev (length u.history)) (file_of (recorded coming))) (RevPut coming) Over went) (answer went))
     → IfOk r (λ a. AdoptsTxn w p t properties bytes went z (did v a))
 adopts_some (Err _) w u v p t properties bytes went z o next coming found adds used e = tt
 adopts_some (Ok a) w u v p t properties bytes went None o next coming found adds used e = absurd used
@@ -208,5 +209,5 @@ adopts_some (Ok a) w u v p t properties bytes went (Some x) o next coming found 
         brought = ap (λ (c : Coming). c.bytes) used.0;
         adds = subst (λ n. Adds w.history (entry_of p x properties) n) (sym (ap (λ (c : Coming). c.revision) used.0)) (MatchOption-at_some _ _ next found adds);
       },
-      e ∙ ap (λ s. did (at_call s p PutRev (Put (Rev (length s.history)) (file_of (recorded coming))) (RevPut coming) Over went) (answer went)) used.1,
+      e ∙ ap (λ s. did (at_call s p (Commit PutRev) (Put (Rev (length s.history)) (file_of (recorded coming))) (RevPut coming) Over went) (answer went)) used.1,
     )

@@ -39,7 +39,7 @@ pub fn put_answer(out: &mut String, alloc: Global, outcome: &Outcome) -> Result<
         Outcome::Done => out.push_str("done"),
         Outcome::Failed => out.push_str("failed"),
         Outcome::Missing => out.push_str("missing"),
-        Outcome::Stuck(place) => write!(out, "stuck {place:?}"),
+        Outcome::Stuck(place) => write!(out, "stuck {}", place.word()),
         Outcome::Youngest(number) => write!(out, "r{number}"),
         Outcome::Floor(number) => write!(out, "floor {number}"),
         Outcome::Bytes(bytes) => put_bytes(out, bytes),
@@ -95,7 +95,7 @@ pub fn put_history(out: &mut String, alloc: Global, state: &State) -> Result<(),
 /// Writes where the lock is stuck.
 pub fn put_stuck(out: &mut String, state: &State) -> Result<(), AllocError> {
     match state.stuck() {
-        Some(place) => writeln!(out, "stuck {place:?}"),
+        Some(place) => writeln!(out, "stuck {}", place.word()),
         None => writeln!(out, "not stuck"),
     }
 }

@@ -1,7 +1,7 @@
 // The words of a line.
 use anyhow::{Result, bail};
 use fsfs_base::{FsPath, RevNum};
-use fsfs_core::{Contents, DiskPlace, Went};
+use fsfs_core::{BeginPlace, CommitPlace, Contents, DiskPlace, Went};
 use std::alloc::Global;
 
 /// The words that are left of a line, with a space between each two.
@@ -51,14 +51,14 @@ impl<'a> Words<'a> {
 
     pub fn place(&mut self) -> Result<DiskPlace> {
         match self.word() {
-            "TxnPut" => Ok(DiskPlace::TxnPut),
-            "TxnRename" => Ok(DiskPlace::TxnRename),
-            "TxnFirm" => Ok(DiskPlace::TxnFirm),
-            "PutProps" => Ok(DiskPlace::PutProps),
-            "FirmRev" => Ok(DiskPlace::FirmRev),
-            "PutCurrent" => Ok(DiskPlace::PutCurrent),
-            "RenameCurrent" => Ok(DiskPlace::RenameCurrent),
-            "FirmCurrent" => Ok(DiskPlace::FirmCurrent),
+            "TxnPut" => Ok(DiskPlace::Begin(BeginPlace::Put)),
+            "TxnRename" => Ok(DiskPlace::Begin(BeginPlace::Rename)),
+            "TxnFirm" => Ok(DiskPlace::Begin(BeginPlace::Firm)),
+            "PutProps" => Ok(DiskPlace::Commit(CommitPlace::PutProps)),
+            "FirmRev" => Ok(DiskPlace::Commit(CommitPlace::FirmRev)),
+            "PutCurrent" => Ok(DiskPlace::Commit(CommitPlace::PutCurrent)),
+            "RenameCurrent" => Ok(DiskPlace::Commit(CommitPlace::RenameCurrent)),
+            "FirmCurrent" => Ok(DiskPlace::Commit(CommitPlace::FirmCurrent)),
             _ => bail!("no place of a call"),
         }
     }

@@ -15,42 +15,46 @@ use Rattle.fsfs_printed.specs.declared.look_fault.LookFault.TheVariants as look
 use Rattle.fsfs_cli.specs.declared.fault.WordsFault.{WordsFault}
 use Rattle.fsfs_cli.specs.declared.fault.WordsFault.TheVariants as words
 use Rattle.fsfs_faults.specs.declared.fault.Fault.{Fault}
-use Rattle.fsfs_faults.specs.declared.fault.Fault.TheVariants.{Usage, BadPath, NotFound, NotDir, NotFile, NoRev, AlreadyRepo, NotRepo, OtherFormat, Linear, Small, Corrupt, Delta, DiskFault, Memory}
+use Rattle.fsfs_faults.specs.declared.fault.Fault.TheVariants.{Words, Request, Repository, Outside, Memory}
+use Rattle.fsfs_faults.specs.declared.bad_words.BadWords.TheVariants.{Usage, BadPath}
+use Rattle.fsfs_faults.specs.declared.request_fault.RequestFault.TheVariants.{NotFound, NotDir, NotFile, NoRev, AlreadyRepo, NotRepo}
+use Rattle.fsfs_faults.specs.declared.repository_fault.RepositoryFault.TheVariants.{OtherFormat, Linear, Small, Corrupt, Delta}
+use Rattle.fsfs_faults.specs.declared.outside_fault.OutsideFault.TheVariants.{Disk}
 
 abbrev pub fault_from_words : WordsFault → Fault
-fault_from_words words.Usage = Usage
-fault_from_words (words.BadPath bad) = BadPath bad
+fault_from_words words.Usage = Words Usage
+fault_from_words (words.BadPath bad) = Words (BadPath bad)
 fault_from_words words.Memory = Memory
 
 abbrev pub fault_from_create : CreateFault → Fault
-fault_from_create create.AlreadyRepo = AlreadyRepo
-fault_from_create (create.DiskFault place) = DiskFault place
+fault_from_create create.AlreadyRepo = Request AlreadyRepo
+fault_from_create (create.DiskFault place) = Outside (Disk place)
 fault_from_create create.Memory = Memory
 
 abbrev pub fault_from_open : OpenFault → Fault
-fault_from_open opening.NotRepo = NotRepo
-fault_from_open (opening.OtherFormat number) = OtherFormat number
-fault_from_open opening.Linear = Linear
-fault_from_open (opening.Small small) = Small small
-fault_from_open (opening.DiskFault place) = DiskFault place
+fault_from_open opening.NotRepo = Request NotRepo
+fault_from_open (opening.OtherFormat found) = Repository (OtherFormat found)
+fault_from_open opening.Linear = Repository Linear
+fault_from_open (opening.Small small) = Repository (Small small)
+fault_from_open (opening.DiskFault place) = Outside (Disk place)
 fault_from_open opening.Memory = Memory
 
 -- a revision whose file is absent is damaged at its beginning
 abbrev pub fault_from_refusal : Refusal → Fault
-fault_from_refusal (refusal.NoRev asked youngest) = NoRev asked youngest
-fault_from_refusal (refusal.Missing rev) = Corrupt (record { at = record { rev = rev; offset = 0 }; what = damaged.Missing })
-fault_from_refusal (refusal.Small small) = Small small
+fault_from_refusal (refusal.NoRev asked youngest) = Request (NoRev asked youngest)
+fault_from_refusal (refusal.Missing rev) = Repository (Corrupt (record { at = record { rev = rev; offset = 0 }; what = damaged.Missing }))
+fault_from_refusal (refusal.Small small) = Repository (Small small)
 
 abbrev pub fault_from_wrong : Wrong → Fault
 fault_from_wrong (wrong.Refused why) = fault_from_refusal why
-fault_from_wrong (wrong.Damaged damage) = Corrupt damage
-fault_from_wrong (wrong.Delta at) = Delta at
+fault_from_wrong (wrong.Damaged damage) = Repository (Corrupt damage)
+fault_from_wrong (wrong.Delta at) = Repository (Delta at)
 
 -- of a look at a path: where nothing was found or a file is no directory, the path down to there
 abbrev pub fault_from_look : Path → LookFault → Fault
-fault_from_look path (look.NotFound names) = NotFound (take names path)
-fault_from_look path (look.NotDir names) = NotDir (take names path)
-fault_from_look path look.NotFile = NotFile path
+fault_from_look path (look.NotFound names) = Request (NotFound (take names path))
+fault_from_look path (look.NotDir names) = Request (NotDir (take names path))
+fault_from_look path look.NotFile = Request (NotFile path)
 fault_from_look path (look.Wrong wrong) = fault_from_wrong wrong
 
 -- the same, but for want of memory where a path is made for the fault

@@ -1,50 +1,33 @@
 -- The line that tells of a fault on the error output, and the status.
-use Rattle.std.specs.Prelude.{ℕ, List, [], ◌∷◌, ◌++◌, codes, decimal}
+use Rattle.std.specs.Prelude.{ℕ, List, ◌∷◌, ◌++◌, codes, decimal}
 use Rattle.hex.specs.Hex.{encode_lower}
+use Rattle.fsfs_base.specs.declared.bad_path.BadPath.{BadPath as BadPathAt}
 use Rattle.fsfs_base.specs.declared.bad_path.PathFault.{PathFault}
 use Rattle.fsfs_base.specs.declared.bad_path.PathFault.TheVariants.{NotAbsolute, PathTooLong, TooDeep, EmptyName, Control, NameTooLong, Dot}
 use Rattle.fsfs_answers.specs.FaultWords.{not_found, not_dir, not_file, no_rev, already_repo, not_repo, delta, path_value, two_numbers}
 use Rattle.fsfs_layout.specs.FileNames.{small_name}
+use Rattle.fsfs_base.specs.declared.small_fault.SmallFault.{SmallFault}
+use Rattle.fsfs_damage.specs.declared.damage.Damage.{Damage}
 use Rattle.fsfs_damage.specs.declared.damage.RevOffset.{RevOffset}
 use Rattle.fsfs_damage.specs.declared.damage.DamageKind.{DamageKind}
 use Rattle.fsfs_damage.specs.declared.damage.DamageKind.TheVariants as damaged
 use Rattle.fsfs_damage.specs.declared.damage.RepWhat.{RepWhat}
 use Rattle.fsfs_damage.specs.declared.damage.RepWhat.TheVariants as rep
-use Rattle.fsfs_places.specs.declared.place.DiskPlace.{DiskPlace}
-use Rattle.fsfs_places.specs.declared.place.DiskPlace.TheVariants.{OpenFirm, OpenRead, Read, CreatePut, CreateFirm, CreateRename, CreateLast}
+use Rattle.fsfs_places.specs.Places.{place_word}
 use Rattle.fsfs_cli.specs.Commands.{tool_name}
 use Rattle.fsfs_cli.specs.declared.tool.Tool.{Tool}
 use Rattle.fsfs_faults.specs.declared.fault.Fault.{Fault}
-use Rattle.fsfs_faults.specs.declared.fault.Fault.TheVariants.{Usage, BadPath, NotFound, NotDir, NotFile, NoRev, AlreadyRepo, NotRepo, OtherFormat, Linear, Small, Corrupt, Delta, MountFault, DiskFault, WriteFault, Memory}
+use Rattle.fsfs_faults.specs.declared.fault.Fault.TheVariants.{Words, Request, Repository, Outside, Memory}
+use Rattle.fsfs_faults.specs.declared.bad_words.BadWords.{BadWords}
+use Rattle.fsfs_faults.specs.declared.bad_words.BadWords.TheVariants.{Usage, BadPath}
+use Rattle.fsfs_faults.specs.declared.request_fault.RequestFault.{RequestFault}
+use Rattle.fsfs_faults.specs.declared.request_fault.RequestFault.TheVariants.{NotFound, NotDir, NotFile, NoRev, AlreadyRepo, NotRepo}
+use Rattle.fsfs_faults.specs.declared.repository_fault.RepositoryFault.{RepositoryFault}
+use Rattle.fsfs_faults.specs.declared.repository_fault.RepositoryFault.TheVariants.{OtherFormat, Linear, Small, Corrupt, Delta}
+use Rattle.fsfs_faults.specs.declared.outside_fault.OutsideFault.{OutsideFault}
+use Rattle.fsfs_faults.specs.declared.outside_fault.OutsideFault.TheVariants as outside
 
-abbrev pub place_words : DiskPlace → List ℕ
-place_words OpenFirm = codes "OpenFirm"
-place_words OpenRead = codes "OpenRead"
-place_words Read = codes "Read"
-place_words CreatePut = codes "CreatePut"
-place_words CreateFirm = codes "CreateFirm"
-place_words CreateRename = codes "CreateRename"
-place_words CreateLast = codes "CreateLast"
-
--- the name of a fault, with the place of a disk's fault
-abbrev pub fault_name : Fault → List ℕ
-fault_name Usage = codes "Usage"
-fault_name (BadPath bad) = codes "BadPath"
-fault_name (NotFound path) = not_found
-fault_name (NotDir path) = not_dir
-fault_name (NotFile path) = not_file
-fault_name (NoRev asked youngest) = no_rev
-fault_name AlreadyRepo = already_repo
-fault_name NotRepo = not_repo
-fault_name (OtherFormat number) = codes "OtherFormat"
-fault_name Linear = codes "Linear"
-fault_name (Small small) = codes "Small"
-fault_name (Corrupt damage) = codes "Corrupt"
-fault_name (Delta at) = delta
-fault_name MountFault = codes "MountFault"
-fault_name (DiskFault place) = codes "DiskFault " ++ place_words place
-fault_name WriteFault = codes "WriteFault"
-fault_name Memory = codes "Memory"
+-- ---- values, a space before each; the rule of a path has none
 
 abbrev pub why_name : PathFault → List ℕ
 why_name NotAbsolute = codes "NotAbsolute"
@@ -55,11 +38,19 @@ why_name Control = codes "Control"
 why_name NameTooLong = codes "NameTooLong"
 why_name Dot = codes "Dot"
 
--- a revision and an offset, a space before each
+-- the byte from which on a path's text means none, and the rule that it breaks
+abbrev pub bad_path_values : BadPathAt → List ℕ
+bad_path_values bad = (32 ∷ decimal bad.at) ++ codes " " ++ why_name bad.why
+
+-- the small file that is not in its format, and the byte from which on it isn't
+abbrev pub small_values : SmallFault → List ℕ
+small_values small = codes " " ++ small_name small.file ++ 32 ∷ decimal small.at
+
+-- a revision and an offset
 abbrev pub at_values : RevOffset → List ℕ
 at_values at = two_numbers at.rev at.offset
 
--- what is damaged in a representation, with what is kept and what was found, a space before each
+-- what is damaged in a representation, with what is kept and what was found
 abbrev pub rep_what_values : RepWhat → List ℕ
 rep_what_values rep.Header = codes " Header"
 rep_what_values rep.EndRep = codes " EndRep"
@@ -83,45 +74,53 @@ what_values damaged.Props = codes " Props"
 what_values damaged.BadDate = codes " BadDate"
 what_values damaged.Missing = codes " Missing"
 
--- its values, a space before each
-abbrev pub fault_values : Fault → List ℕ
-fault_values Usage = []
-fault_values (BadPath bad) = (32 ∷ decimal bad.at) ++ codes " " ++ why_name bad.why
-fault_values (NotFound path) = path_value path
-fault_values (NotDir path) = path_value path
-fault_values (NotFile path) = path_value path
-fault_values (NoRev asked youngest) = two_numbers asked youngest
-fault_values AlreadyRepo = []
-fault_values NotRepo = []
-fault_values (OtherFormat number) = 32 ∷ decimal number
-fault_values Linear = []
-fault_values (Small small) = codes " " ++ small_name small.file ++ 32 ∷ decimal small.at
-fault_values (Corrupt damage) = at_values damage.at ++ what_values damage.what
-fault_values (Delta at) = at_values at
-fault_values MountFault = []
-fault_values (DiskFault place) = []
-fault_values WriteFault = []
-fault_values Memory = []
+-- where a revision is damaged, and what is
+abbrev pub damage_values : Damage → List ℕ
+damage_values damage = at_values damage.at ++ what_values damage.what
+
+-- ---- the words of a fault: its name, and its values; a row for each kind
+
+abbrev pub words_text : BadWords → List ℕ
+words_text Usage = codes "Usage"
+words_text (BadPath bad) = codes "BadPath" ++ bad_path_values bad
+
+abbrev pub request_text : RequestFault → List ℕ
+request_text (NotFound path) = not_found ++ path_value path
+request_text (NotDir path) = not_dir ++ path_value path
+request_text (NotFile path) = not_file ++ path_value path
+request_text (NoRev asked youngest) = no_rev ++ two_numbers asked youngest
+request_text AlreadyRepo = already_repo
+request_text NotRepo = not_repo
+
+abbrev pub repository_text : RepositoryFault → List ℕ
+repository_text (OtherFormat found) = codes "OtherFormat" ++ 32 ∷ decimal found
+repository_text Linear = codes "Linear"
+repository_text (Small small) = codes "Small" ++ small_values small
+repository_text (Corrupt damage) = codes "Corrupt" ++ damage_values damage
+repository_text (Delta at) = delta ++ at_values at
+
+abbrev pub outside_text : OutsideFault → List ℕ
+outside_text outside.Mount = codes "MountFault"
+outside_text (outside.Disk place) = codes "DiskFault " ++ place_word place
+outside_text outside.Read = codes "ReadFault"
+outside_text outside.Write = codes "WriteFault"
+
+-- ---- by groups: the words and the status
+
+abbrev pub fault_words : Fault → List ℕ
+fault_words (Words why) = words_text why
+fault_words (Request why) = request_text why
+fault_words (Repository why) = repository_text why
+fault_words (Outside why) = outside_text why
+fault_words Memory = codes "Memory"
+
+abbrev pub status_of : Fault → ℕ
+status_of (Request why) = 1
+status_of (Words why) = 2
+status_of (Repository why) = 3
+status_of (Outside why) = 4
+status_of Memory = 5
 
 -- the line about a fault on the error output
 abbrev pub line_of : Tool → Fault → List ℕ
-line_of tool fault = tool_name tool ++ codes ": " ++ fault_name fault ++ fault_values fault ++ codes "\n"
-
-abbrev pub status_of : Fault → ℕ
-status_of (NotFound path) = 1
-status_of (NotDir path) = 1
-status_of (NotFile path) = 1
-status_of (NoRev asked youngest) = 1
-status_of AlreadyRepo = 1
-status_of NotRepo = 1
-status_of Usage = 2
-status_of (BadPath bad) = 2
-status_of (Corrupt damage) = 3
-status_of (Delta at) = 3
-status_of (Small small) = 3
-status_of (OtherFormat number) = 3
-status_of Linear = 3
-status_of MountFault = 4
-status_of (DiskFault place) = 4
-status_of WriteFault = 4
-status_of Memory = 5
+line_of tool fault = tool_name tool ++ codes ": " ++ fault_words fault ++ codes "\n"

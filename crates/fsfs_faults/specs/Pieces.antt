@@ -1,26 +1,37 @@
 -- The line of a fault in the pieces that are printed: what stands before a path, and the path.
 use Rattle.std.specs.Prelude.{ℕ, List, [], ◌++◌, codes}
 use Rattle.fsfs_base.specs.Paths.{path_text}
+use Rattle.fsfs_answers.specs.FaultWords.{not_found, not_dir, not_file}
 use Rattle.fsfs_cli.specs.Commands.{tool_name}
 use Rattle.fsfs_cli.specs.declared.tool.Tool.{Tool}
-use Rattle.fsfs_faults.specs.Lines.{fault_name, fault_values}
+use Rattle.fsfs_faults.specs.Lines.{request_text, fault_words}
 use Rattle.fsfs_faults.specs.declared.fault.Fault.{Fault}
-use Rattle.fsfs_faults.specs.declared.fault.Fault.TheVariants.{NotFound, NotDir, NotFile}
+use Rattle.fsfs_faults.specs.declared.fault.Fault.TheVariants.{Request}
+use Rattle.fsfs_faults.specs.declared.request_fault.RequestFault.{RequestFault}
+use Rattle.fsfs_faults.specs.declared.request_fault.RequestFault.TheVariants.{NotFound, NotDir, NotFile}
 
--- its values, a space before each, but of a path the space alone
-abbrev pub fixed_values : Fault → List ℕ
-fixed_values (NotFound path) = codes " "
-fixed_values (NotDir path) = codes " "
-fixed_values (NotFile path) = codes " "
-fixed_values fault = fault_values fault
+-- its words, but of a path the space alone
+abbrev pub request_front : RequestFault → List ℕ
+request_front (NotFound path) = not_found ++ codes " "
+request_front (NotDir path) = not_dir ++ codes " "
+request_front (NotFile path) = not_file ++ codes " "
+request_front why = request_text why
+
+abbrev pub fault_front : Fault → List ℕ
+fault_front (Request why) = request_front why
+fault_front fault = fault_words fault
 
 -- the text of its path, if it has one
+abbrev pub request_path : RequestFault → List ℕ
+request_path (NotFound path) = path_text path
+request_path (NotDir path) = path_text path
+request_path (NotFile path) = path_text path
+request_path why = []
+
 abbrev pub path_values : Fault → List ℕ
-path_values (NotFound path) = path_text path
-path_values (NotDir path) = path_text path
-path_values (NotFile path) = path_text path
+path_values (Request why) = request_path why
 path_values fault = []
 
 -- the line down to the path
 abbrev pub head_of : Tool → Fault → List ℕ
-head_of tool fault = tool_name tool ++ codes ": " ++ fault_name fault ++ fixed_values fault
+head_of tool fault = tool_name tool ++ codes ": " ++ fault_front fault

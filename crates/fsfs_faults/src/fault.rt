@@ -1,65 +1,34 @@
 //! What a command answers but success.
 ghost use Rattle.fsfs_faults.specs.Faults.{IsFromLook};
 
-use fsfs_base::{BadPath, FsPath, RevNum, SmallFault};
+use crate::bad_words::BadWords;
+use crate::outside_fault::OutsideFault;
+use crate::repository_fault::RepositoryFault;
+use crate::request_fault::RequestFault;
+use fsfs_base::FsPath;
 use fsfs_cli::WordsFault;
 use fsfs_damage::{Damage, DamageKind, Refusal, RevOffset, Wrong};
-use fsfs_places::{CreateFault, DiskPlace, OpenFault};
+use fsfs_places::{CreateFault, OpenFault};
 use fsfs_printed::LookFault;
 use std::alloc::Global;
 use thiserror::Error;
 
-/// Why a command didn't do what its words say. The printed words are those of `fault_text`.
+/// Why a command didn't do what its words say, by groups: the group alone decides the program's status. The printed words of
+/// a kind are a row of its group's.
 #[derive(Debug, PartialEq, Eq, Drop, Error)]
 pub enum Fault {
-    /// The words are those of no command.
-    #[error("usage")]
-    Usage,
-    /// A word that means a path in the repository means none.
-    #[error("a text is no path")]
-    BadPath(BadPath),
-    /// Nothing stands at the path.
-    #[error("there is no such node")]
-    NotFound(FsPath),
-    /// A file stands at the path, and names follow behind it.
-    #[error("a file is no directory")]
-    NotDir(FsPath),
-    /// A directory stands at the path.
-    #[error("a directory is no file")]
-    NotFile(FsPath),
-    /// The revision is above the youngest.
-    #[error("there is no such revision")]
-    NoRev { asked: u64, youngest: RevNum },
-    /// There is a repository at the path.
-    #[error("there is a repository")]
-    AlreadyRepo,
-    /// There is no repository of this type of filesystem at the path.
-    #[error("there is no repository")]
-    NotRepo,
-    /// The repository has another format.
-    #[error("the repository has another format")]
-    OtherFormat(u64),
-    /// The repository is not sharded.
-    #[error("the repository is not sharded")]
-    Linear,
-    /// A small file of the repository is not in its format.
-    #[error("a small file is damaged")]
-    Small(SmallFault),
-    /// A revision is damaged.
-    #[error("a revision is damaged")]
-    Corrupt(Damage),
-    /// A representation is a delta, which is not read.
-    #[error("a representation is a delta")]
-    Delta(RevOffset),
-    /// The path could not be mounted.
-    #[error("the path could not be mounted")]
-    MountFault,
-    /// A call of the disk failed.
-    #[error("the disk failed")]
-    DiskFault(DiskPlace),
-    /// The output failed.
-    #[error("the output failed")]
-    WriteFault,
+    /// The words ask for nothing.
+    #[error(transparent)]
+    Words(BadWords),
+    /// What they ask for can't be had.
+    #[error(transparent)]
+    Request(RequestFault),
+    /// The files of the repository are damaged, or in a form that is not read.
+    #[error(transparent)]
+    Repository(RepositoryFault),
+    /// The outside failed.
+    #[error(transparent)]
+    Outside(OutsideFault),
     /// Memory was wanting.
     #[error("out of memory")]
     Memory,
@@ -73,8 +42,8 @@ impl From<WordsFault> for Fault {
 
     fn from(fault: WordsFault) -> Fault {
         match fault {
-            WordsFault::Usage => Fault::Usage,
-            WordsFault::BadPath(bad) => Fault::BadPath(bad),
+            WordsFault::Usage => Fault::Words(BadWords::Usage),
+            WordsFault::BadPath(bad) => Fault::Words(BadWords::BadPath(bad)),
             WordsFault::Memory => Fault::Memory,
         }
     }
@@ -88,8 +57,8 @@ impl From<CreateFault> for Fault {
 
     fn from(fault: CreateFault) -> Fault {
         match fault {
-            CreateFault::AlreadyRepo => Fault::AlreadyRepo,
-            CreateFault::DiskFault(place) => Fault::DiskFault(place),
+            CreateFault::AlreadyRepo => Fault::Request(RequestFault::AlreadyRepo),
+            CreateFault::DiskFault(place) => Fault::Outside(OutsideFault::Disk(place)),
             CreateFault::Memory => Fault::Memory,
         }
     }
@@ -103,11 +72,11 @@ impl From<OpenFault> for Fault {
 
     fn from(fault: OpenFault) -> Fault {
         match fault {
-            OpenFault::NotRepo => Fault::NotRepo,
-            OpenFault::OtherFormat(number) => Fault::OtherFormat(number),
-            OpenFault::Linear => Fault::Linear,
-            OpenFault::Small(small) => Fault::Small(small),
-            OpenFault::DiskFault(place) => Fault::DiskFault(place),
+            OpenFault::NotRepo => Fault::Request(RequestFault::NotRepo),
+            OpenFault::OtherFormat(found) => Fault::Repository(RepositoryFault::OtherFormat(found)),
+            OpenFault::Linear => Fault::Repository(RepositoryFault::Linear),
+            OpenFault::Small(small) => Fault::Repository(RepositoryFault::Small(small)),
+            OpenFault::DiskFault(place) => Fault::Outside(OutsideFault::Disk(place)),
             OpenFault::Memory => Fault::Memory,
         }
     }
@@ -121,15 +90,15 @@ impl From<Refusal> for Fault {
 
     fn from(refusal: Refusal) -> Fault {
         match refusal {
-            Refusal::NoRev { asked, youngest } => Fault::NoRev {
+            Refusal::NoRev { asked, youngest } => Fault::Request(RequestFault::NoRev {
                 asked: asked.get() as u64,
                 youngest,
-            },
-            Refusal::Missing { rev } => Fault::Corrupt(Damage {
+            }),
+            Refusal::Missing { rev } => Fault::Repository(RepositoryFault::Corrupt(Damage {
                 at: RevOffset { rev, offset: 0 },
                 what: DamageKind::Missing,
-            }),
-            Refusal::Small(small) => Fault::Small(small),
+            })),
+            Refusal::Small(small) => Fault::Repository(RepositoryFault::Small(small)),
         }
     }
 }
@@ -143,8 +112,8 @@ impl From<Wrong> for Fault {
     fn from(wrong: Wrong) -> Fault {
         match wrong {
             Wrong::Refused(refusal) => Fault::from(refusal),
-            Wrong::Damaged(damage) => Fault::Corrupt(damage),
-            Wrong::Delta(at) => Fault::Delta(at),
+            Wrong::Damaged(damage) => Fault::Repository(RepositoryFault::Corrupt(damage)),
+            Wrong::Delta(at) => Fault::Repository(RepositoryFault::Delta(at)),
         }
     }
 }
@@ -156,15 +125,15 @@ impl Fault {
     {
         match fault {
             LookFault::NotFound { names } => match path.prefix(alloc, names.min(path.depth())) {
-                Ok(above) => Fault::NotFound(above),
+                Ok(above) => Fault::Request(RequestFault::NotFound(above)),
                 Err(_) => Fault::Memory,
             },
             LookFault::NotDir { names } => match path.prefix(alloc, names.min(path.depth())) {
-                Ok(above) => Fault::NotDir(above),
+                Ok(above) => Fault::Request(RequestFault::NotDir(above)),
                 Err(_) => Fault::Memory,
             },
             LookFault::NotFile => match path.clone() {
-                Ok(whole) => Fault::NotFile(whole),
+                Ok(whole) => Fault::Request(RequestFault::NotFile(whole)),
                 Err(_) => Fault::Memory,
             },
             LookFault::Wrong(wrong) => Fault::from(wrong),

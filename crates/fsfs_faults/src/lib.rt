@@ -1,11 +1,20 @@
-//! Why a command didn't do what its words say: the fault, its words, its status, and its line.
+//! Why a command didn't do what its words say: the fault, by groups, its words, its status, and its line.
 #![tactic(auto)]
 
+mod bad_words;
 mod fault;
 mod line;
 mod output;
+mod outside_fault;
+mod repository_fault;
+mod request_fault;
+mod values;
 
+pub use bad_words::BadWords;
 pub use fault::Fault;
 pub use fsfs_cli::Tool;
-pub use line::{fault_text, status};
+pub use line::status;
 pub use output::print_fault;
+pub use outside_fault::OutsideFault;
+pub use repository_fault::RepositoryFault;
+pub use request_fault::RequestFault;

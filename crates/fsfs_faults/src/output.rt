@@ -3,10 +3,11 @@ ghost use Rattle.std.specs.Prelude.{◌≡◌, ◌∷◌};
 ghost use Rattle.fsfs_base.specs.Paths.{path_text};
 ghost use Rattle.fsfs_streams.specs.Output.{Prints};
 ghost use Rattle.fsfs_faults.specs.Lines.{line_of};
-ghost use Rattle.fsfs_faults.specs.Pieces.{path_values};
+ghost use Rattle.fsfs_faults.specs.Pieces.{request_path, path_values};
 
 use crate::fault::Fault;
 use crate::line::head_text;
+use crate::request_fault::RequestFault;
 use fsfs_base::{Failed, FsPath};
 use fsfs_cli::Tool;
 use fsfs_streams::{Sink, print};
@@ -32,14 +33,23 @@ fn print_path<S: Sink>(sink: &mut S, path: &FsPath) -> Result<(), Failed>
     Ok(())
 }
 
+// Writes the path of what is asked for, where it is told.
+fn print_request_path<S: Sink>(sink: &mut S, why: &RequestFault) -> Result<(), Failed>
+    ensures printed { Prints (S.written sink.old) (S.written sink.new) (request_path why.now) (S.faults sink.old) (S.faults sink.new) result }
+{
+    match why {
+        RequestFault::NotFound(path) | RequestFault::NotDir(path) | RequestFault::NotFile(path) =>
+            print_path(sink, path),
+        _ => Ok(()),
+    }
+}
+
 // Writes the path of a fault that has one.
 fn print_path_of<S: Sink>(sink: &mut S, fault: &Fault) -> Result<(), Failed>
     ensures printed { Prints (S.written sink.old) (S.written sink.new) (path_values fault.now) (S.faults sink.old) (S.faults sink.new) result }
 {
     match fault {
-        Fault::NotFound(path) | Fault::NotDir(path) | Fault::NotFile(path) => {
-            print_path(sink, path)
-        }
+        Fault::Request(why) => print_request_path(sink, why),
         _ => Ok(()),
     }
 }

@@ -2,9 +2,9 @@
 use fsfs_base::{BadPath, FsPath, HexDigest, PathFault, RevNum, SmallFault, SmallFile};
 use fsfs_cli::WordsFault;
 use fsfs_damage::{Damage, DamageKind, Refusal, RepWhat, RevOffset, Wrong};
-use fsfs_faults::{Fault, Tool, print_fault, status};
+use fsfs_faults::{Fault, OutsideFault, RepositoryFault, Tool, print_fault, status};
 use fsfs_memstreams::MemSink;
-use fsfs_places::{CreateFault, DiskPlace, OpenFault};
+use fsfs_places::{CreateFault, CreatePlace, DiskPlace, OpenFault};
 use fsfs_printed::LookFault;
 use std::alloc::Global;
 use std::test::Fail;
@@ -90,10 +90,10 @@ fn lines_of_faults(rt: HostRuntime) -> Result<(), Fail> {
             "Small db/revs/7.pack/manifest 12",
         ),
         (
-            Fault::Corrupt(Damage {
+            Fault::Repository(RepositoryFault::Corrupt(Damage {
                 at: at(1, 59),
                 what: DamageKind::PlaceOrder,
-            }),
+            })),
             3,
             "Corrupt 1 59 PlaceOrder",
         ),
@@ -121,10 +121,13 @@ fn lines_of_faults(rt: HostRuntime) -> Result<(), Fail> {
         ),
         (Fault::from(Wrong::Delta(at(1, 0))), 3, "Delta 1 0"),
         (
-            Fault::from(CreateFault::DiskFault(DiskPlace::CreateRename)),
+            Fault::from(CreateFault::DiskFault(DiskPlace::Create(CreatePlace::Rename))),
             4,
             "DiskFault CreateRename",
         ),
+        (Fault::Outside(OutsideFault::Mount), 4, "MountFault"),
+        (Fault::Outside(OutsideFault::Read), 4, "ReadFault"),
+        (Fault::Outside(OutsideFault::Write), 4, "WriteFault"),
         (Fault::Memory, 5, "Memory"),
     ];
     for (fault, number, words) in table {

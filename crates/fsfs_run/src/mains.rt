@@ -1,8 +1,7 @@
 //! What the mains of all programs do.
 
-use fsfs_faults::{Fault, print_fault, status};
+use fsfs_faults::{Fault, OutsideFault, print_fault, status};
 use fsfs_hostdisk::{Machine, OpenGate, StreamSink, StreamSource, SystemClock, SystemDice, words};
-use fsfs_streams::print;
 use fsfs_top::{Tool, command};
 use std::process::ExitCode;
 
@@ -16,9 +15,9 @@ pub fn run(rt: HostRuntime, tool: Tool) -> ExitCode {
     };
     // In the top call a clock and dice can't fail, so a machine that can't give them ends the program before.
     let (Ok(mut clock), Ok(mut dice)) = (SystemClock::read(&rt), SystemDice::draw(&rt)) else {
-        let _ = print(&mut err, tool.name().as_bytes());
-        let _ = print(&mut err, b": ReadFault\n");
-        return ExitCode::from(4);
+        let fault = Fault::Outside(OutsideFault::Read);
+        let _ = print_fault(&mut err, tool, &fault);
+        return ExitCode::from(status(&fault));
     };
     ExitCode::from(command(
         rt.alloc(),

@@ -12,7 +12,8 @@ use Rattle.fsfs_streams.specs.Streams.{Adds}
 use Rattle.fsfs_streams.specs.Output.{AddsFront, Prints}
 use Rattle.fsfs_faults.specs.Lines.{line_of}
 use Rattle.fsfs_faults.specs.declared.fault.Fault.{Fault}
-use Rattle.fsfs_faults.specs.declared.fault.Fault.TheVariants.{AlreadyRepo, NotRepo}
+use Rattle.fsfs_faults.specs.declared.fault.Fault.TheVariants.{Request}
+use Rattle.fsfs_faults.specs.declared.request_fault.RequestFault.TheVariants.{AlreadyRepo, NotRepo}
 use Rattle.fsfs_rev_file.specs.RevBytes.{rev_bytes}
 use Rattle.fsfs_answers.specs.FaultWords.{already_repo, not_repo}
 use Rattle.fsfs_answers.specs.Answers.{Answer, Reply, refuses, prints, refuses_look, tree_reply, text_reply, history_reply, found_at, asked_revision, of_revision}
@@ -105,7 +106,7 @@ module _ (tool : Tool) (ws : List (List ℕ)) (clock : Option ℕ) (dice : Optio
       let looked = task_done clock dice a b fault tool ws repos (Look look) did asks in
       let by_look = asks_task tool ws repos (Look look) asks in
       subst Given (none_of look shown)
-      (given_none status tool a b err_old err_new repos t here fault ends look (refuses_look not_repo 1) (ap (λ (k : Tool). refuses (line_of k NotRepo) 1) (sym by_look)) absent looked.0)
+      (given_none status tool a b err_old err_new repos t here fault ends look (refuses_look not_repo 1) (ap (λ (k : Tool). refuses (line_of k (Request NotRepo)) 1) (sym by_look)) absent looked.0)
 
   at_revision : (repos : List ℕ) (look : RevisionLook) (t : Trace) (h : List Revision) (shown : Path → List ℕ) → Asks tool ws repos (Look (AtRevision look)) → a.host.disk_at repos ≡ Some t → (s : StandsFor (files_now t) h)
       → ShowsIds look.printed (rev_bytes s.opened.layout (files_now t)) (asked_revision look.revision h) shown → Given (of_revision look.revision h (revision_reply look.printed shown h (asked_revision look.revision h)))
@@ -134,7 +135,7 @@ module _ (tool : Tool) (ws : List (List ℕ)) (clock : Option ℕ) (dice : Optio
       let made = task_done clock dice a b fault tool ws repos (Create shard) did asks in
       let by_admin = (asks_task tool ws repos (Create shard) asks).0 in
       given_again status tool a b err_old err_new repos shard clock dice t fault (refuses (codes "svnadmin: " ++ already_repo ++ codes "\n") 1) s.small.format.0 here s.small.format.1.there
-      (ap (λ (k : Tool). refuses (line_of k AlreadyRepo) 1) (sym by_admin)) ends made.0 made.1
+      (ap (λ (k : Tool). refuses (line_of k (Request AlreadyRepo)) 1) (sym by_admin)) ends made.0 made.1
   stands repos (Look Youngest) t h shown asks here s are = opened repos Youngest t s.opened h shown asks here tt s.small (last_is (files_now t) h s)
   stands repos (Look Uuid) t h shown asks here s are = opened repos Uuid t s.opened h shown asks here tt s.small (last_is (files_now t) h s)
   stands repos (Look (AtRevision look)) t h shown asks here s are = subst Given (answer_at look.revision look.printed shown h) (at_revision repos look t h shown asks here s are)

@@ -8,7 +8,8 @@ use Rattle.fsfs_base.specs.Paths.{Path}
 use Rattle.fsfs_disk.specs.Trace.{Trace, files_now}
 use Rattle.fsfs_faults.specs.Faults.{fault_from_open, fault_from_look, IsFromLook}
 use Rattle.fsfs_faults.specs.declared.fault.Fault.{Fault}
-use Rattle.fsfs_faults.specs.declared.fault.Fault.TheVariants.{NoRev, Memory}
+use Rattle.fsfs_faults.specs.declared.fault.Fault.TheVariants.{Request, Memory}
+use Rattle.fsfs_faults.specs.declared.request_fault.RequestFault.TheVariants.{NoRev}
 use Rattle.fsfs_layout.specs.declared.layout.Layout.{Layout}
 use Rattle.fsfs_layout.proofs.OpeningLemmas.{one_youngest, one_layout}
 use Rattle.fsfs_look.specs.declared.look_error.LookError.TheVariants as errors
@@ -19,7 +20,6 @@ use Rattle.fsfs_repo.specs.Deciding.{Decides, IsOutside as IsOpenOutside}
 use Rattle.fsfs_layout.specs.declared.opened.Opened.{Opened}
 use Rattle.fsfs_places.specs.declared.open_fault.OpenFault.{OpenFault}
 use Rattle.fsfs_places.specs.declared.open_fault.OpenFault.TheVariants as opening
-use Rattle.fsfs_places.specs.declared.place.DiskPlace.TheVariants.{Read}
 use Rattle.fsfs_printed.specs.Texts.{End, Whole, Refused}
 use Rattle.fsfs_printed.specs.declared.look_fault.LookFault.{LookFault}
 use Rattle.fsfs_printed.specs.declared.look_fault.LookFault.TheVariants as refusal
@@ -45,8 +45,8 @@ outside_of_open opening.NotRepo h = absurd h
 outside_of_open (opening.OtherFormat number) h = absurd h
 outside_of_open opening.Linear h = absurd h
 outside_of_open (opening.Small small) h = absurd h
-outside_of_open (opening.DiskFault place) h = inr (inl (place, refl))
-outside_of_open opening.Memory h = inr (inr (inr refl))
+outside_of_open (opening.DiskFault place) h = tt
+outside_of_open opening.Memory h = tt
 
 open_agrees : (why want : OpenFault) → (why ≡ want) ⊎ IsOpenOutside why → Agrees (Some (fault_from_open want)) (Some (fault_from_open why))
 open_agrees why want (inl e) = inl (ap (λ x. Some (fault_from_open x)) (sym e))
@@ -110,35 +110,39 @@ look_or_memory path (refusal.NotDir names) fault h = h
 look_or_memory path refusal.NotFile fault h = h
 look_or_memory path (refusal.Wrong wrong) fault h = inl h
 
+-- what is told is a failure of the outside
+outside_agrees : (decided fault : Option Fault) (told : Fault) → fault ≡ Some told → IsOutside told → Agrees decided fault
+outside_agrees decided fault told is out = subst (Agrees decided) (sym is) (inr out)
+
 whole_agrees : (disk write : Type 0) (look : RevisionLook) (o : Opened) (m : Files) (old new : Option (List ℕ)) (r : Result (Unit {0}) LookError) (fault : Option Fault) → Writes (TextIn look o m) old new r → IsFaultOf disk write (printed_path look.printed) r fault
     → (text : List ℕ) → TextIn look o m text Whole → Agrees None fault
 whole_agrees disk write look o m old new (Ok done) fault w is text t = subst (Agrees None) (sym is) refl
 whole_agrees disk write look o m old new (Err (errors.Fault why)) fault w is text t =
     absurd (whole_or_refused (TextIn look o m) (in_one look o m) text w.0 why t w.1)
-whole_agrees disk write look o m old new (Err errors.DiskFault) fault w is text t = subst (Agrees None) (sym is.1) (inr (inr (inl (Read, refl))))
-whole_agrees disk write look o m old new (Err errors.WriteFault) fault w is text t = subst (Agrees None) (sym is.1) (inr (inr (inr (inl refl))))
-whole_agrees disk write look o m old new (Err errors.OutOfMemory) fault w is text t = subst (Agrees None) (sym is) (inr (inr (inr (inr refl))))
+whole_agrees disk write look o m old new (Err errors.DiskFault) fault w (told, is, at, d, e) text t = outside_agrees None fault told is (subst IsOutside (sym at) tt)
+whole_agrees disk write look o m old new (Err errors.WriteFault) fault w (told, is, at, d, e) text t = outside_agrees None fault told is (subst IsOutside (sym at) tt)
+whole_agrees disk write look o m old new (Err errors.OutOfMemory) fault w (told, is, at, d, e) text t = outside_agrees None fault told is (subst IsOutside (sym at) tt)
 
 refused_agrees : (disk write : Type 0) (look : RevisionLook) (o : Opened) (m : Files) (old new : Option (List ℕ)) (r : Result (Unit {0}) LookError) (fault : Option Fault) → Writes (TextIn look o m) old new r → IsFaultOf disk write (printed_path look.printed) r fault
     → (text : List ℕ) (why : LookFault) → TextIn look o m text (Refused why) → Agrees (Some (fault_from_look (printed_path look.printed) why)) fault
 refused_agrees disk write look o m old new (Ok done) fault w is text why t =
     absurd (whole_or_refused (TextIn look o m) (in_one look o m) w.0 text why w.1 t)
-refused_agrees disk write look o m old new (Err (errors.Fault other)) fault w (told, is, from) text why t =
+refused_agrees disk write look o m old new (Err (errors.Fault other)) fault w (told, is, from, d, e) text why t =
     let same = (refusals_same (TextIn look o m) (in_one look o m) text w.0 why other t w.1).1 in
     let Want : Option Fault → Type 0 = Agrees (Some (fault_from_look (printed_path look.printed) why)) in
     subst Want (sym is)
-    (⊎_elim (λ e. subst Want (ap (λ (f : Fault). Some f) (sym e)) (inl (ap (λ (f : LookFault). Some (fault_from_look (printed_path look.printed) f)) same)))
-    (λ e. subst Want (ap (λ (f : Fault). Some f) (sym e)) (inr (inr (inr (inr refl))))) (look_or_memory (printed_path look.printed) other told from))
-refused_agrees disk write look o m old new (Err errors.DiskFault) fault w is text why t = subst (Agrees (Some (fault_from_look (printed_path look.printed) why))) (sym is.1) (inr (inr (inl (Read, refl))))
-refused_agrees disk write look o m old new (Err errors.WriteFault) fault w is text why t = subst (Agrees (Some (fault_from_look (printed_path look.printed) why))) (sym is.1) (inr (inr (inr (inl refl))))
-refused_agrees disk write look o m old new (Err errors.OutOfMemory) fault w is text why t = subst (Agrees (Some (fault_from_look (printed_path look.printed) why))) (sym is) (inr (inr (inr (inr refl))))
+    (⊎_elim (λ k. subst Want (ap (λ (f : Fault). Some f) (sym k)) (inl (ap (λ (f : LookFault). Some (fault_from_look (printed_path look.printed) f)) same)))
+    (λ k. subst Want (ap (λ (f : Fault). Some f) (sym k)) (inr tt)) (look_or_memory (printed_path look.printed) other told from))
+refused_agrees disk write look o m old new (Err errors.DiskFault) fault w (told, is, at, d, e) text why t = outside_agrees (Some (fault_from_look (printed_path look.printed) why)) fault told is (subst IsOutside (sym at) tt)
+refused_agrees disk write look o m old new (Err errors.WriteFault) fault w (told, is, at, d, e) text why t = outside_agrees (Some (fault_from_look (printed_path look.printed) why)) fault told is (subst IsOutside (sym at) tt)
+refused_agrees disk write look o m old new (Err errors.OutOfMemory) fault w (told, is, at, d, e) text why t = outside_agrees (Some (fault_from_look (printed_path look.printed) why)) fault told is (subst IsOutside (sym at) tt)
 
 revision_done : (disk : Type 0) (look : RevisionLook) (m : Files) (o p : Opened) (old new : SinkScene) (fault : Option Fault) → IsOpened (small_texts m) o → IsOpened (small_texts m) p → LooksInto disk (AtRevision look) o (Some m) old new fault
     → DecidesRevision look p m fault
 revision_done disk look m o p old new fault opened w (inl (rev, lacks, is, kept)) = subst (DecidesRevision look p m) (sym is) (record {
   lacking = λ other also.
       let named = same_Some other rev (sym also.named ∙ lacks.named) in
-      inl (λ i. Some (NoRev (named i) (one_youngest (small_texts m) p o w opened i)));
+      inl (λ i. Some (Request (NoRev (named i) (one_youngest (small_texts m) p o w opened i))));
   whole = λ text there t. absurd (lacks_or_has look o p rev lacks (one_youngest (small_texts m) o p opened w) there);
   refused = λ text why there t. absurd (lacks_or_has look o p rev lacks (one_youngest (small_texts m) o p opened w) there);
 })
@@ -152,7 +156,7 @@ revision_done disk look m o p old new fault opened w (inr looked) = record {
 
 line_agrees : (line : List ℕ) (old new : SinkScene) (fault : Option Fault) → PrintsLine line old new fault → Agrees None fault
 line_agrees line old new fault (inl (is, adds)) = subst (Agrees None) (sym is) refl
-line_agrees line old new fault (inr (is, rose, part)) = subst (Agrees None) (sym is) (inr (inr (inr (inl refl))))
+line_agrees line old new fault (inr (is, rose, part)) = subst (Agrees None) (sym is) (inr tt)
 
 opened_done : (disk : Type 0) (look : Look) (m : Files) (o p : Opened) (old new : SinkScene) (fault : Option Fault) → IsOpened (small_texts m) o → IsOpened (small_texts m) p → LooksInto disk look o (Some m) old new fault → DecidesOpened look p m fault
 opened_done disk Youngest m o p old new fault opened w into = line_agrees (revision_line o.youngest) old new fault into

@@ -11,7 +11,8 @@ use Rattle.fsfs_base.specs.declared.kind.Kind.{Kind}
 use Rattle.fsfs_base.specs.declared.kind.Kind.TheVariants.{File, Dir}
 use Rattle.fsfs_faults.specs.Lines.{line_of, status_of}
 use Rattle.fsfs_faults.specs.Faults.{fault_from_look}
-use Rattle.fsfs_faults.specs.declared.fault.Fault.TheVariants as fault
+use Rattle.fsfs_faults.specs.declared.fault.Fault.TheVariants.{Request}
+use Rattle.fsfs_faults.specs.declared.request_fault.RequestFault.TheVariants.{NoRev}
 use Rattle.fsfs_book.specs.Told.{RevisionBytes}
 use Rattle.fsfs_rev_file.specs.RevBytes.{rev_bytes, props_bytes}
 use Rattle.fsfs_answers.specs.FaultWords.{not_found, not_dir, not_file, delta, two_numbers}
@@ -68,8 +69,8 @@ delta_line : (path : Path) (rev offset : ℕ) (why : LookFault) → why ≡ faul
     → refuses_look (delta ++ two_numbers rev offset) 3 ≡ refuses (line_of Look (fault_from_look path why)) (status_of (fault_from_look path why))
 delta_line path rev offset why is = subst (λ (w : LookFault). refuses_look (delta ++ two_numbers rev offset) 3 ≡ refuses (line_of Look (fault_from_look path w)) (status_of (fault_from_look path w))) (sym is) refl
 
-pub no_rev_line : (tool : Tool) (reply : Revision → Reply) (asked youngest : ℕ) → tool ≡ Look → in_revision reply asked youngest None ≡ refuses (line_of tool (fault.NoRev asked youngest)) 1
-no_rev_line tool reply asked youngest e = ap (λ (k : Tool). refuses (line_of k (fault.NoRev asked youngest)) 1) (sym e)
+pub no_rev_line : (tool : Tool) (reply : Revision → Reply) (asked youngest : ℕ) → tool ≡ Look → in_revision reply asked youngest None ≡ refuses (line_of tool (Request (NoRev asked youngest))) 1
+no_rev_line tool reply asked youngest e = ap (λ (k : Tool). refuses (line_of k (Request (NoRev asked youngest))) 1) (sym e)
 
 nothing_of : (text : List ℕ) → text ≡ [] → (rest : List ℕ) × ([] ≡ text ++ rest)
 nothing_of text e = ([], sym e ∙ sym (append-nil text))

@@ -13,7 +13,10 @@ use Rattle.fsfs_streams.specs.Streams.{Adds}
 use Rattle.fsfs_faults.specs.Lines.{line_of, status_of}
 use Rattle.fsfs_faults.specs.Faults.{fault_from_open, fault_from_look}
 use Rattle.fsfs_faults.specs.declared.fault.Fault.{Fault}
-use Rattle.fsfs_faults.specs.declared.fault.Fault.TheVariants.{AlreadyRepo, NotRepo, NoRev, MountFault, DiskFault, WriteFault, Memory}
+use Rattle.fsfs_faults.specs.declared.fault.Fault.TheVariants.{Request, Outside, Memory}
+use Rattle.fsfs_faults.specs.declared.request_fault.RequestFault.TheVariants.{AlreadyRepo, NotRepo, NoRev}
+use Rattle.fsfs_faults.specs.declared.outside_fault.OutsideFault.{OutsideFault}
+use Rattle.fsfs_faults.specs.declared.outside_fault.OutsideFault.TheVariants.{Mount, Disk, Write}
 use Rattle.fsfs_look.specs.declared.look_error.LookError.{LookError}
 use Rattle.fsfs_look.specs.declared.look_error.LookError.TheVariants as errors
 use Rattle.fsfs_look.specs.Written.{Writes}
@@ -24,7 +27,6 @@ use Rattle.fsfs_repo.specs.OpenFaults.{OpensBecause}
 use Rattle.fsfs_repo.specs.Deciding.{IsOutside as IsOpenOutside}
 use Rattle.fsfs_create.specs.Creation.{CreateFails, IsUnpublished, IsNoRepository}
 use Rattle.fsfs_places.specs.declared.create_fault.CreateFault.TheVariants as create
-use Rattle.fsfs_places.specs.declared.place.DiskPlace.{DiskPlace}
 use Rattle.fsfs_places.specs.declared.place.DiskPlace.TheVariants.{Read}
 use Rattle.fsfs_stands.specs.Files.{StandsFor}
 use Rattle.fsfs_layout.specs.declared.opened.Opened.{Opened}
@@ -38,7 +40,7 @@ use Rattle.fsfs_cli.specs.declared.request.Look.TheVariants.{Youngest, Uuid, AtR
 use Rattle.fsfs_cli.specs.declared.request.RevisionLook.{RevisionLook}
 use Rattle.fsfs_top.specs.Command.{Created, Tells, answer_of, identifier_of}
 use Rattle.fsfs_top.specs.Looks.{all_bytes, TextOf, TextIn, revision_line, uuid_line, looked_revision, LacksRevision, IsFaultOf, Looked, LooksInto, OpensAs, DoesNotOpen, NotOpened, PrintsLine, PrintsLook}
-use Rattle.fsfs_top.specs.Replies.{Gives}
+use Rattle.fsfs_top.specs.Replies.{Gives, OutsideFailed}
 use Rattle.fsfs_top.specs.Scenes.{Scene, SinkScene}
 use Rattle.fsfs_layout.proofs.OpeningLemmas.{one_youngest, one_layout, same_uuid}
 use Rattle.fsfs_top.proofs.FilesDecide.{same_text, look_or_memory}
@@ -108,11 +110,8 @@ module _ (status : ℕ) (tool : Tool) (a b : Scene) (err_old err_new : SinkScene
   front_none : (text : List ℕ) → b.out ≡ a.out → AddsFront a.out.written b.out.written text
   front_none text kept = front_of_nothing a.out.written b.out.written text (ap (λ (s : SinkScene). s.written) kept)
 
-  mount_failed : (reply : Reply) (fault : Option Fault) → fault ≡ Some MountFault → Ended fault → Rose a.host.mount_faults b.host.mount_faults → b.out ≡ a.out → Given reply
-  mount_failed reply fault is ends rose kept = inr (front_none reply.output kept, inl ((moved fault (Some MountFault) is ends).0, inl rose))
-
-  disk_failed : (reply : Reply) (place : DiskPlace) (fault : Option Fault) → fault ≡ Some (DiskFault place) → Ended fault → Rose a.host.disk_faults b.host.disk_faults → b.out ≡ a.out → Given reply
-  disk_failed reply place fault is ends rose kept = inr (front_none reply.output kept, inl ((moved fault (Some (DiskFault place)) is ends).0, inr (inl rose)))
+  outside_failed : (reply : Reply) (why : OutsideFault) (fault : Option Fault) → fault ≡ Some (Outside why) → Ended fault → OutsideFailed a b → b.out ≡ a.out → Given reply
+  outside_failed reply why fault is ends failed kept = inr (front_none reply.output kept, inl ((moved fault (Some (Outside why)) is ends).0, failed))
 
   starved : (reply : Reply) (fault : Option Fault) → fault ≡ Some Memory → Ended fault → b.out ≡ a.out → Given reply
   starved reply fault is ends kept = inr (front_none reply.output kept, inr (moved fault (Some Memory) is ends).0)
@@ -128,19 +127,19 @@ module _ (status : ℕ) (tool : Tool) (a b : Scene) (err_old err_new : SinkScene
   -- where there is no repository
   pub given_create : (repos : List ℕ) (shard : ℕ) (clock : Option ℕ) (dice : Option (List ℕ)) (t : Trace) (fault : Option Fault) → a.host.disk_at repos ≡ Some t → IsUnpublished (files_now t) → Ended fault → Created repos shard clock dice a.host b.host fault → b.out ≡ a.out
       → Given (prints [])
-  given_create repos shard clock dice t fault here none ends (inl (e, rose, same)) kept = mount_failed (prints []) fault e ends rose kept
+  given_create repos shard clock dice t fault here none ends (inl (e, rose, same)) kept = outside_failed (prints []) Mount fault e ends (inl rose) kept
   given_create repos shard clock dice t fault here none ends (inr (inl (create.AlreadyRepo, e, (d, there)))) kept =
       absurd (no_some (get (files_now t) (codes "db/format")) none (subst (λ (x : Option Trace). CreateFails (Rose a.host.disk_faults b.host.disk_faults) shard (identifier_of clock dice d) d.moment x (b.host.disk_at repos) create.AlreadyRepo) here there).0)
-  given_create repos shard clock dice t fault here none ends (inr (inl (create.DiskFault place, e, (d, why)))) kept = disk_failed (prints []) place fault e ends why.0 kept
+  given_create repos shard clock dice t fault here none ends (inr (inl (create.DiskFault place, e, (d, why)))) kept = outside_failed (prints []) (Disk place) fault e ends (inr (inl why.0)) kept
   given_create repos shard clock dice t fault here none ends (inr (inl (create.Memory, e, (d, why)))) kept = starved (prints []) fault e ends kept
   given_create repos shard clock dice t fault here none ends (inr (inr (e, absent, made))) kept = printed_text (prints []) [] refl (moved fault None e ends) (added_none kept)
 
   -- and where there is one
   pub given_again : (repos : List ℕ) (shard : ℕ) (clock : Option ℕ) (dice : Option (List ℕ)) (t : Trace) (fault : Option Fault) (reply : Reply) (text : List ℕ) → a.host.disk_at repos ≡ Some t → get (files_now t) (codes "db/format") ≡ Some text
-      → reply ≡ refuses (line_of tool AlreadyRepo) 1 → Ended fault → Created repos shard clock dice a.host b.host fault → b.out ≡ a.out → Given reply
-  given_again repos shard clock dice t fault reply text here there is ends (inl (e, rose, same)) kept = mount_failed reply fault e ends rose kept
-  given_again repos shard clock dice t fault reply text here there is ends (inr (inl (create.AlreadyRepo, e, (d, why)))) kept = refused_line reply AlreadyRepo is (moved fault (Some AlreadyRepo) e ends) (added_none kept)
-  given_again repos shard clock dice t fault reply text here there is ends (inr (inl (create.DiskFault place, e, (d, why)))) kept = disk_failed reply place fault e ends why.0 kept
+      → reply ≡ refuses (line_of tool (Request AlreadyRepo)) 1 → Ended fault → Created repos shard clock dice a.host b.host fault → b.out ≡ a.out → Given reply
+  given_again repos shard clock dice t fault reply text here there is ends (inl (e, rose, same)) kept = outside_failed reply Mount fault e ends (inl rose) kept
+  given_again repos shard clock dice t fault reply text here there is ends (inr (inl (create.AlreadyRepo, e, (d, why)))) kept = refused_line reply (Request AlreadyRepo) is (moved fault (Some (Request AlreadyRepo)) e ends) (added_none kept)
+  given_again repos shard clock dice t fault reply text here there is ends (inr (inl (create.DiskFault place, e, (d, why)))) kept = outside_failed reply (Disk place) fault e ends (inr (inl why.0)) kept
   given_again repos shard clock dice t fault reply text here there is ends (inr (inl (create.Memory, e, (d, why)))) kept = starved reply fault e ends kept
   given_again repos shard clock dice t fault reply text here there is ends (inr (inr (e, absent, made))) kept = absurd (none-some text (sym (subst IsNoRepository here absent) ∙ there))
 
@@ -152,17 +151,17 @@ module _ (status : ℕ) (tool : Tool) (a b : Scene) (err_old err_new : SinkScene
   outside_opening reply at (opening.OtherFormat n) fault is ends kept because out = absurd out
   outside_opening reply at opening.Linear fault is ends kept because out = absurd out
   outside_opening reply at (opening.Small small) fault is ends kept because out = absurd out
-  outside_opening reply at (opening.DiskFault place) fault is ends kept because out = disk_failed reply place fault is ends because.0 kept
+  outside_opening reply at (opening.DiskFault place) fault is ends kept because out = outside_failed reply (Disk place) fault is ends (inr (inl because.0)) kept
   outside_opening reply at opening.Memory fault is ends kept because out = starved reply fault is ends kept
 
   -- none
-  none_there : (reply : Reply) (t : Trace) (why : OpenFault) (fault : Option Fault) → reply ≡ refuses (line_of tool NotRepo) 1 → IsNone (small_texts (files_now t)) → fault ≡ Some (fault_from_open why) → Ended fault → b.out ≡ a.out
+  none_there : (reply : Reply) (t : Trace) (why : OpenFault) (fault : Option Fault) → reply ≡ refuses (line_of tool (Request NotRepo)) 1 → IsNone (small_texts (files_now t)) → fault ≡ Some (fault_from_open why) → Ended fault → b.out ≡ a.out
       → OpensBecause (Rose a.host.disk_faults b.host.disk_faults) (Some t) why → Given reply
-  none_there reply t opening.NotRepo fault is none e ends kept because = refused_line reply NotRepo is (moved fault (Some NotRepo) e ends) (added_none kept)
+  none_there reply t opening.NotRepo fault is none e ends kept because = refused_line reply (Request NotRepo) is (moved fault (Some (Request NotRepo)) e ends) (added_none kept)
   none_there reply t (opening.OtherFormat n) fault is none e ends kept because = absurd (none_or_some (small_texts (files_now t)) because.0 none because.1)
   none_there reply t opening.Linear fault is none e ends kept because = absurd (none_or_some (small_texts (files_now t)) because.0 none because.1)
   none_there reply t (opening.Small small) fault is none e ends kept because = absurd (none_or_some (small_texts (files_now t)) because.0 none because.1)
-  none_there reply t (opening.DiskFault place) fault is none e ends kept because = disk_failed reply place fault e ends because.0 kept
+  none_there reply t (opening.DiskFault place) fault is none e ends kept because = outside_failed reply (Disk place) fault e ends (inr (inl because.0)) kept
   none_there reply t opening.Memory fault is none e ends kept because = starved reply fault e ends kept
 
   -- ---- a look
@@ -172,19 +171,19 @@ module _ (status : ℕ) (tool : Tool) (a b : Scene) (err_old err_new : SinkScene
     caused why because = subst (λ (x : Option Trace). OpensBecause (Rose a.host.disk_faults b.host.disk_faults) x why) here because
 
     not_opened : (reply : Reply) (o : Opened) → IsOpened (small_texts (files_now t)) o → NotOpened repos a b fault → Given reply
-    not_opened reply o is (inl (e, rose, kept)) = mount_failed reply fault e ends rose kept
+    not_opened reply o is (inl (e, rose, kept)) = outside_failed reply Mount fault e ends (inl rose) kept
     not_opened reply o is (inr (why, e, because, unopened, kept)) = outside_opening reply (Some t) why fault e ends kept (caused why because) (subst (λ (x : Option Trace). DoesNotOpen x why) here unopened o is)
 
     -- where there is no repository
-    pub given_none : (look : Look) (reply : Reply) → reply ≡ refuses (line_of tool NotRepo) 1 → IsNone (small_texts (files_now t)) → PrintsLook repos look a b fault → Given reply
-    given_none look reply is none (inl (inl (e, rose, kept))) = mount_failed reply fault e ends rose kept
+    pub given_none : (look : Look) (reply : Reply) → reply ≡ refuses (line_of tool (Request NotRepo)) 1 → IsNone (small_texts (files_now t)) → PrintsLook repos look a b fault → Given reply
+    given_none look reply is none (inl (inl (e, rose, kept))) = outside_failed reply Mount fault e ends (inl rose) kept
     given_none look reply is none (inl (inr (why, e, because, unopened, kept))) = none_there reply t why fault is none e ends kept (caused why because)
     given_none look reply is none (inr (o, opens, into)) = let there = subst (λ (x : Option Trace). OpensAs x o) here opens in absurd (none_or_some (small_texts (files_now t)) there.format.0 none there.format.1)
 
     -- at the small files
     given_line : (line text : List ℕ) → line ≡ text → PrintsLine line a.out b.out fault → Given (prints text)
     given_line line text same (inl (e, adds)) = printed_text (prints text) text refl (moved fault None e ends) (subst (λ (x : List ℕ). Adds a.out.written b.out.written x) same adds)
-    given_line line text same (inr (e, rose, front)) = inr (subst (λ (x : List ℕ). AddsFront a.out.written b.out.written x) same front, inl ((moved fault (Some WriteFault) e ends).0, inr (inr rose)))
+    given_line line text same (inr (e, rose, front)) = inr (subst (λ (x : List ℕ). AddsFront a.out.written b.out.written x) same front, inl ((moved fault (Some (Outside Write)) e ends).0, inr (inr rose)))
 
     pub given_youngest : (o : Opened) (h : List Revision) → IsOpened (small_texts (files_now t)) o → last_of h ≡ o.youngest → PrintsLook repos Youngest a b fault → Given (prints (revision_line (last_of h)))
     given_youngest o h is last (inl not) = not_opened (prints (revision_line (last_of h))) o is not
@@ -209,22 +208,22 @@ module _ (status : ℕ) (tool : Tool) (a b : Scene) (err_old err_new : SinkScene
     ended_look : (R : List ℕ → End → Type 0) (path : Path) (reply : Reply) (r : Result (Unit {0}) LookError) → ((text : List ℕ) (end : End) → R text end → Fits tool path reply text end)
         → Writes R a.out.written b.out.written r → IsFaultOf (Rose a.host.disk_faults b.host.disk_faults) (Rose a.out.faults b.out.faults) path r fault → Given reply
     ended_look R path reply (Ok done) fits (text, t, adds) is = printed_text reply text (fits text Whole t) (moved fault None is ends) adds
-    ended_look R path reply (Err (errors.Fault why)) fits (text, t, adds) (said, is, from) =
+    ended_look R path reply (Err (errors.Fault why)) fits (text, t, adds) (said, is, from, d, w) =
         let fit = fits text (Refused why) t in
         let Here : Fault → Type 0 = λ f. Ended (Some f) in
         let now : Here said = moved fault (Some said) is ends in
         ⊎_elim (λ e. refused_line reply (fault_from_look path why) fit.1 (subst Here e now) (subst (λ (x : List ℕ). Adds a.out.written b.out.written x) fit.0 adds))
         (λ e. inr (front_more a.out.written b.out.written text reply.output (front_of path reply text (Refused why) fit) (whole_front a.out.written b.out.written text adds), inr (subst Here e now).0)) (look_or_memory path why said from)
-    ended_look R path reply (Err errors.DiskFault) fits (text, end, t, front) is =
-        inr (front_more a.out.written b.out.written text reply.output (front_of path reply text end (fits text end t)) front, inl ((moved fault (Some (DiskFault Read)) is.1 ends).0, inr (inl is.0)))
-    ended_look R path reply (Err errors.WriteFault) fits (text, end, t, front) is =
-        inr (front_more a.out.written b.out.written text reply.output (front_of path reply text end (fits text end t)) front, inl ((moved fault (Some WriteFault) is.1 ends).0, inr (inr is.0)))
-    ended_look R path reply (Err errors.OutOfMemory) fits (text, end, t, front) is =
-        inr (front_more a.out.written b.out.written text reply.output (front_of path reply text end (fits text end t)) front, inr (moved fault (Some Memory) is ends).0)
+    ended_look R path reply (Err errors.DiskFault) fits (text, end, t, front) (said, is, at, d, w) =
+        inr (front_more a.out.written b.out.written text reply.output (front_of path reply text end (fits text end t)) front, inl ((moved fault (Some (Outside (Disk Read))) (is ∙ ap (λ (f : Fault). Some f) at) ends).0, inr (inl d)))
+    ended_look R path reply (Err errors.WriteFault) fits (text, end, t, front) (said, is, at, d, w) =
+        inr (front_more a.out.written b.out.written text reply.output (front_of path reply text end (fits text end t)) front, inl ((moved fault (Some (Outside Write)) (is ∙ ap (λ (f : Fault). Some f) at) ends).0, inr (inr w)))
+    ended_look R path reply (Err errors.OutOfMemory) fits (text, end, t, front) (said, is, at, d, w) =
+        inr (front_more a.out.written b.out.written text reply.output (front_of path reply text end (fits text end t)) front, inr (moved fault (Some Memory) (is ∙ ap (λ (f : Fault). Some f) at) ends).0)
 
     -- of a history, whose reply is by the revision
     module _ (look : RevisionLook) (h : List Revision) (s : StandsFor (files_now t) h) (reply : Revision → Reply) where
-      given_lacking : (o : Opened) (rev : ℕ) → IsOpened (small_texts (files_now t)) o → LacksRevision look o rev → fault ≡ Some (NoRev rev o.youngest) → b.out ≡ a.out → in_revision reply rev o.youngest None ≡ refuses (line_of tool (NoRev rev o.youngest)) 1
+      given_lacking : (o : Opened) (rev : ℕ) → IsOpened (small_texts (files_now t)) o → LacksRevision look o rev → fault ≡ Some (Request (NoRev rev o.youngest)) → b.out ≡ a.out → in_revision reply rev o.youngest None ≡ refuses (line_of tool (Request (NoRev rev o.youngest))) 1
           → Given (of_revision look.revision h reply)
       given_lacking o rev opens lacks is kept line =
           let last : o.youngest ≡ last_of h = one_youngest (small_texts (files_now t)) o s.opened opens s.small ∙ sym (last_is (files_now t) h s) in
@@ -233,7 +232,7 @@ module _ (status : ℕ) (tool : Tool) (a b : Scene) (err_old err_new : SinkScene
           let none : slice_get h rev ≡ None = slice_get_past h rev above in
           let same : of_revision look.revision h reply ≡ in_revision reply rev o.youngest None =
           ap (λ (a : ℕ). in_revision reply a (last_of h) (slice_get h a)) named ∙ ap (in_revision reply rev (last_of h)) none ∙ ap (λ (y : ℕ). in_revision reply rev y None) (sym last) in
-          refused_line (of_revision look.revision h reply) (NoRev rev o.youngest) (same ∙ line) (moved fault (Some (NoRev rev o.youngest)) is ends) (added_none kept)
+          refused_line (of_revision look.revision h reply) (Request (NoRev rev o.youngest)) (same ∙ line) (moved fault (Some (Request (NoRev rev o.youngest))) is ends) (added_none kept)
 
       given_looked : (o : Opened) → IsOpened (small_texts (files_now t)) o → Looked (Rose a.host.disk_faults b.host.disk_faults) look o (Some (files_now t)) a.out b.out fault
           → ((rev : ℕ) (r : Revision) → rev ≡ asked_revision look.revision h → slice_get h rev ≡ Some r → (text : List ℕ) (end : End) → TextOf look.printed (all_bytes s.opened.layout (files_now t)) rev text end → Fits tool (printed_path look.printed) (reply r) text end)
@@ -255,7 +254,7 @@ module _ (status : ℕ) (tool : Tool) (a b : Scene) (err_old err_new : SinkScene
 
       pub given_look : ((rev : ℕ) (r : Revision) → rev ≡ asked_revision look.revision h → slice_get h rev ≡ Some r → (text : List ℕ) (end : End) → TextOf look.printed (all_bytes s.opened.layout (files_now t)) rev text end
           → Fits tool (printed_path look.printed) (reply r) text end)
-          → ((asked youngest : ℕ) → in_revision reply asked youngest None ≡ refuses (line_of tool (NoRev asked youngest)) 1) → PrintsLook repos (AtRevision look) a b fault → Given (of_revision look.revision h reply)
+          → ((asked youngest : ℕ) → in_revision reply asked youngest None ≡ refuses (line_of tool (Request (NoRev asked youngest))) 1) → PrintsLook repos (AtRevision look) a b fault → Given (of_revision look.revision h reply)
       given_look fits lacking (inl not) = not_opened (of_revision look.revision h reply) s.opened s.small not
       given_look fits lacking (inr (o, opens, into)) =
           let there = subst (λ (x : Option Trace). OpensAs x o) here opens in

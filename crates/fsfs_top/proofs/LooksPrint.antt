@@ -43,10 +43,7 @@ into_writes (Some t) look o rev telling old new r opened tells is le writes =
     (writes (all_bytes o.layout (files_now t)) (λ q below. all.revs q (omega (arith, below, le)), λ q below. all.props q (omega (arith, below, le))))
 
 pub fault_with_cause : (disk write : Type 0) (path : Path) (e : LookError) (fault : Fault) → IsFaultAt path e fault → IfDisk e disk → IfWrite e write → IsFaultOf disk write path (Err e) (Some fault)
-fault_with_cause disk write path (errors.Fault why) fault is d w = (fault, refl, is)
-fault_with_cause disk write path errors.DiskFault fault is d w = (d, ap (λ (f : Fault). Some f) is)
-fault_with_cause disk write path errors.WriteFault fault is d w = (w, ap (λ (f : Fault). Some f) is)
-fault_with_cause disk write path errors.OutOfMemory fault is d w = ap (λ (f : Fault). Some f) is
+fault_with_cause disk write path e fault is d w = (fault, refl, is, d, w)
 
 -- a book's count of faults is that of the disk below it
 pub same_counts : (e : LookError) (before now old new : ℕ) → before ≡ old → now ≡ new → IfDisk e (Rose before now) → IfDisk e (Rose old new)
@@ -54,12 +51,15 @@ same_counts e before now old new p q h = subst (λ (n : ℕ). IfDisk e (Rose n n
 
 -- ---- as the host counts it
 
+counted_disk : (rose disk : Type 0) (e : LookError) → (rose → disk) → IfDisk e rose → IfDisk e disk
+counted_disk rose disk (errors.Fault why) counted h = h
+counted_disk rose disk errors.DiskFault counted h = counted h
+counted_disk rose disk errors.WriteFault counted h = h
+counted_disk rose disk errors.OutOfMemory counted h = h
+
 counted_fault : (rose disk write : Type 0) (path : Path) (r : Result (Unit {0}) LookError) (fault : Option Fault) → (rose → disk) → IsFaultOf rose write path r fault → IsFaultOf disk write path r fault
 counted_fault rose disk write path (Ok done) fault counted is = is
-counted_fault rose disk write path (Err (errors.Fault why)) fault counted is = is
-counted_fault rose disk write path (Err errors.DiskFault) fault counted is = (counted is.0, is.1)
-counted_fault rose disk write path (Err errors.WriteFault) fault counted is = is
-counted_fault rose disk write path (Err errors.OutOfMemory) fault counted is = is
+counted_fault rose disk write path (Err e) fault counted (told, is, at, d, w) = (told, is, at, counted_disk rose disk e counted d, w)
 
 counted_look : (rose disk : Type 0) (look : Look) (o : Opened) (files : Option Files) (old new : SinkScene) (fault : Option Fault) → (rose → disk) → LooksInto rose look o files old new fault → LooksInto disk look o files old new fault
 counted_look rose disk Youngest o files old new fault counted into = into

@@ -6,7 +6,7 @@ use Rattle.fsfs_base.specs.Files.{Files}
 use Rattle.fsfs_disk.specs.Trace.{files_now}
 use Rattle.fsfs_faults.specs.Lines.{status_of}
 use Rattle.fsfs_faults.specs.declared.fault.Fault.{Fault}
-use Rattle.fsfs_faults.specs.declared.fault.Fault.TheVariants.{Usage, BadPath, NotFound, NotDir, NotFile, NoRev, AlreadyRepo, NotRepo, OtherFormat, Linear, Small, Corrupt, Delta, MountFault, DiskFault, WriteFault, Memory}
+use Rattle.fsfs_faults.specs.declared.fault.Fault.TheVariants.{Words, Request, Repository, Outside, Memory}
 use Rattle.fsfs_answers.specs.Answers.{new_history}
 use Rattle.fsfs_layout.specs.CreatedFiles.{created_over, random_identifier}
 use Rattle.fsfs_stands.specs.Files.{StandsFor}
@@ -28,22 +28,10 @@ made_of f (Some was) m e = (was, cc)
 
 -- a fault has a status
 pub no_zero : (fault : Fault) → status_of fault ≡ 0 → ⊥
-no_zero Usage e = omega arith
-no_zero (BadPath bad) e = omega arith
-no_zero (NotFound path) e = omega arith
-no_zero (NotDir path) e = omega arith
-no_zero (NotFile path) e = omega arith
-no_zero (NoRev asked youngest) e = omega arith
-no_zero AlreadyRepo e = omega arith
-no_zero NotRepo e = omega arith
-no_zero (OtherFormat number) e = omega arith
-no_zero Linear e = omega arith
-no_zero (Small small) e = omega arith
-no_zero (Corrupt damage) e = omega arith
-no_zero (Delta at) e = omega arith
-no_zero MountFault e = omega arith
-no_zero (DiskFault place) e = omega arith
-no_zero WriteFault e = omega arith
+no_zero (Words why) e = omega arith
+no_zero (Request why) e = omega arith
+no_zero (Repository why) e = omega arith
+no_zero (Outside why) e = omega arith
 no_zero Memory e = omega arith
 
 no_fault : (fault : Fault) → ◌≡◌ {A = Option Fault} None (Some fault) → ⊥

@@ -31,7 +31,7 @@ module _ (clock : Option ℕ) (dice : Option (List ℕ)) (a b : Scene) (fault : 
   starved : (repos : List ℕ) (task : Task) → fault ≡ Some Memory → b ≡ a → Does repos task clock dice a b fault
   starved repos (Create shard) is kept = (inr (inl (create.Memory, is, (some_draw clock dice, ap (λ (s : Scene). s.host.disk_at repos) kept))), ap (λ (s : Scene). s.out) kept)
   starved repos (Look look) is kept =
-      (inl (inr (opening.Memory, is, tt, unopened (a.host.disk_at repos), ap (λ (s : Scene). s.out) kept)), subst (LookIsDecided look (a.host.disk_at repos)) (sym is) (look_outside look (a.host.disk_at repos) Memory (inr (inr (inr refl)))))
+      (inl (inr (opening.Memory, is, tt, unopened (a.host.disk_at repos), ap (λ (s : Scene). s.out) kept)), subst (LookIsDecided look (a.host.disk_at repos)) (sym is) (look_outside look (a.host.disk_at repos) Memory tt))
 
   pub task_done : (tool : Tool) (words : List (List ℕ)) (repos : List ℕ) (task : Task) → Did tool words clock dice a b fault → Asks tool words repos task → Does repos task clock dice a b fault
   task_done tool words repos task (inl (r, t, asks, does)) also =

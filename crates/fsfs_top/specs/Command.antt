@@ -8,7 +8,8 @@ use Rattle.fsfs_streams.specs.Output.{AddsFront}
 use Rattle.fsfs_faults.specs.Faults.{fault_from_create, fault_from_words}
 use Rattle.fsfs_faults.specs.Lines.{line_of, status_of}
 use Rattle.fsfs_faults.specs.declared.fault.Fault.{Fault}
-use Rattle.fsfs_faults.specs.declared.fault.Fault.TheVariants.{MountFault}
+use Rattle.fsfs_faults.specs.declared.fault.Fault.TheVariants.{Outside}
+use Rattle.fsfs_faults.specs.declared.outside_fault.OutsideFault.TheVariants.{Mount}
 use Rattle.fsfs_layout.specs.CreatedFiles.{identifier_text, random_identifier}
 use Rattle.fsfs_create.specs.Creation.{CreateFails, IsCreated, IsNoneOrWhole, IsNoRepository}
 use Rattle.fsfs_places.specs.declared.create_fault.CreateFault.{CreateFault}
@@ -37,7 +38,7 @@ identifier_of clock dice d = identifier_text (random_identifier d.bits)
 -- what a creation did to the disk of its path, by its fault or none
 abbrev pub Created : List ℕ → ℕ → Option ℕ → Option (List ℕ) → HostScene → HostScene → Option Fault → Type 0
 Created repos shard clock dice a b fault =
-    ((fault ≡ Some MountFault) × Rose a.mount_faults b.mount_faults × (b.disk_at repos ≡ a.disk_at repos))
+    ((fault ≡ Some (Outside Mount)) × Rose a.mount_faults b.mount_faults × (b.disk_at repos ≡ a.disk_at repos))
     ⊎ (((why : CreateFault) × (fault ≡ Some (fault_from_create why)) × ((d : Drawn clock dice) × CreateFails (Rose a.disk_faults b.disk_faults) shard (identifier_of clock dice d) d.moment (a.disk_at repos) (b.disk_at repos) why))
     ⊎ ((fault ≡ None) × IsNoRepository (a.disk_at repos) × ((d : Drawn clock dice) × IsCreated shard (identifier_of clock dice d) d.moment (a.disk_at repos) (b.disk_at repos))))
 

@@ -9,9 +9,12 @@ use Rattle.fsfs_streams.specs.Streams.{Adds}
 use Rattle.fsfs_streams.specs.Output.{AddsFront}
 use Rattle.fsfs_faults.specs.Faults.{fault_from_open, fault_from_look, IsFromLook}
 use Rattle.fsfs_faults.specs.declared.fault.Fault.{Fault}
-use Rattle.fsfs_faults.specs.declared.fault.Fault.TheVariants.{NotRepo, OtherFormat, Linear, NoRev, MountFault, DiskFault, WriteFault, Memory}
+use Rattle.fsfs_faults.specs.declared.fault.Fault.TheVariants.{Request, Repository, Outside, Memory}
+use Rattle.fsfs_faults.specs.declared.request_fault.RequestFault.TheVariants.{NotRepo, NoRev}
+use Rattle.fsfs_faults.specs.declared.repository_fault.RepositoryFault.TheVariants.{OtherFormat, Linear}
+use Rattle.fsfs_faults.specs.declared.outside_fault.OutsideFault.TheVariants.{Mount, Disk, Write}
 use Rattle.fsfs_rev_file.specs.RevBytes.{rev_bytes, props_bytes}
-use Rattle.fsfs_look.specs.Written.{Writes}
+use Rattle.fsfs_look.specs.Written.{Writes, IfDisk, IfWrite}
 use Rattle.fsfs_look.specs.declared.look_error.LookError.{LookError}
 use Rattle.fsfs_look.specs.declared.look_error.LookError.TheVariants as errors
 use Rattle.fsfs_layout.specs.Opening.{small_texts, IsOpened, IsNone, HasFormat, IsLinear}
@@ -20,7 +23,6 @@ use Rattle.fsfs_repo.specs.Deciding.{IsOutside as IsOpenOutside}
 use Rattle.fsfs_layout.specs.declared.layout.Layout.{Layout}
 use Rattle.fsfs_layout.specs.declared.opened.Opened.{Opened}
 use Rattle.fsfs_places.specs.declared.open_fault.OpenFault.{OpenFault}
-use Rattle.fsfs_places.specs.declared.place.DiskPlace.{DiskPlace}
 use Rattle.fsfs_places.specs.declared.place.DiskPlace.TheVariants.{Read}
 use Rattle.fsfs_printed.specs.Texts.{End, Whole, Refused}
 use Rattle.fsfs_printed.specs.TreeTexts.{TreeText}
@@ -48,7 +50,7 @@ DoesNotOpen told why = IfSome told (λ t. (o : Opened) → IsOpened (small_texts
 -- nothing was printed, since the path was not mounted or the repository there not opened
 abbrev pub NotOpened : List ℕ → Scene → Scene → Option Fault → Type 0
 NotOpened repos a b fault =
-    ((fault ≡ Some MountFault) × Rose a.host.mount_faults b.host.mount_faults × (b.out ≡ a.out))
+    ((fault ≡ Some (Outside Mount)) × Rose a.host.mount_faults b.host.mount_faults × (b.out ≡ a.out))
     ⊎ ((why : OpenFault) × (fault ≡ Some (fault_from_open why)) × OpensBecause (Rose a.host.disk_faults b.host.disk_faults) (a.host.disk_at repos) why × DoesNotOpen (a.host.disk_at repos) why × (b.out ≡ a.out))
 
 -- ---- a look at the small files
@@ -63,7 +65,7 @@ uuid_line identifier = identifier ++ 10 ∷ []
 
 -- a line was printed, or where the output failed a first part of it
 abbrev pub PrintsLine : List ℕ → SinkScene → SinkScene → Option Fault → Type 0
-PrintsLine line old new fault = ((fault ≡ None) × Adds old.written new.written line) ⊎ ((fault ≡ Some WriteFault) × Rose old.faults new.faults × AddsFront old.written new.written line)
+PrintsLine line old new fault = ((fault ≡ None) × Adds old.written new.written line) ⊎ ((fault ≡ Some (Outside Write)) × Rose old.faults new.faults × AddsFront old.written new.written line)
 
 -- ---- a look at a revision
 
@@ -107,17 +109,14 @@ pub record LacksRevision (look : RevisionLook) (o : Opened) (rev : ℕ) : Type 0
 -- the fault of a look at this path that failed so; want of memory may come where a path is made for it
 abbrev pub IsFaultAt : Path → LookError → Fault → Type 0
 IsFaultAt path (errors.Fault why) fault = IsFromLook path why fault
-IsFaultAt path errors.DiskFault fault = fault ≡ DiskFault Read
-IsFaultAt path errors.WriteFault fault = fault ≡ WriteFault
+IsFaultAt path errors.DiskFault fault = fault ≡ Outside (Disk Read)
+IsFaultAt path errors.WriteFault fault = fault ≡ Outside Write
 IsFaultAt path errors.OutOfMemory fault = fault ≡ Memory
 
 -- the same with its cause, that a count of faults rose; none of a look that was done
 abbrev pub IsFaultOf : Type 0 → Type 0 → Path → Result (Unit {0}) LookError → Option Fault → Type 0
 IsFaultOf disk write path (Ok done) fault = fault ≡ None
-IsFaultOf disk write path (Err (errors.Fault why)) fault = (told : Fault) × (fault ≡ Some told) × IsFromLook path why told
-IsFaultOf disk write path (Err errors.DiskFault) fault = disk × (fault ≡ Some (DiskFault Read))
-IsFaultOf disk write path (Err errors.WriteFault) fault = write × (fault ≡ Some WriteFault)
-IsFaultOf disk write path (Err errors.OutOfMemory) fault = fault ≡ Some Memory
+IsFaultOf disk write path (Err error) fault = (told : Fault) × (fault ≡ Some told) × IsFaultAt path error told × IfDisk error disk × IfWrite error write
 
 -- A revision of an opened repository was looked at: the whole text was printed, or all before what is refused; or where the look failed a first part.
 -- `disk` says that the count of the disk's faults rose.
@@ -134,7 +133,7 @@ abbrev pub LooksInto : Type 0 → Look → Opened → Option Files → SinkScene
 LooksInto disk Youngest o files old new fault = PrintsLine (revision_line o.youngest) old new fault
 LooksInto disk Uuid o files old new fault = PrintsLine (uuid_line o.uuid) old new fault
 LooksInto disk (AtRevision look) o files old new fault =
-    ((rev : ℕ) × LacksRevision look o rev × (fault ≡ Some (NoRev rev o.youngest)) × (new ≡ old)) ⊎ Looked disk look o files old new fault
+    ((rev : ℕ) × LacksRevision look o rev × (fault ≡ Some (Request (NoRev rev o.youngest))) × (new ≡ old)) ⊎ Looked disk look o files old new fault
 
 -- what a look at the repository at a path printed
 abbrev pub PrintsLook : List ℕ → Look → Scene → Scene → Option Fault → Type 0
@@ -146,7 +145,9 @@ PrintsLook repos look a b fault =
 
 -- a failure of the outside, or want of memory
 abbrev pub IsOutside : Fault → Type 0
-IsOutside fault = (fault ≡ MountFault) ⊎ (((place : DiskPlace) × (fault ≡ DiskFault place)) ⊎ ((fault ≡ WriteFault) ⊎ (fault ≡ Memory)))
+IsOutside (Outside why) = Unit {0}
+IsOutside Memory = Unit {0}
+IsOutside fault = ⊥
 
 -- what is answered is what is decided, unless the outside failed
 abbrev pub Agrees : Option Fault → Option Fault → Type 0
@@ -155,7 +156,7 @@ Agrees decided (Some fault) = (decided ≡ Some fault) ⊎ IsOutside fault
 
 -- a look at a revision is answered wherever the bytes give a text; it is refused for what is wrong with them
 pub record DecidesRevision (look : RevisionLook) (o : Opened) (files : Files) (fault : Option Fault) : Type 0 where
-  pub lacking : (rev : ℕ) → LacksRevision look o rev → Agrees (Some (NoRev rev o.youngest)) fault
+  pub lacking : (rev : ℕ) → LacksRevision look o rev → Agrees (Some (Request (NoRev rev o.youngest))) fault
   pub whole : (text : List ℕ) → looked_revision look o ≤ o.youngest → TextIn look o files text Whole → Agrees None fault
   pub refused : (text : List ℕ) (why : LookFault) → looked_revision look o ≤ o.youngest → TextIn look o files text (Refused why) → Agrees (Some (fault_from_look (printed_path look.printed) why)) fault
 
@@ -167,9 +168,9 @@ DecidesOpened (AtRevision look) o files fault = DecidesRevision look o files fau
 
 -- each refusal of an opening comes wherever its cause is there; what is left is Small
 pub record DecidesLook (look : Look) (files : Files) (fault : Option Fault) : Type 0 where
-  pub none : IsNone (small_texts files) → Agrees (Some NotRepo) fault
-  pub other : (number : ℕ) → HasFormat (small_texts files) number → Agrees (Some (OtherFormat number)) fault
-  pub linear : IsLinear (small_texts files) → Agrees (Some Linear) fault
+  pub none : IsNone (small_texts files) → Agrees (Some (Request NotRepo)) fault
+  pub other : (number : ℕ) → HasFormat (small_texts files) number → Agrees (Some (Repository (OtherFormat number))) fault
+  pub linear : IsLinear (small_texts files) → Agrees (Some (Repository Linear)) fault
   pub opened : (o : Opened) → IsOpened (small_texts files) o → DecidesOpened look o files fault
 
 abbrev pub LookIsDecided : Look → Option Trace → Option Fault → Type 0

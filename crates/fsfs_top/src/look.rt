@@ -4,7 +4,8 @@ ghost use Rattle.fsfs_book.specs.Told.{Keeps};
 ghost use Rattle.fsfs_base.specs.Failures.{Rose};
 ghost use Rattle.fsfs_disk.specs.Trace.{files_now};
 ghost use Rattle.fsfs_faults.specs.Faults.{IsFromLook};
-ghost use Rattle.fsfs_faults.specs.declared.fault.Fault.TheVariants as faults;
+ghost use Rattle.fsfs_faults.specs.declared.fault.Fault.TheVariants.{Request};
+ghost use Rattle.fsfs_faults.specs.declared.request_fault.RequestFault.TheVariants.{NoRev};
 ghost use Rattle.fsfs_look.specs.Written.{Writes, HasDiskCause, HasSinkCause};
 ghost use Rattle.fsfs_layout.specs.Opening.{small_texts, IsOpened};
 ghost use Rattle.fsfs_top.specs.Command.{fault_of};
@@ -19,7 +20,7 @@ use fsfs_book::Book;
 use fsfs_changed_look::changed_text;
 use fsfs_cli::{Look, Printed, RevisionLook};
 use fsfs_disk::{Disk, Host};
-use fsfs_faults::Fault;
+use fsfs_faults::{Fault, OutsideFault, RequestFault};
 use fsfs_fetch::{disk_of, over_disk};
 use fsfs_history_look::history_text;
 use fsfs_layout::Opened;
@@ -45,16 +46,16 @@ fn up_to(youngest: RevNum, number: u64) -> Option<RevNum>
 // The revision that is looked at.
 fn revision_of(look: &RevisionLook, opened: &Opened) -> Result<RevNum, Fault>
     ensures found { IfOk result (λ rev. (rev ≡ looked_revision look.now opened.now) × (rev ≤ opened.now.youngest)) }
-    ensures lacking { IfErr result (λ fault. (rev : ℕ) × LacksRevision look.now opened.now rev × (fault ≡ faults.NoRev rev opened.now.youngest)) }
+    ensures lacking { IfErr result (λ fault. (rev : ℕ) × LacksRevision look.now opened.now rev × (fault ≡ Request (NoRev rev opened.now.youngest))) }
 {
     match look.revision {
         None => Ok(opened.youngest),
         Some(asked) => match up_to(opened.youngest, asked) {
             Some(rev) => Ok(rev),
-            None => Err(Fault::NoRev {
+            None => Err(Fault::Request(RequestFault::NoRev {
                 asked,
                 youngest: opened.youngest,
-            }),
+            })),
         },
     }
 }
@@ -100,8 +101,8 @@ fn fault_at(alloc: Global, printed: &Printed, error: LookError) -> Fault
 {
     match error {
         LookError::OutOfMemory => Fault::Memory,
-        LookError::DiskFault => Fault::DiskFault(DiskPlace::Read),
-        LookError::WriteFault => Fault::WriteFault,
+        LookError::DiskFault => Fault::Outside(OutsideFault::Disk(DiskPlace::Read)),
+        LookError::WriteFault => Fault::Outside(OutsideFault::Write),
         LookError::Fault(fault) => fault_below(alloc, printed.path(), fault),
     }
 }
@@ -175,7 +176,7 @@ pub(crate) fn look_at<H: Host, O: Sink>(
 {
     let mut disk = match host.mount(repos, false) {
         Ok(disk) => disk,
-        Err(_) => return Err(Fault::MountFault),
+        Err(_) => return Err(Fault::Outside(OutsideFault::Mount)),
     };
     match open(alloc, &mut disk) {
         Ok(opened) => {

@@ -7,7 +7,7 @@ ghost use Rattle.fsfs_top.specs.Scenes.{SinkScene};
 
 use arrayvec::ArrayString;
 use fsfs_base::{Failed, RevNum};
-use fsfs_faults::Fault;
+use fsfs_faults::{Fault, OutsideFault};
 use fsfs_layout::Uuid;
 use fsfs_streams::{Sink, print};
 use itoa::Buffer;
@@ -36,6 +36,6 @@ pub(crate) fn line_fault(printed: Result<(), Failed>) -> Result<(), Fault>
 {
     match printed {
         Ok(()) => Ok(()),
-        Err(_) => Err(Fault::WriteFault),
+        Err(_) => Err(Fault::Outside(OutsideFault::Write)),
     }
 }

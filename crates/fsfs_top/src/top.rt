@@ -14,7 +14,7 @@ use crate::look::look_at;
 use fsfs_cli::{Task, Tool, read_words};
 use fsfs_create::create;
 use fsfs_disk::Host;
-use fsfs_faults::{Fault, print_fault, status};
+use fsfs_faults::{Fault, OutsideFault, print_fault, status};
 use fsfs_layout::Layout;
 use fsfs_streams::{Clock, Dice, Gate, Sink, Source};
 use std::alloc::Global;
@@ -39,7 +39,7 @@ fn create_at<H: Host, C: Clock, R: Dice>(
 {
     let mut disk = match host.mount(repos, true) {
         Ok(disk) => disk,
-        Err(_) => return Err(Fault::MountFault),
+        Err(_) => return Err(Fault::Outside(OutsideFault::Mount)),
     };
     let moment = clock.micros();
     let identifier = Builder::from_random_bytes(dice.bytes16()).into_uuid();

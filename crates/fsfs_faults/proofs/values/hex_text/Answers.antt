@@ -1,7 +1,7 @@
 use Rattle.std.proofs.Common.{lit<, length-append, ◌∷◌, ◌++◌, [], ℕ, List, length, sym, ap, ◌∙◌, arith}
 use Rattle.std.proofs.lemmas.Str.{encode_ascii}
 use Rattle.fsfs_faults.proofs.HexLemmas.{hex_none, hex_size, digits_more}
-use Rattle.fsfs_faults.proofs.line.hex_text.Goals as goal
+use Rattle.fsfs_faults.proofs.values.hex_text.Goals as goal
 
 pub loop-byte-init : goal.loop-byte-init
 loop-byte-init c = c.push_str.ensures.bytes ∙ ap (λ (t : List ℕ). t ++ 32 ∷ []) c.new-text.ensures ∙ ap (λ (t : List ℕ). 32 ∷ t) (sym hex_none)

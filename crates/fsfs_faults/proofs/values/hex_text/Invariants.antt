@@ -1,6 +1,6 @@
 use Rattle.std.proofs.Common.{◌≡◌, ◌∷◌, take}
 use Rattle.hex.specs.Hex.{encode_lower}
-use Rattle.fsfs_faults.proofs.line.hex_text.Given as goal
+use Rattle.fsfs_faults.proofs.values.hex_text.Given as goal
 
 -- the bytes so far were put behind the space
 abbrev pub invariant-loop-byte : goal.invariant-loop-byte
