@@ -2,13 +2,23 @@
 use Rattle.std.proofs.Common.{◌≡◌, ◌≤◌, true, [], ◌∷◌, ◌++◌, length, drop, refl, sym, ◌∙◌, ap, subst, inl, inr, ◌⊎◌, arith}
 use Rattle.std.proofs.lemmas.Bool.{and_from, and_parts, false≢true}
 use Rattle.std.specs.Cmp.Lexicographic.{nat_list_eq_equiv, bytes_decides}
-use Rattle.fsfs_base.specs.Paths.{Path, PathName, same_name, covers}
+use Rattle.fsfs_base.specs.Paths.{Path, PathName, same_name, same_path, covers}
 
 pub same_name-refl : (x : PathName) → same_name x x ≡ true
 same_name-refl x = nat_list_eq_equiv.refl x
 
 pub same_name-is : (x y : PathName) → same_name x y ≡ true → x ≡ y
 same_name-is x y h = (bytes_decides x y).0 h
+
+pub same_path-is : (q p : Path) → same_path q p ≡ true → q ≡ p
+same_path-is [] [] h = refl
+same_path-is [] (y ∷ p) h = absurd (false≢true h)
+same_path-is (x ∷ q) [] h = absurd (false≢true h)
+same_path-is (x ∷ q) (y ∷ p) h = λ i. same_name-is x y (and_parts _ _ h).0 i ∷ same_path-is q p (and_parts _ _ h).1 i
+
+pub same_path-refl : (p : Path) → same_path p p ≡ true
+same_path-refl [] = refl
+same_path-refl (x ∷ p) = and_from _ _ (same_name-refl x) (same_path-refl p)
 
 pub covers-refl : (p : Path) → covers p p ≡ true
 covers-refl [] = refl

@@ -64,6 +64,15 @@ impl Pairs {
     }
 }
 
+/// The entries of a map.
+impl From<BTreeMap<Vec<u8>, Vec<u8>>> for Pairs {
+    ghost from_gives = { λ entries pairs. pairs ≡ map (λ p. (p.0.items, p.1.items)) entries.entries };
+
+    fn from(entries: BTreeMap<Vec<u8>, Vec<u8>>) -> Pairs {
+        Pairs { pairs: entries }
+    }
+}
+
 impl Clone for Pairs {
     ghost is_clone = { λ s t. t ≡ s };
 

@@ -4,3 +4,4 @@ pub mod ItemTexts
 pub mod ItemLists
 pub mod PathSets
 pub mod Writes
+pub mod Rising

@@ -15,6 +15,7 @@ use fsfs_base::{FsPath, PathError, RevNum};
 use fsfs_grammar::cuts::cut_at;
 use fsfs_noderev::CopySource;
 use std::alloc::{AllocError, Global};
+use std::cmp::Ordering;
 use std::collections::BTreeSet;
 
 /// An item, its path as text, and the bytes behind it.
@@ -149,11 +150,45 @@ pub fn read_changes(alloc: Global, bytes: &[u8]) -> Result<Vec<ChangeItem>, Chan
     Ok(items)
 }
 
-/// The items of a revision's changed-path data, in the order of the data, which stands between the changes offset and the
-/// trailer of the revision's bytes: each path comes once.
-///
-/// The first item that isn't in its form, or whose path an earlier one has, is refused, where it begins.
-pub fn read_revision_changes(alloc: Global, bytes: &[u8]) -> Result<Vec<ChangeItem>, ChangeError>
+// A revision's items whose paths rise, each by its text above the one before it; none where one doesn't. So a set of the paths
+// is wanted only by data in another order.
+fn read_rising(alloc: Global, bytes: &[u8]) -> Result<Option<Vec<ChangeItem>>, ChangeError>
+    ensures found { IfOk result (λ o. IfSome o (λ v. AreRevisionChanges bytes.now v.items)) }
+    ensures only { (items : List ChangeItem) → AreRevisionChanges bytes.now items → MatchResult result (λ o. IfSome o (λ v. v.items ≡ items)) IsOutOfMemory }
+    ensures fault { IfErr result (IsExact HasNewPath bytes.now) }
+{
+    let mut items = Vec::new(alloc);
+    let mut last: &[u8] = b"";
+    let mut rest = bytes;
+    'data: while !rest.is_empty() {
+        match next_item(alloc, rest)? {
+            None => {
+                return Err(ChangeError::Fault(ChangeFault {
+                    at: bytes.len() - rest.len(),
+                }));
+            }
+            Some(
+                Next {
+                    item,
+                    path,
+                    rest: after,
+                },
+            ) => {
+                match last.cmp(path) {
+                    Ordering::Less => {}
+                    Ordering::Equal | Ordering::Greater => return Ok(None),
+                }
+                items.push(item)?;
+                last = path;
+                rest = after;
+            }
+        }
+    }
+    Ok(Some(items))
+}
+
+// A revision's items in any order, by a set of their paths.
+fn read_in_any_order(alloc: Global, bytes: &[u8]) -> Result<Vec<ChangeItem>, ChangeError>
     ensures found { IfOk result (λ v. AreRevisionChanges bytes.now v.items) }
     ensures only { (items : List ChangeItem) → AreRevisionChanges bytes.now items → MatchResult result (λ v. v.items ≡ items) IsOutOfMemory }
     ensures fault { IfErr result (IsExact HasNewPath bytes.now) }
@@ -186,4 +221,19 @@ pub fn read_revision_changes(alloc: Global, bytes: &[u8]) -> Result<Vec<ChangeIt
         }
     }
     Ok(items)
+}
+
+/// The items of a revision's changed-path data, in the order of the data, which stands between the changes offset and the
+/// trailer of the revision's bytes: each path comes once.
+///
+/// The first item that isn't in its form, or whose path an earlier one has, is refused, where it begins.
+pub fn read_revision_changes(alloc: Global, bytes: &[u8]) -> Result<Vec<ChangeItem>, ChangeError>
+    ensures found { IfOk result (λ v. AreRevisionChanges bytes.now v.items) }
+    ensures only { (items : List ChangeItem) → AreRevisionChanges bytes.now items → MatchResult result (λ v. v.items ≡ items) IsOutOfMemory }
+    ensures fault { IfErr result (IsExact HasNewPath bytes.now) }
+{
+    match read_rising(alloc, bytes)? {
+        Some(items) => Ok(items),
+        None => read_in_any_order(alloc, bytes),
+    }
 }

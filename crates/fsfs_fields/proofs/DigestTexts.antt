@@ -1,15 +1,16 @@
 -- Hexadecimal digits in lower case read and written back are the same.
-use Rattle.std.proofs.Common.{◌≡◌, ℕ, zero, suc, ◌+◌, ◌*◌, ◌/◌, ◌%◌, ◌<◌, Bool, true, false, ◌&&◌, eqb, ltb, cond, List, [], ◌∷◌, length, slice_index, Option, Some, None, Result, Ok, Err, refl, sym, ap, subst, ◌∙◌, arith, inl, inr}
+use Rattle.std.proofs.Common.{◌≡◌, ℕ, zero, suc, ◌+◌, ◌*◌, ◌/◌, ◌%◌, ◌<◌, Bool, true, false, ◌&&◌, eqb, ltb, cond, List, [], ◌∷◌, length, drop, ◌≤◌, slice_index, Option, Some, None, Result, Ok, Err, refl, sym, ap, subst, ◌∙◌, arith, inl, inr}
 use Rattle.std.proofs.lemmas.Bool.{and_parts, eqb-true, cases_lt, or_parts}
 use Rattle.std.proofs.lemmas.Bool.Decides.{nat_tests}
-use Rattle.std.specs.List.{list_any}
-use Rattle.std.specs.Prelude.{MatchResult}
+use Rattle.std.proofs.lemmas.List.{drop_more, drop_all}
+use Rattle.std.specs.List.{list_any, list_all}
 use Rattle.hex.specs.Hex.{IsBytes, decode_pairs, decode_sized, hex_digit_value, value_at, pair_value, digit_or_error, encode_lower, encode_with, lower_digits, ◌>>=◌}
 use Rattle.hex.specs.declared.error.FromHexError.{FromHexError}
 use Rattle.hex.specs.declared.error.FromHexError.TheVariants.{OddLength, InvalidStringLength}
-use Rattle.hex.proofs.HexLemmas.{decode_sized-encode_lower}
+use Rattle.hex.proofs.HexLemmas.{decode_sized-encode_lower, length-encode_with}
+use Rattle.hex.proofs.Pairs.{decode_sized-pairs}
 use Rattle.fsfs_grammar.proofs.Readers.{chosen}
-use Rattle.fsfs_fields.specs.Digests.{is_capital, IsDigestText}
+use Rattle.fsfs_fields.specs.Digests.{is_capital, is_lower_digit, IsDigestText}
 
 -- ---- the table of digits
 
@@ -106,21 +107,58 @@ written_small (b ∷ bytes) is =
     let fits : b < 256 = is 0 in
     rw (lower_small (b / 16) (omega (arith, fits)), lower_small (b % 16) (omega arith)) (written_small bytes (λ k. is (suc k)))
 
+digit_not_capital : (c : ℕ) → is_lower_digit c ≡ true → is_capital c ≡ false
+digit_not_capital c e = grind (arith, nat_tests)
+
+no_capital : (text : List ℕ) → list_all is_lower_digit text ≡ true → list_any is_capital text ≡ false
+no_capital [] e = refl
+no_capital (c ∷ text) e =
+    let parts = and_parts (is_lower_digit c) (list_all is_lower_digit text) e in
+    rw (digit_not_capital c parts.0, no_capital text parts.1) refl
+
+-- one byte more is tested
+pub all_more : (all whole : Bool) (text : List ℕ) (i : ℕ) → i < length text → (all && list_all is_lower_digit (drop i text)) ≡ whole → ((all && is_lower_digit (slice_index text i)) && list_all is_lower_digit (drop (i + 1) text)) ≡ whole
+all_more all whole text i lt e = regroup all (is_lower_digit (slice_index text i)) (list_all is_lower_digit (drop (i + 1) text)) ∙ ap (λ (t : List ℕ). all && list_all is_lower_digit t) (sym (drop_more text i 0 lt)) ∙ e
+  where
+    regroup : (a b c : Bool) → ((a && b) && c) ≡ (a && (b && c))
+    regroup true b c = refl
+    regroup false b c = refl
+
+-- each byte is tested
+pub all_tested : (all whole : Bool) (text : List ℕ) (i : ℕ) → length text ≤ i → (all && list_all is_lower_digit (drop i text)) ≡ whole → all ≡ whole
+all_tested all whole text i le e = last all ∙ ap (λ (t : List ℕ). all && list_all is_lower_digit t) (sym (drop_all i text le)) ∙ e
+  where
+    last : (a : Bool) → a ≡ (a && true)
+    last true = refl
+    last false = refl
+
+pub digits_found : (n : ℕ) (text bytes : List ℕ) → length text % 2 ≡ 0 → length text / 2 ≡ n → list_all is_lower_digit text ≡ true → decode_pairs 0 text ≡ Ok bytes → IsDigestText n text bytes
+digits_found n text bytes even half digits e = digest_found n text bytes (no_capital text digits) (decode_sized-pairs text n even half ∙ e)
+
+lower_digit : (v : ℕ) → v < 16 → is_lower_digit (slice_index lower_digits v) ≡ true
+lower_digit v lt = ap is_lower_digit (lower_at v lt) ∙ grind (arith, nat_tests)
+
+written_digits : (bytes : List ℕ) → IsBytes bytes → list_all is_lower_digit (encode_lower bytes) ≡ true
+unfolding encode_with
+written_digits [] is = refl
+written_digits (b ∷ bytes) is =
+    let fits : b < 256 = is 0 in
+    rw (lower_digit (b / 16) (omega (arith, fits)), lower_digit (b % 16) (omega arith)) (written_digits bytes (λ k. is (suc k)))
+
+-- the text of a digest has twice its length, and digits alone
+pub digits_again : (n : ℕ) (text bytes : List ℕ) → IsDigestText n text bytes → (length text ≡ 2 * n) × (list_all is_lower_digit text ≡ true)
+digits_again n text bytes w = rw w.text_is (length-encode_with lower_digits bytes ∙ ap (λ (k : ℕ). 2 * k) w.size, written_digits bytes w.bytes_are)
+
+pub not_both : (b : Bool) → b ≡ false → b ≡ true → ⊥
+not_both b is_false is_true = let e = sym is_false ∙ is_true in absurd cc
+
+pub pair_read : (a b i x y : ℕ) → value_at a i ≡ Ok x → value_at b (i + 1) ≡ Ok y → pair_value a b i ≡ Ok (x * 16 + y)
+pair_read a b i x y first second = rw (first, second) refl
+
 pub digest_again : (n : ℕ) (text bytes : List ℕ) → IsDigestText n text bytes → (list_any is_capital text ≡ false) × (decode_sized text n ≡ Ok bytes)
 digest_again n text bytes w = rw w.text_is (written_small bytes w.bytes_are, decode_sized-encode_lower bytes n w.size w.bytes_are)
 
--- ---- what the library's call answers
-
-abbrev Answers : Result (List ℕ) FromHexError → Result (Unit {0}) FromHexError → List ℕ → Type 0
-Answers read answer out = MatchResult read (λ bytes. (answer ≡ Ok tt) × (out ≡ bytes)) (λ e. answer ≡ Err e)
-
-pub answered_ok : (read : Result (List ℕ) FromHexError) (x : Unit {0}) (out : List ℕ) → Answers read (Ok x) out → read ≡ Ok out
-answered_ok (Ok bytes) x out w = ap (λ (b : List ℕ). Ok b) (sym w.1)
-answered_ok (Err e) x out w = absurd cc
-
-pub answered_err : (read : Result (List ℕ) FromHexError) (e : FromHexError) (out bytes : List ℕ) → Answers read (Err e) out → read ≡ Ok bytes → ⊥
-answered_err (Ok b) e out bytes w is = let no = w.0 in cc
-answered_err (Err d) e out bytes w is = cc
+-- ---- one answer
 
 pub ok_same : (x y : List ℕ) (read : Result (List ℕ) FromHexError) → read ≡ Ok x → read ≡ Ok y → x ≡ y
 ok_same x y read a b = let e = sym a ∙ b in cc

@@ -1,6 +1,6 @@
 -- A text cut in two at a byte.
-use Rattle.std.specs.Prelude.{◌≡◌, ℕ, List, [], ◌∷◌, ◌++◌, Option, Some, None, ◌==◌, if◌then◌else◌, false}
-use Rattle.std.specs.List.{AllByRecursion}
+use Rattle.std.specs.Prelude.{◌≡◌, ℕ, List, [], ◌∷◌, ◌++◌, Option, Some, None, ◌==◌, not, if◌then◌else◌, false}
+use Rattle.std.specs.List.{AllByRecursion, prefix_len}
 
 -- no byte of the text is c
 abbrev pub Lacks : ℕ → List ℕ → Type 0
@@ -26,3 +26,7 @@ and_then (Some x) f = f x
 -- both parts of a text that is cut at c
 abbrev pub parts_at : {X Y : Type 0} → ℕ → (List ℕ → Option X) → (List ℕ → Option Y) → List ℕ → Option (X × Y)
 parts_at c r s text = and_then (cut c text) (λ p. and_then (r p.0) (λ x. and_then (s p.1) (λ y. Some (x, y))))
+
+-- how many bytes stand before the first c
+abbrev pub before : ℕ → List ℕ → ℕ
+before c text = prefix_len (λ b. not (b == c)) text

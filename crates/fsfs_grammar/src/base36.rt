@@ -86,20 +86,19 @@ fn plain_b36(text: &[u8]) -> Option<u128>
 }
 
 #[tactic(auto, unfolding(crate::specs::Numeral::plain_at))]
-fn plain_b36_rest(number: u128, text: &[u8]) -> Option<u128>
-    ensures { result ≡ plain_at 36 170581728179578208255 number text.now }
+fn plain_b36_rest(first: u128, text: &[u8]) -> Option<u128>
+    ensures { result ≡ plain_at 36 170581728179578208255 first text.now }
 {
-    match text {
-        [] => Some(number),
-        [c, rest @ ..] => {
-            let d = digit_of(*c) as u128;
-            if d < 36 && 0 < number && number <= (B36_END - 1 - d) / 36 {
-                plain_b36_rest(number * 36 + d, rest)
-            } else {
-                None
-            }
+    let mut number = first;
+    'digits: for c in text {
+        let d = digit_of(*c) as u128;
+        if d < 36 && 0 < number && number < B36_END / 36 {
+            number = number * 36 + d;
+        } else {
+            return None;
         }
     }
+    Some(number)
 }
 
 /// The number that a whole base-36 text is, as a part of a longer reading.

@@ -66,20 +66,19 @@ pub fn plain_decimal(limit: u64, text: &[u8]) -> Option<u64>
 }
 
 #[tactic(auto, unfolding(crate::specs::Numeral::plain_at))]
-fn plain_decimal_rest(limit: u64, number: u64, text: &[u8]) -> Option<u64>
-    ensures { result ≡ plain_at 10 limit number text.now }
+fn plain_decimal_rest(limit: u64, first: u64, text: &[u8]) -> Option<u64>
+    ensures { result ≡ plain_at 10 limit first text.now }
 {
-    match text {
-        [] => Some(number),
-        [c, rest @ ..] => {
-            let d = digit_of(*c);
-            if d < 10 && 0 < number && d <= limit && number <= (limit - d) / 10 {
-                plain_decimal_rest(limit, number * 10 + d, rest)
-            } else {
-                None
-            }
+    let mut number = first;
+    'digits: for c in text {
+        let d = digit_of(*c);
+        if d < 10 && 0 < number && d <= limit && number <= (limit - d) / 10 {
+            number = number * 10 + d;
+        } else {
+            return None;
         }
     }
+    Some(number)
 }
 
 /// The number that a decimal text is, up to 2^64 - 1; none for any other text.

@@ -1,4 +1,5 @@
 pub mod PutPairs
+pub mod BuiltMaps
 pub mod Dumps
 pub mod OneText
 pub mod ChildrenFiles

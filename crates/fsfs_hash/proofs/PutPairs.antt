@@ -21,13 +21,6 @@ vec_cmp x y = slice_cmp nat_cmp x.items y.items
 abbrev pub pairs_of : BTreeMap (Vec ℕ) (Vec ℕ) → List (List ℕ × List ℕ)
 pairs_of m = map pair_of m.entries
 
-pub put_all-push : (pairs es : List (List ℕ × List ℕ)) (e : List ℕ × List ℕ) → put_all pairs (es ++ e ∷ []) ≡ put (put_all pairs es) e
-put_all-push pairs [] e = refl
-put_all-push pairs (x ∷ es) e = put_all-push (put pairs x) es e
-
-pub put_step : (now next before : List (List ℕ × List ℕ)) (key value : List ℕ) (e : List ℕ × List ℕ) → next ≡ put now (key, value) → now ≡ put_all [] before → key ≡ e.0 → value ≡ e.1 → next ≡ put_all [] (before ++ e ∷ [])
-put_step now next before key value e is so_far k v = is ∙ (λ i. put (so_far i) (k i, v i)) ∙ sym (put_all-push [] before e)
-
 -- ---- pairs in order, put one after the other, are as they were
 
 reversed : (x y : List ℕ) → slice_cmp nat_cmp x y ≡ Less → slice_cmp nat_cmp y x ≡ Greater

@@ -1,5 +1,8 @@
 //! Reading a whole dump.
 ghost use Rattle.std.specs.Prelude.{◌≡◌, ◌+◌, ℕ, suc, length, List, [], IfOk, IfErr, MatchResult};
+ghost use Rattle.std.specs.BTreeMap.{IsFromIterResult};
+ghost use Rattle.std.specs.Cmp.Lexicographic.{slice_cmp};
+ghost use Rattle.std.specs.Ordering.{nat_cmp};
 ghost use Rattle.fsfs_grammar.specs.Grammar.{begins};
 ghost use Rattle.fsfs_grammar.specs.Reading.{Gives};
 ghost use Rattle.fsfs_grammar.specs.ReadErrors.{GivesOrMemory};
@@ -13,6 +16,7 @@ use fsfs_grammar::ReadError;
 use fsfs_grammar::decimals::decimal;
 use fsfs_grammar::pieces::{bytes_of, text};
 use std::alloc::{AllocError, Global};
+use std::collections::BTreeMap;
 
 /// Bytes behind their letter and their length, and what stands behind them.
 #[tactic(auto, unfolding(crate::specs::Reading::field_at))]
@@ -68,17 +72,29 @@ pub(crate) fn entries(
     Err(ReadError::Left(0))
 }
 
+/// The pairs by their keys' bytes, the last of each key. A map that is built at once looks for no key's place, and pairs
+/// in order are compared once.
+fn sorted(
+    alloc: Global,
+    pairs: Vec<(Vec<u8>, Vec<u8>)>,
+) -> Result<BTreeMap<Vec<u8>, Vec<u8>>, AllocError>
+    ensures { IfOk result (IsFromIterResult (λ x y. slice_cmp nat_cmp x.items y.items) pairs.items) }
+{
+    pairs.into_iter().collect(alloc)
+}
+
 /// The entries as pairs, the last of each key.
 pub(crate) fn gather(alloc: Global, found: &[(&[u8], &[u8])]) -> Result<Pairs, AllocError>
     ensures { IfOk result (λ pairs. pairs ≡ put_all [] (views found.now)) }
 {
-    let mut pairs = Pairs::new(alloc);
+    let mut pairs = Vec::with_capacity(alloc, found.len())?;
     for e in found {
         let key = Vec::from_slice(alloc, e.0)?;
         let value = Vec::from_slice(alloc, e.1)?;
-        pairs.set(key, value)?;
+        pairs.push((key, value))?;
     }
-    Ok(pairs)
+    let map = sorted(alloc, pairs)?;
+    Ok(Pairs::from(map))
 }
 
 #[tactic(auto, unfolding(crate::specs::Reading::dump_at))]

@@ -1,7 +1,8 @@
 -- Lines are taken in one way at most.
-use Rattle.std.proofs.Common.{◌≡◌, ◌<◌, ◌≤◌, ℕ, List, [], ◌∷◌, ◌++◌, length, Option, Some, None, refl, sym, ap, subst, ◌∙◌, append_assoc, arith, inl, inr}
+use Rattle.std.proofs.Common.{◌≡◌, ◌<◌, ◌≤◌, ◌-◌, ℕ, List, [], ◌∷◌, ◌++◌, length, Option, Some, None, Result, Ok, Err, refl, sym, ap, subst, ◌∙◌, append_assoc, arith, inl, inr}
 use Rattle.std.proofs.lemmas.Option.{some_pair_parts, same_Some}
 use Rattle.std.specs.List.{flat_map}
+use Rattle.std.specs.Prelude.{IfOk, IfErr, MatchResult}
 use Rattle.std.proofs.lemmas.List.{length-append, nil_from_length, append-nil}
 use Rattle.fsfs_grammar.specs.Grammar.{Begins}
 use Rattle.fsfs_grammar.specs.Cuts.{Lacks, cut}
@@ -11,13 +12,15 @@ use Rattle.fsfs_noderev.specs.Ids.{IsNumber64}
 use Rattle.fsfs_noderev.specs.Lines.{IsPair, line, pair_at}
 use Rattle.fsfs_noderev.specs.Fields.{field_named, IsIdText, IsKindText, AreContentsText, IsPathText, IsSourceText, IsRootText, IsYes, Sets, Puts, Bars, Refuses, nothing}
 use Rattle.fsfs_noderev.specs.NodeRevs.{Takes, IsNodeText, Means, IsRead, IsRefused, StopsAt, IsMissing, NoId, NoKind, NoPath}
-use Rattle.fsfs_noderev.specs.Steps.{IsTaken, HasFront}
+use Rattle.fsfs_noderev.specs.Steps.{IsTaken, HasFront, IsLack, IsExact, IsOutOfMemory}
 use Rattle.fsfs_noderev.specs.declared.fields.Fields.{Fields}
 use Rattle.fsfs_noderev.specs.declared.node_rev.Field.{Field}
 use Rattle.fsfs_noderev.specs.declared.node_rev.Field.TheVariants.{Id, NodeKind, Predecessor, Count, Text, Props, CreatedPath, CopiedFrom, CopiedRoot, FreshTxnRoot, MergeinfoCount, MergeinfoHere}
 use Rattle.fsfs_noderev.specs.declared.node_rev.Which.{Which}
 use Rattle.fsfs_noderev.specs.declared.node_rev.Which.TheVariants.{BadLine, NoEnd}
 use Rattle.fsfs_noderev.specs.declared.node_rev.NodeRev.{NodeRev}
+use Rattle.fsfs_noderev.specs.declared.reading.NodeError.{NodeError}
+use Rattle.fsfs_noderev.specs.declared.reading.NodeError.TheVariants as errors
 use Rattle.fsfs_noderev.proofs.FieldTexts.{id_one, kind_one, number_one, contents_one, path_one, source_one, root_one, yes_one}
 use Rattle.fsfs_noderev.proofs.LineTexts.{pair_found, pair_again, line_parts, line_cut}
 
@@ -242,3 +245,20 @@ pub missing_not_read : (bytes : List ℕ) (fields : Fields) (rest : List ℕ) (w
 missing_not_read bytes fields rest which n v missing w =
     let same = fields_same bytes fields w.fields rest w.rest v (front_of bytes w.fields w.rest w.begins) in
     missing_clash w.fields which n (subst (λ (f : Fields). IsMissing f which) same missing) w.means
+
+-- ---- all of a node-revision, of what was made of its lines
+
+module _ (bytes : List ℕ) (fields : Fields) (rest : List ℕ) (at : ℕ) (v : HasFront bytes fields (10 ∷ rest)) where
+  pub completed_found : (r : Result NodeRev NodeError) → MatchResult r (Means fields) (IsLack fields at) → IfOk r (IsRead bytes)
+  completed_found (Ok node) w = read_found bytes fields rest node v w
+  completed_found (Err e) w = tt
+
+  pub completed_only : (r : Result NodeRev NodeError) → MatchResult r (Means fields) (IsLack fields at) → (n : NodeRev) → IsRead bytes n → MatchResult r (λ m. m ≡ n) IsOutOfMemory
+  completed_only (Ok node) w n is = read_only bytes fields rest node n v w is
+  completed_only (Err errors.OutOfMemory) w n is = absurd w
+  completed_only (Err (errors.Fault fault)) w n is = absurd (missing_not_read bytes fields rest fault.which n v w.0 is)
+
+  pub completed_fault : at ≡ length bytes - length rest → (r : Result NodeRev NodeError) → MatchResult r (Means fields) (IsLack fields at) → IfErr r (IsExact bytes)
+  completed_fault e (Ok node) w = tt
+  completed_fault e (Err errors.OutOfMemory) w = tt
+  completed_fault e (Err (errors.Fault fault)) w = inr (record { fields = fields; rest = rest; begins = begun bytes fields rest v; missing = w.0; place = w.1 ∙ e })

@@ -3,10 +3,12 @@ ghost use Rattle.std.specs.Prelude.{◌≡◌, ◌<◌, ◌-◌, ◌∷◌, List
 ghost use Rattle.fsfs_noderev.specs.Lines.{pair_at};
 ghost use Rattle.fsfs_noderev.specs.Fields.{field_named, Puts, Refuses, nothing};
 ghost use Rattle.fsfs_noderev.specs.Faults.{IfRefused};
-ghost use Rattle.fsfs_noderev.specs.NodeRevs.{IsRefused, StopsAt, Means, IsMissing, IsRead};
+ghost use Rattle.fsfs_noderev.specs.NodeRevs.{IsRefused, StopsAt, Means, IsRead};
 ghost use Rattle.fsfs_noderev.specs.Writing.{HasText};
-ghost use Rattle.fsfs_noderev.specs.Steps.{StepIs, StopIs, HasFront, IsExact, IsOutOfMemory};
+ghost use Rattle.fsfs_noderev.specs.Steps.{StepIs, StopIs, HasFront, IsLack, IsExact, IsOutOfMemory};
 ghost use Rattle.fsfs_noderev.specs.declared.node_rev.NodeRev.{NodeRev};
+ghost use Rattle.fsfs_noderev.specs.declared.node_rev.Which.TheVariants.{Missing};
+ghost use Rattle.fsfs_noderev.specs.declared.reading.NodeError.TheVariants.{Fault};
 
 use crate::fields::{Fields, LineError, field_named};
 use crate::node_rev::{Field, NodeFault, NodeRev, Which};
@@ -86,52 +88,29 @@ impl Fields {
         }
     }
 
-    /// The node-revision of these fields, of which the empty line ended at `at`.
-    fn complete(self, at: usize) -> Result<NodeRev, NodeFault>
-        ensures { MatchResult result (Means self) (λ fault. IsMissing self fault.which × (fault.at ≡ at)) }
+    /// The node-revision of these fields, of which the empty line ended at `at`. What they own is moved out of them.
+    fn complete(&mut self, at: usize) -> Result<NodeRev, NodeError>
+        ensures { MatchResult result (Means self.old) (IsLack self.old at) }
     {
-        let Fields {
-            id,
-            kind,
-            predecessor,
-            count,
-            text,
-            props,
-            created_path,
-            copy_from,
-            copy_root,
-            fresh_txn_root,
-            mergeinfo_count,
-            mergeinfo_here,
-        } = self;
-        match id {
-            None => Err(NodeFault {
-                at,
-                which: Which::Missing(Field::Id),
-            }),
-            Some(id) => match kind {
-                None => Err(NodeFault {
-                    at,
-                    which: Which::Missing(Field::NodeKind),
-                }),
-                Some(kind) => match created_path {
-                    None => Err(NodeFault {
-                        at,
-                        which: Which::Missing(Field::CreatedPath),
-                    }),
+        match self.id {
+            None => Err(missing(Field::Id, at)),
+            Some(id) => match self.kind {
+                None => Err(missing(Field::NodeKind, at)),
+                Some(kind) => match self.created_path.take() {
+                    None => Err(missing(Field::CreatedPath, at)),
                     Some(created_path) => Ok(NodeRev {
                         id,
                         kind,
-                        predecessor,
-                        count: count.unwrap_or(0),
-                        text,
-                        props,
+                        predecessor: self.predecessor,
+                        count: self.count.unwrap_or(0),
+                        text: self.text,
+                        props: self.props,
                         created_path,
-                        copy_from,
-                        copy_root,
-                        is_fresh_txn_root: fresh_txn_root.is_some(),
-                        mergeinfo_count,
-                        has_mergeinfo: mergeinfo_here.is_some(),
+                        copy_from: self.copy_from.take(),
+                        copy_root: self.copy_root.take(),
+                        is_fresh_txn_root: self.fresh_txn_root.is_some(),
+                        mergeinfo_count: self.mergeinfo_count,
+                        has_mergeinfo: self.mergeinfo_here.is_some(),
                     }),
                 },
             },
@@ -139,17 +118,26 @@ impl Fields {
     }
 }
 
-/// The fields of the lines up to the empty one, and the bytes behind that.
-fn read_lines(alloc: Global, bytes: &[u8]) -> Result<(Fields, &[u8]), Stop>
-    ensures front { IfOk result (λ p. HasFront bytes.now p.0 (10 ∷ p.1.now)) }
+fn missing(field: Field, at: usize) -> NodeError
+    ensures { result ≡ Fault (record { at = at; which = Missing field }) }
+{
+    NodeError::Fault(NodeFault {
+        at,
+        which: Which::Missing(field),
+    })
+}
+
+/// Takes the lines up to the empty one, and gives the bytes behind that.
+fn read_lines<'a>(alloc: Global, bytes: &'a [u8], fields: &mut Fields) -> Result<&'a [u8], Stop>
+    requires { fields.old ≡ nothing }
+    ensures front { IfOk result (λ rest. HasFront bytes.now fields.new (10 ∷ rest.now)) }
     ensures stops { IfErr result (StopIs (StopsAt nothing bytes.now)) }
 {
-    let mut fields = Fields::new();
     let mut rest = bytes;
     'lines: loop {
         match fields.take_line(alloc, rest) {
             Err(stop) => return Err(stop),
-            Ok(Step::End(after)) => return Ok((fields, after)),
+            Ok(Step::End(after)) => return Ok(after),
             Ok(Step::More(after)) => rest = after,
         }
     }
@@ -161,16 +149,14 @@ fn read_all(alloc: Global, bytes: &[u8]) -> Result<NodeRev, NodeError>
     ensures only { (n : NodeRev) → IsRead bytes.now n → MatchResult result (λ m. m ≡ n) IsOutOfMemory }
     ensures fault { IfErr result (IsExact bytes.now) }
 {
-    match read_lines(alloc, bytes) {
+    let mut fields = Fields::new();
+    match read_lines(alloc, bytes, &mut fields) {
         Err(Stop::OutOfMemory) => Err(NodeError::OutOfMemory),
         Err(Stop::At(left, which)) => Err(NodeError::Fault(NodeFault {
             at: bytes.len().saturating_sub(left),
             which,
         })),
-        Ok((fields, rest)) => match fields.complete(bytes.len().saturating_sub(rest.len())) {
-            Ok(node) => Ok(node),
-            Err(fault) => Err(NodeError::Fault(fault)),
-        },
+        Ok(rest) => fields.complete(bytes.len().saturating_sub(rest.len())),
     }
 }
 

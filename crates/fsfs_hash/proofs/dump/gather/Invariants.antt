@@ -1,7 +1,7 @@
-use Rattle.std.proofs.Common.{◌≡◌, [], take}
+use Rattle.std.proofs.Common.{◌≡◌, map, take}
 use Rattle.fsfs_hash.specs.Reading.{views}
-use Rattle.fsfs_hash.specs.Dump.{put_all}
+use Rattle.fsfs_hash.proofs.PutPairs.{pair_of}
 use Rattle.fsfs_hash.proofs.dump.gather.Given as goal
 
 abbrev pub invariant-loop-e : goal.invariant-loop-e
-invariant-loop-e l = l.pairs ≡ put_all [] (views (take l.e-index l.found))
+invariant-loop-e l = map pair_of l.pairs.items ≡ views (take l.e-index l.found)

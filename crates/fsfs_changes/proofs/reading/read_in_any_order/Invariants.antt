@@ -5,7 +5,7 @@ use Rattle.std.specs.BTreeSet as set
 use Rattle.fsfs_changes.specs.Changes.{HasNewPath}
 use Rattle.fsfs_changes.proofs.ItemLists.{HasItems}
 use Rattle.fsfs_changes.proofs.PathSets.{any_has}
-use Rattle.fsfs_changes.proofs.reading.read_revision_changes.Given as goal
+use Rattle.fsfs_changes.proofs.reading.read_in_any_order.Given as goal
 
 -- the set has the texts of the paths so far
 abbrev pub invariant-data : goal.invariant-data

@@ -8,7 +8,7 @@ use Rattle.fsfs_changes.specs.declared.item.ChangeItem.{ChangeItem}
 use Rattle.fsfs_changes.proofs.ItemTexts.{not_some}
 use Rattle.fsfs_changes.proofs.ItemLists.{HasItems, items_one, has_more, has_all, has_fault, fault_clash}
 use Rattle.fsfs_changes.proofs.PathSets.{any_has, texts_more, is_new, refused_twice}
-use Rattle.fsfs_changes.proofs.reading.read_revision_changes.Goals as goal
+use Rattle.fsfs_changes.proofs.reading.read_in_any_order.Goals as goal
 
 pub returns-in-None-clause-only : goal.returns-in-None-clause-only
 returns-in-None-clause-only c = λ items w. fault_clash HasNewPath c.args.bytes.now _ items (has_fault HasNewPath c.args.bytes.now c.data.items.items c.data.rest.now _ c.data.invariant.0 (grind (arith, c.is_empty.ensures, c.data-test.true))
