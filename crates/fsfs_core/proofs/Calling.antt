@@ -1,8 +1,8 @@
 -- A call of a section goes on where it was due; an edit is found where its transaction stands.
 use Rattle.std.proofs.Common.{◌≡◌, ◌<◌, ◌≤◌, ℕ, List, [], ◌∷◌, ◌++◌, length, Bool, true, false, cond, inl, inr, refl, sym, ap, subst, ◌∙◌, arith}
-use Rattle.std.proofs.lemmas.Option.{slice_get_past, slice_get_within, MatchOption-at_none, MatchOption-at_some}
+use Rattle.std.proofs.lemmas.Option.{same_Some, slice_get_past, slice_get_within, MatchOption-at_none, MatchOption-at_some}
 use Rattle.std.proofs.lemmas.Bool.{and_from}
-use Rattle.std.specs.Prelude.{Option, Some, None, slice_get, Result, Ok, Err, IfOk, IfSome, MatchOption, MatchResult, is_some, nat_le, nat_lt, ◌&&◌, if◌then◌else◌, ◌↔◌}
+use Rattle.std.specs.Prelude.{Option, Some, None, slice_get, Result, Ok, Err, IfOk, IfSome, MatchOption, MatchResult, is_some, nat_le, nat_lt, ◌==◌, ◌&&◌, if◌then◌else◌, ◌↔◌}
 use Rattle.std.specs.FinMap.{FinMap, get}
 use Rattle.jiff_core.specs.declared.civil.datetime.DateTime.{DateTime}
 use Rattle.std.specs.Map.{lookup}
@@ -23,13 +23,15 @@ use Rattle.fsfs_machine.specs.declared.contents.NameChange.{NameChange}
 use Rattle.fsfs_machine.specs.declared.contents.FileName.TheVariants.{Rev}
 use Rattle.fsfs_machine.specs.declared.contents.NameChange.TheVariants.{Put}
 use Rattle.fsfs_machine.specs.declared.machine.Coming.{Coming}
-use Rattle.fsfs_machine.specs.declared.machine.DiskPlace.TheVariants.{PutRev}
-use Rattle.fsfs_machine.specs.declared.machine.DiskPlace.{DiskPlace}
+use Rattle.fsfs_places.specs.declared.place.DiskPlace.{DiskPlace}
+use Rattle.fsfs_places.specs.declared.place.DiskPlace.TheVariants.{Commit}
+use Rattle.fsfs_places.specs.declared.place.CommitPlace.TheVariants.{PutRev}
 use Rattle.fsfs_machine.specs.declared.machine.Recorded.{Recorded}
 use Rattle.fsfs_machine.specs.declared.machine.Txn.{Txn}
 use Rattle.fsfs_machine.specs.declared.machine.Section.{Section}
 use Rattle.fsfs_machine.specs.declared.machine.Section.TheVariants.{Begun, CountRead, CountPut, CountRenamed, RevPut, PropsPut, RevFirm, CurrentPut, CurrentRenamed, CurrentFirm, Doubtful, Over}
-use Rattle.fsfs_machine.specs.declared.machine.Lock.TheVariants.{Free}
+use Rattle.fsfs_machine.specs.declared.machine.Lock.{Lock}
+use Rattle.fsfs_machine.specs.declared.machine.Lock.TheVariants.{Free, Held, Stuck, Down, DownDoubtful}
 use Rattle.fsfs_machine.specs.declared.machine.Went.{Went}
 use Rattle.fsfs_machine.specs.declared.machine.Went.TheVariants.{Fine, Before, After, Torn}
 use Rattle.fsfs_machine.specs.declared.machine.Outcome.{Outcome}
@@ -84,6 +86,28 @@ pub call_goes_on : {E : Type 0} (r : Result Outcome E) (w u v : World) (p : ℕ)
 call_goes_on (Ok a) w u v p place went s o change held is some found e =
     e ∙ ap (λ z. called_by z p place went s (Some change)) is ∙ free_call w p place went s change ∙ called_at w u p place went s (Some change) held is (sym some ∙ found)
 call_goes_on (Err x) w u v p place went s o change held is some found e = tt
+
+-- the lock of the pass that holds it
+held_lock : (p : ℕ) (lock : Lock) (s : Section) → held_by p lock ≡ Some s → lock ≡ Held p s
+held_lock p Free s e = let bad : ◌≡◌ {A = Option Section} None (Some s) = e in cc
+held_lock p (Held q x) s e =
+    elim (q == p) as (λ b. (q == p) ≡ b → cond b (Some x) None ≡ Some s → Held q x ≡ Held p s) [
+      | true ↦ λ same is. let n : q ≡ p = grind (arith, same) in let y : x ≡ s = same_Some x s is in λ i. Held (n i) (y i)
+      | false ↦ λ same is. let bad : ◌≡◌ {A = Option Section} None (Some s) = is in cc
+    ] refl e
+held_lock p (Stuck place x) s e = let bad : ◌≡◌ {A = Option Section} None (Some s) = e in cc
+held_lock p Down s e = let bad : ◌≡◌ {A = Option Section} None (Some s) = e in cc
+held_lock p (DownDoubtful x) s e = let bad : ◌≡◌ {A = Option Section} None (Some s) = e in cc
+
+-- with the section put back, the state is the one from before
+put_back : (w u : World) (p : ℕ) (s : Section) → held_by p w.lock ≡ Some s → u ≡ record w { lock = Free } → record u { lock = Held p s } ≡ w
+put_back w u p s held is = ap (λ (z : World). record z { lock = Held p s }) is ∙ ap (λ l. record w { lock = l }) (sym (held_lock p w.lock s held))
+
+-- where another call is due, or none, the call is barred
+pub call_is_barred : (w u : World) (p : ℕ) (place : DiskPlace) (went : Went) (s : Section) (o : Option NameChange) → held_by p w.lock ≡ Some s → u ≡ record w { lock = Free }
+    → o ≡ None → o ≡ due_at u s place → did (record u { lock = Held p s }) outcome.Barred ≡ inside w (called w p place went) (held_by p w.lock)
+call_is_barred w u p place went s o held is none found =
+    ap (λ (v : World). did v outcome.Barred) (put_back w u p s held is) ∙ called_at w u p place went s None held is (sym none ∙ found)
 
 pub edit_none : (w : World) (t : ℕ) (edit : Edit) → length w.txns ≤ t → Edits w t edit (slice_get w.txns t) (did w outcome.Barred)
 edit_none w t edit le = subst (λ o. Edits w t edit o (did w outcome.Barred)) (sym (slice_get_past w.txns t le)) refl
@@ -196,7 +220,7 @@ adopts_none w p t properties bytes went (Some x) o none adds = inr (MatchOption-
 
 pub adopts_some : {E : Type 0} (r : Result Outcome E) (w u v : World) (p t : ℕ) (properties : List (List ℕ × List ℕ)) (bytes : List ℕ) (went : Went) (z : Option Txn) (o : Option Revision) (next : Revision) (coming : Coming)
     → o ≡ Some next → AddsNext w.history p z properties o → IsUsed w p t properties next bytes z coming u
-    → IfOk r (λ a. did v a ≡ did (at_call u p PutRev (Put (Rev (length u.history)) (file_of (recorded coming))) (RevPut coming) Over went) (answer went))
+    → IfOk r (λ a. did v a ≡ did (at_call u p (Commit PutRev) (Put (Rev (length u.history)) (file_of (recorded coming))) (RevPut coming) Over went) (answer went))
     → IfOk r (λ a. AdoptsTxn w p t properties bytes went z (did v a))
 adopts_some (Err _) w u v p t properties bytes went z o next coming found adds used e = tt
 adopts_some (Ok a) w u v p t properties bytes went None o next coming found adds used e = absurd used
@@ -208,5 +232,5 @@ adopts_some (Ok a) w u v p t properties bytes went (Some x) o next coming found 
         brought = ap (λ (c : Coming). c.bytes) used.0;
         adds = subst (λ n. Adds w.history (entry_of p x properties) n) (sym (ap (λ (c : Coming). c.revision) used.0)) (MatchOption-at_some _ _ next found adds);
       },
-      e ∙ ap (λ s. did (at_call s p PutRev (Put (Rev (length s.history)) (file_of (recorded coming))) (RevPut coming) Over went) (answer went)) used.1,
+      e ∙ ap (λ s. did (at_call s p (Commit PutRev) (Put (Rev (length s.history)) (file_of (recorded coming))) (RevPut coming) Over went) (answer went)) used.1,
     )

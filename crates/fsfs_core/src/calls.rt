@@ -11,9 +11,8 @@ use fsfs_machine::passes::{find_stuck, learn, reveal_by, see_least};
 use fsfs_machine::section::{
     answer_of, drawn_section, is_due_at, is_lock_up, is_quiet_section, next_section,
 };
-use fsfs_machine::{
-    Contents, DiskPlace, Drawn, FileName, Lock, NameChange, Outcome, Section, Went,
-};
+use fsfs_machine::{Contents, Drawn, FileName, Lock, NameChange, Outcome, Section, Went};
+use fsfs_places::{BeginPlace, DiskPlace};
 use std::alloc::AllocError;
 use std::mem;
 
@@ -258,10 +257,16 @@ impl State {
     }
 
     fn end_read(&mut self, p: u64, section: Section, went: &Went) -> Result<(), AllocError>
-        ensures { OnOk result (world_of self.new ≡ record (world_of self.old) { lock = Lock.Held p section; passes = at_place self.old.passes.items p (learns (length self.old.line) DiskPlace.TxnRead went.now) }) }
+        ensures { OnOk result (world_of self.new ≡ record (world_of self.old) { lock = Lock.Held p section; passes = at_place self.old.passes.items p (learns (length self.old.line) (DiskPlace.Begin BeginPlace.Read) went.now) }) }
     {
         let seen = self.count();
-        learn(&mut self.passes, p, seen, DiskPlace::TxnRead, went)?;
+        learn(
+            &mut self.passes,
+            p,
+            seen,
+            DiskPlace::Begin(BeginPlace::Read),
+            went,
+        )?;
         self.lock = Lock::Held(p, section);
         Ok(())
     }

@@ -11,9 +11,9 @@ use fsfs_flat::Edit;
 use fsfs_machine::files::is_fine;
 use fsfs_machine::section::answer_of;
 use fsfs_machine::{
-    Bytes, Coming, Contents, DiskPlace, FileName, NameChange, Outcome, Section, Went, set_edited,
-    set_merged,
+    Bytes, Coming, Contents, FileName, NameChange, Outcome, Section, Went, set_edited, set_merged,
 };
+use fsfs_places::{CommitPlace, DiskPlace};
 use fsfs_tree::Revision;
 use std::alloc::{AllocError, Global};
 
@@ -41,12 +41,18 @@ fn rev_file(alloc: Global, coming: &Coming) -> Result<Contents, AllocError>
 impl State {
     fn put_rev(&mut self, p: u64, coming: Coming, went: Went) -> Result<Outcome, AllocError>
         ensures { IfOk result (λ o. did (world_of self.new) o
-            ≡ did (at_call (world_of self.old) p DiskPlace.PutRev (NameChange.Put (FileName.Rev (length self.old.line)) (file_of (recorded coming))) (Section.RevPut coming) Section.Over went) (answer went)) }
+            ≡ did (at_call (world_of self.old) p (DiskPlace.Commit CommitPlace.PutRev) (NameChange.Put (FileName.Rev (length self.old.line)) (file_of (recorded coming))) (Section.RevPut coming) Section.Over went) (answer went)) }
     {
         let change = NameChange::Put(FileName::Rev(self.count()), rev_file(self.alloc, &coming)?);
         let answer = answer_of(&went);
         let section = begun_section(coming, &went);
-        self.end_call(p, DiskPlace::PutRev, change, section, went)?;
+        self.end_call(
+            p,
+            DiskPlace::Commit(CommitPlace::PutRev),
+            change,
+            section,
+            went,
+        )?;
         Ok(answer)
     }
 

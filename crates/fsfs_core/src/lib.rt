@@ -10,8 +10,8 @@ mod state;
 mod txns;
 
 pub use fsfs_machine::{
-    Bytes, Coming, Contents, DiskPlace, Drawn, Entry, FileName, Line, Lock, Marks, NameChange,
-    Numbers, Outcome, Pass, Picks, Places, Recorded, Section, Step, Txn, Went,
-    every_run_keeps_one_history,
+    Bytes, Coming, Contents, Drawn, Entry, FileName, Line, Lock, Marks, NameChange, Numbers,
+    Outcome, Pass, Picks, Places, Recorded, Section, Step, Txn, Went, every_run_keeps_one_history,
 };
+pub use fsfs_places::{BeginPlace, CommitPlace, DiskPlace};
 pub use state::State;

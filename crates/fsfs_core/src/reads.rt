@@ -7,7 +7,8 @@ ghost use Rattle.fsfs_core.specs.State.{world_of};
 use crate::state::State;
 use fsfs_machine::files::{find, find_number, find_rev, is_fine};
 use fsfs_machine::passes::{join_to, learn, read_floor_by};
-use fsfs_machine::{Contents, DiskPlace, FileName, Outcome, Went};
+use fsfs_machine::{Contents, FileName, Outcome, Went};
+use fsfs_places::DiskPlace;
 use std::alloc::AllocError;
 
 fn floor_answer(found: Option<u64>, went: &Went) -> Outcome

@@ -8,9 +8,9 @@ ghost use Rattle.fsfs_core.specs.State.{world_of};
 
 use fsfs_base::{FsPath, Kind, Pairs, RevNum};
 use fsfs_machine::{
-    Bytes, Contents, DiskPlace, Drawn, Entry, FileName, Line, Lock, NameChange, Outcome, Pass,
-    Step, Txn,
+    Bytes, Contents, Drawn, Entry, FileName, Line, Lock, NameChange, Outcome, Pass, Step, Txn,
 };
+use fsfs_places::DiskPlace;
 use fsfs_tree::{ChangeMap, History, Node, Revision, Text, Tree};
 use std::alloc::{AllocError, Global};
 use std::collections::VecDeque;

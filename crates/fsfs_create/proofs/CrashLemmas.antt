@@ -11,9 +11,9 @@ use Rattle.fsfs_disk.specs.Trace.{Trace, Put, Rename, FirmNames, Done, IsImage, 
 use Rattle.fsfs_disk.specs.Crash.{AllImages, IsFirm, Leaves, KeepsImages}
 use Rattle.fsfs_disk.proofs.CrashLemmas.{leaves_at, leaves_then, leaves_with, keeps_then, keeps_put, keeps_failed_put, keeps_firm, same_keeps, same_leaves, firm_after, Stable}
 use Rattle.fsfs_layout.specs.CreatedFiles.{format_text, unpublished_files, created_over}
-use Rattle.fsfs_create.specs.Creation.{after_puts, after_firm, after_next, after_rename, after_publishing, after_creation, StopsInPuts, StopsPublishing, StopsAt, IsUnpublished, IsNoneOrWhole, IsStopped}
-use Rattle.fsfs_places.specs.declared.place.DiskPlace.{DiskPlace}
-use Rattle.fsfs_places.specs.declared.place.DiskPlace.TheVariants.{OpenFirm, OpenRead, Read, CreatePut, CreateFirm, CreateRename, CreateLast}
+use Rattle.fsfs_create.specs.Creation.{after_puts, after_firm, after_next, after_rename, after_publishing, after_creation, StopsInPuts, StopsPublishing, StopsAt, IsUnpublished, IsNoneOrWhole}
+use Rattle.fsfs_places.specs.declared.place.CreatePlace.{CreatePlace}
+use Rattle.fsfs_places.specs.declared.place.CreatePlace.TheVariants as place
 use Rattle.fsfs_create.proofs.CreatedFilesLemmas.{files_now-after_publishing, files_now-after_creation}
 use Rattle.fsfs_layout.proofs.NamedFiles.{lacks, first_apart, lacks_rest}
 
@@ -101,14 +101,11 @@ leaves_last format (Some t) new at firm all =
     some_is : (u v : Trace) → ◌≡◌ {A = Option Trace} (Some u) (Some v) → u ≡ v
     some_is u v e = cc
 
-leaves_publishing : (place : DiskPlace) (format : List ℕ) (old new : Option Trace) → StopsPublishing place format old new → IsFirm old → AllImages old IsUnpublished → Leaves old new (Publishes format old)
-leaves_publishing OpenFirm format old new at firm all = absurd at
-leaves_publishing OpenRead format old new at firm all = absurd at
-leaves_publishing Read format old new at firm all = absurd at
-leaves_publishing CreatePut format old new at firm all = leaves_next format old new at all
-leaves_publishing CreateFirm format old new at firm all = absurd at
-leaves_publishing CreateRename format old new at firm all = leaves_rename format old new at firm all
-leaves_publishing CreateLast format old new at firm all = leaves_last format old new at firm all
+leaves_publishing : (call : CreatePlace) (format : List ℕ) (old new : Option Trace) → StopsPublishing call format old new → IsFirm old → AllImages old IsUnpublished → Leaves old new (Publishes format old)
+leaves_publishing place.Put format old new at firm all = leaves_next format old new at all
+leaves_publishing place.Firm format old new at firm all = absurd at
+leaves_publishing place.Rename format old new at firm all = leaves_rename format old new at firm all
+leaves_publishing place.Last format old new at firm all = leaves_last format old new at firm all
 
 -- no repository, or the files that a creation makes of those from before
 abbrev pub CreatesFiles : List NamedFile → List ℕ → Option Trace → Files → Type 0
@@ -142,20 +139,17 @@ leaves_from_firm files format old new lack all go =
     (go firm refl (firm_after (option_map (after_puts files) old) firm (firm_done files old)) (keeps all).0))
 
 -- what a creation that failed leaves at each moment
-pub leaves_stopped : (place : DiskPlace) (files : List NamedFile) (format : List ℕ) (old new : Option Trace) → lacks (codes "db/format") files ≡ true → StopsAt place files format old new
+pub leaves_stopped : (call : CreatePlace) (files : List NamedFile) (format : List ℕ) (old new : Option Trace) → lacks (codes "db/format") files ≡ true → StopsAt call files format old new
     → AllImages old IsUnpublished → Leaves old new (CreatesFiles files format old)
-leaves_stopped OpenFirm files format old new lack at all = absurd at
-leaves_stopped OpenRead files format old new lack at all = absurd at
-leaves_stopped Read files format old new lack at all = same_leaves old new (CreatesFiles files format old) at
-leaves_stopped CreatePut files format old new lack at all =
+leaves_stopped place.Put files format old new lack at all =
     ⊎_elim (λ e. same_leaves old new (CreatesFiles files format old) e)
     (λ puts. ⊎_elim (λ s. unwritten files format old new (keeps_stopped_puts files old new lack s) all)
-    (λ p. leaves_from_firm files format old new lack all (λ firm is f a. leaves_publishing CreatePut format firm new (subst (λ o. StopsPublishing CreatePut format o new) (sym is) p) f a)) puts) at
-leaves_stopped CreateFirm files format old new lack at all = unwritten files format old new (keeps_firm_files files old new lack at) all
-leaves_stopped CreateRename files format old new lack at all =
-    leaves_from_firm files format old new lack all (λ firm is f a. leaves_publishing CreateRename format firm new (subst (λ o. StopsPublishing CreateRename format o new) (sym is) at) f a)
-leaves_stopped CreateLast files format old new lack at all =
-    leaves_from_firm files format old new lack all (λ firm is f a. leaves_publishing CreateLast format firm new (subst (λ o. StopsPublishing CreateLast format o new) (sym is) at) f a)
+    (λ p. leaves_from_firm files format old new lack all (λ firm is f a. leaves_publishing place.Put format firm new (subst (λ o. StopsPublishing place.Put format o new) (sym is) p) f a)) puts) at
+leaves_stopped place.Firm files format old new lack at all = unwritten files format old new (keeps_firm_files files old new lack at) all
+leaves_stopped place.Rename files format old new lack at all =
+    leaves_from_firm files format old new lack all (λ firm is f a. leaves_publishing place.Rename format firm new (subst (λ o. StopsPublishing place.Rename format o new) (sym is) at) f a)
+leaves_stopped place.Last files format old new lack at all =
+    leaves_from_firm files format old new lack all (λ firm is f a. leaves_publishing place.Last format firm new (subst (λ o. StopsPublishing place.Last format o new) (sym is) at) f a)
 
 pub last_done : (files : List NamedFile) (format : List ℕ) (old new firm : Option Trace) → new ≡ option_map (after_creation files format) old → firm ≡ option_map (after_firm files) old → Performs FirmNames (option_map (after_rename format) firm) new
 last_done files format None new firm is at = is ∙ ap (λ o. option_map (add_operation (Done FirmNames)) (option_map (after_rename format) o)) (sym at)
@@ -182,17 +176,9 @@ pub ended_so : (shard : ℕ) (identifier date : List ℕ) (files : List NamedFil
     → new ≡ option_map (after_creation files format) same → new ≡ option_map (after_creation (unpublished_files identifier date) (format_text shard)) old
 ended_so shard identifier date files format old same new f t s is = is ∙ (λ i. option_map (after_creation (f i) (t i)) (s i))
 
-pub stopped_so : (place : DiskPlace) (shard : ℕ) (identifier date : List ℕ) (files : List NamedFile) (format : List ℕ) (old same new : Option Trace) → files ≡ unpublished_files identifier date → format ≡ format_text shard → same ≡ old
-    → StopsAt place files format same new → StopsAt place (unpublished_files identifier date) (format_text shard) old new
-stopped_so place shard identifier date files format old same new f t s at =
-    subst (λ o. StopsAt place (unpublished_files identifier date) (format_text shard) o new) s
-    (subst (λ x. StopsAt place (unpublished_files identifier date) x same new) t (subst (λ x. StopsAt place x format same new) f at))
-
-pub is_stopped : (place : DiskPlace) (shard : ℕ) (identifier date : List ℕ) (moment : ℕ) (old new : Option Trace) → IsDateAt moment date → StopsAt place (unpublished_files identifier date) (format_text shard) old new → IsStopped place shard identifier moment old new
-is_stopped OpenFirm shard identifier date moment old new dated at = absurd at
-is_stopped OpenRead shard identifier date moment old new dated at = absurd at
-is_stopped Read shard identifier date moment old new dated at = at
-is_stopped CreatePut shard identifier date moment old new dated at = (date, dated, at)
-is_stopped CreateFirm shard identifier date moment old new dated at = (date, dated, at)
-is_stopped CreateRename shard identifier date moment old new dated at = (date, dated, at)
-is_stopped CreateLast shard identifier date moment old new dated at = (date, dated, at)
+-- and where one stopped, of the very files of a new repository
+pub stopped_so : (call : CreatePlace) (shard : ℕ) (identifier date : List ℕ) (files : List NamedFile) (format : List ℕ) (old same new : Option Trace) → files ≡ unpublished_files identifier date → format ≡ format_text shard → same ≡ old
+    → StopsAt call files format same new → StopsAt call (unpublished_files identifier date) (format_text shard) old new
+stopped_so call shard identifier date files format old same new f t s at =
+    subst (λ o. StopsAt call (unpublished_files identifier date) (format_text shard) o new) s
+    (subst (λ x. StopsAt call (unpublished_files identifier date) x same new) t (subst (λ x. StopsAt call x format same new) f at))

@@ -12,7 +12,9 @@ use Rattle.fsfs_layout.specs.CreatedFiles.{unpublished_files, format_text, creat
 use Rattle.fsfs_places.specs.declared.create_fault.CreateFault.{CreateFault}
 use Rattle.fsfs_places.specs.declared.create_fault.CreateFault.TheVariants.{AlreadyRepo, DiskFault, Memory}
 use Rattle.fsfs_places.specs.declared.place.DiskPlace.{DiskPlace}
-use Rattle.fsfs_places.specs.declared.place.DiskPlace.TheVariants.{OpenFirm, OpenRead, Read, CreatePut, CreateFirm, CreateRename, CreateLast}
+use Rattle.fsfs_places.specs.declared.place.DiskPlace.TheVariants.{Read, Create}
+use Rattle.fsfs_places.specs.declared.place.CreatePlace.{CreatePlace}
+use Rattle.fsfs_places.specs.declared.place.CreatePlace.TheVariants as place
 
 -- these files were put, in order
 abbrev pub after_puts : List NamedFile → Trace → Trace
@@ -45,24 +47,18 @@ StopsInPuts files old new =
     (before : List NamedFile) × (file : NamedFile) × (rest : List NamedFile) × (files ≡ before ++ file ∷ rest) × FailsToPut file.0 file.1 (option_map (after_puts before) old) new
 
 -- where publishing failed, and what had been done
-abbrev pub StopsPublishing : DiskPlace → List ℕ → Option Trace → Option Trace → Type 0
-StopsPublishing OpenFirm format old new = ⊥
-StopsPublishing OpenRead format old new = ⊥
-StopsPublishing Read format old new = ⊥
-StopsPublishing CreatePut format old new = FailsToPut (only_name FormatNext) format old new
-StopsPublishing CreateFirm format old new = ⊥
-StopsPublishing CreateRename format old new = FailsAt (Rename (only_name FormatNext) (only_name Format)) (option_map (after_next format) old) new
-StopsPublishing CreateLast format old new = FailsAt FirmNames (option_map (after_rename format) old) new
+abbrev pub StopsPublishing : CreatePlace → List ℕ → Option Trace → Option Trace → Type 0
+StopsPublishing place.Put format old new = FailsToPut (only_name FormatNext) format old new
+StopsPublishing place.Firm format old new = ⊥
+StopsPublishing place.Rename format old new = FailsAt (Rename (only_name FormatNext) (only_name Format)) (option_map (after_next format) old) new
+StopsPublishing place.Last format old new = FailsAt FirmNames (option_map (after_rename format) old) new
 
--- where a creation failed, and what had been done. At CreatePut a folder failed, a file's put, or that of `db/format-next`.
-abbrev pub StopsAt : DiskPlace → List NamedFile → List ℕ → Option Trace → Option Trace → Type 0
-StopsAt OpenFirm files format old new = ⊥
-StopsAt OpenRead files format old new = ⊥
-StopsAt Read files format old new = new ≡ old
-StopsAt CreatePut files format old new = (new ≡ old) ⊎ (StopsInPuts files old new ⊎ StopsPublishing CreatePut format (option_map (after_firm files) old) new)
-StopsAt CreateFirm files format old new = FailsAt FirmNames (option_map (after_puts files) old) new
-StopsAt CreateRename files format old new = StopsPublishing CreateRename format (option_map (after_firm files) old) new
-StopsAt CreateLast files format old new = StopsPublishing CreateLast format (option_map (after_firm files) old) new
+-- where a creation failed, and what had been done. At Put a folder failed, a file's put, or that of `db/format-next`.
+abbrev pub StopsAt : CreatePlace → List NamedFile → List ℕ → Option Trace → Option Trace → Type 0
+StopsAt place.Put files format old new = (new ≡ old) ⊎ (StopsInPuts files old new ⊎ StopsPublishing place.Put format (option_map (after_firm files) old) new)
+StopsAt place.Firm files format old new = FailsAt FirmNames (option_map (after_puts files) old) new
+StopsAt place.Rename files format old new = StopsPublishing place.Rename format (option_map (after_firm files) old) new
+StopsAt place.Last files format old new = StopsPublishing place.Last format (option_map (after_firm files) old) new
 
 -- there is a repository: `db/format` is there
 abbrev pub HasRepository : Trace → Type 0
@@ -88,8 +84,9 @@ IsCreated shard identifier moment old new =
 -- a creation failed at this place: at the look it did nothing, else it came as far as that place
 abbrev pub IsStopped : DiskPlace → ℕ → List ℕ → ℕ → Option Trace → Option Trace → Type 0
 IsStopped Read shard identifier moment old new = new ≡ old
-IsStopped place shard identifier moment old new =
-    (date : List ℕ) × IsDateAt moment date × StopsAt place (unpublished_files identifier date) (format_text shard) old new
+IsStopped (Create call) shard identifier moment old new =
+    (date : List ℕ) × IsDateAt moment date × StopsAt call (unpublished_files identifier date) (format_text shard) old new
+IsStopped call shard identifier moment old new = ⊥
 
 -- what a crash in the middle of a creation leaves: no repository, or the whole of it
 abbrev pub IsNoneOrWhole : ℕ → List ℕ → ℕ → Option Trace → Files → Type 0

@@ -11,7 +11,7 @@ use crate::initial::{NewFile, created_files};
 use fsfs_base::{Failed, write_date};
 use fsfs_disk::Disk;
 use fsfs_layout::{Format, Layout, OnlyFile, RepositoryFile, write_format};
-use fsfs_places::{CreateFault, DiskPlace};
+use fsfs_places::{CreateFault, CreatePlace, DiskPlace};
 use std::alloc::Global;
 use uuid::Uuid;
 
@@ -47,7 +47,7 @@ fn put_all<D: Disk>(disk: &mut D, files: &[NewFile]) -> Result<(), Failed>
 }
 
 // Lets the files be a repository, by one change of names.
-fn publish<D: Disk>(disk: &mut D, format: &[u8]) -> Result<(), DiskPlace>
+fn publish<D: Disk>(disk: &mut D, format: &[u8]) -> Result<(), CreatePlace>
     requires { IsTrue (D.may_write disk.old) }
     ensures done { OnOk result (D.trace disk.new ≡ option_map (after_publishing format.now) (D.trace disk.old)) }
     ensures stopped { IfErr result (λ place. StopsPublishing place format.now (D.trace disk.old) (D.trace disk.new)) }
@@ -57,10 +57,10 @@ fn publish<D: Disk>(disk: &mut D, format: &[u8]) -> Result<(), DiskPlace>
     ensures failed { OnErr result (Rose (D.faults disk.old) (D.faults disk.new)) }
 {
     let next = OnlyFile::FormatNext.name();
-    disk.put(&next, format).map_err(|_| DiskPlace::CreatePut)?;
+    disk.put(&next, format).map_err(|_| CreatePlace::Put)?;
     disk.rename(&next, &OnlyFile::Format.name())
-        .map_err(|_| DiskPlace::CreateRename)?;
-    disk.firm_names().map_err(|_| DiskPlace::CreateLast)
+        .map_err(|_| CreatePlace::Rename)?;
+    disk.firm_names().map_err(|_| CreatePlace::Last)
 }
 
 // Writes all files of a repository.
@@ -69,7 +69,7 @@ fn write_files<D: Disk>(
     layout: Layout,
     files: &[NewFile],
     format: &[u8],
-) -> Result<(), DiskPlace>
+) -> Result<(), CreatePlace>
     requires { IsTrue (D.may_write disk.old) }
     ensures done { OnOk result (D.trace disk.new ≡ option_map (after_creation (map named files.now) format.now) (D.trace disk.old)) }
     ensures stopped { IfErr result (λ place. StopsAt place (map named files.now) format.now (D.trace disk.old) (D.trace disk.new)) }
@@ -78,9 +78,9 @@ fn write_files<D: Disk>(
     ensures later { D.faults disk.old ≤ D.faults disk.new }
     ensures failed { OnErr result (Rose (D.faults disk.old) (D.faults disk.new)) }
 {
-    make_folders(disk, layout).map_err(|_| DiskPlace::CreatePut)?;
-    put_all(disk, files).map_err(|_| DiskPlace::CreatePut)?;
-    disk.firm_names().map_err(|_| DiskPlace::CreateFirm)?;
+    make_folders(disk, layout).map_err(|_| CreatePlace::Put)?;
+    put_all(disk, files).map_err(|_| CreatePlace::Put)?;
+    disk.firm_names().map_err(|_| CreatePlace::Firm)?;
     publish(disk, format)
 }
 
@@ -125,6 +125,6 @@ pub fn create<D: Disk>(
     let format = write_format(alloc, &Format::Sharded(layout.shard_size()))?;
     match write_files(disk, layout, &files, &format) {
         Ok(()) => Ok(()),
-        Err(place) => Err(CreateFault::DiskFault(place)),
+        Err(place) => Err(CreateFault::DiskFault(DiskPlace::Create(place))),
     }
 }

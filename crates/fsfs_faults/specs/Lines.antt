@@ -13,8 +13,7 @@ use Rattle.fsfs_damage.specs.declared.damage.DamageKind.{DamageKind}
 use Rattle.fsfs_damage.specs.declared.damage.DamageKind.TheVariants as damaged
 use Rattle.fsfs_damage.specs.declared.damage.RepWhat.{RepWhat}
 use Rattle.fsfs_damage.specs.declared.damage.RepWhat.TheVariants as rep
-use Rattle.fsfs_places.specs.declared.place.DiskPlace.{DiskPlace}
-use Rattle.fsfs_places.specs.declared.place.DiskPlace.TheVariants.{OpenFirm, OpenRead, Read, CreatePut, CreateFirm, CreateRename, CreateLast}
+use Rattle.fsfs_places.specs.Places.{place_word}
 use Rattle.fsfs_cli.specs.Commands.{tool_name}
 use Rattle.fsfs_cli.specs.declared.tool.Tool.{Tool}
 use Rattle.fsfs_faults.specs.declared.fault.Fault.{Fault}
@@ -28,16 +27,7 @@ use Rattle.fsfs_faults.specs.declared.repository_fault.RepositoryFault.TheVarian
 use Rattle.fsfs_faults.specs.declared.outside_fault.OutsideFault.{OutsideFault}
 use Rattle.fsfs_faults.specs.declared.outside_fault.OutsideFault.TheVariants as outside
 
--- ---- names of places and of rules
-
-abbrev pub place_words : DiskPlace → List ℕ
-place_words OpenFirm = codes "OpenFirm"
-place_words OpenRead = codes "OpenRead"
-place_words Read = codes "Read"
-place_words CreatePut = codes "CreatePut"
-place_words CreateFirm = codes "CreateFirm"
-place_words CreateRename = codes "CreateRename"
-place_words CreateLast = codes "CreateLast"
+-- ---- names of the rules of a path
 
 abbrev pub why_name : PathFault → List ℕ
 why_name NotAbsolute = codes "NotAbsolute"
@@ -113,7 +103,7 @@ repository_text (Delta at) = delta ++ at_values at
 
 abbrev pub outside_text : OutsideFault → List ℕ
 outside_text outside.Mount = codes "MountFault"
-outside_text (outside.Disk place) = codes "DiskFault " ++ place_words place
+outside_text (outside.Disk place) = codes "DiskFault " ++ place_word place
 outside_text outside.Read = codes "ReadFault"
 outside_text outside.Write = codes "WriteFault"
 

@@ -3,7 +3,6 @@ ghost use Rattle.std.specs.Prelude.{◌≡◌};
 ghost use Rattle.fsfs_faults.specs.Lines.{outside_text};
 
 use crate::line::{FaultText, with_values, word};
-use crate::values::place_text;
 use fsfs_places::DiskPlace;
 use thiserror::Error;
 
@@ -31,7 +30,7 @@ impl OutsideFault {
     {
         match self {
             OutsideFault::Mount => word("MountFault"),
-            OutsideFault::Disk(place) => with_values("DiskFault ", place_text(*place)),
+            OutsideFault::Disk(place) => with_values("DiskFault ", place.word()),
             OutsideFault::Read => word("ReadFault"),
             OutsideFault::Write => word("WriteFault"),
         }

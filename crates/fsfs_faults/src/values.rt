@@ -1,32 +1,15 @@
 //! The values of faults as they are printed, a space before each.
 ghost use Rattle.std.specs.Prelude.{◌≡◌, ◌<◌, ◌≤◌, ◌∷◌, ◌++◌, length, slice_index, decimal};
 ghost use Rattle.hex.specs.Hex.{encode_lower, lower_digits};
-ghost use Rattle.fsfs_faults.specs.Lines.{place_words, why_name, bad_path_values, small_values, at_values, rep_what_values, what_values, damage_values};
+ghost use Rattle.fsfs_faults.specs.Lines.{why_name, bad_path_values, small_values, at_values, rep_what_values, what_values, damage_values};
 
 use arrayvec::ArrayString;
 use fsfs_base::{BadPath, HexDigest, PathFault, SmallFault};
 use fsfs_damage::{Damage, DamageKind, RepWhat, RevOffset};
 use fsfs_layout::small_file_name;
-use fsfs_places::DiskPlace;
 use itoa::Buffer;
 
 const DIGITS: &[u8; 16] = b"0123456789abcdef";
-
-// The name of the place at which a call of the disk failed.
-pub(crate) fn place_text(place: DiskPlace) -> &'static str
-    ensures text { result.now ≡ place_words place }
-    ensures short { length result.now ≤ 16 }
-{
-    match place {
-        DiskPlace::OpenFirm => "OpenFirm",
-        DiskPlace::OpenRead => "OpenRead",
-        DiskPlace::Read => "Read",
-        DiskPlace::CreatePut => "CreatePut",
-        DiskPlace::CreateFirm => "CreateFirm",
-        DiskPlace::CreateRename => "CreateRename",
-        DiskPlace::CreateLast => "CreateLast",
-    }
-}
 
 // The name of the rule that a path's text breaks.
 fn why_text(why: PathFault) -> &'static str

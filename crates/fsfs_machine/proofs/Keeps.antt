@@ -14,8 +14,9 @@ use Rattle.fsfs_machine.specs.declared.contents.NameChange.TheVariants.{Put, Ren
 use Rattle.fsfs_machine.specs.declared.machine.Recorded.{Recorded}
 use Rattle.fsfs_machine.specs.declared.machine.Coming.{Coming}
 use Rattle.fsfs_machine.specs.declared.machine.Drawn.{Drawn}
-use Rattle.fsfs_machine.specs.declared.machine.DiskPlace.{DiskPlace}
-use Rattle.fsfs_machine.specs.declared.machine.DiskPlace.TheVariants.{RenameCurrent, FirmCurrent}
+use Rattle.fsfs_places.specs.declared.place.DiskPlace.{DiskPlace}
+use Rattle.fsfs_places.specs.declared.place.DiskPlace.TheVariants.{Commit}
+use Rattle.fsfs_places.specs.declared.place.CommitPlace.TheVariants.{RenameCurrent, FirmCurrent}
 use Rattle.fsfs_machine.specs.declared.machine.Section.{Section}
 use Rattle.fsfs_machine.specs.declared.machine.Section.TheVariants.{Begun, CountRead, CountPut, CountRenamed, RevPut, PropsPut, RevFirm, CurrentPut, CurrentRenamed, CurrentFirm, Doubtful, Over}
 use Rattle.fsfs_machine.specs.declared.machine.Lock.TheVariants.{Held}
@@ -188,7 +189,7 @@ pub keeps_current_rename : (w : World) (p : ℕ) (place : DiskPlace) (x : Coming
 keeps_current_rename w p place x went None is kept = let e : None ≡ Some (Number (length w.history)) = sym is ∙ kept.knows in absurd cc
 keeps_current_rename w p place x went (Some c) is kept =
     let same : Some c ≡ Some (Number (length w.history)) = sym is ∙ kept.knows in
-    keeps_rename w p place (CurrentPut x) CurrentNext Current c (CurrentRenamed x) (Doubtful RenameCurrent x) went kept kept.holder.1 kept.holder.1
+    keeps_rename w p place (CurrentPut x) CurrentNext Current c (CurrentRenamed x) (Doubtful (Commit RenameCurrent) x) went kept kept.holder.1 kept.holder.1
     (λ m i. (inl i.0, i.1)) (λ m i. (inr (stands_next w.floor (Rename CurrentNext Current c ∷ m) w.history x i.0.0 i.1 same), i.1)) (λ m i. i)
     (λ m i. i) same kept.next (λ d. tt) kept.next
 
@@ -206,7 +207,7 @@ keeps_called w p place went (PropsPut x) kept = inl (keeps_firm w p place (Props
     (kept.stands w.disk (read_is_image w.disk), kept.knows) (kept.stands w.disk (read_is_image w.disk)) tt)
 keeps_called w p place went (RevFirm x) kept = inl (keeps_put w p place (RevFirm x) CurrentNext (Number (length w.history)) (CurrentPut x) went kept kept.holder.1 (λ m i. i) (λ m any i. i) (λ m i. i.0) (λ m any i. i) refl kept.next)
 keeps_called w p place went (CurrentPut x) kept = inl (keeps_current_rename w p place x went (found w.disk CurrentNext) refl kept)
-keeps_called w p place went (CurrentRenamed x) kept = inl (keeps_firm w p place (CurrentRenamed x) (CurrentFirm x) (Doubtful FirmCurrent x) went kept kept.holder.1 kept.holder.1 (λ m i. i) kept.next (λ d. tt) kept.next
+keeps_called w p place went (CurrentRenamed x) kept = inl (keeps_firm w p place (CurrentRenamed x) (CurrentFirm x) (Doubtful (Commit FirmCurrent) x) went kept kept.holder.1 kept.holder.1 (λ m i. i) kept.next (λ d. tt) kept.next
     (settled w p x kept) (kept.stands w.disk (read_is_image w.disk)) tt)
 keeps_called w p place went Begun kept = inr refl
 keeps_called w p place went (CurrentFirm x) kept = inr refl

@@ -19,9 +19,11 @@ use Rattle.fsfs_machine.specs.declared.contents.NameChange.{NameChange}
 use Rattle.fsfs_machine.specs.declared.machine.Recorded.{Recorded}
 use Rattle.fsfs_machine.specs.declared.machine.Txn.{Txn}
 use Rattle.fsfs_machine.specs.declared.machine.Coming.{Coming}
-use Rattle.fsfs_machine.specs.declared.machine.DiskPlace.{DiskPlace}
-use Rattle.fsfs_machine.specs.declared.machine.DiskPlace.TheVariants.{TxnRead, PutRev, Read}
-use Rattle.fsfs_machine.specs.declared.machine.DiskPlace.TheVariants as place
+use Rattle.fsfs_places.specs.declared.place.DiskPlace.{DiskPlace}
+use Rattle.fsfs_places.specs.declared.place.DiskPlace.TheVariants.{Read, Begin, Commit}
+use Rattle.fsfs_places.specs.declared.place.BeginPlace.TheVariants as begin
+use Rattle.fsfs_places.specs.declared.place.CommitPlace.TheVariants.{PutRev}
+use Rattle.fsfs_places.specs.declared.place.DiskPlace.TheVariants as place
 use Rattle.fsfs_machine.specs.declared.machine.Drawn.{Drawn}
 use Rattle.fsfs_machine.specs.declared.machine.Pass.{Pass}
 use Rattle.fsfs_machine.specs.declared.machine.Section.{Section}
@@ -100,10 +102,10 @@ count_keeps w p b went k is less at = by_end went
     held = steady (record w { lock = Held p Begun }) at
 
     by_end : (went : Went) → Kept (count_read w p b went k)
-    by_end Fine = keeps_turn w p TxnRead Fine Begun (CountRead (record { name = k; next = k + 1; base = b })) w.disk at tt at.stands held (less, below, refl) tt
-    by_end Before = keeps_turn w p TxnRead Before Begun Over w.disk at tt at.stands held tt tt
-    by_end After = keeps_turn w p TxnRead After Begun Over w.disk at tt at.stands held tt tt
-    by_end (Torn any) = keeps_turn w p TxnRead (Torn any) Begun Over w.disk at tt at.stands held tt tt
+    by_end Fine = keeps_turn w p (Begin begin.Read) Fine Begun (CountRead (record { name = k; next = k + 1; base = b })) w.disk at tt at.stands held (less, below, refl) tt
+    by_end Before = keeps_turn w p (Begin begin.Read) Before Begun Over w.disk at tt at.stands held tt tt
+    by_end After = keeps_turn w p (Begin begin.Read) After Begun Over w.disk at tt at.stands held tt tt
+    by_end (Torn any) = keeps_turn w p (Begin begin.Read) (Torn any) Begun Over w.disk at tt at.stands held tt tt
 
 counted_keeps : (w : World) (p b : ℕ) (went : Went) (o : Option Contents) → found w.disk Counter ≡ o → Kept w → Kept (record w { lock = Held p Begun }) → Moves w (counted w p b went (number_of o)).world
 counted_keeps w p b went None is k at = stays w k
@@ -130,7 +132,7 @@ adopted_keeps w p t txn e bytes went x was there mine is at =
     let k : Kept (record less { lock = Held p Begun }) = keeps_txns (record w { lock = Held p Begun }) w.labels w.named (without_place w.txns t) (w.spent ++ txn.name ∷ []) at at.labels at.named
     (transactions_without (revisions w.history) w.txns t at.transactions) (apart_spent w.given w.named w.txns w.spent t txn there at.apart) (λ up. have_without_place w.labels w.txns t (at.benches refl)) in
     let follows : Follows w.history x = subst (λ z. IsEntry (revisions w.history) z × IsNext (revisions w.history) z x.revision) (sym is.entry) (record { transaction = was; dated = is.adds.0 }, is.adds.1) in
-    keeps_put less p PutRev Begun (Rev (length w.history)) (file_of (recorded x)) (RevPut x) went k (ap (λ z. z.pass) is.entry ∙ mine)
+    keeps_put less p (Commit PutRev) Begun (Rev (length w.history)) (file_of (recorded x)) (RevPut x) went k (ap (λ z. z.pass) is.entry ∙ mine)
     (λ m i. i) (λ m any i. past_rev w.floor m w.history any i) (λ m i. i) (λ m any i. i) (shown_again w.floor w.disk (length w.history) (file_of (recorded x)) at.floor) follows
 
 adopts_txn_keep : (w : World) (p t : ℕ) (properties : List (List ℕ × List ℕ)) (bytes : List ℕ) (went : Went) (o : Option Txn) (d : Did) → slice_get w.txns t ≡ o

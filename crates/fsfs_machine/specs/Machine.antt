@@ -22,9 +22,11 @@ use Rattle.fsfs_machine.specs.declared.machine.Recorded.{Recorded}
 use Rattle.fsfs_machine.specs.declared.machine.Txn.{Txn}
 use Rattle.fsfs_machine.specs.declared.machine.Coming.{Coming}
 use Rattle.fsfs_machine.specs.declared.machine.Drawn.{Drawn}
-use Rattle.fsfs_machine.specs.declared.machine.DiskPlace.{DiskPlace}
-use Rattle.fsfs_machine.specs.declared.machine.DiskPlace.TheVariants.{TxnRead, TxnPut, TxnRename, TxnFirm, PutRev, PutProps, FirmRev, PutCurrent, RenameCurrent, FirmCurrent, Read}
-use Rattle.fsfs_machine.specs.declared.machine.DiskPlace.TheVariants as place
+use Rattle.fsfs_places.specs.declared.place.DiskPlace.{DiskPlace}
+use Rattle.fsfs_places.specs.declared.place.DiskPlace.TheVariants.{Read, Begin, Commit}
+use Rattle.fsfs_places.specs.declared.place.DiskPlace.TheVariants as place
+use Rattle.fsfs_places.specs.declared.place.BeginPlace.TheVariants as begin
+use Rattle.fsfs_places.specs.declared.place.CommitPlace.TheVariants.{PutRev, PutProps, FirmRev, PutCurrent, RenameCurrent, FirmCurrent}
 use Rattle.fsfs_machine.specs.declared.machine.Section.{Section}
 use Rattle.fsfs_machine.specs.declared.machine.Section.TheVariants.{Begun, CountRead, CountPut, CountRenamed, RevPut, PropsPut, RevFirm, CurrentPut, CurrentRenamed, CurrentFirm, Doubtful, Over}
 use Rattle.fsfs_machine.specs.declared.machine.Lock.{Lock}
@@ -90,14 +92,14 @@ file_of x = RevFile x.revision.tree x.revision.changes x.bytes
 
 -- the place of the call that comes next, with its test
 abbrev pub is_due : Section → DiskPlace → Bool
-is_due (CountRead x) TxnPut = true
-is_due (CountPut x) TxnRename = true
-is_due (CountRenamed x) TxnFirm = true
-is_due (RevPut x) PutProps = true
-is_due (PropsPut x) FirmRev = true
-is_due (RevFirm x) PutCurrent = true
-is_due (CurrentPut x) RenameCurrent = true
-is_due (CurrentRenamed x) FirmCurrent = true
+is_due (CountRead x) (Begin begin.Put) = true
+is_due (CountPut x) (Begin begin.Rename) = true
+is_due (CountRenamed x) (Begin begin.Firm) = true
+is_due (RevPut x) (Commit PutProps) = true
+is_due (PropsPut x) (Commit FirmRev) = true
+is_due (RevFirm x) (Commit PutCurrent) = true
+is_due (CurrentPut x) (Commit RenameCurrent) = true
+is_due (CurrentRenamed x) (Commit FirmCurrent) = true
 is_due s place = false
 
 -- the list with the element at a place changed
@@ -205,8 +207,8 @@ after s = Over
 
 -- and after a fault there
 abbrev pub spoiled : Section → Section
-spoiled (CurrentPut x) = Doubtful RenameCurrent x
-spoiled (CurrentRenamed x) = Doubtful FirmCurrent x
+spoiled (CurrentPut x) = Doubtful (Commit RenameCurrent) x
+spoiled (CurrentRenamed x) = Doubtful (Commit FirmCurrent) x
 spoiled s = Over
 
 abbrev pub tree_in : Option Revision → FinMap path_cmp Node
@@ -238,7 +240,7 @@ abbrev pub count_read : World → ℕ → ℕ → Went → ℕ → World
 count_read w p b went k =
     record w {
       lock = Held p (either went (CountRead (record { name = k; next = k + 1; base = b })) Over);
-      passes = at_place w.passes p (learns (length w.history) TxnRead went);
+      passes = at_place w.passes p (learns (length w.history) (Begin begin.Read) went);
     }
 
 abbrev pub counted : World → ℕ → ℕ → Went → Option ℕ → Did
@@ -282,7 +284,7 @@ pub record IsComing (h : List Recorded) (e : Entry) (bytes : List ℕ) (x : Comi
 
 -- PutRev: a commit's first call; the transaction is used up, and its label is yet to be dropped
 abbrev pub adopted : World → ℕ → ℕ → ℕ → Went → Coming → World
-adopted w p t name went x = at_call (record w { txns = without_place w.txns t; spent = w.spent ++ name ∷ [] }) p PutRev (Put (Rev (length w.history)) (file_of (recorded x))) (RevPut x) Over went
+adopted w p t name went x = at_call (record w { txns = without_place w.txns t; spent = w.spent ++ name ∷ [] }) p (Commit PutRev) (Put (Rev (length w.history)) (file_of (recorded x))) (RevPut x) Over went
 
 abbrev pub AdoptsOf : World → ℕ → ℕ → ℕ → Entry → List ℕ → Went → Did → Type 0
 AdoptsOf w p t name e bytes went d =

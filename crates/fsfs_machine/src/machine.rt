@@ -5,6 +5,7 @@ ghost use Rattle.fsfs_machine.specs.Machine.{entry_of};
 use crate::contents::{Bytes, Contents};
 use fsfs_base::{FsPath, Pairs, RevNum};
 use fsfs_flat::{Edit, Mark};
+use fsfs_places::DiskPlace;
 use fsfs_tree::{Revision, Tree};
 use std::marker::Model;
 
@@ -151,28 +152,6 @@ impl Coming {
     }
 }
 
-/// The places at which the disk is called.
-#[derive(Clone, Copy, Debug, PartialEq, Eq)]
-pub enum DiskPlace {
-    TxnRead,
-    TxnPut,
-    TxnRename,
-    TxnFirm,
-    PutRev,
-    PutProps,
-    FirmRev,
-    PutCurrent,
-    RenameCurrent,
-    FirmCurrent,
-    Read,
-    /// A transaction's bench is made, with its label.
-    MakeBench,
-    /// The labels are listed.
-    List,
-    /// A bench is dropped, and its label.
-    Remove,
-}
-
 /// How far the holder of the lock has come: each is named after the last call that was done.
 #[derive(Drop)]
 pub enum Section {
@@ -213,7 +192,7 @@ pub struct Places {
 
 impl Model for Places {
     ghost use Rattle.std.specs.Prelude.{List};
-    ghost use Rattle.fsfs_machine.specs.declared.machine.DiskPlace.{DiskPlace};
+    ghost use Rattle.fsfs_places.specs.declared.place.DiskPlace.{DiskPlace};
 
     ghost Value = { List DiskPlace };
 

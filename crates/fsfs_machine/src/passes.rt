@@ -3,7 +3,8 @@ ghost use Rattle.std.specs.Prelude.{◌≡◌, ◌+◌, ◌++◌, ◌∷◌, [],
 ghost use Rattle.fsfs_machine.specs.Machine.{at_place, learns, reveals, joined, sees_floor, raised, is_known, first_pass};
 
 use crate::files::is_fine;
-use crate::machine::{DiskPlace, Numbers, Pass, Places, Went};
+use crate::machine::{Numbers, Pass, Places, Went};
+use fsfs_places::DiskPlace;
 use std::alloc::{AllocError, Global};
 use std::collections::VecDeque;
 

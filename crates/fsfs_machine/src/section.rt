@@ -3,8 +3,9 @@ ghost use Rattle.std.specs.Prelude.{◌≡◌, ◌+◌, ℕ};
 ghost use Rattle.fsfs_machine.specs.Machine.{either, is_due, is_quiet, is_up, is_outside, after, spoiled, down, answer};
 
 use crate::files::is_fine;
-use crate::machine::{DiskPlace, Drawn, Lock, Outcome, Section, Went};
+use crate::machine::{Drawn, Lock, Outcome, Section, Went};
 use fsfs_base::RevNum;
+use fsfs_places::{BeginPlace, CommitPlace, DiskPlace};
 
 /// Whether the lock may be given here.
 pub fn is_quiet_section(section: &Section) -> bool
@@ -21,14 +22,14 @@ pub fn is_due_at(section: &Section, place: DiskPlace) -> bool
     ensures { result ≡ is_due section.now place }
 {
     match section {
-        Section::CountRead(_) => matches!(place, DiskPlace::TxnPut),
-        Section::CountPut(_) => matches!(place, DiskPlace::TxnRename),
-        Section::CountRenamed(_) => matches!(place, DiskPlace::TxnFirm),
-        Section::RevPut(_) => matches!(place, DiskPlace::PutProps),
-        Section::PropsPut(_) => matches!(place, DiskPlace::FirmRev),
-        Section::RevFirm(_) => matches!(place, DiskPlace::PutCurrent),
-        Section::CurrentPut(_) => matches!(place, DiskPlace::RenameCurrent),
-        Section::CurrentRenamed(_) => matches!(place, DiskPlace::FirmCurrent),
+        Section::CountRead(_) => matches!(place, DiskPlace::Begin(BeginPlace::Put)),
+        Section::CountPut(_) => matches!(place, DiskPlace::Begin(BeginPlace::Rename)),
+        Section::CountRenamed(_) => matches!(place, DiskPlace::Begin(BeginPlace::Firm)),
+        Section::RevPut(_) => matches!(place, DiskPlace::Commit(CommitPlace::PutProps)),
+        Section::PropsPut(_) => matches!(place, DiskPlace::Commit(CommitPlace::FirmRev)),
+        Section::RevFirm(_) => matches!(place, DiskPlace::Commit(CommitPlace::PutCurrent)),
+        Section::CurrentPut(_) => matches!(place, DiskPlace::Commit(CommitPlace::RenameCurrent)),
+        Section::CurrentRenamed(_) => matches!(place, DiskPlace::Commit(CommitPlace::FirmCurrent)),
         _ => false,
     }
 }
@@ -52,8 +53,12 @@ fn section_spoiled(section: Section) -> Section
     ensures { result ≡ spoiled section }
 {
     match section {
-        Section::CurrentPut(x) => Section::Doubtful(DiskPlace::RenameCurrent, x),
-        Section::CurrentRenamed(x) => Section::Doubtful(DiskPlace::FirmCurrent, x),
+        Section::CurrentPut(x) => {
+            Section::Doubtful(DiskPlace::Commit(CommitPlace::RenameCurrent), x)
+        }
+        Section::CurrentRenamed(x) => {
+            Section::Doubtful(DiskPlace::Commit(CommitPlace::FirmCurrent), x)
+        }
         _ => Section::Over,
     }
 }

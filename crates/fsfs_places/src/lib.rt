@@ -1,4 +1,4 @@
-//! Why a repository isn't made or opened, with the place at which a call of the disk failed: each program tells its user which one
+//! At which call of a disk something failed, and why a repository isn't made or opened: each program tells its user which call
 //! it was.
 #![tactic(auto)]
 
@@ -8,4 +8,4 @@ mod place;
 
 pub use create_fault::CreateFault;
 pub use open_fault::OpenFault;
-pub use place::DiskPlace;
+pub use place::{BeginPlace, CommitPlace, CreatePlace, DiskPlace, OpenPlace};

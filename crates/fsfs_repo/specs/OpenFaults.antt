@@ -1,5 +1,5 @@
 -- Why a repository is not opened.
-use Rattle.std.specs.Prelude.{Option, IfSome, option_map, ◌≡◌, ◌⊎◌}
+use Rattle.std.specs.Prelude.{Option, IfSome, option_map, ◌≡◌}
 use Rattle.fsfs_disk.specs.Trace.{Trace, files_now}
 use Rattle.fsfs_layout.specs.Opening.{SmallTexts, small_texts, IsNone, HasFormat, IsLinear, IsRefused}
 use Rattle.fsfs_repo.specs.declared.opening.SmallFiles.{SmallFiles}
@@ -8,7 +8,8 @@ use Rattle.fsfs_places.specs.declared.open_fault.OpenFault.TheVariants.{NotRepo,
 use Rattle.fsfs_whole_file.specs.declared.file_fault.FileFault.{FileFault}
 use Rattle.fsfs_whole_file.specs.declared.file_fault.FileFault.TheVariants as file
 use Rattle.fsfs_places.specs.declared.place.DiskPlace.{DiskPlace}
-use Rattle.fsfs_places.specs.declared.place.DiskPlace.TheVariants.{OpenFirm, OpenRead}
+use Rattle.fsfs_places.specs.declared.place.DiskPlace.TheVariants.{Open}
+use Rattle.fsfs_places.specs.declared.place.OpenPlace.TheVariants as place
 
 abbrev pub texts_of : SmallFiles → SmallTexts
 texts_of s = record {
@@ -26,7 +27,7 @@ IfOutside P NotRepo = ⊥
 IfOutside P (OtherFormat number) = ⊥
 IfOutside P Linear = ⊥
 IfOutside P (Small fault) = ⊥
-IfOutside P (DiskFault place) = P
+IfOutside P (DiskFault at) = P
 IfOutside P Memory = Unit {0}
 
 -- the same of a small file that is read
@@ -35,11 +36,11 @@ IfUnread P NotRepo = ⊥
 IfUnread P (OtherFormat number) = ⊥
 IfUnread P Linear = ⊥
 IfUnread P (Small fault) = ⊥
-IfUnread P (DiskFault place) = P × (place ≡ OpenRead)
+IfUnread P (DiskFault at) = P × (at ≡ Open place.Read)
 IfUnread P Memory = Unit {0}
 
 abbrev pub outside_of : FileFault → OpenFault
-outside_of file.Failed = DiskFault OpenRead
+outside_of file.Failed = DiskFault (Open place.Read)
 outside_of file.Memory = Memory
 
 -- the cause of each refusal, in the bytes of the small files
@@ -48,12 +49,13 @@ JudgedBecause s NotRepo = IsNone s
 JudgedBecause s (OtherFormat number) = HasFormat s number
 JudgedBecause s Linear = IsLinear s
 JudgedBecause s (Small fault) = IsRefused s fault
-JudgedBecause s (DiskFault place) = ⊥
+JudgedBecause s (DiskFault at) = ⊥
 JudgedBecause s Memory = ⊥
 
--- an opening fails at one of these places
+-- an opening fails at one of its places
 abbrev pub IsOpenPlace : DiskPlace → Type 0
-IsOpenPlace place = (place ≡ OpenFirm) ⊎ (place ≡ OpenRead)
+IsOpenPlace (Open call) = Unit {0}
+IsOpenPlace at = ⊥
 
 -- the cause of each refusal, in the files of the disk; `rose` says that its count of faults rose
 abbrev pub OpensBecause : Type 0 → Option Trace → OpenFault → Type 0
@@ -61,5 +63,5 @@ OpensBecause rose told NotRepo = IfSome told (λ t. IsNone (small_texts (files_n
 OpensBecause rose told (OtherFormat number) = IfSome told (λ t. HasFormat (small_texts (files_now t)) number)
 OpensBecause rose told Linear = IfSome told (λ t. IsLinear (small_texts (files_now t)))
 OpensBecause rose told (Small fault) = IfSome told (λ t. IsRefused (small_texts (files_now t)) fault)
-OpensBecause rose told (DiskFault place) = rose × IsOpenPlace place
+OpensBecause rose told (DiskFault at) = rose × IsOpenPlace at
 OpensBecause rose told Memory = Unit {0}

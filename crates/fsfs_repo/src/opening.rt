@@ -14,7 +14,7 @@ use fsfs_layout::{
     Format, Layout, OnlyFile, Opened, read_current, read_format, read_min_unpacked_rev,
     read_txn_current, read_uuid,
 };
-use fsfs_places::{DiskPlace, OpenFault};
+use fsfs_places::{DiskPlace, OpenFault, OpenPlace};
 use fsfs_whole_file::{FileFault, read_disk_file};
 use std::alloc::Global;
 
@@ -53,7 +53,7 @@ fn outside(fault: FileFault) -> OpenFault
     ensures { result ≡ outside_of fault }
 {
     match fault {
-        FileFault::Failed => OpenFault::DiskFault(DiskPlace::OpenRead),
+        FileFault::Failed => OpenFault::DiskFault(DiskPlace::Open(OpenPlace::Read)),
         FileFault::Memory => OpenFault::Memory,
     }
 }
@@ -151,7 +151,7 @@ pub fn open<D: Disk>(alloc: Global, disk: &mut D) -> Result<Opened, OpenFault>
     ensures later { D.faults disk.old ≤ D.faults disk.new }
 {
     if disk.firm_names().is_err() {
-        return Err(OpenFault::DiskFault(DiskPlace::OpenFirm));
+        return Err(OpenFault::DiskFault(DiskPlace::Open(OpenPlace::Firm)));
     }
     let files = read_small_files(alloc, disk)?;
     judge(&files)

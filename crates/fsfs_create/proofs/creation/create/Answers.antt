@@ -5,7 +5,7 @@ use Rattle.fsfs_create.specs.Creation.{after_firm, after_rename}
 use Rattle.fsfs_base.specs.Failures.{Rose}
 use Rattle.fsfs_layout.specs.CreatedFiles.{identifier_text, unpublished_files, format_text}
 use Rattle.fsfs_create.specs.NewFiles.{named}
-use Rattle.fsfs_create.proofs.CrashLemmas.{last_done, leaves_done, leaves_stopped, leaves_whole, ended_so, stopped_so, is_stopped}
+use Rattle.fsfs_create.proofs.CrashLemmas.{last_done, leaves_done, leaves_stopped, leaves_whole, ended_so, stopped_so}
 use Rattle.fsfs_create.proofs.CreatedFilesLemmas.{created_files_now, not_there, not_both, no_format}
 use Rattle.fsfs_create.proofs.creation.create.Goals as goal
 
@@ -50,7 +50,7 @@ returns-clause-refused g c =
     let files : map named c.deref-2.result.now ≡ unpublished_files id date = ap (map named) c.deref-2.ensures.value ∙ c.in_ok-files.ensures ∙ ap (unpublished_files id) c.deref.ensures.value in
     let format : c.deref-3.result.now ≡ format_text c.args.layout.shard_size = c.deref-3.ensures.value ∙ c.in_ok-format.ensures.text ∙ ap format_text c.shard_size.ensures.size in
     let stopped = stopped_so c.in-Err-write_files.place c.args.layout.shard_size id date (map named c.deref-2.result.now) c.deref-3.result.now old (told c.size.new.self) new files format c.in-Ok-None.ensures.same c.in-Err-write_files.ensures.stopped in
-    (rose, is_stopped c.in-Err-write_files.place c.args.layout.shard_size id date c.args.moment old new c.in_ok-date.ensures stopped)
+    (rose, (date, c.in_ok-date.ensures, stopped))
 
 pub returns-clause-there_same : goal.returns-clause-there_same
 returns-clause-there_same g c = λ t is here. absurd (not_both (g.D.Disk.trace c.args.disk.now) t (not_there (g.D.Disk.trace c.args.disk.now) c.name.result c.in-Ok-None.field-0 c.name.ensures c.in-Ok-None.field-0-is c.in-Ok-None.ensures.length) is here)
