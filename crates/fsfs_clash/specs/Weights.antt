@@ -1,0 +1,21 @@
+-- Why the walk ends: what the base has at a path weighs more than all that can stand in that directory.
+use Rattle.std.specs.Prelude.{ℕ, suc, ◌+◌, ◌-◌, ◌*◌, ◌^◌, min, List, [], ◌∷◌, Option, Some, None}
+use Rattle.fsfs_damage.specs.declared.damage.RevOffset.{RevOffset}
+use Rattle.fsfs_shows.specs.Reading.{offset_of}
+use Rattle.fsfs_clash.specs.declared.three.Target.{Target}
+use Rattle.fsfs_clash.specs.declared.walk.Pending.{Pending}
+
+-- the place as one number
+abbrev pub rank : RevOffset → ℕ
+rank at = at.rev * 2 ^ 64 + min at.offset (2 ^ 64 - 1)
+
+abbrev pub weight : RevOffset → ℕ
+weight at = (2 ^ 65) ^ suc (rank at)
+
+abbrev pub weight_in : Option Target → ℕ
+weight_in None = 1
+weight_in (Some t) = weight (offset_of t.id.place)
+
+abbrev pub total : List Pending → ℕ
+total [] = 0
+total (p ∷ todo) = weight_in p.three.base + total todo
