@@ -1,101 +1,136 @@
 // What a step answers, and which history stands, as lines write them.
-use anyhow::Result;
 use fsfs_base::{FsPath, RevNum};
-use fsfs_core::{Bytes, Numbers, Outcome, State};
-use fsfs_tree::Text;
-use std::alloc::{AllocError, Global};
+use fsfs_core::{Numbers, Outcome, State};
+use fsfs_escapes::Transcript;
+use fsfs_model::flat_history;
+use fsfs_tree::{History, Revision, Text, Tree};
+use std::alloc::Global;
 use std::collections::BTreeSet;
 
-// Bytes, which are all of ASCII.
-fn put_text(out: &mut String, bytes: &[u8]) -> Result<(), AllocError> {
-    for byte in bytes {
-        write!(out, "{}", *byte as char)?;
-    }
-    Ok(())
-}
-
-fn put_bytes(out: &mut String, bytes: &Bytes) -> Result<(), AllocError> {
-    out.push_str("bytes ")?;
-    put_text(out, bytes.as_slice())
-}
-
-fn put_names(out: &mut String, names: &Numbers) -> Result<(), AllocError> {
-    out.push_str("names")?;
+fn put_names(out: &mut Transcript, names: &Numbers) {
+    out.say("names");
     for number in names.numbers.iter() {
-        write!(out, " {number}")?;
+        out.tell(" ", number);
     }
-    Ok(())
-}
-
-fn put_conflict(out: &mut String, alloc: Global, path: &FsPath) -> Result<(), AllocError> {
-    let path = path.text(alloc)?;
-    write!(out, "conflict {path}")
 }
 
 /// Writes what a step answers.
-pub fn put_answer(out: &mut String, alloc: Global, outcome: &Outcome) -> Result<(), AllocError> {
+pub fn put_answer(out: &mut Transcript, outcome: &Outcome) {
     match outcome {
-        Outcome::Barred => out.push_str("barred"),
-        Outcome::Done => out.push_str("done"),
-        Outcome::Failed => out.push_str("failed"),
-        Outcome::Missing => out.push_str("missing"),
-        Outcome::Stuck(place) => write!(out, "stuck {place:?}"),
-        Outcome::Youngest(number) => write!(out, "r{number}"),
-        Outcome::Floor(number) => write!(out, "floor {number}"),
-        Outcome::Bytes(bytes) => put_bytes(out, bytes),
+        Outcome::Barred => out.say("barred"),
+        Outcome::Done => out.say("done"),
+        Outcome::Failed => out.say("failed"),
+        Outcome::Missing => out.say("missing"),
+        Outcome::Stuck(place) => {
+            out.say("stuck ");
+            out.say(place.word());
+        }
+        Outcome::Youngest(number) => out.tell("r", number),
+        Outcome::Floor(number) => out.tell("floor ", number),
+        Outcome::Bytes(bytes) => {
+            out.say("bytes ");
+            out.bytes(bytes.as_slice());
+        }
         Outcome::Properties(pairs) => {
-            let count = pairs.as_map().len();
-            write!(out, "{count} properties")
+            out.show(&pairs.as_map().len());
+            out.say(" properties");
         }
         Outcome::Names(names) => put_names(out, names),
-        Outcome::Conflict(path) => put_conflict(out, alloc, path),
+        Outcome::Conflict(path) => out.tell("conflict ", path),
     }
 }
 
-// Writes the paths of a revision, behind those of files with a text that text.
-fn put_revision(
-    out: &mut String,
-    alloc: Global,
-    state: &State,
-    rev: RevNum,
-) -> Result<(), AllocError> {
-    let Some(revision) = state.history().get(rev) else {
-        return Ok(());
-    };
-    let number = rev.get();
-    write!(out, "r{number}")?;
-    let mut paths: BTreeSet<FsPath> = BTreeSet::new(alloc);
-    revision.tree.add_paths(&mut paths)?;
-    for path in paths.iter() {
-        let text = path.text(alloc)?;
-        write!(out, " {text}")?;
-        if let Some(node) = revision.tree.get(path)
-            && let Text::Bytes(bytes) = &node.text
-            && !bytes.is_empty()
-        {
-            out.push_str("=")?;
-            put_text(out, bytes.as_slice())?;
-        }
+// Writes a path, and the text of a file that has one.
+fn put_path(out: &mut Transcript, tree: &Tree, path: &FsPath) {
+    out.tell(" ", path);
+    if let Some(node) = tree.get(path)
+        && let Text::Bytes(bytes) = &node.text
+        && !bytes.is_empty()
+    {
+        out.say("=");
+        out.bytes(bytes.as_slice());
     }
-    writeln!(out, "")
+}
+
+// Writes the paths of a tree.
+fn put_paths(out: &mut Transcript, alloc: Global, tree: &Tree) {
+    let mut paths: BTreeSet<FsPath> = BTreeSet::new(alloc);
+    if tree.add_paths(&mut paths).is_err() {
+        out.lose();
+    }
+    for path in paths.iter() {
+        put_path(out, tree, path);
+    }
+}
+
+fn put_revision(out: &mut Transcript, alloc: Global, rev: RevNum, revision: &Revision) {
+    out.tell("r", &rev);
+    put_paths(out, alloc, &revision.tree);
+    out.say("\n");
 }
 
 /// Writes the youngest revision, and each revision of the history.
-pub fn put_history(out: &mut String, alloc: Global, state: &State) -> Result<(), AllocError> {
-    let youngest = state.young();
-    writeln!(out, "youngest {youngest}")?;
+pub fn put_history(out: &mut Transcript, alloc: Global, state: &State) {
+    out.tell("youngest ", &state.young());
+    out.say("\n");
     for rev in 0..state.history().count() {
-        if let Some(rev) = RevNum::new(rev as u64) {
-            put_revision(out, alloc, state, rev)?;
+        if let Some(rev) = RevNum::new(rev as u64)
+            && let Some(revision) = state.history().get(rev)
+        {
+            put_revision(out, alloc, rev, revision);
         }
     }
-    Ok(())
+}
+
+/// Writes when a path of a revision changed last, and whether it is among the changed paths of the revision.
+pub fn put_node(out: &mut Transcript, history: &History, rev: RevNum, path: &FsPath) {
+    let Some(revision) = history.get(rev) else {
+        return out.say("no revision\n");
+    };
+    match revision.tree.get(path) {
+        Some(node) => {
+            out.show(path);
+            out.tell(" changed in r", &node.last_changed);
+        }
+        None => out.tell("no ", path),
+    }
+    out.tell(", which r", &rev);
+    match revision.changes.get(path) {
+        Some(_) => out.say(" tells\n"),
+        None => out.say(" does not tell\n"),
+    }
+}
+
+fn put_points(out: &mut Transcript, points: &[(RevNum, FsPath)]) {
+    for (rev, path) in points {
+        out.tell("r", rev);
+        out.tell(" ", path);
+        out.say("\n");
+    }
+}
+
+/// Writes the history of a path of a revision, the newest first.
+pub fn put_walk(
+    out: &mut Transcript,
+    alloc: Global,
+    history: &History,
+    rev: RevNum,
+    path: &FsPath,
+) {
+    match flat_history(alloc, history, rev, path) {
+        Ok(points) => put_points(out, &points),
+        Err(_) => out.lose(),
+    }
 }
 
 /// Writes where the lock is stuck.
-pub fn put_stuck(out: &mut String, state: &State) -> Result<(), AllocError> {
+pub fn put_stuck(out: &mut Transcript, state: &State) {
     match state.stuck() {
-        Some(place) => writeln!(out, "stuck {place:?}"),
-        None => writeln!(out, "not stuck"),
+        Some(place) => {
+            out.say("stuck ");
+            out.say(place.word());
+            out.say("\n");
+        }
+        None => out.say("not stuck\n"),
     }
 }

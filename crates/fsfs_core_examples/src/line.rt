@@ -25,6 +25,10 @@ pub enum Line<'a> {
     History,
     /// Prints where the lock is stuck.
     Stuck,
+    /// Prints what a revision says of a path: when it changed last, and whether in this revision.
+    Node(&'a str),
+    /// Prints the history of a path.
+    Walk(&'a str),
     /// A step, whose answer is printed.
     Step(&'a str),
 }
@@ -44,6 +48,8 @@ impl<'a> Line<'a> {
             "do" => Line::Do(rest),
             "history" => Line::History,
             "stuck" => Line::Stuck,
+            "node" => Line::Node(rest),
+            "walk" => Line::Walk(rest),
             _ => Line::Step(line),
         }
     }

@@ -2,7 +2,7 @@
 use crate::line::{Block, Line};
 use crate::player::{Named, Player, steps_of};
 use crate::step::calls_the_disk;
-use anyhow::Result;
+use fsfs_escapes::Transcript;
 use std::alloc::{AllocError, Global};
 
 // What a block prints in a run with these lines before it, after these steps, and after the next has failed.
@@ -13,41 +13,49 @@ fn told(
     block: &[&str],
     steps: &[&str],
     failing: Option<&str>,
-) -> Result<String, AllocError> {
+) -> Result<Transcript, AllocError> {
     let mut player = Player::new(alloc)?;
     for line in before {
-        player.play(named, line)?;
+        player.play(named, line);
     }
     player.out.clear();
     let done = player.run(steps);
-    player.told("steps", done)?;
+    player.told("steps", done);
     if let Some(line) = failing {
         let failed = player.fail(line);
-        player.told(line, failed)?;
+        player.told(line, failed);
     }
     for line in block {
-        player.play(named, line)?;
+        player.play(named, line);
     }
     Ok(player.out)
+}
+
+// Prints what is told behind this line, but where the same was told last.
+fn put_told(out: &mut Transcript, last: &mut Transcript, word: &str, line: &str, told: Transcript) {
+    if told.as_str() != last.as_str() {
+        out.say(word);
+        out.say(line);
+        out.say("\n");
+        out.say(told.as_str());
+        *last = told;
+    }
 }
 
 // Plays a block after each of these steps. What is printed of steps beside one another that give the same is printed once.
 fn play_after(
     alloc: Global,
-    out: &mut String,
+    out: &mut Transcript,
     named: &[Named<'_>],
     before: &[&str],
     block: &[&str],
     steps: &[&str],
 ) -> Result<(), AllocError> {
-    let mut last = String::new(alloc);
+    let mut last = Transcript::new(alloc);
     for (at, line) in steps.iter().enumerate() {
         let done = steps.get(..at.saturating_add(1)).unwrap_or(steps);
         let told = told(alloc, named, before, block, done, None)?;
-        if told.as_str() != last.as_str() {
-            write!(out, "after {line}\n{told}")?;
-            last = told;
-        }
+        put_told(out, &mut last, "after ", line, told);
     }
     Ok(())
 }
@@ -55,13 +63,13 @@ fn play_after(
 // The same, where each of these steps that calls the disk fails in each way.
 fn play_faults(
     alloc: Global,
-    out: &mut String,
+    out: &mut Transcript,
     named: &[Named<'_>],
     before: &[&str],
     block: &[&str],
     steps: &[&str],
 ) -> Result<(), AllocError> {
-    let mut last = String::new(alloc);
+    let mut last = Transcript::new(alloc);
     for (at, line) in steps.iter().enumerate() {
         if !calls_the_disk(line) {
             continue;
@@ -70,10 +78,7 @@ fn play_faults(
         for way in ["before", "after", "torn"] {
             let failing = format!(in alloc; "{line} {way}")?;
             let told = told(alloc, named, before, block, done, Some(failing.as_str()))?;
-            if told.as_str() != last.as_str() {
-                write!(out, "fault {failing}\n{told}")?;
-                last = told;
-            }
+            put_told(out, &mut last, "fault ", failing.as_str(), told);
         }
     }
     Ok(())
@@ -82,7 +87,7 @@ fn play_faults(
 // Plays a block whose first line is this one, and whose other lines are those.
 fn play_block(
     alloc: Global,
-    out: &mut String,
+    out: &mut Transcript,
     named: &[Named<'_>],
     before: &[&str],
     first: &str,
@@ -93,13 +98,18 @@ fn play_block(
         Line::Begin(Block::Faults(name)) => (name, true),
         _ => return Ok(()),
     };
-    writeln!(out, "{first}")?;
+    out.say(first);
+    out.say("\n");
     match steps_of(named, name) {
         Ok(steps) if faults => play_faults(alloc, out, named, before, block, steps)?,
         Ok(steps) => play_after(alloc, out, named, before, block, steps)?,
-        Err(error) => writeln!(out, "? {name}: {error}")?,
+        Err(error) => {
+            out.tell("? ", &error);
+            out.say("\n");
+        }
     }
-    writeln!(out, "end")
+    out.say("end\n");
+    Ok(())
 }
 
 // What is printed of these lines.
@@ -134,13 +144,13 @@ fn play_lines<'a>(alloc: Global, lines: &'a [&'a str]) -> Result<String, AllocEr
                 begun = None;
             }
             (_, Some(_)) => {}
-            (_, None) => player.play(&named, line)?,
+            (_, None) => player.play(&named, line),
         }
     }
     if begun.is_some() {
-        player.out.push_str("? the last block does not end\n")?;
+        player.out.say("? the last block does not end\n");
     }
-    Ok(player.out)
+    player.out.finish()
 }
 
 /// What is printed of a text of runs.

@@ -1,10 +1,12 @@
 // A machine that runs, and what is printed of it.
-use crate::answer::{put_answer, put_history, put_stuck};
+use crate::answer::{put_answer, put_history, put_node, put_stuck, put_walk};
 use crate::line::Line;
 use crate::step::step_of;
+use crate::words::Words;
 use anyhow::{Result, bail};
-use fsfs_base::Pairs;
-use fsfs_core::{Bytes, Outcome, State};
+use fsfs_base::{FsPath, Pairs, RevNum};
+use fsfs_core::{Bytes, Outcome, State, Step};
+use fsfs_escapes::Transcript;
 use std::alloc::{AllocError, Global};
 use std::collections::VecDeque;
 
@@ -29,30 +31,64 @@ pub fn steps_of<'a>(named: &[Named<'a>], name: &str) -> Result<&'a [&'a str]> {
     }
 }
 
+// A revision and a path in it.
+fn place_of(alloc: Global, text: &str) -> Result<(RevNum, FsPath)> {
+    let mut words = Words::new(text);
+    let rev = words.revision(0);
+    let path = words.path(alloc);
+    words.end()?;
+    Ok((rev, path))
+}
+
+// A new repository, whose revision 0 has a file of the bytes `zero`.
+fn new_state(alloc: Global) -> Result<State, AllocError> {
+    let bytes = Bytes::new(Vec::from_slice(alloc, b"zero")?);
+    State::create(alloc, Pairs::new(alloc), bytes)
+}
+
+// The steps that these lines write.
+fn steps_in(alloc: Global, lines: &[&str], youngest: u64) -> Result<VecDeque<Step>> {
+    let mut steps = VecDeque::new(alloc);
+    for line in lines {
+        steps.push_back(step_of(alloc, line, youngest)?)?;
+    }
+    Ok(steps)
+}
+
+fn are_done(outcomes: &[Outcome]) -> bool {
+    for outcome in outcomes {
+        if !matches!(outcome, Outcome::Done) {
+            return false;
+        }
+    }
+    true
+}
+
 /// A machine, and what has been printed of it.
 #[derive(Drop)]
 pub struct Player {
     alloc: Global,
     state: State,
-    pub out: String,
+    pub out: Transcript,
 }
 
 impl Player {
-    /// A new repository, whose revision 0 has a file of the bytes `zero`.
+    /// A new repository.
     pub fn new(alloc: Global) -> Result<Player, AllocError> {
-        let bytes = Bytes::new(Vec::from_slice(alloc, b"zero")?);
         Ok(Player {
             alloc,
-            state: State::create(alloc, Pairs::new(alloc), bytes)?,
-            out: String::new(alloc),
+            state: new_state(alloc)?,
+            out: Transcript::new(alloc),
         })
     }
 
     /// Begins a run of this name, with a new repository.
     pub fn begin(&mut self, name: &str) -> Result<(), AllocError> {
-        let bytes = Bytes::new(Vec::from_slice(self.alloc, b"zero")?);
-        self.state = State::create(self.alloc, Pairs::new(self.alloc), bytes)?;
-        writeln!(self.out, "== {name}")
+        self.state = new_state(self.alloc)?;
+        self.out.say("== ");
+        self.out.say(name);
+        self.out.say("\n");
+        Ok(())
     }
 
     // One step, and what it answers.
@@ -63,15 +99,10 @@ impl Player {
 
     /// Steps in one run, each of which is to be done.
     pub fn run(&mut self, lines: &[&str]) -> Result<()> {
-        let youngest = self.state.young();
-        let mut steps = VecDeque::new(self.alloc);
-        for line in lines {
-            steps.push_back(step_of(self.alloc, line, youngest)?)?;
-        }
-        for outcome in &self.state.run(steps)? {
-            if !matches!(outcome, Outcome::Done) {
-                bail!("a step that is not done");
-            }
+        let steps = steps_in(self.alloc, lines, self.state.young())?;
+        let outcomes = self.state.run(steps)?;
+        if !are_done(&outcomes) {
+            bail!("a step that is not done");
         }
         Ok(())
     }
@@ -84,37 +115,68 @@ impl Player {
         }
     }
 
-    fn act(&mut self, named: &[Named<'_>], line: &str) -> Result<()> {
-        match Line::read(line) {
-            Line::Nothing => {}
-            Line::Run(_) | Line::Begin(_) | Line::End => bail!("no place for this line"),
-            Line::Do(name) => {
-                self.run(steps_of(named, name)?)?;
-                writeln!(self.out, "do {name}: done")?;
+    // Does all steps of a name.
+    fn act_all(&mut self, named: &[Named<'_>], name: &str) -> Result<()> {
+        self.run(steps_of(named, name)?)?;
+        self.out.say("do ");
+        self.out.say(name);
+        self.out.say(": done\n");
+        Ok(())
+    }
+
+    // One step, printed with what it answers.
+    fn answer(&mut self, line: &str) -> Result<()> {
+        let outcome = self.step(line)?;
+        self.out.say(line);
+        self.out.say(": ");
+        put_answer(&mut self.out, &outcome);
+        self.out.say("\n");
+        Ok(())
+    }
+
+    // What the history says of a path.
+    fn look(&mut self, line: Line<'_>, place: &str) -> Result<()> {
+        let (rev, path) = place_of(self.alloc, place)?;
+        match line {
+            Line::Walk(_) => {
+                put_walk(&mut self.out, self.alloc, self.state.history(), rev, &path);
             }
-            Line::History => put_history(&mut self.out, self.alloc, &self.state)?,
-            Line::Stuck => put_stuck(&mut self.out, &self.state)?,
-            Line::Step(line) => {
-                let outcome = self.step(line)?;
-                write!(self.out, "{line}: ")?;
-                put_answer(&mut self.out, self.alloc, &outcome)?;
-                writeln!(self.out, "")?;
-            }
+            _ => put_node(&mut self.out, self.state.history(), rev, &path),
         }
         Ok(())
     }
 
+    fn act(&mut self, named: &[Named<'_>], line: Line<'_>) -> Result<()> {
+        match line {
+            Line::Nothing => Ok(()),
+            Line::Run(_) | Line::Begin(_) | Line::End => bail!("no place for this line"),
+            Line::Do(name) => self.act_all(named, name),
+            Line::Node(place) | Line::Walk(place) => self.look(line, place),
+            Line::Step(step) => self.answer(step),
+            Line::History => {
+                put_history(&mut self.out, self.alloc, &self.state);
+                Ok(())
+            }
+            Line::Stuck => {
+                put_stuck(&mut self.out, &self.state);
+                Ok(())
+            }
+        }
+    }
+
     /// Plays a line. Where that can't be done, it is printed, and why.
-    pub fn play(&mut self, named: &[Named<'_>], line: &str) -> Result<(), AllocError> {
-        let done = self.act(named, line);
-        self.told(line, done)
+    pub fn play(&mut self, named: &[Named<'_>], line: &str) {
+        let done = self.act(named, Line::read(line));
+        self.told(line, done);
     }
 
     /// Prints why a line can't be played, if it can't.
-    pub fn told(&mut self, line: &str, done: Result<()>) -> Result<(), AllocError> {
-        match done {
-            Ok(()) => Ok(()),
-            Err(error) => writeln!(self.out, "? {line}: {error}"),
+    pub fn told(&mut self, line: &str, done: Result<()>) {
+        if let Err(error) = done {
+            self.out.say("? ");
+            self.out.say(line);
+            self.out.tell(": ", &error);
+            self.out.say("\n");
         }
     }
 }

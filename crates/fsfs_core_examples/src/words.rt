@@ -1,18 +1,32 @@
 // The words of a line.
 use anyhow::{Result, bail};
 use fsfs_base::{FsPath, RevNum};
-use fsfs_core::{Contents, DiskPlace, Went};
-use std::alloc::Global;
+use fsfs_core::{BeginPlace, CommitPlace, Contents, DiskPlace, Went};
+use std::alloc::{AllocError, Global};
 
-/// The words that are left of a line, with a space between each two.
+/// The words that are left of a line, with a space between each two. Where one is not what it is read as, something stands in
+/// its place, and the end says so.
 #[derive(Clone, Copy)]
 pub struct Words<'a> {
     rest: &'a str,
+    is_right: bool,
+}
+
+// Which are picked, a digit for each: `1` if it is.
+fn picks_of(alloc: Global, digits: &str) -> Result<Vec<bool>, AllocError> {
+    let mut picks = Vec::new(alloc);
+    for digit in digits.as_bytes() {
+        picks.push(*digit == b'1')?;
+    }
+    Ok(picks)
 }
 
 impl<'a> Words<'a> {
     pub fn new(line: &'a str) -> Words<'a> {
-        Words { rest: line }
+        Words {
+            rest: line,
+            is_right: true,
+        }
     }
 
     /// The next word; an empty one where none is left.
@@ -22,75 +36,103 @@ impl<'a> Words<'a> {
         word
     }
 
-    pub fn number(&mut self) -> Result<u64> {
-        Ok(self.word().parse::<u64>()?)
+    /// The last word is none that is known.
+    pub fn refuse(&mut self) {
+        self.is_right = false;
+    }
+
+    pub fn number(&mut self) -> u64 {
+        match self.word().parse::<u64>() {
+            Ok(number) => number,
+            Err(_) => {
+                self.is_right = false;
+                0
+            }
+        }
     }
 
     /// A revision; the word `youngest` means this one.
-    pub fn revision(&mut self, youngest: u64) -> Result<RevNum> {
+    pub fn revision(&mut self, youngest: u64) -> RevNum {
         let number = match self.word() {
             "youngest" => youngest,
-            word => word.parse::<u64>()?,
+            word => word.parse::<u64>().unwrap_or(u64::MAX),
         };
         match RevNum::new(number) {
-            Some(rev) => Ok(rev),
-            None => bail!("no revision"),
+            Some(rev) => rev,
+            None => {
+                self.is_right = false;
+                RevNum::ZERO
+            }
         }
     }
 
-    pub fn path(&mut self, alloc: Global) -> Result<FsPath> {
+    pub fn path(&mut self, alloc: Global) -> FsPath {
         match FsPath::parse(alloc, self.word()) {
-            Ok(path) => Ok(path),
-            Err(_) => bail!("no path"),
+            Ok(path) => path,
+            Err(_) => {
+                self.is_right = false;
+                FsPath::root(alloc)
+            }
         }
     }
 
-    pub fn bytes(&mut self, alloc: Global) -> Result<Vec<u8>> {
-        Ok(Vec::from_slice(alloc, self.word().as_bytes())?)
+    pub fn bytes(&mut self, alloc: Global) -> Vec<u8> {
+        match Vec::from_slice(alloc, self.word().as_bytes()) {
+            Ok(bytes) => bytes,
+            Err(_) => {
+                self.is_right = false;
+                Vec::new(alloc)
+            }
+        }
     }
 
-    pub fn place(&mut self) -> Result<DiskPlace> {
+    pub fn place(&mut self) -> DiskPlace {
         match self.word() {
-            "TxnPut" => Ok(DiskPlace::TxnPut),
-            "TxnRename" => Ok(DiskPlace::TxnRename),
-            "TxnFirm" => Ok(DiskPlace::TxnFirm),
-            "PutProps" => Ok(DiskPlace::PutProps),
-            "FirmRev" => Ok(DiskPlace::FirmRev),
-            "PutCurrent" => Ok(DiskPlace::PutCurrent),
-            "RenameCurrent" => Ok(DiskPlace::RenameCurrent),
-            "FirmCurrent" => Ok(DiskPlace::FirmCurrent),
-            _ => bail!("no place of a call"),
+            "TxnPut" => DiskPlace::Begin(BeginPlace::Put),
+            "TxnRename" => DiskPlace::Begin(BeginPlace::Rename),
+            "TxnFirm" => DiskPlace::Begin(BeginPlace::Firm),
+            "PutProps" => DiskPlace::Commit(CommitPlace::PutProps),
+            "FirmRev" => DiskPlace::Commit(CommitPlace::FirmRev),
+            "PutCurrent" => DiskPlace::Commit(CommitPlace::PutCurrent),
+            "RenameCurrent" => DiskPlace::Commit(CommitPlace::RenameCurrent),
+            "FirmCurrent" => DiskPlace::Commit(CommitPlace::FirmCurrent),
+            _ => {
+                self.is_right = false;
+                DiskPlace::Begin(BeginPlace::Put)
+            }
         }
     }
 
     /// How a call of the disk goes: well, if the line ends here; else it fails before it did anything, after it did all, or
     /// when it had written something else.
-    pub fn went(&mut self) -> Result<Went> {
+    pub fn went(&mut self) -> Went {
         match self.word() {
-            "" => Ok(Went::Fine),
-            "before" => Ok(Went::Before),
-            "after" => Ok(Went::After),
-            "torn" => Ok(Went::Torn(Contents::Junk)),
-            _ => bail!("no way in which a call goes"),
+            "" => Went::Fine,
+            "before" => Went::Before,
+            "after" => Went::After,
+            "torn" => Went::Torn(Contents::Junk),
+            _ => {
+                self.is_right = false;
+                Went::Fine
+            }
         }
     }
 
     /// Which are picked, a digit for each: `1` if it is.
-    pub fn picks(&mut self, alloc: Global) -> Result<Vec<bool>> {
-        let mut picks = Vec::new(alloc);
-        for digit in self.word().as_bytes() {
-            match *digit {
-                b'0' => picks.push(false)?,
-                b'1' => picks.push(true)?,
-                _ => bail!("no digit of picks"),
+    pub fn picks(&mut self, alloc: Global) -> Vec<bool> {
+        match picks_of(alloc, self.word()) {
+            Ok(picks) => picks,
+            Err(_) => {
+                self.is_right = false;
+                Vec::new(alloc)
             }
         }
-        Ok(picks)
     }
 
+    /// The line ends here, and each of its words is what it was read as.
     pub fn end(self) -> Result<()> {
-        if !self.rest.is_empty() {
-            bail!("a word too many");
+        if !self.is_right || !self.rest.is_empty() {
+            bail!("no line that can be understood");
         }
         Ok(())
     }

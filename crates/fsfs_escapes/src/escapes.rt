@@ -82,16 +82,21 @@ fn put_byte(out: &mut String, byte: u8) -> Result<(), AllocError> {
     }
 }
 
-/// Writes bytes, in one line.
-pub fn put_text(out: &mut String, bytes: &[u8]) -> Result<(), AllocError> {
+// Writes bytes, in one line.
+pub(crate) fn put_text(out: &mut String, bytes: &[u8]) -> Result<(), AllocError> {
     for byte in bytes {
         put_byte(out, *byte)?;
     }
     Ok(())
 }
 
-/// Writes bytes as lines: behind `whole` each line that a newline ends, and behind `cut` what follows the last of them.
-pub fn put_lines(out: &mut String, bytes: &[u8], whole: &str, cut: &str) -> Result<(), AllocError> {
+// Writes bytes as lines.
+pub(crate) fn put_lines(
+    out: &mut String,
+    bytes: &[u8],
+    whole: &str,
+    cut: &str,
+) -> Result<(), AllocError> {
     let mut line = String::new(*out.allocator());
     for byte in bytes {
         if *byte == b'\n' {

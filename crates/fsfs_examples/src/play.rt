@@ -2,6 +2,7 @@
 use crate::files::{Files, copy_of};
 use crate::line::{Line, Place};
 use crate::stage::{Stage, Whole};
+use fsfs_escapes::Transcript;
 use std::alloc::{AllocError, Global};
 use std::mem;
 
@@ -22,7 +23,7 @@ fn play_block(
     files: &Files,
     place: Place,
     call: Option<u64>,
-) -> Result<String, AllocError> {
+) -> Result<Transcript, AllocError> {
     let alloc = stage.alloc;
     stage.files = copy_of(alloc, files)?;
     stage.given.place = place;
@@ -30,39 +31,61 @@ fn play_block(
     if let Some(call) = call {
         stage.given.calls.push(call)?;
     }
-    let out = mem::replace(&mut stage.out, String::new(alloc));
+    let out = mem::replace(&mut stage.out, Transcript::new(alloc));
     for (at, line) in block.lines.iter().enumerate() {
-        stage.play(block.first.saturating_add(at), line)?;
+        stage.play(block.first.saturating_add(at), line);
     }
     Ok(mem::replace(&mut stage.out, out))
 }
 
-// Runs a block with each call of its first command failing in turn, and then with none. What is printed of calls beside
-// one another that give the same is printed once.
-fn play_each(stage: &mut Stage, block: Block<'_>, place: Place) -> Result<(), AllocError> {
-    let files = copy_of(stage.alloc, &stage.files)?;
-    let word = place.word();
-    writeln!(stage.out, "each {word}")?;
-    stage.whole = Whole::Asked;
-    let whole = play_block(stage, block, &files, place, None)?;
-    let mut last = String::new(stage.alloc);
+// Whether the call that was to fail is past the last one.
+fn is_past(stage: &Stage, place: Place, call: u64, told: &Transcript, whole: &Transcript) -> bool {
+    match place {
+        Place::Disk => stage.calls < call,
+        _ => told.as_str() == whole.as_str(),
+    }
+}
+
+// Runs a block with each call of its first command failing in turn. What is printed of calls beside one another that give
+// the same is printed once.
+fn play_calls(
+    stage: &mut Stage,
+    block: Block<'_>,
+    files: &Files,
+    place: Place,
+    whole: &Transcript,
+) -> Result<(), AllocError> {
+    let mut last = Transcript::new(stage.alloc);
     for call in 1..=MOST_CALLS {
-        let told = play_block(stage, block, &files, place, Some(call))?;
-        let is_past = match place {
-            Place::Disk => stage.calls < call,
-            _ => told.as_str() == whole.as_str(),
-        };
-        if is_past {
-            break;
+        let told = play_block(stage, block, files, place, Some(call))?;
+        if is_past(stage, place, call, &told, whole) {
+            return Ok(());
         }
         if told.as_str() != last.as_str() {
-            write!(stage.out, "from {call}\n{told}")?;
+            stage.out.tell("from ", &call);
+            stage.out.say("\n");
+            stage.out.say(told.as_str());
             last = told;
         }
     }
+    Ok(())
+}
+
+// Runs a block with each call of its first command failing in turn, and then with none.
+fn play_each(stage: &mut Stage, block: Block<'_>, place: Place) -> Result<(), AllocError> {
+    let files = copy_of(stage.alloc, &stage.files)?;
+    stage.out.say("each ");
+    stage.out.say(place.word());
+    stage.out.say("\n");
+    stage.whole = Whole::Asked;
+    let whole = play_block(stage, block, &files, place, None)?;
+    play_calls(stage, block, &files, place, &whole)?;
     stage.whole = Whole::NotAsked;
     stage.files = files;
-    write!(stage.out, "then\n{whole}end\n")
+    stage.out.say("then\n");
+    stage.out.say(whole.as_str());
+    stage.out.say("end\n");
+    Ok(())
 }
 
 /// What is printed of a text of examples.
@@ -81,11 +104,11 @@ pub fn transcript_of(alloc: Global, text: &str) -> Result<String, AllocError> {
                 begun = None;
             }
             (_, Some(_)) => {}
-            (_, None) => stage.play(number, line)?,
+            (_, None) => stage.play(number, line),
         }
     }
     if begun.is_some() {
-        writeln!(stage.out, "? the last block does not end")?;
+        stage.out.say("? the last block does not end\n");
     }
-    Ok(stage.out)
+    stage.out.finish()
 }

@@ -5,7 +5,7 @@ use crate::files::{Files, calls_since, copy_of, files_of};
 use crate::line::{Line, Place};
 use crate::transcript::{put_changes, put_file, put_files, put_run};
 use anyhow::{Result, bail};
-use fsfs_escapes::bytes_of;
+use fsfs_escapes::{Transcript, bytes_of};
 use fsfs_memdisk::MemDisk;
 use std::alloc::{AllocError, Global};
 use std::collections::BTreeMap;
@@ -38,7 +38,7 @@ pub struct Stage {
     /// How many calls of the disk the last command made in which a call was to fail.
     pub calls: u64,
     pub whole: Whole,
-    pub out: String,
+    pub out: Transcript,
 }
 
 impl Stage {
@@ -53,54 +53,64 @@ impl Stage {
             disk: None,
             calls: 0,
             whole: Whole::NotAsked,
-            out: String::new(alloc),
+            out: Transcript::new(alloc),
         }
     }
 
     /// Does what a line says. Where that can't be done, its number is printed, and why.
-    pub fn play(&mut self, number: usize, line: &str) -> Result<(), AllocError> {
+    pub fn play(&mut self, number: usize, line: &str) {
         let done = match Line::read(line) {
             Ok(line) => self.act(line),
             Err(error) => Err(error),
         };
-        match done {
-            Ok(()) => Ok(()),
-            Err(error) => writeln!(self.out, "? {number}: {error}"),
+        if let Err(error) = done {
+            self.out.tell("? ", &number);
+            self.out.tell(": ", &error);
+            self.out.say("\n");
         }
     }
 
     fn act(&mut self, line: Line<'_>) -> Result<()> {
         match line {
-            Line::Nothing => Ok(()),
             Line::Example(name) => self.begin(name),
-            Line::Like(name) => self.take_over(name),
-            Line::Keep(name) => self.keep(name),
-            Line::OfFile(line) => edit(self.alloc, &mut self.files, &mut self.open, line),
-            Line::Moment(moment) => {
-                self.given.moment = moment;
-                Ok(())
-            }
-            Line::Dice(text) => self.throw(text),
-            Line::Failing(place, calls) => self.fail(place, calls),
-            Line::Run(line) => self.run(line),
-            Line::Crash(picks) => self.crash(picks),
-            Line::Files => Ok(put_files(&mut self.out, &self.files)?),
-            Line::Show(name) => Ok(put_file(&mut self.out, &self.files, name)?),
-            Line::Changes => Ok(put_changes(&mut self.out, &self.before, &self.files)?),
-            Line::Count => self.count(),
+            Line::Like(name) => return self.take_over(name),
+            Line::Keep(name) => return self.keep(name),
+            Line::OfFile(line) => return edit(self.alloc, &mut self.files, &mut self.open, line),
+            Line::Dice(text) => return self.throw(text),
+            Line::Failing(place, calls) => return self.fail(place, calls),
+            Line::Run(line) => return self.run(line),
+            Line::Crash(picks) => return self.crash(picks),
             Line::Each(_) => bail!("a block in a block"),
             Line::End => bail!("no block ends here"),
+            other => self.note(other),
+        }
+        Ok(())
+    }
+
+    // A line that can always be done.
+    fn note(&mut self, line: Line<'_>) {
+        match line {
+            Line::Moment(moment) => self.given.moment = moment,
+            Line::Files => put_files(&mut self.out, &self.files),
+            Line::Show(name) => put_file(&mut self.out, &self.files, name),
+            Line::Changes => put_changes(&mut self.out, &self.before, &self.files),
+            Line::Count => {
+                self.out.show(&self.files.len());
+                self.out.say(" files\n");
+            }
+            _ => {}
         }
     }
 
-    fn begin(&mut self, name: &str) -> Result<()> {
+    fn begin(&mut self, name: &str) {
         self.files = BTreeMap::new(self.alloc);
         self.before = BTreeMap::new(self.alloc);
         self.open = String::new(self.alloc);
         self.given = Given::new(self.alloc);
         self.disk = None;
-        writeln!(self.out, "== {name}")?;
-        Ok(())
+        self.out.say("== ");
+        self.out.say(name);
+        self.out.say("\n");
     }
 
     fn take_over(&mut self, name: &str) -> Result<()> {
@@ -118,12 +128,6 @@ impl Stage {
         Ok(())
     }
 
-    fn count(&mut self) -> Result<()> {
-        let count = self.files.len();
-        writeln!(self.out, "{count} files")?;
-        Ok(())
-    }
-
     fn throw(&mut self, text: &str) -> Result<()> {
         let bytes = bytes_of(self.alloc, text)?;
         if bytes.len() != 16 {
@@ -136,22 +140,26 @@ impl Stage {
     fn fail(&mut self, place: Place, calls: &str) -> Result<()> {
         self.given.calls = numbers_of(self.alloc, calls)?;
         self.given.place = place;
-        let word = place.word();
-        writeln!(self.out, "failing {word} {calls}")?;
+        self.out.say("failing ");
+        self.out.say(place.word());
+        self.out.say(" ");
+        self.out.say(calls);
+        self.out.say("\n");
         Ok(())
     }
 
     // Runs a command over the files.
     fn run(&mut self, line: &str) -> Result<()> {
-        writeln!(self.out, "$ {line}")?;
+        self.out.say("$ ");
+        self.out.say(line);
+        self.out.say("\n");
         let ran = run(self.alloc, line, &self.files, &self.given)?;
         if let Whole::Asked = &self.whole {
             self.whole = Whole::Known(Vec::from_slice(self.alloc, ran.out.bytes())?);
         }
         let is_first_part = is_first_part(&self.whole, &self.given, &ran);
-        put_run(&mut self.out, &ran, is_first_part)?;
-        self.leave(ran.disk)?;
-        Ok(())
+        put_run(&mut self.out, &ran, is_first_part);
+        Ok(self.leave(ran.disk)?)
     }
 
     // Goes on with what a command left.
@@ -174,7 +182,9 @@ impl Stage {
         let picked = picks_of(self.alloc, picks, self.before.len())?;
         let left = disk.crash(&picked)?;
         self.files = files_of(self.alloc, &left)?;
-        writeln!(self.out, "crash {picks}")?;
+        self.out.say("crash ");
+        self.out.say(picks);
+        self.out.say("\n");
         Ok(())
     }
 }

@@ -1,77 +1,88 @@
 // What is printed of a run.
 use crate::command::Ran;
 use crate::files::Files;
-use fsfs_escapes::put_lines;
+use fsfs_escapes::Transcript;
 use md5::{Digest, Md5};
-use std::alloc::AllocError;
 
 /// Output that is longer than this is told by its length and its MD5.
 const LONGEST: usize = 4096;
 
-fn put_digest(out: &mut String, bytes: &[u8]) -> Result<(), AllocError> {
-    write!(out, "%{} ", bytes.len())?;
-    for byte in Md5::digest(bytes) {
-        write!(out, "{byte:02x}")?;
+// Writes a file or an output: `|` before each line, `:` before bytes that no newline ends.
+fn put_bytes(out: &mut Transcript, bytes: &[u8]) {
+    if bytes.len() > LONGEST {
+        out.tell("%", &bytes.len());
+        out.say(" ");
+        out.digits(&Md5::digest(bytes));
+        out.say("\n");
+    } else {
+        out.lines(bytes, "|", ":");
     }
-    writeln!(out, "")
 }
 
-/// Writes a file or an output: `|` before each line, `:` before bytes that no newline ends.
-pub fn put_bytes(out: &mut String, bytes: &[u8]) -> Result<(), AllocError> {
-    if bytes.len() > LONGEST {
-        return put_digest(out, bytes);
-    }
-    put_lines(out, bytes, "|", ":")
+fn put_named(out: &mut Transcript, name: &str, bytes: &[u8]) {
+    out.say("@ ");
+    out.say(name);
+    out.say("\n");
+    put_bytes(out, bytes);
+}
+
+// Writes that there is no file of this name any more.
+fn put_absent(out: &mut Transcript, name: &str) {
+    out.say("- ");
+    out.say(name);
+    out.say("\n");
 }
 
 /// Writes the file of this name, or that there is none.
-pub fn put_file(out: &mut String, files: &Files, name: &str) -> Result<(), AllocError> {
+pub fn put_file(out: &mut Transcript, files: &Files, name: &str) {
     match files.get(name) {
-        Some(bytes) => {
-            writeln!(out, "@ {name}")?;
-            put_bytes(out, bytes)
-        }
-        None => writeln!(out, "- {name}"),
+        Some(bytes) => put_named(out, name, bytes),
+        None => put_absent(out, name),
     }
 }
 
 /// Writes files, each behind its name.
-pub fn put_files(out: &mut String, files: &Files) -> Result<(), AllocError> {
+pub fn put_files(out: &mut Transcript, files: &Files) {
     for (name, bytes) in files.iter() {
-        writeln!(out, "@ {name}")?;
-        put_bytes(out, bytes)?;
+        put_named(out, name.as_str(), bytes);
     }
-    Ok(())
+}
+
+fn is_same(before: &Files, name: &str, bytes: &[u8]) -> bool {
+    match before.get(name) {
+        Some(old) => old.as_slice() == bytes,
+        None => false,
+    }
+}
+
+// Writes the names of those that are no more.
+fn put_removed(out: &mut Transcript, before: &Files, now: &Files) {
+    for name in before.keys() {
+        if !now.contains_key(name.as_str()) {
+            put_absent(out, name.as_str());
+        }
+    }
 }
 
 /// Writes the files that are not as they were before, and the names of those that are no more.
-pub fn put_changes(out: &mut String, before: &Files, now: &Files) -> Result<(), AllocError> {
+pub fn put_changes(out: &mut Transcript, before: &Files, now: &Files) {
     for (name, bytes) in now.iter() {
-        let is_same = match before.get(name.as_str()) {
-            Some(old) => old.as_slice() == bytes.as_slice(),
-            None => false,
-        };
-        if !is_same {
-            writeln!(out, "@ {name}")?;
-            put_bytes(out, bytes)?;
+        if !is_same(before, name.as_str(), bytes) {
+            put_named(out, name.as_str(), bytes);
         }
     }
-    for name in before.keys() {
-        if !now.contains_key(name.as_str()) {
-            writeln!(out, "- {name}")?;
-        }
-    }
-    Ok(())
+    put_removed(out, before, now);
 }
 
 /// Writes what a run printed, and its status. Of output of which no more is known than that it is a first part of the whole,
 /// that is written: `~`.
-pub fn put_run(out: &mut String, ran: &Ran, is_first_part: bool) -> Result<(), AllocError> {
+pub fn put_run(out: &mut Transcript, ran: &Ran, is_first_part: bool) {
     if is_first_part {
-        writeln!(out, "~")?;
+        out.say("~\n");
     } else {
-        put_bytes(out, ran.out.bytes())?;
+        put_bytes(out, ran.out.bytes());
     }
-    put_lines(out, ran.err.bytes(), "!", ";")?;
-    writeln!(out, "= {}", ran.status)
+    out.lines(ran.err.bytes(), "!", ";");
+    out.tell("= ", &ran.status);
+    out.say("\n");
 }

@@ -1,10 +1,11 @@
 // Changed-path data: its items, written again, and where they are refused.
-use crate::nodes::{kind_word, put_id, put_path};
+use crate::nodes::{kind_word, put_id};
 use crate::small_files::{put_again, put_place};
 use fsfs_base::Action;
 use fsfs_changes::{
     ChangeError, ChangeItem, read_changes, read_item, read_revision_changes, write_changes,
 };
+use fsfs_escapes::Transcript;
 use std::alloc::{AllocError, Global};
 
 // The item that the text begins with, written as all changed paths.
@@ -30,58 +31,69 @@ fn action_word(action: Action) -> &'static str {
     }
 }
 
-fn put_item(out: &mut String, alloc: Global, item: &ChangeItem) -> Result<(), AllocError> {
-    out.push_str(action_word(item.action))?;
+fn put_item(out: &mut Transcript, item: &ChangeItem) {
+    out.say(action_word(item.action));
     if let Some(kind) = item.kind {
-        write!(out, " {}", kind_word(kind))?;
+        out.say(" ");
+        out.say(kind_word(kind));
     }
-    out.push_str(" ")?;
-    put_path(out, alloc, &item.path)?;
-    out.push_str(", ")?;
-    put_id(out, &item.id)?;
+    out.tell(" ", &item.path);
+    out.say(", ");
+    put_id(out, &item.id);
     if item.text_changed {
-        out.push_str(", text")?;
+        out.say(", text");
     }
     if item.props_changed {
-        out.push_str(", properties")?;
+        out.say(", properties");
     }
     if let Some(source) = &item.source {
-        write!(out, ", from r{} ", source.rev.get())?;
-        put_path(out, alloc, &source.path)?;
+        out.tell(", from r", &source.rev);
+        out.tell(" ", &source.path);
     }
-    Ok(())
 }
 
-fn put_items(
-    out: &mut String,
+fn put_items(out: &mut Transcript, items: &[ChangeItem]) {
+    out.show(&items.len());
+    out.say(" items");
+    for item in items {
+        out.say(": ");
+        put_item(out, item);
+    }
+}
+
+// Whether the one item is written in the same bytes.
+fn put_written(out: &mut Transcript, alloc: Global, bytes: &[u8]) {
+    match written(alloc, bytes) {
+        Ok(Some(again)) => put_again(out, bytes, Ok(again)),
+        Ok(None) => {}
+        Err(_) => out.lose(),
+    }
+}
+
+fn put_read(
+    out: &mut Transcript,
     alloc: Global,
     read: Result<Vec<ChangeItem>, ChangeError>,
     bytes: &[u8],
-) -> Result<(), AllocError> {
-    let items = match read {
-        Ok(items) => items,
-        Err(ChangeError::Fault(fault)) => return put_place(out, fault.at, bytes),
-        Err(_) => return Err(AllocError),
-    };
-    write!(out, "{} items", items.len())?;
-    for item in items.iter() {
-        out.push_str(": ")?;
-        put_item(out, alloc, item)?;
+) {
+    match read {
+        Err(ChangeError::Fault(fault)) => put_place(out, fault.at, bytes),
+        Err(_) => out.lose(),
+        Ok(items) => {
+            put_items(out, &items);
+            if items.len() == 1 {
+                put_written(out, alloc, bytes);
+            }
+        }
     }
-    if items.len() == 1
-        && let Some(again) = written(alloc, bytes)?
-    {
-        put_again(out, bytes, &again)?;
-    }
-    Ok(())
 }
 
 /// The changed paths of a revision.
-pub fn put_of_revision(out: &mut String, alloc: Global, bytes: &[u8]) -> Result<(), AllocError> {
-    put_items(out, alloc, read_revision_changes(alloc, bytes), bytes)
+pub fn put_of_revision(out: &mut Transcript, alloc: Global, bytes: &[u8]) {
+    put_read(out, alloc, read_revision_changes(alloc, bytes), bytes);
 }
 
 /// The changed paths of a transaction.
-pub fn put_of_txn(out: &mut String, alloc: Global, bytes: &[u8]) -> Result<(), AllocError> {
-    put_items(out, alloc, read_changes(alloc, bytes), bytes)
+pub fn put_of_txn(out: &mut Transcript, alloc: Global, bytes: &[u8]) {
+    put_read(out, alloc, read_changes(alloc, bytes), bytes);
 }

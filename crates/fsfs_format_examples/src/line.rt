@@ -19,6 +19,8 @@ pub enum Line<'a> {
     Take(&'a str, Option<(usize, usize)>),
     /// Reads it.
     Read(&'a str),
+    /// Reads these bytes.
+    Of(&'a str, &'a str),
     /// Reads it cut at each length, from this one on.
     Lengths(usize, &'a str),
     /// Reads it with another byte at an offset.
@@ -59,6 +61,10 @@ impl<'a> Line<'a> {
                 Ok(Line::Take(name, range(offsets)?))
             }
             "read" => Ok(Line::Read(rest)),
+            "of" => {
+                let (format, text) = rest.split_once(':').unwrap_or((rest, ""));
+                Ok(Line::Of(format, text))
+            }
             "lengths" => {
                 let (from, format) = split(rest);
                 Ok(Line::Lengths(from.parse::<usize>()?, format))

@@ -9,7 +9,9 @@ mod nodes;
 mod play;
 mod representations;
 mod small_files;
+mod texts;
 mod trailers;
+mod walks;
 
 use anyhow::Result;
 use std::io;

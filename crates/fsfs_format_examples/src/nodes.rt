@@ -1,48 +1,105 @@
 // Hash dumps and node-revisions: their values, written again, and where they are refused.
 use crate::small_files::{put_again, put_place};
-use fsfs_base::{FsPath, Kind};
-use fsfs_escapes::put_text;
-use fsfs_hash::{HashError, read_hash, write_hash};
+use fsfs_base::{Kind, Pairs};
+use fsfs_escapes::Transcript;
+use fsfs_hash::{HashError, add_entry, drop_entry, read_children, read_hash, write_hash};
 use fsfs_noderev::{
-    Contents, NodeError, NodeId, NodeRev, Part, Place, Rep, read_noderev, read_rep, write_noderev,
+    Contents, CopyRoot, NodeError, NodeId, NodeRev, Part, Place, Rep, Uniquifier, read_noderev,
+    read_rep, write_noderev,
 };
 use std::alloc::{AllocError, Global};
 
-/// A hash dump: its names and values.
-pub fn put_dump(out: &mut String, alloc: Global, bytes: &[u8]) -> Result<(), AllocError> {
-    let pairs = match read_hash(alloc, bytes) {
-        Ok(pairs) => pairs,
-        Err(HashError::Fault(fault)) => return put_place(out, fault.at, bytes),
-        Err(_) => return Err(AllocError),
-    };
-    let count = pairs.as_map().len();
-    write!(out, "{count} names")?;
-    for (name, value) in pairs.as_map().iter() {
-        out.push_str(", ")?;
-        put_text(out, name)?;
-        out.push_str(" = ")?;
-        put_text(out, value)?;
-    }
-    put_again(out, bytes, &write_hash(alloc, &pairs)?)
+fn put_pair(out: &mut Transcript, name: &[u8], value: &[u8]) {
+    out.say(", ");
+    out.bytes(name);
+    out.say(" = ");
+    out.bytes(value);
 }
 
-fn put_part(out: &mut String, part: &Part) -> Result<(), AllocError> {
+fn put_pairs(out: &mut Transcript, pairs: &Pairs) {
+    out.show(&pairs.as_map().len());
+    out.say(" names");
+    for (name, value) in pairs.as_map().iter() {
+        put_pair(out, name, value);
+    }
+}
+
+fn put_no_dump(out: &mut Transcript, error: HashError, bytes: &[u8]) {
+    match error {
+        HashError::Fault(fault) => put_place(out, fault.at, bytes),
+        HashError::OutOfMemory => out.lose(),
+    }
+}
+
+/// A hash dump: its names and values.
+pub fn put_dump(out: &mut Transcript, alloc: Global, bytes: &[u8]) {
+    match read_hash(alloc, bytes) {
+        Ok(pairs) => {
+            put_pairs(out, &pairs);
+            put_again(out, bytes, write_hash(alloc, &pairs));
+        }
+        Err(error) => put_no_dump(out, error, bytes),
+    }
+}
+
+// A children file to which these pairs are added, and from which the first is taken away.
+fn children_of(alloc: Global, pairs: &Pairs) -> Result<Vec<u8>, AllocError> {
+    let mut file = Vec::from_slice(alloc, b"END\n")?;
+    for (name, value) in pairs.as_map().iter() {
+        add_entry(&mut file, name, value)?;
+    }
+    if let Some((name, _)) = pairs.as_map().iter().next() {
+        drop_entry(&mut file, name)?;
+    }
+    Ok(file)
+}
+
+fn put_children_file(out: &mut Transcript, alloc: Global, file: &[u8]) {
+    out.bytes(file);
+    out.say(" has ");
+    match read_children(alloc, file) {
+        Ok(pairs) => put_pairs(out, &pairs),
+        Err(error) => put_no_dump(out, error, file),
+    }
+}
+
+/// The children file to which the pairs of a dump are added, and from which the first is taken away, and its pairs.
+pub fn put_children(out: &mut Transcript, alloc: Global, bytes: &[u8]) {
+    match read_hash(alloc, bytes) {
+        Ok(pairs) => match children_of(alloc, &pairs) {
+            Ok(file) => put_children_file(out, alloc, &file),
+            Err(_) => out.lose(),
+        },
+        Err(error) => put_no_dump(out, error, bytes),
+    }
+}
+
+fn put_part(out: &mut Transcript, part: &Part) {
     match part {
-        Part::New(number) => write!(out, "new {}", number.number),
-        Part::Old(number) => write!(out, "{}", number.number),
-        Part::Made(number, rev) => write!(out, "{} of r{}", number.number, rev.get()),
+        Part::New(number) => out.tell("new ", &number.number),
+        Part::Old(number) => out.show(&number.number),
+        Part::Made(number, rev) => {
+            out.show(&number.number);
+            out.tell(" of r", rev);
+        }
     }
 }
 
 /// An id: its node, its copy and its place.
-pub fn put_id(out: &mut String, id: &NodeId) -> Result<(), AllocError> {
-    out.push_str("node ")?;
-    put_part(out, &id.node)?;
-    out.push_str(" copy ")?;
-    put_part(out, &id.copy)?;
+pub fn put_id(out: &mut Transcript, id: &NodeId) {
+    out.say("node ");
+    put_part(out, &id.node);
+    out.say(" copy ");
+    put_part(out, &id.copy);
     match &id.place {
-        Place::At(rev, offset) => write!(out, " at {offset} in r{}", rev.get()),
-        Place::In(txn) => write!(out, " in {}-{}", txn.base.get(), txn.number.number),
+        Place::At(rev, offset) => {
+            out.tell(" at ", offset);
+            out.tell(" in r", rev);
+        }
+        Place::In(txn) => {
+            out.tell(" in ", &txn.base);
+            out.tell("-", &txn.number.number);
+        }
     }
 }
 
@@ -54,107 +111,93 @@ pub fn kind_word(kind: Kind) -> &'static str {
     }
 }
 
-/// A path.
-pub fn put_path(out: &mut String, alloc: Global, path: &FsPath) -> Result<(), AllocError> {
-    let text = path.text(alloc)?;
-    write!(out, "{text}")
+fn put_unique(out: &mut Transcript, unique: &Uniquifier) {
+    out.say(" sha1 ");
+    out.digits(&unique.sha1.bytes);
+    out.tell(" drawn ", &unique.number.number);
+    out.tell(" in ", &unique.txn.base);
+    out.tell("-", &unique.txn.number.number);
 }
 
-/// Digits of a digest.
-pub fn put_digits(out: &mut String, bytes: &[u8]) -> Result<(), AllocError> {
-    for byte in bytes {
-        write!(out, "{byte:02x}")?;
-    }
-    Ok(())
-}
-
-fn put_rep(out: &mut String, rep: &Rep) -> Result<(), AllocError> {
+fn put_rep(out: &mut Transcript, rep: &Rep) {
+    out.tell("at ", &rep.offset);
     match rep.rev {
-        Some(rev) => write!(out, "at {} in r{}", rep.offset, rev.get())?,
-        None => write!(out, "at {} in its transaction", rep.offset)?,
+        Some(rev) => out.tell(" in r", &rev),
+        None => out.say(" in its transaction"),
     }
-    write!(out, " length {} size {} md5 ", rep.length, rep.size)?;
-    put_digits(out, &rep.md5.bytes)?;
+    out.tell(" length ", &rep.length);
+    out.tell(" size ", &rep.size);
+    out.say(" md5 ");
+    out.digits(&rep.md5.bytes);
     if let Some(unique) = &rep.unique {
-        out.push_str(" sha1 ")?;
-        put_digits(out, &unique.sha1.bytes)?;
-        let txn = &unique.txn;
-        write!(
-            out,
-            " drawn {} in {}-{}",
-            unique.number.number,
-            txn.base.get(),
-            txn.number.number
-        )?;
+        put_unique(out, unique);
     }
-    Ok(())
 }
 
-fn put_contents(
-    out: &mut String,
-    word: &str,
-    contents: &Option<Contents>,
-) -> Result<(), AllocError> {
+fn put_contents(out: &mut Transcript, word: &str, contents: &Option<Contents>) {
     match contents {
-        None => Ok(()),
-        Some(Contents::Own) => write!(out, ", {word} of its own"),
+        None => {}
+        Some(Contents::Own) => {
+            out.say(word);
+            out.say("of its own");
+        }
         Some(Contents::At(rep)) => {
-            write!(out, ", {word} ")?;
-            put_rep(out, rep)
+            out.say(word);
+            put_rep(out, rep);
         }
     }
 }
 
-// A node-revision, whose optional fields are named where they are there.
-fn put_node(out: &mut String, alloc: Global, node: &NodeRev) -> Result<(), AllocError> {
-    out.push_str(kind_word(node.kind))?;
-    out.push_str(" ")?;
-    put_path(out, alloc, &node.created_path)?;
-    out.push_str(", ")?;
-    put_id(out, &node.id)?;
-    if let Some(predecessor) = &node.predecessor {
-        out.push_str(", after ")?;
-        put_id(out, predecessor)?;
+fn put_copy_root(out: &mut Transcript, root: &CopyRoot) {
+    match root.rev {
+        Some(rev) => out.tell(", copy root r", &rev),
+        None => out.say(", copy root in its transaction"),
     }
-    write!(out, ", count {}", node.count)?;
-    put_contents(out, "text", &node.text)?;
-    put_contents(out, "properties", &node.props)?;
+    out.tell(" ", &root.path);
+}
+
+/// A node-revision, whose optional fields are named where they are there.
+pub fn put_node(out: &mut Transcript, node: &NodeRev) {
+    out.say(kind_word(node.kind));
+    out.tell(" ", &node.created_path);
+    out.say(", ");
+    put_id(out, &node.id);
+    if let Some(predecessor) = &node.predecessor {
+        out.say(", after ");
+        put_id(out, predecessor);
+    }
+    out.tell(", count ", &node.count);
+    put_contents(out, ", text ", &node.text);
+    put_contents(out, ", properties ", &node.props);
     if let Some(source) = &node.copy_from {
-        write!(out, ", from r{} ", source.rev.get())?;
-        put_path(out, alloc, &source.path)?;
+        out.tell(", from r", &source.rev);
+        out.tell(" ", &source.path);
     }
     if let Some(root) = &node.copy_root {
-        match root.rev {
-            Some(rev) => write!(out, ", copy root r{} ", rev.get())?,
-            None => out.push_str(", copy root in its transaction ")?,
-        }
-        put_path(out, alloc, &root.path)?;
+        put_copy_root(out, root);
     }
-    Ok(())
 }
 
 /// A node-revision.
-pub fn put_noderev(out: &mut String, alloc: Global, bytes: &[u8]) -> Result<(), AllocError> {
-    let node = match read_noderev(alloc, bytes) {
-        Ok(node) => node,
-        Err(NodeError::Fault(fault)) => {
-            put_place(out, fault.at, bytes)?;
-            return write!(out, ", {:?}", fault.which);
+pub fn put_noderev(out: &mut Transcript, alloc: Global, bytes: &[u8]) {
+    match read_noderev(alloc, bytes) {
+        Ok(node) => {
+            put_node(out, &node);
+            put_again(out, bytes, write_noderev(alloc, &node));
         }
-        Err(_) => return Err(AllocError),
-    };
-    put_node(out, alloc, &node)?;
-    let again = match write_noderev(alloc, &node) {
-        Ok(again) => again,
-        Err(_) => return out.push_str(", and not written"),
-    };
-    put_again(out, bytes, &again)
+        Err(NodeError::Fault(fault)) => {
+            put_place(out, fault.at, bytes);
+            out.say(", ");
+            out.name(&fault.which);
+        }
+        Err(_) => out.lose(),
+    }
 }
 
 /// The name of a representation.
-pub fn put_name(out: &mut String, bytes: &[u8]) -> Result<(), AllocError> {
+pub fn put_name(out: &mut Transcript, bytes: &[u8]) {
     match read_rep(bytes) {
         Some(rep) => put_rep(out, &rep),
-        None => out.push_str("refused"),
+        None => out.say("refused"),
     }
 }

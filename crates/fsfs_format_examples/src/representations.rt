@@ -1,84 +1,101 @@
 // Representations: the bytes that stand under a name in two revisions, and why they are not read.
-use crate::nodes::put_digits;
 use fsfs_book::{MemBook, MemFile, MemRev};
-use fsfs_damage::{DamageKind, ReadError, RepWhat, Wrong};
-use fsfs_escapes::put_text;
+use fsfs_damage::{Damage, DamageKind, ReadError, RepWhat, Wrong};
+use fsfs_escapes::Transcript;
 use fsfs_noderev::read_rep;
 use fsfs_rep::read_rep_bytes;
 use std::alloc::{AllocError, Global};
 
+// A revision whose properties are its own bytes once more.
 fn kept(alloc: Global, bytes: &[u8]) -> Result<MemRev, AllocError> {
     Ok(MemRev {
         bytes: MemFile::Bytes(Vec::from_slice(alloc, bytes)?),
-        props: MemFile::Absent,
+        props: MemFile::Bytes(Vec::from_slice(alloc, bytes)?),
     })
 }
 
-// A book of two revisions.
-fn book_of(alloc: Global, first: &[u8], second: &[u8]) -> Result<MemBook, AllocError> {
+/// A book of two revisions, whose call of this number fails.
+pub fn book_of(
+    alloc: Global,
+    first: &[u8],
+    second: &[u8],
+    failing: u64,
+) -> Result<MemBook, AllocError> {
     let mut revs = Vec::new(alloc);
     revs.push(kept(alloc, first)?)?;
     revs.push(kept(alloc, second)?)?;
-    Ok(MemBook::new(alloc, revs))
+    Ok(MemBook::with_faults(revs, Vec::from_slice(alloc, &[failing])?))
 }
 
-fn put_kept_and_found(
-    out: &mut String,
-    word: &str,
-    kept: &[u8],
-    found: &[u8],
-) -> Result<(), AllocError> {
-    write!(out, "{word} ")?;
-    put_digits(out, kept)?;
-    out.push_str(", but ")?;
-    put_digits(out, found)
+fn put_kept_and_found(out: &mut Transcript, word: &str, kept: &[u8], found: &[u8]) {
+    out.say(word);
+    out.digits(kept);
+    out.say(", but ");
+    out.digits(found);
 }
 
-fn put_damage(out: &mut String, what: RepWhat) -> Result<(), AllocError> {
+fn put_rep_damage(out: &mut Transcript, what: RepWhat) {
     match what {
-        RepWhat::Header => out.push_str("no header"),
-        RepWhat::EndRep => out.push_str("no trailer"),
-        RepWhat::Size { kept, found } => write!(out, "size {kept}, but {found}"),
-        RepWhat::Md5 { kept, found } => put_kept_and_found(out, "MD5", &kept.bytes, &found.bytes),
-        RepWhat::Sha1 { kept, found } => {
-            put_kept_and_found(out, "SHA-1", &kept.bytes, &found.bytes)
+        RepWhat::Header => out.say("no header"),
+        RepWhat::EndRep => out.say("no trailer"),
+        RepWhat::Size { kept, found } => {
+            out.tell("size ", &kept);
+            out.tell(", but ", &found);
         }
-        _ => out.push_str("other damage"),
+        RepWhat::Md5 { kept, found } => put_kept_and_found(out, "MD5 ", &kept.bytes, &found.bytes),
+        RepWhat::Sha1 { kept, found } => {
+            put_kept_and_found(out, "SHA-1 ", &kept.bytes, &found.bytes);
+        }
+        other => out.name(&other),
     }
 }
 
-fn put_wrong(out: &mut String, wrong: Wrong) -> Result<(), AllocError> {
+fn put_damage(out: &mut Transcript, damage: Damage) {
+    match damage.what {
+        DamageKind::Rep(what) => put_rep_damage(out, what),
+        what => {
+            out.name(&what);
+            out.tell(" at ", &damage.at.offset);
+        }
+    }
+}
+
+fn put_wrong(out: &mut Transcript, wrong: Wrong) {
     match wrong {
-        Wrong::Refused(refusal) => write!(out, "{refusal}"),
-        Wrong::Delta(at) => write!(out, "a delta at {} in revision {}", at.offset, at.rev),
-        Wrong::Damaged(damage) => match damage.what {
-            DamageKind::Rep(what) => put_damage(out, what),
-            _ => out.push_str("other damage"),
-        },
+        Wrong::Refused(refusal) => out.show(&refusal),
+        Wrong::Delta(at) => {
+            out.tell("a delta at ", &at.offset);
+            out.tell(" in revision ", &at.rev);
+        }
+        Wrong::Damaged(damage) => put_damage(out, damage),
+    }
+}
+
+/// Why nothing was read.
+pub fn put_error(out: &mut Transcript, error: ReadError) {
+    match error {
+        ReadError::Wrong(wrong) => put_wrong(out, wrong),
+        ReadError::DiskFault => out.say("the disk failed"),
+        ReadError::OutOfMemory => out.lose(),
     }
 }
 
 /// The representation of this name, in revisions 0 and 1 with these bytes.
-pub fn put_bytes(
-    out: &mut String,
-    alloc: Global,
-    name: &[u8],
-    first: &[u8],
-    second: &[u8],
-) -> Result<(), AllocError> {
-    let mut book = book_of(alloc, first, second)?;
+pub fn put_bytes(out: &mut Transcript, alloc: Global, name: &[u8], first: &[u8], second: &[u8]) {
     let Some(rep) = read_rep(name) else {
-        return out.push_str("no name");
+        return out.say("no name");
     };
     if rep.rev.is_none() {
-        return out.push_str("no name in a revision");
+        return out.say("no name in a revision");
     }
+    let Ok(mut book) = book_of(alloc, first, second, 0) else {
+        return out.lose();
+    };
     match read_rep_bytes(alloc, &mut book, &rep) {
         Ok(bytes) => {
-            out.push_str("bytes ")?;
-            put_text(out, &bytes)
+            out.say("bytes ");
+            out.bytes(&bytes);
         }
-        Err(ReadError::Wrong(wrong)) => put_wrong(out, wrong),
-        Err(_) => Err(AllocError),
+        Err(error) => put_error(out, error),
     }
 }

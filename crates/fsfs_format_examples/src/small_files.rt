@@ -1,5 +1,5 @@
 // Small files: their values, written again, and where they are refused.
-use fsfs_base::SmallFault;
+use fsfs_escapes::Transcript;
 use fsfs_layout::{
     Format, Layout, ManifestError, read_current, read_format, read_manifest, read_min_unpacked_rev,
     read_next_ids, read_txn_current, read_uuid, write_current, write_manifest, write_next_ids,
@@ -8,98 +8,119 @@ use fsfs_layout::{
 use std::alloc::{AllocError, Global};
 
 /// Writes where bytes are refused: `end` where that is where they end.
-pub fn put_place(out: &mut String, at: usize, bytes: &[u8]) -> Result<(), AllocError> {
+pub fn put_place(out: &mut Transcript, at: usize, bytes: &[u8]) {
     if at == bytes.len() {
-        out.push_str("refused at its end")
+        out.say("refused at its end");
     } else {
-        write!(out, "refused at {at}")
+        out.tell("refused at ", &at);
     }
 }
 
-/// Writes whether what was read is written in the same bytes.
-pub fn put_again(out: &mut String, bytes: &[u8], again: &[u8]) -> Result<(), AllocError> {
-    if bytes == again {
-        out.push_str(", and so written")
-    } else {
-        out.push_str(", and otherwise written")
+/// Writes whether what was read is written in the same bytes, or in which.
+pub fn put_again(out: &mut Transcript, bytes: &[u8], again: Result<Vec<u8>, AllocError>) {
+    match again {
+        Err(_) => out.lose(),
+        Ok(again) => {
+            if again.as_slice() == bytes {
+                out.say(", and so written");
+            } else {
+                out.say(", and written ");
+                out.bytes(&again);
+            }
+        }
     }
-}
-
-fn put_fault(out: &mut String, fault: SmallFault, bytes: &[u8]) -> Result<(), AllocError> {
-    put_place(out, fault.at, bytes)
 }
 
 /// `db/format`.
-pub fn put_format(out: &mut String, bytes: &[u8]) -> Result<(), AllocError> {
+pub fn put_format(out: &mut Transcript, bytes: &[u8]) {
     match read_format(bytes) {
-        Ok(Format::Linear) => out.push_str("linear"),
-        Ok(Format::Sharded(size)) => write!(out, "{size} in a shard"),
-        Ok(Format::Other(number)) => write!(out, "format {number}"),
-        Err(fault) => put_fault(out, fault, bytes),
+        Ok(Format::Linear) => out.say("linear"),
+        Ok(Format::Sharded(size)) => {
+            out.show(&size);
+            out.say(" in a shard");
+        }
+        Ok(Format::Other(number)) => out.tell("format ", &number),
+        Err(fault) => put_place(out, fault.at, bytes),
     }
 }
 
 /// `db/uuid`.
-pub fn put_uuid(out: &mut String, alloc: Global, bytes: &[u8]) -> Result<(), AllocError> {
-    let uuid = match read_uuid(bytes) {
-        Ok(uuid) => uuid,
-        Err(fault) => return put_fault(out, fault, bytes),
-    };
-    for byte in uuid.as_bytes() {
-        write!(out, "{}", *byte as char)?;
+pub fn put_uuid(out: &mut Transcript, alloc: Global, bytes: &[u8]) {
+    match read_uuid(bytes) {
+        Ok(uuid) => {
+            out.bytes(uuid.as_bytes());
+            put_again(out, bytes, write_uuid(alloc, &uuid));
+        }
+        Err(fault) => put_place(out, fault.at, bytes),
     }
-    put_again(out, bytes, &write_uuid(alloc, &uuid)?)
 }
 
 /// `db/current`.
-pub fn put_current(out: &mut String, alloc: Global, bytes: &[u8]) -> Result<(), AllocError> {
+pub fn put_current(out: &mut Transcript, alloc: Global, bytes: &[u8]) {
     match read_current(bytes) {
         Ok(youngest) => {
-            write!(out, "r{youngest}")?;
-            put_again(out, bytes, &write_current(alloc, youngest)?)
+            out.tell("r", &youngest);
+            put_again(out, bytes, write_current(alloc, youngest));
         }
-        Err(fault) => put_fault(out, fault, bytes),
+        Err(fault) => put_place(out, fault.at, bytes),
     }
 }
 
-/// `db/min-unpacked-rev`, where a shard has two revisions.
-pub fn put_floor(out: &mut String, bytes: &[u8]) -> Result<(), AllocError> {
-    match read_min_unpacked_rev(Layout::sharded(2), bytes) {
-        Ok(floor) => write!(out, "r{floor}"),
-        Err(fault) => put_fault(out, fault, bytes),
+// Shards of so many revisions; of two where that is no number of them.
+fn layout_of(word: &str) -> Layout {
+    match word.parse::<u32>() {
+        Ok(size) if 0 < size && size <= 2147483647 => Layout::sharded(size),
+        _ => Layout::sharded(2),
+    }
+}
+
+/// `db/min-unpacked-rev`, where a shard has so many revisions.
+pub fn put_floor(out: &mut Transcript, size: &str, bytes: &[u8]) {
+    match read_min_unpacked_rev(layout_of(size), bytes) {
+        Ok(floor) => out.tell("r", &floor),
+        Err(fault) => put_place(out, fault.at, bytes),
     }
 }
 
 /// `db/txn-current`.
-pub fn put_txn_current(out: &mut String, alloc: Global, bytes: &[u8]) -> Result<(), AllocError> {
-    let number = match read_txn_current(bytes) {
-        Ok(number) => number,
-        Err(fault) => return put_fault(out, fault, bytes),
-    };
-    write!(out, "{}", number.number)?;
-    put_again(out, bytes, &write_txn_current(alloc, &number)?)
+pub fn put_txn_current(out: &mut Transcript, alloc: Global, bytes: &[u8]) {
+    match read_txn_current(bytes) {
+        Ok(number) => {
+            out.show(&number.number);
+            put_again(out, bytes, write_txn_current(alloc, &number));
+        }
+        Err(fault) => put_place(out, fault.at, bytes),
+    }
 }
 
 /// `next-ids`.
-pub fn put_next_ids(out: &mut String, alloc: Global, bytes: &[u8]) -> Result<(), AllocError> {
-    let ids = match read_next_ids(bytes) {
-        Ok(ids) => ids,
-        Err(fault) => return put_fault(out, fault, bytes),
-    };
-    write!(out, "node {}, copy {}", ids.node.number, ids.copy.number)?;
-    put_again(out, bytes, &write_next_ids(alloc, &ids)?)
+pub fn put_next_ids(out: &mut Transcript, alloc: Global, bytes: &[u8]) {
+    match read_next_ids(bytes) {
+        Ok(ids) => {
+            out.tell("node ", &ids.node.number);
+            out.tell(", copy ", &ids.copy.number);
+            put_again(out, bytes, write_next_ids(alloc, &ids));
+        }
+        Err(fault) => put_place(out, fault.at, bytes),
+    }
 }
 
-/// The manifest of the first shard, where a shard has two revisions.
-pub fn put_manifest(out: &mut String, alloc: Global, bytes: &[u8]) -> Result<(), AllocError> {
-    let offsets = match read_manifest(alloc, bytes, 0, Layout::sharded(2)) {
-        Ok(offsets) => offsets,
-        Err(ManifestError::Fault(fault)) => return put_fault(out, fault, bytes),
-        Err(_) => return Err(AllocError),
-    };
-    for offset in offsets.iter() {
-        write!(out, "{offset} ")?;
+fn put_offsets(out: &mut Transcript, offsets: &[u64]) {
+    for offset in offsets {
+        out.show(offset);
+        out.say(" ");
     }
-    out.push_str("are the offsets")?;
-    put_again(out, bytes, &write_manifest(alloc, &offsets)?)
+    out.say("are the offsets");
+}
+
+/// A manifest, where a shard has so many revisions.
+pub fn put_manifest(out: &mut Transcript, alloc: Global, size: &str, bytes: &[u8]) {
+    match read_manifest(alloc, bytes, 0, layout_of(size)) {
+        Ok(offsets) => {
+            put_offsets(out, &offsets);
+            put_again(out, bytes, write_manifest(alloc, &offsets));
+        }
+        Err(ManifestError::Fault(fault)) => put_place(out, fault.at, bytes),
+        Err(_) => out.lose(),
+    }
 }
