@@ -16,6 +16,7 @@ use Rattle.fsfs_shows.specs.Shown.{IsShown, IsShownAs, Shows}
 use Rattle.fsfs_shows.proofs.OneWalk.{met_same}
 use Rattle.fsfs_shows.proofs.TreeLaw.{child_home, stands_home, root_le}
 use Rattle.fsfs_shows.proofs.Walks.{child_stands}
+use Rattle.fsfs_shows.proofs.OneTree.{some_or_none}
 use Rattle.fsfs_ancestry.specs.CopyRoots.{later_root, IsRootedFrom, IsRootedAt}
 use Rattle.fsfs_ancestry.specs.Trees.{ShowTrees}
 use Rattle.fsfs_ancestry.proofs.Roots.{is_less, is_not_less, rooted_stands, rooted_child, rooted_up, IsCounted, self_counted, later_counted, later_of_counted, later_of_older, later_up_here}
@@ -23,11 +24,8 @@ use Rattle.fsfs_ancestry.proofs.Earlier.{root_of_id, pred_same, no_pred, root_th
 
 -- ---- the chain of predecessors is whole where a tree is shown
 
-some_none : {A B : Type 0} (x : A) (o : Option A) → o ≡ Some x → o ≡ None → B
-some_none x o e f = let g = sym e ∙ f in absurd cc
-
 pub chain_pred : (look : RevisionBytes) (v : NodeRev) (end : Result ℕ Wrong) (first : ℕ) (id : NodeId) → Chain look v end → end ≡ Ok first → v.predecessor ≡ Some id → (u : NodeRev) × IsPred look v u × Chain look u (Ok first)
-chain_pred look _ _ first id (First v none) is some = some_none id v.predecessor some none
+chain_pred look _ _ first id (First v none) is some = some_or_none id v.predecessor some none
 chain_pred look _ _ first id (Breaks v other w e o) is some = absurd cc
 chain_pred look _ _ first id (Goes v u other end e o c) is some = (u, (other, e, o), subst (λ (r : Result ℕ Wrong). Chain look u r) is c)
 

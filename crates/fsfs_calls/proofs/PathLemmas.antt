@@ -38,7 +38,7 @@ has_head p ps = ap (λ b. b || has_path ps p) (same_itself p)
 pub has_tail : (p q : List ℕ) (ps : List (List ℕ)) → has_path ps q ≡ true → has_path (p ∷ ps) q ≡ true
 has_tail p q ps e = or_right (same_text q p) (has_path ps q) e
 
-slash_within : (a b : List ℕ) → has_slash (a ++ 47 ∷ b) ≡ true
+pub slash_within : (a b : List ℕ) → has_slash (a ++ 47 ∷ b) ≡ true
 slash_within [] b = refl
 slash_within (c ∷ a) b = or_right (c == 47) (has_slash (a ++ 47 ∷ b)) (slash_within a b)
 

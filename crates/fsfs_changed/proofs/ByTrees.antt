@@ -28,10 +28,9 @@ use Rattle.fsfs_changes.specs.declared.item.ChangeItem.{ChangeItem}
 use Rattle.fsfs_shows.specs.Reading.{offset_of, Met, Stands, Lacking, Blocked, MetAt, StandsAt}
 use Rattle.fsfs_shows.specs.Shown.{IsShown, IsShownAs, Shows}
 use Rattle.fsfs_stands.specs.Changes.{HasItems, IsKindOf, Said, Named, There, NotThere, IsChangeOf, AreChangesOf}
-use Rattle.fsfs_printed.specs.Texts.{End, Whole, Refused, Stopped}
-use Rattle.fsfs_printed.specs.Agreeing.{Agree}
-use Rattle.fsfs_printed.specs.ByTree.{IsOf}
+use Rattle.fsfs_printed.specs.Texts.{End, Whole}
 use Rattle.fsfs_answers.specs.ChangedTexts.{put_by, in_text_order, nearest_source, below_source, or_before, taken_from, source_of_change, kind_or, node_of_place, taken_kind, modified_line, action_lines, change_lines, changed_text}
+use Rattle.fsfs_printed.proofs.WholeTexts.{of_agree}
 use Rattle.fsfs_changed.specs.Items.{ItemsOf}
 use Rattle.fsfs_changed.specs.ChangedTexts.{ByText, by_text, in_order, kind_met, KindAt, is_nameable, KindUnsaid, KindOf, source_value, source_at, KindFrom, TakenKind, ActionLines, ItemLines, LinesText, OfNone, OfItem, ChangedText}
 use Rattle.fsfs_changed.specs.Laws.{ShowChanges, ChangedPathsAreByTheTrees}
@@ -276,16 +275,6 @@ module _ (look : RevisionBytes) (rev : ℕ) (tree : ℕ → TreeFunction) (chang
 
   whole_text : ChangedText look rev (changed_text rev tree changes) Whole
   whole_text = inr (inr ((items, None), read, whole))
-
--- what agrees with a whole text is that, or a first part of it
-of_agree : (whole text : List ℕ) (end : End) → Agree whole Whole text end → IsOf whole text end
-of_agree whole text Whole (inl (e, f)) = sym e
-of_agree whole text (Refused fault) (inl (e, f)) = absurd cc
-of_agree whole text Stopped (inl (e, f)) = absurd cc
-of_agree whole text end (inr (inl (f, front))) = absurd cc
-of_agree whole text Whole (inr (inr (f, front))) = absurd cc
-of_agree whole text (Refused fault) (inr (inr (f, front))) = absurd cc
-of_agree whole text Stopped (inr (inr (f, front))) = front
 
 pub changed_by : ChangedPathsAreByTheTrees
 changed_by look rev tree changes shown text end h =

@@ -9,9 +9,7 @@ use Rattle.fsfs_damage.specs.declared.wrong.Wrong.{Wrong}
 use Rattle.fsfs_damage.specs.Readings.{HasOneAnswer}
 use Rattle.fsfs_damage.proofs.OneAnswer.{ok_ap, and_then_one, judged_one}
 use Rattle.fsfs_book.specs.Told.{RevisionBytes, BytesOf}
-use Rattle.fsfs_revision.specs.Trailers.{IsTrailer}
 use Rattle.fsfs_revision.specs.Damages.{trailer_checks}
-use Rattle.fsfs_revision.proofs.TrailerLemmas.{one_trailer}
 use Rattle.fsfs_changes.specs.Items.{IsItem}
 use Rattle.fsfs_changes.specs.Changes.{HasNewPath, Items, IsItemFault}
 use Rattle.fsfs_changes.specs.declared.item.ChangeItem.{ChangeItem}
@@ -19,26 +17,18 @@ use Rattle.fsfs_changes.proofs.ItemTexts.{item_one, item_alone}
 use Rattle.fsfs_changes.proofs.ItemLists.{items_one, fault_clash}
 use Rattle.fsfs_shows.proofs.OneNode.{end_one}
 use Rattle.fsfs_shows.proofs.OneStep.{bytes_one}
+use Rattle.fsfs_stands.proofs.OneHistory.{same_front}
 use Rattle.fsfs_changed.specs.Items.{IsData, DataIn, DataOf, ItemsIn}
 use Rattle.fsfs_changed.specs.Laws.{ItemsAreOne}
 
 -- ---- where the data stand
-
-front_one : (f g s t : List ℕ) (p q : ℕ × ℕ) → IsTrailer s p → IsTrailer t q → f ++ s ≡ g ++ t → f ≡ g
-front_one [] [] s t p q a b e = refl
-front_one [] (c ∷ g) s t p q a b e = absurd (one_trailer s t g c p q a b e)
-front_one (c ∷ f) [] s t p q a b e = absurd (one_trailer t s f c q p b a (sym e))
-front_one (c ∷ f) (d ∷ g) s t p q a b e =
-    let head : c ≡ d = cc in
-    let rest = front_one f g s t p q a b (let h : f ++ s ≡ g ++ t = cc in h) in
-    λ i. head i ∷ rest i
 
 data_one : (bytes : List ℕ) (a b : ℕ × List ℕ) → IsData bytes a → IsData bytes b → a ≡ b
 data_one bytes a b v w =
     let t = v.trailer in
     let u = w.trailer in
     let trailer = end_one 0 bytes t u v.ends w.ends in
-    let front = front_one v.ends.front w.ends.front v.ends.text w.ends.text (t.root, t.changes) (u.root, u.changes) v.ends.text_is w.ends.text_is (sym v.ends.parts ∙ w.ends.parts) in
+    let front = same_front v.ends.front w.ends.front v.ends.text w.ends.text (t.root, t.changes) (u.root, u.changes) v.ends.text_is w.ends.text_is (sym v.ends.parts ∙ w.ends.parts) in
     let begins : a.0 ≡ b.0 = v.begins ∙ (λ i. (trailer i).changes) ∙ sym w.begins in
     let rest : a.1 ≡ b.1 = v.data_is ∙ (λ i. drop (trailer i).changes (front i)) ∙ sym w.data_is in
     λ i. (begins i, rest i)

@@ -3,8 +3,8 @@ use Rattle.std.proofs.Common.{◌≡◌, ℕ, suc, true, List, [], ◌∷◌, �
 use Rattle.std.specs.Prelude.{IfSome, ◌==◌}
 use Rattle.std.proofs.lemmas.Bool.{and_parts, false≢true}
 use Rattle.std.proofs.lemmas.Bool.Decides.{nat_tests}
-use Rattle.fsfs_base.specs.Paths.{PathName, Path, same_name, same_path}
-use Rattle.fsfs_base.proofs.PathLemmas.{same_name-is}
+use Rattle.fsfs_base.specs.Paths.{PathName, Path, same_path}
+use Rattle.fsfs_base.proofs.PathLemmas.{same_path-is}
 use Rattle.fsfs_base.specs.declared.kind.Kind.{Kind}
 use Rattle.fsfs_base.specs.declared.kind.Kind.TheVariants.{Dir}
 use Rattle.fsfs_book.specs.Told.{RevisionBytes}
@@ -47,12 +47,6 @@ module _ (look : RevisionBytes) (rev : ℕ) (p : Path) (name : PathName) (absent
   kind_of_named entry is (Err w) (inr (u, h, e)) = absurd cc
 
 -- ---- paths
-
-same_path-is : (p q : Path) → same_path p q ≡ true → p ≡ q
-same_path-is [] [] e = refl
-same_path-is [] (y ∷ q) e = absurd (false≢true e)
-same_path-is (x ∷ p) [] e = absurd (false≢true e)
-same_path-is (x ∷ p) (y ∷ q) e = let h = and_parts (same_name x y) (same_path p q) e in λ i. same_name-is x y h.0 i ∷ same_path-is p q h.1 i
 
 last_pushed : (p : Path) (x : PathName) → last_name (p ++ x ∷ []) ≡ x
 last_pushed [] x = refl

@@ -16,27 +16,18 @@ use Rattle.fsfs_revision.specs.declared.trailer.Trailer.{Trailer}
 use Rattle.fsfs_revision.specs.Trailers.{IsTrailer, EndsWith}
 use Rattle.fsfs_revprops.proofs.FileLemmas.{further_front, further_whole}
 use Rattle.fsfs_dag.specs.Told.{LengthOf, WindowAt}
-use Rattle.fsfs_dag.proofs.Windows.{one_bytes, tail_ends, tail_seen}
+use Rattle.fsfs_dag.proofs.Windows.{one_bytes, tail_ends, tail_seen, window_end, window_part}
 use Rattle.fsfs_changed.specs.Items.{IsData, DataOf}
 use Rattle.fsfs_changed_look.specs.Ends.{TrailerOf, RestOf}
 
 -- ---- the trailer
 
 module _ (look : RevisionBytes) (rev len cut : ℕ) (seen : List ℕ) (size : LengthOf look rev (Ok len)) (is : cut ≡ len - 64) (window : WindowAt look (place_of rev cut) 64 (Ok seen)) where
-  same : window.0 ≡ size.0
-  same = one_bytes (look rev) window.0 size.0 window.1 size.1
-
-  part : seen ≡ take 64 (drop cut size.0)
-  part = window.2 ∙ ap (λ (xs : List ℕ). take 64 (drop cut xs)) same
-
-  at_end : cut ≡ length size.0 - 64
-  at_end = is ∙ ap (λ (n : ℕ). n - 64) size.2
-
   pub trailer_found : (t : Trailer) → EndsWith cut seen t → TrailerOf look rev (Ok t)
-  trailer_found t h = (size.0, size.1, tail_ends size.0 seen cut t at_end part h)
+  trailer_found t h = (size.0, size.1, tail_ends size.0 seen cut t (window_end look rev len cut seen size is window) (window_part look rev len cut seen size is window) h)
 
   pub trailer_missing : ((t : Trailer) → EndsWith cut seen t → ⊥) → TrailerOf look rev (Err (damaged (place_of rev len) what.Trailer))
-  trailer_missing none = inr (size.0, size.1, inl ((λ h. none h.0 (tail_seen size.0 seen cut h.0 at_end part h.1)), ap (λ (n : ℕ). damaged (place_of rev n) what.Trailer) size.2))
+  trailer_missing none = inr (size.0, size.1, inl ((λ h. none h.0 (tail_seen size.0 seen cut h.0 (window_end look rev len cut seen size is window) (window_part look rev len cut seen size is window) h.1)), ap (λ (n : ℕ). damaged (place_of rev n) what.Trailer) size.2))
 
 -- how many bytes a trailer takes
 pub trailer_length : (text : List ℕ) (root changes : ℕ) → IsTrailer text (root, changes) → length text ≡ length (decimal root) + length (decimal changes) + 3

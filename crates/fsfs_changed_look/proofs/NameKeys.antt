@@ -1,5 +1,5 @@
 -- Entries by their names, as a map of bytes finds them.
-use Rattle.std.proofs.Common.{◌≡◌, ℕ, List, [], ◌∷◌, refl, sym, ap, ◌∙◌, Vec, Global, Bor, Option, Some, None, Bool, true, false, cond}
+use Rattle.std.proofs.Common.{◌≡◌, ℕ, List, [], ◌∷◌, refl, sym, ap, ◌∙◌, Bor, Option, Some, None, Bool, true, false, cond}
 use Rattle.std.specs.Option.{option_copied, option_map}
 use Rattle.std.specs.BTreeMap.{insert_entry}
 use Rattle.std.specs.Cmp.Lexicographic.{slice_cmp}
@@ -15,13 +15,8 @@ use Rattle.fsfs_base.proofs.PathLemmas.{same_name-refl, same_name-is}
 use Rattle.fsfs_shows.specs.Reading.{DirEntry as EntryValue}
 use Rattle.fsfs_dag.specs.Views.{entry_value}
 use Rattle.fsfs_dag.specs.declared.directory.DirEntry.{DirEntry}
+use Rattle.fsfs_changed_look.proofs.TextKeys.{Key, key_cmp}
 use Rattle.fsfs_changed_look.specs.KeptDirs.{found_in}
-
-abbrev pub Key : Type 0
-Key = Vec ℕ Global
-
-abbrev pub key_cmp : Key → Key → Ordering
-key_cmp x y = slice_cmp nat_cmp x.items y.items
 
 abbrev same_key : PathName → Key → Bool
 same_key name key = is_eq (slice_cmp nat_cmp name key.items)

@@ -4,13 +4,13 @@ ghost use Rattle.fsfs_damage.specs.Causes.{HasCause};
 ghost use Rattle.fsfs_damage.specs.Readings.{Answers};
 ghost use Rattle.fsfs_book.specs.Told.{RevisionBytes, Keeps, IsTold};
 ghost use Rattle.fsfs_revision.specs.Trailers.{IsTrailer};
-ghost use Rattle.fsfs_dag.specs.Told.{LengthOf};
 ghost use Rattle.fsfs_changed.specs.Items.{DataOf};
 ghost use Rattle.fsfs_changed_look.specs.Ends.{TrailerOf, RestOf};
 
 use fsfs_base::RevNum;
-use fsfs_book::{Book, BookFault};
-use fsfs_damage::{DamageKind, ReadError, RevOffset, Wrong};
+use fsfs_book::Book;
+use fsfs_dag::revision_length;
+use fsfs_damage::{DamageKind, ReadError, RevOffset};
 use fsfs_rep::window;
 use fsfs_revision::{TRAILER_LIMIT, Trailer, read_tail};
 use itoa::Buffer;
@@ -26,28 +26,13 @@ pub(crate) struct ChangesData {
     pub(crate) bytes: Vec<u8>,
 }
 
-// How long a revision is.
-fn length<B: Book>(book: &mut B, rev: RevNum) -> Result<u64, ReadError>
-    ensures told { (look : RevisionBytes) → IsTold (B.told book.old) look rev → Answers (λ n. n) (LengthOf look rev) result }
-    ensures kept { Keeps (B.told book.old) (B.told book.new) }
-    ensures cause { HasCause (B.faults book.old) (B.faults book.new) result }
-{
-    match book.rev_len(rev) {
-        Ok(len) => Ok(len),
-        Err(BookFault::Refused(refusal)) => Err(ReadError::Wrong(Wrong::Refused(refusal))),
-        Err(BookFault::Short { .. }) => Ok(0),
-        Err(BookFault::DiskFault) => Err(ReadError::DiskFault),
-        Err(BookFault::OutOfMemory) => Err(ReadError::OutOfMemory),
-    }
-}
-
 // What the trailer of a revision says.
 fn trailer_of<B: Book>(book: &mut B, rev: RevNum) -> Result<Trailer, ReadError>
     ensures told { (look : RevisionBytes) → IsTold (B.told book.old) look rev → Answers (λ t. t) (TrailerOf look rev) result }
     ensures kept { Keeps (B.told book.old) (B.told book.new) }
     ensures cause { HasCause (B.faults book.old) (B.faults book.new) result }
 {
-    let len = length(book, rev)?;
+    let len = revision_length(book, rev)?;
     let begins = len.saturating_sub(TRAILER_LIMIT as u64);
     let mut tail = [0u8; TRAILER_LIMIT];
     let count = window(book, rev, begins, &mut tail)?;

@@ -171,17 +171,17 @@ module _ (look : RevisionBytes) (rev len cut : ℕ) (seen : List ℕ) (size : Le
   same : window.0 ≡ size.0
   same = one_bytes (look rev) window.0 size.0 window.1 size.1
 
-  part : seen ≡ take 64 (drop cut size.0)
-  part = window.2 ∙ ap (λ (xs : List ℕ). take 64 (drop cut xs)) same
+  pub window_part : seen ≡ take 64 (drop cut size.0)
+  window_part = window.2 ∙ ap (λ (xs : List ℕ). take 64 (drop cut xs)) same
 
-  at_end : cut ≡ length size.0 - 64
-  at_end = is ∙ ap (λ (n : ℕ). n - 64) size.2
+  pub window_end : cut ≡ length size.0 - 64
+  window_end = is ∙ ap (λ (n : ℕ). n - 64) size.2
 
   pub end_found : (t : Trailer) → EndsWith cut seen t → EndOf look rev (Ok (place_of rev t.root))
-  end_found t h = (size.0, size.1, (t, tail_ends size.0 seen cut t at_end part h, refl))
+  end_found t h = (size.0, size.1, (t, tail_ends size.0 seen cut t window_end window_part h, refl))
 
   pub end_missing : ((t : Trailer) → EndsWith cut seen t → ⊥) → EndOf look rev (Err (damaged (place_of rev len) what.Trailer))
-  end_missing none = inr (size.0, size.1, inl ((λ h. none h.0 (tail_seen size.0 seen cut h.0 at_end part h.1)), ap (λ (n : ℕ). damaged (place_of rev n) what.Trailer) size.2))
+  end_missing none = inr (size.0, size.1, inl ((λ h. none h.0 (tail_seen size.0 seen cut h.0 window_end window_part h.1)), ap (λ (n : ℕ). damaged (place_of rev n) what.Trailer) size.2))
 
 -- ---- the root of a revision
 

@@ -23,8 +23,8 @@ use std::alloc::Global;
 // to clear and read the whole limit for each costs more than the reading itself.
 const USUAL_NODE_REV: usize = 1024;
 
-// How long a revision is.
-fn length<B: Book>(book: &mut B, rev: RevNum) -> Result<u64, ReadError>
+/// How many bytes a revision has; none where its file is short.
+pub fn revision_length<B: Book>(book: &mut B, rev: RevNum) -> Result<u64, ReadError>
     ensures told { (look : RevisionBytes) → IsTold (B.told book.old) look rev → Answers (λ n. n) (LengthOf look rev) result }
     ensures kept { Keeps (B.told book.old) (B.told book.new) }
     ensures cause { HasCause (B.faults book.old) (B.faults book.new) result }
@@ -59,7 +59,7 @@ fn root_place<B: Book>(book: &mut B, rev: RevNum) -> Result<RevOffset, ReadError
     ensures kept { Keeps (B.told book.old) (B.told book.new) }
     ensures cause { HasCause (B.faults book.old) (B.faults book.new) result }
 {
-    let len = length(book, rev)?;
+    let len = revision_length(book, rev)?;
     let begins = len.saturating_sub(TRAILER_LIMIT as u64);
     let at = RevOffset {
         rev,

@@ -7,15 +7,14 @@ use Rattle.std.proofs.lemmas.Bool.{and_from, and_parts, cases_Bool, false_from_n
 use Rattle.std.proofs.lemmas.List.Folds.{list_any-append}
 use Rattle.std.proofs.lemmas.Map.Views.{any-filter_same}
 use mathlib.Core.Bool.{false≢true}
-use Rattle.fsfs_base.specs.Paths.{PathName, Path, same_name, same_path, covers}
-use Rattle.fsfs_base.proofs.PathLemmas.{same_name-is, same_name-refl, covers-refl, covers-trans, covers-either, split_at}
+use Rattle.fsfs_base.specs.Paths.{PathName, Path, same_path, covers}
+use Rattle.fsfs_base.proofs.PathLemmas.{same_name-refl, covers-refl, covers-trans, covers-either, split_at, same_path-is, same_path-refl}
 use Rattle.fsfs_tree.specs.Nodes.{TreeFunction}
 use Rattle.fsfs_flat.specs.declared.mark.Mark.{Mark}
 use Rattle.fsfs_flat.specs.declared.mark.What.{What}
 use Rattle.fsfs_flat.specs.declared.mark.What.TheVariants as whats
 use Rattle.fsfs_flat.specs.Marks.{any_covers, made, made_after, is_make, touches, is_gone, changes_props}
 use Rattle.fsfs_model.proofs.Tests.{found, found_in}
-use Rattle.fsfs_model.proofs.Applied.{same_path-refl}
 use Rattle.fsfs_model.proofs.Owns.{made_push}
 use Rattle.fsfs_fields.specs.declared.txn_name.TxnName.{TxnName}
 use Rattle.fsfs_book.specs.Told.{RevisionBytes}
@@ -40,12 +39,6 @@ use Rattle.fsfs_drafts.proofs.MarkLaw.{held_front}
 use Rattle.fsfs_drafts.proofs.Moving.{held_goes, live_above}
 
 -- ---- paths and tests
-
-same_path-is : (p q : Path) → same_path p q ≡ true → p ≡ q
-same_path-is [] [] e = refl
-same_path-is [] (y ∷ q) e = absurd (false≢true e)
-same_path-is (x ∷ p) [] e = absurd (false≢true e)
-same_path-is (x ∷ p) (y ∷ q) e = let h = and_parts (same_name x y) (same_path p q) e in λ i. same_name-is x y h.0 i ∷ same_path-is p q h.1 i
 
 same_longer : (p : Path) (y : PathName) (r : Path) → same_path p (p ++ y ∷ r) ≡ false
 same_longer [] y r = refl

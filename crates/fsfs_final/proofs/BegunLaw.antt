@@ -18,8 +18,8 @@ use Rattle.fsfs_drafts.proofs.Lasting.{lasting}
 use Rattle.fsfs_merge.proofs.SightLaw.{some_node, same_some}
 use Rattle.fsfs_drafts.specs.NodeDrafts.{IsOwn, IsDraft}
 use Rattle.fsfs_drafts.specs.Draws.{DrawsTree}
+use Rattle.fsfs_drafts.proofs.Parents.{parent, child_at}
 use Rattle.fsfs_final.specs.Begun.{IsFirstRoot, begun, BegunIsADraft}
-use Rattle.fsfs_landed.proofs.Roots.{parent, child_at}
 use Rattle.std.proofs.lemmas.Bool.{both_ways}
 use Rattle.fsfs_drafts.proofs.HangLaw.{some_same}
 

@@ -5,7 +5,7 @@ use Rattle.std.specs.List.{flat_map}
 use Rattle.std.proofs.lemmas.List.{append-nil, length-append}
 use mathlib.Core.Bool.{false≢true}
 use Rattle.fsfs_base.specs.Paths.{Path, same_path}
-use Rattle.fsfs_model.proofs.Applied.{same_path-is}
+use Rattle.fsfs_base.proofs.PathLemmas.{same_path-is}
 use Rattle.fsfs_book.specs.Told.{RevisionBytes}
 use Rattle.fsfs_noderev.specs.NodeRevs.{IsNodeRev}
 use Rattle.fsfs_noderev.specs.Lines.{line}

@@ -22,10 +22,11 @@ use Rattle.fsfs_ancestry.proofs.Earlier.{pred_same}
 use Rattle.fsfs_drafts.specs.OwnSides.{NodesAt, in_txn}
 use Rattle.fsfs_drafts.proofs.Lasting.{lasting_id}
 use Rattle.fsfs_drafts.specs.NodeDrafts.{draft_root, IsOwn, IsDraft}
+use Rattle.fsfs_ids.proofs.Coming.{copy_or}
 use Rattle.fsfs_final.specs.Final.{IsFinal}
 use Rattle.fsfs_final.specs.Ordered.{FinalsAreInOrder}
 use Rattle.fsfs_final.proofs.LastNames.{Root, Named, ends}
-use Rattle.fsfs_final.proofs.Stays.{copy_or, own_dir, ready}
+use Rattle.fsfs_final.proofs.Stays.{own_dir, ready}
 use Rattle.std.proofs.lemmas.Bool.{and_from}
 use Rattle.fsfs_drafts.proofs.HangLaw.{some_same}
 

@@ -13,7 +13,6 @@ use Rattle.fsfs_flat.specs.Landing.{landed_at, land}
 use Rattle.fsfs_flat.specs.Transactions.{IsTransaction}
 use Rattle.fsfs_book.specs.Told.{RevisionBytes}
 use Rattle.fsfs_noderev.specs.declared.rep.Contents.TheVariants as contents
-use Rattle.fsfs_noderev.specs.declared.node_rev.CopySource.{CopySource}
 use Rattle.fsfs_noderev.specs.declared.node_rev.NodeRev.{NodeRev}
 use Rattle.fsfs_shows.specs.Reading.{ChildOf, Met, Stands, Lacking, Blocked, MetAt, StandsAt}
 use Rattle.fsfs_shows.specs.Chains.{own_rev, IsPred, Chain, First, Goes, copy_root_of, IsCopiedIn, contents_rev}
@@ -33,6 +32,7 @@ use Rattle.fsfs_drafts.specs.OwnSides.{NodesAt, in_txn, IsSuccessor, IsOwnSide, 
 use Rattle.fsfs_drafts.proofs.Lasting.{lasting}
 use Rattle.fsfs_merge.proofs.SightLaw.{some_node, node_some, props_touched}
 use Rattle.fsfs_drafts.specs.NodeDrafts.{draft_root, IsOwn, IsDraft}
+use Rattle.fsfs_ids.proofs.Coming.{copy_or}
 use Rattle.fsfs_final.specs.Final.{IsFinal, Finished, AsItWas, Done, IsWritten}
 use Rattle.fsfs_drafts.specs.Draws.{FreshAt, MadeHere, CameWith, DrawsTree}
 use Rattle.fsfs_final.specs.Shown.{ReadsContents, WrittenShowsLanding}
@@ -385,10 +385,6 @@ module _ (look : RevisionBytes) (top : ℕ) (tree : ℕ → TreeFunction) (t : T
       root v at u e mine some =
           let same = some_same (own []) u draft.root.0 e draft.root.2 in
           (draft.root.1, (draft.root.1.id, ap (λ (x : NodeRev). x.predecessor) same ∙ draft.root.5, stands_of_id look top [] draft.root.1 draft.root.3), (top, [], omega arith, draft.root.3))
-
-      copy_or : (o : Option CopySource) → (o ≡ None) ⊎ ((from : CopySource) × (o ≡ Some from))
-      copy_or None = inl refl
-      copy_or (Some from) = inr (from, refl)
 
       down : (p : Path) (name : PathName) (dir v : NodeRev) → StandsAt look N p dir → dir.kind ≡ Rattle.fsfs_base.specs.declared.kind.Kind.TheVariants.Dir → ChildOf look dir name (Ok (Some v)) → StandsAt look N (p ++ name ∷ []) v
           → ((u : NodeRev) → own p ≡ Some u → IsOwn u → u.predecessor ≢ None → (w : NodeRev) × IsPred look u w × IsOf look top w)

@@ -1,10 +1,9 @@
 -- A draft stays one while later revisions come.
-use Rattle.std.proofs.Common.{◌≡◌, ◌≤◌, ◌<◌, ◌⊎◌, ℕ, zero, suc, [], ◌∷◌, ◌++◌, length, refl, sym, ap, subst, ◌∙◌, arith, inl, inr}
+use Rattle.std.proofs.Common.{◌≡◌, ◌≤◌, ◌<◌, ◌⊎◌, ℕ, zero, suc, [], ◌∷◌, ◌++◌, length, sym, ap, subst, ◌∙◌, arith, inl, inr}
 use Rattle.std.specs.Prelude.{◌≢◌, Ok, Option, Some, None}
 use Rattle.fsfs_base.specs.Paths.{PathName, Path}
 use Rattle.fsfs_book.specs.Told.{RevisionBytes}
 use Rattle.fsfs_noderev.specs.declared.node_id.NodeId.{NodeId}
-use Rattle.fsfs_noderev.specs.declared.node_rev.CopySource.{CopySource}
 use Rattle.fsfs_noderev.specs.declared.node_rev.NodeRev.{NodeRev}
 use Rattle.fsfs_shows.specs.Reading.{offset_of, ChildOf}
 use Rattle.fsfs_shows.specs.Chains.{own_rev, IsPred}
@@ -19,14 +18,11 @@ use Rattle.fsfs_ancestry.proofs.BoundedIds.{InTime, in_time, behind_to, stands_t
 use Rattle.fsfs_drafts.specs.OwnSides.{NodesAt, in_txn}
 use Rattle.fsfs_drafts.specs.NodeDrafts.{IsOwn, DraftPart, IsDraft}
 use Rattle.fsfs_drafts.specs.NodeDrafts as drafts
+use Rattle.fsfs_ids.proofs.Coming.{copy_or}
 use Rattle.fsfs_final.proofs.LastNames.{Root, Named, ends}
 use Rattle.fsfs_final.specs.Staying.{DraftsStay}
 use Rattle.std.proofs.lemmas.Bool.{both_ways, cases_Bool}
 use Rattle.fsfs_drafts.proofs.HangLaw.{some_same}
-
-pub copy_or : (o : Option CopySource) → (o ≡ None) ⊎ ((from : CopySource) × (o ≡ Some from))
-copy_or None = inl refl
-copy_or (Some from) = inr (from, refl)
 
 module _ (look : RevisionBytes) (top b : ℕ) (own : NodesAt) (low : b ≤ top) (draft : IsDraft look top b own) where
   pub own_dir : (p : Path) (name : PathName) (d u : NodeRev) → own p ≡ Some d → own (p ++ name ∷ []) ≡ Some u → IsOwn u → IsOwn d

@@ -15,7 +15,7 @@ use Rattle.fsfs_folders.specs.Standing.{told}
 use Rattle.fsfs_folders.proofs.LabelPathLemmas.{label_again, folder_in_bench, no_label}
 use Rattle.fsfs_folders.proofs.KeptLabels.{kept_by_folder}
 use Rattle.fsfs_folders.proofs.QuietLemmas.{quiet_sync}
-use Rattle.fsfs_folders.proofs.SoundLemmas.{sound_parts, sound_of, sound_quiet, told_quiet, sound_bench_made}
+use Rattle.fsfs_folders.proofs.SoundLemmas.{sound_parts, sound_of, sound_quiet, told_quiet, sound_bench_made, spared, noted_folder}
 
 abbrev told_with : CallRecord → (Label → NameChange) → Option Label → Option Trace
 told_with r change l = Some (record { first = files_of r.first.files; labels = labels_of r.first.folders; operations = on_label l change (operations_of r.first r.calls) })
@@ -53,10 +53,6 @@ apart_from_root (Txn base number) = refl
 apart_from_root (Pack shard) = refl
 apart_from_root HotCopy = refl
 
-spared : (b synced : Bool) → b ≡ true → (not (not b) || synced) ≡ true
-spared true synced e = refl
-spared false synced e = let h : false ≡ true = e in cc
-
 pub sound_dropped : (l : Label) (old new : Option CallRecord) (changed : List (List ℕ)) (settled : Bool) → MayMake (DropFolder (bench_folder l)) old new → is_sound old changed settled ≡ true → is_sound new changed settled ≡ true
 sound_dropped l None new changed settled may e = ap (λ n. is_sound n changed settled) (⊎_elim (λ s. s) (λ m. m) may)
 sound_dropped l (Some r) new changed settled may e =
@@ -91,10 +87,6 @@ bare names path (q ∷ qs) none = and_from (not (is_below path q && is_some (nam
 pub told_folder_dropped : (path : List ℕ) (old new : Option CallRecord) → is_in_bench path ≡ false → MayMake (DropFolder path) old new → told new ≡ told old
 told_folder_dropped path None new outside may = ap told (⊎_elim (λ s. s) (λ m. m) may)
 told_folder_dropped path (Some r) new outside may = ⊎_elim (λ s. ap told s) (λ m. ap told m.1 ∙ ap (told_with r DropLabel) (no_label path outside)) may
-
-noted_folder : (b synced : Bool) → synced ≡ true → (not b || synced) ≡ true
-noted_folder true synced e = e
-noted_folder false synced e = refl
 
 pub sound_folder_dropped : (path : List ℕ) (old new : Option CallRecord) (changed : List (List ℕ)) → has_path changed (folder_of path) ≡ true → same_text [] path ≡ false
     → IfSome old (λ r. are_names_firm [] r.calls ≡ true) → MayMake (DropFolder path) old new → is_sound old changed false ≡ true → is_sound new changed false ≡ true

@@ -8,6 +8,7 @@ use Rattle.fsfs_calls.specs.Paths.{has_path, folder_of}
 use Rattle.fsfs_calls.specs.CallRecord as system
 use Rattle.fsfs_calls.specs.CallRecord.{CallRecord, Call, Named, NameCall, Create, SyncFile, FailSync, Firmed, Standing, Contents, add_call, Makes, MayMake, Does, Allows, names_now, names_after, contents_now, contents_after, new_number, no_contents, more_bytes, made_firm, given, is_reachable}
 use Rattle.fsfs_calls.proofs.NameLemmas.{given_at}
+use Rattle.fsfs_calls.proofs.PathLemmas.{or_right}
 use Rattle.fsfs_folders.specs.Told.{is_apart, shown, trace_of, operations_of, files_of, labels_of, bytes_at, bytes_after}
 use Rattle.fsfs_folders.specs.Keeping.{keeps, is_newest, are_names_firm, are_folders_firm, is_place, is_whole, is_whole_file, is_naming, is_sound}
 use Rattle.fsfs_folders.specs.Quiet.{IsQuiet, MakesQuietly}
@@ -115,10 +116,6 @@ may_place path r changed settled plain is_settled sound above =
     and_from (not (is_apart path)) (are_folders_firm r.calls && is_reachable (names_now r).folders path) (not_from_false (is_apart path) plain)
     (and_from (are_folders_firm r.calls) (is_reachable (names_now r).folders path) ((sound_parts r changed settled sound).2 is_settled) above)
 
-either : (x y : Bool) → y ≡ true → (x || y) ≡ true
-either true y e = refl
-either false y e = e
-
 -- a file that was written beside may get its name
 pub may_give : (beside path : List ℕ) (calls : Option CallRecord) (changed : List (List ℕ)) (settled : Bool) → is_apart path ≡ false → settled ≡ true
     → is_sound calls changed settled ≡ true → IfSome calls (λ r. IsWholeAt r beside) → IfSome calls (λ r. Allows (names_now r) (system.Rename beside path) → is_naming r.first r.calls beside path ≡ true)
@@ -127,7 +124,7 @@ may_give beside path (Some r) changed settled plain is_settled sound whole = λ 
     and_from (is_place r.first r.calls path) (is_some ((names_now r).files beside) && (not (is_apart beside) || is_whole_file r.first r.calls ((names_now r).files beside)))
     (may_place path r changed settled plain is_settled sound allows.0)
     (and_from (is_some ((names_now r).files beside)) (not (is_apart beside) || is_whole_file r.first r.calls ((names_now r).files beside)) allows.1
-    (either (not (is_apart beside)) (is_whole_file r.first r.calls ((names_now r).files beside)) (ap (λ o. is_whole_file r.first r.calls o) whole.1 ∙ whole.2)))
+    (or_right (not (is_apart beside)) (is_whole_file r.first r.calls ((names_now r).files beside)) (ap (λ o. is_whole_file r.first r.calls o) whole.1 ∙ whole.2)))
 
 -- a file of the repository may get another name
 pub may_rename : (from to : List ℕ) (calls : Option CallRecord) (changed : List (List ℕ)) (settled : Bool) → is_apart from ≡ false → is_apart to ≡ false → settled ≡ true

@@ -112,7 +112,7 @@ sound_renamed from to (Some r) new changed settled has_from has_to naming may e 
     (and_from (has_path changed (folder_of from)) (are_synced changed (folder_of to ∷ [])) has_from (one_noted changed (folder_of to) has_to)) (λ f. f) (naming m.0) e) may
 
 -- a change of a folder
-noted_folder : (b synced : Bool) → synced ≡ true → (not b || synced) ≡ true
+pub noted_folder : (b synced : Bool) → synced ≡ true → (not b || synced) ≡ true
 noted_folder true synced e = e
 noted_folder false synced e = refl
 
@@ -127,7 +127,7 @@ sound_folder path (Some r) new changed has may e =
     (and_from (not (not (is_in_bench path)) || are_synced changed (folder_of path ∷ [])) (are_names_firm changed r.calls) (noted_folder (not (is_in_bench path)) (are_synced changed (folder_of path ∷ [])) (one_noted changed (folder_of path) has)) p.1) (λ h. cc))) may
 
 -- the folder of a bench is of no concern
-spared : (b synced : Bool) → b ≡ true → (not (not b) || synced) ≡ true
+pub spared : (b synced : Bool) → b ≡ true → (not (not b) || synced) ≡ true
 spared true synced e = refl
 spared false synced e = let h : false ≡ true = e in cc
 

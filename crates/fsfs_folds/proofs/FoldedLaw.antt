@@ -17,14 +17,14 @@ use Rattle.fsfs_base.specs.declared.action.Action.TheVariants.{Add, Delete, Repl
 use Rattle.fsfs_base.specs.Paths.{Path, covers, is_above, same_path}
 use Rattle.fsfs_tree.specs.Nodes.{Node, TreeFunction, Bytes, empty_node}
 use Rattle.fsfs_flat.specs.Marks.{made, effects}
-use Rattle.fsfs_flat.specs.Edits.{can_make, changed_props, accepts, applied, mark_of, with_text, with_prop, bytes_of, copied_node, rest_after, kind_of_node, is_file_node}
+use Rattle.fsfs_flat.specs.Edits.{can_make, changed_props, accepts, applied, mark_of, with_text, with_prop, bytes_of, copied_node, rest_after, kind_of_node}
 use Rattle.fsfs_flat.specs.Landing.{land, reached, goes_on, clashes_at, touched_by_head, held_by_head}
 use Rattle.fsfs_flat.specs.Folding.{fold_mark, joined, begun, flagged, after_add, after_delete, after_modify, change_in}
 use Rattle.fsfs_tree.specs.Histories.{AreRevisions}
 use Rattle.fsfs_flat.specs.Transactions.{IsTransaction, Begun, Edited, Landed}
 use Rattle.fsfs_model.specs.Laws.{In}
-use Rattle.fsfs_model.proofs.Applied.{same_path-is, same_path-refl, nothing_after}
-use Rattle.fsfs_base.proofs.PathLemmas.{covers-refl, covers-antisym}
+use Rattle.fsfs_model.proofs.Applied.{nothing_after, file_there}
+use Rattle.fsfs_base.proofs.PathLemmas.{covers-refl, covers-antisym, same_path-is, same_path-refl}
 use Rattle.fsfs_model.proofs.MergeWalk.{Premises, region, go, reached_or, quiet_side, touched_up, gone_down}
 use Rattle.fsfs_model.proofs.Tests.{other_false}
 use Rattle.fsfs_model.proofs.Origins.{Origin, Head, Changed, Own, origin}
@@ -139,10 +139,6 @@ same_flip p q h = false_from_ne_true _ (λ k. both_ways _ h (subst (λ (v : Path
 below_is : (p q : Path) → same_path p q ≡ false → covers p q ≡ true → is_above p q ≡ true
 below_is p q h c = and_from _ _ c (ap not (false_from_ne_true _ (λ k. both_ways _ h (subst (λ (v : Path). same_path p v ≡ true) (covers-antisym p q c k) (same_path-refl p)))))
 
-file_some : (o : Option Node) → is_file_node o ≡ true → is_some o ≡ true
-file_some None h = h
-file_some (Some n) h = refl
-
 free_at : (t : TreeFunction) (to : Path) (b c : Bool) → (can_make t to && b && c) ≡ true → is_some (t to) ≡ false
 free_at t to b c h = not-true _ ((and_parts _ _ ((and_parts _ _ ((and_parts _ _ ((and_parts _ _ h).0)).0)).0)).1)
 
@@ -190,7 +186,7 @@ module _ (tree : ℕ → TreeFunction) (last : ℕ) (t : TreeFunction) (marks : 
       (λ q w. inl (ap (λ (b : Bool). cond b (with_text text.items (t path)) (t q)) (same_flip path q w)))
     where
       here : (f : Folded) → joined (said_of marks path) (kind_of_node (t path)) Text ≡ Some f → Stood (applied (PutText path text) tree t path) f
-      here f e = let n = there (t path) (file_some (t path) h) in (
+      here f e = let n = there (t path) (file_there (t path) h) in (
         record n.0 { text = Bytes text.items },
         ap (λ (b : Bool). cond b (with_text text.items (t path)) (t path)) (same_path-refl path) ∙ ap (with_text text.items) n.1,
         sym (ap kind_of_node n.1) ∙ sym (text_kind (said_of marks path) (kind_of_node (t path)) f e (said_kind path)),

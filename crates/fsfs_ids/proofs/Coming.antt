@@ -41,9 +41,9 @@ pub data Was (look : RevisionBytes) (r : ℕ) (v : NodeRev) : Type 0 where
   Over : (u : NodeRev) (s : ℕ) (q : Path) → s < r → own_rev v ≡ r → IsPred look v u → StandsAt look s q u → Was look r v
   New : own_rev v ≡ r → v.predecessor ≡ None → Was look r v
 
-copy_or_not : (o : Option CopySource) → (o ≡ None) ⊎ ((from : CopySource) × (o ≡ Some from))
-copy_or_not None = inl refl
-copy_or_not (Some from) = inr (from, refl)
+pub copy_or : (o : Option CopySource) → (o ≡ None) ⊎ ((from : CopySource) × (o ≡ Some from))
+copy_or None = inl refl
+copy_or (Some from) = inr (from, refl)
 
 pub below_or_at : (a b : ℕ) → a ≤ b → (a < b) ⊎ (a ≡ b)
 below_or_at a b h = grind arith
@@ -80,7 +80,7 @@ module _ (look : RevisionBytes) (top : ℕ) (tree : ℕ → TreeFunction) (shows
           | inl less ↦ (let o = shows.ids.older (suc r) p name dir v place (subst (λ (n : ℕ). own_rev v < n) (sym own) less) in
               let same = pred_same look dir o.0 u o.1 pred in
               Same (child_stands look r u v p name before kind (subst (λ (x : NodeRev). ChildOf look x name (Ok (Some v))) same o.2)))
-          | inr here ↦ elim (copy_or_not v.copy_from) [
+          | inr here ↦ elim (copy_or v.copy_from) [
             | inr from ↦ Fresh (p ++ name ∷ []) v (covers-refl (p ++ name ∷ [])) there here (inr from)
             | inl none ↦ elim (behind_at (suc r) (p ++ name ∷ []) v le there) [
               | Nothing lacks ↦ Fresh (p ++ name ∷ []) v (covers-refl (p ++ name ∷ [])) there here (inl lacks)
@@ -109,7 +109,7 @@ module _ (look : RevisionBytes) (top : ℕ) (tree : ℕ → TreeFunction) (shows
           | inl lower ↦ (let o = shows.ids.older r p name dir v place (subst (λ (n : ℕ). own_rev v < n) (sym own) lower) in
               let same = pred_same look dir o.0 u o.1 pred in
               Earlier s (q ++ name ∷ []) less (child_stands look s u v q name before kind (subst (λ (x : NodeRev). ChildOf look x name (Ok (Some v))) same o.2)))
-          | inr here ↦ elim (copy_or_not v.copy_from) [
+          | inr here ↦ elim (copy_or v.copy_from) [
             | inr from ↦ copied_was (p ++ name ∷ []) v from.0 there here from.1
             | inl none ↦ elim (behind_at r (p ++ name ∷ []) v le there) [
               | Nothing lacks ↦ New here lacks
@@ -124,7 +124,7 @@ module _ (look : RevisionBytes) (top : ℕ) (tree : ℕ → TreeFunction) (shows
         let place : IsChild look top r p name dir v = record { up_to = le; above = at; there = there } in
         elim (below_or_at (own_rev v) r (subst (λ (n : ℕ). own_rev v ≤ n) own home.1)) [
           | inl lower ↦ (let o = shows.ids.older r p name dir v place (subst (λ (n : ℕ). own_rev v < n) (sym own) lower) in absurd (no_pred look dir o.0 o.1 lacks))
-          | inr here ↦ elim (copy_or_not v.copy_from) [
+          | inr here ↦ elim (copy_or v.copy_from) [
             | inr from ↦ copied_was (p ++ name ∷ []) v from.0 there here from.1
             | inl none ↦ elim (behind_at r (p ++ name ∷ []) v le there) [
               | Nothing none ↦ New here none

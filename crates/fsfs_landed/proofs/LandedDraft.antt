@@ -31,8 +31,9 @@ use Rattle.fsfs_drafts.proofs.Lasting.{lasting}
 use Rattle.fsfs_merge.proofs.MergeLaw.{Through, Stopped, way, Taken, FromOwn, FromHead, HeadSame, OwnSame, by_walk, agree_at, taken_at, base_some, head_some, base_of, keep, take_head, link, own_of, side}
 use Rattle.fsfs_drafts.specs.NodeDrafts.{draft_root, IsOwn, is_new_part, DraftPart, IsDraft}
 use Rattle.fsfs_drafts.specs.NodeDrafts as drafts
+use Rattle.fsfs_drafts.proofs.Parents.{parent, child_at, behind_trans}
 use Rattle.fsfs_landed.specs.Landed.{MergeKeepsDrafts}
-use Rattle.fsfs_landed.proofs.Roots.{parent, child_at, behind_trans, BothHold, OneRoot, one_root, back_low, chain_back}
+use Rattle.fsfs_landed.proofs.Roots.{BothHold, OneRoot, one_root, back_low, chain_back}
 use Rattle.std.proofs.lemmas.Bool.{and_from, and_parts, both_ways, cases_Bool, false_from_ne_true}
 use Rattle.fsfs_drafts.proofs.HangLaw.{some_same}
 

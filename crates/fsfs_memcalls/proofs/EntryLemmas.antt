@@ -1,6 +1,6 @@
 -- The name that a path has next below a folder is the only one there.
-use Rattle.std.proofs.Common.{◌≡◌, ◌⊎◌, ◌<◌, ◌≤◌, ℕ, suc, get_or, List, [], ◌∷◌, ◌++◌, length, take, drop, Bool, true, false, ⊎_elim, refl, sym, ap, ◌∙◌, arith}
-use Rattle.std.proofs.lemmas.Bool.{and_parts, and_from, ne_eqb, leb-true, le-leb}
+use Rattle.std.proofs.Common.{◌≡◌, ◌⊎◌, ◌<◌, ◌≤◌, ℕ, List, [], ◌∷◌, ◌++◌, length, take, drop, Bool, true, false, ⊎_elim, refl, sym, ap, ◌∙◌, arith}
+use Rattle.std.proofs.lemmas.Bool.{and_parts, and_from, leb-true, le-leb}
 use Rattle.std.proofs.lemmas.List.{take-append-drop}
 use Rattle.std.proofs.lemmas.Str.Pattern.{NoCharPasses-char, drop_at_char}
 use Rattle.std.specs.Prelude.{◌||◌, ◌==◌, not, nat_le}
@@ -8,12 +8,8 @@ use Rattle.std.specs.Str.{NoCharPasses}
 use Rattle.std.specs.Str.Pattern.{HasCharAt}
 use Rattle.fsfs_calls.specs.Paths.{has_slash}
 use Rattle.fsfs_calls.specs.Listing.{is_entry}
-use Rattle.fsfs_calls.proofs.PathLemmas.{or_right}
+use Rattle.fsfs_calls.proofs.PathLemmas.{slash_within, lacks_slash}
 use Rattle.fsfs_memcalls.specs.Entries.{IsElsewhere, IsPartBelow, IsNoEntry, IsEntryAt}
-
-slash_in : (a b : List ℕ) → has_slash (a ++ 47 ∷ b) ≡ true
-slash_in [] b = refl
-slash_in (c ∷ a) b = or_right (c == 47) (has_slash (a ++ 47 ∷ b)) (slash_in a b)
 
 no_slash : (b : Bool) → b ≡ true → b ≡ false → ⊥
 no_slash true e f = let h : true ≡ false = f in cc
@@ -22,32 +18,28 @@ no_slash false e f = let h : false ≡ true = e in cc
 -- a text has one last slash
 one_split : (a b c d : List ℕ) → has_slash b ≡ false → has_slash d ≡ false → a ++ 47 ∷ b ≡ c ++ 47 ∷ d → (a ≡ c) × (b ≡ d)
 one_split [] b [] d plain other e = (refl, cc)
-one_split [] b (x ∷ c) d plain other e = let rest : b ≡ c ++ 47 ∷ d = cc in absurd (no_slash (has_slash b) (ap has_slash rest ∙ slash_in c d) plain)
-one_split (x ∷ a) b [] d plain other e = let rest : a ++ 47 ∷ b ≡ d = cc in absurd (no_slash (has_slash d) (ap has_slash (sym rest) ∙ slash_in a b) other)
+one_split [] b (x ∷ c) d plain other e = let rest : b ≡ c ++ 47 ∷ d = cc in absurd (no_slash (has_slash b) (ap has_slash rest ∙ slash_within c d) plain)
+one_split (x ∷ a) b [] d plain other e = let rest : a ++ 47 ∷ b ≡ d = cc in absurd (no_slash (has_slash d) (ap has_slash (sym rest) ∙ slash_within a b) other)
 one_split (x ∷ a) b (y ∷ c) d plain other e =
     let first : x ≡ y = cc in
     let rest : a ++ 47 ∷ b ≡ c ++ 47 ∷ d = cc in
     let parts = one_split a b c d plain other rest in
     (λ i. first i ∷ parts.0 i, parts.1)
 
-lacks : (bs : List ℕ) → ((i : ℕ) → i < length bs → get_or bs i 0 ≡ 47 → ⊥) → has_slash bs ≡ false
-lacks [] h = refl
-lacks (c ∷ cs) h = ap (λ b. b || has_slash cs) (ne_eqb c 47 (λ e. h 0 (omega arith) e)) ∙ lacks cs (λ i lt e. h (suc i) (omega (arith, lt)) e)
-
 -- a text that is split at its last slash, or has none
 pub split_at : (text front last : List ℕ) (i j : ℕ) → NoCharPasses (λ d. d == 47) (drop j text) → HasCharAt 47 text i j → front ≡ take i text → last ≡ drop j text → (text ≡ front ++ 47 ∷ last) × (has_slash last ≡ false)
 split_at text front last i j none at f l =
     let whole : take i text ++ 47 ∷ drop j text ≡ text = ap (λ (r : List ℕ). take i text ++ r) (sym (drop_at_char 47 text i j at (omega arith))) ∙ take-append-drop i text in
-    let plain : has_slash (drop j text) ≡ false = lacks (drop j text) (λ k lt e. NoCharPasses-char 47 (drop j text) k none (omega arith) lt e) in
+    let plain : has_slash (drop j text) ≡ false = lacks_slash (drop j text) (λ k lt e. NoCharPasses-char 47 (drop j text) k none (omega arith) lt e) in
     (sym whole ∙ (λ k. sym f k ++ 47 ∷ sym l k), ap has_slash l ∙ plain)
 
 pub split_none : (text : List ℕ) → NoCharPasses (λ d. d == 47) text → has_slash text ≡ false
-split_none text none = lacks text (λ k lt e. NoCharPasses-char 47 text k none (omega arith) lt e)
+split_none text none = lacks_slash text (λ k lt e. NoCharPasses-char 47 text k none (omega arith) lt e)
 
 -- ---- paths below a folder
 
 pub elsewhere_split : (folder front last path : List ℕ) → path ≡ front ++ 47 ∷ last → has_slash last ≡ false → (front ≡ []) ⊎ (front ≡ folder → ⊥) → IsElsewhere folder path
-elsewhere_split [] front last path parts plain why = λ name none here. no_slash (has_slash name) (ap has_slash (here ∙ parts) ∙ slash_in front last) none
+elsewhere_split [] front last path parts plain why = λ name none here. no_slash (has_slash name) (ap has_slash (here ∙ parts) ∙ slash_within front last) none
 elsewhere_split (c ∷ cs) front last path parts plain why = λ name none here.
     let one = one_split (c ∷ cs) name front last none plain (here ∙ parts) in
     ⊎_elim (λ empty. let h : c ∷ cs ≡ [] = one.0 ∙ empty in cc) (λ other. other (sym one.0)) why
@@ -66,7 +58,7 @@ part_alone (c ∷ cs) path plain empty = absurd (let h : c ∷ cs ≡ [] = empty
 
 pub elsewhere_plain : (folder path : List ℕ) → has_slash path ≡ false → (folder ≡ [] → ⊥) → IsElsewhere folder path
 elsewhere_plain [] path plain some = absurd (some refl)
-elsewhere_plain (c ∷ cs) path plain some = λ name none here. no_slash (has_slash path) (ap has_slash (sym here) ∙ slash_in (c ∷ cs) name) plain
+elsewhere_plain (c ∷ cs) path plain some = λ name none here. no_slash (has_slash path) (ap has_slash (sym here) ∙ slash_within (c ∷ cs) name) plain
 
 -- ---- names of a listing
 

@@ -8,8 +8,7 @@ use mathlib.Core.Bool.{false≢true}
 use Rattle.fsfs_flat.specs.Edits.{is_dir, is_dir_node}
 use Rattle.fsfs_base.specs.Paths.{Path, covers, is_above}
 use Rattle.fsfs_tree.specs.Nodes.{Node, TreeFunction}
-use Rattle.fsfs_base.specs.declared.kind.Kind.{Kind}
-use Rattle.fsfs_base.specs.declared.kind.Kind.TheVariants.{File, Dir}
+use Rattle.fsfs_base.specs.declared.kind.Kind.TheVariants.{Dir}
 use Rattle.fsfs_flat.specs.declared.mark.What.{What}
 use Rattle.fsfs_flat.specs.declared.mark.What.TheVariants.{Make, Gone, Text, Prop}
 use Rattle.fsfs_flat.specs.declared.mark.Mark.{Mark}
@@ -29,6 +28,7 @@ use Rattle.fsfs_model.proofs.MergeWalk.{goes_gone, reached_above, quiet, touched
 use Rattle.fsfs_ids.specs.HeadLaws.{IsHeldAbove, AgreeAt}
 use Rattle.fsfs_ancestry.proofs.Behind.{shown_there}
 use Rattle.fsfs_ids.proofs.HeadLaw.{head_laws}
+use Rattle.fsfs_model.proofs.Directories.{dir_kind}
 use Rattle.fsfs_merge.specs.Walks.{Sight}
 use Rattle.fsfs_merge.specs.Laws.{Agrees}
 use Rattle.fsfs_drafts.specs.OwnSides.{NodesAt, in_txn, is_own_copy, IsAnother, AreNodesOf}
@@ -94,10 +94,6 @@ props_touched marks p un = false_from_ne_true _ (λ h.
 
 in_txn_not : (x v : NodeRev) → in_txn x.id.place ≡ false → in_txn v.id.place ≡ true → x.id ≡ v.id → ⊥
 in_txn_not x v a b e = both_ways _ (ap (λ (i : NodeId). in_txn i.place) (sym e) ∙ a) b
-
-kind_is : (k : Kind) → is_dir k ≡ true → k ≡ Dir
-kind_is Dir h = refl
-kind_is File h = absurd (false≢true h)
 
 module _ (look : RevisionBytes) (top : ℕ) (tree : ℕ → TreeFunction) (b h : ℕ) (t : TreeFunction) (marks : List Mark) (base head own : NodesAt) (see : Path → Sight)
     (is : IsMerge look top tree b h t marks base head own see) where
@@ -221,7 +217,7 @@ module _ (look : RevisionBytes) (top : ℕ) (tree : ℕ → TreeFunction) (b h :
             let hold : held_by_head b (tree h p) ≡ true = (and_parts (is_some (tree b p) && not (effects marks p).deleted) (held_by_head b (tree h p)) g).1 in
             let no = goes_gone b (effects marks p) (tree b p) (tree h p) g in
             let v = own_node x e no in
-            let dir : x.kind ≡ Dir = sym n.2 ∙ kind_is n.0.kind (sym (ap is_dir_node n.1) ∙ (and_parts (is_dir_node (tree b p)) (goes_on b (effects marks p) (tree b p) (tree h p)) k).0) in
+            let dir : x.kind ≡ Dir = sym n.2 ∙ dir_kind n.0.kind (sym (ap is_dir_node n.1) ∙ (and_parts (is_dir_node (tree b p)) (goes_on b (effects marks p) (tree b p) (tree h p)) k).0) in
             by (head p) refl hold v dir
           where
             by : (o : Option NodeRev) → head p ≡ o → held_by_head b (tree h p) ≡ true

@@ -15,9 +15,8 @@ use Rattle.fsfs_flat.specs.Edits.{accepts, applied, mark_of, can_make, with_text
 use Rattle.fsfs_tree.specs.Histories.{AreRevisions}
 use Rattle.fsfs_flat.specs.Transactions.{IsTransaction, Begun, Edited, Landed}
 use Rattle.fsfs_model.proofs.Bases.{IsClosed, DescribesBase}
-use Rattle.fsfs_model.proofs.Applied.{same_path-is}
 use Rattle.fsfs_model.proofs.Tests.{found, found_in}
-use Rattle.fsfs_base.proofs.PathLemmas.{covers-refl}
+use Rattle.fsfs_base.proofs.PathLemmas.{covers-refl, same_path-is}
 use Rattle.fsfs_model.proofs.MergeWalk.{gone_down, region}
 use Rattle.fsfs_model.proofs.Owns.{in_outer, new_outer, gone_stays}
 use Rattle.fsfs_model.proofs.LandedAt.{lacks}

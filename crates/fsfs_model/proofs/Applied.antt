@@ -11,7 +11,7 @@ use Rattle.fsfs_base.specs.declared.kind.Kind.TheVariants.{File, Dir}
 use Rattle.fsfs_base.specs.Paths.{Path, covers, is_above, same_path, same_name}
 use Rattle.fsfs_tree.specs.Nodes.{Node, TreeFunction, empty_node}
 use Rattle.fsfs_flat.specs.Edits.{without, with_node, with_copy, copied_node, with_text, with_prop, bytes_of, rest_after, can_make, parent, is_dir_node, is_file_node, accepts, applied, mark_of}
-use Rattle.fsfs_base.proofs.PathLemmas.{covers-refl, covers-trans, covers-antisym, covers-either, same_name-is, same_name-refl}
+use Rattle.fsfs_base.proofs.PathLemmas.{covers-refl, covers-trans, covers-antisym, covers-either, same_name-is, same_name-refl, same_path-is, same_path-refl}
 use Rattle.fsfs_model.proofs.Bases.{IsClosed, ChangesPaths}
 
 module _ (t : TreeFunction) (p : Path) where
@@ -29,16 +29,6 @@ module _ (t : TreeFunction) (p : Path) where
     | inl w ↦ absurd (both_ways _ (away x (covers-trans p q x w k)) h)
     | inr out ↦ left q out ∙ c q x k (elim (cases_Bool (covers p x)) [ inl w ↦ absurd (both_ways _ (away x w) h) | inr w ↦ sym (left x w) ∙ h ])
   ]
-
-pub same_path-is : (q p : Path) → same_path q p ≡ true → q ≡ p
-same_path-is [] [] h = refl
-same_path-is [] (y ∷ p) h = absurd (false≢true h)
-same_path-is (x ∷ q) [] h = absurd (false≢true h)
-same_path-is (x ∷ q) (y ∷ p) h = λ i. same_name-is x y (and_parts _ _ h).0 i ∷ same_path-is q p (and_parts _ _ h).1 i
-
-pub same_path-refl : (p : Path) → same_path p p ≡ true
-same_path-refl [] = refl
-same_path-refl (x ∷ p) = and_from _ _ (same_name-refl x) (same_path-refl p)
 
 -- what is above a path is at or above its parent
 pub in_parent : (q p : Path) → covers q p ≡ true → covers p q ≡ false → covers q (parent p) ≡ true

@@ -11,10 +11,9 @@ use Rattle.fsfs_base.specs.Paths.{Path, covers, same_path}
 use Rattle.fsfs_tree.specs.Nodes.{Node, TreeFunction}
 use Rattle.fsfs_flat.specs.Edits.{is_file_node}
 use Rattle.fsfs_flat.specs.Marks.{outer, made, made_after, effects, any_covers, is_make, changes_props}
-use Rattle.fsfs_base.proofs.PathLemmas.{covers-refl, covers-trans}
+use Rattle.fsfs_base.proofs.PathLemmas.{covers-refl, covers-trans, same_path-is}
 use Rattle.fsfs_model.specs.Laws.{In}
 use Rattle.fsfs_model.proofs.Bases.{IsClosed, DescribesBase}
-use Rattle.fsfs_model.proofs.Applied.{same_path-is}
 use Rattle.fsfs_model.proofs.Tests.{found, found_in}
 use Rattle.fsfs_model.proofs.MergeWalk.{gone_by, gone_from, gone_down, gone_make}
 use Rattle.fsfs_model.proofs.Owns.{In-left, In-right, In-filtered, made_push, make_adds, longer, in_outer, from_outer, new_outer, gone_stays, in_base}

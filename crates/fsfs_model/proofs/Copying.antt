@@ -11,9 +11,9 @@ use Rattle.fsfs_tree.specs.Nodes.{Node, TreeFunction}
 use Rattle.fsfs_flat.specs.declared.edit.Edit.{Edit}
 use Rattle.fsfs_flat.specs.declared.edit.Edit.TheVariants.{MakeDir, MakeFile, Delete, Copy, PutText, SetProp}
 use Rattle.fsfs_flat.specs.Edits.{rest_after, with_node, with_copy, copied_node, with_text, with_prop, bytes_of, applied}
-use Rattle.fsfs_base.proofs.PathLemmas.{covers-longer, split_at}
+use Rattle.fsfs_base.proofs.PathLemmas.{covers-longer, split_at, same_path-is, same_path-refl}
 use Rattle.fsfs_model.proofs.Filling.{same_path_is}
-use Rattle.fsfs_model.proofs.Applied.{same_path-is, same_path-refl, copied_some, away, left, in_place, with_text_some, with_prop_some}
+use Rattle.fsfs_model.proofs.Applied.{copied_some, away, left, in_place, with_text_some, with_prop_some}
 
 abbrev pub puts : Edit → Bool
 puts (MakeDir path) = true

@@ -11,15 +11,15 @@ use Rattle.fsfs_base.specs.Paths.{Path, covers, is_above, is_root, same_path, sa
 use Rattle.fsfs_tree.specs.Nodes.{Node, TreeFunction, empty_node}
 use Rattle.fsfs_flat.specs.Edits.{is_dir, is_dir_node, without, with_node, with_copy, copied_node, with_text, with_prop, bytes_of, rest_after, can_make, parent, accepts, applied}
 use Rattle.fsfs_tree.specs.Trees.{IsTree}
-use Rattle.fsfs_base.proofs.PathLemmas.{covers-refl, covers-trans, covers-antisym, covers-either, same_name-is, same_name-refl}
+use Rattle.fsfs_base.proofs.PathLemmas.{covers-refl, covers-trans, covers-antisym, covers-either, same_name-is, same_name-refl, same_path-is}
 use Rattle.fsfs_model.proofs.Bases.{IsClosed}
-use Rattle.fsfs_model.proofs.Applied.{same_path-is, in_parent, above, left, away, covers_rest, covers_front, copied_some, with_text_some, with_prop_some, dir_there}
+use Rattle.fsfs_model.proofs.Applied.{in_parent, above, left, away, covers_rest, covers_front, copied_some, with_text_some, with_prop_some, dir_there}
 
 pub record HasDirs (t : TreeFunction) : Type 0 where
   pub root : is_dir_node (t []) ≡ true
   pub above : (q p : Path) → is_above q p ≡ true → is_some (t p) ≡ true → is_dir_node (t q) ≡ true
 
-dir_kind : (k : Kind) → is_dir k ≡ true → k ≡ Dir
+pub dir_kind : (k : Kind) → is_dir k ≡ true → k ≡ Dir
 dir_kind Dir h = refl
 dir_kind File h = absurd (false≢true h)
 

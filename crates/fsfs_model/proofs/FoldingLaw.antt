@@ -22,10 +22,10 @@ use Rattle.fsfs_tree.specs.Revisions.{Revision, tree_of}
 use Rattle.fsfs_flat.specs.Transactions.{IsTransaction, Begun, Edited, Landed, Entry, IsEntry, IsNext}
 use Rattle.fsfs_tree.specs.Dated.{last_of}
 use Rattle.fsfs_base.proofs.ResultLemmas.{none_of}
-use Rattle.fsfs_base.proofs.PathLemmas.{covers-refl, covers-trans, covers-either}
+use Rattle.fsfs_base.proofs.PathLemmas.{covers-refl, covers-trans, covers-either, same_path-is}
 use Rattle.fsfs_model.specs.Laws.{In, AreSameNodes, leaves, FoldingTells}
 use Rattle.fsfs_model.proofs.Bases.{IsClosed, DescribesBase, ChangesPaths}
-use Rattle.fsfs_model.proofs.Applied.{edit_changes, same_path-is}
+use Rattle.fsfs_model.proofs.Applied.{edit_changes}
 use Rattle.fsfs_model.proofs.MergeWalk.{Premises, region, touched_in_base, touched_made, touched_up, gone_down}
 use Rattle.fsfs_model.proofs.LandedAt.{lacks, in_head, missing, comes, all_three, own_has, head_only, not_gone_new}
 use Rattle.fsfs_model.proofs.TwoMergesLaw.{sound, premises, closed}

@@ -13,10 +13,9 @@ use Rattle.fsfs_base.specs.Paths.{Path, covers, is_above, same_path}
 use Rattle.fsfs_tree.specs.Nodes.{TreeFunction}
 use Rattle.fsfs_flat.specs.Marks.{outer, made, made_after, effects, any_covers, is_make, touches, is_rewritten}
 use Rattle.fsfs_flat.specs.Folding.{fold_from, fold_mark, joined}
-use Rattle.fsfs_base.proofs.PathLemmas.{covers-refl, covers-trans, covers-antisym, covers-either}
+use Rattle.fsfs_base.proofs.PathLemmas.{covers-refl, covers-trans, covers-antisym, covers-either, same_path-is, same_path-refl}
 use Rattle.fsfs_model.specs.Laws.{In}
 use Rattle.fsfs_model.proofs.Bases.{IsClosed, DescribesBase}
-use Rattle.fsfs_model.proofs.Applied.{same_path-is, same_path-refl}
 use Rattle.fsfs_model.proofs.Tests.{found, found_in}
 use Rattle.fsfs_model.proofs.MergeWalk.{gone_by, gone_from, touched_below, rewritten_by}
 use Rattle.fsfs_model.proofs.Owns.{In-append, In-left, In-right, In-filter, In-filtered, made_push, make_adds, longer, in_outer, from_outer, new_outer}

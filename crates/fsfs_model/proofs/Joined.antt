@@ -10,9 +10,9 @@ use Rattle.fsfs_base.specs.declared.action.Action.{Action}
 use Rattle.fsfs_base.specs.declared.action.Action.TheVariants.{Add, Delete, Replace, Modify}
 use Rattle.fsfs_flat.specs.declared.folded.Folded.{Folded}
 use Rattle.fsfs_base.specs.Paths.{Path, covers, same_path}
+use Rattle.fsfs_base.proofs.PathLemmas.{same_path-refl}
 use Rattle.fsfs_flat.specs.Marks.{is_make}
 use Rattle.fsfs_flat.specs.Folding.{fold_from, fold_mark, joined, forgotten, begun, flagged, after_add, after_delete, after_modify}
-use Rattle.fsfs_model.proofs.Applied.{same_path-refl}
 
 -- the action of what is said passes the test
 abbrev pub says : (Action → Bool) → Option Folded → Bool

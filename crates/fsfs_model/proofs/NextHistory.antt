@@ -18,9 +18,9 @@ use Rattle.fsfs_flat.specs.Landing.{land, NoClash}
 use Rattle.fsfs_tree.specs.Histories.{IsRevision, AreRevisions}
 use Rattle.fsfs_tree.specs.Trees.{IsOrdered}
 use Rattle.fsfs_flat.specs.Transactions.{IsTransaction, Begun, Edited, Landed}
-use Rattle.fsfs_base.proofs.PathLemmas.{covers-refl}
+use Rattle.fsfs_base.proofs.PathLemmas.{covers-refl, same_path-is, same_path-refl}
 use Rattle.fsfs_model.proofs.Bases.{IsClosed, DescribesBase}
-use Rattle.fsfs_model.proofs.Applied.{same_path-is, same_path-refl, away, free, edit_changes}
+use Rattle.fsfs_model.proofs.Applied.{away, free, edit_changes}
 use Rattle.fsfs_model.proofs.MergeWalk.{Premises}
 use Rattle.fsfs_model.proofs.TwoMergesLaw.{IsSound, sound, premises, ordered, rooted}
 use Rattle.fsfs_model.proofs.Directories.{HasDirs, dirs_from, tree_from, closed_from, edit_dirs}

@@ -7,3 +7,4 @@ pub mod Blocks
 pub mod TreeByTree
 pub mod OneText
 pub mod Prefixes
+pub mod WholeTexts

@@ -10,22 +10,12 @@ use Rattle.fsfs_tree.specs.Dated.{date_name}
 use Rattle.fsfs_book.specs.Told.{RevisionBytes}
 use Rattle.fsfs_revprops.specs.RevProps.{Pairs, RevPropsOf}
 use Rattle.fsfs_revprops.specs.ShownDates.{shown_date}
-use Rattle.fsfs_printed.specs.Texts.{End, Whole, Refused, Stopped}
-use Rattle.fsfs_printed.specs.Agreeing.{Agree}
+use Rattle.fsfs_printed.specs.Texts.{Whole}
 use Rattle.fsfs_printed.specs.ByTree.{IsOf}
+use Rattle.fsfs_printed.proofs.WholeTexts.{of_agree}
 use Rattle.fsfs_prop_looks.specs.PropTexts.{value_of, author_name, log_name, value_line, IsDateLine, info_lines}
 use Rattle.fsfs_prop_looks.specs.Laws.{ShowsProps, AuthorsAreByProps, LogsAreByProps, DatesAreByProps, InfosAreByProps}
 use Rattle.fsfs_prop_looks.proofs.OneText.{authors_one, logs_one, dates_one, infos_one}
-
--- what agrees with a whole text is that, or a first part of it
-of_agree : (whole text : List ℕ) (end : End) → Agree whole Whole text end → IsOf whole text end
-of_agree whole text Whole (inl (e, f)) = sym e
-of_agree whole text (Refused fault) (inl (e, f)) = absurd cc
-of_agree whole text Stopped (inl (e, f)) = absurd cc
-of_agree whole text end (inr (inl (f, front))) = absurd cc
-of_agree whole text Whole (inr (inr (f, front))) = absurd cc
-of_agree whole text (Refused fault) (inr (inr (f, front))) = absurd cc
-of_agree whole text Stopped (inr (inr (f, front))) = front
 
 -- a date in the form of stored dates has a line
 dated_line : (stored : Option (List ℕ)) → ((value : List ℕ) → stored ≡ Some value → (dt : DateTime) × IsDateText value dt) → (line : List ℕ) × IsDateLine stored line

@@ -17,7 +17,7 @@ use Rattle.fsfs_shows.specs.Shown.{IsTextOf, Nearest, source_by, IsOfCopy, IsSou
 use Rattle.fsfs_damage.proofs.OneAnswer.{ok_same}
 use Rattle.fsfs_shows.proofs.OneWalk.{text_one, props_one, of_id_one, met_same, stands_same}
 
-some_or_none : {A B : Type 0} (x : A) (o : Option A) → o ≡ Some x → o ≡ None → B
+pub some_or_none : {A B : Type 0} (x : A) (o : Option A) → o ≡ Some x → o ≡ None → B
 some_or_none x o e f = let g = sym e ∙ f in absurd cc
 
 -- ---- the chain of predecessors

@@ -34,7 +34,7 @@ no_both o x e f = let g = sym e ∙ f in absurd cc
 
 -- ---- the items
 
-same_front : (f g s t : List ℕ) (p q : ℕ × ℕ) → IsTrailer s p → IsTrailer t q → f ++ s ≡ g ++ t → f ≡ g
+pub same_front : (f g s t : List ℕ) (p q : ℕ × ℕ) → IsTrailer s p → IsTrailer t q → f ++ s ≡ g ++ t → f ≡ g
 same_front [] [] s t p q a b e = refl
 same_front [] (c ∷ g) s t p q a b e = absurd (one_trailer s t g c p q a b e)
 same_front (c ∷ f) [] s t p q a b e = absurd (one_trailer t s f c q p b a (sym e))

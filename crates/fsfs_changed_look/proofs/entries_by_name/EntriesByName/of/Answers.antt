@@ -6,8 +6,8 @@ use Rattle.fsfs_base.specs.Paths.{same_name}
 use Rattle.fsfs_shows.specs.Reading.{DirEntry as EntryValue, named}
 use Rattle.fsfs_dag.specs.Views.{entry_value, entry_values}
 use Rattle.fsfs_dag.specs.declared.directory.DirEntry.{DirEntry}
+use Rattle.fsfs_changed_look.proofs.TextKeys.{Key}
 use Rattle.fsfs_changed_look.specs.KeptDirs.{found_in}
-use Rattle.fsfs_changed_look.proofs.NameKeys.{Key}
 use Rattle.fsfs_changed_look.proofs.entries_by_name.EntriesByName.of.Goals as goal
 
 pub loop-entry-init : goal.loop-entry-init

@@ -3,8 +3,9 @@ use Rattle.std.specs.Prelude.{option_map}
 use Rattle.std.specs.String.{string_bytes}
 use Rattle.fsfs_dag.specs.Views.{entry_value}
 use Rattle.fsfs_dag.specs.declared.directory.DirEntry.{DirEntry}
+use Rattle.fsfs_changed_look.proofs.TextKeys.{Key}
 use Rattle.fsfs_changed_look.specs.KeptDirs.{found_in}
-use Rattle.fsfs_changed_look.proofs.NameKeys.{Key, put_value}
+use Rattle.fsfs_changed_look.proofs.NameKeys.{put_value}
 use Rattle.fsfs_changed_look.proofs.entries_by_name.EntriesByName.put.Goals as goal
 
 pub returns : goal.returns

@@ -1,5 +1,5 @@
 use Rattle.fsfs_dag.proofs.Windows.{length_found, length_refused, length_not_short}
-use Rattle.fsfs_changed_look.proofs.data.length.Goals as goal
+use Rattle.fsfs_dag.proofs.reading.revision_length.Goals as goal
 
 pub returns-in-Ok-clause-told : goal.returns-in-Ok-clause-told
 returns-in-Ok-clause-told g c = λ look told. length_found look c.args.rev _ (c.in-Ok.ensures.told (look c.args.rev) told)
