@@ -14,10 +14,10 @@ use Rattle.fsfs_noderev.specs.declared.node_id.NodeId.{NodeId}
 use Rattle.fsfs_dag.specs.Same.{same_part, same_place, same_id}
 use Rattle.std.proofs.lemmas.Bool.{and_from, and_parts}
 
-equal : (m n : ℕ) → (m == n) ≡ true → m ≡ n
+pub equal : (m n : ℕ) → (m == n) ≡ true → m ≡ n
 equal m n h = grind (arith, nat_tests)
 
-part_true : (a b : Part) → same_part a b ≡ true → a ≡ b
+pub part_true : (a b : Part) → same_part a b ≡ true → a ≡ b
 part_true (New m) (New n) h = ap (λ (x : B36). New x) (b36_same m n (equal m.number n.number h))
 part_true (New m) (Old n) h = absurd cc
 part_true (New m) (Made n rev) h = absurd cc
@@ -53,10 +53,10 @@ id_true a b h =
     let place = place_true a.place b.place rest.1 in
     λ i. record { node = node i; copy = copy i; place = place i }
 
-itself : (n : ℕ) → (n == n) ≡ true
+pub itself : (n : ℕ) → (n == n) ≡ true
 itself n = eq-eqb n n refl
 
-part_self : (a : Part) → same_part a a ≡ true
+pub part_self : (a : Part) → same_part a a ≡ true
 part_self (New m) = itself m.number
 part_self (Old m) = itself m.number
 part_self (Made m made) = and_from (m.number == m.number) (made == made) (itself m.number) (itself made)
@@ -65,7 +65,7 @@ place_self : (a : Place) → same_place a a ≡ true
 place_self (At rev offset) = and_from (rev == rev) (offset == offset) (itself rev) (itself offset)
 place_self (In txn) = and_from (txn.base == txn.base) (txn.number.number == txn.number.number) (itself txn.base) (itself txn.number.number)
 
-id_self : (a : NodeId) → same_id a a ≡ true
+pub id_self : (a : NodeId) → same_id a a ≡ true
 id_self a =
     and_from (same_part a.node a.node && same_part a.copy a.copy) (same_place a.place a.place) (and_from (same_part a.node a.node) (same_part a.copy a.copy) (part_self a.node) (part_self a.copy)) (place_self a.place)
 

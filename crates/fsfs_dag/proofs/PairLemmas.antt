@@ -9,7 +9,7 @@ use Rattle.fsfs_damage.specs.declared.damage.RevOffset.{RevOffset}
 use Rattle.fsfs_damage.specs.declared.wrong.Wrong.{Wrong}
 use Rattle.fsfs_damage.specs.declared.wrong.ReadError.{ReadError}
 use Rattle.fsfs_damage.specs.declared.wrong.ReadError.TheVariants as errors
-use Rattle.fsfs_damage.specs.Readings.{Answers}
+use Rattle.fsfs_damage.specs.Readings.{AndThen, Answers}
 use Rattle.fsfs_shows.specs.Reading.{DirEntry as EntryValue, IsEntry, AreEntries, EntryIn, FirstPairFails, EntriesIn, EntriesOf, ChildOf, OfNamed, OfEntry, named, offset_of}
 use Rattle.fsfs_base.specs.Paths.{PathName, same_name}
 use Rattle.fsfs_book.specs.Told.{RevisionBytes}
@@ -45,9 +45,6 @@ word_rest word value rest other e parts =
 
 abbrev pub Pair : Type 0
 Pair = List ℕ × List ℕ
-
-abbrev pub pair_of : Vec ℕ Global × Vec ℕ Global → Pair
-pair_of p = (p.0.items, p.1.items)
 
 values_push : (items : List DirEntry) (entry : DirEntry) (tail : List EntryValue) → entry_values (items ++ entry ∷ []) ++ tail ≡ entry_values items ++ entry_value entry ∷ tail
 values_push [] entry tail = refl
@@ -94,6 +91,15 @@ first_wrong home rep pairs left rest pair items errors.DiskFault so is h = tt
 pub all_found : (home : RevOffset) (rep : Rep) (pairs left : List Pair) (items : List DirEntry) → AreSoFar home rep pairs left items → left ≡ [] → AreEntries home pairs (entry_values items)
 all_found home rep pairs left items so is =
     subst (λ (t : List EntryValue). AreEntries home pairs t) (append-nil (entry_values items)) (so.found [] (subst (λ (p : List Pair). AreEntries home p []) (sym is) tt))
+
+-- a value that was read goes into what follows, whose own value goes into what follows that
+pub goes_on_through : {X Y B Z : Type 0} (view : B → Z) (result : Result B ReadError) (R : Result X Wrong → Type 0) (S : X → Result Y Wrong → Type 0) (T : Y → Result Z Wrong → Type 0) (x : X)
+    → R (Ok x) → Answers view (AndThen (S x) T) result → Answers view (AndThen (AndThen R S) T) result
+goes_on_through view (Ok b) R S T x r (y, s, t) = (y, (x, r, s), t)
+goes_on_through view (Err (errors.Wrong w)) R S T x r (inl s) = inl (inr (x, r, s))
+goes_on_through view (Err (errors.Wrong w)) R S T x r (inr (y, s, t)) = inr (y, (x, r, s), t)
+goes_on_through view (Err errors.OutOfMemory) R S T x r h = tt
+goes_on_through view (Err errors.DiskFault) R S T x r h = tt
 
 -- what was put at the end, where the push did not fail
 pub pushed : {A : Type 0} (r : Result (Unit {0}) A) (old new : List DirEntry) (entry : DirEntry) → false ≡ is_err r → new ≡ (if is_ok r then old ++ entry ∷ [] else old) → new ≡ old ++ entry ∷ []

@@ -54,7 +54,7 @@ within_below top level home (e ∷ entries) rest le before h =
 before_rank : (rev offset : ℕ) (home : RevOffset) → home.offset < 2 ^ 64 → is_before rev offset home ≡ true → rank (place_of rev offset) < rank home
 before_rank rev offset home fits h = grind (arith, nat_tests)
 
-place_rank : (place : Place) (home : RevOffset) → home.offset < 2 ^ 64 → place_before home place ≡ true → rank (offset_of place) < rank home
+pub place_rank : (place : Place) (home : RevOffset) → home.offset < 2 ^ 64 → place_before home place ≡ true → rank (offset_of place) < rank home
 place_rank (places.At rev offset) home fits h = before_rank rev offset home fits h
 place_rank (places.In txn) home fits h = absurd cc
 
@@ -76,7 +76,7 @@ sum_below level home (e ∷ entries) rest fits before =
     more (total behind) (total rest) (weight (offset_of e.id.place)) (weight home) (length entries) (weight (offset_of e.id.place) + total behind) refl
     (sum_below level home entries rest fits before.1) (one_less (rank (offset_of e.id.place)) (rank home) (place_rank e.id.place home fits before.0))
 
-few : (n w : ℕ) → n < 2 ^ 64 → n * w ≤ 2 ^ 64 * w
+pub few : (n w : ℕ) → n < 2 ^ 64 → n * w ≤ 2 ^ 64 * w
 few n w lt = let le : n ≤ 2 ^ 64 = omega arith in let k : w * n ≤ w * 2 ^ 64 = mul-le-mul_left w le in omega arith
 
 less : (t s n w : ℕ) → t * 2 ^ 65 ≤ s * 2 ^ 65 + n → n ≤ 2 ^ 64 * w → 1 ≤ w → t < s + w

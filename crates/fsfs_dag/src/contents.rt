@@ -2,6 +2,7 @@
 ghost use Rattle.std.specs.Prelude.{◌≡◌, IsSome};
 ghost use Rattle.fsfs_base.specs.declared.kind.Kind.TheVariants.{File};
 ghost use Rattle.fsfs_book.specs.Told.{RevisionBytes, Knows, Keeps, IsTold};
+ghost use Rattle.fsfs_hash.specs.Reading.{views};
 ghost use Rattle.fsfs_rep.specs.Frames.{rev_of};
 ghost use Rattle.fsfs_damage.specs.Readings.{Answers};
 ghost use Rattle.fsfs_shows.specs.Reading.{RepAt, PairsIn, PairsAt, PropsOf, TextOf};
@@ -12,13 +13,17 @@ use crate::node::PlacedNode;
 use fsfs_base::Pairs;
 use fsfs_book::Book;
 use fsfs_damage::{ReadError, RepWhat};
-use fsfs_hash::{HashError, read_hash};
+use fsfs_hash::{HashError, read_hash, read_hash_in_place};
 use fsfs_noderev::Rep;
 use fsfs_rep::{bad_rep, read_rep_bytes};
 use std::alloc::Global;
 
-// The bytes of a representation.
-fn rep_read<B: Book>(alloc: Global, book: &mut B, rep: &Rep) -> Result<Vec<u8>, ReadError>
+/// The bytes of a representation.
+pub(crate) fn rep_read<B: Book>(
+    alloc: Global,
+    book: &mut B,
+    rep: &Rep,
+) -> Result<Vec<u8>, ReadError>
     requires { IsSome rep.now.rev }
     ensures told { (look : RevisionBytes) → IsTold (B.told book.old) look (rev_of rep.now) → Answers (λ v. v.items) (RepAt look rep.now) result }
     ensures kept { Keeps (B.told book.old) (B.told book.new) }
@@ -33,6 +38,22 @@ fn hash_in(alloc: Global, rep: &Rep, bytes: &[u8]) -> Result<Pairs, ReadError>
     ensures quiet { IsQuiet result }
 {
     match read_hash(alloc, bytes) {
+        Ok(pairs) => Ok(pairs),
+        Err(HashError::OutOfMemory) => Err(ReadError::OutOfMemory),
+        Err(HashError::Fault(_)) => Err(bad_rep(rep, RepWhat::Hash)),
+    }
+}
+
+/// The same, where they lie in the bytes.
+pub(crate) fn hash_in_place<'a>(
+    alloc: Global,
+    rep: &Rep,
+    bytes: &'a [u8],
+) -> Result<Vec<(&'a [u8], &'a [u8])>, ReadError>
+    ensures told { Answers (λ v. views v.items) (PairsIn rep.now bytes.now) result }
+    ensures quiet { IsQuiet result }
+{
+    match read_hash_in_place(alloc, bytes) {
         Ok(pairs) => Ok(pairs),
         Err(HashError::OutOfMemory) => Err(ReadError::OutOfMemory),
         Err(HashError::Fault(_)) => Err(bad_rep(rep, RepWhat::Hash)),

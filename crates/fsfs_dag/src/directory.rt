@@ -4,17 +4,18 @@ ghost use Rattle.std.specs.String.{string_bytes};
 ghost use Rattle.fsfs_base.specs.declared.kind.Kind.{Kind};
 ghost use Rattle.fsfs_base.specs.declared.kind.Kind.TheVariants.{Dir};
 ghost use Rattle.fsfs_book.specs.Told.{RevisionBytes, Knows, Keeps};
+ghost use Rattle.fsfs_hash.specs.Reading.{views};
 ghost use Rattle.fsfs_noderev.specs.Fields.{IsIdText};
 ghost use Rattle.fsfs_noderev.specs.declared.node_id.NodeId.{NodeId};
 ghost use Rattle.fsfs_revision.specs.Nodes.{is_revision_id, place_before};
-ghost use Rattle.fsfs_damage.specs.Readings.{Answers};
-ghost use Rattle.fsfs_shows.specs.Reading.{EntryIn, EntriesIn, EntriesOf, IsEntryName, IsEntryValue, named};
+ghost use Rattle.fsfs_damage.specs.Readings.{AndThen, Answers};
+ghost use Rattle.fsfs_shows.specs.Reading.{EntryIn, PairsIn, EntriesIn, EntriesOf, IsEntryName, IsEntryValue, named};
 ghost use Rattle.fsfs_damage.specs.Causes.{HasCause, IsQuiet};
 ghost use Rattle.fsfs_dag.specs.Views.{entry_value, entry_values, home_of, AreBefore, IsBefore};
 
-use crate::contents::pairs_in;
+use crate::contents::{hash_in_place, rep_read};
 use crate::node::PlacedNode;
-use fsfs_base::{Kind, Pairs, is_name};
+use fsfs_base::{Kind, is_name};
 use fsfs_book::Book;
 use fsfs_damage::{DamageKind, ReadError, RepWhat, RevOffset};
 use fsfs_grammar::pieces::text;
@@ -110,21 +111,35 @@ fn entries_of(
     alloc: Global,
     home: &RevOffset,
     rep: &Rep,
-    pairs: &Pairs,
+    pairs: &[(&[u8], &[u8])],
 ) -> Result<Vec<DirEntry>, ReadError>
-    ensures told { Answers (λ v. entry_values v.items) (EntriesIn home.now rep.now pairs.now) result }
+    ensures told { Answers (λ v. entry_values v.items) (EntriesIn home.now rep.now (views pairs.now)) result }
     ensures quiet { IsQuiet result }
     ensures before { IfOk result (λ v. AreBefore home.now v.items) }
 {
-    let map = pairs.as_map();
     let mut entries = Vec::new(alloc);
-    for (name, value) in map {
-        let entry = entry_of(alloc, home, rep, name, value)?;
+    for pair in pairs {
+        let entry = entry_of(alloc, home, rep, pair.0, pair.1)?;
         if entries.push(entry).is_err() {
             return Err(ReadError::OutOfMemory);
         }
     }
     Ok(entries)
+}
+
+// The entries of the bytes of a representation.
+fn entries_in(
+    alloc: Global,
+    home: &RevOffset,
+    rep: &Rep,
+    bytes: &[u8],
+) -> Result<Vec<DirEntry>, ReadError>
+    ensures told { Answers (λ v. entry_values v.items) (AndThen (PairsIn rep.now bytes.now) (EntriesIn home.now rep.now)) result }
+    ensures quiet { IsQuiet result }
+    ensures before { IfOk result (λ v. AreBefore home.now v.items) }
+{
+    let pairs = hash_in_place(alloc, rep, bytes)?;
+    entries_of(alloc, home, rep, &pairs)
 }
 
 /// The entries of a directory, in byte order of their names. Of its representation Header, EndRep, Size, Md5, Sha1 and Hash
@@ -143,8 +158,8 @@ pub fn entries<B: Book>(
     match dir.text() {
         None => Ok(Vec::new(alloc)),
         Some(rep) => {
-            let pairs = pairs_in(alloc, book, rep)?;
-            entries_of(alloc, &dir.place(), rep, &pairs)
+            let bytes = rep_read(alloc, book, rep)?;
+            entries_in(alloc, &dir.place(), rep, &bytes)
         }
     }
 }

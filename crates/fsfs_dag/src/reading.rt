@@ -6,16 +6,16 @@ ghost use Rattle.fsfs_damage.specs.Readings.{Answers};
 ghost use Rattle.fsfs_shows.specs.Reading.{NodeAt, RootOf, OfEntry, OfId, HasId, HasKind, offset_of};
 ghost use Rattle.fsfs_damage.specs.Causes.{HasCause, IsQuiet};
 ghost use Rattle.fsfs_dag.specs.Told.{LengthOf, WindowAt, EndOf};
-ghost use Rattle.fsfs_dag.specs.Same.{same_part, same_place, same_id};
 ghost use Rattle.fsfs_dag.specs.Views.{entry_value};
 
 use crate::directory::DirEntry;
 use crate::node::PlacedNode;
 use crate::places::offset_of;
+use crate::same::same_id;
 use fsfs_base::RevNum;
 use fsfs_book::{Book, BookFault};
 use fsfs_damage::{DamageKind, ReadError, RevOffset, Wrong};
-use fsfs_noderev::{MAX_NODE_REV, NodeId, NodeRev, Part, Place};
+use fsfs_noderev::{MAX_NODE_REV, NodeId, NodeRev};
 use fsfs_revision::{TRAILER_LIMIT, as_root, read_node_at, read_tail};
 use std::alloc::Global;
 
@@ -128,48 +128,6 @@ pub fn root_of<B: Book>(alloc: Global, book: &mut B, rev: RevNum) -> Result<Plac
     let read = node_read(alloc, book, &at)?;
     let node = as_root(&at, read)?;
     Ok(PlacedNode { node })
-}
-
-fn same_part(a: Part, b: Part) -> bool
-    ensures { result ≡ same_part a b }
-{
-    match a {
-        Part::New(m) => match b {
-            Part::New(n) => m.number == n.number,
-            _ => false,
-        },
-        Part::Old(m) => match b {
-            Part::Old(n) => m.number == n.number,
-            _ => false,
-        },
-        Part::Made(m, made) => match b {
-            Part::Made(n, rev) => m.number == n.number && made.get() == rev.get(),
-            _ => false,
-        },
-    }
-}
-
-fn same_place(a: Place, b: Place) -> bool
-    ensures { result ≡ same_place a b }
-{
-    match a {
-        Place::At(rev, offset) => match b {
-            Place::At(other, place) => rev.get() == other.get() && offset == place,
-            Place::In(_) => false,
-        },
-        Place::In(txn) => match b {
-            Place::At(_, _) => false,
-            Place::In(other) => {
-                txn.base.get() == other.base.get() && txn.number.number == other.number.number
-            }
-        },
-    }
-}
-
-fn same_id(a: &NodeId, b: &NodeId) -> bool
-    ensures { result ≡ same_id a.now b.now }
-{
-    same_part(a.node, b.node) && same_part(a.copy, b.copy) && same_place(a.place, b.place)
 }
 
 // Whether the node-revision has the id that names it. It only looks at it, since a node-revision is dear to move.

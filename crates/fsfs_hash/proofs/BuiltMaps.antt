@@ -1,8 +1,8 @@
 -- A map that is built of a list at once has the pairs that are put one after the other.
 use Rattle.std.proofs.Common.{◌≡◌, ℕ, true, cond, ⊎_elim, List, [], ◌∷◌, ◌++◌, map, Option, Some, None, refl, sym, ap, ◌∙◌, Ordering, Less, Equal, Greater}
-use Rattle.std.specs.Ordering.{eq_by_cmp, is_eq, ordering_reverse, match_ordering}
+use Rattle.std.specs.Ordering.{eq_by_cmp, is_eq, nat_cmp, ordering_reverse, match_ordering}
 use Rattle.std.specs.Cmp.{IsTotalOrder, eq_by_cmp_equiv, tied_itself}
-use Rattle.std.specs.Cmp.Lexicographic.{on_texts}
+use Rattle.std.specs.Cmp.Lexicographic.{on_texts, slice_cmp}
 use Rattle.std.specs.List.{AllByRecursion}
 use Rattle.std.specs.List.Sorted.{IsStrictlySortedBy}
 use Rattle.std.specs.Map.{keys_of, lookup, update, update_all}
@@ -15,8 +15,9 @@ use Rattle.std.proofs.lemmas.Map.{lookup-none}
 use Rattle.std.proofs.lemmas.Map.Keys.{sorted_tail, IsDistinct-from_sorted}
 use Rattle.std.proofs.lemmas.Map.Entries.{lookup_head, lookup_tail, none_past_head, none_below_head}
 use Rattle.std.proofs.lemmas.Map.Lookups.{map_keys, exact_bytes}
-use Rattle.fsfs_base.proofs.PairLemmas.{set_plain}
-use Rattle.fsfs_hash.specs.Dump.{put_all}
+use Rattle.std.specs.Borrow.{Bor}
+use Rattle.fsfs_hash.specs.Dump.{put, put_all}
+use Rattle.fsfs_hash.specs.Reading.{views}
 use Rattle.fsfs_hash.proofs.PutPairs.{pair_of, vec_cmp, pairs_of}
 
 -- ---- one entry more
@@ -133,35 +134,56 @@ module _ {K X B : Type 0} {R : K → K → Ordering} (o : IsTotalOrder R) (seen 
       let rest = entries_alike xs ys (sorted_tail R x.0 (keys_of xs) s) (sorted_tail R y.0 (keys_of ys) t) (tails x y xs ys s t alike) in
       λ i. (same x.0 y.0 (heads x y xs ys s t alike) i, values x y xs ys s t alike i) ∷ rest i
 
--- ---- pairs of bytes
+-- ---- keys and values that are read as bytes
+
+module _ {K V : Type 0} (text : K → List ℕ) (value : V → List ℕ) where
+  abbrev text_cmp : K → K → Ordering
+  text_cmp x y = slice_cmp nat_cmp (text x) (text y)
+
+  abbrev seen : K × V → List ℕ × List ℕ
+  seen e = (text e.0, value e.1)
+
+  text_total : IsTotalOrder text_cmp
+  text_total = on_texts text
+
+  insert_seen : (es : List (K × V)) (k : K) (v : V) → map seen (insert_entry text_cmp es k v) ≡ put (map seen es) (text k, value v)
+  insert_seen [] k v = refl
+  insert_seen (e ∷ es) k v =
+      elim (text_cmp k e.0) as (λ r. map seen (match_ordering r ((k, v) ∷ e ∷ es) ((e.0, v) ∷ es) (e ∷ insert_entry text_cmp es k v)) ≡ match_ordering r ((text k, value v) ∷ seen e ∷ map seen es) ((text e.0, value v) ∷ map seen es) (seen e ∷ put (map seen es) (text k, value v))) [
+        | Less ↦ refl
+        | Equal ↦ refl
+        | Greater ↦ ap (λ (l : List (List ℕ × List ℕ)). seen e ∷ l) (insert_seen es k v)
+      ]
+
+  abbrev inserted : List (K × V) → List (K × V) → List (K × V)
+  inserted = insert_all text_total
+
+  inserted_seen : (es xs : List (K × V)) → map seen (inserted es xs) ≡ put_all (map seen es) (map seen xs)
+  inserted_seen es [] = refl
+  inserted_seen es (x ∷ xs) = inserted_seen (insert_entry text_cmp es x.0 x.1) xs ∙ ap (λ (ps : List (List ℕ × List ℕ)). put_all ps (map seen xs)) (insert_seen es x.0 x.1)
+
+  abbrev with_bytes : List ℕ × V → List ℕ × List ℕ
+  with_bytes p = (p.0, value p.1)
+
+  -- the bytes of the keys, and then those of the values
+  by_keys : (es : List (K × V)) → map seen es ≡ map with_bytes (map_keys text es)
+  by_keys [] = refl
+  by_keys (e ∷ es) = ap (λ (ps : List (List ℕ × List ℕ)). seen e ∷ ps) (by_keys es)
+
+  built_seen : (m : BTreeMap K V) (xs : List (K × V)) → IsFromIterResult text_cmp xs m → map seen m.entries ≡ put_all [] (map seen xs)
+  built_seen m xs built =
+      let same = entries_alike text_total text (λ x y e. exact_bytes (text x) (text y) e) m.entries (inserted [] xs) built.1 (sorted-all text_total [] xs (sorted-none text_cmp))
+      (λ q. built.0 q ∙ lookup-all text_total (λ _. None) [] xs (λ _. refl) q) in
+      by_keys m.entries ∙ ap (map with_bytes) same ∙ sym (by_keys (inserted [] xs)) ∙ inserted_seen [] xs
 
 abbrev Bytes : Type 0
 Bytes = Vec ℕ
 
-vec_total : IsTotalOrder vec_cmp
-vec_total = on_texts (λ (x : Bytes). x.items)
-
-abbrev inserted : List (Bytes × Bytes) → List (Bytes × Bytes) → List (Bytes × Bytes)
-inserted = insert_all vec_total
-
-inserted_pairs : (es xs : List (Bytes × Bytes)) → map pair_of (inserted es xs) ≡ put_all (map pair_of es) (map pair_of xs)
-inserted_pairs es [] = refl
-inserted_pairs es (x ∷ xs) =
-    inserted_pairs (insert_entry vec_cmp es x.0 x.1) xs ∙ ap (λ (ps : List (List ℕ × List ℕ)). put_all ps (map pair_of xs)) (set_plain es x.0 x.1)
-
--- the bytes of the keys, and then those of the values
-by_keys : (es : List (Bytes × Bytes)) → map pair_of es ≡ map (λ (p : List ℕ × Bytes). let q : List ℕ × List ℕ = (p.0, p.1.items) in q) (map_keys (λ (k : Bytes). k.items) es)
-by_keys [] = refl
-by_keys (e ∷ es) = ap (λ (ps : List (List ℕ × List ℕ)). pair_of e ∷ ps) (by_keys es)
-
 pub built_pairs : (m : BTreeMap Bytes Bytes) (xs : List (Bytes × Bytes)) → IsFromIterResult vec_cmp xs m → pairs_of m ≡ put_all [] (map pair_of xs)
-built_pairs m xs built =
-    let same = entries_alike vec_total (λ (k : Bytes). k.items) (λ x y e. exact_bytes x.items y.items e) m.entries (inserted [] xs) built.1 (sorted-all vec_total [] xs (sorted-none vec_cmp))
-    (λ q. built.0 q ∙ lookup-all vec_total (λ _. None) [] xs (λ _. refl) q) in
-    by_keys m.entries
-    ∙ ap (map (λ (p : List ℕ × Bytes). let q : List ℕ × List ℕ = (p.0, p.1.items) in q)) same
-    ∙ sym (by_keys (inserted [] xs))
-    ∙ inserted_pairs [] xs
+built_pairs = built_seen (λ (x : Bytes). x.items) (λ (x : Bytes). x.items)
+
+pub built_views : (m : BTreeMap (Bor (List ℕ)) (Bor (List ℕ))) (xs : List (Bor (List ℕ) × Bor (List ℕ))) → IsFromIterResult (λ x y. slice_cmp nat_cmp x.now y.now) xs m → views m.entries ≡ put_all [] (views xs)
+built_views = built_seen (λ (x : Bor (List ℕ)). x.now) (λ (x : Bor (List ℕ)). x.now)
 
 -- a pair more at the end
 pub pairs_more : (old new : List (Bytes × Bytes)) (before : List (List ℕ × List ℕ)) (key value : Bytes) (e : List ℕ × List ℕ) → new ≡ old ++ (key, value) ∷ [] → map pair_of old ≡ before → key.items ≡ e.0 → value.items ≡ e.1 → map pair_of new ≡ before ++ e ∷ []

@@ -4,3 +4,4 @@ pub mod Dumps
 pub mod OneText
 pub mod ChildrenFiles
 pub mod ManyLoops
+pub mod Rising

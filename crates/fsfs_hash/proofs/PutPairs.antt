@@ -9,7 +9,7 @@ use Rattle.std.proofs.lemmas.List.{append-nil}
 use Rattle.std.specs.Global.{Vec}
 use Rattle.std.specs.BTreeMap.{BTreeMap}
 use Rattle.std.specs.declared.cmp.Ordering.TheVariants.{Less, Greater}
-use Rattle.fsfs_hash.specs.Dump.{put, put_all}
+use Rattle.fsfs_hash.specs.Dump.{Ascending, put, put_all}
 
 abbrev pub pair_of : Vec ℕ × Vec ℕ → List ℕ × List ℕ
 pair_of e = (e.0.items, e.1.items)
@@ -41,11 +41,6 @@ above-push (p ∷ ps) e k above last = (above.0, above-push ps e k above.1 last)
 all-push : (ps es : List (List ℕ × List ℕ)) (e : List ℕ × List ℕ) → AllByRecursion (λ x. IsAbove ps x.0) es → AllByRecursion (λ x. slice_cmp nat_cmp e.0 x.0 ≡ Less) es → AllByRecursion (λ x. IsAbove (ps ++ e ∷ []) x.0) es
 all-push ps [] e above below = tt
 all-push ps (x ∷ es) e above below = (above-push ps e x.0 above.0 (reversed e.0 x.0 below.0), all-push ps es e above.1 below.1)
-
--- pairs in order of keys
-abbrev pub Ascending : List (List ℕ × List ℕ) → Type 0
-Ascending [] = Unit {0}
-Ascending (e ∷ es) = AllByRecursion (λ x. slice_cmp nat_cmp e.0 x.0 ≡ Less) es × Ascending es
 
 put_all-above : (ps es : List (List ℕ × List ℕ)) → AllByRecursion (λ x. IsAbove ps x.0) es → Ascending es → put_all ps es ≡ ps ++ es
 put_all-above ps [] above order = sym (append-nil ps)

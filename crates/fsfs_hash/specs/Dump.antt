@@ -1,6 +1,7 @@
 -- Hash dumps: for each pair `K <len>\n<key>\nV <len>\n<value>\n`, ended by `END\n`.
-use Rattle.std.specs.Prelude.{ℕ, List, [], ◌∷◌, ◌++◌, length, codes, decimal}
-use Rattle.std.specs.List.{flat_map}
+use Rattle.std.specs.Prelude.{◌≡◌, ℕ, List, [], ◌∷◌, ◌++◌, length, codes, decimal}
+use Rattle.std.specs.List.{AllByRecursion, flat_map}
+use Rattle.std.specs.declared.cmp.Ordering.TheVariants.{Less}
 use Rattle.std.specs.Ordering.{nat_cmp}
 use Rattle.std.specs.Cmp.Lexicographic.{slice_cmp}
 use Rattle.std.specs.BTreeMap.{insert_entry}
@@ -31,6 +32,11 @@ put_all pairs (e ∷ es) = put_all (put pairs e) es
 -- a dump is entries, of which the last of each key stands
 abbrev pub IsDump : List ℕ → List (List ℕ × List ℕ) → Type 0
 IsDump = Mapped (put_all []) Entries
+
+-- pairs in order of keys, each key once
+abbrev pub Ascending : List (List ℕ × List ℕ) → Type 0
+Ascending [] = Unit {0}
+Ascending (e ∷ es) = AllByRecursion (λ x. slice_cmp nat_cmp e.0 x.0 ≡ Less) es × Ascending es
 
 -- ---- as they are written
 

@@ -7,9 +7,11 @@
 mod children;
 mod dump;
 mod hash_error;
+mod in_place;
 mod writing;
 
 pub use children::read_children;
 pub use dump::read_hash;
 pub use hash_error::{HashError, HashFault};
+pub use in_place::read_hash_in_place;
 pub use writing::{add_entry, drop_entry, write_hash};

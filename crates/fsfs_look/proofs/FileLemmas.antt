@@ -1,5 +1,6 @@
 -- The text of a file.
-use Rattle.std.proofs.Common.{◌≡◌, ℕ, List, [], ◌++◌, take, drop, Option, Some, None, Result, Ok, Err, refl, sym, ap, subst, ◌∙◌, append_assoc, inl, inr}
+use Rattle.std.specs.Prelude.{IsOk, IfErr}
+use Rattle.std.proofs.Common.{◌≡◌, ◌≤◌, ℕ, List, [], ◌++◌, take, drop, Option, Some, None, Result, Ok, Err, refl, sym, ap, subst, ◌∙◌, append_assoc, inl, inr}
 use Rattle.std.proofs.lemmas.List.{take-append-drop}
 use Rattle.fsfs_base.specs.Paths.{Path}
 use Rattle.fsfs_base.specs.declared.kind.Kind.TheVariants.{File, Dir}
@@ -21,11 +22,11 @@ use Rattle.fsfs_dag.proofs.Reps.{rep_wrong, contents_some, contents_none}
 use Rattle.fsfs_look.specs.declared.look_error.LookError.{LookError}
 use Rattle.fsfs_look.specs.declared.look_error.LookError.TheVariants as errors
 use Rattle.fsfs_printed.specs.declared.look_fault.LookFault.TheVariants as faults
-use Rattle.fsfs_look.specs.Errors.{of_read}
+use Rattle.fsfs_look.specs.Errors.{of_read, IsWrong}
 use Rattle.fsfs_streams.specs.Output.{AddsFront}
 use Rattle.fsfs_printed.specs.Texts.{End, Whole, Refused, Stopped}
 use Rattle.fsfs_printed.specs.FileTexts.{KindText, FileText, IsWholeText}
-use Rattle.fsfs_look.specs.Written.{Writes, WritesFront}
+use Rattle.fsfs_look.specs.Written.{Writes, WritesFront, HasDiskCause, HasSinkCause}
 use Rattle.fsfs_look.proofs.NodeTexts.{writes_as}
 use Rattle.fsfs_look.proofs.ProgressLemmas.{adds_nothing}
 
@@ -64,6 +65,26 @@ front_more text piece done count old mid new adds is (front, rest, e, more) = (
     adds_then old mid new (take done text) front adds more,
   ),
 )
+
+-- ---- a text that was read again
+
+pub checked_whole : (text : List ℕ) (old new : Option (List ℕ)) (r : Result (Unit {0}) LookError) → IsOk r → Adds old new text → Writes (IsWholeText text) old new r
+checked_whole text old new (Ok x) ok adds = (text, (refl, refl), adds)
+checked_whole text old new (Err e) ok adds = absurd cc
+
+pub wrong_disk : (before now : ℕ) (r : Result (Unit {0}) LookError) → IfErr r IsWrong → before ≤ now → HasDiskCause before now r
+wrong_disk before now (Ok x) is le = record { later = le; failed = tt }
+wrong_disk before now (Err (errors.Fault fault)) is le = record { later = le; failed = tt }
+wrong_disk before now (Err errors.OutOfMemory) is le = absurd is
+wrong_disk before now (Err errors.DiskFault) is le = absurd is
+wrong_disk before now (Err errors.WriteFault) is le = absurd is
+
+pub wrong_sink : (before now : ℕ) (r : Result (Unit {0}) LookError) → IfErr r IsWrong → before ≤ now → HasSinkCause before now r
+wrong_sink before now (Ok x) is le = record { later = le; failed = tt }
+wrong_sink before now (Err (errors.Fault fault)) is le = record { later = le; failed = tt }
+wrong_sink before now (Err errors.OutOfMemory) is le = absurd is
+wrong_sink before now (Err errors.DiskFault) is le = absurd is
+wrong_sink before now (Err errors.WriteFault) is le = absurd is
 
 -- ---- what stands at the path
 

@@ -9,3 +9,8 @@ abbrev pub of_read : ReadError → LookError
 of_read reads.OutOfMemory = OutOfMemory
 of_read reads.DiskFault = DiskFault
 of_read (reads.Wrong w) = Fault (Wrong w)
+
+-- bytes that are wrong, and no failure
+abbrev pub IsWrong : LookError → Type 0
+IsWrong (Fault (Wrong w)) = Unit {0}
+IsWrong e = ⊥

@@ -1,23 +1,28 @@
 //! The text of a file.
-ghost use Rattle.std.specs.Prelude.{◌≡◌, ◌≤◌, ◌<◌, ◌+◌, ◌-◌, ◌^◌, min, ℕ, List, Some, Ok, Err, IsSome, IfOk, MatchResult, length, take, drop};
+ghost use Rattle.std.specs.Prelude.{◌≡◌, ◌≤◌, ◌<◌, ◌+◌, ◌-◌, ◌^◌, min, ℕ, List, Some, Ok, Err, IsSome, IsOk, IfOk, IfErr, MatchResult, length, take, drop};
+ghost use Rattle.md5.specs.Md5.{Holds, md5};
+ghost use Rattle.fsfs_damage.specs.declared.damage.RepWhat.TheVariants as repwhat;
+ghost use Rattle.fsfs_damage.specs.declared.wrong.ReadError.TheVariants.{Wrong};
 ghost use Rattle.fsfs_damage.specs.declared.wrong.Refusal.{Refusal};
 ghost use Rattle.fsfs_book.specs.Told.{RevisionBytes, Knows, Keeps};
 ghost use Rattle.fsfs_damage.specs.Causes.{HasCause};
 ghost use Rattle.fsfs_rep.specs.Faults.{IsRefusedFor};
-ghost use Rattle.fsfs_rep.specs.Frames.{rev_of, text_of, IsWhole, IsFaultOf};
+ghost use Rattle.fsfs_rep.specs.Frames.{rev_of, text_of, HasMd5, IsWhole, IsFaultOf, bad_rep};
 ghost use Rattle.fsfs_printed.specs.FileTexts.{FileText, IsWholeText};
+ghost use Rattle.fsfs_look.specs.Errors.{of_read, IsWrong};
 ghost use Rattle.fsfs_look.specs.Written.{Writes, HasDiskCause, HasSinkCause};
 
 use crate::look_error::LookError;
 use crate::path::found_at;
 use crate::piece::write_piece;
-use fsfs_base::{FsPath, Kind, RevNum, fitting};
+use fsfs_base::{FsPath, HexDigest, Kind, RevNum, fitting};
 use fsfs_book::Book;
 use fsfs_damage::{ReadError, RepWhat};
 use fsfs_noderev::Rep;
 use fsfs_printed::LookFault;
 use fsfs_rep::{PLAIN_LEN, RepReader, bad_rep, window};
 use fsfs_streams::Sink;
+use md5::{Digest, Md5};
 use std::alloc::Global;
 
 // How many bytes are read and written at a time.
@@ -75,6 +80,27 @@ fn read_piece<B: Book>(
     Ok(count)
 }
 
+// The text that was read again is the one that was checked, by its MD5.
+fn check_again(rep: &Rep, digest: Md5) -> Result<(), LookError>
+    ensures same { (text : List ℕ) → Holds digest text → HasMd5 rep.now text → IsOk result }
+    ensures other { (text : List ℕ) → Holds digest text → IfErr result (λ e. e ≡ of_read (Wrong (bad_rep rep.now (repwhat.Md5 rep.now.md5 (record { bytes = md5 text }))))) }
+    ensures bytes { IfErr result IsWrong }
+{
+    let found = HexDigest {
+        bytes: digest.finalize(),
+    };
+    if rep.md5 != found {
+        return Err(LookError::from(bad_rep(
+            rep,
+            RepWhat::Md5 {
+                kept: rep.md5,
+                found,
+            },
+        )));
+    }
+    Ok(())
+}
+
 // Writes the text of a representation that was checked.
 fn write_rep<B: Book, S: Sink>(
     book: &mut B,
@@ -91,20 +117,23 @@ fn write_rep<B: Book, S: Sink>(
     ensures sink { HasSinkCause (S.faults sink.old) (S.faults sink.new) result }
 {
     let length = rep.length;
+    let mut digest = Md5::new();
     let mut done: u64 = 0;
     'pieces: while done < length {
         let count = match read_piece(book, rep, done, piece) {
             Ok(count) => count,
             Err(error) => return Err(LookError::from(error)),
         };
+        digest.update(&piece[..count]);
         write_piece(sink, &piece[..count])?;
         done += count as u64;
     }
-    Ok(())
+    check_again(rep, digest)
 }
 
 /// Writes the text of the file at a path of a revision. All of it is read and its size and both digests are checked before
-/// the first byte is written; then its bytes are read again, without digests.
+/// the first byte is written; then its bytes are read again, and where their MD5 is another the text has changed meanwhile:
+/// that is told, behind what was written of it.
 pub fn cat<B: Book, S: Sink>(
     alloc: Global,
     book: &mut B,

@@ -1,12 +1,13 @@
 use Rattle.std.proofs.Common.{◌≤◌, ◌+◌, Ok, length, take, drop, refl, subst, arith, rules}
 use Rattle.std.proofs.lemmas.List.{take_all, length-take}
 use Rattle.std.proofs.lemmas.Result.{err_from_is_err_and}
+use Rattle.md5.specs.Md5.{Holds}
 use Rattle.fsfs_streams.specs.Streams.{Adds}
 use Rattle.fsfs_streams.proofs.StreamLemmas.{adds_then}
 use Rattle.fsfs_rep.specs.Frames.{text_of, rev_of}
 use Rattle.fsfs_book.proofs.Keeping.{keeps_trans}
 use Rattle.fsfs_rep.proofs.WholeLemmas.{bytes_more}
-use Rattle.fsfs_look.proofs.FileLemmas.{whole_fails, front_of, front_more}
+use Rattle.fsfs_look.proofs.FileLemmas.{whole_fails, front_of, front_more, checked_whole, wrong_disk, wrong_sink}
 use Rattle.fsfs_look.proofs.file.write_rep.Goals as goal
 
 pub returns-in-Err-clause-told : goal.returns-in-Err-clause-told
@@ -40,6 +41,11 @@ pieces-preserved g c =
           let text = text_of rep bytes in
           subst (λ t. Adds (g.S.Sink.written c.args.sink.now) (g.S.Sink.written c.write_piece.new.sink) t) (bytes_more rep rep bytes (take c.pieces.done text) c.read_piece.new.piece c.pieces.done c.in-Ok.count (c.pieces.done + c.in-Ok.count) refl refl refl next)
           (adds_then (g.S.Sink.written c.args.sink.now) (g.S.Sink.written c.pieces.sink) (g.S.Sink.written c.write_piece.new.sink) (take c.pieces.done text) (take c.in-Ok.count c.read_piece.new.piece) (inv.read bytes e whole) c.in_ok-write_piece.ensures.added);
+      digest = λ bytes e whole.
+          let next = c.in-Ok.ensures.told bytes (inv.kept.revs (rev_of rep) (Ok bytes) e) whole in
+          let text = text_of rep bytes in
+          subst (λ t. Holds c.update.new.self t) (bytes_more rep rep bytes (take c.pieces.done text) c.read_piece.new.piece c.pieces.done c.in-Ok.count (c.pieces.done + c.in-Ok.count) refl refl refl next)
+          (c.update.ensures (take c.pieces.done text) (inv.digest bytes e whole));
       kept = keeps_trans _ _ _ inv.kept c.in-Ok.ensures.kept;
       later = omega (arith, inv.later, c.in-Ok.ensures.cause.later);
       sink = omega (arith, inv.sink, c.in_ok-write_piece.ensures.sink.later);
@@ -51,7 +57,15 @@ returns-clause-told g c = λ bytes e whole.
     let rep = c.args.rep.now in
     let text = text_of rep bytes in
     let all : length text ≤ c.pieces.done = omega (arith, c.pieces-test.false, length-take rep.length (drop (rep.offset + 6) bytes)) in
-    (text, (refl, refl), subst (λ t. Adds (g.S.Sink.written c.args.sink.now) (g.S.Sink.written c.pieces.sink) t) (take_all c.pieces.done text all) (inv.read bytes e whole))
+    let digested : Holds c.pieces.digest text = subst (λ t. Holds c.pieces.digest t) (take_all c.pieces.done text all) (inv.digest bytes e whole) in
+    let added = subst (λ t. Adds (g.S.Sink.written c.args.sink.now) (g.S.Sink.written c.pieces.sink) t) (take_all c.pieces.done text all) (inv.read bytes e whole) in
+    checked_whole text (g.S.Sink.written c.args.sink.now) (g.S.Sink.written c.pieces.sink) c.check_again.result (c.check_again.ensures.same text digested whole.agrees.md5) added
+
+pub returns-clause-cause : goal.returns-clause-cause
+returns-clause-cause g c = wrong_disk (g.B.Book.faults c.args.book.now) (g.B.Book.faults c.pieces.book) c.check_again.result c.check_again.ensures.bytes c.pieces.invariant.later
+
+pub returns-clause-sink : goal.returns-clause-sink
+returns-clause-sink g c = wrong_sink (g.S.Sink.faults c.args.sink.now) (g.S.Sink.faults c.pieces.sink) c.check_again.result c.check_again.ensures.bytes c.pieces.invariant.sink
 
 pub returns-in_err-write_piece-clause-kept : goal.returns-in_err-write_piece-clause-kept
 returns-in_err-write_piece-clause-kept g c = keeps_trans _ _ _ c.pieces.invariant.kept c.in-Ok.ensures.kept
