@@ -25,7 +25,7 @@ use Rattle.fsfs_dag.specs.declared.node.PlacedNode.{PlacedNode}
 use Rattle.fsfs_dag.specs.Same.{same_part}
 use Rattle.fsfs_dag.specs.Views.{entry_values, AreBefore}
 use Rattle.fsfs_drafts.specs.Drafts.{Kept, Folder}
-use Rattle.fsfs_edit.specs.Entries.{OfIdEntries, OfKept}
+use Rattle.fsfs_own.specs.Entries.{OfIdEntries, OfKept}
 use Rattle.fsfs_clash.specs.declared.facts.Facts.{Facts}
 use Rattle.fsfs_clash.specs.declared.three.Target.{Target}
 use Rattle.fsfs_clash.specs.declared.turn.Dirs.{Dirs}

@@ -1,50 +1,17 @@
 -- Values that are the same by their numbers are the same, and the other way round.
-use Rattle.std.proofs.Common.{◌≡◌, ℕ, Bool, true, false, refl, ap, arith, eq-eqb, Option, Some, None}
+use Rattle.std.proofs.Common.{◌≡◌, ℕ, true, refl, ap, Option, Some, None}
 use Rattle.std.specs.Prelude.{◌==◌, ◌&&◌, option_map}
 use Rattle.std.specs.Str.{bytes_eq}
-use Rattle.std.proofs.lemmas.Bool.Decides.{nat_tests}
 use Rattle.std.proofs.lemmas.Bool.{and_from, and_parts}
 use Rattle.fsfs_base.proofs.PathLemmas.{same_name-is, same_name-refl}
-use Rattle.fsfs_noderev.specs.declared.node_id.Part.{Part}
-use Rattle.fsfs_noderev.specs.declared.node_id.Part.TheVariants.{New, Old, Made}
-use Rattle.fsfs_noderev.specs.declared.node_id.Place.TheVariants.{At}
-use Rattle.fsfs_noderev.specs.declared.node_id.NodeId.{NodeId}
 use Rattle.fsfs_noderev.specs.declared.rep.Uniquifier.{Uniquifier}
 use Rattle.fsfs_noderev.specs.declared.rep.Rep.{Rep}
 use Rattle.fsfs_noderev.specs.declared.rep.Contents.{Contents}
 use Rattle.fsfs_noderev.specs.declared.rep.Contents.TheVariants as contents
 use Rattle.fsfs_noderev.specs.Reps.{unique_value}
 use Rattle.fsfs_noderev.proofs.Same.{rep_same}
-use Rattle.fsfs_dag.specs.Same.{same_part, same_id}
-use Rattle.fsfs_dag.proofs.IdLemmas.{id_true, id_false}
+use Rattle.fsfs_dag.proofs.IdLemmas.{equal, itself}
 use Rattle.fsfs_clash.specs.Same.{same_rev, same_unique, same_rep, same_contents}
-
-equal : (m n : ℕ) → (m == n) ≡ true → m ≡ n
-equal m n h = grind (arith, nat_tests)
-
-itself : (n : ℕ) → (n == n) ≡ true
-itself n = eq-eqb n n refl
-
--- ---- parts of ids
-
--- an id with this node part
-abbrev with_part : Part → NodeId
-with_part p = record { node = p; copy = p; place = At 0 0 }
-
-pub part_true : (a b : Part) → same_part a b ≡ true → a ≡ b
-part_true a b h = ap (λ (i : NodeId). i.node) (id_true (with_part a) (with_part b) (and_from _ _ (and_from _ _ h h) refl))
-
-pub part_self : (a : Part) → same_part a a ≡ true
-part_self (New m) = itself m.number
-part_self (Old m) = itself m.number
-part_self (Made m made) = and_from _ _ (itself m.number) (itself made)
-
-pub id_self : (a : NodeId) → same_id a a ≡ true
-id_self a = by (same_id a a) refl
-  where
-    by : (t : Bool) → same_id a a ≡ t → same_id a a ≡ true
-    by true e = e
-    by false e = absurd (id_false a a e refl)
 
 -- ---- representations
 

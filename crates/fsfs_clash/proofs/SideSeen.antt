@@ -23,8 +23,8 @@ use Rattle.fsfs_drafts.proofs.Hanging.{Hangs}
 use Rattle.fsfs_drafts.proofs.Here.{under_is, are_here}
 use Rattle.fsfs_drafts.proofs.HangLaw as hanging
 use Rattle.fsfs_drafts.proofs.Placing as placing
-use Rattle.fsfs_edit.specs.Entries.{OfKind, OfKept}
-use Rattle.fsfs_edit.proofs.Making.{pred_within, entries_here, entries_never, lacks_node}
+use Rattle.fsfs_own.specs.Entries.{OfKind, OfKept}
+use Rattle.fsfs_own.proofs.OwnEntries.{pred_within, entries_here, entries_never, lacks_node}
 use Rattle.fsfs_clash.specs.Lists.{target_named}
 use Rattle.fsfs_clash.specs.Readings.{kept_in, NodeOfKept, NodeOf, ListOfKept, ListOf, IsKeptIn, IsIn}
 use Rattle.fsfs_clash.specs.Threes.{entry_target, node_target}

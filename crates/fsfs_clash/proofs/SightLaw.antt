@@ -1,5 +1,5 @@
 -- The sight of three node-revisions is what the tests of a merge say.
-use Rattle.std.proofs.Common.{◌≡◌, ◌∙◌, ℕ, true, false, ◌&&◌, not, Option, Some, None, refl, sym, ap, subst}
+use Rattle.std.proofs.Common.{◌≡◌, ◌∙◌, ℕ, true, ◌&&◌, not, Option, Some, None, refl, sym, ap, subst}
 use Rattle.std.specs.Prelude.{nat_le}
 use mathlib.Core.Bool.{false≢true}
 use Rattle.std.proofs.lemmas.Bool.{and_from, and_parts, leb-true, le-leb, not-true}
@@ -13,12 +13,12 @@ use Rattle.fsfs_noderev.specs.declared.rep.Contents.{Contents}
 use Rattle.fsfs_noderev.specs.declared.node_rev.NodeRev.{NodeRev}
 use Rattle.fsfs_shows.specs.Chains.{copy_root_of}
 use Rattle.fsfs_dag.specs.Same.{same_part, same_id}
-use Rattle.fsfs_dag.proofs.IdLemmas.{id_true}
+use Rattle.fsfs_dag.proofs.IdLemmas.{id_self, id_true, part_self, part_true}
 use Rattle.fsfs_drafts.specs.OwnSides.{is_own_copy}
 use Rattle.fsfs_merge.specs.MergeLaws.{BothGoOn, IsSight}
 use Rattle.fsfs_clash.specs.Same.{same_contents}
 use Rattle.fsfs_clash.specs.Sights.{same_ids, go_on, go_on_in, have_same_props, same_props_in, sight}
-use Rattle.fsfs_clash.proofs.SameLaw.{part_true, part_self, id_self, contents_true, contents_self}
+use Rattle.fsfs_clash.proofs.SameLaw.{contents_true, contents_self}
 
 dir_true : (k : Kind) → is_dir k ≡ true → k ≡ Dir
 dir_true Dir h = refl

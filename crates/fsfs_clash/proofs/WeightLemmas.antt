@@ -19,14 +19,9 @@ use Rattle.fsfs_clash.specs.declared.walk.Pending.{Pending}
 use Rattle.fsfs_clash.specs.Lists.{target_in, names_in, three_in, AreTargetsBefore}
 use Rattle.fsfs_clash.specs.Threes.{is_of}
 use Rattle.fsfs_clash.specs.Walks.{pending, if_changed, changed, opened}
-use Rattle.fsfs_clash.specs.Weights.{rank, weight, weight_in, total}
-
-before_rank : (rev offset : ℕ) (home : RevOffset) → home.offset < 2 ^ 64 → is_before rev offset home ≡ true → rank (place_of rev offset) < rank home
-before_rank rev offset home fits h = grind (arith, nat_tests)
-
-place_rank : (place : Place) (home : RevOffset) → home.offset < 2 ^ 64 → place_before home place ≡ true → rank (offset_of place) < rank home
-place_rank (places.At rev offset) home fits h = before_rank rev offset home fits h
-place_rank (places.In txn) home fits h = absurd cc
+use Rattle.fsfs_dag.specs.TreeWalks.{rank}
+use Rattle.fsfs_dag.proofs.TreeWalkLemmas.{place_rank, few}
+use Rattle.fsfs_clash.specs.Weights.{weight, weight_in, total}
 
 -- ---- sums
 
@@ -76,9 +71,6 @@ module _ (home : RevOffset) (fits : home.offset < 2 ^ 64) where
   changed_le which path sides (x ∷ names) before =
       joined (if_changed which (path ++ x ∷ []) (three_in sides x)) (changed which path sides names) (one_le (path ++ x ∷ []) (three_in sides x) (is_of which (three_in sides x)) (target_le (target_in sides.base x) (before x)))
       (changed_le which path sides names before)
-
-  few : (n w : ℕ) → n < 2 ^ 64 → n * w ≤ 2 ^ 64 * w
-  few n w lt = let le : n ≤ 2 ^ 64 = omega arith in let k : w * n ≤ w * 2 ^ 64 = mul-le-mul_left w le in omega arith
 
   less : (t s n w b : ℕ) → t ≤ n * b → n * b ≤ 2 ^ 64 * b → 1 ≤ b → w ≡ b * 2 ^ 65 → s + t < s + w
   less t s n w b f g one e = omega arith

@@ -9,7 +9,7 @@ use Rattle.fsfs_shows.specs.Reading.{DirEntry, EntriesOf, OfId, offset_of}
 use Rattle.fsfs_drafts.specs.Drafts.{Kept, Folder}
 use Rattle.fsfs_drafts.specs.OwnSides.{in_txn}
 use Rattle.fsfs_drafts.specs.Steps.{kept_at}
-use Rattle.fsfs_edit.specs.Entries.{OfIdEntries, OfKept, IsWithin}
+use Rattle.fsfs_own.specs.Entries.{OfIdEntries, OfKept, IsWithin}
 use Rattle.fsfs_clash.specs.declared.facts.Facts.{Facts}
 use Rattle.fsfs_clash.specs.declared.turn.Dirs.{Dirs}
 use Rattle.fsfs_clash.specs.Lists.{Lists, link_of}

@@ -1,14 +1,12 @@
 -- Why the walk ends: what the base has at a path weighs more than all that can stand in that directory.
-use Rattle.std.specs.Prelude.{ℕ, suc, ◌+◌, ◌-◌, ◌*◌, ◌^◌, min, List, [], ◌∷◌, Option, Some, None}
+use Rattle.std.specs.Prelude.{ℕ, suc, ◌+◌, ◌^◌, List, [], ◌∷◌, Option, Some, None}
 use Rattle.fsfs_damage.specs.declared.damage.RevOffset.{RevOffset}
 use Rattle.fsfs_shows.specs.Reading.{offset_of}
+use Rattle.fsfs_dag.specs.TreeWalks.{rank}
 use Rattle.fsfs_clash.specs.declared.three.Target.{Target}
 use Rattle.fsfs_clash.specs.declared.walk.Pending.{Pending}
 
--- the place as one number
-abbrev pub rank : RevOffset → ℕ
-rank at = at.rev * 2 ^ 64 + min at.offset (2 ^ 64 - 1)
-
+-- more than a directory's walk weighs at the place
 abbrev pub weight : RevOffset → ℕ
 weight at = (2 ^ 65) ^ suc (rank at)
 

@@ -5,8 +5,9 @@ ghost use Rattle.fsfs_shows.specs.Chains.{own_rev, copy_root_of};
 ghost use Rattle.fsfs_drafts.specs.OwnSides.{in_txn, is_own_copy};
 ghost use Rattle.fsfs_clash.specs.Sights.{facts_of, go_with, have_props_of, merge_with};
 
-use crate::same::{same_contents, same_part};
+use crate::same::same_contents;
 use fsfs_base::{Kind, RevNum};
+use fsfs_dag::same_part;
 use fsfs_noderev::{Contents, NodeRev, Part, Place};
 
 pub(crate) fn is_dir(kind: Kind) -> bool
@@ -88,8 +89,8 @@ fn go_on(rev: RevNum, base: &NodeRev, head: &NodeRev, own: &Facts) -> bool
     ensures { result ≡ go_with rev base.now head.now own.now }
 {
     are_dirs(base, head, own)
-        && same_part(&base.id.node, &head.id.node)
-        && same_part(&base.id.node, &own.node)
+        && same_part(base.id.node, head.id.node)
+        && same_part(base.id.node, own.node)
         && root_rev(head).get() <= rev.get()
         && !own.is_copy
 }

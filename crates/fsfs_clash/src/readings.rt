@@ -5,8 +5,8 @@ ghost use Rattle.fsfs_damage.specs.Readings.{Answers};
 ghost use Rattle.fsfs_damage.specs.Causes.{HasCause};
 ghost use Rattle.fsfs_dag.specs.Views.{entry_values};
 ghost use Rattle.fsfs_shows.specs.Reading.{OfId, offset_of};
-ghost use Rattle.fsfs_edit.specs.Entries.{OfIdEntries};
-ghost use Rattle.fsfs_edit.specs.Views.{kept_value};
+ghost use Rattle.fsfs_own.specs.Entries.{OfIdEntries};
+ghost use Rattle.fsfs_own.specs.Views.{kept_value};
 ghost use Rattle.fsfs_clash.specs.Readings.{kept_in, IsIn, FactsBy, FactsOf, ListOf};
 
 use crate::facts::{Facts, facts_of, in_txn};
@@ -14,8 +14,8 @@ use fsfs_base::Kind;
 use fsfs_book::Book;
 use fsfs_dag::{DirEntry, entries, named_node};
 use fsfs_damage::ReadError;
-use fsfs_edit::{KeptNode, Own, entries_in};
 use fsfs_noderev::NodeId;
+use fsfs_own::{KeptNode, Own, entries_in};
 use std::alloc::Global;
 
 // The own node-revision of an id; none: the transaction keeps none of it.

@@ -1,55 +1,14 @@
-//! Whether ids and representations are the same.
+//! Whether representations are the same.
 ghost use Rattle.std.specs.Prelude.{◌≡◌, ◌==◌, ◌&&◌};
-ghost use Rattle.fsfs_dag.specs.Same.{same_part, same_place, same_id};
 ghost use Rattle.fsfs_clash.specs.Same.{same_rev, same_unique, same_rep, same_contents};
 
 use fsfs_base::{RevNum, TxnName};
-use fsfs_noderev::{Contents, NodeId, Part, Place, Rep, Uniquifier};
-
-pub(crate) fn same_part(a: &Part, b: &Part) -> bool
-    ensures { result ≡ same_part a.now b.now }
-{
-    match a {
-        Part::New(m) => match b {
-            Part::New(n) => m.number == n.number,
-            _ => false,
-        },
-        Part::Old(m) => match b {
-            Part::Old(n) => m.number == n.number,
-            _ => false,
-        },
-        Part::Made(m, made) => match b {
-            Part::Made(n, rev) => m.number == n.number && made.get() == rev.get(),
-            _ => false,
-        },
-    }
-}
+use fsfs_noderev::{Contents, Rep, Uniquifier};
 
 fn same_txn(a: &TxnName, b: &TxnName) -> bool
     ensures { result ≡ (a.now.base == b.now.base && a.now.number.number == b.now.number.number) }
 {
     a.base.get() == b.base.get() && a.number.number == b.number.number
-}
-
-fn same_place(a: &Place, b: &Place) -> bool
-    ensures { result ≡ same_place a.now b.now }
-{
-    match a {
-        Place::At(rev, offset) => match b {
-            Place::At(other, place) => rev.get() == other.get() && *offset == *place,
-            Place::In(_) => false,
-        },
-        Place::In(txn) => match b {
-            Place::At(_, _) => false,
-            Place::In(other) => same_txn(txn, other),
-        },
-    }
-}
-
-pub(crate) fn same_id(a: &NodeId, b: &NodeId) -> bool
-    ensures { result ≡ same_id a.now b.now }
-{
-    same_part(&a.node, &b.node) && same_part(&a.copy, &b.copy) && same_place(&a.place, &b.place)
 }
 
 fn same_rev(a: Option<RevNum>, b: Option<RevNum>) -> bool

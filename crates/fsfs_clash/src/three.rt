@@ -2,8 +2,8 @@
 ghost use Rattle.std.specs.Prelude.{◌≡◌};
 ghost use Rattle.fsfs_clash.specs.Threes.{has_id, is_changed, is_made, is_of, is_taken, takes_head};
 
-use crate::same::same_id;
 use fsfs_base::Kind;
+use fsfs_dag::same_id;
 use fsfs_noderev::NodeId;
 
 /// The node-revision that an entry names.

@@ -18,8 +18,8 @@ use fsfs_base::RevNum;
 use fsfs_book::Book;
 use fsfs_dag::{DirEntry, PlacedNode, entries, named_node};
 use fsfs_damage::{ReadError, RevOffset, Wrong};
-use fsfs_edit::Own;
 use fsfs_noderev::NodeId;
+use fsfs_own::Own;
 use std::alloc::Global;
 
 /// The ids of three directories.

@@ -30,8 +30,8 @@ use fsfs_base::{B36, FsPath, Kind, RevNum, TxnName};
 use fsfs_book::Book;
 use fsfs_dag::root_of;
 use fsfs_damage::ReadError;
-use fsfs_edit::Own;
 use fsfs_noderev::{NodeId, NodeRev, Part, Place};
+use fsfs_own::Own;
 use std::alloc::{AllocError, Global};
 use std::cmp::Ordering;
 

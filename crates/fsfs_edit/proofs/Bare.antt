@@ -9,16 +9,18 @@ use Rattle.fsfs_tree.specs.Nodes.{Node, TreeFunction}
 use Rattle.fsfs_flat.specs.Edits.{is_dir_node}
 use Rattle.fsfs_book.specs.Told.{RevisionBytes}
 use Rattle.fsfs_shows.specs.ByTree.{LacksAt, IsBlockedAt}
-use Rattle.fsfs_drafts.specs.Own.{Own}
+use Rattle.fsfs_drafts.specs.Own.{Own, draft_tree}
 use Rattle.fsfs_drafts.specs.Drafts.{bare}
-use Rattle.fsfs_edit.specs.Mutable.{LeadsTo}
-use Rattle.fsfs_edit.specs.Walks.{HasKind}
-use Rattle.fsfs_edit.specs.Ways.{IsNoDirectory, IsTarget}
-use Rattle.fsfs_edit.specs.declared.error.EditError.{EditError}
+use Rattle.fsfs_steps.specs.Mutable.{LeadsTo}
+use Rattle.fsfs_own.specs.Walks.{HasKind, IsFound}
+use Rattle.fsfs_edit.specs.Ways.{IsNoDirectory, IsTarget, IsFoundIn}
+use Rattle.fsfs_own.specs.declared.error.EditError.{EditError}
+use Rattle.fsfs_own.specs.declared.walk.Found.{Found}
+use Rattle.fsfs_own.specs.declared.walk.Found.TheVariants as founds
 use Rattle.fsfs_edit.specs.declared.way.Target.{Target}
 use Rattle.fsfs_edit.specs.declared.way.Target.TheVariants as targets
-use Rattle.fsfs_edit.proofs.Making.{has_kind}
-use Rattle.fsfs_edit.proofs.Walking.{HasNode, kind_node, dir_node}
+use Rattle.fsfs_own.proofs.OwnEntries.{has_kind}
+use Rattle.fsfs_own.proofs.Walking.{HasNode, kind_node, dir_node}
 
 pub bare_none : (a b : Option Node) → bare a ≡ bare b → a ≡ None → b ≡ None
 bare_none None None e is = refl
@@ -73,3 +75,9 @@ module _ (a b : TreeFunction) (each : (q : Path) → bare (a q) ≡ bare (b q)) 
     dir_node (b front) (bare_kind (a front) (b front) Dir (each front) (node_kind (a front) (leads front x rest parts).0)),
     bare_some (a (front ++ x ∷ [])) (b (front ++ x ∷ [])) (each (front ++ x ∷ [])) (leads front x rest parts).1,
   )
+
+pub found_over : (look : RevisionBytes) (trees : ℕ → TreeFunction) (base : ℕ) (own : Own) (tree : TreeFunction) → ((q : Path) → bare (draft_tree trees own (trees base) q) ≡ bare (tree q)) → (p : Path) (result : Result Found EditError) → IsFound look trees base own p result → IsFoundIn tree p result
+found_over look trees base own tree each p (Ok (founds.Node c)) h = bare_kind (draft_tree trees own (trees base) p) (tree p) c.kind (each p) h.1
+found_over look trees base own tree each p (Ok (founds.Absent depth)) h = lacks_over (draft_tree trees own (trees base)) tree each p depth h
+found_over look trees base own tree each p (Ok (founds.File depth)) h = blocked_over (draft_tree trees own (trees base)) tree each p depth h
+found_over look trees base own tree each p (Err e) h = h

@@ -12,8 +12,8 @@ use Rattle.fsfs_damage.specs.Readings.{Answers}
 use Rattle.fsfs_damage.specs.declared.wrong.ReadError.{ReadError}
 use Rattle.fsfs_damage.specs.declared.wrong.ReadError.TheVariants as reads
 use Rattle.fsfs_dag.specs.Views.{met_value}
-use Rattle.fsfs_edit.specs.Errors.{of_read, IsFailure}
-use Rattle.fsfs_edit.specs.Walks.{HasKind}
+use Rattle.fsfs_own.specs.Errors.{of_read, IsFailure}
+use Rattle.fsfs_own.specs.Walks.{HasKind}
 
 pub not_above : (youngest rev top : ℕ) → youngest ≡ top → rev ≤ youngest → rev ≤ top
 not_above youngest rev top is e = omega (arith, is, e)

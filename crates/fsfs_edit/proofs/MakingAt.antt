@@ -1,4 +1,4 @@
--- A path at which a directory stands leads down a tree.
+-- A path at which something stands leads down a tree.
 use Rattle.std.proofs.Common.{◌≡◌, true, [], ◌∷◌, ◌++◌, refl, ap, subst, ◌∙◌}
 use Rattle.std.specs.Prelude.{Option, Some, None, is_some, not}
 use Rattle.fsfs_base.specs.Paths.{PathName, Path, is_above}
@@ -9,8 +9,8 @@ use Rattle.fsfs_base.specs.declared.kind.Kind.{Kind}
 use Rattle.fsfs_base.specs.declared.kind.Kind.TheVariants.{Dir}
 use Rattle.fsfs_base.proofs.PathLemmas.{covers-longer}
 use Rattle.fsfs_drafts.proofs.Moving.{longer_covers_not}
-use Rattle.fsfs_edit.specs.Mutable.{LeadsTo}
-use Rattle.fsfs_edit.specs.Walks.{HasKind}
+use Rattle.fsfs_steps.specs.Mutable.{LeadsTo}
+use Rattle.fsfs_own.specs.Walks.{HasKind}
 use Rattle.std.proofs.lemmas.Bool.{and_from}
 
 above_more : (p : Path) (x : PathName) (rest : Path) → is_above p (p ++ x ∷ rest) ≡ true
@@ -26,18 +26,17 @@ dir_of o h = ap (λ (x : Option Node). is_dir_node x) h.1 ∙ ap is_dir h.2
 some_of : (o : Option Node) → (n : Node) × (o ≡ Some n) × (n.kind ≡ Dir) → is_some o ≡ true
 some_of o h = ap (λ (x : Option Node). is_some x) h.1
 
--- a path at which a directory stands leads down a tree
-pub leads_to : (tree : TreeFunction) (p : Path) → IsTree tree → HasKind (tree p) Dir → LeadsTo tree p
-leads_to tree p is_tree has = λ front x rest parts. (
-  dir_of (tree front) (is_tree.above front p (subst (λ (t : Path). is_above front t ≡ true) parts (above_more front x rest)) (kind_some (tree p) Dir has)),
+pub leads_to : (tree : TreeFunction) (p : Path) → IsTree tree → is_some (tree p) ≡ true → LeadsTo tree p
+leads_to tree p is_tree some = λ front x rest parts. (
+  dir_of (tree front) (is_tree.above front p (subst (λ (t : Path). is_above front t ≡ true) parts (above_more front x rest)) some),
   step front x rest parts,
 )
   where
     step : (front : Path) (x : PathName) (rest : Path) → front ++ x ∷ rest ≡ p → is_some (tree (front ++ x ∷ [])) ≡ true
-    step front x [] parts = ap (λ (t : Path). is_some (tree t)) parts ∙ kind_some (tree p) Dir has
+    step front x [] parts = ap (λ (t : Path). is_some (tree t)) parts ∙ some
     step front x (y ∷ rest) parts =
         some_of (tree (front ++ x ∷ [])) (is_tree.above (front ++ x ∷ []) p
-        (subst (λ (t : Path). is_above (front ++ x ∷ []) t ≡ true) (assoc front x y rest ∙ parts) (above_more (front ++ x ∷ []) y rest)) (kind_some (tree p) Dir has))
+        (subst (λ (t : Path). is_above (front ++ x ∷ []) t ≡ true) (assoc front x y rest ∙ parts) (above_more (front ++ x ∷ []) y rest)) some)
       where
         assoc : (front : Path) (x y : PathName) (rest : Path) → (front ++ x ∷ []) ++ y ∷ rest ≡ front ++ x ∷ y ∷ rest
         assoc [] x y rest = refl

@@ -18,24 +18,25 @@ use Rattle.fsfs_shows.proofs.Walks.{take_front}
 use Rattle.fsfs_drafts.specs.Drafts.{Kept, Folder, pair_of}
 use Rattle.fsfs_drafts.specs.Edits.{IsEdited, IsDraftAfter}
 use Rattle.fsfs_drafts.specs.Steps.{kept_at}
-use Rattle.fsfs_edit.specs.Errors.{IfMemory, IsFailure, IfStays, of_own}
-use Rattle.fsfs_edit.specs.Items.{with_item, IsAddOf, IsDeleteOf, IsFileAt, AddsItem}
-use Rattle.fsfs_edit.specs.Made.{Makes}
-use Rattle.fsfs_edit.specs.Copied.{Copies}
-use Rattle.fsfs_edit.specs.Taken.{Takes}
-use Rattle.fsfs_edit.specs.Walks.{IsAt, HasKind}
+use Rattle.fsfs_own.specs.Errors.{IfMemory, IsWant, IsFailure, IfStays, of_own}
+use Rattle.fsfs_own.specs.Items.{with_item, IsFileAt}
+use Rattle.fsfs_edit.specs.Items.{IsAddOf, IsDeleteOf, AddsItem}
+use Rattle.fsfs_steps.specs.Made.{Makes}
+use Rattle.fsfs_steps.specs.Copied.{Copies}
+use Rattle.fsfs_steps.specs.Taken.{Takes}
+use Rattle.fsfs_own.specs.Walks.{IsAt, HasKind}
 use Rattle.fsfs_edit.specs.Ways.{HasRoom, IsOpenedAt}
 use Rattle.fsfs_edit.specs.Making.{IsMadeIn}
 use Rattle.fsfs_edit.specs.Copying.{IsCopiedTo}
 use Rattle.fsfs_edit.specs.Deleting.{before_kept, IsDeletedId, IsGoneId, OfOwn, OfLasting, IsGoneFrom}
-use Rattle.fsfs_edit.specs.declared.error.EditError.{EditError}
-use Rattle.fsfs_edit.specs.declared.error.EditError.TheVariants as errors
-use Rattle.fsfs_edit.specs.declared.own.OwnError.{OwnError}
-use Rattle.fsfs_edit.specs.declared.own.OwnError.TheVariants as owns
-use Rattle.fsfs_edit.specs.declared.walk.Step.{Step}
-use Rattle.fsfs_edit.specs.declared.walk.Step.TheVariants as steps
+use Rattle.fsfs_own.specs.declared.error.EditError.{EditError}
+use Rattle.fsfs_own.specs.declared.error.EditError.TheVariants as errors
+use Rattle.fsfs_own.specs.declared.own.OwnError.{OwnError}
+use Rattle.fsfs_own.specs.declared.own.OwnError.TheVariants as owns
+use Rattle.fsfs_own.specs.declared.walk.Step.{Step}
+use Rattle.fsfs_own.specs.declared.walk.Step.TheVariants as steps
 use Rattle.fsfs_edit.proofs.MakingAt.{kind_some}
-use Rattle.fsfs_edit.proofs.Walking.{dir_node, length_push}
+use Rattle.fsfs_own.proofs.Walking.{dir_node, length_push}
 
 -- ---- failures
 
@@ -49,6 +50,13 @@ stays errors.Lacking P h p = h
 pub settle_fails : (e : OwnError) (P Q : Type 0) → (P → Q) → IfMemory e P → IfStays (of_own e) Q
 settle_fails owns.OutOfMemory P Q g h = g h
 settle_fails owns.BenchFault P Q g h = tt
+
+pub want_fails : (e : EditError) (P : Type 0) → (P → ⊥) → IsWant e P → IsFailure e
+want_fails errors.BenchFault P g h = tt
+want_fails errors.OutOfMemory P g h = tt
+want_fails errors.DiskFault P g h = tt
+want_fails (errors.Wrong w) P g h = h
+want_fails errors.Lacking P g h = g h
 
 -- ---- what the flat model accepts
 
@@ -65,7 +73,7 @@ room_made tree p name room =
 
 -- ---- the item
 
-file_of : (f : Folder) (path : Path) (id : NodeId) (item : ChangeItem) → item.id ≡ id → IsFileAt f path id → IsFileAt (with_item f item) path item.id
+pub file_of : (f : Folder) (path : Path) (id : NodeId) (item : ChangeItem) → item.id ≡ id → IsFileAt f path id → IsFileAt (with_item f item) path item.id
 file_of f path id item same h = record { k = h.k; here = ap (λ (i : NodeId). kept_at f.nodes i) same ∙ h.here; path_is = h.path_is }
 
 added_item : (f : Folder) (path : Path) (id : NodeId) (kind : Kind) (source : Option CopySource) (item : ChangeItem) → IsAddOf item id kind path source → IsFileAt f path id → AddsItem (with_item f item) kind path source
@@ -77,12 +85,12 @@ added_item f path id kind source item is file = record {
   file = file_of f path id item is.id_is file;
 }
 
-kind_is : (o : Option Node) (kind : Kind) → HasKind o kind → kind_of_node o ≡ kind
+pub kind_is : (o : Option Node) (kind : Kind) → HasKind o kind → kind_of_node o ≡ kind
 kind_is None kind h = absurd h
 kind_is (Some n) kind h = h
 
 module _ (look : RevisionBytes) (trees : ℕ → TreeFunction) (top base : ℕ) (txn : TxnName) (f : Folder) (tree : TreeFunction) (marks : List Mark) (d : IsDraftAfter look trees top base txn f tree marks) (p : Path) (name : PathName)
-    (mid : Folder) (dir : NodeId) (o : IsOpenedAt look trees top base txn marks tree d.0.shows.own p mid dir) where
+    (mid : Folder) (dir : NodeId) (o : IsOpenedAt look trees top base txn marks tree d.0.shows.own p Dir mid dir) where
   edited : IsEdited look trees top base txn marks d.0.shows.own
   edited = record { folder = f; draft = d.0.shows.is_draft; made = d.1; says = d.0.says }
 

@@ -15,12 +15,13 @@ use Rattle.fsfs_shows.specs.Reading.{StandsAt}
 use Rattle.fsfs_shows.specs.ByTree.{LacksAt, IsBlockedAt}
 use Rattle.fsfs_drafts.specs.Drafts.{Folder, ShowTrees}
 use Rattle.fsfs_drafts.specs.Edits.{IsDraftAfter}
-use Rattle.fsfs_edit.specs.Errors.{IsFailure, IfStays}
+use Rattle.fsfs_own.specs.Errors.{IsFailure, IfStays}
 use Rattle.fsfs_edit.specs.Items.{AddsItem}
-use Rattle.fsfs_edit.specs.Walks.{HasKind}
+use Rattle.fsfs_own.specs.Names.{IsFull, HasSpace}
+use Rattle.fsfs_own.specs.Walks.{HasKind}
 use Rattle.fsfs_edit.specs.Ways.{IsNoDirectory, HasRoom}
 use Rattle.fsfs_edit.specs.Meeting.{IsDone}
-use Rattle.fsfs_edit.specs.declared.error.EditError.{EditError}
+use Rattle.fsfs_own.specs.declared.error.EditError.{EditError}
 use Rattle.fsfs_edit.specs.declared.copy.Copied.{Copied}
 use Rattle.fsfs_edit.specs.declared.copy.Copied.TheVariants as copies
 use Rattle.fsfs_edit.specs.declared.copy.Source.{Source}
@@ -44,15 +45,17 @@ FindsSource told youngest from result = (look : RevisionBytes) (trees : ℕ → 
 abbrev pub IsCopiedTo : RevisionBytes → (ℕ → TreeFunction) → ℕ → ℕ → TxnName → TreeFunction → List Mark → Path → CopySource → Folder → Type 0
 IsCopiedTo look trees top base txn tree marks path from after = IsDone look trees top base txn tree marks (Copy from.rev from.path path) after × AddsItem after (kind_of_node (trees from.rev from.path)) path (Some from)
 
--- each refusal has its cause in the trees, in this order: the way to the directory, what stands there, the revision, and the source
+-- each refusal has its cause in the trees, in this order: the way to the directory, what stands there, the revision, the
+-- source, and the number of entries
 abbrev pub IsCopying : RevisionBytes → (ℕ → TreeFunction) → ℕ → ℕ → TxnName → TreeFunction → List Mark → Path → PathName → CopySource → Folder → Folder → Result Copied EditError → Type 0
-IsCopying look trees top base txn tree marks p name from before after (Ok copies.Done) = IsCopiedTo look trees top base txn tree marks (p ++ name ∷ []) from after
+IsCopying look trees top base txn tree marks p name from before after (Ok copies.Done) = HasSpace tree p × IsCopiedTo look trees top base txn tree marks (p ++ name ∷ []) from after
 IsCopying look trees top base txn tree marks p name from before after (Ok (copies.NotFound depth)) = LacksAt tree p depth × (after ≡ before)
 IsCopying look trees top base txn tree marks p name from before after (Ok (copies.NotDir depth)) = IsNoDirectory tree p depth × (after ≡ before)
 IsCopying look trees top base txn tree marks p name from before after (Ok copies.Exists) = HasKind (tree p) Dir × (is_some (tree (p ++ name ∷ [])) ≡ true) × (after ≡ before)
 IsCopying look trees top base txn tree marks p name from before after (Ok (copies.NoRev youngest)) = HasRoom tree p name × (youngest ≡ top) × (top < from.rev) × (after ≡ before)
 IsCopying look trees top base txn tree marks p name from before after (Ok (copies.SourceNotFound depth)) = HasRoom tree p name × (from.rev ≤ top) × LacksAt (trees from.rev) from.path depth × (after ≡ before)
 IsCopying look trees top base txn tree marks p name from before after (Ok (copies.SourceNotDir depth)) = HasRoom tree p name × (from.rev ≤ top) × IsBlockedAt (trees from.rev) from.path depth × (after ≡ before)
+IsCopying look trees top base txn tree marks p name from before after (Ok copies.TooManyEntries) = HasRoom tree p name × (from.rev ≤ top) × (is_some (trees from.rev from.path) ≡ true) × IsFull tree p × (after ≡ before)
 IsCopying look trees top base txn tree marks p name from before after (Err e) = IfStays e (after ≡ before)
 
 -- over any draft and a book that has no younger revision it is the flat model's edit, or its refusal
@@ -66,11 +69,7 @@ CopiesFree told youngest txn folder before after p name from result = (look : Re
     → IsDraftAfter look trees top base txn folder tree marks → HasRoom tree p name → IsCopying look trees top base txn tree marks p name from before after result
 
 -- and the source stands there
-abbrev pub LeavesCopied : RevisionBytes → (ℕ → TreeFunction) → ℕ → ℕ → TxnName → TreeFunction → List Mark → Path → CopySource → Folder → Folder → Result (Unit {0}) EditError → Type 0
-LeavesCopied look trees top base txn tree marks path from before after (Ok u) = IsCopiedTo look trees top base txn tree marks path from after
-LeavesCopied look trees top base txn tree marks path from before after (Err e) = IfStays e (after ≡ before)
-
-abbrev pub CopiesIn : Told → TxnName → Folder → Folder → Folder → Path → PathName → NodeRev → CopySource → Result (Unit {0}) EditError → Type 0
+abbrev pub CopiesIn : Told → TxnName → Folder → Folder → Folder → Path → PathName → NodeRev → CopySource → Result Copied EditError → Type 0
 CopiesIn told txn folder before after p name source from result = (look : RevisionBytes) (trees : ℕ → TreeFunction) (top base : ℕ) (tree : TreeFunction) (marks : List Mark) → Knows told top look → ShowTrees look top trees → base ≤ top → IsTree tree
     → IsDraftAfter look trees top base txn folder tree marks → HasRoom tree p name → from.rev ≤ top → StandsAt look from.rev from.path source → HasKind (trees from.rev from.path) source.kind
-    → LeavesCopied look trees top base txn tree marks (p ++ name ∷ []) from before after result
+    → IsCopying look trees top base txn tree marks p name from before after result

@@ -17,17 +17,17 @@ use Rattle.fsfs_drafts.specs.Own.{OwnNode, Own}
 use Rattle.fsfs_drafts.specs.Drafts.{Kept, Folder, ShowTrees}
 use Rattle.fsfs_drafts.specs.Steps.{Files, kept_at}
 use Rattle.fsfs_drafts.specs.Edits.{IsDraftAfter}
-use Rattle.fsfs_edit.specs.Errors.{IfStays}
+use Rattle.fsfs_own.specs.Errors.{IfStays}
 use Rattle.fsfs_edit.specs.Items.{IsDeleteOf}
-use Rattle.fsfs_edit.specs.Walks.{IsAt, IsLastingAt, HasKind}
+use Rattle.fsfs_own.specs.Walks.{IsAt, IsLastingAt, HasKind}
 use Rattle.fsfs_edit.specs.Ways.{IsNoDirectory}
 use Rattle.fsfs_edit.specs.Meeting.{IsDone}
-use Rattle.fsfs_edit.specs.declared.error.EditError.{EditError}
+use Rattle.fsfs_own.specs.declared.error.EditError.{EditError}
 use Rattle.fsfs_edit.specs.declared.delete.Gone.{Gone}
 use Rattle.fsfs_edit.specs.declared.delete.Gone.TheVariants as gones
-use Rattle.fsfs_edit.specs.declared.walk.Child.{Child}
-use Rattle.fsfs_edit.specs.declared.walk.Step.{Step}
-use Rattle.fsfs_edit.specs.declared.walk.Step.TheVariants as steps
+use Rattle.fsfs_own.specs.declared.walk.Child.{Child}
+use Rattle.fsfs_own.specs.declared.walk.Step.{Step}
+use Rattle.fsfs_own.specs.declared.walk.Step.TheVariants as steps
 
 -- the predecessor's id, or the node-revision's own
 abbrev pub before_or : NodeId → Option NodeId → NodeId

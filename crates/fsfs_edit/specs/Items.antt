@@ -1,17 +1,13 @@
 -- The items of the `changes` file that edits leave.
-use Rattle.std.specs.Prelude.{◌≡◌, ◌++◌, false, List, [], ◌∷◌, Option, Some, None}
+use Rattle.std.specs.Prelude.{◌≡◌, ◌++◌, Bool, false, List, [], ◌∷◌, Option, Some, None}
 use Rattle.fsfs_base.specs.Paths.{Path}
 use Rattle.fsfs_base.specs.declared.kind.Kind.{Kind}
 use Rattle.fsfs_base.specs.declared.action.Action.TheVariants as actions
 use Rattle.fsfs_noderev.specs.declared.node_id.NodeId.{NodeId}
 use Rattle.fsfs_noderev.specs.declared.node_rev.CopySource.{CopySource}
 use Rattle.fsfs_changes.specs.declared.item.ChangeItem.{ChangeItem}
-use Rattle.fsfs_drafts.specs.Drafts.{Kept, Folder}
-use Rattle.fsfs_drafts.specs.Steps.{kept_at}
-
--- the folder with an item more
-abbrev pub with_item : Folder → ChangeItem → Folder
-with_item f item = record f { items = f.items ++ item ∷ [] }
+use Rattle.fsfs_drafts.specs.Drafts.{Folder}
+use Rattle.fsfs_own.specs.Items.{IsFileAt}
 
 -- the item of a node that was put at the path
 pub record IsAddOf (item : ChangeItem) (id : NodeId) (kind : Kind) (path : Path) (source : Option CopySource) : Type 0 where
@@ -33,16 +29,28 @@ pub record IsDeleteOf (item : ChangeItem) (id : NodeId) (kind : Kind) (path : Pa
   pub path_is : item.path ≡ path
   pub source_is : item.source ≡ None
 
--- the id is that of a file of the folder, of a node-revision made at the path
-pub record IsFileAt (f : Folder) (path : Path) (id : NodeId) : Type 0 where
-  pub k : Kept
-  pub here : kept_at f.nodes id ≡ Some k
-  pub path_is : k.node.created_path ≡ path
-
 -- the last item says that a node was put at the path, and names its file
 pub record AddsItem (f : Folder) (kind : Kind) (path : Path) (source : Option CopySource) : Type 0 where
   pub front : List ChangeItem
   pub item : ChangeItem
   pub items : f.items ≡ front ++ item ∷ []
   pub is : IsAddOf item item.id kind path source
+  pub file : IsFileAt f path item.id
+
+-- the item of a node whose text or properties were set
+pub record IsModifyOf (item : ChangeItem) (id : NodeId) (kind : Kind) (path : Path) (text props : Bool) : Type 0 where
+  pub id_is : item.id ≡ id
+  pub action : item.action ≡ actions.Modify
+  pub kind_is : item.kind ≡ Some kind
+  pub text_is : item.text_changed ≡ text
+  pub props_is : item.props_changed ≡ props
+  pub path_is : item.path ≡ path
+  pub source_is : item.source ≡ None
+
+-- the last item says that the node at the path was changed, and names its file
+pub record ModifiesItem (f : Folder) (kind : Kind) (path : Path) (text props : Bool) : Type 0 where
+  pub front : List ChangeItem
+  pub item : ChangeItem
+  pub items : f.items ≡ front ++ item ∷ []
+  pub is : IsModifyOf item item.id kind path text props
   pub file : IsFileAt f path item.id

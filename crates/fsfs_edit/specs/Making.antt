@@ -13,12 +13,13 @@ use Rattle.fsfs_book.specs.Told.{Told, RevisionBytes, Knows}
 use Rattle.fsfs_shows.specs.ByTree.{LacksAt}
 use Rattle.fsfs_drafts.specs.Drafts.{Folder, ShowTrees}
 use Rattle.fsfs_drafts.specs.Edits.{IsDraftAfter}
-use Rattle.fsfs_edit.specs.Errors.{IfStays}
+use Rattle.fsfs_own.specs.Errors.{IfStays}
 use Rattle.fsfs_edit.specs.Items.{AddsItem}
-use Rattle.fsfs_edit.specs.Walks.{HasKind}
+use Rattle.fsfs_own.specs.Names.{IsFull, HasSpace}
+use Rattle.fsfs_own.specs.Walks.{HasKind}
 use Rattle.fsfs_edit.specs.Ways.{IsNoDirectory, HasRoom}
 use Rattle.fsfs_edit.specs.Meeting.{IsDone}
-use Rattle.fsfs_edit.specs.declared.error.EditError.{EditError}
+use Rattle.fsfs_own.specs.declared.error.EditError.{EditError}
 use Rattle.fsfs_edit.specs.declared.make.Made.{Made}
 use Rattle.fsfs_edit.specs.declared.make.Made.TheVariants as mades
 
@@ -29,12 +30,13 @@ make_of Dir path = MakeDir path
 abbrev pub IsMadeIn : RevisionBytes → (ℕ → TreeFunction) → ℕ → ℕ → TxnName → TreeFunction → List Mark → Path → Kind → Folder → Type 0
 IsMadeIn look trees top base txn tree marks path kind after = IsDone look trees top base txn tree marks (make_of kind path) after × AddsItem after kind path None
 
--- each refusal has its cause in the tree, in this order: the way to the directory, and then what stands there
+-- each refusal has its cause in the tree, in this order: the way to the directory, what stands there, and the number of entries
 abbrev pub IsMaking : RevisionBytes → (ℕ → TreeFunction) → ℕ → ℕ → TxnName → TreeFunction → List Mark → Path → PathName → Kind → Folder → Folder → Result Made EditError → Type 0
-IsMaking look trees top base txn tree marks p name kind before after (Ok mades.Done) = IsMadeIn look trees top base txn tree marks (p ++ name ∷ []) kind after
+IsMaking look trees top base txn tree marks p name kind before after (Ok mades.Done) = HasSpace tree p × IsMadeIn look trees top base txn tree marks (p ++ name ∷ []) kind after
 IsMaking look trees top base txn tree marks p name kind before after (Ok (mades.NotFound depth)) = LacksAt tree p depth × (after ≡ before)
 IsMaking look trees top base txn tree marks p name kind before after (Ok (mades.NotDir depth)) = IsNoDirectory tree p depth × (after ≡ before)
 IsMaking look trees top base txn tree marks p name kind before after (Ok mades.Exists) = HasKind (tree p) Dir × (is_some (tree (p ++ name ∷ [])) ≡ true) × (after ≡ before)
+IsMaking look trees top base txn tree marks p name kind before after (Ok mades.TooManyEntries) = HasRoom tree p name × IsFull tree p × (after ≡ before)
 IsMaking look trees top base txn tree marks p name kind before after (Err e) = IfStays e (after ≡ before)
 
 -- over any draft it is the flat model's edit, or its refusal
@@ -43,10 +45,6 @@ MeetsMake told txn before after p name kind result = (look : RevisionBytes) (tre
     → IsDraftAfter look trees top base txn before tree marks → IsMaking look trees top base txn tree marks p name kind before after result
 
 -- where the directory has nothing of the name
-abbrev pub LeavesMade : RevisionBytes → (ℕ → TreeFunction) → ℕ → ℕ → TxnName → TreeFunction → List Mark → Path → Kind → Folder → Folder → Result (Unit {0}) EditError → Type 0
-LeavesMade look trees top base txn tree marks path kind before after (Ok u) = IsMadeIn look trees top base txn tree marks path kind after
-LeavesMade look trees top base txn tree marks path kind before after (Err e) = IfStays e (after ≡ before)
-
-abbrev pub MakesIn : Told → TxnName → Folder → Folder → Folder → Path → PathName → Kind → Result (Unit {0}) EditError → Type 0
+abbrev pub MakesIn : Told → TxnName → Folder → Folder → Folder → Path → PathName → Kind → Result Made EditError → Type 0
 MakesIn told txn folder before after p name kind result = (look : RevisionBytes) (trees : ℕ → TreeFunction) (top base : ℕ) (tree : TreeFunction) (marks : List Mark) → Knows told top look → ShowTrees look top trees → base ≤ top → IsTree tree
-    → IsDraftAfter look trees top base txn folder tree marks → HasRoom tree p name → LeavesMade look trees top base txn tree marks (p ++ name ∷ []) kind before after result
+    → IsDraftAfter look trees top base txn folder tree marks → HasRoom tree p name → IsMaking look trees top base txn tree marks p name kind before after result

@@ -1,6 +1,7 @@
 -- The way to the directory in which an edit is asked for.
 use Rattle.std.specs.Prelude.{◌≡◌, ◌≤◌, ◌⊎◌, ◌++◌, ℕ, List, [], ◌∷◌, length, Some, None, Result, Ok, Err}
 use Rattle.fsfs_base.specs.Paths.{PathName, Path}
+use Rattle.fsfs_base.specs.declared.kind.Kind.{Kind}
 use Rattle.fsfs_base.specs.declared.kind.Kind.TheVariants.{File, Dir}
 use Rattle.fsfs_tree.specs.Nodes.{TreeFunction}
 use Rattle.fsfs_tree.specs.Trees.{IsTree}
@@ -14,9 +15,11 @@ use Rattle.fsfs_shows.specs.ByTree.{LacksAt, IsBlockedAt}
 use Rattle.fsfs_drafts.specs.Own.{OwnNode, Own}
 use Rattle.fsfs_drafts.specs.Drafts.{Folder, ShowTrees}
 use Rattle.fsfs_drafts.specs.Edits.{IsOpenedTo, IsDraftAfter}
-use Rattle.fsfs_edit.specs.Errors.{IsFailure}
-use Rattle.fsfs_edit.specs.Walks.{IsAt, HasKind}
-use Rattle.fsfs_edit.specs.declared.error.EditError.{EditError}
+use Rattle.fsfs_own.specs.Errors.{IsFailure}
+use Rattle.fsfs_own.specs.Walks.{IsAt, HasKind}
+use Rattle.fsfs_own.specs.declared.error.EditError.{EditError}
+use Rattle.fsfs_own.specs.declared.walk.Found.{Found}
+use Rattle.fsfs_own.specs.declared.walk.Found.TheVariants as founds
 use Rattle.fsfs_edit.specs.declared.way.Target.{Target}
 use Rattle.fsfs_edit.specs.declared.way.Target.TheVariants as targets
 
@@ -47,20 +50,31 @@ abbrev pub LooksAt : Told → TxnName → Folder → Path → PathName → Resul
 LooksAt told txn f p name result = (look : RevisionBytes) (trees : ℕ → TreeFunction) (top base : ℕ) (tree : TreeFunction) (marks : List Mark) → Knows told top look → ShowTrees look top trees → base ≤ top → IsTree tree
     → (d : IsDraftAfter look trees top base txn f tree marks) → IsTarget look trees base d.0.shows.own tree p name result
 
--- the directory of this id stands at the path, and is the transaction's own, as all above it
-pub record IsOpenedAt (look : RevisionBytes) (trees : ℕ → TreeFunction) (top base : ℕ) (txn : TxnName) (marks : List Mark) (tree : TreeFunction) (first : Own) (p : Path) (after : Folder) (id : NodeId) : Type 0 where
+-- what stands at a path, or the first names that lead to nothing, or to a file
+abbrev pub IsFoundIn : TreeFunction → Path → Result Found EditError → Type 0
+IsFoundIn tree p (Ok (founds.Node c)) = HasKind (tree p) c.kind
+IsFoundIn tree p (Ok (founds.Absent depth)) = LacksAt tree p depth
+IsFoundIn tree p (Ok (founds.File depth)) = IsBlockedAt tree p depth
+IsFoundIn tree p (Err e) = IsFailure e
+
+abbrev pub Finds : Told → TxnName → Folder → Path → Result Found EditError → Type 0
+Finds told txn f p result = (look : RevisionBytes) (trees : ℕ → TreeFunction) (top base : ℕ) (tree : TreeFunction) (marks : List Mark) → Knows told top look → ShowTrees look top trees → base ≤ top → IsTree tree
+    → IsDraftAfter look trees top base txn f tree marks → IsFoundIn tree p result
+
+-- the node-revision of this id and kind stands at the path, and is the transaction's own, as all above it
+pub record IsOpenedAt (look : RevisionBytes) (trees : ℕ → TreeFunction) (top base : ℕ) (txn : TxnName) (marks : List Mark) (tree : TreeFunction) (first : Own) (p : Path) (kind : Kind) (after : Folder) (id : NodeId) : Type 0 where
   pub now : Own
   pub opened : IsOpenedTo look trees top base txn marks tree first p after now
   pub v : OwnNode
   pub here : now p ≡ Some v
   pub id_is : v.node.id ≡ id
-  pub kind : v.node.kind ≡ Dir
+  pub kind_is : v.node.kind ≡ kind
 
-abbrev pub LeavesOpened : RevisionBytes → (ℕ → TreeFunction) → ℕ → ℕ → TxnName → List Mark → TreeFunction → Own → Path → Folder → Result NodeId EditError → Type 0
-LeavesOpened look trees top base txn marks tree first p after (Ok id) = IsOpenedAt look trees top base txn marks tree first p after id
-LeavesOpened look trees top base txn marks tree first p after (Err e) = IsFailure e
+abbrev pub LeavesOpened : RevisionBytes → (ℕ → TreeFunction) → ℕ → ℕ → TxnName → List Mark → TreeFunction → Own → Path → Kind → Folder → Result NodeId EditError → Type 0
+LeavesOpened look trees top base txn marks tree first p kind after (Ok id) = IsOpenedAt look trees top base txn marks tree first p kind after id
+LeavesOpened look trees top base txn marks tree first p kind after (Err e) = IsFailure e
 
--- so it is, where the draft's tree has a directory at the path
+-- so it is, where the draft's tree has something at the path
 abbrev pub Opens : Told → TxnName → Folder → Folder → Path → Result NodeId EditError → Type 0
-Opens told txn before after p result = (look : RevisionBytes) (trees : ℕ → TreeFunction) (top base : ℕ) (tree : TreeFunction) (marks : List Mark) → Knows told top look → ShowTrees look top trees → base ≤ top → IsTree tree
-    → (d : IsDraftAfter look trees top base txn before tree marks) → HasKind (tree p) Dir → LeavesOpened look trees top base txn marks tree d.0.shows.own p after result
+Opens told txn before after p result = (look : RevisionBytes) (trees : ℕ → TreeFunction) (top base : ℕ) (tree : TreeFunction) (marks : List Mark) (kind : Kind) → Knows told top look → ShowTrees look top trees → base ≤ top → IsTree tree
+    → (d : IsDraftAfter look trees top base txn before tree marks) → HasKind (tree p) kind → LeavesOpened look trees top base txn marks tree d.0.shows.own p kind after result

@@ -2,16 +2,15 @@
 ghost use Rattle.std.specs.Prelude.{◌≡◌};
 ghost use Rattle.fsfs_book.specs.Told.{Keeps};
 ghost use Rattle.fsfs_edit.specs.Deleting.{IsDeletedId, DeletesIn, MeetsDelete};
+ghost use Rattle.fsfs_own.specs.Causes.{HasDiskCause, HasBenchCause};
 
-use crate::error::EditError;
 use crate::items::deleted;
-use crate::own::Own;
-use crate::taken::take_away;
-use crate::walk::{Child, Step};
 use crate::way::{Target, opened_to, way_to};
 use fsfs_base::FsPath;
 use fsfs_book::Book;
 use fsfs_noderev::NodeId;
+use fsfs_own::{Child, EditError, Own, Step};
+use fsfs_steps::take_away;
 use std::alloc::Global;
 
 /// What became of a delete: it was done, or why it can't be.
@@ -50,7 +49,9 @@ fn delete_in<B: Book, N: Own>(
 ) -> Result<(), EditError>
     ensures deletes { DeletesIn (B.told book.old).revs (N.txn own.old) (N.folder own.old) (N.settled own.old) (N.settled own.new) parent.now name.now child.now result }
     ensures name { N.txn own.new ≡ N.txn own.old }
+    ensures bench { HasBenchCause (N.faults own.old) (N.faults own.new) result }
     ensures kept { Keeps (B.told book.old) (B.told book.new) }
+    ensures cause { HasDiskCause (B.faults book.old) (B.faults book.new) result }
 {
     let id = deleted_id(own, &child.step);
     let dir = opened_to(alloc, book, own, parent)?;
@@ -70,7 +71,9 @@ fn delete_steps<B: Book, N: Own>(
     requires whole { N.folder own.old ≡ N.settled own.old }
     ensures meets { MeetsDelete (B.told book.old).revs (N.txn own.old) (N.settled own.old) (N.settled own.new) parent.now name.now result }
     ensures name { N.txn own.new ≡ N.txn own.old }
+    ensures bench { HasBenchCause (N.faults own.old) (N.faults own.new) result }
     ensures kept { Keeps (B.told book.old) (B.told book.new) }
+    ensures cause { HasDiskCause (B.faults book.old) (B.faults book.new) result }
 {
     match way_to(alloc, book, own, parent, name)? {
         Target::NotFound(depth) => Ok(Gone::NotFound(depth)),
@@ -97,7 +100,9 @@ pub fn delete_at<B: Book, N: Own>(
     ensures meets { MeetsDelete (B.told book.old).revs (N.txn own.old) (N.settled own.old) (N.settled own.new) parent.now name.now result }
     ensures whole { N.folder own.new ≡ N.settled own.new }
     ensures name { N.txn own.new ≡ N.txn own.old }
+    ensures bench { HasBenchCause (N.faults own.old) (N.faults own.new) result }
     ensures kept { Keeps (B.told book.old) (B.told book.new) }
+    ensures cause { HasDiskCause (B.faults book.old) (B.faults book.new) result }
 {
     let gone = delete_steps(alloc, book, own, parent, name);
     own.forget();

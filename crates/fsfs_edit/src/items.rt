@@ -1,6 +1,6 @@
 //! The items of the `changes` file that edits leave.
 ghost use Rattle.std.specs.Prelude.{IfOk, ◌++◌, ◌∷◌, []};
-ghost use Rattle.fsfs_edit.specs.Items.{IsAddOf, IsDeleteOf};
+ghost use Rattle.fsfs_edit.specs.Items.{IsAddOf, IsDeleteOf, IsModifyOf};
 
 use fsfs_base::{Action, FsPath, Kind};
 use fsfs_changes::ChangeItem;
@@ -47,6 +47,28 @@ pub(crate) fn deleted(
         kind: Some(kind),
         text_changed: false,
         props_changed: false,
+        path,
+        source: None,
+    })
+}
+
+/// The item of a node whose text or properties were set.
+pub(crate) fn modified(
+    id: NodeId,
+    kind: Kind,
+    path: &FsPath,
+    text_changed: bool,
+    props_changed: bool,
+) -> Result<ChangeItem, AllocError>
+    ensures { IfOk result (λ item. IsModifyOf item id kind path.now text_changed props_changed) }
+{
+    let path = path.clone()?;
+    Ok(ChangeItem {
+        id,
+        action: Action::Modify,
+        kind: Some(kind),
+        text_changed,
+        props_changed,
         path,
         source: None,
     })

@@ -2,14 +2,14 @@
 ghost use Rattle.std.specs.Prelude.{◌≡◌};
 ghost use Rattle.fsfs_book.specs.Told.{Keeps};
 ghost use Rattle.fsfs_edit.specs.Making.{MakesIn, MeetsMake};
+ghost use Rattle.fsfs_own.specs.Causes.{HasDiskCause, HasBenchCause};
 
-use crate::error::EditError;
 use crate::items::added;
-use crate::made::make_node;
-use crate::own::Own;
 use crate::way::{Target, opened_to, way_to};
 use fsfs_base::{FsPath, Kind};
 use fsfs_book::Book;
+use fsfs_own::{EditError, Own, room_in};
+use fsfs_steps::make_node;
 use std::alloc::Global;
 
 /// What became of a new node: it was made, or why it can't be.
@@ -22,6 +22,8 @@ pub enum Made {
     NotDir(usize),
     /// Something stands there.
     Exists,
+    /// The directory has 1,048,576 entries, or more.
+    TooManyEntries,
 }
 
 // Makes the node where the directory has nothing of the name.
@@ -32,16 +34,22 @@ fn make_in<B: Book, N: Own>(
     parent: &FsPath,
     name: &str,
     kind: Kind,
-) -> Result<(), EditError>
+) -> Result<Made, EditError>
     ensures makes { MakesIn (B.told book.old).revs (N.txn own.old) (N.folder own.old) (N.settled own.old) (N.settled own.new) parent.now name.now kind result }
     ensures name { N.txn own.new ≡ N.txn own.old }
+    ensures bench { HasBenchCause (N.faults own.old) (N.faults own.new) result }
     ensures kept { Keeps (B.told book.old) (B.told book.new) }
+    ensures cause { HasDiskCause (B.faults book.old) (B.faults book.new) result }
 {
     let dir = opened_to(alloc, book, own, parent)?;
+    let room = room_in(alloc, book, own, &dir)?;
+    if !room {
+        return Ok(Made::TooManyEntries);
+    }
     let id = make_node(alloc, book, own, &dir, name, kind)?;
     let item = added(alloc, id, kind, parent, name, None)?;
     own.settle(item)?;
-    Ok(())
+    Ok(Made::Done)
 }
 
 fn make_steps<B: Book, N: Own>(
@@ -55,21 +63,20 @@ fn make_steps<B: Book, N: Own>(
     requires whole { N.folder own.old ≡ N.settled own.old }
     ensures meets { MeetsMake (B.told book.old).revs (N.txn own.old) (N.settled own.old) (N.settled own.new) parent.now name.now kind result }
     ensures name { N.txn own.new ≡ N.txn own.old }
+    ensures bench { HasBenchCause (N.faults own.old) (N.faults own.new) result }
     ensures kept { Keeps (B.told book.old) (B.told book.new) }
+    ensures cause { HasDiskCause (B.faults book.old) (B.faults book.new) result }
 {
     match way_to(alloc, book, own, parent, name)? {
         Target::NotFound(depth) => Ok(Made::NotFound(depth)),
         Target::NotDir(depth) => Ok(Made::NotDir(depth)),
         Target::Taken(_child) => Ok(Made::Exists),
-        Target::Free => {
-            make_in(alloc, book, own, parent, name, kind)?;
-            Ok(Made::Done)
-        }
+        Target::Free => make_in(alloc, book, own, parent, name, kind),
     }
 }
 
-/// Makes an empty node under a name of the directory at a path. It is refused where the path leads to no directory, or where
-/// something stands there, in this order. A refusal leaves the transaction as it was, and so does every failure but the bench's.
+/// Makes an empty node under a name of the directory at a path. It is refused where the path leads to no directory, where
+/// something stands there, or where the directory is full, in this order. A refusal leaves the transaction as it was, and so does every failure but the bench's.
 pub fn make_at<B: Book, N: Own>(
     alloc: Global,
     book: &mut B,
@@ -82,7 +89,9 @@ pub fn make_at<B: Book, N: Own>(
     ensures meets { MeetsMake (B.told book.old).revs (N.txn own.old) (N.settled own.old) (N.settled own.new) parent.now name.now kind result }
     ensures whole { N.folder own.new ≡ N.settled own.new }
     ensures name { N.txn own.new ≡ N.txn own.old }
+    ensures bench { HasBenchCause (N.faults own.old) (N.faults own.new) result }
     ensures kept { Keeps (B.told book.old) (B.told book.new) }
+    ensures cause { HasDiskCause (B.faults book.old) (B.faults book.new) result }
 {
     let made = make_steps(alloc, book, own, parent, name, kind);
     own.forget();

@@ -1,22 +1,20 @@
 //! The way to the directory in which an edit is asked for.
-ghost use Rattle.std.specs.Prelude.{◌≡◌, ◌≤◌, ◌++◌, ◌∷◌, [], ℕ, Some};
+ghost use Rattle.std.specs.Prelude.{◌≡◌, ◌≤◌, ◌++◌, ◌∷◌, [], ℕ, Some, OnOk};
 ghost use Rattle.fsfs_tree.specs.Nodes.{TreeFunction};
 ghost use Rattle.fsfs_base.specs.Paths.{Path};
 ghost use Rattle.fsfs_base.specs.declared.kind.Kind.TheVariants.{Dir};
 ghost use Rattle.fsfs_book.specs.Told.{RevisionBytes, Knows, Keeps};
 ghost use Rattle.fsfs_drafts.specs.Own.{Own as Owns, OwnNode, draft_tree};
 ghost use Rattle.fsfs_drafts.specs.Drafts.{IsDraft, ShowTrees};
-ghost use Rattle.fsfs_edit.specs.Walks.{IsAt, HasKind};
-ghost use Rattle.fsfs_edit.specs.Ways.{IsTarget, LooksAt, Opens};
+ghost use Rattle.fsfs_own.specs.Walks.{IsAt, HasKind};
+ghost use Rattle.fsfs_edit.specs.Ways.{IsRootId, IsTarget, LooksAt, Finds, Opens};
+ghost use Rattle.fsfs_own.specs.Causes.{HasDiskCause, HasBenchCause};
 
-use crate::bubble::bubble_up;
-use crate::error::EditError;
-use crate::ids::root_id;
-use crate::own::Own;
-use crate::walk::{Child, Found, Step, met, next};
-use fsfs_base::{FsPath, Kind};
+use fsfs_base::{B36, FsPath, Kind, TxnName};
 use fsfs_book::Book;
-use fsfs_noderev::NodeId;
+use fsfs_noderev::{NodeId, Part, Place};
+use fsfs_own::{Child, EditError, Found, Own, Step, met, next};
+use fsfs_steps::bubble_up;
 use std::alloc::Global;
 
 /// What stands where an edit is asked for.
@@ -31,6 +29,17 @@ pub(crate) enum Target {
     Taken(Child),
 }
 
+// The id of a transaction's root.
+fn root_id(txn: TxnName) -> NodeId
+    ensures { IsRootId txn result }
+{
+    NodeId {
+        node: Part::Old(B36 { number: 0 }),
+        copy: Part::Old(B36 { number: 0 }),
+        place: Place::In(txn),
+    }
+}
+
 // What stands under a name of a directory that a walk came to.
 fn beneath<B: Book, N: Own>(
     alloc: Global,
@@ -41,6 +50,8 @@ fn beneath<B: Book, N: Own>(
 ) -> Result<Target, EditError>
     ensures draft { (look : RevisionBytes) (trees : ℕ → TreeFunction) (top base : ℕ) (nodes : Owns) (path : Path) → Knows (B.told book.old).revs top look → ShowTrees look top trees → base ≤ top → IsDraft look top base (N.txn own.now) (N.folder own.now) nodes → IsAt look trees base nodes path dir.now → HasKind (draft_tree trees nodes (trees base) path) Dir → IsTarget look trees base nodes (draft_tree trees nodes (trees base)) path name.now result }
     ensures kept { Keeps (B.told book.old) (B.told book.new) }
+    ensures cause { HasDiskCause (B.faults book.old) (B.faults book.new) result }
+    ensures bench { HasBenchCause (N.faults own.now) (N.faults own.now) result }
 {
     match next(alloc, book, own, dir, name)? {
         None => Ok(Target::Free),
@@ -59,6 +70,8 @@ fn target_at<B: Book, N: Own>(
 ) -> Result<Target, EditError>
     ensures draft { (look : RevisionBytes) (trees : ℕ → TreeFunction) (top base : ℕ) (nodes : Owns) (v : OwnNode) → Knows (B.told book.old).revs top look → ShowTrees look top trees → base ≤ top → IsDraft look top base (N.txn own.now) (N.folder own.now) nodes → nodes [] ≡ Some v → v.node.id ≡ root.now → v.node.kind ≡ Dir → IsTarget look trees base nodes (draft_tree trees nodes (trees base)) parent.now name.now result }
     ensures kept { Keeps (B.told book.old) (B.told book.new) }
+    ensures cause { HasDiskCause (B.faults book.old) (B.faults book.new) result }
+    ensures bench { HasBenchCause (N.faults own.now) (N.faults own.now) result }
 {
     match met(alloc, book, own, root, parent)? {
         Found::Absent(depth) => Ok(Target::NotFound(depth)),
@@ -80,23 +93,44 @@ pub(crate) fn way_to<B: Book, N: Own>(
 ) -> Result<Target, EditError>
     ensures looks { LooksAt (B.told book.old).revs (N.txn own.now) (N.folder own.now) parent.now name.now result }
     ensures kept { Keeps (B.told book.old) (B.told book.new) }
+    ensures cause { HasDiskCause (B.faults book.old) (B.faults book.new) result }
+    ensures bench { HasBenchCause (N.faults own.now) (N.faults own.now) result }
 {
     let root = root_id(own.name());
     target_at(alloc, book, own, &root, parent, name)
 }
 
-/// Makes all that stands on the way from the root to a directory the transaction's own, and answers the directory's id.
+/// What stands at a path.
+pub(crate) fn found_at<B: Book, N: Own>(
+    alloc: Global,
+    book: &mut B,
+    own: &N,
+    path: &FsPath,
+) -> Result<Found, EditError>
+    ensures finds { Finds (B.told book.old).revs (N.txn own.now) (N.folder own.now) path.now result }
+    ensures kept { Keeps (B.told book.old) (B.told book.new) }
+    ensures cause { HasDiskCause (B.faults book.old) (B.faults book.new) result }
+    ensures bench { HasBenchCause (N.faults own.now) (N.faults own.now) result }
+{
+    let root = root_id(own.name());
+    met(alloc, book, own, &root, path)
+}
+
+/// Makes all that stands on the way from the root to a path, and what stands there, the transaction's own, and answers its id.
 pub(crate) fn opened_to<B: Book, N: Own>(
     alloc: Global,
     book: &mut B,
     own: &mut N,
-    parent: &FsPath,
+    path: &FsPath,
 ) -> Result<NodeId, EditError>
-    ensures opens { Opens (B.told book.old).revs (N.txn own.old) (N.folder own.old) (N.folder own.new) parent.now result }
+    ensures opens { Opens (B.told book.old).revs (N.txn own.old) (N.folder own.old) (N.folder own.new) path.now result }
+    ensures proto { OnOk result ((N.folder own.new).proto ≡ (N.folder own.old).proto) }
     ensures settled { N.settled own.new ≡ N.settled own.old }
     ensures name { N.txn own.new ≡ N.txn own.old }
+    ensures bench { HasBenchCause (N.faults own.old) (N.faults own.new) result }
     ensures kept { Keeps (B.told book.old) (B.told book.new) }
+    ensures cause { HasDiskCause (B.faults book.old) (B.faults book.new) result }
 {
     let root = root_id(own.name());
-    bubble_up(alloc, book, own, &root, parent)
+    bubble_up(alloc, book, own, &root, path)
 }

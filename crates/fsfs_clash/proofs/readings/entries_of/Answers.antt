@@ -1,7 +1,7 @@
 use Rattle.std.proofs.Common.{Option, sym, subst, arith}
 use Rattle.fsfs_drafts.specs.Drafts.{Kept}
-use Rattle.fsfs_edit.specs.Entries.{IsWithin}
-use Rattle.fsfs_edit.specs.Views.{kept_value}
+use Rattle.fsfs_own.specs.Entries.{IsWithin}
+use Rattle.fsfs_own.specs.Views.{kept_value}
 use Rattle.fsfs_clash.specs.Readings.{IsKeptIn}
 use Rattle.fsfs_clash.proofs.ReadingLemmas.{list_kept, list_lasting}
 use Rattle.fsfs_clash.proofs.readings.entries_of.Goals as goal

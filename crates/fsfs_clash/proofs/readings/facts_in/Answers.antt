@@ -1,5 +1,5 @@
 use Rattle.std.proofs.Common.{sym, arith}
-use Rattle.fsfs_edit.specs.Views.{kept_value}
+use Rattle.fsfs_own.specs.Views.{kept_value}
 use Rattle.fsfs_clash.proofs.ReadingLemmas.{facts_kept, facts_lasting}
 use Rattle.fsfs_clash.proofs.readings.facts_in.Goals as goal
 

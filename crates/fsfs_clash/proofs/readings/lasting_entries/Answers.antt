@@ -5,9 +5,10 @@ use Rattle.fsfs_noderev.specs.declared.node_id.NodeId.{NodeId}
 use Rattle.fsfs_shows.specs.Reading.{offset_of, OfId}
 use Rattle.fsfs_dag.specs.declared.directory.DirEntry.{DirEntry}
 use Rattle.fsfs_dag.specs.Views.{home_of, entry_values}
-use Rattle.fsfs_edit.specs.Entries.{OfKind}
+use Rattle.fsfs_own.specs.Entries.{OfKind}
 use Rattle.fsfs_damage.proofs.Answering.{goes_on}
-use Rattle.fsfs_edit.proofs.Steps.{in_kind, as_dir, entries_seen}
+use Rattle.fsfs_dag.proofs.PairLemmas.{entries_seen}
+use Rattle.fsfs_own.proofs.Readings.{in_kind, as_dir}
 use Rattle.fsfs_clash.proofs.readings.lasting_entries.Goals as goal
 
 pub returns-in-File-clause-told : goal.returns-in-File-clause-told

@@ -32,23 +32,18 @@ returns-in-File-clause-copies g c = λ look trees top base tree marks knows show
     let at : IsSource look trees top c.args.from.now (Ok (sources.File c.in-File.depth)) = subst (λ (x : Source). IsSource look trees top c.args.from.now (Ok x)) c.in-File.is s in
     (room, at.0, at.1, refl)
 
-pub returns-in_err-copy_in-in-Node-clause-copies : goal.returns-in_err-copy_in-in-Node-clause-copies
-returns-in_err-copy_in-in-Node-clause-copies g c = λ look trees top base tree marks knows shown le is_tree young d room.
+pub returns-in-Node-clause-copies : goal.returns-in-Node-clause-copies
+returns-in-Node-clause-copies g c = λ look trees top base tree marks knows shown le is_tree young d room.
     let s : IsSource look trees top c.args.from.now (Ok c.in_ok-youngest.field-0) = c.in_ok-youngest.ensures.finds look trees top knows shown young in
     let at : IsSource look trees top c.args.from.now (Ok (sources.Node c.in-Node.found)) = subst (λ (x : Source). IsSource look trees top c.args.from.now (Ok x)) c.in-Node.is s in
     let later : Knows (g.B.Book.told c.source_at.new.book).revs top look = λ n h. c.in_ok-youngest.ensures.kept.revs n (look n) (knows n h) in
-    let r = err_from_is_err_and c.from_residual-in_err-copy_in-in-Node.result c.from_residual-in_err-copy_in-in-Node.ensures.1 in
-    rw (r.1, r.2) (c.in_err-copy_in-in-Node.ensures.copies look trees top base tree marks later shown le is_tree d room at.0 at.1 at.2)
+    c.copy_in.ensures.copies look trees top base tree marks later shown le is_tree d room at.0 at.1 at.2
 
-pub returns-in_ok-copy_in-in-Node-clause-copies : goal.returns-in_ok-copy_in-in-Node-clause-copies
-returns-in_ok-copy_in-in-Node-clause-copies g c = λ look trees top base tree marks knows shown le is_tree young d room.
-    let s : IsSource look trees top c.args.from.now (Ok c.in_ok-youngest.field-0) = c.in_ok-youngest.ensures.finds look trees top knows shown young in
-    let at : IsSource look trees top c.args.from.now (Ok (sources.Node c.in-Node.found)) = subst (λ (x : Source). IsSource look trees top c.args.from.now (Ok x)) c.in-Node.is s in
-    let later : Knows (g.B.Book.told c.source_at.new.book).revs top look = λ n h. c.in_ok-youngest.ensures.kept.revs n (look n) (knows n h) in
-    c.in_ok-copy_in-in-Node.ensures.copies look trees top base tree marks later shown le is_tree d room at.0 at.1 at.2
+pub returns-in-Node-clause-kept : goal.returns-in-Node-clause-kept
+returns-in-Node-clause-kept g c = keeps_trans _ _ _ c.in_ok-youngest.ensures.kept c.copy_in.ensures.kept
 
-pub returns-in_err-copy_in-in-Node-clause-kept : goal.returns-in_err-copy_in-in-Node-clause-kept
-returns-in_err-copy_in-in-Node-clause-kept g c = keeps_trans _ _ _ c.in_ok-youngest.ensures.kept c.in_err-copy_in-in-Node.ensures.kept
-
-pub returns-in_ok-copy_in-in-Node-clause-kept : goal.returns-in_ok-copy_in-in-Node-clause-kept
-returns-in_ok-copy_in-in-Node-clause-kept g c = keeps_trans _ _ _ c.in_ok-youngest.ensures.kept c.in_ok-copy_in-in-Node.ensures.kept
+pub returns-in_err-youngest-clause-bench : goal.returns-in_err-youngest-clause-bench
+returns-in_err-youngest-clause-bench g c =
+    let r = err_from_is_err_and c.from_residual.result c.from_residual.ensures.1 in
+    let q = c.in_err-youngest.ensures.quiet (g.N.Own.faults c.args.own.now) in
+    rw (r.1, r.2) (record { later = q.later; kept = q.kept; failed = q.failed })

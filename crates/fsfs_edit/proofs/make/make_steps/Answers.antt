@@ -43,31 +43,16 @@ returns-in-Taken-clause-meets g c = λ look trees top base tree marks knows show
     let at : IsTarget look trees base d.0.shows.own tree c.args.parent.now c.args.name.now (Ok (targets.Taken c.in-Taken._child)) = subst (λ (x : Target). IsTarget look trees base d.0.shows.own tree c.args.parent.now c.args.name.now (Ok x)) c.in-Taken.is t in
     (at.0, kind_some (tree (c.args.parent.now ++ c.args.name.now ∷ [])) c.in-Taken._child.kind at.1, refl)
 
-pub returns-in_err-make_in-in-Free-clause-meets : goal.returns-in_err-make_in-in-Free-clause-meets
-returns-in_err-make_in-in-Free-clause-meets g c = λ look trees top base tree marks knows shown le is_tree d.
+pub returns-in-Free-clause-meets : goal.returns-in-Free-clause-meets
+returns-in-Free-clause-meets g c = λ look trees top base tree marks knows shown le is_tree d.
     let looks : LooksAt (g.B.Book.told c.args.book.now).revs (g.N.Own.txn c.args.own.now) (g.N.Own.settled c.args.own.now) c.args.parent.now c.args.name.now (Ok c.in_ok-depth.field-0) =
     subst (λ (h : Folder). LooksAt (g.B.Book.told c.args.book.now).revs (g.N.Own.txn c.args.own.now) h c.args.parent.now c.args.name.now (Ok c.in_ok-depth.field-0)) c.requires.whole c.in_ok-depth.ensures.looks in
     let t : IsTarget look trees base d.0.shows.own tree c.args.parent.now c.args.name.now (Ok c.in_ok-depth.field-0) = looks look trees top base tree marks knows shown le is_tree d in
     let at : IsTarget look trees base d.0.shows.own tree c.args.parent.now c.args.name.now (Ok (targets.Free)) = subst (λ (x : Target). IsTarget look trees base d.0.shows.own tree c.args.parent.now c.args.name.now (Ok x)) c.in-Free.is t in
     let later : Knows (g.B.Book.told c.way_to.new.book).revs top look = λ n h. c.in_ok-depth.ensures.kept.revs n (look n) (knows n h) in
-    let inner : MakesIn (g.B.Book.told c.way_to.new.book).revs (g.N.Own.txn c.args.own.now) (g.N.Own.settled c.args.own.now) (g.N.Own.settled c.args.own.now) (g.N.Own.settled c.make_in.new.own) c.args.parent.now c.args.name.now c.args.kind (Err c.in_err-make_in-in-Free.field-0.0) =
-    subst (λ (h : Folder). MakesIn (g.B.Book.told c.way_to.new.book).revs (g.N.Own.txn c.args.own.now) h (g.N.Own.settled c.args.own.now) (g.N.Own.settled c.make_in.new.own) c.args.parent.now c.args.name.now c.args.kind (Err c.in_err-make_in-in-Free.field-0.0)) c.requires.whole c.in_err-make_in-in-Free.ensures.makes in
-    let r = err_from_is_err_and c.from_residual-in_err-make_in-in-Free.result c.from_residual-in_err-make_in-in-Free.ensures.1 in
-    rw (r.1, r.2) (inner look trees top base tree marks later shown le is_tree d at)
-
-pub returns-in_ok-make_in-in-Free-clause-meets : goal.returns-in_ok-make_in-in-Free-clause-meets
-returns-in_ok-make_in-in-Free-clause-meets g c = λ look trees top base tree marks knows shown le is_tree d.
-    let looks : LooksAt (g.B.Book.told c.args.book.now).revs (g.N.Own.txn c.args.own.now) (g.N.Own.settled c.args.own.now) c.args.parent.now c.args.name.now (Ok c.in_ok-depth.field-0) =
-    subst (λ (h : Folder). LooksAt (g.B.Book.told c.args.book.now).revs (g.N.Own.txn c.args.own.now) h c.args.parent.now c.args.name.now (Ok c.in_ok-depth.field-0)) c.requires.whole c.in_ok-depth.ensures.looks in
-    let t : IsTarget look trees base d.0.shows.own tree c.args.parent.now c.args.name.now (Ok c.in_ok-depth.field-0) = looks look trees top base tree marks knows shown le is_tree d in
-    let at : IsTarget look trees base d.0.shows.own tree c.args.parent.now c.args.name.now (Ok (targets.Free)) = subst (λ (x : Target). IsTarget look trees base d.0.shows.own tree c.args.parent.now c.args.name.now (Ok x)) c.in-Free.is t in
-    let later : Knows (g.B.Book.told c.way_to.new.book).revs top look = λ n h. c.in_ok-depth.ensures.kept.revs n (look n) (knows n h) in
-    let inner : MakesIn (g.B.Book.told c.way_to.new.book).revs (g.N.Own.txn c.args.own.now) (g.N.Own.settled c.args.own.now) (g.N.Own.settled c.args.own.now) (g.N.Own.settled c.make_in.new.own) c.args.parent.now c.args.name.now c.args.kind (Ok tt) =
-    subst (λ (h : Folder). MakesIn (g.B.Book.told c.way_to.new.book).revs (g.N.Own.txn c.args.own.now) h (g.N.Own.settled c.args.own.now) (g.N.Own.settled c.make_in.new.own) c.args.parent.now c.args.name.now c.args.kind (Ok tt)) c.requires.whole c.in_ok-make_in-in-Free.ensures.makes in
+    let inner : MakesIn (g.B.Book.told c.way_to.new.book).revs (g.N.Own.txn c.args.own.now) (g.N.Own.settled c.args.own.now) (g.N.Own.settled c.args.own.now) (g.N.Own.settled c.make_in.new.own) c.args.parent.now c.args.name.now c.args.kind c.make_in.result =
+    subst (λ (h : Folder). MakesIn (g.B.Book.told c.way_to.new.book).revs (g.N.Own.txn c.args.own.now) h (g.N.Own.settled c.args.own.now) (g.N.Own.settled c.make_in.new.own) c.args.parent.now c.args.name.now c.args.kind c.make_in.result) c.requires.whole c.make_in.ensures.makes in
     inner look trees top base tree marks later shown le is_tree d at
 
-pub returns-in_err-make_in-in-Free-clause-kept : goal.returns-in_err-make_in-in-Free-clause-kept
-returns-in_err-make_in-in-Free-clause-kept g c = keeps_trans _ _ _ c.in_ok-depth.ensures.kept c.in_err-make_in-in-Free.ensures.kept
-
-pub returns-in_ok-make_in-in-Free-clause-kept : goal.returns-in_ok-make_in-in-Free-clause-kept
-returns-in_ok-make_in-in-Free-clause-kept g c = keeps_trans _ _ _ c.in_ok-depth.ensures.kept c.in_ok-make_in-in-Free.ensures.kept
+pub returns-in-Free-clause-kept : goal.returns-in-Free-clause-kept
+returns-in-Free-clause-kept g c = keeps_trans _ _ _ c.in_ok-depth.ensures.kept c.make_in.ensures.kept

@@ -1,0 +1,71 @@
+use Rattle.std.proofs.Common.{refl, sym, subst}
+use Rattle.std.specs.Prelude.{Ok, Err}
+use Rattle.std.proofs.lemmas.Result.{err_from_is_err_and}
+use Rattle.fsfs_book.specs.Told.{Knows}
+use Rattle.fsfs_book.proofs.Keeping.{keeps_trans}
+use Rattle.fsfs_drafts.specs.Drafts.{Folder}
+use Rattle.fsfs_own.specs.Walks.{HasKind}
+use Rattle.fsfs_own.specs.declared.walk.Found.{Found}
+use Rattle.fsfs_edit.specs.Ways.{IsFoundIn, Finds}
+use Rattle.fsfs_edit.specs.Properties.{SetsProperty}
+use Rattle.fsfs_edit.proofs.Whole.{stays}
+use Rattle.fsfs_edit.proofs.MakingAt.{kind_some}
+use Rattle.fsfs_edit.proofs.property.property_steps.Goals as goal
+
+pub returns-in_err-depth-clause-meets : goal.returns-in_err-depth-clause-meets
+returns-in_err-depth-clause-meets g c = λ look trees top base tree marks knows shown le is_tree d.
+    let finds : Finds (g.B.Book.told c.args.book.now).revs (g.N.Own.txn c.args.own.now) (g.N.Own.settled c.args.own.now) c.args.path.now (Err c.in_err-depth.field-0.0) =
+    subst (λ (h : Folder). Finds (g.B.Book.told c.args.book.now).revs (g.N.Own.txn c.args.own.now) h c.args.path.now (Err c.in_err-depth.field-0.0)) c.requires.whole c.in_err-depth.ensures.finds in
+    let r = err_from_is_err_and c.from_residual.result c.from_residual.ensures.1 in
+    rw (r.1, r.2) (stays c.in_err-depth.field-0.0 _ (finds look trees top base tree marks knows shown le is_tree d) refl)
+
+pub returns-in-Absent-clause-meets : goal.returns-in-Absent-clause-meets
+returns-in-Absent-clause-meets g c = λ look trees top base tree marks knows shown le is_tree d.
+    let finds : Finds (g.B.Book.told c.args.book.now).revs (g.N.Own.txn c.args.own.now) (g.N.Own.settled c.args.own.now) c.args.path.now (Ok c.in_ok-depth.field-0) =
+    subst (λ (h : Folder). Finds (g.B.Book.told c.args.book.now).revs (g.N.Own.txn c.args.own.now) h c.args.path.now (Ok c.in_ok-depth.field-0)) c.requires.whole c.in_ok-depth.ensures.finds in
+    let found : IsFoundIn tree c.args.path.now (Ok c.in_ok-depth.field-0) = finds look trees top base tree marks knows shown le is_tree d in
+    (subst (λ (x : Found). IsFoundIn tree c.args.path.now (Ok x)) c.in-Absent.is found, refl)
+
+pub returns-in-File-clause-meets : goal.returns-in-File-clause-meets
+returns-in-File-clause-meets g c = λ look trees top base tree marks knows shown le is_tree d.
+    let finds : Finds (g.B.Book.told c.args.book.now).revs (g.N.Own.txn c.args.own.now) (g.N.Own.settled c.args.own.now) c.args.path.now (Ok c.in_ok-depth.field-0) =
+    subst (λ (h : Folder). Finds (g.B.Book.told c.args.book.now).revs (g.N.Own.txn c.args.own.now) h c.args.path.now (Ok c.in_ok-depth.field-0)) c.requires.whole c.in_ok-depth.ensures.finds in
+    let found : IsFoundIn tree c.args.path.now (Ok c.in_ok-depth.field-0) = finds look trees top base tree marks knows shown le is_tree d in
+    (subst (λ (x : Found). IsFoundIn tree c.args.path.now (Ok x)) c.in-File.is found, refl)
+
+pub returns-then-not-fits-clause-meets : goal.returns-then-not-fits-clause-meets
+returns-then-not-fits-clause-meets g c = λ look trees top base tree marks knows shown le is_tree d.
+    let finds : Finds (g.B.Book.told c.args.book.now).revs (g.N.Own.txn c.args.own.now) (g.N.Own.settled c.args.own.now) c.args.path.now (Ok c.in_ok-depth.field-0) =
+    subst (λ (h : Folder). Finds (g.B.Book.told c.args.book.now).revs (g.N.Own.txn c.args.own.now) h c.args.path.now (Ok c.in_ok-depth.field-0)) c.requires.whole c.in_ok-depth.ensures.finds in
+    let found : IsFoundIn tree c.args.path.now (Ok c.in_ok-depth.field-0) = finds look trees top base tree marks knows shown le is_tree d in
+    let at : HasKind (tree c.args.path.now) c.in-Node.child.kind = subst (λ (x : Found). IsFoundIn tree c.args.path.now (Ok x)) c.in-Node.is found in
+    (kind_some (tree c.args.path.now) c.in-Node.child.kind at, sym c.if-not-fits.ensures, refl)
+
+pub returns-in_err-property_in-in-Node-clause-meets : goal.returns-in_err-property_in-in-Node-clause-meets
+returns-in_err-property_in-in-Node-clause-meets g c = λ look trees top base tree marks knows shown le is_tree d.
+    let finds : Finds (g.B.Book.told c.args.book.now).revs (g.N.Own.txn c.args.own.now) (g.N.Own.settled c.args.own.now) c.args.path.now (Ok c.in_ok-depth.field-0) =
+    subst (λ (h : Folder). Finds (g.B.Book.told c.args.book.now).revs (g.N.Own.txn c.args.own.now) h c.args.path.now (Ok c.in_ok-depth.field-0)) c.requires.whole c.in_ok-depth.ensures.finds in
+    let found : IsFoundIn tree c.args.path.now (Ok c.in_ok-depth.field-0) = finds look trees top base tree marks knows shown le is_tree d in
+    let at : HasKind (tree c.args.path.now) c.in-Node.child.kind = subst (λ (x : Found). IsFoundIn tree c.args.path.now (Ok x)) c.in-Node.is found in
+    let later : Knows (g.B.Book.told c.found_at.new.book).revs top look = λ n h. c.in_ok-depth.ensures.kept.revs n (look n) (knows n h) in
+    let inner : SetsProperty (g.B.Book.told c.found_at.new.book).revs (g.N.Own.txn c.args.own.now) (g.N.Own.settled c.args.own.now) (g.N.Own.settled c.args.own.now) (g.N.Own.settled c.property_in.new.own) c.args.path.now c.in-Node.child.kind c.args.name.now c.args.value (Err c.in_err-property_in-in-Node.field-0.0) =
+    subst (λ (h : Folder). SetsProperty (g.B.Book.told c.found_at.new.book).revs (g.N.Own.txn c.args.own.now) h (g.N.Own.settled c.args.own.now) (g.N.Own.settled c.property_in.new.own) c.args.path.now c.in-Node.child.kind c.args.name.now c.args.value (Err c.in_err-property_in-in-Node.field-0.0)) c.requires.whole (c.in_err-property_in-in-Node.ensures.sets) in
+    let r = err_from_is_err_and c.from_residual-in_err-property_in-in-Node.result c.from_residual-in_err-property_in-in-Node.ensures.1 in
+    rw (r.1, r.2) (inner look trees top base tree marks later shown le is_tree d at)
+
+pub returns-in_ok-property_in-in-Node-clause-meets : goal.returns-in_ok-property_in-in-Node-clause-meets
+returns-in_ok-property_in-in-Node-clause-meets g c = λ look trees top base tree marks knows shown le is_tree d.
+    let finds : Finds (g.B.Book.told c.args.book.now).revs (g.N.Own.txn c.args.own.now) (g.N.Own.settled c.args.own.now) c.args.path.now (Ok c.in_ok-depth.field-0) =
+    subst (λ (h : Folder). Finds (g.B.Book.told c.args.book.now).revs (g.N.Own.txn c.args.own.now) h c.args.path.now (Ok c.in_ok-depth.field-0)) c.requires.whole c.in_ok-depth.ensures.finds in
+    let found : IsFoundIn tree c.args.path.now (Ok c.in_ok-depth.field-0) = finds look trees top base tree marks knows shown le is_tree d in
+    let at : HasKind (tree c.args.path.now) c.in-Node.child.kind = subst (λ (x : Found). IsFoundIn tree c.args.path.now (Ok x)) c.in-Node.is found in
+    let later : Knows (g.B.Book.told c.found_at.new.book).revs top look = λ n h. c.in_ok-depth.ensures.kept.revs n (look n) (knows n h) in
+    let inner : SetsProperty (g.B.Book.told c.found_at.new.book).revs (g.N.Own.txn c.args.own.now) (g.N.Own.settled c.args.own.now) (g.N.Own.settled c.args.own.now) (g.N.Own.settled c.property_in.new.own) c.args.path.now c.in-Node.child.kind c.args.name.now c.args.value (Ok tt) =
+    subst (λ (h : Folder). SetsProperty (g.B.Book.told c.found_at.new.book).revs (g.N.Own.txn c.args.own.now) h (g.N.Own.settled c.args.own.now) (g.N.Own.settled c.property_in.new.own) c.args.path.now c.in-Node.child.kind c.args.name.now c.args.value (Ok tt)) c.requires.whole (c.in_ok-property_in-in-Node.ensures.sets) in
+    (sym c.if-not-fits.ensures, inner look trees top base tree marks later shown le is_tree d at)
+
+pub returns-in_err-property_in-in-Node-clause-kept : goal.returns-in_err-property_in-in-Node-clause-kept
+returns-in_err-property_in-in-Node-clause-kept g c = keeps_trans _ _ _ c.in_ok-depth.ensures.kept c.in_err-property_in-in-Node.ensures.kept
+
+pub returns-in_ok-property_in-in-Node-clause-kept : goal.returns-in_ok-property_in-in-Node-clause-kept
+returns-in_ok-property_in-in-Node-clause-kept g c = keeps_trans _ _ _ c.in_ok-depth.ensures.kept c.in_ok-property_in-in-Node.ensures.kept

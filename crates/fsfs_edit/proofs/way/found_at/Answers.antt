@@ -1,0 +1,14 @@
+use Rattle.std.proofs.Common.{subst}
+use Rattle.fsfs_fields.specs.declared.txn_name.TxnName.{TxnName}
+use Rattle.fsfs_edit.specs.Ways.{IsRootId}
+use Rattle.fsfs_edit.proofs.Reaching.{root, root_here, root_same, root_kind, found_by_tree}
+use Rattle.fsfs_edit.proofs.way.found_at.Goals as goal
+
+pub returns-clause-finds : goal.returns-clause-finds
+returns-clause-finds g c = λ look trees top base tree marks knows shown le is_tree d.
+    let txn = g.N.Own.txn c.args.own.now in
+    let f = g.N.Own.folder c.args.own.now in
+    let id : IsRootId txn c.root_id-root.result = subst (λ (t : TxnName). IsRootId t c.root_id-root.result) c.name.ensures c.root_id-root.ensures in
+    found_by_tree look trees top base shown le txn f tree marks is_tree d c.args.path.now c.met.result
+    (c.met.ensures.draft look trees top base d.0.shows.own (root look trees top base shown le txn f tree marks is_tree d) knows shown le d.0.shows.is_draft (root_here look trees top base shown le txn f tree marks is_tree d)
+    (root_same look trees top base shown le txn f tree marks is_tree d c.root_id-root.result id) (root_kind look trees top base shown le txn f tree marks is_tree d))

@@ -1,0 +1,4 @@
+pub mod Readings
+pub mod OwnEntries
+pub mod Walking
+pub mod Counting

@@ -1,0 +1,28 @@
+use Rattle.std.proofs.Common.{◌≡◌, List, Some, Ok, Err, sym, subst, ◌∙◌}
+use Rattle.std.proofs.lemmas.Result.{err_from_is_err_and}
+use Rattle.fsfs_damage.specs.Readings.{Answers}
+use Rattle.fsfs_dag.specs.declared.directory.DirEntry.{DirEntry}
+use Rattle.fsfs_dag.specs.Views.{entry_values}
+use Rattle.fsfs_dag.proofs.PairLemmas.{entries_seen}
+use Rattle.fsfs_drafts.specs.Drafts.{Kept}
+use Rattle.fsfs_own.specs.Entries.{OfKept, IsWithin}
+use Rattle.fsfs_own.specs.Names.{IsRoom}
+use Rattle.fsfs_own.specs.Views.{kept_value}
+use Rattle.fsfs_own.proofs.Counting.{room_fails}
+use Rattle.fsfs_own.proofs.names.room_in.Goals as goal
+
+pub returns-in_err-entries-clause-tells : goal.returns-in_err-entries-clause-tells
+returns-in_err-entries-clause-tells g c = λ look top k knows there within.
+    let both : Some (kept_value c.in-Some.kept.now) ≡ Some k = c.in-Some.ensures ∙ there in
+    let one : kept_value c.in-Some.kept.now ≡ k = cc in
+    let low : IsWithin top c.in-Some.kept.now.node.predecessor = subst (λ (x : Kept). IsWithin top x.node.predecessor) (sym one) within in
+    let r = err_from_is_err_and c.from_residual.result c.from_residual.ensures.1 in
+    rw (r.1, r.2) (room_fails look k c.in_err-entries.field-0.0 (subst (λ (x : Kept). Answers entries_seen (OfKept look x) (Err c.in_err-entries.field-0.0)) one (c.in_err-entries.ensures.told look top knows low)))
+
+pub returns-clause-tells : goal.returns-clause-tells
+returns-clause-tells g c = λ look top k knows there within.
+    let both : Some (kept_value c.in-Some.kept.now) ≡ Some k = c.in-Some.ensures ∙ there in
+    let one : kept_value c.in-Some.kept.now ≡ k = cc in
+    let low : IsWithin top c.in-Some.kept.now.node.predecessor = subst (λ (x : Kept). IsWithin top x.node.predecessor) (sym one) within in
+    let items = c.in_ok-entries.entries.items in
+    (entry_values items, subst (λ (x : Kept). OfKept look x (Ok (entry_values items))) one (c.in_ok-entries.ensures.told look top knows low), subst (λ (es : List DirEntry). IsRoom (entry_values es) c.in_ok-room.room) c.deref.ensures.value c.in_ok-room.ensures)

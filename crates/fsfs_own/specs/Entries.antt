@@ -1,0 +1,36 @@
+-- What the entries of an own directory are.
+use Rattle.std.specs.Prelude.{◌≡◌, ◌≤◌, ℕ, List, [], Option, Some, None, Result, Ok}
+use Rattle.fsfs_base.specs.declared.kind.Kind.{Kind}
+use Rattle.fsfs_base.specs.declared.kind.Kind.TheVariants.{File, Dir}
+use Rattle.fsfs_book.specs.Told.{RevisionBytes}
+use Rattle.fsfs_noderev.specs.declared.node_id.NodeId.{NodeId}
+use Rattle.fsfs_noderev.specs.declared.node_rev.NodeRev.{NodeRev}
+use Rattle.fsfs_damage.specs.declared.wrong.Wrong.{Wrong}
+use Rattle.fsfs_damage.specs.Readings.{AndThen}
+use Rattle.fsfs_shows.specs.Reading.{DirEntry, EntriesOf, OfId, offset_of}
+use Rattle.fsfs_drafts.specs.Drafts.{Kept}
+
+-- of a directory; a file has none
+abbrev pub OfKind : RevisionBytes → Kind → NodeRev → Result (List DirEntry) Wrong → Type 0
+OfKind look File u r = r ≡ Ok []
+OfKind look Dir u r = EntriesOf look u r
+
+-- of the node-revision of an id
+abbrev pub OfIdEntries : RevisionBytes → NodeId → Result (List DirEntry) Wrong → Type 0
+OfIdEntries look id = AndThen (OfId look id) (λ u. OfKind look u.kind u)
+
+abbrev pub OfPredecessor : RevisionBytes → Option NodeId → Result (List DirEntry) Wrong → Type 0
+OfPredecessor look None r = r ≡ Ok []
+OfPredecessor look (Some id) r = OfIdEntries look id r
+
+abbrev pub OfListed : RevisionBytes → Option (List DirEntry) → Option NodeId → Result (List DirEntry) Wrong → Type 0
+OfListed look (Some entries) before r = r ≡ Ok entries
+OfListed look None before r = OfPredecessor look before r
+
+abbrev pub OfKept : RevisionBytes → Kept → Result (List DirEntry) Wrong → Type 0
+OfKept look k r = OfListed look k.entries k.node.predecessor r
+
+-- the revision of the id is at most this one
+abbrev pub IsWithin : ℕ → Option NodeId → Type 0
+IsWithin top None = Unit {0}
+IsWithin top (Some id) = (offset_of id.place).rev ≤ top

@@ -1,0 +1,9 @@
+pub mod Errors
+pub mod Causes
+pub mod Views
+pub mod Items
+pub mod Entries
+pub mod Properties
+pub mod Names
+pub mod Taken
+pub mod Walks

@@ -1,0 +1,69 @@
+//! The entries of an own directory.
+ghost use Rattle.std.specs.Prelude.{◌≡◌, ◌≤◌, ℕ, List, Some, Ok, IfOk, map, take};
+ghost use Rattle.fsfs_base.specs.declared.kind.Kind.TheVariants.{Dir};
+ghost use Rattle.fsfs_book.specs.Told.{RevisionBytes, Knows, Keeps};
+ghost use Rattle.fsfs_damage.specs.Readings.{Answers};
+ghost use Rattle.fsfs_shows.specs.Reading.{offset_of};
+ghost use Rattle.fsfs_damage.specs.Causes.{HasCause};
+ghost use Rattle.fsfs_dag.specs.Views.{entry_values};
+ghost use Rattle.fsfs_own.specs.Entries.{OfKept, OfIdEntries, IsWithin};
+ghost use Rattle.fsfs_own.specs.Views.{kept_value};
+
+use crate::own::KeptNode;
+use fsfs_base::Kind;
+use fsfs_book::Book;
+use fsfs_dag::{DirEntry, entries, named_node};
+use fsfs_damage::ReadError;
+use fsfs_noderev::NodeId;
+use std::alloc::{AllocError, Global};
+
+// A copy of the entries.
+fn copied(alloc: Global, entries: &[DirEntry]) -> Result<Vec<DirEntry>, AllocError>
+    ensures { IfOk result (λ v. entry_values v.items ≡ entry_values entries.now) }
+{
+    let mut all = Vec::new(alloc);
+    for entry in entries {
+        let name = String::from_str(alloc, entry.name.as_str())?;
+        all.push(DirEntry {
+            name,
+            kind: entry.kind,
+            id: entry.id,
+        })?;
+    }
+    Ok(all)
+}
+
+// The entries of the directory of an id in a revision.
+fn entries_of<B: Book>(alloc: Global, book: &mut B, id: &NodeId) -> Result<Vec<DirEntry>, ReadError>
+    ensures told { (look : RevisionBytes) → Knows (B.told book.old).revs (offset_of id.now.place).rev look → Answers (λ v. entry_values v.items) (OfIdEntries look id.now) result }
+    ensures kept { Keeps (B.told book.old) (B.told book.new) }
+    ensures cause { HasCause (B.faults book.old) (B.faults book.new) result }
+{
+    let found = named_node(alloc, book, id)?;
+    match found.node.kind {
+        Kind::File => Ok(Vec::new(alloc)),
+        Kind::Dir => entries(alloc, book, &found),
+    }
+}
+
+/// The entries of an own directory: those of its `children` file, or of what it goes on from.
+pub fn entries_in<B: Book>(
+    alloc: Global,
+    book: &mut B,
+    kept: &KeptNode,
+) -> Result<Vec<DirEntry>, ReadError>
+    ensures told { (look : RevisionBytes) (top : ℕ) → Knows (B.told book.old).revs top look → IsWithin top kept.now.node.predecessor → Answers (λ v. entry_values v.items) (OfKept look (kept_value kept.now)) result }
+    ensures kept { Keeps (B.told book.old) (B.told book.new) }
+    ensures cause { HasCause (B.faults book.old) (B.faults book.new) result }
+{
+    match &kept.entries {
+        Some(entries) => match copied(alloc, entries) {
+            Ok(all) => Ok(all),
+            Err(_) => Err(ReadError::OutOfMemory),
+        },
+        None => match &kept.node.predecessor {
+            None => Ok(Vec::new(alloc)),
+            Some(id) => entries_of(alloc, book, id),
+        },
+    }
+}

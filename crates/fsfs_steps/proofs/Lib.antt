@@ -1,0 +1,6 @@
+pub mod Replacing
+pub mod Steps
+pub mod Making
+pub mod MakingNew
+pub mod CopyingNew
+pub mod Taking

@@ -1,0 +1,5 @@
+pub mod Entries
+pub mod Mutable
+pub mod Made
+pub mod Copied
+pub mod Taken
