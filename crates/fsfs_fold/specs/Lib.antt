@@ -1,0 +1,4 @@
+pub mod FoldedItems
+pub mod Marks
+pub mod Lasting
+pub mod Views

@@ -1,0 +1,6 @@
+pub mod Causes
+pub mod Sources
+pub mod Reps
+pub mod Views
+pub mod Texts
+pub mod Laws
