@@ -25,9 +25,13 @@ pub trait Calls {
     /// What stood below the folder and the calls since that did something; none where it doesn't tell.
     ghost history: { Self → Option CallRecord };
 
-    /// Takes the lock of a file or a folder that is there, and holds it until these calls are let go. `Locked`: another process
-    /// holds it.
+    /// Takes the lock of a file or a folder that is there, and holds it until `unlock`, or until these calls are let go. `Locked`:
+    /// another process holds it.
     fn lock(&mut self, path: &Path) -> Result<(), CallError>
+        ensures same { history self.new ≡ history self.old };
+
+    /// Lets all locks go that were taken.
+    fn unlock(&mut self)
         ensures same { history self.new ≡ history self.old };
 
     /// Makes a folder in one that is there, also where it is there itself.

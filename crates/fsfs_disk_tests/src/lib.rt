@@ -6,8 +6,8 @@ mod benches;
 #[cfg(test)]
 mod fetch;
 #[cfg(test)]
-mod hostdisk;
-#[cfg(test)]
 mod memdisk;
 #[cfg(test)]
 mod publish;
+#[cfg(test)]
+mod real_folders;

@@ -2,8 +2,9 @@
 //! a real folder.
 use fsfs_base::Name;
 use fsfs_disk::{Disk, Host, Label};
-use fsfs_hostdisk::Machine;
+use fsfs_hostcalls::HostFileSystem;
 use fsfs_memdisk::MemDisk;
+use fsfs_mount::FolderHost;
 use fsfs_publish::publish;
 use std::alloc::Global;
 use std::test::Fail;
@@ -96,9 +97,9 @@ fn a_file_is_published_in_a_real_folder(rt: HostRuntime) -> Result<(), Fail> {
     let id = process::id(rt.process());
     let path = format!(in rt.alloc(); "{temp}/fsfs_published-{id}")?;
     let path = path.as_str();
-    let mut machine = Machine::new(rt);
+    let mut host = FolderHost::new(rt.alloc(), HostFileSystem::new(rt));
     let to = Name::new("db/revs/0/1");
-    let mut disk = machine.mount(path, true)?;
+    let mut disk = host.mount(path, true)?;
     disk.make_folder(&Name::new("db/revs/0"))?;
     disk.put(&Name::new("db/format"), b"4\n")?;
     let file = Name::new("rev");
@@ -114,7 +115,6 @@ fn a_file_is_published_in_a_real_folder(rt: HostRuntime) -> Result<(), Fail> {
     let mut bytes = [0; 16];
     assert_eq!(rt; disk.read(&to, 0, &mut bytes)?, Some(13));
     assert_eq!(rt; &bytes[..13], b"PLAIN\nENDREP\n".as_slice());
-    machine.unmount(disk);
     fs::remove_dir_all(&rt, path)?;
     Ok(())
 }

@@ -63,11 +63,18 @@ impl<C: Calls + Drop> Folders<C> {
         &self.calls
     }
 
-    /// Takes the lock of a file or a folder that is there, and holds it until these are let go. `Locked`: another process holds it.
+    /// Takes the lock of a file or a folder that is there, and holds it until `unlock`. `Locked`: another process holds it.
     pub fn lock(&mut self, path: &Path) -> Result<(), CallError>
         ensures { C.history self.new.calls ≡ C.history self.old.calls }
     {
         self.calls.lock(path)
+    }
+
+    /// Lets all locks go that were taken.
+    pub fn unlock(&mut self)
+        ensures { C.history self.new.calls ≡ C.history self.old.calls }
+    {
+        self.calls.unlock();
     }
 
     /// Notes a folder whose names may not be firm, whoever changed them: the next `firm_names` syncs it, and so does a new name.

@@ -5,9 +5,9 @@ use crate::errors::{error_of, finished};
 use fsfs_base::Name;
 use fsfs_calls::{CallError, Calls, OpenFile, Path};
 use std::alloc::{AllocGlobal, Global};
-use std::fs::{File, Files, OpenOptions, TryLockError};
+use std::fs::{File, Files, TryLockError};
 use std::io::{ErrorKind, Write};
-use std::os::unix::fs::FileExt;
+use std::os::unix::fs::{FileExt, MetadataExt};
 use std::{fs, io};
 
 /// A file of the machine that is open.
@@ -25,7 +25,7 @@ impl OpenFile for HostFile {
 pub struct HostCalls<R: Files<File = File> + AllocGlobal + Clone + Drop> {
     rt: R,
     folder: String,
-    // What is locked, as long as these are open.
+    // What is locked: as long as these are open.
     locked: Vec<File>,
 }
 
@@ -33,7 +33,7 @@ pub struct HostCalls<R: Files<File = File> + AllocGlobal + Clone + Drop> {
 const MAX_OFFSET: u64 = 0x7fff_ffff_ffff_ffff;
 
 // The longest name in a listing.
-const LONGEST_NAME: usize = 128;
+pub const LONGEST_NAME: usize = 128;
 
 fn read_some(file: &File, offset: u64, buffer: &mut [u8]) -> Result<usize, CallError>
     ensures { IfOk result (λ n. n ≤ min (length buffer.new) (length buffer.old)) }
@@ -76,19 +76,14 @@ impl<R: Files<File = File> + AllocGlobal + Clone + Drop> HostCalls<R> {
 
     fn path_of(&self, path: &Path) -> Result<String, CallError> {
         let (folder, path) = (self.folder.as_str(), path.as_str());
-        match format!(in self.rt.alloc(); "{folder}/{path}") {
-            Ok(text) => Ok(text),
-            Err(_) => Err(CallError::Memory),
-        }
-    }
-
-    fn is_folder(&self, path: &str) -> Result<bool, CallError> {
-        Ok(finished(|| fs::metadata(&self.rt, path))?.is_dir())
+        Ok(format!(in self.rt.alloc(); "{folder}/{path}")?)
     }
 
     // What is no file is refused before it is opened: a pipe would be waited for, and a device has no end.
-    fn open_file(&self, path: &Path, how: &OpenOptions) -> Result<HostFile, CallError> {
+    fn open_file(&self, path: &Path, append: bool) -> Result<HostFile, CallError> {
         let path = self.path_of(path)?;
+        let mut how = File::options();
+        let _ = how.read(true).append(append);
         if !finished(|| fs::metadata(&self.rt, path.as_str()))?.is_file() {
             return Err(CallError::OtherKind);
         }
@@ -96,12 +91,9 @@ impl<R: Files<File = File> + AllocGlobal + Clone + Drop> HostCalls<R> {
         Ok(HostFile { file })
     }
 
-    // Whether a name in a folder is that of a folder, or else of a file; a link goes by what it leads to.
-    fn is_such(&self, path: &str, name: &str, folders: bool) -> Result<bool, CallError> {
-        let Ok(path) = format!(in self.rt.alloc(); "{path}/{name}") else {
-            return Err(CallError::Memory);
-        };
-        match finished(|| fs::metadata(&self.rt, path.as_str())) {
+    // Whether a path is that of a folder, or else of a file; a link goes by what it leads to.
+    fn is_such(&self, path: &str, folders: bool) -> Result<bool, CallError> {
+        match finished(|| fs::metadata(&self.rt, path)) {
             Ok(found) if folders => Ok(found.is_dir()),
             Ok(found) => Ok(found.is_file()),
             Err(CallError::NotFound) => Ok(false),
@@ -124,10 +116,8 @@ impl<R: Files<File = File> + AllocGlobal + Clone + Drop> HostCalls<R> {
                 Err(error) => return Err(error_of(&error)),
             };
             let name = entry.file_name();
-            if name.len() <= LONGEST_NAME && self.is_such(path.as_str(), name, folders)? {
-                if found.push(Name::new(name)).is_err() {
-                    return Err(CallError::Memory);
-                }
+            if name.len() <= LONGEST_NAME && self.is_such(entry.path().as_str(), folders)? {
+                found.push(Name::new(name))?;
             }
         }
         Ok(found)
@@ -145,22 +135,32 @@ impl<R: Files<File = File> + AllocGlobal + Clone + Drop> Calls for HostCalls<R> 
         if !found.is_file() && !found.is_dir() {
             return Err(CallError::OtherKind);
         }
-        let file = finished(|| File::open(&self.rt, path.as_str()))?;
+        let mut how = File::options();
+        let _ = how.read(true).write(found.is_file());
+        let file = finished(|| how.open(&self.rt, path.as_str()))?;
         match file.try_lock() {
             Ok(()) => {}
             Err(TryLockError::WouldBlock) => return Err(CallError::Locked),
             Err(TryLockError::Error(error)) => return Err(error_of(&error)),
         }
-        match self.locked.push(file) {
-            Ok(()) => Ok(()),
-            Err(_) => Err(CallError::Memory),
+        // Its last holder may have taken the name away: then this locks nothing.
+        let open = finished(|| file.metadata())?;
+        let named = finished(|| fs::metadata(&self.rt, path.as_str()))?;
+        if (open.dev(), open.ino()) != (named.dev(), named.ino()) {
+            return Err(CallError::Locked);
         }
+        self.locked.push(file)?;
+        Ok(())
+    }
+
+    fn unlock(&mut self) {
+        self.locked.clear();
     }
 
     fn make_folder(&mut self, path: &Path) -> Result<(), CallError> {
         let path = self.path_of(path)?;
         match finished(|| fs::create_dir(&self.rt, path.as_str())) {
-            Err(CallError::Exists) if self.is_folder(path.as_str())? => Ok(()),
+            Err(CallError::Exists) if self.is_such(path.as_str(), true)? => Ok(()),
             made => made,
         }
     }
@@ -187,15 +187,11 @@ impl<R: Files<File = File> + AllocGlobal + Clone + Drop> Calls for HostCalls<R> 
     }
 
     fn open(&mut self, path: &Path) -> Result<HostFile, CallError> {
-        let mut how = File::options();
-        let _ = how.read(true);
-        self.open_file(path, &how)
+        self.open_file(path, false)
     }
 
     fn open_to_append(&mut self, path: &Path) -> Result<HostFile, CallError> {
-        let mut how = File::options();
-        let _ = how.read(true).append(true);
-        self.open_file(path, &how)
+        self.open_file(path, true)
     }
 
     fn length(&mut self, file: &HostFile) -> Result<u64, CallError> {
@@ -241,10 +237,7 @@ impl<R: Files<File = File> + AllocGlobal + Clone + Drop> Calls for HostCalls<R> 
 
     fn part(&mut self, folder: &Path) -> Result<HostCalls<R>, CallError> {
         let folder = self.path_of(folder)?;
-        match self.rt.clone() {
-            Ok(rt) => Ok(HostCalls::new(rt, folder)),
-            Err(_) => Err(CallError::Memory),
-        }
+        Ok(HostCalls::new(self.rt.clone()?, folder))
     }
 
     fn take(&mut self, part: &mut HostCalls<R>, from: &Path, to: &Path) -> Result<(), CallError> {

@@ -3,6 +3,8 @@
 #![tactic(auto)]
 
 mod errors;
+mod file_system;
 mod host;
 
+pub use file_system::HostFileSystem;
 pub use host::{HostCalls, HostFile};

@@ -268,6 +268,8 @@ impl Calls for MemCalls {
         Ok(())
     }
 
+    fn unlock(&mut self) {}
+
     fn make_folder(&mut self, path: &Path) -> Result<(), CallError> {
         if self.file(path).is_some() {
             return Err(CallError::Exists);

@@ -8,6 +8,7 @@ ghost use Rattle.fsfs_folders.specs.Told.{LeavesImages};
 ghost use Rattle.fsfs_folders.specs.Keeping.{are_rooted};
 ghost use Rattle.fsfs_folders.specs.OpenFiles.{is_still};
 
+use crate::found::Found;
 use crate::last_read::{read_last, size_last};
 use fsfs_base::{Failed, Name};
 use fsfs_calls::{CallError, Calls};
@@ -27,6 +28,7 @@ pub struct FolderDisk<C: Calls + Drop> {
     alloc: Global,
     folders: Folders<C>,
     last_read: Option<Opened<C>>,
+    found: Found,
     path: String,
     writes: bool,
     faults: u64,
@@ -44,11 +46,18 @@ impl<C: Calls + Drop> FolderDisk<C> {
         ensures faults { result.faults ≡ 0 }
         ensures bench_faults { result.bench_faults ≡ 0 }
     {
-        FolderDisk::over(alloc, Folders::new(alloc, calls), path, writes)
+        let folders = Folders::new(alloc, calls);
+        FolderDisk::over(alloc, folders, Found::nothing(alloc), path, writes)
     }
 
     /// The disk of a path over what stands there.
-    pub fn over(alloc: Global, folders: Folders<C>, path: String, writes: bool) -> FolderDisk<C>
+    pub(crate) fn over(
+        alloc: Global,
+        folders: Folders<C>,
+        found: Found,
+        path: String,
+        writes: bool,
+    ) -> FolderDisk<C>
         ensures folders { result.folders ≡ folders }
         ensures path { result.path ≡ path }
         ensures writes { result.writes ≡ writes }
@@ -59,6 +68,7 @@ impl<C: Calls + Drop> FolderDisk<C> {
             alloc,
             folders,
             last_read: None,
+            found,
             path,
             writes,
             faults: 0,
@@ -66,8 +76,8 @@ impl<C: Calls + Drop> FolderDisk<C> {
         }
     }
 
-    /// Its path, and what stands there.
-    pub fn into_parts(self) -> (String, Folders<C>)
+    /// Its path, what stands there, and what its mount found there.
+    pub(crate) fn into_parts(self) -> (String, Folders<C>, Found)
         ensures path { result.0 ≡ self.path }
         ensures folders { result.1 ≡ self.folders }
     {
@@ -75,12 +85,13 @@ impl<C: Calls + Drop> FolderDisk<C> {
             alloc: _,
             folders,
             last_read: _,
+            found,
             path,
             writes: _,
             faults: _,
             bench_faults: _,
         } = self;
-        (path, folders)
+        (path, folders, found)
     }
 
     /// The calls that it stands on.

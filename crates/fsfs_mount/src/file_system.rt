@@ -1,10 +1,10 @@
 // Where repositories stand.
-ghost use Rattle.std.specs.Prelude.{◌≡◌, ◌≢◌, ℕ, List, Option, IfOk};
+ghost use Rattle.std.specs.Prelude.{◌≡◌, ℕ, List, [], Option, true, IfOk, IfSome};
 ghost use Rattle.fsfs_calls.specs.CallRecord.{CallRecord};
+ghost use Rattle.fsfs_folders.specs.Keeping.{are_rooted};
 
 use fsfs_base::Name;
 use fsfs_calls::{CallError, Calls};
-use fsfs_folders::Folders;
 use std::alloc::Global;
 
 /// What no two files or folders of a system have alike.
@@ -19,18 +19,15 @@ pub trait FileSystem {
     /// The calls on what stands below one folder.
     type Root: Calls + Drop;
 
-    /// What was called below the folder of a path, when it was handed out last or taken back; none where it doesn't tell.
+    /// With what the calls below the folder of a path are to begin; none where they don't tell. No call changes this.
     ghost record_at: { Self → List ℕ → Option CallRecord };
 
-    /// Hands out what stands below the folder of a path, whether there is such a folder or not.
-    fn open(&mut self, path: &str) -> Result<Folders<Self::Root>, CallError>
-        ensures record { IfOk result (λ folders. Self.Root.history folders.calls ≡ record_at self.old path.now) }
+    /// The calls on what stands below the folder of a path, whether there is such a folder or not. They begin, in a folder where
+    /// each file has its folders. Each path is asked for once.
+    fn open(&mut self, path: &str) -> Result<Self::Root, CallError>
+        ensures record { IfOk result (λ calls. Self.Root.history calls ≡ record_at self.old path.now) }
+        ensures begins { IfOk result (λ calls. IfSome (Self.Root.history calls) (λ r. (r.calls ≡ []) × (are_rooted r.first.folders r.first.files ≡ true))) }
         ensures same { (p : List ℕ) → record_at self.new p ≡ record_at self.old p };
-
-    /// Takes it back. The locks that were taken there are free.
-    fn close(&mut self, path: &str, folders: Folders<Self::Root>)
-        ensures back { record_at self.new path.now ≡ Self.Root.history folders.calls }
-        ensures others { (p : List ℕ) → p ≢ path.now → record_at self.new p ≡ record_at self.old p };
 
     /// Drops the folder of a path, if nothing stands in it. What is told stays: nothing was there.
     fn drop_empty(&mut self, path: &str)

@@ -1,23 +1,18 @@
 // A disk for each folder of a system.
-ghost use Rattle.std.specs.Prelude.{◌≡◌, ◌≢◌, ℕ, List, IfOk, string_bytes, ⊤};
-ghost use Rattle.fsfs_folders.specs.Standing.{told};
+ghost use Rattle.std.specs.Prelude.{◌≡◌, ℕ, List, None};
+ghost use Rattle.std.specs.BTreeMap.{get_by_text};
 
 use crate::disk::FolderDisk;
 use crate::file_system::FileSystem;
-use crate::mounting::{Found, give_back, open_disk};
-use fsfs_calls::CallError;
+use crate::mounting::{give_back, open_disk};
 use fsfs_disk::{Host, MountFault};
-use fsfs_folders::counted;
+use fsfs_folders::{Folders, counted};
 use std::alloc::Global;
-
-// A path that is mounted, and what was found there.
-#[derive(Drop)]
-struct MountedPath {
-    path: String,
-    found: Found,
-}
+use std::collections::BTreeMap;
 
 /// The folders of a system, a disk for each path.
+///
+/// What stands at a path is kept from one mount to the next, with what isn't firm there. Only the locks go as a disk is given back.
 ///
 /// A path that is mounted can't be mounted again, nor can one without a letter. A path where nothing is can be mounted: no file is
 /// found there. To write there its folder and `db` are made, and where no repository comes to stand they go again as the disk is
@@ -26,7 +21,8 @@ struct MountedPath {
 pub struct FolderHost<F: FileSystem + Drop> {
     alloc: Global,
     files: F,
-    mounted: Vec<MountedPath>,
+    // What stands at each path that was mounted; nothing while its disk is out.
+    places: BTreeMap<String, Option<Folders<F::Root>>>,
     mount_faults: u64,
     disk_faults: u64,
     bench_faults: u64,
@@ -36,6 +32,7 @@ impl<F: FileSystem + Drop> FolderHost<F> {
     /// The host over a system, with nothing mounted and no failure counted.
     pub fn new(alloc: Global, files: F) -> FolderHost<F>
         ensures files { result.files ≡ files }
+        ensures places { (path : List ℕ) → get_by_text result.places path ≡ None }
         ensures mounts { result.mount_faults ≡ 0 }
         ensures disks { result.disk_faults ≡ 0 }
         ensures benches { result.bench_faults ≡ 0 }
@@ -43,7 +40,7 @@ impl<F: FileSystem + Drop> FolderHost<F> {
         FolderHost {
             alloc,
             files,
-            mounted: Vec::new(alloc),
+            places: BTreeMap::new(alloc),
             mount_faults: 0,
             disk_faults: 0,
             bench_faults: 0,
@@ -51,73 +48,16 @@ impl<F: FileSystem + Drop> FolderHost<F> {
     }
 }
 
-// Whether the path is a path, and isn't mounted.
-fn is_free(mounted: &[MountedPath], path: &str) -> bool {
-    !path.is_empty() && !mounted.iter().any(|other| other.path.as_str() == path)
-}
-
-// Notes a path that is to be mounted.
-fn note(alloc: Global, mounted: &mut Vec<MountedPath>, path: &str) -> Result<(), CallError> {
-    let path = String::from_str(alloc, path)?;
-    let found = Found::nothing(alloc);
-    mounted.push(MountedPath { path, found })?;
-    Ok(())
-}
-
-// Notes what was found at the path that was noted last.
-fn keep(mounted: &mut Vec<MountedPath>, found: Found) {
-    if let Some(last) = mounted.last_mut() {
-        last.found = found;
-    }
-}
-
-// Forgets a path, and answers what was found there.
-fn forget(alloc: Global, mounted: &mut Vec<MountedPath>, path: &str) -> Found {
-    match mounted.iter().position(|other| other.path.as_str() == path) {
-        Some(at) => mounted.swap_remove(at).found,
-        None => Found::nothing(alloc),
-    }
-}
-
-// Opens the disk of a path that isn't mounted, and notes the path.
-fn mount_at<F: FileSystem>(
-    alloc: Global,
-    files: &mut F,
-    mounted: &mut Vec<MountedPath>,
-    path: &str,
-    writes: bool,
-) -> Result<FolderDisk<F::Root>, CallError>
-    ensures told { IfOk result (λ disk. told (F.Root.history disk.folders.calls) ≡ told (F.record_at files.old path.now)) }
-    ensures same { (p : List ℕ) → told (F.record_at files.new p) ≡ told (F.record_at files.old p) }
-    ensures path { IfOk result (λ disk. string_bytes disk.path ≡ path.now) }
-    ensures writes { IfOk result (λ disk. disk.writes ≡ writes) }
-    ensures faults { IfOk result (λ disk. disk.faults ≡ 0) }
-    ensures benches { IfOk result (λ disk. disk.bench_faults ≡ 0) }
-{
-    if !is_free(mounted.as_slice(), path) {
-        return Err(CallError::Exists);
-    }
-    note(alloc, mounted, path)?;
-    match open_disk(alloc, files, path, writes) {
-        Ok((disk, found)) => {
-            keep(mounted, found);
-            Ok(disk)
-        }
-        Err(error) => {
-            let _ = mounted.pop();
-            Err(error)
-        }
-    }
-}
-
 impl<F: FileSystem + Drop> Host for FolderHost<F> {
-    ghost use Rattle.fsfs_folders.specs.Standing.{told};
+    ghost use Rattle.std.specs.Prelude.{◌≡◌, Some, None};
+    ghost use Rattle.std.specs.BTreeMap.{get_by_text};
+    ghost use Rattle.fsfs_mount.specs.Places.{told_at};
 
     type Mounted = FolderDisk<F::Root>;
 
-    ghost disk_at = { λ host path. told (F.FileSystem.record_at host.files path) };
+    ghost disk_at = { λ host path. told_at (λ folders. F.Root.Calls.history folders.calls) (get_by_text host.places path) (F.FileSystem.record_at host.files path) };
 
-    ghost is_mounted = { λ _ _. ⊤ };
+    ghost is_mounted = { λ host path. get_by_text host.places path ≡ Some None };
 
     ghost mount_faults = { λ host. host.mount_faults };
 
@@ -126,7 +66,7 @@ impl<F: FileSystem + Drop> Host for FolderHost<F> {
     ghost bench_faults = { λ host. host.bench_faults };
 
     fn mount(&mut self, path: &str, writes: bool) -> Result<FolderDisk<F::Root>, MountFault> {
-        let opened = mount_at(self.alloc, &mut self.files, &mut self.mounted, path, writes);
+        let opened = open_disk(self.alloc, &mut self.files, &mut self.places, path, writes);
         match counted(&mut self.mount_faults, opened) {
             Ok(disk) => Ok(disk),
             Err(_) => Err(MountFault),
@@ -136,8 +76,14 @@ impl<F: FileSystem + Drop> Host for FolderHost<F> {
     fn unmount(&mut self, disk: FolderDisk<F::Root>) {
         self.disk_faults = self.disk_faults.saturating_add(disk.faults());
         self.bench_faults = self.bench_faults.saturating_add(disk.bench_faults());
-        let (path, folders) = disk.into_parts();
-        let found = forget(self.alloc, &mut self.mounted, path.as_str());
-        give_back(self.alloc, &mut self.files, path.as_str(), folders, &found);
+        let (path, folders, found) = disk.into_parts();
+        give_back(
+            self.alloc,
+            &mut self.files,
+            &mut self.places,
+            path.as_str(),
+            folders,
+            &found,
+        );
     }
 }

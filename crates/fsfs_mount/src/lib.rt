@@ -4,10 +4,12 @@
 mod disk;
 mod doubts;
 mod file_system;
+mod found;
 mod ground;
 mod host;
 mod last_read;
 mod mounting;
+mod places;
 
 pub use disk::FolderDisk;
 pub use file_system::{FileId, FileSystem};

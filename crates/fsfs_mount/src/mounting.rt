@@ -1,35 +1,21 @@
 // What a mount makes ready, and what it takes away again.
-ghost use Rattle.std.specs.Prelude.{◌≡◌, ◌≢◌, ℕ, List, IfOk, string_bytes};
+ghost use Rattle.std.specs.Prelude.{◌≡◌, ◌≢◌, ℕ, List, Some, None, IfOk, OnOk, OnErr, string_bytes};
+ghost use Rattle.std.specs.BTreeMap.{get_by_text};
 ghost use Rattle.fsfs_folders.specs.Standing.{told};
+ghost use Rattle.fsfs_mount.specs.Places.{told_at};
 
 use crate::disk::FolderDisk;
 use crate::doubts::doubt_names;
 use crate::file_system::FileSystem;
+use crate::found::Found;
 use crate::ground::{absent_folders, is_there, refuse_below_repository};
+use crate::places::{add, put_back, take};
 use fsfs_base::Name;
 use fsfs_calls::{CallError, Calls, Path};
 use fsfs_folders::Folders;
 use fsfs_layout::OnlyFile;
 use std::alloc::Global;
-
-/// What a mount found at its path.
-#[derive(Drop)]
-pub struct Found {
-    // There was no folder, and one was made.
-    is_new: bool,
-    // The folders of a creation that weren't there, those above first; none where there was a repository.
-    absent: Vec<Name>,
-}
-
-impl Found {
-    /// Nothing to be taken away again.
-    pub fn nothing(alloc: Global) -> Found {
-        Found {
-            is_new: false,
-            absent: Vec::new(alloc),
-        }
-    }
-}
+use std::collections::BTreeMap;
 
 // The lock that Subversion's own writers take, where its file is there.
 fn lock_file<C: Calls + Drop>(folders: &mut Folders<C>) -> Result<(), CallError>
@@ -136,26 +122,69 @@ fn prepare_if<F: FileSystem>(
     prepare(alloc, files, folders, path)
 }
 
-/// The disk of a path, made ready if it is to be written, and what was found there.
+// Makes the place of a path, where there is none.
+fn make_place<F: FileSystem>(
+    alloc: Global,
+    files: &mut F,
+    places: &mut BTreeMap<String, Option<Folders<F::Root>>>,
+    path: &str,
+) -> Result<(), CallError>
+    ensures { (p : List ℕ) → told_at (λ folders. F.Root.history folders.calls) (get_by_text places.new p) (F.record_at files.new p) ≡ told_at (λ folders. F.Root.history folders.calls) (get_by_text places.old p) (F.record_at files.old p) }
+{
+    if places.contains_key(path) {
+        return Ok(());
+    }
+    let owned = String::from_str(alloc, path)?;
+    let calls = files.open(path)?;
+    add(places, owned, Folders::new(alloc, calls))
+}
+
+// Takes out of its place what stands at a path. `Exists`: it is out.
+fn take_out<F: FileSystem>(
+    alloc: Global,
+    files: &mut F,
+    places: &mut BTreeMap<String, Option<Folders<F::Root>>>,
+    path: &str,
+) -> Result<Folders<F::Root>, CallError>
+    ensures told { IfOk result (λ folders. told (F.Root.history folders.calls) ≡ told_at (λ folders. F.Root.history folders.calls) (get_by_text places.old path.now) (F.record_at files.old path.now)) }
+    ensures out { OnOk result (get_by_text places.new path.now ≡ Some None) }
+    ensures others { (p : List ℕ) → p ≢ path.now → told_at (λ folders. F.Root.history folders.calls) (get_by_text places.new p) (F.record_at files.new p) ≡ told_at (λ folders. F.Root.history folders.calls) (get_by_text places.old p) (F.record_at files.old p) }
+    ensures err { OnErr result (told_at (λ folders. F.Root.history folders.calls) (get_by_text places.new path.now) (F.record_at files.new path.now) ≡ told_at (λ folders. F.Root.history folders.calls) (get_by_text places.old path.now) (F.record_at files.old path.now)) }
+{
+    make_place(alloc, files, places, path)?;
+    match take(places, path) {
+        Some(folders) => Ok(folders),
+        None => Err(CallError::Exists),
+    }
+}
+
+/// The disk of a path that isn't mounted, made ready if it is to be written.
 pub fn open_disk<F: FileSystem>(
     alloc: Global,
     files: &mut F,
+    places: &mut BTreeMap<String, Option<Folders<F::Root>>>,
     path: &str,
     writes: bool,
-) -> Result<(FolderDisk<F::Root>, Found), CallError>
-    ensures told { IfOk result (λ opened. told (F.Root.history opened.0.folders.calls) ≡ told (F.record_at files.old path.now)) }
-    ensures same { (p : List ℕ) → told (F.record_at files.new p) ≡ told (F.record_at files.old p) }
-    ensures path { IfOk result (λ opened. string_bytes opened.0.path ≡ path.now) }
-    ensures writes { IfOk result (λ opened. opened.0.writes ≡ writes) }
-    ensures faults { IfOk result (λ opened. opened.0.faults ≡ 0) }
-    ensures benches { IfOk result (λ opened. opened.0.bench_faults ≡ 0) }
+) -> Result<FolderDisk<F::Root>, CallError>
+    ensures told { IfOk result (λ disk. told (F.Root.history disk.folders.calls) ≡ told_at (λ folders. F.Root.history folders.calls) (get_by_text places.old path.now) (F.record_at files.old path.now)) }
+    ensures out { OnOk result (get_by_text places.new path.now ≡ Some None) }
+    ensures others { (p : List ℕ) → p ≢ path.now → told_at (λ folders. F.Root.history folders.calls) (get_by_text places.new p) (F.record_at files.new p) ≡ told_at (λ folders. F.Root.history folders.calls) (get_by_text places.old p) (F.record_at files.old p) }
+    ensures err { OnErr result (told_at (λ folders. F.Root.history folders.calls) (get_by_text places.new path.now) (F.record_at files.new path.now) ≡ told_at (λ folders. F.Root.history folders.calls) (get_by_text places.old path.now) (F.record_at files.old path.now)) }
+    ensures path { IfOk result (λ disk. string_bytes disk.path ≡ path.now) }
+    ensures writes { IfOk result (λ disk. disk.writes ≡ writes) }
+    ensures faults { IfOk result (λ disk. disk.faults ≡ 0) }
+    ensures benches { IfOk result (λ disk. disk.bench_faults ≡ 0) }
 {
+    if path.is_empty() {
+        return Err(CallError::NotFound);
+    }
     let owned = String::from_str(alloc, path)?;
-    let mut folders = files.open(path)?;
+    let mut folders = take_out(alloc, files, places, path)?;
     match prepare_if(alloc, files, &mut folders, path, writes) {
-        Ok(found) => Ok((FolderDisk::over(alloc, folders, owned, writes), found)),
+        Ok(found) => Ok(FolderDisk::over(alloc, folders, found, owned, writes)),
         Err(error) => {
-            files.close(path, folders);
+            folders.unlock();
+            put_back(places, path, folders);
             Err(error)
         }
     }
@@ -198,18 +227,21 @@ fn take_away<F: FileSystem>(
     }
 }
 
-/// Gives back what stands at a path, without what was made there for nothing.
+/// Puts back what stands at a path, without its locks and what was made there for nothing.
 pub fn give_back<F: FileSystem>(
     alloc: Global,
     files: &mut F,
+    places: &mut BTreeMap<String, Option<Folders<F::Root>>>,
     path: &str,
     folders: Folders<F::Root>,
     found: &Found,
 )
-    ensures back { told (F.record_at files.new path.now) ≡ told (F.Root.history folders.calls) }
-    ensures others { (p : List ℕ) → p ≢ path.now → told (F.record_at files.new p) ≡ told (F.record_at files.old p) }
+    requires { get_by_text places.old path.now ≡ Some None }
+    ensures back { told_at (λ folders. F.Root.history folders.calls) (get_by_text places.new path.now) (F.record_at files.new path.now) ≡ told (F.Root.history folders.calls) }
+    ensures others { (p : List ℕ) → p ≢ path.now → told_at (λ folders. F.Root.history folders.calls) (get_by_text places.new p) (F.record_at files.new p) ≡ told_at (λ folders. F.Root.history folders.calls) (get_by_text places.old p) (F.record_at files.old p) }
 {
     let mut folders = folders;
     take_away(alloc, files, &mut folders, path, found);
-    files.close(path, folders);
+    folders.unlock();
+    put_back(places, path, folders);
 }

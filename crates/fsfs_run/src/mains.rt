@@ -1,7 +1,9 @@
 //! What the mains of all programs do.
 
 use fsfs_faults::{Fault, OutsideFault, print_fault, status};
-use fsfs_hostdisk::{Machine, OpenGate, StreamSink, StreamSource, SystemClock, SystemDice, words};
+use fsfs_hostcalls::HostFileSystem;
+use fsfs_mount::FolderHost;
+use fsfs_outside::{OpenGate, StreamSink, StreamSource, SystemClock, SystemDice, words};
 use fsfs_top::{Tool, command};
 use std::process::ExitCode;
 
@@ -23,7 +25,7 @@ pub fn run(rt: HostRuntime, tool: Tool) -> ExitCode {
         rt.alloc(),
         tool,
         &words,
-        &mut Machine::new(rt),
+        &mut FolderHost::new(rt.alloc(), HostFileSystem::new(rt)),
         &mut StreamSource::new(rt.stdin()),
         &mut StreamSink::new(rt.stdout()),
         &mut err,

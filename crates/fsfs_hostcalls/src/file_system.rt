@@ -1,0 +1,59 @@
+// The folders of the machine, by their paths.
+ghost use Rattle.std.specs.Prelude.{None};
+
+use crate::errors::finished;
+use crate::host::{HostCalls, LONGEST_NAME};
+use fsfs_base::Name;
+use fsfs_calls::CallError;
+use fsfs_mount::{FileId, FileSystem};
+use std::alloc::{AllocGlobal, Global};
+use std::fs;
+use std::fs::{File, Files};
+use std::os::unix::fs::MetadataExt;
+
+/// The folders of the machine. They tell nothing of what they hold.
+#[derive(Drop)]
+pub struct HostFileSystem<R: Files<File = File> + AllocGlobal + Clone + Drop> {
+    rt: R,
+}
+
+impl<R: Files<File = File> + AllocGlobal + Clone + Drop> HostFileSystem<R> {
+    /// The folders behind a runtime.
+    pub fn new(rt: R) -> HostFileSystem<R> {
+        HostFileSystem { rt }
+    }
+}
+
+impl<R: Files<File = File> + AllocGlobal + Clone + Drop> FileSystem for HostFileSystem<R> {
+    type Root = HostCalls<R>;
+
+    ghost record_at = { λ _ _. None };
+
+    fn open(&mut self, path: &str) -> Result<HostCalls<R>, CallError> {
+        let folder = String::from_str(self.rt.alloc(), path)?;
+        Ok(HostCalls::new(self.rt.clone()?, folder))
+    }
+
+    fn drop_empty(&mut self, path: &str) {
+        let _ = finished(|| fs::remove_dir(&self.rt, path));
+    }
+
+    fn id(&self, path: &str) -> Result<FileId, CallError> {
+        let found = finished(|| fs::metadata(&self.rt, path))?;
+        let (device, number) = (found.dev(), found.ino());
+        Ok(FileId { device, number })
+    }
+
+    fn entries(&self, alloc: Global, folder: &str) -> Result<Vec<Name>, CallError> {
+        let mut found = Vec::new(alloc);
+        for entry in finished(|| fs::read_dir(&self.rt, folder))? {
+            match entry {
+                Ok(entry) if entry.file_name().len() <= LONGEST_NAME => {
+                    found.push(Name::new(entry.file_name()))?;
+                }
+                _ => return Err(CallError::Failed),
+            }
+        }
+        Ok(found)
+    }
+}

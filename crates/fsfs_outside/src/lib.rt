@@ -1,0 +1,12 @@
+//! The real outside of the programs but for disks: the machine's standard streams, its clock, its random bytes and the words of the
+//! command line. The streams tell nothing of what comes or goes, and count their failures.
+#![tactic(auto)]
+
+mod arguments;
+mod faults;
+mod once;
+mod standard;
+
+pub use arguments::words;
+pub use once::{OpenGate, SystemClock, SystemDice};
+pub use standard::{StreamSink, StreamSource};
