@@ -96,6 +96,9 @@ own_path = own_by (codes "PATH") 80 refl (λ e. omega (arith, e)) (λ e. omega (
 pub own_shard : IsOwn (codes "shard")
 own_shard = own_by (codes "shard") 115 refl (λ e. omega (arith, e)) (λ e. omega (arith, e)) (λ e. omega (arith, e))
 
+pub own_txns : IsOwn (codes "TXN")
+own_txns = own_by (codes "TXN") 84 refl (λ e. omega (arith, e)) (λ e. omega (arith, e)) (λ e. omega (arith, e))
+
 pub own_revision : IsOwn (codes "revision")
 own_revision = own_by (codes "revision") 114 refl (λ e. omega (arith, e)) (λ e. omega (arith, e)) (λ e. omega (arith, e))
 

@@ -6,4 +6,5 @@ pub mod ChainLemmas
 pub mod CommandLemmas
 pub mod TaskLemmas
 pub mod PathWords
+pub mod TxnWords
 pub mod OneMeaning

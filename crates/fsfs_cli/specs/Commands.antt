@@ -2,11 +2,11 @@
 use Rattle.std.specs.Prelude.{List, [], ℕ, Option, Some, None, codes, if◌then◌else◌, true}
 use Rattle.std.specs.Str.{bytes_eq}
 use Rattle.clap.specs.Words.{App, Rule, new_app, new_rule, with_rule}
-use Rattle.clap.specs.declared.builder.action.ArgAction.TheVariants.{Set, SetTrue}
+use Rattle.clap.specs.declared.builder.action.ArgAction.TheVariants.{Set, Append, SetTrue}
 use Rattle.fsfs_cli.specs.declared.tool.Tool.{Tool}
 use Rattle.fsfs_cli.specs.declared.tool.Tool.TheVariants.{Admin, Look, Jobs}
 use Rattle.fsfs_cli.specs.declared.verb.Verb.{Verb}
-use Rattle.fsfs_cli.specs.declared.verb.Verb.TheVariants.{Create, Youngest, Uuid, Tree, Cat, Author, Date, Log, Info, Changed, History}
+use Rattle.fsfs_cli.specs.declared.verb.Verb.TheVariants.{Create, ListTxns, RemoveTxns, Youngest, Uuid, Tree, Cat, Author, Date, Log, Info, Changed, History}
 
 abbrev pub tool_name : Tool → List ℕ
 tool_name Admin = codes "svnadmin"
@@ -33,8 +33,15 @@ look_verb word =
     else if bytes_eq word (codes "history") then Some History
     else revision_verb word
 
+abbrev pub admin_verb : List ℕ → Option Verb
+admin_verb word =
+    if bytes_eq word (codes "create") then Some Create
+    else if bytes_eq word (codes "lstxns") then Some ListTxns
+    else if bytes_eq word (codes "rmtxns") then Some RemoveTxns
+    else None
+
 abbrev pub verb_named : Tool → List ℕ → Option Verb
-verb_named Admin word = if bytes_eq word (codes "create") then Some Create else None
+verb_named Admin word = admin_verb word
 verb_named Look word = look_verb word
 verb_named Jobs word = None
 
@@ -47,6 +54,10 @@ repos_rule = record (new_rule (codes "REPOS")) { required = true; action = Some 
 -- [--shard N]
 abbrev pub shard_rule : Rule
 shard_rule = record (new_rule (codes "shard")) { long = Some (codes "shard") }
+
+-- TXN.., one or more
+abbrev pub txns_rule : Rule
+txns_rule = record (new_rule (codes "TXN")) { required = true; action = Some Append }
 
 -- [-r REV] or [--revision REV]
 abbrev pub revision_rule : Rule
@@ -73,6 +84,14 @@ bare word = record { top = record (new_app word).top { no_binary_name = true }; 
 -- create REPOS [--shard N]
 abbrev pub create_app : App
 create_app = with_rule (with_rule (bare (codes "create")) repos_rule) shard_rule
+
+-- lstxns REPOS
+abbrev pub lstxns_app : App
+lstxns_app = with_rule (bare (codes "lstxns")) repos_rule
+
+-- rmtxns REPOS TXN..
+abbrev pub rmtxns_app : App
+rmtxns_app = with_rule (with_rule (bare (codes "rmtxns")) repos_rule) txns_rule
 
 -- youngest REPOS
 abbrev pub youngest_app : App

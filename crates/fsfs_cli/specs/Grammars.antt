@@ -1,11 +1,12 @@
--- The grammars of single words: a revision, the size of a shard, a path. (This project's profile.)
-use Rattle.std.specs.Prelude.{◌≡◌, ◌≤◌, ℕ, List, [], ◌∷◌, ◌==◌, ◌&&◌, nat_lt, nat_le, length, Option, Some, None, Bool, if◌then◌else◌, decimal}
+-- The grammars of single words: a revision, the size of a shard, names of transactions, a path. (This project's profile.)
+use Rattle.std.specs.Prelude.{◌≡◌, ◌≤◌, ℕ, List, [], ◌∷◌, ◌==◌, ◌&&◌, nat_lt, nat_le, length, Option, Some, None, option_map, option_and_then, Bool, if◌then◌else◌, decimal}
 use Rattle.std.specs.Char.{is_ascii_digit}
 use Rattle.std.specs.List.{list_all}
 use Rattle.std.specs.Str.{bytes_eq}
 use Rattle.std.specs.Str.Parse.{digits_value}
 use Rattle.fsfs_base.specs.Paths.{Path, path_text}
 use Rattle.fsfs_base.specs.PathTexts.{IsPath}
+use Rattle.fsfs_fields.specs.TxnNames.{txn_name_at}
 
 -- REV: one to ten digits
 abbrev pub is_revision : List ℕ → Bool
@@ -25,6 +26,11 @@ is_shard text shard = bytes_eq text (decimal shard) && nat_le 1 shard && nat_le 
 -- that number
 unfoldable pub shard_of : List ℕ → Option ℕ
 shard_of text = if is_shard text (digits_value 10 text) then Some (digits_value 10 text) else None
+
+-- TXN..: the base and the number of the transaction that each word names; none where one of them names none
+abbrev pub txns_named : List (List ℕ) → Option (List (ℕ × ℕ))
+txns_named [] = Some []
+txns_named (word ∷ words) = option_and_then (λ txn. option_map (λ txns. txn ∷ txns) (txns_named words)) (txn_name_at word)
 
 -- ---- PATH: a word without a `/` at its beginning gets one, and one `/` at its end is dropped, so that `/` stays
 

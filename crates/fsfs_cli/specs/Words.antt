@@ -2,13 +2,13 @@
 use Rattle.std.specs.Prelude.{ℕ, List, [], ◌∷◌, Option, Some, None, Bool, false, codes, unwrap_or, option_map, option_and_then, if◌then◌else◌}
 use Rattle.std.specs.Option.{option_map_or}
 use Rattle.std.specs.Str.{bytes_eq}
-use Rattle.clap.specs.Words.{App, Row, fault_of, first_of, matches_of}
+use Rattle.clap.specs.Words.{App, Row, all_of, fault_of, first_of, matches_of}
 use Rattle.clap.specs.Walk.{is_empty}
-use Rattle.fsfs_cli.specs.Commands.{verb_named, create_app, youngest_app, uuid_app, revision_app, tree_app, history_app, cat_app}
-use Rattle.fsfs_cli.specs.Grammars.{revision_of, shard_of}
+use Rattle.fsfs_cli.specs.Commands.{verb_named, create_app, lstxns_app, rmtxns_app, youngest_app, uuid_app, revision_app, tree_app, history_app, cat_app}
+use Rattle.fsfs_cli.specs.Grammars.{revision_of, shard_of, txns_named}
 use Rattle.fsfs_base.specs.Paths.{Path}
 use Rattle.fsfs_cli.specs.declared.request.Task.{Task}
-use Rattle.fsfs_cli.specs.declared.request.Task.TheVariants.{Create, Look}
+use Rattle.fsfs_cli.specs.declared.request.Task.TheVariants.{Create, ListTxns, RemoveTxns, Look}
 use Rattle.fsfs_cli.specs.declared.request.Look.TheVariants.{Youngest, Uuid, AtRevision}
 use Rattle.fsfs_cli.specs.declared.request.Printed.{Printed}
 use Rattle.fsfs_cli.specs.declared.request.Printed.TheVariants.{Tree, Text, Author, Date, Log, Info, Changed, History}
@@ -42,6 +42,10 @@ revision_in rows = number_of revision_of (first_of (codes "revision") rows)
 abbrev pub shard_in : List Row → Option ℕ
 shard_in rows = option_map (λ n. unwrap_or n 1000) (number_of shard_of (first_of (codes "shard") rows))
 
+-- TXN..
+abbrev pub txns_in : List Row → Option (List (ℕ × ℕ))
+txns_in rows = txns_named (unwrap_or (all_of (codes "TXN") rows) [])
+
 -- [--show-ids]
 abbrev pub shows_ids : List Row → Bool
 shows_ids rows = option_map_or (λ word. bytes_eq word (codes "true")) (first_of (codes "show-ids") rows) false
@@ -69,6 +73,9 @@ look_at revision printed = Look (AtRevision (record { revision = revision; print
 abbrev pub create_in : List Row → ℕ → Asked
 create_in rows shard = pathless rows (Create shard)
 
+abbrev pub rmtxns_in : List Row → List (ℕ × ℕ) → Asked
+rmtxns_in rows txns = pathless rows (RemoveTxns txns)
+
 -- the tree from a path on, from `/` where it is left out
 abbrev pub tree_in : List Row → Option ℕ → Asked
 tree_in rows revision = record { repos = repos_in rows; path = path_in rows; task = λ path. look_at revision (Tree (shows_ids rows) path) }
@@ -86,6 +93,9 @@ printed_in printed rows revision = pathless rows (look_at revision printed)
 
 abbrev pub create_asked : List Row → Option Asked
 create_asked rows = option_map (create_in rows) (shard_in rows)
+
+abbrev pub rmtxns_asked : List Row → Option Asked
+rmtxns_asked rows = option_map (rmtxns_in rows) (txns_in rows)
 
 abbrev pub tree_asked : List Row → Option Asked
 tree_asked rows = option_map (tree_in rows) (revision_in rows)
@@ -106,6 +116,8 @@ printed_by word printed words = option_and_then (printed_asked printed) (taken (
 -- the words behind a command's own
 abbrev pub asked_by : Verb → List (List ℕ) → Option Asked
 asked_by verb.Create words = option_and_then create_asked (taken create_app words)
+asked_by verb.ListTxns words = option_map (λ rows. pathless rows ListTxns) (taken lstxns_app words)
+asked_by verb.RemoveTxns words = option_and_then rmtxns_asked (taken rmtxns_app words)
 asked_by verb.Youngest words = option_map (λ rows. pathless rows (Look Youngest)) (taken youngest_app words)
 asked_by verb.Uuid words = option_map (λ rows. pathless rows (Look Uuid)) (taken uuid_app words)
 asked_by verb.Tree words = option_and_then tree_asked (taken tree_app words)

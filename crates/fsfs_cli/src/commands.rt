@@ -3,7 +3,7 @@ ghost use Rattle.std.specs.Prelude.{◌≡◌, ◌∷◌, [], IfOk, codes};
 ghost use Rattle.clap.specs.Words.{app_of, rule_of, with_rule};
 ghost use Rattle.clap.specs.declared.builder.arg.Arg.{Arg};
 ghost use Rattle.fsfs_cli.specs.Chains.{Fits, NeedsValue, IsChain, HasValue};
-ghost use Rattle.fsfs_cli.specs.Commands.{bare as bare_app, repos_rule, shard_rule, revision_rule, show_ids_rule, path_rule, needed_path_rule, create_app, revision_app, tree_app, history_app, cat_app};
+ghost use Rattle.fsfs_cli.specs.Commands.{bare as bare_app, repos_rule, shard_rule, txns_rule, revision_rule, show_ids_rule, path_rule, needed_path_rule, create_app, rmtxns_app, revision_app, tree_app, history_app, cat_app};
 
 use clap::{Arg, ArgAction, Command};
 use std::alloc::{AllocError, Global};
@@ -24,6 +24,16 @@ fn shard<'a>(alloc: Global) -> Arg<'a>
     ensures fits { Fits (codes "shard") result }
 {
     Arg::new(alloc, "shard").long("shard")
+}
+
+// TXN..
+fn txns<'a>(alloc: Global) -> Arg<'a>
+    ensures rule { rule_of result ≡ txns_rule }
+    ensures fits { Fits (codes "TXN") result }
+{
+    Arg::new(alloc, "TXN")
+        .required(true)
+        .action(ArgAction::Append)
 }
 
 // [-r REV]
@@ -84,6 +94,14 @@ pub fn create_command<'a>(alloc: Global) -> Result<Command<'a>, AllocError>
     ensures repos { IfOk result (HasValue (codes "REPOS")) }
 {
     look_command(alloc, "create")?.arg(shard(alloc))
+}
+
+/// `rmtxns REPOS TXN..`.
+pub fn rmtxns_command<'a>(alloc: Global) -> Result<Command<'a>, AllocError>
+    ensures app { IfOk result (λ c. app_of c ≡ rmtxns_app) }
+    ensures repos { IfOk result (HasValue (codes "REPOS")) }
+{
+    look_command(alloc, "rmtxns")?.arg(txns(alloc))
 }
 
 /// A command with a revision and REPOS: `WORD [-r REV] REPOS`.

@@ -9,6 +9,7 @@ mod request;
 mod revision;
 mod shard;
 mod tool;
+mod txn_names;
 mod verb;
 
 pub use fault::WordsFault;
@@ -18,3 +19,4 @@ pub use request::{Look, Printed, Request, RevisionLook, Task};
 pub use revision::read_revision;
 pub use shard::read_shard;
 pub use tool::Tool;
+pub use txn_names::{TxnNames, read_txns};

@@ -2,11 +2,12 @@
 ghost use Rattle.std.specs.Prelude.{◌≡◌, ◌==◌, ℕ, List, map, string_bytes, true, is_some, option_map, IfOk};
 ghost use Rattle.clap.specs.Words.{app_of, found_of, is_simple_and_free, rows_of, first_of, IsParsedFrom};
 ghost use Rattle.fsfs_cli.specs.Commands.{revision_app};
-ghost use Rattle.fsfs_cli.specs.Words.{taken, asked, asked_by, printed_by, revision_in, shard_in, shows_ids, path_in, required_in};
+ghost use Rattle.fsfs_cli.specs.Words.{taken, asked, asked_by, printed_by, revision_in, shard_in, txns_in, shows_ids, path_in, required_in};
 ghost use Rattle.fsfs_cli.specs.Readings.{Reads, Finds, GivesPath};
 
 use crate::commands::{
-    cat_command, create_command, history_command, look_command, revision_command, tree_command,
+    cat_command, create_command, history_command, look_command, revision_command, rmtxns_command,
+    tree_command,
 };
 use crate::fault::WordsFault;
 use crate::path_word::read_path;
@@ -14,6 +15,7 @@ use crate::request::{Look, Printed, Request, RevisionLook, Task};
 use crate::revision::read_revision;
 use crate::shard::read_shard;
 use crate::tool::Tool;
+use crate::txn_names::{TxnNames, read_txns};
 use crate::verb::{Verb, verb_of};
 use clap::error::ErrorKind;
 use clap::{ArgMatches, Command};
@@ -82,6 +84,16 @@ fn shard_given(matches: &ArgMatches<'_>) -> Result<u32, WordsFault>
     }
 }
 
+// TXN..
+fn txns_given(alloc: Global, matches: &ArgMatches<'_>) -> Result<TxnNames, WordsFault>
+    ensures { Finds (txns_in (rows_of (found_of matches.now))) (λ names. names) result }
+{
+    match matches.get_strs("TXN") {
+        Some(words) => read_txns(alloc, words),
+        None => read_txns(alloc, &[]),
+    }
+}
+
 // [--show-ids]
 fn shows_ids_given(matches: &ArgMatches<'_>) -> bool
     ensures { result ≡ shows_ids (rows_of (found_of matches.now)) }
@@ -109,6 +121,25 @@ fn read_create<'a>(alloc: Global, words: &'a [String]) -> Result<Request<'a>, Wo
     let repos = required(&matches, "REPOS");
     let shard = shard_given(&matches)?;
     let task = Task::Create { shard };
+    Ok(Request { repos, task })
+}
+
+fn read_lstxns<'a>(alloc: Global, words: &'a [String]) -> Result<Request<'a>, WordsFault>
+    ensures { Reads (asked_by Verb.ListTxns (map string_bytes words.entry.now)) result }
+{
+    let matches = matches_of(look_command(alloc, "lstxns")?, words)?;
+    let repos = required(&matches, "REPOS");
+    let task = Task::ListTxns;
+    Ok(Request { repos, task })
+}
+
+fn read_rmtxns<'a>(alloc: Global, words: &'a [String]) -> Result<Request<'a>, WordsFault>
+    ensures { Reads (asked_by Verb.RemoveTxns (map string_bytes words.entry.now)) result }
+{
+    let matches = matches_of(rmtxns_command(alloc)?, words)?;
+    let repos = required(&matches, "REPOS");
+    let names = txns_given(alloc, &matches)?;
+    let task = Task::RemoveTxns { names };
     Ok(Request { repos, task })
 }
 
@@ -198,6 +229,8 @@ pub fn read_words<'a>(
     };
     match verb_of(tool, word.as_str()) {
         Some(Verb::Create) => read_create(alloc, words),
+        Some(Verb::ListTxns) => read_lstxns(alloc, words),
+        Some(Verb::RemoveTxns) => read_rmtxns(alloc, words),
         Some(Verb::Youngest) => read_youngest(alloc, words),
         Some(Verb::Uuid) => read_uuid(alloc, words),
         Some(Verb::Tree) => read_tree(alloc, words),

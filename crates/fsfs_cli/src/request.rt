@@ -2,6 +2,7 @@
 ghost use Rattle.std.specs.Prelude.{◌≡◌, option_map};
 ghost use Rattle.fsfs_cli.specs.Requests.{path_in_it};
 
+use crate::txn_names::TxnNames;
 use fsfs_base::FsPath;
 
 /// What the words of a program ask for: a task, of the repository at a path.
@@ -13,12 +14,18 @@ pub struct Request<'a> {
 }
 
 /// What is to be done.
-#[derive(Debug, PartialEq, Eq, Drop)]
+#[derive(Debug, Drop)]
 pub enum Task {
     /// `svnadmin create`: a new repository.
     Create {
         /// How many revisions a shard has, 1 to 100,000.
         shard: u32,
+    },
+    /// `svnadmin lstxns`: the names of the transactions.
+    ListTxns,
+    /// `svnadmin rmtxns`: transactions are removed, in this order.
+    RemoveTxns {
+        names: TxnNames,
     },
     /// A command of `svnlook`, which reads and prints.
     Look(Look),

@@ -9,6 +9,10 @@ use crate::tool::Tool;
 pub enum Verb {
     /// `svnadmin create`.
     Create,
+    /// `svnadmin lstxns`.
+    ListTxns,
+    /// `svnadmin rmtxns`.
+    RemoveTxns,
     /// `svnlook youngest`.
     Youngest,
     /// `svnlook uuid`.
@@ -47,6 +51,10 @@ fn admin_verb(word: &str) -> Option<Verb>
 {
     if word == "create" {
         Some(Verb::Create)
+    } else if word == "lstxns" {
+        Some(Verb::ListTxns)
+    } else if word == "rmtxns" {
+        Some(Verb::RemoveTxns)
     } else {
         None
     }

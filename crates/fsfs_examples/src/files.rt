@@ -1,7 +1,8 @@
-// The files of a repository, and disks with them.
+// The files of a repository, and disks with them. A transaction is the file of its folder's name, without bytes.
 use anyhow::{Result, anyhow, bail};
-use fsfs_base::{Failed, Name};
-use fsfs_disk::Disk;
+use fsfs_base::{Failed, Name, TxnName, read_txn_name};
+use fsfs_disk::{Disk, Label};
+use fsfs_layout::TxnFile;
 use fsfs_memdisk::MemDisk;
 use std::alloc::{AllocError, Global};
 use std::collections::BTreeMap;
@@ -16,6 +17,24 @@ fn name_of(text: &str) -> Result<Name> {
     Ok(Name::new(text))
 }
 
+// The transaction whose folder has this name, if it is one's.
+fn txn_at(name: &str) -> Option<TxnName> {
+    let entry = name.strip_prefix("db/transactions/")?;
+    read_txn_name(entry.strip_suffix(".txn")?.as_bytes())
+}
+
+// Puts a file on the disk, or begins a transaction.
+fn add_file(disk: &mut MemDisk, name: &str, bytes: &[u8]) -> Result<()> {
+    let added = match txn_at(name) {
+        Some(txn) => match disk.bench(&Label::Txn(txn)) {
+            Ok(_) => Ok(()),
+            Err(failed) => Err(failed),
+        },
+        None => disk.put(&name_of(name)?, bytes),
+    };
+    added.map_err(|_: Failed| anyhow!("no such disk"))
+}
+
 /// A disk with these files, all of them firm, whose calls with these numbers fail; the first call after this is 1.
 pub fn disk_with(alloc: Global, files: &Files, failing: &[u64]) -> Result<MemDisk> {
     let before = (files.len() as u64).saturating_add(1);
@@ -25,8 +44,7 @@ pub fn disk_with(alloc: Global, files: &Files, failing: &[u64]) -> Result<MemDis
     }
     let mut disk = MemDisk::with_faults(alloc, calls);
     for (name, bytes) in files.iter() {
-        disk.put(&name_of(name.as_str())?, bytes)
-            .map_err(|_: Failed| anyhow!("no such disk"))?;
+        add_file(&mut disk, name.as_str(), bytes)?;
     }
     disk.firm_names()
         .map_err(|_: Failed| anyhow!("no such disk"))?;
@@ -39,12 +57,18 @@ pub fn calls_since(disk: &MemDisk, files: usize) -> u64 {
         .saturating_sub((files as u64).saturating_add(1))
 }
 
-/// The files of a disk.
+/// The files of a disk, and its transactions.
 pub fn files_of(alloc: Global, disk: &MemDisk) -> Result<Files, AllocError> {
     let mut files = BTreeMap::new(alloc);
     for (name, bytes) in disk.files(alloc)? {
         let name = String::from_str(alloc, name)?;
         files.insert(name, Vec::from_slice(alloc, bytes)?)?;
+    }
+    for label in disk.labels() {
+        if let Label::Txn(txn) = label {
+            let name = String::from_str(alloc, TxnFile::Folder.name(txn).as_str())?;
+            files.insert(name, Vec::new(alloc))?;
+        }
     }
     Ok(files)
 }

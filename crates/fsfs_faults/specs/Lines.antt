@@ -6,6 +6,7 @@ use Rattle.fsfs_base.specs.declared.bad_path.PathFault.{PathFault}
 use Rattle.fsfs_base.specs.declared.bad_path.PathFault.TheVariants.{NotAbsolute, PathTooLong, TooDeep, EmptyName, Control, NameTooLong, Dot}
 use Rattle.fsfs_answers.specs.FaultWords.{not_found, not_dir, not_file, no_rev, already_repo, not_repo, delta, path_value, two_numbers}
 use Rattle.fsfs_layout.specs.FileNames.{small_name}
+use Rattle.fsfs_fields.specs.TxnNames.{txn_text}
 use Rattle.fsfs_base.specs.declared.small_fault.SmallFault.{SmallFault}
 use Rattle.fsfs_damage.specs.declared.damage.Damage.{Damage}
 use Rattle.fsfs_damage.specs.declared.damage.RevOffset.{RevOffset}
@@ -21,7 +22,7 @@ use Rattle.fsfs_faults.specs.declared.fault.Fault.TheVariants.{Words, Request, R
 use Rattle.fsfs_faults.specs.declared.bad_words.BadWords.{BadWords}
 use Rattle.fsfs_faults.specs.declared.bad_words.BadWords.TheVariants.{Usage, BadPath}
 use Rattle.fsfs_faults.specs.declared.request_fault.RequestFault.{RequestFault}
-use Rattle.fsfs_faults.specs.declared.request_fault.RequestFault.TheVariants.{NotFound, NotDir, NotFile, NoRev, AlreadyRepo, NotRepo}
+use Rattle.fsfs_faults.specs.declared.request_fault.RequestFault.TheVariants.{NotFound, NotDir, NotFile, NoRev, NoTxn, AlreadyRepo, NotRepo}
 use Rattle.fsfs_faults.specs.declared.repository_fault.RepositoryFault.{RepositoryFault}
 use Rattle.fsfs_faults.specs.declared.repository_fault.RepositoryFault.TheVariants.{OtherFormat, Linear, Small, Corrupt, Delta}
 use Rattle.fsfs_faults.specs.declared.outside_fault.OutsideFault.{OutsideFault}
@@ -51,6 +52,10 @@ small_values small = codes " " ++ small_name small.file ++ 32 ∷ decimal small.
 -- a revision and an offset
 abbrev pub at_values : RevOffset → List ℕ
 at_values at = two_numbers at.rev at.offset
+
+-- a transaction, by its base and its number
+abbrev pub txn_value : ℕ × ℕ → List ℕ
+txn_value txn = 32 ∷ txn_text txn.0 txn.1
 
 -- what is damaged in a representation, with what is kept and what was found
 abbrev pub rep_what_values : RepWhat → List ℕ
@@ -86,11 +91,15 @@ abbrev pub words_text : BadWords → List ℕ
 words_text Usage = codes "Usage"
 words_text (BadPath bad) = codes "BadPath" ++ bad_path_values bad
 
+abbrev pub no_txn : List ℕ
+no_txn = codes "NoTxn"
+
 abbrev pub request_text : RequestFault → List ℕ
 request_text (NotFound path) = not_found ++ path_value path
 request_text (NotDir path) = not_dir ++ path_value path
 request_text (NotFile path) = not_file ++ path_value path
 request_text (NoRev asked youngest) = no_rev ++ two_numbers asked youngest
+request_text (NoTxn name) = no_txn ++ txn_value (name.base, name.number.number)
 request_text AlreadyRepo = already_repo
 request_text NotRepo = not_repo
 

@@ -18,3 +18,4 @@ pub use output::print_fault;
 pub use outside_fault::OutsideFault;
 pub use repository_fault::RepositoryFault;
 pub use request_fault::RequestFault;
+pub use values::txn_text;

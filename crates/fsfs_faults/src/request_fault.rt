@@ -3,8 +3,8 @@ ghost use Rattle.std.specs.Prelude.{◌≡◌};
 ghost use Rattle.fsfs_faults.specs.Pieces.{request_front};
 
 use crate::line::{FaultText, with_values, word};
-use crate::values::numbers_text;
-use fsfs_base::{FsPath, RevNum};
+use crate::values::{numbers_text, txn_value_text};
+use fsfs_base::{FsPath, RevNum, TxnName};
 use thiserror::Error;
 
 /// What is asked for isn't there, or is of another kind; or what is to be made is there.
@@ -22,6 +22,9 @@ pub enum RequestFault {
     /// The revision is above the youngest.
     #[error("there is no such revision")]
     NoRev { asked: u64, youngest: RevNum },
+    /// There is no transaction of this name.
+    #[error("there is no such transaction")]
+    NoTxn(TxnName),
     /// There is a repository at the path.
     #[error("there is a repository")]
     AlreadyRepo,
@@ -45,6 +48,7 @@ impl RequestFault {
                     numbers_text(*asked, youngest.get() as u64).as_str(),
                 )
             }
+            RequestFault::NoTxn(name) => with_values("NoTxn", txn_value_text(name).as_str()),
             RequestFault::AlreadyRepo => word("AlreadyRepo"),
             RequestFault::NotRepo => word("NotRepo"),
         }

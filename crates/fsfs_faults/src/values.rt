@@ -1,12 +1,13 @@
 //! The values of faults as they are printed, a space before each.
-ghost use Rattle.std.specs.Prelude.{◌≡◌, ◌<◌, ◌≤◌, ◌∷◌, ◌++◌, length, slice_index, decimal};
+ghost use Rattle.std.specs.Prelude.{◌≡◌, ◌<◌, ◌≤◌, ◌+◌, ◌∷◌, ◌++◌, length, slice_index, decimal};
 ghost use Rattle.hex.specs.Hex.{encode_lower, lower_digits};
-ghost use Rattle.fsfs_faults.specs.Lines.{why_name, bad_path_values, small_values, at_values, rep_what_values, what_values, damage_values};
+ghost use Rattle.fsfs_fields.specs.TxnNames.{txn_text as text_of_txn};
+ghost use Rattle.fsfs_faults.specs.Lines.{why_name, bad_path_values, small_values, at_values, rep_what_values, what_values, damage_values, txn_value};
 
 use arrayvec::ArrayString;
-use fsfs_base::{BadPath, HexDigest, PathFault, SmallFault};
+use fsfs_base::{BadPath, HexDigest, Name, PathFault, SmallFault, TxnName};
 use fsfs_damage::{Damage, DamageKind, RepWhat, RevOffset};
-use fsfs_layout::small_file_name;
+use fsfs_layout::{small_file_name, txn_entry};
 use itoa::Buffer;
 
 const DIGITS: &[u8; 16] = b"0123456789abcdef";
@@ -44,6 +45,27 @@ pub(crate) fn numbers_text(first: u64, second: u64) -> ArrayString<42>
     let mut text = ArrayString::new();
     text.push_str(number_text(first).as_str());
     text.push_str(number_text(second).as_str());
+    text
+}
+
+/// The text of a transaction's name.
+pub fn txn_text(name: &TxnName) -> Name
+    ensures { result ≡ text_of_txn name.now.base name.now.number.number }
+{
+    let entry = txn_entry(name);
+    match entry.as_str().strip_suffix(".txn") {
+        Some(text) => Name::new(text),
+        None => unreachable!(),
+    }
+}
+
+// A space and a transaction's name.
+pub(crate) fn txn_value_text(name: &TxnName) -> ArrayString<129>
+    ensures { result.bytes ≡ txn_value (name.now.base, name.now.number.number) }
+{
+    let mut text = ArrayString::new();
+    text.push_str(" ");
+    text.push_str(txn_text(name).as_str());
     text
 }
 

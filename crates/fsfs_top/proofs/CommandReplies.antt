@@ -7,7 +7,7 @@ use Rattle.fsfs_base.specs.Files.{Files}
 use Rattle.fsfs_base.specs.Paths.{Path}
 use Rattle.fsfs_tree.specs.Revisions.{Revision, tree_of}
 use Rattle.fsfs_tree.specs.Dated.{last_of}
-use Rattle.fsfs_disk.specs.Trace.{Trace, files_now}
+use Rattle.fsfs_disk.specs.Trace.{Trace, files_now, labels_now}
 use Rattle.fsfs_streams.specs.Streams.{Adds}
 use Rattle.fsfs_streams.specs.Output.{AddsFront, Prints}
 use Rattle.fsfs_faults.specs.Lines.{line_of}
@@ -32,17 +32,18 @@ use Rattle.fsfs_cli.specs.declared.request.Printed.{Printed}
 use Rattle.fsfs_cli.specs.declared.request.Printed.TheVariants.{Tree, Text, Author, Date, Log, Info, Changed, History}
 use Rattle.fsfs_cli.specs.declared.request.RevisionLook.{RevisionLook}
 use Rattle.fsfs_cli.specs.declared.request.Task.{Task}
-use Rattle.fsfs_cli.specs.declared.request.Task.TheVariants.{Create, Look}
+use Rattle.fsfs_cli.specs.declared.request.Task.TheVariants.{Create, ListTxns, RemoveTxns, Look}
 use Rattle.fsfs_cli.specs.declared.tool.Tool.{Tool}
 use Rattle.fsfs_cli.specs.declared.tool.Tool.TheVariants as tools
 use Rattle.fsfs_cli.proofs.TaskLemmas.{asks_task}
 use Rattle.fsfs_top.specs.Command.{Did, Tells, answer_of}
 use Rattle.fsfs_top.specs.Looks.{all_bytes, TextOf}
-use Rattle.fsfs_top.specs.Replies.{Gives, HasNone, ShowsIds, AreIds, IsOfSmallFiles, look_command, answer_to, Replies}
+use Rattle.fsfs_top.specs.Replies.{Gives, HasNone, HasTxns, ShowsIds, AreIds, IsOfSmallFiles, look_command, answer_to, Replies}
+use Rattle.fsfs_top.specs.TxnAnswers.{refuses_admin}
 use Rattle.fsfs_top.specs.Scenes.{Scene, SinkScene}
 use Rattle.fsfs_top.proofs.TaskDone.{task_done}
 use Rattle.fsfs_top.proofs.FlatTexts.{tree_is_by_tree, file_is_by_tree, author_is_by_props, date_is_by_props, log_is_by_props, info_is_by_props, changed_is_by_changes, history_is_by_trees, no_rev_line}
-use Rattle.fsfs_top.proofs.LookReplies.{last_is, Fits, given_none, given_youngest, given_uuid, given_look, given_create, given_again}
+use Rattle.fsfs_top.proofs.LookReplies.{last_is, Fits, given_none, given_no_listing, given_no_removal, given_removal, given_youngest, given_uuid, given_look, given_create, given_again}
 
 -- ---- a look at a revision, by what is printed
 
@@ -102,6 +103,12 @@ module _ (tool : Tool) (ws : List (List ℕ)) (clock : Option ℕ) (dice : Optio
   none repos (Create shard) t shown asks here absent =
       let made = task_done clock dice a b fault tool ws repos (Create shard) did asks in
       given_create status tool a b err_old err_new repos shard clock dice t fault here absent ends made.0 made.1
+  none repos ListTxns t shown asks here absent =
+      given_no_listing status tool a b err_old err_new repos t here fault ends (refuses_admin not_repo 1) (ap (λ (k : Tool). refuses (line_of k (Request NotRepo)) 1) (sym (asks_task tool ws repos ListTxns asks))) absent
+      (task_done clock dice a b fault tool ws repos ListTxns did asks).0
+  none repos (RemoveTxns txns) t shown asks here absent =
+      let done = task_done clock dice a b fault tool ws repos (RemoveTxns txns) did asks in
+      given_no_removal status tool a b err_old err_new repos t here fault ends (refuses_admin not_repo 1) txns (ap (λ (k : Tool). refuses (line_of k (Request NotRepo)) 1) (sym (asks_task tool ws repos (RemoveTxns txns) asks))) absent done.2 done.0
   none repos (Look look) t shown asks here absent =
       let looked = task_done clock dice a b fault tool ws repos (Look look) did asks in
       let by_look = asks_task tool ws repos (Look look) asks in
@@ -122,23 +129,30 @@ module _ (tool : Tool) (ws : List (List ℕ)) (clock : Option ℕ) (dice : Optio
       (fits_at look.printed (files_now t) h s rev r shown there (subst (λ (n : ℕ). ShowsIds look.printed bytes n shown) (sym is) are) text end x)))
       (λ n youngest. no_rev_line tool (reply asked) n youngest by_look) looked.0
 
-  opened : (repos : List ℕ) (look : SomeLook) (t : Trace) (o : Opened) (h : List Revision) (shown : Path → List ℕ) → Asks tool ws repos (Look look) → a.host.disk_at repos ≡ Some t → IsOfSmallFiles look → IsOpened (small_texts (files_now t)) o
-      → last_of h ≡ o.youngest → Given (answer_to (Look look) shown (Some (record { history = h; identifier = o.uuid })))
-  opened repos Youngest t o h shown asks here small is last =
+  opened : (repos : List ℕ) (task : Task) (t : Trace) (o : Opened) (h : List Revision) (shown : Path → List ℕ) (txns : List (ℕ × ℕ)) → Asks tool ws repos task → a.host.disk_at repos ≡ Some t → IsOfSmallFiles task → IsOpened (small_texts (files_now t)) o
+      → last_of h ≡ o.youngest → HasTxns task (labels_now t) txns → Given (answer_to task shown (Some (record { history = h; identifier = o.uuid; names = []; txns = txns })))
+  opened repos (Create shard) t o h shown txns asks here small is last has = absurd small
+  opened repos ListTxns t o h shown txns asks here small is last has = absurd has
+  opened repos (RemoveTxns names) t o h shown txns asks here small is last has =
+      let done = task_done clock dice a b fault tool ws repos (RemoveTxns names) did asks in
+      given_removal status tool a b err_old err_new repos t here fault ends names txns (asks_task tool ws repos (RemoveTxns names) asks) has o is done.2 done.0
+  opened repos (Look Youngest) t o h shown txns asks here small is last has =
       given_youngest status tool a b err_old err_new repos t here fault ends o h is last (task_done clock dice a b fault tool ws repos (Look Youngest) did asks).0
-  opened repos Uuid t o h shown asks here small is last = given_uuid status tool a b err_old err_new repos t here fault ends o is (task_done clock dice a b fault tool ws repos (Look Uuid) did asks).0
-  opened repos (AtRevision look) t o h shown asks here small is last = absurd small
+  opened repos (Look Uuid) t o h shown txns asks here small is last has = given_uuid status tool a b err_old err_new repos t here fault ends o is (task_done clock dice a b fault tool ws repos (Look Uuid) did asks).0
+  opened repos (Look (AtRevision look)) t o h shown txns asks here small is last has = absurd small
 
-  stands : (repos : List ℕ) (task : Task) (t : Trace) (h : List Revision) (shown : Path → List ℕ) → Asks tool ws repos task → a.host.disk_at repos ≡ Some t → (s : StandsFor (files_now t) h)
-      → AreIds task (rev_bytes s.opened.layout (files_now t)) h shown → Given (answer_to task shown (Some (record { history = h; identifier = s.opened.uuid })))
-  stands repos (Create shard) t h shown asks here s are =
+  stands : (repos : List ℕ) (task : Task) (t : Trace) (h : List Revision) (shown : Path → List ℕ) (txns : List (ℕ × ℕ)) → Asks tool ws repos task → a.host.disk_at repos ≡ Some t → (s : StandsFor (files_now t) h)
+      → AreIds task (rev_bytes s.opened.layout (files_now t)) h shown → HasTxns task (labels_now t) txns → Given (answer_to task shown (Some (record { history = h; identifier = s.opened.uuid; names = []; txns = txns })))
+  stands repos (Create shard) t h shown txns asks here s are has =
       let made = task_done clock dice a b fault tool ws repos (Create shard) did asks in
       let by_admin = (asks_task tool ws repos (Create shard) asks).0 in
       given_again status tool a b err_old err_new repos shard clock dice t fault (refuses (codes "svnadmin: " ++ already_repo ++ codes "\n") 1) s.small.format.0 here s.small.format.1.there
       (ap (λ (k : Tool). refuses (line_of k (Request AlreadyRepo)) 1) (sym by_admin)) ends made.0 made.1
-  stands repos (Look Youngest) t h shown asks here s are = opened repos Youngest t s.opened h shown asks here tt s.small (last_is (files_now t) h s)
-  stands repos (Look Uuid) t h shown asks here s are = opened repos Uuid t s.opened h shown asks here tt s.small (last_is (files_now t) h s)
-  stands repos (Look (AtRevision look)) t h shown asks here s are = subst Given (answer_at look.revision look.printed shown h) (at_revision repos look t h shown asks here s are)
+  stands repos ListTxns t h shown txns asks here s are has = absurd has
+  stands repos (RemoveTxns names) t h shown txns asks here s are has = opened repos (RemoveTxns names) t s.opened h shown txns asks here tt s.small (last_is (files_now t) h s) has
+  stands repos (Look Youngest) t h shown txns asks here s are has = opened repos (Look Youngest) t s.opened h shown txns asks here tt s.small (last_is (files_now t) h s) tt
+  stands repos (Look Uuid) t h shown txns asks here s are has = opened repos (Look Uuid) t s.opened h shown txns asks here tt s.small (last_is (files_now t) h s) tt
+  stands repos (Look (AtRevision look)) t h shown txns asks here s are has = subst Given (answer_at look.revision look.printed shown h) (at_revision repos look t h shown asks here s are)
 
   pub replies : Replies tool ws a.host.disk_at Given
   replies = record { none = none; stands = stands; opened = opened }

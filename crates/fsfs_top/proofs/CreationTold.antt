@@ -76,7 +76,7 @@ leaves_created shard clock dice d id old new at_old at_new named was is leaves =
     (λ m h. (d, subst (λ i. IsNoneOrWhole shard (identifier_text i) d.moment old m) named h)) (leaves all)))
 
 -- two paths are one or not
-path_cases : (p q : List ℕ) → (p ≡ q) ⊎ (p ≡ q → ⊥)
+pub path_cases : (p q : List ℕ) → (p ≡ q) ⊎ (p ≡ q → ⊥)
 path_cases p q = by_test (slice_cmp nat_cmp p q) refl where
   by_test : (r : Ordering) → slice_cmp nat_cmp p q ≡ r → (p ≡ q) ⊎ (p ≡ q → ⊥)
   by_test Equal is = inl (slice_cmp-IsAntisymmetric nat_cmp-IsAntisymmetric p q is)

@@ -23,7 +23,8 @@ use Rattle.fsfs_places.specs.declared.open_fault.OpenFault.TheVariants as openin
 use Rattle.fsfs_printed.specs.Texts.{End, Whole, Refused}
 use Rattle.fsfs_printed.specs.declared.look_fault.LookFault.{LookFault}
 use Rattle.fsfs_printed.specs.declared.look_fault.LookFault.TheVariants as refusal
-use Rattle.fsfs_top.specs.Looks.{AllBytes, all_bytes, TextOf, TextIn, revision_line, uuid_line, looked_revision, LacksRevision, IsFaultOf, PrintsLine, LooksInto, DoesNotOpen, IsOutside, Agrees, DecidesRevision, DecidesOpened, DecidesLook, LookIsDecided}
+use Rattle.fsfs_top.specs.Looks.{AllBytes, all_bytes, TextOf, TextIn, revision_line, uuid_line, looked_revision, LacksRevision, IsFaultOf, PrintsLine, LooksInto, DoesNotOpen, IsOutside, Agrees, DecidesRevision, DecidesOpened, DecidesOpening, LookIsDecided}
+use Rattle.fsfs_top.specs.Transactions.{OpeningIsDecided}
 use Rattle.fsfs_top.specs.Scenes.{SinkScene}
 use Rattle.fsfs_cli.specs.Requests.{printed_path}
 use Rattle.fsfs_cli.specs.declared.request.Look.{Look}
@@ -63,19 +64,37 @@ pub look_outside : (look : Look) (at : Option Trace) (fault : Fault) → IsOutsi
 look_outside look None fault out = tt
 look_outside look (Some t) fault out = record { none = λ w. inr out; other = λ n w. inr out; linear = λ w. inr out; opened = λ o w. opened_outside look o (files_now t) fault out }
 
-look_refused : (look : Look) (m : Files) (why : OpenFault) → Decides (small_texts m) (Err why) → DecidesLook look m (Some (fault_from_open why))
-look_refused look m why d = record {
+refused_opening : (Then : Opened → Type 0) (m : Files) (why : OpenFault) → Decides (small_texts m) (Err why) → ((o : Opened) → IsOutside (fault_from_open why) → Then o) → DecidesOpening Then m (Some (fault_from_open why))
+refused_opening Then m why d outside = record {
   none = λ w. open_agrees why opening.NotRepo (d.none w);
   other = λ n w. open_agrees why (opening.OtherFormat n) (d.other n w);
   linear = λ w. open_agrees why opening.Linear (d.linear w);
-  opened = λ o w. opened_outside look o m (fault_from_open why) (outside_of_open why (d.opened o w));
+  opened = λ o w. outside o (outside_of_open why (d.opened o w));
 }
 
 pub look_refusal : (look : Look) (told at : Option Trace) (why : OpenFault) (fault : Fault) → told ≡ at → fault ≡ fault_from_open why → IfSome told (λ t. Decides (small_texts (files_now t)) (Err why)) → LookIsDecided look at (Some fault)
 look_refusal look told at why fault same from d = subst (λ f. LookIsDecided look at (Some f)) (sym from) (subst (λ x. LookIsDecided look x (Some (fault_from_open why))) same (so told d)) where
   so : (x : Option Trace) → IfSome x (λ t. Decides (small_texts (files_now t)) (Err why)) → LookIsDecided look x (Some (fault_from_open why))
   so None h = tt
-  so (Some t) h = look_refused look (files_now t) why h
+  so (Some t) h = refused_opening (λ o. DecidesOpened look o (files_now t) (Some (fault_from_open why))) (files_now t) why h (λ o out. opened_outside look o (files_now t) (fault_from_open why) out)
+
+-- ---- an opening, whatever is done then
+
+pub opening_outside : (at : Option Trace) (fault : Fault) → IsOutside fault → OpeningIsDecided at (Some fault)
+opening_outside None fault out = tt
+opening_outside (Some t) fault out = record { none = λ w. inr out; other = λ n w. inr out; linear = λ w. inr out; opened = λ o w. tt }
+
+pub opening_refusal : (told at : Option Trace) (why : OpenFault) (fault : Fault) → told ≡ at → fault ≡ fault_from_open why → IfSome told (λ t. Decides (small_texts (files_now t)) (Err why)) → OpeningIsDecided at (Some fault)
+opening_refusal told at why fault same from d = subst (λ f. OpeningIsDecided at (Some f)) (sym from) (subst (λ x. OpeningIsDecided x (Some (fault_from_open why))) same (so told d)) where
+  so : (x : Option Trace) → IfSome x (λ t. Decides (small_texts (files_now t)) (Err why)) → OpeningIsDecided x (Some (fault_from_open why))
+  so None h = tt
+  so (Some t) h = refused_opening (λ o. Unit {0}) (files_now t) why h (λ o out. tt)
+
+pub opening_done : (told at : Option Trace) (o : Opened) (fault : Option Fault) → told ≡ at → IfSome told (λ t. Decides (small_texts (files_now t)) (Ok o)) → OpeningIsDecided at fault
+opening_done told at o fault same d = subst (λ x. OpeningIsDecided x fault) same (so told d) where
+  so : (x : Option Trace) → IfSome x (λ t. Decides (small_texts (files_now t)) (Ok o)) → OpeningIsDecided x fault
+  so None h = tt
+  so (Some t) h = record { none = λ w. absurd (h.none w); other = λ n w. absurd (h.other n w); linear = λ w. absurd (h.linear w); opened = λ p w. tt }
 
 -- ---- a revision that was looked at
 

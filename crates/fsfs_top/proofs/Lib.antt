@@ -1,5 +1,7 @@
 pub mod CreationTold
 pub mod FilesDecide
+pub mod NameLines
+pub mod TxnsTold
 pub mod LooksPrint
 pub mod TaskDone
 pub mod LookReplies

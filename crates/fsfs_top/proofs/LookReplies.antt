@@ -1,6 +1,6 @@
 -- The replies of looks, from what a command did and printed.
 use Rattle.std.proofs.Common.{◌≡◌, ◌≤◌, ◌<◌, ℕ, List, [], ◌++◌, inl, inr, refl, sym, ap, subst, ◌∙◌, append-nil, append_assoc, length, arith, ⊎_elim}
-use Rattle.std.specs.Prelude.{Option, Some, None, option_map, unwrap_or, Ok, Err, Result, slice_get, is_some, true, codes}
+use Rattle.std.specs.Prelude.{Option, Some, None, IfSome, option_map, unwrap_or, Ok, Err, Result, slice_get, is_some, true, codes}
 use Rattle.std.proofs.lemmas.Option.{none-some, slice_get_cases, slice_get_past}
 use Rattle.fsfs_base.specs.Failures.{Rose}
 use Rattle.fsfs_base.specs.Files.{Files}
@@ -8,13 +8,13 @@ use Rattle.std.specs.FinMap.{get}
 use Rattle.fsfs_base.specs.Paths.{Path}
 use Rattle.fsfs_tree.specs.Revisions.{Revision}
 use Rattle.fsfs_tree.specs.Dated.{last_of}
-use Rattle.fsfs_disk.specs.Trace.{Trace, files_now}
+use Rattle.fsfs_disk.specs.Trace.{Trace, files_now, labels_now}
 use Rattle.fsfs_streams.specs.Streams.{Adds}
 use Rattle.fsfs_faults.specs.Lines.{line_of, status_of}
 use Rattle.fsfs_faults.specs.Faults.{fault_from_open, fault_from_look}
 use Rattle.fsfs_faults.specs.declared.fault.Fault.{Fault}
 use Rattle.fsfs_faults.specs.declared.fault.Fault.TheVariants.{Request, Outside, Memory}
-use Rattle.fsfs_faults.specs.declared.request_fault.RequestFault.TheVariants.{AlreadyRepo, NotRepo, NoRev}
+use Rattle.fsfs_faults.specs.declared.request_fault.RequestFault.TheVariants.{AlreadyRepo, NotRepo, NoRev, NoTxn}
 use Rattle.fsfs_faults.specs.declared.outside_fault.OutsideFault.{OutsideFault}
 use Rattle.fsfs_faults.specs.declared.outside_fault.OutsideFault.TheVariants.{Mount, Disk, Write}
 use Rattle.fsfs_look.specs.declared.look_error.LookError.{LookError}
@@ -27,7 +27,10 @@ use Rattle.fsfs_repo.specs.OpenFaults.{OpensBecause}
 use Rattle.fsfs_repo.specs.Deciding.{IsOutside as IsOpenOutside}
 use Rattle.fsfs_create.specs.Creation.{CreateFails, IsUnpublished, IsNoRepository}
 use Rattle.fsfs_places.specs.declared.create_fault.CreateFault.TheVariants as create
-use Rattle.fsfs_places.specs.declared.place.DiskPlace.TheVariants.{Read}
+use Rattle.fsfs_places.specs.declared.place.DiskPlace.TheVariants.{Read, Remove}
+use Rattle.fsfs_txns.specs.declared.removing.RemovalFault.TheVariants as removal
+use Rattle.fsfs_txns.specs.Txns.{pair_of}
+use Rattle.fsfs_txns.specs.Removals.{first_lacking}
 use Rattle.fsfs_stands.specs.Files.{StandsFor}
 use Rattle.fsfs_layout.specs.declared.opened.Opened.{Opened}
 use Rattle.fsfs_places.specs.declared.open_fault.OpenFault.{OpenFault}
@@ -41,10 +44,14 @@ use Rattle.fsfs_cli.specs.declared.request.RevisionLook.{RevisionLook}
 use Rattle.fsfs_top.specs.Command.{Created, Tells, answer_of, identifier_of}
 use Rattle.fsfs_top.specs.Looks.{all_bytes, TextOf, TextIn, revision_line, uuid_line, looked_revision, LacksRevision, IsFaultOf, Looked, LooksInto, OpensAs, DoesNotOpen, NotOpened, PrintsLine, PrintsLook}
 use Rattle.fsfs_top.specs.Replies.{Gives, OutsideFailed}
+use Rattle.fsfs_top.specs.TxnAnswers.{first_missing, removal_reply, RemovalAnswer}
+use Rattle.fsfs_top.specs.Transactions.{txns_of, ListsTxns, RemovesTxns}
 use Rattle.fsfs_top.specs.Scenes.{Scene, SinkScene}
+use Rattle.fsfs_top.proofs.TxnsTold.{first_same}
 use Rattle.fsfs_layout.proofs.OpeningLemmas.{one_youngest, one_layout, same_uuid}
 use Rattle.fsfs_top.proofs.FilesDecide.{same_text, look_or_memory}
 use Rattle.fsfs_cli.specs.declared.tool.Tool.{Tool}
+use Rattle.fsfs_cli.specs.declared.tool.Tool.TheVariants as tools
 
 -- ---- first parts
 
@@ -179,6 +186,35 @@ module _ (status : ℕ) (tool : Tool) (a b : Scene) (err_old err_new : SinkScene
     given_none look reply is none (inl (inl (e, rose, kept))) = outside_failed reply Mount fault e ends (inl rose) kept
     given_none look reply is none (inl (inr (why, e, because, unopened, kept))) = none_there reply t why fault is none e ends kept (caused why because)
     given_none look reply is none (inr (o, opens, into)) = let there = subst (λ (x : Option Trace). OpensAs x o) here opens in absurd (none_or_some (small_texts (files_now t)) there.format.0 none there.format.1)
+
+    -- ---- of transactions
+
+    pub given_no_listing : (reply : Reply) → reply ≡ refuses (line_of tool (Request NotRepo)) 1 → IsNone (small_texts (files_now t)) → ListsTxns repos a b fault → Given reply
+    given_no_listing reply is none (inl (inl (e, rose, kept))) = outside_failed reply Mount fault e ends (inl rose) kept
+    given_no_listing reply is none (inl (inr (why, e, because, unopened, kept))) = none_there reply t why fault is none e ends kept (caused why because)
+    given_no_listing reply is none (inr (o, opens, into)) = let there = subst (λ (x : Option Trace). OpensAs x o) here opens in absurd (none_or_some (small_texts (files_now t)) there.format.0 none there.format.1)
+
+    pub given_no_removal : (reply : Reply) (txns : List (ℕ × ℕ)) → reply ≡ refuses (line_of tool (Request NotRepo)) 1 → IsNone (small_texts (files_now t)) → b.out ≡ a.out → RemovesTxns repos txns a.host b.host fault → Given reply
+    given_no_removal reply txns is none kept (inl (e, rose, same)) = outside_failed reply Mount fault e ends (inl rose) kept
+    given_no_removal reply txns is none kept (inr (inl (why, e, because, unopened, same))) = none_there reply t why fault is none e ends kept (caused why because)
+    given_no_removal reply txns is none kept (inr (inr (o, opens, into))) = let there = subst (λ (x : Option Trace). OpensAs x o) here opens in absurd (none_or_some (small_texts (files_now t)) there.format.0 none there.format.1)
+
+    -- the reply is by the first that there isn't
+    removal_is : (txns there : List (ℕ × ℕ)) (o : Option (ℕ × ℕ)) → there ≡ txns_of (labels_now t) → IfSome (a.host.disk_at repos) (λ t. first_lacking txns (labels_now t) ≡ o) → RemovalAnswer txns (Some there) ≡ removal_reply o
+    removal_is txns there o has first =
+        let now : first_lacking txns (labels_now t) ≡ o = subst (λ (x : Option Trace). IfSome x (λ t. first_lacking txns (labels_now t) ≡ o)) here first in
+        ap removal_reply (ap (first_missing txns) has ∙ sym (first_same txns (labels_now t)) ∙ now)
+
+    pub given_removal : (txns there : List (ℕ × ℕ)) → tool ≡ tools.Admin → there ≡ txns_of (labels_now t) → (o : Opened) → IsOpened (small_texts (files_now t)) o → b.out ≡ a.out → RemovesTxns repos txns a.host b.host fault → Given (RemovalAnswer txns (Some there))
+    given_removal txns there admin has o is kept (inl (e, rose, same)) = outside_failed (RemovalAnswer txns (Some there)) Mount fault e ends (inl rose) kept
+    given_removal txns there admin has o is kept (inr (inl (why, e, because, unopened, same))) =
+        outside_opening (RemovalAnswer txns (Some there)) (Some t) why fault e ends kept (caused why because) (subst (λ (x : Option Trace). DoesNotOpen x why) here unopened o is)
+    given_removal txns there admin has o is kept (inr (inr (p, opens, (Ok done, removes, e, fails)))) =
+        printed_text (RemovalAnswer txns (Some there)) [] (removal_is txns there None has removes.1) (moved fault None e ends) (added_none kept)
+    given_removal txns there admin has o is kept (inr (inr (p, opens, (Err (removal.NoTxn name), removes, e, fails)))) =
+        refused_line (RemovalAnswer txns (Some there)) (Request (NoTxn name)) (removal_is txns there (Some (pair_of name)) has removes.1 ∙ ap (λ (k : Tool). refuses (line_of k (Request (NoTxn name))) 1) (sym admin))
+        (moved fault (Some (Request (NoTxn name))) e ends) (added_none kept)
+    given_removal txns there admin has o is kept (inr (inr (p, opens, (Err removal.Failed, removes, e, fails)))) = outside_failed (RemovalAnswer txns (Some there)) (Disk Remove) fault e ends (inr (inl fails)) kept
 
     -- at the small files
     given_line : (line text : List ℕ) → line ≡ text → PrintsLine line a.out b.out fault → Given (prints text)

@@ -1,6 +1,6 @@
 -- What a command did is what its row says of the task that its words ask for.
 use Rattle.std.proofs.Common.{◌≡◌, ℕ, List, [], inl, inr, refl, sym, ap, subst, ◌∙◌}
-use Rattle.std.specs.Prelude.{Option, Some, None, IfSome, unwrap_or}
+use Rattle.std.specs.Prelude.{Option, Some, None, IfSome, option_map, unwrap_or}
 use Rattle.fsfs_faults.specs.Faults.{fault_from_words}
 use Rattle.fsfs_faults.specs.declared.fault.Fault.{Fault}
 use Rattle.fsfs_faults.specs.declared.fault.Fault.TheVariants.{Memory}
@@ -10,13 +10,15 @@ use Rattle.fsfs_cli.specs.Readings.{Asks}
 use Rattle.fsfs_cli.specs.declared.fault.WordsFault.{WordsFault}
 use Rattle.fsfs_cli.specs.declared.request.Look.{Look as SomeLook}
 use Rattle.fsfs_cli.specs.declared.request.Task.{Task}
-use Rattle.fsfs_cli.specs.declared.request.Task.TheVariants.{Create, Look}
+use Rattle.fsfs_cli.specs.declared.request.Task.TheVariants.{Create, ListTxns, RemoveTxns, Look}
 use Rattle.fsfs_cli.specs.declared.tool.Tool.{Tool}
 use Rattle.fsfs_cli.proofs.OneMeaning.{one_task, refused_for_memory}
 use Rattle.fsfs_top.specs.Command.{Drawn, Does, Did}
 use Rattle.fsfs_top.specs.Looks.{LookIsDecided}
+use Rattle.fsfs_top.specs.Transactions.{OpeningIsDecided}
 use Rattle.fsfs_top.specs.Scenes.{Scene}
-use Rattle.fsfs_top.proofs.FilesDecide.{look_outside, unopened}
+use Rattle.fsfs_disk.specs.Trace.{labels_now}
+use Rattle.fsfs_top.proofs.FilesDecide.{look_outside, opening_outside, unopened}
 
 as_told : {X : Type 0} (told : Option X) (x : X) → IfSome told (λ t. unwrap_or told x ≡ t)
 as_told None x = tt
@@ -30,6 +32,13 @@ module _ (clock : Option ℕ) (dice : Option (List ℕ)) (a b : Scene) (fault : 
   -- memory was wanting as the words were read
   starved : (repos : List ℕ) (task : Task) → fault ≡ Some Memory → b ≡ a → Does repos task clock dice a b fault
   starved repos (Create shard) is kept = (inr (inl (create.Memory, is, (some_draw clock dice, ap (λ (s : Scene). s.host.disk_at repos) kept))), ap (λ (s : Scene). s.out) kept)
+  starved repos ListTxns is kept =
+      (inl (inr (opening.Memory, is, tt, unopened (a.host.disk_at repos), ap (λ (s : Scene). s.out) kept)), subst (OpeningIsDecided (a.host.disk_at repos)) (sym is) (opening_outside (a.host.disk_at repos) Memory tt))
+  starved repos (RemoveTxns txns) is kept = (
+    inr (inl (opening.Memory, is, tt, unopened (a.host.disk_at repos), ap (λ (s : Scene). option_map labels_now (s.host.disk_at repos)) kept)),
+    subst (OpeningIsDecided (a.host.disk_at repos)) (sym is) (opening_outside (a.host.disk_at repos) Memory tt),
+    ap (λ (s : Scene). s.out) kept,
+  )
   starved repos (Look look) is kept =
       (inl (inr (opening.Memory, is, tt, unopened (a.host.disk_at repos), ap (λ (s : Scene). s.out) kept)), subst (LookIsDecided look (a.host.disk_at repos)) (sym is) (look_outside look (a.host.disk_at repos) Memory tt))
 
@@ -58,3 +67,11 @@ at_creation P tool words repos shard asks h r n also =
 -- where a look is asked for, no creation is
 pub looks_alone : (tool : Tool) (words : List (List ℕ)) (repos r : List ℕ) (look : SomeLook) (n : ℕ) → Asks tool words repos (Look look) → Asks tool words r (Create n) → ⊥
 looks_alone tool words repos r look n x y = let e = (one_task tool words repos r (Look look) (Create n) x y).1 in cc
+
+-- nor where something else is
+pub others_alone : (tool : Tool) (words : List (List ℕ)) (repos r : List ℕ) (task other : Task) → (task ≡ other → ⊥) → Asks tool words repos task → Asks tool words r other → ⊥
+others_alone tool words repos r task other apart x y = apart (one_task tool words repos r task other x y).1
+
+-- what holds of the removal that is asked for, of whatever path
+pub at_removal : (P : List ℕ → Type 0) (tool : Tool) (words : List (List ℕ)) (repos : List ℕ) (txns : List (ℕ × ℕ)) → Asks tool words repos (RemoveTxns txns) → P repos → (r : List ℕ) (other : List (ℕ × ℕ)) → Asks tool words r (RemoveTxns other) → P r
+at_removal P tool words repos txns asks h r other also = subst P (one_task tool words repos r (RemoveTxns txns) (RemoveTxns other) asks also).0 h

@@ -1,4 +1,6 @@
 pub mod Scenes
+pub mod TxnAnswers
 pub mod Looks
+pub mod Transactions
 pub mod Command
 pub mod Replies

@@ -166,12 +166,12 @@ DecidesOpened Youngest o files fault = Agrees None fault
 DecidesOpened Uuid o files fault = Agrees None fault
 DecidesOpened (AtRevision look) o files fault = DecidesRevision look o files fault
 
--- each refusal of an opening comes wherever its cause is there; what is left is Small
-pub record DecidesLook (look : Look) (files : Files) (fault : Option Fault) : Type 0 where
+-- Each refusal of an opening comes wherever its cause is there; what is left is Small. Where the files open, `Then` holds.
+pub record DecidesOpening (Then : Opened → Type 0) (files : Files) (fault : Option Fault) : Type 0 where
   pub none : IsNone (small_texts files) → Agrees (Some (Request NotRepo)) fault
   pub other : (number : ℕ) → HasFormat (small_texts files) number → Agrees (Some (Repository (OtherFormat number))) fault
   pub linear : IsLinear (small_texts files) → Agrees (Some (Repository Linear)) fault
-  pub opened : (o : Opened) → IsOpened (small_texts files) o → DecidesOpened look o files fault
+  pub opened : (o : Opened) → IsOpened (small_texts files) o → Then o
 
 abbrev pub LookIsDecided : Look → Option Trace → Option Fault → Type 0
-LookIsDecided look told fault = IfSome told (λ t. DecidesLook look (files_now t) fault)
+LookIsDecided look told fault = IfSome told (λ t. DecidesOpening (λ o. DecidesOpened look o (files_now t) fault) (files_now t) fault)

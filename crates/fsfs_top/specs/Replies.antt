@@ -1,5 +1,5 @@
 -- The replies of commands, as the flat model answers them.
-use Rattle.std.specs.Prelude.{◌≡◌, ◌⊎◌, ℕ, List, Option, Some, None, IfSome, option_map}
+use Rattle.std.specs.Prelude.{◌≡◌, ◌⊎◌, ℕ, List, [], Option, Some, None, IfSome, option_map}
 use Rattle.fsfs_base.specs.Failures.{Rose}
 use Rattle.fsfs_base.specs.Files.{Files}
 use Rattle.fsfs_base.specs.Paths.{Path}
@@ -7,25 +7,27 @@ use Rattle.fsfs_book.specs.Told.{RevisionBytes}
 use Rattle.fsfs_tree.specs.Revisions.{Revision}
 use Rattle.fsfs_tree.specs.Dated.{last_of}
 use Rattle.fsfs_fields.specs.Dates.{IsDateAt}
-use Rattle.fsfs_disk.specs.Trace.{Trace, files_now}
+use Rattle.fsfs_disk.specs.Labels.{Label}
+use Rattle.fsfs_disk.specs.Trace.{Trace, files_now, labels_now}
 use Rattle.fsfs_streams.specs.Streams.{Adds}
 use Rattle.fsfs_streams.specs.Output.{AddsFront}
 use Rattle.fsfs_create.specs.Creation.{IsUnpublished}
 use Rattle.fsfs_rev_file.specs.RevBytes.{rev_bytes}
 use Rattle.fsfs_answers.specs.Answers.{Reply, Answer, UuidAnswer, asked_revision, new_history}
 use Rattle.fsfs_answers.specs.Answers as model
+use Rattle.fsfs_top.specs.TxnAnswers.{ListingAnswer, RemovalAnswer}
 use Rattle.fsfs_layout.specs.Opening.{small_texts, IsOpened, IsNone}
 use Rattle.fsfs_layout.specs.declared.opened.Opened.{Opened}
 use Rattle.fsfs_stands.specs.Files.{StandsFor}
 use Rattle.fsfs_printed.specs.ByTree.{AreShownIds}
 use Rattle.fsfs_cli.specs.Readings.{Asks}
-use Rattle.fsfs_cli.specs.declared.request.Look.{Look as SomeLook}
 use Rattle.fsfs_cli.specs.declared.request.Look.TheVariants.{Youngest, Uuid, AtRevision}
 use Rattle.fsfs_cli.specs.declared.request.Printed.{Printed}
 use Rattle.fsfs_cli.specs.declared.request.Printed.TheVariants.{Tree, Text, Author, Date, Log, Info, Changed, History}
 use Rattle.fsfs_cli.specs.declared.request.Task.{Task}
-use Rattle.fsfs_cli.specs.declared.request.Task.TheVariants.{Create, Look}
+use Rattle.fsfs_cli.specs.declared.request.Task.TheVariants.{Create, ListTxns, RemoveTxns, Look}
 use Rattle.fsfs_cli.specs.declared.tool.Tool.{Tool}
+use Rattle.fsfs_top.specs.Transactions.{txns_of}
 use Rattle.fsfs_top.specs.Scenes.{Scene, SinkScene}
 
 -- ---- how a reply is given
@@ -48,10 +50,13 @@ Gives status a b err_old err_new reply =
 
 -- ---- the flat model's replies
 
--- what a repository is to the flat model: its history, and its identifier, which no history tells
+-- what a repository is to the flat model: its history, and what no history tells, its identifier and its transactions
 pub record Repository : Type 0 where
   pub history : List Revision
   pub identifier : List ℕ
+  -- the names of its transactions, in the order of their bytes, and the transactions
+  pub names : List (List ℕ)
+  pub txns : List (ℕ × ℕ)
 
 -- the model's command, with what it shows behind the name of each node of a tree
 abbrev pub look_command : Option ℕ → Printed → (Path → List ℕ) → model.Command
@@ -67,13 +72,17 @@ look_command revision (History path) shown = model.History revision path
 -- the reply to a task where the files stand for this repository, or for none
 abbrev pub answer_to : Task → (Path → List ℕ) → Option Repository → Reply
 answer_to (Create shard) shown r = Answer model.Create (option_map (λ (x : Repository). x.history) r)
+answer_to ListTxns shown r = ListingAnswer (option_map (λ (x : Repository). x.names) r)
+answer_to (RemoveTxns txns) shown r = RemovalAnswer txns (option_map (λ (x : Repository). x.txns) r)
 answer_to (Look Youngest) shown r = Answer model.Youngest (option_map (λ (x : Repository). x.history) r)
 answer_to (Look Uuid) shown r = UuidAnswer (option_map (λ (x : Repository). x.identifier) r)
 answer_to (Look (AtRevision look)) shown r = Answer (look_command look.revision look.printed shown) (option_map (λ (x : Repository). x.history) r)
 
--- there is no repository: to a creation where there is no `db/format`, to a look also where it is of another type
+-- there is no repository: to a creation where there is no `db/format`, to all others also where it is of another type
 abbrev pub HasNone : Task → Files → Type 0
 HasNone (Create shard) files = IsUnpublished files
+HasNone ListTxns files = IsNone (small_texts files)
+HasNone (RemoveTxns txns) files = IsNone (small_texts files)
 HasNone (Look look) files = IsNone (small_texts files)
 
 -- what is shown are the ids of the node-revisions at the paths, or nothing
@@ -89,15 +98,27 @@ ShowsIds (History path) bytes rev shown = Unit {0}
 
 abbrev pub AreIds : Task → RevisionBytes → List Revision → (Path → List ℕ) → Type 0
 AreIds (Create shard) bytes h shown = Unit {0}
+AreIds ListTxns bytes h shown = Unit {0}
+AreIds (RemoveTxns txns) bytes h shown = Unit {0}
 AreIds (Look Youngest) bytes h shown = Unit {0}
 AreIds (Look Uuid) bytes h shown = Unit {0}
 AreIds (Look (AtRevision look)) bytes h shown = ShowsIds look.printed bytes (asked_revision look.revision h) shown
 
--- the look is answered by the small files alone
-abbrev pub IsOfSmallFiles : SomeLook → Type 0
-IsOfSmallFiles Youngest = Unit {0}
-IsOfSmallFiles Uuid = Unit {0}
-IsOfSmallFiles (AtRevision look) = ⊥
+-- What a task is answered by of the transactions that are there. (Of a listing see `Lists`: that it prints the names in their order.)
+abbrev pub HasTxns : Task → List Label → List (ℕ × ℕ) → Type 0
+HasTxns (Create shard) labels txns = Unit {0}
+HasTxns ListTxns labels txns = ⊥
+HasTxns (RemoveTxns names) labels txns = txns ≡ txns_of labels
+HasTxns (Look look) labels txns = Unit {0}
+
+-- the task is answered by the small files, and by the transactions, alone
+abbrev pub IsOfSmallFiles : Task → Type 0
+IsOfSmallFiles (Create shard) = ⊥
+IsOfSmallFiles ListTxns = Unit {0}
+IsOfSmallFiles (RemoveTxns txns) = Unit {0}
+IsOfSmallFiles (Look Youngest) = Unit {0}
+IsOfSmallFiles (Look Uuid) = Unit {0}
+IsOfSmallFiles (Look (AtRevision look)) = ⊥
 
 -- The replies to what the words ask for, of the files that the disks of paths have. (The files of a new repository stand for the history of revision 0:
 -- that is the law `new_repositories_stand`.)
@@ -105,11 +126,11 @@ pub record Replies (tool : Tool) (words : List (List ℕ)) (at : List ℕ → Op
   -- where there is no repository
   pub none : (repos : List ℕ) (task : Task) (t : Trace) (shown : Path → List ℕ) → Asks tool words repos task → at repos ≡ Some t → HasNone task (files_now t) → Given (answer_to task shown None)
   -- where the files stand for a history
-  pub stands : (repos : List ℕ) (task : Task) (t : Trace) (h : List Revision) (shown : Path → List ℕ) → Asks tool words repos task → at repos ≡ Some t → (s : StandsFor (files_now t) h)
-      → AreIds task (rev_bytes s.opened.layout (files_now t)) h shown → Given (answer_to task shown (Some (record { history = h; identifier = s.opened.uuid })))
+  pub stands : (repos : List ℕ) (task : Task) (t : Trace) (h : List Revision) (shown : Path → List ℕ) (txns : List (ℕ × ℕ)) → Asks tool words repos task → at repos ≡ Some t → (s : StandsFor (files_now t) h)
+      → AreIds task (rev_bytes s.opened.layout (files_now t)) h shown → HasTxns task (labels_now t) txns → Given (answer_to task shown (Some (record { history = h; identifier = s.opened.uuid; names = []; txns = txns })))
   -- and of the small files wherever they open: of any history that ends with the revision that they name
-  pub opened : (repos : List ℕ) (look : SomeLook) (t : Trace) (o : Opened) (h : List Revision) (shown : Path → List ℕ) → Asks tool words repos (Look look) → at repos ≡ Some t → IsOfSmallFiles look → IsOpened (small_texts (files_now t)) o
-      → last_of h ≡ o.youngest → Given (answer_to (Look look) shown (Some (record { history = h; identifier = o.uuid })))
+  pub opened : (repos : List ℕ) (task : Task) (t : Trace) (o : Opened) (h : List Revision) (shown : Path → List ℕ) (txns : List (ℕ × ℕ)) → Asks tool words repos task → at repos ≡ Some t → IsOfSmallFiles task → IsOpened (small_texts (files_now t)) o
+      → last_of h ≡ o.youngest → HasTxns task (labels_now t) txns → Given (answer_to task shown (Some (record { history = h; identifier = o.uuid; names = []; txns = txns })))
 
 -- the files at the path where a repository is made stand for the history of revision 0, with the date of the moment that the clock gave, where it tells
 abbrev pub MadeStands : Tool → List (List ℕ) → Option ℕ → (List ℕ → Option Trace) → Type 0

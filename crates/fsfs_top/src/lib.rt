@@ -4,6 +4,7 @@
 mod look;
 mod output;
 mod top;
+mod txns;
 
 pub use fsfs_cli::Tool;
 pub use fsfs_faults::Fault;

@@ -2,7 +2,7 @@
 ghost use Rattle.std.specs.Prelude.{◌≡◌, ◌≢◌, ◌≤◌, ◌<◌, ◌⊎◌, ℕ, List, [], Some, IfOk, IfErr, IfSome, MatchOption, option_map, unwrap_or};
 ghost use Rattle.fsfs_book.specs.Told.{Keeps};
 ghost use Rattle.fsfs_base.specs.Failures.{Rose};
-ghost use Rattle.fsfs_disk.specs.Trace.{files_now};
+ghost use Rattle.fsfs_disk.specs.Trace.{FirmNames, files_now, FailsAt};
 ghost use Rattle.fsfs_faults.specs.Faults.{IsFromLook};
 ghost use Rattle.fsfs_faults.specs.declared.fault.Fault.TheVariants.{Request};
 ghost use Rattle.fsfs_faults.specs.declared.request_fault.RequestFault.TheVariants.{NoRev};
@@ -172,6 +172,8 @@ pub(crate) fn look_at<H: Host, O: Sink>(
     ensures printed { PrintsLook repos.now look.now (scene H.Host O.Sink host.old out.old) (scene H.Host O.Sink host.new out.new) (fault_of result) }
     ensures decided { LookIsDecided look.now (H.disk_at host.old repos.now) (fault_of result) }
     ensures same { option_map files_now (H.disk_at host.new repos.now) ≡ option_map files_now (H.disk_at host.old repos.now) }
+    // All that it does to the disk is to make the names firm.
+    ensures ended { FailsAt FirmNames (H.disk_at host.old repos.now) (H.disk_at host.new repos.now) }
     ensures others { (path : List ℕ) → path ≢ repos.now → H.disk_at host.new path ≡ H.disk_at host.old path }
 {
     let mut disk = match host.mount(repos, false) {

@@ -1,13 +1,15 @@
-// Printing what the small files of a repository say.
-ghost use Rattle.std.specs.Prelude.{ℕ, List};
+// Printing what the small files of a repository say, and the names of its transactions.
+ghost use Rattle.std.specs.Prelude.{◌++◌, ℕ, List, codes, map};
 ghost use Rattle.fsfs_streams.specs.Output.{Prints};
 ghost use Rattle.fsfs_top.specs.Command.{fault_of};
 ghost use Rattle.fsfs_top.specs.Looks.{revision_line, uuid_line, PrintsLine};
 ghost use Rattle.fsfs_top.specs.Scenes.{SinkScene};
+ghost use Rattle.fsfs_top.specs.TxnAnswers.{names_text};
+ghost use Rattle.fsfs_txns.specs.Txns.{text_of};
 
 use arrayvec::ArrayString;
-use fsfs_base::{Failed, RevNum};
-use fsfs_faults::{Fault, OutsideFault};
+use fsfs_base::{Failed, RevNum, TxnName};
+use fsfs_faults::{Fault, OutsideFault, txn_text};
 use fsfs_layout::Uuid;
 use fsfs_streams::{Sink, print};
 use itoa::Buffer;
@@ -28,6 +30,24 @@ pub fn print_uuid<S: Sink>(sink: &mut S, uuid: &Uuid) -> Result<(), Failed>
 {
     print(sink, uuid.as_bytes())?;
     print(sink, b"\n")
+}
+
+// Writes a transaction's name and the end of the line.
+fn print_txn<S: Sink>(sink: &mut S, txn: &TxnName) -> Result<(), Failed>
+    ensures printed { Prints (S.written sink.old) (S.written sink.new) (text_of txn.now ++ codes "\n") (S.faults sink.old) (S.faults sink.new) result }
+{
+    print(sink, txn_text(txn).as_str().as_bytes())?;
+    print(sink, b"\n")
+}
+
+/// Writes the names of transactions, a line for each.
+pub(crate) fn print_txns<S: Sink>(sink: &mut S, txns: &[TxnName]) -> Result<(), Failed>
+    ensures printed { Prints (S.written sink.old) (S.written sink.new) (names_text (map text_of txns.now)) (S.faults sink.old) (S.faults sink.new) result }
+{
+    for txn in txns {
+        print_txn(sink, txn)?;
+    }
+    Ok(())
 }
 
 // The fault of a line that was printed so.

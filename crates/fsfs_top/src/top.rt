@@ -4,13 +4,15 @@ ghost use Rattle.fsfs_disk.specs.Trace.{Trace, files_now};
 ghost use Rattle.fsfs_disk.specs.Crash.{AllImages, IsFirm, Leaves};
 ghost use Rattle.fsfs_create.specs.Creation.{IsUnpublished, HasRepository};
 ghost use Rattle.fsfs_cli.specs.Readings.{Asks};
-ghost use Rattle.fsfs_cli.specs.declared.request.Task.TheVariants.{Create};
+ghost use Rattle.fsfs_cli.specs.declared.request.Task.TheVariants.{Create, RemoveTxns};
 ghost use Rattle.fsfs_top.specs.Command.{Created, Did, IsNoneOrCreated, Tells, answer_of, fault_of};
 ghost use Rattle.fsfs_top.specs.Replies.{Replies, Gives, MadeStands};
 ghost use Rattle.fsfs_top.specs.Scenes.{host_scene, sink_scene, scene};
+ghost use Rattle.fsfs_top.specs.Transactions.{HasSameLabels, LeavesRemoval};
 ghost use Rattle.fsfs_faults.specs.declared.fault.Fault.{Fault};
 
 use crate::look::look_at;
+use crate::txns::{list_at, remove_at};
 use fsfs_cli::{Task, Tool, read_words};
 use fsfs_create::create;
 use fsfs_disk::Host;
@@ -70,10 +72,15 @@ fn run<H: Host, O: Sink, C: Clock, R: Dice>(
     ensures others { (path : List ℕ) → ((shard : ℕ) → Asks tool (map string_bytes words.now) path (Create shard) → ⊥)
         → option_map files_now (H.disk_at host.new path) ≡ option_map files_now (H.disk_at host.old path) }
     ensures firm { (repos : List ℕ) (shard : ℕ) → Asks tool (map string_bytes words.now) repos (Create shard) → OnOk result (IsFirm (H.disk_at host.new repos)) }
+    ensures removal { (repos : List ℕ) (txns : List (ℕ × ℕ)) → Asks tool (map string_bytes words.now) repos (RemoveTxns txns) → LeavesRemoval (H.disk_at host.old repos) (H.disk_at host.new repos) }
+    ensures labels { (path : List ℕ) → ((shard : ℕ) → Asks tool (map string_bytes words.now) path (Create shard) → ⊥) → ((txns : List (ℕ × ℕ)) → Asks tool (map string_bytes words.now) path (RemoveTxns txns) → ⊥)
+        → HasSameLabels (H.disk_at host.old path) (H.disk_at host.new path) }
 {
     let request = read_words(alloc, tool, words)?;
     match &request.task {
         Task::Create { shard } => create_at(alloc, request.repos, *shard, host, clock, dice),
+        Task::ListTxns => list_at(alloc, request.repos, host, out),
+        Task::RemoveTxns { names } => remove_at(alloc, request.repos, names, host),
         Task::Look(look) => look_at(alloc, request.repos, look, host, out),
     }
 }
@@ -115,6 +122,13 @@ pub fn command<H: Host, I: Source, O: Sink, E: Sink, C: Clock, R: Dice, G: Gate>
     // No file changes but at a path at which a repository is to be made.
     ensures others { (path : List ℕ) → ((shard : ℕ) → Asks tool (map string_bytes words.now) path (Create shard) → ⊥)
         → option_map files_now (H.disk_at host.new path) ≡ option_map files_now (H.disk_at host.old path) }
+
+    // A crash at any moment of a removal of transactions leaves files that one before could have left, and no label that was not kept then.
+    ensures removal { (repos : List ℕ) (txns : List (ℕ × ℕ)) → Asks tool (map string_bytes words.now) repos (RemoveTxns txns) → LeavesRemoval (H.disk_at host.old repos) (H.disk_at host.new repos) }
+
+    // No label goes or comes but at a path at which a repository is to be made or transactions are to be removed.
+    ensures labels { (path : List ℕ) → ((shard : ℕ) → Asks tool (map string_bytes words.now) path (Create shard) → ⊥) → ((txns : List (ℕ × ℕ)) → Asks tool (map string_bytes words.now) path (RemoveTxns txns) → ⊥)
+        → HasSameLabels (H.disk_at host.old path) (H.disk_at host.new path) }
 
     ensures unread { I.remaining _input.new ≡ I.remaining _input.old }
 {

@@ -1,5 +1,5 @@
-use Rattle.std.proofs.Common.{◌≡◌, option_map}
-use Rattle.fsfs_disk.specs.Trace.{files_now, FirmNames}
+use Rattle.std.proofs.Common.{◌≡◌, Option, option_map, sym, subst}
+use Rattle.fsfs_disk.specs.Trace.{Trace, files_now, FailsAt, FirmNames}
 use Rattle.fsfs_disk.proofs.TraceLemmas.{ended}
 use Rattle.fsfs_base.specs.Failures.{Rose}
 use Rattle.fsfs_repo.specs.OpenFaults.{texts_of}
@@ -30,3 +30,9 @@ returns-clause-opened g c =
     firm_same (told c.args.disk.now) (told c.firm_names.new.self) (ended FirmNames (told c.args.disk.now) (told c.firm_names.new.self) c.firm_names.result c.firm_names.ensures.ok c.firm_names.ensures.err) in
     opened_now (told c.args.disk.now) (texts_of c.in_ok-files.files) c.judge.result
     (same_texts (told c.args.disk.now) (told c.firm_names.new.self) (texts_of c.in_ok-files.files) firm c.in_ok-files.ensures.texts) c.judge.ensures.opened
+
+pub returns-clause-ended : goal.returns-clause-ended
+returns-clause-ended g c =
+    let told = g.D.Disk.trace in
+    subst (λ (o : Option Trace). FailsAt FirmNames (told c.args.disk.now) o) (sym c.in_ok-files.ensures.same)
+    (ended FirmNames (told c.args.disk.now) (told c.firm_names.new.self) c.firm_names.result c.firm_names.ensures.ok c.firm_names.ensures.err)

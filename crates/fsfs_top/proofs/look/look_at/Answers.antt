@@ -1,4 +1,6 @@
-use Rattle.std.proofs.Common.{inl, refl, arith}
+use Rattle.std.proofs.Common.{◌≡◌, ◌∙◌, inl, refl, ap, sym, subst, arith}
+use Rattle.std.specs.Prelude.{Option}
+use Rattle.fsfs_disk.specs.Trace.{Trace, FirmNames, FailsAt}
 use Rattle.fsfs_base.specs.Failures.{Rose}
 use Rattle.fsfs_top.specs.Command.{fault_of}
 use Rattle.fsfs_top.specs.Scenes.{scene, sink_scene}
@@ -39,3 +41,19 @@ returns-in-Err-open-clause-printed g c =
 pub returns-in-Err-open-clause-decided : goal.returns-in-Err-open-clause-decided
 returns-in-Err-open-clause-decided g c =
     look_refusal c.args.look.now (g.H.Mounted.Disk.trace c.in-Ok.disk) (g.H.Host.disk_at c.args.host.now c.args.repos.now) c.in-Err-open.fault c.from.result c.in-Ok.ensures.disk c.from.ensures c.in-Err-open.ensures.decided
+
+pub returns-in-Ok-open-clause-ended : goal.returns-in-Ok-open-clause-ended
+returns-in-Ok-open-clause-ended g c =
+    let told = g.H.Mounted.Disk.trace in
+    let path : g.H.Mounted.Disk.mount_path c.look_into-disk.result.0 ≡ c.args.repos.now = c.look_into-disk.ensures.mounted ∙ c.in-Ok-open.ensures.mounted ∙ c.in-Ok.ensures.path in
+    let back : g.H.Host.disk_at c.unmount.new.self c.args.repos.now ≡ told c.open.new.disk = ap (g.H.Host.disk_at c.unmount.new.self) (sym path) ∙ c.unmount.ensures.back ∙ c.look_into-disk.ensures.same in
+    subst (λ (x : Option Trace). FailsAt FirmNames x (g.H.Host.disk_at c.unmount.new.self c.args.repos.now)) c.in-Ok.ensures.disk
+    (subst (λ (y : Option Trace). FailsAt FirmNames (told c.in-Ok.disk) y) (sym back) c.in-Ok-open.ensures.ended)
+
+pub returns-in-Err-open-clause-ended : goal.returns-in-Err-open-clause-ended
+returns-in-Err-open-clause-ended g c =
+    let told = g.H.Mounted.Disk.trace in
+    let path : g.H.Mounted.Disk.mount_path c.open.new.disk ≡ c.args.repos.now = c.in-Err-open.ensures.mounted ∙ c.in-Ok.ensures.path in
+    let back : g.H.Host.disk_at c.unmount-in-Err-open.new.self c.args.repos.now ≡ told c.open.new.disk = ap (g.H.Host.disk_at c.unmount-in-Err-open.new.self) (sym path) ∙ c.unmount-in-Err-open.ensures.back in
+    subst (λ (x : Option Trace). FailsAt FirmNames x (g.H.Host.disk_at c.unmount-in-Err-open.new.self c.args.repos.now)) c.in-Ok.ensures.disk
+    (subst (λ (y : Option Trace). FailsAt FirmNames (told c.in-Ok.disk) y) (sym back) c.in-Err-open.ensures.ended)

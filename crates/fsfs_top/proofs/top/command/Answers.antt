@@ -17,6 +17,14 @@ returns-in-Err-clause-replies g c =
     replies c.args.tool (map string_bytes c.args.words.now) (g.C.Clock.next c.args.clock.now) (g.R.Dice.next c.args.dice.now) (scene g.H.Host g.O.Sink c.args.host.now c.args.out.now) (scene g.H.Host g.O.Sink c.run.new.host c.run.new.out)
     (sink_scene g.E.Sink c.args.err.now) (sink_scene g.E.Sink c.print_fault.new.sink) c.status.result (Some c.in-Err.fault) c.in-Err.ensures.did (c.status.ensures, tells)
 
+pub returns-in-Err-clause-answer : goal.returns-in-Err-clause-answer
+returns-in-Err-clause-answer g c = (
+  Some c.in-Err.fault,
+  c.status.ensures,
+  told_line (g.E.Sink.written c.args.err.now) (g.E.Sink.written c.print_fault.new.sink) (line_of c.args.tool c.in-Err.fault) (g.E.Sink.faults c.args.err.now) (g.E.Sink.faults c.print_fault.new.sink) c.print_fault.result c.print_fault.ensures.printed,
+  c.in-Err.ensures.did,
+)
+
 pub returns-in-Ok-clause-made : goal.returns-in-Ok-clause-made
 returns-in-Ok-clause-made g c = λ done.
     made_stands c.args.tool (map string_bytes c.args.words.now) (g.C.Clock.next c.args.clock.now) (g.R.Dice.next c.args.dice.now) (scene g.H.Host g.O.Sink c.args.host.now c.args.out.now) (scene g.H.Host g.O.Sink c.run.new.host c.run.new.out) c.in-Ok.ensures.did

@@ -2,13 +2,16 @@ use Rattle.std.proofs.Common.{◌≡◌, ℕ, List, map, sym, ap, subst, inl, re
 use Rattle.std.specs.Prelude.{string_bytes, option_map, Some, OnOk}
 use Rattle.fsfs_create.specs.Creation.{IsUnpublished, HasRepository}
 use Rattle.fsfs_disk.specs.Crash.{AllImages, IsFirm, Leaves}
-use Rattle.fsfs_disk.specs.Trace.{Trace, files_now}
-use Rattle.fsfs_cli.specs.declared.request.Task.TheVariants.{Create, Look}
+use Rattle.fsfs_disk.specs.Trace.{Trace, files_now, labels_now}
+use Rattle.fsfs_cli.specs.declared.request.Task.TheVariants.{Create, ListTxns, RemoveTxns, Look}
 use Rattle.fsfs_cli.specs.Readings.{Asks}
 use Rattle.fsfs_cli.proofs.TaskLemmas.{asks_task}
 use Rattle.fsfs_top.specs.Command.{IsNoneOrCreated}
 use Rattle.fsfs_top.proofs.CreationTold.{same_files}
-use Rattle.fsfs_top.proofs.TaskDone.{at_creation, looks_alone}
+use Rattle.fsfs_repo.proofs.OpeningLemmas.{firm_same}
+use Rattle.fsfs_top.specs.Transactions.{LeavesRemoval}
+use Rattle.fsfs_top.proofs.TaskDone.{at_creation, at_removal, looks_alone, others_alone}
+use Rattle.fsfs_top.proofs.TxnsTold.{labels_firm, same_labels}
 use Rattle.fsfs_top.proofs.top.run.Goals as goal
 
 pub returns-in-Create-clause-did : goal.returns-in-Create-clause-did
@@ -85,3 +88,121 @@ create_at-requires g c =
     let words = map string_bytes c.args.words.now in
     let repos = c.in_ok-request.request.repos.now in
     (asks_task c.args.tool words repos (Create c.in-Create.shard) (subst (Asks c.args.tool words repos) c.in-Create.is c.in_ok-request.ensures)).1
+
+pub returns-in-Create-clause-removal : goal.returns-in-Create-clause-removal
+returns-in-Create-clause-removal g c = λ r txns also.
+    let words = map string_bytes c.args.words.now in
+    let repos = c.in_ok-request.request.repos.now in
+    absurd (others_alone c.args.tool words repos r (Create c.in-Create.shard) (RemoveTxns txns) (λ e. cc) (subst (Asks c.args.tool words repos) c.in-Create.is c.in_ok-request.ensures) also)
+
+pub returns-in-Create-clause-labels : goal.returns-in-Create-clause-labels
+returns-in-Create-clause-labels g c = λ path none nor.
+    let words = map string_bytes c.args.words.now in
+    let repos = c.in_ok-request.request.repos.now in
+    let asks = subst (Asks c.args.tool words repos) c.in-Create.is c.in_ok-request.ensures in
+    ap (option_map labels_now) (c.create_at.ensures.others path (λ e. none c.in-Create.shard (subst (λ (p : List ℕ). Asks c.args.tool words p (Create c.in-Create.shard)) (sym e) asks)))
+
+pub returns-clause-removal : goal.returns-clause-removal
+returns-clause-removal g c = λ r txns also.
+    let words = map string_bytes c.args.words.now in
+    let repos = c.in_ok-request.request.repos.now in
+    absurd (others_alone c.args.tool words repos r (Look c.in-Look.look) (RemoveTxns txns) (λ e. cc) (subst (Asks c.args.tool words repos) c.in-Look.is c.in_ok-request.ensures) also)
+
+pub returns-clause-labels : goal.returns-clause-labels
+returns-clause-labels g c = λ path none nor.
+    let old = g.H.Host.disk_at c.args.host.now in
+    let new = g.H.Host.disk_at c.look_at.new.host in
+    let repos = c.in_ok-request.request.repos.now in
+    same_labels old new repos path (labels_firm (old repos) (new repos) c.look_at.ensures.ended) c.look_at.ensures.others
+
+-- ---- a listing
+
+pub returns-in-ListTxns-clause-did : goal.returns-in-ListTxns-clause-did
+returns-in-ListTxns-clause-did g c =
+    let words = map string_bytes c.args.words.now in
+    let repos = c.in_ok-request.request.repos.now in
+    let asks = subst (Asks c.args.tool words repos) c.in-ListTxns.is c.in_ok-request.ensures in
+    inl (repos, ListTxns, asks, (c.list_at.ensures.listed, c.list_at.ensures.decided))
+
+pub returns-in-ListTxns-clause-others : goal.returns-in-ListTxns-clause-others
+returns-in-ListTxns-clause-others g c = λ path none.
+    let old = g.H.Host.disk_at c.args.host.now in
+    let new = g.H.Host.disk_at c.list_at.new.host in
+    let repos = c.in_ok-request.request.repos.now in
+    same_files old new repos path (firm_same (old repos) (new repos) c.list_at.ensures.ended) c.list_at.ensures.others
+
+pub returns-in-ListTxns-clause-labels : goal.returns-in-ListTxns-clause-labels
+returns-in-ListTxns-clause-labels g c = λ path none nor.
+    let old = g.H.Host.disk_at c.args.host.now in
+    let new = g.H.Host.disk_at c.list_at.new.host in
+    let repos = c.in_ok-request.request.repos.now in
+    same_labels old new repos path (labels_firm (old repos) (new repos) c.list_at.ensures.ended) c.list_at.ensures.others
+
+pub returns-in-ListTxns-clause-there_same : goal.returns-in-ListTxns-clause-there_same
+returns-in-ListTxns-clause-there_same g c = λ r n t also here has.
+    let words = map string_bytes c.args.words.now in
+    let repos = c.in_ok-request.request.repos.now in
+    absurd (others_alone c.args.tool words repos r ListTxns (Create n) (λ e. cc) (subst (Asks c.args.tool words repos) c.in-ListTxns.is c.in_ok-request.ensures) also)
+
+pub returns-in-ListTxns-clause-any_moment : goal.returns-in-ListTxns-clause-any_moment
+returns-in-ListTxns-clause-any_moment g c = λ r n also.
+    let words = map string_bytes c.args.words.now in
+    let repos = c.in_ok-request.request.repos.now in
+    absurd (others_alone c.args.tool words repos r ListTxns (Create n) (λ e. cc) (subst (Asks c.args.tool words repos) c.in-ListTxns.is c.in_ok-request.ensures) also)
+
+pub returns-in-ListTxns-clause-firm : goal.returns-in-ListTxns-clause-firm
+returns-in-ListTxns-clause-firm g c = λ r n also.
+    let words = map string_bytes c.args.words.now in
+    let repos = c.in_ok-request.request.repos.now in
+    absurd (others_alone c.args.tool words repos r ListTxns (Create n) (λ e. cc) (subst (Asks c.args.tool words repos) c.in-ListTxns.is c.in_ok-request.ensures) also)
+
+pub returns-in-ListTxns-clause-removal : goal.returns-in-ListTxns-clause-removal
+returns-in-ListTxns-clause-removal g c = λ r txns also.
+    let words = map string_bytes c.args.words.now in
+    let repos = c.in_ok-request.request.repos.now in
+    absurd (others_alone c.args.tool words repos r ListTxns (RemoveTxns txns) (λ e. cc) (subst (Asks c.args.tool words repos) c.in-ListTxns.is c.in_ok-request.ensures) also)
+
+pub returns-in-RemoveTxns-clause-there_same : goal.returns-in-RemoveTxns-clause-there_same
+returns-in-RemoveTxns-clause-there_same g c = λ r n t also here has.
+    let words = map string_bytes c.args.words.now in
+    let repos = c.in_ok-request.request.repos.now in
+    absurd (others_alone c.args.tool words repos r (RemoveTxns c.in-RemoveTxns.names) (Create n) (λ e. cc) (subst (Asks c.args.tool words repos) c.in-RemoveTxns.is c.in_ok-request.ensures) also)
+
+pub returns-in-RemoveTxns-clause-any_moment : goal.returns-in-RemoveTxns-clause-any_moment
+returns-in-RemoveTxns-clause-any_moment g c = λ r n also.
+    let words = map string_bytes c.args.words.now in
+    let repos = c.in_ok-request.request.repos.now in
+    absurd (others_alone c.args.tool words repos r (RemoveTxns c.in-RemoveTxns.names) (Create n) (λ e. cc) (subst (Asks c.args.tool words repos) c.in-RemoveTxns.is c.in_ok-request.ensures) also)
+
+pub returns-in-RemoveTxns-clause-firm : goal.returns-in-RemoveTxns-clause-firm
+returns-in-RemoveTxns-clause-firm g c = λ r n also.
+    let words = map string_bytes c.args.words.now in
+    let repos = c.in_ok-request.request.repos.now in
+    absurd (others_alone c.args.tool words repos r (RemoveTxns c.in-RemoveTxns.names) (Create n) (λ e. cc) (subst (Asks c.args.tool words repos) c.in-RemoveTxns.is c.in_ok-request.ensures) also)
+
+-- ---- a removal
+
+pub returns-in-RemoveTxns-clause-did : goal.returns-in-RemoveTxns-clause-did
+returns-in-RemoveTxns-clause-did g c =
+    let words = map string_bytes c.args.words.now in
+    let repos = c.in_ok-request.request.repos.now in
+    let asks = subst (Asks c.args.tool words repos) c.in-RemoveTxns.is c.in_ok-request.ensures in
+    inl (repos, RemoveTxns c.in-RemoveTxns.names, asks, (c.remove_at.ensures.removed, c.remove_at.ensures.decided, refl))
+
+pub returns-in-RemoveTxns-clause-others : goal.returns-in-RemoveTxns-clause-others
+returns-in-RemoveTxns-clause-others g c = λ path none.
+    same_files (g.H.Host.disk_at c.args.host.now) (g.H.Host.disk_at c.remove_at.new.host) c.in_ok-request.request.repos.now path c.remove_at.ensures.same c.remove_at.ensures.others
+
+pub returns-in-RemoveTxns-clause-removal : goal.returns-in-RemoveTxns-clause-removal
+returns-in-RemoveTxns-clause-removal g c = λ r txns also.
+    let words = map string_bytes c.args.words.now in
+    let repos = c.in_ok-request.request.repos.now in
+    let asks = subst (Asks c.args.tool words repos) c.in-RemoveTxns.is c.in_ok-request.ensures in
+    at_removal (λ p. LeavesRemoval (g.H.Host.disk_at c.args.host.now p) (g.H.Host.disk_at c.remove_at.new.host p)) c.args.tool words repos c.in-RemoveTxns.names asks (c.remove_at.ensures.any_moment, c.remove_at.ensures.labels) r txns also
+
+pub returns-in-RemoveTxns-clause-labels : goal.returns-in-RemoveTxns-clause-labels
+returns-in-RemoveTxns-clause-labels g c = λ path none nor.
+    let words = map string_bytes c.args.words.now in
+    let repos = c.in_ok-request.request.repos.now in
+    let asks = subst (Asks c.args.tool words repos) c.in-RemoveTxns.is c.in_ok-request.ensures in
+    ap (option_map labels_now) (c.remove_at.ensures.others path (λ e. nor c.in-RemoveTxns.names (subst (λ (p : List ℕ). Asks c.args.tool words p (RemoveTxns c.in-RemoveTxns.names)) (sym e) asks)))

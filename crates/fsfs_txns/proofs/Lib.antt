@@ -1,0 +1,4 @@
+pub mod Parts
+pub mod NameOrder
+pub mod Listed
+pub mod InTurn

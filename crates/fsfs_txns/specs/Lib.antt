@@ -1,0 +1,3 @@
+pub mod Txns
+pub mod Entries
+pub mod Removals

@@ -1,0 +1,8 @@
+//! The transactions of a repository: which there are, and their removal.
+#![tactic(auto)]
+
+mod listing;
+mod removing;
+
+pub use listing::txns;
+pub use removing::{RemovalFault, rmtxn, rmtxns};
