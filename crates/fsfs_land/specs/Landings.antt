@@ -1,0 +1,42 @@
+-- What a merge leaves of a transaction.
+use Rattle.std.specs.Prelude.{◌≡◌, ◌<◌, ◌≤◌, ℕ, List, Result, Ok, Err}
+use Rattle.fsfs_base.specs.Paths.{Path}
+use Rattle.fsfs_tree.specs.Nodes.{TreeFunction}
+use Rattle.fsfs_flat.specs.declared.mark.Mark.{Mark}
+use Rattle.fsfs_flat.specs.Landing.{NoClash, IsFirstClash, land}
+use Rattle.fsfs_flat.specs.Transactions.{IsTransaction}
+use Rattle.fsfs_fields.specs.declared.txn_name.TxnName.{TxnName}
+use Rattle.fsfs_book.specs.Told.{RevisionBytes}
+use Rattle.fsfs_ancestry.specs.Trees.{ShowTrees}
+use Rattle.fsfs_drafts.specs.Drafts.{Folder}
+use Rattle.fsfs_drafts.specs.Whole.{IsDraftOf}
+use Rattle.fsfs_own.specs.Errors.{IfStays}
+use Rattle.fsfs_own.specs.declared.error.EditError.{EditError}
+use Rattle.fsfs_clash.specs.declared.merged.MergedDir.{MergedDir}
+use Rattle.fsfs_clash.specs.Merges.{LeadOn}
+use Rattle.fsfs_land.specs.declared.land.Outcome.{Outcome}
+use Rattle.fsfs_land.specs.declared.land.Outcome.TheVariants as outcomes
+use Rattle.fsfs_land.specs.Relinked.{AreRelinked, AreHere}
+
+-- the folder after it holds a draft of the landing over the head, with the same marks; the landing may take any number for its nodes
+abbrev pub IsLanded : RevisionBytes → (ℕ → TreeFunction) → ℕ → ℕ → ℕ → TxnName → TreeFunction → List Mark → Folder → Type 0
+IsLanded look trees top base head txn tree marks after = (k : ℕ) → IsDraftOf look trees top head txn after (land (trees base) (trees head) tree marks k) marks
+
+-- the first clash, and the draft is as before; or nothing clashes and the draft is one of the landing; a failure leaves it, but where
+-- the bench failed
+abbrev pub LeavesLanded : RevisionBytes → (ℕ → TreeFunction) → ℕ → ℕ → ℕ → TxnName → TreeFunction → List Mark → Folder → Folder → Result Outcome EditError → Type 0
+LeavesLanded look trees top base head txn tree marks before after (Ok (outcomes.Clash c)) = IsFirstClash base (trees base) (trees head) tree marks c × (after ≡ before)
+LeavesLanded look trees top base head txn tree marks before after (Ok outcomes.Landed) = NoClash base (trees base) (trees head) tree marks × IsLanded look trees top base head txn tree marks after
+LeavesLanded look trees top base head txn tree marks before after (Err e) = IfStays e (after ≡ before)
+
+-- ---- the laws that link a plan and the draft
+
+-- the directories that a merge finds in a draft are of its folder; and written they leave the landing
+pub record PlansLand : Type 0 where
+  pub here : (look : RevisionBytes) (trees : ℕ → TreeFunction) (top base head : ℕ) (txn : TxnName) (f : Folder) (tree : TreeFunction) (marks : List Mark) (dirs : List MergedDir)
+      → ShowTrees look top trees → base < head → head ≤ top → IsTransaction trees top base tree marks → (d : IsDraftOf look trees top base txn f tree marks)
+      → NoClash base (trees base) (trees head) tree marks → LeadOn look top base head d.shows.own dirs → AreHere f dirs
+  pub lands : (look : RevisionBytes) (trees : ℕ → TreeFunction) (top base head : ℕ) (txn : TxnName) (f after : Folder) (tree : TreeFunction) (marks : List Mark) (dirs : List MergedDir)
+      → ShowTrees look top trees → base < head → head ≤ top → IsTransaction trees top base tree marks → (d : IsDraftOf look trees top base txn f tree marks)
+      → NoClash base (trees base) (trees head) tree marks → LeadOn look top base head d.shows.own dirs → AreRelinked f after dirs
+      → IsLanded look trees top base head txn tree marks after

@@ -1,0 +1,9 @@
+//! The merge of a transaction with a later revision: the directories that the walk of `fsfs_clash` finds are written, and the
+//! transaction goes on over the later revision.
+#![tactic(auto)]
+
+mod land;
+mod relink;
+
+pub use land::{Outcome, merge};
+pub use relink::Relink;
