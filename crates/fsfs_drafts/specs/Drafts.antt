@@ -7,6 +7,7 @@ use Rattle.fsfs_base.specs.declared.kind.Kind.TheVariants.{File, Dir}
 use Rattle.fsfs_flat.specs.declared.mark.Mark.{Mark}
 use Rattle.fsfs_flat.specs.declared.mark.What.{What}
 use Rattle.fsfs_flat.specs.declared.mark.What.TheVariants as whats
+use Rattle.fsfs_flat.specs.Folding.{change_of}
 use Rattle.fsfs_base.specs.declared.action.Action.{Action}
 use Rattle.fsfs_base.specs.declared.action.Action.TheVariants as actions
 use Rattle.fsfs_fields.specs.declared.txn_name.TxnName.{TxnName}
@@ -115,6 +116,8 @@ pub record IsItemOf (item : ChangeItem) (m : Mark) : Type 0 where
   pub path : item.path ≡ m.path
   pub kind : item.kind ≡ Some m.kind
   pub action : item.action ≡ action_of m.what
+  pub text : item.text_changed ≡ (change_of m.kind m.what).text_changed
+  pub props : item.props_changed ≡ (change_of m.kind m.what).props_changed
   pub source : pair_of item.source ≡ source_of m.what
 
 abbrev pub AreItemsOf : List ChangeItem → List Mark → Type 0

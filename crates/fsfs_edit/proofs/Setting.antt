@@ -165,7 +165,7 @@ module _ (look : RevisionBytes) (trees : ℕ → TreeFunction) (top base : ℕ) 
       text_files = record { list = λ es some. (let e = sym no_entries ∙ some in absurd cc); set = files.set; no_list = λ dir. (let e = sym dir ∙ is_file in absurd cc); no_set = files.no_set }
 
       text_says : IsItemOf item (record { path = p; kind = kind_of_node (tree p); what = whats.Text })
-      text_says = record { path = is.path_is; kind = is.kind_is ∙ ap (λ (k : Kind). Some k) (sym same_kind); action = is.action; source = ap pair_of is.source_is }
+      text_says = record { path = is.path_is; kind = is.kind_is ∙ ap (λ (k : Kind). Some k) (sym same_kind); action = is.action; text = is.text_is; props = is.props_is; source = ap pair_of is.source_is }
 
     pub text_set : (proto : List ℕ) → mid.proto ≡ proto → (settled : Folder) → settled ≡ with_item after item → IsTextSet look trees top base txn tree marks proto p rep settled
     text_set proto same settled done = subst (λ (g : Folder). IsTextSet look trees top base txn tree marks proto p rep g) (sym done) (record {
@@ -210,7 +210,7 @@ module _ (look : RevisionBytes) (trees : ℕ → TreeFunction) (top base : ℕ) 
     props_files = record { list = files.list; set = λ ps some. refl; no_list = files.no_list; no_set = λ lacks none. absurd cc }
 
     props_says : IsItemOf item (record { path = p; kind = kind_of_node (tree p); what = whats.Prop })
-    props_says = record { path = is.path_is; kind = is.kind_is ∙ ap (λ (k : Kind). Some k) (sym same_kind); action = is.action; source = ap pair_of is.source_is }
+    props_says = record { path = is.path_is; kind = is.kind_is ∙ ap (λ (k : Kind). Some k) (sym same_kind); action = is.action; text = is.text_is; props = is.props_is; source = ap pair_of is.source_is }
 
     pub property_set : (settled : Folder) → settled ≡ with_item after item → IsPropertyIn look trees top base txn tree marks p name value settled
     property_set settled done = subst (λ (g : Folder). IsPropertyIn look trees top base txn tree marks p name value g) (sym done) (

@@ -104,14 +104,14 @@ module _ (look : RevisionBytes) (trees : ℕ → TreeFunction) (top base : ℕ) 
       by File makes is = (
         record {
           accepted = room_made tree p name room;
-          draft = makes tree marks d.0.shows.own item (mark_of (MakeFile (p ++ name ∷ [])) trees tree) edited o.opened refl refl (record { path = is.path_is; kind = is.kind_is; action = is.action; source = ap pair_of is.source_is });
+          draft = makes tree marks d.0.shows.own item (mark_of (MakeFile (p ++ name ∷ [])) trees tree) edited o.opened refl refl (record { path = is.path_is; kind = is.kind_is; action = is.action; text = is.text; props = is.props; source = ap pair_of is.source_is });
         },
         added_item after (p ++ name ∷ []) id File None item is file,
       )
       by Dir makes is = (
         record {
           accepted = room_made tree p name room;
-          draft = makes tree marks d.0.shows.own item (mark_of (MakeDir (p ++ name ∷ [])) trees tree) edited o.opened refl refl (record { path = is.path_is; kind = is.kind_is; action = is.action; source = ap pair_of is.source_is });
+          draft = makes tree marks d.0.shows.own item (mark_of (MakeDir (p ++ name ∷ [])) trees tree) edited o.opened refl refl (record { path = is.path_is; kind = is.kind_is; action = is.action; text = is.text; props = is.props; source = ap pair_of is.source_is });
         },
         added_item after (p ++ name ∷ []) id Dir None item is file,
       )
@@ -124,7 +124,7 @@ module _ (look : RevisionBytes) (trees : ℕ → TreeFunction) (top base : ℕ) 
     record {
       accepted = and_from _ _ (and_from _ _ (room_made tree p name room) within) (kind_some (trees from.rev from.path) kind has);
       draft = copies tree marks d.0.shows.own item (mark_of (Copy from.rev from.path (p ++ name ∷ [])) trees tree) edited o.opened refl refl
-          (record { path = is.path_is; kind = is.kind_is ∙ ap (λ (k : Kind). Some k) (sym same); action = is.action; source = ap pair_of is.source_is });
+          (record { path = is.path_is; kind = is.kind_is ∙ ap (λ (k : Kind). Some k) (sym same); action = is.action; text = is.text; props = is.props; source = ap pair_of is.source_is });
     },
     added_item after (p ++ name ∷ []) id (kind_of_node (trees from.rev from.path)) (Some from) item (subst (λ (k : Kind). IsAddOf item id k (p ++ name ∷ []) (Some from)) (sym same) is) file,
   )
@@ -146,7 +146,7 @@ module _ (look : RevisionBytes) (trees : ℕ → TreeFunction) (top base : ℕ) 
   deleted_in step kind has at after id deleted takes item is settled done = subst (λ (g : Folder). IsGoneFrom look trees top base txn d.0.shows.own tree marks (p ++ name ∷ []) g) (sym done) (
     record {
       accepted = and_from _ _ (ap (λ b. not b) (root_more p name)) (kind_some (tree (p ++ name ∷ [])) kind has);
-      draft = takes tree marks d.0.shows.own item (mark_of (Delete (p ++ name ∷ [])) trees tree) edited o.opened refl refl (record { path = is.path_is; kind = kind_same; action = is.action; source = ap pair_of is.source_is });
+      draft = takes tree marks d.0.shows.own item (mark_of (Delete (p ++ name ∷ [])) trees tree) edited o.opened refl refl (record { path = is.path_is; kind = kind_same; action = is.action; text = is.text; props = is.props; source = ap pair_of is.source_is });
     },
     record {
       front = after.items;

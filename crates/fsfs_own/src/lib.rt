@@ -8,9 +8,9 @@ mod own;
 mod properties;
 mod walk;
 
-pub use entries::entries_in;
+pub use entries::{entries_in, lasting_entries};
 pub use error::EditError;
 pub use names::room_in;
 pub use own::{KeptNode, Own, OwnError};
 pub use properties::properties_in;
-pub use walk::{Child, Found, Step, met, next};
+pub use walk::{Child, Found, Step, met, next, root_id};
