@@ -1,5 +1,5 @@
 -- The record of bare calls of the system, made on what stands below one folder: what a call asks for, and what stands after all.
-use Rattle.std.specs.Prelude.{◌≡◌, ◌⊎◌, ℕ, suc, List, [], ◌∷◌, ◌++◌, length, Bool, true, false, not, cond, ◌==◌, ◌||◌, ◌&&◌, if◌then◌else◌, Option, Some, None, option_map, is_some, IsSome}
+use Rattle.std.specs.Prelude.{◌≡◌, ◌⊎◌, ◌^◌, nat_le, ℕ, suc, List, [], ◌∷◌, ◌++◌, length, Bool, true, false, not, cond, ◌==◌, ◌||◌, ◌&&◌, if◌then◌else◌, Option, Some, None, option_map, is_some, IsSome}
 use Rattle.fsfs_base.specs.Files.{NamedFile}
 use Rattle.fsfs_calls.specs.Paths.{same_text, has_path, is_below}
 
@@ -155,10 +155,15 @@ MayMake change old new = (new ≡ old) ⊎ Makes change old new
 abbrev pub Does : Call → Option CallRecord → Option CallRecord → Type 0
 Does call old new = new ≡ option_map (add_call call) old
 
+-- no file is longer than 2^62 bytes
+abbrev pub are_short : List NamedFile → Bool
+are_short [] = true
+are_short (file ∷ files) = nat_le (length file.1) (2 ^ 62) && are_short files
+
 -- calls on a part begin with what stands there
 abbrev pub Begins : Option CallRecord → Option CallRecord → Type 0
 Begins None part = part ≡ None
-Begins (Some r) part = (first : Beginning) × (part ≡ Some (record { first = first; calls = [] }))
+Begins (Some r) part = (first : Beginning) × (part ≡ Some (record { first = first; calls = [] })) × (are_short first.files ≡ true)
 
 -- a file went from a part to a name here
 abbrev pub Takes : List ℕ → List ℕ → Option CallRecord → Option CallRecord → Option CallRecord → Option CallRecord → Type 0

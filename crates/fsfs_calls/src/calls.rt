@@ -1,6 +1,6 @@
 // The calls of the system, one for one.
 ghost use Rattle.std.specs.Prelude.{◌≡◌, ◌≤◌, ◌<◌, ◌-◌, ◌⊎◌, ◌++◌, min, ℕ, List, Option, Some, None, true, false, length, take, drop, option_map, is_some, IfOk, IfSome, OnOk, OnErr, IsErrOf};
-ghost use Rattle.fsfs_calls.specs.CallRecord.{CallRecord, MakeFolder, DropFolder, Create, Rename, Remove, Append, SyncFile, FailSync, SyncFolder, Firmed, Makes, MayMake, Does, Begins, Takes, MayTake, names_now, contents_now, new_number};
+ghost use Rattle.fsfs_calls.specs.CallRecord.{CallRecord, MakeFolder, DropFolder, Create, Rename, Remove, Append, SyncFile, FailSync, SyncFolder, Firmed, Makes, MayMake, Does, Begins, Takes, MayTake, names_now, contents_now, new_number, IsEmptyAt};
 ghost use Rattle.fsfs_calls.specs.Listing.{IsListOf, has_file};
 
 use crate::error::CallError;
@@ -17,8 +17,8 @@ pub trait OpenFile: Drop {
 /// The calls of the system on files and folders below one folder, as the system has them. A call that a signal interrupts is made
 /// again.
 ///
-/// What stands below a folder of which a part was handed out is in the part's record alone. This one is asked for no path there,
-/// but by `take`.
+/// A path below a folder that a part is asked for is in that part's record alone: neither these calls, but by `take`, nor another part
+/// is asked for it.
 pub trait Calls {
     type File: OpenFile;
 
@@ -47,15 +47,19 @@ pub trait Calls {
         ensures err { OnErr result (MayMake (DropFolder path.now) (history self.old) (history self.new)) };
 
     /// The names of the folders next below a folder, in no order. Names of more than 128 bytes, or that aren't UTF-8, are passed over.
+    /// `NotFound`: there is no such folder, and so nothing below it.
     fn folders_in(&mut self, alloc: Global, folder: &Path) -> Result<Vec<Name>, CallError>
         ensures names { IfSome (history self.old) (λ r. IfOk result (λ found. IsListOf (names_now r).folders folder.now found.items)) }
         ensures absent { IfSome (history self.old) (λ r. IsErrOf result CallError.NotFound → (names_now r).folders folder.now ≡ false) }
+        ensures bare { IfSome (history self.old) (λ r. IsErrOf result CallError.NotFound → IsEmptyAt (names_now r) folder.now) }
         ensures same { history self.new ≡ history self.old };
 
     /// The names of the files next below a folder, in no order. Names of more than 128 bytes, or that aren't UTF-8, are passed over.
+    /// `NotFound`: there is no such folder, and so nothing below it.
     fn files_in(&mut self, alloc: Global, folder: &Path) -> Result<Vec<Name>, CallError>
         ensures names { IfSome (history self.old) (λ r. IfOk result (λ found. IsListOf (has_file (names_now r)) folder.now found.items)) }
         ensures absent { IfSome (history self.old) (λ r. IsErrOf result CallError.NotFound → (names_now r).folders folder.now ≡ false) }
+        ensures bare { IfSome (history self.old) (λ r. IsErrOf result CallError.NotFound → IsEmptyAt (names_now r) folder.now) }
         ensures same { history self.new ≡ history self.old };
 
     /// Makes an empty file where nothing has the name, and opens it to read and to write.
@@ -129,7 +133,8 @@ pub trait Calls {
         ensures ok { OnOk result (Does Firmed (history self.old) (history self.new)) }
         ensures err { OnErr result (history self.new ≡ history self.old) };
 
-    /// The calls on what stands below a folder, with a record of their own. From now on that is theirs alone.
+    /// The calls on what stands below a folder, with a record of their own. No file there is longer than 2^62 bytes. What they are
+    /// asked for is theirs alone.
     fn part(&mut self, folder: &Path) -> Result<Self, CallError>
         ensures begins { IfOk result (λ part. Begins (history self.old) (history part)) }
         ensures same { history self.new ≡ history self.old };

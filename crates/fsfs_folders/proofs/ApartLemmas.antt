@@ -37,20 +37,30 @@ starts_below (n ∷ ns) (p ∷ ps) (c ∷ cs) starts below =
     let b : ((p == c) ≡ true) × (is_below ps cs ≡ true) = and_parts (p == c) (is_below ps cs) below in
     and_from (nat_eq n c) (starts_with nat_eq cs ns) (ap (λ d. nat_eq n d) (sym (eqb-true p c b.0)) ∙ s.0) (starts_below ns ps cs s.1 b.1)
 
-either : (x y z : Bool) (q : Bool) → (x ≡ true → q ≡ true) → (y ≡ true → q ≡ true) → (z ≡ true → q ≡ true) → (x || (y || z)) ≡ true → q ≡ true
-either x y z q f g h e = ⊎_elim f (λ r. ⊎_elim g h (or_cases y z r)) (or_cases x (y || z) e)
+either : (x y : Bool) (q : Bool) → (x ≡ true → q ≡ true) → (y ≡ true → q ≡ true) → (x || y) ≡ true → q ≡ true
+either x y q f g e = ⊎_elim f g (or_cases x y e)
+
+or_left : (x y : Bool) → x ≡ true → (x || y) ≡ true
+or_left true y e = refl
+or_left false y e = let h : false ≡ true = e in cc
 
 -- what is below the folder of a bench is in a bench
 pub in_bench_below : (path q : List ℕ) → is_in_bench path ≡ true → is_below path q ≡ true → is_in_bench q ≡ true
 unfolding is_in_bench
 in_bench_below path q bench below =
+    let at : List ℕ → Bool = λ text. starts_with nat_eq path text in
+    let to : List ℕ → Bool = λ text. starts_with nat_eq q text in
     let txns = codes "db/transactions/" in
+    let protos = codes "db/txn-protorevs/" in
     let packs = codes "db/pack-" in
     let copies = codes "db/copy.bench" in
-    either (starts_with nat_eq path txns) (starts_with nat_eq path packs) (starts_with nat_eq path copies) (is_in_bench q)
-    (λ s. ap (λ b. b || (starts_with nat_eq q packs || starts_with nat_eq q copies)) (starts_below txns path q s below))
-    (λ s. or_right (starts_with nat_eq q txns) (starts_with nat_eq q packs || starts_with nat_eq q copies) (ap (λ b. b || starts_with nat_eq q copies) (starts_below packs path q s below)))
-    (λ s. or_right (starts_with nat_eq q txns) (starts_with nat_eq q packs || starts_with nat_eq q copies) (or_right (starts_with nat_eq q packs) (starts_with nat_eq q copies) (starts_below copies path q s below)))
+    either (at txns) (at protos || (at packs || at copies)) (to txns || (to protos || (to packs || to copies)))
+    (λ s. or_left (to txns) (to protos || (to packs || to copies)) (starts_below txns path q s below))
+    (λ m. or_right (to txns) (to protos || (to packs || to copies)) (either (at protos) (at packs || at copies) (to protos || (to packs || to copies))
+    (λ s. or_left (to protos) (to packs || to copies) (starts_below protos path q s below))
+    (λ l. or_right (to protos) (to packs || to copies) (either (at packs) (at copies) (to packs || to copies)
+    (λ s. or_left (to packs) (to copies) (starts_below packs path q s below))
+    (λ s. or_right (to packs) (to copies) (starts_below copies path q s below)) l)) m))
     bench
 
 root_outside : is_in_bench [] ≡ false

@@ -14,6 +14,7 @@ pub mod PutLemmas
 pub mod NotedLemmas
 pub mod HeldFiles
 pub mod BenchTold
+pub mod ProtoLemmas
 pub mod BenchWriting
 pub mod LabelCalls
 pub mod Adopting

@@ -25,7 +25,7 @@ use Rattle.fsfs_disk.specs.Trace.{labels_after, labels_now}
 use Rattle.fsfs_disk.proofs.LabelLemmas.{same_label-itself, same_label-same, has-without_label, has-without}
 use Rattle.fsfs_calls.specs.Paths.{same_text, has_path, has_slash, within}
 use Rattle.fsfs_calls.specs.Listing.{is_entry, are_apart, IsListOf}
-use Rattle.fsfs_calls.specs.CallRecord.{CallRecord, names_now}
+use Rattle.fsfs_calls.specs.CallRecord.{CallRecord, IsEmptyAt, names_now}
 use Rattle.fsfs_calls.proofs.PathLemmas.{text_cases, same_is, has_head, has_tail, or_right}
 use Rattle.fsfs_folders.specs.LabelPaths.{bench_folder, between, txns_of, packs_of, first_of, label_at, IsFitting}
 use Rattle.fsfs_folders.specs.TxnEntries.{is_txn_entry, txns_among}
@@ -260,3 +260,13 @@ pub listing_told : (old : Option CallRecord) (found sorted : List (List ℕ)) �
     → IfSome (told old) (λ t. IsListing (labels_now t) sorted)
 listing_told None found sorted list ordered same = tt
 listing_told (Some r) found sorted list ordered same = record { ordered = ordered; all = IsPermutation-trans (txn_entries (labels_now (trace_of r))) (txns_among found) sorted (listed r found list) same }
+
+-- where nothing stands below the folder of transactions, none is listed
+pub bare_list : (old : Option CallRecord) (found : List (List ℕ)) → IfSome old (λ r. IsEmptyAt (names_now r) (codes "db/transactions")) → found ≡ []
+    → IfSome old (λ r. IsListOf (names_now r).folders (codes "db/transactions") found)
+bare_list None found bare none = tt
+bare_list (Some r) found bare none = subst (λ l. IsListOf (names_now r).folders (codes "db/transactions") l) (sym none) (record {
+  each = λ name has. let h : false ≡ true = has in cc;
+  all = λ name entry there. let h : true ≡ false = sym there ∙ (bare (within (codes "db/transactions") name) refl).0 in cc;
+  once = refl;
+})

@@ -9,3 +9,4 @@ pub mod Standing
 pub mod Laws
 pub mod LabelsLeft
 pub mod OpenFiles
+pub mod Prototypes

@@ -16,9 +16,9 @@ use Rattle.fsfs_folders.specs.LabelPaths.{label_at}
 abbrev pub is_beside : List ℕ → Bool
 is_beside path = ends_with nat_eq path (codes ".beside")
 
--- where the folders of benches are, and what stands in them
+-- where the folders of benches are, and what stands in them; prototype revision files too
 unfoldable pub is_in_bench : List ℕ → Bool
-is_in_bench path = starts_with nat_eq path (codes "db/transactions/") || (starts_with nat_eq path (codes "db/pack-") || starts_with nat_eq path (codes "db/copy.bench"))
+is_in_bench path = starts_with nat_eq path (codes "db/transactions/") || (starts_with nat_eq path (codes "db/txn-protorevs/") || (starts_with nat_eq path (codes "db/pack-") || starts_with nat_eq path (codes "db/copy.bench")))
 
 -- no file of the repository has such a name
 unfoldable pub is_apart : List ℕ → Bool

@@ -80,8 +80,8 @@ pub fn write_to<C: Calls>(calls: &mut C, name: &Name, bytes: &[u8]) -> Result<()
     append_all(calls, &file, bytes)
 }
 
-// Takes these files away.
-fn remove_all<C: Calls>(calls: &mut C, names: &[Name]) -> Result<(), CallError>
+/// Takes these files away, as far as they are there.
+pub fn remove_all<C: Calls>(calls: &mut C, names: &[Name]) -> Result<(), CallError>
     ensures { OnOk result (Clears names.now (C.history calls.old) (C.history calls.new)) }
 {
     for name in names {

@@ -1,31 +1,35 @@
 // The files of a repository, over the calls of the system.
-ghost use Rattle.std.specs.Prelude.{◌≡◌, ◌⊎◌, ◌≤◌, ◌^◌, [], Some, None, true, false, length, is_some, option_map, IfOk, IfSome, MatchOption, OnOk, OnErr};
+ghost use Rattle.std.specs.Prelude.{◌≡◌, ◌⊎◌, ◌≤◌, ◌^◌, ℕ, List, [], Some, None, true, false, codes, length, is_some, option_map, IfOk, IfSome, MatchOption, OnOk, OnErr};
 ghost use Rattle.std.specs.FinMap.{empty};
 ghost use Rattle.fsfs_disk.specs.Labels.{label_of, has_label, IsListing};
 ghost use Rattle.fsfs_disk.specs.Benches.{IsFirmFile};
 ghost use Rattle.fsfs_disk.specs.Trace.{Put, Rename, Remove, FirmNames, KeepLabel, DropLabel, labels_now, Performs, PerformsIfThere, FailsAt, IsRead, IsThere, IsSize, file_at};
 ghost use Rattle.fsfs_calls.specs.Paths.{has_path, folder_of};
-ghost use Rattle.fsfs_calls.specs.Listing.{is_entry as entry};
+ghost use Rattle.fsfs_calls.specs.Listing.{is_entry as entry, IsListOf};
+ghost use Rattle.fsfs_calls.specs.CallRecord.{names_now};
 ghost use Rattle.fsfs_folders.specs.Told.{is_apart as apart, LeavesImages};
 ghost use Rattle.fsfs_folders.specs.Keeping.{are_rooted, are_names_firm, is_sound};
 ghost use Rattle.fsfs_folders.specs.LabelsLeft.{KeepsDropsFirm};
 ghost use Rattle.fsfs_folders.specs.OpenFiles.{is_file_of, is_still};
 ghost use Rattle.fsfs_folders.specs.Quiet.{IsQuiet};
 ghost use Rattle.fsfs_folders.specs.Standing.{told, IsNoted, IsWritten, IsWholeAt, bytes_under, Adopts, FailsToTake};
-ghost use Rattle.fsfs_folders.specs.BenchFiles.{bench_told, firm_held, AreShort, HoldsNothing};
+ghost use Rattle.fsfs_folders.specs.BenchFiles.{bench_told, firm_held, file_held, AreShort, AreKept, HoldsNothing};
+ghost use Rattle.fsfs_folders.specs.Prototypes.{whole_told};
 
-use crate::bench::FolderBench;
-use crate::bench_files::clear;
-use crate::label_paths::bench_path;
+use crate::bench::{FolderBench, Proto};
+use crate::bench_files::{clear, remove_all};
+use crate::label_paths::{bench_path, proto_entry};
 use crate::listing::txns_among;
 use crate::noted::Noted;
 use crate::opened::Opened;
+use crate::part::BenchPart;
 use crate::reading::{file_size, fill, open_file, read_file};
 use crate::texts::{BESIDE, is_apart, is_in_bench, is_inner_folder};
 use crate::writing::{sync_folders, write_new};
 use fsfs_base::Name;
 use fsfs_calls::{CallError, Calls, Path};
 use fsfs_disk::Label;
+use fsfs_layout::{OnlyFile, TxnFile};
 use std::alloc::Global;
 
 // No file grows longer than this.
@@ -319,7 +323,7 @@ impl<C: Calls + Drop> Folders<C> {
         self.calls.take(part, &Path::of(file), &path)
     }
 
-    /// The calls on the folder of a label's bench, with nothing in it.
+    // The calls on the folder of a label's bench, with nothing in it.
     fn cleared(&mut self, alloc: Global, label: &Label) -> Result<C, CallError>
         ensures none { IfOk result (λ part. IfSome (C.history part) HoldsNothing) }
         ensures tells { IfOk result (λ part. is_some (C.history part) ≡ is_some (C.history self.old.calls)) }
@@ -330,18 +334,49 @@ impl<C: Calls + Drop> Folders<C> {
         Ok(part)
     }
 
+    // The calls on the folder of prototype revision files, in which none has these names.
+    fn protos_without(&mut self, names: &[Name]) -> Result<C, CallError>
+        ensures gone { IfOk result (λ part. (name : List ℕ) → has_path names.now name ≡ true → IfSome (C.history part) (λ r. file_held r name ≡ None)) }
+        ensures short { IfOk result (λ part. AreShort (C.history part)) }
+        ensures kept { IfOk result (λ part. AreKept (C.history part)) }
+        ensures same { C.history self.new.calls ≡ C.history self.old.calls }
+    {
+        let mut part = self
+            .calls
+            .part(&Path::of(&OnlyFile::ProtoRevisions.name()))?;
+        remove_all(&mut part, names)?;
+        Ok(part)
+    }
+
+    // The prototype revision file of a transaction's bench, which is taken away if it is there, with its lock. None of other benches.
+    fn proto(&mut self, label: &Label) -> Result<Option<Proto<C>>, CallError>
+        ensures gone { IfOk result (λ proto. IfSome proto (λ p. IfSome (C.history p.part.calls) (λ r. file_held r p.name ≡ None))) }
+        ensures same { C.history self.new.calls ≡ C.history self.old.calls }
+    {
+        let Label::Txn(txn) = label else {
+            return Ok(None);
+        };
+        let name = proto_entry(txn, &TxnFile::ProtoRevision)?;
+        let lock = proto_entry(txn, &TxnFile::ProtoRevisionLock)?;
+        let part = self.protos_without(&[name.copy(), lock])?;
+        Ok(Some(Proto::new(BenchPart::new(part), name)))
+    }
+
     /// Makes an empty bench for a label.
     pub fn bench(&mut self, alloc: Global, label: &Label) -> Result<FolderBench<C>, CallError>
         ensures ok { OnOk result (Performs (KeepLabel (label_of label.now)) (told (C.history self.old.calls)) (told (C.history self.new.calls))) }
         ensures err { OnErr result (FailsAt (KeepLabel (label_of label.now)) (told (C.history self.old.calls)) (told (C.history self.new.calls))) }
-        ensures empty { IfOk result (λ bench. bench_told (C.history bench.calls) ≡ option_map (λ _. empty) (told (C.history self.old.calls))) }
+        ensures empty { IfOk result (λ bench. whole_told bench.proto (λ p. C.history p.part.calls) (λ p. p.name) (C.history bench.files.calls) ≡ option_map (λ _. empty) (told (C.history self.old.calls))) }
         ensures new { IfOk result (λ bench. bench.faults ≡ 0) }
     {
         self.keep_label(label)?;
-        Ok(FolderBench::new(self.cleared(alloc, label)?))
+        let files = self.cleared(alloc, label)?;
+        let proto = self.proto(label)?;
+        Ok(FolderBench::new(BenchPart::new(files), proto))
     }
 
-    /// Drops the bench of a label with all that is in it, and then the label. `false`: the label isn't kept.
+    /// Drops the bench of a label with all that is in it, a transaction's prototype revision file too, and then the label. `false`:
+    /// the label isn't kept.
     pub fn drop_bench(&mut self, alloc: Global, label: &Label) -> Result<bool, CallError>
         ensures there { IfOk result (λ there. IfSome (told (C.history self.old.calls)) (λ t. there ≡ has_label (label_of label.now) (labels_now t))) }
         ensures ok { IfOk result (λ there. PerformsIfThere there (DropLabel (label_of label.now)) (told (C.history self.old.calls)) (told (C.history self.new.calls))) }
@@ -352,15 +387,36 @@ impl<C: Calls + Drop> Folders<C> {
             Err(CallError::NotFound) => {}
             Err(error) => return Err(error),
         }
+        match self.proto(label) {
+            Ok(_) => {}
+            Err(CallError::NotFound) => {}
+            Err(error) => return Err(error),
+        }
         self.drop_label(label)
     }
 
-    /// The names of the folders of the transactions whose labels are kept, in the order of their bytes.
+    // The folders in that of transactions; none where that isn't there, but the one above.
+    fn txn_folders(&mut self, alloc: Global) -> Result<Vec<Name>, CallError>
+        ensures names { IfSome (C.history self.old.calls) (λ r. IfOk result (λ found. IsListOf (names_now r).folders (codes "db/transactions") found.items)) }
+        ensures same { C.history self.new.calls ≡ C.history self.old.calls }
+    {
+        match self.calls.folders_in(alloc, &Path::new("db/transactions")) {
+            Ok(found) => Ok(found),
+            Err(CallError::NotFound) => {
+                let _ = self.calls.folders_in(alloc, &Path::new("db"))?;
+                Ok(Vec::new(alloc))
+            }
+            Err(error) => Err(error),
+        }
+    }
+
+    /// The names of the folders of the transactions whose labels are kept, in the order of their bytes. None where there is no folder
+    /// of transactions; a failure where there is none above it either.
     pub fn txn_entries(&mut self, alloc: Global) -> Result<Vec<Name>, CallError>
         ensures names { IfSome (told (C.history self.old.calls)) (λ t. IfOk result (λ found. IsListing (labels_now t) found.items)) }
         ensures same { told (C.history self.new.calls) ≡ told (C.history self.old.calls) }
     {
-        let folders = self.calls.folders_in(alloc, &Path::new("db/transactions"))?;
+        let folders = self.txn_folders(alloc)?;
         let Ok(mut found) = txns_among(alloc, folders.as_slice()) else {
             return Err(CallError::Memory);
         };

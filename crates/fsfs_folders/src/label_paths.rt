@@ -1,9 +1,11 @@
 // Where the benches stand.
-ghost use Rattle.std.specs.Prelude.{◌≡◌};
+ghost use Rattle.std.specs.Prelude.{◌≡◌, ◌++◌, codes, IfOk, IfSome};
 ghost use Rattle.fsfs_disk.specs.Labels.{label_of};
+ghost use Rattle.fsfs_layout.specs.FileNames.{txn_file_name};
 ghost use Rattle.fsfs_folders.specs.LabelPaths.{bench_folder, IsFitting};
 
-use fsfs_calls::Path;
+use fsfs_base::{Name, TxnName};
+use fsfs_calls::{CallError, Path};
 use fsfs_disk::Label;
 use fsfs_layout::TxnFile;
 use itoa::Buffer;
@@ -25,5 +27,25 @@ pub fn bench_path(label: &Label) -> Path
             path
         }
         Label::HotCopy => Path::new("db/copy.bench"),
+    }
+}
+
+// What stands behind the folder of prototype revision files in a name.
+fn in_protos(name: &Name) -> Option<Name>
+    ensures { IfSome result (λ entry. name.now ≡ codes "db/txn-protorevs/" ++ entry) }
+{
+    match name.as_str().strip_prefix("db/txn-protorevs/") {
+        Some(entry) => Some(Name::new(entry)),
+        None => None,
+    }
+}
+
+/// The name that a file of a transaction has in the folder of prototype revision files. Of one that doesn't stand there it fails.
+pub fn proto_entry(txn: &TxnName, file: &TxnFile) -> Result<Name, CallError>
+    ensures { IfOk result (λ entry. txn_file_name txn.now file.now ≡ codes "db/txn-protorevs/" ++ entry) }
+{
+    match in_protos(&file.name(txn)) {
+        Some(entry) => Ok(entry),
+        None => Err(CallError::Failed),
     }
 }

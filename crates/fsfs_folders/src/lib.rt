@@ -11,11 +11,12 @@ mod law;
 mod listing;
 mod noted;
 mod opened;
+mod part;
 mod reading;
 mod texts;
 mod writing;
 
-pub use bench::FolderBench;
+pub use bench::{FolderBench, PROTO};
 pub use faults::counted;
 pub use folders::Folders;
 pub use law::{leaves_images, leaves_labels};

@@ -28,12 +28,15 @@ pub fn has_slash(text: &str) -> bool
     text.contains('/')
 }
 
-/// Whether the folders of benches begin so, and what stands in them.
+/// Whether the folders of benches begin so, and what stands in them; prototype revision files too.
 #[tactic(auto, unfolding(crate::specs::Told::is_in_bench))]
 pub fn is_in_bench(text: &str) -> bool
     ensures { result ≡ in_bench text.now }
 {
-    begins(text, "db/transactions/") || begins(text, "db/pack-") || begins(text, "db/copy.bench")
+    begins(text, "db/transactions/")
+        || begins(text, "db/txn-protorevs/")
+        || begins(text, "db/pack-")
+        || begins(text, "db/copy.bench")
 }
 
 /// Whether a name is none of the repository's: files are written under it first, or it is in a bench.

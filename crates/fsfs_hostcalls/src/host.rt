@@ -75,8 +75,9 @@ impl<R: Files<File = File> + AllocGlobal + Clone + Drop> HostCalls<R> {
     }
 
     fn path_of(&self, path: &Path) -> Result<String, CallError> {
-        let (folder, path) = (self.folder.as_str(), path.as_str());
-        Ok(format!(in self.rt.alloc(); "{folder}/{path}")?)
+        let mut whole = String::with_capacity(self.rt.alloc(), 256)?;
+        write!(whole, "{}/{}", self.folder, path.as_str())?;
+        Ok(whole)
     }
 
     // What is no file is refused before it is opened: a pipe would be waited for, and a device has no end.

@@ -207,6 +207,17 @@ impl MemCalls {
         Ok(is_empty_at(&self.first, self.made.as_slice(), path, paths.as_slice()))
     }
 
+    // Why a folder that isn't there isn't listed: nothing may stand below it.
+    fn fault_of_absent(&self, folder: &Path) -> CallError
+        ensures { result ≡ CallError.NotFound → IsEmptyAt (names_now (record_of self.now)) folder.now }
+    {
+        match self.is_empty(folder) {
+            Ok(true) => CallError::NotFound,
+            Ok(false) => CallError::Failed,
+            Err(_) => CallError::Memory,
+        }
+    }
+
     fn list(&self, alloc: Global, folder: &Path, kind: Kind) -> Result<Vec<Name>, AllocError>
         ensures { IfOk result (λ found. IsListOf (stands_as kind (names_now (record_of self.now))) folder.now found.items) }
     {
@@ -295,7 +306,7 @@ impl Calls for MemCalls {
 
     fn folders_in(&mut self, alloc: Global, folder: &Path) -> Result<Vec<Name>, CallError> {
         if !self.folder(folder) {
-            return Err(CallError::NotFound);
+            return Err(self.fault_of_absent(folder));
         }
         if !self.look() {
             return Err(CallError::Failed);
@@ -308,7 +319,7 @@ impl Calls for MemCalls {
 
     fn files_in(&mut self, alloc: Global, folder: &Path) -> Result<Vec<Name>, CallError> {
         if !self.folder(folder) {
-            return Err(CallError::NotFound);
+            return Err(self.fault_of_absent(folder));
         }
         if !self.look() {
             return Err(CallError::Failed);

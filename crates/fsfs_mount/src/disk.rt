@@ -19,7 +19,8 @@ use std::alloc::Global;
 /// The files of a repository below a folder, over the calls of the system. It tells the operations that its calls come to.
 ///
 /// `put` writes a file beside the name, makes it firm and renames it. `firm_names` syncs each folder in which a name changed since
-/// the last one. A bench is the folder of its label, with calls of its own; its label is that the folder is there.
+/// the last one. A bench is the folder of its label, with calls of its own, and a transaction's its prototype revision file too; its
+/// label is that the folder is there.
 ///
 /// The file that was read last stays open: a read of it that doesn't begin at its beginning costs no call but the read. Each call but
 /// reads and sizes closes it.
@@ -126,6 +127,7 @@ impl<C: Calls + Drop> FolderDisk<C> {
 impl<C: Calls + Drop> Disk for FolderDisk<C> {
     ghost use Rattle.fsfs_folders.specs.Standing.{told};
     ghost use Rattle.fsfs_folders.specs.Laws.{images_are_short, both_tell};
+    ghost use Rattle.fsfs_folders.specs.Prototypes.{whole_tells};
 
     type Bench = FolderBench<C>;
 
@@ -233,5 +235,5 @@ impl<C: Calls + Drop> Disk for FolderDisk<C> {
 
     ghost short = { λ disk. images_are_short (C.Calls.history disk.folders.calls) disk.folders.changed disk.folders.is_settled disk.folders.sound };
 
-    ghost benches_tell = { λ disk bench. both_tell (C.Calls.history disk.folders.calls) (C.Calls.history bench.calls) (C.Calls.all_tell bench.calls disk.folders.calls) };
+    ghost benches_tell = { λ disk bench. whole_tells bench.proto (λ p. C.Calls.history p.part.calls) (λ p. p.name) (C.Calls.history bench.files.calls) (told (C.Calls.history disk.folders.calls)) (both_tell (C.Calls.history disk.folders.calls) (C.Calls.history bench.files.calls) (C.Calls.all_tell bench.files.calls disk.folders.calls)) (λ p. both_tell (C.Calls.history disk.folders.calls) (C.Calls.history p.part.calls) (C.Calls.all_tell p.part.calls disk.folders.calls)) };
 }

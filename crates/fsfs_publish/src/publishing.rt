@@ -45,6 +45,7 @@ fn write_and_name<D: Disk>(
     requires right { IsTrue (D.may_write disk.old) }
     requires new { IfSome (D.Bench.contents bench.old) (λ m. get m file.now ≡ None) }
     ensures right { D.may_write disk.new ≡ D.may_write disk.old }
+    ensures mounted { D.mount_path disk.new ≡ D.mount_path disk.old }
     ensures named { OnOk result (D.trace disk.new ≡ option_map (after_naming to.now (first.now ++ second.now)) (D.trace disk.old)) }
     ensures ended { EndsNaming to.now (first.now ++ second.now) (D.trace disk.old) (D.trace disk.new) }
     ensures later { D.faults disk.old ≤ D.faults disk.new }
@@ -96,6 +97,7 @@ pub fn publish<D: Disk>(
     ensures failed { IfErr result (FailedBy (Rose (D.faults disk.old) (D.faults disk.new)) (Rose (D.bench_faults disk.old) (D.bench_faults disk.new))) }
     ensures later { D.faults disk.old ≤ D.faults disk.new }
     ensures right { D.may_write disk.new ≡ D.may_write disk.old }
+    ensures mounted { D.mount_path disk.new ≡ D.mount_path disk.old }
 {
     match disk.bench(label) {
         Err(_) => {

@@ -1,30 +1,38 @@
-use Rattle.std.proofs.Common.{◌≡◌, rules, true, false, inl, inr, refl, sym, ap, subst, ◌∙◌}
+use Rattle.std.proofs.Common.{◌≡◌, rules, refl, sym, ap, subst, ◌∙◌}
+use Rattle.std.specs.Prelude.{None}
+use Rattle.fsfs_disk.specs.Trace.{Adopt, Performs}
+use Rattle.fsfs_folders.specs.Standing.{told}
 use Rattle.fsfs_folders.proofs.PutLemmas.{on_ok}
-use Rattle.fsfs_folders.proofs.BenchTold.{any_short, any_kept}
-use Rattle.fsfs_folders.proofs.Adopting.{given_any, given_gone, given_others, gives_told_err}
+use Rattle.fsfs_folders.proofs.WritingLemmas.{on_err}
+use Rattle.fsfs_folders.proofs.ProtoLemmas.{files_with, files_fail, files_others, files_bytes, files_are_firm, proto_with, proto_fail, proto_others, proto_bytes, proto_is_firm, tells_by, if_err}
 use Rattle.fsfs_folders.proofs.bench.FolderBench.give.Goals as goal
 
-pub invariant_of-self : goal.invariant_of-self
-invariant_of-self g c =
-    let old = g.C.Calls.history c.args.self.now.calls in
-    let new = g.C.Calls.history c.adopt.new.part in
-    let any = given_any c.adopt.result c.args.file.now c.args.to.now (g.C.Calls.history c.args.folders.now.calls) old (g.C.Calls.history c.adopt.new.self.calls) new c.adopt.ensures.ok c.adopt.ensures.err in
-    record {
-      short = any_short c.args.file.now old new any c.args.self.now.short;
-      kept = λ k. any_kept c.args.file.now old new any (c.args.self.now.kept k);
-    }
+pub returns-then-not-is_proto-clause-ok : goal.returns-then-not-is_proto-clause-ok
+returns-then-not-is_proto-clause-ok g c = on_ok c.give.result (λ e. subst (λ t. Performs (Adopt c.args.to.now t) (told (g.C.Calls.history c.args.folders.now.calls)) (told (g.C.Calls.history c.give.new.folders.calls))) (sym (files_bytes c.args.self.now.proto (λ p. g.C.Calls.history p.part.calls) (λ p. p.name) c.args.file.now (g.C.Calls.history c.args.self.now.files.calls) (search rules) (λ p. tells_by (g.C.Calls.history c.args.self.now.files.calls) (g.C.Calls.history p.part.calls) (g.met.C.Calls.all_tell c.args.self.now.files.calls p.part.calls)))) e) c.give.ensures.ok
 
-pub returns-clause-ok : goal.returns-clause-ok
-returns-clause-ok g c = on_ok c.adopt.result (λ a. a.0) c.adopt.ensures.ok
+pub returns-then-not-is_proto-clause-gone : goal.returns-then-not-is_proto-clause-gone
+returns-then-not-is_proto-clause-gone g c = on_ok c.give.result (files_with c.args.self.now.proto (λ p. g.C.Calls.history p.part.calls) (λ p. p.name) c.args.file.now (g.C.Calls.history c.args.self.now.files.calls) (search rules) (g.C.Calls.history c.give.new.self.calls) None) c.give.ensures.gone
 
-pub returns-clause-gone : goal.returns-clause-gone
-returns-clause-gone g c =
-    on_ok c.adopt.result (given_gone c.args.file.now c.args.to.now (g.C.Calls.history c.args.folders.now.calls) (g.C.Calls.history c.args.self.now.calls) (g.C.Calls.history c.adopt.new.self.calls) (g.C.Calls.history c.adopt.new.part)) c.adopt.ensures.ok
+pub returns-then-not-is_proto-clause-err : goal.returns-then-not-is_proto-clause-err
+returns-then-not-is_proto-clause-err g c = if_err c.give.result (files_fail c.args.self.now.proto (λ p. g.C.Calls.history p.part.calls) (λ p. p.name) c.args.file.now (g.C.Calls.history c.args.self.now.files.calls) (search rules) (g.C.Calls.history c.give.new.self.calls) c.args.to.now (told (g.C.Calls.history c.args.folders.now.calls)) (told (g.C.Calls.history c.give.new.folders.calls)) (λ p. tells_by (g.C.Calls.history c.args.self.now.files.calls) (g.C.Calls.history p.part.calls) (g.met.C.Calls.all_tell c.args.self.now.files.calls p.part.calls))) c.give.ensures.err
 
-pub returns-clause-err : goal.returns-clause-err
-returns-clause-err g c =
-    gives_told_err c.adopt.result c.args.file.now c.args.to.now (g.C.Calls.history c.args.folders.now.calls) (g.C.Calls.history c.args.self.now.calls) (g.C.Calls.history c.adopt.new.self.calls) (g.C.Calls.history c.adopt.new.part) c.adopt.ensures.err
+pub returns-then-not-is_proto-clause-others : goal.returns-then-not-is_proto-clause-others
+returns-then-not-is_proto-clause-others g c = files_others c.args.self.now.proto (λ p. g.C.Calls.history p.part.calls) (λ p. p.name) c.args.file.now (g.C.Calls.history c.args.self.now.files.calls) (search rules) (g.C.Calls.history c.give.new.self.calls) c.give.ensures.others
 
-pub returns-clause-others : goal.returns-clause-others
-returns-clause-others g c =
-    given_others c.adopt.result c.args.file.now c.args.to.now (g.C.Calls.history c.args.folders.now.calls) (g.C.Calls.history c.args.self.now.calls) (g.C.Calls.history c.adopt.new.self.calls) (g.C.Calls.history c.adopt.new.part) c.adopt.ensures.ok c.adopt.ensures.err
+pub returns-in-Some-clause-ok : goal.returns-in-Some-clause-ok
+returns-in-Some-clause-ok g c = on_ok c.give-in-Some.result (λ e. subst (λ t. Performs (Adopt c.args.to.now t) (told (g.C.Calls.history c.args.folders.now.calls)) (told (g.C.Calls.history c.give-in-Some.new.folders.calls))) (sym (proto_bytes c.args.self.now.proto (λ p. g.C.Calls.history p.part.calls) (λ p. p.name) c.args.file.now (g.C.Calls.history c.args.self.now.files.calls) c.in-Some.proto c.in-Some.is (search rules) (tells_by (g.C.Calls.history c.args.self.now.files.calls) (g.C.Calls.history c.in-Some.proto.part.calls) (g.met.C.Calls.all_tell c.args.self.now.files.calls c.in-Some.proto.part.calls)))) e) c.give-in-Some.ensures.ok
+
+pub returns-in-Some-clause-gone : goal.returns-in-Some-clause-gone
+returns-in-Some-clause-gone g c = on_ok c.give-in-Some.result (proto_with c.args.self.now.proto (λ p. g.C.Calls.history p.part.calls) (λ p. p.name) c.args.file.now (g.C.Calls.history c.args.self.now.files.calls) c.in-Some.proto c.in-Some.is (search rules) (record { part = c.give-in-Some.new.self; name = c.in-Some.proto.name }) refl None) c.give-in-Some.ensures.gone
+
+pub returns-in-Some-clause-err : goal.returns-in-Some-clause-err
+returns-in-Some-clause-err g c = if_err c.give-in-Some.result (proto_fail c.args.self.now.proto (λ p. g.C.Calls.history p.part.calls) (λ p. p.name) c.args.file.now (g.C.Calls.history c.args.self.now.files.calls) c.in-Some.proto c.in-Some.is (search rules) (record { part = c.give-in-Some.new.self; name = c.in-Some.proto.name }) refl c.args.to.now (told (g.C.Calls.history c.args.folders.now.calls)) (told (g.C.Calls.history c.give-in-Some.new.folders.calls)) (tells_by (g.C.Calls.history c.args.self.now.files.calls) (g.C.Calls.history c.in-Some.proto.part.calls) (g.met.C.Calls.all_tell c.args.self.now.files.calls c.in-Some.proto.part.calls))) c.give-in-Some.ensures.err
+
+pub returns-in-Some-clause-others : goal.returns-in-Some-clause-others
+returns-in-Some-clause-others g c = proto_others c.args.self.now.proto (λ p. g.C.Calls.history p.part.calls) (λ p. p.name) c.args.file.now (g.C.Calls.history c.args.self.now.files.calls) c.in-Some.proto c.in-Some.is (search rules) (record { part = c.give-in-Some.new.self; name = c.in-Some.proto.name }) refl
+
+pub give-requires : goal.give-requires
+give-requires g c = files_are_firm c.args.self.now.proto (λ p. g.C.Calls.history p.part.calls) (λ p. p.name) c.args.file.now (g.C.Calls.history c.args.self.now.files.calls) (search rules) (λ p. tells_by (g.C.Calls.history c.args.self.now.files.calls) (g.C.Calls.history p.part.calls) (g.met.C.Calls.all_tell c.args.self.now.files.calls p.part.calls)) c.requires
+
+pub give-requires-in-Some : goal.give-requires-in-Some
+give-requires-in-Some g c = proto_is_firm c.args.self.now.proto (λ p. g.C.Calls.history p.part.calls) (λ p. p.name) c.args.file.now (g.C.Calls.history c.args.self.now.files.calls) c.in-Some.proto c.in-Some.is (search rules) (tells_by (g.C.Calls.history c.args.self.now.files.calls) (g.C.Calls.history c.in-Some.proto.part.calls) (g.met.C.Calls.all_tell c.args.self.now.files.calls c.in-Some.proto.part.calls)) c.requires
