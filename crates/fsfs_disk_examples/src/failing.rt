@@ -1,0 +1,43 @@
+// Which calls fail.
+use anyhow::{Result, bail};
+use std::alloc::Global;
+
+/// Calls that fail; the first is 1.
+#[derive(Drop)]
+pub enum Failing {
+    /// None.
+    Never,
+    /// These of the disk.
+    OfDisk(Vec<u64>),
+    /// These of the disk, which do their work all the same.
+    Made(Vec<u64>),
+    /// These of each bench.
+    OfBench(Vec<u64>),
+    /// Each one behind so many.
+    Behind(u64),
+}
+
+/// Numbers with a comma between each two.
+pub fn numbers_of(alloc: Global, text: &str) -> Result<Vec<u64>> {
+    let mut numbers = Vec::new(alloc);
+    for number in text.split(',') {
+        numbers.push(number.parse::<u64>()?)?;
+    }
+    Ok(numbers)
+}
+
+impl Failing {
+    pub fn read(alloc: Global, text: &str) -> Result<Failing> {
+        if text.is_empty() {
+            return Ok(Failing::Never);
+        }
+        let (word, numbers) = text.split_once(' ').unwrap_or((text, ""));
+        match word {
+            "failing" => Ok(Failing::OfDisk(numbers_of(alloc, numbers)?)),
+            "made" => Ok(Failing::Made(numbers_of(alloc, numbers)?)),
+            "bench" => Ok(Failing::OfBench(numbers_of(alloc, numbers)?)),
+            "behind" => Ok(Failing::Behind(numbers.parse::<u64>()?)),
+            _ => bail!("no way to fail"),
+        }
+    }
+}
