@@ -1,0 +1,2 @@
+pub mod Relinked
+pub mod Landings
