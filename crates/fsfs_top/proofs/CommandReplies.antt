@@ -43,7 +43,7 @@ use Rattle.fsfs_top.specs.TxnAnswers.{refuses_admin}
 use Rattle.fsfs_top.specs.Scenes.{Scene, SinkScene}
 use Rattle.fsfs_top.proofs.TaskDone.{task_done}
 use Rattle.fsfs_top.proofs.FlatTexts.{tree_is_by_tree, file_is_by_tree, author_is_by_props, date_is_by_props, log_is_by_props, info_is_by_props, changed_is_by_changes, history_is_by_trees, no_rev_line}
-use Rattle.fsfs_top.proofs.LookReplies.{last_is, Fits, given_none, given_no_listing, given_no_removal, given_removal, given_youngest, given_uuid, given_look, given_create, given_again}
+use Rattle.fsfs_top.proofs.LookReplies.{last_is, Fits, given_none, given_no_listing, given_no_removal, given_listing, given_removal, given_youngest, given_uuid, given_look, given_create, given_again}
 
 -- ---- a look at a revision, by what is printed
 
@@ -129,30 +129,30 @@ module _ (tool : Tool) (ws : List (List ℕ)) (clock : Option ℕ) (dice : Optio
       (fits_at look.printed (files_now t) h s rev r shown there (subst (λ (n : ℕ). ShowsIds look.printed bytes n shown) (sym is) are) text end x)))
       (λ n youngest. no_rev_line tool (reply asked) n youngest by_look) looked.0
 
-  opened : (repos : List ℕ) (task : Task) (t : Trace) (o : Opened) (h : List Revision) (shown : Path → List ℕ) (txns : List (ℕ × ℕ)) → Asks tool ws repos task → a.host.disk_at repos ≡ Some t → IsOfSmallFiles task → IsOpened (small_texts (files_now t)) o
-      → last_of h ≡ o.youngest → HasTxns task (labels_now t) txns → Given (answer_to task shown (Some (record { history = h; identifier = o.uuid; names = []; txns = txns })))
-  opened repos (Create shard) t o h shown txns asks here small is last has = absurd small
-  opened repos ListTxns t o h shown txns asks here small is last has = absurd has
-  opened repos (RemoveTxns names) t o h shown txns asks here small is last has =
-      let done = task_done clock dice a b fault tool ws repos (RemoveTxns names) did asks in
-      given_removal status tool a b err_old err_new repos t here fault ends names txns (asks_task tool ws repos (RemoveTxns names) asks) has o is done.2 done.0
-  opened repos (Look Youngest) t o h shown txns asks here small is last has =
+  opened : (repos : List ℕ) (task : Task) (t : Trace) (o : Opened) (h : List Revision) (shown : Path → List ℕ) (names : List (List ℕ)) (txns : List (ℕ × ℕ)) → Asks tool ws repos task → a.host.disk_at repos ≡ Some t → IsOfSmallFiles task → IsOpened (small_texts (files_now t)) o
+      → last_of h ≡ o.youngest → HasTxns task (labels_now t) names txns → Given (answer_to task shown (Some (record { history = h; identifier = o.uuid; names = names; txns = txns })))
+  opened repos (Create shard) t o h shown names txns asks here small is last has = absurd small
+  opened repos ListTxns t o h shown names txns asks here small is last has = given_listing status tool a b err_old err_new repos t here fault ends names has o is (task_done clock dice a b fault tool ws repos ListTxns did asks).0
+  opened repos (RemoveTxns given) t o h shown names txns asks here small is last has =
+      let done = task_done clock dice a b fault tool ws repos (RemoveTxns given) did asks in
+      given_removal status tool a b err_old err_new repos t here fault ends given txns (asks_task tool ws repos (RemoveTxns given) asks) has o is done.2 done.0
+  opened repos (Look Youngest) t o h shown names txns asks here small is last has =
       given_youngest status tool a b err_old err_new repos t here fault ends o h is last (task_done clock dice a b fault tool ws repos (Look Youngest) did asks).0
-  opened repos (Look Uuid) t o h shown txns asks here small is last has = given_uuid status tool a b err_old err_new repos t here fault ends o is (task_done clock dice a b fault tool ws repos (Look Uuid) did asks).0
-  opened repos (Look (AtRevision look)) t o h shown txns asks here small is last has = absurd small
+  opened repos (Look Uuid) t o h shown names txns asks here small is last has = given_uuid status tool a b err_old err_new repos t here fault ends o is (task_done clock dice a b fault tool ws repos (Look Uuid) did asks).0
+  opened repos (Look (AtRevision look)) t o h shown names txns asks here small is last has = absurd small
 
-  stands : (repos : List ℕ) (task : Task) (t : Trace) (h : List Revision) (shown : Path → List ℕ) (txns : List (ℕ × ℕ)) → Asks tool ws repos task → a.host.disk_at repos ≡ Some t → (s : StandsFor (files_now t) h)
-      → AreIds task (rev_bytes s.opened.layout (files_now t)) h shown → HasTxns task (labels_now t) txns → Given (answer_to task shown (Some (record { history = h; identifier = s.opened.uuid; names = []; txns = txns })))
-  stands repos (Create shard) t h shown txns asks here s are has =
+  stands : (repos : List ℕ) (task : Task) (t : Trace) (h : List Revision) (shown : Path → List ℕ) (names : List (List ℕ)) (txns : List (ℕ × ℕ)) → Asks tool ws repos task → a.host.disk_at repos ≡ Some t → (s : StandsFor (files_now t) h)
+      → AreIds task (rev_bytes s.opened.layout (files_now t)) h shown → HasTxns task (labels_now t) names txns → Given (answer_to task shown (Some (record { history = h; identifier = s.opened.uuid; names = names; txns = txns })))
+  stands repos (Create shard) t h shown names txns asks here s are has =
       let made = task_done clock dice a b fault tool ws repos (Create shard) did asks in
       let by_admin = (asks_task tool ws repos (Create shard) asks).0 in
       given_again status tool a b err_old err_new repos shard clock dice t fault (refuses (codes "svnadmin: " ++ already_repo ++ codes "\n") 1) s.small.format.0 here s.small.format.1.there
       (ap (λ (k : Tool). refuses (line_of k (Request AlreadyRepo)) 1) (sym by_admin)) ends made.0 made.1
-  stands repos ListTxns t h shown txns asks here s are has = absurd has
-  stands repos (RemoveTxns names) t h shown txns asks here s are has = opened repos (RemoveTxns names) t s.opened h shown txns asks here tt s.small (last_is (files_now t) h s) has
-  stands repos (Look Youngest) t h shown txns asks here s are has = opened repos (Look Youngest) t s.opened h shown txns asks here tt s.small (last_is (files_now t) h s) tt
-  stands repos (Look Uuid) t h shown txns asks here s are has = opened repos (Look Uuid) t s.opened h shown txns asks here tt s.small (last_is (files_now t) h s) tt
-  stands repos (Look (AtRevision look)) t h shown txns asks here s are has = subst Given (answer_at look.revision look.printed shown h) (at_revision repos look t h shown asks here s are)
+  stands repos ListTxns t h shown names txns asks here s are has = opened repos ListTxns t s.opened h shown names txns asks here tt s.small (last_is (files_now t) h s) has
+  stands repos (RemoveTxns given) t h shown names txns asks here s are has = opened repos (RemoveTxns given) t s.opened h shown names txns asks here tt s.small (last_is (files_now t) h s) has
+  stands repos (Look Youngest) t h shown names txns asks here s are has = opened repos (Look Youngest) t s.opened h shown names txns asks here tt s.small (last_is (files_now t) h s) tt
+  stands repos (Look Uuid) t h shown names txns asks here s are has = opened repos (Look Uuid) t s.opened h shown names txns asks here tt s.small (last_is (files_now t) h s) tt
+  stands repos (Look (AtRevision look)) t h shown names txns asks here s are has = subst Given (answer_at look.revision look.printed shown h) (at_revision repos look t h shown asks here s are)
 
   pub replies : Replies tool ws a.host.disk_at Given
   replies = record { none = none; stands = stands; opened = opened }

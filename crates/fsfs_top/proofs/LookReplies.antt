@@ -28,8 +28,10 @@ use Rattle.fsfs_repo.specs.Deciding.{IsOutside as IsOpenOutside}
 use Rattle.fsfs_create.specs.Creation.{CreateFails, IsUnpublished, IsNoRepository}
 use Rattle.fsfs_places.specs.declared.create_fault.CreateFault.TheVariants as create
 use Rattle.fsfs_places.specs.declared.place.DiskPlace.TheVariants.{Read, Remove}
+use Rattle.fsfs_places.specs.declared.place.DiskPlace.TheVariants as places
 use Rattle.fsfs_txns.specs.declared.removing.RemovalFault.TheVariants as removal
-use Rattle.fsfs_txns.specs.Txns.{pair_of}
+use Rattle.fsfs_txns.specs.Txns.{pair_of, AreTxns}
+use Rattle.fsfs_txns.proofs.OneListing.{one_listing}
 use Rattle.fsfs_txns.specs.Removals.{first_lacking}
 use Rattle.fsfs_stands.specs.Files.{StandsFor}
 use Rattle.fsfs_layout.specs.declared.opened.Opened.{Opened}
@@ -44,7 +46,7 @@ use Rattle.fsfs_cli.specs.declared.request.RevisionLook.{RevisionLook}
 use Rattle.fsfs_top.specs.Command.{Created, Tells, answer_of, identifier_of}
 use Rattle.fsfs_top.specs.Looks.{all_bytes, TextOf, TextIn, revision_line, uuid_line, looked_revision, LacksRevision, IsFaultOf, Looked, LooksInto, OpensAs, DoesNotOpen, NotOpened, PrintsLine, PrintsLook}
 use Rattle.fsfs_top.specs.Replies.{Gives, OutsideFailed}
-use Rattle.fsfs_top.specs.TxnAnswers.{first_missing, removal_reply, RemovalAnswer}
+use Rattle.fsfs_top.specs.TxnAnswers.{first_missing, removal_reply, ListingAnswer, RemovalAnswer, names_text}
 use Rattle.fsfs_top.specs.Transactions.{txns_of, ListsTxns, RemovesTxns}
 use Rattle.fsfs_top.specs.Scenes.{Scene, SinkScene}
 use Rattle.fsfs_top.proofs.TxnsTold.{first_same}
@@ -220,6 +222,15 @@ module _ (status : ℕ) (tool : Tool) (a b : Scene) (err_old err_new : SinkScene
     given_line : (line text : List ℕ) → line ≡ text → PrintsLine line a.out b.out fault → Given (prints text)
     given_line line text same (inl (e, adds)) = printed_text (prints text) text refl (moved fault None e ends) (subst (λ (x : List ℕ). Adds a.out.written b.out.written x) same adds)
     given_line line text same (inr (e, rose, front)) = inr (subst (λ (x : List ℕ). AddsFront a.out.written b.out.written x) same front, inl ((moved fault (Some (Outside Write)) e ends).0, inr (inr rose)))
+
+    -- the names that it printed are those of the labels, in their one order
+    pub given_listing : (names : List (List ℕ)) → AreTxns (labels_now t) names → (o : Opened) → IsOpened (small_texts (files_now t)) o → ListsTxns repos a b fault → Given (ListingAnswer (Some names))
+    given_listing names has o is (inl not) = not_opened (ListingAnswer (Some names)) o is not
+    given_listing names has o is (inr (p, opens, inl (e, rose, kept))) = outside_failed (ListingAnswer (Some names)) (Disk places.List) fault e ends (inr (inl rose)) kept
+    given_listing names has o is (inr (p, opens, inr (inl (e, kept)))) = starved (ListingAnswer (Some names)) fault e ends kept
+    given_listing names has o is (inr (p, opens, inr (inr (printed, are, line)))) =
+        let there : AreTxns (labels_now t) printed = subst (λ (x : Option Trace). IfSome x (λ t. AreTxns (labels_now t) printed)) here are in
+        given_line (names_text printed) (names_text names) (ap names_text (one_listing (labels_now t) printed names there has)) line
 
     pub given_youngest : (o : Opened) (h : List Revision) → IsOpened (small_texts (files_now t)) o → last_of h ≡ o.youngest → PrintsLook repos Youngest a b fault → Given (prints (revision_line (last_of h)))
     given_youngest o h is last (inl not) = not_opened (prints (revision_line (last_of h))) o is not

@@ -1,5 +1,5 @@
 -- The replies of commands, as the flat model answers them.
-use Rattle.std.specs.Prelude.{◌≡◌, ◌⊎◌, ℕ, List, [], Option, Some, None, IfSome, option_map}
+use Rattle.std.specs.Prelude.{◌≡◌, ◌⊎◌, ℕ, List, Option, Some, None, IfSome, option_map}
 use Rattle.fsfs_base.specs.Failures.{Rose}
 use Rattle.fsfs_base.specs.Files.{Files}
 use Rattle.fsfs_base.specs.Paths.{Path}
@@ -27,6 +27,7 @@ use Rattle.fsfs_cli.specs.declared.request.Printed.TheVariants.{Tree, Text, Auth
 use Rattle.fsfs_cli.specs.declared.request.Task.{Task}
 use Rattle.fsfs_cli.specs.declared.request.Task.TheVariants.{Create, ListTxns, RemoveTxns, Look}
 use Rattle.fsfs_cli.specs.declared.tool.Tool.{Tool}
+use Rattle.fsfs_txns.specs.Txns.{AreTxns}
 use Rattle.fsfs_top.specs.Transactions.{txns_of}
 use Rattle.fsfs_top.specs.Scenes.{Scene, SinkScene}
 
@@ -104,12 +105,12 @@ AreIds (Look Youngest) bytes h shown = Unit {0}
 AreIds (Look Uuid) bytes h shown = Unit {0}
 AreIds (Look (AtRevision look)) bytes h shown = ShowsIds look.printed bytes (asked_revision look.revision h) shown
 
--- What a task is answered by of the transactions that are there. (Of a listing see `Lists`: that it prints the names in their order.)
-abbrev pub HasTxns : Task → List Label → List (ℕ × ℕ) → Type 0
-HasTxns (Create shard) labels txns = Unit {0}
-HasTxns ListTxns labels txns = ⊥
-HasTxns (RemoveTxns names) labels txns = txns ≡ txns_of labels
-HasTxns (Look look) labels txns = Unit {0}
+-- what a task is answered by of the transactions that are there: a listing by their names in order, a removal by the transactions
+abbrev pub HasTxns : Task → List Label → List (List ℕ) → List (ℕ × ℕ) → Type 0
+HasTxns (Create shard) labels names txns = Unit {0}
+HasTxns ListTxns labels names txns = AreTxns labels names
+HasTxns (RemoveTxns given) labels names txns = txns ≡ txns_of labels
+HasTxns (Look look) labels names txns = Unit {0}
 
 -- the task is answered by the small files, and by the transactions, alone
 abbrev pub IsOfSmallFiles : Task → Type 0
@@ -126,11 +127,11 @@ pub record Replies (tool : Tool) (words : List (List ℕ)) (at : List ℕ → Op
   -- where there is no repository
   pub none : (repos : List ℕ) (task : Task) (t : Trace) (shown : Path → List ℕ) → Asks tool words repos task → at repos ≡ Some t → HasNone task (files_now t) → Given (answer_to task shown None)
   -- where the files stand for a history
-  pub stands : (repos : List ℕ) (task : Task) (t : Trace) (h : List Revision) (shown : Path → List ℕ) (txns : List (ℕ × ℕ)) → Asks tool words repos task → at repos ≡ Some t → (s : StandsFor (files_now t) h)
-      → AreIds task (rev_bytes s.opened.layout (files_now t)) h shown → HasTxns task (labels_now t) txns → Given (answer_to task shown (Some (record { history = h; identifier = s.opened.uuid; names = []; txns = txns })))
+  pub stands : (repos : List ℕ) (task : Task) (t : Trace) (h : List Revision) (shown : Path → List ℕ) (names : List (List ℕ)) (txns : List (ℕ × ℕ)) → Asks tool words repos task → at repos ≡ Some t → (s : StandsFor (files_now t) h)
+      → AreIds task (rev_bytes s.opened.layout (files_now t)) h shown → HasTxns task (labels_now t) names txns → Given (answer_to task shown (Some (record { history = h; identifier = s.opened.uuid; names = names; txns = txns })))
   -- and of the small files wherever they open: of any history that ends with the revision that they name
-  pub opened : (repos : List ℕ) (task : Task) (t : Trace) (o : Opened) (h : List Revision) (shown : Path → List ℕ) (txns : List (ℕ × ℕ)) → Asks tool words repos task → at repos ≡ Some t → IsOfSmallFiles task → IsOpened (small_texts (files_now t)) o
-      → last_of h ≡ o.youngest → HasTxns task (labels_now t) txns → Given (answer_to task shown (Some (record { history = h; identifier = o.uuid; names = []; txns = txns })))
+  pub opened : (repos : List ℕ) (task : Task) (t : Trace) (o : Opened) (h : List Revision) (shown : Path → List ℕ) (names : List (List ℕ)) (txns : List (ℕ × ℕ)) → Asks tool words repos task → at repos ≡ Some t → IsOfSmallFiles task → IsOpened (small_texts (files_now t)) o
+      → last_of h ≡ o.youngest → HasTxns task (labels_now t) names txns → Given (answer_to task shown (Some (record { history = h; identifier = o.uuid; names = names; txns = txns })))
 
 -- the files at the path where a repository is made stand for the history of revision 0, with the date of the moment that the clock gave, where it tells
 abbrev pub MadeStands : Tool → List (List ℕ) → Option ℕ → (List ℕ → Option Trace) → Type 0

@@ -1,4 +1,5 @@
 pub mod Parts
 pub mod NameOrder
 pub mod Listed
+pub mod OneListing
 pub mod InTurn

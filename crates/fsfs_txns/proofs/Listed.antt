@@ -55,10 +55,10 @@ entries_named (HotCopy ∷ labels) = entries_named labels
 
 -- ---- the order
 
-abbrev NoneBefore : List ℕ → List (List ℕ) → Type 0
+abbrev pub NoneBefore : List ℕ → List (List ℕ) → Type 0
 NoneBefore x ys = AllByRecursion (λ y. is_before y x ≡ false) ys
 
-abbrev Rising : List (List ℕ) → Type 0
+abbrev pub Rising : List (List ℕ) → Type 0
 Rising [] = Unit {0}
 Rising (x ∷ xs) = NoneBefore x xs × Rising xs
 
@@ -66,7 +66,7 @@ all_from : (P : List ℕ → Type 0) (xs : List (List ℕ)) → ((j : ℕ) → j
 all_from P [] h = tt
 all_from P (x ∷ xs) h = (h 0 (omega arith), all_from P xs (λ j lt. h (suc j) (omega arith)))
 
-rising_from : (xs : List (List ℕ)) → IsSorted (slice_cmp nat_cmp) xs → Rising xs
+pub rising_from : (xs : List (List ℕ)) → IsSorted (slice_cmp nat_cmp) xs → Rising xs
 rising_from [] up = tt
 rising_from (x ∷ xs) up = (
   all_from (λ y. is_before y x ≡ false) xs (λ j lt. sorted_far is_before (ranks_by nat_list_cmp_total (λ k. k)) (x ∷ xs) up 0 (suc j) [] (omega arith) (omega arith)),

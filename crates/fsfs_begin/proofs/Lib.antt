@@ -1,0 +1,4 @@
+pub mod CounterLemmas
+pub mod ReadLemmas
+pub mod CourseLemmas
+pub mod AnswerLemmas
