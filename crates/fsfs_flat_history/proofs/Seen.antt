@@ -51,7 +51,7 @@ module _ (r : ℕ) (look other : RevisionBytes) (same : AreSameUpTo r look other
     fits = λ item in_it. fits_same item (w.fits item in_it);
   }
 
-  revision_same : (props others : RevisionBytes) (revision : Revision) → props r ≡ others r → ShowsRevision look props r revision → ShowsRevision other others r revision
+  pub revision_same : (props others : RevisionBytes) (revision : Revision) → props r ≡ others r → ShowsRevision look props r revision → ShowsRevision other others r revision
   revision_same props others revision kept w = record {
     bytes = w.bytes;
     bytes_are = sym (same r (omega arith)) ∙ w.bytes_are;

@@ -1,9 +1,8 @@
 -- The machine's files are told apart by their names.
-use Rattle.std.proofs.Common.{◌≡◌, ℕ, List, Bool, true, false, refl, sym, ap, ◌∙◌}
+use Rattle.std.proofs.Common.{◌≡◌, ℕ, Bool, true, false, refl, sym, ap, ◌∙◌}
 use Rattle.std.proofs.lemmas.Bool.{eqb-true, eq-eqb}
-use Rattle.fsfs_layout.specs.FileNames.{file_name, FitsFile}
+use Rattle.fsfs_layout.specs.FileNames.{file_name}
 use Rattle.fsfs_layout.specs.declared.layout.Layout.{Layout}
-use Rattle.fsfs_layout.specs.declared.only_file.OnlyFile.{OnlyFile}
 use Rattle.fsfs_layout.specs.declared.only_file.OnlyFile.TheVariants as only
 use Rattle.fsfs_layout.specs.declared.repository_file.RepositoryFile.{RepositoryFile}
 use Rattle.fsfs_layout.specs.declared.repository_file.RepositoryFile.TheVariants as real
@@ -11,7 +10,7 @@ use Rattle.fsfs_layout.proofs.Apart.{names_apart}
 use Rattle.fsfs_machine.specs.declared.contents.FileName.{FileName}
 use Rattle.fsfs_machine.specs.declared.contents.FileName.TheVariants.{Current, CurrentNext, Counter, CounterNext, Floor, Rev, Props}
 use Rattle.fsfs_machine.specs.Disk.{same_name}
-use Rattle.fsfs_images.specs.RealNames.{machine_file, machine_name, AreMachineNames}
+use Rattle.fsfs_images.specs.RealNames.{machine_file, AreMachineNames}
 
 -- the machine's name of a file, for those that it has one of
 abbrev back : RepositoryFile → FileName
@@ -50,6 +49,10 @@ same_files Floor Floor e = refl
 same_files (Rev r) (Rev s) e = ap (λ (n : ℕ). real.Revision n) (eqb-true r s e)
 same_files (Props r) (Props s) e = ap (λ (n : ℕ). real.Props n) (eqb-true r s e)
 same_files a b e = absurd cc
+
+-- names that test as the same are one
+pub same_is : (a b : FileName) → same_name a b ≡ true → a ≡ b
+same_is a b e = sym (is_back a) ∙ ap back (same_files a b e) ∙ is_back b
 
 not_false : (b : Bool) → b ≡ true → b ≡ false → ⊥
 not_false true e f = cc

@@ -1,5 +1,5 @@
 -- The names that the machine's files have in a repository.
-use Rattle.std.specs.Prelude.{◌≡◌, ℕ, List, Bool, true, false}
+use Rattle.std.specs.Prelude.{◌≡◌, ℕ, List, true, false}
 use Rattle.fsfs_layout.specs.FileNames.{file_name, FitsFile}
 use Rattle.fsfs_layout.specs.declared.layout.Layout.{Layout}
 use Rattle.fsfs_layout.specs.declared.only_file.OnlyFile.TheVariants as only

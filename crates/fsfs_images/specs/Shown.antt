@@ -1,64 +1,92 @@
 -- A real disk, by its trace, and the machine's disk that it is read as.
+--
+-- A file is a thing of the machine where its bytes are in the grammar of its name. A revision file carries its bytes: that these show
+-- its tree is said elsewhere, of the bytes alone. Any bytes may be junk, and of junk nothing is claimed.
 use Rattle.std.specs.Prelude.{◌≡◌, ◌==◌, ℕ, List, [], ◌∷◌, Bool, true, false, Option, Some, None}
 use Rattle.std.specs.FinMap as map
 use Rattle.fsfs_base.specs.Files.{Files}
+use Rattle.fsfs_layout.specs.FileNames.{FitsFile}
+use Rattle.fsfs_layout.specs.Small.{IsRevLine, IsBase36Line}
+use Rattle.fsfs_layout.specs.declared.layout.Layout.{Layout}
+use Rattle.fsfs_hash.specs.Dump.{IsDump}
 use Rattle.fsfs_disk.specs.Labels.{Label, same_label}
 use Rattle.fsfs_disk.specs.Labels as held
 use Rattle.fsfs_disk.specs.Trace.{Operation, Done, Attempted, files_after, TornBy}
 use Rattle.fsfs_disk.specs.Trace as real
 use Rattle.fsfs_machine.specs.declared.contents.FileName.{FileName}
+use Rattle.fsfs_machine.specs.declared.contents.FileName.TheVariants.{Current, CurrentNext, Counter, CounterNext, Floor, Rev, Props}
 use Rattle.fsfs_machine.specs.declared.contents.Contents.{Contents}
-use Rattle.fsfs_machine.specs.declared.contents.Contents.TheVariants.{Junk}
+use Rattle.fsfs_machine.specs.declared.contents.Contents.TheVariants.{RevFile, PropsFile, Number, Junk}
 use Rattle.fsfs_machine.specs.declared.contents.NameChange.TheVariants.{Put, Rename, Remove, Firm}
 use Rattle.fsfs_machine.specs.Machine.{has_label, without, labels_left}
-use Rattle.fsfs_machine.specs.Disk.{Disk, found, same_name, IsImage}
+use Rattle.fsfs_machine.specs.Disk.{Disk, found, IsImage}
+use Rattle.fsfs_images.specs.RealNames.{machine_file, machine_name}
 
--- how real files are read: by names that are told apart, and so that any bytes may be junk
-pub record IsReading (names : FileName → List ℕ) (reads : List ℕ → Contents → Bool) : Type 0 where
-  pub same : (a b : FileName) → same_name a b ≡ true → names a ≡ names b
-  pub apart : (a b : FileName) → same_name a b ≡ false → names b ≡ names a → ⊥
-  pub junk : (bytes : List ℕ) → reads bytes Junk ≡ true
+-- a revision of 32 bits
+abbrev pub Fits : FileName → Type 0
+Fits n = FitsFile (machine_file n)
 
--- what stands at a name is read so
-abbrev pub AtName : (List ℕ → Contents → Bool) → Option (List ℕ) → Option Contents → Type 0
-AtName reads None None = Unit {0}
-AtName reads (Some bytes) (Some c) = reads bytes c ≡ true
-AtName reads None (Some c) = ⊥
-AtName reads (Some bytes) None = ⊥
+-- the bytes of a file of this name are read so
+abbrev pub Reads : FileName → List ℕ → Contents → Type 0
+Reads n bytes Junk = Unit {0}
+Reads Current bytes (Number k) = IsRevLine bytes k
+Reads CurrentNext bytes (Number k) = IsRevLine bytes k
+Reads Counter bytes (Number k) = IsBase36Line bytes k
+Reads CounterNext bytes (Number k) = IsBase36Line bytes k
+Reads Floor bytes (Number k) = IsRevLine bytes k
+Reads (Rev r) bytes (RevFile tree changes kept) = bytes ≡ kept
+Reads (Props r) bytes (PropsFile properties) = IsDump bytes properties
+Reads n bytes c = ⊥
+
+-- What stands at a name is read so. Where the machine has no file nothing is claimed: another file may stand there.
+abbrev pub AtName : FileName → Option (List ℕ) → Option Contents → Type 0
+AtName n (Some bytes) (Some c) = Reads n bytes c
+AtName n None (Some c) = ⊥
+AtName n file None = Unit {0}
 
 -- each file that the machine speaks of is read as its contents
-abbrev pub AreRead : (FileName → List ℕ) → (List ℕ → Contents → Bool) → Files → Disk → Type 0
-AreRead names reads m d = (n : FileName) → AtName reads (map.get m (names n)) (found d n)
+abbrev pub AreRead : Layout → Files → Disk → Type 0
+AreRead layout m d = (n : FileName) → Fits n → AtName n (map.get m (machine_name layout n)) (found d n)
 
--- the operations of a disk are read as the changes of the machine's
-pub data Shows (names : FileName → List ℕ) (reads : List ℕ → Contents → Bool) (first : Files) : List Operation → Disk → Type 0 where
-  Start : (d : Disk) → AreRead names reads first d → Shows names reads first [] (Firm ∷ d)
-  Putting : (t : List Operation) (d : Disk) (n : FileName) (bytes : List ℕ) (c : Contents) → Shows names reads first t d → reads bytes c ≡ true
-      → Shows names reads first (Done (real.Put (names n) bytes) ∷ t) (Put n c ∷ d)
-  Adopting : (t : List Operation) (d : Disk) (n : FileName) (bytes : List ℕ) (c : Contents) → Shows names reads first t d → reads bytes c ≡ true
-      → Shows names reads first (Done (real.Adopt (names n) bytes) ∷ t) (Put n c ∷ d)
-  Renaming : (t : List Operation) (d : Disk) (from to : FileName) (bytes : List ℕ) (c : Contents) → Shows names reads first t d
-      → map.get (files_after first t) (names from) ≡ Some bytes → reads bytes c ≡ true
-      → Shows names reads first (Done (real.Rename (names from) (names to)) ∷ t) (Rename from to c ∷ d)
-  Removing : (t : List Operation) (d : Disk) (n : FileName) → Shows names reads first t d → Shows names reads first (Done (real.Remove (names n)) ∷ t) (Remove n ∷ d)
-  Firming : (t : List Operation) (d : Disk) → Shows names reads first t d → Shows names reads first (Done real.FirmNames ∷ t) (Firm ∷ d)
-  Attempting : (t : List Operation) (d : Disk) (c : real.NameChange) → Shows names reads first t d → Shows names reads first (Attempted c ∷ t) d
-  PuttingBeside : (t : List Operation) (d : Disk) (name bytes : List ℕ) → ((n : FileName) → names n ≡ name → ⊥) → Shows names reads first t d
-      → Shows names reads first (Done (real.Put name bytes) ∷ t) d
-  AdoptingBeside : (t : List Operation) (d : Disk) (name bytes : List ℕ) → ((n : FileName) → names n ≡ name → ⊥) → Shows names reads first t d
-      → Shows names reads first (Done (real.Adopt name bytes) ∷ t) d
-  RemovingBeside : (t : List Operation) (d : Disk) (name : List ℕ) → ((n : FileName) → names n ≡ name → ⊥) → Shows names reads first t d
-      → Shows names reads first (Done (real.Remove name) ∷ t) d
-  KeepingLabel : (t : List Operation) (d : Disk) (l : Label) → Shows names reads first t d → Shows names reads first (Done (real.KeepLabel l) ∷ t) d
-  DroppingLabel : (t : List Operation) (d : Disk) (l : Label) → Shows names reads first t d → Shows names reads first (Done (real.DropLabel l) ∷ t) d
+-- none of the machine's files has this name
+abbrev pub IsBeside : Layout → List ℕ → Type 0
+IsBeside layout name = (n : FileName) → Fits n → machine_name layout n ≡ name → ⊥
+
+-- The operations of a disk are read as the changes of the machine's. Beside the machine's files those may be changed that `others` names.
+pub data IsTraceOf (layout : Layout) (others : List ℕ → Bool) (first : Files) : List Operation → Disk → Type 0 where
+  Start : (d : Disk) → AreRead layout first d → IsTraceOf layout others first [] (Firm ∷ d)
+  -- an opening makes the names firm: whatever was done before, the reading may begin there
+  Opening : (t : List Operation) (d : Disk) → AreRead layout (files_after first t) d → IsTraceOf layout others first (Done real.FirmNames ∷ t) (Firm ∷ d)
+  Putting : (t : List Operation) (d : Disk) (n : FileName) (bytes : List ℕ) (c : Contents) → IsTraceOf layout others first t d → Fits n → Reads n bytes c
+      → IsTraceOf layout others first (Done (real.Put (machine_name layout n) bytes) ∷ t) (Put n c ∷ d)
+  Adopting : (t : List Operation) (d : Disk) (n : FileName) (bytes : List ℕ) (c : Contents) → IsTraceOf layout others first t d → Fits n → Reads n bytes c
+      → IsTraceOf layout others first (Done (real.Adopt (machine_name layout n) bytes) ∷ t) (Put n c ∷ d)
+  Renaming : (t : List Operation) (d : Disk) (from to : FileName) (bytes : List ℕ) (c : Contents) → IsTraceOf layout others first t d → Fits from → Fits to
+      → map.get (files_after first t) (machine_name layout from) ≡ Some bytes → Reads to bytes c
+      → IsTraceOf layout others first (Done (real.Rename (machine_name layout from) (machine_name layout to)) ∷ t) (Rename from to c ∷ d)
+  Removing : (t : List Operation) (d : Disk) (n : FileName) → IsTraceOf layout others first t d → Fits n
+      → IsTraceOf layout others first (Done (real.Remove (machine_name layout n)) ∷ t) (Remove n ∷ d)
+  Firming : (t : List Operation) (d : Disk) → IsTraceOf layout others first t d → IsTraceOf layout others first (Done real.FirmNames ∷ t) (Firm ∷ d)
+  Attempting : (t : List Operation) (d : Disk) (c : real.NameChange) → IsTraceOf layout others first t d → IsTraceOf layout others first (Attempted c ∷ t) d
+  PuttingBeside : (t : List Operation) (d : Disk) (name bytes : List ℕ) → others name ≡ true → IsBeside layout name → IsTraceOf layout others first t d
+      → IsTraceOf layout others first (Done (real.Put name bytes) ∷ t) d
+  AdoptingBeside : (t : List Operation) (d : Disk) (name bytes : List ℕ) → others name ≡ true → IsBeside layout name → IsTraceOf layout others first t d
+      → IsTraceOf layout others first (Done (real.Adopt name bytes) ∷ t) d
+  RemovingBeside : (t : List Operation) (d : Disk) (name : List ℕ) → others name ≡ true → IsBeside layout name → IsTraceOf layout others first t d
+      → IsTraceOf layout others first (Done (real.Remove name) ∷ t) d
+  KeepingLabel : (t : List Operation) (d : Disk) (l : Label) → IsTraceOf layout others first t d → IsTraceOf layout others first (Done (real.KeepLabel l) ∷ t) d
+  DroppingLabel : (t : List Operation) (d : Disk) (l : Label) → IsTraceOf layout others first t d → IsTraceOf layout others first (Done (real.DropLabel l) ∷ t) d
 
 -- each image of the disk is read as an image of the machine's, and a put that was torn as one of junk
-pub record ImagesAreShown (names : FileName → List ℕ) (reads : List ℕ → Contents → Bool) : Type 0 where
-  pub now : (first : Files) (t : List Operation) (d : Disk) → Shows names reads first t d → AreRead names reads (files_after first t) d
-  pub images : (first : Files) (t : List Operation) (d : Disk) → Shows names reads first t d
-      → (m : Files) → real.IsImage first t m → (e : Disk) × IsImage d e × AreRead names reads m e
-  pub torn : (first : Files) (t : List Operation) (d : Disk) → Shows names reads first t d → (n : FileName) (bytes : List ℕ)
-      → (m : Files) → TornBy (real.Put (names n) bytes) (real.IsImage first t) m → (e : Disk) × IsImage (Put n Junk ∷ d) e × AreRead names reads m e
+pub record ImagesAreShown (layout : Layout) (others : List ℕ → Bool) : Type 0 where
+  pub now : (first : Files) (t : List Operation) (d : Disk) → IsTraceOf layout others first t d → AreRead layout (files_after first t) d
+  pub images : (first : Files) (t : List Operation) (d : Disk) → IsTraceOf layout others first t d
+      → (m : Files) → real.IsImage first t m → (e : Disk) × IsImage d e × AreRead layout m e
+  pub torn : (first : Files) (t : List Operation) (d : Disk) → IsTraceOf layout others first t d → (n : FileName) (bytes : List ℕ) → Fits n
+      → (m : Files) → TornBy (real.Put (machine_name layout n) bytes) (real.IsImage first t) m → (e : Disk) × IsImage (Put n Junk ∷ d) e × AreRead layout m e
+  -- a file that is neither the machine's nor one of those beside is the same in each image
+  pub kept : (name : List ℕ) → others name ≡ false → IsBeside layout name → (first : Files) (t : List Operation) (d : Disk) → IsTraceOf layout others first t d
+      → (m : Files) → real.IsImage first t m → map.get m name ≡ map.get (files_after first t) name
 
 -- the labels of transactions are told apart as the machine's
 abbrev pub AreLabelNames : (ℕ → Label) → Type 0

@@ -1,0 +1,478 @@
+-- The turns of a commit.
+use Rattle.std.proofs.Common.{◌≡◌, ◌<◌, ◌≤◌, ◌+◌, ◌^◌, ℕ, List, [], ◌∷◌, ◌++◌, length, true, refl, sym, ap, subst, ◌∙◌, arith, take, append_assoc, append-nil}
+use Rattle.std.specs.Prelude.{Option, Some, None, Result, Ok, Err, IfOk, IfErr}
+use Rattle.std.proofs.lemmas.List.{take_all, length-take}
+use Rattle.fsfs_tree.specs.Revisions.{Revision}
+use Rattle.fsfs_tree.specs.Histories.{IsHistory}
+use Rattle.fsfs_flat.specs.Transactions.{IsNext}
+use Rattle.fsfs_machine.specs.declared.machine.Recorded.{Recorded}
+use Rattle.fsfs_machine.specs.declared.machine.Txn.{Txn}
+use Rattle.fsfs_places.specs.declared.place.DiskPlace.{DiskPlace}
+use Rattle.fsfs_places.specs.declared.place.DiskPlace.TheVariants.{Commit}
+use Rattle.fsfs_places.specs.declared.place.CommitPlace.{CommitPlace}
+use Rattle.fsfs_machine.specs.declared.machine.Section.TheVariants.{Begun}
+use Rattle.fsfs_machine.specs.declared.machine.Outcome.{Outcome}
+use Rattle.fsfs_machine.specs.declared.machine.Outcome.TheVariants as outcome
+use Rattle.fsfs_machine.specs.declared.machine.Step.{Step}
+use Rattle.fsfs_machine.specs.declared.machine.Step.TheVariants as step
+use Rattle.fsfs_machine.specs.Machine.{revisions, recorded, entry_of}
+use Rattle.fsfs_machine.specs.Kept.{IsIn}
+use Rattle.fsfs_machine.proofs.Growing.{revisions_length}
+use Rattle.fsfs_layout.specs.FileNames.{file_name}
+use Rattle.fsfs_layout.specs.declared.repository_file.RepositoryFile.TheVariants as file
+use Rattle.fsfs_turn.specs.Bytes.{BytesShow}
+use Rattle.fsfs_turn.specs.Views.{View, Begins, IsTxnOver, Turned, is_held, Looked, LockTaken, FoundStuck, LockGiven, MayGive, MayAdopt, coming_of}
+use Rattle.fsfs_commit.specs.declared.section.Made.{Made}
+use Rattle.fsfs_commit.specs.declared.committing.Ready.{Ready}
+use Rattle.fsfs_commit.specs.declared.committing.CommitFault.{CommitFault}
+use Rattle.fsfs_commit.specs.declared.committing.CommitFault.TheVariants as fault
+use Rattle.fsfs_commit.specs.Courses.{Course, End, More, IsMade, Published, StoppedAt, ends_at}
+use Rattle.fsfs_commit.specs.Works.{CanCommit, LandedOn, Landings, Unmoved, Moved as LandedMore, ReadOnly}
+use Rattle.fsfs_commit.specs.Replies.{Drifted, IsReady, Committed, Lost, IsTurn, Cause, Refused}
+use Rattle.fsfs_commit.proofs.Going.{append}
+use Rattle.fsfs_commit.proofs.Handing.{txn_later, entry_back}
+
+-- ---- what a pass drifts by
+
+one_step : (txns : List Txn) (s : Step) (o : Outcome) (v u : View) → Turned txns s o v u → Course v u
+one_step txns s o v u t = More txns s o v u u t (End u)
+
+none_more : (h g : List Recorded) → h ≡ g → Begins h g
+none_more h g same = ([], same ∙ sym (append-nil g))
+
+begins_on : (a b c : List Recorded) → Begins b a → Begins c b → Begins c a
+begins_on a b c f g = (f.0 ++ g.0, g.1 ∙ ap (λ l. l ++ g.0) f.1 ∙ append_assoc a f.0 g.0)
+
+pub drifted_on : (v m u : View) → Drifted v m → Drifted m u → Drifted v u
+drifted_on v m u a b = record { number = b.number ∙ a.number; layout = b.layout ∙ a.layout; mine = b.mine ∙ a.mine; least = omega (arith, a.least, b.least); grows = begins_on v.seen m.seen u.seen a.grows b.grows; course = append v m u a.course b.course }
+
+pub by_look : (young : ℕ) (v u : View) → Looked young v u → Drifted v u
+by_look young v u l = record {
+  number = ap {A = View} (λ z. z.number) l.is;
+  layout = ap {A = View} (λ z. z.layout) l.is;
+  mine = ap {A = View} (λ z. z.pass.mine) l.is;
+  least = let e : u.pass.least ≡ young = ap {A = View} (λ z. z.pass.least) l.is in omega (arith, e, l.least);
+  grows = none_more u.seen v.seen (ap {A = View} (λ z. z.seen) l.is);
+  course = one_step [] (step.Look v.number) (outcome.Youngest young) v u l.turned;
+}
+
+pub by_reads : (v u : View) → ReadOnly v u → Drifted v u
+by_reads v u r = record {
+  number = ap {A = View} (λ z. z.number) r.is;
+  layout = ap {A = View} (λ z. z.layout) r.is;
+  mine = ap {A = View} (λ z. z.pass.mine) r.is;
+  least = let e : u.pass.least ≡ v.pass.least = ap {A = View} (λ z. z.pass.least) r.is in omega (arith, e);
+  grows = r.grows;
+  course = r.course;
+}
+
+pub by_taking : (v u : View) → LockTaken v u → Drifted v u
+by_taking v u l = record {
+  number = ap {A = View} (λ z. z.number) l.is;
+  layout = ap {A = View} (λ z. z.layout) l.is;
+  mine = ap {A = View} (λ z. z.pass.mine) l.is;
+  least = let e : u.pass.least ≡ v.pass.least = ap {A = View} (λ z. z.pass.least) l.is in omega (arith, e);
+  grows = none_more u.seen v.seen (ap {A = View} (λ z. z.seen) l.is);
+  course = one_step [] (step.TakeLock v.number) outcome.Done v u l.turned;
+}
+
+pub by_finding : (place : DiskPlace) (v u : View) → FoundStuck place v u → Drifted v u
+by_finding place v u l = record {
+  number = ap {A = View} (λ z. z.number) l.is;
+  layout = ap {A = View} (λ z. z.layout) l.is;
+  mine = ap {A = View} (λ z. z.pass.mine) l.is;
+  least = let e : u.pass.least ≡ v.pass.least = ap {A = View} (λ z. z.pass.least) l.is in omega (arith, e);
+  grows = none_more u.seen v.seen (ap {A = View} (λ z. z.seen) l.is);
+  course = one_step [] (step.TakeLock v.number) (outcome.Stuck place) v u l.turned;
+}
+
+pub by_giving : (s : Step) (v u : View) → LockGiven s v u → Drifted v u
+by_giving s v u l = record {
+  number = ap {A = View} (λ z. z.number) l.is;
+  layout = ap {A = View} (λ z. z.layout) l.is;
+  mine = ap {A = View} (λ z. z.pass.mine) l.is;
+  least = let e : u.pass.least ≡ v.pass.least = ap {A = View} (λ z. z.pass.least) l.is in omega (arith, e);
+  grows = none_more u.seen v.seen (ap {A = View} (λ z. z.seen) l.is);
+  course = one_step [] s outcome.Done v u l.turned;
+}
+
+pub by_stopping : (place : CommitPlace) (v u : View) → StoppedAt place v u → Drifted v u
+by_stopping place v u l = record {
+  number = ap {A = View} (λ z. z.number) l.is;
+  layout = ap {A = View} (λ z. z.layout) l.is;
+  mine = ap {A = View} (λ z. z.pass.mine) l.is;
+  least = let e : u.pass.least ≡ v.pass.least = ap {A = View} (λ z. z.pass.least) l.is in omega (arith, e);
+  grows = none_more u.seen v.seen (ap {A = View} (λ z. z.seen) l.is);
+  course = append v l.before u l.course (one_step [] (ends_at place v.number) outcome.Done l.before u l.last.turned);
+}
+
+-- ---- landings, as more is seen
+
+pub landings_later : (g h : List Recorded) (x y : Txn) → Begins h g → Landings g x y → Landings h x y
+landings_later g h x y b (Unmoved _) = Unmoved x
+landings_later g h x y b (LandedMore _ m _ head seen before begins landed) = LandedMore x m y head seen (landings_later g h x m b before) (begins_on seen g h begins b) landed
+
+-- the history that a course begins with, where the pass is sure of it
+whole_then : (txns : List Txn) (s : Step) (o : Outcome) (v u : View) → Turned txns s o v u → v.sure ≡ true → v.pass.least < length v.seen → IsHistory (revisions v.seen)
+whole_then txns s o v u t sure less =
+    let up : t.world.young + 1 ≡ length t.world.history = t.kept.young t.sees.up in
+    let young : t.world.young ≡ v.pass.least = t.sees.sure sure in
+    let long : length v.seen ≡ length (take v.pass.seen t.world.history) = ap length t.sees.seen in
+    let all : v.seen ≡ t.world.history = t.sees.seen ∙ take_all v.pass.seen t.world.history (omega (arith, up, young, long, length-take v.pass.seen t.world.history, less)) in
+    subst (λ h. IsHistory (revisions h)) (sym all) t.kept.history
+
+pub first_of : (v u : View) → Course v u → v.section ≡ Some Begun → u.section ≡ None → v.sure ≡ true → v.pass.least < length v.seen → IsHistory (revisions v.seen)
+first_of v u (End _) begun none sure less = let e : Some Begun ≡ None = sym begun ∙ none in absurd cc
+first_of v u (More txns s o _ m _ t rest) begun none sure less = whole_then txns s o v m t sure less
+
+-- ---- the transaction stays one that may be committed
+
+pub can_same : (v u : View) (x : Txn) (properties : List (List ℕ × List ℕ)) → u.seen ≡ v.seen → u.given ≡ v.given → CanCommit v x properties → CanCommit u x properties
+can_same v u x properties seen given can = record {
+  over = subst (λ h. IsTxnOver h x) (sym seen) can.over;
+  based = subst (λ h. x.base < length h) (sym seen) can.based;
+  given = subst (λ g. IsIn x.name g) (sym given) can.given;
+  dated = can.dated;
+}
+
+pub can_landed : (head : ℕ) (v u : View) (x y : Txn) (properties : List (List ℕ × List ℕ)) → u.given ≡ v.given → LandedOn head u.seen x y → CanCommit v x properties → CanCommit u y properties
+can_landed head v u x y properties given landed can = record {
+  over = landed.over;
+  based = omega (arith, landed.base, landed.there);
+  given = subst (λ n. IsIn n u.given) (sym landed.name) (subst (λ g. IsIn x.name g) (sym given) can.given);
+  dated = can.dated;
+}
+
+-- ---- the preparation
+
+pub can_looked : (head : ℕ) (v m : View) (x : Txn) (properties : List (List ℕ × List ℕ)) → Looked head v m → CanCommit v x properties → CanCommit m x properties
+can_looked head v m x properties l can = can_same v m x properties (ap {A = View} (λ z. z.seen) l.is) (ap {A = View} (λ z. z.given) l.is) can
+
+pub based_low : (head : ℕ) (v m : View) (x : Txn) (properties : List (List ℕ × List ℕ)) → Looked head v m → CanCommit v x properties → x.base ≤ head
+based_low head v m x properties l can = omega (arith, l.seen, can.based)
+
+pub told : (head : ℕ) (v m : View) → Looked head v m → head ≤ m.pass.least
+told head v m l = let e : m.pass.least ≡ head = ap {A = View} (λ z. z.pass.least) l.is in omega (arith, e)
+
+pub full : {E : Type 0} (head : ℕ) (v m : View) (x : Txn) → 2147483647 ≤ head → Looked head v m → Refused {E = E} fault.RevsFull v m x x
+full head v m x most l = record {
+  moved = record { drifted = by_look head v m l; section = ap {A = View} (λ z. z.section) l.is };
+  landings = Unmoved x;
+  cause = let e : m.pass.least ≡ head = ap {A = View} (λ z. z.pass.least) l.is in omega (arith, e, most);
+}
+
+pub not_landed : {E : Type 0} (refusal : E) (head : ℕ) (v m u : View) (x : Txn) → Looked head v m → ReadOnly m u → Refused {E = E} (fault.Refused refusal) v u x x
+not_landed refusal head v m u x l r = record {
+  moved = record { drifted = drifted_on v m u (by_look head v m l) (by_reads m u r); section = ap {A = View} (λ z. z.section) r.is ∙ ap {A = View} (λ z. z.section) l.is };
+  landings = Unmoved x;
+  cause = tt;
+}
+
+pub no_memory : {E : Type 0} (head : ℕ) (v m u : View) (x y : Txn) → Looked head v m → ReadOnly m u → LandedOn head u.seen x y → Refused {E = E} fault.Memory v u x y
+no_memory head v m u x y l r landed = record {
+  moved = record { drifted = drifted_on v m u (by_look head v m l) (by_reads m u r); section = ap {A = View} (λ z. z.section) r.is ∙ ap {A = View} (λ z. z.section) l.is };
+  landings = LandedMore x x y head u.seen (Unmoved x) (none_more u.seen u.seen refl) landed;
+  cause = tt;
+}
+
+-- what a marshalling gives
+abbrev pub Marshalled : ℕ → Made → List (List ℕ × List ℕ) → View → Txn → ℕ → Type 0
+Marshalled rev made properties u y number = (next : Revision) × IsNext (revisions (take rev u.seen)) (entry_of number y properties) next
+    × BytesShow (take rev u.seen ++ record { revision = next; bytes = made.bytes.items } ∷ [])
+    × (made.rev ≡ rev) × (rev ≡ length u.seen → IsMade u properties rev made.rev_file made.props_file made.properties.items made.current.items)
+
+pub marshal_shown : (head next : ℕ) (m u : View) → next ≡ head + 1 → ReadOnly m u → BytesShow (take next u.seen)
+marshal_shown head next m u e r = r.shown next (omega (arith, e))
+
+pub prepared : (head : ℕ) (made : Made) (properties : List (List ℕ × List ℕ)) (v m u : View) (x y : Txn) → Looked head v m → ReadOnly m u → LandedOn head u.seen x y → CanCommit v x properties
+    → ((number : ℕ) → Marshalled (head + 1) made properties u y number) → IsReady (record { head = head; made = made }) properties v u x y
+prepared head made properties v m u x y l r landed can all = record {
+  moved = record { drifted = drifted_on v m u (by_look head v m l) (by_reads m u r); section = ap {A = View} (λ z. z.section) r.is ∙ ap {A = View} (λ z. z.section) l.is };
+  from = can;
+  landings = LandedMore x x y head u.seen (Unmoved x) (none_more u.seen u.seen refl) landed;
+  can = can_landed head v u x y properties (ap {A = View} (λ z. z.given) r.is ∙ ap {A = View} (λ z. z.given) l.is) landed can;
+  base = landed.base;
+  rev = (all 0).3;
+  above = l.least;
+  seen = omega (arith, landed.there);
+  least = ap {A = View} (λ z. z.pass.least) r.is ∙ ap {A = View} (λ z. z.pass.least) l.is;
+  sure = ap {A = View} (λ z. z.sure) r.is ∙ ap {A = View} (λ z. z.sure) l.is;
+  within = λ held.
+      let least : m.pass.least ≡ head = ap {A = View} (λ z. z.pass.least) l.is in
+      let seen : length m.seen ≡ length v.seen = ap {A = View} (λ z. length z.seen) l.is in
+      let more = r.within (ap {A = View} (λ z. z.sure) l.is ∙ held) (omega (arith, least, seen, l.seen)) in
+      omega (arith, least, more);
+  to_come = λ number. let a = all number in (a.0, record { is = a.1; shows = a.2; written = λ whole. subst (λ n. IsMade u properties n made.rev_file made.props_file made.properties.items made.current.items) (sym a.3) (a.4 whole) });
+}
+
+-- the premises of a marshalling
+pub can_marshal : (head : ℕ) (v m u : View) (x y : Txn) (p q : List (List ℕ × List ℕ)) → q ≡ p → Looked head v m → ReadOnly m u → LandedOn head u.seen x y → CanCommit v x p → CanCommit u y q
+can_marshal head v m u x y p q same l r landed can = subst (λ z. CanCommit u y z) (sym same) (can_landed head v u x y p (ap {A = View} (λ z. z.given) r.is ∙ ap {A = View} (λ z. z.given) l.is) landed can)
+
+pub marshalled_for : (rev next number : ℕ) (made : Made) (p q : List (List ℕ × List ℕ)) (u : View) (y : Txn) → next ≡ rev → q ≡ p → Marshalled next made q u y number → Marshalled rev made p u y number
+marshalled_for rev next number made p q u y e same w = subst (λ n. Marshalled n made p u y number) e (subst (λ z. Marshalled next made z u y number) same w)
+
+-- ---- the turn
+
+pub found_stuck : {E : Type 0} (place : DiskPlace) (ready : Ready) (properties : List (List ℕ × List ℕ)) (v u m : View) (x y : Txn) → IsReady ready properties v u x y → FoundStuck place u m → Refused {E = E} (fault.Stuck place) v m x y
+found_stuck place ready properties v u m x y r f = record {
+  moved = record { drifted = drifted_on v u m r.moved.drifted (by_finding place u m f); section = ap {A = View} (λ z. z.section) f.is ∙ r.moved.section };
+  landings = landings_later u.seen m.seen x y (by_finding place u m f).grows r.landings;
+  cause = ap {A = View} (λ z. z.pass.stuck) f.is;
+}
+
+-- what is known with the lock held and the youngest number told
+pub drifted_in : (young : ℕ) (ready : Ready) (properties : List (List ℕ × List ℕ)) (v u m n : View) (x y : Txn) → IsReady ready properties v u x y → LockTaken u m → Looked young m n → Drifted v n
+drifted_in young ready properties v u m n x y r t l = drifted_on v m n (drifted_on v u m r.moved.drifted (by_taking u m t)) (by_look young m n l)
+
+pub may_let_go : (young : ℕ) (u m n : View) → LockTaken u m → Looked young m n → MayGive n
+may_let_go young u m n t l = record { inside = Begun; is = ap {A = View} (λ z. z.section) l.is ∙ ap {A = View} (λ z. z.section) t.is; quiet = refl }
+
+pub lost : (young : ℕ) (ready : Ready) (properties : List (List ℕ × List ℕ)) (v u m n o : View) (x y : Txn) → v.section ≡ None → IsReady ready properties v u x y → LockTaken u m → Looked young m n → LockGiven (step.GiveLock n.number) n o → Lost properties v o x y
+lost young ready properties v u m n o x y none r t l g = record {
+  moved = record { drifted = drifted_on v n o (drifted_in young ready properties v u m n x y r t l) (by_giving (step.GiveLock n.number) n o g); section = ap {A = View} (λ z. z.section) g.is ∙ sym none };
+  from = r.from;
+  landings = landings_later u.seen o.seen x y (none_more o.seen u.seen (ap {A = View} (λ z. z.seen) g.is ∙ ap {A = View} (λ z. z.seen) l.is ∙ ap {A = View} (λ z. z.seen) t.is)) r.landings;
+  can = can_same u o y properties (ap {A = View} (λ z. z.seen) g.is ∙ ap {A = View} (λ z. z.seen) l.is ∙ ap {A = View} (λ z. z.seen) t.is) (ap {A = View} (λ z. z.given) g.is ∙ ap {A = View} (λ z. z.given) l.is ∙ ap {A = View} (λ z. z.given) t.is) r.can;
+}
+
+module _ (ready : Ready) (properties : List (List ℕ × List ℕ)) (v u n : View) (x y : Txn) (r : IsReady ready properties v u x y) (section : n.section ≡ Some Begun) (sure : n.sure ≡ true) (least : n.pass.least ≡ ready.head) (seen : n.seen ≡ u.seen) (given : n.given ≡ u.given) (layout : n.layout ≡ u.layout) (drifted : Drifted v n) (within : length n.seen ≤ ready.head + 1) where
+  length_is : ready.head + 1 ≡ length u.seen
+  length_is = let e : length n.seen ≡ length u.seen = ap length seen in omega (arith, e, r.seen, within)
+
+  abbrev pub next : Revision
+  next = (r.to_come n.number).0
+
+  first : take (ready.head + 1) u.seen ≡ n.seen
+  first = take_all (ready.head + 1) u.seen (omega (arith, length_is)) ∙ sym seen
+
+  pub next_is : IsNext (revisions n.seen) (entry_of n.number y properties) next
+  next_is = subst (λ h. IsNext (revisions h) (entry_of n.number y properties) next) first (r.to_come n.number).1.is
+
+  pub shows : BytesShow (n.seen ++ record { revision = next; bytes = ready.made.bytes.items } ∷ [])
+  shows = subst (λ h. BytesShow (h ++ record { revision = next; bytes = ready.made.bytes.items } ∷ [])) first (r.to_come n.number).1.shows
+
+  pub may_adopt : MayAdopt n y properties next ready.made.bytes.items
+  may_adopt =
+      let can = can_same u n y properties seen given r.can in
+      let e : length n.seen ≡ length u.seen = ap length seen in
+      record { begun = section; sure = sure; seen = omega (arith, least, e, length_is); given = can.given; over = can.over; dated = can.dated; next_is = next_is; shows = shows; fits = omega (arith, next_is.limit, revisions_length n.seen) }
+
+  pub is_made : IsMade n properties ready.made.rev ready.made.rev_file ready.made.props_file ready.made.properties.items ready.made.current.items
+  is_made =
+      let i = (r.to_come n.number).1.written length_is in
+      record { number = i.number ∙ ap length (sym seen); rev_named = i.rev_named ∙ ap (λ k. file_name k (file.Revision ready.made.rev)) (sym layout); props_named = i.props_named ∙ ap (λ k. file_name k (file.Props ready.made.rev)) (sym layout); dump = i.dump; line = i.line; fits = subst (λ h. length h < 2 ^ 32) (sym seen) i.fits }
+
+  landings_here : Landings n.seen x y
+  landings_here = landings_later u.seen n.seen x y (none_more n.seen u.seen seen) r.landings
+
+  over_here : IsTxnOver n.seen x
+  over_here = txn_later v.seen n.seen x drifted.grows (omega (arith, r.from.based)) r.from.over
+
+  history_at : (o : View) → Published y properties next ready.made.bytes.items n o → IsHistory (revisions n.seen)
+  history_at o p = first_of n o p.course section (ap {A = View} (λ z. z.section) p.is) sure may_adopt.seen
+
+  pub committed : (o : View) → Published y properties next ready.made.bytes.items n o → Committed ready.made.rev properties v o x y
+  committed o p = record {
+    landings = landings_here;
+    history = history_at o p;
+    handed_in = subst (λ k. IsNext (revisions n.seen) (entry_of k x properties) next) drifted.number (entry_back n.seen n.number properties next x y (history_at o p) over_here landings_here next_is);
+    before = n.seen;
+    next = recorded (coming_of n y properties next ready.made.bytes.items);
+    is = ap {A = View} (λ z. z.seen) p.is;
+    number = is_made.number;
+    begins = drifted.grows;
+    base = ap (λ b. b + 1) r.base ∙ sym r.rev;
+    above = omega (arith, r.above, r.rev);
+    is_next = subst (λ k. IsNext (revisions n.seen) (entry_of k y properties) next) drifted.number next_is;
+    shows = shows;
+    mine = ap {A = View} (λ z. z.pass.mine) p.is ∙ ap (λ k. n.pass.mine ++ k ∷ []) (sym is_made.number) ∙ ap (λ l. l ++ ready.made.rev ∷ []) drifted.mine;
+    outside = ap {A = View} (λ z. z.section) p.is;
+    course = append v n o drifted.course p.course;
+  }
+
+  pub failed_at : {E : Type 0} (place : CommitPlace) (o : View) → v.section ≡ None → StoppedAt place n o → Refused {E = E} (fault.DiskFault place) v o x y
+  failed_at place o none s = record {
+    moved = record { drifted = drifted_on v n o drifted (by_stopping place n o s); section = ap {A = View} (λ z. z.section) s.is ∙ sym none };
+    landings = landings_later n.seen o.seen x y (by_stopping place n o s).grows landings_here;
+    cause = (n.pass.faults, ap {A = View} (λ z. z.pass.faults) s.is);
+  }
+
+-- the lock was taken, and the youngest number is still the head
+module _ (young : ℕ) (ready : Ready) (properties : List (List ℕ × List ℕ)) (v u m n : View) (x y : Txn) (r : IsReady ready properties v u x y) (t : LockTaken u m) (l : Looked young m n) (same : young ≡ ready.head) where
+  pub section_at : n.section ≡ Some Begun
+  section_at = ap {A = View} (λ z. z.section) l.is ∙ ap {A = View} (λ z. z.section) t.is
+
+  pub sure_at : n.sure ≡ true
+  sure_at = ap {A = View} (λ z. z.sure) l.is ∙ ap {A = View} (λ z. is_held z.section) t.is
+
+  pub least_at : n.pass.least ≡ ready.head
+  least_at = ap {A = View} (λ z. z.pass.least) l.is ∙ same
+
+  pub seen_at : n.seen ≡ u.seen
+  seen_at = ap {A = View} (λ z. z.seen) l.is ∙ ap {A = View} (λ z. z.seen) t.is
+
+  pub given_at : n.given ≡ u.given
+  given_at = ap {A = View} (λ z. z.given) l.is ∙ ap {A = View} (λ z. z.given) t.is
+
+  pub layout_at : n.layout ≡ u.layout
+  layout_at = ap {A = View} (λ z. z.layout) l.is ∙ ap {A = View} (λ z. z.layout) t.is
+
+  pub within_at : length n.seen ≤ ready.head + 1
+  within_at = let e : length n.seen ≡ length m.seen = ap {A = View} (λ z. length z.seen) l.is in omega (arith, e, l.seen, same)
+
+  abbrev pub next_at : Revision
+  next_at = next ready properties v u n x y r section_at sure_at least_at seen_at given_at layout_at (drifted_in young ready properties v u m n x y r t l) within_at
+
+  pub adopts_at : MayAdopt n y properties next_at ready.made.bytes.items
+  adopts_at = may_adopt ready properties v u n x y r section_at sure_at least_at seen_at given_at layout_at (drifted_in young ready properties v u m n x y r t l) within_at
+
+  pub made_at : IsMade n properties ready.made.rev ready.made.rev_file ready.made.props_file ready.made.properties.items ready.made.current.items
+  made_at = is_made ready properties v u n x y r section_at sure_at least_at seen_at given_at layout_at (drifted_in young ready properties v u m n x y r t l) within_at
+
+  pub commits_at : (o : View) → Published y properties next_at ready.made.bytes.items n o → Committed ready.made.rev properties v o x y
+  commits_at o p = committed ready properties v u n x y r section_at sure_at least_at seen_at given_at layout_at (drifted_in young ready properties v u m n x y r t l) within_at o p
+
+  pub fails_at : {E : Type 0} (place : CommitPlace) (o : View) → v.section ≡ None → StoppedAt place n o → Refused {E = E} (fault.DiskFault place) v o x y
+  fails_at place o none s = failed_at ready properties v u n x y r section_at sure_at least_at seen_at given_at layout_at (drifted_in young ready properties v u m n x y r t l) within_at place o none s
+
+-- ---- one turn after another
+
+pub landings_on : (h : List Recorded) (x y z : Txn) → Landings h x y → Landings h y z → Landings h x z
+landings_on h x y z a (Unmoved _) = a
+landings_on h x y z a (LandedMore _ m _ head seen b begins landed) = LandedMore x m z head seen (landings_on h x y m a b) begins landed
+
+pub committed_on : (rev : ℕ) (p : List (List ℕ × List ℕ)) (v m o : View) (x y z : Txn) → Drifted v m → CanCommit v x p → Landings m.seen x y → Committed rev p m o y z → Committed rev p v o x z
+committed_on rev p v m o x y z d can landings c = record {
+  landings = landings_on c.before x y z first c.landings;
+  history = c.history;
+  handed_in = entry_back c.before v.number p c.next.revision x y c.history (txn_later v.seen c.before x (begins_on v.seen m.seen c.before d.grows c.begins) (omega (arith, can.based)) can.over) first
+      (subst (λ k. IsNext (revisions c.before) (entry_of k y p) c.next.revision) d.number c.handed_in);
+  before = c.before;
+  next = c.next;
+  is = c.is;
+  number = c.number;
+  begins = begins_on v.seen m.seen c.before d.grows c.begins;
+  base = c.base;
+  above = omega (arith, d.least, c.above);
+  is_next = subst (λ k. IsNext (revisions c.before) (entry_of k z p) c.next.revision) d.number c.is_next;
+  shows = c.shows;
+  mine = c.mine ∙ ap (λ l. l ++ rev ∷ []) d.mine;
+  outside = c.outside;
+  course = append v m o d.course c.course;
+}
+  where
+    first : Landings c.before x y
+    first = landings_later m.seen c.before x y c.begins landings
+
+pub refused_on : {E : Type 0} (f : CommitFault E) (v m o : View) (x y z : Txn) → Drifted v m → m.section ≡ v.section → Landings m.seen x y → Refused f m o y z → Refused f v o x z
+refused_on f v m o x y z d section landings r = record {
+  moved = record { drifted = drifted_on v m o d r.moved.drifted; section = r.moved.section ∙ section };
+  landings = landings_on o.seen x y z (landings_later m.seen o.seen x y r.moved.drifted.grows landings) r.landings;
+  cause = cause_on f m v o o refl r.cause;
+}
+  where
+    cause_on : {E : Type 0} (f : CommitFault E) (m v u o : View) → o.pass ≡ u.pass → Cause f m u → Cause f v o
+    cause_on fault.RevsFull m v u o same c = subst (λ p. 2147483647 ≤ p.least) (sym same) c
+    cause_on (fault.Stuck place) m v u o same c = subst (λ p. p.stuck ≡ Some place) (sym same) c
+    cause_on (fault.Refused e) m v u o same c = tt
+    cause_on fault.Memory m v u o same c = tt
+    cause_on (fault.DiskFault place) m v u o same c = subst (λ p. (before : List DiskPlace) × (p.faults ≡ before ++ Commit place ∷ [])) (sym same) c
+
+pub turn_on : (came : Option ℕ) (p : List (List ℕ × List ℕ)) (v m o : View) (x y z : Txn) → Lost p v m x y → IsTurn came p m o y z → IsTurn came p v o x z
+turn_on (Some rev) p v m o x y z l t = committed_on rev p v m o x y z l.moved.drifted l.from l.landings t
+turn_on None p v m o x y z l t = record {
+  moved = record { drifted = drifted_on v m o l.moved.drifted t.moved.drifted; section = t.moved.section ∙ l.moved.section };
+  from = l.from;
+  landings = landings_on o.seen x y z (landings_later m.seen o.seen x y t.moved.drifted.grows l.landings) t.landings;
+  can = t.can;
+}
+
+pub refused_after : {E : Type 0} (f : CommitFault E) (p : List (List ℕ × List ℕ)) (v m o : View) (x y z : Txn) → Lost p v m x y → Refused f m o y z → Refused f v o x z
+refused_after f p v m o x y z l r = refused_on f v m o x y z l.moved.drifted l.moved.section l.landings r
+
+-- ---- the last turn
+
+pub stuck_first : {E : Type 0} (place : DiskPlace) (v m : View) (x : Txn) → FoundStuck place v m → Refused {E = E} (fault.Stuck place) v m x x
+stuck_first place v m x f = record { moved = record { drifted = by_finding place v m f; section = ap {A = View} (λ z. z.section) f.is }; landings = Unmoved x; cause = ap {A = View} (λ z. z.pass.stuck) f.is }
+
+pub can_taken : (v m : View) (x : Txn) (p : List (List ℕ × List ℕ)) → LockTaken v m → CanCommit v x p → CanCommit m x p
+can_taken v m x p t can = can_same v m x p (ap {A = View} (λ z. z.seen) t.is) (ap {A = View} (λ z. z.given) t.is) can
+
+pub begun_then : (v m u : View) → LockTaken v m → u.section ≡ m.section → u.section ≡ Some Begun
+begun_then v m u t same = same ∙ ap {A = View} (λ z. z.section) t.is
+
+pub let_go_of : (v m u : View) → LockTaken v m → u.section ≡ m.section → MayGive u
+let_go_of v m u t same = record { inside = Begun; is = begun_then v m u t same; quiet = refl }
+
+pub refused_last : {E : Type 0} (f : CommitFault E) (v m u o : View) (x y : Txn) → v.section ≡ None → LockTaken v m → Refused f m u x y → LockGiven (step.GiveLock u.number) u o → Refused f v o x y
+refused_last f v m u o x y none t r g = record {
+  moved = record { drifted = drifted_on v u o (drifted_on v m u (by_taking v m t) r.moved.drifted) (by_giving (step.GiveLock u.number) u o g); section = ap {A = View} (λ z. z.section) g.is ∙ sym none };
+  landings = landings_later u.seen o.seen x y (by_giving (step.GiveLock u.number) u o g).grows r.landings;
+  cause = cause_given f m v u o (ap {A = View} (λ z. z.pass) g.is) r.cause;
+}
+  where
+    cause_given : {E : Type 0} (f : CommitFault E) (m v u o : View) → o.pass ≡ u.pass → Cause f m u → Cause f v o
+    cause_given fault.RevsFull m v u o same c = subst (λ p. 2147483647 ≤ p.least) (sym same) c
+    cause_given (fault.Stuck place) m v u o same c = subst (λ p. p.stuck ≡ Some place) (sym same) c
+    cause_given (fault.Refused e) m v u o same c = tt
+    cause_given fault.Memory m v u o same c = tt
+    cause_given (fault.DiskFault place) m v u o same c = subst (λ p. (before : List DiskPlace) × (p.faults ≡ before ++ Commit place ∷ [])) (sym same) c
+
+module _ (ready : Ready) (p : List (List ℕ × List ℕ)) (v m u : View) (x y : Txn) (t : LockTaken v m) (r : IsReady ready p m u x y) where
+  pub last_section : u.section ≡ Some Begun
+  last_section = begun_then v m u t r.moved.section
+
+  pub last_held : is_held m.section ≡ true
+  last_held = ap {A = View} (λ z. is_held z.section) t.is
+
+  abbrev pub last_next : Revision
+  last_next = next ready p m u u x y r last_section (r.sure ∙ last_held) r.least refl refl refl r.moved.drifted (r.within last_held)
+
+  pub last_adopts : MayAdopt u y p last_next ready.made.bytes.items
+  last_adopts = may_adopt ready p m u u x y r last_section (r.sure ∙ last_held) r.least refl refl refl r.moved.drifted (r.within last_held)
+
+  pub last_made : IsMade u p ready.made.rev ready.made.rev_file ready.made.props_file ready.made.properties.items ready.made.current.items
+  last_made = is_made ready p m u u x y r last_section (r.sure ∙ last_held) r.least refl refl refl r.moved.drifted (r.within last_held)
+
+  pub last_commits : (o : View) → CanCommit v x p → Published y p last_next ready.made.bytes.items u o → Committed ready.made.rev p v o x y
+  last_commits o can published = committed_on ready.made.rev p v m o x x y (by_taking v m t) can (Unmoved x) (committed ready p m u u x y r last_section (r.sure ∙ last_held) r.least refl refl refl r.moved.drifted (r.within last_held) o published)
+
+  pub last_fails : {E : Type 0} (place : CommitPlace) (o : View) → v.section ≡ None → StoppedAt place u o → Refused {E = E} (fault.DiskFault place) v o x y
+  last_fails place o none s = record {
+    moved = record { drifted = drifted_on v u o (drifted_on v m u (by_taking v m t) r.moved.drifted) (by_stopping place u o s); section = ap {A = View} (λ z. z.section) s.is ∙ sym none };
+    landings = landings_later u.seen o.seen x y (by_stopping place u o s).grows r.landings;
+    cause = (u.pass.faults, ap {A = View} (λ z. z.pass.faults) s.is);
+  }
+
+-- ---- for answers
+
+pub turn_is : (o came : Option ℕ) (p : List (List ℕ × List ℕ)) (v u : View) (x y : Txn) → o ≡ came → IsTurn o p v u x y → IsTurn came p v u x y
+turn_is o came p v u x y same t = subst (λ z. IsTurn z p v u x y) same t
+
+pub can_next : (p q : List (List ℕ × List ℕ)) (v m : View) (x y : Txn) → q ≡ p → Lost p v m x y → CanCommit m y q
+can_next p q v m x y same l = subst (λ z. CanCommit m y z) (sym same) l.can
+
+pub turn_after : (came : Option ℕ) (p q : List (List ℕ × List ℕ)) (v m o : View) (x y z : Txn) → q ≡ p → Lost p v m x y → IsTurn came q m o y z → IsTurn came p v o x z
+turn_after came p q v m o x y z same l t = turn_on came p v m o x y z l (subst (λ r. IsTurn came r m o y z) same t)
+
+pub if_ok_then : {X E : Type 0} (r : Result X E) (P Q : X → Type 0) → ((x : X) → P x → Q x) → IfOk r P → IfOk r Q
+if_ok_then (Ok x) P Q f p = f x p
+if_ok_then (Err e) P Q f p = tt
+
+pub if_err_then : {X E : Type 0} (r : Result X E) (P Q : E → Type 0) → ((e : E) → P e → Q e) → IfErr r P → IfErr r Q
+if_err_then (Ok x) P Q f p = tt
+if_err_then (Err e) P Q f p = f e p
+
+module _ (K : View → Type 0) (M : Txn → Type 0) (p q : List (List ℕ × List ℕ)) (v m : View) (x y : Txn) (same : q ≡ p) (l : Lost p v m x y) where
+  pub all_turns : {E : Type 0} (r : Result (Option ℕ) E) → IfOk r (λ came. (u : View) × (z : Txn) × K u × M z × IsTurn came q m u y z) → IfOk r (λ came. (u : View) × (z : Txn) × K u × M z × IsTurn came p v u x z)
+  all_turns r w = if_ok_then r _ _ (λ came a. (a.0, a.1, a.2, a.3, turn_after came p q v m a.0 x y a.1 same l a.4)) w
+
+  pub all_commits : {E : Type 0} (r : Result ℕ E) → IfOk r (λ rev. (u : View) × (z : Txn) × K u × M z × Committed rev q m u y z) → IfOk r (λ rev. (u : View) × (z : Txn) × K u × M z × Committed rev p v u x z)
+  all_commits r w = if_ok_then r _ _ (λ rev a. (a.0, a.1, a.2, a.3, turn_after (Some rev) p q v m a.0 x y a.1 same l a.4)) w
+
+  pub all_refusals : {X E : Type 0} (r : Result X (CommitFault E)) → IfErr r (λ f. (u : View) × (z : Txn) × K u × M z × Refused f m u y z) → IfErr r (λ f. (u : View) × (z : Txn) × K u × M z × Refused f v u x z)
+  all_refusals r w = if_err_then r _ _ (λ f a. (a.0, a.1, a.2, a.3, refused_after f p v m a.0 x y a.1 l a.4)) w
+
+pub of_rev : (rev same : ℕ) (p : List (List ℕ × List ℕ)) (v u : View) (x y : Txn) → same ≡ rev → Committed rev p v u x y → Committed same p v u x y
+of_rev rev same p v u x y e c = subst (λ n. Committed n p v u x y) (sym e) c

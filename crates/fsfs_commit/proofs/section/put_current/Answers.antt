@@ -1,0 +1,13 @@
+use Rattle.std.proofs.Common.{refl}
+use Rattle.fsfs_places.specs.declared.place.DiskPlace.TheVariants.{Commit}
+use Rattle.fsfs_places.specs.declared.place.CommitPlace.TheVariants as place
+use Rattle.fsfs_machine.specs.declared.machine.Section.TheVariants as section
+use Rattle.fsfs_commit.proofs.Going.{goes_done, goes_failed}
+use Rattle.fsfs_commit.proofs.Going.{line_at}
+use Rattle.fsfs_commit.proofs.section.put_current.Goals as goal
+
+pub returns-in-Ok-clause-turned : goal.returns-in-Ok-clause-turned
+returns-in-Ok-clause-turned g c = λ v x known at made. goes_done place.PutCurrent v (section.RevFirm x) x at refl (λ went given. refl) _ (c.in-Ok.ensures.turned v (Commit place.PutCurrent) known (x, at, c.name-next.ensures, line_at c.args.made.now.rev c.args.made.now.current.items c.deref.result.now v c.deref.ensures.value made.number made.line))
+
+pub returns-in-Err-clause-turned : goal.returns-in-Err-clause-turned
+returns-in-Err-clause-turned g c = λ v x known at made. goes_failed place.PutCurrent v (section.RevFirm x) x at refl (λ went given. refl) _ _ refl (c.in-Err.ensures.turned v (Commit place.PutCurrent) known (x, at, c.name-next.ensures, line_at c.args.made.now.rev c.args.made.now.current.items c.deref.result.now v c.deref.ensures.value made.number made.line))

@@ -1,0 +1,13 @@
+use Rattle.std.proofs.Common.{sym, ◌∙◌}
+use Rattle.fsfs_commit.proofs.Going.{sticks_at, gives_at, is_in_doubt, may_end}
+use Rattle.fsfs_commit.proofs.section.settle.Goals as goal
+
+pub returns-then-is_doubtful-clause-turned : goal.returns-then-is_doubtful-clause-turned
+returns-then-is_doubtful-clause-turned g c = λ v x known at.
+    let e = sym c.is_doubtful.ensures ∙ c.if-is_doubtful.true in
+    sticks_at c.args.place v (g.T.Turns.knows c.stick.new.self) e (c.stick.ensures.turned v x known (is_in_doubt c.args.place v x e at))
+
+pub returns-else-is_doubtful-clause-turned : goal.returns-else-is_doubtful-clause-turned
+returns-else-is_doubtful-clause-turned g c = λ v x known at.
+    let e = sym c.is_doubtful.ensures ∙ c.if-is_doubtful.false in
+    gives_at c.args.place v (g.T.Turns.knows c.give_lock.new.self) e (c.give_lock.ensures.turned v known (may_end c.args.place v x e at))

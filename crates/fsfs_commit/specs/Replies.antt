@@ -1,0 +1,104 @@
+-- The answers of a commit, and their causes.
+use Rattle.std.specs.Prelude.{◌≡◌, ◌<◌, ◌≤◌, ◌+◌, ℕ, List, [], ◌∷◌, ◌++◌, length, take, true, Option, Some, None}
+use Rattle.fsfs_tree.specs.Revisions.{Revision}
+use Rattle.fsfs_tree.specs.Histories.{IsHistory}
+use Rattle.fsfs_flat.specs.Transactions.{IsNext}
+use Rattle.fsfs_machine.specs.declared.machine.Recorded.{Recorded}
+use Rattle.fsfs_machine.specs.declared.machine.Txn.{Txn}
+use Rattle.fsfs_places.specs.declared.place.DiskPlace.{DiskPlace}
+use Rattle.fsfs_places.specs.declared.place.DiskPlace.TheVariants.{Commit}
+use Rattle.fsfs_places.specs.declared.place.CommitPlace.{CommitPlace}
+use Rattle.fsfs_machine.specs.Machine.{revisions, entry_of}
+use Rattle.fsfs_turn.specs.Bytes.{BytesShow}
+use Rattle.fsfs_turn.specs.Views.{View, Begins, is_held}
+use Rattle.fsfs_commit.specs.declared.section.Made.{Made}
+use Rattle.fsfs_commit.specs.declared.committing.Ready.{Ready}
+use Rattle.fsfs_commit.specs.declared.committing.CommitFault.{CommitFault}
+use Rattle.fsfs_commit.specs.declared.committing.CommitFault.TheVariants.{RevsFull, Stuck, Refused as Refuses, Memory, DiskFault}
+use Rattle.fsfs_commit.specs.Courses.{Course, IsMade}
+use Rattle.fsfs_commit.specs.Works.{CanCommit, Landings}
+
+-- the pass added nothing: it saw more, was told more, and faults came
+pub record Drifted (v u : View) : Type 0 where
+  pub number : u.number ≡ v.number
+  pub layout : u.layout ≡ v.layout
+  pub mine : u.pass.mine ≡ v.pass.mine
+  pub least : v.pass.least ≤ u.pass.least
+  pub grows : Begins u.seen v.seen
+  pub course : Course v u
+
+-- and it is in the section in which it was
+pub record Moved (v u : View) : Type 0 where
+  pub drifted : Drifted v u
+  pub section : u.section ≡ v.section
+
+-- the revision to come over the first part of what was seen that ends with the head
+pub record IsToCome (head : ℕ) (made : Made) (number : ℕ) (properties : List (List ℕ × List ℕ)) (u : View) (y : Txn) (next : Revision) : Type 0 where
+  pub is : IsNext (revisions (take (head + 1) u.seen)) (entry_of number y properties) next
+  pub shows : BytesShow (take (head + 1) u.seen ++ record { revision = next; bytes = made.bytes.items } ∷ [])
+  pub written : head + 1 ≡ length u.seen → IsMade u properties made.rev made.rev_file made.props_file made.properties.items made.current.items
+
+-- all is made for the revision that follows the head, on which the transaction stands
+pub record IsReady (ready : Ready) (properties : List (List ℕ × List ℕ)) (v u : View) (x y : Txn) : Type 0 where
+  pub moved : Moved v u
+  pub from : CanCommit v x properties
+  pub landings : Landings u.seen x y
+  pub can : CanCommit u y properties
+  pub base : y.base ≡ ready.head
+  pub rev : ready.made.rev ≡ ready.head + 1
+  pub above : v.pass.least ≤ ready.head
+  pub seen : ready.head + 1 ≤ length u.seen
+  pub least : u.pass.least ≡ ready.head
+  pub sure : u.sure ≡ is_held v.section
+  -- where it holds the lock, it has seen no more
+  pub within : is_held v.section ≡ true → length u.seen ≤ ready.head + 1
+  pub to_come : (number : ℕ) → (next : Revision) × IsToCome ready.head ready.made number properties u y next
+
+-- COMMITTED: the revision is the next of those before it, of the entry of the landed transaction; the pass's own grew by it alone
+pub record Committed (rev : ℕ) (properties : List (List ℕ × List ℕ)) (v u : View) (x y : Txn) : Type 0 where
+  pub before : List Recorded
+  pub landings : Landings before x y
+  pub next : Recorded
+  pub is : u.seen ≡ before ++ next ∷ []
+  pub number : rev ≡ length before
+  pub begins : Begins before v.seen
+  pub base : y.base + 1 ≡ rev
+  pub above : v.pass.least < rev
+  pub history : IsHistory (revisions before)
+  -- of the transaction as it was landed, and so of the one that was handed in
+  pub is_next : IsNext (revisions before) (entry_of v.number y properties) next.revision
+  pub handed_in : IsNext (revisions before) (entry_of v.number x properties) next.revision
+  pub shows : BytesShow (before ++ next ∷ [])
+  pub mine : u.pass.mine ≡ v.pass.mine ++ rev ∷ []
+  pub outside : u.section ≡ None
+  pub course : Course v u
+
+-- a turn that was lost to another commit
+pub record Lost (properties : List (List ℕ × List ℕ)) (v u : View) (x y : Txn) : Type 0 where
+  pub moved : Moved v u
+  pub from : CanCommit v x properties
+  pub landings : Landings u.seen x y
+  pub can : CanCommit u y properties
+
+abbrev pub IsTurn : Option ℕ → List (List ℕ × List ℕ) → View → View → Txn → Txn → Type 0
+IsTurn (Some rev) properties v u x y = Committed rev properties v u x y
+IsTurn None properties v u x y = Lost properties v u x y
+
+-- why a commit was refused, in what the pass knows after it
+abbrev pub Cause : {E : Type 0} → CommitFault E → View → View → Type 0
+Cause RevsFull v u = 2147483647 ≤ u.pass.least
+Cause (Stuck place) v u = u.pass.stuck ≡ Some place
+Cause (Refuses refusal) v u = Unit {0}
+Cause Memory v u = Unit {0}
+Cause (DiskFault place) v u = (before : List DiskPlace) × (u.pass.faults ≡ before ++ Commit place ∷ [])
+
+-- REFUSED: nothing was added; the transaction stands on the head of the last landing, or as it was
+pub record Refused {E : Type 0} (fault : CommitFault E) (v u : View) (x y : Txn) : Type 0 where
+  pub moved : Moved v u
+  pub landings : Landings u.seen x y
+  pub cause : Cause fault v u
+
+-- a fault of the disk comes only where the count rose
+abbrev pub RoseIfDisk : {E : Type 0} → Type 0 → CommitFault E → Type 0
+RoseIfDisk rose (DiskFault place) = rose
+RoseIfDisk rose fault = Unit {0}

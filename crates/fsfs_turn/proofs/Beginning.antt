@@ -1,0 +1,155 @@
+-- A new store is known.
+use Rattle.std.proofs.Common.{◌≡◌, ◌==◌, ◌+◌, ℕ, suc, zero, List, [], ◌∷◌, ◌++◌, length, true, false, cond, ⊎_elim, refl, sym, ap, subst, ◌∙◌, arith}
+use Rattle.std.specs.Prelude.{Option, Some, None, Result, Ok, slice_get, codes, decimal}
+use Rattle.std.specs.FinMap.{get}
+use Rattle.std.proofs.Math.Nat.{zero-div}
+use Rattle.fsfs_grammar.specs.Numeral.{IsNumber, IsNumeral, value_after}
+use Rattle.fsfs_grammar.proofs.Unique.{numeral_decimal}
+use Rattle.fsfs_layout.specs.declared.layout.Layout.{Layout}
+use Rattle.fsfs_disk.specs.Labels.{Label}
+use Rattle.fsfs_disk.specs.Trace.{Operation, Done, files_after, ImageSince}
+use Rattle.fsfs_disk.specs.Trace as real
+use Rattle.fsfs_base.specs.Files.{Files}
+use Rattle.fsfs_tree.specs.Dated.{date_name}
+use Rattle.fsfs_layout.specs.Names.{in_shard}
+use Rattle.fsfs_hash.specs.Dump.{IsDump}
+use Rattle.fsfs_layout.specs.CreatedFiles.{date_properties}
+use Rattle.fsfs_base.specs.FirstRevision.{first_bytes}
+use Rattle.fsfs_stands.specs.History.{ShowsHistory}
+use Rattle.fsfs_answers.specs.Answers.{first_revision as first_shown}
+use Rattle.fsfs_stands.specs.NewRepository.{HoldsNew}
+use Rattle.fsfs_stands.specs.Changes.{AreChangesOf}
+use Rattle.fsfs_stands.proofs.FirstHistory.{first_history}
+use Rattle.fsfs_machine.specs.declared.contents.FileName.{FileName}
+use Rattle.fsfs_machine.specs.declared.contents.FileName.TheVariants.{Current, CurrentNext, Counter, CounterNext, Floor, Rev, Props}
+use Rattle.fsfs_machine.specs.declared.contents.Contents.TheVariants.{PropsFile, Number}
+use Rattle.fsfs_machine.specs.declared.contents.NameChange.TheVariants.{Put, Firm}
+use Rattle.fsfs_machine.specs.declared.machine.Lock.TheVariants.{Free}
+use Rattle.fsfs_machine.specs.declared.machine.Recorded.{Recorded}
+use Rattle.fsfs_machine.specs.Disk.{Disk, IsImage}
+use Rattle.fsfs_machine.specs.Machine.{World, created, file_of, first_pass}
+use Rattle.fsfs_machine.specs.Kept.{Stands}
+use Rattle.fsfs_machine.proofs.Created.{created_kept}
+use Rattle.fsfs_images.specs.RealNames.{machine_name}
+use Rattle.fsfs_images.specs.Shown.{AtName, AreRead, Opening}
+use Rattle.fsfs_turn.specs.Bytes.{bytes_of, ShowsOne, BytesShow, AllShow}
+use Rattle.fsfs_turn.specs.Views.{View, Sees}
+use Rattle.fsfs_turn.specs.Standing.{no_others, IsStore, Knows}
+use Rattle.fsfs_turn.specs.Opening.{new_revision, NewStoreIsKnown}
+use Rattle.fsfs_turn.specs.Past.{Safe}
+use Rattle.fsfs_images.proofs.Showing.{image_read}
+use Rattle.fsfs_turn.proofs.Moments.{past_of}
+use Rattle.fsfs_turn.proofs.Stepping.{kept_bare}
+
+zero_digit : IsNumeral 10 (codes "0") 0
+unfolding value_after
+zero_digit = ((omega arith, tt), (λ e. refl), refl)
+
+zero_digit36 : IsNumeral 36 (codes "0") 0
+unfolding value_after
+zero_digit36 = ((omega arith, tt), (λ e. refl), refl)
+
+zero_line : IsNumber 10 2147483647 10 (codes "0\n") 0
+zero_line = record { digits = codes "0"; numeral = zero_digit; fits = omega arith; parts = refl }
+
+zero_line36 : IsNumber 36 170581728179578208255 10 (codes "0\n") 0
+zero_line36 = record { digits = codes "0"; numeral = zero_digit36; fits = omega arith; parts = refl }
+
+pub zero_text : decimal 0 ≡ codes "0"
+zero_text = sym (numeral_decimal (codes "0") 0 (omega arith) zero_digit)
+
+-- whatever the size of a shard, revision 0 is in shard 0
+in_first : (folder : List ℕ) (n : Layout) → in_shard folder n 0 ≡ folder ++ 47 ∷ codes "0" ++ 47 ∷ codes "0"
+in_first folder n =
+    ap (λ (k : ℕ). folder ++ 47 ∷ decimal k ++ 47 ∷ decimal 0) (zero-div n.shard_size)
+    ∙ ap (λ (t : List ℕ). folder ++ 47 ∷ t ++ 47 ∷ t) zero_text
+
+pub at_none : (n : FileName) (o : Option (List ℕ)) → AtName n o None
+at_none n None = tt
+at_none n (Some b) = tt
+
+pub ok_is : {A E : Type 0} (r : Result A E) (a b : A) → r ≡ Ok a → r ≡ Ok b → a ≡ b
+ok_is r a b e f = cc
+
+module _ (first : Files) (labels : List Label) (before : List Operation) (date : List ℕ) (new : HoldsNew (files_after first before) date) where
+  shown : ShowsHistory (bytes_of (new_revision date ∷ [])) (λ r. Ok (date_properties date)) (first_shown date ∷ [])
+  shown = first_history (bytes_of (new_revision date ∷ [])) (λ r. Ok (date_properties date)) date new.moment new.dated refl refl
+
+  dump : IsDump (date_properties date) ((date_name, date) ∷ [])
+  dump = let s = shown.each 0 (first_shown date) refl in subst (λ t. IsDump t ((date_name, date) ∷ [])) (ok_is (Ok (date_properties date)) s.file (date_properties date) s.file_is refl) s.properties
+
+  one : ShowsOne (bytes_of (new_revision date ∷ [])) 0 (new_revision date)
+  one =
+      let s = shown.each 0 (first_shown date) refl in
+      let bytes : s.bytes ≡ first_bytes = ok_is (bytes_of (new_revision date ∷ []) 0) s.bytes first_bytes s.bytes_are refl in
+      record { tree = s.tree; changes = subst (λ b. AreChangesOf (bytes_of (new_revision date ∷ [])) 0 b (first_shown date).changes) bytes s.changes; dated = s.dated }
+
+  bytes_show : BytesShow (new_revision date ∷ [])
+  bytes_show = record { each = each; ids = shown.ids }
+    where
+      each : (r : ℕ) (z : Recorded) → slice_get (new_revision date ∷ []) r ≡ Some z → ShowsOne (bytes_of (new_revision date ∷ [])) r z
+      each zero z e = let same : new_revision date ≡ z = (let f : Some (new_revision date) ≡ Some z = e in cc) in subst (λ y. ShowsOne (bytes_of (new_revision date ∷ [])) 0 y) same one
+      each (suc r) z e = let f : None ≡ Some z = e in absurd cc
+
+  all_show : AllShow (new_revision date ∷ [])
+  all_show zero some = absurd (omega (arith, some))
+  all_show (suc zero) some = bytes_show
+  all_show (suc (suc n)) some = bytes_show
+
+  disk : Disk
+  disk = Put Current (Number 0) ∷ Put (Rev 0) (file_of (new_revision date)) ∷ Put (Props 0) (PropsFile ((date_name, date) ∷ [])) ∷ Put Counter (Number 0) ∷ Put Floor (Number 0) ∷ []
+
+  read : AreRead new.layout (files_after first before) disk
+  unfolding disk
+  read Current fits = subst (λ o. AtName Current o (Some (Number 0))) (sym new.new.1.1.1.0) zero_line
+  read CurrentNext fits = at_none CurrentNext (get (files_after first before) (machine_name new.layout CurrentNext))
+  read Counter fits = subst (λ o. AtName Counter o (Some (Number 0))) (sym new.new.1.1.1.1.0) zero_line36
+  read CounterNext fits = at_none CounterNext (get (files_after first before) (machine_name new.layout CounterNext))
+  read Floor fits = subst (λ o. AtName Floor o (Some (Number 0))) (sym new.new.1.1.1.1.1.0) zero_line
+  read (Rev r) fits = elim (0 == r) as (λ b. (0 == r) ≡ b → AtName (Rev r) (get (files_after first before) (machine_name new.layout (Rev r))) (cond b (Some (file_of (new_revision date))) None)) [
+    | true ↦ λ e.
+        let same : 0 ≡ r = grind (arith, e) in
+        subst (λ k. AtName (Rev k) (get (files_after first before) (machine_name new.layout (Rev k))) (Some (file_of (new_revision date)))) same
+        (subst (λ o. AtName (Rev 0) o (Some (file_of (new_revision date)))) (sym (ap (get (files_after first before)) (in_first (codes "db/revs") new.layout) ∙ new.new.1.1.1.1.1.1.1.1.0)) refl)
+    | false ↦ λ e. at_none (Rev r) (get (files_after first before) (machine_name new.layout (Rev r)))
+  ] refl
+  read (Props r) fits = elim (0 == r) as (λ b. (0 == r) ≡ b → AtName (Props r) (get (files_after first before) (machine_name new.layout (Props r))) (cond b (Some (PropsFile ((date_name, date) ∷ []))) None)) [
+    | true ↦ λ e.
+        let same : 0 ≡ r = grind (arith, e) in
+        subst (λ k. AtName (Props k) (get (files_after first before) (machine_name new.layout (Props k))) (Some (PropsFile ((date_name, date) ∷ [])))) same
+        (subst (λ o. AtName (Props 0) o (Some (PropsFile ((date_name, date) ∷ [])))) (sym (ap (get (files_after first before)) (in_first (codes "db/revprops") new.layout) ∙ new.new.1.1.1.1.1.1.1.1.1.0)) dump)
+    | false ↦ λ e. at_none (Props r) (get (files_after first before) (machine_name new.layout (Props r)))
+  ] refl
+
+  world : World
+  world = created ((date_name, date) ∷ []) first_bytes
+
+  view : View
+  view = record { layout = new.layout; since = length before + 1; opened = 1; number = 0; pass = first_pass 1 0; seen = new_revision date ∷ []; section = None; sure = false; given = [] }
+
+  store : IsStore new.layout 0 None (record { first = first; labels = labels; operations = Done real.FirmNames ∷ before }) world
+  unfolding world disk
+  store = record { trace = Opening before disk read; kept = kept_bare world (created_kept world ((date_name, date) ∷ []) first_bytes refl); shown = all_show; coming = tt; young_is = refl; stuck_is = refl; alone = refl }
+
+  sees : Sees world view
+  unfolding world view
+  sees = record { pass = refl; seen = refl; section = refl; up = refl; sure = λ e. absurd cc; whole = λ z e. absurd cc; given = λ k i. absurd i; opened = omega arith; shown = all_show }
+
+  safe : Safe new.layout (length before + 1) (record { first = first; labels = labels; operations = Done real.FirmNames ∷ before }) 1 0 (new_revision date ∷ []) None
+  unfolding disk
+  safe m i =
+      let r = image_read new.layout no_others first (Done real.FirmNames ∷ before) (Firm ∷ disk) (Opening before disk read) m (now i) in
+      (r.0, r.2, past_of 1 0 (new_revision date ∷ []) Free r.0 (omega arith) (stands r.0 r.1))
+    where
+      now : ImageSince (length before + 1) first (Done real.FirmNames ∷ before) m → real.IsImage first (Done real.FirmNames ∷ before) m
+      now i = ⊎_elim (λ a. a) (λ b. absurd (omega (arith, b.0))) i
+
+      stands : (e : Disk) → IsImage (Firm ∷ disk) e → Stands 0 (new_revision date ∷ []) Free e
+      stands = (created_kept (created ((date_name, date) ∷ []) first_bytes) ((date_name, date) ∷ []) first_bytes refl).stands
+
+  pub new_is_known : (v : View) × Knows new.layout 0 None (Some (record { first = first; labels = labels; operations = Done real.FirmNames ∷ before })) v × (v.section ≡ None) × (v.pass ≡ first_pass 1 0) × (v.seen ≡ new_revision date ∷ []) × (v.since ≡ length before + 1)
+  unfolding view world
+  new_is_known = (view, (world, store, sees, refl, refl, safe), refl, refl, refl, refl)
+
+pub new_store_is_known : NewStoreIsKnown
+new_store_is_known first labels before date new = new_is_known first labels before date new

@@ -1,0 +1,175 @@
+-- What a pass has seen is whole in each image.
+use Rattle.std.proofs.Common.{◌≡◌, ◌<◌, ◌≤◌, ◌+◌, ◌^◌, ℕ, List, [], ◌∷◌, length, false, cond, ⊎_elim, sym, ap, subst, ◌∙◌, ◌++◌, arith, take, drop, length-append}
+use Rattle.std.proofs.lemmas.List.{take_all, take-append-le}
+use Rattle.std.proofs.lemmas.Option.{slice_get_within}
+use Rattle.fsfs_turn.specs.Bytes.{BytesShow, AllShow}
+use Rattle.fsfs_turn.specs.Past.{doubt_in, doubt, IsPart, WasLeft, Safe}
+use Rattle.fsfs_turn.proofs.Moments.{past_of}
+use Rattle.fsfs_turn.proofs.Stepping.{take_drop, get_taken}
+use Rattle.std.specs.Prelude.{Some, None, IfSome, slice_get, nat_lt}
+use Rattle.std.specs.FinMap.{get}
+use Rattle.fsfs_base.specs.Files.{Files}
+use Rattle.fsfs_layout.specs.declared.layout.Layout.{Layout}
+use Rattle.fsfs_disk.specs.Trace.{Operation, ImageSince}
+use Rattle.fsfs_disk.specs.Trace as real
+use Rattle.fsfs_machine.specs.declared.contents.FileName.TheVariants.{Current, Rev, Props}
+use Rattle.fsfs_machine.specs.declared.contents.Contents.TheVariants.{PropsFile, Number}
+use Rattle.fsfs_machine.specs.declared.machine.Recorded.{Recorded}
+use Rattle.fsfs_machine.specs.declared.machine.Coming.{Coming}
+use Rattle.fsfs_machine.specs.declared.machine.Section.{Section}
+use Rattle.fsfs_machine.specs.declared.machine.Section.TheVariants.{RevFirm, CurrentPut, CurrentRenamed, CurrentFirm, Doubtful}
+use Rattle.fsfs_machine.specs.declared.machine.Lock.{Lock}
+use Rattle.fsfs_machine.specs.declared.machine.Lock.TheVariants.{Free, Held, Stuck, Down, DownDoubtful}
+use Rattle.fsfs_machine.specs.Disk.{Disk, found, shown, IsImage}
+use Rattle.fsfs_machine.specs.Machine.{World, file_of, with_next}
+use Rattle.fsfs_machine.specs.Kept.{coming, coming_in, StandsFor, StandsForEither, StandsIn, Stands, NamesLast}
+use Rattle.fsfs_machine.proofs.Answering.{has_all}
+use Rattle.fsfs_layout.specs.Small.{IsRevLine}
+use Rattle.fsfs_images.specs.RealNames.{machine_name}
+use Rattle.fsfs_images.specs.Shown.{AreRead}
+use Rattle.fsfs_turn.specs.Views.{Sees}
+use Rattle.fsfs_turn.specs.Standing.{no_others, IsStore}
+use Rattle.fsfs_turn.specs.Whole.{HasRevision, NamesFrom, SeenIsWhole, NamesLastOf, HasHistory, EachMomentStands, KnownFromNow}
+use Rattle.fsfs_images.proofs.Showing.{image_read}
+use Rattle.fsfs_turn.proofs.Due.{at_found}
+use Rattle.fsfs_turn.proofs.Locking.{seen_within}
+
+-- `current` names the last revision or the one to come
+abbrev LastFrom : Disk → ℕ → Type 0
+LastFrom m n = (k : ℕ) × (found m Current ≡ Some (Number k)) × (n ≤ k + 1)
+
+last_of : (m : Disk) (n : ℕ) → NamesLast m n → LastFrom m n
+last_of m n l = (l.0, l.1, omega (arith, l.2))
+
+last_next : (m : Disk) (h : List Recorded) (x : Coming) → NamesLast m (length (with_next h x)) → LastFrom m (length h)
+last_next m h x l = let more : length (with_next h x) ≡ length h + 1 = grind (arith, length-append) in (l.0, l.1, omega (arith, l.2, more))
+
+last_either : (f : ℕ) (m : Disk) (h : List Recorded) (x : Coming) → StandsForEither f m h x → LastFrom m (length h)
+last_either f m h x e = ⊎_elim (λ a. last_of m (length h) a.1) (λ a. last_next m h x a.1) e
+
+last_in : (f : ℕ) (h : List Recorded) (s : Section) (m : Disk) → StandsIn f h s m → LastFrom m (length h)
+last_in f h (RevFirm x) m s = last_of m (length h) s.0.1
+last_in f h (CurrentPut x) m s = last_of m (length h) s.0.1
+last_in f h (CurrentRenamed x) m s = last_either f m h x s.0
+last_in f h (Doubtful place x) m s = last_either f m h x s.0
+last_in f h (CurrentFirm x) m s = last_next m h x s.1
+last_in f h s m i = last_of m (length h) i.1
+
+last_at : (f : ℕ) (h : List Recorded) (lock : Lock) (m : Disk) → Stands f h lock m → LastFrom m (length h)
+last_at f h (Held p s) m i = last_in f h s m i
+last_at f h (Stuck place x) m i = last_either f m h x i.0
+last_at f h (DownDoubtful x) m i = last_either f m h x i
+last_at f h Free m i = last_of m (length h) i.1
+last_at f h Down m i = last_of m (length h) i.1
+
+unpacked : (f : ℕ) (m : Disk) (r : ℕ) → f ≡ 0 → shown f m r ≡ found m (Rev r)
+unpacked f m r is = let e : nat_lt r f ≡ false = grind (arith, is) in ap (λ b. cond b None (found m (Rev r))) e
+
+pub seen_is_whole : SeenIsWhole
+seen_is_whole layout young stuck t v known m image = (each, names)
+  where
+    w : World
+    w = known.0
+
+    store : IsStore layout young stuck t w
+    store = known.1
+
+    sees : Sees w v
+    sees = known.2
+
+    e : (d : Disk) × IsImage w.disk d × AreRead layout m d
+    e = image_read layout no_others t.first t.operations w.disk store.trace m image
+
+    stands : Stands w.floor w.history w.lock e.0
+    stands = store.kept.stands e.0 e.1
+
+    last : LastFrom e.0 (length w.history)
+    last = last_at w.floor w.history w.lock e.0 stands
+
+    current : (text : List ℕ) × (get m (machine_name layout Current) ≡ Some text) × IsRevLine text last.0
+    current = at_found Current (get m (machine_name layout Current)) (found e.0 Current) (Number last.0) last.1 (e.2 Current tt)
+
+    each : (r : ℕ) (x : Recorded) → slice_get v.seen r ≡ Some x → HasRevision layout m r x
+    each r x at =
+        let here : slice_get w.history r ≡ Some x = get_taken v.pass.seen r w.history x (ap (λ l. slice_get l r) (sym sees.seen) ∙ at) in
+        let fits : r < 2 ^ 32 = omega (arith, slice_get_within w.history r x here, last.2, current.2.fits) in
+        let files = has_all w.floor w.history w.lock e.0 stands r x here in
+        let rev = at_found (Rev r) (get m (machine_name layout (Rev r))) (found e.0 (Rev r)) (file_of x) (sym (unpacked w.floor e.0 r store.kept.floor) ∙ files.0) (e.2 (Rev r) fits) in
+        let props = at_found (Props r) (get m (machine_name layout (Props r))) (found e.0 (Props r)) (PropsFile x.revision.properties) files.1 (e.2 (Props r) fits) in
+        record { bytes = rev.1 ∙ ap (λ (b : List ℕ). Some b) rev.2; text = props.0; there = props.1; dump = props.2 }
+
+    names : NamesFrom m (length v.seen)
+    names = record { text = current.0; there = current.1; number = last.0; line = current.2; from = omega (arith, last.2, seen_within w v sees) }
+
+pub has_history : (layout : Layout) (f : ℕ) (m : Files) (e : Disk) (g : List Recorded) → f ≡ 0 → AreRead layout m e → StandsFor f e g → BytesShow g → HasHistory layout m g
+has_history layout f m e g none all stands show = record { each = each; names = names; shown = show }
+  where
+    current : (text : List ℕ) × (get m (machine_name layout Current) ≡ Some text) × IsRevLine text stands.1.0
+    current = at_found Current (get m (machine_name layout Current)) (found e Current) (Number stands.1.0) stands.1.1 (all Current tt)
+
+    each : (r : ℕ) (x : Recorded) → slice_get g r ≡ Some x → HasRevision layout m r x
+    each r x at =
+        let fits : r < 2 ^ 32 = omega (arith, slice_get_within g r x at, stands.1.2, current.2.fits) in
+        let files = stands.0 r x at in
+        let rev = at_found (Rev r) (get m (machine_name layout (Rev r))) (found e (Rev r)) (file_of x) (sym (unpacked f e r none) ∙ files.0) (all (Rev r) fits) in
+        let props = at_found (Props r) (get m (machine_name layout (Props r))) (found e (Props r)) (PropsFile x.revision.properties) files.1 (all (Props r) fits) in
+        record { bytes = rev.1 ∙ ap (λ (b : List ℕ). Some b) rev.2; text = props.0; there = props.1; dump = props.2 }
+
+    names : NamesLastOf m (length g)
+    names = record { text = current.0; there = current.1; number = stands.1.0; line = current.2; last = stands.1.2 }
+
+-- the bytes of a part show it
+pub part_shown : (h : List Recorded) (lock : Lock) (g : List Recorded) → AllShow h → IfSome (coming lock) (λ x. BytesShow (with_next h x)) → 0 < length g → IsPart h (doubt lock) g → BytesShow g
+part_shown h lock g all next some p = ⊎_elim
+    (λ b. subst (λ l. BytesShow l) (ap (λ l. take (length g) l) b.1 ∙ take-append-le (length g) g b.0 (omega arith) ∙ take_all (length g) g (omega arith)) (all (length g) some))
+    (λ y. subst (λ l. BytesShow l) (sym y.2) (in_doubt lock y.0 next y.1)) p
+  where
+    in_section : (s : Section) (x : Coming) → IfSome (coming_in s) (λ z. BytesShow (with_next h z)) → doubt_in s ≡ Some x → BytesShow (with_next h x)
+    in_section (CurrentRenamed z) x n is = let same : z ≡ x = cc in subst (λ k. BytesShow (with_next h k)) same n
+    in_section (CurrentFirm z) x n is = let same : z ≡ x = cc in subst (λ k. BytesShow (with_next h k)) same n
+    in_section (Doubtful place z) x n is = let same : z ≡ x = cc in subst (λ k. BytesShow (with_next h k)) same n
+    in_section s x n is = absurd cc
+
+    in_doubt : (lock : Lock) (x : Coming) → IfSome (coming lock) (λ z. BytesShow (with_next h z)) → doubt lock ≡ Some x → BytesShow (with_next h x)
+    in_doubt (Held p s) x n is = in_section s x n is
+    in_doubt (Stuck place z) x n is = let same : z ≡ x = cc in subst (λ k. BytesShow (with_next h k)) same n
+    in_doubt (DownDoubtful z) x n is = let same : z ≡ x = cc in subst (λ k. BytesShow (with_next h k)) same n
+    in_doubt Free x n is = absurd cc
+    in_doubt Down x n is = absurd cc
+
+pub each_moment_stands : EachMomentStands
+each_moment_stands layout young stuck t v known m i =
+    let w = known.0 in
+    let store = known.1 in
+    let sees = known.2 in
+    let left = known.5 m i in
+    let p = left.2 in
+    let names = p.1.1 in
+    let some : 0 < length p.0 = omega (arith, names.2) in (
+      w.history,
+      doubt w.lock,
+      p.0,
+      (drop v.pass.seen w.history, take_drop v.pass.seen w.history ∙ ap (λ l. l ++ drop v.pass.seen w.history) (sym sees.seen)),
+      p.3,
+      p.2,
+      has_history layout w.floor m left.0 p.0 store.kept.floor left.1 p.1 (part_shown w.history w.lock p.0 store.shown store.coming some p.3),
+    )
+
+pub known_from_now : KnownFromNow
+known_from_now layout young stuck t v known =
+    let w = known.0 in
+    let store = known.1 in
+    let sees = known.2 in
+    (w, store, record { pass = sees.pass; seen = sees.seen; section = sees.section; up = sees.up; sure = sees.sure; whole = sees.whole; given = sees.given; opened = seen_within w v sees; shown = sees.shown }, known.3, known.4, safe)
+  where
+    past : (m : Files) → real.IsImage t.first t.operations m → WasLeft layout (length v.seen) known.0.floor known.0.history (doubt known.0.lock) m
+    past m i =
+        let r = image_read layout no_others t.first t.operations known.0.disk known.1.trace m i in
+        (r.0, r.2, past_of (length v.seen) known.0.floor known.0.history known.0.lock r.0 (seen_within known.0 v known.2) (known.1.kept.stands r.0 r.1))
+
+    now : (first : Files) (ops : List Operation) (m : Files) → ImageSince (length ops) first ops m → real.IsImage first ops m
+    now first [] m i = i
+    now first (op ∷ ops) m i = ⊎_elim (λ a. a) (λ b. absurd (omega (arith, b.0))) i
+
+    safe : Safe layout (length t.operations) t (length v.seen) known.0.floor known.0.history (doubt known.0.lock)
+    safe m i = past m (now t.first t.operations m i)

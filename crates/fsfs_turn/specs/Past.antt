@@ -1,0 +1,45 @@
+-- What a crash at any moment since the opening might have left.
+use Rattle.std.specs.Prelude.{◌≡◌, ◌⊎◌, ◌≤◌, ℕ, List, length, Option, Some, None}
+use Rattle.fsfs_base.specs.Files.{Files}
+use Rattle.fsfs_layout.specs.declared.layout.Layout.{Layout}
+use Rattle.fsfs_disk.specs.Trace.{Trace, ImageSince}
+use Rattle.fsfs_machine.specs.declared.machine.Recorded.{Recorded}
+use Rattle.fsfs_machine.specs.declared.machine.Coming.{Coming}
+use Rattle.fsfs_machine.specs.declared.machine.Section.{Section}
+use Rattle.fsfs_machine.specs.declared.machine.Section.TheVariants.{CurrentRenamed, CurrentFirm, Doubtful}
+use Rattle.fsfs_machine.specs.declared.machine.Lock.{Lock}
+use Rattle.fsfs_machine.specs.declared.machine.Lock.TheVariants.{Held, Stuck, DownDoubtful}
+use Rattle.fsfs_machine.specs.Disk.{Disk}
+use Rattle.fsfs_machine.specs.Machine.{with_next}
+use Rattle.fsfs_machine.specs.Kept.{StandsFor}
+use Rattle.fsfs_images.specs.Shown.{AreRead}
+use Rattle.fsfs_turn.specs.Views.{Begins}
+
+-- the revision that `current` may name though it isn't revealed
+abbrev pub doubt_in : Section → Option Coming
+doubt_in (CurrentRenamed x) = Some x
+doubt_in (CurrentFirm x) = Some x
+doubt_in (Doubtful place x) = Some x
+doubt_in s = None
+
+abbrev pub doubt : Lock → Option Coming
+doubt (Held p s) = doubt_in s
+doubt (Stuck place x) = Some x
+doubt (DownDoubtful x) = Some x
+doubt lock = None
+
+-- a first part of the history, or the history with the revision in doubt
+abbrev pub IsPart : List Recorded → Option Coming → List Recorded → Type 0
+IsPart h d g = Begins h g ⊎ ((x : Coming) × (d ≡ Some x) × (g ≡ with_next h x))
+
+-- the disk stands for such a part, which has all that there was at the opening
+abbrev pub IsPast : ℕ → ℕ → List Recorded → Option Coming → Disk → Type 0
+IsPast opening f h d e = (g : List Recorded) × StandsFor f e g × (opening ≤ length g) × IsPart h d g
+
+-- so do these files
+abbrev pub WasLeft : Layout → ℕ → ℕ → List Recorded → Option Coming → Files → Type 0
+WasLeft layout opening f h d m = (e : Disk) × AreRead layout m e × IsPast opening f h d e
+
+-- each image of each moment since then, in the middle of a call too
+abbrev pub Safe : Layout → ℕ → Trace → ℕ → ℕ → List Recorded → Option Coming → Type 0
+Safe layout since t opening f h d = (m : Files) → ImageSince since t.first t.operations m → WasLeft layout opening f h d m

@@ -1,0 +1,221 @@
+-- What one pass knows of the store, and what a turn is: one step of the machine.
+use Rattle.std.specs.Prelude.{◌≡◌, ◌+◌, ◌<◌, ◌≤◌, ◌^◌, ℕ, List, [], ◌∷◌, ◌++◌, length, map, take, drop, Bool, true, false, Option, Some, None, slice_get, Result, Ok, Err}
+use Rattle.std.specs.FinMap.{get}
+use Rattle.fsfs_tree.specs.Revisions.{Revision, tree_of}
+use Rattle.fsfs_flat.specs.Transactions.{IsTransaction, IsNext}
+use Rattle.fsfs_tree.specs.Dated.{IsDated, last_of}
+use Rattle.fsfs_layout.specs.FileNames.{file_name, only_name}
+use Rattle.fsfs_layout.specs.declared.layout.Layout.{Layout}
+use Rattle.fsfs_layout.specs.declared.only_file.OnlyFile.TheVariants as only
+use Rattle.fsfs_layout.specs.declared.repository_file.RepositoryFile.TheVariants as file
+use Rattle.fsfs_layout.specs.Small.{IsRevLine, IsBase36Line}
+use Rattle.fsfs_hash.specs.Dump.{IsDump}
+use Rattle.fsfs_disk.specs.Trace as real
+use Rattle.fsfs_machine.specs.declared.machine.Recorded.{Recorded}
+use Rattle.fsfs_machine.specs.declared.machine.Coming.{Coming}
+use Rattle.fsfs_machine.specs.declared.machine.Drawn.{Drawn}
+use Rattle.fsfs_machine.specs.declared.machine.Txn.{Txn}
+use Rattle.fsfs_places.specs.declared.place.DiskPlace.{DiskPlace}
+use Rattle.fsfs_places.specs.declared.place.DiskPlace.TheVariants.{Read, Begin, Commit}
+use Rattle.fsfs_places.specs.declared.place.BeginPlace.TheVariants as begin
+use Rattle.fsfs_places.specs.declared.place.CommitPlace.TheVariants.{PutRev, PutProps, FirmRev, PutCurrent, RenameCurrent, FirmCurrent}
+use Rattle.fsfs_machine.specs.declared.machine.Section.{Section}
+use Rattle.fsfs_machine.specs.declared.machine.Section.TheVariants.{Begun, CountRead, CountPut, CountRenamed, RevPut, PropsPut, RevFirm, CurrentPut, CurrentRenamed, Over}
+use Rattle.fsfs_machine.specs.declared.machine.Pass.{Pass}
+use Rattle.fsfs_machine.specs.declared.machine.Went.{Went}
+use Rattle.fsfs_machine.specs.declared.machine.Went.TheVariants.{Fine}
+use Rattle.fsfs_machine.specs.declared.machine.Outcome.{Outcome}
+use Rattle.fsfs_machine.specs.declared.machine.Outcome.TheVariants as outcome
+use Rattle.fsfs_machine.specs.declared.machine.Step.{Step}
+use Rattle.fsfs_machine.specs.declared.machine.Step.TheVariants as step
+use Rattle.fsfs_machine.specs.Machine.{World, Did, Happens, held_by, is_up, is_fine_in, is_quiet, either, answer, learns, reveals, after, spoiled, entry_of, revisions, with_next}
+use Rattle.fsfs_machine.specs.Kept.{Kept, IsIn, coming_in}
+use Rattle.fsfs_turn.specs.Bytes.{BytesShow, AllShow}
+
+-- What a pass knows. Nothing here but `seen` of the history is more than a machine's pass has.
+pub record View : Type 0 where
+  -- how the files are laid out
+  pub layout : Layout
+  -- how many operations its disk had done at the moment from which images are spoken of: the opening, or a later one
+  pub since : ℕ
+  -- how many revisions there were then
+  pub opened : ℕ
+  -- its number
+  pub number : ℕ
+  -- how many revisions it has seen, what it was told of, its own revisions, its faults, where it found the lock stuck
+  pub pass : Pass
+  -- the revisions that it has seen, with the bytes beside each
+  pub seen : List Recorded
+  -- its section, where it holds the lock
+  pub section : Option Section
+  -- since it took the lock it was told the youngest number, and that is still the youngest
+  pub sure : Bool
+  -- transaction names that it knows to be given
+  pub given : List ℕ
+
+abbrev pub coming_at : Option Section → Option Coming
+coming_at None = None
+coming_at (Some s) = coming_in s
+
+abbrev pub is_held : Option Section → Bool
+is_held None = false
+is_held (Some s) = true
+
+-- this is what the pass knows of the store
+pub record Sees (w : World) (v : View) : Type 0 where
+  pub pass : slice_get w.passes v.number ≡ Some v.pass
+  pub seen : v.seen ≡ take v.pass.seen w.history
+  pub section : held_by v.number w.lock ≡ v.section
+  pub up : is_up w.lock ≡ true
+  pub sure : v.sure ≡ true → w.young ≡ v.pass.least
+  -- from the first call of its commit on it has seen all
+  pub whole : (x : Coming) → coming_at v.section ≡ Some x → v.seen ≡ w.history
+  pub given : (k : ℕ) → IsIn k v.given → IsIn k w.given
+  pub opened : v.opened ≤ length w.history
+  -- the bytes beside what it has seen show it, and each first part of it
+  pub shown : AllShow v.seen
+
+abbrev pub txn_names : List Txn → List ℕ
+txn_names xs = map (λ x. x.name) xs
+
+-- The store with these transactions laid in, and no others. Transactions are their owners' alone: a turn says nothing of the others.
+abbrev pub with_txns : List Txn → World → World
+with_txns xs w = record w { txns = xs; named = []; spent = []; labels = txn_names xs }
+
+-- A TURN IS ONE STEP of the machine: from a store that is kept, in which the pass knew v, to one that is kept, in which it knows u.
+-- Between two turns of a pass others may step: these change nothing that it knows.
+pub record Turned (txns : List Txn) (step : Step) (outcome : Outcome) (v u : View) : Type 0 where
+  pub world : World
+  pub kept : Kept (with_txns txns world)
+  pub sees : Sees world v
+  pub did : Did
+  pub happens : Happens (with_txns txns world) step did
+  pub answers : did.outcome ≡ outcome
+  pub after : Kept (with_txns [] did.world)
+  pub leaves : Sees did.world u
+
+-- the names of a revision's two files
+abbrev pub rev_name : View → ℕ → List ℕ
+rev_name v r = file_name v.layout (file.Revision r)
+
+abbrev pub props_name : View → ℕ → List ℕ
+props_name v r = file_name v.layout (file.Props r)
+
+-- The call of the disk that is due in the pass's section, by its place: the table of a begin's section and of a commit's.
+abbrev pub IsDue : View → DiskPlace → real.NameChange → Type 0
+IsDue v (Begin begin.Put) (real.Put name bytes) = (x : Drawn) × (v.section ≡ Some (CountRead x)) × (name ≡ only_name only.TxnCurrentNext) × IsBase36Line bytes x.next
+IsDue v (Begin begin.Rename) (real.Rename from to) = (x : Drawn) × (v.section ≡ Some (CountPut x)) × (from ≡ only_name only.TxnCurrentNext) × (to ≡ only_name only.TxnCurrent)
+IsDue v (Begin begin.Firm) real.FirmNames = (x : Drawn) × (v.section ≡ Some (CountRenamed x))
+IsDue v (Commit PutProps) (real.Put name bytes) = (x : Coming) × (v.section ≡ Some (RevPut x)) × (name ≡ props_name v (length v.seen)) × IsDump bytes x.revision.properties × (length v.seen < 2 ^ 32)
+IsDue v (Commit FirmRev) real.FirmNames = (x : Coming) × (v.section ≡ Some (PropsPut x))
+IsDue v (Commit PutCurrent) (real.Put name bytes) = (x : Coming) × (v.section ≡ Some (RevFirm x)) × (name ≡ only_name only.CurrentNext) × IsRevLine bytes (length v.seen)
+IsDue v (Commit RenameCurrent) (real.Rename from to) = (x : Coming) × (v.section ≡ Some (CurrentPut x)) × (from ≡ only_name only.CurrentNext) × (to ≡ only_name only.Current)
+IsDue v (Commit FirmCurrent) real.FirmNames = (x : Coming) × (v.section ≡ Some (CurrentRenamed x))
+IsDue v place change = ⊥
+
+-- the answer of a call says how it went
+abbrev pub Answers : {X E : Type 0} → Result X E → Went → Type 0
+Answers (Ok x) went = is_fine_in went ≡ true
+Answers (Err e) went = is_fine_in went ≡ false
+
+-- the names that a pass knows, after a call of its section
+abbrev pub given_by : Section → Went → List ℕ → List ℕ
+given_by (CountRenamed x) Fine given = x.name ∷ given
+given_by s went given = given
+
+-- the pass after a call of its section s, by which it saw the history h
+abbrev pub called_view : List Recorded → DiskPlace → Went → Section → View → View
+called_view h place went s v = record v { pass = learns (length h) place went v.pass; seen = h; section = Some (either went (after s) (spoiled s)); given = given_by s went v.given }
+
+-- the later history begins with the earlier
+abbrev pub Begins : List Recorded → List Recorded → Type 0
+Begins h g = (more : List Recorded) × (h ≡ g ++ more)
+
+-- the call at this place of the pass's section was made, and went so
+pub record Called (place : DiskPlace) (went : Went) (v u : View) : Type 0 where
+  pub turned : Turned [] (step.Call v.number place went) (answer went) v u
+  pub inside : Section
+  pub was : v.section ≡ Some inside
+  pub is : u ≡ called_view u.seen place went inside v
+  pub grows : Begins u.seen v.seen
+  -- while a revision is to come nobody else adds one
+  pub same : (x : Coming) → coming_at v.section ≡ Some x → u.seen ≡ v.seen
+
+-- a transaction is one over these revisions
+abbrev pub IsTxnOver : List Recorded → Txn → Type 0
+IsTxnOver h x = IsTransaction (tree_of (revisions h)) (last_of (revisions h)) x.base (get x.tree) x.marks
+
+-- A commit may put its revision file: the pass has just taken the lock, was told the youngest number since, and has seen it; the
+-- transaction is one over what it has seen, under a name that was given; and the next revision is the landing of its entry there,
+-- with bytes that show it beside those before.
+pub record MayAdopt (v : View) (txn : Txn) (properties : List (List ℕ × List ℕ)) (next : Revision) (bytes : List ℕ) : Type 0 where
+  pub begun : v.section ≡ Some Begun
+  pub sure : v.sure ≡ true
+  pub seen : v.pass.least < length v.seen
+  pub given : IsIn txn.name v.given
+  pub over : IsTxnOver v.seen txn
+  pub dated : IsDated properties
+  pub next_is : IsNext (revisions v.seen) (entry_of v.number txn properties) next
+  pub shows : BytesShow (v.seen ++ record { revision = next; bytes = bytes } ∷ [])
+  pub fits : length v.seen < 2 ^ 32
+
+-- the revision to come
+abbrev pub coming_of : View → Txn → List (List ℕ × List ℕ) → Revision → List ℕ → Coming
+coming_of v txn properties next bytes = record { entry = entry_of v.number txn properties; revision = next; bytes = bytes }
+
+-- the pass after its first call of a commit
+abbrev pub adopting_view : Went → Coming → View → View
+adopting_view went x v = record v { pass = learns (length v.seen) (Commit PutRev) went v.pass; section = Some (either went (RevPut x) Over) }
+
+-- the revision file was put, and the call went so; the transaction is used up
+pub record Adopted (txn : Txn) (properties : List (List ℕ × List ℕ)) (next : Revision) (bytes : List ℕ) (went : Went) (v u : View) : Type 0 where
+  pub turned : Turned (txn ∷ []) (step.AdoptRev v.number 0 properties bytes went) (answer went) v u
+  pub is : u ≡ adopting_view went (coming_of v txn properties next bytes) v
+
+-- the pass was told the youngest number; where it holds the lock, it is sure of it
+pub record Looked (young : ℕ) (v u : View) : Type 0 where
+  pub turned : Turned [] (step.Look v.number) (outcome.Youngest young) v u
+  pub is : u ≡ record v { pass = record v.pass { least = young }; sure = is_held v.section }
+  pub least : v.pass.least ≤ young
+  pub seen : length v.seen ≤ young + 1
+
+-- the pass has taken the lock
+pub record LockTaken (v u : View) : Type 0 where
+  pub turned : Turned [] (step.TakeLock v.number) outcome.Done v u
+  pub is : u ≡ record v { section = Some Begun; sure = false }
+
+-- or found it stuck
+pub record FoundStuck (place : DiskPlace) (v u : View) : Type 0 where
+  pub turned : Turned [] (step.TakeLock v.number) (outcome.Stuck place) v u
+  pub is : u ≡ record v { pass = record v.pass { stuck = Some place } }
+
+-- the lock may be given
+pub record MayGive (v : View) : Type 0 where
+  pub inside : Section
+  pub is : v.section ≡ Some inside
+  pub quiet : is_quiet inside ≡ true
+
+-- the pass is in no section any more
+abbrev pub outside : View → View
+outside v = record v { section = None; sure = false }
+
+pub record LockGiven (step : Step) (v u : View) : Type 0 where
+  pub turned : Turned [] step outcome.Done v u
+  pub is : u ≡ outside v
+
+-- the revision is in the history
+abbrev pub revealed_view : Coming → View → View
+revealed_view x v = record v { pass = reveals (length v.seen) v.pass; seen = with_next v.seen x; section = Some Over; sure = false }
+
+pub record Revealed (x : Coming) (v u : View) : Type 0 where
+  pub turned : Turned [] (step.Reveal v.number) outcome.Done v u
+  pub is : u ≡ revealed_view x v
+
+-- a range of the file of revision r, which is x, was read: the pass saw the history as it is then
+pub record ReadTurn (r offset size : ℕ) (x : Recorded) (went : Went) (v u : View) : Type 0 where
+  pub turned : Turned [] (step.Read v.number r offset size went) (either went (outcome.Bytes (take size (drop offset x.bytes))) outcome.Failed) v u
+  pub is : u ≡ record v { pass = learns (length u.seen) Read went v.pass; seen = u.seen }
+  pub grows : Begins u.seen v.seen
+  -- while the pass is sure there is no more to be seen
+  pub within : v.sure ≡ true → length u.seen ≤ v.pass.least + 1
+  pub shown : AllShow u.seen
