@@ -1,0 +1,199 @@
+//! The own node-revisions of a transaction, held in memory beside its bench.
+ghost use Rattle.std.specs.Prelude.{◌≡◌, true, option_map, IfOk, IfErr, IfSome};
+ghost use Rattle.fsfs_drafts.specs.Steps.{same_key, kept_at};
+ghost use Rattle.fsfs_own.specs.Views.{kept_value};
+ghost use Rattle.fsfs_held.specs.Lists.{files_of, with_steps};
+ghost use Rattle.fsfs_held.specs.Views.{begun_folder};
+
+use crate::changed::{new_node, with_entries, with_props, with_text, without_name};
+use crate::nodes::{first_of, last_of, settle_steps};
+use fsfs_base::{B36, Name, Pairs, TxnName, next_b36};
+use fsfs_changes::ChangeItem;
+use fsfs_dag::DirEntry;
+use fsfs_disk::Bench;
+use fsfs_noderev::{NodeId, NodeRev, Rep};
+use fsfs_own::{KeptNode, Own, OwnError};
+use std::alloc::{AllocError, Global};
+
+/// The numbers that the next new node part and the next new copy part get.
+#[derive(Clone, Copy, Debug, PartialEq, Eq)]
+pub struct NextNumbers {
+    pub node: B36,
+    pub copy: B36,
+}
+
+/// The own node-revisions of a transaction. They are held in memory and never read back from the bench, which is there for the
+/// prototype revision file. The steps of the edit that is being made stand beside what is settled, the newest last.
+#[derive(Drop)]
+pub struct HeldNodes<D: Bench> {
+    alloc: Global,
+    txn: TxnName,
+    bench: D,
+    proto: Name,
+    settled: Vec<KeptNode>,
+    steps: Vec<KeptNode>,
+    settled_next: NextNumbers,
+    next: NextNumbers,
+    items: Vec<ChangeItem>,
+}
+
+impl<D: Bench> HeldNodes<D> {
+    /// A transaction that has just begun: it has its root alone. Its texts go into this file of the bench. An `Err` is for want of
+    /// memory, and gives the bench back.
+    pub fn begin(
+        alloc: Global,
+        txn: TxnName,
+        root: NodeRev,
+        bench: D,
+        proto: Name,
+    ) -> Result<HeldNodes<D>, D>
+        ensures name { IfOk result (λ held. ⟦<HeldNodes<D> as Own>⟧.txn held ≡ txn) }
+        ensures folder { IfOk result (λ held. ⟦<HeldNodes<D> as Own>⟧.folder held ≡ begun_folder root (D.contents bench) proto) }
+        ensures settled { IfOk result (λ held. ⟦<HeldNodes<D> as Own>⟧.settled held ≡ begun_folder root (D.contents bench) proto) }
+        ensures faults { IfOk result (λ held. ⟦<HeldNodes<D> as Own>⟧.faults held ≡ D.faults bench) }
+        ensures back { IfErr result (λ back. back ≡ bench) }
+    {
+        let mut settled = Vec::new(alloc);
+        let Ok(()) = settled.push(new_node(root)) else {
+            return Err(bench);
+        };
+        let next = NextNumbers {
+            node: B36 { number: 0 },
+            copy: B36 { number: 0 },
+        };
+        Ok(HeldNodes {
+            alloc,
+            txn,
+            bench,
+            proto,
+            settled,
+            steps: Vec::new(alloc),
+            settled_next: next,
+            next,
+            items: Vec::new(alloc),
+        })
+    }
+
+    /// The bench again.
+    pub fn into_bench(self) -> D
+        ensures { result ≡ self.bench }
+    {
+        let HeldNodes { bench, .. } = self;
+        bench
+    }
+
+    // The node-revision with the parts of an id, as the steps left it.
+    fn found(&self, id: &NodeId) -> Option<&KeptNode>
+        ensures value { option_map (λ k. kept_value k.now) result ≡ kept_at (with_steps self.now.steps.items (files_of self.now.settled.items)) id.now }
+        ensures key { IfSome result (λ k. same_key k.now.node.id id.now ≡ true) }
+    {
+        match last_of(self.steps.as_slice(), id) {
+            Some(kept) => Some(kept),
+            None => first_of(self.settled.as_slice(), id),
+        }
+    }
+}
+
+impl<D: Bench> Own for HeldNodes<D> {
+    ghost use Rattle.fsfs_held.specs.Lists.{files_of, with_steps};
+    ghost use Rattle.fsfs_held.specs.Views.{folder_of};
+
+    ghost folder = { λ h. folder_of (with_steps h.steps.items (files_of h.settled.items)) h.next h.items.items (D.contents h.bench) h.proto };
+
+    ghost settled = { λ h. folder_of (files_of h.settled.items) h.settled_next h.items.items (D.contents h.bench) h.proto };
+
+    ghost txn = { λ h. h.txn };
+
+    ghost faults = { λ h. D.faults h.bench };
+
+    fn name(&self) -> TxnName {
+        self.txn
+    }
+
+    fn kept(&self, id: &NodeId) -> Option<&KeptNode> {
+        self.found(id)
+    }
+
+    fn draw_node(&mut self) -> Result<B36, AllocError> {
+        let drawn = self.next.node;
+        let Some(node) = next_b36(&drawn) else {
+            return Err(AllocError);
+        };
+        self.next.node = node;
+        Ok(drawn)
+    }
+
+    fn draw_copy(&mut self) -> Result<B36, AllocError> {
+        let drawn = self.next.copy;
+        let Some(copy) = next_b36(&drawn) else {
+            return Err(AllocError);
+        };
+        self.next.copy = copy;
+        Ok(drawn)
+    }
+
+    fn put_child(
+        &mut self,
+        dir: &NodeId,
+        entries: Vec<DirEntry>,
+        child: NodeRev,
+    ) -> Result<(), AllocError> {
+        let Some(kept) = self.found(dir) else {
+            return Err(AllocError);
+        };
+        let opened = with_entries(kept, entries)?;
+        self.steps.reserve(2)?;
+        self.steps.push_reserved(new_node(child));
+        self.steps.push_reserved(opened);
+        Ok(())
+    }
+
+    fn take_entry(
+        &mut self,
+        dir: &NodeId,
+        entries: Vec<DirEntry>,
+        name: &str,
+    ) -> Result<(), AllocError> {
+        let Some(kept) = self.found(dir) else {
+            return Err(AllocError);
+        };
+        let opened = with_entries(kept, without_name(entries, name))?;
+        self.steps.push(opened)?;
+        Ok(())
+    }
+
+    fn put_text(&mut self, id: &NodeId, rep: &Rep) -> Result<(), AllocError> {
+        let Some(kept) = self.found(id) else {
+            return Err(AllocError);
+        };
+        let changed = with_text(self.alloc, kept, rep)?;
+        self.steps.push(changed)?;
+        Ok(())
+    }
+
+    fn put_props(&mut self, id: &NodeId, props: Pairs) -> Result<(), AllocError> {
+        let Some(kept) = self.found(id) else {
+            return Err(AllocError);
+        };
+        let changed = with_props(self.alloc, kept, props)?;
+        self.steps.push(changed)?;
+        Ok(())
+    }
+
+    fn settle(&mut self, item: ChangeItem) -> Result<(), OwnError> {
+        let Ok(()) = self.settled.reserve(self.steps.len()) else {
+            return Err(OwnError::OutOfMemory);
+        };
+        let Ok(()) = self.items.push(item) else {
+            return Err(OwnError::OutOfMemory);
+        };
+        settle_steps(&mut self.settled, &mut self.steps);
+        self.settled_next = self.next;
+        Ok(())
+    }
+
+    fn forget(&mut self) {
+        self.steps.clear();
+        self.next = self.settled_next;
+    }
+}

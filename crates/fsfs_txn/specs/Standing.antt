@@ -1,0 +1,21 @@
+-- What a transaction stands for: its base, its tree and its marks.
+use Rattle.std.specs.Prelude.{◌≡◌, ◌++◌, ℕ, true, List, [], ◌∷◌}
+use Rattle.fsfs_tree.specs.Nodes.{TreeFunction}
+use Rattle.fsfs_flat.specs.Edits.{accepts, applied, mark_of}
+use Rattle.fsfs_flat.specs.Transactions.{IsTransaction}
+use Rattle.fsfs_flat.specs.declared.edit.Edit.{Edit}
+use Rattle.fsfs_flat.specs.declared.mark.Mark.{Mark}
+use Rattle.fsfs_fields.specs.declared.txn_name.TxnName.{TxnName}
+use Rattle.fsfs_book.specs.Told.{RevisionBytes}
+use Rattle.fsfs_drafts.specs.Drafts.{Folder}
+use Rattle.fsfs_drafts.specs.Edits.{IsDraftAfter}
+
+-- they come of accepted edits, over the trees of the revisions, and the folder shows them
+pub record Stands (look : RevisionBytes) (trees : ℕ → TreeFunction) (top base : ℕ) (txn : TxnName) (f : Folder) (tree : TreeFunction) (marks : List Mark) : Type 0 where
+  pub edits : IsTransaction trees top base tree marks
+  pub shows : IsDraftAfter look trees top base txn f tree marks
+
+-- the edit was accepted: the transaction stands for the tree after it, and for one mark more
+pub record IsEdited (look : RevisionBytes) (trees : ℕ → TreeFunction) (top base : ℕ) (txn : TxnName) (tree : TreeFunction) (marks : List Mark) (edit : Edit) (f : Folder) : Type 0 where
+  pub accepted : accepts edit trees top tree ≡ true
+  pub stands : Stands look trees top base txn f (applied edit trees tree) (marks ++ mark_of edit trees tree ∷ [])

@@ -1,0 +1,114 @@
+//! Deletes.
+ghost use Rattle.std.specs.Prelude.{◌≡◌, None};
+ghost use Rattle.fsfs_book.specs.Told.{Keeps};
+ghost use Rattle.fsfs_flat.specs.Edits.{parent};
+ghost use Rattle.fsfs_edit.specs.Deleting.{MeetsDelete};
+ghost use Rattle.fsfs_own.specs.Causes as causes;
+ghost use Rattle.fsfs_txn.specs.Spending.{IsSpentAfter, IsCounted, StaysSpent, HasDiskCause, HasBenchCause};
+ghost use Rattle.fsfs_txn.specs.Deleting.{is_deleted, outcome_of, MeetsDeleting};
+
+use crate::paths::last_name;
+use crate::txn::Txn;
+use crate::txn_error::TxnError;
+use fsfs_base::FsPath;
+use fsfs_book::Book;
+use fsfs_edit::{Gone, delete_at};
+use fsfs_own::{EditError, Own};
+use std::alloc::Global;
+
+/// What became of a delete: it was done, or why it can't be.
+#[derive(Clone, Copy, Debug, PartialEq, Eq)]
+pub enum Deleted {
+    Done,
+    /// So many names of the path above lead to nothing.
+    NotFound(usize),
+    /// So many names of the path above lead to a file.
+    NotDir(usize),
+    /// Nothing stands there, in a directory.
+    Absent,
+    /// It is the root, which stays.
+    RootFixed,
+}
+
+// Takes away what stands at a path with this last name. What an earlier failure left unsettled is forgotten first.
+fn delete_named<B: Book, N: Own>(
+    alloc: Global,
+    book: &mut B,
+    own: &mut N,
+    path: &FsPath,
+    name: &str,
+) -> Result<Gone, EditError>
+    ensures meets { MeetsDelete (B.told book.old).revs (N.txn own.old) (N.settled own.old) (N.settled own.new) (parent path.now) name.now result }
+    ensures name { N.txn own.new ≡ N.txn own.old }
+    ensures bench { causes.HasBenchCause (N.faults own.old) (N.faults own.new) result }
+    ensures kept { Keeps (B.told book.old) (B.told book.new) }
+    ensures cause { causes.HasDiskCause (B.faults book.old) (B.faults book.new) result }
+{
+    own.forget();
+    let parent = match path.prefix(alloc, path.depth().saturating_sub(1)) {
+        Ok(parent) => parent,
+        Err(_) => return Err(EditError::OutOfMemory),
+    };
+    delete_at(alloc, book, own, &parent, name)
+}
+
+fn from_gone(gone: Gone) -> Deleted
+    ensures { result ≡ outcome_of gone }
+{
+    match gone {
+        Gone::Done => Deleted::Done,
+        Gone::NotFound(depth) => Deleted::NotFound(depth),
+        Gone::NotDir(depth) => Deleted::NotDir(depth),
+        Gone::Absent => Deleted::Absent,
+    }
+}
+
+fn was_deleted(outcome: &Deleted) -> bool
+    ensures { result ≡ is_deleted outcome.now }
+{
+    match outcome {
+        Deleted::Done => true,
+        Deleted::NotFound(_) => false,
+        Deleted::NotDir(_) => false,
+        Deleted::Absent => false,
+        Deleted::RootFixed => false,
+    }
+}
+
+impl<N: Own> Txn<N> {
+    /// Takes away what stands at a path, and all below it. It is refused where the path above leads to no directory, where nothing
+    /// stands there, or where it is the root. A refusal leaves the transaction as it was, and so does every failure but the
+    /// bench's, which spends it.
+    pub fn delete<B: Book>(
+        &mut self,
+        alloc: Global,
+        book: &mut B,
+        path: &FsPath,
+    ) -> Result<Deleted, TxnError>
+        ensures meets { self.old.spent ≡ None → MeetsDeleting (B.told book.old).revs self.old.base (N.txn self.old.own) (N.settled self.old.own) (N.settled self.new.own) path.now result }
+        ensures stays { StaysSpent self.old.spent result (self.new ≡ self.old) }
+        ensures spent { IsSpentAfter self.old.spent self.new.spent result }
+        ensures moves { IsCounted is_deleted self.old.moves self.new.moves result }
+        ensures base { self.new.base ≡ self.old.base }
+        ensures name { N.txn self.new.own ≡ N.txn self.old.own }
+        ensures bench { HasBenchCause (N.faults self.old.own) (N.faults self.new.own) result }
+        ensures kept { Keeps (B.told book.old) (B.told book.new) }
+        ensures cause { HasDiskCause (B.faults book.old) (B.faults book.new) result }
+    {
+        let moves = match self.next_move() {
+            Ok(moves) => moves,
+            Err(error) => return Err(error),
+        };
+        let Some(name) = last_name(path) else {
+            return Ok(Deleted::RootFixed);
+        };
+        match delete_named(alloc, book, &mut self.own, path, name) {
+            Ok(gone) => {
+                let outcome = from_gone(gone);
+                self.count(moves, was_deleted(&outcome));
+                Ok(outcome)
+            }
+            Err(error) => Err(self.failed(error)),
+        }
+    }
+}
