@@ -9,7 +9,7 @@ use Rattle.fsfs_base.proofs.PathLemmas.{same_name-is}
 use Rattle.fsfs_shows.specs.Reading.{DirEntry, named}
 use Rattle.fsfs_dag.specs.declared.directory.DirEntry.{DirEntry as ListedEntry}
 use Rattle.fsfs_dag.specs.Views.{entry_value, entry_values}
-use Rattle.fsfs_held.proofs.ListLemmas.{exchange, shadow}
+use Rattle.fsfs_held.proofs.CondLemmas.{exchange, shadow}
 
 abbrev others : PathName → List ListedEntry → List ListedEntry
 others name es = filter (λ (e : ListedEntry). not (same_name (string_bytes e.name) name)) es

@@ -1,2 +1,5 @@
-pub mod ListLemmas
+pub mod CondLemmas
+pub mod KeyLemmas
+pub mod KeyTest
+pub mod StepLemmas
 pub mod EntryLemmas

@@ -1,19 +1,22 @@
--- Lists of node-revisions, as files by node part and copy part.
-use Rattle.std.specs.Prelude.{List, [], ◌∷◌, Option, Some, None}
+-- Node-revisions and steps, as files by node part and copy part.
+use Rattle.std.specs.Prelude.{List, [], ◌∷◌, Option, Some, None, option_map}
+use Rattle.std.specs.HashMap.{HashMap, get_by}
 use Rattle.fsfs_drafts.specs.Drafts.{Kept}
-use Rattle.fsfs_drafts.specs.Steps.{Files, with_kept}
+use Rattle.fsfs_drafts.specs.Steps.{Files}
 use Rattle.fsfs_own.specs.declared.own.KeptNode.{KeptNode}
 use Rattle.fsfs_own.specs.Views.{kept_value}
+use Rattle.fsfs_held.specs.declared.keys.NodeKey.{NodeKey}
+use Rattle.fsfs_held.specs.declared.steps.Step.{Step}
+use Rattle.fsfs_held.specs.Keys.{has_parts, with_key}
 
--- those of a list: of two with the same parts the first
-abbrev pub files_of : List KeptNode → Files
-files_of [] = λ node copy. None
-files_of (k ∷ ks) = with_kept k.node.id (kept_value k) (files_of ks)
+-- those of a table
+abbrev pub files_of : {S : Type 0} → HashMap NodeKey KeptNode S → Files
+files_of nodes node copy = option_map kept_value (get_by (has_parts node copy) nodes)
 
 -- with those that steps have put, one after another
-abbrev pub with_steps : List KeptNode → Files → Files
+abbrev pub with_steps : List Step → Files → Files
 with_steps [] files = files
-with_steps (k ∷ ks) files = with_steps ks (with_kept k.node.id (kept_value k) files)
+with_steps (s ∷ ss) files = with_steps ss (with_key s.key (kept_value s.kept) files)
 
 -- what was found, or else the other
 abbrev pub or_found : Option Kept → Option Kept → Option Kept

@@ -1,12 +1,14 @@
 //! The own node-revisions of a transaction, held in memory beside its bench.
-ghost use Rattle.std.specs.Prelude.{◌≡◌, true, option_map, IfOk, IfErr, IfSome};
-ghost use Rattle.fsfs_drafts.specs.Steps.{same_key, kept_at};
+ghost use Rattle.std.specs.Prelude.{◌≡◌, option_map, IfOk, IfErr};
 ghost use Rattle.fsfs_own.specs.Views.{kept_value};
+ghost use Rattle.fsfs_held.specs.Keys.{at_key};
 ghost use Rattle.fsfs_held.specs.Lists.{files_of, with_steps};
 ghost use Rattle.fsfs_held.specs.Views.{begun_folder};
 
 use crate::changed::{new_node, with_entries, with_props, with_text, without_name};
-use crate::nodes::{first_of, last_of, settle_steps};
+use crate::keys::{NodeKey, key_of};
+use crate::nodes::{Nodes, make_room, node_at, put, settle_steps};
+use crate::steps::{Step, last_of};
 use fsfs_base::{B36, Name, Pairs, TxnName, next_b36};
 use fsfs_changes::ChangeItem;
 use fsfs_dag::DirEntry;
@@ -14,6 +16,7 @@ use fsfs_disk::Bench;
 use fsfs_noderev::{NodeId, NodeRev, Rep};
 use fsfs_own::{KeptNode, Own, OwnError};
 use std::alloc::{AllocError, Global};
+use std::collections::HashMap;
 
 /// The numbers that the next new node part and the next new copy part get.
 #[derive(Clone, Copy, Debug, PartialEq, Eq)]
@@ -30,8 +33,8 @@ pub struct HeldNodes<D: Bench> {
     txn: TxnName,
     bench: D,
     proto: Name,
-    settled: Vec<KeptNode>,
-    steps: Vec<KeptNode>,
+    settled: Nodes,
+    steps: Vec<Step>,
     settled_next: NextNumbers,
     next: NextNumbers,
     items: Vec<ChangeItem>,
@@ -53,10 +56,13 @@ impl<D: Bench> HeldNodes<D> {
         ensures faults { IfOk result (λ held. ⟦<HeldNodes<D> as Own>⟧.faults held ≡ D.faults bench) }
         ensures back { IfErr result (λ back. back ≡ bench) }
     {
-        let mut settled = Vec::new(alloc);
-        let Ok(()) = settled.push(new_node(root)) else {
+        let mut settled = HashMap::new(alloc);
+        let Ok(()) = make_room(&mut settled, 1) else {
             return Err(bench);
         };
+        let key = key_of(&root.id);
+        let kept = new_node(root);
+        put(&mut settled, Step { key, kept });
         let next = NextNumbers {
             node: B36 { number: 0 },
             copy: B36 { number: 0 },
@@ -82,14 +88,13 @@ impl<D: Bench> HeldNodes<D> {
         bench
     }
 
-    // The node-revision with the parts of an id, as the steps left it.
-    fn found(&self, id: &NodeId) -> Option<&KeptNode>
-        ensures value { option_map (λ k. kept_value k.now) result ≡ kept_at (with_steps self.now.steps.items (files_of self.now.settled.items)) id.now }
-        ensures key { IfSome result (λ k. same_key k.now.node.id id.now ≡ true) }
+    // The node-revision at a key, as the steps left it.
+    fn found(&self, key: &NodeKey) -> Option<&KeptNode>
+        ensures { option_map (λ k. kept_value k.now) result ≡ at_key (with_steps self.now.steps.items (files_of self.now.settled)) key.now }
     {
-        match last_of(self.steps.as_slice(), id) {
+        match last_of(self.steps.as_slice(), key) {
             Some(kept) => Some(kept),
-            None => first_of(self.settled.as_slice(), id),
+            None => node_at(&self.settled, key),
         }
     }
 }
@@ -98,9 +103,9 @@ impl<D: Bench> Own for HeldNodes<D> {
     ghost use Rattle.fsfs_held.specs.Lists.{files_of, with_steps};
     ghost use Rattle.fsfs_held.specs.Views.{folder_of};
 
-    ghost folder = { λ h. folder_of (with_steps h.steps.items (files_of h.settled.items)) h.next h.items.items (D.contents h.bench) h.proto };
+    ghost folder = { λ h. folder_of (with_steps h.steps.items (files_of h.settled)) h.next h.items.items (D.contents h.bench) h.proto };
 
-    ghost settled = { λ h. folder_of (files_of h.settled.items) h.settled_next h.items.items (D.contents h.bench) h.proto };
+    ghost settled = { λ h. folder_of (files_of h.settled) h.settled_next h.items.items (D.contents h.bench) h.proto };
 
     ghost txn = { λ h. h.txn };
 
@@ -111,7 +116,7 @@ impl<D: Bench> Own for HeldNodes<D> {
     }
 
     fn kept(&self, id: &NodeId) -> Option<&KeptNode> {
-        self.found(id)
+        self.found(&key_of(id))
     }
 
     fn draw_node(&mut self) -> Result<B36, AllocError> {
@@ -138,13 +143,19 @@ impl<D: Bench> Own for HeldNodes<D> {
         entries: Vec<DirEntry>,
         child: NodeRev,
     ) -> Result<(), AllocError> {
-        let Some(kept) = self.found(dir) else {
+        let key = key_of(dir);
+        let Some(kept) = self.found(&key) else {
             return Err(AllocError);
         };
         let opened = with_entries(kept, entries)?;
         self.steps.reserve(2)?;
-        self.steps.push_reserved(new_node(child));
-        self.steps.push_reserved(opened);
+        let child_key = key_of(&child.id);
+        let made = new_node(child);
+        self.steps.push_reserved(Step {
+            key: child_key,
+            kept: made,
+        });
+        self.steps.push_reserved(Step { key, kept: opened });
         Ok(())
     }
 
@@ -154,34 +165,37 @@ impl<D: Bench> Own for HeldNodes<D> {
         entries: Vec<DirEntry>,
         name: &str,
     ) -> Result<(), AllocError> {
-        let Some(kept) = self.found(dir) else {
+        let key = key_of(dir);
+        let Some(kept) = self.found(&key) else {
             return Err(AllocError);
         };
         let opened = with_entries(kept, without_name(entries, name))?;
-        self.steps.push(opened)?;
+        self.steps.push(Step { key, kept: opened })?;
         Ok(())
     }
 
     fn put_text(&mut self, id: &NodeId, rep: &Rep) -> Result<(), AllocError> {
-        let Some(kept) = self.found(id) else {
+        let key = key_of(id);
+        let Some(kept) = self.found(&key) else {
             return Err(AllocError);
         };
         let changed = with_text(self.alloc, kept, rep)?;
-        self.steps.push(changed)?;
+        self.steps.push(Step { key, kept: changed })?;
         Ok(())
     }
 
     fn put_props(&mut self, id: &NodeId, props: Pairs) -> Result<(), AllocError> {
-        let Some(kept) = self.found(id) else {
+        let key = key_of(id);
+        let Some(kept) = self.found(&key) else {
             return Err(AllocError);
         };
         let changed = with_props(self.alloc, kept, props)?;
-        self.steps.push(changed)?;
+        self.steps.push(Step { key, kept: changed })?;
         Ok(())
     }
 
     fn settle(&mut self, item: ChangeItem) -> Result<(), OwnError> {
-        let Ok(()) = self.settled.reserve(self.steps.len()) else {
+        let Ok(()) = make_room(&mut self.settled, self.steps.len()) else {
             return Err(OwnError::OutOfMemory);
         };
         let Ok(()) = self.items.push(item) else {

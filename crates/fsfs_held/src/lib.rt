@@ -4,6 +4,8 @@
 mod changed;
 mod copies;
 mod held;
+mod keys;
 mod nodes;
+mod steps;
 
 pub use held::HeldNodes;

@@ -1,13 +1,14 @@
 use Rattle.std.proofs.Common.{◌≡◌, ◌≤◌, length}
-use Rattle.fsfs_drafts.specs.Steps.{Files, kept_at}
+use Rattle.fsfs_drafts.specs.Steps.{Files}
+use Rattle.fsfs_held.specs.Keys.{at_key}
 use Rattle.fsfs_held.specs.Lists.{with_steps}
-use Rattle.fsfs_held.proofs.nodes.last_of.Given as goal
+use Rattle.fsfs_held.proofs.steps.last_of.Given as goal
 
--- none behind those that are left has the parts
+-- none behind those that are left is at the key
 abbrev pub invariant-loop-left : goal.invariant-loop-left
 invariant-loop-left l = record {
   within : length l.left ≤ length l.steps;
-  same : (files : Files) → kept_at (with_steps l.steps files) l.id ≡ kept_at (with_steps l.left files) l.id;
+  same : (files : Files) → at_key (with_steps l.steps files) l.key ≡ at_key (with_steps l.left files) l.key;
 }
 
 abbrev pub decreases-loop-left : goal.decreases-loop-left
