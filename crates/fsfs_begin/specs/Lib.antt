@@ -1,3 +1,5 @@
 pub mod Counter
 pub mod Drawing
 pub mod Deciding
+pub mod Benches
+pub mod Beginning

@@ -1,0 +1,28 @@
+-- The bench of a transaction that begins: its first files, and what is left where it could not be made.
+use Rattle.std.specs.Prelude.{◌≡◌, ◌⊎◌, ℕ, List, [], true, Option, IfSome, codes}
+use Rattle.std.specs.FinMap.{insert, empty}
+use Rattle.fsfs_base.specs.Files.{Files}
+use Rattle.fsfs_disk.specs.Labels.{Label, has_label, with_label, without_label}
+use Rattle.fsfs_disk.specs.Trace.{Trace, labels_now}
+use Rattle.fsfs_txns.specs.Removals.{HasLabels}
+use Rattle.fsfs_begin.specs.declared.making.BenchFault.{BenchFault}
+use Rattle.fsfs_begin.specs.declared.making.BenchFault.TheVariants as fault
+
+-- files with those that a transaction begins with: no properties, no numbers drawn, no items, and its root with this text
+abbrev pub with_first_files : List ℕ → Files → Files
+with_first_files root m = insert (insert (insert (insert m (codes "props") (codes "END\n")) (codes "next-ids") (codes "0 0\n")) (codes "changes") []) (codes "node.0.0") root
+
+-- these and no others
+abbrev pub first_files : List ℕ → Files
+first_files root = with_first_files root empty
+
+-- a label that was kept before, or this one
+abbrev pub IsOldOrThis : Label → Option Trace → Label → Type 0
+IsOldOrThis l old k = (k ≡ l) ⊎ IfSome old (λ t. has_label k (labels_now t) ≡ true)
+
+-- Why there is no bench, and the labels that are left; `disk` and `benches` say that these counts of faults rose.
+-- Where the disk failed to make it, the label is as it was, or kept, or gone. Where the bench failed the label is gone,
+-- or the disk failed to drop it, and it is kept.
+abbrev pub IsUnmade : Type 0 → Type 0 → Label → Option Trace → Option Trace → BenchFault → Type 0
+IsUnmade disk benches l old new fault.Disk = disk × (HasLabels (λ ls. ls) old new ⊎ (HasLabels (with_label l) old new ⊎ HasLabels (without_label l) old new))
+IsUnmade disk benches l old new fault.Bench = benches × (HasLabels (without_label l) old new ⊎ (disk × HasLabels (with_label l) old new))

@@ -1,0 +1,74 @@
+// The root of a transaction that begins.
+ghost use Rattle.std.specs.Prelude.{◌≡◌, IfOk};
+ghost use Rattle.fsfs_noderev.specs.Writing.{HasText};
+ghost use Rattle.fsfs_shows.specs.Chains.{own_rev};
+ghost use Rattle.fsfs_drafts.specs.Rules.{lasting_root};
+ghost use Rattle.fsfs_begin.specs.Beginning.{BeginsOn, IsRootText};
+
+use fsfs_base::{FsPath, RevNum, TxnName};
+use fsfs_noderev::{CopyRoot, NodeId, NodeRev, Place, write_noderev};
+use std::alloc::{AllocError, Global};
+
+// The revision that a node-revision is of.
+fn own_rev(node: &NodeRev) -> RevNum
+    ensures { result ≡ own_rev node.now }
+{
+    match &node.id.place {
+        Place::At(rev, _) => *rev,
+        Place::In(_) => RevNum::ZERO,
+    }
+}
+
+// The copy root of a node-revision of a revision.
+fn lasting_root(node: &NodeRev) -> Result<CopyRoot, AllocError>
+    ensures { IfOk result (λ r. (r.rev, r.path) ≡ lasting_root node.now) }
+{
+    match &node.copy_root {
+        None => Ok(CopyRoot {
+            rev: Some(own_rev(node)),
+            path: node.created_path.clone()?,
+        }),
+        Some(root) => Ok(CopyRoot {
+            rev: Some(root.rev.unwrap_or(RevNum::ZERO)),
+            path: root.path.clone()?,
+        }),
+    }
+}
+
+/// The root of a new transaction of this name: it goes on from the root of its base, and is marked as one that nothing has changed
+/// yet.
+pub fn first_root(alloc: Global, txn: TxnName, base: &NodeRev) -> Result<NodeRev, AllocError>
+    ensures begins { IfOk result (BeginsOn txn base.now) }
+    // It can be written where its base can.
+    ensures text { HasText base.now → IfOk result HasText }
+{
+    let copied = lasting_root(base)?;
+    Ok(NodeRev {
+        id: NodeId {
+            node: base.id.node,
+            copy: base.id.copy,
+            place: Place::In(txn),
+        },
+        kind: base.kind,
+        predecessor: Some(base.id),
+        count: base.count.saturating_add(1),
+        text: base.text,
+        props: base.props,
+        created_path: FsPath::root(alloc),
+        copy_from: None,
+        copy_root: Some(copied),
+        is_fresh_txn_root: true,
+        mergeinfo_count: base.mergeinfo_count,
+        has_mergeinfo: base.has_mergeinfo,
+    })
+}
+
+/// The text of that root, as it stands in `node.0.0`.
+pub fn first_root_text(alloc: Global, txn: TxnName, base: &NodeRev) -> Result<Vec<u8>, AllocError>
+    requires { HasText base.now }
+    ensures { IfOk result (λ v. IsRootText txn base.now v.items) }
+{
+    let root = first_root(alloc, txn, base)?;
+    let text = write_noderev(alloc, &root)?;
+    Ok(text)
+}
