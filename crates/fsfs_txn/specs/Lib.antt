@@ -3,3 +3,7 @@ pub mod Standing
 pub mod Making
 pub mod Deleting
 pub mod Copying
+pub mod Properties
+pub mod Texts
+pub mod Getting
+pub mod Items

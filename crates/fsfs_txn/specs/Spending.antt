@@ -1,5 +1,5 @@
 -- Failures of a transaction's calls, and what they leave of its bench.
-use Rattle.std.specs.Prelude.{◌≡◌, ◌+◌, ℕ, Bool, true, false, Option, Some, None, Result, Ok, Err, if◌then◌else◌}
+use Rattle.std.specs.Prelude.{◌≡◌, ◌+◌, ℕ, Bool, Option, Some, None, Result, Ok, Err, if◌then◌else◌}
 use Rattle.fsfs_base.specs.Counts as counts
 use Rattle.fsfs_base.specs.declared.failed.Failed.{Failed}
 use Rattle.fsfs_own.specs.Causes as causes
@@ -46,6 +46,11 @@ IsCounted moved old new (Err e) = new ≡ old
 abbrev pub IfStays : TxnError → Type 0 → Type 0
 IfStays (txns.Spent first) P = ⊥
 IfStays (txns.Fault e) P = errors.IfStays e P
+
+-- memory ran out, or a disk or a bench failed, of a transaction that was not spent
+abbrev pub IsFailure : TxnError → Type 0
+IsFailure (txns.Spent first) = ⊥
+IsFailure (txns.Fault e) = errors.IsFailure e
 
 -- ---- counts of faults
 

@@ -3,12 +3,18 @@
 
 mod copying;
 mod deleting;
+mod getting;
+mod laws;
 mod making;
 mod paths;
+mod properties;
+mod texts;
 mod txn;
 mod txn_error;
 
 pub use deleting::Deleted;
-pub use fsfs_edit::{Copied, Made};
+pub use fsfs_edit::{Copied, Made, PropertySet, TextSet};
+pub use getting::{Got, NodeView};
+pub use laws::items_say_marks;
 pub use txn::Txn;
 pub use txn_error::TxnError;
