@@ -1,0 +1,5 @@
+pub mod Lists
+pub mod Entries
+pub mod Naming
+pub mod Nodes
+pub mod Endings
