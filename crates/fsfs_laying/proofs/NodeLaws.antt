@@ -97,7 +97,7 @@ before n start off old new (Some contents.Own) list d w h le =
 
 -- ---- properties
 
-props_text : (n start : ℕ) (c : Option Contents) → HasPropsBefore n c → HasTextBefore n start c
+pub props_text : (n start : ℕ) (c : Option Contents) → HasPropsBefore n c → HasTextBefore n start c
 props_text n start None h = tt
 props_text n start (Some contents.Own) h = tt
 props_text n start (Some (contents.At rep)) h = subst (λ (r : Option ℕ). IsRepBefore n start r rep.offset) (sym h.1) h.2

@@ -24,7 +24,7 @@ HasPropsBefore n (Some (contents.At rep)) = (rev : ℕ) × (rep.rev ≡ Some rev
 lower : (n r offset : ℕ) (at : RevOffset) → is_before r offset at ≡ true → at.rev < n → r < n
 lower n r offset at h lt = grind (arith, nat_tests)
 
-before_rev : (n : ℕ) (at : RevOffset) (c : Option Contents) → rep_before at c ≡ true → at.rev < n → HasPropsBefore n c
+pub before_rev : (n : ℕ) (at : RevOffset) (c : Option Contents) → rep_before at c ≡ true → at.rev < n → HasPropsBefore n c
 before_rev n at None h lt = tt
 before_rev n at (Some contents.Own) h lt = tt
 before_rev n at (Some (contents.At rep)) h lt = by rep.rev refl h
@@ -33,7 +33,7 @@ before_rev n at (Some (contents.At rep)) h lt = by rep.rev refl h
     by None is h = absurd (false≢true h)
     by (Some r) is h = (r, is, lower n r rep.offset at h lt)
 
-pred_or : (o : Option NodeId) → (o ≡ None) ⊎ ((id : NodeId) × (o ≡ Some id))
+pub pred_or : (o : Option NodeId) → (o ≡ None) ⊎ ((id : NodeId) × (o ≡ Some id))
 pred_or None = inl refl
 pred_or (Some id) = inr (id, refl)
 

@@ -1,6 +1,9 @@
 -- A transaction's node-revision that was put, as it stands in the new revision, behind its lists.
 use Rattle.std.specs.Prelude.{◌≡◌, ◌+◌, ◌<◌, ◌≤◌, ℕ, suc, List, ◌++◌, length, Option, Some, None}
 use Rattle.fsfs_base.specs.Paths.{Path}
+use Rattle.fsfs_fields.specs.declared.txn_name.TxnName.{TxnName}
+use Rattle.fsfs_tree.specs.Nodes.{TreeFunction}
+use Rattle.fsfs_flat.specs.declared.mark.Mark.{Mark}
 use Rattle.fsfs_book.specs.Told.{RevisionBytes}
 use Rattle.fsfs_noderev.specs.NodeRevs.{IsNodeRev}
 use Rattle.fsfs_noderev.specs.declared.node_id.Place.TheVariants as places
@@ -10,7 +13,12 @@ use Rattle.fsfs_noderev.specs.declared.rep.Contents.TheVariants as contents
 use Rattle.fsfs_noderev.specs.declared.node_rev.NodeRev.{NodeRev}
 use Rattle.fsfs_hash.specs.Dump.{IsDump, dump_text}
 use Rattle.fsfs_shows.specs.Reading.{Pairs}
+use Rattle.fsfs_drafts.specs.Own.{OwnNode}
+use Rattle.fsfs_drafts.specs.Drafts.{Folder, ShowTrees}
 use Rattle.fsfs_drafts.specs.OwnSides.{NodesAt}
+use Rattle.fsfs_drafts.specs.Met.{AreNodes}
+use Rattle.fsfs_drafts.specs.Staying.{IsYoungest}
+use Rattle.fsfs_drafts.specs.Whole.{IsDraftOf}
 use Rattle.fsfs_drafts.specs.NodeDrafts.{IsOwn, IsDraft}
 use Rattle.fsfs_final.specs.Final.{IsFinal}
 use Rattle.fsfs_final.specs.Finishing.{finish}
@@ -64,3 +72,8 @@ abbrev pub PutNodesAreLaid : Type 0
 PutNodesAreLaid = (look : RevisionBytes) (top start : ℕ) (own : NodesAt) (p : Path) (proto old new : List ℕ) (laid : Laid) (u v : NodeRev) (entries props : Option Pairs)
     → IsDraft look top top own → own p ≡ Some u → IsOwn u → length proto ≡ start → HasTextBefore (suc top) start u.text
     → IsLaid (suc top) (proto ++ old) laid → IsNodePut (suc top) start old new u entries props v → IsNodeLaid (suc top) (proto ++ new) laid p u entries props v
+
+-- of a whole draft on the youngest revision each own node-revision's text stands before
+abbrev pub DraftTextsStandBefore : Type 0
+DraftTextsStandBefore = (look : RevisionBytes) (trees : ℕ → TreeFunction) (top : ℕ) (nodes : ℕ → NodesAt) (txn : TxnName) (f : Folder) (tree : TreeFunction) (marks : List Mark) → ShowTrees look top trees → AreNodes look top nodes → IsYoungest look top
+    → (d : IsDraftOf look trees top top txn f tree marks) → (p : Path) (v : OwnNode) → d.shows.own p ≡ Some v → HasTextBefore (suc top) (length f.proto) v.node.text

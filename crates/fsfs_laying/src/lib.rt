@@ -14,7 +14,9 @@ mod offsets;
 
 pub use ending::put_end;
 pub use entries::entry_pairs;
-pub use laws::{put_ends_are_read, put_lists_are_framed, put_nodes_are_laid};
+pub use laws::{
+    draft_texts_stand_before, put_ends_are_read, put_lists_are_framed, put_nodes_are_laid,
+};
 pub use lists::put_list;
 pub use naming::{final_entries, name_final};
 pub use nodes::put_node;
