@@ -1,1 +1,3 @@
 pub mod FinalBytes
+pub mod Orders
+pub mod Texts
