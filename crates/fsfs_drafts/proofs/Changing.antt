@@ -58,7 +58,7 @@ is_lasting (Some (contents.At rep)) h = by rep.rev h
     by None g = absurd cc
     by (Some rev) g = (rev, refl)
 
-no_txn_place : (p : Place) (txn : TxnName) → p ≡ places.In txn → is_revision_place p ≡ true → ⊥
+pub no_txn_place : (p : Place) (txn : TxnName) → p ≡ places.In txn → is_revision_place p ≡ true → ⊥
 no_txn_place (places.At rev offset) txn is h = cc
 no_txn_place (places.In other) txn is h = cc
 

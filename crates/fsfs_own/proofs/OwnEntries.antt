@@ -10,8 +10,6 @@ use Rattle.fsfs_base.specs.declared.kind.Kind.{Kind}
 use Rattle.fsfs_base.specs.declared.kind.Kind.TheVariants.{File, Dir}
 use Rattle.fsfs_fields.specs.declared.txn_name.TxnName.{TxnName}
 use Rattle.fsfs_book.specs.Told.{RevisionBytes}
-use Rattle.fsfs_noderev.specs.declared.node_id.Place.{Place}
-use Rattle.fsfs_noderev.specs.declared.node_id.Place.TheVariants as places
 use Rattle.fsfs_noderev.specs.declared.node_id.NodeId.{NodeId}
 use Rattle.fsfs_noderev.specs.declared.node_rev.NodeRev.{NodeRev}
 use Rattle.fsfs_revision.specs.Nodes.{is_revision_id, is_revision_place, is_lasting_part, is_of_revision, has_revision_pred, has_revision_rep, has_revision_root}
@@ -27,7 +25,7 @@ use Rattle.fsfs_drafts.specs.Steps.{kept_at, EntriesHere, Listed, Read, Empty}
 use Rattle.fsfs_drafts.proofs.Edited.{behind_own, old_tree}
 use Rattle.fsfs_drafts.proofs.OwnShown.{own_shown}
 use Rattle.fsfs_drafts.proofs.Here.{under_is, goes_from, live_here, old_here, rule_here, agrees_below, AreHere, are_here, Inner, inner_shared}
-use Rattle.fsfs_drafts.proofs.Changing.{of_id_lasting}
+use Rattle.fsfs_drafts.proofs.Changing.{of_id_lasting, no_txn_place}
 use Rattle.fsfs_own.specs.Entries.{OfKind, OfListed, OfKept, IsWithin}
 use Rattle.fsfs_own.specs.Errors.{IsFailure, of_read}
 use Rattle.fsfs_dag.proofs.PairLemmas.{entries_seen}
@@ -55,10 +53,6 @@ lasting_parts id h =
     let a = and_parts (is_lasting_part id.node && is_lasting_part id.copy) (is_revision_place id.place) h in
     let b = and_parts (is_lasting_part id.node) (is_lasting_part id.copy) a.0 in
     record { node = b.0; copy = b.1; place = a.1 }
-
-txn_place : (p : Place) (txn : TxnName) → p ≡ places.In txn → is_revision_place p ≡ true → ⊥
-txn_place (places.At rev offset) txn is h = cc
-txn_place (places.In other) txn is h = cc
 
 true_or : {A : Type 0} (b : Bool) → b ≡ true → b ≡ false → A
 true_or true h g = absurd cc
@@ -227,7 +221,7 @@ module _ (look : RevisionBytes) (top base : ℕ) (trees : ℕ → TreeFunction) 
           by None is h = let g = of_id_one look e.id (Ok h.0) (Err w) (subst (λ (i : NodeId). OfId look i (Ok h.0)) (sym h.2) (agrees.read (name ∷ []) h.0 h.1)) of in cc
           by (Some v) is h =
               let place = draft.places (p ++ name ∷ []) v (sym (under_is p own (name ∷ [])) ∙ is) in
-              txn_place e.id.place txn ((λ i. (h.0 i).place) ∙ place) (lasting_parts e.id lasts).place
+              no_txn_place e.id.place txn ((λ i. (h.0 i).place) ∙ place) (lasting_parts e.id lasts).place
 
       -- an entry whose id is a transaction's names what is the transaction's own
       pub own_entry : is_revision_id e.id ≡ false → (v : OwnNode) × (own (p ++ name ∷ []) ≡ Some v) × (v.node.id ≡ e.id)
@@ -254,7 +248,7 @@ module _ (look : RevisionBytes) (top base : ℕ) (trees : ℕ → TreeFunction) 
           by : (o : Option OwnNode) → Old (name ∷ []) ≡ o → IsEntryOf (λ v. StandsBelow (name ∷ []) v) (Some e) (head_at o) → IsLastingAt look trees base own (p ++ name ∷ []) u × HasKind (draft_tree trees own (trees base) (p ++ name ∷ [])) e.kind × (u.kind ≡ e.kind)
           by (Some v) is h =
               let place = draft.places (p ++ name ∷ []) v (sym (under_is p own (name ∷ [])) ∙ is) in
-              absurd (txn_place e.id.place txn ((λ i. (h.0 i).place) ∙ place) (lasting_parts e.id lasts).place)
+              absurd (no_txn_place e.id.place txn ((λ i. (h.0 i).place) ∙ place) (lasting_parts e.id lasts).place)
           by None is h =
               let same : h.0 ≡ u = ok_same h.0 u (of_id_one look e.id (Ok h.0) (Ok u) (subst (λ (i : NodeId). OfId look i (Ok h.0)) (sym h.2) (agrees.read (name ∷ []) h.0 h.1)) read) in
               let stands : StandsBelow (name ∷ []) u = subst (λ (v : NodeRev). StandsBelow (name ∷ []) v) same h.1 in
@@ -289,7 +283,7 @@ module _ (look : RevisionBytes) (top base : ℕ) (trees : ℕ → TreeFunction) 
           by None is h = (h.0, subst (λ (i : NodeId). OfId look i (Ok h.0)) (sym h.2) (agrees.read (name ∷ []) h.0 h.1), subst (λ (i : NodeId). (offset_of i.place).rev ≤ top) (sym h.2) (agrees.within (name ∷ []) h.0 h.1))
           by (Some v) is h =
               let place = draft.places (p ++ name ∷ []) v (sym (under_is p own (name ∷ [])) ∙ is) in
-              absurd (txn_place e.id.place txn ((λ i. (h.0 i).place) ∙ place) (lasting_parts e.id lasts).place)
+              absurd (no_txn_place e.id.place txn ((λ i. (h.0 i).place) ∙ place) (lasting_parts e.id lasts).place)
 
       pub lasting_never : is_revision_id e.id ≡ true → (w : Wrong) → OfId look e.id (Err w) → ⊥
       lasting_never lasts w of = let u = lasting_entry lasts in let g = of_id_one look e.id (Ok u.0) (Err w) u.1 of in cc
