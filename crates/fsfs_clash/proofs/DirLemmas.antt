@@ -1,15 +1,14 @@
 -- Three directories, by their node-revisions.
 use Rattle.std.proofs.Common.{◌≡◌, ℕ, Bool, true, false, ◌&&◌, Option, Some, None, refl, sym, ap}
 use Rattle.std.specs.Prelude.{if◌then◌else◌, nat_le, not}
-use mathlib.Core.Bool.{false≢true}
 use Rattle.std.proofs.lemmas.Bool.{and_parts}
-use Rattle.fsfs_base.specs.declared.kind.Kind.{Kind}
-use Rattle.fsfs_base.specs.declared.kind.Kind.TheVariants.{File, Dir}
+use Rattle.fsfs_base.specs.declared.kind.Kind.TheVariants.{Dir}
 use Rattle.fsfs_flat.specs.Edits.{is_dir}
 use Rattle.fsfs_noderev.specs.declared.node_rev.NodeRev.{NodeRev}
 use Rattle.fsfs_shows.specs.Chains.{copy_root_of}
 use Rattle.fsfs_dag.specs.Same.{same_part}
 use Rattle.fsfs_drafts.specs.OwnSides.{is_own_copy}
+use Rattle.fsfs_own.proofs.OwnEntries.{is_dir_kind}
 use Rattle.fsfs_clash.specs.declared.turn.Dirs.{Dirs}
 use Rattle.fsfs_clash.specs.Dirs.{dirs_in}
 use Rattle.fsfs_clash.specs.Sights.{go_on, have_same_props, go_on_in, same_props_in}
@@ -28,10 +27,6 @@ pub record AreDirs (x y v : Option NodeRev) (d : Dirs) : Type 0 where
   pub base_id : d.base ≡ base.id
   pub head_id : d.head ≡ head.id
   pub own_id : d.own ≡ own.id
-
-dir_true : (k : Kind) → is_dir k ≡ true → k ≡ Dir
-dir_true Dir h = refl
-dir_true File h = absurd (false≢true h)
 
 pub are_dirs : (x y v : Option NodeRev) (d : Dirs) → dirs_in (three_of x y v) ≡ Some d → AreDirs x y v d
 are_dirs None y v d h = absurd (let g : None ≡ Some d = h in cc)
@@ -55,9 +50,9 @@ are_dirs (Some a) (Some c) (Some e) d h = by (is_dir a.kind && is_dir c.kind && 
           base_is = refl;
           head_is = refl;
           own_is = refl;
-          base_dir = dir_true a.kind one.0;
-          head_dir = dir_true c.kind one.1;
-          own_dir = dir_true e.kind two.1;
+          base_dir = is_dir_kind a.kind one.0;
+          head_dir = is_dir_kind c.kind one.1;
+          own_dir = is_dir_kind e.kind two.1;
           base_id = sym (ap (λ (k : Dirs). k.base) same);
           head_id = sym (ap (λ (k : Dirs). k.head) same);
           own_id = sym (ap (λ (k : Dirs). k.own) same);

@@ -1,12 +1,10 @@
 -- What is read of ids, one reading after another.
 use Rattle.std.proofs.Common.{◌≡◌, ◌∙◌, ℕ, Bool, true, false, ◌&&◌, List, Option, Some, None, Result, Ok, Err, refl, sym, ap, subst}
 use Rattle.std.specs.Prelude.{option_map, not, nat_le, IfOk, IfErr, IfSome, if◌then◌else◌}
-use mathlib.Core.Bool.{false≢true}
 use Rattle.std.proofs.lemmas.Bool.{and_parts}
 use Rattle.std.specs.declared.vec.Vec.{Vec}
 use Rattle.std.specs.declared.alloc.Global.{Global}
-use Rattle.fsfs_base.specs.declared.kind.Kind.{Kind}
-use Rattle.fsfs_base.specs.declared.kind.Kind.TheVariants.{File, Dir}
+use Rattle.fsfs_base.specs.declared.kind.Kind.TheVariants.{Dir}
 use Rattle.fsfs_damage.specs.declared.damage.RevOffset.{RevOffset}
 use Rattle.fsfs_damage.specs.declared.wrong.Wrong.{Wrong}
 use Rattle.fsfs_damage.specs.declared.wrong.ReadError.{ReadError}
@@ -26,6 +24,7 @@ use Rattle.fsfs_dag.specs.Same.{same_part}
 use Rattle.fsfs_dag.specs.Views.{entry_values, AreBefore}
 use Rattle.fsfs_drafts.specs.Drafts.{Kept, Folder}
 use Rattle.fsfs_own.specs.Entries.{OfIdEntries, OfKept}
+use Rattle.fsfs_own.proofs.OwnEntries.{is_dir_kind}
 use Rattle.fsfs_clash.specs.declared.facts.Facts.{Facts}
 use Rattle.fsfs_clash.specs.declared.three.Target.{Target}
 use Rattle.fsfs_clash.specs.declared.turn.Dirs.{Dirs}
@@ -60,10 +59,6 @@ list_lasting look f id result e h = answers_as entries_seen result (OfIdEntries 
 
 -- ---- three directories
 
-dir_true : (k : Kind) → is_dir k ≡ true → k ≡ Dir
-dir_true Dir h = refl
-dir_true File h = absurd (false≢true h)
-
 -- what is merged are directories
 pub merged_dirs : (n : ℕ) (x y : NodeRev) (own : Facts) → merge_with n x y own ≡ true → (x.kind ≡ Dir) × (y.kind ≡ Dir)
 merged_dirs n x y own h =
@@ -74,7 +69,7 @@ merged_dirs n x y own h =
     let p1 = and_parts (is_dir x.kind && is_dir y.kind && is_dir own.kind) (same_part x.id.node y.id.node) p2.0 in
     let d2 = and_parts (is_dir x.kind && is_dir y.kind) (is_dir own.kind) p1.0 in
     let d1 = and_parts (is_dir x.kind) (is_dir y.kind) d2.0 in
-    (dir_true x.kind d1.0, dir_true y.kind d1.1)
+    (is_dir_kind x.kind d1.0, is_dir_kind y.kind d1.1)
 
 module _ (look : RevisionBytes) (f : Folder) where
   -- their lists

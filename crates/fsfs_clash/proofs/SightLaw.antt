@@ -4,8 +4,6 @@ use Rattle.std.specs.Prelude.{nat_le}
 use mathlib.Core.Bool.{false≢true}
 use Rattle.std.proofs.lemmas.Bool.{and_from, and_parts, leb-true, le-leb, not-true}
 use Rattle.std.proofs.lemmas.Option.{same_Some}
-use Rattle.fsfs_base.specs.declared.kind.Kind.{Kind}
-use Rattle.fsfs_base.specs.declared.kind.Kind.TheVariants.{File, Dir}
 use Rattle.fsfs_flat.specs.Edits.{is_dir}
 use Rattle.fsfs_noderev.specs.declared.node_id.NodeId.{NodeId}
 use Rattle.fsfs_noderev.specs.declared.node_id.Part.{Part}
@@ -15,14 +13,11 @@ use Rattle.fsfs_shows.specs.Chains.{copy_root_of}
 use Rattle.fsfs_dag.specs.Same.{same_part, same_id}
 use Rattle.fsfs_dag.proofs.IdLemmas.{id_self, id_true, part_self, part_true}
 use Rattle.fsfs_drafts.specs.OwnSides.{is_own_copy}
+use Rattle.fsfs_own.proofs.OwnEntries.{is_dir_kind}
 use Rattle.fsfs_merge.specs.MergeLaws.{BothGoOn, IsSight}
 use Rattle.fsfs_clash.specs.Same.{same_contents}
 use Rattle.fsfs_clash.specs.Sights.{same_ids, go_on, go_on_in, have_same_props, same_props_in, sight}
 use Rattle.fsfs_clash.proofs.SameLaw.{contents_true, contents_self}
-
-dir_true : (k : Kind) → is_dir k ≡ true → k ≡ Dir
-dir_true Dir h = refl
-dir_true File h = absurd (false≢true h)
 
 -- ---- the base's id
 
@@ -47,9 +42,9 @@ go_to b x y v h =
     let d2 = and_parts (is_dir x.kind && is_dir y.kind) (is_dir v.kind) p1.0 in
     let d1 = and_parts (is_dir x.kind) (is_dir y.kind) d2.0 in
     record {
-      base_dir = dir_true x.kind d1.0;
-      head_dir = dir_true y.kind d1.1;
-      own_dir = dir_true v.kind d2.1;
+      base_dir = is_dir_kind x.kind d1.0;
+      head_dir = is_dir_kind y.kind d1.1;
+      own_dir = is_dir_kind v.kind d2.1;
       head_node = part_true x.id.node y.id.node p1.1;
       own_node = part_true x.id.node v.id.node p2.1;
       head_root = leb-true (copy_root_of y).0 b p3.1;

@@ -60,7 +60,7 @@ true_or false h g = absurd cc
 
 -- ---- in an own directory
 
-is_dir_kind : (k : Kind) → is_dir k ≡ true → k ≡ Dir
+pub is_dir_kind : (k : Kind) → is_dir k ≡ true → k ≡ Dir
 is_dir_kind File h = absurd cc
 is_dir_kind Dir h = refl
 
