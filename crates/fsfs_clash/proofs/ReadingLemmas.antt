@@ -21,7 +21,8 @@ use Rattle.fsfs_shows.specs.Reading.{DirEntry as EntryValue, EntriesOf, OfId, of
 use Rattle.fsfs_dag.specs.declared.directory.DirEntry.{DirEntry}
 use Rattle.fsfs_dag.specs.declared.node.PlacedNode.{PlacedNode}
 use Rattle.fsfs_dag.specs.Same.{same_part}
-use Rattle.fsfs_dag.specs.Views.{entry_values, AreBefore}
+use Rattle.fsfs_dag.specs.Views.{AreBefore}
+use Rattle.fsfs_dag.proofs.PairLemmas.{entries_seen}
 use Rattle.fsfs_drafts.specs.Drafts.{Kept, Folder}
 use Rattle.fsfs_own.specs.Entries.{OfIdEntries, OfKept}
 use Rattle.fsfs_own.proofs.OwnEntries.{is_dir_kind}
@@ -34,9 +35,6 @@ use Rattle.fsfs_clash.specs.Lists.{Lists, link_of}
 use Rattle.fsfs_clash.specs.Readings.{kept_in, NodeOfKept, FactsBy, FactsOf, ListOfKept, ListOf, ListsOf, IfMerged, TurnAt}
 use Rattle.fsfs_clash.specs.Sights.{facts_of, go_with, have_props_of, merge_with}
 use Rattle.fsfs_clash.specs.Turning.{lists_value, IsFailure, IsTurn, turned, IsHome, IsTurnIn}
-
-abbrev pub entries_seen : Vec DirEntry Global → List EntryValue
-entries_seen v = entry_values v.items
 
 -- ---- the transaction's side
 
