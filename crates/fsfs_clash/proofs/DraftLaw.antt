@@ -39,6 +39,7 @@ use Rattle.fsfs_merge.specs.FirstStops.{NoStop, FirstStop}
 use Rattle.fsfs_merge.specs.MergeLaws.{IsMerge}
 use Rattle.fsfs_merge.proofs.MergeLaw.{merging_is_by_ids}
 use Rattle.fsfs_landed.proofs.LandedWholeLaw.{merges_take_and_leave}
+use Rattle.fsfs_own.specs.Walks.{IsRootId}
 use Rattle.fsfs_clash.specs.declared.turn.Halt.{Halt}
 use Rattle.fsfs_clash.specs.declared.turn.Halt.TheVariants as halts
 use Rattle.fsfs_clash.specs.declared.merged.MergedDir.{MergedDir}
@@ -46,7 +47,7 @@ use Rattle.fsfs_clash.specs.declared.walk.Merge.{Merge}
 use Rattle.fsfs_clash.specs.declared.walk.Merge.TheVariants as found_merges
 use Rattle.fsfs_clash.specs.Merges.{MergeFrom, MergeRooted, MergeOf, LeadOn, FindsMerge}
 use Rattle.fsfs_clash.specs.Plans.{ArePlan}
-use Rattle.fsfs_clash.specs.Points.{Point, sights_of, sight_with, has_same, goes_down, IsRootId, IsSeenFrom}
+use Rattle.fsfs_clash.specs.Points.{Point, sights_of, sight_with, has_same, goes_down, IsSeenFrom}
 use Rattle.fsfs_clash.specs.Readings.{kept_in, NodeOfKept, NodeOf}
 use Rattle.fsfs_clash.specs.Sights.{same_ids, go_on_in, same_props_in, sights}
 use Rattle.fsfs_clash.specs.Threes.{node_target}

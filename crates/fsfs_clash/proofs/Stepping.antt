@@ -18,6 +18,7 @@ use Rattle.fsfs_dag.specs.Views.{AreBefore}
 use Rattle.fsfs_drafts.specs.Drafts.{Folder}
 use Rattle.fsfs_merge.specs.FirstStops.{NoStop, FirstStop}
 use Rattle.fsfs_merge.proofs.FirstStopLaw.{walks_find_the_first}
+use Rattle.fsfs_own.specs.Walks.{IsRootId}
 use Rattle.fsfs_clash.specs.declared.three.Target.{Target}
 use Rattle.fsfs_clash.specs.declared.three.Three.{Three}
 use Rattle.fsfs_clash.specs.declared.turn.Dirs.{Dirs}
@@ -39,7 +40,7 @@ use Rattle.fsfs_clash.specs.Threes.{is_changed, merged_target}
 use Rattle.fsfs_clash.specs.Turning.{lists_value, IsFailure, IsTurn, IsHome}
 use Rattle.fsfs_clash.specs.Merges.{MergeFrom, MergeRooted}
 use Rattle.fsfs_clash.specs.Plans.{IsMergedDir}
-use Rattle.fsfs_clash.specs.Points.{Point, sights_of, goes_down, IsReadAs, IsSeen, IsRootId, IsSeenFrom}
+use Rattle.fsfs_clash.specs.Points.{Point, sights_of, goes_down, IsReadAs, IsSeen, IsSeenFrom}
 use Rattle.fsfs_clash.specs.UnderWay.{IsPending, IsHalt, IsUnderWay, IsWalk, IsFirst, IsWalked, IsOpened, answer_of, answer_in, answered}
 use Rattle.fsfs_clash.specs.Walks.{least, pending, root_three}
 use Rattle.fsfs_clash.specs.Weights.{weight, weight_in}

@@ -16,13 +16,14 @@ use Rattle.fsfs_drafts.specs.Own.{Own}
 use Rattle.fsfs_drafts.specs.Drafts.{Folder}
 use Rattle.fsfs_drafts.specs.OwnSides.{NodesAt}
 use Rattle.fsfs_drafts.specs.Met.{draft_nodes, AreNodes}
+use Rattle.fsfs_own.specs.Walks.{IsRootId}
 use Rattle.fsfs_merge.specs.FirstStops.{NoStop, FirstStop}
 use Rattle.fsfs_clash.specs.declared.turn.Halt.TheVariants as halts
 use Rattle.fsfs_clash.specs.declared.merged.MergedDir.{MergedDir}
 use Rattle.fsfs_clash.specs.declared.walk.Merge.{Merge}
 use Rattle.fsfs_clash.specs.declared.walk.Merge.TheVariants as merges
 use Rattle.fsfs_clash.specs.Plans.{ArePlan, ArePlanned}
-use Rattle.fsfs_clash.specs.Points.{Point, sights_of, IsRootId, IsSeenFrom}
+use Rattle.fsfs_clash.specs.Points.{Point, sights_of, IsSeenFrom}
 use Rattle.fsfs_clash.specs.Sights.{sights}
 use Rattle.fsfs_clash.specs.Turning.{IsFailure}
 

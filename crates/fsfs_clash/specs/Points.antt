@@ -2,12 +2,8 @@
 use Rattle.std.specs.Prelude.{◌≡◌, ◌++◌, ℕ, Bool, true, false, [], ◌∷◌, Option, Some, None, is_some, Result, Ok, Err}
 use Rattle.fsfs_base.specs.Paths.{PathName, Path}
 use Rattle.fsfs_flat.specs.Landing.{reached}
-use Rattle.fsfs_fields.specs.declared.txn_name.TxnName.{TxnName}
 use Rattle.fsfs_damage.specs.declared.wrong.Wrong.{Wrong}
 use Rattle.fsfs_book.specs.Told.{RevisionBytes}
-use Rattle.fsfs_noderev.specs.Ids.{Old, part_value}
-use Rattle.fsfs_noderev.specs.declared.node_id.Place.TheVariants as places
-use Rattle.fsfs_noderev.specs.declared.node_id.NodeId.{NodeId}
 use Rattle.fsfs_drafts.specs.Drafts.{Folder}
 use Rattle.fsfs_merge.specs.declared.sight.Sight.{Sight}
 use Rattle.fsfs_merge.specs.Walks.{down}
@@ -73,12 +69,6 @@ pub record IsSeen (look : RevisionBytes) (top : ℕ) (f : Folder) (base : ℕ) (
   pub read : (p : Path) → IsMet see p → (r : Result (Option Lists) Wrong) → LookAt look f base (dirs_in (see p).three) r → IsReadAs see p r
 
 -- ---- from the roots
-
--- the id of a transaction's root
-pub record IsRootId (txn : TxnName) (id : NodeId) : Type 0 where
-  pub node : part_value id.node ≡ Old 0
-  pub copy : part_value id.copy ≡ Old 0
-  pub place : id.place ≡ places.In txn
 
 -- where this is what is seen from three roots
 pub record IsSeenFrom (look : RevisionBytes) (top : ℕ) (f : Folder) (base : ℕ) (roots : Roots) (see : Path → Point) : Type 0 where

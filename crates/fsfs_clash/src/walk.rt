@@ -17,7 +17,7 @@ ghost use Rattle.fsfs_tree.specs.Nodes.{TreeFunction};
 ghost use Rattle.fsfs_clash.specs.Merges.{FindsMerge, MergeFrom, MergeOf};
 ghost use Rattle.fsfs_clash.specs.Lists.{names_in, three_in};
 ghost use Rattle.fsfs_clash.specs.Turning.{lists_value, IsFailure};
-ghost use Rattle.fsfs_clash.specs.Points.{Point, IsSeen, IsRootId, IsSeenFrom};
+ghost use Rattle.fsfs_clash.specs.Points.{Point, IsSeen, IsSeenFrom};
 ghost use Rattle.fsfs_clash.specs.Walks.{if_changed, changed, least, root_target, root_three};
 ghost use Rattle.fsfs_clash.specs.UnderWay.{GoesDown, IsOpened, IsWalk, IsUnderWay, IsWalked, answer_of, answered};
 ghost use Rattle.fsfs_clash.specs.Weights.{total, weight, weight_in};
@@ -26,12 +26,12 @@ use crate::entries::{Entries, Sides, sides_of};
 use crate::merged::{MergedDir, merged_entries};
 use crate::three::{Target, Three, Which};
 use crate::turn::{Halt, Listing, Turn, turn_at};
-use fsfs_base::{B36, FsPath, Kind, RevNum, TxnName};
+use fsfs_base::{FsPath, Kind, RevNum};
 use fsfs_book::Book;
 use fsfs_dag::root_of;
 use fsfs_damage::ReadError;
-use fsfs_noderev::{NodeId, NodeRev, Part, Place};
-use fsfs_own::Own;
+use fsfs_noderev::{NodeId, NodeRev};
+use fsfs_own::{Own, root_id};
 use std::alloc::{AllocError, Global};
 use std::cmp::Ordering;
 
@@ -304,17 +304,6 @@ fn merge_below<B: Book, N: Own>(
 {
     let walk = walk_below(alloc, book, own, base, roots)?;
     answered(walk)
-}
-
-// The id of a transaction's root.
-fn root_id(txn: TxnName) -> NodeId
-    ensures { IsRootId txn result }
-{
-    NodeId {
-        node: Part::Old(B36 { number: 0 }),
-        copy: Part::Old(B36 { number: 0 }),
-        place: Place::In(txn),
-    }
 }
 
 fn roots_of(base: &NodeRev, head: &NodeRev, own: NodeId) -> Roots

@@ -18,8 +18,8 @@ use Rattle.fsfs_drafts.proofs.OwnShown.{own_shown}
 use Rattle.fsfs_drafts.specs.Edits.{IsDraftAfter}
 use Rattle.fsfs_drafts.proofs.EditLaw.{edits_keep_drafts}
 use Rattle.fsfs_steps.specs.Mutable.{LeadsTo, LeavesAbove}
-use Rattle.fsfs_own.specs.Walks.{HasKind, IsFound}
-use Rattle.fsfs_edit.specs.Ways.{IsRootId, IsTarget, IsFoundIn, LeavesOpened}
+use Rattle.fsfs_own.specs.Walks.{IsRootId, HasKind, IsFound}
+use Rattle.fsfs_edit.specs.Ways.{IsTarget, IsFoundIn, LeavesOpened}
 use Rattle.fsfs_own.specs.declared.error.EditError.{EditError}
 use Rattle.fsfs_own.specs.declared.walk.Found.{Found}
 use Rattle.fsfs_edit.specs.declared.way.Target.{Target}

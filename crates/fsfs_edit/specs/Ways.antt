@@ -8,8 +8,6 @@ use Rattle.fsfs_tree.specs.Trees.{IsTree}
 use Rattle.fsfs_flat.specs.declared.mark.Mark.{Mark}
 use Rattle.fsfs_fields.specs.declared.txn_name.TxnName.{TxnName}
 use Rattle.fsfs_book.specs.Told.{Told, RevisionBytes, Knows}
-use Rattle.fsfs_noderev.specs.Ids.{Old, part_value}
-use Rattle.fsfs_noderev.specs.declared.node_id.Place.TheVariants as places
 use Rattle.fsfs_noderev.specs.declared.node_id.NodeId.{NodeId}
 use Rattle.fsfs_shows.specs.ByTree.{LacksAt, IsBlockedAt}
 use Rattle.fsfs_drafts.specs.Own.{OwnNode, Own}
@@ -22,12 +20,6 @@ use Rattle.fsfs_own.specs.declared.walk.Found.{Found}
 use Rattle.fsfs_own.specs.declared.walk.Found.TheVariants as founds
 use Rattle.fsfs_edit.specs.declared.way.Target.{Target}
 use Rattle.fsfs_edit.specs.declared.way.Target.TheVariants as targets
-
--- the id of a transaction's root
-pub record IsRootId (txn : TxnName) (id : NodeId) : Type 0 where
-  pub node : part_value id.node ≡ Old 0
-  pub copy : part_value id.copy ≡ Old 0
-  pub place : id.place ≡ places.In txn
 
 -- so many names of the path lead to a file
 abbrev pub IsNoDirectory : TreeFunction → Path → ℕ → Type 0

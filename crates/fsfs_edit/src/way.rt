@@ -7,13 +7,13 @@ ghost use Rattle.fsfs_book.specs.Told.{RevisionBytes, Knows, Keeps};
 ghost use Rattle.fsfs_drafts.specs.Own.{Own as Owns, OwnNode, draft_tree};
 ghost use Rattle.fsfs_drafts.specs.Drafts.{IsDraft, ShowTrees};
 ghost use Rattle.fsfs_own.specs.Walks.{IsAt, HasKind};
-ghost use Rattle.fsfs_edit.specs.Ways.{IsRootId, IsTarget, LooksAt, Finds, Opens};
+ghost use Rattle.fsfs_edit.specs.Ways.{IsTarget, LooksAt, Finds, Opens};
 ghost use Rattle.fsfs_own.specs.Causes.{HasDiskCause, HasBenchCause};
 
-use fsfs_base::{B36, FsPath, Kind, TxnName};
+use fsfs_base::{FsPath, Kind};
 use fsfs_book::Book;
-use fsfs_noderev::{NodeId, Part, Place};
-use fsfs_own::{Child, EditError, Found, Own, Step, met, next};
+use fsfs_noderev::NodeId;
+use fsfs_own::{Child, EditError, Found, Own, Step, met, next, root_id};
 use fsfs_steps::bubble_up;
 use std::alloc::Global;
 
@@ -27,17 +27,6 @@ pub(crate) enum Target {
     /// The directory has nothing of the name.
     Free,
     Taken(Child),
-}
-
-// The id of a transaction's root.
-fn root_id(txn: TxnName) -> NodeId
-    ensures { IsRootId txn result }
-{
-    NodeId {
-        node: Part::Old(B36 { number: 0 }),
-        copy: Part::Old(B36 { number: 0 }),
-        place: Place::In(txn),
-    }
 }
 
 // What stands under a name of a directory that a walk came to.

@@ -3,7 +3,11 @@ use Rattle.std.specs.Prelude.{◌≡◌, ◌++◌, ℕ, Option, Some, None, Resu
 use Rattle.fsfs_base.specs.Paths.{Path}
 use Rattle.fsfs_tree.specs.Nodes.{Node, TreeFunction}
 use Rattle.fsfs_base.specs.declared.kind.Kind.{Kind}
+use Rattle.fsfs_fields.specs.declared.txn_name.TxnName.{TxnName}
 use Rattle.fsfs_book.specs.Told.{RevisionBytes}
+use Rattle.fsfs_noderev.specs.Ids.{Old, part_value}
+use Rattle.fsfs_noderev.specs.declared.node_id.Place.TheVariants as places
+use Rattle.fsfs_noderev.specs.declared.node_id.NodeId.{NodeId}
 use Rattle.fsfs_noderev.specs.declared.node_rev.NodeRev.{NodeRev}
 use Rattle.fsfs_shows.specs.Reading.{StandsAt}
 use Rattle.fsfs_drafts.specs.Own.{OwnNode, Own, draft_tree, shared_under, shared_at}
@@ -16,6 +20,12 @@ use Rattle.fsfs_own.specs.declared.walk.Child.{Child}
 use Rattle.fsfs_own.specs.declared.walk.Found.{Found}
 use Rattle.fsfs_own.specs.declared.walk.Found.TheVariants as founds
 use Rattle.fsfs_shows.specs.ByTree.{LacksAt, IsBlockedAt}
+
+-- the id of a transaction's root
+pub record IsRootId (txn : TxnName) (id : NodeId) : Type 0 where
+  pub node : part_value id.node ≡ Old 0
+  pub copy : part_value id.copy ≡ Old 0
+  pub place : id.place ≡ places.In txn
 
 -- a node-revision of a revision stands at the path: it stands below an own one, and what is below it is what is shared there
 pub record IsLastingAt (look : RevisionBytes) (trees : ℕ → TreeFunction) (base : ℕ) (own : Own) (path : Path) (u : NodeRev) : Type 0 where

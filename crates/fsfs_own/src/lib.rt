@@ -13,4 +13,4 @@ pub use error::EditError;
 pub use names::room_in;
 pub use own::{KeptNode, Own, OwnError};
 pub use properties::properties_in;
-pub use walk::{Child, Found, Step, met, next};
+pub use walk::{Child, Found, Step, met, next, root_id};

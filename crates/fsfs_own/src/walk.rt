@@ -7,16 +7,16 @@ ghost use Rattle.fsfs_book.specs.Told.{RevisionBytes, Knows, Keeps};
 ghost use Rattle.fsfs_drafts.specs.Own.{Own as Owns, OwnNode, draft_tree};
 ghost use Rattle.fsfs_drafts.specs.Drafts.{Folder, IsDraft, ShowTrees};
 ghost use Rattle.fsfs_fields.specs.declared.txn_name.TxnName.{TxnName};
-ghost use Rattle.fsfs_own.specs.Walks.{IsAt, IsLastingAt, HasKind, IsChild, IsFound};
+ghost use Rattle.fsfs_own.specs.Walks.{IsRootId, IsAt, IsLastingAt, HasKind, IsChild, IsFound};
 ghost use Rattle.fsfs_own.specs.Causes.{HasDiskCause, HasBenchCause};
 
 use crate::entries::entries_in;
 use crate::error::EditError;
 use crate::own::Own;
-use fsfs_base::{FsPath, Kind};
+use fsfs_base::{B36, FsPath, Kind, TxnName};
 use fsfs_book::Book;
 use fsfs_dag::{PlacedNode, child_named, child_of, entry_named};
-use fsfs_noderev::NodeId;
+use fsfs_noderev::{NodeId, Part, Place};
 use fsfs_revision::is_revision_id;
 use std::alloc::Global;
 
@@ -32,6 +32,17 @@ pub enum Step {
 pub struct Child {
     pub step: Step,
     pub kind: Kind,
+}
+
+/// The id of a transaction's root.
+pub fn root_id(txn: TxnName) -> NodeId
+    ensures { IsRootId txn result }
+{
+    NodeId {
+        node: Part::Old(B36 { number: 0 }),
+        copy: Part::Old(B36 { number: 0 }),
+        place: Place::In(txn),
+    }
 }
 
 // The child of a name in an own directory, if it has one.

@@ -7,9 +7,10 @@ use Rattle.fsfs_noderev.specs.declared.node_rev.NodeRev.{NodeRev}
 use Rattle.fsfs_dag.specs.declared.node.PlacedNode.{PlacedNode}
 use Rattle.fsfs_shows.specs.Reading.{RootOf}
 use Rattle.fsfs_fields.specs.declared.txn_name.TxnName.{TxnName}
+use Rattle.fsfs_own.specs.Walks.{IsRootId}
 use Rattle.fsfs_clash.specs.declared.walk.Roots.{Roots}
 use Rattle.fsfs_clash.specs.Merges.{MergeRooted}
-use Rattle.fsfs_clash.specs.Points.{IsRootId, IsSeenFrom}
+use Rattle.fsfs_clash.specs.Points.{IsSeenFrom}
 use Rattle.fsfs_clash.proofs.Stepping.{this, answers_from}
 use Rattle.fsfs_clash.proofs.walk.merge_of.Goals as goal
 
