@@ -5,17 +5,15 @@ ghost use Rattle.fsfs_damage.specs.Readings.{Answers};
 ghost use Rattle.fsfs_damage.specs.Causes.{HasCause};
 ghost use Rattle.fsfs_dag.specs.Views.{entry_values};
 ghost use Rattle.fsfs_shows.specs.Reading.{OfId, offset_of};
-ghost use Rattle.fsfs_own.specs.Entries.{OfIdEntries};
 ghost use Rattle.fsfs_own.specs.Views.{kept_value};
 ghost use Rattle.fsfs_clash.specs.Readings.{kept_in, IsIn, FactsBy, FactsOf, ListOf};
 
 use crate::facts::{Facts, facts_of, in_txn};
-use fsfs_base::Kind;
 use fsfs_book::Book;
-use fsfs_dag::{DirEntry, entries, named_node};
+use fsfs_dag::{DirEntry, named_node};
 use fsfs_damage::ReadError;
 use fsfs_noderev::NodeId;
-use fsfs_own::{KeptNode, Own, entries_in};
+use fsfs_own::{KeptNode, Own, entries_in, lasting_entries};
 use std::alloc::Global;
 
 // The own node-revision of an id; none: the transaction keeps none of it.
@@ -52,23 +50,6 @@ pub(crate) fn facts_in<B: Book, N: Own>(
     match kept_in(own, id) {
         Some(kept) => Ok(facts_of(&kept.node)),
         None => lasting_facts(alloc, book, id),
-    }
-}
-
-// The entries of the directory of an id of a revision; a file has none.
-fn lasting_entries<B: Book>(
-    alloc: Global,
-    book: &mut B,
-    id: &NodeId,
-) -> Result<Vec<DirEntry>, ReadError>
-    ensures told { (look : RevisionBytes) → Knows (B.told book.old).revs (offset_of id.now.place).rev look → Answers (λ v. entry_values v.items) (OfIdEntries look id.now) result }
-    ensures kept { Keeps (B.told book.old) (B.told book.new) }
-    ensures cause { HasCause (B.faults book.old) (B.faults book.new) result }
-{
-    let found = named_node(alloc, book, id)?;
-    match found.node.kind {
-        Kind::File => Ok(Vec::new(alloc)),
-        Kind::Dir => entries(alloc, book, &found),
     }
 }
 

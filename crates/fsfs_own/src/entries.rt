@@ -33,8 +33,12 @@ fn copied(alloc: Global, entries: &[DirEntry]) -> Result<Vec<DirEntry>, AllocErr
     Ok(all)
 }
 
-// The entries of the directory of an id in a revision.
-fn entries_of<B: Book>(alloc: Global, book: &mut B, id: &NodeId) -> Result<Vec<DirEntry>, ReadError>
+/// The entries of the directory of an id in a revision; a file has none.
+pub fn lasting_entries<B: Book>(
+    alloc: Global,
+    book: &mut B,
+    id: &NodeId,
+) -> Result<Vec<DirEntry>, ReadError>
     ensures told { (look : RevisionBytes) → Knows (B.told book.old).revs (offset_of id.now.place).rev look → Answers (λ v. entry_values v.items) (OfIdEntries look id.now) result }
     ensures kept { Keeps (B.told book.old) (B.told book.new) }
     ensures cause { HasCause (B.faults book.old) (B.faults book.new) result }
@@ -63,7 +67,7 @@ pub fn entries_in<B: Book>(
         },
         None => match &kept.node.predecessor {
             None => Ok(Vec::new(alloc)),
-            Some(id) => entries_of(alloc, book, id),
+            Some(id) => lasting_entries(alloc, book, id),
         },
     }
 }

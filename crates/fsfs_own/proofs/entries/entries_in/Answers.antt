@@ -15,5 +15,5 @@ pub returns-in-Some-predecessor-clause-told : goal.returns-in-Some-predecessor-c
 returns-in-Some-predecessor-clause-told g c = λ look top knows within.
     let id = c.in-Some-predecessor.id in
     let le : (offset_of id.place).rev ≤ top = subst (λ (o : Option NodeId). IsWithin top o) c.in-Some-predecessor.is within in
-    kept_reads look (kept_value c.args.kept.now) id c.entries_of.result (ap (λ (o : Option (Vec DirEntry Global)). option_map entries_seen o) c.in-None.is) c.in-Some-predecessor.is
-    (c.entries_of.ensures.told look (λ r h. knows r (omega (arith, h, le))))
+    kept_reads look (kept_value c.args.kept.now) id c.lasting_entries.result (ap (λ (o : Option (Vec DirEntry Global)). option_map entries_seen o) c.in-None.is) c.in-Some-predecessor.is
+    (c.lasting_entries.ensures.told look (λ r h. knows r (omega (arith, h, le))))

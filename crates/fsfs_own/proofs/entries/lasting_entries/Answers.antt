@@ -9,7 +9,7 @@ use Rattle.fsfs_own.specs.Entries.{OfKind}
 use Rattle.fsfs_damage.proofs.Answering.{goes_on}
 use Rattle.fsfs_dag.proofs.PairLemmas.{entries_seen}
 use Rattle.fsfs_own.proofs.Readings.{in_kind, as_dir}
-use Rattle.fsfs_own.proofs.entries.entries_of.Goals as goal
+use Rattle.fsfs_own.proofs.entries.lasting_entries.Goals as goal
 
 pub returns-in-File-clause-told : goal.returns-in-File-clause-told
 returns-in-File-clause-told g c = λ look knows.
