@@ -63,9 +63,6 @@ copy_new look top base trees shown le txn f own draft q c from at copy = by (rul
 
 module _ (look : RevisionBytes) (top base : ℕ) (trees : ℕ → TreeFunction) (shown : ShowTrees look top trees) (le : base ≤ top) (txn : TxnName) (f : Folder) (own : Own) (draft : IsDraft look top base txn f own)
     (p : Path) (d : OwnNode) (here : own p ≡ Some d) (dir : d.node.kind ≡ Dir) where
-  abbrev Old : Own
-  Old = under p own
-
   none_drawn : (o : Option Kept) (a : PartValue) → f.nodes a (ids.New f.next_copy) ≡ o → is_some o ≡ true → ⊥
   none_drawn None a is some = cc
   none_drawn (Some k) a is some = let h = (draft.drawn a (ids.New f.next_copy) k is).1 in omega (arith, h)
@@ -163,8 +160,8 @@ module _ (look : RevisionBytes) (top base : ℕ) (trees : ℕ → TreeFunction) 
         changed_draft look top base trees shown le txn f own draft p d here dir name entries listed e found lasts u W read succ part_facts.part fresh changed.new changed.replaced after files proto more w_drawn,
         changed_shows look top base trees shown le txn f own draft p d here dir name entries listed e found lasts u W read succ part_facts.part fresh changed.new changed.replaced after files proto more w_drawn,
         successor look top base trees shown le txn f own draft p d here dir name entries listed e found lasts u W read succ part_facts.part fresh changed.new changed.replaced after files proto more w_drawn,
-        graft_here p (with_child (opened d changed.new) name (alone (successor look top base trees shown le txn f own draft p d here dir name entries listed e found lasts u W read succ part_facts.part fresh changed.new changed.replaced after files proto more w_drawn)) Old) own (name ∷ [])
-            ∙ child_here (opened d changed.new) name (alone (successor look top base trees shown le txn f own draft p d here dir name entries listed e found lasts u W read succ part_facts.part fresh changed.new changed.replaced after files proto more w_drawn)) Old,
+        graft_here p (with_child (opened d changed.new) name (alone (successor look top base trees shown le txn f own draft p d here dir name entries listed e found lasts u W read succ part_facts.part fresh changed.new changed.replaced after files proto more w_drawn)) (under p own)) own (name ∷ [])
+            ∙ child_here (opened d changed.new) name (alone (successor look top base trees shown le txn f own draft p d here dir name entries listed e found lasts u W read succ part_facts.part fresh changed.new changed.replaced after files proto more w_drawn)) (under p own),
         changed.id_is,
         λ tree marks first o. edits_keep_drafts.opens look trees top base txn (step look top base trees shown le txn f own draft p d here dir name entries listed e found lasts u W read succ part_facts.part fresh changed.new changed.replaced after files proto more w_drawn) tree marks first (successor look top base trees shown le txn f own draft p d here dir name entries listed e found lasts u W read succ part_facts.part fresh changed.new changed.replaced after files proto more w_drawn) u.id o (opening look top base trees shown le txn f own draft p d here dir name entries listed e found lasts u W read succ part_facts.part fresh changed.new changed.replaced after files proto more w_drawn items apart),
       )
