@@ -29,7 +29,7 @@ use Rattle.fsfs_drafts.specs.Steps.{same_value}
 use Rattle.fsfs_drafts.specs.OwnSides.{NodesAt, in_txn}
 use Rattle.fsfs_drafts.specs.NodeDrafts.{root_in, IsOwn, is_new_part, DraftPart}
 use Rattle.fsfs_drafts.specs.NodeDrafts as nodewise
-use Rattle.fsfs_drafts.specs.Met.{draft_nodes, AreNodes}
+use Rattle.fsfs_drafts.specs.Met.{AreNodes}
 use Rattle.fsfs_drafts.specs.Sides.{HasFiles, OwnFiles, DrawnOnce}
 use Rattle.fsfs_drafts.specs.Handed.{DraftsHang}
 use Rattle.fsfs_drafts.proofs.Files.{same_value-is, same_value-refl}
@@ -84,7 +84,7 @@ both_ends t f e g = let h = sym e ∙ g in absurd cc
 module _ (look : RevisionBytes) (top base : ℕ) (trees : ℕ → TreeFunction) (nodes : ℕ → NodesAt) (shown : ShowTrees look top trees) (are : AreNodes look top nodes) (le : base ≤ top)
     (txn : TxnName) (f : Folder) (own : Own) (draft : IsDraft look top base txn f own) where
   abbrev pub met : NodesAt
-  met = draft_nodes nodes own (nodes base)
+  met = placing.met look top base trees nodes shown are le txn f own draft
 
   abbrev pub Below : Path → OwnNode → Path → NodeRev → Type 0
   Below p d q u = placing.Stands look top base trees nodes shown are le txn f own draft p d q u
