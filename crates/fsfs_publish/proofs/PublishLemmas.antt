@@ -68,10 +68,6 @@ label_gone l (Some t) new true is performed = subst (λ o. IfSome o (λ u. has_l
 label_gone l None new false is same = subst (λ o. IfSome o (λ t. has_label l (labels_now t) ≡ false)) (sym same) tt
 label_gone l (Some t) new false is same = subst (λ o. IfSome o (λ u. has_label l (labels_now u) ≡ false)) (sym same) (sym is)
 
-pub on_ok : {T E : Type 0} {P Q : Type 0} (result : Result T E) → (P → Q) → OnOk result P → OnOk result Q
-on_ok (Ok x) f p = f p
-on_ok (Err e) f p = p
-
 pub ok_of : {T E : Type 0} {P : Type 0} (result : Result T E) → IsOk result → OnOk result P → P
 ok_of (Ok x) is p = p
 ok_of (Err e) is p = cc
