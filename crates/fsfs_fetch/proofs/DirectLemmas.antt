@@ -1,10 +1,9 @@
 -- What a reader finds by the floor and the manifest that it keeps.
-use Rattle.std.proofs.Common.{◌≡◌, ◌≤◌, ◌<◌, ℕ, List, [], refl, sym, ap, subst, ◌∙◌, inl, inr, arith, Bool, true, false, cond, nat_lt}
+use Rattle.std.proofs.Common.{◌≡◌, ◌≤◌, ◌<◌, ℕ, List, [], refl, sym, ap, subst, ◌∙◌, inl, inr, Bool, true, false, cond, nat_lt}
 use Rattle.std.specs.Prelude.{Option, Some, None, Result, Ok, Err, IfSome, unwrap_or, ◌==◌, ◌&&◌, ◌⊎◌, codes}
-use Rattle.std.proofs.lemmas.Bool.{and_parts, lt-ltb, le-ltb}
+use Rattle.std.proofs.lemmas.Bool.{and_parts, lt-ltb, le-ltb, ltb-true, ltb-false}
 use Rattle.std.proofs.lemmas.Option.{same_Some}
 use Rattle.std.specs.Cmp.Lexicographic.{same_text, nat_list_eq_equiv}
-use Rattle.std.proofs.lemmas.Bool.Decides.{nat_tests}
 use Rattle.std.specs.FinMap as map
 use Rattle.fsfs_base.specs.Files.{Files}
 use Rattle.fsfs_base.specs.declared.small_fault.SmallFault.{SmallFault}
@@ -42,16 +41,10 @@ chosen : (b packed fit own : Bool) → (b ≡ true → (packed ≡ true) × (fit
 chosen true packed fit own f g = let h = f refl in rw (h.0, h.1) refl
 chosen false packed fit own f g = g refl
 
-test_less : (a b : ℕ) → nat_lt a b ≡ true → a < b
-test_less a b e = grind (arith, nat_tests)
-
-test_not_less : (a b : ℕ) → nat_lt a b ≡ false → b ≤ a
-test_not_less a b e = grind (arith, nat_tests)
-
 pub make_right : (n : Layout) (m : Files) (floor : ℕ) (kept : Option KeptManifest) (rev : ℕ) → (rev < floor → (is_packed n m rev ≡ true) × (fits n m kept rev ≡ true)) → (floor ≤ rev → agrees (rev_file n m rev) (rev_bytes n m rev) ≡ true) → is_right n m floor kept rev ≡ true
 unfolding is_right
 make_right n m floor kept rev f g =
-    chosen (nat_lt rev floor) (is_packed n m rev) (fits n m kept rev) (agrees (rev_file n m rev) (rev_bytes n m rev)) (λ e. f (test_less rev floor e)) (λ e. g (test_not_less rev floor e))
+    chosen (nat_lt rev floor) (is_packed n m rev) (fits n m kept rev) (agrees (rev_file n m rev) (rev_bytes n m rev)) (λ e. f (ltb-true rev floor e)) (λ e. g (ltb-false rev floor e))
 
 -- ---- later files
 
