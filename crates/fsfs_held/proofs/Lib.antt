@@ -1,5 +1,3 @@
-pub mod CondLemmas
 pub mod KeyLemmas
 pub mod KeyTest
 pub mod StepLemmas
-pub mod EntryLemmas

@@ -5,14 +5,14 @@ ghost use Rattle.fsfs_held.specs.Keys.{at_key};
 ghost use Rattle.fsfs_held.specs.Lists.{files_of, with_steps};
 ghost use Rattle.fsfs_held.specs.Views.{begun_folder};
 
-use crate::changed::{new_node, with_entries, with_props, with_text, without_name};
+use crate::changed::{new_node, with_entries, with_props, with_text};
 use crate::keys::{NodeKey, key_of};
 use crate::nodes::{Nodes, make_room, node_at, put, settle_steps};
 use crate::steps::{Step, last_of};
-use fsfs_base::{B36, Name, Pairs, TxnName, next_b36};
+use fsfs_base::{B36, Kind, Name, Pairs, TxnName, next_b36};
 use fsfs_changes::ChangeItem;
-use fsfs_dag::DirEntry;
 use fsfs_disk::Bench;
+use fsfs_listing::{Listing, Target};
 use fsfs_noderev::{NodeId, NodeRev, Rep};
 use fsfs_own::{KeptNode, Own, OwnError};
 use std::alloc::{AllocError, Global};
@@ -140,14 +140,18 @@ impl<D: Bench> Own for HeldNodes<D> {
     fn put_child(
         &mut self,
         dir: &NodeId,
-        entries: Vec<DirEntry>,
+        entries: Listing,
+        name: &str,
+        kind: Kind,
         child: NodeRev,
     ) -> Result<(), AllocError> {
         let key = key_of(dir);
         let Some(kept) = self.found(&key) else {
             return Err(AllocError);
         };
-        let opened = with_entries(kept, entries)?;
+        let target = Target { kind, id: child.id };
+        let new = entries.with(self.alloc, name, target)?;
+        let opened = with_entries(kept, new)?;
         self.steps.reserve(2)?;
         let child_key = key_of(&child.id);
         let made = new_node(child);
@@ -162,14 +166,15 @@ impl<D: Bench> Own for HeldNodes<D> {
     fn take_entry(
         &mut self,
         dir: &NodeId,
-        entries: Vec<DirEntry>,
+        entries: Listing,
         name: &str,
     ) -> Result<(), AllocError> {
         let key = key_of(dir);
         let Some(kept) = self.found(&key) else {
             return Err(AllocError);
         };
-        let opened = with_entries(kept, without_name(entries, name))?;
+        let new = entries.without(self.alloc, name)?;
+        let opened = with_entries(kept, new)?;
         self.steps.push(Step { key, kept: opened })?;
         Ok(())
     }
@@ -179,7 +184,7 @@ impl<D: Bench> Own for HeldNodes<D> {
         let Some(kept) = self.found(&key) else {
             return Err(AllocError);
         };
-        let changed = with_text(self.alloc, kept, rep)?;
+        let changed = with_text(kept, rep)?;
         self.steps.push(Step { key, kept: changed })?;
         Ok(())
     }
@@ -189,7 +194,7 @@ impl<D: Bench> Own for HeldNodes<D> {
         let Some(kept) = self.found(&key) else {
             return Err(AllocError);
         };
-        let changed = with_props(self.alloc, kept, props)?;
+        let changed = with_props(kept, props)?;
         self.steps.push(Step { key, kept: changed })?;
         Ok(())
     }

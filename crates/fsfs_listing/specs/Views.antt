@@ -1,0 +1,8 @@
+-- What a listing lists.
+use Rattle.std.specs.Prelude.{List}
+use Rattle.fsfs_shows.specs.Reading.{DirEntry}
+use Rattle.fsfs_listing.specs.declared.listing.Listing.{Listing}
+use Rattle.fsfs_listing.specs.Trees.{values}
+
+abbrev pub listed : Listing → List DirEntry
+listed l = values l.root.value
