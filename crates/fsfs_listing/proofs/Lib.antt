@@ -2,3 +2,4 @@ pub mod Lists
 pub mod Changing
 pub mod Values
 pub mod Branches
+pub mod Hashing
