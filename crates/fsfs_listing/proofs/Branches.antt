@@ -1,6 +1,6 @@
 -- Branches of a tree, by what lies on their two sides.
-use Rattle.std.proofs.Common.{◌≡◌, ℕ, Bool, true, false, not, ◌&&◌, List, ◌++◌, sym, ap, subst, ◌∙◌}
-use Rattle.std.specs.Prelude.{Option}
+use Rattle.std.proofs.Common.{◌≡◌, ◌<◌, ◌≤◌, ℕ, Bool, true, false, not, ◌&&◌, List, ◌++◌, sym, ap, subst, ◌∙◌, arith}
+use Rattle.std.specs.Prelude.{Option, nat_lt}
 use Rattle.std.proofs.lemmas.Bool.{and_parts}
 use Rattle.fsfs_base.specs.Paths.{PathName}
 use Rattle.fsfs_shows.specs.Reading.{DirEntry, named}
@@ -9,6 +9,13 @@ use Rattle.fsfs_listing.specs.Lists.{IsChangedList, IsSameList, kept_names, all_
 use Rattle.fsfs_listing.specs.Trees.{values, is_sorted}
 use Rattle.fsfs_listing.proofs.Lists.{kept_is}
 use Rattle.fsfs_listing.proofs.Changing.{same_parts, low_named, high_named, low_changed, high_changed}
+
+-- tests of a hash
+pub lt_true : (a b hash : ℕ) → hash ≡ a → hash < b → nat_lt a b ≡ true
+lt_true a b hash is lt = let e : nat_lt hash b ≡ true = grind (arith, lt) in subst (λ (x : ℕ). nat_lt x b ≡ true) is e
+
+pub lt_false : (a b hash : ℕ) → hash ≡ a → b ≤ hash → nat_lt a b ≡ false
+lt_false a b hash is le = let e : nat_lt hash b ≡ false = grind (arith, le) in subst (λ (x : ℕ). nat_lt x b ≡ false) is e
 
 -- what is asked of a branch with these sides
 abbrev pub sorted_sides : ℕ → Tree → Tree → Bool
@@ -64,3 +71,18 @@ module _ (middle : ℕ) (low high : Tree) (s : Sides middle low high) where
 
     pub high_side : is_below middle name ≡ false → IsChangedList (values high) (values new) name e → IsChangedList (values low ++ values high) (values low ++ values new) name e
     high_side this c = high_changed middle name (values low) (values high) e s.lows s.highs (values new) this c
+
+    -- the branch that is made of it
+    pub low_branch : (left right : Tree) → left ≡ new → right ≡ high → is_below middle name ≡ true → IsChangedList (values low) (values new) name e
+        → (sorted_sides middle left right ≡ true) × IsChangedList (values low ++ values high) (values left ++ values right) name e
+    low_branch left right left_is right_is this c = (
+      (λ i. sorted_sides middle (left_is i) (right_is i)) ∙ sides_sorted middle new high (low_sides this c),
+      subst (λ (l : List DirEntry). IsChangedList (values low ++ values high) l name e) (sym (λ i. values (left_is i) ++ values (right_is i))) (low_side this c),
+    )
+
+    pub high_branch : (left right : Tree) → left ≡ low → right ≡ new → is_below middle name ≡ false → IsChangedList (values high) (values new) name e
+        → (sorted_sides middle left right ≡ true) × IsChangedList (values low ++ values high) (values left ++ values right) name e
+    high_branch left right left_is right_is this c = (
+      (λ i. sorted_sides middle (left_is i) (right_is i)) ∙ sides_sorted middle low new (high_sides this c),
+      subst (λ (l : List DirEntry). IsChangedList (values low ++ values high) l name e) (sym (λ i. values (left_is i) ++ values (right_is i))) (high_side this c),
+    )

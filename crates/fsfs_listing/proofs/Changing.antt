@@ -133,7 +133,7 @@ module _ (middle : ℕ) (name : PathName) (low high : List DirEntry) (e : Option
           let h = c.count in
           let g = length-append new high in
           let f = length-append low high in
-          let same = ap (λ (o : Option DirEntry). cond (is_some o) 1 0) (low_named middle name low high highs this) in
+          let same = ap {B = ℕ} (λ (o : Option DirEntry). cond (is_some o) 1 0) (low_named middle name low high highs this) in
           omega (arith, h, g, f, same)
 
   -- or the high side
@@ -162,7 +162,7 @@ module _ (middle : ℕ) (name : PathName) (low high : List DirEntry) (e : Option
           let h = c.count in
           let g = length-append low new in
           let f = length-append low high in
-          let same = ap (λ (o : Option DirEntry). cond (is_some o) 1 0) (high_named middle name low high lows this) in
+          let same = ap {B = ℕ} (λ (o : Option DirEntry). cond (is_some o) 1 0) (high_named middle name low high lows this) in
           omega (arith, h, g, f, same)
 
 -- ---- as they are made

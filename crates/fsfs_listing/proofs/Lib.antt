@@ -2,4 +2,3 @@ pub mod Lists
 pub mod Changing
 pub mod Values
 pub mod Branches
-pub mod Hashing

@@ -1,13 +1,15 @@
 -- Looks for a name in lists that were cut and joined.
 use Rattle.std.proofs.Common.{◌≡◌, ◌≤◌, ◌+◌, ℕ, Bool, true, false, not, ◌&&◌, cond, List, [], ◌∷◌, ◌++◌, length, refl, sym, ap, subst, ◌∙◌, arith}
-use Rattle.std.specs.Prelude.{Option, Some, None, is_some}
+use Rattle.std.specs.Prelude.{Option, Some, None, is_some, option_map}
 use Rattle.std.proofs.lemmas.Bool.{and_parts, false_from_ne_true}
 use mathlib.Core.Bool.{false≢true}
 use Rattle.std.specs.Cmp.Lexicographic.{nat_list_eq_equiv}
 use Rattle.fsfs_base.specs.Paths.{PathName, same_name}
 use Rattle.fsfs_base.proofs.PathLemmas.{same_name-is}
 use Rattle.fsfs_shows.specs.Reading.{DirEntry, named}
+use Rattle.fsfs_listing.specs.declared.target.Target.{Target}
 use Rattle.fsfs_listing.specs.Lists.{kept_names, all_names, is_other}
+use Rattle.fsfs_listing.specs.Targets.{target_entry}
 
 -- what was found, or else the other
 abbrev pub or_other : Option DirEntry → Option DirEntry → Option DirEntry
@@ -39,14 +41,14 @@ named_append y (e ∷ a) b = by (same_name e.name y) (named_append y a b)
 -- no entry has a name that is not as all names are
 pub none_named : (is : PathName → Bool) (y : PathName) (es : List DirEntry) → all_names is es ≡ true → is y ≡ false → named y es ≡ None
 none_named is y [] all not_y = refl
-none_named is y (e ∷ es) all not_y = by (same_name e.name y) refl
+none_named is y (e ∷ es) all not_y = by (same_name e.name y) refl (none_named is y es)
   where
     parts : (is e.name ≡ true) × (all_names is es ≡ true)
     parts = and_parts (is e.name) (all_names is es) all
 
-    by : (s : Bool) → same_name e.name y ≡ s → cond s (Some e) (named y es) ≡ None
-    by true same = absurd (false≢true (sym (same_said is e.name y false same not_y) ∙ parts.0))
-    by false same = none_named is y es parts.1 not_y
+    by : (s : Bool) → same_name e.name y ≡ s → (all_names is es ≡ true → is y ≡ false → named y es ≡ None) → cond s (Some e) (named y es) ≡ None
+    by true same rest = absurd (false≢true (sym (same_said is e.name y false same not_y) ∙ parts.0))
+    by false same rest = rest parts.1 not_y
 
 -- a look among those that are kept
 pub kept_named : (is : PathName → Bool) (y : PathName) (es : List DirEntry) → named y (kept_names is es) ≡ cond (is y) (named y es) None
@@ -73,23 +75,23 @@ kept_named is y (e ∷ es) = by (is e.name) refl (same_name e.name y) refl (kept
 -- those that are kept are as all were
 pub kept_all : (is also : PathName → Bool) (es : List DirEntry) → all_names also es ≡ true → all_names also (kept_names is es) ≡ true
 kept_all is also [] all = refl
-kept_all is also (e ∷ es) all = by (is e.name)
+kept_all is also (e ∷ es) all = by (is e.name) (kept_all is also es)
   where
     parts : (also e.name ≡ true) × (all_names also es ≡ true)
     parts = and_parts (also e.name) (all_names also es) all
 
-    by : (b : Bool) → all_names also (cond b (e ∷ kept_names is es) (kept_names is es)) ≡ true
-    by true = (λ i. parts.0 i && kept_all is also es parts.1 i)
-    by false = kept_all is also es parts.1
+    by : (b : Bool) → (all_names also es ≡ true → all_names also (kept_names is es) ≡ true) → all_names also (cond b (e ∷ kept_names is es) (kept_names is es)) ≡ true
+    by true rest = (λ i. parts.0 i && rest parts.1 i)
+    by false rest = rest parts.1
 
 -- and as they are kept for
 pub kept_is : (is : PathName → Bool) (es : List DirEntry) → all_names is (kept_names is es) ≡ true
 kept_is is [] = refl
-kept_is is (e ∷ es) = by (is e.name) refl
+kept_is is (e ∷ es) = by (is e.name) refl (kept_is is es)
   where
-    by : (b : Bool) → is e.name ≡ b → all_names is (cond b (e ∷ kept_names is es) (kept_names is es)) ≡ true
-    by true has = (λ i. has i && kept_is is es i)
-    by false has = kept_is is es
+    by : (b : Bool) → is e.name ≡ b → all_names is (kept_names is es) ≡ true → all_names is (cond b (e ∷ kept_names is es) (kept_names is es)) ≡ true
+    by true has rest = (λ i. has i && rest i)
+    by false has rest = rest
 
 -- without the entries of a name there are fewer, if there is one
 pub count_others : (name : PathName) (es : List DirEntry) → length (kept_names (is_other name) es) + cond (is_some (named name es)) 1 0 ≤ length es
@@ -99,11 +101,11 @@ count_others name (e ∷ es) = by (same_name e.name name) (count_others name es)
     rest : ℕ
     rest = length (kept_names (is_other name) es)
 
-    fewer : (b : Bool) → rest + cond b 1 0 ≤ length es → rest + 1 ≤ length es + 1
+    fewer : (b : Bool) → rest + cond b 1 0 ≤ length es → rest + 1 ≤ length (e ∷ es)
     fewer true h = omega (arith, h)
     fewer false h = omega (arith, h)
 
-    more : (b : Bool) → rest + cond b 1 0 ≤ length es → (rest + 1) + cond b 1 0 ≤ length es + 1
+    more : (b : Bool) → rest + cond b 1 0 ≤ length es → length (e ∷ kept_names (is_other name) es) + cond b 1 0 ≤ length (e ∷ es)
     more true h = omega (arith, h)
     more false h = omega (arith, h)
 
@@ -111,3 +113,13 @@ count_others name (e ∷ es) = by (same_name e.name name) (count_others name es)
         → length (cond (not s) (e ∷ kept_names (is_other name) es) (kept_names (is_other name) es)) + cond (is_some (cond s (Some e) (named name es))) 1 0 ≤ length (e ∷ es)
     by true h = fewer (is_some (named name es)) h
     by false h = more (is_some (named name es)) h
+
+-- ---- whether there is an entry
+
+pub some_mapped : {A B : Type 0} (f : A → B) (o : Option A) (x : Option B) → option_map f o ≡ x → is_some o ≡ is_some x
+some_mapped {B = B} f None x is = ap (λ (o : Option B). is_some o) is
+some_mapped {B = B} f (Some a) x is = ap (λ (o : Option B). is_some o) is
+
+pub some_entry : (name : PathName) (target : Option Target) → is_some target ≡ is_some (target_entry name target)
+some_entry name None = refl
+some_entry name (Some t) = refl

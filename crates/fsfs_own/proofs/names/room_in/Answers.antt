@@ -21,7 +21,7 @@ returns-then-has_few-clause-tells g c = λ look top k knows there within.
     let n = names_in few.0 in
     let le : n.0 ≤ length few.0 = n.2 in
     let lt = few.2 in
-    (few.0, own_list look k few.0 (ap (λ (x : Kept). x.entries) (sym one) ∙ few.1), n.0, n.1, (let e : true ≡ nat_lt n.0 1048576 = grind (arith, le, lt) in e))
+    (few.0, own_list look k few.0 (ap (λ (x : Kept). x.entries) (sym one) ∙ few.1), (n.0, n.1, (let e : true ≡ nat_lt n.0 1048576 = grind (arith, le, lt) in e)))
 
 pub returns-in_err-entries-clause-tells : goal.returns-in_err-entries-clause-tells
 returns-in_err-entries-clause-tells g c = λ look top k knows there within.

@@ -19,7 +19,7 @@ loop-entry-preserved c =
     (λ i. cond (same_name (is i) y) (Some (record { name = is i; kind = e.kind; id = e.id })) (so.2 y i)) in (
       e ∷ so.0,
       so.1 ∙ ap (λ t. t ++ so.0) c.in-Some.ensures.items ∙ append_assoc c.pop.new.self.items (e ∷ []) so.0,
-      λ y. c.in_ok-with.ensures y ∙ step c.as_str.result.now y c.as_str.ensures.value,
+      λ y. c.in_ok-listing-2.ensures y ∙ step c.as_str.result.now y c.as_str.ensures.value,
     )
 
 pub returns : goal.returns
