@@ -8,7 +8,6 @@ use Rattle.fsfs_hash.specs.Dump.{IsDump}
 use Rattle.fsfs_disk.specs.Trace.{Put}
 use Rattle.fsfs_machine.specs.declared.machine.Coming.{Coming}
 use Rattle.fsfs_machine.specs.declared.machine.Txn.{Txn}
-use Rattle.fsfs_places.specs.declared.place.DiskPlace.{DiskPlace}
 use Rattle.fsfs_places.specs.declared.place.DiskPlace.TheVariants.{Commit}
 use Rattle.fsfs_places.specs.declared.place.CommitPlace.{CommitPlace}
 use Rattle.fsfs_places.specs.declared.place.CommitPlace.TheVariants.{PutRev, PutProps}
@@ -135,10 +134,6 @@ made_next v properties next rev a b c d same i = subst (λ l. IsMade v l rev a b
 
 pub props_due : (v : View) (x : Coming) (rev : ℕ) (a b p d bytes : List ℕ) → bytes ≡ p → v.section ≡ Some (RevPut x) → IsMade v x.revision.properties rev a b p d → IsDue v (Commit PutProps) (Put b bytes)
 props_due v x rev a b p d bytes same at i = (x, at, i.props_named ∙ ap (λ r. props_name v r) i.number, subst (λ t. IsDump t x.revision.properties) (sym same) i.dump, i.fits)
-
-pub goes_with : (known : View → Type 0) (result : Result (Unit {0}) CommitPlace) (v : View) (txn : Txn) (properties : List (List ℕ × List ℕ)) (next : Revision) (a b : List ℕ) → a ≡ b
-    → Goes known result (coming_of v txn properties next a) (RevPut (coming_of v txn properties next a)) v → Goes known result (coming_of v txn properties next b) (RevPut (coming_of v txn properties next b)) v
-goes_with known result v txn properties next a b same goes = subst (λ z. Goes known result (coming_of v txn properties next z) (RevPut (coming_of v txn properties next z)) v) same goes
 
 -- the count of faults over two calls, of which the first was done
 pub cause_on : {X E F : Type 0} {before middle now : ℕ} (result : Result X E) → HasCause {T = Unit {0}} {E = F} before middle (Ok tt) → middle ≤ now → OnOk result (now ≡ middle) → OnErr result (Rose middle now) → HasCause before now result

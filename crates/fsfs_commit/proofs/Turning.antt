@@ -22,7 +22,7 @@ use Rattle.fsfs_layout.specs.FileNames.{file_name}
 use Rattle.fsfs_layout.specs.declared.repository_file.RepositoryFile.TheVariants as file
 use Rattle.fsfs_turn.specs.Bytes.{BytesShow}
 use Rattle.fsfs_turn.specs.Views.{View, Begins, IsTxnOver, Turned, is_held, Looked, LockTaken, FoundStuck, LockGiven, MayGive, MayAdopt, coming_of}
-use Rattle.fsfs_commit.specs.declared.section.Made.{Made}
+use Rattle.fsfs_commit.specs.declared.made.Made.{Made}
 use Rattle.fsfs_commit.specs.declared.committing.Ready.{Ready}
 use Rattle.fsfs_commit.specs.declared.committing.CommitFault.{CommitFault}
 use Rattle.fsfs_commit.specs.declared.committing.CommitFault.TheVariants as fault
@@ -30,7 +30,8 @@ use Rattle.fsfs_commit.specs.Courses.{Course, End, More, IsMade, Published, Stop
 use Rattle.fsfs_commit.specs.Works.{CanCommit, LandedOn, Landings, Unmoved, Moved as LandedMore, ReadOnly}
 use Rattle.fsfs_commit.specs.Replies.{Drifted, IsReady, Committed, Lost, IsTurn, Cause, Refused}
 use Rattle.fsfs_commit.proofs.Going.{append}
-use Rattle.fsfs_commit.proofs.Handing.{txn_later, entry_back}
+use Rattle.fsfs_turn.proofs.Longer.{txn_later}
+use Rattle.fsfs_commit.proofs.Handing.{entry_back}
 
 -- ---- what a pass drifts by
 
@@ -176,23 +177,23 @@ no_memory head v m u x y l r landed = record {
 }
 
 -- what a marshalling gives
-abbrev pub Marshalled : ℕ → Made → List (List ℕ × List ℕ) → View → Txn → ℕ → Type 0
-Marshalled rev made properties u y number = (next : Revision) × IsNext (revisions (take rev u.seen)) (entry_of number y properties) next
-    × BytesShow (take rev u.seen ++ record { revision = next; bytes = made.bytes.items } ∷ [])
+abbrev pub Marshalled : (List ℕ → Type 0) → ℕ → Made → List (List ℕ × List ℕ) → View → Txn → ℕ → Type 0
+Marshalled holds rev made properties u y number = (bytes : List ℕ) × holds bytes × (next : Revision) × IsNext (revisions (take rev u.seen)) (entry_of number y properties) next
+    × BytesShow (take rev u.seen ++ record { revision = next; bytes = bytes } ∷ [])
     × (made.rev ≡ rev) × (rev ≡ length u.seen → IsMade u properties rev made.rev_file made.props_file made.properties.items made.current.items)
 
 pub marshal_shown : (head next : ℕ) (m u : View) → next ≡ head + 1 → ReadOnly m u → BytesShow (take next u.seen)
 marshal_shown head next m u e r = r.shown next (omega (arith, e))
 
-pub prepared : (head : ℕ) (made : Made) (properties : List (List ℕ × List ℕ)) (v m u : View) (x y : Txn) → Looked head v m → ReadOnly m u → LandedOn head u.seen x y → CanCommit v x properties
-    → ((number : ℕ) → Marshalled (head + 1) made properties u y number) → IsReady (record { head = head; made = made }) properties v u x y
-prepared head made properties v m u x y l r landed can all = record {
+pub prepared : (holds : List ℕ → Type 0) (head : ℕ) (made : Made) (properties : List (List ℕ × List ℕ)) (v m u : View) (x y : Txn) → Looked head v m → ReadOnly m u → LandedOn head u.seen x y → CanCommit v x properties
+    → ((number : ℕ) → Marshalled holds (head + 1) made properties u y number) → IsReady holds (record { head = head; made = made }) properties v u x y
+prepared holds head made properties v m u x y l r landed can all = record {
   moved = record { drifted = drifted_on v m u (by_look head v m l) (by_reads m u r); section = ap {A = View} (λ z. z.section) r.is ∙ ap {A = View} (λ z. z.section) l.is };
   from = can;
   landings = LandedMore x x y head u.seen (Unmoved x) (none_more u.seen u.seen refl) landed;
   can = can_landed head v u x y properties (ap {A = View} (λ z. z.given) r.is ∙ ap {A = View} (λ z. z.given) l.is) landed can;
   base = landed.base;
-  rev = (all 0).3;
+  rev = (all 0).5;
   above = l.least;
   seen = omega (arith, landed.there);
   least = ap {A = View} (λ z. z.pass.least) r.is ∙ ap {A = View} (λ z. z.pass.least) l.is;
@@ -202,57 +203,63 @@ prepared head made properties v m u x y l r landed can all = record {
       let seen : length m.seen ≡ length v.seen = ap {A = View} (λ z. length z.seen) l.is in
       let more = r.within (ap {A = View} (λ z. z.sure) l.is ∙ held) (omega (arith, least, seen, l.seen)) in
       omega (arith, least, more);
-  to_come = λ number. let a = all number in (a.0, record { is = a.1; shows = a.2; written = λ whole. subst (λ n. IsMade u properties n made.rev_file made.props_file made.properties.items made.current.items) (sym a.3) (a.4 whole) });
+  to_come = λ number. let a = all number in (a.0, a.1, a.2, record { is = a.3; shows = a.4; written = λ whole. subst (λ n. IsMade u properties n made.rev_file made.props_file made.properties.items made.current.items) (sym a.5) (a.6 whole) });
 }
 
 -- the premises of a marshalling
 pub can_marshal : (head : ℕ) (v m u : View) (x y : Txn) (p q : List (List ℕ × List ℕ)) → q ≡ p → Looked head v m → ReadOnly m u → LandedOn head u.seen x y → CanCommit v x p → CanCommit u y q
 can_marshal head v m u x y p q same l r landed can = subst (λ z. CanCommit u y z) (sym same) (can_landed head v u x y p (ap {A = View} (λ z. z.given) r.is ∙ ap {A = View} (λ z. z.given) l.is) landed can)
 
-pub marshalled_for : (rev next number : ℕ) (made : Made) (p q : List (List ℕ × List ℕ)) (u : View) (y : Txn) → next ≡ rev → q ≡ p → Marshalled next made q u y number → Marshalled rev made p u y number
-marshalled_for rev next number made p q u y e same w = subst (λ n. Marshalled n made p u y number) e (subst (λ z. Marshalled next made z u y number) same w)
+pub marshalled_for : (holds : List ℕ → Type 0) (rev next number : ℕ) (made : Made) (p q : List (List ℕ × List ℕ)) (u : View) (y : Txn) → next ≡ rev → q ≡ p → Marshalled holds next made q u y number → Marshalled holds rev made p u y number
+marshalled_for holds rev next number made p q u y e same w = subst (λ n. Marshalled holds n made p u y number) e (subst (λ z. Marshalled holds next made z u y number) same w)
 
 -- ---- the turn
 
-pub found_stuck : {E : Type 0} (place : DiskPlace) (ready : Ready) (properties : List (List ℕ × List ℕ)) (v u m : View) (x y : Txn) → IsReady ready properties v u x y → FoundStuck place u m → Refused {E = E} (fault.Stuck place) v m x y
-found_stuck place ready properties v u m x y r f = record {
+pub found_stuck : {E : Type 0} (holds : List ℕ → Type 0) (place : DiskPlace) (ready : Ready) (properties : List (List ℕ × List ℕ)) (v u m : View) (x y : Txn) → IsReady holds ready properties v u x y → FoundStuck place u m → Refused {E = E} (fault.Stuck place) v m x y
+found_stuck holds place ready properties v u m x y r f = record {
   moved = record { drifted = drifted_on v u m r.moved.drifted (by_finding place u m f); section = ap {A = View} (λ z. z.section) f.is ∙ r.moved.section };
   landings = landings_later u.seen m.seen x y (by_finding place u m f).grows r.landings;
   cause = ap {A = View} (λ z. z.pass.stuck) f.is;
 }
 
 -- what is known with the lock held and the youngest number told
-pub drifted_in : (young : ℕ) (ready : Ready) (properties : List (List ℕ × List ℕ)) (v u m n : View) (x y : Txn) → IsReady ready properties v u x y → LockTaken u m → Looked young m n → Drifted v n
-drifted_in young ready properties v u m n x y r t l = drifted_on v m n (drifted_on v u m r.moved.drifted (by_taking u m t)) (by_look young m n l)
+pub drifted_in : (holds : List ℕ → Type 0) (young : ℕ) (ready : Ready) (properties : List (List ℕ × List ℕ)) (v u m n : View) (x y : Txn) → IsReady holds ready properties v u x y → LockTaken u m → Looked young m n → Drifted v n
+drifted_in holds young ready properties v u m n x y r t l = drifted_on v m n (drifted_on v u m r.moved.drifted (by_taking u m t)) (by_look young m n l)
 
 pub may_let_go : (young : ℕ) (u m n : View) → LockTaken u m → Looked young m n → MayGive n
 may_let_go young u m n t l = record { inside = Begun; is = ap {A = View} (λ z. z.section) l.is ∙ ap {A = View} (λ z. z.section) t.is; quiet = refl }
 
-pub lost : (young : ℕ) (ready : Ready) (properties : List (List ℕ × List ℕ)) (v u m n o : View) (x y : Txn) → v.section ≡ None → IsReady ready properties v u x y → LockTaken u m → Looked young m n → LockGiven (step.GiveLock n.number) n o → Lost properties v o x y
-lost young ready properties v u m n o x y none r t l g = record {
-  moved = record { drifted = drifted_on v n o (drifted_in young ready properties v u m n x y r t l) (by_giving (step.GiveLock n.number) n o g); section = ap {A = View} (λ z. z.section) g.is ∙ sym none };
+pub lost : (holds : List ℕ → Type 0) (young : ℕ) (ready : Ready) (properties : List (List ℕ × List ℕ)) (v u m n o : View) (x y : Txn) → v.section ≡ None → IsReady holds ready properties v u x y → LockTaken u m → Looked young m n → LockGiven (step.GiveLock n.number) n o → Lost properties v o x y
+lost holds young ready properties v u m n o x y none r t l g = record {
+  moved = record { drifted = drifted_on v n o (drifted_in holds young ready properties v u m n x y r t l) (by_giving (step.GiveLock n.number) n o g); section = ap {A = View} (λ z. z.section) g.is ∙ sym none };
   from = r.from;
   landings = landings_later u.seen o.seen x y (none_more o.seen u.seen (ap {A = View} (λ z. z.seen) g.is ∙ ap {A = View} (λ z. z.seen) l.is ∙ ap {A = View} (λ z. z.seen) t.is)) r.landings;
   can = can_same u o y properties (ap {A = View} (λ z. z.seen) g.is ∙ ap {A = View} (λ z. z.seen) l.is ∙ ap {A = View} (λ z. z.seen) t.is) (ap {A = View} (λ z. z.given) g.is ∙ ap {A = View} (λ z. z.given) l.is ∙ ap {A = View} (λ z. z.given) t.is) r.can;
 }
 
-module _ (ready : Ready) (properties : List (List ℕ × List ℕ)) (v u n : View) (x y : Txn) (r : IsReady ready properties v u x y) (section : n.section ≡ Some Begun) (sure : n.sure ≡ true) (least : n.pass.least ≡ ready.head) (seen : n.seen ≡ u.seen) (given : n.given ≡ u.given) (layout : n.layout ≡ u.layout) (drifted : Drifted v n) (within : length n.seen ≤ ready.head + 1) where
+module _ (holds : List ℕ → Type 0) (ready : Ready) (properties : List (List ℕ × List ℕ)) (v u n : View) (x y : Txn) (r : IsReady holds ready properties v u x y) (section : n.section ≡ Some Begun) (sure : n.sure ≡ true) (least : n.pass.least ≡ ready.head) (seen : n.seen ≡ u.seen) (given : n.given ≡ u.given) (layout : n.layout ≡ u.layout) (drifted : Drifted v n) (within : length n.seen ≤ ready.head + 1) where
   length_is : ready.head + 1 ≡ length u.seen
   length_is = let e : length n.seen ≡ length u.seen = ap length seen in omega (arith, e, r.seen, within)
 
+  abbrev pub bytes : List ℕ
+  bytes = (r.to_come n.number).0
+
+  pub held : holds bytes
+  held = (r.to_come n.number).1
+
   abbrev pub next : Revision
-  next = (r.to_come n.number).0
+  next = (r.to_come n.number).2
 
   first : take (ready.head + 1) u.seen ≡ n.seen
   first = take_all (ready.head + 1) u.seen (omega (arith, length_is)) ∙ sym seen
 
   pub next_is : IsNext (revisions n.seen) (entry_of n.number y properties) next
-  next_is = subst (λ h. IsNext (revisions h) (entry_of n.number y properties) next) first (r.to_come n.number).1.is
+  next_is = subst (λ h. IsNext (revisions h) (entry_of n.number y properties) next) first (r.to_come n.number).3.is
 
-  pub shows : BytesShow (n.seen ++ record { revision = next; bytes = ready.made.bytes.items } ∷ [])
-  shows = subst (λ h. BytesShow (h ++ record { revision = next; bytes = ready.made.bytes.items } ∷ [])) first (r.to_come n.number).1.shows
+  pub shows : BytesShow (n.seen ++ record { revision = next; bytes = bytes } ∷ [])
+  shows = subst (λ h. BytesShow (h ++ record { revision = next; bytes = bytes } ∷ [])) first (r.to_come n.number).3.shows
 
-  pub may_adopt : MayAdopt n y properties next ready.made.bytes.items
+  pub may_adopt : MayAdopt n y properties next bytes
   may_adopt =
       let can = can_same u n y properties seen given r.can in
       let e : length n.seen ≡ length u.seen = ap length seen in
@@ -260,7 +267,7 @@ module _ (ready : Ready) (properties : List (List ℕ × List ℕ)) (v u n : Vie
 
   pub is_made : IsMade n properties ready.made.rev ready.made.rev_file ready.made.props_file ready.made.properties.items ready.made.current.items
   is_made =
-      let i = (r.to_come n.number).1.written length_is in
+      let i = (r.to_come n.number).3.written length_is in
       record { number = i.number ∙ ap length (sym seen); rev_named = i.rev_named ∙ ap (λ k. file_name k (file.Revision ready.made.rev)) (sym layout); props_named = i.props_named ∙ ap (λ k. file_name k (file.Props ready.made.rev)) (sym layout); dump = i.dump; line = i.line; fits = subst (λ h. length h < 2 ^ 32) (sym seen) i.fits }
 
   landings_here : Landings n.seen x y
@@ -269,16 +276,16 @@ module _ (ready : Ready) (properties : List (List ℕ × List ℕ)) (v u n : Vie
   over_here : IsTxnOver n.seen x
   over_here = txn_later v.seen n.seen x drifted.grows (omega (arith, r.from.based)) r.from.over
 
-  history_at : (o : View) → Published y properties next ready.made.bytes.items n o → IsHistory (revisions n.seen)
+  history_at : (o : View) → Published y properties next bytes n o → IsHistory (revisions n.seen)
   history_at o p = first_of n o p.course section (ap {A = View} (λ z. z.section) p.is) sure may_adopt.seen
 
-  pub committed : (o : View) → Published y properties next ready.made.bytes.items n o → Committed ready.made.rev properties v o x y
+  pub committed : (o : View) → Published y properties next bytes n o → Committed ready.made.rev properties v o x y
   committed o p = record {
     landings = landings_here;
     history = history_at o p;
     handed_in = subst (λ k. IsNext (revisions n.seen) (entry_of k x properties) next) drifted.number (entry_back n.seen n.number properties next x y (history_at o p) over_here landings_here next_is);
     before = n.seen;
-    next = recorded (coming_of n y properties next ready.made.bytes.items);
+    next = recorded (coming_of n y properties next bytes);
     is = ap {A = View} (λ z. z.seen) p.is;
     number = is_made.number;
     begins = drifted.grows;
@@ -299,7 +306,7 @@ module _ (ready : Ready) (properties : List (List ℕ × List ℕ)) (v u n : Vie
   }
 
 -- the lock was taken, and the youngest number is still the head
-module _ (young : ℕ) (ready : Ready) (properties : List (List ℕ × List ℕ)) (v u m n : View) (x y : Txn) (r : IsReady ready properties v u x y) (t : LockTaken u m) (l : Looked young m n) (same : young ≡ ready.head) where
+module _ (holds : List ℕ → Type 0) (young : ℕ) (ready : Ready) (properties : List (List ℕ × List ℕ)) (v u m n : View) (x y : Txn) (r : IsReady holds ready properties v u x y) (t : LockTaken u m) (l : Looked young m n) (same : young ≡ ready.head) where
   pub section_at : n.section ≡ Some Begun
   section_at = ap {A = View} (λ z. z.section) l.is ∙ ap {A = View} (λ z. z.section) t.is
 
@@ -321,20 +328,26 @@ module _ (young : ℕ) (ready : Ready) (properties : List (List ℕ × List ℕ)
   pub within_at : length n.seen ≤ ready.head + 1
   within_at = let e : length n.seen ≡ length m.seen = ap {A = View} (λ z. length z.seen) l.is in omega (arith, e, l.seen, same)
 
-  abbrev pub next_at : Revision
-  next_at = next ready properties v u n x y r section_at sure_at least_at seen_at given_at layout_at (drifted_in young ready properties v u m n x y r t l) within_at
+  abbrev pub bytes_at : List ℕ
+  bytes_at = bytes holds ready properties v u n x y r section_at sure_at least_at seen_at given_at layout_at (drifted_in holds young ready properties v u m n x y r t l) within_at
 
-  pub adopts_at : MayAdopt n y properties next_at ready.made.bytes.items
-  adopts_at = may_adopt ready properties v u n x y r section_at sure_at least_at seen_at given_at layout_at (drifted_in young ready properties v u m n x y r t l) within_at
+  pub held_at : holds bytes_at
+  held_at = held holds ready properties v u n x y r section_at sure_at least_at seen_at given_at layout_at (drifted_in holds young ready properties v u m n x y r t l) within_at
+
+  abbrev pub next_at : Revision
+  next_at = next holds ready properties v u n x y r section_at sure_at least_at seen_at given_at layout_at (drifted_in holds young ready properties v u m n x y r t l) within_at
+
+  pub adopts_at : MayAdopt n y properties next_at bytes_at
+  adopts_at = may_adopt holds ready properties v u n x y r section_at sure_at least_at seen_at given_at layout_at (drifted_in holds young ready properties v u m n x y r t l) within_at
 
   pub made_at : IsMade n properties ready.made.rev ready.made.rev_file ready.made.props_file ready.made.properties.items ready.made.current.items
-  made_at = is_made ready properties v u n x y r section_at sure_at least_at seen_at given_at layout_at (drifted_in young ready properties v u m n x y r t l) within_at
+  made_at = is_made holds ready properties v u n x y r section_at sure_at least_at seen_at given_at layout_at (drifted_in holds young ready properties v u m n x y r t l) within_at
 
-  pub commits_at : (o : View) → Published y properties next_at ready.made.bytes.items n o → Committed ready.made.rev properties v o x y
-  commits_at o p = committed ready properties v u n x y r section_at sure_at least_at seen_at given_at layout_at (drifted_in young ready properties v u m n x y r t l) within_at o p
+  pub commits_at : (o : View) → Published y properties next_at bytes_at n o → Committed ready.made.rev properties v o x y
+  commits_at o p = committed holds ready properties v u n x y r section_at sure_at least_at seen_at given_at layout_at (drifted_in holds young ready properties v u m n x y r t l) within_at o p
 
   pub fails_at : {E : Type 0} (place : CommitPlace) (o : View) → v.section ≡ None → StoppedAt place n o → Refused {E = E} (fault.DiskFault place) v o x y
-  fails_at place o none s = failed_at ready properties v u n x y r section_at sure_at least_at seen_at given_at layout_at (drifted_in young ready properties v u m n x y r t l) within_at place o none s
+  fails_at place o none s = failed_at holds ready properties v u n x y r section_at sure_at least_at seen_at given_at layout_at (drifted_in holds young ready properties v u m n x y r t l) within_at place o none s
 
 -- ---- one turn after another
 
@@ -419,24 +432,30 @@ refused_last f v m u o x y none t r g = record {
     cause_given fault.Memory m v u o same c = tt
     cause_given (fault.DiskFault place) m v u o same c = subst (λ p. (before : List DiskPlace) × (p.faults ≡ before ++ Commit place ∷ [])) (sym same) c
 
-module _ (ready : Ready) (p : List (List ℕ × List ℕ)) (v m u : View) (x y : Txn) (t : LockTaken v m) (r : IsReady ready p m u x y) where
+module _ (holds : List ℕ → Type 0) (ready : Ready) (p : List (List ℕ × List ℕ)) (v m u : View) (x y : Txn) (t : LockTaken v m) (r : IsReady holds ready p m u x y) where
   pub last_section : u.section ≡ Some Begun
   last_section = begun_then v m u t r.moved.section
 
   pub last_held : is_held m.section ≡ true
   last_held = ap {A = View} (λ z. is_held z.section) t.is
 
-  abbrev pub last_next : Revision
-  last_next = next ready p m u u x y r last_section (r.sure ∙ last_held) r.least refl refl refl r.moved.drifted (r.within last_held)
+  abbrev pub last_bytes : List ℕ
+  last_bytes = bytes holds ready p m u u x y r last_section (r.sure ∙ last_held) r.least refl refl refl r.moved.drifted (r.within last_held)
 
-  pub last_adopts : MayAdopt u y p last_next ready.made.bytes.items
-  last_adopts = may_adopt ready p m u u x y r last_section (r.sure ∙ last_held) r.least refl refl refl r.moved.drifted (r.within last_held)
+  pub last_holds : holds last_bytes
+  last_holds = held holds ready p m u u x y r last_section (r.sure ∙ last_held) r.least refl refl refl r.moved.drifted (r.within last_held)
+
+  abbrev pub last_next : Revision
+  last_next = next holds ready p m u u x y r last_section (r.sure ∙ last_held) r.least refl refl refl r.moved.drifted (r.within last_held)
+
+  pub last_adopts : MayAdopt u y p last_next last_bytes
+  last_adopts = may_adopt holds ready p m u u x y r last_section (r.sure ∙ last_held) r.least refl refl refl r.moved.drifted (r.within last_held)
 
   pub last_made : IsMade u p ready.made.rev ready.made.rev_file ready.made.props_file ready.made.properties.items ready.made.current.items
-  last_made = is_made ready p m u u x y r last_section (r.sure ∙ last_held) r.least refl refl refl r.moved.drifted (r.within last_held)
+  last_made = is_made holds ready p m u u x y r last_section (r.sure ∙ last_held) r.least refl refl refl r.moved.drifted (r.within last_held)
 
-  pub last_commits : (o : View) → CanCommit v x p → Published y p last_next ready.made.bytes.items u o → Committed ready.made.rev p v o x y
-  last_commits o can published = committed_on ready.made.rev p v m o x x y (by_taking v m t) can (Unmoved x) (committed ready p m u u x y r last_section (r.sure ∙ last_held) r.least refl refl refl r.moved.drifted (r.within last_held) o published)
+  pub last_commits : (o : View) → CanCommit v x p → Published y p last_next last_bytes u o → Committed ready.made.rev p v o x y
+  last_commits o can published = committed_on ready.made.rev p v m o x x y (by_taking v m t) can (Unmoved x) (committed holds ready p m u u x y r last_section (r.sure ∙ last_held) r.least refl refl refl r.moved.drifted (r.within last_held) o published)
 
   pub last_fails : {E : Type 0} (place : CommitPlace) (o : View) → v.section ≡ None → StoppedAt place u o → Refused {E = E} (fault.DiskFault place) v o x y
   last_fails place o none s = record {
@@ -476,3 +495,10 @@ module _ (K : View → Type 0) (M : Txn → Type 0) (p q : List (List ℕ × Lis
 
 pub of_rev : (rev same : ℕ) (p : List (List ℕ × List ℕ)) (v u : View) (x y : Txn) → same ≡ rev → Committed rev p v u x y → Committed same p v u x y
 of_rev rev same p v u x y e c = subst (λ n. Committed n p v u x y) (sym e) c
+
+-- the same properties by another name
+pub ready_as : (holds : List ℕ → Type 0) (ready : Ready) (p q : List (List ℕ × List ℕ)) (v u : View) (x y : Txn) → q ≡ p → IsReady holds ready p v u x y → IsReady holds ready q v u x y
+ready_as holds ready p q v u x y same r = subst (λ z. IsReady holds ready z v u x y) (sym same) r
+
+pub committed_as : (rev : ℕ) (p q : List (List ℕ × List ℕ)) (v u : View) (x y : Txn) → q ≡ p → Committed rev q v u x y → Committed rev p v u x y
+committed_as rev p q v u x y same c = subst (λ z. Committed rev z v u x y) same c

@@ -7,7 +7,6 @@ use Rattle.fsfs_machine.specs.declared.machine.Coming.{Coming}
 use Rattle.fsfs_machine.specs.declared.machine.Txn.{Txn}
 use Rattle.fsfs_machine.specs.declared.machine.Section.{Section}
 use Rattle.fsfs_machine.specs.declared.machine.Section.TheVariants.{Doubtful, Over}
-use Rattle.fsfs_places.specs.declared.place.DiskPlace.{DiskPlace}
 use Rattle.fsfs_places.specs.declared.place.DiskPlace.TheVariants.{Commit}
 use Rattle.fsfs_places.specs.declared.place.CommitPlace.{CommitPlace}
 use Rattle.fsfs_places.specs.declared.place.CommitPlace.TheVariants.{RenameCurrent, FirmCurrent}

@@ -7,11 +7,10 @@ use Rattle.fsfs_machine.specs.declared.machine.Recorded.{Recorded}
 use Rattle.fsfs_machine.specs.declared.machine.Txn.{Txn}
 use Rattle.fsfs_places.specs.declared.place.DiskPlace.{DiskPlace}
 use Rattle.fsfs_places.specs.declared.place.DiskPlace.TheVariants.{Commit}
-use Rattle.fsfs_places.specs.declared.place.CommitPlace.{CommitPlace}
 use Rattle.fsfs_machine.specs.Machine.{revisions, entry_of}
 use Rattle.fsfs_turn.specs.Bytes.{BytesShow}
 use Rattle.fsfs_turn.specs.Views.{View, Begins, is_held}
-use Rattle.fsfs_commit.specs.declared.section.Made.{Made}
+use Rattle.fsfs_commit.specs.declared.made.Made.{Made}
 use Rattle.fsfs_commit.specs.declared.committing.Ready.{Ready}
 use Rattle.fsfs_commit.specs.declared.committing.CommitFault.{CommitFault}
 use Rattle.fsfs_commit.specs.declared.committing.CommitFault.TheVariants.{RevsFull, Stuck, Refused as Refuses, Memory, DiskFault}
@@ -33,13 +32,13 @@ pub record Moved (v u : View) : Type 0 where
   pub section : u.section ≡ v.section
 
 -- the revision to come over the first part of what was seen that ends with the head
-pub record IsToCome (head : ℕ) (made : Made) (number : ℕ) (properties : List (List ℕ × List ℕ)) (u : View) (y : Txn) (next : Revision) : Type 0 where
+pub record IsToCome (head : ℕ) (made : Made) (bytes : List ℕ) (number : ℕ) (properties : List (List ℕ × List ℕ)) (u : View) (y : Txn) (next : Revision) : Type 0 where
   pub is : IsNext (revisions (take (head + 1) u.seen)) (entry_of number y properties) next
-  pub shows : BytesShow (take (head + 1) u.seen ++ record { revision = next; bytes = made.bytes.items } ∷ [])
+  pub shows : BytesShow (take (head + 1) u.seen ++ record { revision = next; bytes = bytes } ∷ [])
   pub written : head + 1 ≡ length u.seen → IsMade u properties made.rev made.rev_file made.props_file made.properties.items made.current.items
 
 -- all is made for the revision that follows the head, on which the transaction stands
-pub record IsReady (ready : Ready) (properties : List (List ℕ × List ℕ)) (v u : View) (x y : Txn) : Type 0 where
+pub record IsReady (holds : List ℕ → Type 0) (ready : Ready) (properties : List (List ℕ × List ℕ)) (v u : View) (x y : Txn) : Type 0 where
   pub moved : Moved v u
   pub from : CanCommit v x properties
   pub landings : Landings u.seen x y
@@ -52,7 +51,7 @@ pub record IsReady (ready : Ready) (properties : List (List ℕ × List ℕ)) (v
   pub sure : u.sure ≡ is_held v.section
   -- where it holds the lock, it has seen no more
   pub within : is_held v.section ≡ true → length u.seen ≤ ready.head + 1
-  pub to_come : (number : ℕ) → (next : Revision) × IsToCome ready.head ready.made number properties u y next
+  pub to_come : (number : ℕ) → (bytes : List ℕ) × holds bytes × (next : Revision) × IsToCome ready.head ready.made bytes number properties u y next
 
 -- COMMITTED: the revision is the next of those before it, of the entry of the landed transaction; the pass's own grew by it alone
 pub record Committed (rev : ℕ) (properties : List (List ℕ × List ℕ)) (v u : View) (x y : Txn) : Type 0 where

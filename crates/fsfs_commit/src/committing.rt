@@ -1,6 +1,6 @@
 //! A commit: up to four turns. Each of the first three merges and writes to memory before it takes the lock, and is lost where the
 //! youngest revision is another by then. The fourth takes the lock first, so it can't be lost.
-ghost use Rattle.std.specs.Prelude.{◌≡◌, ◌≤◌, ◌==◌, None, IfOk, IfErr};
+ghost use Rattle.std.specs.Prelude.{◌≡◌, ◌≤◌, ◌==◌, None, IfOk, IfErr, OnOk};
 ghost use Rattle.fsfs_base.specs.Failures.{Rose};
 ghost use Rattle.fsfs_machine.specs.declared.machine.Txn.{Txn};
 ghost use Rattle.fsfs_turn.specs.Views.{View};
@@ -8,7 +8,8 @@ ghost use Rattle.fsfs_commit.specs.Works.{CanCommit};
 ghost use Rattle.fsfs_commit.specs.Replies.{IsReady, IsTurn, Committed, RoseIfDisk, Refused};
 
 use crate::draft::Draft;
-use crate::section::{Made, publish};
+use crate::made::Made;
+use crate::section::publish;
 use fsfs_base::RevNum;
 use fsfs_places::{CommitPlace, DiskPlace};
 use fsfs_turn::Turns;
@@ -53,7 +54,8 @@ fn prepare<R, T: Turns<R>, D: Draft<R, T>>(
     draft: &mut D,
 ) -> Result<Ready, CommitFault<D::Refusal>>
     ensures ok { (v : View) (x : Txn) → T.knows turns.old v → D.means draft.old x → CanCommit v x (D.properties draft.old)
-        → IfOk result (λ ready. (u : View) × (y : Txn) × T.knows turns.new u × D.means draft.new y × IsReady ready (D.properties draft.old) v u x y) }
+        → IfOk result (λ ready. (u : View) × (y : Txn) × T.knows turns.new u × D.means draft.new y × IsReady (D.holds draft.new) ready (D.properties draft.old) v u x y) }
+    ensures written { OnOk result (D.is_written draft.new) }
     ensures err { (v : View) (x : Txn) → T.knows turns.old v → D.means draft.old x → CanCommit v x (D.properties draft.old)
         → IfErr result (λ fault. (u : View) × (y : Txn) × T.knows turns.new u × D.means draft.new y × Refused fault v u x y) }
     ensures same { D.properties draft.new ≡ D.properties draft.old }
@@ -111,7 +113,7 @@ fn take_turn<R, T: Turns<R>, D: Draft<R, T>>(
         turns.give_lock();
         return Ok(None);
     }
-    match publish(rt, turns, &ready.made) {
+    match publish(rt, turns, draft, &ready.made) {
         Ok(()) => Ok(Some(rev)),
         Err(place) => Err(CommitFault::DiskFault(place)),
     }
@@ -143,7 +145,7 @@ fn take_last_turn<R, T: Turns<R>, D: Draft<R, T>>(
         }
     };
     let rev = ready.made.rev();
-    match publish(rt, turns, &ready.made) {
+    match publish(rt, turns, draft, &ready.made) {
         Ok(()) => Ok(rev),
         Err(place) => Err(CommitFault::DiskFault(place)),
     }

@@ -12,33 +12,12 @@ ghost use Rattle.fsfs_machine.specs.declared.machine.Went.TheVariants.{Before};
 ghost use Rattle.fsfs_turn.specs.Views.{View, MayAdopt, IsDue, Called, Adopted, LockGiven, coming_of};
 ghost use Rattle.fsfs_commit.specs.Courses.{IsMade, Goes, Ended, Published, StoppedAt, leaves_doubt, spoilt, ends_at};
 
+use crate::draft::Draft;
+use crate::made::Made;
 use fsfs_base::{Failed, Name, RevNum};
 use fsfs_layout::OnlyFile;
 use fsfs_places::{CommitPlace, DiskPlace};
 use fsfs_turn::Turns;
-
-/// What a commit writes, made before the lock is taken: all memory is taken then.
-#[derive(Drop)]
-pub struct Made {
-    pub rev: RevNum,
-    pub rev_file: Name,
-    /// The folder of the revision's file, where it is the first of its shard.
-    pub rev_folder: Option<Name>,
-    pub bytes: Vec<u8>,
-    pub props_file: Name,
-    pub props_folder: Option<Name>,
-    pub properties: Vec<u8>,
-    pub current: Vec<u8>,
-}
-
-impl Made {
-    /// The revision that is written.
-    pub fn rev(&self) -> RevNum
-        ensures { result ≡ self.now.rev }
-    {
-        self.rev
-    }
-}
 
 // Makes a folder, where there is one to be made.
 fn make_folder_at<R, T: Turns<R>>(
@@ -59,17 +38,25 @@ fn make_folder_at<R, T: Turns<R>>(
 }
 
 // The revision's file.
-fn put_revision<R, T: Turns<R>>(rt: &R, turns: &mut T, made: &Made) -> Result<(), CommitPlace>
-    ensures turned { (v : View) (txn : Txn) (properties : List (List ℕ × List ℕ)) (next : Revision) → T.knows turns.old v → MayAdopt v txn properties next made.now.bytes.items
-        → IsMade v properties made.now.rev made.now.rev_file made.now.props_file made.now.properties.items made.now.current.items
-        → Goes (T.knows turns.new) result (coming_of v txn properties next made.now.bytes.items) (RevPut (coming_of v txn properties next made.now.bytes.items)) v }
+fn put_revision<R, T: Turns<R>, D: Draft<R, T>>(
+    rt: &R,
+    turns: &mut T,
+    draft: &mut D,
+    made: &Made,
+) -> Result<(), CommitPlace>
+    requires { D.is_written draft.old }
+    ensures turned { (v : View) (txn : Txn) (next : Revision) (bytes : List ℕ) → T.knows turns.old v → D.holds draft.old bytes → MayAdopt v txn (D.properties draft.old) next bytes
+        → IsMade v (D.properties draft.old) made.now.rev made.now.rev_file made.now.props_file made.now.properties.items made.now.current.items
+        → Goes (T.knows turns.new) result (coming_of v txn (D.properties draft.old) next bytes) (RevPut (coming_of v txn (D.properties draft.old) next bytes)) v }
+    ensures means { (x : Txn) → D.means draft.old x → D.means draft.new x }
+    ensures same { D.properties draft.new ≡ D.properties draft.old }
     ensures cause { HasCause (T.faults turns.old) (T.faults turns.new) result }
 {
     match make_folder_at(rt, turns, &made.rev_folder) {
         Ok(()) => {}
         Err(_) => return Err(CommitPlace::PutRev),
     }
-    match turns.adopt(rt, &made.rev_file, &made.bytes) {
+    match draft.hand_over(rt, turns, &made.rev_file) {
         Ok(()) => Ok(()),
         Err(_) => Err(CommitPlace::PutRev),
     }
@@ -144,13 +131,21 @@ fn firm_current<R, T: Turns<R>>(rt: &R, turns: &mut T) -> Result<(), CommitPlace
 }
 
 // The revision's two files.
-fn write_revision<R, T: Turns<R>>(rt: &R, turns: &mut T, made: &Made) -> Result<(), CommitPlace>
-    ensures turned { (v : View) (txn : Txn) (properties : List (List ℕ × List ℕ)) (next : Revision) → T.knows turns.old v → MayAdopt v txn properties next made.now.bytes.items
-        → IsMade v properties made.now.rev made.now.rev_file made.now.props_file made.now.properties.items made.now.current.items
-        → Goes (T.knows turns.new) result (coming_of v txn properties next made.now.bytes.items) (RevFirm (coming_of v txn properties next made.now.bytes.items)) v }
+fn write_revision<R, T: Turns<R>, D: Draft<R, T>>(
+    rt: &R,
+    turns: &mut T,
+    draft: &mut D,
+    made: &Made,
+) -> Result<(), CommitPlace>
+    requires { D.is_written draft.old }
+    ensures turned { (v : View) (txn : Txn) (next : Revision) (bytes : List ℕ) → T.knows turns.old v → D.holds draft.old bytes → MayAdopt v txn (D.properties draft.old) next bytes
+        → IsMade v (D.properties draft.old) made.now.rev made.now.rev_file made.now.props_file made.now.properties.items made.now.current.items
+        → Goes (T.knows turns.new) result (coming_of v txn (D.properties draft.old) next bytes) (RevFirm (coming_of v txn (D.properties draft.old) next bytes)) v }
+    ensures means { (x : Txn) → D.means draft.old x → D.means draft.new x }
+    ensures same { D.properties draft.new ≡ D.properties draft.old }
     ensures cause { HasCause (T.faults turns.old) (T.faults turns.new) result }
 {
-    match put_revision(rt, turns, made) {
+    match put_revision(rt, turns, draft, made) {
         Ok(()) => {}
         Err(place) => return Err(place),
     }
@@ -209,18 +204,26 @@ fn finish<R, T: Turns<R>>(rt: &R, turns: &mut T, rev: RevNum)
 
 /// With the lock held and all memory taken: writes the revision, lets `current` name it, reveals it and gives the lock.
 /// `Err` says at which place the disk failed: then nothing was added, and the lock was given, or left stuck there.
-pub fn publish<R, T: Turns<R>>(rt: &R, turns: &mut T, made: &Made) -> Result<(), CommitPlace>
-    ensures ok { (v : View) (txn : Txn) (properties : List (List ℕ × List ℕ)) (next : Revision) → T.knows turns.old v → MayAdopt v txn properties next made.now.bytes.items
-        → IsMade v properties made.now.rev made.now.rev_file made.now.props_file made.now.properties.items made.now.current.items
-        → OnOk result ((u : View) × T.knows turns.new u × Published txn properties next made.now.bytes.items v u) }
-    ensures err { (v : View) (txn : Txn) (properties : List (List ℕ × List ℕ)) (next : Revision) → T.knows turns.old v → MayAdopt v txn properties next made.now.bytes.items
-        → IsMade v properties made.now.rev made.now.rev_file made.now.props_file made.now.properties.items made.now.current.items
+pub fn publish<R, T: Turns<R>, D: Draft<R, T>>(
+    rt: &R,
+    turns: &mut T,
+    draft: &mut D,
+    made: &Made,
+) -> Result<(), CommitPlace>
+    requires { D.is_written draft.old }
+    ensures ok { (v : View) (txn : Txn) (next : Revision) (bytes : List ℕ) → T.knows turns.old v → D.holds draft.old bytes → MayAdopt v txn (D.properties draft.old) next bytes
+        → IsMade v (D.properties draft.old) made.now.rev made.now.rev_file made.now.props_file made.now.properties.items made.now.current.items
+        → OnOk result ((u : View) × T.knows turns.new u × Published txn (D.properties draft.old) next bytes v u) }
+    ensures err { (v : View) (txn : Txn) (next : Revision) (bytes : List ℕ) → T.knows turns.old v → D.holds draft.old bytes → MayAdopt v txn (D.properties draft.old) next bytes
+        → IsMade v (D.properties draft.old) made.now.rev made.now.rev_file made.now.props_file made.now.properties.items made.now.current.items
         → IfErr result (λ place. (u : View) × T.knows turns.new u × StoppedAt place v u) }
 
     // Whatever the disk tells: a fault comes only where the count of failed turns rose in this call.
+    ensures means { (x : Txn) → D.means draft.old x → D.means draft.new x }
+    ensures same { D.properties draft.new ≡ D.properties draft.old }
     ensures cause { HasCause (T.faults turns.old) (T.faults turns.new) result }
 {
-    match write_all(rt, turns, made) {
+    match write_all(rt, turns, draft, made) {
         Ok(()) => {
             finish(rt, turns, made.rev);
             Ok(())
@@ -233,13 +236,21 @@ pub fn publish<R, T: Turns<R>>(rt: &R, turns: &mut T, made: &Made) -> Result<(),
 }
 
 // All that is written.
-fn write_all<R, T: Turns<R>>(rt: &R, turns: &mut T, made: &Made) -> Result<(), CommitPlace>
-    ensures turned { (v : View) (txn : Txn) (properties : List (List ℕ × List ℕ)) (next : Revision) → T.knows turns.old v → MayAdopt v txn properties next made.now.bytes.items
-        → IsMade v properties made.now.rev made.now.rev_file made.now.props_file made.now.properties.items made.now.current.items
-        → Goes (T.knows turns.new) result (coming_of v txn properties next made.now.bytes.items) (CurrentFirm (coming_of v txn properties next made.now.bytes.items)) v }
+fn write_all<R, T: Turns<R>, D: Draft<R, T>>(
+    rt: &R,
+    turns: &mut T,
+    draft: &mut D,
+    made: &Made,
+) -> Result<(), CommitPlace>
+    requires { D.is_written draft.old }
+    ensures turned { (v : View) (txn : Txn) (next : Revision) (bytes : List ℕ) → T.knows turns.old v → D.holds draft.old bytes → MayAdopt v txn (D.properties draft.old) next bytes
+        → IsMade v (D.properties draft.old) made.now.rev made.now.rev_file made.now.props_file made.now.properties.items made.now.current.items
+        → Goes (T.knows turns.new) result (coming_of v txn (D.properties draft.old) next bytes) (CurrentFirm (coming_of v txn (D.properties draft.old) next bytes)) v }
+    ensures means { (x : Txn) → D.means draft.old x → D.means draft.new x }
+    ensures same { D.properties draft.new ≡ D.properties draft.old }
     ensures cause { HasCause (T.faults turns.old) (T.faults turns.new) result }
 {
-    match write_revision(rt, turns, made) {
+    match write_revision(rt, turns, draft, made) {
         Ok(()) => {}
         Err(place) => return Err(place),
     }

@@ -1,14 +1,18 @@
 -- What a kept part of a revision shows.
-use Rattle.std.proofs.Common.{◌≡◌, ℕ, ◌+◌, ◌-◌, ◌<◌, ◌≤◌, ◌⊎◌, List, length, take, drop, Ok, ap, subst, ◌∙◌, arith, inl, inr}
+use Rattle.std.proofs.Common.{◌≡◌, ℕ, ◌+◌, ◌-◌, ◌<◌, ◌≤◌, ◌⊎◌, List, length, take, drop, true, Result, Ok, Err, ap, subst, ◌∙◌, arith, inl, inr}
 use Rattle.std.proofs.lemmas.List.{length-take, take-take, take_rest, drop-take, drop-drop}
 use Rattle.fsfs_book.specs.Told.{RevisionBytes}
 use Rattle.fsfs_noderev.specs.NodeRevs.{IsRead}
 use Rattle.fsfs_noderev.specs.declared.node_rev.NodeRev.{NodeRev}
 use Rattle.fsfs_damage.specs.declared.damage.RevOffset.{RevOffset}
+use Rattle.fsfs_damage.specs.declared.wrong.ReadError.{ReadError}
+use Rattle.fsfs_damage.specs.declared.wrong.ReadError.TheVariants as errors
+use Rattle.fsfs_damage.specs.Readings.{Answers}
 use Rattle.fsfs_revision.specs.Nodes.{IsNodeAt}
+use Rattle.fsfs_revision.specs.Damages.{NodeIn}
 use Rattle.fsfs_shows.specs.Reading.{NodeAt}
 use Rattle.fsfs_dag.specs.Seen.{IsSeen}
-use Rattle.fsfs_dag.specs.Told.{WindowAt}
+use Rattle.fsfs_dag.specs.Told.{WindowAt, is_decided}
 use Rattle.fsfs_dag.specs.declared.seen_bytes.SeenBytes.{SeenBytes}
 use Rattle.fsfs_dag.proofs.Windows.{node_found_in_front}
 
@@ -55,3 +59,9 @@ node_found_in_part look at count seen v w h =
       | inl fits ↦ node_found_in_front look at count seen v fits w h
       | inr long ↦ (w.0, w.1, node_in_long at count (drop at.offset w.0) seen v long w.2 h)
     ]
+
+pub decided_in_part : (look : RevisionBytes) (at : RevOffset) (count : ℕ) (seen : List ℕ) (r : Result NodeRev ReadError) → WindowAt look at count (Ok seen) → Answers (λ (v : NodeRev). v) (NodeIn at seen) r → is_decided r ≡ true → Answers (λ (v : NodeRev). v) (NodeAt look at) r
+decided_in_part look at count seen (Ok v) w h is = node_found_in_part look at count seen v w h
+decided_in_part look at count seen (Err (errors.Wrong wrong)) w h is = absurd cc
+decided_in_part look at count seen (Err errors.OutOfMemory) w h is = tt
+decided_in_part look at count seen (Err errors.DiskFault) w h is = tt

@@ -18,7 +18,7 @@ use Rattle.fsfs_shows.specs.Reading.{EntriesOf, offset_of}
 use Rattle.fsfs_dag.specs.declared.directory.DirEntry.{DirEntry}
 use Rattle.fsfs_dag.specs.declared.tree_walk.Pending.{Pending}
 use Rattle.fsfs_dag.specs.TreeWalks.{pending_value, Left, in_order, at_level, AreWithin, Enters, rank, weight, total}
-use Rattle.fsfs_dag.specs.Views.{AreBefore, entry_value, entry_values}
+use Rattle.fsfs_dag.specs.Views.{AreBefore, entry_values}
 use Rattle.fsfs_dag.proofs.PairLemmas.{place_le}
 
 -- ---- the stack, in order

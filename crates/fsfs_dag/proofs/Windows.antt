@@ -27,7 +27,7 @@ use Rattle.fsfs_revision.specs.Nodes.{Holds, IsNodeAt, is_root, is_ordered, is_o
 use Rattle.fsfs_revision.specs.Damages.{NodeIn, AsRoot, RootAt}
 use Rattle.fsfs_revision.proofs.TrailerLemmas.{from_tail, in_tail}
 use Rattle.fsfs_shows.specs.Reading.{NodeAt, RootOf, offset_of}
-use Rattle.fsfs_dag.specs.Told.{LengthOf, WindowAt, EndOf}
+use Rattle.fsfs_dag.specs.Told.{LengthOf, WindowAt, EndOf, is_decided}
 
 -- ---- the length of a revision
 
@@ -149,6 +149,12 @@ module _ (count : ℕ) (fits : count ≤ 65536) (at : RevOffset) (bytes seen : L
 
 pub node_found_in_front : (look : RevisionBytes) (at : RevOffset) (count : ℕ) (seen : List ℕ) (v : NodeRev) → count ≤ 65536 → WindowAt look at count (Ok seen) → IsNodeAt at seen v → NodeAt look at (Ok v)
 node_found_in_front look at count seen v fits w h = (w.0, w.1, node_in_front count fits at (drop at.offset w.0) seen w.2 v h)
+
+pub decided_in_front : (look : RevisionBytes) (at : RevOffset) (count : ℕ) (seen : List ℕ) (r : Result NodeRev ReadError) → count ≤ 65536 → WindowAt look at count (Ok seen) → Answers (λ (v : NodeRev). v) (NodeIn at seen) r → is_decided r ≡ true → Answers (λ (v : NodeRev). v) (NodeAt look at) r
+decided_in_front look at count seen (Ok v) fits w h is = node_found_in_front look at count seen v fits w h
+decided_in_front look at count seen (Err (errors.Wrong wrong)) fits w h is = absurd cc
+decided_in_front look at count seen (Err errors.OutOfMemory) fits w h is = tt
+decided_in_front look at count seen (Err errors.DiskFault) fits w h is = tt
 
 -- ---- the end of a revision
 

@@ -1,12 +1,15 @@
 -- What a book tells of a revision, and what is read of it.
-use Rattle.std.specs.Prelude.{◌≡◌, ℕ, List, length, take, drop, Result, Ok, Err}
+use Rattle.std.specs.Prelude.{◌≡◌, ℕ, Bool, true, false, List, length, take, drop, Result, Ok, Err}
 use Rattle.fsfs_book.specs.Told.{RevisionBytes, BytesOf}
+use Rattle.fsfs_noderev.specs.declared.node_rev.NodeRev.{NodeRev}
 use Rattle.fsfs_damage.specs.declared.damage.RevOffset.{RevOffset}
 use Rattle.fsfs_revision.specs.declared.trailer.Trailer.{Trailer}
 use Rattle.fsfs_revision.specs.Trailers.{EndsWith}
 use Rattle.fsfs_damage.specs.Damages.{place_of}
 use Rattle.fsfs_revision.specs.Damages.{trailer_checks}
 use Rattle.fsfs_damage.specs.declared.wrong.Wrong.{Wrong}
+use Rattle.fsfs_damage.specs.declared.wrong.ReadError.{ReadError}
+use Rattle.fsfs_damage.specs.declared.wrong.ReadError.TheVariants as errors
 use Rattle.fsfs_damage.specs.Checks.{Judged}
 use Rattle.fsfs_damage.specs.Readings.{AndThen}
 
@@ -19,6 +22,13 @@ LengthOf look rev (Err w) = BytesOf look rev (Err w)
 abbrev pub WindowAt : RevisionBytes → RevOffset → ℕ → Result (List ℕ) Wrong → Type 0
 WindowAt look at count (Ok seen) = (bytes : List ℕ) × (look at.rev ≡ Ok bytes) × (seen ≡ take count (drop at.offset bytes))
 WindowAt look at count (Err w) = BytesOf look at.rev (Err w)
+
+-- what is read of a front of a node-revision's bytes stays so with more behind it: one is shown, or memory ran out
+abbrev pub is_decided : Result NodeRev ReadError → Bool
+is_decided (Ok node) = true
+is_decided (Err errors.OutOfMemory) = true
+is_decided (Err errors.DiskFault) = false
+is_decided (Err (errors.Wrong w)) = false
 
 -- where the trailer says that the root stands
 abbrev pub EndIn : ℕ → List ℕ → Result RevOffset Wrong → Type 0

@@ -3,9 +3,10 @@ ghost use Rattle.std.specs.Prelude.{◌≡◌, ◌≤◌, ◌<◌, ◌^◌, ◌+
 ghost use Rattle.fsfs_book.specs.Told.{RevisionBytes, Knows, Keeps, IsTold};
 ghost use Rattle.fsfs_revision.specs.Nodes.{is_ordered};
 ghost use Rattle.fsfs_damage.specs.Readings.{Answers};
+ghost use Rattle.fsfs_noderev.specs.Writing.{HasText};
 ghost use Rattle.fsfs_shows.specs.Reading.{NodeAt, RootOf, OfEntry, OfId, HasId, HasKind, offset_of};
 ghost use Rattle.fsfs_damage.specs.Causes.{HasCause, IsQuiet};
-ghost use Rattle.fsfs_dag.specs.Told.{LengthOf, WindowAt, EndOf};
+ghost use Rattle.fsfs_dag.specs.Told.{LengthOf, WindowAt, EndOf, is_decided};
 ghost use Rattle.fsfs_dag.specs.Views.{entry_value};
 
 use crate::directory::DirEntry;
@@ -86,6 +87,7 @@ pub(crate) fn node_in_whole<B: Book>(
 ) -> Result<NodeRev, ReadError>
     ensures told { (look : RevisionBytes) → IsTold (B.told book.old) look at.now.rev → Answers (λ v. v) (NodeAt look at.now) result }
     ensures ordered { IfOk result (λ v. is_ordered at.now v ≡ true) }
+    ensures writable { IfOk result HasText }
     ensures kept { Keeps (B.told book.old) (B.told book.new) }
     ensures cause { HasCause (B.faults book.old) (B.faults book.new) result }
 {
@@ -94,8 +96,21 @@ pub(crate) fn node_in_whole<B: Book>(
     read_node_at(alloc, at, &bytes[..count])
 }
 
-// The node-revision that stands at a place. Bytes behind its text change nothing, so a front of them shows it, but what is
-// refused of a front may only be cut off: all the bytes decide.
+// Whether what a front of the bytes showed stays so whatever stands behind it: a node-revision, or that memory ran out. What is
+// refused may only be cut off. It only looks at the answer, since a node-revision is dear to move.
+pub(crate) fn is_decided(read: &Result<NodeRev, ReadError>) -> bool
+    ensures { result ≡ is_decided read.now }
+{
+    match read {
+        Ok(_) => true,
+        Err(ReadError::OutOfMemory) => true,
+        Err(ReadError::DiskFault) => false,
+        Err(ReadError::Wrong(_)) => false,
+    }
+}
+
+// The node-revision that stands at a place. Bytes behind its text change nothing, so a front of them shows it; where that
+// doesn't decide, all the bytes do.
 pub(crate) fn node_read<B: Book>(
     alloc: Global,
     book: &mut B,
@@ -103,17 +118,17 @@ pub(crate) fn node_read<B: Book>(
 ) -> Result<NodeRev, ReadError>
     ensures told { (look : RevisionBytes) → IsTold (B.told book.old) look at.now.rev → Answers (λ v. v) (NodeAt look at.now) result }
     ensures ordered { IfOk result (λ v. is_ordered at.now v ≡ true) }
+    ensures writable { IfOk result HasText }
     ensures kept { Keeps (B.told book.old) (B.told book.new) }
     ensures cause { HasCause (B.faults book.old) (B.faults book.new) result }
 {
     let mut bytes = [0u8; USUAL_NODE_REV];
     let count = window(book, at, &mut bytes)?;
-    match read_node_at(alloc, at, &bytes[..count]) {
-        Ok(node) => Ok(node),
-        Err(ReadError::OutOfMemory) => Err(ReadError::OutOfMemory),
-        Err(ReadError::DiskFault) => Err(ReadError::DiskFault),
-        Err(ReadError::Wrong(_)) => node_in_whole(alloc, book, at),
+    let read = read_node_at(alloc, at, &bytes[..count]);
+    if is_decided(&read) {
+        return read;
     }
+    node_in_whole(alloc, book, at)
 }
 
 /// The root of a revision: the node-revision that its trailer names. Trailer, NodeRev, PlaceOrder, OtherId and EntryKind
@@ -121,6 +136,8 @@ pub(crate) fn node_read<B: Book>(
 pub fn root_of<B: Book>(alloc: Global, book: &mut B, rev: RevNum) -> Result<PlacedNode, ReadError>
     ensures told { (look : RevisionBytes) → Knows (B.told book.old).revs rev look → Answers (λ found. found.node) (RootOf look rev) result }
     ensures rev { IfOk result (λ found. (offset_of found.node.id.place).rev ≡ rev) }
+    // What is read can be written.
+    ensures writable { IfOk result (λ found. HasText found.node) }
     ensures kept { Keeps (B.told book.old) (B.told book.new) }
     ensures cause { HasCause (B.faults book.old) (B.faults book.new) result }
 {

@@ -1,24 +1,23 @@
 //! The bytes that were read last, kept for the node-revisions that stand beside the one that was read.
 //!
 //! The nodes of a directory are mostly written in one revision, one behind the other and before the directory itself.
-ghost use Rattle.std.specs.Prelude.{◌≡◌, ℕ, true, length, take, Ok, IfOk, IfErr, IfSome};
+ghost use Rattle.std.specs.Prelude.{◌≡◌, ℕ, true, length, take, Ok, IfOk, IfSome};
 ghost use Rattle.fsfs_book.specs.Told.{RevisionBytes, Knows, Keeps, IsTold};
 ghost use Rattle.fsfs_revision.specs.Nodes.{is_ordered};
 ghost use Rattle.fsfs_damage.specs.Readings.{Answers};
-ghost use Rattle.fsfs_damage.specs.Causes.{HasCause};
-ghost use Rattle.fsfs_damage.specs.declared.wrong.ReadError.TheVariants.{OutOfMemory};
+ghost use Rattle.fsfs_damage.specs.Causes.{HasCause, IsQuiet};
 ghost use Rattle.fsfs_shows.specs.Reading.{NodeAt, OfEntry, offset_of};
-ghost use Rattle.fsfs_dag.specs.Told.{WindowAt};
+ghost use Rattle.fsfs_dag.specs.Told.{WindowAt, is_decided};
 ghost use Rattle.fsfs_dag.specs.Seen.{IsSeen};
 ghost use Rattle.fsfs_dag.specs.Views.{entry_value};
 
 use crate::directory::DirEntry;
 use crate::node::PlacedNode;
 use crate::places::offset_of;
-use crate::reading::{check_id, check_kind, node_in_whole, node_read, window};
+use crate::reading::{check_id, check_kind, is_decided, node_in_whole, node_read, window};
 use fsfs_base::RevNum;
 use fsfs_book::Book;
-use fsfs_damage::{ReadError, RevOffset};
+use fsfs_damage::{DamageKind, ReadError, RevOffset};
 use fsfs_noderev::NodeRev;
 use fsfs_revision::read_node_at;
 use std::alloc::Global;
@@ -91,22 +90,66 @@ impl SeenBytes {
     }
 }
 
-// The node-revision at a place, if what is kept shows one. What is kept may end within it, so that its damage says nothing.
-fn node_kept(alloc: Global, at: &RevOffset, seen: &SeenBytes) -> Option<Result<NodeRev, ReadError>>
-    ensures told { (look : RevisionBytes) → IsSeen look seen.now → IfSome result (λ found. Answers (λ v. v) (NodeAt look at.now) found) }
-    ensures ordered { IfSome result (λ found. IfOk found (λ v. is_ordered at.now v ≡ true)) }
-    ensures memory { IfSome result (λ found. IfErr found (λ e. e ≡ OutOfMemory)) }
+// The node-revision at a place, as what is kept shows it. That may end within one, so that damage decides nothing.
+fn node_kept(alloc: Global, at: &RevOffset, seen: &SeenBytes) -> Result<NodeRev, ReadError>
+    ensures told { (look : RevisionBytes) → IsSeen look seen.now → is_decided result ≡ true → Answers (λ v. v) (NodeAt look at.now) result }
+    ensures ordered { IfOk result (λ v. is_ordered at.now v ≡ true) }
+    ensures quiet { IsQuiet result }
 {
-    let bytes = seen.from_place(at)?;
-    match read_node_at(alloc, at, bytes) {
-        Ok(node) => Some(Ok(node)),
-        Err(ReadError::OutOfMemory) => Some(Err(ReadError::OutOfMemory)),
-        Err(ReadError::DiskFault) | Err(ReadError::Wrong(_)) => None,
+    match seen.from_place(at) {
+        None => Err(ReadError::damaged(*at, DamageKind::NodeRev)),
+        Some(bytes) => read_node_at(alloc, at, bytes),
     }
 }
 
-// The node-revision at a place, of what is kept, of what is read anew, or, where neither shows one, of all its bytes. The
-// first of a revision may be the only one that is asked for there, so that it is read alone.
+// The node-revision at a place, of what is read anew, or, where that doesn't show one, of all its bytes.
+fn node_anew<B: Book>(
+    alloc: Global,
+    book: &mut B,
+    at: &RevOffset,
+    seen: &mut SeenBytes,
+) -> Result<NodeRev, ReadError>
+    ensures told { (look : RevisionBytes) → IsTold (B.told book.old) look at.now.rev → Answers (λ v. v) (NodeAt look at.now) result }
+    ensures seen { (look : RevisionBytes) → IsTold (B.told book.old) look at.now.rev → IsSeen look seen.new }
+    ensures ordered { IfOk result (λ v. is_ordered at.now v ≡ true) }
+    ensures kept { Keeps (B.told book.old) (B.told book.new) }
+    ensures cause { HasCause (B.faults book.old) (B.faults book.new) result }
+{
+    let begins = RevOffset {
+        rev: at.rev,
+        offset: at.offset.saturating_sub(BEFORE),
+    };
+    seen.read(book, begins)?;
+    let kept = node_kept(alloc, at, seen);
+    if is_decided(&kept) {
+        return kept;
+    }
+    node_in_whole(alloc, book, at)
+}
+
+// The node-revision at a place, of what is kept or of what is read anew. A function of its own, so that room for what it
+// holds is cleared only where it is wanted.
+#[inline(never)]
+fn node_beside<B: Book>(
+    alloc: Global,
+    book: &mut B,
+    at: &RevOffset,
+    seen: &mut SeenBytes,
+) -> Result<NodeRev, ReadError>
+    ensures told { (look : RevisionBytes) → IsTold (B.told book.old) look at.now.rev → IsSeen look seen.old → Answers (λ v. v) (NodeAt look at.now) result }
+    ensures seen { (look : RevisionBytes) → IsTold (B.told book.old) look at.now.rev → IsSeen look seen.old → IsSeen look seen.new }
+    ensures ordered { IfOk result (λ v. is_ordered at.now v ≡ true) }
+    ensures kept { Keeps (B.told book.old) (B.told book.new) }
+    ensures cause { HasCause (B.faults book.old) (B.faults book.new) result }
+{
+    let kept = node_kept(alloc, at, seen);
+    if is_decided(&kept) {
+        return kept;
+    }
+    node_anew(alloc, book, at, seen)
+}
+
+// The node-revision at a place. The first of a revision is read alone, since it may be the only one that is asked for there.
 fn node_seen<B: Book>(
     alloc: Global,
     book: &mut B,
@@ -119,22 +162,11 @@ fn node_seen<B: Book>(
     ensures kept { Keeps (B.told book.old) (B.told book.new) }
     ensures cause { HasCause (B.faults book.old) (B.faults book.new) result }
 {
-    if let Some(found) = node_kept(alloc, at, seen) {
-        return found;
-    }
     if seen.at.rev.get() != at.rev.get() {
         seen.turn_to(*at);
         return node_read(alloc, book, at);
     }
-    let begins = RevOffset {
-        rev: at.rev,
-        offset: at.offset.saturating_sub(BEFORE),
-    };
-    seen.read(book, begins)?;
-    match node_kept(alloc, at, seen) {
-        Some(found) => found,
-        None => node_in_whole(alloc, book, at),
-    }
+    node_beside(alloc, book, at, seen)
 }
 
 /// The node-revision that an entry names, as `child_of` reads it, where what was read last is kept from call to call: it is
@@ -151,11 +183,12 @@ pub(crate) fn child_seen<B: Book>(
     ensures kept { Keeps (B.told book.old) (B.told book.new) }
     ensures cause { HasCause (B.faults book.old) (B.faults book.new) result }
 {
-    let node = match node_seen(alloc, book, &offset_of(entry.id.place), seen) {
-        Ok(node) => node,
-        Err(error) => return Err(error),
-    };
-    check_id(&entry.id, &node)?;
-    check_kind(entry, &node)?;
-    Ok(PlacedNode { node })
+    match node_seen(alloc, book, &offset_of(entry.id.place), seen) {
+        Err(error) => Err(error),
+        Ok(node) => {
+            check_id(&entry.id, &node)?;
+            check_kind(entry, &node)?;
+            Ok(PlacedNode { node })
+        }
+    }
 }

@@ -30,7 +30,7 @@ use Rattle.fsfs_final.proofs.Stays.{own_dir, ready}
 use Rattle.std.proofs.lemmas.Bool.{and_from}
 use Rattle.fsfs_drafts.proofs.HangLaw.{some_same}
 
-pred_or : (o : Option NodeId) → (o ≡ None) ⊎ ((id : NodeId) × (o ≡ Some id))
+pub pred_or : (o : Option NodeId) → (o ≡ None) ⊎ ((id : NodeId) × (o ≡ Some id))
 pred_or None = inl refl
 pred_or (Some id) = inr (id, refl)
 

@@ -1,3 +1,4 @@
 pub mod KeyLemmas
 pub mod KeyTest
 pub mod StepLemmas
+pub mod TextLemmas

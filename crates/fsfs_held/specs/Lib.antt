@@ -1,3 +1,5 @@
 pub mod Keys
 pub mod Lists
 pub mod Views
+pub mod Texts
+pub mod Merged

@@ -2,13 +2,15 @@
 ghost use Rattle.std.specs.Prelude.{◌≡◌, IfOk};
 ghost use Rattle.fsfs_listing.specs.Views.{listed};
 ghost use Rattle.fsfs_own.specs.Views.{kept_value, new_kept, opened_kept, text_kept, props_kept};
+ghost use Rattle.fsfs_held.specs.Merged.{IsRelinkedKept};
 
 use crate::copies::{same_kept, same_node, same_props};
 use fsfs_base::Pairs;
+use fsfs_clash::MergedDir;
 use fsfs_listing::Listing;
 use fsfs_noderev::{Contents, NodeRev, Rep};
 use fsfs_own::KeptNode;
-use std::alloc::AllocError;
+use std::alloc::{AllocError, Global};
 
 /// A node-revision that has no file yet.
 pub(crate) fn new_node(node: NodeRev) -> KeptNode
@@ -55,4 +57,27 @@ pub(crate) fn with_props(kept: &KeptNode, props: Pairs) -> Result<KeptNode, Allo
     changed.node.is_fresh_txn_root = false;
     changed.props = Some(props);
     Ok(changed)
+}
+
+/// Gone on from the head's node-revision, with the entries that a merge found.
+pub(crate) fn relinked(
+    alloc: Global,
+    kept: &KeptNode,
+    dir: MergedDir,
+) -> Result<KeptNode, AllocError>
+    ensures { IfOk result (λ k. IsRelinkedKept dir (kept_value kept.now) (kept_value k)) }
+{
+    let mut node = same_node(&kept.node)?;
+    let props = same_props(&kept.props)?;
+    let MergedDir { link, entries } = dir;
+    let entries = Listing::of(alloc, entries)?;
+    node.predecessor = Some(link.head);
+    node.count = link.count;
+    node.text = Some(Contents::Own);
+    node.is_fresh_txn_root = false;
+    Ok(KeptNode {
+        node,
+        entries: Some(entries),
+        props,
+    })
 }

@@ -14,6 +14,7 @@ use Rattle.fsfs_shows.specs.Reading.{offset_of}
 use Rattle.fsfs_shows.proofs.TreeLaw.{stands_home}
 use Rattle.fsfs_drafts.specs.OwnSides.{NodesAt}
 use Rattle.fsfs_drafts.specs.NodeDrafts.{IsOwn, IsDraft}
+use Rattle.fsfs_final.proofs.OrderLaw.{pred_or}
 use Rattle.fsfs_final.proofs.Stays.{ready}
 
 abbrev pub HasPropsBefore : ℕ → Option Contents → Type 0
@@ -32,10 +33,6 @@ before_rev n at (Some (contents.At rep)) h lt = by rep.rev refl h
     by : (o : Option ℕ) → rep.rev ≡ o → rep_place_before at o rep.offset ≡ true → (rev : ℕ) × (rep.rev ≡ Some rev) × (rev < n)
     by None is h = absurd (false≢true h)
     by (Some r) is h = (r, is, lower n r rep.offset at h lt)
-
-pub pred_or : (o : Option NodeId) → (o ≡ None) ⊎ ((id : NodeId) × (o ≡ Some id))
-pred_or None = inl refl
-pred_or (Some id) = inr (id, refl)
 
 pub props_before : (look : RevisionBytes) (top : ℕ) (own : NodesAt) (p : Path) (u : NodeRev) → IsDraft look top top own → own p ≡ Some u → IsOwn u → HasPropsBefore (suc top) u.props
 props_before look top own p u draft here mine = elim (pred_or u.predecessor) [

@@ -30,9 +30,10 @@ use Rattle.fsfs_drafts.specs.Whole.{IsDraftOf}
 use Rattle.fsfs_drafts.specs.NodeDrafts as nodewise
 use Rattle.fsfs_drafts.proofs.HangLaw as hanging
 use Rattle.fsfs_drafts.proofs.WholeLaw.{drafts_are_handed}
+use Rattle.fsfs_final.proofs.OrderLaw.{pred_or}
 use Rattle.fsfs_final.proofs.Stays.{ready}
 use Rattle.fsfs_laying.specs.Nodes.{IsRepBefore, HasTextBefore, DraftTextsStandBefore}
-use Rattle.fsfs_laying.proofs.PropsLaw.{before_rev, pred_or}
+use Rattle.fsfs_laying.proofs.PropsLaw.{before_rev}
 use Rattle.fsfs_laying.proofs.NodeLaws.{props_text}
 
 module _ (look : RevisionBytes) (trees : ℕ → TreeFunction) (top : ℕ) (nodes : ℕ → NodesAt) (txn : TxnName) (f : Folder) (tree : TreeFunction) (marks : List Mark) (shows : ShowTrees look top trees) (are : AreNodes look top nodes)

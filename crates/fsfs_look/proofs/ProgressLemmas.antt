@@ -1,5 +1,5 @@
 -- How far a text was written.
-use Rattle.std.proofs.Common.{◌≡◌, ℕ, Bool, ◌≤◌, List, [], ◌∷◌, ◌++◌, Option, Some, None, Result, Ok, Err, sym, ap, subst, ◌∙◌, append_assoc, append-nil, arith}
+use Rattle.std.proofs.Common.{◌≡◌, ℕ, Bool, ◌≤◌, List, [], ◌∷◌, ◌++◌, Option, Some, None, Ok, Err, sym, ap, subst, ◌∙◌, append_assoc, append-nil, arith}
 use Rattle.fsfs_book.specs.Told.{RevisionBytes, Telling, Knows, Keeps}
 use Rattle.fsfs_streams.specs.Streams.{Adds}
 use Rattle.fsfs_streams.proofs.StreamLemmas.{adds_then}
@@ -107,6 +107,3 @@ popped look ids R before lines old new todo rest level entry e p = subst (λ (t 
 
 pub knows_upto : {Below : Type 0} (old new : Telling Below) (look : RevisionBytes) (top upto : ℕ) → Keeps old new → upto ≤ top → Knows old.revs top look → Knows new.revs upto look
 knows_upto old new look top upto kept le knows r lower = kept.revs r (look r) (knows r (omega (arith, lower, le)))
-
-pub child_read : (look : RevisionBytes) (entry : DirEntry) (r : Result PlacedNode ReadError) (child : PlacedNode) → r ≡ Ok child → Answers (λ (found : PlacedNode). found.node) (OfEntry look entry) r → OfEntry look entry (Ok child.node)
-child_read look entry r child e h = subst (λ x. Answers (λ (found : PlacedNode). found.node) (OfEntry look entry) x) e h

@@ -3,6 +3,7 @@ pub mod RepTexts
 pub mod Same
 pub mod FieldTexts
 pub mod LineTexts
+pub mod Filling
 pub mod Taking
 pub mod OneLine
 pub mod Writes

@@ -175,6 +175,8 @@ impl Fields {
         }
     }
 
+    // An id and where a text stands are read into their places, since what is matched and wrapped again is cleared and copied
+    // at each step.
     fn set_id(&mut self, value: &[u8]) -> Result<(), Which>
         ensures ok { OnOk result (Puts (Some Field.Id) value.now self.old self.new) }
         ensures err { IfErr result (Refuses (Some Field.Id) value.now self.old) }
@@ -182,13 +184,11 @@ impl Fields {
         if self.id.is_some() {
             return Err(Which::Twice(Field::Id));
         }
-        match read_id(value) {
-            None => Err(Which::BadValue(Field::Id)),
-            Some(id) => {
-                self.id = Some(id);
-                Ok(())
-            }
+        self.id = read_id(value);
+        if self.id.is_none() {
+            return Err(Which::BadValue(Field::Id));
         }
+        Ok(())
     }
 
     fn set_kind(&mut self, value: &[u8]) -> Result<(), Which>
@@ -214,13 +214,11 @@ impl Fields {
         if self.predecessor.is_some() {
             return Err(Which::Twice(Field::Predecessor));
         }
-        match read_id(value) {
-            None => Err(Which::BadValue(Field::Predecessor)),
-            Some(id) => {
-                self.predecessor = Some(id);
-                Ok(())
-            }
+        self.predecessor = read_id(value);
+        if self.predecessor.is_none() {
+            return Err(Which::BadValue(Field::Predecessor));
         }
+        Ok(())
     }
 
     fn set_count(&mut self, value: &[u8]) -> Result<(), Which>
@@ -246,13 +244,11 @@ impl Fields {
         if self.text.is_some() {
             return Err(Which::Twice(Field::Text));
         }
-        match read_contents(value) {
-            None => Err(Which::BadValue(Field::Text)),
-            Some(contents) => {
-                self.text = Some(contents);
-                Ok(())
-            }
+        self.text = read_contents(value);
+        if self.text.is_none() {
+            return Err(Which::BadValue(Field::Text));
         }
+        Ok(())
     }
 
     fn set_props(&mut self, value: &[u8]) -> Result<(), Which>
@@ -262,13 +258,11 @@ impl Fields {
         if self.props.is_some() {
             return Err(Which::Twice(Field::Props));
         }
-        match read_contents(value) {
-            None => Err(Which::BadValue(Field::Props)),
-            Some(contents) => {
-                self.props = Some(contents);
-                Ok(())
-            }
+        self.props = read_contents(value);
+        if self.props.is_none() {
+            return Err(Which::BadValue(Field::Props));
         }
+        Ok(())
     }
 
     fn set_mergeinfo_count(&mut self, value: &[u8]) -> Result<(), Which>

@@ -98,8 +98,10 @@ fn digests_of(text: &[u8]) -> Option<(HexDigest<16>, Option<Uniquifier>)>
         }
         Some((front, rest)) => {
             let md5 = md5_of(front)?;
-            let unique = unique_of(rest)?;
-            Some((md5, Some(unique)))
+            match unique_of(rest) {
+                None => None,
+                Some(unique) => Some((md5, Some(unique))),
+            }
         }
     }
 }
@@ -116,15 +118,17 @@ fn rep_of(text: &[u8]) -> Option<Rep>
     let length = plain_decimal(u64::MAX, front)?;
     let (front, rest) = cut_at(b' ', rest)?;
     let size = plain_decimal(u64::MAX, front)?;
-    let (md5, unique) = digests_of(rest)?;
-    Some(Rep {
-        rev,
-        offset,
-        length,
-        size,
-        md5,
-        unique,
-    })
+    match digests_of(rest) {
+        None => None,
+        Some((md5, unique)) => Some(Rep {
+            rev,
+            offset,
+            length,
+            size,
+            md5,
+            unique,
+        }),
+    }
 }
 
 #[tactic(auto, unfolding(crate::specs::Reps::contents_at))]
@@ -134,8 +138,10 @@ fn contents_of(text: &[u8]) -> Option<Contents>
     if text == b"-1".as_slice() {
         return Some(Contents::Own);
     }
-    let rep = rep_of(text)?;
-    Some(Contents::At(rep))
+    match rep_of(text) {
+        None => None,
+        Some(rep) => Some(Contents::At(rep)),
+    }
 }
 
 /// The representation that a text is; none for any other text.

@@ -1,13 +1,14 @@
 -- The refusals of an opening, from what each reader says of its bytes.
 use Rattle.std.proofs.Common.{◌≡◌, ◌≤◌, ◌<◌, ◌+◌, ℕ, zero, suc, List, [], ◌∷◌, ◌++◌, true, false, inl, inr, ⊎_elim, refl, sym, ap, subst, ◌∙◌, arith}
-use Rattle.std.specs.Prelude.{Option, Some, None, IfSome, Result, Ok, Err, IfErr, option_map}
+use Rattle.std.specs.Prelude.{Option, Some, None, IfSome, Result, Ok, Err, IfErr, OnOk, option_map}
+use Rattle.std.specs.Result.{is_err}
 use Rattle.std.proofs.lemmas.Option.{same_Some}
 use Rattle.fsfs_base.specs.Files.{Files}
 use Rattle.fsfs_base.specs.declared.small_fault.SmallFault.{SmallFault}
 use Rattle.fsfs_grammar.specs.Grammar.{begins}
 use Rattle.std.proofs.lemmas.Fmt.{decimal_digit}
 use Rattle.fsfs_grammar.proofs.Unique.{numeral_decimal}
-use Rattle.fsfs_disk.specs.Trace.{Trace, FailsAt, FirmNames, Done, Attempted, add_operation, files_now}
+use Rattle.fsfs_disk.specs.Trace.{Trace, Performs, FailsAt, FirmNames, Done, Attempted, add_operation, files_now}
 use Rattle.fsfs_layout.specs.Formats.{IsCount, IsFormat}
 use Rattle.fsfs_layout.specs.declared.format_file.Format.TheVariants.{Linear, Sharded, Other}
 use Rattle.fsfs_layout.specs.Small.{IsUuid, IsRevLine, IsMinUnpackedRev, IsBase36Line, IsRefusedFile, IsMinUnpackedFault}
@@ -118,3 +119,9 @@ firm_same old new at = ⊎_elim (λ e. ap (option_map files_now) e) (λ d. ⊎_e
   done : (o : Option Trace) → option_map files_now (option_map (add_operation (Done FirmNames)) o) ≡ option_map files_now o
   done None = refl
   done (Some t) = refl
+
+-- the names were made firm, and nothing was done to the disk after that
+pub firm_then : {X E Y F : Type 0} (old firm new : Option Trace) (first : Result X E) (result : Result Y F) → is_err first ≡ false → OnOk first (Performs FirmNames old firm) → new ≡ firm → OnOk result (Performs FirmNames old new)
+firm_then old firm new (Err e) result fine done same = absurd cc
+firm_then old firm new (Ok x) (Ok y) fine done same = subst (λ o. Performs FirmNames old o) (sym same) done
+firm_then old firm new (Ok x) (Err e) fine done same = tt

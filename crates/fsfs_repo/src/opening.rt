@@ -1,7 +1,7 @@
 // Opening a repository: what its small files say.
-ghost use Rattle.std.specs.Prelude.{◌≡◌, ◌≤◌, take, IfOk, IfErr, IfSome, MatchResult, option_map};
+ghost use Rattle.std.specs.Prelude.{◌≡◌, ◌≤◌, take, IfOk, IfErr, IfSome, OnOk, MatchResult, option_map};
 ghost use Rattle.fsfs_base.specs.Failures.{Rose};
-ghost use Rattle.fsfs_disk.specs.Trace.{FirmNames, files_now, FailsAt};
+ghost use Rattle.fsfs_disk.specs.Trace.{FirmNames, files_now, Performs, FailsAt};
 ghost use Rattle.fsfs_layout.specs.Opening.{IsOpened, IsOpenedBehind, IsRefusedBehind, small_texts, text_at};
 ghost use Rattle.fsfs_repo.specs.FirstTexts.{first_texts};
 ghost use Rattle.fsfs_repo.specs.OpenFaults.{texts_of, JudgedBecause, OpensBecause, outside_of, IfUnread};
@@ -148,6 +148,8 @@ pub fn open<D: Disk>(alloc: Global, disk: &mut D) -> Result<Opened, OpenFault>
     ensures same { option_map files_now (D.trace disk.new) ≡ option_map files_now (D.trace disk.old) }
     // All that it does to the disk is to make the names firm.
     ensures ended { FailsAt FirmNames (D.trace disk.old) (D.trace disk.new) }
+    // Where it is opened they are firm.
+    ensures firm { OnOk result (Performs FirmNames (D.trace disk.old) (D.trace disk.new)) }
     ensures mounted { D.mount_path disk.new ≡ D.mount_path disk.old }
     ensures right { D.may_write disk.new ≡ D.may_write disk.old }
     ensures later { D.faults disk.old ≤ D.faults disk.new }

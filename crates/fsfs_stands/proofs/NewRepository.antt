@@ -27,10 +27,10 @@ zero_digit36 : IsNumeral 36 (codes "0") 0
 unfolding value_after
 zero_digit36 = ((omega arith, tt), (λ e. refl), refl)
 
-zero_line : IsNumber 10 2147483647 10 (codes "0\n") 0
+pub zero_line : IsNumber 10 2147483647 10 (codes "0\n") 0
 zero_line = record { digits = codes "0"; numeral = zero_digit; fits = omega arith; parts = refl }
 
-zero_line36 : IsNumber 36 170581728179578208255 10 (codes "0\n") 0
+pub zero_line36 : IsNumber 36 170581728179578208255 10 (codes "0\n") 0
 zero_line36 = record { digits = codes "0"; numeral = zero_digit36; fits = omega arith; parts = refl }
 
 format_is : (n : ℕ) → 1 ≤ n → n ≤ 2147483647 → IsFormat (format_text n) (Sharded n)
@@ -49,11 +49,11 @@ says files name text G x there is = subst (λ (t : List ℕ). G t x) (sym (ap (�
 zero_text : decimal 0 ≡ codes "0"
 zero_text = sym (numeral_decimal (codes "0") 0 (omega arith) zero_digit)
 
-abbrev first_of : List ℕ → List ℕ
+abbrev pub first_of : List ℕ → List ℕ
 first_of folder = folder ++ 47 ∷ codes "0" ++ 47 ∷ codes "0"
 
 -- whatever the layout, revision 0 is in shard 0
-first_name : (folder : List ℕ) (n : Layout) → in_shard folder n 0 ≡ first_of folder
+pub first_name : (folder : List ℕ) (n : Layout) → in_shard folder n 0 ≡ first_of folder
 first_name folder n =
     ap (λ (k : ℕ). folder ++ 47 ∷ decimal k ++ 47 ∷ decimal 0) (zero-div n.shard_size)
     ∙ ap (λ (t : List ℕ). folder ++ 47 ∷ t ++ 47 ∷ t) zero_text

@@ -85,7 +85,7 @@ look_printed repos look a b o told fault same opened into =
 
 -- ---- a repository that was not opened
 
-counted_cause : (rose disk : Type 0) (told : Option Trace) (why : OpenFault) → (rose → disk) → OpensBecause rose told why → OpensBecause disk told why
+pub counted_cause : (rose disk : Type 0) (told : Option Trace) (why : OpenFault) → (rose → disk) → OpensBecause rose told why → OpensBecause disk told why
 counted_cause rose disk told opening.NotRepo counted h = h
 counted_cause rose disk told (opening.OtherFormat number) counted h = h
 counted_cause rose disk told opening.Linear counted h = h

@@ -6,7 +6,7 @@ use Rattle.fsfs_base.specs.Failures.{Rose}
 use Rattle.fsfs_base.specs.Files.{Files}
 use Rattle.fsfs_disk.specs.Labels.{Label, Txn, Pack, HotCopy, has_label, without_label}
 use Rattle.fsfs_disk.specs.Trace.{Trace, FirmNames, Done, Attempted, add_operation, files_now, labels_now, FailsAt}
-use Rattle.fsfs_disk.specs.Crash.{AllImages, AllLabels, AreAll, Leaves, LeavesBoth}
+use Rattle.fsfs_disk.specs.Crash.{AllImages, AreAll, Leaves, LeavesBoth}
 use Rattle.fsfs_disk.proofs.CrashLemmas.{keeps_firm, leaves_then, leaves_with, own_images, same_leaves}
 use Rattle.fsfs_disk.proofs.LeftLemmas.{amid_same, both_then, keeps_labels_at, same_both}
 use Rattle.fsfs_layout.specs.Opening.{small_texts, IsOpened}
@@ -19,6 +19,7 @@ use Rattle.fsfs_repo.specs.OpenFaults.{OpensBecause}
 use Rattle.fsfs_repo.specs.Deciding.{Decides}
 use Rattle.fsfs_txns.specs.Txns.{txn_label, AreTxns}
 use Rattle.fsfs_txns.specs.Removals.{first_lacking, labels_left, HasLabels, IfFailed, IsImageOf, Removes, WasKept}
+use Rattle.fsfs_txns.proofs.InTurn.{old_kept}
 use Rattle.fsfs_txns.specs.declared.removing.RemovalFault.{RemovalFault}
 use Rattle.fsfs_txns.specs.declared.removing.RemovalFault.TheVariants.{NoTxn, Failed}
 use Rattle.fsfs_top.specs.TxnAnswers.{same_txn, has_txn, without_txn, first_missing}
@@ -27,6 +28,7 @@ use Rattle.fsfs_top.specs.Scenes.{HostScene, Scene, SinkScene}
 use Rattle.fsfs_top.specs.Transactions.{txns_of, Lists, ListsOpened, ListsTxns, HasSameLabels, removal_fault, IfRemovalFails, RemovesOpened, RemovesTxns, LeavesRemoval}
 use Rattle.fsfs_top.proofs.CreationTold.{path_cases}
 use Rattle.fsfs_top.proofs.FilesDecide.{does_not_open}
+use Rattle.fsfs_top.proofs.LooksPrint.{counted_cause}
 
 -- ---- the transactions among labels
 
@@ -85,14 +87,6 @@ listed_now rose disk old mid s r fault counted same (inr (inl memory)) = inr (in
 listed_now rose disk old mid s r fault counted same (inr (inr (names, are, line))) = inr (inr (names, moved_labels (λ ls. AreTxns ls names) old mid same are, line))
 
 -- an opening that was refused
-counted_cause : (rose disk : Type 0) (told : Option Trace) (why : OpenFault) → (rose → disk) → OpensBecause rose told why → OpensBecause disk told why
-counted_cause rose disk told opening.NotRepo counted h = h
-counted_cause rose disk told (opening.OtherFormat number) counted h = h
-counted_cause rose disk told opening.Linear counted h = h
-counted_cause rose disk told (opening.Small small) counted h = h
-counted_cause rose disk told (opening.DiskFault place) counted h = (counted h.0, h.1)
-counted_cause rose disk told opening.Memory counted h = h
-
 pub listing_refused : (rose : Type 0) (told : Option Trace) (s : SinkScene) (why : OpenFault) (fault : Fault) → fault ≡ fault_from_open why → OpensBecause rose told why → IfSome told (λ t. Decides (small_texts (files_now t)) (Err why)) → ListsOpened rose told s s (Some fault)
 listing_refused rose told s why fault from because decides = inl (why, ap (λ (f : Fault). Some f) from, because, does_not_open told why decides, refl)
 
@@ -139,10 +133,6 @@ both_with : (a b : Option Trace) (P Q : Files → List Label → Type 0) → ((m
 both_with None b P Q h f = tt
 both_with (Some t) None P Q h f = f
 both_with (Some t) (Some u) P Q h f = record { later = f.later; each = λ n m ls le left. ⊎_elim (λ l. inl l) (λ p. inr (h m ls p)) (f.each n m ls le left) }
-
-old_kept : (old : Option Trace) → AllLabels old (WasKept old)
-old_kept None = tt
-old_kept (Some t) = λ l has. has
 
 images_over : (old mid new : Option Trace) → AllImages mid (IsImageOf old) → Leaves mid new (IsImageOf mid) → Leaves mid new (IsImageOf old)
 images_over old None new all leaves = tt

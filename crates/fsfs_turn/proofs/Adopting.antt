@@ -5,7 +5,7 @@ use Rattle.std.proofs.lemmas.List.{take_all, length-take}
 use Rattle.fsfs_tree.specs.Revisions.{Revision}
 use Rattle.fsfs_flat.specs.Transactions.{IsNext}
 use Rattle.fsfs_layout.specs.declared.layout.Layout.{Layout}
-use Rattle.fsfs_disk.specs.Trace.{Trace, Operation, Done, Attempted, add_operation, change_of, files_after, ImageAfter, TornBy, Performs, FailsToPut}
+use Rattle.fsfs_disk.specs.Trace.{Trace, Operation, Done, Attempted, add_operation, change_of, files_after, ImageAfter, TornBy, Performs, FailsToPut, StaysAt}
 use Rattle.fsfs_disk.specs.Trace as real
 use Rattle.fsfs_machine.specs.declared.contents.FileName.TheVariants.{Rev}
 use Rattle.fsfs_machine.specs.declared.contents.Contents.{Contents}
@@ -29,7 +29,7 @@ use Rattle.fsfs_machine.specs.Kept.{Kept, IsIn, coming, one}
 use Rattle.fsfs_machine.proofs.Steps.{step_keeps}
 use Rattle.fsfs_machine.proofs.Whose.{length_at}
 use Rattle.fsfs_images.specs.RealNames.{machine_name}
-use Rattle.fsfs_images.specs.Shown.{IsTraceOf, Reads, AreRead, Putting, Attempting}
+use Rattle.fsfs_images.specs.Shown.{IsTraceOf, Reads, AreRead, Putting, Adopting, Attempting}
 use Rattle.fsfs_turn.specs.Bytes.{BytesShow}
 use Rattle.fsfs_turn.specs.Views.{View, Sees, with_txns, rev_name, IsTxnOver, MayAdopt, Answers, coming_of, adopting_view, Adopted}
 use Rattle.fsfs_turn.specs.Past.{doubt_in, doubt, IsPart, Safe}
@@ -196,3 +196,44 @@ module _ (layout : Layout) (young : ℕ) (stuck : Option DiskPlace) (old : Trace
 
   pub adopt_fails : (told : Option Trace) → told ≡ Some old → (u : View) × Knows layout young stuck told u × Adopted txn properties next bytes Before v u
   adopt_fails told same = adopts old told Before same store.trace safe_here
+
+  -- a bench's file gets the name by one change: the bytes are all there, or the name is as it was
+  pub adopt_file_comes : {X E : Type 0} (A B : Type 0) (told : Option Trace) (name : List ℕ) (result : Result X E) → name ≡ rev_name v (length v.seen)
+      → OnOk result (Performs (real.Adopt name bytes) (Some old) told) → OnErr result ((StaysAt (real.Adopt name bytes) (Some old) told × A) ⊎ (Performs (real.Adopt name bytes) (Some old) told × B))
+      → (u : View) × (went : Went) × Knows layout young stuck told u × Answers result went × Adopted txn properties next bytes went v u
+  adopt_file_comes A B told name result named ok err = by_result result ok err
+    where
+      name_is : name ≡ machine_name layout (Rev (length w.history))
+      name_is = named ∙ ap (λ k. machine_name k (Rev (length v.seen))) layout_is ∙ ap (λ h. machine_name layout (Rev (length h))) all
+
+      fits : length w.history < 2 ^ 32
+      fits = subst (λ h. length h < 2 ^ 32) all may.fits
+
+      done : IsTraceOf layout no_others old.first (Done (real.Adopt name bytes) ∷ old.operations) (Put (Rev (length w.history)) (file_of (recorded x)) ∷ w.disk)
+      done = subst (λ n. IsTraceOf layout no_others old.first (Done (real.Adopt n bytes) ∷ old.operations) (Put (Rev (length w.history)) (file_of (recorded x)) ∷ w.disk)) (sym name_is)
+          (Adopting old.operations w.disk (Rev (length w.history)) bytes (file_of (recorded x)) store.trace fits refl)
+
+      middle : (m : Files) → (ImageAfter (real.Adopt name bytes) (files_after old.first old.operations) (real.IsImage old.first old.operations) m) ⊎ (TornBy (real.Adopt name bytes) (real.IsImage old.first old.operations) m) → (e : Disk) × IsImage (Put (Rev (length w.history)) (file_of (recorded x)) ∷ w.disk) e × AreRead layout m e
+      middle m c = ⊎_elim (λ i. image_read layout no_others old.first (Done (real.Adopt name bytes) ∷ old.operations) (Put (Rev (length w.history)) (file_of (recorded x)) ∷ w.disk) done m i) (λ t. absurd t) c
+
+      safe_then : (op : Operation) (went : Went) → change_of op ≡ real.Adopt name bytes → IsTraceOf layout no_others old.first (op ∷ old.operations) (disk_after went (Put (Rev (length w.history)) (file_of (recorded x))) w.disk)
+          → Safe layout v.since (add_operation op old) v.opened w.floor w.history (doubt_in (either went (RevPut x) Over))
+      safe_then op went change trace =
+          safe_step layout v.since v.opened w.floor w.history old op (disk_after went (Put (Rev (length w.history)) (file_of (recorded x))) w.disk) (Put (Rev (length w.history)) (file_of (recorded x)) ∷ w.disk) (Held v.number (either went (RevPut x) Over)) (Held v.number Over) None
+          (le layout young stuck old w v store sees layout_is number_is safe) (image_read layout no_others old.first (op ∷ old.operations) (disk_after went (Put (Rev (length w.history)) (file_of (recorded x))) w.disk) trace) (kept_after went).stands
+          (subst (λ k. (m : Files) → (ImageAfter k (files_after old.first old.operations) (real.IsImage old.first old.operations) m) ⊎ (TornBy k (real.IsImage old.first old.operations) m) → (e : Disk) × IsImage (Put (Rev (length w.history)) (file_of (recorded x)) ∷ w.disk) e × AreRead layout m e) (sym change) middle)
+          (kept_after After).stands (doubtless went) (part_here went) safe_here
+
+      tried : IsTraceOf layout no_others old.first (Attempted (real.Adopt name bytes) ∷ old.operations) w.disk
+      tried = Attempting old.operations w.disk (real.Adopt name bytes) store.trace
+
+      by_result : {X E : Type 0} (result : Result X E) → OnOk result (Performs (real.Adopt name bytes) (Some old) told) → OnErr result ((StaysAt (real.Adopt name bytes) (Some old) told × A) ⊎ (Performs (real.Adopt name bytes) (Some old) told × B))
+          → (u : View) × (went : Went) × Knows layout young stuck told u × Answers result went × Adopted txn properties next bytes went v u
+      by_result (Ok r) ok err =
+          let c = adopts (add_operation (Done (real.Adopt name bytes)) old) told Fine ok done (safe_then (Done (real.Adopt name bytes)) Fine refl done) in
+          (c.0, Fine, c.1, refl, c.2)
+      by_result (Err e) ok err =
+          ⊎_elim
+          (λ stays. ⊎_elim (λ same. let c = adopts old told Before same store.trace safe_here in (c.0, Before, c.1, refl, c.2))
+          (λ same. let c = adopts (add_operation (Attempted (real.Adopt name bytes)) old) told Before same tried (safe_then (Attempted (real.Adopt name bytes)) Before refl tried) in (c.0, Before, c.1, refl, c.2)) stays.0)
+          (λ gone. let c = adopts (add_operation (Done (real.Adopt name bytes)) old) told After gone.0 done (safe_then (Done (real.Adopt name bytes)) After refl done) in (c.0, After, c.1, refl, c.2)) err

@@ -1,17 +1,13 @@
 -- A new store is known.
 use Rattle.std.proofs.Common.{◌≡◌, ◌==◌, ◌+◌, ℕ, suc, zero, List, [], ◌∷◌, ◌++◌, length, true, false, cond, ⊎_elim, refl, sym, ap, subst, ◌∙◌, arith}
-use Rattle.std.specs.Prelude.{Option, Some, None, Result, Ok, slice_get, codes, decimal}
+use Rattle.std.specs.Prelude.{Option, Some, None, Result, Ok, slice_get, codes}
 use Rattle.std.specs.FinMap.{get}
-use Rattle.std.proofs.Math.Nat.{zero-div}
-use Rattle.fsfs_grammar.specs.Numeral.{IsNumber, IsNumeral, value_after}
-use Rattle.fsfs_grammar.proofs.Unique.{numeral_decimal}
 use Rattle.fsfs_layout.specs.declared.layout.Layout.{Layout}
 use Rattle.fsfs_disk.specs.Labels.{Label}
 use Rattle.fsfs_disk.specs.Trace.{Operation, Done, files_after, ImageSince}
 use Rattle.fsfs_disk.specs.Trace as real
 use Rattle.fsfs_base.specs.Files.{Files}
 use Rattle.fsfs_tree.specs.Dated.{date_name}
-use Rattle.fsfs_layout.specs.Names.{in_shard}
 use Rattle.fsfs_hash.specs.Dump.{IsDump}
 use Rattle.fsfs_layout.specs.CreatedFiles.{date_properties}
 use Rattle.fsfs_base.specs.FirstRevision.{first_bytes}
@@ -20,6 +16,7 @@ use Rattle.fsfs_answers.specs.Answers.{first_revision as first_shown}
 use Rattle.fsfs_stands.specs.NewRepository.{HoldsNew}
 use Rattle.fsfs_stands.specs.Changes.{AreChangesOf}
 use Rattle.fsfs_stands.proofs.FirstHistory.{first_history}
+use Rattle.fsfs_stands.proofs.NewRepository.{first_name, zero_line, zero_line36}
 use Rattle.fsfs_machine.specs.declared.contents.FileName.{FileName}
 use Rattle.fsfs_machine.specs.declared.contents.FileName.TheVariants.{Current, CurrentNext, Counter, CounterNext, Floor, Rev, Props}
 use Rattle.fsfs_machine.specs.declared.contents.Contents.TheVariants.{PropsFile, Number}
@@ -40,29 +37,6 @@ use Rattle.fsfs_turn.specs.Past.{Safe}
 use Rattle.fsfs_images.proofs.Showing.{image_read}
 use Rattle.fsfs_turn.proofs.Moments.{past_of}
 use Rattle.fsfs_turn.proofs.Stepping.{kept_bare}
-
-zero_digit : IsNumeral 10 (codes "0") 0
-unfolding value_after
-zero_digit = ((omega arith, tt), (λ e. refl), refl)
-
-zero_digit36 : IsNumeral 36 (codes "0") 0
-unfolding value_after
-zero_digit36 = ((omega arith, tt), (λ e. refl), refl)
-
-zero_line : IsNumber 10 2147483647 10 (codes "0\n") 0
-zero_line = record { digits = codes "0"; numeral = zero_digit; fits = omega arith; parts = refl }
-
-zero_line36 : IsNumber 36 170581728179578208255 10 (codes "0\n") 0
-zero_line36 = record { digits = codes "0"; numeral = zero_digit36; fits = omega arith; parts = refl }
-
-pub zero_text : decimal 0 ≡ codes "0"
-zero_text = sym (numeral_decimal (codes "0") 0 (omega arith) zero_digit)
-
--- whatever the size of a shard, revision 0 is in shard 0
-in_first : (folder : List ℕ) (n : Layout) → in_shard folder n 0 ≡ folder ++ 47 ∷ codes "0" ++ 47 ∷ codes "0"
-in_first folder n =
-    ap (λ (k : ℕ). folder ++ 47 ∷ decimal k ++ 47 ∷ decimal 0) (zero-div n.shard_size)
-    ∙ ap (λ (t : List ℕ). folder ++ 47 ∷ t ++ 47 ∷ t) zero_text
 
 pub at_none : (n : FileName) (o : Option (List ℕ)) → AtName n o None
 at_none n None = tt
@@ -110,14 +84,14 @@ module _ (first : Files) (labels : List Label) (before : List Operation) (date :
     | true ↦ λ e.
         let same : 0 ≡ r = grind (arith, e) in
         subst (λ k. AtName (Rev k) (get (files_after first before) (machine_name new.layout (Rev k))) (Some (file_of (new_revision date)))) same
-        (subst (λ o. AtName (Rev 0) o (Some (file_of (new_revision date)))) (sym (ap (get (files_after first before)) (in_first (codes "db/revs") new.layout) ∙ new.new.1.1.1.1.1.1.1.1.0)) refl)
+        (subst (λ o. AtName (Rev 0) o (Some (file_of (new_revision date)))) (sym (ap (get (files_after first before)) (first_name (codes "db/revs") new.layout) ∙ new.new.1.1.1.1.1.1.1.1.0)) refl)
     | false ↦ λ e. at_none (Rev r) (get (files_after first before) (machine_name new.layout (Rev r)))
   ] refl
   read (Props r) fits = elim (0 == r) as (λ b. (0 == r) ≡ b → AtName (Props r) (get (files_after first before) (machine_name new.layout (Props r))) (cond b (Some (PropsFile ((date_name, date) ∷ []))) None)) [
     | true ↦ λ e.
         let same : 0 ≡ r = grind (arith, e) in
         subst (λ k. AtName (Props k) (get (files_after first before) (machine_name new.layout (Props k))) (Some (PropsFile ((date_name, date) ∷ [])))) same
-        (subst (λ o. AtName (Props 0) o (Some (PropsFile ((date_name, date) ∷ [])))) (sym (ap (get (files_after first before)) (in_first (codes "db/revprops") new.layout) ∙ new.new.1.1.1.1.1.1.1.1.1.0)) dump)
+        (subst (λ o. AtName (Props 0) o (Some (PropsFile ((date_name, date) ∷ [])))) (sym (ap (get (files_after first before)) (first_name (codes "db/revprops") new.layout) ∙ new.new.1.1.1.1.1.1.1.1.1.0)) dump)
     | false ↦ λ e. at_none (Props r) (get (files_after first before) (machine_name new.layout (Props r)))
   ] refl
 

@@ -5,7 +5,7 @@ use Rattle.std.specs.FinMap.{get}
 use Rattle.std.proofs.lemmas.List.{take_all, length-take}
 use Rattle.std.proofs.lemmas.Option.{slice_get_within}
 use Rattle.fsfs_layout.specs.declared.layout.Layout.{Layout}
-use Rattle.fsfs_disk.specs.Trace.{Trace, files_now, file_at, IsRead}
+use Rattle.fsfs_disk.specs.Trace.{Trace, files_now, file_at, IsRead, IsSize}
 use Rattle.fsfs_machine.specs.declared.contents.FileName.TheVariants.{Rev}
 use Rattle.fsfs_machine.specs.declared.machine.Recorded.{Recorded}
 use Rattle.fsfs_places.specs.declared.place.DiskPlace.{DiskPlace}
@@ -106,4 +106,11 @@ module _ (layout : Layout) (young : ℕ) (stuck : Option DiskPlace) (t : Trace) 
   read_comes told same fits name old new named (Ok o) read =
       (view Fine, Fine, subst (λ z. Knows layout young stuck z (view Fine)) (sym same) (world Fine, now Fine, after Fine, layout_is, number_is, safe), refl, read_turn Fine, subst (λ f. IsRead f offset old new o) (file_is fits name named) read)
   read_comes told same fits name old new named (Err e) read =
+      (view Before, Before, subst (λ z. Knows layout young stuck z (view Before)) (sym same) (world Before, now Before, after Before, layout_is, number_is, safe), refl, read_turn Before, tt)
+
+  pub size_comes : {E : Type 0} (told : Option Trace) → told ≡ Some t → r < 2 ^ 32 → (name : List ℕ) → name ≡ rev_name v r → (result : Result (Option ℕ) E) → IfOk result (IsSize (file_at t name))
+      → (u : View) × (went : Went) × Knows layout young stuck told u × Answers result went × ReadTurn r offset size x went v u × IfOk result (IsSize (Some x.bytes))
+  size_comes told same fits name named (Ok o) read =
+      (view Fine, Fine, subst (λ z. Knows layout young stuck z (view Fine)) (sym same) (world Fine, now Fine, after Fine, layout_is, number_is, safe), refl, read_turn Fine, subst (λ f. IsSize f o) (file_is fits name named) read)
+  size_comes told same fits name named (Err e) read =
       (view Before, Before, subst (λ z. Knows layout young stuck z (view Before)) (sym same) (world Before, now Before, after Before, layout_is, number_is, safe), refl, read_turn Before, tt)

@@ -1,30 +1,115 @@
 -- The calls of an owned store, whatever its disk tells.
-use Rattle.std.proofs.Common.{◌≡◌, ◌<◌, ◌^◌, ℕ, List, length}
-use Rattle.std.specs.Prelude.{Option, Some, None, IfSome, IsSome, OnOk, OnErr, IfOk, Result, Ok, Err, slice_get}
+use Rattle.std.proofs.Common.{◌≡◌, ◌⊎◌, ◌<◌, ◌^◌, ◌||◌, ℕ, List, [], ◌∷◌, length, true, false, cond, inl, inr, ⊎_elim, refl, sym, ap, subst, ◌∙◌}
+use Rattle.std.specs.Prelude.{Option, Some, None, Bool, IfSome, IsSome, OnOk, OnErr, IfOk, Result, Ok, Err, slice_get, option_map}
+use Rattle.std.specs.FinMap.{empty}
+use Rattle.fsfs_base.specs.Files.{Files}
 use Rattle.fsfs_tree.specs.Revisions.{Revision}
 use Rattle.fsfs_layout.specs.declared.layout.Layout.{Layout}
-use Rattle.fsfs_disk.specs.Trace.{Trace, file_at, IsRead, Performs, FailsAt, FailsToPut}
+use Rattle.fsfs_layout.specs.FileNames.{only_name}
+use Rattle.fsfs_layout.specs.Small.{IsRevLine}
+use Rattle.fsfs_layout.specs.declared.only_file.OnlyFile.TheVariants as only
+use Rattle.fsfs_hash.specs.Dump.{IsDump}
+use Rattle.fsfs_disk.specs.Labels.{Label, same_label, has_label, with_label, without_label}
+use Rattle.fsfs_disk.specs.Trace.{Trace, KeepLabel, DropLabel, file_at, labels_now, IsRead, IsSize, Performs, PerformsIfThere, FailsAt, FailsToPut, FailsToAdopt, StaysAt}
 use Rattle.fsfs_disk.specs.Trace as real
 use Rattle.fsfs_disk.proofs.TraceLemmas.{file_at-put}
 use Rattle.fsfs_machine.specs.declared.machine.Recorded.{Recorded}
 use Rattle.fsfs_machine.specs.declared.machine.Coming.{Coming}
+use Rattle.fsfs_machine.specs.declared.machine.Drawn.{Drawn}
 use Rattle.fsfs_machine.specs.declared.machine.Txn.{Txn}
 use Rattle.fsfs_places.specs.declared.place.DiskPlace.{DiskPlace}
-use Rattle.fsfs_machine.specs.declared.machine.Section.TheVariants.{CurrentFirm, Doubtful}
+use Rattle.fsfs_machine.specs.declared.machine.Section.TheVariants.{Begun, CurrentFirm, Doubtful}
 use Rattle.fsfs_machine.specs.declared.machine.Step.TheVariants as step
 use Rattle.fsfs_machine.specs.declared.machine.Went.{Went}
 use Rattle.fsfs_machine.specs.declared.machine.Went.TheVariants.{Before}
-use Rattle.fsfs_turn.specs.Views.{View, rev_name, IsDue, MayAdopt, MayGive, Answers, Called, Adopted, Looked, LockTaken, FoundStuck, LockGiven, Revealed, ReadTurn}
+use Rattle.fsfs_machine.specs.Kept.{IsIn}
+use Rattle.fsfs_turn.specs.Views.{View, rev_name, props_name, IsDue, MayAdopt, MayGive, Answers, Called, Adopted, Looked, LockTaken, FoundStuck, LockGiven, Revealed, ReadTurn}
+use Rattle.fsfs_turn.specs.Learning.{PropsRead, FloorRead, ReadsCounter, Listed, MayMake, BenchMade, MayPurge, Purged, SpentPurged}
 use Rattle.fsfs_turn.specs.Standing.{Knows}
 use Rattle.fsfs_turn.proofs.Due.{Comes, put_comes, rename_comes, firm_comes, folder_fails}
 use Rattle.fsfs_turn.proofs.Locking.{looks, takes, finds_stuck, gives_lock, sticks, reveals_it}
-use Rattle.fsfs_turn.proofs.Adopting.{adopt_comes, adopt_fails}
-use Rattle.fsfs_turn.proofs.Fetching.{read_comes}
+use Rattle.fsfs_turn.proofs.Adopting.{adopt_comes, adopt_file_comes, adopt_fails}
+use Rattle.fsfs_turn.proofs.Fetching.{read_comes, size_comes}
+use Rattle.fsfs_turn.proofs.SmallFiles.{floor_comes, props_comes}
+use Rattle.fsfs_turn.proofs.Counting.{counter_comes}
+use Rattle.fsfs_turn.proofs.Labelling.{list_comes, make_comes, purge_comes, spent_comes}
 
 -- what was put is in use
 pub put_used : {X E : Type 0} (old new : Option Trace) (name bytes : List ℕ) (result : Result X E) → OnOk result (Performs (real.Put name bytes) old new) → OnOk result (IfSome new (λ t. IsSome (file_at t name)))
 put_used old new name bytes (Ok x) done = file_at-put old new name bytes done
 put_used old new name bytes (Err e) done = tt
+
+-- ---- labels
+
+relabelled_by : (f : List Label → List Label) (change : real.NameChange) → ((ls : List Label) → real.relabelled change ls ≡ f ls) → (old new : Option Trace) → Performs change old new → option_map labels_now new ≡ option_map f (option_map labels_now old)
+relabelled_by f change by None new done = ap (λ o. option_map labels_now o) done
+relabelled_by f change by (Some t) new done = ap (λ o. option_map labels_now o) done ∙ ap (λ (ls : List Label). Some ls) (by (labels_now t))
+
+tried_labels : (change : real.NameChange) (old new : Option Trace) → real.Attempts change old new → option_map labels_now new ≡ option_map labels_now old
+tried_labels change None new tried = ap (λ o. option_map labels_now o) tried
+tried_labels change (Some t) new tried = ap (λ o. option_map labels_now o) tried
+
+failed_labels : (f : List Label → List Label) (change : real.NameChange) → ((ls : List Label) → real.relabelled change ls ≡ f ls) → (old new : Option Trace) → FailsAt change old new
+    → (option_map labels_now new ≡ option_map labels_now old) ⊎ (option_map labels_now new ≡ option_map f (option_map labels_now old))
+failed_labels f change by old new failed = ⊎_elim (λ same. inl (ap (λ o. option_map labels_now o) same))
+    (λ more. ⊎_elim (λ tried. inl (tried_labels change old new tried)) (λ done. inr (relabelled_by f change by old new done)) more) failed
+
+pub kept_label : {X E : Type 0} (l : Label) (old new : Option Trace) (result : Result X E) → OnOk result (Performs (KeepLabel l) old new) → OnOk result (option_map labels_now new ≡ option_map (with_label l) (option_map labels_now old))
+kept_label l old new (Ok x) done = relabelled_by (with_label l) (KeepLabel l) (λ ls. refl) old new done
+kept_label l old new (Err e) done = tt
+
+pub unkept_label : {X E : Type 0} (l : Label) (old new : Option Trace) (result : Result X E) → OnErr result (FailsAt (KeepLabel l) old new)
+    → OnErr result ((option_map labels_now new ≡ option_map labels_now old) ⊎ (option_map labels_now new ≡ option_map (with_label l) (option_map labels_now old)))
+unkept_label l old new (Ok x) failed = tt
+unkept_label l old new (Err e) failed = failed_labels (with_label l) (KeepLabel l) (λ ls. refl) old new failed
+
+without_none : (l : Label) (ls : List Label) → has_label l ls ≡ false → without_label l ls ≡ ls
+without_none l [] none = refl
+without_none l (k ∷ ks) none = elim (same_label k l) as (λ b. (b || has_label l ks) ≡ false → cond b (without_label l ks) (k ∷ without_label l ks) ≡ k ∷ ks) [
+  | true ↦ λ e. absurd cc
+  | false ↦ λ e. ap (λ r. k ∷ r) (without_none l ks e)
+] none
+
+pub there_label : {E : Type 0} (l : Label) (old : Option Trace) (result : Result Bool E) → IfSome old (λ t. IfOk result (λ there. there ≡ has_label l (labels_now t)))
+    → IfSome (option_map labels_now old) (λ ls. IfOk result (λ there. there ≡ has_label l ls))
+there_label l None result there = tt
+there_label l (Some t) result there = there
+
+pub dropped_label : {E : Type 0} (l : Label) (old new : Option Trace) (result : Result Bool E) → IfSome old (λ t. IfOk result (λ there. there ≡ has_label l (labels_now t)))
+    → IfOk result (λ there. PerformsIfThere there (DropLabel l) old new) → OnOk result (option_map labels_now new ≡ option_map (without_label l) (option_map labels_now old))
+dropped_label l old new (Ok true) there done = relabelled_by (without_label l) (DropLabel l) (λ ls. refl) old new done
+dropped_label l None new (Ok false) there done = ap (λ o. option_map labels_now o) done
+dropped_label l (Some t) new (Ok false) there done = ap (λ o. option_map labels_now o) done ∙ ap (λ (ls : List Label). Some ls) (sym (without_none l (labels_now t) (sym there)))
+dropped_label l old new (Err e) there done = tt
+
+pub undropped_label : {X E : Type 0} (l : Label) (old new : Option Trace) (result : Result X E) → OnErr result (FailsAt (DropLabel l) old new)
+    → OnErr result ((option_map labels_now new ≡ option_map labels_now old) ⊎ (option_map labels_now new ≡ option_map (without_label l) (option_map labels_now old)))
+undropped_label l old new (Ok x) failed = tt
+undropped_label l old new (Err e) failed = failed_labels (without_label l) (DropLabel l) (λ ls. refl) old new failed
+
+-- a new bench is empty, where the disk tells
+empty_where : (old : Option Trace) (held : Option Files) → held ≡ option_map (λ _. empty) old → held ≡ option_map (λ _. empty) (option_map labels_now old)
+empty_where None held e = e
+empty_where (Some t) held e = e
+
+pub empty_told : {X E : Type 0} (old : Option Trace) (contents : X → Option Files) (result : Result X E) → IfOk result (λ b. contents b ≡ option_map (λ _. empty) old) → IfOk result (λ b. contents b ≡ option_map (λ _. empty) (option_map labels_now old))
+empty_told old contents (Ok b) e = empty_where old (contents b) e
+empty_told old contents (Err why) e = tt
+
+pub ok_always : {X E P : Type 0} (result : Result X E) → P → OnOk result P
+ok_always (Ok x) p = p
+ok_always (Err e) p = tt
+
+pub names_now : {X E : Type 0} (old new : Option Trace) (P : List Label → X → Type 0) (result : Result X E) → new ≡ old → IfSome old (λ t. IfOk result (P (labels_now t))) → IfSome (option_map labels_now new) (λ ls. IfOk result (P ls))
+names_now None new P result same names = subst (λ o. IfSome (option_map labels_now o) (λ ls. IfOk result (P ls))) (sym same) tt
+names_now (Some t) new P result same names = subst (λ o. IfSome (option_map labels_now o) (λ ls. IfOk result (P ls))) (sym same) names
+
+-- ---- a bench's file
+
+pub file_left : {X E : Type 0} (change : real.NameChange) (old new : Option Trace) (without : Files → Files) (held left : Option Files) (result : Result X E) → OnErr result (FailsToAdopt change old new without held left)
+    → OnErr result ((left ≡ held) ⊎ (left ≡ option_map without held))
+file_left change old new without held left (Ok x) failed = tt
+file_left change old new without held left (Err e) failed = ⊎_elim (λ stays. inl stays.1) (λ gone. inr gone.1) failed
 
 module _ (layout : Layout) (young : ℕ) (stuck : Option DiskPlace) where
   pub put_known : {X E : Type 0} (old new : Option Trace) (name bytes : List ℕ) (result : Result X E) → OnOk result (Performs (real.Put name bytes) old new) → OnErr result (FailsToPut name bytes old new)
@@ -87,3 +172,64 @@ module _ (layout : Layout) (young : ℕ) (stuck : Option DiskPlace) where
   read_known None new same offset size name buffer filled result read v r x known there fits named = absurd known
   read_known (Some t) new same offset size name buffer filled result read v r x known there fits named =
       read_comes layout young stuck t known.0 v known.1 known.2 known.3 known.4 known.5 r offset size x there new same fits name buffer filled named result read
+
+  pub props_known : {E : Type 0} (old new : Option Trace) → new ≡ old → (offset : ℕ) (name buffer filled : List ℕ) (result : Result (Option ℕ) E) → IfSome old (λ t. IfOk result (IsRead (file_at t name) offset buffer filled))
+      → (v : View) (r : ℕ) (x : Recorded) → Knows layout young stuck old v → slice_get v.seen r ≡ Some x → r < 2 ^ 32 → name ≡ props_name v r
+      → (u : View) × (went : Went) × (text : List ℕ) × Knows layout young stuck new u × Answers result went × PropsRead r x went v u × IsDump text x.revision.properties × IfOk result (IsRead (Some text) offset buffer filled)
+  props_known None new same offset name buffer filled result read v r x known there fits named = absurd known
+  props_known (Some t) new same offset name buffer filled result read v r x known there fits named =
+      props_comes layout young stuck t known.0 v known.1 known.2 known.3 known.4 known.5 r x there new same offset fits name buffer filled named result read
+
+  pub floor_known : {E : Type 0} (old new : Option Trace) → new ≡ old → (offset : ℕ) (name buffer filled : List ℕ) (result : Result (Option ℕ) E) → IfSome old (λ t. IfOk result (IsRead (file_at t name) offset buffer filled))
+      → (v : View) → Knows layout young stuck old v → name ≡ only_name only.MinUnpackedRev
+      → (u : View) × (went : Went) × (floor : ℕ) × (text : List ℕ) × Knows layout young stuck new u × Answers result went × FloorRead floor went v u × IsRevLine text floor × IfOk result (IsRead (Some text) offset buffer filled)
+  floor_known None new same offset name buffer filled result read v known named = absurd known
+  floor_known (Some t) new same offset name buffer filled result read v known named =
+      floor_comes layout young stuck t known.0 v known.1 known.2 known.3 known.4 known.5 new same offset name buffer filled named result read
+
+  pub counter_known : {E : Type 0} (old new : Option Trace) → new ≡ old → (offset : ℕ) (name buffer filled : List ℕ) (result : Result (Option ℕ) E) → IfSome old (λ t. IfOk result (IsRead (file_at t name) offset buffer filled))
+      → (v : View) (base : ℕ) → Knows layout young stuck old v → v.section ≡ Some Begun → base < length v.seen → name ≡ only_name only.TxnCurrent → offset ≡ 0
+      → ReadsCounter (Knows layout young stuck new) base result buffer filled v
+  counter_known None new same offset name buffer filled result read v base known begun seen named first = absurd known
+  counter_known (Some t) new same offset name buffer filled result read v base known begun seen named first =
+      counter_comes layout young stuck t known.0 v known.1 known.2 known.3 known.4 known.5 base begun seen new same name buffer filled named result (subst (λ o. IfOk result (IsRead (file_at t name) o buffer filled)) first read)
+
+  pub size_known : {E : Type 0} (old new : Option Trace) → new ≡ old → (name : List ℕ) (result : Result (Option ℕ) E) → IfSome old (λ t. IfOk result (IsSize (file_at t name)))
+      → (v : View) (r : ℕ) (x : Recorded) → Knows layout young stuck old v → slice_get v.seen r ≡ Some x → r < 2 ^ 32 → name ≡ rev_name v r
+      → (u : View) × (went : Went) × Knows layout young stuck new u × Answers result went × ReadTurn r 0 0 x went v u × IfOk result (IsSize (Some x.bytes))
+  size_known None new same name result size v r x known there fits named = absurd known
+  size_known (Some t) new same name result size v r x known there fits named =
+      size_comes layout young stuck t known.0 v known.1 known.2 known.3 known.4 known.5 r 0 0 x there new same fits name named result size
+
+  -- what a listing comes to, however it went
+  pub list_known : (old new : Option Trace) → new ≡ old → (v : View) (went : Went) → Knows layout young stuck old v → (ls : List Label) × (option_map labels_now new ≡ Some ls) × (u : View) × Knows layout young stuck new u × Listed ls went v u
+  list_known None new same v went known = absurd known
+  list_known (Some t) new same v went known =
+      let c = list_comes layout young stuck t known.0 v known.1 known.2 known.3 known.4 known.5 new same (labels_now t) went in
+      (labels_now t, ap (λ o. option_map labels_now o) same, c.0, c.1, c.2)
+
+  pub still_known : (old new : Option Trace) → new ≡ old → (v : View) → Knows layout young stuck old v → Knows layout young stuck new v
+  still_known old new same v known = subst (λ o. Knows layout young stuck o v) (sym same) known
+
+  pub make_known : {X E : Type 0} (old new : Option Trace) (l : Label) (result : Result X E) → OnOk result (Performs (KeepLabel l) old new) → OnErr result (FailsAt (KeepLabel l) old new)
+      → (v : View) (x : Drawn) → Knows layout young stuck old v → MayMake v x → (u : View) × (went : Went) × Knows layout young stuck new u × Answers result went × BenchMade x went v u
+  make_known None new l result ok err v x known may = absurd known
+  make_known (Some t) new l result ok err v x known may = make_comes layout young stuck t known.0 v known.1 known.2 known.3 known.4 known.5 x may new l result ok err
+
+  pub purge_known : {E : Type 0} (old new : Option Trace) (l : Label) (result : Result Bool E) → IfOk result (λ there. PerformsIfThere there (DropLabel l) old new) → OnErr result (FailsAt (DropLabel l) old new)
+      → (v : View) (txn : Txn) → Knows layout young stuck old v → MayPurge v txn → (u : View) × (went : Went) × Knows layout young stuck new u × Answers result went × Purged txn went v u
+  purge_known None new l result ok err v txn known may = absurd known
+  purge_known (Some t) new l result ok err v txn known may = purge_comes layout young stuck t known.0 v known.1 known.2 known.3 known.4 known.5 new l txn may result ok err
+
+  pub spent_known : {E : Type 0} (old new : Option Trace) (l : Label) (result : Result Bool E) → IfOk result (λ there. PerformsIfThere there (DropLabel l) old new) → OnErr result (FailsAt (DropLabel l) old new)
+      → (v : View) (name : ℕ) → Knows layout young stuck old v → v.section ≡ None → IsIn name v.given → (u : View) × (went : Went) × Knows layout young stuck new u × Answers result went × SpentPurged name went v u
+  spent_known None new l result ok err v name known outside given = absurd known
+  spent_known (Some t) new l result ok err v name known outside given = spent_comes layout young stuck t known.0 v known.1 known.2 known.3 known.4 known.5 new l name outside given result ok err
+
+  pub adopt_file_known : {X E : Type 0} (old new : Option Trace) (name bytes : List ℕ) (without : Files → Files) (held left : Option Files) (result : Result X E) → OnOk result (Performs (real.Adopt name bytes) old new)
+      → OnErr result (FailsToAdopt (real.Adopt name bytes) old new without held left)
+      → (v : View) (txn : Txn) (properties : List (List ℕ × List ℕ)) (next : Revision) → Knows layout young stuck old v → MayAdopt v txn properties next bytes → name ≡ rev_name v (length v.seen)
+      → (u : View) × (went : Went) × Knows layout young stuck new u × Answers result went × Adopted txn properties next bytes went v u
+  adopt_file_known None new name bytes without held left result ok err v txn properties next known may named = absurd known
+  adopt_file_known (Some t) new name bytes without held left result ok err v txn properties next known may named =
+      adopt_file_comes layout young stuck t known.0 v known.1 known.2 known.3 known.4 known.5 txn properties next bytes may (left ≡ held) (left ≡ option_map without held) new name result named ok err

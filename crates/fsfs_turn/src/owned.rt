@@ -1,13 +1,15 @@
 //! The turns over one owned disk.
-ghost use Rattle.std.specs.Prelude.{◌≡◌, None, IfSome, IsSome, IsTrue};
-ghost use Rattle.fsfs_disk.specs.Trace.{file_at};
+ghost use Rattle.std.specs.Prelude.{◌≡◌, None, IfSome, IsSome, IsTrue, option_map};
+ghost use Rattle.fsfs_disk.specs.Trace.{file_at, labels_now};
+ghost use Rattle.fsfs_turn.specs.Views.{View};
 ghost use Rattle.fsfs_turn.specs.Standing.{Knows};
 
 use crate::turns::Turns;
 use fsfs_base::{Failed, Name, RevNum};
-use fsfs_disk::Disk;
-use fsfs_layout::Layout;
+use fsfs_disk::{Disk, Label, ListFault};
+use fsfs_layout::{Layout, OnlyFile};
 use fsfs_places::DiskPlace;
+use std::alloc::Global;
 
 /// A store whose disk has one owner and may be written: the write lock and the youngest revision are fields, and there is one
 /// pass. No call waits.
@@ -29,6 +31,8 @@ impl<D: Disk> Owned<D> {
         ensures layout { result.layout ≡ layout }
         ensures young { result.young ≡ young }
         ensures free { result.stuck ≡ None }
+        // What is known of it with this layout and number is what its pass knows.
+        ensures known { (v : View) → Knows layout young None (D.trace disk) v → Knows result.layout result.young result.stuck (D.trace result.disk) v }
     {
         Owned {
             disk,
@@ -48,9 +52,22 @@ impl<D: Disk> Owned<D> {
 }
 
 impl<R, D: Disk> Turns<R> for Owned<D> {
+    ghost use Rattle.std.specs.Prelude.{◌⊎◌, ℕ, IfOk, OnOk, OnErr};
+    ghost use Rattle.fsfs_base.specs.Failures.{HasCause};
+    ghost use Rattle.fsfs_disk.specs.Labels.{Txn as TxnLabel, label_of, has_label, without_label};
+    ghost use Rattle.fsfs_machine.specs.declared.machine.Txn.{Txn};
+    ghost use Rattle.fsfs_machine.specs.declared.machine.Went.{Went};
+    ghost use Rattle.fsfs_machine.specs.Kept.{IsIn};
+    ghost use Rattle.fsfs_turn.specs.Views.{Answers};
+    ghost use Rattle.fsfs_turn.specs.Learning.{MayPurge, Purged, SpentPurged};
+
+    type Bench = D::Bench;
+
     ghost knows = { λ s v. Knows s.layout s.young s.stuck (D.trace s.disk) v };
 
     ghost in_use = { λ s name. IfSome (D.trace s.disk) (λ t. IsSome (file_at t name)) };
+
+    ghost labels = { λ s. option_map labels_now (D.trace s.disk) };
 
     ghost faults = { λ s. D.faults s.disk };
 
@@ -103,5 +120,45 @@ impl<R, D: Disk> Turns<R> for Owned<D> {
 
     fn make_folder(&mut self, _rt: &R, name: &Name) -> Result<(), Failed> {
         self.disk.make_folder(name)
+    }
+
+    fn adopt_file(
+        &mut self,
+        _rt: &R,
+        bench: &mut D::Bench,
+        file: &Name,
+        to: &Name,
+    ) -> Result<(), Failed> {
+        self.disk.adopt(bench, file, to)
+    }
+
+    fn size(&mut self, _rt: &R, name: &Name) -> Result<Option<u64>, Failed> {
+        self.disk.size(name)
+    }
+
+    fn list(&mut self, _rt: &R, alloc: Global) -> Result<Vec<Name>, ListFault> {
+        self.disk.list(alloc, &OnlyFile::Transactions.name())
+    }
+
+    fn bench(&mut self, _rt: &R, label: &Label) -> Result<D::Bench, Failed> {
+        self.disk.bench(label)
+    }
+
+    fn drop_bench(
+        &mut self,
+        _rt: &R,
+        label: &Label,
+        bench: Option<D::Bench>,
+    ) -> Result<bool, Failed>
+        ensures purged { (v : View) (txn : Txn) (base : ℕ) → Knows self.old.layout self.old.young self.old.stuck (D.trace self.old.disk) v → MayPurge v txn → label_of label.now ≡ TxnLabel base txn.name
+            → (u : View) × (went : Went) × Knows self.new.layout self.new.young self.new.stuck (D.trace self.new.disk) u × Answers result went × Purged txn went v u }
+        ensures spent { (v : View) (name base : ℕ) → Knows self.old.layout self.old.young self.old.stuck (D.trace self.old.disk) v → v.section ≡ None → IsIn name v.given → label_of label.now ≡ TxnLabel base name
+            → (u : View) × (went : Went) × Knows self.new.layout self.new.young self.new.stuck (D.trace self.new.disk) u × Answers result went × SpentPurged name went v u }
+        ensures there { IfSome (option_map labels_now (D.trace self.old.disk)) (λ ls. IfOk result (λ there. there ≡ has_label (label_of label.now) ls)) }
+        ensures dropped { OnOk result (option_map labels_now (D.trace self.new.disk) ≡ option_map (without_label (label_of label.now)) (option_map labels_now (D.trace self.old.disk))) }
+        ensures left { OnErr result ((option_map labels_now (D.trace self.new.disk) ≡ option_map labels_now (D.trace self.old.disk)) ⊎ (option_map labels_now (D.trace self.new.disk) ≡ option_map (without_label (label_of label.now)) (option_map labels_now (D.trace self.old.disk)))) }
+        ensures cause { HasCause (D.faults self.old.disk) (D.faults self.new.disk) result }
+    {
+        self.disk.drop_bench(label, bench)
     }
 }

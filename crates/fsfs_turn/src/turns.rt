@@ -1,29 +1,47 @@
 //! What a section is written over.
-ghost use Rattle.std.specs.Prelude.{◌≡◌, ◌<◌, ◌≤◌, ◌^◌, ℕ, List, Option, Some, None, length, slice_get, OnOk, OnErr, IfOk, IfErr, IfSome};
+ghost use Rattle.std.specs.Prelude.{◌≡◌, ◌⊎◌, ◌<◌, ◌≤◌, ◌^◌, ℕ, List, Option, Some, None, length, slice_get, option_map, OnOk, OnErr, IfOk, IfErr, IfSome, IsErrOf};
+ghost use Rattle.std.specs.FinMap.{empty};
 ghost use Rattle.fsfs_tree.specs.Revisions.{Revision};
-ghost use Rattle.fsfs_base.specs.Failures.{HasCause};
-ghost use Rattle.fsfs_disk.specs.Trace.{Put, Rename, FirmNames, IsRead};
+ghost use Rattle.fsfs_base.specs.Failures.{HasCause, Rose};
+ghost use Rattle.fsfs_layout.specs.FileNames.{only_name};
+ghost use Rattle.fsfs_layout.specs.Small.{IsRevLine};
+ghost use Rattle.fsfs_layout.specs.declared.only_file.OnlyFile.TheVariants.{MinUnpackedRev, TxnCurrent};
+ghost use Rattle.fsfs_hash.specs.Dump.{IsDump};
+ghost use Rattle.fsfs_disk.specs.Labels.{Label as KeptLabel, Txn as TxnLabel, label_of, has_label, with_label, without_label, IsListing};
+ghost use Rattle.fsfs_disk.specs.Benches.{removed, bytes_on, IsFirmFile};
+ghost use Rattle.fsfs_disk.specs.Trace.{Put, Rename, FirmNames, IsRead, IsSize};
 ghost use Rattle.fsfs_machine.specs.declared.machine.Recorded.{Recorded};
 ghost use Rattle.fsfs_machine.specs.declared.machine.Coming.{Coming};
+ghost use Rattle.fsfs_machine.specs.declared.machine.Drawn.{Drawn};
 ghost use Rattle.fsfs_machine.specs.declared.machine.Txn.{Txn};
 ghost use Rattle.fsfs_places.specs.declared.place.DiskPlace.{DiskPlace as SpecPlace};
-ghost use Rattle.fsfs_machine.specs.declared.machine.Section.TheVariants.{CurrentFirm, Doubtful};
+ghost use Rattle.fsfs_machine.specs.declared.machine.Section.TheVariants.{Begun, CurrentFirm, Doubtful};
 ghost use Rattle.fsfs_machine.specs.declared.machine.Step.TheVariants.{GiveLock, StickLock};
 ghost use Rattle.fsfs_machine.specs.declared.machine.Went.{Went};
-ghost use Rattle.fsfs_machine.specs.declared.machine.Went.TheVariants.{Before};
-ghost use Rattle.fsfs_turn.specs.Views.{View, rev_name, IsDue, MayAdopt, MayGive, Answers, Called, Adopted, Looked, LockTaken, FoundStuck, LockGiven, Revealed, ReadTurn};
+ghost use Rattle.fsfs_machine.specs.declared.machine.Went.TheVariants.{Fine, Before};
+ghost use Rattle.fsfs_machine.specs.Kept.{IsIn};
+ghost use Rattle.fsfs_turn.specs.Views.{View, rev_name, props_name, IsDue, MayAdopt, MayGive, Answers, Called, Adopted, Looked, LockTaken, FoundStuck, LockGiven, Revealed, ReadTurn};
+ghost use Rattle.fsfs_turn.specs.Learning.{PropsRead, FloorRead, ReadsCounter, Listed, MayMake, BenchMade, MayPurge, Purged, SpentPurged};
 
 use fsfs_base::{Failed, Name, RevNum};
+use fsfs_disk::{Bench, Label, ListFault};
 use fsfs_places::DiskPlace;
+use std::alloc::Global;
 
 /// The turns of one pass. Each call is one step of the machine (`Turned`), made at one moment: between two calls other
 /// passes may step. `R` is what a call needs to wait for its turn: nothing, where there is one owner.
 pub trait Turns<R> {
+    /// What is made for a transaction to write in. Its calls are no turns.
+    type Bench: Bench;
+
     /// What the pass knows, where the disk tells its files and these are a store: of some view it is known that it holds.
     ghost knows: { Self → View → Type 0 };
 
     /// The name is in use, as far as the disk tells.
     ghost in_use: { Self → List ℕ → Type 0 };
+
+    /// The labels that are kept, where the disk tells.
+    ghost labels: { Self → Option (List KeptLabel) };
 
     /// How often its turns have failed. The count stops at the last number of a u64.
     ghost faults: { Self → ℕ };
@@ -81,7 +99,25 @@ pub trait Turns<R> {
             → (u : View) × (went : Went) × knows self.new u × Answers result went × Called place went v u }
         ensures cause { HasCause (faults self.old) (faults self.new) result };
 
+    /// A commit's first call, with the bytes in a firm file of a bench: it gets the name by one change, and the bench has it no more.
+    fn adopt_file(
+        &mut self,
+        rt: &R,
+        bench: &mut Self::Bench,
+        file: &Name,
+        to: &Name,
+    ) -> Result<(), Failed>
+        requires { IsFirmFile (Self.Bench.contents bench.old) (Self.Bench.firm_to bench.old file.now) file.now }
+        ensures turned { (v : View) (txn : Txn) (properties : List (List ℕ × List ℕ)) (next : Revision) → knows self.old v → MayAdopt v txn properties next (bytes_on (Self.Bench.contents bench.old) file.now)
+            → to.now ≡ rev_name v (length v.seen)
+            → (u : View) × (went : Went) × knows self.new u × Answers result went × Adopted txn properties next (bytes_on (Self.Bench.contents bench.old) file.now) went v u }
+        ensures gone { OnOk result (Self.Bench.contents bench.new ≡ option_map (removed file.now) (Self.Bench.contents bench.old)) }
+        ensures left { OnErr result ((Self.Bench.contents bench.new ≡ Self.Bench.contents bench.old) ⊎ (Self.Bench.contents bench.new ≡ option_map (removed file.now) (Self.Bench.contents bench.old))) }
+        ensures bench_same { Self.Bench.faults bench.new ≡ Self.Bench.faults bench.old }
+        ensures cause { HasCause (faults self.old) (faults self.new) result };
+
     /// Fills the buffer from an offset on, as far as the file goes. Of a revision that the pass has seen it gives the bytes beside it.
+    /// In the same way it gives the properties of one, the floor, and, as a begin's first call, the number in `txn-current`.
     fn read(
         &mut self,
         rt: &R,
@@ -92,6 +128,57 @@ pub trait Turns<R> {
         ensures bound { IfOk result (λ found. IfSome found (λ n. n ≤ length buffer.new)) }
         ensures turned { (v : View) (r : ℕ) (x : Recorded) → knows self.old v → slice_get v.seen r ≡ Some x → r < 2 ^ 32 → name.now ≡ rev_name v r
             → (u : View) × (went : Went) × knows self.new u × Answers result went × ReadTurn r offset (length buffer.old) x went v u × IfOk result (IsRead (Some x.bytes) offset buffer.old buffer.new) }
+        ensures properties { (v : View) (r : ℕ) (x : Recorded) → knows self.old v → slice_get v.seen r ≡ Some x → r < 2 ^ 32 → name.now ≡ props_name v r
+            → (u : View) × (went : Went) × (text : List ℕ) × knows self.new u × Answers result went × PropsRead r x went v u × IsDump text x.revision.properties × IfOk result (IsRead (Some text) offset buffer.old buffer.new) }
+        ensures floor { (v : View) → knows self.old v → name.now ≡ only_name MinUnpackedRev
+            → (u : View) × (went : Went) × (floor : ℕ) × (text : List ℕ) × knows self.new u × Answers result went × FloorRead floor went v u × IsRevLine text floor × IfOk result (IsRead (Some text) offset buffer.old buffer.new) }
+        ensures counted { (v : View) (base : ℕ) → knows self.old v → v.section ≡ Some Begun → base < length v.seen → name.now ≡ only_name TxnCurrent → offset ≡ 0
+            → ReadsCounter (knows self.new) base result buffer.old buffer.new v }
+        ensures cause { HasCause (faults self.old) (faults self.new) result };
+
+    /// The length of a file. Of a revision that the pass has seen it is that of the bytes beside it.
+    fn size(&mut self, rt: &R, name: &Name) -> Result<Option<u64>, Failed>
+        ensures turned { (v : View) (r : ℕ) (x : Recorded) → knows self.old v → slice_get v.seen r ≡ Some x → r < 2 ^ 32 → name.now ≡ rev_name v r
+            → (u : View) × (went : Went) × knows self.new u × Answers result went × ReadTurn r 0 0 x went v u × IfOk result (IsSize (Some x.bytes)) }
+        ensures cause { HasCause (faults self.old) (faults self.new) result };
+
+    /// The names of the folders of transactions, in the order of their bytes: one for each label of a transaction that is kept.
+    fn list(&mut self, rt: &R, alloc: Global) -> Result<Vec<Name>, ListFault>
+        ensures names { IfSome (labels self.new) (λ ls. IfOk result (λ found. IsListing ls found.items)) }
+        ensures ok { (v : View) → knows self.old v → OnOk result ((ls : List KeptLabel) × (labels self.new ≡ Some ls) × (u : View) × knows self.new u × Listed ls Fine v u) }
+        ensures failed { (v : View) → knows self.old v → IsErrOf result ListFault.Failed → (ls : List KeptLabel) × (labels self.new ≡ Some ls) × (u : View) × knows self.new u × Listed ls Before v u }
+        ensures memory { (v : View) → knows self.old v → IsErrOf result ListFault.Memory → knows self.new v }
+        ensures same { labels self.new ≡ labels self.old }
+        ensures later { faults self.old ≤ faults self.new }
+        ensures kept { OnOk result (faults self.new ≡ faults self.old) }
+        ensures rose { IsErrOf result ListFault.Failed → Rose (faults self.old) (faults self.new) }
+        ensures wanting { IsErrOf result ListFault.Memory → faults self.new ≡ faults self.old };
+
+    /// A begin's last call: keeps the label of a transaction whose name was given, and makes an empty bench for it.
+    fn bench(&mut self, rt: &R, label: &Label) -> Result<Self::Bench, Failed>
+        ensures turned { (v : View) (x : Drawn) → knows self.old v → MayMake v x → label_of label.now ≡ TxnLabel x.base x.name
+            → (u : View) × (went : Went) × knows self.new u × Answers result went × BenchMade x went v u }
+        ensures kept { OnOk result (labels self.new ≡ option_map (with_label (label_of label.now)) (labels self.old)) }
+        ensures left { OnErr result ((labels self.new ≡ labels self.old) ⊎ (labels self.new ≡ option_map (with_label (label_of label.now)) (labels self.old))) }
+        ensures empty { IfOk result (λ bench. Self.Bench.contents bench ≡ option_map (λ _. empty) (labels self.old)) }
+        ensures new { IfOk result (λ bench. Self.Bench.faults bench ≡ 0) }
+        ensures cause { HasCause (faults self.old) (faults self.new) result };
+
+    /// Drops what a label's bench holds, and then the label: that of a transaction under way, or of one that is no more. `false`: the
+    /// label isn't kept.
+    fn drop_bench(
+        &mut self,
+        rt: &R,
+        label: &Label,
+        bench: Option<Self::Bench>,
+    ) -> Result<bool, Failed>
+        ensures purged { (v : View) (txn : Txn) (base : ℕ) → knows self.old v → MayPurge v txn → label_of label.now ≡ TxnLabel base txn.name
+            → (u : View) × (went : Went) × knows self.new u × Answers result went × Purged txn went v u }
+        ensures spent { (v : View) (name base : ℕ) → knows self.old v → v.section ≡ None → IsIn name v.given → label_of label.now ≡ TxnLabel base name
+            → (u : View) × (went : Went) × knows self.new u × Answers result went × SpentPurged name went v u }
+        ensures there { IfSome (labels self.old) (λ ls. IfOk result (λ there. there ≡ has_label (label_of label.now) ls)) }
+        ensures dropped { OnOk result (labels self.new ≡ option_map (without_label (label_of label.now)) (labels self.old)) }
+        ensures left { OnErr result ((labels self.new ≡ labels self.old) ⊎ (labels self.new ≡ option_map (without_label (label_of label.now)) (labels self.old))) }
         ensures cause { HasCause (faults self.old) (faults self.new) result };
 
     /// Makes a folder and those above it. It is no step; its fault is one of the call that is due.

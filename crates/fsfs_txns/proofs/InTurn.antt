@@ -71,7 +71,7 @@ pub record Stays (old new : Option Trace) : Type 0 where
   pub kept : AllLabels new (WasKept old)
   pub left : LeavesBoth old new (λ m ls. AreAll (WasKept old) ls)
 
-old_kept : (old : Option Trace) → AllLabels old (WasKept old)
+pub old_kept : (old : Option Trace) → AllLabels old (WasKept old)
 old_kept None = tt
 old_kept (Some t) = λ l has. has
 

@@ -5,18 +5,18 @@ use Rattle.fsfs_commit.proofs.Going.{section_on, section_failed, made_on, publis
 use Rattle.fsfs_commit.proofs.section.publish.Goals as goal
 
 pub returns-in-Ok-clause-ok : goal.returns-in-Ok-clause-ok
-returns-in-Ok-clause-ok g c = λ v txn properties next known may made.
-    let x = coming_of v txn properties next c.args.made.now.bytes.items in
-    let a = c.in-Ok.ensures.turned v txn properties next known may made in
+returns-in-Ok-clause-ok g c = λ v txn next bytes known held may made.
+    let x = coming_of v txn (g.D.Draft.properties c.args.draft.now) next bytes in
+    let a = c.in-Ok.ensures.turned v txn next bytes known held may made in
     let m = a.done.0 in
     let r = a.done.2 in
-    let e = c.finish.ensures.turned m x a.done.1 (section_on (section.CurrentFirm x) v m r) (made_on (section.CurrentFirm x) v m properties c.args.made.now.rev c.args.made.now.rev_file c.args.made.now.props_file c.args.made.now.properties.items c.args.made.now.current.items r made).number in
-    (e.0, e.1, published txn properties next c.args.made.now.bytes.items v m e.0 r e.2)
+    let e = c.finish.ensures.turned m x a.done.1 (section_on (section.CurrentFirm x) v m r) (made_on (section.CurrentFirm x) v m (g.D.Draft.properties c.args.draft.now) c.args.made.now.rev c.args.made.now.rev_file c.args.made.now.props_file c.args.made.now.properties.items c.args.made.now.current.items r made).number in
+    (e.0, e.1, published txn (g.D.Draft.properties c.args.draft.now) next bytes v m e.0 r e.2)
 
 pub returns-in-Err-clause-err : goal.returns-in-Err-clause-err
-returns-in-Err-clause-err g c = λ v txn properties next known may made.
-    let x = coming_of v txn properties next c.args.made.now.bytes.items in
-    let a = c.in-Err.ensures.turned v txn properties next known may made in
+returns-in-Err-clause-err g c = λ v txn next bytes known held may made.
+    let x = coming_of v txn (g.D.Draft.properties c.args.draft.now) next bytes in
+    let a = c.in-Err.ensures.turned v txn next bytes known held may made in
     let m = a.failed.0 in
     let f = a.failed.2 in
     let e = c.settle.ensures.turned m x a.failed.1 (section_failed c.in-Err.place (spoilt x c.in-Err.place) v m f) in

@@ -25,47 +25,47 @@ returns-in-Err-clause-seen g c = λ look knows seen.
     let at = offset_of c.args.entry.now.id.place in
     along (λ (a : RevOffset). (l : RevisionBytes) → IsTold (g.B.Book.told c.args.book.now) l a.rev → IsSeen l c.args.seen.now → IsSeen l c.node_seen.new.seen) c.offset_of.result at c.offset_of.ensures c.in-Err.ensures.seen look (knows at.rev (omega arith)) seen
 
-pub returns-in_err-check_id-clause-told : goal.returns-in_err-check_id-clause-told
-returns-in_err-check_id-clause-told g c = λ look knows seen.
+pub returns-in_err-check_id-in-Ok-clause-told : goal.returns-in_err-check_id-in-Ok-clause-told
+returns-in_err-check_id-in-Ok-clause-told g c = λ look knows seen.
     let p = err_from_is_err_and c.from_residual.result c.from_residual.ensures.1 in
-    let e = c.in_err-check_id.field-0.0 in
+    let e = c.in_err-check_id-in-Ok.field-0.0 in
     let at = offset_of c.args.entry.now.id.place in
     let v = c.in-Ok.node in
     let read = along (λ (a : RevOffset). (l : RevisionBytes) → IsTold (g.B.Book.told c.args.book.now) l a.rev → IsSeen l c.args.seen.now → NodeAt l a (Ok v)) c.offset_of.result at c.offset_of.ensures c.in-Ok.ensures.told in
     let node = read look (knows at.rev (omega arith)) seen in
-    let named = err_as (λ (u : Unit {0}). v) (λ (found : PlacedNode). found.node) e (HasId c.args.entry.now.id v) c.in_err-check_id.ensures.told in
+    let named = err_as (λ (u : Unit {0}). v) (λ (found : PlacedNode). found.node) e (HasId c.args.entry.now.id v) c.in_err-check_id-in-Ok.ensures.told in
     rw (p.1, p.2) (stops (λ (found : PlacedNode). found.node) (λ (found : PlacedNode). found.node) e (OfId look c.args.entry.now.id) (HasKind (entry_value c.args.entry.now)) (goes_on (λ (found : PlacedNode). found.node) (Err e) (NodeAt look at) (HasId c.args.entry.now.id) v node named))
 
-pub returns-in_err-check_id-clause-seen : goal.returns-in_err-check_id-clause-seen
-returns-in_err-check_id-clause-seen g c = λ look knows seen.
+pub returns-in_err-check_id-in-Ok-clause-seen : goal.returns-in_err-check_id-in-Ok-clause-seen
+returns-in_err-check_id-in-Ok-clause-seen g c = λ look knows seen.
     let at = offset_of c.args.entry.now.id.place in
     along (λ (a : RevOffset). (l : RevisionBytes) → IsTold (g.B.Book.told c.args.book.now) l a.rev → IsSeen l c.args.seen.now → IsSeen l c.node_seen.new.seen) c.offset_of.result at c.offset_of.ensures c.in-Ok.ensures.seen look (knows at.rev (omega arith)) seen
 
-pub returns-in_err-check_kind-clause-told : goal.returns-in_err-check_kind-clause-told
-returns-in_err-check_kind-clause-told g c = λ look knows seen.
-    let p = err_from_is_err_and c.from_residual-in_err-check_kind.result c.from_residual-in_err-check_kind.ensures.1 in
-    let e = c.in_err-check_kind.field-0.0 in
+pub returns-in_err-check_kind-in-Ok-clause-told : goal.returns-in_err-check_kind-in-Ok-clause-told
+returns-in_err-check_kind-in-Ok-clause-told g c = λ look knows seen.
+    let p = err_from_is_err_and c.from_residual-in_err-check_kind-in-Ok.result c.from_residual-in_err-check_kind-in-Ok.ensures.1 in
+    let e = c.in_err-check_kind-in-Ok.field-0.0 in
     let at = offset_of c.args.entry.now.id.place in
     let v = c.in-Ok.node in
     let read = along (λ (a : RevOffset). (l : RevisionBytes) → IsTold (g.B.Book.told c.args.book.now) l a.rev → IsSeen l c.args.seen.now → NodeAt l a (Ok v)) c.offset_of.result at c.offset_of.ensures c.in-Ok.ensures.told in
     let node = read look (knows at.rev (omega arith)) seen in
-    let kind = err_as (λ (u : Unit {0}). v) (λ (found : PlacedNode). found.node) e (HasKind (entry_value c.args.entry.now) v) c.in_err-check_kind.ensures.told in
-    rw (p.1, p.2) (goes_on (λ (found : PlacedNode). found.node) (Err e) (OfId look c.args.entry.now.id) (HasKind (entry_value c.args.entry.now)) v (v, node, c.in_ok-check_id.ensures.told) kind)
+    let kind = err_as (λ (u : Unit {0}). v) (λ (found : PlacedNode). found.node) e (HasKind (entry_value c.args.entry.now) v) c.in_err-check_kind-in-Ok.ensures.told in
+    rw (p.1, p.2) (goes_on (λ (found : PlacedNode). found.node) (Err e) (OfId look c.args.entry.now.id) (HasKind (entry_value c.args.entry.now)) v (v, node, c.in_ok-check_id-in-Ok.ensures.told) kind)
 
-pub returns-in_err-check_kind-clause-seen : goal.returns-in_err-check_kind-clause-seen
-returns-in_err-check_kind-clause-seen g c = λ look knows seen.
+pub returns-in_err-check_kind-in-Ok-clause-seen : goal.returns-in_err-check_kind-in-Ok-clause-seen
+returns-in_err-check_kind-in-Ok-clause-seen g c = λ look knows seen.
     let at = offset_of c.args.entry.now.id.place in
     along (λ (a : RevOffset). (l : RevisionBytes) → IsTold (g.B.Book.told c.args.book.now) l a.rev → IsSeen l c.args.seen.now → IsSeen l c.node_seen.new.seen) c.offset_of.result at c.offset_of.ensures c.in-Ok.ensures.seen look (knows at.rev (omega arith)) seen
 
-pub returns-clause-told : goal.returns-clause-told
-returns-clause-told g c = λ look knows seen.
+pub returns-in_ok-check_kind-in-Ok-clause-told : goal.returns-in_ok-check_kind-in-Ok-clause-told
+returns-in_ok-check_kind-in-Ok-clause-told g c = λ look knows seen.
     let at = offset_of c.args.entry.now.id.place in
     let v = c.in-Ok.node in
     let read = along (λ (a : RevOffset). (l : RevisionBytes) → IsTold (g.B.Book.told c.args.book.now) l a.rev → IsSeen l c.args.seen.now → NodeAt l a (Ok v)) c.offset_of.result at c.offset_of.ensures c.in-Ok.ensures.told in
     let node = read look (knows at.rev (omega arith)) seen in
-    (v, (v, node, c.in_ok-check_id.ensures.told), c.in_ok-check_kind.ensures.told)
+    (v, (v, node, c.in_ok-check_id-in-Ok.ensures.told), c.in_ok-check_kind-in-Ok.ensures.told)
 
-pub returns-clause-seen : goal.returns-clause-seen
-returns-clause-seen g c = λ look knows seen.
+pub returns-in_ok-check_kind-in-Ok-clause-seen : goal.returns-in_ok-check_kind-in-Ok-clause-seen
+returns-in_ok-check_kind-in-Ok-clause-seen g c = λ look knows seen.
     let at = offset_of c.args.entry.now.id.place in
     along (λ (a : RevOffset). (l : RevisionBytes) → IsTold (g.B.Book.told c.args.book.now) l a.rev → IsSeen l c.args.seen.now → IsSeen l c.node_seen.new.seen) c.offset_of.result at c.offset_of.ensures c.in-Ok.ensures.seen look (knows at.rev (omega arith)) seen

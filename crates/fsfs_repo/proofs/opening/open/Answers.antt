@@ -1,9 +1,9 @@
-use Rattle.std.proofs.Common.{◌≡◌, Option, option_map, sym, subst}
+use Rattle.std.proofs.Common.{◌≡◌, Option, option_map, sym, subst, ◌∙◌}
 use Rattle.fsfs_disk.specs.Trace.{Trace, files_now, FailsAt, FirmNames}
 use Rattle.fsfs_disk.proofs.TraceLemmas.{ended}
 use Rattle.fsfs_base.specs.Failures.{Rose}
 use Rattle.fsfs_repo.specs.OpenFaults.{texts_of}
-use Rattle.fsfs_repo.proofs.OpeningLemmas.{all_because, same_texts, firm_same}
+use Rattle.fsfs_repo.proofs.OpeningLemmas.{all_because, same_texts, firm_same, firm_then}
 use Rattle.fsfs_repo.proofs.DecidingLemmas.{decides_now, opened_now}
 use Rattle.fsfs_repo.proofs.opening.open.Goals as goal
 
@@ -36,3 +36,8 @@ returns-clause-ended g c =
     let told = g.D.Disk.trace in
     subst (λ (o : Option Trace). FailsAt FirmNames (told c.args.disk.now) o) (sym c.in_ok-files.ensures.same)
     (ended FirmNames (told c.args.disk.now) (told c.firm_names.new.self) c.firm_names.result c.firm_names.ensures.ok c.firm_names.ensures.err)
+
+pub returns-clause-firm : goal.returns-clause-firm
+returns-clause-firm g c =
+    let told = g.D.Disk.trace in
+    firm_then (told c.args.disk.now) (told c.firm_names.new.self) (told c.read_small_files.new.disk) c.firm_names.result c.judge.result (sym c.is_err.ensures.value ∙ c.if-is_err.false) c.firm_names.ensures.ok c.in_ok-files.ensures.same

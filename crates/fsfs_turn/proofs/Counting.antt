@@ -1,0 +1,136 @@
+-- A begin's first call: `txn-current` is read.
+use Rattle.std.proofs.Common.{◌≡◌, ◌<◌, ◌+◌, ◌-◌, ◌^◌, ℕ, List, [], ◌++◌, length, true, cond, refl, sym, ap, subst, ◌∙◌, arith, take, drop}
+use Rattle.std.specs.Prelude.{Option, Some, IfSome, Result, Ok, Err, IfOk, nat_lt, ◌&&◌}
+use Rattle.std.specs.FinMap.{get}
+use Rattle.std.proofs.lemmas.List.{take_all, length-take}
+use Rattle.fsfs_layout.specs.FileNames.{only_name}
+use Rattle.fsfs_layout.specs.Small.{IsBase36Line}
+use Rattle.fsfs_layout.specs.declared.layout.Layout.{Layout}
+use Rattle.fsfs_layout.specs.declared.only_file.OnlyFile.TheVariants as only
+use Rattle.fsfs_disk.specs.Trace.{Trace, files_now, file_at, IsRead}
+use Rattle.fsfs_machine.specs.declared.contents.FileName.TheVariants.{Counter}
+use Rattle.fsfs_machine.specs.declared.contents.Contents.TheVariants.{Number}
+use Rattle.fsfs_places.specs.declared.place.DiskPlace.{DiskPlace}
+use Rattle.fsfs_places.specs.declared.place.DiskPlace.TheVariants.{Begin}
+use Rattle.fsfs_places.specs.declared.place.BeginPlace.TheVariants as begin
+use Rattle.fsfs_machine.specs.declared.machine.Section.TheVariants.{Begun, CountRead, Over}
+use Rattle.fsfs_machine.specs.declared.machine.Lock.TheVariants.{Held}
+use Rattle.fsfs_machine.specs.declared.machine.Went.{Went}
+use Rattle.fsfs_machine.specs.declared.machine.Went.TheVariants.{Fine, Before, After, Torn}
+use Rattle.fsfs_machine.specs.declared.machine.Step.TheVariants as step
+use Rattle.fsfs_machine.specs.Disk.{found}
+use Rattle.fsfs_machine.specs.Machine.{World, did, barred, either, answer, learns, number_of, inside, held_by, drawn, counted, count_read, with_next, stuck_place}
+use Rattle.fsfs_machine.specs.Kept.{Kept, coming, AllBelow}
+use Rattle.fsfs_machine.proofs.Images.{read_is_image}
+use Rattle.fsfs_machine.proofs.Steps.{step_keeps}
+use Rattle.fsfs_machine.proofs.Whose.{length_at}
+use Rattle.fsfs_images.specs.RealNames.{machine_name}
+use Rattle.fsfs_images.proofs.Showing.{now_read}
+use Rattle.fsfs_turn.specs.Bytes.{BytesShow}
+use Rattle.fsfs_turn.specs.Past.{doubt_in, doubt, Safe}
+use Rattle.fsfs_turn.specs.Views.{View, Sees, with_txns, Answers}
+use Rattle.fsfs_turn.specs.Learning.{drawn_of, CounterRead, ReadsCounter}
+use Rattle.fsfs_turn.specs.Standing.{no_others, IsStore, Knows}
+use Rattle.fsfs_turn.proofs.Stepping.{kept_bare, at_itself, held_here, lock_is, take_drop}
+use Rattle.fsfs_turn.proofs.Due.{at_found}
+
+module _ (layout : Layout) (young : ℕ) (stuck : Option DiskPlace) (t : Trace) (w : World) (v : View) (store : IsStore layout young stuck t w) (sees : Sees w v) (layout_is : v.layout ≡ layout) (number_is : v.number ≡ 0) (safe : Safe layout v.since t v.opened w.floor w.history (doubt w.lock))
+    (base : ℕ) (begun : v.section ≡ Some Begun) (seen_base : base < length v.seen) where
+  lock : w.lock ≡ Held v.number Begun
+  lock = lock_is v.number w.lock Begun (sees.section ∙ begun)
+
+  base_in : base < length w.history
+  base_in = let e : length v.seen ≡ length (take v.pass.seen w.history) = ap length sees.seen in omega (arith, seen_base, e, length-take v.pass.seen w.history)
+
+  counter : (k : ℕ) × (found w.disk Counter ≡ Some (Number k)) × AllBelow k w.given
+  counter = store.kept.counts w.disk (read_is_image w.disk)
+
+  abbrev world : Went → World
+  world went = count_read (with_txns [] w) v.number base went counter.0
+
+  abbrev view : Went → View
+  view went = record v { pass = learns (length w.history) (Begin begin.Read) went v.pass; seen = w.history; section = Some (either went (CountRead (drawn_of base counter.0)) Over) }
+
+  happens : counter.0 < 2 ^ 64 - 1 → (went : Went) → did (world went) (answer went) ≡ inside (with_txns [] w) (drawn (with_txns [] w) v.number base went) (held_by v.number w.lock)
+  happens few went =
+      let e : nat_lt base (length w.history) ≡ true = grind (arith, base_in) in
+      let f : nat_lt counter.0 (2 ^ 64 - 1) ≡ true = grind (arith, few) in
+      sym (ap (λ o. inside (with_txns [] w) (drawn (with_txns [] w) v.number base went) o) (sees.section ∙ begun)
+      ∙ ap (λ c. counted (with_txns [] w) v.number base went (number_of c)) counter.1
+      ∙ ap (λ b. cond (b && nat_lt counter.0 (2 ^ 64 - 1)) (did (world went) (answer went)) (barred (with_txns [] w))) e
+      ∙ ap (λ b. cond b (did (world went) (answer went)) (barred (with_txns [] w))) f)
+
+  doubtless : (went : Went) → doubt_in Begun ≡ doubt_in (either went (CountRead (drawn_of base counter.0)) Over)
+  doubtless Fine = refl
+  doubtless Before = refl
+  doubtless After = refl
+  doubtless (Torn any) = refl
+
+  stuck_then : (went : Went) → stuck_place (Held v.number (either went (CountRead (drawn_of base counter.0)) Over)) ≡ stuck
+  stuck_then went = sym (ap stuck_place lock) ∙ store.stuck_is
+
+  coming_then : (went : Went) → IfSome (coming (Held v.number (either went (CountRead (drawn_of base counter.0)) Over))) (λ y. BytesShow (with_next w.history y))
+  coming_then Fine = tt
+  coming_then Before = tt
+  coming_then After = tt
+  coming_then (Torn any) = tt
+
+  turn : counter.0 < 2 ^ 64 - 1 → (told : Option Trace) → told ≡ Some t → (went : Went) → (u : View) × Knows layout young stuck told u × CounterRead base counter.0 went v u
+  turn few told same went = (
+    view went,
+    subst (λ o. Knows layout young stuck o (view went)) (sym same) (world went, now, after, layout_is, number_is, safe_then),
+    record {
+      turned = record { world = w; kept = store.kept; sees = sees; did = did (world went) (answer went); happens = happens few went; answers = refl; after = kept; leaves = after };
+      is = refl;
+      grows = (drop v.pass.seen w.history, take_drop v.pass.seen w.history ∙ ap (λ l. l ++ drop v.pass.seen w.history) (sym sees.seen));
+      within = λ sure. let up : w.young + 1 ≡ length w.history = store.kept.young sees.up in omega (arith, up, sees.sure sure);
+      shown = store.shown;
+    },
+  )
+    where
+      kept : Kept (with_txns [] (world went))
+      kept = kept_bare (world went) (step_keeps (with_txns [] w) (step.Draw v.number base went) (did (world went) (answer went)) (happens few went) store.kept).kept
+
+      after : Sees (world went) (view went)
+      after = record {
+        pass = at_itself w.passes v.number (learns (length w.history) (Begin begin.Read) went) v.pass sees.pass;
+        seen = sym (take_all (length w.history) w.history (omega arith));
+        section = held_here v.number (either went (CountRead (drawn_of base counter.0)) Over);
+        up = refl;
+        sure = sees.sure;
+        whole = λ y e. refl;
+        given = sees.given;
+        opened = sees.opened;
+        shown = store.shown;
+      }
+
+      now : IsStore layout young stuck t (world went)
+      now = record { trace = store.trace; kept = kept; shown = store.shown; coming = coming_then went; young_is = store.young_is; stuck_is = stuck_then went; alone = length_at w.passes v.number (learns (length w.history) (Begin begin.Read) went) ∙ store.alone }
+
+      safe_then : Safe layout v.since t v.opened w.floor w.history (doubt (Held v.number (either went (CountRead (drawn_of base counter.0)) Over)))
+      safe_then = subst (λ d. Safe layout v.since t v.opened w.floor w.history d) (doubtless went) (subst (λ l. Safe layout v.since t v.opened w.floor w.history (doubt l)) lock safe)
+
+  pub counter_comes : {E : Type 0} (told : Option Trace) → told ≡ Some t → (name old new : List ℕ) → name ≡ only_name only.TxnCurrent → (result : Result (Option ℕ) E) → IfOk result (IsRead (file_at t name) 0 old new)
+      → ReadsCounter (Knows layout young stuck told) base result old new v
+  counter_comes told same name old new named result read = record {
+    text = at.0;
+    number = counter.0;
+    line = at.2;
+    read = read_it result read;
+    turned = λ few. by_result result few;
+    full = λ many. subst (λ o. Knows layout young stuck o v) (sym same) (w, store, sees, layout_is, number_is, safe);
+  }
+    where
+      at : (text : List ℕ) × (get (files_now t) (machine_name layout Counter) ≡ Some text) × IsBase36Line text counter.0
+      at = at_found Counter (get (files_now t) (machine_name layout Counter)) (found w.disk Counter) (Number counter.0) counter.1 (now_read layout no_others t.first t.operations w.disk store.trace Counter tt)
+
+      file_is : file_at t name ≡ Some at.0
+      file_is = ap (λ n. get (files_now t) n) named ∙ at.1
+
+      read_it : {E : Type 0} (result : Result (Option ℕ) E) → IfOk result (IsRead (file_at t name) 0 old new) → IfOk result (IsRead (Some at.0) 0 old new)
+      read_it (Ok o) read = subst (λ f. IsRead f 0 old new o) file_is read
+      read_it (Err e) read = tt
+
+      by_result : {E : Type 0} (result : Result (Option ℕ) E) → counter.0 < 2 ^ 64 - 1 → (u : View) × (went : Went) × Knows layout young stuck told u × Answers result went × CounterRead base counter.0 went v u
+      by_result (Ok o) few = let u = turn few told same Fine in (u.0, Fine, u.1, refl, u.2)
+      by_result (Err e) few = let u = turn few told same Before in (u.0, Before, u.1, refl, u.2)

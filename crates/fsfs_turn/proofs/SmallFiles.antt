@@ -1,0 +1,106 @@
+-- Reads of property files and of the floor.
+use Rattle.std.proofs.Common.{◌≡◌, ◌<◌, ◌^◌, ℕ, List, [], length, true, cond, refl, sym, ap, subst, ◌∙◌, arith, take}
+use Rattle.std.specs.Prelude.{Option, Some, Result, Ok, Err, IfOk, slice_get, nat_lt, nat_le, ◌||◌}
+use Rattle.std.specs.FinMap.{get}
+use Rattle.std.proofs.lemmas.List.{length-take}
+use Rattle.std.proofs.lemmas.Option.{slice_get_within}
+use Rattle.fsfs_hash.specs.Dump.{IsDump}
+use Rattle.fsfs_layout.specs.FileNames.{only_name}
+use Rattle.fsfs_layout.specs.Small.{IsRevLine}
+use Rattle.fsfs_layout.specs.declared.layout.Layout.{Layout}
+use Rattle.fsfs_layout.specs.declared.only_file.OnlyFile.TheVariants as only
+use Rattle.fsfs_disk.specs.Trace.{Trace, files_now, file_at, IsRead}
+use Rattle.fsfs_machine.specs.declared.contents.FileName.TheVariants.{Floor, Props}
+use Rattle.fsfs_machine.specs.declared.contents.Contents.TheVariants.{PropsFile, Number}
+use Rattle.fsfs_machine.specs.declared.machine.Recorded.{Recorded}
+use Rattle.fsfs_places.specs.declared.place.DiskPlace.{DiskPlace}
+use Rattle.fsfs_places.specs.declared.place.DiskPlace.TheVariants.{Read}
+use Rattle.fsfs_machine.specs.declared.machine.Went.{Went}
+use Rattle.fsfs_machine.specs.declared.machine.Went.TheVariants.{Fine, Before}
+use Rattle.fsfs_machine.specs.declared.machine.Outcome.TheVariants as outcome
+use Rattle.fsfs_machine.specs.declared.machine.Step.TheVariants as step
+use Rattle.fsfs_machine.specs.Disk.{found}
+use Rattle.fsfs_machine.specs.Machine.{World, did, barred, either, learns, sees_floor, number_of, is_known, turned, floor_of, floor_read, properties_in, has_read_props}
+use Rattle.fsfs_machine.proofs.Images.{read_is_image}
+use Rattle.fsfs_machine.proofs.Answering.{has_all}
+use Rattle.fsfs_images.specs.RealNames.{machine_name}
+use Rattle.fsfs_images.proofs.Showing.{now_read}
+use Rattle.fsfs_turn.specs.Past.{doubt, Safe}
+use Rattle.fsfs_turn.specs.Views.{View, props_name, Sees, with_txns, Answers}
+use Rattle.fsfs_turn.specs.Learning.{PropsRead, FloorRead}
+use Rattle.fsfs_turn.specs.Standing.{no_others, IsStore, Knows}
+use Rattle.fsfs_turn.proofs.Stepping.{get_taken}
+use Rattle.fsfs_turn.proofs.Due.{at_found}
+use Rattle.fsfs_turn.proofs.Telling.{told_world, tells}
+
+module _ (layout : Layout) (young : ℕ) (stuck : Option DiskPlace) (t : Trace) (w : World) (v : View) (store : IsStore layout young stuck t w) (sees : Sees w v) (layout_is : v.layout ≡ layout) (number_is : v.number ≡ 0) (safe : Safe layout v.since t v.opened w.floor w.history (doubt w.lock)) where
+  -- ---- the floor
+
+  floor_there : found w.disk Floor ≡ Some (Number w.floor)
+  floor_there = store.kept.floors w.disk (read_is_image w.disk)
+
+  floor_happens : (went : Went) → did (told_world w v.number (sees_floor (length w.history) went (Some w.floor)) [] [] [] []) (either went (outcome.Floor w.floor) outcome.Failed)
+      ≡ floor_read (with_txns [] w) v.number went (slice_get w.passes v.number)
+  floor_happens went = sym (ap (λ o. floor_read (with_txns [] w) v.number went o) sees.pass
+      ∙ ap (λ c. did (told_world w v.number (sees_floor (length w.history) went (number_of c)) [] [] [] []) (either went (floor_of (number_of c)) outcome.Failed)) floor_there)
+
+  floor_turn : (told : Option Trace) → told ≡ Some t → (went : Went) → (u : View) × Knows layout young stuck told u × FloorRead w.floor went v u
+  floor_turn told same went = tells layout young stuck t w v store sees layout_is number_is (with_txns []) (step.ReadFloor v.number went) (either went (outcome.Floor w.floor) outcome.Failed)
+      (λ n. sees_floor n went (Some w.floor)) [] [] [] [] store.kept (floor_happens went) refl refl t told same store.trace safe
+
+  floor_file : (name : List ℕ) → name ≡ only_name only.MinUnpackedRev → (text : List ℕ) × (file_at t name ≡ Some text) × IsRevLine text w.floor
+  floor_file name named =
+      let at = at_found Floor (get (files_now t) (machine_name layout Floor)) (found w.disk Floor) (Number w.floor) floor_there (now_read layout no_others t.first t.operations w.disk store.trace Floor tt) in
+      (at.0, ap (λ n. get (files_now t) n) named ∙ at.1, at.2)
+
+  pub floor_comes : {E : Type 0} (told : Option Trace) → told ≡ Some t → (offset : ℕ) (name old new : List ℕ) → name ≡ only_name only.MinUnpackedRev → (result : Result (Option ℕ) E) → IfOk result (IsRead (file_at t name) offset old new)
+      → (u : View) × (went : Went) × (floor : ℕ) × (text : List ℕ) × Knows layout young stuck told u × Answers result went × FloorRead floor went v u × IsRevLine text floor × IfOk result (IsRead (Some text) offset old new)
+  floor_comes told same offset name old new named (Ok o) read =
+      let u = floor_turn told same Fine in
+      let file = floor_file name named in
+      (u.0, Fine, w.floor, file.0, u.1, refl, u.2, file.2, subst (λ f. IsRead f offset old new o) file.1 read)
+  floor_comes told same offset name old new named (Err e) read =
+      let u = floor_turn told same Before in
+      let file = floor_file name named in
+      (u.0, Before, w.floor, file.0, u.1, refl, u.2, file.2, tt)
+
+  -- ---- the properties of a revision
+
+  module _ (r : ℕ) (x : Recorded) (there : slice_get v.seen r ≡ Some x) where
+    here : slice_get (take v.pass.seen w.history) r ≡ Some x
+    here = subst (λ h. slice_get h r ≡ Some x) sees.seen there
+
+    known_it : is_known v.pass r ≡ true
+    known_it =
+        let less : r < length (take v.pass.seen w.history) = slice_get_within (take v.pass.seen w.history) r x here in
+        let e : nat_lt r v.pass.seen ≡ true = (let l : r < v.pass.seen = omega (arith, less, length-take v.pass.seen w.history) in grind (arith, l)) in
+        ap (λ b. b || nat_le r v.pass.least) e
+
+    props_there : found w.disk (Props r) ≡ Some (PropsFile x.revision.properties)
+    props_there = (has_all w.floor w.history w.lock w.disk (store.kept.stands w.disk (read_is_image w.disk)) r x (get_taken v.pass.seen r w.history x here)).1
+
+    props_happens : (went : Went) → did (told_world w v.number (learns (length w.history) Read went) [] [] [] []) (either went (outcome.Properties x.revision.properties) outcome.Failed)
+        ≡ has_read_props (with_txns [] w) v.number r went (slice_get w.passes v.number)
+    props_happens went = sym (ap (λ o. has_read_props (with_txns [] w) v.number r went o) sees.pass
+        ∙ ap (λ b. cond b (did (turned (with_txns [] w) v.number Read went) (either went (properties_in (found w.disk (Props r))) outcome.Failed)) (barred (with_txns [] w))) known_it
+        ∙ ap (λ c. did (turned (with_txns [] w) v.number Read went) (either went (properties_in c) outcome.Failed)) props_there)
+
+    props_turn : (told : Option Trace) → told ≡ Some t → (went : Went) → (u : View) × Knows layout young stuck told u × PropsRead r x went v u
+    props_turn told same went = tells layout young stuck t w v store sees layout_is number_is (with_txns []) (step.ReadProps v.number r went) (either went (outcome.Properties x.revision.properties) outcome.Failed)
+        (λ n. learns n Read went) [] [] [] [] store.kept (props_happens went) refl refl t told same store.trace safe
+
+    props_file : r < 2 ^ 32 → (name : List ℕ) → name ≡ props_name v r → (text : List ℕ) × (file_at t name ≡ Some text) × IsDump text x.revision.properties
+    props_file fits name named =
+        let at = at_found (Props r) (get (files_now t) (machine_name layout (Props r))) (found w.disk (Props r)) (PropsFile x.revision.properties) props_there (now_read layout no_others t.first t.operations w.disk store.trace (Props r) fits) in
+        (at.0, ap (λ n. get (files_now t) n) (named ∙ ap (λ k. machine_name k (Props r)) layout_is) ∙ at.1, at.2)
+
+    pub props_comes : {E : Type 0} (told : Option Trace) → told ≡ Some t → (offset : ℕ) → r < 2 ^ 32 → (name old new : List ℕ) → name ≡ props_name v r → (result : Result (Option ℕ) E) → IfOk result (IsRead (file_at t name) offset old new)
+        → (u : View) × (went : Went) × (text : List ℕ) × Knows layout young stuck told u × Answers result went × PropsRead r x went v u × IsDump text x.revision.properties × IfOk result (IsRead (Some text) offset old new)
+    props_comes told same offset fits name old new named (Ok o) read =
+        let u = props_turn told same Fine in
+        let file = props_file fits name named in
+        (u.0, Fine, file.0, u.1, refl, u.2, file.2, subst (λ f. IsRead f offset old new o) file.1 read)
+    props_comes told same offset fits name old new named (Err e) read =
+        let u = props_turn told same Before in
+        let file = props_file fits name named in
+        (u.0, Before, file.0, u.1, refl, u.2, file.2, tt)

@@ -1,0 +1,69 @@
+-- A step that tells the pass the history as it is, over an owned store.
+use Rattle.std.proofs.Common.{◌≡◌, ◌+◌, ℕ, List, [], ◌++◌, length, refl, sym, ap, subst, ◌∙◌, arith, take, drop}
+use Rattle.std.specs.Prelude.{Option, Some}
+use Rattle.std.proofs.lemmas.List.{take_all}
+use Rattle.fsfs_layout.specs.declared.layout.Layout.{Layout}
+use Rattle.fsfs_disk.specs.Trace.{Trace}
+use Rattle.fsfs_machine.specs.declared.machine.Drawn.{Drawn}
+use Rattle.fsfs_machine.specs.declared.machine.Txn.{Txn}
+use Rattle.fsfs_machine.specs.declared.machine.Pass.{Pass}
+use Rattle.fsfs_places.specs.declared.place.DiskPlace.{DiskPlace}
+use Rattle.fsfs_machine.specs.declared.machine.Outcome.{Outcome}
+use Rattle.fsfs_machine.specs.declared.machine.Step.{Step}
+use Rattle.fsfs_machine.specs.Machine.{World, Happens, did, at_place}
+use Rattle.fsfs_machine.specs.Kept.{Kept}
+use Rattle.fsfs_machine.proofs.Steps.{step_keeps}
+use Rattle.fsfs_machine.proofs.Whose.{length_at}
+use Rattle.fsfs_images.specs.Shown.{IsTraceOf}
+use Rattle.fsfs_turn.specs.Past.{doubt, Safe}
+use Rattle.fsfs_turn.specs.Views.{View, Sees, with_txns}
+use Rattle.fsfs_turn.specs.Learning.{Learned}
+use Rattle.fsfs_turn.specs.Standing.{no_others, IsStore, Knows}
+use Rattle.fsfs_turn.proofs.Stepping.{kept_bare, at_itself, take_drop}
+
+-- the store after it: pass p knows more, and labels and transactions may be others
+abbrev pub told_world : World → ℕ → (Pass → Pass) → List ℕ → List Drawn → List Txn → List ℕ → World
+told_world w p f labels named txns spent = record w { labels = labels; named = named; txns = txns; spent = spent; passes = at_place w.passes p f }
+
+abbrev told_view : World → View → (Pass → Pass) → View
+told_view w v f = record v { pass = f v.pass; seen = w.history }
+
+module _ (layout : Layout) (young : ℕ) (stuck : Option DiskPlace) (old : Trace) (w : World) (v : View) (store : IsStore layout young stuck old w) (sees : Sees w v) (layout_is : v.layout ≡ layout) (number_is : v.number ≡ 0) where
+  pub tells : (lay : World → World) (step : Step) (outcome : Outcome) (tell : ℕ → Pass → Pass) (labels : List ℕ) (named : List Drawn) (txns : List Txn) (spent : List ℕ)
+      → Kept (lay w) → Happens (lay w) step (did (told_world w v.number (tell (length w.history)) labels named txns spent) outcome)
+      → (tell (length w.history) v.pass).least ≡ v.pass.least → (tell (length w.history) v.pass).seen ≡ length w.history
+      → (new : Trace) (told : Option Trace) → told ≡ Some new → IsTraceOf layout no_others new.first new.operations w.disk → Safe layout v.since new v.opened w.floor w.history (doubt w.lock)
+      → (u : View) × Knows layout young stuck told u × Learned lay step outcome tell v u
+  tells lay step outcome tell labels named txns spent kept_lay happens least_is seen_is new told is trace safe = (
+    told_view w v (tell (length w.history)),
+    subst (λ o. Knows layout young stuck o (told_view w v (tell (length w.history)))) (sym is) (world, now, after, layout_is, number_is, safe),
+    record {
+      turned = record { world = w; kept = kept_lay; sees = sees; did = did world outcome; happens = happens; answers = refl; after = kept; leaves = after };
+      is = refl;
+      grows = (drop v.pass.seen w.history, take_drop v.pass.seen w.history ∙ ap (λ l. l ++ drop v.pass.seen w.history) (sym sees.seen));
+      within = λ sure. let up : w.young + 1 ≡ length w.history = store.kept.young sees.up in omega (arith, up, sees.sure sure);
+      shown = store.shown;
+    },
+  )
+    where
+      world : World
+      world = told_world w v.number (tell (length w.history)) labels named txns spent
+
+      kept : Kept (with_txns [] world)
+      kept = kept_bare world (step_keeps (lay w) step (did world outcome) happens kept_lay).kept
+
+      after : Sees world (told_view w v (tell (length w.history)))
+      after = record {
+        pass = at_itself w.passes v.number (tell (length w.history)) v.pass sees.pass;
+        seen = sym (ap (λ n. take n w.history) seen_is ∙ take_all (length w.history) w.history (omega arith));
+        section = sees.section;
+        up = sees.up;
+        sure = λ e. sees.sure e ∙ sym least_is;
+        whole = λ y e. refl;
+        given = sees.given;
+        opened = sees.opened;
+        shown = store.shown;
+      }
+
+      now : IsStore layout young stuck new world
+      now = record { trace = trace; kept = kept; shown = store.shown; coming = store.coming; young_is = store.young_is; stuck_is = store.stuck_is; alone = length_at w.passes v.number (tell (length w.history)) ∙ store.alone }
