@@ -165,12 +165,7 @@ impl<D: Bench> Own for HeldNodes<D> {
         Ok(())
     }
 
-    fn take_entry(
-        &mut self,
-        dir: &NodeId,
-        entries: Listing,
-        name: &str,
-    ) -> Result<(), AllocError> {
+    fn take_entry(&mut self, dir: &NodeId, entries: Listing, name: &str) -> Result<(), AllocError> {
         let key = key_of(dir);
         let Some(kept) = self.found(&key) else {
             return Err(AllocError);

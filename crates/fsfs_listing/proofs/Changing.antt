@@ -9,7 +9,7 @@ use Rattle.fsfs_base.specs.Paths.{PathName, same_name}
 use Rattle.fsfs_base.proofs.PathLemmas.{same_name-is}
 use Rattle.fsfs_shows.specs.Reading.{DirEntry, named}
 use Rattle.fsfs_listing.specs.Lists.{IsPut, IsChangedList, IsSameList, kept_names, all_names, is_other, is_below, is_from}
-use Rattle.fsfs_listing.proofs.Lists.{or_other, or_none, none_both, same_turned, named_append, none_named, kept_named, kept_all, kept_is, count_others}
+use Rattle.fsfs_listing.proofs.Lists.{or_other, or_none, same_turned, named_append, none_named, kept_named, kept_all, count_others}
 
 all_append : (is : PathName → Bool) (a b : List DirEntry) → all_names is (a ++ b) ≡ (all_names is a && all_names is b)
 all_append is a b = list_all-append (λ (e : DirEntry). is e.name) a b

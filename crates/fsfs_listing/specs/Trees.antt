@@ -1,5 +1,5 @@
 -- Entries in a tree.
-use Rattle.std.specs.Prelude.{◌≡◌, ℕ, Bool, true, ◌&&◌, List, ◌++◌, Option}
+use Rattle.std.specs.Prelude.{◌≡◌, Bool, true, ◌&&◌, List, ◌++◌, Option}
 use Rattle.fsfs_base.specs.Paths.{PathName}
 use Rattle.fsfs_shows.specs.Reading.{DirEntry}
 use Rattle.fsfs_dag.specs.Views.{entry_values}

@@ -23,12 +23,7 @@ pub(crate) enum Tree {
 const MOST_IN_LEAF: usize = 8;
 
 // A tree of entries whose hashes lie in this range.
-fn tree_of(
-    alloc: Global,
-    entries: Vec<DirEntry>,
-    from: u64,
-    to: u64,
-) -> Result<Tree, AllocError>
+fn tree_of(alloc: Global, entries: Vec<DirEntry>, from: u64, to: u64) -> Result<Tree, AllocError>
     ensures { IfOk result (λ t. HasEntries (entry_values entries.items) t) }
 {
     let middle = from / 2 + to / 2;
@@ -104,11 +99,7 @@ impl Tree {
     }
 
     /// Puts copies of all entries behind those that are there.
-    pub(crate) fn push_all(
-        &self,
-        alloc: Global,
-        all: &mut Vec<DirEntry>,
-    ) -> Result<(), AllocError>
+    pub(crate) fn push_all(&self, alloc: Global, all: &mut Vec<DirEntry>) -> Result<(), AllocError>
         ensures { OnOk result (entry_values all.new.items ≡ entry_values all.old.items ++ values self.now) }
     {
         match self {

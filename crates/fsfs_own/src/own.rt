@@ -94,12 +94,7 @@ pub trait Own {
         ensures name { txn self.new ≡ txn self.old };
 
     /// Takes away the entry of a name, of a directory with these entries.
-    fn take_entry(
-        &mut self,
-        dir: &NodeId,
-        entries: Listing,
-        name: &str,
-    ) -> Result<(), AllocError>
+    fn take_entry(&mut self, dir: &NodeId, entries: Listing, name: &str) -> Result<(), AllocError>
         requires dir { IsSome (kept_at (folder self.old).nodes dir.now) }
         ensures done { OnOk result (IsEntryTaken (folder self.old) (folder self.new) dir.now (listed entries) name.now) }
         ensures settled { settled self.new ≡ settled self.old }

@@ -1,5 +1,5 @@
 -- What a step leaves is said of any list with the same entries behind the names.
-use Rattle.std.proofs.Common.{◌≡◌, Bool, cond, List, Result, Ok, ap, ◌∙◌}
+use Rattle.std.proofs.Common.{◌≡◌, cond, List, Result, Ok, ap, ◌∙◌}
 use Rattle.std.specs.Prelude.{Option, Some, None, Err, IfOk}
 use Rattle.fsfs_base.specs.Paths.{PathName, same_name}
 use Rattle.fsfs_base.specs.declared.kind.Kind.{Kind}

@@ -1,10 +1,7 @@
-use Rattle.std.proofs.Common.{◌≡◌, true, List, Ok, Err, sym, ap, subst, ◌∙◌}
+use Rattle.std.proofs.Common.{◌≡◌, true, sym, ap, subst, ◌∙◌}
 use Rattle.std.specs.Prelude.{IfOk, IfErr, is_some}
 use Rattle.std.proofs.lemmas.Result.{err_from_is_err_and}
 use Rattle.fsfs_noderev.specs.declared.node_id.NodeId.{NodeId}
-use Rattle.fsfs_shows.specs.Reading.{named}
-use Rattle.fsfs_dag.specs.declared.directory.DirEntry.{DirEntry}
-use Rattle.fsfs_dag.specs.Views.{entry_values}
 use Rattle.fsfs_drafts.specs.Drafts.{Kept}
 use Rattle.fsfs_drafts.specs.Steps.{kept_at}
 use Rattle.fsfs_listing.specs.Views.{listed}

@@ -1,4 +1,4 @@
-use Rattle.std.proofs.Common.{◌≡◌, true, List, Some, None, Ok, Err, refl, sym, ap, subst, ◌∙◌, arith}
+use Rattle.std.proofs.Common.{◌≡◌, true, Some, None, refl, sym, ap, subst, ◌∙◌, arith}
 use Rattle.std.specs.Prelude.{IfOk, IfErr}
 use Rattle.std.proofs.lemmas.Result.{err_from_is_err_and}
 use Rattle.fsfs_book.proofs.Keeping.{keeps_trans}
@@ -6,9 +6,8 @@ use Rattle.fsfs_book.specs.Told.{Knows}
 use Rattle.fsfs_noderev.specs.declared.node_id.NodeId.{NodeId}
 use Rattle.fsfs_revision.specs.Nodes.{is_revision_id}
 use Rattle.fsfs_shows.specs.Reading.{named, offset_of}
-use Rattle.fsfs_dag.specs.declared.directory.DirEntry.{DirEntry}
 use Rattle.fsfs_dag.specs.declared.node.PlacedNode.{PlacedNode}
-use Rattle.fsfs_dag.specs.Views.{entry_value, entry_values}
+use Rattle.fsfs_dag.specs.Views.{entry_value}
 use Rattle.fsfs_drafts.specs.Drafts.{Kept}
 use Rattle.fsfs_drafts.specs.Steps.{kept_at}
 use Rattle.fsfs_listing.specs.Views.{listed}

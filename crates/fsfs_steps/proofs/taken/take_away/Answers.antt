@@ -1,7 +1,6 @@
-use Rattle.std.proofs.Common.{Ok, Err, sym, subst, ap, ◌∙◌}
+use Rattle.std.proofs.Common.{sym, subst, ap, ◌∙◌}
 use Rattle.std.proofs.lemmas.Result.{err_from_is_err_and}
 use Rattle.fsfs_noderev.specs.declared.node_id.NodeId.{NodeId}
-use Rattle.fsfs_dag.specs.Views.{entry_values}
 use Rattle.fsfs_drafts.specs.Drafts.{Kept}
 use Rattle.fsfs_drafts.specs.Steps.{kept_at}
 use Rattle.fsfs_listing.specs.Views.{listed}

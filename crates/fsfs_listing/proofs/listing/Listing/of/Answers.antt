@@ -1,9 +1,9 @@
-use Rattle.std.proofs.Common.{◌≡◌, ◌++◌, ◌∷◌, [], List, Option, Some, cond, ap, sym, ◌∙◌, append_assoc, append-nil, rules}
+use Rattle.std.proofs.Common.{◌≡◌, ◌++◌, ◌∷◌, [], List, Some, cond, ap, sym, ◌∙◌, append_assoc, append-nil, rules}
 use Rattle.std.specs.String.{string_bytes}
 use Rattle.std.proofs.lemmas.List.{nil_from_length}
 use Rattle.fsfs_base.specs.Paths.{PathName, same_name}
 use Rattle.fsfs_shows.specs.Reading.{DirEntry as EntryValue, named}
-use Rattle.fsfs_dag.specs.Views.{entry_value, entry_values}
+use Rattle.fsfs_dag.specs.Views.{entry_values}
 use Rattle.fsfs_dag.specs.declared.directory.DirEntry.{DirEntry}
 use Rattle.fsfs_listing.specs.Views.{listed}
 use Rattle.fsfs_listing.proofs.listing.Listing.of.Goals as goal

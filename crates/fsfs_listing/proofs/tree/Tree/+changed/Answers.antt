@@ -1,4 +1,4 @@
-use Rattle.std.proofs.Common.{◌≡◌, ◌++◌, true, sym, ap, subst, ◌∙◌, rules}
+use Rattle.std.proofs.Common.{◌≡◌, ◌++◌, true, sym, subst, rules}
 use Rattle.fsfs_listing.specs.declared.tree.Tree.{Tree}
 use Rattle.fsfs_listing.specs.Hashes.{hash_of}
 use Rattle.fsfs_listing.specs.Lists.{IsChangedList}
