@@ -33,7 +33,7 @@ use Rattle.fsfs_final.proofs.Written.{directories_are_enough}
 use Rattle.fsfs_final.proofs.NextShownLaw.{count, trees, was, next_is_shown}
 
 -- two nodes that are the same but for their numbers
-same_bare : (x y : Node) → bare (Some x) ≡ bare (Some y) → (x.kind ≡ y.kind) × (x.text ≡ y.text) × (x.properties ≡ y.properties)
+pub same_bare : (x y : Node) → bare (Some x) ≡ bare (Some y) → (x.kind ≡ y.kind) × (x.text ≡ y.text) × (x.properties ≡ y.properties)
 same_bare x y e = let s = same_Some _ _ e in (ap (λ (z : Node). z.kind) s, ap (λ (z : Node). z.text) s, ap (λ (z : Node). z.properties) s)
 
 module _ (look props : RevisionBytes) (h : List Revision) (e : Entry) (next : Revision) (shows : ShowsHistory look props h) (entry : IsEntry h e) (is : IsNext h e next) (w : IsCommittedAs look props h e next) where

@@ -1,1 +1,3 @@
 pub mod FinalBytes
+pub mod Items
+pub mod Texts

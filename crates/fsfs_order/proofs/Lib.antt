@@ -1,0 +1,4 @@
+pub mod Lists
+pub mod Pushing
+pub mod OwnChildren
+pub mod Walking

@@ -1,0 +1,4 @@
+pub mod ReadNames
+pub mod NameLemmas
+pub mod Puts
+pub mod Turns

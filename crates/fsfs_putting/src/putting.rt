@@ -1,0 +1,74 @@
+//! Own node-revisions, each behind its lists.
+ghost use Rattle.std.specs.Prelude.{◌≡◌, IfOk, OnOk};
+ghost use Rattle.std.specs.List.{AllByRecursion};
+ghost use Rattle.fsfs_noderev.specs.Writing.{HasText};
+ghost use Rattle.fsfs_own.specs.Views.{kept_value};
+ghost use Rattle.fsfs_laying.specs.Naming.{ids_of};
+ghost use Rattle.fsfs_order.specs.Orders.{last_first};
+ghost use Rattle.fsfs_putting.specs.Putting.{IsFinalList, IsNextPut, ArePut, HaveTexts, no_ids};
+
+use fsfs_base::{FsPath, Pairs, RevNum};
+use fsfs_laying::{entry_pairs, final_entries, put_node};
+use fsfs_noderev::NodeId;
+use fsfs_own::KeptNode;
+use std::alloc::{AllocError, Global};
+use std::collections::BTreeMap;
+
+// The list of a directory that has a file of its own for it, as it stands in the revision.
+fn final_list(
+    alloc: Global,
+    kept: &KeptNode,
+    ids: &BTreeMap<FsPath, NodeId>,
+) -> Result<Option<Pairs>, AllocError>
+    ensures { IfOk result (IsFinalList (ids_of ids.now) (kept_value kept.now)) }
+{
+    match &kept.entries {
+        None => Ok(None),
+        Some(entries) => {
+            let named = final_entries(alloc, ids, &kept.node.created_path, entries.as_slice())?;
+            let pairs = entry_pairs(alloc, named.as_slice())?;
+            Ok(Some(pairs))
+        }
+    }
+}
+
+// Puts one own node-revision, behind those in it, and notes its id in the revision.
+fn put_next(
+    alloc: Global,
+    out: &mut Vec<u8>,
+    rev: RevNum,
+    start: u64,
+    kept: &KeptNode,
+    ids: &mut BTreeMap<FsPath, NodeId>,
+) -> Result<(), AllocError>
+    requires { HasText kept.now.node }
+    ensures { OnOk result (IsNextPut rev start out.old.items out.new.items (kept_value kept.now) (ids_of ids.old) (ids_of ids.new)) }
+{
+    let list = final_list(alloc, kept, &*ids)?;
+    let done = put_node(alloc, out, rev, start, &kept.node, &list, &kept.props)?;
+    let path = kept.node.created_path.clone()?;
+    ids.insert(path, done.id)?;
+    Ok(())
+}
+
+/// Puts own node-revisions at the end of a buffer, from the end of the list on: so what is in a directory stands before it in the
+/// revision. Answers their ids in the revision, by their paths. The buffer begins at the offset `start` of the revision.
+///
+/// An `Err` is for an offset that there is no number for, too.
+pub fn put_all(
+    alloc: Global,
+    order: Vec<&KeptNode>,
+    out: &mut Vec<u8>,
+    rev: RevNum,
+    start: u64,
+) -> Result<BTreeMap<FsPath, NodeId>, AllocError>
+    requires { AllByRecursion HaveTexts (last_first order.entry.items) }
+    ensures { IfOk result (λ ids. ArePut rev start (last_first order.entry.items) out.old.items no_ids out.new.items (ids_of ids)) }
+{
+    let mut left = order;
+    let mut ids = BTreeMap::new(alloc);
+    while let Some(kept) = left.pop() {
+        put_next(alloc, out, rev, start, kept, &mut ids)?;
+    }
+    Ok(ids)
+}
