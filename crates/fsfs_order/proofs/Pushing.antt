@@ -1,7 +1,8 @@
 -- The names of a directory taken one after another, and what they lead to put before the others.
-use Rattle.std.proofs.Common.{◌≡◌, ◌∙◌, Bool, true, false, cond, List, [], ◌∷◌, ◌++◌, map, refl, sym, ap, subst, Option, Some, None, inl, inr, ◌⊎◌}
+use Rattle.std.proofs.Common.{◌≡◌, ◌∙◌, ◌≤◌, ◌+◌, ◌-◌, length, take, get_or, arith, Bool, true, false, cond, List, [], ◌∷◌, ◌++◌, map, refl, sym, ap, subst, Option, Some, None, inl, inr, ◌⊎◌}
 use Rattle.std.specs.Prelude.{option_map, if◌then◌else◌}
 use Rattle.std.specs.List.{AllByRecursion}
+use Rattle.std.proofs.lemmas.List.{take_all, take_more}
 use Rattle.std.specs.BTreeMap.{BTreeMap, IsEmpty, is_at, get_by_text}
 use Rattle.std.specs.Map.{lookup}
 use Rattle.std.specs.Ordering.{nat_cmp}
@@ -18,7 +19,9 @@ use Rattle.fsfs_dag.specs.Views.{entry_value, entry_values}
 use Rattle.fsfs_drafts.specs.Drafts.{Kept}
 use Rattle.fsfs_drafts.specs.Steps.{Files, kept_at}
 use Rattle.fsfs_order.specs.Orders.{AreHeld}
-use Rattle.fsfs_order.specs.Children.{IdsByName, id_named, Child, is_named, HaveNamesOnce, IsChild, ArePushed}
+use Rattle.fsfs_order.specs.Children.{IdsByName, id_named, Child, is_named, HaveNamesOnce, IsChild, IsPushed, ArePushed, IfLacking}
+use Rattle.fsfs_order.specs.declared.error.OrderError.{OrderError}
+use Rattle.fsfs_order.specs.declared.error.OrderError.TheVariants as errors
 use Rattle.fsfs_order.proofs.Lists.{differ, is_false, or_left, or_right, neither}
 
 pub record ArePushing (files : Files) (ids left : IdsByName) (old new : List Kept) : Type 0 where
@@ -124,6 +127,24 @@ module _ (files : Files) (ids left now : IdsByName) (old new : List Kept) (x : P
     ];
   }
 
+  pub one_more : (after : List Kept) → (is_revision_id id ≡ true → after ≡ new) → (is_revision_id id ≡ false → IsPushed (kept_at files id) new after) → ArePushing files ids now old after
+  one_more after lasts mine = by (is_revision_id id) refl
+    where
+      by : (b : Bool) → is_revision_id id ≡ b → ArePushing files ids now old after
+      by true e = subst (λ (l : List Kept). ArePushing files ids now old l) (sym (lasts e)) (skipped e)
+      by false e = let p = mine e in subst (λ (l : List Kept). ArePushing files ids now old l) (sym p.2) (pushed p.0 e p.1)
+
+pub lacking_as : (e : OrderError) (P Q : Type 0) → (P → Q) → IfLacking e P → IfLacking e Q
+lacking_as errors.OutOfMemory P Q f h = tt
+lacking_as errors.Lacking P Q f h = f h
+
+pub only_memory : (e : OrderError) (P : Type 0) → IfLacking e P → (P → ⊥) → e ≡ errors.OutOfMemory
+only_memory errors.OutOfMemory P h never = refl
+only_memory errors.Lacking P h never = absurd (never h)
+
+pub no_children : (files : Files) (old : List Kept) → ArePushed files (id_named None) old old
+no_children files old = record { children = []; added = refl; each = tt; once = tt; all = λ name id h lasts. absurd (let clash : None ≡ Some id = h in cc) }
+
 -- ---- the ids of the names
 
 -- what is put last counts first
@@ -142,3 +163,10 @@ empty_map m name e = ap (λ es. lookup (is_at (λ k. slice_cmp nat_cmp name (str
 -- when none is left all were put
 pub whole_list : (name : PathName) (all left done : List Listed) → all ≡ left ++ done → left ≡ [] → id_named (Some (entry_values done)) name ≡ id_named (Some (entry_values all)) name
 whole_list name all left done e none = ap (λ (es : List Listed). id_named (Some (entry_values es)) name) (sym (e ∙ ap (λ (l : List Listed). l ++ done) none))
+
+-- the last of those that are left
+pub last_split : (xs : List Listed) (x : Listed) → 1 ≤ length xs → x ≡ get_or xs (length xs - 1) x → xs ≡ take (length xs - 1) xs ++ x ∷ []
+last_split xs x some is =
+    sym (take_all (length xs - 1 + 1) xs (omega (arith, some)))
+    ∙ take_more xs (length xs - 1) x (omega (arith, some))
+    ∙ ap (λ (y : Listed). take (length xs - 1) xs ++ y ∷ []) (sym is)

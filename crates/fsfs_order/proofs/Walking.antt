@@ -1,5 +1,5 @@
 -- The walk through a draft's own node-revisions: what was found, and what is to be looked at next.
-use Rattle.std.proofs.Common.{◌≡◌, ◌∙◌, ◌≤◌, ℕ, Bool, true, false, List, [], ◌∷◌, ◌++◌, map, refl, sym, ap, subst, Option, Some, None, inl, inr, ◌⊎◌, append_assoc, append-nil}
+use Rattle.std.proofs.Common.{◌≡◌, ◌∙◌, ◌≤◌, ℕ, true, false, List, [], ◌∷◌, ◌++◌, map, refl, sym, ap, subst, Option, Some, None, inl, inr, ◌⊎◌, append_assoc, append-nil}
 use Rattle.std.specs.List.{AllByRecursion}
 use Rattle.std.proofs.lemmas.Bool.{or_cases}
 use mathlib.Core.Bool.{false≢true}
@@ -9,7 +9,6 @@ use Rattle.fsfs_tree.specs.Nodes.{TreeFunction}
 use Rattle.fsfs_fields.specs.declared.txn_name.TxnName.{TxnName}
 use Rattle.fsfs_book.specs.Told.{RevisionBytes}
 use Rattle.fsfs_noderev.specs.declared.node_id.NodeId.{NodeId}
-use Rattle.fsfs_noderev.specs.Ids.{Old}
 use Rattle.fsfs_shows.specs.Reading.{DirEntry}
 use Rattle.fsfs_drafts.specs.Own.{OwnNode, Own}
 use Rattle.fsfs_drafts.specs.Drafts.{Kept, Folder, kept_of, IsDraft, ShowTrees}

@@ -17,10 +17,7 @@ use std::alloc::{AllocError, Global};
 use std::collections::BTreeMap;
 
 // The id of each name; the first entry of a name counts.
-fn ids_by_name(
-    alloc: Global,
-    entries: &[DirEntry],
-) -> Result<BTreeMap<String, NodeId>, AllocError>
+fn ids_by_name(alloc: Global, entries: &[DirEntry]) -> Result<BTreeMap<String, NodeId>, AllocError>
     ensures { IfOk result (λ ids. (name : PathName) → ids_in ids name ≡ id_named (Some (entry_values entries.now)) name) }
 {
     let mut ids = BTreeMap::new(alloc);
@@ -34,10 +31,7 @@ fn ids_by_name(
 }
 
 /// Puts a node-revision at the end of a list.
-pub(crate) fn push<'a>(
-    list: &mut Vec<&'a KeptNode>,
-    kept: &'a KeptNode,
-) -> Result<(), AllocError>
+pub(crate) fn push<'a>(list: &mut Vec<&'a KeptNode>, kept: &'a KeptNode) -> Result<(), AllocError>
     ensures { OnOk result (last_first list.new.items ≡ kept_value kept.now ∷ last_first list.old.items) }
 {
     list.push(kept)?;

@@ -1,0 +1,28 @@
+use Rattle.std.proofs.Common.{◌≡◌, ◌∙◌, List, Option, Some, None, map, sym, ap, subst}
+use Rattle.std.specs.Prelude.{option_map, Vec}
+use Rattle.std.specs.Global.{Global}
+use Rattle.fsfs_dag.specs.declared.directory.DirEntry.{DirEntry as Listed}
+use Rattle.fsfs_dag.specs.Views.{entry_values}
+use Rattle.fsfs_shows.specs.Reading.{DirEntry}
+use Rattle.fsfs_laying.specs.Entries.{ListsEntries}
+use Rattle.fsfs_laying.specs.Naming.{ids_of, final_entry}
+use Rattle.fsfs_putting.specs.Putting.{AreUtf8, AreFinalPairs}
+use Rattle.fsfs_putting.proofs.NameLemmas.{names_utf8}
+use Rattle.fsfs_putting.proofs.putting.final_list.Goals as goal
+
+abbrev values : Option (Vec Listed Global) → Option (List DirEntry)
+values o = option_map (λ (v : Vec Listed Global). entry_values v.items) o
+
+pub returns-in-None : goal.returns-in-None
+returns-in-None c =
+    subst (λ (o : Option (List DirEntry)). AreFinalPairs (ids_of c.args.ids.now) c.args.kept.now.node.created_path o None) (sym (ap values c.in-None.is)) tt
+
+pub returns-in-Some : goal.returns-in-Some
+returns-in-Some c =
+    let ids = ids_of c.args.ids.now in
+    let dir = c.args.kept.now.node.created_path in
+    let entries = entry_values c.in-Some.entries.now.items in
+    let named : entry_values c.as_slice-2.result.now ≡ map (final_entry ids dir) entries
+    = ap entry_values c.as_slice-2.ensures.value ∙ c.in_ok-named.ensures ∙ ap (λ (l : List Listed). map (final_entry ids dir) (entry_values l)) c.as_slice.ensures.value in
+    subst (λ (o : Option (List DirEntry)). AreFinalPairs ids dir o (Some c.in_ok-pairs.pairs)) (sym (ap values c.in-Some.is))
+    (subst (λ (l : List DirEntry). ListsEntries l c.in_ok-pairs.pairs) named c.in_ok-pairs.ensures, names_utf8 c.in-Some.entries.now.items)

@@ -1,0 +1,19 @@
+use Rattle.std.proofs.Common.{◌≡◌, ◌∙◌, Bool, Option, Some, sym, ap}
+use Rattle.std.specs.Prelude.{if◌then◌else◌}
+use Rattle.std.specs.Ordering.{is_eq}
+use Rattle.fsfs_base.specs.Paths.{Path, path_cmp, paths_tie}
+use Rattle.fsfs_noderev.specs.declared.node_id.NodeId.{NodeId}
+use Rattle.fsfs_laying.specs.Naming.{ids_of}
+use Rattle.fsfs_putting.proofs.putting.put_next.Goals as goal
+
+pub returns : goal.returns
+returns c = record {
+  list = c.in_ok-list.list;
+  done = c.in_ok-done.done;
+  listed = c.in_ok-list.ensures;
+  put = c.in_ok-done.ensures;
+  noted = λ q.
+      c.in_ok-insert.ensures.updates.0 q
+      ∙ ap (λ (p : Path). if is_eq (path_cmp p q) then Some c.in_ok-done.done.id else ids_of c.args.ids.now q) c.in_ok-path.ensures.cases
+      ∙ ap (λ (b : Bool). if b then Some c.in_ok-done.done.id else ids_of c.args.ids.now q) (sym (paths_tie c.args.kept.now.node.created_path q));
+}
