@@ -1,7 +1,7 @@
 -- The text behind the prototype file: a whole draft that was put, its changed paths and the trailer.
 use Rattle.std.proofs.Common.{◌≡◌, ◌∙◌, ◌+◌, ◌≤◌, ◌<◌, ℕ, suc, List, [], ◌∷◌, ◌++◌, length, Option, Some, None, refl, sym, ap, subst, append_assoc, arith}
 use Rattle.std.specs.Prelude.{Ok}
-use Rattle.std.specs.List.{flat_map}
+use Rattle.std.specs.List.{AllByRecursion, flat_map}
 use Rattle.std.proofs.lemmas.List.{length-append}
 use Rattle.fsfs_base.specs.Paths.{Path}
 use Rattle.fsfs_fields.specs.declared.txn_name.TxnName.{TxnName}
@@ -33,13 +33,17 @@ use Rattle.fsfs_laying.specs.Naming.{FinalIds}
 use Rattle.fsfs_laying.specs.Nodes.{HasList}
 use Rattle.fsfs_laying.proofs.EndLaws.{put_ends_are_read}
 use Rattle.fsfs_laying.proofs.ListLaws.{behind, put_behind}
-use Rattle.fsfs_order.specs.Orders.{is_in, IsOrder}
-use Rattle.fsfs_putting.specs.Putting.{ArePut, no_ids}
+use Rattle.fsfs_order.specs.Orders.{is_in, AreHeld, IsOrder}
+use Rattle.fsfs_putting.specs.Putting.{ArePut, HaveTexts, no_ids}
 use Rattle.fsfs_putting.specs.Laying.{HoldTexts, IsCommittable, IsListPut, IsPut, AreLaid}
 use Rattle.fsfs_putting.proofs.Turns.{puts_lay}
 use Rattle.fsfs_final_bytes.specs.FinalBytes.{IsFinalBytes}
 use Rattle.fsfs_final_bytes.specs.Items.{AreFinalItems}
-use Rattle.fsfs_final_bytes.specs.Texts.{IsFinalText}
+use Rattle.fsfs_order.specs.declared.error.OrderError.{OrderError}
+use Rattle.fsfs_order.specs.declared.error.OrderError.TheVariants as orders
+use Rattle.fsfs_final_bytes.specs.declared.error.FinalError.{FinalError}
+use Rattle.fsfs_final_bytes.specs.declared.error.FinalError.TheVariants as errors
+use Rattle.fsfs_final_bytes.specs.Texts.{IsFinalText, IfSink, of_order}
 use Rattle.fsfs_final_bytes.proofs.Held as held
 use Rattle.fsfs_final_bytes.proofs.Holding.{off_in}
 
@@ -143,3 +147,31 @@ module _ (look : RevisionBytes) (trees : ℕ → TreeFunction) (top : ℕ) (node
 
   pub text_final : IsFinalText look top f.proto items (draft_nodes nodes own (nodes top)) tree text
   text_final = record { final = final_there; ids = ids; named = named; are = are_items; tells = ended.has }
+
+-- what was put has the root's id
+pub root_there : (look : RevisionBytes) (trees : ℕ → TreeFunction) (top : ℕ) (nodes : ℕ → NodesAt) (txn : TxnName) (f : Folder) (tree : TreeFunction) (marks : List Mark) (is : IsCommittable look trees top nodes txn f tree marks) → HoldTexts f
+    → (ks : List Kept) (out : List ℕ) (ids : FinalIds) → IsOrder is.draft.shows.own ks → ArePut (suc top) (length f.proto) ks [] no_ids out ids → (id : NodeId) × (rev : ℕ) × (off : ℕ) × (ids [] ≡ Some id) × (id.place ≡ places.At rev off)
+root_there look trees top nodes txn f tree marks is texts ks out ids order put =
+    let laid = puts_lay look trees top nodes txn f tree marks is texts ks [] out ids order put in
+    let root = laid.1.each [] is.draft.shows.is_draft.root is.draft.shows.is_draft.root_is refl in
+    (root.done.id, suc top, root.off, root.id_is, root.place)
+
+pub held_texts : (f : Folder) → HoldTexts f → (ks : List Kept) → AreHeld f.nodes ks → AllByRecursion HaveTexts ks
+held_texts f texts [] held = tt
+held_texts f texts (k ∷ ks) held = (texts held.0.0 k held.0.1, held_texts f texts ks held.1)
+
+-- the parts as they were put, with the numbers that were handed over
+pub put_as : (rev start n long : ℕ) (ks : List Kept) (old out : List ℕ) (ids : FinalIds) → rev ≡ n → start ≡ long → old ≡ [] → ArePut rev start ks old no_ids out ids → ArePut n long ks [] no_ids out ids
+put_as rev start n long ks old out ids r s e put =
+    subst (λ (k : ℕ). ArePut k long ks [] no_ids out ids) r (subst (λ (k : ℕ). ArePut rev k ks [] no_ids out ids) s (subst (λ (l : List ℕ). ArePut rev start ks l no_ids out ids) e put))
+
+-- ---- failures
+
+pub order_quiet : (e : OrderError) → IfSink (of_order e) ⊥
+order_quiet orders.OutOfMemory = tt
+order_quiet orders.Lacking = tt
+
+pub sink_never : (e : FinalError) (P : Type 0) → IfSink e ⊥ → IfSink e P
+sink_never errors.OutOfMemory P h = tt
+sink_never errors.SinkFault P h = absurd h
+sink_never errors.Lacking P h = tt

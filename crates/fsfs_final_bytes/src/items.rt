@@ -43,5 +43,6 @@ pub(crate) fn final_items(
     ensures { IfOk result (λ v. AreFinalItems items.now (ids_of ids.now) v.items) }
 {
     let folded = fold(alloc, items)?;
-    named(alloc, folded, ids)
+    let all = named(alloc, folded, ids)?;
+    Ok(all)
 }

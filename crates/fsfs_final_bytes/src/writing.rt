@@ -11,7 +11,7 @@ ghost use Rattle.fsfs_drafts.specs.OwnSides.{NodesAt};
 ghost use Rattle.fsfs_drafts.specs.Met.{draft_nodes};
 ghost use Rattle.fsfs_laying.specs.Naming.{ids_of};
 ghost use Rattle.fsfs_putting.specs.Laying.{HoldTexts, IsCommittable};
-ghost use Rattle.fsfs_final_bytes.specs.Texts.{IsHandedOver, IsFinalText, IsWrittenText, HasSinkCause};
+ghost use Rattle.fsfs_final_bytes.specs.Texts.{IsHandedOver, IsFinalText, IsWrittenText, IfSink, HasSinkCause};
 
 use crate::error::FinalError;
 use crate::items::final_items;
@@ -30,6 +30,7 @@ use std::collections::BTreeMap;
 fn root_offset(alloc: Global, ids: &BTreeMap<FsPath, NodeId>) -> Result<u64, FinalError>
     ensures there { (id : Id) (rev offset : ℕ) → ids_of ids.now [] ≡ Some id → id.place ≡ places.At rev offset → IfOk result (λ found. found ≡ offset) }
     ensures lacking { (id : Id) (rev offset : ℕ) → ids_of ids.now [] ≡ Some id → id.place ≡ places.At rev offset → OnErr result ⊥ }
+    ensures sink { IfErr result (λ e. IfSink e ⊥) }
 {
     let root = FsPath::root(alloc);
     let Some(id) = ids.get(&root) else {
@@ -57,6 +58,7 @@ pub fn final_text<N: Own>(
         → IsHandedOver (N.folder own.now) top rev start items.now → IfOk result (λ text. IsFinalText look top (N.folder own.now).proto items.now (draft_nodes nodes is.draft.shows.own (nodes top)) tree text.items) }
     ensures whole { (look : RevisionBytes) (trees : ℕ → TreeFunction) (top : ℕ) (nodes : ℕ → NodesAt) (tree : TreeFunction) (marks : List Mark) → IsCommittable look trees top nodes (N.txn own.now) (N.folder own.now) tree marks
         → IsHandedOver (N.folder own.now) top rev start items.now → IfErr result (λ e. e ≡ FinalError.OutOfMemory) }
+    ensures sink { IfErr result (λ e. IfSink e ⊥) }
 {
     let order = own_nodes(alloc, own)?;
     let mut out = Vec::new(alloc);

@@ -42,11 +42,11 @@ last_name (x ∷ p) name a = last_name p name a.1
 
 pub named_name : (name : PathName) (es : List DirEntry) (e : DirEntry) → named name es ≡ Some e → e.name ≡ name
 named_name name [] e h = absurd (let clash : None ≡ Some e = h in cc)
-named_name name (x ∷ es) e h = by (same_name x.name name) refl h
+named_name name (x ∷ es) e h = by (same_name x.name name) refl h (λ k. named_name name es e k)
   where
-    by : (b : Bool) → same_name x.name name ≡ b → cond b (Some x) (named name es) ≡ Some e → e.name ≡ name
-    by true same g = let is : x ≡ e = (let k = g in cc) in ap (λ (z : DirEntry). z.name) (sym is) ∙ same_name-is x.name name same
-    by false same g = named_name name es e g
+    by : (b : Bool) → same_name x.name name ≡ b → cond b (Some x) (named name es) ≡ Some e → (named name es ≡ Some e → e.name ≡ name) → e.name ≡ name
+    by true same g further = let is : x ≡ e = (let k = g in cc) in ap (λ (z : DirEntry). z.name) (sym is) ∙ same_name-is x.name name same
+    by false same g further = further g
 
 pub named_final : (ids : FinalIds) (dir : Path) (name : PathName) (es : List DirEntry) → named name (map (final_entry ids dir) es) ≡ option_map (final_entry ids dir) (named name es)
 named_final ids dir name [] = refl
@@ -60,11 +60,11 @@ named_final ids dir name (x ∷ es) = by (same_name x.name name) (named_final id
 -- the names of entries are texts
 pub names_utf8 : (es : List Listed) → AreUtf8 (entry_values es)
 names_utf8 [] name e h = absurd (let clash : None ≡ Some e = h in cc)
-names_utf8 (x ∷ es) name e h = by (same_name (string_bytes x.name) name) refl h
+names_utf8 (x ∷ es) name e h = by (same_name (string_bytes x.name) name) refl h (λ k. names_utf8 es name e k)
   where
-    by : (b : Bool) → same_name (string_bytes x.name) name ≡ b → cond b (Some (entry_value x)) (named name (entry_values es)) ≡ Some e → IsUtf8 name
-    by true same g = subst IsUtf8 (same_name-is (string_bytes x.name) name same) (IsUtf8-string_bytes x.name)
-    by false same g = names_utf8 es name e g
+    by : (b : Bool) → same_name (string_bytes x.name) name ≡ b → cond b (Some (entry_value x)) (named name (entry_values es)) ≡ Some e → (named name (entry_values es) ≡ Some e → IsUtf8 name) → IsUtf8 name
+    by true same g further = subst IsUtf8 (same_name-is (string_bytes x.name) name same) (IsUtf8-string_bytes x.name)
+    by false same g further = further g
 
 -- ---- final ids
 

@@ -15,11 +15,11 @@ in_list : (home : RevOffset) (name : PathName) (pairs : Pairs) (es : List DirEnt
 in_list home name [] [] e w h = absurd (let clash : None ≡ Some e = h in cc)
 in_list home name [] (x ∷ es) e w h = absurd w
 in_list home name (p ∷ pairs) [] e w h = absurd w
-in_list home name (p ∷ pairs) (x ∷ es) e w h = by (same_name x.name name) refl h
+in_list home name (p ∷ pairs) (x ∷ es) e w h = by (same_name x.name name) refl h (λ k. in_list home name pairs es e w.1 k)
   where
-    by : (b : Bool) → same_name x.name name ≡ b → cond b (Some x) (named name es) ≡ Some e → IsEntryName name
-    by true same g = subst IsEntryName (same_name-is x.name name same) w.0.name_is
-    by false same g = in_list home name pairs es e w.1 g
+    by : (b : Bool) → same_name x.name name ≡ b → cond b (Some x) (named name es) ≡ Some e → (named name es ≡ Some e → IsEntryName name) → IsEntryName name
+    by true same g further = subst IsEntryName (same_name-is x.name name same) w.0.name_is
+    by false same g further = further g
 
 of_contents : (look : RevisionBytes) (home : RevOffset) (name : PathName) (c : Option Contents) (entries : List DirEntry) (e : DirEntry) → OfContents [] (EntriesAt look home) c (Ok entries) → named name entries ≡ Some e → IsEntryName name
 of_contents look home name None entries e w h =

@@ -63,9 +63,9 @@ pub record IsListPut (n : ℕ) (bytes : List ℕ) (laid : Laid) (p : Path) (entr
 
 -- a text that stands in a revision, or in the prototype file
 abbrev pub IsTextKept : ℕ → Option Contents → Option Contents → Type 0
-IsTextKept n None done = done ≡ None
-IsTextKept n (Some contents.Own) done = Unit {0}
-IsTextKept n (Some (contents.At rep)) done = done ≡ Some (contents.At (in_revision n rep))
+IsTextKept n None now = now ≡ None
+IsTextKept n (Some contents.Own) now = Unit {0}
+IsTextKept n (Some (contents.At rep)) now = now ≡ Some (contents.At (in_revision n rep))
 
 -- the own node-revision is laid at its path, final, with its lists
 pub record IsPut (n : ℕ) (bytes : List ℕ) (laid : Laid) (ids : FinalIds) (p : Path) (v : OwnNode) : Type 0 where

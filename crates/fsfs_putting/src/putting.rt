@@ -62,7 +62,7 @@ pub fn put_all(
     rev: RevNum,
     start: u64,
 ) -> Result<BTreeMap<FsPath, NodeId>, AllocError>
-    requires { AllByRecursion HaveTexts (last_first order.entry.items) }
+    requires { AllByRecursion HaveTexts (last_first order.items) }
     ensures { IfOk result (λ ids. ArePut rev start (last_first order.entry.items) out.old.items no_ids out.new.items (ids_of ids)) }
 {
     let mut left = order;

@@ -17,12 +17,12 @@ pub returns-in-None : goal.returns-in-None
 returns-in-None c =
     subst (λ (o : Option (List DirEntry)). AreFinalPairs (ids_of c.args.ids.now) c.args.kept.now.node.created_path o None) (sym (ap values c.in-None.is)) tt
 
-pub returns-in-Some : goal.returns-in-Some
-returns-in-Some c =
+pub returns-in_ok-pairs-in-Some : goal.returns-in_ok-pairs-in-Some
+returns-in_ok-pairs-in-Some c =
     let ids = ids_of c.args.ids.now in
     let dir = c.args.kept.now.node.created_path in
-    let entries = entry_values c.in-Some.entries.now.items in
-    let named : entry_values c.as_slice-2.result.now ≡ map (final_entry ids dir) entries
-    = ap entry_values c.as_slice-2.ensures.value ∙ c.in_ok-named.ensures ∙ ap (λ (l : List Listed). map (final_entry ids dir) (entry_values l)) c.as_slice.ensures.value in
-    subst (λ (o : Option (List DirEntry)). AreFinalPairs ids dir o (Some c.in_ok-pairs.pairs)) (sym (ap values c.in-Some.is))
-    (subst (λ (l : List DirEntry). ListsEntries l c.in_ok-pairs.pairs) named c.in_ok-pairs.ensures, names_utf8 c.in-Some.entries.now.items)
+    let entries = entry_values c.in-Some.entries.items in
+    let named : entry_values c.as_slice-in-Some.result.now ≡ map (final_entry ids dir) entries
+    = ap entry_values c.as_slice-in-Some.ensures.value ∙ c.in_ok-named-in-Some.ensures ∙ ap (λ (l : List Listed). map (final_entry ids dir) (entry_values l)) c.as_slice.ensures.value in
+    subst (λ (o : Option (List DirEntry)). AreFinalPairs ids dir o (Some c.in_ok-pairs-in-Some.pairs)) (sym (ap values c.in-Some.is))
+    (subst (λ (l : List DirEntry). ListsEntries l c.in_ok-pairs-in-Some.pairs) named c.in_ok-pairs-in-Some.ensures, names_utf8 c.in-Some.entries.items)

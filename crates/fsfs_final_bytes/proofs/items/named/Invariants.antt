@@ -1,0 +1,10 @@
+use Rattle.std.proofs.Common.{◌≡◌, ◌++◌, map, reverse, length}
+use Rattle.fsfs_laying.specs.Naming.{ids_of, final_item}
+use Rattle.fsfs_final_bytes.proofs.items.named.Given as goal
+
+-- the first ones are named
+abbrev pub invariant-loop-item : goal.invariant-loop-item
+invariant-loop-item l = l.all.items ++ map (final_item (ids_of l.ids)) (reverse l.left.items) ≡ map (final_item (ids_of l.ids)) l.fn.folded.items
+
+abbrev pub decreases-loop-item : goal.decreases-loop-item
+decreases-loop-item l = length l.left.items
