@@ -1,6 +1,6 @@
 -- One of a whole draft's own node-revisions is put, behind what is in it.
-use Rattle.std.proofs.Common.{◌≡◌, ◌∙◌, ◌+◌, ◌≤◌, ◌<◌, ℕ, suc, Bool, true, false, cond, List, [], ◌∷◌, ◌++◌, map, length, Option, Some, None, refl, sym, ap, subst, inl, inr, ◌⊎◌, arith}
-use Rattle.std.specs.Prelude.{option_map, is_some, unwrap_or, if◌then◌else◌, Ok}
+use Rattle.std.proofs.Common.{◌≡◌, ◌∙◌, ◌+◌, ◌≤◌, ◌<◌, ℕ, suc, Bool, true, false, cond, List, [], ◌∷◌, ◌++◌, map, length, Option, Some, None, refl, sym, ap, subst, arith}
+use Rattle.std.specs.Prelude.{option_map, is_some, unwrap_or, if◌then◌else◌}
 use Rattle.std.proofs.lemmas.List.{length-append}
 use Rattle.fsfs_base.specs.Paths.{PathName, Path, same_path}
 use Rattle.fsfs_base.specs.PathTexts.{IsName, IsPath}
@@ -32,7 +32,7 @@ use Rattle.fsfs_drafts.proofs.HangLaw as hanging
 use Rattle.fsfs_drafts.proofs.Placing as placing
 use Rattle.fsfs_drafts.proofs.WholeLaw.{drafts_are_handed}
 use Rattle.fsfs_own.proofs.OwnEntries.{lasting_parts}
-use Rattle.fsfs_final.specs.Laid.{Laid, with_laid, IsLaid, IsFramed}
+use Rattle.fsfs_final.specs.Laid.{Laid, with_laid, IsFramed}
 use Rattle.fsfs_final.proofs.LaidLaw.{loop_laws}
 use Rattle.fsfs_laying.specs.Entries.{MayStand, ListsEntries}
 use Rattle.fsfs_laying.specs.Lists.{list_of}
@@ -41,13 +41,13 @@ use Rattle.fsfs_laying.specs.Nodes.{HasTextBefore, HasList, IsNodeLaid}
 use Rattle.fsfs_laying.proofs.ListLaws.{behind, put_behind}
 use Rattle.fsfs_laying.proofs.NodeLaws.{put_nodes_are_laid}
 use Rattle.fsfs_laying.proofs.TextsLaw.{draft_texts_stand_before}
-use Rattle.fsfs_order.specs.Orders.{path_of, is_in, AreInOrder}
+use Rattle.fsfs_order.specs.Orders.{path_of, is_in}
 use Rattle.fsfs_order.specs.Children.{id_named}
 use Rattle.fsfs_order.proofs.Lists.{differ, is_false, not_itself, in_front, in_none, out_of}
 use Rattle.fsfs_order.proofs.OwnChildren.{Below, not_of_revision, heads, lasting, child_own}
 use Rattle.fsfs_order.proofs.Walking.{parent_in}
 use Rattle.fsfs_putting.specs.Putting.{AreUtf8, AreFinalPairs, IsNextPut}
-use Rattle.fsfs_putting.specs.Laying.{HoldTexts, IsCommittable, LeadsOn, LeadAlike, IsListPut, IsPut, AreLaid}
+use Rattle.fsfs_putting.specs.Laying.{HoldTexts, IsCommittable, LeadAlike, IsListPut, IsPut, AreLaid}
 use Rattle.fsfs_putting.proofs.ReadNames.{read_name}
 use Rattle.fsfs_putting.proofs.NameLemmas.{last_name, named_name, named_final, final_revision, plain_place, earlier_offset, earlier_place, list_grows, text_kept, node_grown, mid_within}
 

@@ -1,11 +1,11 @@
 -- Own node-revisions put one after another, all of a whole draft.
-use Rattle.std.proofs.Common.{◌≡◌, ◌∙◌, ℕ, suc, true, false, List, [], ◌∷◌, ◌++◌, length, Option, Some, None, refl, sym, ap, subst}
+use Rattle.std.proofs.Common.{◌≡◌, ◌∙◌, ℕ, suc, List, [], ◌∷◌, ◌++◌, length, None, sym, subst}
 use Rattle.fsfs_base.specs.Paths.{Path}
 use Rattle.fsfs_fields.specs.declared.txn_name.TxnName.{TxnName}
 use Rattle.fsfs_tree.specs.Nodes.{TreeFunction}
 use Rattle.fsfs_flat.specs.declared.mark.Mark.{Mark}
 use Rattle.fsfs_book.specs.Told.{RevisionBytes}
-use Rattle.fsfs_drafts.specs.Own.{OwnNode, Own}
+use Rattle.fsfs_drafts.specs.Own.{OwnNode}
 use Rattle.fsfs_drafts.specs.Drafts.{Kept, Folder}
 use Rattle.fsfs_drafts.specs.OwnSides.{NodesAt}
 use Rattle.fsfs_final.specs.Laid.{Laid, IsLaid, nothing_laid}

@@ -6,7 +6,7 @@ use Rattle.fsfs_dag.specs.Views.{entry_values}
 use Rattle.fsfs_shows.specs.Reading.{DirEntry}
 use Rattle.fsfs_laying.specs.Entries.{ListsEntries}
 use Rattle.fsfs_laying.specs.Naming.{ids_of, final_entry}
-use Rattle.fsfs_putting.specs.Putting.{AreUtf8, AreFinalPairs}
+use Rattle.fsfs_putting.specs.Putting.{AreFinalPairs}
 use Rattle.fsfs_putting.proofs.NameLemmas.{names_utf8}
 use Rattle.fsfs_putting.proofs.putting.final_list.Goals as goal
 

@@ -1,17 +1,16 @@
-use Rattle.std.proofs.Common.{◌≡◌, ◌∙◌, [], ◌∷◌, List, Option, Some, None, refl, sym, ap, subst, rules}
+use Rattle.std.proofs.Common.{◌≡◌, ◌∙◌, [], List, refl, sym, ap, subst, rules}
 use Rattle.std.specs.BTreeMap.{is_at}
 use Rattle.std.specs.Map.{lookup}
 use Rattle.std.specs.List.{AllByRecursion}
 use Rattle.std.specs.Borrow.{Bor}
 use Rattle.std.proofs.lemmas.List.{nil_from_length}
-use Rattle.fsfs_base.specs.Paths.{Path, path_cmp}
+use Rattle.fsfs_base.specs.Paths.{path_cmp}
 use Rattle.fsfs_drafts.specs.Drafts.{Kept}
 use Rattle.fsfs_own.specs.declared.own.KeptNode.{KeptNode}
-use Rattle.fsfs_own.specs.Views.{kept_value}
 use Rattle.fsfs_laying.specs.Naming.{FinalIds, ids_of}
 use Rattle.fsfs_order.specs.Orders.{last_first}
 use Rattle.fsfs_order.proofs.Lists.{last_pushed}
-use Rattle.fsfs_putting.specs.Putting.{ArePut, HaveTexts, no_ids}
+use Rattle.fsfs_putting.specs.Putting.{ArePut, HaveTexts}
 use Rattle.fsfs_putting.proofs.putting.put_all.Goals as goal
 
 pub loop-kept-init : goal.loop-kept-init

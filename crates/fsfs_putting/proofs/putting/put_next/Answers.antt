@@ -1,8 +1,7 @@
-use Rattle.std.proofs.Common.{◌≡◌, ◌∙◌, Bool, Option, Some, sym, ap}
+use Rattle.std.proofs.Common.{◌∙◌, Bool, Some, sym, ap}
 use Rattle.std.specs.Prelude.{if◌then◌else◌}
 use Rattle.std.specs.Ordering.{is_eq}
 use Rattle.fsfs_base.specs.Paths.{Path, path_cmp, paths_tie}
-use Rattle.fsfs_noderev.specs.declared.node_id.NodeId.{NodeId}
 use Rattle.fsfs_laying.specs.Naming.{ids_of}
 use Rattle.fsfs_putting.proofs.putting.put_next.Goals as goal
 
