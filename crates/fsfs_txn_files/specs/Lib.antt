@@ -1,0 +1,4 @@
+pub mod FileNames
+pub mod Texts
+pub mod Children
+pub mod Changes
