@@ -3,9 +3,11 @@ ghost use Rattle.std.specs.Prelude.{◌≡◌, IfOk, OnOk};
 ghost use Rattle.fsfs_dag.specs.Views.{entry_values};
 ghost use Rattle.fsfs_own.specs.Taken.{IsWithout};
 ghost use Rattle.fsfs_own.specs.Views.{kept_value, new_kept, opened_kept, text_kept, props_kept};
+ghost use Rattle.fsfs_land.specs.Relinked.{relinked_kept};
 
 use crate::copies::{same_kept, same_node, same_props};
 use fsfs_base::Pairs;
+use fsfs_clash::MergedDir;
 use fsfs_dag::DirEntry;
 use fsfs_noderev::{Contents, NodeRev, Rep};
 use fsfs_own::KeptNode;
@@ -60,6 +62,24 @@ pub(crate) fn with_props(
     changed.node.is_fresh_txn_root = false;
     changed.props = Some(props);
     Ok(changed)
+}
+
+/// Gone on from the head's node-revision, with the entries that a merge found.
+pub(crate) fn relinked(kept: &KeptNode, dir: MergedDir) -> Result<KeptNode, AllocError>
+    ensures { IfOk result (λ k. kept_value k ≡ relinked_kept dir (kept_value kept.now)) }
+{
+    let mut node = same_node(&kept.node)?;
+    let props = same_props(&kept.props)?;
+    let MergedDir { link, entries } = dir;
+    node.predecessor = Some(link.head);
+    node.count = link.count;
+    node.text = Some(Contents::Own);
+    node.is_fresh_txn_root = false;
+    Ok(KeptNode {
+        node,
+        entries: Some(entries),
+        props,
+    })
 }
 
 /// The entries without the one of a name.

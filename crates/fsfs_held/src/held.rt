@@ -5,14 +5,16 @@ ghost use Rattle.fsfs_held.specs.Keys.{at_key};
 ghost use Rattle.fsfs_held.specs.Lists.{files_of, with_steps};
 ghost use Rattle.fsfs_held.specs.Views.{begun_folder};
 
-use crate::changed::{new_node, with_entries, with_props, with_text, without_name};
+use crate::changed::{new_node, relinked, with_entries, with_props, with_text, without_name};
 use crate::keys::{NodeKey, key_of};
 use crate::nodes::{Nodes, make_room, node_at, put, settle_steps};
 use crate::steps::{Step, last_of};
 use fsfs_base::{B36, Name, Pairs, TxnName, next_b36};
 use fsfs_changes::ChangeItem;
+use fsfs_clash::MergedDir;
 use fsfs_dag::DirEntry;
 use fsfs_disk::Bench;
+use fsfs_land::Relink;
 use fsfs_noderev::{NodeId, NodeRev, Rep};
 use fsfs_own::{KeptNode, Own, OwnError};
 use std::alloc::{AllocError, Global};
@@ -209,5 +211,28 @@ impl<D: Bench> Own for HeldNodes<D> {
     fn forget(&mut self) {
         self.steps.clear();
         self.next = self.settled_next;
+    }
+}
+
+/// A merge writes its directories in memory, like the steps of an edit.
+impl<D: Bench> Relink for HeldNodes<D> {
+    fn relink(&mut self, dir: MergedDir) -> Result<(), AllocError> {
+        let key = key_of(&dir.link.own);
+        let Some(kept) = self.found(&key) else {
+            return Err(AllocError);
+        };
+        let merged = relinked(kept, dir)?;
+        self.steps.push(Step { key, kept: merged })?;
+        Ok(())
+    }
+
+    fn settle_merged(&mut self) -> Result<(), OwnError> {
+        let Ok(()) = make_room(&mut self.settled, self.steps.len()) else {
+            return Err(OwnError::OutOfMemory);
+        };
+        let next = self.next;
+        settle_steps(&mut self.settled, &mut self.steps);
+        self.settled_next = next;
+        Ok(())
     }
 }
