@@ -12,7 +12,7 @@ use Rattle.fsfs_txn_files.specs.declared.folder_file.FolderFile.TheVariants.{Nex
 use Rattle.fsfs_txn_files.proofs.PartLemmas.{part_lacks, part_one}
 
 -- what stands behind the parts: nothing, or a dot and a word
-abbrev IsEnding : List ℕ → Type 0
+abbrev pub IsEnding : List ℕ → Type 0
 IsEnding s = (s ≡ []) ⊎ ((word : List ℕ) × (s ≡ 46 ∷ word))
 
 -- a text without a dot, and an ending
@@ -36,28 +36,32 @@ tail_same a b s t la lb (inr v) (inr w) same =
 behind : (a b : PartValue) (s : List ℕ) → drop 5 (node_name a b ++ s) ≡ part_text a ++ 46 ∷ (part_text b ++ s)
 behind a b s = append_assoc (part_text a) (46 ∷ part_text b) s
 
-node_one : (a b c d : PartValue) (s t : List ℕ) → FitsId a b → FitsId c d → IsEnding s → IsEnding t → node_name a b ++ s ≡ node_name c d ++ t → OfNode a b s ≡ OfNode c d t
-node_one a b c d s t fa fc es et same =
+-- names that are one have the same parts and the same ending
+pub node_parts : (a b c d : PartValue) (s t : List ℕ) → FitsId a b → FitsId c d → IsEnding s → IsEnding t → node_name a b ++ s ≡ node_name c d ++ t → (a ≡ c) × (b ≡ d) × (s ≡ t)
+node_parts a b c d s t fa fc es et same =
     let one = cut_again 46 (part_text a) (part_text b ++ s) (part_lacks a fa.0) in
     let two = cut_again 46 (part_text c) (part_text d ++ t) (part_lacks c fc.0) in
     let e : part_text a ++ 46 ∷ (part_text b ++ s) ≡ part_text c ++ 46 ∷ (part_text d ++ t) = sym (behind a b s) ∙ ap (drop 5) same ∙ behind c d t in
     let both = some_pair_parts (part_text a) (part_text c) (part_text b ++ s) (part_text d ++ t) (sym one ∙ ap (cut 46) e ∙ two) in
     let rest = tail_same (part_text b) (part_text d) s t (part_lacks b fa.1) (part_lacks d fc.1) es et both.1 in
-    λ i. OfNode (part_one a c fa.0 fc.0 both.0 i) (part_one b d fa.1 fc.1 rest.0 i) (rest.1 i)
+    (part_one a c fa.0 fc.0 both.0, part_one b d fa.1 fc.1 rest.0, rest.1)
+
+node_one : (a b c d : PartValue) (s t : List ℕ) → FitsId a b → FitsId c d → IsEnding s → IsEnding t → node_name a b ++ s ≡ node_name c d ++ t → OfNode a b s ≡ OfNode c d t
+node_one a b c d s t fa fc es et same = let e = node_parts a b c d s t fa fc es et same in λ i. OfNode (e.0 i) (e.1 i) (e.2 i)
 
 -- ---- files that the folder has once
 
 -- names differ at the second byte, or at the first
-apart_at : {X : Type 0} (k x y : ℕ) (s t : List ℕ) → get_or s k 0 ≡ x → get_or t k 0 ≡ y → (x ≡ y → ⊥) → s ≡ t → X
+pub apart_at : {X : Type 0} (k x y : ℕ) (s t : List ℕ) → get_or s k 0 ≡ x → get_or t k 0 ≡ y → (x ≡ y → ⊥) → s ≡ t → X
 apart_at k x y s t at_s at_t other same = absurd (other (sym at_s ∙ ap (λ (z : List ℕ). get_or z k 0) same ∙ at_t))
 
-nothing : IsEnding []
+pub nothing : IsEnding []
 nothing = inl refl
 
-children : IsEnding (codes ".children")
+pub children : IsEnding (codes ".children")
 children = inr (codes "children", refl)
 
-props : IsEnding (codes ".props")
+pub props : IsEnding (codes ".props")
 props = inr (codes "props", refl)
 
 abbrev name_of : FolderFile → List ℕ

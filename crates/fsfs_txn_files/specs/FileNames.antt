@@ -17,12 +17,19 @@ part_text (Made n rev) = base36 n ++ 45 ∷ decimal rev
 abbrev pub node_name : PartValue → PartValue → List ℕ
 node_name node copy = codes "node." ++ part_text node ++ 46 ∷ part_text copy
 
+-- behind that `.children`, or `.props`
+abbrev pub children_name : PartValue → PartValue → List ℕ
+children_name node copy = node_name node copy ++ codes ".children"
+
+abbrev pub props_name : PartValue → PartValue → List ℕ
+props_name node copy = node_name node copy ++ codes ".props"
+
 abbrev pub file_name : FolderFile → List ℕ
 file_name NextIds = codes "next-ids"
 file_name Changes = codes "changes"
 file_name (Node id) = node_name (part_value id.node) (part_value id.copy)
-file_name (Children id) = node_name (part_value id.node) (part_value id.copy) ++ codes ".children"
-file_name (Props id) = node_name (part_value id.node) (part_value id.copy) ++ codes ".props"
+file_name (Children id) = children_name (part_value id.node) (part_value id.copy)
+file_name (Props id) = props_name (part_value id.node) (part_value id.copy)
 
 -- ---- no two files have one name
 
