@@ -3,8 +3,11 @@ use Rattle.std.proofs.Common.{◌≡◌, ◌∙◌, ℕ, List, [], ◌∷◌, �
 use Rattle.std.specs.Prelude.{codes}
 use Rattle.std.specs.FinMap.{get}
 use Rattle.fsfs_base.specs.Files.{Files}
-use Rattle.fsfs_noderev.specs.Ids.{PartValue, part_value}
+use Rattle.fsfs_grammar.specs.Base36.{last_digits}
+use Rattle.fsfs_grammar.proofs.Numerals.{number_some}
+use Rattle.fsfs_noderev.specs.Ids.{PartValue, Old, part_value}
 use Rattle.fsfs_noderev.specs.declared.node_id.NodeId.{NodeId}
+use Rattle.fsfs_noderev.specs.declared.node_rev.NodeRev.{NodeRev}
 use Rattle.fsfs_layout.specs.Small.{IsNextIds}
 use Rattle.fsfs_changes.specs.Items.{IsItem}
 use Rattle.fsfs_changes.specs.Changes.{IsAny}
@@ -14,6 +17,7 @@ use Rattle.fsfs_shows.specs.Reading.{Pairs, DirEntry}
 use Rattle.fsfs_drafts.specs.Drafts.{Kept, Folder}
 use Rattle.fsfs_drafts.specs.Steps.{kept_at}
 use Rattle.fsfs_own.specs.Items.{with_item}
+use Rattle.fsfs_own.specs.Views.{new_kept}
 use Rattle.fsfs_txn_files.specs.FileNames.{node_name, children_name, props_name, file_name, FitsId}
 use Rattle.fsfs_txn_files.specs.Texts.{IsNodeFile, ArePropsOf}
 use Rattle.fsfs_txn_files.specs.Children.{IsWholeList, IsPutRecord, IsTakenRecord, Tells}
@@ -24,7 +28,7 @@ use Rattle.fsfs_txn_files.specs.declared.folder_file.FolderFile.TheVariants.{Nex
 use Rattle.fsfs_txn_files.proofs.NameLemmas.{IsEnding, apart_at}
 use Rattle.fsfs_txn_files.proofs.TailLemmas.{tell}
 use Rattle.fsfs_folder_files.specs.Folders.{HasFile, TellsEntries, TellsProps, TellsKept, TellsFolder}
-use Rattle.fsfs_folder_files.specs.Telling.{FitsNode, IsNodeChange, IsRecord, Put, Taken, put_kept, ChangesTell}
+use Rattle.fsfs_folder_files.specs.Telling.{FitsNode, IsNodeChange, IsRecord, Put, Taken, put_kept, root_folder, ChangesTell}
 use Rattle.fsfs_folder_files.proofs.FileLemmas.{changed_other, changed_whole, changed_end, file_same, entries_same, props_same, children_not_node, props_not_node, children_not_props, IsAway, IsOf, of_node, of_children, of_props, away_changed, each_same, kept_put}
 
 abbrev node_of : NodeId → PartValue
@@ -163,8 +167,39 @@ told_item m f it c told is =
       changes = (h.0 ++ c.text.items, changed_end c Changes (λ text. IsItem text it) m h.0 is h.1, items_push IsAny [] h.0 c.text.items f.items it h.2 is.text_is tt);
     }
 
+-- ---- the first files
+
+zero_name : node_name (Old 0) (Old 0) ≡ codes "node.0.0"
+unfolding last_digits
+zero_name = refl
+
+zero_ids : IsNextIds (codes "0 0\n") (0, 0)
+zero_ids = record {
+  first = codes "0 ";
+  second = codes "0\n";
+  between = 0;
+  first_is = number_some 36 170581728179578208255 32 48 (omega arith) (omega arith);
+  second_is = record { inner = 0; inner_is = number_some 36 170581728179578208255 10 48 (omega arith) (omega arith); value_is = refl };
+  parts = refl;
+}
+
+abbrev no_folder : List ℕ → Folder
+no_folder proto = record { nodes = λ node copy. None; next_node = 0; next_copy = 0; items = []; proto = proto }
+
+told_begun : (m : Files) (root : NodeRev) (text proto : List ℕ) → part_value root.id.node ≡ Old 0 → part_value root.id.copy ≡ Old 0 → IsNodeFile root text
+    → get m (codes "node.0.0") ≡ Some text → get m (codes "next-ids") ≡ Some (codes "0 0\n") → get m (codes "changes") ≡ Some [] → TellsFolder m (root_folder root proto)
+told_begun m root text proto e d is itself next changes =
+    let name : node_name (node_of root.id) (copy_of root.id) ≡ codes "node.0.0" = (λ i. node_name (e i) (d i)) ∙ zero_name in
+    let fits : FitsId (Old 0) (Old 0) = (omega arith, omega arith) in
+    kept_put m m (no_folder proto) root.id (new_kept root)
+    (record { each = λ node copy k here. absurd cc; next = (codes "0 0\n", next, zero_ids); changes = ([], changes, refl) })
+    (subst (λ (p : PartValue × PartValue). FitsId p.0 p.1) (λ i. (sym e i, sym d i)) fits)
+    (record { itself = (text, ap (get m) name ∙ itself, is); children = tt; properties = tt })
+    (λ q away. refl)
+
 pub changes_tell : ChangesTell
 changes_tell = record {
+  begun = told_begun;
   new = told_new;
   opened = told_opened;
   further = told_further;

@@ -1,10 +1,12 @@
 -- Which changes of files go with which steps.
-use Rattle.std.specs.Prelude.{◌≡◌, ℕ, List, [], ◌∷◌, Option, Some, None}
+use Rattle.std.specs.Prelude.{◌≡◌, ℕ, List, [], ◌∷◌, Some, None, codes}
+use Rattle.std.specs.FinMap.{get}
 use Rattle.fsfs_base.specs.Files.{Files}
 use Rattle.fsfs_base.specs.Paths.{PathName}
 use Rattle.fsfs_base.specs.declared.kind.Kind.{Kind}
-use Rattle.fsfs_noderev.specs.Ids.{part_value}
+use Rattle.fsfs_noderev.specs.Ids.{Old, part_value}
 use Rattle.fsfs_noderev.specs.declared.node_id.NodeId.{NodeId}
+use Rattle.fsfs_noderev.specs.declared.node_rev.NodeRev.{NodeRev}
 use Rattle.fsfs_layout.specs.Small.{IsNextIds}
 use Rattle.fsfs_changes.specs.Items.{IsItem}
 use Rattle.fsfs_changes.specs.declared.item.ChangeItem.{ChangeItem}
@@ -12,6 +14,7 @@ use Rattle.fsfs_shows.specs.Reading.{Pairs, DirEntry}
 use Rattle.fsfs_drafts.specs.Drafts.{Kept, Folder}
 use Rattle.fsfs_drafts.specs.Steps.{with_kept, kept_at}
 use Rattle.fsfs_own.specs.Items.{with_item}
+use Rattle.fsfs_own.specs.Views.{new_kept}
 use Rattle.fsfs_txn_files.specs.FileNames.{FitsId}
 use Rattle.fsfs_txn_files.specs.Texts.{IsNodeFile, ArePropsOf}
 use Rattle.fsfs_txn_files.specs.Children.{IsWholeList, IsPutRecord, IsTakenRecord, HasPut, HasTaken}
@@ -37,7 +40,14 @@ pub data IsRecord (c : FileChange) (dir : NodeId) (old new : List DirEntry) : Ty
 abbrev pub put_kept : Folder → NodeId → Kept → Folder
 put_kept f id k = record f { nodes = with_kept id k f.nodes }
 
+-- a folder that has its root alone
+abbrev pub root_folder : NodeRev → List ℕ → Folder
+root_folder root proto = record { nodes = with_kept root.id (new_kept root) (λ node copy. None); next_node = 0; next_copy = 0; items = []; proto = proto }
+
 pub record ChangesTell : Type 0 where
+  -- the first files of a transaction
+  pub begun : (m : Files) (root : NodeRev) (text proto : List ℕ) → part_value root.id.node ≡ Old 0 → part_value root.id.copy ≡ Old 0 → IsNodeFile root text
+      → get m (codes "node.0.0") ≡ Some text → get m (codes "next-ids") ≡ Some (codes "0 0\n") → get m (codes "changes") ≡ Some [] → TellsFolder m (root_folder root proto)
   -- a new node-revision, without lists of its own
   pub new : (m : Files) (f : Folder) (id : NodeId) (k : Kept) (c : FileChange) → TellsFolder m f → FitsNode id → k.entries ≡ None → k.props ≡ None → IsNodeChange c id k → TellsFolder (changed c m) (put_kept f id k)
   -- the first entry that is put or taken of a directory whose entries were not listed in its own file
