@@ -128,10 +128,10 @@ kept_put m n f id k told fits now same = record {
 }
   where
     other : (node copy : PartValue) → (same_value (part_value id.node) node && same_value (part_value id.copy) copy) ≡ false → part_value id.node ≡ node → part_value id.copy ≡ copy → ⊥
-    other node copy no e d =
-        let yes = and_from _ _ (subst (λ (v : PartValue). same_value (part_value id.node) v ≡ true) e (same_value-refl (part_value id.node)))
+    other node copy unlike e d =
+        let both = and_from _ _ (subst (λ (v : PartValue). same_value (part_value id.node) v ≡ true) e (same_value-refl (part_value id.node)))
                 (subst (λ (v : PartValue). same_value (part_value id.copy) v ≡ true) d (same_value-refl (part_value id.copy))) in
-        let clash : true ≡ false = sym yes ∙ no in absurd cc
+        let clash : true ≡ false = sym both ∙ unlike in absurd cc
 
     by : (node copy : PartValue) (l : Kept) (b : Bool) → (same_value (part_value id.node) node && same_value (part_value id.copy) copy) ≡ b
         → cond (same_value (part_value id.node) node && same_value (part_value id.copy) copy) (Some k) (f.nodes node copy) ≡ Some l → FitsId node copy × TellsKept n node copy l

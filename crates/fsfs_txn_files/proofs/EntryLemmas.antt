@@ -15,7 +15,7 @@ use Rattle.fsfs_hash.specs.Dump.{Ascending}
 use Rattle.fsfs_shows.specs.Reading.{Pairs, DirEntry, named}
 use Rattle.fsfs_dag.specs.declared.directory.DirEntry.{DirEntry as Listed}
 use Rattle.fsfs_dag.specs.Views.{entry_value, entry_values}
-use Rattle.fsfs_txn_files.specs.Children.{IsEntryText, SaysEntry, LeadTo, HasPut, HasTaken}
+use Rattle.fsfs_txn_files.specs.Children.{IsEntryText, SaysEntry, LeadTo, HasTaken}
 
 abbrev pub text_cmp : List ℕ → List ℕ → Ordering
 text_cmp = slice_cmp nat_cmp

@@ -6,7 +6,7 @@ use Rattle.std.proofs.lemmas.Option.{some_pair_parts}
 use Rattle.fsfs_grammar.specs.Cuts.{Lacks, cut}
 use Rattle.fsfs_grammar.proofs.CutLemmas.{cut_again, cut_lacking}
 use Rattle.fsfs_noderev.specs.Ids.{PartValue, part_value}
-use Rattle.fsfs_txn_files.specs.FileNames.{part_text, node_name, file_name, FitsPart, FitsId, Fits, FileOf, OfNode, file_of}
+use Rattle.fsfs_txn_files.specs.FileNames.{part_text, node_name, file_name, FitsId, Fits, OfNode, file_of}
 use Rattle.fsfs_txn_files.specs.declared.folder_file.FolderFile.{FolderFile}
 use Rattle.fsfs_txn_files.specs.declared.folder_file.FolderFile.TheVariants.{NextIds, Changes, Node, Children, Props}
 use Rattle.fsfs_txn_files.proofs.PartLemmas.{part_lacks, part_one}
@@ -21,11 +21,11 @@ tail_same a b s t la lb (inl e) (inl f) same = (sym (append-nil a) ∙ ap (λ (z
 tail_same a b s t la lb (inl e) (inr w) same =
     let none : cut 46 (a ++ s) ≡ None = ap (λ (z : List ℕ). cut 46 (a ++ z)) e ∙ ap (cut 46) (append-nil a) ∙ cut_lacking 46 a la in
     let some : cut 46 (b ++ t) ≡ Some (b, w.0) = ap (λ (z : List ℕ). cut 46 (b ++ z)) w.1 ∙ cut_again 46 b w.0 lb in
-    let no : None ≡ Some (b, w.0) = sym none ∙ ap (cut 46) same ∙ some in absurd cc
+    let no : ◌≡◌ {A = Option (List ℕ × List ℕ)} None (Some (b, w.0)) = sym none ∙ ap (cut 46) same ∙ some in absurd cc
 tail_same a b s t la lb (inr v) (inl f) same =
     let some : cut 46 (a ++ s) ≡ Some (a, v.0) = ap (λ (z : List ℕ). cut 46 (a ++ z)) v.1 ∙ cut_again 46 a v.0 la in
     let none : cut 46 (b ++ t) ≡ None = ap (λ (z : List ℕ). cut 46 (b ++ z)) f ∙ ap (cut 46) (append-nil b) ∙ cut_lacking 46 b lb in
-    let no : None ≡ Some (a, v.0) = sym none ∙ ap (cut 46) (sym same) ∙ some in absurd cc
+    let no : ◌≡◌ {A = Option (List ℕ × List ℕ)} None (Some (a, v.0)) = sym none ∙ ap (cut 46) (sym same) ∙ some in absurd cc
 tail_same a b s t la lb (inr v) (inr w) same =
     let one : cut 46 (a ++ s) ≡ Some (a, v.0) = ap (λ (z : List ℕ). cut 46 (a ++ z)) v.1 ∙ cut_again 46 a v.0 la in
     let two : cut 46 (b ++ t) ≡ Some (b, w.0) = ap (λ (z : List ℕ). cut 46 (b ++ z)) w.1 ∙ cut_again 46 b w.0 lb in

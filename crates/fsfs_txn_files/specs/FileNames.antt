@@ -1,5 +1,5 @@
 -- The names of the files of a transaction's folder.
-use Rattle.std.specs.Prelude.{◌≡◌, ◌<◌, ◌≤◌, ℕ, List, ◌∷◌, ◌++◌, codes}
+use Rattle.std.specs.Prelude.{◌≡◌, ◌≤◌, ℕ, List, ◌∷◌, ◌++◌, codes}
 use Rattle.std.specs.Fmt.{decimal}
 use Rattle.fsfs_grammar.specs.Base36.{base36}
 use Rattle.fsfs_fields.specs.RevNums.{last_rev}

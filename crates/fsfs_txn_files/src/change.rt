@@ -90,11 +90,7 @@ impl FileChange {
     }
 
     /// A name whose entry is taken from a directory.
-    pub fn taken_entry(
-        alloc: Global,
-        dir: &NodeId,
-        name: &str,
-    ) -> Result<FileChange, AllocError>
+    pub fn taken_entry(alloc: Global, dir: &NodeId, name: &str) -> Result<FileChange, AllocError>
         ensures { IfOk result (λ c. IsChange c (Children dir.now) AtEnd (IsTakenRecord name.now)) }
     {
         let mut text = Vec::new(alloc);

@@ -40,11 +40,7 @@ fn make_one<B: Bench>(
 
 /// Writes a node-revision into its file. Like each of these calls it leaves all other files as they were; want of memory leaves this
 /// one too, and where the bench fails nothing is known of it.
-pub fn write_node<B: Bench>(
-    alloc: Global,
-    bench: &mut B,
-    node: &NodeRev,
-) -> Result<(), WriteError>
+pub fn write_node<B: Bench>(alloc: Global, bench: &mut B, node: &NodeRev) -> Result<(), WriteError>
     requires { HasNodeText node.now }
     ensures done { OnOk result (IsPut Whole (Node node.now.id) (IsNodeFile node.now) (B.contents bench.old) (B.contents bench.new)) }
     ensures left { IfErr result (IsLeft (Node node.now.id) (B.contents bench.old) (B.contents bench.new)) }
@@ -125,11 +121,7 @@ pub fn write_next_ids<B: Bench>(
 }
 
 /// Adds to `changes` what one edit changed.
-pub fn add_item<B: Bench>(
-    alloc: Global,
-    bench: &mut B,
-    item: &ChangeItem,
-) -> Result<(), WriteError>
+pub fn add_item<B: Bench>(alloc: Global, bench: &mut B, item: &ChangeItem) -> Result<(), WriteError>
     requires { HasText item.now }
     ensures done { OnOk result (IsPut AtEnd Changes (λ text. IsItem text item.now) (B.contents bench.old) (B.contents bench.new)) }
     ensures left { IfErr result (IsLeft Changes (B.contents bench.old) (B.contents bench.new)) }

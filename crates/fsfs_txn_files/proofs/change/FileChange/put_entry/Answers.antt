@@ -1,4 +1,4 @@
-use Rattle.std.proofs.Common.{◌≡◌, ℕ, List, [], refl, subst}
+use Rattle.std.proofs.Common.{ℕ, List, refl, subst}
 use Rattle.fsfs_hash.specs.Dump.{Pair}
 use Rattle.fsfs_txn_files.proofs.ChangeLemmas.{alone}
 use Rattle.fsfs_txn_files.proofs.change.FileChange.put_entry.Goals as goal
