@@ -1,5 +1,5 @@
 -- What a change leaves of the folder's files.
-use Rattle.std.proofs.Common.{◌≡◌, ◌∙◌, ℕ, Bool, true, false, ◌&&◌, cond, List, [], ◌∷◌, ◌++◌, Option, Some, None, get_or, refl, sym, ap, subst, arith}
+use Rattle.std.proofs.Common.{◌≡◌, ◌∙◌, ℕ, Bool, true, false, ◌&&◌, cond, List, [], ◌++◌, Option, Some, None, get_or, refl, sym, ap, subst, arith}
 use Rattle.std.specs.Prelude.{codes, unwrap_or}
 use Rattle.std.specs.FinMap.{get}
 use Rattle.std.proofs.lemmas.List.{append-nil}
@@ -130,7 +130,7 @@ kept_put m n f id k told fits now same = record {
     other : (node copy : PartValue) → (same_value (part_value id.node) node && same_value (part_value id.copy) copy) ≡ false → part_value id.node ≡ node → part_value id.copy ≡ copy → ⊥
     other node copy unlike e d =
         let both = and_from _ _ (subst (λ (v : PartValue). same_value (part_value id.node) v ≡ true) e (same_value-refl (part_value id.node)))
-                (subst (λ (v : PartValue). same_value (part_value id.copy) v ≡ true) d (same_value-refl (part_value id.copy))) in
+        (subst (λ (v : PartValue). same_value (part_value id.copy) v ≡ true) d (same_value-refl (part_value id.copy))) in
         let clash : true ≡ false = sym both ∙ unlike in absurd cc
 
     by : (node copy : PartValue) (l : Kept) (b : Bool) → (same_value (part_value id.node) node && same_value (part_value id.copy) copy) ≡ b

@@ -18,18 +18,18 @@ use Rattle.fsfs_drafts.specs.Drafts.{Kept, Folder}
 use Rattle.fsfs_drafts.specs.Steps.{kept_at}
 use Rattle.fsfs_own.specs.Items.{with_item}
 use Rattle.fsfs_own.specs.Views.{new_kept}
-use Rattle.fsfs_txn_files.specs.FileNames.{node_name, children_name, props_name, file_name, FitsId}
+use Rattle.fsfs_txn_files.specs.FileNames.{node_name, children_name, props_name, FitsId}
 use Rattle.fsfs_txn_files.specs.Texts.{IsNodeFile, ArePropsOf}
 use Rattle.fsfs_txn_files.specs.Children.{IsWholeList, IsPutRecord, IsTakenRecord, Tells}
 use Rattle.fsfs_txn_files.specs.Changes.{changed, changed_all, IsChange}
 use Rattle.fsfs_txn_files.specs.declared.change.FileChange.{FileChange}
 use Rattle.fsfs_txn_files.specs.declared.change.How.TheVariants.{Whole, AtEnd}
 use Rattle.fsfs_txn_files.specs.declared.folder_file.FolderFile.TheVariants.{NextIds, Changes, Node, Children, Props}
-use Rattle.fsfs_txn_files.proofs.NameLemmas.{IsEnding, apart_at}
+use Rattle.fsfs_txn_files.proofs.NameLemmas.{apart_at}
 use Rattle.fsfs_txn_files.proofs.TailLemmas.{tell}
-use Rattle.fsfs_folder_files.specs.Folders.{HasFile, TellsEntries, TellsProps, TellsKept, TellsFolder}
+use Rattle.fsfs_folder_files.specs.Folders.{HasFile, TellsEntries, TellsProps, TellsFolder}
 use Rattle.fsfs_folder_files.specs.Telling.{FitsNode, IsNodeChange, IsRecord, Put, Taken, put_kept, root_folder, ChangesTell}
-use Rattle.fsfs_folder_files.proofs.FileLemmas.{changed_other, changed_whole, changed_end, file_same, entries_same, props_same, children_not_node, props_not_node, children_not_props, IsAway, IsOf, of_node, of_children, of_props, away_changed, each_same, kept_put}
+use Rattle.fsfs_folder_files.proofs.FileLemmas.{changed_other, changed_whole, changed_end, file_same, entries_same, props_same, children_not_node, props_not_node, children_not_props, IsAway, of_node, of_children, of_props, away_changed, each_same, kept_put}
 
 abbrev node_of : NodeId → PartValue
 node_of id = part_value id.node
