@@ -2,5 +2,10 @@
 #![tactic(auto)]
 
 mod laws;
+mod steps;
 
 pub use laws::changes_tell_the_folder;
+pub use steps::{
+    merged_files, new_files, next_files, property_files, put_files, settled_files, taken_files,
+    text_files,
+};
