@@ -18,7 +18,7 @@ use Rattle.fsfs_txn_files.specs.declared.folder_file.FolderFile.TheVariants.{Nex
 use Rattle.fsfs_folder_files.specs.Folders.{TellsFolder}
 use Rattle.fsfs_folder_files.specs.Telling.{IsRecord, put_kept}
 use Rattle.fsfs_folder_files.specs.Written.{IsListFirst, TellsNew, TellsEntry, TellsMerged, TellsText, TellsPropsSet, TellsNext, TellsSettled, with_next}
-use Rattle.fsfs_folder_files.proofs.Steps.{changes_tell}
+use Rattle.fsfs_folder_files.proofs.StepLemmas.{changes_tell}
 
 -- one after another
 pub one_file : (none files : List FileChange) (c : FileChange) → none ≡ [] → files ≡ none ++ c ∷ [] → files ≡ c ∷ []
