@@ -3,6 +3,7 @@ ghost use Rattle.std.specs.Prelude.{◌≡◌, ◌≤◌, ◌<◌, ◌^◌, ◌+
 ghost use Rattle.fsfs_book.specs.Told.{RevisionBytes, Knows, Keeps, IsTold};
 ghost use Rattle.fsfs_revision.specs.Nodes.{is_ordered};
 ghost use Rattle.fsfs_damage.specs.Readings.{Answers};
+ghost use Rattle.fsfs_noderev.specs.Writing.{HasText};
 ghost use Rattle.fsfs_shows.specs.Reading.{NodeAt, RootOf, OfEntry, OfId, HasId, HasKind, offset_of};
 ghost use Rattle.fsfs_damage.specs.Causes.{HasCause, IsQuiet};
 ghost use Rattle.fsfs_dag.specs.Told.{LengthOf, WindowAt, EndOf};
@@ -86,6 +87,7 @@ pub(crate) fn node_in_whole<B: Book>(
 ) -> Result<NodeRev, ReadError>
     ensures told { (look : RevisionBytes) → IsTold (B.told book.old) look at.now.rev → Answers (λ v. v) (NodeAt look at.now) result }
     ensures ordered { IfOk result (λ v. is_ordered at.now v ≡ true) }
+    ensures writable { IfOk result HasText }
     ensures kept { Keeps (B.told book.old) (B.told book.new) }
     ensures cause { HasCause (B.faults book.old) (B.faults book.new) result }
 {
@@ -103,6 +105,7 @@ pub(crate) fn node_read<B: Book>(
 ) -> Result<NodeRev, ReadError>
     ensures told { (look : RevisionBytes) → IsTold (B.told book.old) look at.now.rev → Answers (λ v. v) (NodeAt look at.now) result }
     ensures ordered { IfOk result (λ v. is_ordered at.now v ≡ true) }
+    ensures writable { IfOk result HasText }
     ensures kept { Keeps (B.told book.old) (B.told book.new) }
     ensures cause { HasCause (B.faults book.old) (B.faults book.new) result }
 {
@@ -121,6 +124,8 @@ pub(crate) fn node_read<B: Book>(
 pub fn root_of<B: Book>(alloc: Global, book: &mut B, rev: RevNum) -> Result<PlacedNode, ReadError>
     ensures told { (look : RevisionBytes) → Knows (B.told book.old).revs rev look → Answers (λ found. found.node) (RootOf look rev) result }
     ensures rev { IfOk result (λ found. (offset_of found.node.id.place).rev ≡ rev) }
+    // What is read can be written.
+    ensures writable { IfOk result (λ found. HasText found.node) }
     ensures kept { Keeps (B.told book.old) (B.told book.new) }
     ensures cause { HasCause (B.faults book.old) (B.faults book.new) result }
 {

@@ -1,5 +1,5 @@
 -- What is told of an owned disk.
-use Rattle.std.proofs.Common.{◌≡◌, ℕ, List, ap, ◌∙◌, arith}
+use Rattle.std.proofs.Common.{◌≡◌, ℕ, Bool, List, ap, ◌∙◌, arith}
 use Rattle.std.specs.Prelude.{Option, Some, Ok, option_map}
 use Rattle.fsfs_base.specs.Files.{Files}
 use Rattle.fsfs_disk.specs.Trace.{Trace, files_now}
@@ -10,8 +10,8 @@ use Rattle.fsfs_fetch.specs.Kept.{TellsFiles}
 use Rattle.fsfs_fetch.specs.Views.{DiskState}
 use Rattle.fsfs_fetch.specs.Owned.{owned_view, state_of, TellsAll}
 
-pub owned_files : (trace : Option Trace) (path : List ℕ) (y : ℕ) (n : Layout) (t : Trace) → trace ≡ Some t → (owned_view (state_of trace path) y n).files ≡ Some (files_now t)
-owned_files trace path y n t e = ap (option_map files_now) e
+pub owned_files : (trace : Option Trace) (path : List ℕ) (right : Bool) (benches y : ℕ) (n : Layout) (t : Trace) → trace ≡ Some t → (owned_view (state_of trace path right benches) y n).files ≡ Some (files_now t)
+owned_files trace path right benches y n t e = ap (option_map files_now) e
 
 pub owned_floor : (n layout : Layout) (floor : ℕ) (m : Files) → n ≡ layout → floor_in layout m ≡ Ok floor → floor_in n m ≡ Ok floor
 owned_floor n layout floor m e is = ap (λ k. floor_in k m) e ∙ is

@@ -1,5 +1,5 @@
 -- What an owned disk tells to one who reads its revisions.
-use Rattle.std.specs.Prelude.{◌≡◌, ℕ, List, Option, Some, option_map}
+use Rattle.std.specs.Prelude.{◌≡◌, ℕ, Bool, List, Option, Some, option_map}
 use Rattle.fsfs_base.specs.Files.{Files}
 use Rattle.fsfs_disk.specs.Trace.{Trace, files_now}
 use Rattle.fsfs_book.specs.Told.{Telling, Knows}
@@ -10,8 +10,8 @@ use Rattle.fsfs_rev_file.specs.RevBytes.{rev_bytes, props_bytes}
 abbrev pub owned_view : DiskState → ℕ → Layout → View
 owned_view disk youngest layout = record { layout = layout; reach = Ends youngest; files = option_map files_now disk.trace; below = Some disk }
 
-abbrev pub state_of : Option Trace → List ℕ → DiskState
-state_of trace path = record { trace = trace; mount_path = path }
+abbrev pub state_of : Option Trace → List ℕ → Bool → ℕ → DiskState
+state_of trace path right benches = record { trace = trace; mount_path = path; may_write = right; bench_faults = benches }
 
 -- a book that tells of each revision up to the youngest what the files say
 pub record TellsAll (last : ℕ) (layout : Layout) (files : Files) {Below : Type 0} (told : Telling Below) : Type 0 where

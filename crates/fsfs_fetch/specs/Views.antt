@@ -26,10 +26,13 @@ Extends (Ends youngest) new = new ≡ Ends youngest
 Extends (Grows least) (Ends youngest) = least ≤ youngest
 Extends (Grows least) (Grows n) = least ≤ n
 
--- the disk below a book, as the disk tells: its trace, and the path that it was mounted for
+-- the disk below a book, as the disk tells: its trace, the path that it was mounted for, whether it may be changed, and how often
+-- benches failed that it took back
 pub record DiskState : Type 0 where
   pub trace : Option Trace
   pub mount_path : List ℕ
+  pub may_write : Bool
+  pub bench_faults : ℕ
 
 -- what a store tells: its layout, its revisions, its files as the last call met them, and the disk below it,
 -- where it tells these

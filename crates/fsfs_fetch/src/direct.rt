@@ -81,7 +81,7 @@ pub fn over_disk<D: Disk>(
     ensures disk { result.reads.disk ≡ disk }
     ensures told { (t : Trace) → D.trace disk ≡ Some t → floor_in layout (files_now t) ≡ Ok floor
         → TellsAll youngest layout (files_now t) (⟦<Direct<OwnedReads<D>> as Book>⟧.told result) }
-    ensures below { (⟦<Direct<OwnedReads<D>> as Book>⟧.told result).below ≡ Some (state_of (D.trace disk) (D.mount_path disk)) }
+    ensures below { (⟦<Direct<OwnedReads<D>> as Book>⟧.told result).below ≡ Some (state_of (D.trace disk) (D.mount_path disk) (D.may_write disk) (D.bench_faults disk)) }
     ensures faults { ⟦<Direct<OwnedReads<D>> as Book>⟧.faults result ≡ D.faults disk }
 {
     Direct::new(alloc, OwnedReads::new(disk, youngest, layout), floor)
@@ -89,7 +89,7 @@ pub fn over_disk<D: Disk>(
 
 /// The disk again, which reading has left as it was.
 pub fn disk_of<D: Disk>(book: Direct<OwnedReads<D>>) -> D
-    ensures below { (⟦<Direct<OwnedReads<D>> as Book>⟧.told book).below ≡ Some (state_of (D.trace result) (D.mount_path result)) }
+    ensures below { (⟦<Direct<OwnedReads<D>> as Book>⟧.told book).below ≡ Some (state_of (D.trace result) (D.mount_path result) (D.may_write result) (D.bench_faults result)) }
     ensures faults { ⟦<Direct<OwnedReads<D>> as Book>⟧.faults book ≡ D.faults result }
 {
     book.into_reads().into_disk()

@@ -40,7 +40,7 @@ impl<D: Disk> Reads for OwnedReads<D> {
     ghost use Rattle.fsfs_fetch.specs.Owned.{owned_view, state_of};
     ghost use Rattle.fsfs_fetch.specs.OwnedShort.{owned_short};
 
-    ghost view = { λ r. owned_view (state_of (D.trace r.disk) (D.mount_path r.disk)) r.youngest r.layout };
+    ghost view = { λ r. owned_view (state_of (D.trace r.disk) (D.mount_path r.disk) (D.may_write r.disk) (D.bench_faults r.disk)) r.youngest r.layout };
 
     ghost faults = { λ r. D.faults r.disk };
 

@@ -2,6 +2,7 @@ use Rattle.std.proofs.Common.{drop, take, List, ℕ}
 use Rattle.std.proofs.lemmas.Result.{err_from_is_err_and}
 use Rattle.fsfs_noderev.specs.declared.node_rev.NodeRev.{NodeRev}
 use Rattle.fsfs_revision.specs.Damages.{NodeIn}
+use Rattle.fsfs_dag.proofs.Fitting.{node_fits}
 use Rattle.fsfs_dag.proofs.Windows.{window_stops, node_seen}
 use Rattle.fsfs_dag.proofs.reading.node_in_whole.Goals as goal
 
@@ -12,3 +13,6 @@ returns-in_err-count-clause-told g c = λ look told.
 
 pub returns-clause-told : goal.returns-clause-told
 returns-clause-told g c = λ look told. node_seen look c.args.at.now _ c.read_node_at.result (c.in_ok-count.ensures.told look told) c.read_node_at.ensures.read
+
+pub returns-clause-writable : goal.returns-clause-writable
+returns-clause-writable g c = node_fits c.args.at.now _ c.read_node_at.result c.read_node_at.ensures.read

@@ -1,6 +1,7 @@
 use Rattle.std.proofs.Common.{◌≡◌, ◌≤◌, true, Ok, sym, ap, subst, ◌∙◌, arith}
 use Rattle.fsfs_revision.specs.Nodes.{is_root, is_ordered}
 use Rattle.std.proofs.lemmas.Result.{err_from_is_err_and}
+use Rattle.fsfs_noderev.specs.Writing.{HasText}
 use Rattle.fsfs_noderev.specs.declared.node_rev.NodeRev.{NodeRev}
 use Rattle.fsfs_damage.specs.declared.damage.RevOffset.{RevOffset}
 use Rattle.fsfs_dag.specs.declared.node.PlacedNode.{PlacedNode}
@@ -52,3 +53,6 @@ returns-clause-rev g c =
     let root = c.in_ok-node.ensures.read in
     let own = subst (λ (v : NodeRev). is_root c.in_ok-at.at v ≡ true) (sym root.0) root.1 in
     ap (λ (a : RevOffset). a.rev) (own_place c.in_ok-at.at c.in_ok-node.node (root_own c.in_ok-at.at c.in_ok-node.node own)) ∙ c.in_ok-at.ensures.rev
+
+pub returns-clause-writable : goal.returns-clause-writable
+returns-clause-writable g c = subst HasText (sym c.in_ok-node.ensures.read.0) c.in_ok-read.ensures.writable
