@@ -1,5 +1,5 @@
 -- What a drawing leaves at each of its calls.
-use Rattle.std.proofs.Common.{◌≡◌, ℕ, ◌+◌, List, inr, ⊎_elim, refl, sym, ap, subst, ◌∙◌}
+use Rattle.std.proofs.Common.{◌≡◌, ℕ, ◌+◌, List, inl, inr, ⊎_elim, refl, sym, ap, subst, ◌∙◌}
 use Rattle.std.proofs.lemmas.Option.{same_Some, none-some}
 use Rattle.std.specs.Prelude.{Option, Some, None, IfSome, option_map}
 use Rattle.std.specs.FinMap.{get, insert}
@@ -8,12 +8,16 @@ use Rattle.fsfs_base.proofs.FileLemmas.{get_new, renamed_put}
 use Rattle.fsfs_disk.specs.Labels.{Label}
 use Rattle.fsfs_disk.specs.Trace.{Trace, NameChange, Put, Rename, FirmNames, Done, Attempted, add_operation, files_now, labels_now, Performs, FailsAt}
 use Rattle.fsfs_disk.specs.Crash.{AllImages, IsFirm, KeepsImages}
+use Rattle.fsfs_disk.specs.Crash.{AreAll, KeepsLabels, LeavesBoth}
+use Rattle.fsfs_disk.proofs.LeftLemmas.{amid_same, keeps_labels_at, keeps_labels_then, same_both}
 use Rattle.fsfs_disk.proofs.CrashLemmas.{keeps_then, keeps_put, keeps_failed_put, keeps_rename, keeps_firm, firm_after, all_firm}
 use Rattle.fsfs_layout.specs.FileNames.{only_name}
 use Rattle.fsfs_layout.specs.declared.only_file.OnlyFile.TheVariants.{TxnCurrent, TxnCurrentNext}
 use Rattle.fsfs_layout.specs.Small.{IsBase36Line}
 use Rattle.fsfs_places.specs.declared.place.BeginPlace.{BeginPlace}
 use Rattle.fsfs_places.specs.declared.place.BeginPlace.TheVariants as places
+use Rattle.fsfs_txns.specs.Removals.{WasKept}
+use Rattle.fsfs_txns.proofs.InTurn.{stays_itself}
 use Rattle.fsfs_begin.specs.Counter.{HasNumber, IsAtLeast, IsOldOrNext, IsRaised, with_counter}
 use Rattle.fsfs_begin.specs.Drawing.{after_put, after_rename, after_drawing, StopsRaising}
 use Rattle.fsfs_begin.proofs.CounterLemmas.{has_raised, old_beside, old_raised, least_beside, least_raised}
@@ -159,3 +163,46 @@ stopped_labels text old new places.Rename at =
     then_them old (option_map (after_put text) old) new (put_them text old) (failed_them to_counter (option_map (after_put text) old) new (λ t. refl) at)
 stopped_labels text old new places.Firm at =
     then_them old (option_map (after_rename text) old) new (rename_them text old) (failed_them FirmNames (option_map (after_rename text) old) new (λ t. refl) at)
+
+-- ---- nor does a crash leave a label that wasn't kept
+
+module _ (text : List ℕ) (Q : Label → Type 0) (old : Option Trace) where
+  leaves_put : KeepsLabels old (option_map (after_put text) old) Q
+  leaves_put = keeps_labels_at (Put (only_name TxnCurrentNext) text) Q old (option_map (after_put text) old) (inr (inr (put_performs text old))) (amid_same (Put (only_name TxnCurrentNext) text) Q (λ ls. refl))
+
+  leaves_renamed : (new : Option Trace) → FailsAt to_counter (option_map (after_put text) old) new → KeepsLabels (option_map (after_put text) old) new Q
+  leaves_renamed new at = keeps_labels_at to_counter Q (option_map (after_put text) old) new at (amid_same to_counter Q (λ ls. refl))
+
+  leaves_both : KeepsLabels old (option_map (after_rename text) old) Q
+  leaves_both =
+      keeps_labels_then old (option_map (after_put text) old) (option_map (after_rename text) old) Q leaves_put
+      (leaves_renamed (option_map (after_rename text) old) (inr (inr (rename_performs text old))))
+
+  leaves_firm : (new : Option Trace) → FailsAt FirmNames (option_map (after_rename text) old) new → KeepsLabels old new Q
+  leaves_firm new at =
+      keeps_labels_then old (option_map (after_rename text) old) new Q leaves_both
+      (keeps_labels_at FirmNames Q (option_map (after_rename text) old) new at (amid_same FirmNames Q (λ ls. refl)))
+
+  leaves_drawn : (new : Option Trace) → new ≡ option_map (after_drawing text) old → KeepsLabels old new Q
+  leaves_drawn new is = leaves_firm new (inr (inr (firm_performs text old new is)))
+
+  leaves_put_at : (any : List ℕ) (new : Option Trace) → FailsAt (Put (only_name TxnCurrentNext) any) old new → KeepsLabels old new Q
+  leaves_put_at any new at = keeps_labels_at (Put (only_name TxnCurrentNext) any) Q old new at (amid_same (Put (only_name TxnCurrentNext) any) Q (λ ls. refl))
+
+  leaves_stopped : (call : BeginPlace) (new : Option Trace) → StopsRaising call text old new → KeepsLabels old new Q
+  leaves_stopped places.Read new at = absurd at
+  leaves_stopped places.Put new at = ⊎_elim (λ e. leaves_put_at text new (inl e)) (λ w. ⊎_elim (λ e. leaves_put_at text new (inr (inl e))) (λ d. leaves_put_at d.0 new (inr (inr d.1))) w) at
+  leaves_stopped places.Rename new at = keeps_labels_then old (option_map (after_put text) old) new Q leaves_put (leaves_renamed new at)
+  leaves_stopped places.Firm new at = leaves_firm new at
+
+abbrev LeavesNone : Option Trace → Option Trace → Type 0
+LeavesNone old new = LeavesBoth old new (λ m ls. AreAll (WasKept old) ls)
+
+pub same_left : (old new : Option Trace) → new ≡ old → LeavesNone old new
+same_left old new e = same_both old new (λ m ls. AreAll (WasKept old) ls) e
+
+pub drawn_left : (text : List ℕ) (old new : Option Trace) → new ≡ option_map (after_drawing text) old → LeavesNone old new
+drawn_left text old new is = (leaves_drawn text (WasKept old) old new is (stays_itself old).kept).1
+
+pub stopped_left : (text : List ℕ) (old new : Option Trace) (call : BeginPlace) → StopsRaising call text old new → LeavesNone old new
+stopped_left text old new call at = (leaves_stopped text (WasKept old) old call new at (stays_itself old).kept).1

@@ -80,7 +80,7 @@ without-with l ls =
     ∙ without_twice l ls
 
 -- the labels after two calls
-then_labels : (f g h : List Label → List Label) (old mid new : Option Trace) → ((ls : List Label) → g (f ls) ≡ h ls) → HasLabels f old mid → HasLabels g mid new → HasLabels h old new
+pub then_labels : (f g h : List Label → List Label) (old mid new : Option Trace) → ((ls : List Label) → g (f ls) ≡ h ls) → HasLabels f old mid → HasLabels g mid new → HasLabels h old new
 then_labels f g h old mid new is first second = second ∙ twice mid ∙ ap (λ o. option_map g o) first ∙ once old
   where
     twice : (o : Option Trace) → option_map (λ t. g (labels_now t)) o ≡ option_map g (option_map labels_now o)

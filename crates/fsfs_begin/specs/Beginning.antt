@@ -21,10 +21,8 @@ pub record BeginsOn (txn : TxnName) (x v : NodeRev) : Type 0 where
   pub mergeinfo : v.mergeinfo_count ≡ x.mergeinfo_count
   pub has : v.has_mergeinfo ≡ x.has_mergeinfo
 
--- the text of such a root, which reads back as it, whatever stands behind
-pub record IsRootText (txn : TxnName) (x : NodeRev) (text : List ℕ) : Type 0 where
-  pub root : NodeRev
-  pub begins : BeginsOn txn x root
+-- the text of a root, which reads back as it, whatever stands behind
+pub record IsRootText (root : NodeRev) (text : List ℕ) : Type 0 where
   pub grammar : IsNodeRev text root
   pub lines : IsWritten text root
   pub reads_back : (rest : List ℕ) → IsRead (take 65536 (text ++ rest)) root

@@ -3,3 +3,4 @@ pub mod Drawing
 pub mod Deciding
 pub mod Benches
 pub mod Beginning
+pub mod Begun

@@ -2,8 +2,9 @@
 ghost use Rattle.std.specs.Prelude.{◌≡◌, ◌≤◌, ◌+◌, ℕ, Some, option_map, IfOk, IfErr, IfSome, OnOk, OnErr, IsTrue};
 ghost use Rattle.fsfs_base.specs.Failures.{Rose};
 ghost use Rattle.fsfs_disk.specs.Trace.{files_now, labels_now};
-ghost use Rattle.fsfs_disk.specs.Crash.{AllImages, IsFirm, KeepsImages, Leaves};
+ghost use Rattle.fsfs_disk.specs.Crash.{AllImages, AreAll, IsFirm, KeepsImages, Leaves, LeavesBoth};
 ghost use Rattle.fsfs_layout.specs.Small.{IsBase36Line};
+ghost use Rattle.fsfs_txns.specs.Removals.{WasKept};
 ghost use Rattle.fsfs_begin.specs.Counter.{HasNumber, IsAtLeast, IsOldOrNext, IsRaised};
 ghost use Rattle.fsfs_begin.specs.Drawing.{after_drawing, counter_told, IsSmallIn, IsUnread, StopsRaising, NameFails};
 ghost use Rattle.fsfs_begin.specs.Deciding.{Decides};
@@ -90,6 +91,8 @@ pub fn next_name<D: Disk>(alloc: Global, disk: &mut D, base: RevNum) -> Result<T
     ensures rising { (low : ℕ) → KeepsImages (D.trace disk.old) (D.trace disk.new) (IsAtLeast low) }
     ensures new { IfSome (D.trace disk.old) (λ t. IfOk result (λ name. (low : ℕ) → AllImages (Some t) (IsAtLeast low) → low ≤ name.number.number)) }
     ensures labels { option_map labels_now (D.trace disk.new) ≡ option_map labels_now (D.trace disk.old) }
+    // Nor does a crash leave a label that was not kept before.
+    ensures left { LeavesBoth (D.trace disk.old) (D.trace disk.new) (λ m ls. AreAll (WasKept (D.trace disk.old)) ls) }
     ensures mounted { D.mount_path disk.new ≡ D.mount_path disk.old }
     ensures right { D.may_write disk.new ≡ D.may_write disk.old }
     ensures benches { D.bench_faults disk.new ≡ D.bench_faults disk.old }

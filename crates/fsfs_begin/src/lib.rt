@@ -1,14 +1,19 @@
-//! The beginning of a transaction: its name is drawn, and its root and its bench are made. And its end, where it is not committed.
+//! The beginning of a transaction: its name is drawn, the root of its base is read, and its root and its bench are made. And its
+//! end, where it is not committed.
 #![tactic(auto)]
 
+mod begin_fault;
+mod beginning;
 mod drawing;
 mod making;
 mod name_fault;
 mod purging;
 mod root;
 
+pub use begin_fault::BeginFault;
+pub use beginning::{Begun, begin};
 pub use drawing::next_name;
 pub use making::{BenchFault, begin_bench};
 pub use name_fault::NameFault;
 pub use purging::purge;
-pub use root::{first_root, first_root_text};
+pub use root::first_root;

@@ -3,10 +3,10 @@ ghost use Rattle.std.specs.Prelude.{◌≡◌, IfOk};
 ghost use Rattle.fsfs_noderev.specs.Writing.{HasText};
 ghost use Rattle.fsfs_shows.specs.Chains.{own_rev};
 ghost use Rattle.fsfs_drafts.specs.Rules.{lasting_root};
-ghost use Rattle.fsfs_begin.specs.Beginning.{BeginsOn, IsRootText};
+ghost use Rattle.fsfs_begin.specs.Beginning.{BeginsOn};
 
 use fsfs_base::{FsPath, RevNum, TxnName};
-use fsfs_noderev::{CopyRoot, NodeId, NodeRev, Place, write_noderev};
+use fsfs_noderev::{CopyRoot, NodeId, NodeRev, Place};
 use std::alloc::{AllocError, Global};
 
 // The revision that a node-revision is of.
@@ -61,14 +61,4 @@ pub fn first_root(alloc: Global, txn: TxnName, base: &NodeRev) -> Result<NodeRev
         mergeinfo_count: base.mergeinfo_count,
         has_mergeinfo: base.has_mergeinfo,
     })
-}
-
-/// The text of that root, as it stands in `node.0.0`.
-pub fn first_root_text(alloc: Global, txn: TxnName, base: &NodeRev) -> Result<Vec<u8>, AllocError>
-    requires { HasText base.now }
-    ensures { IfOk result (λ v. IsRootText txn base.now v.items) }
-{
-    let root = first_root(alloc, txn, base)?;
-    let text = write_noderev(alloc, &root)?;
-    Ok(text)
 }

@@ -5,7 +5,7 @@ use Rattle.fsfs_disk.specs.Trace.{Trace}
 use Rattle.fsfs_begin.specs.Drawing.{after_drawing, StopsRaising}
 use Rattle.fsfs_begin.specs.declared.name_fault.NameFault.TheVariants.{DiskFault, Memory}
 use Rattle.fsfs_begin.proofs.CounterLemmas.{own_old}
-use Rattle.fsfs_begin.proofs.CourseLemmas.{drawn_old, stopped_old, drawn_least, stopped_least, drawn_files, drawn_firm, all_drawn_firm, drawn_labels, stopped_labels}
+use Rattle.fsfs_begin.proofs.CourseLemmas.{drawn_old, stopped_old, drawn_least, stopped_least, drawn_files, drawn_firm, all_drawn_firm, drawn_labels, stopped_labels, same_left, drawn_left, stopped_left}
 use Rattle.fsfs_begin.proofs.AnswerLemmas.{decides_name, decides_full, decides_outside, decides_unread, fails_stopped, same_old, above_low, line_of}
 use Rattle.fsfs_begin.proofs.drawing.next_name.Goals as goal
 
@@ -140,3 +140,28 @@ returns-clause-labels g c =
     let new = g.D.Disk.trace c.raise.new.disk in
     let at : StopsRaising c.in-Err-raise.place text old new = subst (λ (o : Option Trace). StopsRaising c.in-Err-raise.place text o new) c.read_number.ensures.same c.in-Err-raise.ensures.stopped in
     stopped_labels text old new c.in-Err-raise.place at
+
+-- ---- labels at each moment
+
+pub returns-in-Err-clause-left : goal.returns-in-Err-clause-left
+returns-in-Err-clause-left g c = same_left (g.D.Disk.trace c.args.disk.now) (g.D.Disk.trace c.read_number.new.disk) c.read_number.ensures.same
+
+pub returns-in_default-clause-left : goal.returns-in_default-clause-left
+returns-in_default-clause-left g c = same_left (g.D.Disk.trace c.args.disk.now) (g.D.Disk.trace c.read_number.new.disk) c.read_number.ensures.same
+
+pub returns-in-Err-write_txn_current-clause-left : goal.returns-in-Err-write_txn_current-clause-left
+returns-in-Err-write_txn_current-clause-left g c = same_left (g.D.Disk.trace c.args.disk.now) (g.D.Disk.trace c.read_number.new.disk) c.read_number.ensures.same
+
+pub returns-in-Ok-raise-clause-left : goal.returns-in-Ok-raise-clause-left
+returns-in-Ok-raise-clause-left g c =
+    let text = c.deref.result.now in
+    let done : g.D.Disk.trace c.raise.new.disk ≡ option_map (after_drawing text) (g.D.Disk.trace c.args.disk.now) = c.in-Ok-raise.ensures.done ∙ ap (option_map (after_drawing text)) c.read_number.ensures.same in
+    drawn_left text (g.D.Disk.trace c.args.disk.now) (g.D.Disk.trace c.raise.new.disk) done
+
+pub returns-clause-left : goal.returns-clause-left
+returns-clause-left g c =
+    let text = c.deref.result.now in
+    let old = g.D.Disk.trace c.args.disk.now in
+    let new = g.D.Disk.trace c.raise.new.disk in
+    let at : StopsRaising c.in-Err-raise.place text old new = subst (λ (o : Option Trace). StopsRaising c.in-Err-raise.place text o new) c.read_number.ensures.same c.in-Err-raise.ensures.stopped in
+    stopped_left text old new c.in-Err-raise.place at

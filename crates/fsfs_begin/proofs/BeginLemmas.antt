@@ -1,0 +1,175 @@
+-- Why no transaction was begun, and which answer comes, from the parts of a beginning.
+use Rattle.std.proofs.Common.{◌≡◌, ◌⊎◌, ◌≤◌, ◌<◌, ◌×◌, ℕ, List, inl, inr, ⊎_elim, refl, sym, ap, subst, ◌∙◌, arith}
+use Rattle.std.specs.Prelude.{Option, Some, None, IfSome, IfErr, Result, Ok, Err, option_map}
+use Rattle.fsfs_damage.specs.Causes.{IfDisk}
+use Rattle.fsfs_damage.specs.Readings.{IfWrong}
+use Rattle.fsfs_damage.specs.declared.wrong.Wrong.{Wrong}
+use Rattle.fsfs_damage.specs.declared.wrong.ReadError.{ReadError}
+use Rattle.fsfs_damage.specs.declared.wrong.ReadError.TheVariants as errors
+use Rattle.fsfs_fields.specs.declared.txn_name.TxnName.{TxnName}
+use Rattle.fsfs_disk.specs.Labels.{Label, with_label, without_label}
+use Rattle.fsfs_disk.specs.Trace.{Trace, files_now, labels_now}
+use Rattle.fsfs_layout.specs.Small.{IsBase36Line}
+use Rattle.fsfs_layout.specs.declared.opened.Opened.{Opened}
+use Rattle.fsfs_places.specs.declared.place.DiskPlace.{DiskPlace}
+use Rattle.fsfs_places.specs.declared.place.DiskPlace.TheVariants as place
+use Rattle.fsfs_rev_file.specs.RevBytes.{rev_bytes}
+use Rattle.fsfs_shows.specs.Reading.{RootOf}
+use Rattle.fsfs_txns.specs.Txns.{txn_label}
+use Rattle.fsfs_txns.specs.Removals.{HasLabels}
+use Rattle.fsfs_begin.specs.Benches.{IsUnmade}
+use Rattle.fsfs_begin.specs.Deciding.{Decides}
+use Rattle.fsfs_begin.specs.Drawing.{NameFails}
+use Rattle.fsfs_begin.specs.declared.name_fault.NameFault.{NameFault}
+use Rattle.fsfs_begin.specs.declared.name_fault.NameFault.TheVariants as names
+use Rattle.fsfs_begin.specs.declared.making.BenchFault.{BenchFault as BenchCause}
+use Rattle.fsfs_begin.specs.declared.making.BenchFault.TheVariants as bench
+use Rattle.fsfs_begin.specs.declared.begin_fault.BeginFault.{BeginFault}
+use Rattle.fsfs_begin.specs.declared.begin_fault.BeginFault.TheVariants.{NoRev, Small, NamesFull, Wrong as WrongBase, DiskFault, BenchFault, Memory}
+use Rattle.fsfs_begin.specs.Begun.{named_fault, read_fault, made_fault, BeginFails, BeginIsDecided, IfWrongBase, IsDrawnUnmade, IsOfBase, IsOutside, MakeFails, OnlyDrawn, WasDrawn}
+use Rattle.fsfs_begin.proofs.LeavingLemmas.{labels_on}
+
+-- ---- the parts behind the drawing
+
+-- the base's root was not read
+pub read_fails : (disk benches : Type 0) (l : Label) (old new : Option Trace) (e : ReadError) → new ≡ old → IfDisk e disk → MakeFails disk benches l old new (read_fault e)
+read_fails disk benches l old new errors.OutOfMemory same rose = same
+read_fails disk benches l old new errors.DiskFault same rose = (rose, same)
+read_fails disk benches l old new (errors.Wrong wrong) same rose = same
+
+pub read_wrong : (P : Wrong → Type 0) (e : ReadError) → IfWrong P e → IfWrongBase P (read_fault e)
+read_wrong P errors.OutOfMemory w = tt
+read_wrong P errors.DiskFault w = tt
+read_wrong P (errors.Wrong wrong) w = w
+
+-- the bench was not made
+pub made_fails : (disk benches : Type 0) (l : Label) (old new : Option Trace) (why : BenchCause) → IsUnmade disk benches l old new why → MakeFails disk benches l old new (made_fault why)
+made_fails disk benches l old new bench.Disk w = w
+made_fails disk benches l old new bench.Bench w = w
+
+pub made_is_no_reading : (P : Wrong → Type 0) (why : BenchCause) → IfWrongBase P (made_fault why)
+made_is_no_reading P bench.Disk = tt
+made_is_no_reading P bench.Bench = tt
+
+-- what fails behind the reading says nothing of the bytes
+pub no_wrong : {X : Type 0} (P : Wrong → Type 0) (r : Result X BeginFault) → IfErr r (IfWrongBase (λ wrong. ⊥)) → IfErr r (IfWrongBase P)
+no_wrong P (Ok x) w = tt
+no_wrong P (Err (NoRev asked youngest)) w = tt
+no_wrong P (Err (Small fault)) w = tt
+no_wrong P (Err NamesFull) w = tt
+no_wrong P (Err (WrongBase wrong)) w = absurd w
+no_wrong P (Err (DiskFault at)) w = tt
+no_wrong P (Err BenchFault) w = tt
+no_wrong P (Err Memory) w = tt
+
+-- ---- the same, of what was there before the drawing
+
+module _ (was_disk disk was_benches benches : Type 0) (disk_rose : was_disk → disk) (benches_rose : was_benches → benches) (old mid new : Option Trace) (same : option_map labels_now mid ≡ option_map labels_now old) where
+  unmade_on : (l : Label) (why : BenchCause) → IsUnmade was_disk was_benches l mid new why → IsUnmade disk benches l old new why
+  unmade_on l bench.Disk (rose, left) =
+      (disk_rose rose, ⊎_elim (λ all. inl (labels_on (λ ls. ls) old mid new same all))
+      (λ w. ⊎_elim (λ kept. inr (inl (labels_on (with_label l) old mid new same kept))) (λ gone. inr (inr (labels_on (without_label l) old mid new same gone))) w) left)
+  unmade_on l bench.Bench (rose, left) =
+      (benches_rose rose, ⊎_elim (λ gone. inl (labels_on (without_label l) old mid new same gone)) (λ kept. inr (disk_rose kept.0, labels_on (with_label l) old mid new same kept.1)) left)
+
+  module _ (o : Opened) (base n : ℕ) (drawn : WasDrawn n old new) where
+    only_drawn : new ≡ mid → OnlyDrawn old new
+    only_drawn e = (n, drawn, ap (λ t. option_map labels_now t) e ∙ same)
+
+    unmade : (why : BenchCause) → IsUnmade was_disk was_benches (txn_label (base, n)) mid new why → IsDrawnUnmade disk benches base old new why
+    unmade why w = (n, drawn, unmade_on (txn_label (base, n)) why w)
+
+    pub fails_on : (why : BeginFault) → MakeFails was_disk was_benches (txn_label (base, n)) mid new why
+        → IfSome old (λ t. IfWrongBase (λ wrong. RootOf (rev_bytes o.layout (files_now t)) base (Err wrong)) why) → BeginFails disk benches o base old new why
+    fails_on (NoRev asked youngest) w read = absurd w
+    fails_on (Small fault) w read = absurd w
+    fails_on NamesFull w read = absurd w
+    fails_on (WrongBase wrong) w read = (only_drawn w, read)
+    fails_on (DiskFault place.Read) w read = (disk_rose w.0, only_drawn w.1)
+    fails_on (DiskFault place.List) w read = absurd w
+    fails_on (DiskFault place.MakeBench) w read = (disk_rose w.0, unmade bench.Disk w)
+    fails_on (DiskFault place.Remove) w read = absurd w
+    fails_on (DiskFault (place.Open at)) w read = absurd w
+    fails_on (DiskFault (place.Create at)) w read = absurd w
+    fails_on (DiskFault (place.Begin at)) w read = absurd w
+    fails_on (DiskFault (place.Commit at)) w read = absurd w
+    fails_on BenchFault w read = unmade bench.Bench w
+    fails_on Memory w read = inr (only_drawn w)
+
+-- of the base's bytes, as they were before the drawing
+pub wrong_told : {X : Type 0} (old : Option Trace) (P : Trace → Wrong → Type 0) (r : Result X BeginFault) (why : BeginFault) → r ≡ Err why → IfSome old (λ t. IfErr r (IfWrongBase (P t))) → IfSome old (λ t. IfWrongBase (P t) why)
+wrong_told None P r why is w = tt
+wrong_told (Some t) P r why is w = subst (λ r. IfErr r (IfWrongBase (P t))) is w
+
+-- ---- no name was drawn
+
+pub fails_unnamed : (disk benches : Type 0) (o : Opened) (base : ℕ) (old new : Option Trace) (why : NameFault) → NameFails disk old new why → BeginFails disk benches o base old new (named_fault why)
+fails_unnamed disk benches o base old new (names.Small fault) w = w
+fails_unnamed disk benches o base old new names.NamesFull w = w
+fails_unnamed disk benches o base old new (names.DiskFault call) w = w
+fails_unnamed disk benches o base old new names.Memory w = inl w
+
+-- ---- which answer comes
+
+pub decided_above : {X : Type 0} (old : Option Trace) (youngest base : ℕ) (text : Trace → List ℕ) → youngest < base → IfSome old (λ t. BeginIsDecided {X = X} youngest base (text t) (Err (NoRev base youngest)))
+decided_above None youngest base text above = tt
+decided_above (Some t) youngest base text above = record {
+  above = λ _. refl;
+  full = λ le. absurd (omega (arith, le, above));
+  damaged = λ le. absurd (omega (arith, le, above));
+  named = λ le. absurd (omega (arith, le, above));
+}
+
+by_name : {X : Type 0} (youngest base : ℕ) (text : List ℕ) (why : NameFault) → base ≤ youngest → Decides text (Err why) → BeginIsDecided {X = X} youngest base text (Err (named_fault why))
+by_name youngest base text (names.Small fault) le d = record {
+  above = λ above. absurd (omega (arith, le, above));
+  full = λ _ line. ⊎_elim (λ e. absurd cc) (λ out. absurd out) (d.full line);
+  damaged = λ _ none. inl tt;
+  named = λ _ n line less. absurd (d.named n line less);
+}
+by_name youngest base text names.NamesFull le d = record {
+  above = λ above. absurd (omega (arith, le, above));
+  full = λ _ line. inl refl;
+  damaged = λ _ none. ⊎_elim (λ small. absurd small) (λ out. absurd out) (d.damaged none);
+  named = λ _ n line less. absurd (d.named n line less);
+}
+by_name youngest base text (names.DiskFault call) le d = record {
+  above = λ above. absurd (omega (arith, le, above));
+  full = λ _ line. inr tt;
+  damaged = λ _ none. inr tt;
+  named = λ _ n line less. inr tt;
+}
+by_name youngest base text names.Memory le d = record {
+  above = λ above. absurd (omega (arith, le, above));
+  full = λ _ line. inr tt;
+  damaged = λ _ none. inr tt;
+  named = λ _ n line less. inr tt;
+}
+
+pub decided_unnamed : {X : Type 0} (old : Option Trace) (youngest base : ℕ) (text : Trace → List ℕ) (why : NameFault) → base ≤ youngest → IfSome old (λ t. Decides (text t) (Err why))
+    → IfSome old (λ t. BeginIsDecided {X = X} youngest base (text t) (Err (named_fault why)))
+decided_unnamed None youngest base text why le d = tt
+decided_unnamed (Some t) youngest base text why le d = by_name youngest base (text t) why le d
+
+behind : (disk benches : Type 0) (l : Label) (mid new : Option Trace) (why : BeginFault) → MakeFails disk benches l mid new why → IsOfBase why ⊎ IsOutside why
+behind disk benches l mid new (NoRev asked youngest) w = absurd w
+behind disk benches l mid new (Small fault) w = absurd w
+behind disk benches l mid new NamesFull w = absurd w
+behind disk benches l mid new (WrongBase wrong) w = inl tt
+behind disk benches l mid new (DiskFault at) w = inr tt
+behind disk benches l mid new BenchFault w = inr tt
+behind disk benches l mid new Memory w = inr tt
+
+behind_all : {X : Type 0} (disk benches : Type 0) (l : Label) (mid new : Option Trace) (r : Result X BeginFault) → IfErr r (MakeFails disk benches l mid new) → IfErr r (λ why. IsOfBase why ⊎ IsOutside why)
+behind_all disk benches l mid new (Ok x) w = tt
+behind_all disk benches l mid new (Err why) w = behind disk benches l mid new why w
+
+pub decided_named : {X : Type 0} (disk benches : Type 0) (l : Label) (old mid new : Option Trace) (youngest base : ℕ) (text : Trace → List ℕ) (name : TxnName) (r : Result X BeginFault) → base ≤ youngest
+    → IfSome old (λ t. Decides (text t) (Ok name)) → IfErr r (MakeFails disk benches l mid new) → IfSome old (λ t. BeginIsDecided youngest base (text t) r)
+decided_named disk benches l None mid new youngest base text name r le d w = tt
+decided_named disk benches l (Some t) mid new youngest base text name r le d w = record {
+  above = λ above. absurd (omega (arith, le, above));
+  full = λ _ line. absurd (d.full line);
+  damaged = λ _ none. absurd (d.damaged none);
+  named = λ _ n line less. behind_all disk benches l mid new r w;
+}
