@@ -1,8 +1,11 @@
 -- Why no transaction was begun, and which answer comes, from the parts of a beginning.
 use Rattle.std.proofs.Common.{◌≡◌, ◌⊎◌, ◌≤◌, ◌<◌, ◌×◌, ℕ, List, inl, inr, ⊎_elim, refl, sym, ap, subst, ◌∙◌, arith}
-use Rattle.std.specs.Prelude.{Option, Some, None, IfSome, IfErr, Result, Ok, Err, option_map}
+use Rattle.std.specs.Prelude.{Option, Some, None, IfSome, IfOk, IfErr, Result, Ok, Err, option_map}
+use Rattle.std.proofs.lemmas.Result.{IfErr-weaker, IfOk-weaker}
+use Rattle.std.proofs.lemmas.Option.{IfSome_then}
+use Rattle.fsfs_base.specs.Files.{Files}
 use Rattle.fsfs_damage.specs.Causes.{IfDisk}
-use Rattle.fsfs_damage.specs.Readings.{IfWrong}
+use Rattle.fsfs_damage.specs.Readings.{Answers, IfWrong}
 use Rattle.fsfs_damage.specs.declared.wrong.Wrong.{Wrong}
 use Rattle.fsfs_damage.specs.declared.wrong.ReadError.{ReadError}
 use Rattle.fsfs_damage.specs.declared.wrong.ReadError.TheVariants as errors
@@ -17,7 +20,10 @@ use Rattle.fsfs_rev_file.specs.RevBytes.{rev_bytes}
 use Rattle.fsfs_shows.specs.Reading.{RootOf}
 use Rattle.fsfs_txns.specs.Txns.{txn_label}
 use Rattle.fsfs_txns.specs.Removals.{HasLabels}
-use Rattle.fsfs_begin.specs.Benches.{IsUnmade}
+use Rattle.fsfs_disk.specs.Crash.{AllImages}
+use Rattle.fsfs_noderev.specs.declared.node_rev.NodeRev.{NodeRev}
+use Rattle.fsfs_begin.specs.Benches.{first_files, IsUnmade}
+use Rattle.fsfs_begin.specs.Counter.{IsAtLeast}
 use Rattle.fsfs_begin.specs.Deciding.{Decides}
 use Rattle.fsfs_begin.specs.Drawing.{NameFails}
 use Rattle.fsfs_begin.specs.declared.name_fault.NameFault.{NameFault}
@@ -26,7 +32,7 @@ use Rattle.fsfs_begin.specs.declared.making.BenchFault.{BenchFault as BenchCause
 use Rattle.fsfs_begin.specs.declared.making.BenchFault.TheVariants as bench
 use Rattle.fsfs_begin.specs.declared.begin_fault.BeginFault.{BeginFault}
 use Rattle.fsfs_begin.specs.declared.begin_fault.BeginFault.TheVariants.{NoRev, Small, NamesFull, Wrong as WrongBase, DiskFault, BenchFault, Memory}
-use Rattle.fsfs_begin.specs.Begun.{named_fault, read_fault, made_fault, BeginFails, BeginIsDecided, IfWrongBase, IsDrawnUnmade, IsOfBase, IsOutside, MakeFails, OnlyDrawn, WasDrawn}
+use Rattle.fsfs_begin.specs.Begun.{named_fault, read_fault, made_fault, BeginFails, BeginIsDecided, HoldsRoot, IfWrongBase, IsDrawnUnmade, IsOfBase, IsOutside, MakeFails, OnlyDrawn, WasDrawn}
 use Rattle.fsfs_begin.proofs.LeavingLemmas.{labels_on}
 
 -- ---- the parts behind the drawing
@@ -62,6 +68,33 @@ no_wrong P (Err (DiskFault at)) w = tt
 no_wrong P (Err BenchFault) w = tt
 no_wrong P (Err Memory) w = tt
 
+pub answers_wrong : {X Y : Type 0} (view : X → Y) (R : Result Y Wrong → Type 0) (e : ReadError) → Answers view R (Err e) → IfWrong (λ wrong. R (Err wrong)) e
+answers_wrong view R errors.OutOfMemory w = tt
+answers_wrong view R errors.DiskFault w = tt
+answers_wrong view R (errors.Wrong wrong) w = w
+
+-- the same disk, and counts that rose more
+pub make_fails_on : {X : Type 0} (was_disk disk was_benches benches : Type 0) → (was_disk → disk) → (was_benches → benches) → (l : Label) (a b new : Option Trace) → a ≡ b → (r : Result X BeginFault)
+    → IfErr r (MakeFails was_disk was_benches l a new) → IfErr r (MakeFails disk benches l b new)
+make_fails_on was_disk disk was_benches benches f g l a b new e r w =
+    IfErr-weaker r (MakeFails was_disk was_benches l b new) (MakeFails disk benches l b new) each (subst (λ (o : Option Trace). IfErr r (MakeFails was_disk was_benches l o new)) e w)
+  where
+    each : (why : BeginFault) → MakeFails was_disk was_benches l b new why → MakeFails disk benches l b new why
+    each (NoRev asked youngest) w = w
+    each (Small fault) w = w
+    each NamesFull w = w
+    each (WrongBase wrong) w = w
+    each (DiskFault place.Read) w = (f w.0, w.1)
+    each (DiskFault place.List) w = w
+    each (DiskFault place.MakeBench) w = (f w.0, w.1)
+    each (DiskFault place.Remove) w = w
+    each (DiskFault (place.Open at)) w = w
+    each (DiskFault (place.Create at)) w = w
+    each (DiskFault (place.Begin at)) w = w
+    each (DiskFault (place.Commit at)) w = w
+    each BenchFault w = (g w.0, ⊎_elim (λ gone. inl gone) (λ kept. inr (f kept.0, kept.1)) w.1)
+    each Memory w = w
+
 -- ---- the same, of what was there before the drawing
 
 module _ (was_disk disk was_benches benches : Type 0) (disk_rose : was_disk → disk) (benches_rose : was_benches → benches) (old mid new : Option Trace) (same : option_map labels_now mid ≡ option_map labels_now old) where
@@ -96,10 +129,10 @@ module _ (was_disk disk was_benches benches : Type 0) (disk_rose : was_disk → 
     fails_on BenchFault w read = unmade bench.Bench w
     fails_on Memory w read = inr (only_drawn w)
 
--- of the base's bytes, as they were before the drawing
-pub wrong_told : {X : Type 0} (old : Option Trace) (P : Trace → Wrong → Type 0) (r : Result X BeginFault) (why : BeginFault) → r ≡ Err why → IfSome old (λ t. IfErr r (IfWrongBase (P t))) → IfSome old (λ t. IfWrongBase (P t) why)
-wrong_told None P r why is w = tt
-wrong_told (Some t) P r why is w = subst (λ r. IfErr r (IfWrongBase (P t))) is w
+    pub all_fail : {X : Type 0} (r : Result X BeginFault) → IfErr r (MakeFails was_disk was_benches (txn_label (base, n)) mid new)
+        → IfSome old (λ t. IfErr r (IfWrongBase (λ wrong. RootOf (rev_bytes o.layout (files_now t)) base (Err wrong)))) → IfErr r (BeginFails disk benches o base old new)
+    all_fail (Ok x) w read = tt
+    all_fail (Err why) w read = fails_on why w read
 
 -- ---- no name was drawn
 
@@ -173,3 +206,20 @@ decided_named disk benches l (Some t) mid new youngest base text name r le d w =
   damaged = λ _ none. absurd (d.damaged none);
   named = λ _ n line less. behind_all disk benches l mid new r w;
 }
+
+-- ---- what was told before the drawing
+
+as_told : {X : Type 0} (x : X) (a b : Option Trace) → option_map labels_now a ≡ option_map labels_now b → option_map (λ _. x) a ≡ option_map (λ _. x) b
+as_told x None None e = refl
+as_told x None (Some u) e = absurd cc
+as_told x (Some t) None e = absurd cc
+as_told x (Some t) (Some u) e = refl
+
+pub holds_on : (root : NodeRev) (old mid : Option Trace) (held : Option Files) → option_map labels_now mid ≡ option_map labels_now old → HoldsRoot root mid held → HoldsRoot root old held
+holds_on root old mid held same (text, is, holds) = (text, is, holds ∙ as_told (first_files text) mid old same)
+
+pub new_told : {X E : Type 0} (number_of : X → ℕ) (n : ℕ) (old : Option Trace) (r : Result X E) → IfOk r (λ x. number_of x ≡ n) → IfSome old (λ t. (low : ℕ) → AllImages (Some t) (IsAtLeast low) → low ≤ n)
+    → IfSome old (λ t. IfOk r (λ x. (low : ℕ) → AllImages (Some t) (IsAtLeast low) → low ≤ number_of x))
+new_told number_of n old r named above =
+    IfSome_then old above
+    (λ t up. IfOk-weaker r (λ x. number_of x ≡ n) (λ x. (low : ℕ) → AllImages (Some t) (IsAtLeast low) → low ≤ number_of x) (λ x is low all. subst (λ (k : ℕ). low ≤ k) (sym is) (up low all)) named)

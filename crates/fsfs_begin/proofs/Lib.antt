@@ -6,3 +6,4 @@ pub mod MakingLemmas
 pub mod RevisionLemmas
 pub mod LeavingLemmas
 pub mod BeginLemmas
+pub mod OpeningLemmas

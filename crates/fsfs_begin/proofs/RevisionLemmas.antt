@@ -1,8 +1,9 @@
 -- The bytes of revisions don't change as the counter is raised, and what a transaction that has begun on them stands for.
 use Rattle.std.proofs.Common.{◌≡◌, ◌≤◌, ℕ, Bool, true, false, ◌&&◌, List, [], take, inl, inr, refl, sym, ap, subst, ◌∙◌}
-use Rattle.std.specs.Prelude.{Option, Some, None, IfSome, Result, Ok, Err, codes, unwrap_or, nat_lt, option_map, if◌then◌else◌}
+use Rattle.std.specs.Prelude.{Option, Some, None, IfSome, IfOk, IfErr, Result, Ok, Err, codes, unwrap_or, nat_lt, option_map, if◌then◌else◌}
 use Rattle.std.proofs.lemmas.Bool.{and_parts}
-use Rattle.std.proofs.lemmas.Option.{same_Some}
+use Rattle.std.proofs.lemmas.Option.{same_Some, IfSome_then}
+use Rattle.std.proofs.lemmas.Result.{IfOk-weaker, IfErr-weaker}
 use Rattle.std.specs.FinMap.{get, remove}
 use Rattle.fsfs_tree.specs.Nodes.{TreeFunction}
 use Rattle.fsfs_base.specs.Files.{Files}
@@ -10,9 +11,6 @@ use Rattle.fsfs_base.specs.declared.small_fault.SmallFault.{SmallFault}
 use Rattle.fsfs_base.proofs.FileLemmas.{get_kept, get_left, apart_by}
 use Rattle.fsfs_fields.specs.declared.txn_name.TxnName.{TxnName}
 use Rattle.fsfs_damage.specs.declared.wrong.Wrong.{Wrong}
-use Rattle.fsfs_damage.specs.declared.wrong.ReadError.{ReadError}
-use Rattle.fsfs_damage.specs.declared.wrong.ReadError.TheVariants as errors
-use Rattle.fsfs_damage.specs.Readings.{Answers}
 use Rattle.fsfs_book.specs.Told.{RevisionBytes}
 use Rattle.fsfs_disk.specs.Trace.{Trace, files_now}
 use Rattle.fsfs_layout.specs.FileNames.{only_name, file_name}
@@ -37,7 +35,9 @@ use Rattle.fsfs_drafts.proofs.WholeLaw.{drafts_are_handed}
 use Rattle.fsfs_own.specs.Views.{new_kept}
 use Rattle.fsfs_held.specs.Views.{begun_folder}
 use Rattle.fsfs_begin.specs.Beginning.{BeginsOn}
-use Rattle.fsfs_begin.specs.Begun.{IsBegunOn, IsUpToDate, StandsForBase}
+use Rattle.fsfs_begin.specs.Begun.{IfWrongBase, IsBegunOn, IsUpToDate, StandsForBase}
+use Rattle.fsfs_begin.specs.declared.begin_fault.BeginFault.{BeginFault}
+use Rattle.fsfs_begin.specs.declared.begin_fault.BeginFault.TheVariants.{NoRev, Small, NamesFull, Wrong as WrongBase, DiskFault, BenchFault, Memory}
 use Rattle.fsfs_begin.specs.Counter.{IsRaised, with_counter}
 
 -- ---- files of other names
@@ -88,7 +88,7 @@ root_same look other rev (Err w) e (inr (bytes, is, root)) = inr (bytes, sym e �
 
 -- a fact of the bytes where the counter is raised, told of those before
 module _ (o : Opened) (rev : ℕ) (R : RevisionBytes → Type 0) (same : (look other : RevisionBytes) → look rev ≡ other rev → R look → R other) where
-  pub read_before : (old mid : Option Trace) (n : ℕ) → IfSome old (λ t. IsUpToDate o (files_now t)) → IsRaised n old mid → rev ≤ o.youngest
+  read_before : (old mid : Option Trace) (n : ℕ) → IfSome old (λ t. IsUpToDate o (files_now t)) → IsRaised n old mid → rev ≤ o.youngest
       → ((u : Trace) → mid ≡ Some u → floor_in o.layout (files_now u) ≡ Ok o.min_unpacked_rev → rev ≤ o.youngest → R (rev_bytes o.layout (files_now u)))
       → IfSome old (λ t. R (rev_bytes o.layout (files_now t)))
   read_before None mid n opened raised le told = tt
@@ -100,18 +100,20 @@ module _ (o : Opened) (rev : ℕ) (R : RevisionBytes → Type 0) (same : (look o
       same (rev_bytes o.layout (files_now u)) (rev_bytes o.layout (files_now t))
       (ap (λ (m : Files). rev_bytes o.layout m rev) now ∙ bytes_raised raised.0 (files_now t) o.layout rev) (told u refl floor le)
 
-pub begun_same : (name : TxnName) (root : NodeRev) (look other : RevisionBytes) → look name.base ≡ other name.base → IsBegunOn look name root → IsBegunOn other name root
+begun_same : (name : TxnName) (root : NodeRev) (look other : RevisionBytes) → look name.base ≡ other name.base → IsBegunOn look name root → IsBegunOn other name root
 begun_same name root look other e (x, of, on) = (x, root_same look other name.base (Ok x) e of, on)
 
-pub wrong_same : (rev : ℕ) (wrong : Wrong) (look other : RevisionBytes) → look rev ≡ other rev → RootOf look rev (Err wrong) → RootOf other rev (Err wrong)
-wrong_same rev wrong look other e of = root_same look other rev (Err wrong) e of
+-- two facts of a value that was given
+pub both_ok : {B E : Type 0} (r : Result B E) (P Q R : B → Type 0) → ((b : B) → P b → Q b → R b) → IfOk r P → IfOk r Q → IfOk r R
+both_ok (Ok b) P Q R f p q = f b p q
+both_ok (Err e) P Q R f p q = tt
 
 -- ---- what it stands for
 
 old_below : (part : PartValue) → part ≡ Old 0 → IsBelow 0 part
 old_below part e = subst (IsBelow 0) (sym e) tt
 
-pub stands_for : (look : RevisionBytes) (name : TxnName) (root : NodeRev) (held : Option Files) → IsBegunOn look name root → StandsForBase look name root held
+stands_for : (look : RevisionBytes) (name : TxnName) (root : NodeRev) (held : Option Files) → IsBegunOn look name root → StandsForBase look name root held
 stands_for look name root held (x, of, on) = λ top trees proto shown rule le.
     let base = name.base in
     let stands : StandsAt look base [] x = (x, of, refl) in
@@ -147,3 +149,46 @@ stands_for look name root held (x, of, on) = λ top trees proto shown rule le.
             let p = and_parts (same_value (part_value root.id.node) node) (same_value (part_value root.id.copy) copy) is in
             (old_below node (sym (same_value-is (part_value root.id.node) node p.0) ∙ node_is), old_below copy (sym (same_value-is (part_value root.id.copy) copy p.1) ∙ copy_is))
         by false is f = absurd cc
+
+-- ---- of a transaction that was begun under a name
+
+module _ {B E : Type 0} (name_of : B → TxnName) (root_of : B → NodeRev) (o : Opened) (old mid : Option Trace) (n : ℕ) (name : TxnName) (r : Result B E) (opened : IfSome old (λ t. IsUpToDate o (files_now t))) (raised : IsRaised n old mid) (le : name.base ≤ o.youngest)
+    (named : IfOk r (λ b. name_of b ≡ name)) where
+  roots_by_name : ((u : Trace) → mid ≡ Some u → floor_in o.layout (files_now u) ≡ Ok o.min_unpacked_rev → name.base ≤ o.youngest → IfOk r (λ b. IsBegunOn (rev_bytes o.layout (files_now u)) name (root_of b)))
+      → IfSome old (λ t. IfOk r (λ b. IsBegunOn (rev_bytes o.layout (files_now t)) name (root_of b)))
+  roots_by_name told =
+      read_before o name.base (λ look. IfOk r (λ b. IsBegunOn look name (root_of b)))
+      (λ look other e. IfOk-weaker r (λ b. IsBegunOn look name (root_of b)) (λ b. IsBegunOn other name (root_of b)) (λ b. begun_same name (root_of b) look other e)) old mid n opened raised le told
+
+  by_its_name : (look : RevisionBytes) → IfOk r (λ b. IsBegunOn look name (root_of b)) → IfOk r (λ b. IsBegunOn look (name_of b) (root_of b))
+  by_its_name look w = both_ok r (λ b. name_of b ≡ name) (λ b. IsBegunOn look name (root_of b)) (λ b. IsBegunOn look (name_of b) (root_of b)) (λ b is on. subst (λ (z : TxnName). IsBegunOn look z (root_of b)) (sym is) on) named w
+
+  pub roots_told : ((u : Trace) → mid ≡ Some u → floor_in o.layout (files_now u) ≡ Ok o.min_unpacked_rev → name.base ≤ o.youngest → IfOk r (λ b. IsBegunOn (rev_bytes o.layout (files_now u)) name (root_of b)))
+      → IfSome old (λ t. IfOk r (λ b. IsBegunOn (rev_bytes o.layout (files_now t)) (name_of b) (root_of b)))
+  roots_told told = IfSome_then old (roots_by_name told) (λ t. by_its_name (rev_bytes o.layout (files_now t)))
+
+  pub drafts_told : (held_of : B → Option Files)
+      → ((u : Trace) → mid ≡ Some u → floor_in o.layout (files_now u) ≡ Ok o.min_unpacked_rev → name.base ≤ o.youngest → IfOk r (λ b. IsBegunOn (rev_bytes o.layout (files_now u)) name (root_of b)))
+      → IfSome old (λ t. IfOk r (λ b. StandsForBase (rev_bytes o.layout (files_now t)) (name_of b) (root_of b) (held_of b)))
+  drafts_told held_of told =
+      IfSome_then old (roots_told told)
+      (λ t. IfOk-weaker r (λ b. IsBegunOn (rev_bytes o.layout (files_now t)) (name_of b) (root_of b)) (λ b. StandsForBase (rev_bytes o.layout (files_now t)) (name_of b) (root_of b) (held_of b))
+      (λ b. stands_for (rev_bytes o.layout (files_now t)) (name_of b) (root_of b) (held_of b)))
+
+-- and of one that was not
+pub wrongs_told : {B : Type 0} (o : Opened) (rev : ℕ) (old mid : Option Trace) (n : ℕ) (r : Result B BeginFault) → IfSome old (λ t. IsUpToDate o (files_now t)) → IsRaised n old mid → rev ≤ o.youngest
+    → ((u : Trace) → mid ≡ Some u → floor_in o.layout (files_now u) ≡ Ok o.min_unpacked_rev → rev ≤ o.youngest → IfErr r (IfWrongBase (λ wrong. RootOf (rev_bytes o.layout (files_now u)) rev (Err wrong))))
+    → IfSome old (λ t. IfErr r (IfWrongBase (λ wrong. RootOf (rev_bytes o.layout (files_now t)) rev (Err wrong))))
+wrongs_told o rev old mid n r opened raised le told = read_before o rev (λ look. IfErr r (IfWrongBase (λ wrong. RootOf look rev (Err wrong)))) same old mid n opened raised le told
+  where
+    each : (look other : RevisionBytes) → look rev ≡ other rev → (why : BeginFault) → IfWrongBase (λ wrong. RootOf look rev (Err wrong)) why → IfWrongBase (λ wrong. RootOf other rev (Err wrong)) why
+    each look other e (NoRev asked youngest) w = tt
+    each look other e (Small fault) w = tt
+    each look other e NamesFull w = tt
+    each look other e (WrongBase wrong) w = root_same look other rev (Err wrong) e w
+    each look other e (DiskFault at) w = tt
+    each look other e BenchFault w = tt
+    each look other e Memory w = tt
+
+    same : (look other : RevisionBytes) → look rev ≡ other rev → IfErr r (IfWrongBase (λ wrong. RootOf look rev (Err wrong))) → IfErr r (IfWrongBase (λ wrong. RootOf other rev (Err wrong)))
+    same look other e = IfErr-weaker r (IfWrongBase (λ wrong. RootOf look rev (Err wrong))) (IfWrongBase (λ wrong. RootOf other rev (Err wrong))) (each look other e)
