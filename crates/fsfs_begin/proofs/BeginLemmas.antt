@@ -99,9 +99,11 @@ make_fails_on was_disk disk was_benches benches f g l a b new e r w =
 
 module _ (was_disk disk was_benches benches : Type 0) (disk_rose : was_disk → disk) (benches_rose : was_benches → benches) (old mid new : Option Trace) (same : option_map labels_now mid ≡ option_map labels_now old) where
   unmade_on : (l : Label) (why : BenchCause) → IsUnmade was_disk was_benches l mid new why → IsUnmade disk benches l old new why
-  unmade_on l bench.Disk (rose, left) =
-      (disk_rose rose, ⊎_elim (λ all. inl (labels_on (λ ls. ls) old mid new same all))
-      (λ w. ⊎_elim (λ kept. inr (inl (labels_on (with_label l) old mid new same kept))) (λ gone. inr (inr (labels_on (without_label l) old mid new same gone))) w) left)
+  unmade_on l bench.Disk (rose, left) = (
+    disk_rose rose,
+    ⊎_elim (λ all. inl (labels_on (λ ls. ls) old mid new same all))
+        (λ w. ⊎_elim (λ kept. inr (inl (labels_on (with_label l) old mid new same kept))) (λ gone. inr (inr (labels_on (without_label l) old mid new same gone))) w) left,
+  )
   unmade_on l bench.Bench (rose, left) =
       (benches_rose rose, ⊎_elim (λ gone. inl (labels_on (without_label l) old mid new same gone)) (λ kept. inr (disk_rose kept.0, labels_on (with_label l) old mid new same kept.1)) left)
 

@@ -96,7 +96,7 @@ module _ (o : Opened) (rev : ℕ) (R : RevisionBytes → Type 0) (same : (look o
   read_before (Some t) (Some u) n opened raised le told =
       let now : files_now u ≡ with_counter raised.0 (files_now t) = same_Some (files_now u) (with_counter raised.0 (files_now t)) raised.2 in
       let floor : floor_in o.layout (files_now u) ≡ Ok o.min_unpacked_rev =
-          ap (λ (m : Files). floor_in o.layout m) now ∙ floor_raised raised.0 (files_now t) o.layout ∙ floor_is o.layout o.min_unpacked_rev (files_now t) opened.floor in
+      ap (λ (m : Files). floor_in o.layout m) now ∙ floor_raised raised.0 (files_now t) o.layout ∙ floor_is o.layout o.min_unpacked_rev (files_now t) opened.floor in
       same (rev_bytes o.layout (files_now u)) (rev_bytes o.layout (files_now t))
       (ap (λ (m : Files). rev_bytes o.layout m rev) now ∙ bytes_raised raised.0 (files_now t) o.layout rev) (told u refl floor le)
 

@@ -40,11 +40,7 @@ impl Failing {
 }
 
 /// The same disk, of whose calls from now on these fail.
-pub fn failing_disk(
-    alloc: Global,
-    disk: MemDisk,
-    failing: Failing,
-) -> Result<MemDisk, AllocError>
+pub fn failing_disk(alloc: Global, disk: MemDisk, failing: Failing) -> Result<MemDisk, AllocError>
     ensures { IfOk result (λ d. trace_of d ≡ trace_of disk) }
 {
     let none = Vec::new(alloc);

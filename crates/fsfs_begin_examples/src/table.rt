@@ -41,7 +41,13 @@ fn say_left(alloc: Global, disk: MemDisk, out: &mut Transcript) -> Result<()> {
     let sound = failing_disk(alloc, disk, Failing::Never)?;
     let listed = make(alloc, sound, &Call::List, Failing::Never, out)?;
     out.say(", then ");
-    make(alloc, listed, &Call::Begin(RevNum::ZERO), Failing::Never, out)?;
+    make(
+        alloc,
+        listed,
+        &Call::Begin(RevNum::ZERO),
+        Failing::Never,
+        out,
+    )?;
     Ok(())
 }
 
