@@ -1,5 +1,5 @@
 -- Why no transaction was begun, and which answer comes, from the parts of a beginning.
-use Rattle.std.proofs.Common.{◌≡◌, ◌⊎◌, ◌≤◌, ◌<◌, ◌×◌, ℕ, List, inl, inr, ⊎_elim, refl, sym, ap, subst, ◌∙◌, arith}
+use Rattle.std.proofs.Common.{◌≡◌, ◌⊎◌, ◌≤◌, ◌<◌, ℕ, List, inl, inr, ⊎_elim, refl, sym, ap, subst, ◌∙◌, arith}
 use Rattle.std.specs.Prelude.{Option, Some, None, IfSome, IfOk, IfErr, Result, Ok, Err, option_map}
 use Rattle.std.proofs.lemmas.Result.{IfErr-weaker, IfOk-weaker}
 use Rattle.std.proofs.lemmas.Option.{IfSome_then}
@@ -37,63 +37,15 @@ use Rattle.fsfs_begin.proofs.LeavingLemmas.{labels_on}
 
 -- ---- the parts behind the drawing
 
--- the base's root was not read
-pub read_fails : (disk benches : Type 0) (l : Label) (old new : Option Trace) (e : ReadError) → new ≡ old → IfDisk e disk → MakeFails disk benches l old new (read_fault e)
-read_fails disk benches l old new errors.OutOfMemory same rose = same
-read_fails disk benches l old new errors.DiskFault same rose = (rose, same)
-read_fails disk benches l old new (errors.Wrong wrong) same rose = same
-
 pub read_wrong : (P : Wrong → Type 0) (e : ReadError) → IfWrong P e → IfWrongBase P (read_fault e)
 read_wrong P errors.OutOfMemory w = tt
 read_wrong P errors.DiskFault w = tt
 read_wrong P (errors.Wrong wrong) w = w
 
--- the bench was not made
-pub made_fails : (disk benches : Type 0) (l : Label) (old new : Option Trace) (why : BenchCause) → IsUnmade disk benches l old new why → MakeFails disk benches l old new (made_fault why)
-made_fails disk benches l old new bench.Disk w = w
-made_fails disk benches l old new bench.Bench w = w
-
-pub made_is_no_reading : (P : Wrong → Type 0) (why : BenchCause) → IfWrongBase P (made_fault why)
-made_is_no_reading P bench.Disk = tt
-made_is_no_reading P bench.Bench = tt
-
--- what fails behind the reading says nothing of the bytes
-pub no_wrong : {X : Type 0} (P : Wrong → Type 0) (r : Result X BeginFault) → IfErr r (IfWrongBase (λ wrong. ⊥)) → IfErr r (IfWrongBase P)
-no_wrong P (Ok x) w = tt
-no_wrong P (Err (NoRev asked youngest)) w = tt
-no_wrong P (Err (Small fault)) w = tt
-no_wrong P (Err NamesFull) w = tt
-no_wrong P (Err (WrongBase wrong)) w = absurd w
-no_wrong P (Err (DiskFault at)) w = tt
-no_wrong P (Err BenchFault) w = tt
-no_wrong P (Err Memory) w = tt
-
 pub answers_wrong : {X Y : Type 0} (view : X → Y) (R : Result Y Wrong → Type 0) (e : ReadError) → Answers view R (Err e) → IfWrong (λ wrong. R (Err wrong)) e
 answers_wrong view R errors.OutOfMemory w = tt
 answers_wrong view R errors.DiskFault w = tt
 answers_wrong view R (errors.Wrong wrong) w = w
-
--- the same disk, and counts that rose more
-pub make_fails_on : {X : Type 0} (was_disk disk was_benches benches : Type 0) → (was_disk → disk) → (was_benches → benches) → (l : Label) (a b new : Option Trace) → a ≡ b → (r : Result X BeginFault)
-    → IfErr r (MakeFails was_disk was_benches l a new) → IfErr r (MakeFails disk benches l b new)
-make_fails_on was_disk disk was_benches benches f g l a b new e r w =
-    IfErr-weaker r (MakeFails was_disk was_benches l b new) (MakeFails disk benches l b new) each (subst (λ (o : Option Trace). IfErr r (MakeFails was_disk was_benches l o new)) e w)
-  where
-    each : (why : BeginFault) → MakeFails was_disk was_benches l b new why → MakeFails disk benches l b new why
-    each (NoRev asked youngest) w = w
-    each (Small fault) w = w
-    each NamesFull w = w
-    each (WrongBase wrong) w = w
-    each (DiskFault place.Read) w = (f w.0, w.1)
-    each (DiskFault place.List) w = w
-    each (DiskFault place.MakeBench) w = (f w.0, w.1)
-    each (DiskFault place.Remove) w = w
-    each (DiskFault (place.Open at)) w = w
-    each (DiskFault (place.Create at)) w = w
-    each (DiskFault (place.Begin at)) w = w
-    each (DiskFault (place.Commit at)) w = w
-    each BenchFault w = (g w.0, ⊎_elim (λ gone. inl gone) (λ kept. inr (f kept.0, kept.1)) w.1)
-    each Memory w = w
 
 -- ---- the same, of what was there before the drawing
 
@@ -136,55 +88,38 @@ module _ (was_disk disk was_benches benches : Type 0) (disk_rose : was_disk → 
     all_fail (Ok x) w read = tt
     all_fail (Err why) w read = fails_on why w read
 
--- ---- no name was drawn
-
-pub fails_unnamed : (disk benches : Type 0) (o : Opened) (base : ℕ) (old new : Option Trace) (why : NameFault) → NameFails disk old new why → BeginFails disk benches o base old new (named_fault why)
-fails_unnamed disk benches o base old new (names.Small fault) w = w
-fails_unnamed disk benches o base old new names.NamesFull w = w
-fails_unnamed disk benches o base old new (names.DiskFault call) w = w
-fails_unnamed disk benches o base old new names.Memory w = inl w
-
 -- ---- which answer comes
 
-pub decided_above : {X : Type 0} (old : Option Trace) (youngest base : ℕ) (text : Trace → List ℕ) → youngest < base → IfSome old (λ t. BeginIsDecided {X = X} youngest base (text t) (Err (NoRev base youngest)))
-decided_above None youngest base text above = tt
-decided_above (Some t) youngest base text above = record {
-  above = λ _. refl;
-  full = λ le. absurd (omega (arith, le, above));
-  damaged = λ le. absurd (omega (arith, le, above));
-  named = λ le. absurd (omega (arith, le, above));
-}
-
-by_name : {X : Type 0} (youngest base : ℕ) (text : List ℕ) (why : NameFault) → base ≤ youngest → Decides text (Err why) → BeginIsDecided {X = X} youngest base text (Err (named_fault why))
-by_name youngest base text (names.Small fault) le d = record {
+by_name : (X : Type 0) (youngest base : ℕ) (text : List ℕ) (why : NameFault) → base ≤ youngest → Decides text (Err why) → BeginIsDecided {X = X} youngest base text (Err (named_fault why))
+by_name X youngest base text (names.Small fault) le d = record {
   above = λ above. absurd (omega (arith, le, above));
   full = λ _ line. ⊎_elim (λ e. absurd cc) (λ out. absurd out) (d.full line);
   damaged = λ _ none. inl tt;
   named = λ _ n line less. absurd (d.named n line less);
 }
-by_name youngest base text names.NamesFull le d = record {
+by_name X youngest base text names.NamesFull le d = record {
   above = λ above. absurd (omega (arith, le, above));
   full = λ _ line. inl refl;
   damaged = λ _ none. ⊎_elim (λ small. absurd small) (λ out. absurd out) (d.damaged none);
   named = λ _ n line less. absurd (d.named n line less);
 }
-by_name youngest base text (names.DiskFault call) le d = record {
+by_name X youngest base text (names.DiskFault call) le d = record {
   above = λ above. absurd (omega (arith, le, above));
   full = λ _ line. inr tt;
   damaged = λ _ none. inr tt;
   named = λ _ n line less. inr tt;
 }
-by_name youngest base text names.Memory le d = record {
+by_name X youngest base text names.Memory le d = record {
   above = λ above. absurd (omega (arith, le, above));
   full = λ _ line. inr tt;
   damaged = λ _ none. inr tt;
   named = λ _ n line less. inr tt;
 }
 
-pub decided_unnamed : {X : Type 0} (old : Option Trace) (youngest base : ℕ) (text : Trace → List ℕ) (why : NameFault) → base ≤ youngest → IfSome old (λ t. Decides (text t) (Err why))
+pub decided_unnamed : (X : Type 0) (old : Option Trace) (youngest base : ℕ) (text : Trace → List ℕ) (why : NameFault) → base ≤ youngest → IfSome old (λ t. Decides (text t) (Err why))
     → IfSome old (λ t. BeginIsDecided {X = X} youngest base (text t) (Err (named_fault why)))
-decided_unnamed None youngest base text why le d = tt
-decided_unnamed (Some t) youngest base text why le d = by_name youngest base (text t) why le d
+decided_unnamed X None youngest base text why le d = tt
+decided_unnamed X (Some t) youngest base text why le d = by_name X youngest base (text t) why le d
 
 behind : (disk benches : Type 0) (l : Label) (mid new : Option Trace) (why : BeginFault) → MakeFails disk benches l mid new why → IsOfBase why ⊎ IsOutside why
 behind disk benches l mid new (NoRev asked youngest) w = absurd w

@@ -47,15 +47,6 @@ pub record OnlyDraws (base : ℕ) (old new : Option Trace) : Type 0 where
   pub rising : (low : ℕ) → KeepsImages old new (IsAtLeast low)
   pub labels : LeavesBoth old new (λ m ls. AreAll (IsOldOrDrawn base old) ls)
 
-pub draws_none : (base : ℕ) (old new : Option Trace) → new ≡ old → OnlyDraws base old new
-draws_none base old new same =
-    let i = same_old old new same (own_old old) in record {
-      images = i.0;
-      moments = i.1;
-      rising = λ low. same_keeps old new (IsAtLeast low) same;
-      labels = same_both old new (λ m ls. AreAll (IsOldOrDrawn base old) ls) same;
-    }
-
 pub draws_name : (base : ℕ) (old new : Option Trace) → AllImages new (IsOldOrNext old) → Leaves old new (IsOldOrNext old) → ((low : ℕ) → KeepsImages old new (IsAtLeast low))
     → LeavesBoth old new (λ m ls. AreAll (WasKept old) ls) → OnlyDraws base old new
 draws_name base old new images moments rising left = record {
