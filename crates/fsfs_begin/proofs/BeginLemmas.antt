@@ -1,10 +1,9 @@
 -- Why no transaction was begun, and which answer comes, from the parts of a beginning.
-use Rattle.std.proofs.Common.{◌≡◌, ◌⊎◌, ◌≤◌, ◌<◌, ℕ, List, inl, inr, ⊎_elim, refl, sym, ap, subst, ◌∙◌, arith}
+use Rattle.std.proofs.Common.{◌≡◌, ◌⊎◌, ◌≤◌, ℕ, List, inl, inr, ⊎_elim, refl, sym, ap, subst, ◌∙◌, arith}
 use Rattle.std.specs.Prelude.{Option, Some, None, IfSome, IfOk, IfErr, Result, Ok, Err, option_map}
-use Rattle.std.proofs.lemmas.Result.{IfErr-weaker, IfOk-weaker}
+use Rattle.std.proofs.lemmas.Result.{IfOk-weaker}
 use Rattle.std.proofs.lemmas.Option.{IfSome_then}
 use Rattle.fsfs_base.specs.Files.{Files}
-use Rattle.fsfs_damage.specs.Causes.{IfDisk}
 use Rattle.fsfs_damage.specs.Readings.{Answers, IfWrong}
 use Rattle.fsfs_damage.specs.declared.wrong.Wrong.{Wrong}
 use Rattle.fsfs_damage.specs.declared.wrong.ReadError.{ReadError}
@@ -12,27 +11,23 @@ use Rattle.fsfs_damage.specs.declared.wrong.ReadError.TheVariants as errors
 use Rattle.fsfs_fields.specs.declared.txn_name.TxnName.{TxnName}
 use Rattle.fsfs_disk.specs.Labels.{Label, with_label, without_label}
 use Rattle.fsfs_disk.specs.Trace.{Trace, files_now, labels_now}
-use Rattle.fsfs_layout.specs.Small.{IsBase36Line}
 use Rattle.fsfs_layout.specs.declared.opened.Opened.{Opened}
-use Rattle.fsfs_places.specs.declared.place.DiskPlace.{DiskPlace}
 use Rattle.fsfs_places.specs.declared.place.DiskPlace.TheVariants as place
 use Rattle.fsfs_rev_file.specs.RevBytes.{rev_bytes}
 use Rattle.fsfs_shows.specs.Reading.{RootOf}
 use Rattle.fsfs_txns.specs.Txns.{txn_label}
-use Rattle.fsfs_txns.specs.Removals.{HasLabels}
 use Rattle.fsfs_disk.specs.Crash.{AllImages}
 use Rattle.fsfs_noderev.specs.declared.node_rev.NodeRev.{NodeRev}
 use Rattle.fsfs_begin.specs.Benches.{first_files, IsUnmade}
 use Rattle.fsfs_begin.specs.Counter.{IsAtLeast}
 use Rattle.fsfs_begin.specs.Deciding.{Decides}
-use Rattle.fsfs_begin.specs.Drawing.{NameFails}
 use Rattle.fsfs_begin.specs.declared.name_fault.NameFault.{NameFault}
 use Rattle.fsfs_begin.specs.declared.name_fault.NameFault.TheVariants as names
 use Rattle.fsfs_begin.specs.declared.making.BenchFault.{BenchFault as BenchCause}
 use Rattle.fsfs_begin.specs.declared.making.BenchFault.TheVariants as bench
 use Rattle.fsfs_begin.specs.declared.begin_fault.BeginFault.{BeginFault}
 use Rattle.fsfs_begin.specs.declared.begin_fault.BeginFault.TheVariants.{NoRev, Small, NamesFull, Wrong as WrongBase, DiskFault, BenchFault, Memory}
-use Rattle.fsfs_begin.specs.Begun.{named_fault, read_fault, made_fault, BeginFails, BeginIsDecided, HoldsRoot, IfWrongBase, IsDrawnUnmade, IsOfBase, IsOutside, MakeFails, OnlyDrawn, WasDrawn}
+use Rattle.fsfs_begin.specs.Begun.{named_fault, read_fault, BeginFails, BeginIsDecided, HoldsRoot, IfWrongBase, IsDrawnUnmade, IsOfBase, IsOutside, MakeFails, OnlyDrawn, WasDrawn}
 use Rattle.fsfs_begin.proofs.LeavingLemmas.{labels_on}
 
 -- ---- the parts behind the drawing

@@ -1,20 +1,18 @@
 -- What a beginning leaves, from what its drawing left and what was made behind it.
-use Rattle.std.proofs.Common.{◌≡◌, ◌⊎◌, ◌≤◌, ◌+◌, ℕ, List, true, inl, inr, ⊎_elim, refl, sym, subst, ◌∙◌}
+use Rattle.std.proofs.Common.{◌≡◌, ◌+◌, ℕ, List, true, inl, inr, ⊎_elim, refl, subst, ◌∙◌}
 use Rattle.std.specs.Prelude.{Option, Some, None, IfSome, option_map}
 use Rattle.std.proofs.lemmas.Option.{same_Some}
 use Rattle.fsfs_base.specs.Files.{Files}
 use Rattle.fsfs_disk.specs.Labels.{Label, has_label}
 use Rattle.fsfs_disk.specs.Trace.{Trace, files_now, labels_now}
 use Rattle.fsfs_disk.specs.Crash.{AllImages, AreAll, KeepsImages, Leaves, LeavesBoth}
-use Rattle.fsfs_disk.proofs.CrashLemmas.{keeps_then, leaves_then, leaves_with, same_keeps}
-use Rattle.fsfs_disk.proofs.LeftLemmas.{both_then, same_both}
+use Rattle.fsfs_disk.proofs.CrashLemmas.{keeps_then, leaves_then, leaves_with}
+use Rattle.fsfs_disk.proofs.LeftLemmas.{both_then}
 use Rattle.fsfs_txns.specs.Txns.{txn_label}
 use Rattle.fsfs_txns.specs.Removals.{HasLabels, IsImageOf, WasKept}
 use Rattle.fsfs_begin.specs.Benches.{IsOldOrThis}
 use Rattle.fsfs_begin.specs.Begun.{IsOldOrDrawn, WasDrawn}
 use Rattle.fsfs_begin.specs.Counter.{HasNumber, IsAtLeast, IsOldOrNext}
-use Rattle.fsfs_begin.proofs.AnswerLemmas.{same_old}
-use Rattle.fsfs_begin.proofs.CounterLemmas.{own_old}
 use Rattle.fsfs_begin.proofs.MakingLemmas.{then_labels}
 
 -- ---- weaker facts

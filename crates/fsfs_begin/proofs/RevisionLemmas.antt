@@ -1,11 +1,10 @@
 -- The bytes of revisions don't change as the counter is raised, and what a transaction that has begun on them stands for.
 use Rattle.std.proofs.Common.{◌≡◌, ◌≤◌, ℕ, Bool, true, false, ◌&&◌, List, [], take, inl, inr, refl, sym, ap, subst, ◌∙◌}
-use Rattle.std.specs.Prelude.{Option, Some, None, IfSome, IfOk, IfErr, Result, Ok, Err, codes, unwrap_or, nat_lt, option_map, if◌then◌else◌}
+use Rattle.std.specs.Prelude.{Option, Some, None, IfSome, IfOk, IfErr, Result, Ok, Err, codes, unwrap_or, nat_lt, if◌then◌else◌}
 use Rattle.std.proofs.lemmas.Bool.{and_parts}
 use Rattle.std.proofs.lemmas.Option.{same_Some, IfSome_then}
 use Rattle.std.proofs.lemmas.Result.{IfOk-weaker, IfErr-weaker}
 use Rattle.std.specs.FinMap.{get, remove}
-use Rattle.fsfs_tree.specs.Nodes.{TreeFunction}
 use Rattle.fsfs_base.specs.Files.{Files}
 use Rattle.fsfs_base.specs.declared.small_fault.SmallFault.{SmallFault}
 use Rattle.fsfs_base.proofs.FileLemmas.{get_kept, get_left, apart_by}
@@ -24,17 +23,15 @@ use Rattle.fsfs_rev_file.specs.RevBytes.{by_floor, cut_from, floor_in, floor_of,
 use Rattle.fsfs_rev_file.proofs.FloorLemmas.{floor_is}
 use Rattle.fsfs_noderev.specs.Ids.{PartValue, Old, part_value}
 use Rattle.fsfs_noderev.specs.declared.node_rev.NodeRev.{NodeRev}
-use Rattle.fsfs_shows.specs.IdRules.{IdRule}
 use Rattle.fsfs_shows.specs.Reading.{RootOf, StandsAt}
 use Rattle.fsfs_drafts.specs.Own.{OwnNode}
-use Rattle.fsfs_drafts.specs.Drafts.{Kept, IsBelow, ShowTrees}
+use Rattle.fsfs_drafts.specs.Drafts.{Kept, IsBelow}
 use Rattle.fsfs_drafts.specs.Steps.{same_value}
 use Rattle.fsfs_drafts.proofs.Bases.{revision_agrees}
 use Rattle.fsfs_drafts.proofs.Files.{put_files, same_value-is}
 use Rattle.fsfs_drafts.proofs.WholeLaw.{drafts_are_handed}
 use Rattle.fsfs_own.specs.Views.{new_kept}
 use Rattle.fsfs_held.specs.Views.{begun_folder}
-use Rattle.fsfs_begin.specs.Beginning.{BeginsOn}
 use Rattle.fsfs_begin.specs.Begun.{IfWrongBase, IsBegunOn, IsUpToDate, StandsForBase}
 use Rattle.fsfs_begin.specs.declared.begin_fault.BeginFault.{BeginFault}
 use Rattle.fsfs_begin.specs.declared.begin_fault.BeginFault.TheVariants.{NoRev, Small, NamesFull, Wrong as WrongBase, DiskFault, BenchFault, Memory}

@@ -1,5 +1,5 @@
 -- A transaction that was begun: what it stands for; and why none was, and how far it came.
-use Rattle.std.specs.Prelude.{◌≡◌, ◌⊎◌, ◌≤◌, ◌<◌, ◌+◌, ℕ, List, [], Option, Some, IfSome, IfErr, MatchResult, Result, Ok, Err, option_map}
+use Rattle.std.specs.Prelude.{◌≡◌, ◌⊎◌, ◌≤◌, ◌<◌, ◌+◌, ℕ, List, [], Option, IfSome, IfErr, MatchResult, Result, Ok, Err, option_map}
 use Rattle.fsfs_tree.specs.Nodes.{TreeFunction}
 use Rattle.fsfs_base.specs.Files.{Files}
 use Rattle.fsfs_base.specs.declared.small_fault.SmallFile.TheVariants as file
@@ -8,7 +8,7 @@ use Rattle.fsfs_book.specs.Told.{RevisionBytes}
 use Rattle.fsfs_damage.specs.declared.wrong.Wrong.{Wrong}
 use Rattle.fsfs_damage.specs.declared.wrong.ReadError.{ReadError}
 use Rattle.fsfs_damage.specs.declared.wrong.ReadError.TheVariants as errors
-use Rattle.fsfs_disk.specs.Labels.{Label, with_label}
+use Rattle.fsfs_disk.specs.Labels.{Label}
 use Rattle.fsfs_disk.specs.Trace.{Trace, files_now}
 use Rattle.fsfs_disk.specs.Crash.{AllImages}
 use Rattle.fsfs_layout.specs.FileNames.{only_name}
