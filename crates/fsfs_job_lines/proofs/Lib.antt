@@ -1,0 +1,2 @@
+pub mod PathReadings
+pub mod NameReadings

@@ -1,0 +1,6 @@
+pub mod Judging
+pub mod Parts
+pub mod Words
+pub mod Verbs
+pub mod Lines
+pub mod Texts

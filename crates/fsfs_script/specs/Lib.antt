@@ -1,0 +1,6 @@
+pub mod Places
+pub mod Errors
+pub mod Reading
+pub mod Commands
+pub mod Jobs
+pub mod Laws
