@@ -1,2 +1,4 @@
 pub mod PathReadings
 pub mod NameReadings
+pub mod WordTexts
+pub mod LineTexts

@@ -1,5 +1,5 @@
 -- How jobs are written: the one text of each command, and which values may stand in it.
-use Rattle.std.specs.Prelude.{◌≡◌, ◌≤◌, ◌<◌, ◌^◌, ℕ, List, [], ◌∷◌, ◌++◌, length, Option, Some, None, codes, decimal, true}
+use Rattle.std.specs.Prelude.{◌≡◌, ◌≢◌, ◌≤◌, ◌<◌, ◌^◌, ℕ, List, [], ◌∷◌, ◌++◌, length, Option, Some, None, codes, decimal, true}
 use Rattle.std.specs.List.{flat_map}
 use Rattle.std.specs.Str.{is_utf8}
 use Rattle.fsfs_base.specs.Paths.{Path, path_text}
@@ -9,6 +9,12 @@ use Rattle.fsfs_job_lines.specs.Parts.{is_author}
 use Rattle.fsfs_job_lines.specs.declared.edit.Edit.{Edit}
 use Rattle.fsfs_job_lines.specs.declared.edit.Edit.TheVariants as edits
 use Rattle.fsfs_job_lines.specs.declared.edit.SetProp.{SetProp}
+use Rattle.fsfs_job_lines.specs.declared.lines.OpeningLine.{OpeningLine}
+use Rattle.fsfs_job_lines.specs.declared.lines.OpeningLine.TheVariants as openings
+use Rattle.fsfs_job_lines.specs.declared.lines.CommandLine.{CommandLine}
+use Rattle.fsfs_job_lines.specs.declared.lines.CommandLine.TheVariants as says
+use Rattle.fsfs_job_lines.specs.declared.verbs.Stage.{Stage}
+use Rattle.fsfs_job_lines.specs.declared.verbs.Stage.TheVariants.{AfterJob, InEdits}
 use Rattle.fsfs_job_lines.specs.declared.job.Base.{Base}
 use Rattle.fsfs_job_lines.specs.declared.job.Base.TheVariants.{Youngest, Number}
 
@@ -73,3 +79,53 @@ CanEdit (edits.Delete path) = CanPath path
 CanEdit (edits.Copy copy) = CanNumber copy.rev × CanPath copy.from × CanPath copy.to
 CanEdit (edits.Put put) = CanPath put.path × (length put.text ≤ 1_073_741_824)
 CanEdit (edits.Prop set) = CanPath set.path × IsPropName set.name × CanValue set.value
+
+-- ---- first lines, as they say it
+
+abbrev pub said_text : CommandLine → List ℕ
+said_text (says.Author name) = codes "author " ++ name
+said_text (says.Log n) = codes "log " ++ decimal n
+said_text (says.Whole edit) = edit_line edit
+said_text (says.Copy rev from) = codes "copy " ++ decimal rev ++ 32 ∷ path_text from
+said_text (says.Put n path) = codes "put " ++ decimal n ++ 32 ∷ path_text path
+said_text (says.SetProp n name path) = codes "prop " ++ decimal n ++ 32 ∷ name ++ 32 ∷ path_text path
+said_text says.Commit = codes "commit"
+
+abbrev pub opening_text : OpeningLine → List ℕ
+opening_text (openings.Job base) = codes "job " ++ base_text base
+opening_text (openings.Read base path) = codes "read " ++ base_text base ++ 32 ∷ path_text path
+
+abbrev pub CanAuthor : List ℕ → Type 0
+CanAuthor name = (is_author name ≡ true) × (is_utf8 name ≡ true)
+
+-- an edit that one line says whole
+abbrev pub CanWhole : Edit → Type 0
+CanWhole (edits.MakeDir path) = CanPath path
+CanWhole (edits.MakeFile path) = CanPath path
+CanWhole (edits.Delete path) = CanPath path
+CanWhole (edits.Copy copy) = ⊥
+CanWhole (edits.Put put) = ⊥
+CanWhole (edits.Prop set) = CanPath set.path × IsPropName set.name × (set.value ≡ None)
+
+abbrev pub CanSay : CommandLine → Type 0
+CanSay (says.Author name) = CanAuthor name
+CanSay (says.Log n) = n ≤ 1_048_576
+CanSay (says.Whole edit) = CanWhole edit
+CanSay (says.Copy rev from) = CanNumber rev × CanPath from
+CanSay (says.Put n path) = (n ≤ 1_073_741_824) × CanPath path
+CanSay (says.SetProp n name path) = (n ≤ 1_048_576) × IsPropName name × CanPath path
+CanSay says.Commit = Unit {0}
+
+-- an author comes first, then a log, then edits
+abbrev pub MayStand : Stage → CommandLine → Type 0
+MayStand stage (says.Author name) = stage ≡ AfterJob
+MayStand stage (says.Log n) = stage ≢ InEdits
+MayStand stage (says.Whole edit) = Unit {0}
+MayStand stage (says.Copy rev from) = Unit {0}
+MayStand stage (says.Put n path) = Unit {0}
+MayStand stage (says.SetProp n name path) = Unit {0}
+MayStand stage says.Commit = Unit {0}
+
+abbrev pub CanOpen : OpeningLine → Type 0
+CanOpen (openings.Job base) = CanBase base
+CanOpen (openings.Read base path) = CanBase base × CanPath path
