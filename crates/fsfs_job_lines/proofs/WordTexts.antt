@@ -8,10 +8,10 @@ use Rattle.std.proofs.lemmas.List.Elements.{All-nil, All-cons}
 use Rattle.std.proofs.lemmas.Str.{is_utf8-from_IsUtf8, IsUtf8-from_ascii}
 use Rattle.std.proofs.lemmas.Str.Ascii.{IsAscii-from_all}
 use Rattle.std.proofs.lemmas.Fmt.{IsAscii-decimal}
-use Rattle.std.specs.Prelude.{Result, Ok, Err, decimal}
+use Rattle.std.specs.Prelude.{Result, Ok, Err, decimal, codes}
 use Rattle.std.specs.List.{AllByRecursion, All}
 use Rattle.std.specs.Str.{is_utf8, IsAscii}
-use Rattle.fsfs_grammar.specs.Numeral.{digit}
+use Rattle.fsfs_grammar.specs.Numeral.{digit, IsPlain}
 use Rattle.fsfs_grammar.specs.Cuts.{Lacks, cut}
 use Rattle.fsfs_grammar.proofs.CutLemmas.{cut_again, cut_found, cut_lacking}
 use Rattle.fsfs_grammar.proofs.Numerals.{numeral_found, numeral_again}
@@ -21,10 +21,12 @@ use Rattle.fsfs_fields.specs.PropNames.{begins_name, continues_name, IsPropName}
 use Rattle.fsfs_base.specs.Paths.{Path, path_text}
 use Rattle.fsfs_base.proofs.PathTextLemmas.{absolute}
 use Rattle.fsfs_job_lines.specs.Judging.{◌>>=◌, or_refusal}
-use Rattle.fsfs_job_lines.specs.Parts.{number_of, path_of, is_prop_name, name_of}
-use Rattle.fsfs_job_lines.specs.Words.{split, split_on, text_of, checked, number_at, length_at, path_at, name_at}
-use Rattle.fsfs_job_lines.specs.Texts.{CanPath}
+use Rattle.fsfs_job_lines.specs.Parts.{number_of, path_of, is_prop_name, name_of, is_author}
+use Rattle.fsfs_job_lines.specs.Words.{split, split_on, text_of, checked, number_at, length_at, path_at, name_at, author_at}
+use Rattle.fsfs_job_lines.specs.Texts.{CanPath, CanAuthor}
 use Rattle.fsfs_job_lines.specs.declared.refusal.Refusal.{Refusal}
+use Rattle.fsfs_job_lines.specs.declared.refusal.Refusal.TheVariants.{Bad}
+use Rattle.fsfs_job_lines.specs.declared.refusal.Why.TheVariants as why
 use Rattle.fsfs_job_lines.proofs.PathReadings.{path_found, path_again}
 use Rattle.fsfs_job_lines.proofs.NameReadings.{name_again, name_passes}
 
@@ -41,6 +43,10 @@ ok_is {A} x y e = ap (value x) e
     value d (Ok z) = z
     value d (Err refusal) = d
 
+pub some_of : {A : Type 0} {refusal : Refusal} (o : Option A) (x : A) → or_refusal refusal o ≡ Ok x → o ≡ Some x
+some_of None x e = absurd cc
+some_of {A} (Some y) x e = ap (λ (z : A). Some z) (ok_is y x e)
+
 -- a word that was taken is UTF-8
 pub checked_is : (word : List ℕ) (u : Unit {0}) → checked word ≡ Ok u → is_utf8 word ≡ true
 checked_is word u e = by (is_utf8 word) refl
@@ -52,11 +58,7 @@ checked_is word u e = by (is_utf8 word) refl
 pub taken : {A : Type 0} (word : List ℕ) (refusal : Refusal) (o : Option A) (x : A) → (checked word >>= λ u. or_refusal refusal o) ≡ Ok x → (is_utf8 word ≡ true) × (o ≡ Some x)
 taken {A} word refusal o x e =
     let a = bound (checked word) (λ u. or_refusal refusal o) x e in
-    (checked_is word a.0 a.1, by o a.2)
-  where
-    by : (o : Option A) → or_refusal refusal o ≡ Ok x → o ≡ Some x
-    by None bad = absurd cc
-    by (Some y) is = ap (λ (z : A). Some z) (ok_is y x is)
+    (checked_is word a.0 a.1, some_of o x a.2)
 
 -- ---- numbers
 
@@ -66,17 +68,30 @@ decimal_utf8 n lt = is_utf8-from_IsUtf8 (decimal n) (IsUtf8-from_ascii (decimal 
 pub decimal_lacks : (c n : ℕ) → 10 ≤ digit c → n < 2 ^ 64 → Lacks c (decimal n)
 decimal_lacks c n high lt = plain_lacks 10 18446744073709551615 c high (decimal n) n (decimal_plain 18446744073709551615 n (omega (arith, lt)) lt)
 
+pub number_value : (n : ℕ) → n < 2 ^ 64 → number_of (decimal n) ≡ Some n
+number_value n lt = numeral_again 10 18446744073709551615 (decimal n) n (omega arith) (decimal_plain 18446744073709551615 n (omega (arith, lt)) lt)
+
+pub number_text : (word : List ℕ) (n : ℕ) → number_of word ≡ Some n → (word ≡ decimal n) × (n < 2 ^ 64)
+number_text word n e =
+    let w = numeral_found 10 18446744073709551615 word n e in
+    let lt : n < 2 ^ 64 = omega (arith, w.1) in
+    (numeral_decimal word n lt w.0, lt)
+
+-- no number is written so
+pub no_head : (n : ℕ) → n < 2 ^ 64 → decimal n ≡ codes "head" → ⊥
+no_head n lt e =
+    let none : number_of (codes "head") ≡ None = refl in
+    let some : number_of (codes "head") ≡ Some n = ap number_of (sym e) ∙ number_value n lt in
+    let bad = sym none ∙ some in
+    absurd cc
+
 pub number_again : (n : ℕ) → n < 2 ^ 64 → number_at (decimal n) ≡ Ok n
 unfolding number_at
-number_again n lt = rw (decimal_utf8 n lt, numeral_again 10 18446744073709551615 (decimal n) n (omega arith) (decimal_plain 18446744073709551615 n (omega (arith, lt)) lt)) refl
+number_again n lt = rw (decimal_utf8 n lt, number_value n lt) refl
 
 pub number_found : (word : List ℕ) (n : ℕ) → number_at word ≡ Ok n → (word ≡ decimal n) × (n < 2 ^ 64)
 unfolding number_at
-number_found word n e =
-    let t = taken word _ (number_of word) n e in
-    let w = numeral_found 10 18446744073709551615 word n t.1 in
-    let lt : n < 2 ^ 64 = omega (arith, w.1) in
-    (numeral_decimal word n lt w.0, lt)
+number_found word n e = number_text word n (taken word (Bad why.Number) (number_of word) n e).1
 
 pub length_again : (limit n : ℕ) (refusal : Refusal) → n ≤ limit → n < 2 ^ 64 → length_at limit refusal (decimal n) ≡ Ok n
 unfolding length_at
@@ -104,7 +119,7 @@ path_at_again path can = rw (can.utf8, path_again (path_text path) path (record 
 pub path_at_found : (text : List ℕ) (path : Path) → path_at text ≡ Ok path → CanPath path × (text ≡ path_text path)
 unfolding path_at
 path_at_found text path e =
-    let t = taken text _ (path_of text) path e in
+    let t = taken text (Bad why.Path) (path_of text) path e in
     let w = path_found text path t.1 in
     (record { path_is = w.path_is; utf8 = subst (λ (s : List ℕ). is_utf8 s ≡ true) (sym w.text_is) t.0 }, sym w.text_is)
 
@@ -144,7 +159,7 @@ name_at_again name is =
 pub name_at_found : (word name : List ℕ) → name_at word ≡ Ok name → (word ≡ name) × IsPropName name
 unfolding name_at, name_of
 name_at_found word name e =
-    let t = taken word _ (name_of word) name e in
+    let t = taken word (Bad why.Name) (name_of word) name e in
     by (is_prop_name word) refl t.1
   where
     by : (b : Bool) → is_prop_name word ≡ b → cond (is_prop_name word) (Some word) None ≡ Some name → (word ≡ name) × IsPropName name
@@ -182,3 +197,26 @@ rest_path None path e =
     let bad : [] ≡ 47 ∷ a.0 = w.1 ∙ a.1 in
     absurd cc
 rest_path (Some text) path e = let w = path_at_found text path e in (w.0, ap (λ (t : List ℕ). 32 ∷ t) w.1)
+
+-- ---- authors, and texts that are not empty
+
+pub author_found : (text name : List ℕ) → author_at text ≡ Ok name → (text ≡ name) × CanAuthor name
+unfolding author_at
+author_found text name e =
+    let a = bound (checked text) (λ u. cond (is_author text) (Ok text) (Err (Bad why.Name))) name e in
+    let utf8 = checked_is text a.0 a.1 in
+    by (is_author text) refl a.2 utf8
+  where
+    by : (t : Bool) → is_author text ≡ t → cond (is_author text) (Ok text) (Err (Bad why.Name)) ≡ Ok name → is_utf8 text ≡ true → (text ≡ name) × CanAuthor name
+    by true is e utf8 =
+        let e' : (let r : Result (List ℕ) Refusal = Ok text in r) ≡ Ok name = rw is at e in
+        let same = ok_is text name e' in
+        (same, subst CanAuthor same (is, utf8))
+    by false is e utf8 = let e' : (let r : Result (List ℕ) Refusal = Err (Bad why.Name) in r) ≡ Ok name = rw is at e in absurd cc
+
+pub decimal_filled : (n : ℕ) → n < 2 ^ 64 → decimal n ≡ [] → ⊥
+decimal_filled n lt none = (subst (λ (t : List ℕ). IsPlain 10 18446744073709551615 t n) none (decimal_plain 18446744073709551615 n (omega (arith, lt)) lt)).0
+
+pub longer : (a b : List ℕ) → a ++ 32 ∷ b ≡ [] → ⊥
+longer [] b e = cc
+longer (c ∷ a) b e = cc
