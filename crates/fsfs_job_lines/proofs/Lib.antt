@@ -4,3 +4,4 @@ pub mod WordTexts
 pub mod LineTexts
 pub mod LinesAgain
 pub mod OpeningTexts
+pub mod LineSizes

@@ -11,7 +11,7 @@ use Rattle.std.proofs.lemmas.Fmt.{IsAscii-decimal}
 use Rattle.std.specs.Prelude.{Result, Ok, Err, decimal, codes}
 use Rattle.std.specs.List.{AllByRecursion, All}
 use Rattle.std.specs.Str.{is_utf8, IsAscii}
-use Rattle.fsfs_grammar.specs.Numeral.{digit, IsPlain}
+use Rattle.fsfs_grammar.specs.Numeral.{digit, IsPlain, numeral_at}
 use Rattle.fsfs_grammar.specs.Cuts.{Lacks, cut}
 use Rattle.fsfs_grammar.proofs.CutLemmas.{cut_again, cut_found, cut_lacking}
 use Rattle.fsfs_grammar.proofs.Numerals.{numeral_found, numeral_again}
@@ -79,6 +79,7 @@ number_text word n e =
 
 -- no number is written so
 pub no_head : (n : ℕ) → n < 2 ^ 64 → decimal n ≡ codes "head" → ⊥
+unfolding numeral_at
 no_head n lt e =
     let none : number_of (codes "head") ≡ None = refl in
     let some : number_of (codes "head") ≡ Some n = ap number_of (sym e) ∙ number_value n lt in
