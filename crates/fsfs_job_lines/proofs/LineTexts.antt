@@ -28,7 +28,7 @@ use Rattle.fsfs_job_lines.proofs.WordTexts.{bound, ok_is, some_of, tail, split_f
 
 -- ---- the words that name commands
 
-pub verb_word : Verb → List ℕ
+abbrev pub verb_word : Verb → List ℕ
 verb_word verb.Author = codes "author"
 verb_word verb.Log = codes "log"
 verb_word verb.MakeDir = codes "mkdir"
@@ -195,6 +195,6 @@ line_found stage line said e =
     let rest = (split line).1 in
     let a = bound (checked word) (λ u. or_refusal (Bad why.Word) (command_named stage word) >>= λ v. command_rest_at v rest) said e in
     let b = bound (or_refusal (Bad why.Word) (command_named stage word)) (λ v. command_rest_at v rest) said a.2 in
-    let named = named_word stage word b.0 (some_of (command_named stage word) b.0 b.1) in
+    let named = named_word stage word b.0 (some_of (Bad why.Word) (command_named stage word) b.0 b.1) in
     let w = rest_said b.0 rest said b.2 in
     (split_found line ∙ ap (λ (t : List ℕ). t ++ tail rest) named ∙ w.0, w.1)

@@ -76,9 +76,9 @@ everywhere AfterAuthor v a b c = b
 everywhere InEdits v a b c = c
 
 log_stands : (stage : Stage) → stage ≢ InEdits → command_named stage (verb_word verb.Log) ≡ Some verb.Log
-log_stands AfterJob no = refl
-log_stands AfterAuthor no = refl
-log_stands InEdits no = absurd (no refl)
+log_stands AfterJob other = refl
+log_stands AfterAuthor other = refl
+log_stands InEdits other = absurd (other refl)
 
 -- ---- the lines
 

@@ -2,6 +2,12 @@
 use Rattle.std.proofs.Common.{◌≡◌, ◌<◌, ℕ, Bool, true, false, ◌&&◌, ltb, List, [], ◌∷◌, length, Option, Some, None, refl, sym, ap, arith}
 use Rattle.std.proofs.lemmas.Bool.{ltb-true, lt-ltb}
 use Rattle.std.specs.List.{AllByRecursion, list_all}
+use Rattle.std.proofs.lemmas.Str.{is_utf8-from_IsUtf8, IsUtf8-from_is_utf8}
+use Rattle.std.specs.Prelude.{Ok, Err}
+use Rattle.std.specs.Str.{is_utf8, IsUtf8}
+use Rattle.fsfs_job_lines.specs.Words.{checked}
+use Rattle.fsfs_job_lines.specs.declared.refusal.Refusal.TheVariants.{Bad}
+use Rattle.fsfs_job_lines.specs.declared.refusal.Why.TheVariants as why
 use Rattle.fsfs_fields.specs.PropNames.{begins_name, continues_name, IsPropName}
 use Rattle.fsfs_job_lines.specs.Parts.{is_prop_name, name_of}
 
@@ -35,8 +41,20 @@ name_again word is = rw (name_tested word is) refl
 
 pub name_none : (word : List ℕ) → (IsPropName word → ⊥) → None ≡ name_of word
 unfolding name_of
-name_none word no = by (is_prop_name word) refl
+name_none word refuted = by (is_prop_name word) refl
   where
     by : (t : Bool) → is_prop_name word ≡ t → None ≡ name_of word
-    by true e = absurd (no (name_passes word e))
+    by true e = absurd (refuted (name_passes word e))
+    by false e = rw e refl
+
+-- ---- text
+
+pub checked_text : (word : List ℕ) → IsUtf8 word → checked word ≡ Ok tt
+checked_text word is = rw (is_utf8-from_IsUtf8 word is) refl
+
+pub checked_other : (word : List ℕ) → (IsUtf8 word → ⊥) → checked word ≡ Err (Bad why.NotUtf8)
+checked_other word other = by (is_utf8 word) refl
+  where
+    by : (t : Bool) → is_utf8 word ≡ t → checked word ≡ Err (Bad why.NotUtf8)
+    by true e = absurd (other (IsUtf8-from_is_utf8 word e))
     by false e = rw e refl

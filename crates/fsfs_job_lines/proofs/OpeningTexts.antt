@@ -65,7 +65,7 @@ base_found word base e =
 
 -- ---- what stands behind `job` and `read`
 
-opening_word : OpeningVerb → List ℕ
+abbrev opening_word : OpeningVerb → List ℕ
 opening_word verb.Job = codes "job"
 opening_word verb.Read = codes "read"
 
@@ -121,14 +121,17 @@ opening_found is_full line said e =
     let rest = (split line).1 in
     let a = bound (checked word) (λ u. or_refusal (Bad why.Word) (opening_named word) >>= λ v. if_room is_full rest v) said e in
     let b = bound (or_refusal (Bad why.Word) (opening_named word)) (λ v. if_room is_full rest v) said a.2 in
-    let named = opened_word word b.0 (some_of (opening_named word) b.0 b.1) in
+    let named = opened_word word b.0 (some_of (Bad why.Word) (opening_named word) b.0 b.1) in
     let w = room_said is_full b.0 rest said b.2 in
     (split_found line ∙ ap (λ (t : List ℕ). t ++ tail rest) named ∙ w.0, w.1)
 
-at_word : (v : OpeningVerb) (rest : Option (List ℕ)) → opening_line_at false (opening_word v ++ tail rest) ≡ opening_rest_at v (text_of rest)
+opening_from : (v : OpeningVerb) (line : List ℕ) (rest : Option (List ℕ)) → split line ≡ (opening_word v, rest) → opening_line_at false line ≡ opening_rest_at v (text_of rest)
 unfolding opening_line_at
-at_word verb.Job rest = rw (split_tail (codes "job") rest (lacking 32 (codes "job") refl), plain_utf8 (codes "job") refl) refl
-at_word verb.Read rest = rw (split_tail (codes "read") rest (lacking 32 (codes "read") refl), plain_utf8 (codes "read") refl) refl
+opening_from verb.Job line rest e = rw (e, plain_utf8 (codes "job") refl) refl
+opening_from verb.Read line rest e = rw (e, plain_utf8 (codes "read") refl) refl
+
+at_word : (v : OpeningVerb) (rest : Option (List ℕ)) → Lacks 32 (opening_word v) → opening_line_at false (opening_word v ++ tail rest) ≡ opening_rest_at v (text_of rest)
+at_word v rest lacks = opening_from v (opening_word v ++ tail rest) rest (split_tail (opening_word v) rest lacks)
 
 job_again : (base : Base) → CanBase base → job_line_at (base_text base) ≡ Ok (says.Job base)
 unfolding job_line_at
@@ -140,8 +143,8 @@ read_again base path can is = rw (split_more (base_text base) (path_text path) (
 
 pub opening_again : (said : OpeningLine) → CanOpen said → opening_line_at false (opening_text said) ≡ Ok said
 unfolding opening_rest_at
-opening_again (says.Job base) can = at_word verb.Job (Some (base_text base)) ∙ job_again base can
-opening_again (says.Read base path) can = at_word verb.Read (Some (base_text base ++ 32 ∷ path_text path)) ∙ read_again base path can.0 can.1
+opening_again (says.Job base) can = at_word verb.Job (Some (base_text base)) (lacking 32 (codes "job") refl) ∙ job_again base can
+opening_again (says.Read base path) can = at_word verb.Read (Some (base_text base ++ 32 ∷ path_text path)) (lacking 32 (codes "read") refl) ∙ read_again base path can.0 can.1
 
 -- ---- lines `to`
 
@@ -159,6 +162,9 @@ to_found line path e =
         (split_found line ∙ (λ i. (bytes_eq-Decides (split line).0 (codes "to")).0 is i ++ w.1 i), w.0)
     by false is e = let bad : (let r : Result Path Refusal = Err (Bad why.Word) in r) ≡ Ok path = rw is at e in absurd cc
 
-pub to_again : (path : Path) → CanPath path → to_line_at (codes "to " ++ path_text path) ≡ Ok path
+to_from : (line rest : List ℕ) → split line ≡ (codes "to", Some rest) → to_line_at line ≡ path_at rest
 unfolding to_line_at
-to_again path can = rw (split_more (codes "to") (path_text path) (lacking 32 (codes "to") refl), plain_utf8 (codes "to") refl) (path_at_again path can)
+to_from line rest e = rw (e, plain_utf8 (codes "to") refl) refl
+
+pub to_again : (path : Path) → CanPath path → to_line_at (codes "to " ++ path_text path) ≡ Ok path
+to_again path can = to_from (codes "to " ++ path_text path) (path_text path) (split_more (codes "to") (path_text path) (lacking 32 (codes "to") refl)) ∙ path_at_again path can

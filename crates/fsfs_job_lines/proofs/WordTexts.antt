@@ -43,9 +43,9 @@ ok_is {A} x y e = ap (value x) e
     value d (Ok z) = z
     value d (Err refusal) = d
 
-pub some_of : {A : Type 0} {refusal : Refusal} (o : Option A) (x : A) → or_refusal refusal o ≡ Ok x → o ≡ Some x
-some_of None x e = absurd cc
-some_of {A} (Some y) x e = ap (λ (z : A). Some z) (ok_is y x e)
+pub some_of : {A : Type 0} (refusal : Refusal) (o : Option A) (x : A) → or_refusal refusal o ≡ Ok x → o ≡ Some x
+some_of refusal None x e = absurd cc
+some_of {A} refusal (Some y) x e = ap (λ (z : A). Some z) (ok_is y x e)
 
 -- a word that was taken is UTF-8
 pub checked_is : (word : List ℕ) (u : Unit {0}) → checked word ≡ Ok u → is_utf8 word ≡ true
@@ -58,7 +58,7 @@ checked_is word u e = by (is_utf8 word) refl
 pub taken : {A : Type 0} (word : List ℕ) (refusal : Refusal) (o : Option A) (x : A) → (checked word >>= λ u. or_refusal refusal o) ≡ Ok x → (is_utf8 word ≡ true) × (o ≡ Some x)
 taken {A} word refusal o x e =
     let a = bound (checked word) (λ u. or_refusal refusal o) x e in
-    (checked_is word a.0 a.1, some_of o x a.2)
+    (checked_is word a.0 a.1, some_of refusal o x a.2)
 
 -- ---- numbers
 
@@ -158,7 +158,7 @@ name_at_again name is =
     rw (utf8, sym (name_again name is)) refl
 
 pub name_at_found : (word name : List ℕ) → name_at word ≡ Ok name → (word ≡ name) × IsPropName name
-unfolding name_at, name_of
+unfolding name_at name_of
 name_at_found word name e =
     let t = taken word (Bad why.Name) (name_of word) name e in
     by (is_prop_name word) refl t.1
@@ -173,7 +173,7 @@ name_at_found word name e =
 -- ---- words and what stands behind them
 
 -- the text that stands behind a word
-pub tail : Option (List ℕ) → List ℕ
+abbrev pub tail : Option (List ℕ) → List ℕ
 tail None = []
 tail (Some text) = 32 ∷ text
 

@@ -25,8 +25,8 @@ base_text Youngest = codes "head"
 base_text (Number n) = decimal n
 
 abbrev pub set_text : SetProp → Option (List ℕ) → List ℕ
-set_text set None = codes "unprop " ++ set.name ++ 32 ∷ path_text set.path
-set_text set (Some value) = codes "prop " ++ decimal (length value) ++ 32 ∷ set.name ++ 32 ∷ path_text set.path
+set_text set None = codes "unprop " ++ (set.name ++ 32 ∷ path_text set.path)
+set_text set (Some value) = codes "prop " ++ decimal (length value) ++ 32 ∷ (set.name ++ 32 ∷ path_text set.path)
 
 abbrev pub edit_line : Edit → List ℕ
 edit_line (edits.MakeDir path) = codes "mkdir " ++ path_text path
@@ -88,7 +88,7 @@ said_text (says.Log n) = codes "log " ++ decimal n
 said_text (says.Whole edit) = edit_line edit
 said_text (says.Copy rev from) = codes "copy " ++ decimal rev ++ 32 ∷ path_text from
 said_text (says.Put n path) = codes "put " ++ decimal n ++ 32 ∷ path_text path
-said_text (says.SetProp n name path) = codes "prop " ++ decimal n ++ 32 ∷ name ++ 32 ∷ path_text path
+said_text (says.SetProp n name path) = codes "prop " ++ decimal n ++ 32 ∷ (name ++ 32 ∷ path_text path)
 said_text says.Commit = codes "commit"
 
 abbrev pub opening_text : OpeningLine → List ℕ

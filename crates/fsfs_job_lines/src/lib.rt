@@ -3,6 +3,7 @@
 
 mod edit;
 mod job;
+pub mod laws;
 mod lines;
 mod parts;
 mod refusal;

@@ -148,7 +148,7 @@ fn command_rest(
     verb: Verb,
     rest: Option<&[u8]>,
 ) -> Result<CommandLine, LineError>
-    ensures { GivesOrMemory (λ l. l) result (command_rest_at verb (option_map (λ t. t.now) rest)) }
+    ensures { GivesOrMemory (λ l. l) result (command_rest_at verb (option_map (λ t. t.now) rest.entry)) }
 {
     let text = text_behind(rest);
     match verb {

@@ -91,7 +91,11 @@ fn name_of_text(alloc: Global, text: &str) -> Result<Option<PropName>, AllocErro
     ensures { IfOk result (λ name. name ≡ name_of text.now) }
 {
     match PropName::parse(alloc, text) {
-        Ok(name) => Ok(Some(name)),
+        Ok(name) => {
+            // A name's own text keeps the rule of names.
+            let _text = name.as_str();
+            Ok(Some(name))
+        }
         Err(PropNameError::Bad(_)) => Ok(None),
         Err(PropNameError::OutOfMemory) => Err(AllocError),
     }

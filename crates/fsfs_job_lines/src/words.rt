@@ -19,7 +19,7 @@ pub(crate) fn split_word(text: &[u8]) -> (&[u8], Option<&[u8]>)
 
 /// What stands behind a word; nothing where the line ends with it.
 pub(crate) fn text_behind(rest: Option<&[u8]>) -> &[u8]
-    ensures { result.now ≡ text_of (option_map (λ t. t.now) rest) }
+    ensures { result.now ≡ text_of (option_map (λ t. t.now) rest.entry) }
 {
     match rest {
         None => b"".as_slice(),
@@ -28,6 +28,7 @@ pub(crate) fn text_behind(rest: Option<&[u8]>) -> &[u8]
 }
 
 /// A word as text.
+#[tactic(auto, using(crate::proofs::NameReadings::checked_text, crate::proofs::NameReadings::checked_other))]
 pub(crate) fn as_text(word: &[u8]) -> Result<&str, Refusal>
     ensures given { Gives (λ _. tt) result (checked word.now) }
     ensures same { IfOk result (λ text. text.now ≡ word.now) }
@@ -40,7 +41,7 @@ pub(crate) fn as_text(word: &[u8]) -> Result<&str, Refusal>
 
 /// The line ends here; else the word that follows is refused.
 pub(crate) fn end(rest: Option<&[u8]>) -> Result<(), Refusal>
-    ensures { Gives (λ _. tt) result (end_at (option_map (λ t. t.now) rest)) }
+    ensures { Gives (λ _. tt) result (end_at (option_map (λ t. t.now) rest.entry)) }
 {
     match rest {
         None => Ok(()),

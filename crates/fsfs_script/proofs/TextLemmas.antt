@@ -72,7 +72,7 @@ taking_more rem from count a b text more w t = record { passes = passes; fits = 
 
 -- the source ends within the text
 pub taking_short : (from now new : Option Place) (count : ℕ) (text : List ℕ) {X : Type 0} (view : X → List ℕ) → IsTaking from now count text → length text < count → IsAtEnd now → Reads view (text_at count) from new (Err (stops.Refused (Bad why.Short)))
-unfolding text_at, newline_at
+unfolding text_at newline_at
 taking_short None now new count text view w less end = tt
 taking_short (Some p) now new count text view w less end =
     let v = w.passes in
