@@ -91,7 +91,7 @@ read_said rest said e =
     let n = base_found (split text).0 a.0 a.1 in
     let w = rest_path (split text).1 b.0 b.1 in
     let whole : text ≡ base_text a.0 ++ 32 ∷ path_text b.0 = split_found text ∙ (λ i. n.0 i ++ w.1 i) in
-    subst (Says verb.Read rest) (ok_is (says.Read a.0 b.0) said b.2) (ap (λ (t : List ℕ). codes "read" ++ t) (behind_space rest (base_text a.0 ++ 32 ∷ path_text b.0) whole (longer (base_text a.0) (path_text b.0))), n.1, w.0)
+    subst (Says verb.Read rest) (ok_is (says.Read a.0 b.0) said b.2) (ap (λ (t : List ℕ). codes "read" ++ t) (behind_space rest (base_text a.0 ++ 32 ∷ path_text b.0) whole (longer (base_text a.0) (path_text b.0))), (n.1, w.0))
 
 opened_word : (word : List ℕ) (v : OpeningVerb) → opening_named word ≡ Some v → word ≡ opening_word v
 opened_word word v e = by (bytes_eq word (codes "job")) refl (bytes_eq word (codes "read")) refl
