@@ -143,11 +143,7 @@ fn remove_line(alloc: Global, text: &[u8]) -> Result<CommandLine, LineError>
 }
 
 #[tactic(auto, unfolding(crate::specs::Lines::command_rest_at))]
-fn command_rest(
-    alloc: Global,
-    verb: Verb,
-    rest: Option<&[u8]>,
-) -> Result<CommandLine, LineError>
+fn command_rest(alloc: Global, verb: Verb, rest: Option<&[u8]>) -> Result<CommandLine, LineError>
     ensures { GivesOrMemory (λ l. l) result (command_rest_at verb (option_map (λ t. t.now) rest.entry)) }
 {
     let text = text_behind(rest);

@@ -53,3 +53,12 @@ pub judged_bad : {X Y U : Type 0} (view : X → List ℕ) (last : U → Y) (judg
 judged_bad view last judge None b c line error r e = tt
 judged_bad view last judge (Some p) b c line lines.OutOfMemory r e = tt
 judged_bad view last judge (Some p) b c line (lines.Refused refusal) r e = rw (r.1, e) refl
+
+pub judged_stop : {X Y U : Type 0} (view : X → List ℕ) (last : U → Y) (judge : List ℕ → Result Y Refusal) (a b c : Option Place) (stop : Stop)
+    → Reads view line_at a b (Err stop) → Reads last (judged_at judge) a c (Err stop)
+judged_stop view last judge a b c stop r = reads_stop view last line_at (λ l. judge l.0 >>= λ x. Ok (x, l.1)) a b c stop r
+
+-- nothing was read
+pub reads_here : {X : Type 0} (a : Option Place) (x : X) → Reads (λ (y : X). y) (λ p. Ok (x, p)) a a (Ok x)
+reads_here None x = tt
+reads_here (Some p) x = (p, refl, refl)
