@@ -159,13 +159,13 @@ set_said rest said e =
     let w = named_found (says.SetProp a.0) (text_of (split text).1) said a.2 in
     let second : tail (split text).1 ≡ 32 ∷ (w.0 ++ 32 ∷ path_text w.1) = behind_space (split text).1 (w.0 ++ 32 ∷ path_text w.1) w.3 (longer w.0 (path_text w.1)) in
     let whole : text ≡ decimal a.0 ++ 32 ∷ (w.0 ++ 32 ∷ path_text w.1) = split_found text ∙ (λ i. n.0 i ++ second i) in
-    subst (Said verb.SetProp rest) w.2 (ap (λ (t : List ℕ). codes "prop" ++ t) (behind_space rest (decimal a.0 ++ 32 ∷ (w.0 ++ 32 ∷ path_text w.1)) whole (longer (decimal a.0) (w.0 ++ 32 ∷ path_text w.1))), (n.1, (w.4, w.5)))
+    subst (Said verb.SetProp rest) w.2 (ap (λ (t : List ℕ). codes "prop" ++ t) (behind_space rest (decimal a.0 ++ 32 ∷ (w.0 ++ 32 ∷ path_text w.1)) whole (longer (decimal a.0) (w.0 ++ 32 ∷ path_text w.1))), (n.1, w.4, w.5))
 
 remove_said : (rest : Option (List ℕ)) (said : CommandLine) → remove_line_at (text_of rest) ≡ Ok said → Said verb.RemoveProp rest said
 unfolding remove_line_at
 remove_said rest said e =
     let w = named_found (λ name path. says.Whole (edits.Prop (record { path = path; name = name; value = None }))) (text_of rest) said e in
-    subst (Said verb.RemoveProp rest) w.2 (ap (λ (t : List ℕ). codes "unprop" ++ t) (behind_space rest (w.0 ++ 32 ∷ path_text w.1) w.3 (longer w.0 (path_text w.1))), (w.5, (w.4, refl)))
+    subst (Said verb.RemoveProp rest) w.2 (ap (λ (t : List ℕ). codes "unprop" ++ t) (behind_space rest (w.0 ++ 32 ∷ path_text w.1) w.3 (longer w.0 (path_text w.1))), (w.5, w.4, refl))
 
 commit_said : (rest : Option (List ℕ)) (said : CommandLine) → (end_at rest >>= λ u. Ok says.Commit) ≡ Ok said → Said verb.Commit rest said
 commit_said rest said e =
