@@ -4,6 +4,7 @@ ghost use Rattle.fsfs_script.specs.Errors.{error_at, error_from};
 
 use crate::stop::Stop;
 use fsfs_job_lines::{Refusal, Why};
+use std::alloc::AllocError;
 use thiserror::Error;
 
 /// Where a script is no list of jobs, and why.
@@ -33,6 +34,16 @@ pub enum ScriptError {
     ReadFault,
     #[error("out of memory")]
     OutOfMemory,
+}
+
+impl From<AllocError> for ScriptError {
+    ghost use Rattle.fsfs_script.specs.declared.script_error.ScriptError.TheVariants.{OutOfMemory};
+
+    ghost from_gives = { λ _ e. e ≡ OutOfMemory };
+
+    fn from(_error: AllocError) -> ScriptError {
+        ScriptError::OutOfMemory
+    }
 }
 
 /// The error of a refusal of the command that began on this line.
