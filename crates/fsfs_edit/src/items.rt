@@ -53,7 +53,7 @@ pub(crate) fn deleted(
 }
 
 /// The item of a node whose text or properties were set.
-pub(crate) fn modified(
+pub fn modified(
     id: NodeId,
     kind: Kind,
     path: &FsPath,

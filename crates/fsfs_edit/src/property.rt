@@ -29,7 +29,8 @@ pub enum PropertySet {
     TooLong,
 }
 
-fn fits(value: &Option<Vec<u8>>) -> bool
+/// Whether a value has no more bytes than a property may have.
+pub fn fits(value: &Option<Vec<u8>>) -> bool
     ensures { result ≡ fits_value (bytes_of value.now) }
 {
     match value {
@@ -38,8 +39,8 @@ fn fits(value: &Option<Vec<u8>>) -> bool
     }
 }
 
-// The properties with this value under the name, or without the name.
-fn with_value(
+/// The properties with this value under the name, or without the name.
+pub fn with_value(
     alloc: Global,
     mut props: Pairs,
     name: &PropName,

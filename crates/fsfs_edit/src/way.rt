@@ -90,7 +90,7 @@ pub(crate) fn way_to<B: Book, N: Own>(
 }
 
 /// What stands at a path.
-pub(crate) fn found_at<B: Book, N: Own>(
+pub fn found_at<B: Book, N: Own>(
     alloc: Global,
     book: &mut B,
     own: &N,

@@ -3,3 +3,4 @@ pub mod KeyLemmas
 pub mod KeyTest
 pub mod StepLemmas
 pub mod EntryLemmas
+pub mod TextLemmas

@@ -1,3 +1,4 @@
 pub mod Keys
 pub mod Lists
 pub mod Views
+pub mod Texts

@@ -56,7 +56,8 @@ pub(crate) fn same_node(node: &NodeRev) -> Result<NodeRev, AllocError>
     })
 }
 
-fn same_entries(alloc: Global, entries: &[DirEntry]) -> Result<Vec<DirEntry>, AllocError>
+/// A copy of the entries of a directory.
+pub fn same_entries(alloc: Global, entries: &[DirEntry]) -> Result<Vec<DirEntry>, AllocError>
     ensures { IfOk result (λ v. entry_values v.items ≡ entry_values entries.now) }
 {
     let mut all = Vec::new(alloc);

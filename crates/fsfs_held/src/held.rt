@@ -30,9 +30,9 @@ pub struct NextNumbers {
 #[derive(Drop)]
 pub struct HeldNodes<D: Bench> {
     alloc: Global,
-    txn: TxnName,
-    bench: D,
-    proto: Name,
+    pub(crate) txn: TxnName,
+    pub(crate) bench: D,
+    pub(crate) proto: Name,
     settled: Nodes,
     steps: Vec<Step>,
     settled_next: NextNumbers,

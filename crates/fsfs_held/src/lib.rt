@@ -7,5 +7,8 @@ mod held;
 mod keys;
 mod nodes;
 mod steps;
+mod texts;
 
+pub use copies::same_entries;
 pub use held::HeldNodes;
+pub use texts::OwnTexts;

@@ -18,6 +18,6 @@ mod taken;
 pub use bubble::bubble_up;
 pub use copied::{copy_to, same_source};
 pub use made::make_node;
-pub use mutable::make_mutable;
+pub use mutable::{change_child, make_mutable};
 pub use set::{set_props, set_text};
 pub use taken::take_away;

@@ -65,8 +65,8 @@ fn copy_part<N: Own>(
     drawn_part(own, &old.id)
 }
 
-// Puts a node-revision that goes on from `old` behind a name of a directory with these entries.
-fn change_child<N: Own>(
+/// Puts a node-revision that goes on from `old` behind a name of a directory with these entries, without any book.
+pub fn change_child<N: Own>(
     alloc: Global,
     own: &mut N,
     dir: &NodeId,

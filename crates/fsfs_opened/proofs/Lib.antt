@@ -1,0 +1,4 @@
+pub mod ReachLemmas
+pub mod ReachedLemmas
+pub mod Growing
+pub mod TextLemmas

@@ -1,0 +1,45 @@
+use Rattle.std.proofs.Common.{◌≡◌, true, Ok, Err, Some, refl, sym, ap, subst, ◌∙◌}
+use Rattle.std.proofs.lemmas.Result.{err_from_is_err_and}
+use Rattle.std.proofs.lemmas.Option.{same_Some}
+use Rattle.fsfs_base.specs.declared.kind.Kind.{Kind}
+use Rattle.fsfs_flat.specs.Edits.{bytes_of, fits_value}
+use Rattle.fsfs_fields.specs.declared.txn_name.TxnName.{TxnName}
+use Rattle.fsfs_drafts.specs.Drafts.{Folder}
+use Rattle.fsfs_own.specs.Walks.{HasKind}
+use Rattle.fsfs_edit.specs.Ways.{IsOpenedAt}
+use Rattle.fsfs_opened.specs.Reached.{ReachesTo}
+use Rattle.fsfs_opened.specs.Properties.{SetsProp}
+use Rattle.fsfs_opened.proofs.ReachedLemmas.{kind_there}
+use Rattle.fsfs_opened.proofs.TextLemmas.{left_want}
+use Rattle.fsfs_opened.proofs.properties.property_steps.Goals as goal
+
+pub returns-in_err-id-clause-meets : goal.returns-in_err-id-clause-meets
+returns-in_err-id-clause-meets g c = λ look trees top base tree marks known shown le is_tree d.
+    let mid = g.N.Own.folder c.reached.new.own in
+    let way = c.args.way.now in
+    let opens : ReachesTo (g.N.Own.txn c.args.own.now) (g.N.Own.settled c.args.own.now) mid way.known.items way.path (Err c.in_err-id.field-0.0) =
+    subst (λ (h : Folder). ReachesTo (g.N.Own.txn c.args.own.now) h mid way.known.items way.path (Err c.in_err-id.field-0.0)) c.requires.whole c.in_err-id.ensures.opens in
+    let r = err_from_is_err_and c.from_residual.result c.from_residual.ensures.1 in
+    rw (r.1, r.2) (left_want c.in_err-id.field-0.0 _ _ (opens look trees top base tree marks known shown le is_tree d) c.in_err-id.ensures.settled)
+
+pub returns-in-Some-clause-meets : goal.returns-in-Some-clause-meets
+returns-in-Some-clause-meets g c = λ look trees top base tree marks known shown le is_tree d.
+    let txn = g.N.Own.txn c.args.own.now in
+    let first = g.N.Own.settled c.args.own.now in
+    let mid = g.N.Own.folder c.reached.new.own in
+    let way = c.args.way.now in
+    let kind = c.in-Some.kind in
+    let opens : ReachesTo txn first mid way.known.items way.path (Ok c.in_ok-id.id) = subst (λ (h : Folder). ReachesTo txn h mid way.known.items way.path (Ok c.in_ok-id.id)) c.requires.whole c.in_ok-id.ensures.opens in
+    let o = opens look trees top base tree marks known shown le is_tree d in
+    let there = kind_there look trees top base shown le txn first tree marks d way.path o.0 mid c.in_ok-id.id o.2 in
+    let same : o.0 ≡ kind = same_Some o.0 kind (sym there ∙ sym c.kind_of.ensures ∙ c.in-Some.is) in
+    let fit : fits_value (bytes_of c.args.value) ≡ true = sym c.if-not-fits.ensures in
+    let sets : SetsProp txn first mid (g.N.Own.settled c.property_in.new.own) way c.in_ok-id.id kind c.args.name.now c.args.value c.property_in.result =
+    subst (λ (t : TxnName). SetsProp t first mid (g.N.Own.settled c.property_in.new.own) way c.in_ok-id.id kind c.args.name.now c.args.value c.property_in.result) c.in_ok-id.ensures.name
+    (subst (λ (h : Folder). SetsProp (g.N.Own.txn c.reached.new.own) h mid (g.N.Own.settled c.property_in.new.own) way c.in_ok-id.id kind c.args.name.now c.args.value c.property_in.result) c.in_ok-id.ensures.settled c.property_in.ensures.sets) in
+    sets look trees top base tree marks known shown le d
+    (subst (λ (k : Kind). IsOpenedAt look trees top base txn marks tree d.0.shows.own way.path k mid c.in_ok-id.id) same o.2)
+    (subst (λ (k : Kind). HasKind (tree way.path) k) same o.1) fit
+
+pub returns-then-not-fits-clause-meets : goal.returns-then-not-fits-clause-meets
+returns-then-not-fits-clause-meets g c = λ look trees top base tree marks known shown le is_tree d. (sym c.if-not-fits.ensures, refl)

@@ -1,0 +1,25 @@
+use Rattle.std.proofs.Common.{◌≡◌, ◌≤◌, Some, Ok, sym, subst, ◌∙◌}
+use Rattle.std.specs.Prelude.{Option}
+use Rattle.std.proofs.lemmas.Result.{err_from_is_err_and}
+use Rattle.fsfs_noderev.specs.declared.node_id.NodeId.{NodeId}
+use Rattle.fsfs_shows.specs.Reading.{Pairs, offset_of, OfId}
+use Rattle.fsfs_drafts.specs.Drafts.{Kept}
+use Rattle.fsfs_own.specs.Entries.{IsWithin}
+use Rattle.fsfs_own.specs.Properties.{OfKeptProps}
+use Rattle.fsfs_own.specs.Views.{kept_value}
+use Rattle.fsfs_own.proofs.Readings.{kept_props_read}
+use Rattle.fsfs_opened.proofs.properties.props_known.Goals as goal
+
+pub returns-in_ok-pairs-in-Some-find-clause-tells : goal.returns-in_ok-pairs-in-Some-find-clause-tells
+returns-in_ok-pairs-in-Some-find-clause-tells g c = λ look top k known there within.
+    let both : Some (kept_value c.in-Some.kept.now) ≡ Some k = c.in-Some.ensures ∙ there in
+    let one : kept_value c.in-Some.kept.now ≡ k = cc in
+    let id = c.in-Some-predecessor.from in
+    let low : IsWithin top c.in-Some.kept.now.node.predecessor = subst (λ (x : Kept). IsWithin top x.node.predecessor) (sym one) within in
+    let le : (offset_of id.place).rev ≤ top = subst (λ (o : Option NodeId). IsWithin top o) c.in-Some-predecessor.is low in
+    let found = c.in-Some-find.one.now in
+    let same = c.in-Some-find.ensures.id in
+    let is = c.in-Some-find.ensures.known look top known (subst (λ (i : NodeId). (offset_of i.place).rev ≤ top) (sym same) le) in
+    subst (λ (x : Kept). OfKeptProps look x (Ok c.in_ok-pairs-in-Some-find.pairs)) one
+    (kept_props_read look (kept_value c.in-Some.kept.now) id (Ok c.in_ok-pairs-in-Some-find.pairs) c.in-None.is c.in-Some-predecessor.is
+    (found.node, subst (λ (i : NodeId). OfId look i (Ok found.node)) same is.node, subst (λ (ps : Pairs). ps) is.props))

@@ -1,0 +1,44 @@
+use Rattle.std.proofs.Common.{◌≡◌, Result, sym, ap, subst, refl, ◌∙◌}
+use Rattle.std.proofs.lemmas.Result.{err_from_is_err_and}
+use Rattle.fsfs_own.specs.declared.error.EditError.{EditError}
+use Rattle.fsfs_opened.specs.declared.texts.TextPut.{TextPut}
+use Rattle.fsfs_opened.specs.Texts.{IsPuttingText}
+use Rattle.fsfs_opened.proofs.Growing.{not_longer}
+use Rattle.fsfs_opened.proofs.TextLemmas.{left_want, left_settle, longer_on, text_refused, kept_still, text_done}
+use Rattle.fsfs_opened.proofs.texts.text_in.Goals as goal
+
+pub returns-in_err-number-clause-puts : goal.returns-in_err-number-clause-puts
+returns-in_err-number-clause-puts g c = λ look trees top base tree marks shown le d o has.
+    let r = err_from_is_err_and c.from_residual.result c.from_residual.ensures.1 in
+    rw (r.1, r.2) (not_longer _ _ c.in_err-number.ensures.settled)
+
+pub returns-in-Err-clause-puts : goal.returns-in-Err-clause-puts
+returns-in-Err-clause-puts g c = λ look trees top base tree marks shown le d o has.
+    subst (λ (r : Result TextPut EditError). IsPuttingText ((x : g.N.type) → g.N.OwnTexts.tells x ≡ true) look trees top base (g.N.Own.txn c.args.own.now) tree marks c.args.path.now (g.I.Source.remaining c.args.source.now) (g.I.Source.remaining c.append_text.new.source) c.args.expect (g.N.Own.settled c.args.own.now) (g.N.Own.settled c.append_text.new.self) r)
+    (sym c.refused.ensures)
+    (text_refused _ look trees top base (g.N.Own.txn c.args.own.now) tree marks c.args.path.now (g.I.Source.remaining c.args.source.now) (g.I.Source.remaining c.append_text.new.source) c.args.expect (g.N.Own.settled c.args.own.now) _ _ _ (g.N.Own.settled c.append_text.new.self) has c.in_ok-number.ensures.settled c.in-Err.error c.in-Err.ensures.refused c.in-Err.ensures.left)
+
+pub returns-in_err-set_text-clause-puts : goal.returns-in_err-set_text-clause-puts
+returns-in_err-set_text-clause-puts g c = λ look trees top base tree marks shown le d o has.
+    let put = c.in-Ok.ensures.put in
+    let r = err_from_is_err_and c.from_residual-in_err-set_text.result c.from_residual-in_err-set_text.ensures.1 in
+    rw (r.1, r.2) (left_want c.in_err-set_text.field-0.0 _ _ c.in_err-set_text.ensures.cause (longer_on _ _ _ _ put.more c.in_ok-number.ensures.settled put.longer_by.1 c.in_err-set_text.ensures.settled))
+
+pub returns-in_err-item-clause-puts : goal.returns-in_err-item-clause-puts
+returns-in_err-item-clause-puts g c = λ look trees top base tree marks shown le d o has.
+    let put = c.in-Ok.ensures.put in
+    let r = err_from_is_err_and c.from_residual-in_err-item.result c.from_residual-in_err-item.ensures.1 in
+    rw (r.1, r.2) (longer_on _ _ _ _ put.more c.in_ok-number.ensures.settled put.longer_by.1 c.in_ok-set_text.ensures.settled)
+
+pub returns-in_err-settle-clause-puts : goal.returns-in_err-settle-clause-puts
+returns-in_err-settle-clause-puts g c = λ look trees top base tree marks shown le d o has.
+    let put = c.in-Ok.ensures.put in
+    let r = err_from_is_err_and c.from_residual-in_err-settle.result c.from_residual-in_err-settle.ensures.1 in
+    rw (r.1, r.2) (left_settle c.in_err-settle.field-0.0 _ _ (λ h. longer_on _ _ _ _ put.more c.in_ok-number.ensures.settled put.longer_by.1 (h ∙ c.in_ok-set_text.ensures.settled)) c.in_err-settle.ensures.not_done)
+
+pub returns-clause-puts : goal.returns-clause-puts
+returns-clause-puts g c = λ look trees top base tree marks shown le d o has.
+    let put = c.in-Ok.ensures.put in
+    text_done _ look trees top base shown le (g.N.Own.txn c.args.own.now) (g.N.Own.settled c.args.own.now) tree marks d c.args.path.now (g.N.Own.folder c.args.own.now) (g.N.Own.folder c.draw_node.new.self) (g.N.Own.folder c.append_text.new.self) c.args.id.now o has
+    (g.I.Source.remaining c.args.source.now) (g.I.Source.remaining c.append_text.new.source) c.args.expect _ _ c.in-Ok.rep _ _ _ c.in_ok-number.ensures.done put (λ told. told _)
+    (g.N.Own.folder c.set_text.new.own) c.in_ok-set_text.ensures.done c.in_ok-item.item c.in_ok-item.ensures (g.N.Own.settled c.settle.new.self) c.in_ok-settle.ensures.done

@@ -1,0 +1,54 @@
+//! What was read of node-revisions of revisions.
+ghost use Rattle.std.specs.Prelude.{◌≡◌, ℕ, IfOk, IfSome};
+ghost use Rattle.fsfs_book.specs.Told.{RevisionBytes, Knows, Keeps};
+ghost use Rattle.fsfs_damage.specs.Causes.{HasCause};
+ghost use Rattle.fsfs_opened.specs.Knowing.{IsKnownUpTo, AreKnown};
+
+use fsfs_base::Pairs;
+use fsfs_book::Book;
+use fsfs_dag::{DirEntry, named_node, props, same_id};
+use fsfs_damage::ReadError;
+use fsfs_noderev::{NodeId, NodeRev};
+use fsfs_own::lasting_entries;
+use std::alloc::Global;
+
+/// A node-revision of a revision, with its entries, if it is a directory, and its properties.
+#[derive(Debug, Drop)]
+pub struct Known {
+    pub node: NodeRev,
+    pub entries: Vec<DirEntry>,
+    pub props: Pairs,
+}
+
+/// The node-revision of an id in a revision, with what is in it.
+pub(crate) fn known_of<B: Book>(
+    alloc: Global,
+    book: &mut B,
+    id: &NodeId,
+) -> Result<Known, ReadError>
+    ensures known { (look : RevisionBytes) (top : ℕ) → Knows (B.told book.old).revs top look → IfOk result (IsKnownUpTo look top) }
+    ensures kept { Keeps (B.told book.old) (B.told book.new) }
+    ensures cause { HasCause (B.faults book.old) (B.faults book.new) result }
+{
+    let found = named_node(alloc, book, id)?;
+    let props = props(alloc, book, &found)?;
+    let entries = lasting_entries(alloc, book, id)?;
+    Ok(Known {
+        node: found.node,
+        entries,
+        props,
+    })
+}
+
+/// What is known of the node-revision of an id.
+pub(crate) fn find<'a>(known: &'a [Known], id: &NodeId) -> Option<&'a Known>
+    ensures known { (look : RevisionBytes) (top : ℕ) → AreKnown look top known.now → IfSome result (λ k. IsKnownUpTo look top k.now) }
+    ensures id { IfSome result (λ k. k.now.node.id ≡ id.now) }
+{
+    for one in known {
+        if same_id(&one.node.id, id) {
+            return Some(one);
+        }
+    }
+    None
+}

@@ -1,0 +1,146 @@
+//! The opening of a node: what stands at its path, and what is known of the way to it.
+ghost use Rattle.std.specs.Prelude.{◌≡◌, ℕ, IfOk, OnOk};
+ghost use Rattle.fsfs_book.specs.Told.{RevisionBytes, Knows, Keeps};
+ghost use Rattle.fsfs_own.specs.Causes.{HasDiskCause, HasBenchCause};
+ghost use Rattle.fsfs_opened.specs.Knowing.{AreKnown};
+ghost use Rattle.fsfs_opened.specs.Opening.{OpensAt, IfOpened};
+
+use crate::known::{Known, find, known_of};
+use crate::reaching::entries_known;
+use fsfs_base::FsPath;
+use fsfs_book::Book;
+use fsfs_dag::entry_named;
+use fsfs_edit::found_at;
+use fsfs_noderev::NodeId;
+use fsfs_own::{EditError, Found, Own, root_id};
+use fsfs_revision::is_revision_id;
+use std::alloc::Global;
+
+/// The way to a node of the transaction: its path, and what is known of the revisions on it.
+#[derive(Debug, Drop)]
+pub struct Way {
+    pub path: FsPath,
+    pub known: Vec<Known>,
+}
+
+/// What became of an opening.
+#[derive(Debug, Drop)]
+pub enum Opening {
+    Node(Way),
+    /// So many names of the path lead to nothing.
+    NotFound(usize),
+    /// So many names of the path lead to a file, and more follow.
+    NotDir(usize),
+}
+
+// The node-revision of a revision that stands there, or that an own one goes on from.
+fn source_of<N: Own>(own: &N, id: &NodeId) -> Option<NodeId> {
+    if is_revision_id(id) {
+        return Some(*id);
+    }
+    match own.kept(id) {
+        None => None,
+        Some(kept) => kept.node.predecessor,
+    }
+}
+
+// Reads it, and adds it to what is known.
+fn note<B: Book, N: Own>(
+    alloc: Global,
+    book: &mut B,
+    own: &N,
+    id: &NodeId,
+    known: &mut Vec<Known>,
+) -> Result<(), EditError>
+    ensures known { (look : RevisionBytes) (top : ℕ) → Knows (B.told book.old).revs top look → AreKnown look top known.old.items → OnOk result (AreKnown look top known.new.items) }
+    ensures kept { Keeps (B.told book.old) (B.told book.new) }
+    ensures cause { HasDiskCause (B.faults book.old) (B.faults book.new) result }
+    ensures quiet { (faults : ℕ) → HasBenchCause faults faults result }
+{
+    let Some(source) = source_of(own, id) else {
+        return Ok(());
+    };
+    let one = known_of(alloc, book, &source)?;
+    known.push(one)?;
+    Ok(())
+}
+
+// The id that a name of a directory leads to.
+fn child_id<N: Own>(own: &N, known: &[Known], dir: &NodeId, name: &str) -> Option<NodeId> {
+    if is_revision_id(dir) {
+        let one = find(known, dir)?;
+        let entry = entry_named(one.entries.as_slice(), name)?;
+        return Some(entry.id);
+    }
+    let kept = own.kept(dir)?;
+    let entries = entries_known(known, kept)?;
+    let entry = entry_named(entries, name)?;
+    Some(entry.id)
+}
+
+// What is known of the revisions on the way to the path.
+fn known_to<B: Book, N: Own>(
+    alloc: Global,
+    book: &mut B,
+    own: &N,
+    path: &FsPath,
+) -> Result<Vec<Known>, EditError>
+    ensures known { (look : RevisionBytes) (top : ℕ) → Knows (B.told book.old).revs top look → IfOk result (λ all. AreKnown look top all.items) }
+    ensures kept { Keeps (B.told book.old) (B.told book.new) }
+    ensures cause { HasDiskCause (B.faults book.old) (B.faults book.new) result }
+    ensures quiet { (faults : ℕ) → HasBenchCause faults faults result }
+{
+    let mut known = Vec::new(alloc);
+    let mut at = root_id(own.name());
+    note(alloc, book, own, &at, &mut known)?;
+    for name in path.names() {
+        let Some(id) = child_id(own, known.as_slice(), &at, name) else {
+            return Ok(known);
+        };
+        note(alloc, book, own, &id, &mut known)?;
+        at = id;
+    }
+    Ok(known)
+}
+
+// The way to a path at which something stands.
+fn way_to<B: Book, N: Own>(
+    alloc: Global,
+    book: &mut B,
+    own: &N,
+    path: &FsPath,
+) -> Result<Way, EditError>
+    ensures path { IfOk result (λ way. way.path ≡ path.now) }
+    ensures known { (look : RevisionBytes) (top : ℕ) → Knows (B.told book.old).revs top look → IfOk result (λ way. AreKnown look top way.known.items) }
+    ensures kept { Keeps (B.told book.old) (B.told book.new) }
+    ensures cause { HasDiskCause (B.faults book.old) (B.faults book.new) result }
+    ensures quiet { (faults : ℕ) → HasBenchCause faults faults result }
+{
+    let known = known_to(alloc, book, own, path)?;
+    let path = path.clone()?;
+    Ok(Way { path, known })
+}
+
+/// Opens what stands at a path of the transaction's tree: all that a text or a property put there wants of the revisions is read.
+pub fn open_at<B: Book, N: Own>(
+    alloc: Global,
+    book: &mut B,
+    own: &N,
+    path: &FsPath,
+) -> Result<Opening, EditError>
+    ensures opens { OpensAt (B.told book.old).revs (N.txn own.now) (N.folder own.now) path.now result }
+    ensures path { IfOpened result (λ way. way.path ≡ path.now) }
+    ensures known { (look : RevisionBytes) (top : ℕ) → Knows (B.told book.old).revs top look → IfOpened result (λ way. AreKnown look top way.known.items) }
+    ensures kept { Keeps (B.told book.old) (B.told book.new) }
+    ensures cause { HasDiskCause (B.faults book.old) (B.faults book.new) result }
+    ensures bench { HasBenchCause (N.faults own.now) (N.faults own.now) result }
+{
+    match found_at(alloc, book, own, path)? {
+        Found::Absent(depth) => Ok(Opening::NotFound(depth)),
+        Found::File(depth) => Ok(Opening::NotDir(depth)),
+        Found::Node(_child) => {
+            let way = way_to(alloc, book, own, path)?;
+            Ok(Opening::Node(way))
+        }
+    }
+}

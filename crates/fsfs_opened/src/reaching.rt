@@ -1,0 +1,120 @@
+//! How all that stands on the way down a path becomes the transaction's own, by what is known of the revisions.
+ghost use Rattle.std.specs.Prelude.{◌≡◌, ◌≤◌, [], ℕ, Some, Ok, IfSome, OnOk};
+ghost use Rattle.fsfs_tree.specs.Nodes.{TreeFunction};
+ghost use Rattle.fsfs_base.specs.Paths.{Path};
+ghost use Rattle.fsfs_base.specs.declared.kind.Kind.TheVariants.{Dir};
+ghost use Rattle.fsfs_book.specs.Told.{RevisionBytes};
+ghost use Rattle.fsfs_dag.specs.Views.{entry_values};
+ghost use Rattle.fsfs_drafts.specs.Own.{Own as Owns, OwnNode};
+ghost use Rattle.fsfs_drafts.specs.Drafts.{IsDraft, ShowTrees};
+ghost use Rattle.fsfs_own.specs.Causes.{HasBenchCause};
+ghost use Rattle.fsfs_own.specs.Entries.{IsWithin, OfKept};
+ghost use Rattle.fsfs_own.specs.Views.{kept_value};
+ghost use Rattle.fsfs_opened.specs.Knowing.{AreKnown};
+ghost use Rattle.fsfs_opened.specs.Reaching.{ReachesChild, Reaches};
+
+use crate::known::{Known, find};
+use fsfs_base::{FsPath, Kind};
+use fsfs_dag::{DirEntry, entry_named};
+use fsfs_held::same_entries;
+use fsfs_noderev::NodeId;
+use fsfs_own::{EditError, KeptNode, Own};
+use fsfs_revision::is_revision_id;
+use fsfs_steps::change_child;
+use std::alloc::Global;
+
+/// The entries of an own directory: those of its `children` file, or those that are known of what it goes on from.
+pub(crate) fn entries_known<'a>(known: &'a [Known], kept: &'a KeptNode) -> Option<&'a [DirEntry]>
+    ensures { (look : RevisionBytes) (top : ℕ) → AreKnown look top known.now → IsWithin top kept.now.node.predecessor → IfSome result (λ es. OfKept look (kept_value kept.now) (Ok (entry_values es.now))) }
+{
+    match &kept.entries {
+        Some(entries) => Some(entries.as_slice()),
+        None => match &kept.node.predecessor {
+            None => None,
+            Some(id) => match find(known, id) {
+                None => None,
+                Some(one) => Some(one.entries.as_slice()),
+            },
+        },
+    }
+}
+
+// Makes what stands under a name of an own directory the transaction's own, and answers its id.
+fn child_in<N: Own>(
+    alloc: Global,
+    own: &mut N,
+    known: &[Known],
+    dir: &NodeId,
+    name: &str,
+) -> Result<NodeId, EditError>
+    ensures draft { (look : RevisionBytes) (trees : ℕ → TreeFunction) (top base : ℕ) (nodes : Owns) (p : Path) (d : OwnNode) → AreKnown look top known.now → ShowTrees look top trees → base ≤ top → IsDraft look top base (N.txn own.old) (N.folder own.old) nodes → nodes p ≡ Some d → d.node.id ≡ dir.now → d.node.kind ≡ Dir → ReachesChild look trees top base (N.txn own.old) (N.folder own.old) nodes p name.now (N.folder own.new) result }
+    ensures proto { OnOk result ((N.folder own.new).proto ≡ (N.folder own.old).proto) }
+    ensures settled { N.settled own.new ≡ N.settled own.old }
+    ensures name { N.txn own.new ≡ N.txn own.old }
+    ensures bench { HasBenchCause (N.faults own.old) (N.faults own.new) result }
+{
+    let Some(kept) = own.kept(dir) else {
+        return Err(EditError::Lacking);
+    };
+    let Some(entries) = entries_known(known, kept) else {
+        return Err(EditError::Lacking);
+    };
+    let Some(entry) = entry_named(entries, name) else {
+        return Err(EditError::Lacking);
+    };
+    let kind = entry.kind;
+    let id = entry.id;
+    if !is_revision_id(&id) {
+        return Ok(id);
+    }
+    let Some(old) = find(known, &id) else {
+        return Err(EditError::Lacking);
+    };
+    let all = same_entries(alloc, entries)?;
+    change_child(alloc, own, dir, all, name, kind, &old.node)
+}
+
+// The same of what may be no directory.
+fn child_at<N: Own>(
+    alloc: Global,
+    own: &mut N,
+    known: &[Known],
+    dir: &NodeId,
+    name: &str,
+) -> Result<NodeId, EditError>
+    ensures draft { (look : RevisionBytes) (trees : ℕ → TreeFunction) (top base : ℕ) (nodes : Owns) (p : Path) (d : OwnNode) → AreKnown look top known.now → ShowTrees look top trees → base ≤ top → IsDraft look top base (N.txn own.old) (N.folder own.old) nodes → nodes p ≡ Some d → d.node.id ≡ dir.now → ReachesChild look trees top base (N.txn own.old) (N.folder own.old) nodes p name.now (N.folder own.new) result }
+    ensures proto { OnOk result ((N.folder own.new).proto ≡ (N.folder own.old).proto) }
+    ensures settled { N.settled own.new ≡ N.settled own.old }
+    ensures name { N.txn own.new ≡ N.txn own.old }
+    ensures bench { HasBenchCause (N.faults own.old) (N.faults own.new) result }
+{
+    let Some(kept) = own.kept(dir) else {
+        return Err(EditError::Lacking);
+    };
+    match kept.node.kind {
+        Kind::File => Err(EditError::Lacking),
+        Kind::Dir => child_in(alloc, own, known, dir, name),
+    }
+}
+
+/// Makes what stands on the way from the root to the path the transaction's own, and answers the id of what stands at the path. Where
+/// it is not known what stands there, it is `Lacking`.
+pub(crate) fn reach<N: Own>(
+    alloc: Global,
+    own: &mut N,
+    known: &[Known],
+    root: &NodeId,
+    path: &FsPath,
+) -> Result<NodeId, EditError>
+    ensures draft { (look : RevisionBytes) (trees : ℕ → TreeFunction) (top base : ℕ) (nodes : Owns) (v : OwnNode) → AreKnown look top known.now → ShowTrees look top trees → base ≤ top → IsDraft look top base (N.txn own.old) (N.folder own.old) nodes → nodes [] ≡ Some v → v.node.id ≡ root.now → Reaches look trees top base (N.txn own.old) (N.folder own.old) nodes path.now (N.folder own.new) result }
+    ensures proto { OnOk result ((N.folder own.new).proto ≡ (N.folder own.old).proto) }
+    ensures settled { N.settled own.new ≡ N.settled own.old }
+    ensures name { N.txn own.new ≡ N.txn own.old }
+    ensures bench { HasBenchCause (N.faults own.old) (N.faults own.new) result }
+{
+    let mut id = *root;
+    for name in path.names() {
+        id = child_at(alloc, own, known, &id, name)?;
+    }
+    Ok(id)
+}

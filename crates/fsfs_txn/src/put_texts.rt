@@ -1,0 +1,80 @@
+//! Texts put at what was opened.
+ghost use Rattle.std.specs.Prelude.{◌≡◌, None, true};
+ghost use Rattle.fsfs_opened.specs.Failing as failing;
+ghost use Rattle.fsfs_opened.specs.Texts.{MeetsPut};
+ghost use Rattle.fsfs_txn.specs.Spending.{IsSpentAfter, StaysSpent};
+ghost use Rattle.fsfs_txn.specs.PutTexts.{MeetsPuttingText, IsStaleText, HasSourceRise, HasBenchRise};
+
+use crate::opening::Opened;
+use crate::txn::Txn;
+use crate::txn_error::TxnError;
+use fsfs_base::HexDigest;
+use fsfs_held::OwnTexts;
+use fsfs_opened::{TextPut, Way, put_text};
+use fsfs_own::{EditError, Own};
+use fsfs_streams::Source;
+use std::alloc::Global;
+
+/// What became of a text that was put at what was opened.
+#[derive(Clone, Copy, Debug, PartialEq, Eq)]
+pub enum OpenedText {
+    /// A node was made, copied or taken away since it was opened: so many there were then, and so many there are now.
+    Stale { opened: u64, now: u64 },
+    Put(TextPut),
+}
+
+// Puts the text. What an earlier failure left unsettled is forgotten first.
+fn put_settled<N: OwnTexts, I: Source>(
+    alloc: Global,
+    own: &mut N,
+    way: &Way,
+    source: &mut I,
+    expect: Option<HexDigest<16>>,
+) -> Result<TextPut, EditError>
+    ensures meets { MeetsPut ((x : N) → N.tells x ≡ true) (N.txn own.old) (N.settled own.old) (N.settled own.new) way.now (I.remaining source.old) (I.remaining source.new) expect result }
+    ensures name { N.txn own.new ≡ N.txn own.old }
+    ensures source_cause { failing.HasSourceRise (I.faults source.old) (I.faults source.new) result }
+    ensures bench_cause { failing.HasBenchRise (N.faults own.old) (N.faults own.new) result }
+{
+    own.forget();
+    put_text(alloc, own, way, source, expect)
+}
+
+impl<N: OwnTexts> Txn<N> {
+    /// Gives the file that was opened the text that the source has left. No book is read. It is refused where a node was made, copied
+    /// or taken away since, at a directory, where the source fails, or where the text is too long or has another digest than the one
+    /// that was given, in this order. A refusal leaves what the transaction stands for as it was, and so does every failure but the
+    /// bench's, which spends it.
+    pub fn put_text<I: Source>(
+        &mut self,
+        alloc: Global,
+        opened: &Opened,
+        source: &mut I,
+        expect: Option<HexDigest<16>>,
+    ) -> Result<OpenedText, TxnError>
+        // The transaction is the one that the node was opened in, whose history this is.
+        ensures meets { self.old.spent ≡ None → MeetsPuttingText ((x : N) → N.tells x ≡ true) self.old.base self.old.moves (N.txn self.old.own) (N.settled self.old.own) (N.settled self.new.own) opened.now (I.remaining source.old) (I.remaining source.new) expect result }
+        ensures stale { self.old.spent ≡ None → IsStaleText opened.now.moves self.old.moves result }
+        ensures stays { StaysSpent self.old.spent result (self.new ≡ self.old) }
+        ensures spent { IsSpentAfter self.old.spent self.new.spent result }
+        ensures moves { self.new.moves ≡ self.old.moves }
+        ensures base { self.new.base ≡ self.old.base }
+        ensures name { N.txn self.new.own ≡ N.txn self.old.own }
+        ensures source_cause { HasSourceRise (I.faults source.old) (I.faults source.new) result }
+        ensures bench_cause { HasBenchRise (N.faults self.old.own) (N.faults self.new.own) result }
+    {
+        if let Some(first) = self.spent {
+            return Err(TxnError::Spent { first });
+        }
+        if opened.moves != self.moves {
+            return Ok(OpenedText::Stale {
+                opened: opened.moves,
+                now: self.moves,
+            });
+        }
+        match put_settled(alloc, &mut self.own, &opened.way, source, expect) {
+            Ok(put) => Ok(OpenedText::Put(put)),
+            Err(error) => Err(self.failed(error)),
+        }
+    }
+}
