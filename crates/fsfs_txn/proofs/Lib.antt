@@ -1,3 +1,4 @@
 pub mod Meeting
 pub mod Viewing
 pub mod Saying
+pub mod Putting

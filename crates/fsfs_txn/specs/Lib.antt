@@ -7,3 +7,7 @@ pub mod Properties
 pub mod Texts
 pub mod Getting
 pub mod Items
+pub mod Opening
+pub mod PutTexts
+pub mod PutProperties
+pub mod GettingTexts

@@ -1,0 +1,21 @@
+use Rattle.std.proofs.Common.{◌≡◌, sym, subst}
+use Rattle.fsfs_drafts.specs.Drafts.{Folder}
+use Rattle.fsfs_txn.specs.declared.txn_error.TxnError.{TxnError}
+use Rattle.fsfs_txn.specs.PutTexts.{IfLeft}
+use Rattle.fsfs_txn.proofs.Meeting.{is_tree}
+use Rattle.fsfs_txn.proofs.Putting.{prop_put}
+use Rattle.fsfs_txn.proofs.txn.Txn.put_prop.Goals as goal
+
+pub returns-in-Ok-clause-meets : goal.returns-in-Ok-clause-meets
+returns-in-Ok-clause-meets g c = λ unspent look trees top tree marks known shown revs le stands.
+    let s = c.args.self.now in
+    prop_put look trees top s.base (g.N.Own.txn s.own) (g.N.Own.settled s.own) tree marks revs stands s.moves c.args.opened.now c.args.name.now c.args.value (g.N.Own.settled c.put_settled.new.own) c.in-Ok.put
+    (c.in-Ok.ensures.meets look trees top s.base tree marks known shown le (is_tree look trees top s.base (g.N.Own.txn s.own) (g.N.Own.settled s.own) tree marks revs stands) stands.shows)
+
+pub returns-in-Err-clause-meets : goal.returns-in-Err-clause-meets
+returns-in-Err-clause-meets g c = λ unspent look trees top tree marks known shown revs le stands.
+    let s = c.args.self.now in
+    let kept : g.N.Own.settled c.failed.new.self.own ≡ g.N.Own.settled c.put_settled.new.own = λ i. g.N.Own.settled (c.failed.ensures.spent i).own in
+    subst (λ (f : Folder). IfLeft c.failed.result (f ≡ g.N.Own.settled s.own)) (sym kept)
+    (subst (λ (e : TxnError). IfLeft e (g.N.Own.settled c.put_settled.new.own ≡ g.N.Own.settled s.own)) (sym c.failed.ensures.error)
+    (c.in-Err.ensures.meets look trees top s.base tree marks known shown le (is_tree look trees top s.base (g.N.Own.txn s.own) (g.N.Own.settled s.own) tree marks revs stands) stands.shows))

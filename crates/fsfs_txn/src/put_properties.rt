@@ -1,0 +1,74 @@
+//! Properties set or removed at what was opened.
+ghost use Rattle.std.specs.Prelude.{◌≡◌, None};
+ghost use Rattle.fsfs_own.specs.Causes as causes;
+ghost use Rattle.fsfs_opened.specs.Properties.{MeetsPutProp};
+ghost use Rattle.fsfs_txn.specs.Spending.{IsSpentAfter, StaysSpent, HasBenchCause};
+ghost use Rattle.fsfs_txn.specs.PutProperties.{MeetsPuttingProp, IsStaleProp};
+
+use crate::opening::Opened;
+use crate::txn::Txn;
+use crate::txn_error::TxnError;
+use fsfs_fields::PropName;
+use fsfs_opened::{PropertyPut, Way, put_property};
+use fsfs_own::{EditError, Own};
+use std::alloc::Global;
+
+/// What became of a property that was set or removed at what was opened.
+#[derive(Clone, Copy, Debug, PartialEq, Eq)]
+pub enum OpenedProperty {
+    /// A node was made, copied or taken away since it was opened: so many there were then, and so many there are now.
+    Stale { opened: u64, now: u64 },
+    Put(PropertyPut),
+}
+
+// Sets or removes the property. What an earlier failure left unsettled is forgotten first.
+fn put_settled<N: Own>(
+    alloc: Global,
+    own: &mut N,
+    way: &Way,
+    name: &PropName,
+    value: Option<Vec<u8>>,
+) -> Result<PropertyPut, EditError>
+    ensures meets { MeetsPutProp (N.txn own.old) (N.settled own.old) (N.settled own.new) way.now name.now value result }
+    ensures name { N.txn own.new ≡ N.txn own.old }
+    ensures bench { causes.HasBenchCause (N.faults own.old) (N.faults own.new) result }
+{
+    own.forget();
+    put_property(alloc, own, way, name, value)
+}
+
+impl<N: Own> Txn<N> {
+    /// Gives what was opened a property, or takes it away where there is no value; one that is absent is taken away too. No book is
+    /// read. It is refused where a node was made, copied or taken away since, or where the value has more than 1,048,576 bytes, in this
+    /// order. A refusal leaves the transaction as it was, and so does every failure but the bench's, which spends it.
+    pub fn put_prop(
+        &mut self,
+        alloc: Global,
+        opened: &Opened,
+        name: &PropName,
+        value: Option<Vec<u8>>,
+    ) -> Result<OpenedProperty, TxnError>
+        ensures meets { self.old.spent ≡ None → MeetsPuttingProp self.old.base self.old.moves (N.txn self.old.own) (N.settled self.old.own) (N.settled self.new.own) opened.now name.now value result }
+        ensures stale { self.old.spent ≡ None → IsStaleProp opened.now.moves self.old.moves result }
+        ensures stays { StaysSpent self.old.spent result (self.new ≡ self.old) }
+        ensures spent { IsSpentAfter self.old.spent self.new.spent result }
+        ensures moves { self.new.moves ≡ self.old.moves }
+        ensures base { self.new.base ≡ self.old.base }
+        ensures name { N.txn self.new.own ≡ N.txn self.old.own }
+        ensures bench { HasBenchCause (N.faults self.old.own) (N.faults self.new.own) result }
+    {
+        if let Some(first) = self.spent {
+            return Err(TxnError::Spent { first });
+        }
+        if opened.moves != self.moves {
+            return Ok(OpenedProperty::Stale {
+                opened: opened.moves,
+                now: self.moves,
+            });
+        }
+        match put_settled(alloc, &mut self.own, &opened.way, name, value) {
+            Ok(put) => Ok(OpenedProperty::Put(put)),
+            Err(error) => Err(self.failed(error)),
+        }
+    }
+}
