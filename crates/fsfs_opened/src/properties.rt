@@ -1,14 +1,12 @@
 //! A property set or removed at what was opened.
-ghost use Rattle.std.specs.Prelude.{◌≡◌, ℕ, Some, IfOk, IfErr, true};
-ghost use Rattle.fsfs_book.specs.Told.{RevisionBytes};
-ghost use Rattle.fsfs_drafts.specs.Steps.{kept_at};
+ghost use Rattle.std.specs.Prelude.{◌≡◌};
 ghost use Rattle.fsfs_own.specs.Causes.{HasBenchCause};
 ghost use Rattle.fsfs_opened.specs.Properties.{TellsProps, SetsProp, MeetsPutProp};
 
 use crate::known::{Known, find};
 use crate::opening::Way;
 use crate::reached::{kind_of, reached};
-use fsfs_base::{FsPath, Kind, Pairs};
+use fsfs_base::{Kind, Pairs};
 use fsfs_edit::{fits, modified, with_value};
 use fsfs_fields::PropName;
 use fsfs_noderev::NodeId;
