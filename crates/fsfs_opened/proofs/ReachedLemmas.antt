@@ -32,8 +32,7 @@ module _ (look : RevisionBytes) (trees : ℕ → TreeFunction) (top base : ℕ) 
   reached_leaves p after (Ok id) h =
       let o = h.5 tree marks First (edits_keep_drafts.begins look trees top base txn f tree marks d.0 d.1) in
       let v = h.2 in
-      let there = own_shown look top base trees shown le txn after h.0 h.1.0 p v h.3 in
-      (
+      let there = own_shown look top base trees shown le txn after h.0 h.1.0 p v h.3 in (
         v.node.kind,
         bare_kind (draft_tree trees h.0 (trees base) p) (tree p) v.node.kind (sym (o.each p)) (has_kind (draft_tree trees h.0 (trees base) p) v.shown v.node.kind there (h.1.0.contents p v h.3).kind),
         record { now = h.0; opened = o; v = v; here = h.3; id_is = h.4; kind_is = refl },

@@ -61,8 +61,10 @@ fn note<B: Book, N: Own>(
         return Ok(());
     };
     let one = known_of(alloc, book, &source)?;
-    known.push(one)?;
-    Ok(())
+    match known.push(one) {
+        Ok(()) => Ok(()),
+        Err(_) => Err(EditError::OutOfMemory),
+    }
 }
 
 // The id that a name of a directory leads to.

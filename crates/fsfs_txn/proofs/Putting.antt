@@ -47,13 +47,16 @@ module _ (look : RevisionBytes) (trees : ℕ → TreeFunction) (top base : ℕ) 
   module _ (Told : Type 0) (moves : ℕ) (o : Opened) (from to : Option (List ℕ)) (expect : Option (HexDigest 16)) (after : Folder) where
     pub text_put : (put : TextPut) → opened_texts.IsPuttingText Told look trees top base txn tree marks o.way.path from to expect before after (Ok put)
         → IsPuttingText Told look trees top base txn tree marks moves o from to expect before after (Ok (texts.Put put))
-    text_put puts.Done h = (h.0, record {
-      text = h.1.text;
-      given = h.1.given;
-      short = h.1.short;
-      expected = h.1.expected;
-      edited = λ told bytes same. edited look trees top base txn before tree marks revs stands (PutText o.way.path bytes) after (h.1.done told bytes same);
-    })
+    text_put puts.Done h = (
+      h.0,
+      record {
+        text = h.1.text;
+        given = h.1.given;
+        short = h.1.short;
+        expected = h.1.expected;
+        edited = λ told bytes same. edited look trees top base txn before tree marks revs stands (PutText o.way.path bytes) after (h.1.done told bytes same);
+      },
+    )
     text_put puts.NotFile h = h
     text_put puts.SourceFault h = (h.0, h.1, left_standing after (h.2, h.3))
     text_put puts.TooLong h = (h.0, h.1, left_standing after (h.2, h.3))

@@ -37,9 +37,8 @@ returns-clause-sets g c = λ look trees top base tree marks known shown le d o h
     let there = kept_there look trees top base shown le txn first tree marks d p c.args.kind mid c.args.id.now o has in
     let full = files look trees top base shown le txn first tree marks d p c.args.kind mid c.args.id.now o has in
     let within = own_within look top base trees shown le txn mid o.now o.opened.draft p o.v o.here full in
-    let read = c.in_ok-pairs.ensures.tells look top (kept_of o.v) known there within in
-    (
+    let read = c.in_ok-pairs.ensures.tells look top (kept_of o.v) known there within in (
       fit,
       property_set look trees top base shown le txn first tree marks d p c.args.kind mid c.args.id.now o has c.args.name.now c.args.value c.in_ok-pairs.pairs read c.in_ok-all.all c.in_ok-all.ensures
-      (g.N.Own.folder c.set_props.new.own) c.in_ok-set_props.ensures.done c.in_ok-item.item c.in_ok-item.ensures (g.N.Own.settled c.settle.new.self) c.in_ok-settle.ensures.done,
+          (g.N.Own.folder c.set_props.new.own) c.in_ok-set_props.ensures.done c.in_ok-item.item c.in_ok-item.ensures (g.N.Own.settled c.settle.new.self) c.in_ok-settle.ensures.done,
     )
