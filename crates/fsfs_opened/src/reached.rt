@@ -27,6 +27,8 @@ pub(crate) fn reached<N: Own>(alloc: Global, own: &mut N, way: &Way) -> Result<N
 pub(crate) fn kind_of<N: Own>(own: &N, id: &NodeId) -> Option<Kind>
     ensures { result ≡ option_map (λ k. k.node.kind) (kept_at (N.folder own.now).nodes id.now) }
 {
-    let kept = own.kept(id)?;
-    Some(kept.node.kind)
+    match own.kept(id) {
+        None => None,
+        Some(kept) => Some(kept.node.kind),
+    }
 }

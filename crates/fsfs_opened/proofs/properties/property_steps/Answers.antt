@@ -32,7 +32,7 @@ returns-in-Some-clause-meets g c = λ look trees top base tree marks known shown
     let opens : ReachesTo txn first mid way.known.items way.path (Ok c.in_ok-id.id) = subst (λ (h : Folder). ReachesTo txn h mid way.known.items way.path (Ok c.in_ok-id.id)) c.requires.whole c.in_ok-id.ensures.opens in
     let o = opens look trees top base tree marks known shown le is_tree d in
     let there = kind_there look trees top base shown le txn first tree marks d way.path o.0 mid c.in_ok-id.id o.2 in
-    let same : o.0 ≡ kind = same_Some o.0 kind (sym there ∙ sym c.kind_of.ensures ∙ c.in-Some.is) in
+    let same : o.0 ≡ kind = same_Some o.0 kind (sym there ∙ sym c.in-Some.ensures) in
     let fit : fits_value (bytes_of c.args.value) ≡ true = sym c.if-not-fits.ensures in
     let sets : SetsProp txn first mid (g.N.Own.settled c.property_in.new.own) way c.in_ok-id.id kind c.args.name.now c.args.value c.property_in.result =
     subst (λ (t : TxnName). SetsProp t first mid (g.N.Own.settled c.property_in.new.own) way c.in_ok-id.id kind c.args.name.now c.args.value c.property_in.result) c.in_ok-id.ensures.name

@@ -35,7 +35,7 @@ returns-in-Dir-clause-meets g c = λ look trees top base tree marks known shown 
     let opens : ReachesTo txn first mid way.known.items way.path (Ok c.in_ok-id.id) = subst (λ (h : Folder). ReachesTo txn h mid way.known.items way.path (Ok c.in_ok-id.id)) c.requires.whole c.in_ok-id.ensures.opens in
     let o = opens look trees top base tree marks known shown le is_tree d in
     let there = kind_there look trees top base shown le txn first tree marks d way.path o.0 mid c.in_ok-id.id o.2 in
-    let same : o.0 ≡ Dir = same_Some o.0 Dir (sym there ∙ sym c.kind_of.ensures ∙ c.in-Some.is ∙ ap (λ (k : Kind). Some k) c.in-Dir.is) in
+    let same : o.0 ≡ Dir = same_Some o.0 Dir (sym there ∙ sym c.in-Some.ensures ∙ ap (λ (k : Kind). Some k) c.in-Dir.is) in
     (subst (λ (k : Kind). HasKind (tree way.path) k) same o.1, c.in_ok-id.ensures.settled)
 
 pub returns-in-File-clause-meets : goal.returns-in-File-clause-meets
@@ -47,7 +47,7 @@ returns-in-File-clause-meets g c = λ look trees top base tree marks known shown
     let opens : ReachesTo txn first mid way.known.items way.path (Ok c.in_ok-id.id) = subst (λ (h : Folder). ReachesTo txn h mid way.known.items way.path (Ok c.in_ok-id.id)) c.requires.whole c.in_ok-id.ensures.opens in
     let o = opens look trees top base tree marks known shown le is_tree d in
     let there = kind_there look trees top base shown le txn first tree marks d way.path o.0 mid c.in_ok-id.id o.2 in
-    let same : o.0 ≡ File = same_Some o.0 File (sym there ∙ sym c.kind_of.ensures ∙ c.in-Some.is ∙ ap (λ (k : Kind). Some k) c.in-File.is) in
+    let same : o.0 ≡ File = same_Some o.0 File (sym there ∙ sym c.in-Some.ensures ∙ ap (λ (k : Kind). Some k) c.in-File.is) in
     let puts : PutsText _ txn first mid (g.N.Own.settled c.text_in.new.own) way.path c.in_ok-id.id (g.I.Source.remaining c.args.source.now) (g.I.Source.remaining c.text_in.new.source) c.args.expect c.text_in.result =
     subst (λ (t : TxnName). PutsText _ t first mid (g.N.Own.settled c.text_in.new.own) way.path c.in_ok-id.id (g.I.Source.remaining c.args.source.now) (g.I.Source.remaining c.text_in.new.source) c.args.expect c.text_in.result) c.in_ok-id.ensures.name
     (subst (λ (h : Folder). PutsText _ (g.N.Own.txn c.reached.new.own) h mid (g.N.Own.settled c.text_in.new.own) way.path c.in_ok-id.id (g.I.Source.remaining c.args.source.now) (g.I.Source.remaining c.text_in.new.source) c.args.expect c.text_in.result) c.in_ok-id.ensures.settled c.text_in.ensures.puts) in
