@@ -1,5 +1,5 @@
 -- A text put at what was opened: what is left, and when it is refused.
-use Rattle.std.specs.Prelude.{◌≡◌, ◌≤◌, ℕ, List, length, Option, Result, Ok, Err, IfSome, Vec}
+use Rattle.std.specs.Prelude.{◌≡◌, ◌≤◌, ℕ, true, false, List, length, Option, Result, Ok, Err, IfSome, Vec}
 use Rattle.std.specs.Global.{Global}
 use Rattle.md5.specs.Md5.{md5}
 use Rattle.fsfs_base.specs.Paths.{Path}

@@ -13,7 +13,7 @@ use fsfs_own::lasting_entries;
 use std::alloc::Global;
 
 /// A node-revision of a revision, with its entries, if it is a directory, and its properties.
-#[derive(Debug, Drop)]
+#[derive(Drop)]
 pub struct Known {
     pub node: NodeRev,
     pub entries: Vec<DirEntry>,

@@ -17,14 +17,14 @@ use fsfs_revision::is_revision_id;
 use std::alloc::Global;
 
 /// The way to a node of the transaction: its path, and what is known of the revisions on it.
-#[derive(Debug, Drop)]
+#[derive(Drop)]
 pub struct Way {
     pub path: FsPath,
     pub known: Vec<Known>,
 }
 
 /// What became of an opening.
-#[derive(Debug, Drop)]
+#[derive(Drop)]
 pub enum Opening {
     Node(Way),
     /// So many names of the path lead to nothing.

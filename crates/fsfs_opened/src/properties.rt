@@ -15,7 +15,7 @@ use fsfs_steps::set_props;
 use std::alloc::Global;
 
 /// What became of a property: it was set or removed, or why it can't be.
-#[derive(Clone, Copy, Debug, PartialEq, Eq)]
+#[derive(Clone, Copy)]
 pub enum PropertyPut {
     Done,
     /// The value has more than 1,048,576 bytes.

@@ -16,7 +16,7 @@ use fsfs_streams::Source;
 use std::alloc::Global;
 
 /// What became of a text: it was put, or why it can't be.
-#[derive(Clone, Copy, Debug, PartialEq, Eq)]
+#[derive(Clone, Copy)]
 pub enum TextPut {
     Done,
     /// A directory stands there.

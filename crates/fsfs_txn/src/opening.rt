@@ -17,14 +17,14 @@ use std::alloc::Global;
 
 /// A node of a transaction that was opened: the way to it, with what is known of the revisions on it, and how many moves the
 /// transaction had made.
-#[derive(Debug, Drop)]
+#[derive(Drop)]
 pub struct Opened {
     pub(crate) way: Way,
     pub(crate) moves: u64,
 }
 
 /// What became of an opening.
-#[derive(Debug, Drop)]
+#[derive(Drop)]
 pub enum PathOpened {
     Node(Opened),
     /// So many names of the path lead to nothing.

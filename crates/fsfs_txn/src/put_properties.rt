@@ -14,7 +14,7 @@ use fsfs_own::{EditError, Own};
 use std::alloc::Global;
 
 /// What became of a property that was set or removed at what was opened.
-#[derive(Clone, Copy, Debug, PartialEq, Eq)]
+#[derive(Clone, Copy)]
 pub enum OpenedProperty {
     /// A node was made, copied or taken away since it was opened: so many there were then, and so many there are now.
     Stale { opened: u64, now: u64 },

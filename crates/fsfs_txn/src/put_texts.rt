@@ -16,7 +16,7 @@ use fsfs_streams::Source;
 use std::alloc::Global;
 
 /// What became of a text that was put at what was opened.
-#[derive(Clone, Copy, Debug, PartialEq, Eq)]
+#[derive(Clone, Copy)]
 pub enum OpenedText {
     /// A node was made, copied or taken away since it was opened: so many there were then, and so many there are now.
     Stale { opened: u64, now: u64 },
