@@ -14,7 +14,7 @@ returns-in_err-number-clause-puts g c = λ look trees top base tree marks shown 
 
 pub returns-in-Err-clause-puts : goal.returns-in-Err-clause-puts
 returns-in-Err-clause-puts g c = λ look trees top base tree marks shown le d o has.
-    subst (λ (r : Result TextPut EditError). IsPuttingText ((x : g.N.type) → g.N.OwnTexts.tells x ≡ true) look trees top base (g.N.Own.txn c.args.own.now) tree marks c.args.path.now (g.I.Source.remaining c.args.source.now) (g.I.Source.remaining c.append_text.new.source) c.args.expect (g.N.Own.settled c.args.own.now) (g.N.Own.settled c.append_text.new.self) r)
+    subst (λ (r : Result TextPut EditError). IsPuttingText _ look trees top base (g.N.Own.txn c.args.own.now) tree marks c.args.path.now (g.I.Source.remaining c.args.source.now) (g.I.Source.remaining c.append_text.new.source) c.args.expect (g.N.Own.settled c.args.own.now) (g.N.Own.settled c.append_text.new.self) r)
     (sym c.refused.ensures)
     (text_refused _ look trees top base (g.N.Own.txn c.args.own.now) tree marks c.args.path.now (g.I.Source.remaining c.args.source.now) (g.I.Source.remaining c.append_text.new.source) c.args.expect (g.N.Own.settled c.args.own.now) _ _ _ (g.N.Own.settled c.append_text.new.self) has c.in_ok-number.ensures.settled c.in-Err.error c.in-Err.ensures.refused c.in-Err.ensures.left)
 
