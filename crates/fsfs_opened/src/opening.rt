@@ -1,7 +1,8 @@
 //! The opening of a node: what stands at its path, and what is known of the way to it.
-ghost use Rattle.std.specs.Prelude.{◌≡◌, ℕ, IfOk, OnOk};
+ghost use Rattle.std.specs.Prelude.{◌≡◌, ℕ, IfOk, IfErr, OnOk};
 ghost use Rattle.fsfs_book.specs.Told.{RevisionBytes, Knows, Keeps};
 ghost use Rattle.fsfs_own.specs.Causes.{HasDiskCause, HasBenchCause};
+ghost use Rattle.fsfs_own.specs.Errors.{IsFailure};
 ghost use Rattle.fsfs_opened.specs.Knowing.{AreKnown};
 ghost use Rattle.fsfs_opened.specs.Opening.{OpensAt, IfOpened};
 
@@ -10,6 +11,7 @@ use crate::reaching::entries_known;
 use fsfs_base::FsPath;
 use fsfs_book::Book;
 use fsfs_dag::entry_named;
+use fsfs_damage::ReadError;
 use fsfs_edit::found_at;
 use fsfs_noderev::NodeId;
 use fsfs_own::{EditError, Found, Own, root_id};
@@ -44,7 +46,7 @@ fn source_of<N: Own>(own: &N, id: &NodeId) -> Option<NodeId> {
     }
 }
 
-// Reads it, and adds it to what is known.
+// Reads it, and adds it to what is known. Of what can't be read nothing is known.
 fn note<B: Book, N: Own>(
     alloc: Global,
     book: &mut B,
@@ -53,6 +55,7 @@ fn note<B: Book, N: Own>(
     known: &mut Vec<Known>,
 ) -> Result<(), EditError>
     ensures known { (look : RevisionBytes) (top : ℕ) → Knows (B.told book.old).revs top look → AreKnown look top known.old.items → OnOk result (AreKnown look top known.new.items) }
+    ensures failure { IfErr result (λ e. IsFailure e) }
     ensures kept { Keeps (B.told book.old) (B.told book.new) }
     ensures cause { HasDiskCause (B.faults book.old) (B.faults book.new) result }
     ensures quiet { (faults : ℕ) → HasBenchCause faults faults result }
@@ -60,10 +63,14 @@ fn note<B: Book, N: Own>(
     let Some(source) = source_of(own, id) else {
         return Ok(());
     };
-    let one = known_of(alloc, book, &source)?;
-    match known.push(one) {
-        Ok(()) => Ok(()),
-        Err(_) => Err(EditError::OutOfMemory),
+    match known_of(alloc, book, &source) {
+        Err(ReadError::OutOfMemory) => Err(EditError::OutOfMemory),
+        Err(ReadError::DiskFault) => Err(EditError::DiskFault),
+        Err(ReadError::Wrong(_)) => Ok(()),
+        Ok(one) => match known.push(one) {
+            Ok(()) => Ok(()),
+            Err(_) => Err(EditError::OutOfMemory),
+        },
     }
 }
 
@@ -88,6 +95,7 @@ fn known_to<B: Book, N: Own>(
     path: &FsPath,
 ) -> Result<Vec<Known>, EditError>
     ensures known { (look : RevisionBytes) (top : ℕ) → Knows (B.told book.old).revs top look → IfOk result (λ all. AreKnown look top all.items) }
+    ensures failure { IfErr result (λ e. IsFailure e) }
     ensures kept { Keeps (B.told book.old) (B.told book.new) }
     ensures cause { HasDiskCause (B.faults book.old) (B.faults book.new) result }
     ensures quiet { (faults : ℕ) → HasBenchCause faults faults result }
@@ -114,6 +122,7 @@ fn way_to<B: Book, N: Own>(
 ) -> Result<Way, EditError>
     ensures path { IfOk result (λ way. way.path ≡ path.now) }
     ensures known { (look : RevisionBytes) (top : ℕ) → Knows (B.told book.old).revs top look → IfOk result (λ way. AreKnown look top way.known.items) }
+    ensures failure { IfErr result (λ e. IsFailure e) }
     ensures kept { Keeps (B.told book.old) (B.told book.new) }
     ensures cause { HasDiskCause (B.faults book.old) (B.faults book.new) result }
     ensures quiet { (faults : ℕ) → HasBenchCause faults faults result }

@@ -9,7 +9,7 @@ pub loop-name-init : goal.loop-name-init
 loop-name-init g c = record {
   kept = c.in_ok-note.ensures.kept;
   later = c.in_ok-note.ensures.cause.later;
-  known = λ look top knows. c.in_ok-note.ensures.known look top knows (subst (λ (ks : List Known). AreKnown look top ks) (sym c.new.ensures.items) (All-nil (λ (k : Known). IsKnownUpTo look top k)));
+  known = λ look top knows. c.in_ok-note.ensures.known look top knows (subst (λ (ks : List Known). AreKnown look top ks) (sym c.new-known.ensures.items) (All-nil (λ (k : Known). IsKnownUpTo look top k)));
 }
 
 pub loop-name-preserved : goal.loop-name-preserved

@@ -4,7 +4,7 @@ use Rattle.fsfs_opened.specs.declared.known.Known.{Known}
 use Rattle.fsfs_opened.specs.Knowing.{IsKnownUpTo, AreKnown}
 use Rattle.fsfs_opened.proofs.opening.note.Goals as goal
 
-pub returns-in-Ok-clause-known : goal.returns-in-Ok-clause-known
-returns-in-Ok-clause-known g c = λ look top knows are.
-    subst (λ (ks : List Known). AreKnown look top ks) (sym c.in-Ok.ensures.items)
-    (All-push (λ (k : Known). IsKnownUpTo look top k) c.args.known.now.items c.in_ok-one.one are (c.in_ok-one.ensures.known look top knows))
+pub returns-in-Ok-push-clause-known : goal.returns-in-Ok-push-clause-known
+returns-in-Ok-push-clause-known g c = λ look top knows are.
+    subst (λ (ks : List Known). AreKnown look top ks) (sym c.in-Ok-push.ensures.items)
+    (All-push (λ (k : Known). IsKnownUpTo look top k) c.args.known.now.items c.in-Ok.one are (c.in-Ok.ensures.known look top knows))

@@ -33,3 +33,8 @@ returns-in_ok-way-in-Node-clause-kept g c = keeps_trans _ _ _ c.in_ok-depth.ensu
 
 pub returns-in_err-way-in-Node-clause-kept : goal.returns-in_err-way-in-Node-clause-kept
 returns-in_err-way-in-Node-clause-kept g c = keeps_trans _ _ _ c.in_ok-depth.ensures.kept c.in_err-way-in-Node.ensures.kept
+
+pub returns-in_err-way-in-Node-clause-opens : goal.returns-in_err-way-in-Node-clause-opens
+returns-in_err-way-in-Node-clause-opens g c = λ look trees top base tree marks knows shown le is_tree d.
+    let r = err_from_is_err_and c.from_residual-in_err-way-in-Node.result c.from_residual-in_err-way-in-Node.ensures.1 in
+    rw (r.1, r.2) c.in_err-way-in-Node.ensures.failure

@@ -1,4 +1,6 @@
-use Rattle.std.proofs.Common.{sym, refl, ◌∙◌}
+use Rattle.std.proofs.Common.{List, sym, subst, refl, ◌∙◌}
+use Rattle.fsfs_opened.specs.declared.known.Known.{Known}
+use Rattle.fsfs_opened.specs.Knowing.{AreKnown}
 use Rattle.std.proofs.lemmas.Result.{err_from_is_err_and}
 use Rattle.fsfs_drafts.specs.Drafts.{kept_of}
 use Rattle.fsfs_edit.proofs.OwnProps.{own_within}
@@ -16,7 +18,7 @@ returns-in_err-pairs-clause-sets g c = λ look trees top base tree marks known s
     let full = files look trees top base shown le txn first tree marks d p c.args.kind mid c.args.id.now o has in
     let within = own_within look top base trees shown le txn mid o.now o.opened.draft p o.v o.here full in
     let r = err_from_is_err_and c.from_residual.result c.from_residual.ensures.1 in
-    rw (r.1, r.2) (left_want c.in_err-pairs.field-0.0 _ _ (c.in_err-pairs.ensures.tells look top (kept_of o.v) known there within) refl)
+    rw (r.1, r.2) (left_want c.in_err-pairs.field-0.0 _ _ (c.in_err-pairs.ensures.tells look top (kept_of o.v) (subst (λ (ks : List Known). AreKnown look top ks) (sym c.as_slice.ensures.value) known) there within) refl)
 
 pub returns-in_err-set_props-clause-sets : goal.returns-in_err-set_props-clause-sets
 returns-in_err-set_props-clause-sets g c = λ look trees top base tree marks known shown le d o has fit.
@@ -37,7 +39,7 @@ returns-clause-sets g c = λ look trees top base tree marks known shown le d o h
     let there = kept_there look trees top base shown le txn first tree marks d p c.args.kind mid c.args.id.now o has in
     let full = files look trees top base shown le txn first tree marks d p c.args.kind mid c.args.id.now o has in
     let within = own_within look top base trees shown le txn mid o.now o.opened.draft p o.v o.here full in
-    let read = c.in_ok-pairs.ensures.tells look top (kept_of o.v) known there within in (
+    let read = c.in_ok-pairs.ensures.tells look top (kept_of o.v) (subst (λ (ks : List Known). AreKnown look top ks) (sym c.as_slice.ensures.value) known) there within in (
       fit,
       property_set look trees top base shown le txn first tree marks d p c.args.kind mid c.args.id.now o has c.args.name.now c.args.value c.in_ok-pairs.pairs read c.in_ok-all.all c.in_ok-all.ensures
           (g.N.Own.folder c.set_props.new.own) c.in_ok-set_props.ensures.done c.in_ok-item.item c.in_ok-item.ensures (g.N.Own.settled c.settle.new.self) c.in_ok-settle.ensures.done,

@@ -1,4 +1,6 @@
-use Rattle.std.proofs.Common.{subst}
+use Rattle.std.proofs.Common.{List, sym, subst}
+use Rattle.fsfs_opened.specs.declared.known.Known.{Known}
+use Rattle.fsfs_opened.specs.Knowing.{AreKnown}
 use Rattle.fsfs_fields.specs.declared.txn_name.TxnName.{TxnName}
 use Rattle.fsfs_own.specs.Walks.{IsRootId}
 use Rattle.fsfs_edit.proofs.Reaching.{root, root_here, root_same}
@@ -11,5 +13,5 @@ returns-clause-opens g c = λ look trees top base tree marks known shown le is_t
     let f = g.N.Own.folder c.args.own.now in
     let id : IsRootId txn c.root_id-root.result = subst (λ (t : TxnName). IsRootId t c.root_id-root.result) c.name.ensures c.root_id-root.ensures in
     reached_leaves look trees top base shown le txn f tree marks d c.args.way.now.path (g.N.Own.folder c.reach.new.own) c.reach.result
-    (c.reach.ensures.draft look trees top base d.0.shows.own (root look trees top base shown le txn f tree marks is_tree d) known shown le d.0.shows.is_draft (root_here look trees top base shown le txn f tree marks is_tree d)
+    (c.reach.ensures.draft look trees top base d.0.shows.own (root look trees top base shown le txn f tree marks is_tree d) (subst (λ (ks : List Known). AreKnown look top ks) (sym c.as_slice.ensures.value) known) shown le d.0.shows.is_draft (root_here look trees top base shown le txn f tree marks is_tree d)
     (root_same look trees top base shown le txn f tree marks is_tree d c.root_id-root.result id))
