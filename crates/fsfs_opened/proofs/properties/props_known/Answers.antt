@@ -2,7 +2,7 @@ use Rattle.std.proofs.Common.{◌≡◌, ◌≤◌, Some, Ok, sym, subst, ◌∙
 use Rattle.std.specs.Prelude.{Option}
 use Rattle.std.proofs.lemmas.Result.{err_from_is_err_and}
 use Rattle.fsfs_noderev.specs.declared.node_id.NodeId.{NodeId}
-use Rattle.fsfs_shows.specs.Reading.{offset_of, OfId}
+use Rattle.fsfs_shows.specs.Reading.{offset_of, OfId, Pairs, PropsOf}
 use Rattle.fsfs_drafts.specs.Drafts.{Kept}
 use Rattle.fsfs_own.specs.Entries.{IsWithin}
 use Rattle.fsfs_own.specs.Properties.{OfKeptProps}
@@ -22,4 +22,4 @@ returns-in_ok-pairs-in-Some-find-clause-tells g c = λ look top k known there wi
     let is = c.in-Some-find.ensures.known look top known (subst (λ (i : NodeId). (offset_of i.place).rev ≤ top) (sym same) le) in
     subst (λ (x : Kept). OfKeptProps look x (Ok c.in_ok-pairs-in-Some-find.pairs)) one
     (kept_props_read look (kept_value c.in-Some.kept.now) id (Ok c.in_ok-pairs-in-Some-find.pairs) c.in-None.is c.in-Some-predecessor.is
-    (found.node, subst (λ (i : NodeId). OfId look i (Ok found.node)) same is.node, is.props))
+    (found.node, subst (λ (i : NodeId). OfId look i (Ok found.node)) same is.node, subst (λ (s : Pairs). PropsOf look found.node (Ok s)) (sym c.in_ok-pairs-in-Some-find.ensures.cases) is.props))

@@ -1,4 +1,4 @@
-use Rattle.std.proofs.Common.{◌≡◌, Some, Ok, Err, refl, sym, ap, subst, ◌∙◌}
+use Rattle.std.proofs.Common.{◌≡◌, true, Some, Ok, Err, refl, sym, ap, subst, ◌∙◌}
 use Rattle.std.specs.Prelude.{Option}
 use Rattle.std.proofs.lemmas.Result.{err_from_is_err_and}
 use Rattle.std.proofs.lemmas.Option.{same_Some}
@@ -48,9 +48,9 @@ returns-in-File-clause-meets g c = λ look trees top base tree marks known shown
     let o = opens look trees top base tree marks known shown le is_tree d in
     let there = kind_there look trees top base shown le txn first tree marks d way.path o.0 mid c.in_ok-id.id o.2 in
     let same : o.0 ≡ File = same_Some o.0 File (sym there ∙ sym c.in-Some.ensures ∙ ap (λ (k : Kind). Some k) c.in-File.is) in
-    let puts : PutsText _ txn first mid (g.N.Own.settled c.text_in.new.own) way.path c.in_ok-id.id (g.I.Source.remaining c.args.source.now) (g.I.Source.remaining c.text_in.new.source) c.args.expect c.text_in.result =
-    subst (λ (t : TxnName). PutsText _ t first mid (g.N.Own.settled c.text_in.new.own) way.path c.in_ok-id.id (g.I.Source.remaining c.args.source.now) (g.I.Source.remaining c.text_in.new.source) c.args.expect c.text_in.result) c.in_ok-id.ensures.name
-    (subst (λ (h : Folder). PutsText _ (g.N.Own.txn c.reached.new.own) h mid (g.N.Own.settled c.text_in.new.own) way.path c.in_ok-id.id (g.I.Source.remaining c.args.source.now) (g.I.Source.remaining c.text_in.new.source) c.args.expect c.text_in.result) c.in_ok-id.ensures.settled c.text_in.ensures.puts) in
+    let puts : PutsText ((x : g.row.N.Denot) → g.N.OwnTexts.tells x ≡ true) txn first mid (g.N.Own.settled c.text_in.new.own) way.path c.in_ok-id.id (g.I.Source.remaining c.args.source.now) (g.I.Source.remaining c.text_in.new.source) c.args.expect c.text_in.result =
+    subst (λ (t : TxnName). PutsText ((x : g.row.N.Denot) → g.N.OwnTexts.tells x ≡ true) t first mid (g.N.Own.settled c.text_in.new.own) way.path c.in_ok-id.id (g.I.Source.remaining c.args.source.now) (g.I.Source.remaining c.text_in.new.source) c.args.expect c.text_in.result) c.in_ok-id.ensures.name
+    (subst (λ (h : Folder). PutsText ((x : g.row.N.Denot) → g.N.OwnTexts.tells x ≡ true) (g.N.Own.txn c.reached.new.own) h mid (g.N.Own.settled c.text_in.new.own) way.path c.in_ok-id.id (g.I.Source.remaining c.args.source.now) (g.I.Source.remaining c.text_in.new.source) c.args.expect c.text_in.result) c.in_ok-id.ensures.settled c.text_in.ensures.puts) in
     puts look trees top base tree marks shown le d
     (subst (λ (k : Kind). IsOpenedAt look trees top base txn marks tree d.0.shows.own way.path k mid c.in_ok-id.id) same o.2)
     (subst (λ (k : Kind). HasKind (tree way.path) k) same o.1)

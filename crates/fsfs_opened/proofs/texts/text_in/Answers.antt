@@ -1,4 +1,4 @@
-use Rattle.std.proofs.Common.{◌≡◌, Result, sym, ap, subst, refl, ◌∙◌}
+use Rattle.std.proofs.Common.{◌≡◌, true, Result, sym, ap, subst, refl, ◌∙◌}
 use Rattle.std.proofs.lemmas.Result.{err_from_is_err_and}
 use Rattle.fsfs_own.specs.declared.error.EditError.{EditError}
 use Rattle.fsfs_opened.specs.declared.texts.TextPut.{TextPut}
@@ -14,9 +14,9 @@ returns-in_err-number-clause-puts g c = λ look trees top base tree marks shown 
 
 pub returns-in-Err-clause-puts : goal.returns-in-Err-clause-puts
 returns-in-Err-clause-puts g c = λ look trees top base tree marks shown le d o has.
-    subst (λ (r : Result TextPut EditError). IsPuttingText _ look trees top base (g.N.Own.txn c.args.own.now) tree marks c.args.path.now (g.I.Source.remaining c.args.source.now) (g.I.Source.remaining c.append_text.new.source) c.args.expect (g.N.Own.settled c.args.own.now) (g.N.Own.settled c.append_text.new.self) r)
+    subst (λ (r : Result TextPut EditError). IsPuttingText ((x : g.row.N.Denot) → g.N.OwnTexts.tells x ≡ true) look trees top base (g.N.Own.txn c.args.own.now) tree marks c.args.path.now (g.I.Source.remaining c.args.source.now) (g.I.Source.remaining c.append_text.new.source) c.args.expect (g.N.Own.settled c.args.own.now) (g.N.Own.settled c.append_text.new.self) r)
     (sym c.refused.ensures)
-    (text_refused _ look trees top base (g.N.Own.txn c.args.own.now) tree marks c.args.path.now (g.I.Source.remaining c.args.source.now) (g.I.Source.remaining c.append_text.new.source) c.args.expect (g.N.Own.settled c.args.own.now) _ _ _ (g.N.Own.settled c.append_text.new.self) has c.in_ok-number.ensures.settled c.in-Err.error c.in-Err.ensures.refused c.in-Err.ensures.left)
+    (text_refused ((x : g.row.N.Denot) → g.N.OwnTexts.tells x ≡ true) look trees top base (g.N.Own.txn c.args.own.now) tree marks c.args.path.now (g.I.Source.remaining c.args.source.now) (g.I.Source.remaining c.append_text.new.source) c.args.expect (g.N.Own.settled c.args.own.now) _ _ _ (g.N.Own.settled c.append_text.new.self) has c.in_ok-number.ensures.settled c.in-Err.error c.in-Err.ensures.refused c.in-Err.ensures.left)
 
 pub returns-in_err-set_text-clause-puts : goal.returns-in_err-set_text-clause-puts
 returns-in_err-set_text-clause-puts g c = λ look trees top base tree marks shown le d o has.
@@ -39,6 +39,6 @@ returns-in_err-settle-clause-puts g c = λ look trees top base tree marks shown 
 pub returns-clause-puts : goal.returns-clause-puts
 returns-clause-puts g c = λ look trees top base tree marks shown le d o has.
     let put = c.in-Ok.ensures.put in
-    text_done _ look trees top base shown le (g.N.Own.txn c.args.own.now) (g.N.Own.settled c.args.own.now) tree marks d c.args.path.now (g.N.Own.folder c.args.own.now) (g.N.Own.folder c.draw_node.new.self) (g.N.Own.folder c.append_text.new.self) c.args.id.now o has
+    text_done ((x : g.row.N.Denot) → g.N.OwnTexts.tells x ≡ true) look trees top base shown le (g.N.Own.txn c.args.own.now) (g.N.Own.settled c.args.own.now) tree marks d c.args.path.now (g.N.Own.folder c.args.own.now) (g.N.Own.folder c.draw_node.new.self) (g.N.Own.folder c.append_text.new.self) c.args.id.now o has
     (g.I.Source.remaining c.args.source.now) (g.I.Source.remaining c.append_text.new.source) c.args.expect _ _ c.in-Ok.rep _ _ _ c.in_ok-number.ensures.done put (λ told. told _)
     (g.N.Own.folder c.set_text.new.own) c.in_ok-set_text.ensures.done c.in_ok-item.item c.in_ok-item.ensures (g.N.Own.settled c.settle.new.self) c.in_ok-settle.ensures.done
