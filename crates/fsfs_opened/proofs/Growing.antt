@@ -1,6 +1,5 @@
 -- A draft over a prototype file that got longer.
-use Rattle.std.proofs.Common.{◌≡◌, ◌+◌, ◌++◌, ◌∷◌, [], ℕ, List, sym, ap, subst, ◌∙◌, append-nil, arith}
-use Rattle.std.specs.Prelude.{Option, Some, Ok}
+use Rattle.std.proofs.Common.{◌≡◌, ◌+◌, ◌++◌, [], ℕ, List, sym, ap, subst, ◌∙◌, append-nil, arith}
 use Rattle.fsfs_base.specs.Paths.{Path}
 use Rattle.fsfs_base.specs.declared.kind.Kind.{Kind}
 use Rattle.fsfs_base.specs.declared.kind.Kind.TheVariants.{File, Dir}
@@ -14,7 +13,7 @@ use Rattle.fsfs_noderev.specs.declared.node_rev.NodeRev.{NodeRev}
 use Rattle.fsfs_proto.proofs.Longer.{stays}
 use Rattle.fsfs_drafts.specs.Own.{OwnNode, Own}
 use Rattle.fsfs_drafts.specs.Drafts.{Folder, IsBelow, IsFileText, Lasting, Put, IsDraftText, HasContent, IsDraft}
-use Rattle.fsfs_drafts.specs.Edits.{IsOpenedTo, IsDraftAfter}
+use Rattle.fsfs_drafts.specs.Edits.{IsDraftAfter}
 use Rattle.fsfs_edit.specs.Ways.{IsOpenedAt}
 use Rattle.fsfs_held.specs.Texts.{longer}
 use Rattle.fsfs_opened.specs.Growing.{grown, IsLonger, DraftsGrow}

@@ -1,16 +1,15 @@
 -- What was reached is what the transaction's tree has there.
 use Rattle.std.proofs.Common.{◌≡◌, ◌≤◌, ℕ, List, refl, sym, ap, ◌∙◌}
-use Rattle.std.specs.Prelude.{Option, Some, None, Result, Ok, Err, option_map}
+use Rattle.std.specs.Prelude.{Option, Some, Result, Ok, Err, option_map}
 use Rattle.fsfs_base.specs.Paths.{Path}
 use Rattle.fsfs_base.specs.declared.kind.Kind.{Kind}
 use Rattle.fsfs_tree.specs.Nodes.{TreeFunction}
-use Rattle.fsfs_tree.specs.Trees.{IsTree}
 use Rattle.fsfs_flat.specs.declared.mark.Mark.{Mark}
 use Rattle.fsfs_fields.specs.declared.txn_name.TxnName.{TxnName}
 use Rattle.fsfs_book.specs.Told.{RevisionBytes}
 use Rattle.fsfs_noderev.specs.declared.node_id.NodeId.{NodeId}
 use Rattle.fsfs_drafts.specs.Own.{Own, draft_tree}
-use Rattle.fsfs_drafts.specs.Drafts.{Kept, Folder, kept_of, ShowTrees}
+use Rattle.fsfs_drafts.specs.Drafts.{Kept, Folder, ShowTrees}
 use Rattle.fsfs_drafts.specs.Steps.{kept_at}
 use Rattle.fsfs_drafts.specs.Edits.{IsDraftAfter}
 use Rattle.fsfs_drafts.proofs.OwnShown.{own_shown}

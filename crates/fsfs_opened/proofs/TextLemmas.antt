@@ -1,6 +1,6 @@
 -- A text put at an own file.
-use Rattle.std.proofs.Common.{◌≡◌, ◌≤◌, ◌+◌, ◌++◌, ℕ, Bool, true, false, List, refl, sym, ap, subst, ◌∙◌, arith}
-use Rattle.std.specs.Prelude.{Option, Some, None, Result, Ok, Err, IfErr, IfOk, Vec}
+use Rattle.std.proofs.Common.{◌≡◌, ◌≤◌, ◌+◌, ℕ, Bool, true, false, List, refl, sym, ap, subst, ◌∙◌}
+use Rattle.std.specs.Prelude.{Option, Some, None, Ok, IfErr, Vec}
 use Rattle.std.specs.Global.{Global}
 use Rattle.fsfs_base.specs.Counts.{Rose}
 use Rattle.fsfs_base.specs.Paths.{Path}
@@ -34,13 +34,12 @@ use Rattle.fsfs_edit.specs.Texts.{IsProtoText, IsTextSet}
 use Rattle.fsfs_edit.specs.Ways.{IsOpenedAt}
 use Rattle.fsfs_edit.proofs.Setting as setting
 use Rattle.fsfs_held.specs.Texts.{longer, IsTextPut, IsTextLeft}
-use Rattle.fsfs_opened.specs.declared.texts.TextPut.{TextPut}
 use Rattle.fsfs_opened.specs.declared.texts.TextPut.TheVariants as puts
 use Rattle.fsfs_rep.specs.Frames.{RepIn}
 use Rattle.fsfs_opened.specs.Growing.{grown, IsLonger}
 use Rattle.fsfs_opened.specs.Failing.{IfLeft, IfBench, IfSource}
-use Rattle.fsfs_opened.specs.Texts.{refusal_of, IsTextDone, IsPuttingText}
-use Rattle.fsfs_opened.proofs.Growing.{grown_opened, not_longer}
+use Rattle.fsfs_opened.specs.Texts.{refusal_of, IsPuttingText}
+use Rattle.fsfs_opened.proofs.Growing.{grown_opened}
 
 -- ---- failures
 

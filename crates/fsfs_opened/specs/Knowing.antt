@@ -2,8 +2,7 @@
 use Rattle.std.specs.Prelude.{◌≤◌, ℕ, List, Ok}
 use Rattle.std.specs.List.{All}
 use Rattle.fsfs_book.specs.Told.{RevisionBytes}
-use Rattle.fsfs_noderev.specs.declared.node_rev.NodeRev.{NodeRev}
-use Rattle.fsfs_shows.specs.Reading.{OfId, PropsOf, offset_of}
+use Rattle.fsfs_shows.specs.Reading.{OfId, PropsOf}
 use Rattle.fsfs_dag.specs.Views.{entry_values, home_of}
 use Rattle.fsfs_own.specs.Entries.{OfIdEntries}
 use Rattle.fsfs_opened.specs.declared.known.Known.{Known}

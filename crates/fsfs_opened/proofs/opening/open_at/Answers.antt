@@ -1,7 +1,6 @@
-use Rattle.std.proofs.Common.{◌≡◌, subst}
+use Rattle.std.proofs.Common.{subst}
 use Rattle.std.specs.Prelude.{Ok}
 use Rattle.std.proofs.lemmas.Result.{err_from_is_err_and}
-use Rattle.fsfs_book.specs.Told.{Knows}
 use Rattle.fsfs_book.proofs.Keeping.{keeps_trans}
 use Rattle.fsfs_own.specs.declared.walk.Found.{Found}
 use Rattle.fsfs_edit.specs.Ways.{IsFoundIn}

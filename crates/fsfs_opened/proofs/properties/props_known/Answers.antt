@@ -1,6 +1,5 @@
 use Rattle.std.proofs.Common.{◌≡◌, ◌≤◌, Some, Ok, sym, subst, ◌∙◌}
 use Rattle.std.specs.Prelude.{Option}
-use Rattle.std.proofs.lemmas.Result.{err_from_is_err_and}
 use Rattle.fsfs_noderev.specs.declared.node_id.NodeId.{NodeId}
 use Rattle.fsfs_shows.specs.Reading.{offset_of, OfId, Pairs, PropsOf}
 use Rattle.fsfs_drafts.specs.Drafts.{Kept}

@@ -1,11 +1,10 @@
-use Rattle.std.proofs.Common.{◌≡◌, ◌≤◌, true, List, Some, Ok, refl, sym, ap, subst, ◌∙◌}
+use Rattle.std.proofs.Common.{◌≡◌, ◌≤◌, true, List, Some, Ok, refl, sym, subst}
 use Rattle.std.specs.Prelude.{IfOk, IfErr}
 use Rattle.fsfs_noderev.specs.declared.node_id.NodeId.{NodeId}
 use Rattle.fsfs_revision.specs.Nodes.{is_revision_id}
 use Rattle.fsfs_shows.specs.Reading.{DirEntry as EntryValue, named, offset_of, OfId}
-use Rattle.fsfs_dag.specs.Views.{entry_value, entry_values, home_of}
-use Rattle.fsfs_drafts.specs.Drafts.{Kept, kept_of}
-use Rattle.fsfs_drafts.specs.Steps.{kept_at}
+use Rattle.fsfs_dag.specs.Views.{entry_value, entry_values}
+use Rattle.fsfs_drafts.specs.Drafts.{Kept}
 use Rattle.fsfs_own.specs.Entries.{OfKept, IsWithin}
 use Rattle.fsfs_own.specs.Errors.{IsWant}
 use Rattle.fsfs_own.specs.Views.{kept_value}

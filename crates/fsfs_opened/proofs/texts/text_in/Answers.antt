@@ -1,10 +1,10 @@
-use Rattle.std.proofs.Common.{◌≡◌, true, Result, sym, ap, subst, refl, ◌∙◌}
+use Rattle.std.proofs.Common.{◌≡◌, true, Result, sym, subst, ◌∙◌}
 use Rattle.std.proofs.lemmas.Result.{err_from_is_err_and}
 use Rattle.fsfs_own.specs.declared.error.EditError.{EditError}
 use Rattle.fsfs_opened.specs.declared.texts.TextPut.{TextPut}
 use Rattle.fsfs_opened.specs.Texts.{IsPuttingText}
 use Rattle.fsfs_opened.proofs.Growing.{not_longer}
-use Rattle.fsfs_opened.proofs.TextLemmas.{left_want, left_settle, longer_on, text_refused, kept_still, text_done}
+use Rattle.fsfs_opened.proofs.TextLemmas.{left_want, left_settle, longer_on, text_refused, text_done}
 use Rattle.fsfs_opened.proofs.texts.text_in.Goals as goal
 
 pub returns-in_err-number-clause-puts : goal.returns-in_err-number-clause-puts
