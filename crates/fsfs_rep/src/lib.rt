@@ -4,6 +4,7 @@
 #![tactic(auto)]
 
 mod digester;
+mod digests;
 mod frame;
 mod header;
 mod place;

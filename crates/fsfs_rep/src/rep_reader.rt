@@ -5,9 +5,9 @@ ghost use Rattle.fsfs_book.specs.Told.{Keeps};
 ghost use Rattle.fsfs_damage.specs.Causes.{HasCause};
 ghost use Rattle.fsfs_rep.specs.Faults.{IsRefusedFor, IsAbout};
 ghost use Rattle.fsfs_rep.specs.Frames.{rev_of, text_of, Agrees, Disagrees, IsWhole, IsFaultOf};
-ghost use Rattle.fsfs_rep.specs.Seen.{HasSeen};
+ghost use Rattle.fsfs_rep.specs.Seen.{HasSeenNamed};
 
-use crate::digester::Digester;
+use crate::digests::Digests;
 use crate::frame::{ENDREP_LEN, PLAIN_LEN};
 use crate::header::{HEADER_LEN, Header, header_of};
 use crate::place::{bad_rep, rep_place};
@@ -15,8 +15,10 @@ use crate::windows::window;
 use fsfs_base::fitting;
 use fsfs_book::Book;
 use fsfs_damage::{ReadError, RepWhat, Wrong};
+use fsfs_fields::HexDigest;
 use fsfs_grammar::pieces::text;
 use fsfs_noderev::Rep;
+use md5::Digest;
 
 /// A representation that is being read, from its first byte on. The book is handed to each call, so that it is free
 /// between them; it is to be the same one. Each byte is read and digested once.
@@ -25,8 +27,9 @@ pub struct RepReader {
     rep: Rep,
     // How many bytes of the text were read.
     done: u64,
-    digester: Digester,
+    digests: Digests,
     ghost named: { IsSome rep.rev },
+    ghost digested: { IsSome rep.unique → IsSome digests.sha1 },
     ghost bounded: { done ≤ rep.length },
 }
 
@@ -38,10 +41,11 @@ fn behind(offset: u64, count: u64) -> u64
 }
 
 // The text is as the representation says.
-fn agree(rep: &Rep, digester: Digester) -> Result<(), ReadError>
+fn agree(rep: &Rep, digests: Digests) -> Result<(), ReadError>
+    requires { IsSome rep.now.unique → IsSome digests.sha1 }
     ensures about { IfErr result (IsAbout rep.now) }
     ensures cause { (before now : ℕ) → before ≤ now → HasCause before now result }
-    ensures text { (text : List ℕ) → HasSeen digester text → MatchResult result (λ _. Agrees rep.now text) (Disagrees rep.now text) }
+    ensures text { (text : List ℕ) → HasSeenNamed digests text → MatchResult result (λ _. Agrees rep.now text) (Disagrees rep.now text) }
 {
     if rep.size != 0 && rep.size != rep.length {
         return Err(bad_rep(
@@ -52,7 +56,10 @@ fn agree(rep: &Rep, digester: Digester) -> Result<(), ReadError>
             },
         ));
     }
-    let (md5, sha1) = digester.finish();
+    let Digests { md5, sha1 } = digests;
+    let md5 = HexDigest {
+        bytes: md5.finalize(),
+    };
     if rep.md5 != md5 {
         return Err(bad_rep(
             rep,
@@ -62,16 +69,23 @@ fn agree(rep: &Rep, digester: Digester) -> Result<(), ReadError>
             },
         ));
     }
-    match &rep.unique {
-        Some(unique) if unique.sha1 != sha1 => Err(bad_rep(
+    let Some(unique) = &rep.unique else {
+        return Ok(());
+    };
+    let Some(sha1) = sha1 else { unreachable!() };
+    let sha1 = HexDigest {
+        bytes: sha1.finalize(),
+    };
+    if unique.sha1 != sha1 {
+        return Err(bad_rep(
             rep,
             RepWhat::Sha1 {
                 kept: unique.sha1,
                 found: sha1,
             },
-        )),
-        _ => Ok(()),
+        ));
     }
+    Ok(())
 }
 
 impl RepReader {
@@ -96,7 +110,7 @@ impl RepReader {
             Header::Plain => Ok(RepReader {
                 rep: *rep,
                 done: 0,
-                digester: Digester::new(),
+                digests: Digests::of(rep),
             }),
             Header::Delta => Err(ReadError::Wrong(Wrong::Delta(rep_place(rep)))),
             Header::Other => Err(bad_rep(rep, RepWhat::Header)),
@@ -144,7 +158,7 @@ impl RepReader {
         if count < want {
             return Err(bad_rep(&self.rep, RepWhat::EndRep));
         }
-        self.digester.update(piece);
+        self.digests.update(piece);
         self.done += want as u64;
         Ok(want)
     }
@@ -166,8 +180,8 @@ impl RepReader {
         let count = window(book, rev, self.position(), &mut line)?;
         match text(b"ENDREP\n", &line[..count]) {
             Ok(_) => {
-                let RepReader { rep, digester, .. } = self;
-                agree(&rep, digester)
+                let RepReader { rep, digests, .. } = self;
+                agree(&rep, digests)
             }
             Err(_) => Err(bad_rep(&self.rep, RepWhat::EndRep)),
         }

@@ -22,7 +22,7 @@ pub returns-in-Plain-clause-bytes : goal.returns-in-Plain-clause-bytes
 returns-in-Plain-clause-bytes g c = λ bytes e.
     let told = at_rev (g.B.Book.told c.args.book.now).revs c.args.rep.now.rev _ _ c.in-Some.is e in
     let plain = plain_seen _ c.args.rep.now.offset bytes (c.in_ok-count.ensures.bytes bytes told) c.in-Plain.ensures in
-    record { header = plain; within = omega (arith, stands_fits plain_line c.args.rep.now.offset bytes (lit< tt) plain); seen = c.new.ensures }
+    record { header = plain; within = omega (arith, stands_fits plain_line c.args.rep.now.offset bytes (lit< tt) plain); seen = c.of.ensures.seen }
 
 pub returns-in-Plain-clause-refused : goal.returns-in-Plain-clause-refused
 returns-in-Plain-clause-refused g c = λ why e. c.in_ok-count.ensures.refused why (at_rev (g.B.Book.told c.args.book.now).revs c.args.rep.now.rev _ _ c.in-Some.is e)

@@ -3,7 +3,7 @@ use Rattle.std.specs.Prelude.{codes}
 use Rattle.fsfs_rep.specs.Headers.{StandsAt}
 use Rattle.fsfs_rep.specs.Frames.{IsFramed}
 use Rattle.std.proofs.lemmas.Result.{err_from_is_err_and, MatchResult-weaker}
-use Rattle.fsfs_rep.specs.Seen.{HasSeen}
+use Rattle.fsfs_rep.specs.Seen.{HasSeenNamed}
 use Rattle.fsfs_rep.proofs.ReadingLemmas.{at_rev, trailer_not, trailer_found}
 use Rattle.fsfs_rep.proofs.FaultLemmas.{none_wrong, end_fault, fault_of, about_rev, about_wrong}
 use Rattle.fsfs_rep.proofs.rep_reader.RepReader.finish.Goals as goal
@@ -28,7 +28,7 @@ returns-in-Ok-clause-bytes g c = λ bytes e reading.
     let here : c.position.result ≡ rep.offset + 6 + rep.length = c.position.ensures (omega (arith, short, reading.within)) ∙ ap (λ (n : ℕ). rep.offset + 6 + n) c.requires in
     let found = trailer_found _ _ c.position.result bytes (c.in_ok-count.ensures.bytes bytes told) c.in-Ok.ensures in
     let framed : IsFramed rep bytes = record { header = reading.header; trailer = subst (λ (p : ℕ). StandsAt (codes "ENDREP\n") p bytes) here found } in
-    let seen = subst (λ (n : ℕ). HasSeen c.args.self.digester (take n (drop (rep.offset + 6) bytes))) c.requires reading.seen in
+    let seen = subst (λ (n : ℕ). HasSeenNamed c.args.self.digests (take n (drop (rep.offset + 6) bytes))) c.requires reading.seen in
     MatchResult-weaker c.agree.result (c.agree.ensures.text _ seen) (λ u agrees. record { framed = framed; agrees = agrees }) (λ fault d. fault_of rep bytes fault framed d)
 
 pub returns-in-Ok-clause-cause : goal.returns-in-Ok-clause-cause

@@ -1,7 +1,7 @@
 use Rattle.std.proofs.Common.{◌≡◌, ℕ, ◌+◌, ◌<◌, ◌≤◌, List, length, take, drop, refl, sym, subst, ◌∙◌, arith}
 use Rattle.std.proofs.lemmas.List.{length-take}
 use Rattle.std.proofs.lemmas.Result.{err_from_is_err_and}
-use Rattle.fsfs_rep.specs.Seen.{HasSeen}
+use Rattle.fsfs_rep.specs.Seen.{HasSeenNamed}
 use Rattle.fsfs_rep.proofs.FaultLemmas.{none_wrong, end_fault, about_rev, about_wrong}
 use Rattle.fsfs_rep.proofs.ReadingLemmas.{at_rev, text_ends, piece_within, piece_adds, piece_read}
 use Rattle.fsfs_rep.proofs.rep_reader.RepReader.next.Goals as goal
@@ -53,7 +53,7 @@ returns-clause-bytes g c = λ bytes e reading.
       record {
         header = reading.header;
         within = piece_within rep.offset rep.length done c.position.result count want piece bytes whole bound window enough at some;
-        seen = subst (λ (text : List ℕ). HasSeen c.update.new.self text) (sym adds) (c.update.ensures _ reading.seen);
+        seen = subst (λ (text : List ℕ). HasSeenNamed c.update.new.self text) (sym adds) (c.update.ensures.seen _ reading.seen);
       },
       piece_read rep.offset rep.length done c.position.result count want piece bytes whole bound window enough at (drop want c.args.buffer.now) fits,
     )
