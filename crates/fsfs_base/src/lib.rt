@@ -17,10 +17,6 @@ pub use action::Action;
 pub use bad_path::{BadPath, PathError, PathFault};
 pub use failed::Failed;
 pub use faults::Faults;
-pub use fsfs_fields::{
-    BadPropName, HexDigest, PropName, PropNameError, RevNum, TxnName, plain_txn_name, put_txn_name,
-    read_date, read_txn_name, write_date,
-};
 pub use fsfs_grammar::{B36, next_b36, read_b36, read_dec, write_b36, write_dec};
 pub use kind::Kind;
 pub use name::Name;

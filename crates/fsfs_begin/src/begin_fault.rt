@@ -1,6 +1,7 @@
 //! Why no transaction was begun.
-use fsfs_base::{RevNum, SmallFault};
+use fsfs_base::SmallFault;
 use fsfs_damage::Wrong;
+use fsfs_fields::RevNum;
 use fsfs_places::DiskPlace;
 use thiserror::Error;
 

@@ -10,8 +10,9 @@ ghost use Rattle.fsfs_begin.specs.Drawing.{after_drawing, counter_told, IsSmallI
 ghost use Rattle.fsfs_begin.specs.Deciding.{Decides};
 
 use crate::name_fault::NameFault;
-use fsfs_base::{B36, RevNum, TxnName, next_b36};
+use fsfs_base::{B36, next_b36};
 use fsfs_disk::Disk;
+use fsfs_fields::{RevNum, TxnName};
 use fsfs_layout::{OnlyFile, read_txn_current, write_txn_current};
 use fsfs_places::BeginPlace;
 use std::alloc::Global;

@@ -9,8 +9,9 @@ ghost use Rattle.fsfs_txns.specs.Removals.{HasLabels, IsImageOf};
 ghost use Rattle.fsfs_begin.specs.Benches.{first_files, with_first_files, IsOldOrThis, IsUnmade};
 
 use crate::purging::purge;
-use fsfs_base::{Failed, Name, TxnName};
+use fsfs_base::{Failed, Name};
 use fsfs_disk::{Bench, Disk, Label};
+use fsfs_fields::TxnName;
 use fsfs_txns::rmtxn;
 use thiserror::Error;
 

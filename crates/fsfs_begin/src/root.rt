@@ -5,7 +5,8 @@ ghost use Rattle.fsfs_shows.specs.Chains.{own_rev};
 ghost use Rattle.fsfs_drafts.specs.Rules.{lasting_root};
 ghost use Rattle.fsfs_begin.specs.Beginning.{BeginsOn};
 
-use fsfs_base::{FsPath, RevNum, TxnName};
+use fsfs_base::FsPath;
+use fsfs_fields::{RevNum, TxnName};
 use fsfs_noderev::{CopyRoot, NodeId, NodeRev, Place};
 use std::alloc::{AllocError, Global};
 

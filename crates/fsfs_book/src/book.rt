@@ -4,8 +4,8 @@ ghost use Rattle.fsfs_damage.specs.declared.wrong.Refusal.{Refusal};
 ghost use Rattle.fsfs_book.specs.declared.book.BookFault.TheVariants.{DiskFault};
 ghost use Rattle.fsfs_book.specs.Told.{Telling, Keeps, Gives, part_read, size_read, HasCause, IsAbout};
 
-use fsfs_base::RevNum;
 use fsfs_damage::Refusal;
+use fsfs_fields::RevNum;
 use thiserror::Error;
 
 /// A call of a book gave nothing.

@@ -8,8 +8,9 @@ ghost use Rattle.fsfs_book.specs.Told.{Gives, part_read, IsRefusalOf};
 ghost use Rattle.fsfs_book.specs.MemBook.{bytes_in, props_in, read_of};
 
 use crate::book::{Book, BookFault};
-use fsfs_base::{Faults, RevNum, SmallFault};
+use fsfs_base::{Faults, SmallFault};
 use fsfs_damage::Refusal;
+use fsfs_fields::RevNum;
 use std::alloc::Global;
 
 /// What stands where the bytes of a file are looked for.

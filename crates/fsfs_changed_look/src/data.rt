@@ -7,10 +7,10 @@ ghost use Rattle.fsfs_revision.specs.Trailers.{IsTrailer};
 ghost use Rattle.fsfs_changed.specs.Items.{DataOf};
 ghost use Rattle.fsfs_changed_look.specs.Ends.{TrailerOf, RestOf};
 
-use fsfs_base::RevNum;
 use fsfs_book::Book;
 use fsfs_dag::revision_length;
 use fsfs_damage::{DamageKind, ReadError, RevOffset};
+use fsfs_fields::RevNum;
 use fsfs_rep::window;
 use fsfs_revision::{TRAILER_LIMIT, Trailer, read_tail};
 use itoa::Buffer;

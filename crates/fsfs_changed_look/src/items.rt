@@ -6,10 +6,10 @@ ghost use Rattle.fsfs_changes.specs.Changes.{HasNewPath, IsItemFault};
 ghost use Rattle.fsfs_changed.specs.Items.{ItemsIn, ItemsOf};
 
 use crate::data::{ChangesData, changes_data};
-use fsfs_base::RevNum;
 use fsfs_book::Book;
 use fsfs_changes::{ChangeError, ChangeItem, read_revision_changes};
 use fsfs_damage::{Damage, DamageKind, ReadError, RevOffset, Wrong};
+use fsfs_fields::RevNum;
 use std::alloc::Global;
 
 /// The items of a revision in the order of its data, and what is wrong behind them, where something is.

@@ -15,10 +15,11 @@ ghost use Rattle.fsfs_changed_look.specs.KeptDirs.{EntryKind, IsDirAt, IsKept, i
 
 use crate::entries_by_name::EntriesByName;
 use crate::kinds::kind_at;
-use fsfs_base::{FsPath, Kind, RevNum};
+use fsfs_base::{FsPath, Kind};
 use fsfs_book::Book;
 use fsfs_dag::{DirEntry, Met, PlacedNode, child_of, entries, node_at};
 use fsfs_damage::ReadError;
+use fsfs_fields::RevNum;
 use std::alloc::Global;
 
 /// A directory: the revision and the path at which it stands, and its entries.

@@ -5,11 +5,12 @@ ghost use Rattle.fsfs_damage.specs.Readings.{Answers};
 ghost use Rattle.fsfs_book.specs.Told.{RevisionBytes, Knows, Keeps};
 ghost use Rattle.fsfs_changed.specs.ChangedTexts.{KindAt, KindOf, KindUnsaid, is_nameable};
 
-use fsfs_base::{FsPath, Kind, RevNum};
+use fsfs_base::{FsPath, Kind};
 use fsfs_book::Book;
 use fsfs_changes::ChangeItem;
 use fsfs_dag::{Met, named_node, node_at};
 use fsfs_damage::ReadError;
+use fsfs_fields::RevNum;
 use fsfs_noderev::{NodeId, Place};
 use fsfs_revision::is_revision_id;
 use std::alloc::Global;

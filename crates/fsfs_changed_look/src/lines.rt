@@ -13,10 +13,11 @@ use crate::by_text::{ItemsByText, text_of};
 use crate::kept_dir::KeptDir;
 use crate::kinds::kind_of;
 use crate::taken::taken_kind;
-use fsfs_base::{Action, FsPath, Kind, RevNum};
+use fsfs_base::{Action, FsPath, Kind};
 use fsfs_book::Book;
 use fsfs_changes::ChangeItem;
 use fsfs_damage::ReadError;
+use fsfs_fields::RevNum;
 use std::alloc::{AllocError, Global};
 
 // `/` behind the path of a directory.

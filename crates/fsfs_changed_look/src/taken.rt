@@ -10,9 +10,10 @@ ghost use Rattle.fsfs_changed_look.specs.Views.{by_text_value, source_place};
 
 use crate::by_text::ItemsByText;
 use crate::kept_dir::{KeptDir, kind_kept};
-use fsfs_base::{FsPath, Kind, RevNum};
+use fsfs_base::{FsPath, Kind};
 use fsfs_book::Book;
 use fsfs_damage::ReadError;
+use fsfs_fields::RevNum;
 use fsfs_noderev::CopySource;
 use std::alloc::{AllocError, Global};
 

@@ -6,8 +6,9 @@ ghost use Rattle.fsfs_drafts.specs.OwnSides.{in_txn, is_own_copy};
 ghost use Rattle.fsfs_clash.specs.Sights.{facts_of, go_with, have_props_of, merge_with};
 
 use crate::same::same_contents;
-use fsfs_base::{Kind, RevNum};
+use fsfs_base::Kind;
 use fsfs_dag::same_part;
+use fsfs_fields::RevNum;
 use fsfs_noderev::{Contents, NodeRev, Part, Place};
 
 pub(crate) fn is_dir(kind: Kind) -> bool

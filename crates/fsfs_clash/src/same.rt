@@ -2,7 +2,7 @@
 ghost use Rattle.std.specs.Prelude.{◌≡◌, ◌==◌, ◌&&◌};
 ghost use Rattle.fsfs_clash.specs.Same.{same_rev, same_unique, same_rep, same_contents};
 
-use fsfs_base::{RevNum, TxnName};
+use fsfs_fields::{RevNum, TxnName};
 use fsfs_noderev::{Contents, Rep, Uniquifier};
 
 fn same_txn(a: &TxnName, b: &TxnName) -> bool

@@ -10,7 +10,7 @@ ghost use Rattle.fsfs_commit.specs.Replies.{IsReady, IsTurn, Committed, RoseIfDi
 use crate::draft::Draft;
 use crate::made::Made;
 use crate::section::publish;
-use fsfs_base::RevNum;
+use fsfs_fields::RevNum;
 use fsfs_places::{CommitPlace, DiskPlace};
 use fsfs_turn::Turns;
 use std::alloc::Global;

@@ -12,7 +12,8 @@ ghost use Rattle.fsfs_commit.specs.Courses.{IsMade};
 ghost use Rattle.fsfs_commit.specs.Works.{CanCommit, LandedOn, ReadOnly};
 
 use crate::made::Made;
-use fsfs_base::{Failed, Name, RevNum};
+use fsfs_base::{Failed, Name};
+use fsfs_fields::RevNum;
 use fsfs_turn::Turns;
 use std::alloc::{AllocError, Global};
 

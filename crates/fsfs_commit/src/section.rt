@@ -14,7 +14,8 @@ ghost use Rattle.fsfs_commit.specs.Courses.{IsMade, Goes, Ended, Published, Stop
 
 use crate::draft::Draft;
 use crate::made::Made;
-use fsfs_base::{Failed, Name, RevNum};
+use fsfs_base::{Failed, Name};
+use fsfs_fields::RevNum;
 use fsfs_layout::OnlyFile;
 use fsfs_places::{CommitPlace, DiskPlace};
 use fsfs_turn::Turns;

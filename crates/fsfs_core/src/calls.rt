@@ -5,7 +5,7 @@ ghost use Rattle.fsfs_machine.specs.Machine.{did, barred, answer, is_there, take
 ghost use Rattle.fsfs_core.specs.State.{world_of};
 
 use crate::state::State;
-use fsfs_base::RevNum;
+use fsfs_fields::RevNum;
 use fsfs_machine::files::{change_made, find, find_number, is_fine};
 use fsfs_machine::passes::{find_stuck, learn, reveal_by, see_least};
 use fsfs_machine::section::{

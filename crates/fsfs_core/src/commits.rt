@@ -6,7 +6,8 @@ ghost use Rattle.fsfs_core.specs.Commits.{AddsNext, IsUsed};
 
 use crate::state::State;
 use crate::txns::{edit_of, land_on, next_of, tree_at};
-use fsfs_base::{Pairs, RevNum};
+use fsfs_base::Pairs;
+use fsfs_fields::RevNum;
 use fsfs_flat::Edit;
 use fsfs_machine::files::is_fine;
 use fsfs_machine::section::answer_of;

@@ -6,7 +6,8 @@ ghost use Rattle.fsfs_machine.specs.Machine.{Happens, Runs, did, created, first_
 ghost use Rattle.fsfs_machine.specs.Kept.{Kept, Keeps, RunKeeps};
 ghost use Rattle.fsfs_core.specs.State.{world_of};
 
-use fsfs_base::{FsPath, Kind, Pairs, RevNum};
+use fsfs_base::{FsPath, Kind, Pairs};
+use fsfs_fields::RevNum;
 use fsfs_machine::{
     Bytes, Contents, Drawn, Entry, FileName, Line, Lock, NameChange, Outcome, Pass, Step, Txn,
 };

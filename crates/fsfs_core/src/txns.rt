@@ -10,7 +10,8 @@ ghost use Rattle.fsfs_flat.specs.Transactions.{IsNext};
 ghost use Rattle.fsfs_machine.specs.Machine.{tree_in, entry_of};
 ghost use Rattle.fsfs_core.specs.Commits.{GivesEdit};
 
-use fsfs_base::{FsPath, Pairs, RevNum, read_date};
+use fsfs_base::{FsPath, Pairs};
+use fsfs_fields::{RevNum, read_date};
 use fsfs_flat::{Edit, Mark};
 use fsfs_machine::Txn;
 use fsfs_model::{flat_apply, flat_clash, flat_fold, flat_land, flat_mark};

@@ -4,9 +4,10 @@ use crate::line::Line;
 use crate::step::step_of;
 use crate::words::Words;
 use anyhow::{Result, bail};
-use fsfs_base::{FsPath, Pairs, RevNum};
+use fsfs_base::{FsPath, Pairs};
 use fsfs_core::{Bytes, Outcome, State, Step};
 use fsfs_escapes::Transcript;
+use fsfs_fields::RevNum;
 use std::alloc::{AllocError, Global};
 use std::collections::VecDeque;
 

@@ -1,8 +1,9 @@
 // The steps of the machine as lines write them.
 use crate::words::Words;
 use anyhow::Result;
-use fsfs_base::{FsPath, Pairs, PropName};
+use fsfs_base::{FsPath, Pairs};
 use fsfs_core::{Bytes, Picks, Step, Went};
+use fsfs_fields::PropName;
 use fsfs_flat::Edit;
 use std::alloc::Global;
 

@@ -8,8 +8,9 @@ ghost use Rattle.fsfs_create.specs.NewFiles.{named};
 ghost use Rattle.fsfs_create.specs.Creation.{after_puts, after_publishing, after_creation, StopsInPuts, StopsPublishing, StopsAt, HasRepository, IsNoRepository, IsUnpublished, IsCreated, IsNoneOrWhole, CreateFails};
 
 use crate::initial::{NewFile, created_files};
-use fsfs_base::{Failed, write_date};
+use fsfs_base::Failed;
 use fsfs_disk::Disk;
+use fsfs_fields::write_date;
 use fsfs_layout::{Format, Layout, OnlyFile, RepositoryFile, write_format};
 use fsfs_places::{CreateFault, CreatePlace, DiskPlace};
 use std::alloc::Global;

@@ -2,8 +2,8 @@
 ghost use Rattle.std.specs.Prelude.{◌≡◌};
 ghost use Rattle.fsfs_shows.specs.Reading.{offset_of};
 
-use fsfs_base::RevNum;
 use fsfs_damage::RevOffset;
+use fsfs_fields::RevNum;
 use fsfs_noderev::Place;
 
 /// Where a node-revision stands by the place of its id.

@@ -10,9 +10,10 @@ ghost use Rattle.fsfs_dag.specs.Views.{home_of, met_value};
 use crate::directory::{entries, entry_named};
 use crate::node::PlacedNode;
 use crate::reading::{child_of, root_of};
-use fsfs_base::{FsPath, Kind, RevNum};
+use fsfs_base::{FsPath, Kind};
 use fsfs_book::Book;
 use fsfs_damage::ReadError;
+use fsfs_fields::RevNum;
 use std::alloc::Global;
 
 /// What stands at a path.

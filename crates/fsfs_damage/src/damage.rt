@@ -1,5 +1,5 @@
 //! Damage in the bytes of a revision.
-use fsfs_base::{HexDigest, RevNum};
+use fsfs_fields::{HexDigest, RevNum};
 
 /// A place in the bytes of a revision.
 #[derive(Clone, Copy, Debug, PartialEq, Eq)]

@@ -4,7 +4,8 @@ ghost use Rattle.fsfs_damage.specs.Damages.{damaged};
 ghost use Rattle.fsfs_damage.specs.declared.wrong.ReadError.TheVariants.{Wrong as IsWrong};
 
 use crate::damage::{Damage, DamageKind, RevOffset};
-use fsfs_base::{RevNum, SmallFault};
+use fsfs_base::SmallFault;
+use fsfs_fields::RevNum;
 use std::alloc::AllocError;
 use thiserror::Error;
 

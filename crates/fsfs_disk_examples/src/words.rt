@@ -1,7 +1,8 @@
 // The words of a line.
 use anyhow::{Result, bail};
-use fsfs_base::{Name, read_txn_name};
+use fsfs_base::Name;
 use fsfs_disk::Label;
+use fsfs_fields::read_txn_name;
 
 /// What is left of a line, a word after another.
 #[derive(Clone, Copy)]

@@ -1,9 +1,10 @@
 //! Reads over a disk in memory: revisions in files of their own, and the first shard packed.
-use fsfs_base::{Name, RevNum, SmallFault, SmallFile};
+use fsfs_base::{Name, SmallFault, SmallFile};
 use fsfs_book::{Book, BookFault};
 use fsfs_damage::Refusal;
 use fsfs_disk::Disk;
 use fsfs_fetch::{Direct, OwnedReads, disk_of, over_disk};
+use fsfs_fields::RevNum;
 use fsfs_layout::Layout;
 use fsfs_memdisk::MemDisk;
 use fsfs_samples::{FIRST_DIRECTORY, REVISION_0};

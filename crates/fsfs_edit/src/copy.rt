@@ -6,9 +6,10 @@ ghost use Rattle.fsfs_own.specs.Causes.{HasDiskCause, HasBenchCause};
 
 use crate::items::added;
 use crate::way::{Target, opened_to, way_to};
-use fsfs_base::{FsPath, RevNum};
+use fsfs_base::FsPath;
 use fsfs_book::Book;
 use fsfs_dag::{Met, PlacedNode, node_at};
+use fsfs_fields::RevNum;
 use fsfs_noderev::{CopySource, NodeRev};
 use fsfs_own::{EditError, Own, room_in};
 use fsfs_steps::{copy_to, same_source};

@@ -1,7 +1,8 @@
 // The files of a repository, and disks with them. A transaction is the file of its folder's name, without bytes.
 use anyhow::{Result, anyhow, bail};
-use fsfs_base::{Failed, Name, TxnName, read_txn_name};
+use fsfs_base::{Failed, Name};
 use fsfs_disk::{Disk, Label};
+use fsfs_fields::{TxnName, read_txn_name};
 use fsfs_layout::TxnFile;
 use fsfs_memdisk::MemDisk;
 use std::alloc::{AllocError, Global};

@@ -4,7 +4,8 @@ ghost use Rattle.fsfs_faults.specs.Pieces.{request_front};
 
 use crate::line::{FaultText, with_values, word};
 use crate::values::{numbers_text, txn_value_text};
-use fsfs_base::{FsPath, RevNum, TxnName};
+use fsfs_base::FsPath;
+use fsfs_fields::{RevNum, TxnName};
 use thiserror::Error;
 
 /// What is asked for isn't there, or is of another kind; or what is to be made is there.

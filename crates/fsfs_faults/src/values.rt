@@ -5,8 +5,9 @@ ghost use Rattle.fsfs_fields.specs.TxnNames.{txn_text as text_of_txn};
 ghost use Rattle.fsfs_faults.specs.Lines.{why_name, bad_path_values, small_values, at_values, rep_what_values, what_values, damage_values, txn_value};
 
 use arrayvec::ArrayString;
-use fsfs_base::{BadPath, HexDigest, Name, PathFault, SmallFault, TxnName};
+use fsfs_base::{BadPath, Name, PathFault, SmallFault};
 use fsfs_damage::{Damage, DamageKind, RepWhat, RevOffset};
+use fsfs_fields::{HexDigest, TxnName};
 use fsfs_layout::{small_file_name, txn_entry};
 use itoa::Buffer;
 

@@ -16,10 +16,10 @@ use crate::manifests::KeptManifest;
 use crate::owned::OwnedReads;
 use crate::packs::{packed_len, packed_part};
 use crate::reads::Reads;
-use fsfs_base::RevNum;
 use fsfs_book::{Book, BookFault};
 use fsfs_damage::Refusal;
 use fsfs_disk::Disk;
+use fsfs_fields::RevNum;
 use fsfs_layout::{Layout, RepositoryFile};
 use std::alloc::Global;
 

@@ -10,8 +10,9 @@ ghost use Rattle.fsfs_fetch.specs.Answers.{Stays, MayGo, FromFile, part_of_file,
 
 use crate::parts::StoreParts;
 use crate::reads::Reads;
-use fsfs_base::{Name, RevNum};
+use fsfs_base::Name;
 use fsfs_book::BookFault;
+use fsfs_fields::RevNum;
 use fsfs_whole_file::{FileFault, read_file};
 use std::alloc::Global;
 

@@ -8,9 +8,9 @@ ghost use Rattle.fsfs_fetch.specs.Answers.{refused};
 use crate::files::read_at;
 use crate::manifests::KeptManifest;
 use crate::reads::Reads;
-use fsfs_base::RevNum;
 use fsfs_book::BookFault;
 use fsfs_damage::Refusal;
+use fsfs_fields::RevNum;
 use fsfs_layout::{OnlyFile, read_min_unpacked_rev};
 
 // Reads the floor, by one call.

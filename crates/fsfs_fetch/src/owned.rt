@@ -2,8 +2,9 @@
 ghost use Rattle.std.specs.Prelude.{◌≡◌, ◌<◌};
 
 use crate::reads::Reads;
-use fsfs_base::{Failed, Name, RevNum};
+use fsfs_base::{Failed, Name};
 use fsfs_disk::Disk;
+use fsfs_fields::RevNum;
 use fsfs_layout::Layout;
 
 /// A disk that nobody else writes to, with the youngest revision of its repository and its layout.

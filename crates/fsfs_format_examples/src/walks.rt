@@ -4,11 +4,12 @@ ghost use Rattle.fsfs_base.specs.declared.kind.Kind.TheVariants.{Dir, File};
 
 use crate::nodes::kind_word;
 use crate::representations::{book_of, put_error};
-use fsfs_base::{FsPath, Kind, RevNum};
+use fsfs_base::{FsPath, Kind};
 use fsfs_book::{Book, MemBook};
 use fsfs_dag::{DirEntry, Met, PlacedNode, TextError, entries, node_at, props, text_to};
 use fsfs_damage::ReadError;
 use fsfs_escapes::Transcript;
+use fsfs_fields::RevNum;
 use fsfs_memstreams::MemSink;
 use std::alloc::Global;
 

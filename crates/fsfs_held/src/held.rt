@@ -9,11 +9,12 @@ use crate::changed::{new_node, relinked, with_entries, with_props, with_text, wi
 use crate::keys::{NodeKey, key_of};
 use crate::nodes::{Nodes, make_room, node_at, put, settle_steps};
 use crate::steps::{Step, last_of};
-use fsfs_base::{B36, Name, Pairs, TxnName, next_b36};
+use fsfs_base::{B36, Name, Pairs, next_b36};
 use fsfs_changes::ChangeItem;
 use fsfs_clash::MergedDir;
 use fsfs_dag::DirEntry;
 use fsfs_disk::Bench;
+use fsfs_fields::TxnName;
 use fsfs_land::Relink;
 use fsfs_noderev::{NodeId, NodeRev, Rep};
 use fsfs_own::{KeptNode, Own, OwnError};

@@ -5,8 +5,9 @@ ghost use Rattle.fsfs_proto.specs.Causes.{HasSourceCause, HasBenchCause};
 ghost use Rattle.fsfs_held.specs.Texts.{IsTextPut, IsTextLeft};
 
 use crate::held::HeldNodes;
-use fsfs_base::{B36, HexDigest};
+use fsfs_base::B36;
 use fsfs_disk::Bench;
+use fsfs_fields::HexDigest;
 use fsfs_noderev::Rep;
 use fsfs_own::Own;
 use fsfs_proto::{TextError, append_text as append};

@@ -19,10 +19,11 @@ ghost use Rattle.fsfs_history_look.specs.Points.{root_value, point_value, lead_v
 ghost use Rattle.fsfs_look.specs.Walks.{Walks};
 ghost use Rattle.fsfs_look.specs.Written.{Writes, HasDiskCause, HasSinkCause};
 
-use fsfs_base::{FsPath, Kind, RevNum};
+use fsfs_base::{FsPath, Kind};
 use fsfs_book::Book;
 use fsfs_dag::{PlacedNode, child_named, named_node, root_of};
 use fsfs_damage::ReadError;
+use fsfs_fields::RevNum;
 use fsfs_look::{LookError, put_spaces, write_full, write_last};
 use fsfs_noderev::NodeId;
 use fsfs_printed::LookFault;

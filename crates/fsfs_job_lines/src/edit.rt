@@ -1,6 +1,7 @@
 //! What one command of a job does.
 use crate::texts::Text;
-use fsfs_base::{FsPath, PropName};
+use fsfs_base::FsPath;
+use fsfs_fields::PropName;
 
 /// An edit of a transaction.
 #[derive(Debug, Drop)]

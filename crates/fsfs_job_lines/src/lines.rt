@@ -10,7 +10,8 @@ use crate::refusal::{LineError, Refusal, Why};
 use crate::texts::Author;
 use crate::verbs::{OpeningVerb, Stage, Verb, command_named, opening_named};
 use crate::words::{as_text, end, split_word, text_behind};
-use fsfs_base::{FsPath, PropName};
+use fsfs_base::FsPath;
+use fsfs_fields::PropName;
 use std::alloc::Global;
 
 /// The most bytes that the text of a file may have.

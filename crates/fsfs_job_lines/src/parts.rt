@@ -10,7 +10,8 @@ use crate::job::Base;
 use crate::refusal::{LineError, Refusal, Why};
 use crate::texts::Author;
 use crate::words::as_text;
-use fsfs_base::{FsPath, PathError, PropName, PropNameError};
+use fsfs_base::{FsPath, PathError};
+use fsfs_fields::{PropName, PropNameError};
 use fsfs_grammar::decimals::plain_decimal;
 use std::alloc::{AllocError, Global};
 

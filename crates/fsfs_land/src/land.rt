@@ -12,9 +12,10 @@ ghost use Rattle.fsfs_tree.specs.Nodes.{TreeFunction};
 ghost use Rattle.fsfs_land.specs.Landings.{LeavesLanded, TellsMerge};
 
 use crate::relink::{Relink, write};
-use fsfs_base::{FsPath, RevNum};
+use fsfs_base::FsPath;
 use fsfs_book::Book;
 use fsfs_clash::{Merge, find_merge};
+use fsfs_fields::RevNum;
 use fsfs_own::EditError;
 use std::alloc::Global;
 

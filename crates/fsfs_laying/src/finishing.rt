@@ -3,7 +3,7 @@ ghost use Rattle.std.specs.Prelude.{◌≡◌, IfOk};
 ghost use Rattle.fsfs_final.specs.Final.{final_part};
 ghost use Rattle.fsfs_final.specs.Finishing.{final_root, finish};
 
-use fsfs_base::RevNum;
+use fsfs_fields::RevNum;
 use fsfs_noderev::{Contents, CopyRoot, CopySource, NodeId, NodeRev, Part, Place};
 use std::alloc::AllocError;
 

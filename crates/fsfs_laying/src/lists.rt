@@ -4,7 +4,8 @@ ghost use Rattle.md5.specs.Md5.{md5};
 ghost use Rattle.fsfs_laying.specs.Lists.{IsListPut, AreContentsPut, list_of, in_revision};
 
 use crate::offsets::end_at;
-use fsfs_base::{HexDigest, Pairs, RevNum};
+use fsfs_base::Pairs;
+use fsfs_fields::{HexDigest, RevNum};
 use fsfs_hash::write_hash;
 use fsfs_noderev::{Contents, Rep};
 use md5::{Digest, Md5};

@@ -6,7 +6,8 @@ ghost use Rattle.fsfs_laying.specs.Nodes.{IsNodePut};
 use crate::finishing::finish;
 use crate::lists::put_contents;
 use crate::offsets::end_at;
-use fsfs_base::{Pairs, RevNum};
+use fsfs_base::Pairs;
+use fsfs_fields::RevNum;
 use fsfs_noderev::{NodeRev, write_noderev};
 use std::alloc::{AllocError, Global};
 

@@ -7,7 +7,8 @@ ghost use Rattle.fsfs_layout.specs.Names.{in_shard, in_pack, with_txn};
 
 use crate::layout::Layout;
 use crate::part_name::PartName;
-use fsfs_base::{Name, RevNum, TxnName};
+use fsfs_base::Name;
+use fsfs_fields::{RevNum, TxnName};
 use itoa::Buffer;
 
 // The folder of a shard's revision files.

@@ -6,7 +6,8 @@ use crate::layout::Layout;
 use crate::names;
 use crate::only_file::OnlyFile;
 use crate::txn_file::TxnFile;
-use fsfs_base::{Name, RevNum, SmallFile, TxnName};
+use fsfs_base::{Name, SmallFile};
+use fsfs_fields::{RevNum, TxnName};
 
 /// A file or folder of a repository.
 #[derive(Debug, Drop)]

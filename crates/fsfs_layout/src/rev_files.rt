@@ -7,7 +7,8 @@ ghost use Rattle.fsfs_layout.specs.Layouts.{place_in_shard};
 ghost use Rattle.fsfs_layout.specs.Reading.{rev_line_at};
 
 use crate::layout::Layout;
-use fsfs_base::{RevNum, SmallFault, SmallFile};
+use fsfs_base::{SmallFault, SmallFile};
+use fsfs_fields::RevNum;
 use std::alloc::{AllocError, Global};
 
 fn rev_line(bytes: &[u8]) -> Result<RevNum, usize>

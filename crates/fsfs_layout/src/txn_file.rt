@@ -4,7 +4,8 @@ ghost use Rattle.fsfs_layout.specs.FileNames.{txn_file_name};
 
 use crate::names::{in_txn, proto_revision, proto_revision_lock, txn_folder};
 use crate::part_name::PartName;
-use fsfs_base::{Name, TxnName};
+use fsfs_base::Name;
+use fsfs_fields::TxnName;
 
 /// A file or folder of a transaction.
 #[derive(Debug, Drop)]

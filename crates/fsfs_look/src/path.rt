@@ -6,9 +6,10 @@ ghost use Rattle.fsfs_look.specs.Paths.{IsFound};
 ghost use Rattle.fsfs_look.specs.Written.{HasDiskCause, HasSinkCause};
 
 use crate::look_error::LookError;
-use fsfs_base::{FsPath, RevNum};
+use fsfs_base::FsPath;
 use fsfs_book::Book;
 use fsfs_dag::{Met, PlacedNode, node_at};
+use fsfs_fields::RevNum;
 use fsfs_printed::LookFault;
 use std::alloc::Global;
 

@@ -3,7 +3,8 @@ ghost use Rattle.std.specs.Prelude.{◌≡◌};
 ghost use Rattle.fsfs_machine.specs.Machine.{entry_of};
 
 use crate::contents::{Bytes, Contents};
-use fsfs_base::{FsPath, Pairs, RevNum};
+use fsfs_base::{FsPath, Pairs};
+use fsfs_fields::RevNum;
 use fsfs_flat::{Edit, Mark};
 use fsfs_places::DiskPlace;
 use fsfs_tree::{Revision, Tree};

@@ -11,7 +11,8 @@ ghost use Rattle.fsfs_tree.specs.Revisions.{tree_of};
 ghost use Rattle.fsfs_tree.specs.Dated.{last_of};
 
 use crate::history::node_at;
-use fsfs_base::{FsPath, Kind, Pairs, PropName, RevNum};
+use fsfs_base::{FsPath, Kind, Pairs};
+use fsfs_fields::{PropName, RevNum};
 use fsfs_flat::{Edit, Mark, What};
 use fsfs_tree::{History, Node, Text, Tree};
 use std::alloc::{AllocError, Global};

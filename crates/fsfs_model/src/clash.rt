@@ -7,7 +7,8 @@ ghost use Rattle.fsfs_flat.specs.Marks.{effects_by};
 ghost use Rattle.fsfs_flat.specs.Landing.{goes_on, touched_by_head, props_changed_by_head, clashes_at, reached, NoClash, IsFirstClash};
 
 use crate::land::all_paths;
-use fsfs_base::{FsPath, Kind, RevNum};
+use fsfs_base::{FsPath, Kind};
+use fsfs_fields::RevNum;
 use fsfs_flat::{Effects, Mark, effects_at, outer_marks};
 use fsfs_tree::{Node, Tree};
 use std::alloc::{AllocError, Global};

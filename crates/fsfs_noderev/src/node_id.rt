@@ -3,7 +3,7 @@ ghost use Rattle.std.specs.Prelude.{◌≡◌, ℕ, List, option_map, IfSome, Is
 ghost use Rattle.fsfs_grammar.specs.Grammar.{Appends};
 ghost use Rattle.fsfs_noderev.specs.Ids.{IdValue, part_value, place_value, id_value, IsPart, IsPlace, IsId, part_at, place_at, id_at};
 
-use fsfs_base::{RevNum, TxnName, plain_txn_name, put_txn_name};
+use fsfs_fields::{RevNum, TxnName, plain_txn_name, put_txn_name};
 use fsfs_grammar::B36;
 use fsfs_grammar::base36::{plain_base36, put_b36};
 use fsfs_grammar::cuts::cut_at;

@@ -5,8 +5,9 @@ ghost use Rattle.fsfs_opened.specs.Texts.{refusal_of, PutsText, MeetsPut};
 
 use crate::opening::Way;
 use crate::reached::{kind_of, reached};
-use fsfs_base::{FsPath, HexDigest, Kind};
+use fsfs_base::{FsPath, Kind};
 use fsfs_edit::modified;
+use fsfs_fields::HexDigest;
 use fsfs_held::OwnTexts;
 use fsfs_noderev::NodeId;
 use fsfs_own::{EditError, Own};

@@ -10,9 +10,10 @@ ghost use Rattle.fsfs_own.specs.Taken.{IsEntryTaken};
 ghost use Rattle.fsfs_own.specs.Views.{kept_value, new_kept, opened_kept, text_put, props_put};
 ghost use Rattle.fsfs_dag.specs.Views.{entry_values};
 
-use fsfs_base::{B36, Pairs, TxnName};
+use fsfs_base::{B36, Pairs};
 use fsfs_changes::ChangeItem;
 use fsfs_dag::DirEntry;
+use fsfs_fields::TxnName;
 use fsfs_noderev::{NodeId, NodeRev, Rep};
 use std::alloc::AllocError;
 use thiserror::Error;

@@ -9,9 +9,9 @@ ghost use Rattle.fsfs_look.specs.declared.look_error.LookError.TheVariants.{Writ
 ghost use Rattle.fsfs_look.specs.Written.{HasSinkCause};
 ghost use Rattle.fsfs_prop_looks.specs.PropTexts.{value_of, log_lines, DateLine};
 
-use fsfs_base::{Pairs, RevNum};
+use fsfs_base::Pairs;
 use fsfs_damage::{DamageKind, ReadError, RevOffset};
-use fsfs_fields::read_date;
+use fsfs_fields::{RevNum, read_date};
 use fsfs_look::{LookError, write_piece};
 use fsfs_revprops::put_date;
 use fsfs_streams::Sink;

@@ -5,8 +5,8 @@ ghost use Rattle.fsfs_revprops.specs.RevProps.{IsToldProps};
 ghost use Rattle.fsfs_prop_looks.specs.PropTexts.{AuthorText, DateText, LogText, InfoText};
 
 use crate::lines::{date_line, value, write_line, write_log};
-use fsfs_base::RevNum;
 use fsfs_book::Book;
+use fsfs_fields::RevNum;
 use fsfs_look::{LookError, write_piece};
 use fsfs_revprops::rev_props;
 use fsfs_streams::Sink;

@@ -3,7 +3,7 @@ ghost use Rattle.std.specs.Prelude.{◌≡◌, ◌+◌, ◌<◌, ◌^◌, ◌++�
 ghost use Rattle.fsfs_proto.specs.Reps.{IsRepOf};
 ghost use Rattle.fsfs_proto.specs.Views.{HasTaken};
 
-use fsfs_base::TxnName;
+use fsfs_fields::TxnName;
 use fsfs_grammar::B36;
 use fsfs_noderev::{Rep, Uniquifier};
 use fsfs_rep::Digester;

@@ -1,5 +1,5 @@
 //! Why a text was not put.
-use fsfs_base::HexDigest;
+use fsfs_fields::HexDigest;
 use thiserror::Error;
 
 /// The most bytes that a text may have.

@@ -7,7 +7,8 @@ ghost use Rattle.fsfs_laying.specs.Naming.{ids_of};
 ghost use Rattle.fsfs_order.specs.Orders.{last_first};
 ghost use Rattle.fsfs_putting.specs.Putting.{IsFinalList, IsNextPut, ArePut, HaveTexts, no_ids};
 
-use fsfs_base::{FsPath, Pairs, RevNum};
+use fsfs_base::{FsPath, Pairs};
+use fsfs_fields::RevNum;
 use fsfs_laying::{entry_pairs, final_entries, put_node};
 use fsfs_noderev::NodeId;
 use fsfs_own::KeptNode;

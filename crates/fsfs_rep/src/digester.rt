@@ -4,7 +4,7 @@ ghost use Rattle.md5.specs.Md5.{md5};
 ghost use Rattle.sha1.specs.Sha1.{sha1};
 ghost use Rattle.fsfs_rep.specs.Seen.{HasSeen};
 
-use fsfs_base::HexDigest;
+use fsfs_fields::HexDigest;
 use md5::{Digest, Md5};
 use sha1::Sha1;
 

@@ -2,7 +2,7 @@
 ghost use Rattle.fsfs_grammar.specs.Reading.{Gives};
 ghost use Rattle.fsfs_rep.specs.Headers.{IsHeaderOf, base_line_at, delta_line_at};
 
-use fsfs_base::RevNum;
+use fsfs_fields::RevNum;
 use fsfs_grammar::decimals::decimal;
 use fsfs_grammar::pieces::text;
 

@@ -3,8 +3,8 @@ ghost use Rattle.std.specs.Prelude.{◌≡◌};
 ghost use Rattle.fsfs_damage.specs.declared.wrong.ReadError.TheVariants.{Wrong};
 ghost use Rattle.fsfs_rep.specs.Frames.{rep_place, bad_rep as bad};
 
-use fsfs_base::RevNum;
 use fsfs_damage::{DamageKind, ReadError, RepWhat, RevOffset};
+use fsfs_fields::RevNum;
 use fsfs_noderev::Rep;
 
 /// Where the header of a representation of a committed revision is to begin: a revision and a byte of it.

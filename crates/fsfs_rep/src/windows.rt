@@ -6,9 +6,9 @@ ghost use Rattle.fsfs_damage.specs.Readings.{IfWrong};
 ghost use Rattle.fsfs_book.specs.Told.{Keeps};
 ghost use Rattle.fsfs_rep.specs.Faults.{IsRefusedFor, IsRefusedRev};
 
-use fsfs_base::RevNum;
 use fsfs_book::{Book, BookFault};
 use fsfs_damage::{ReadError, Wrong};
+use fsfs_fields::RevNum;
 
 /// Reads a revision's bytes from an offset on, as much as there is and as fits; nothing past the end.
 pub fn window<B: Book>(

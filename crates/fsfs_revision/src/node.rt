@@ -5,8 +5,8 @@ ghost use Rattle.fsfs_damage.specs.Causes.{IsQuiet};
 ghost use Rattle.fsfs_damage.specs.Readings.{Answers};
 ghost use Rattle.fsfs_revision.specs.Damages.{NodeIn};
 
-use fsfs_base::RevNum;
 use fsfs_damage::{DamageKind, ReadError, RevOffset};
+use fsfs_fields::RevNum;
 use fsfs_noderev::{
     Contents, CopyRoot, CopySource, NodeError, NodeId, NodeRev, Part, Place, read_noderev,
 };

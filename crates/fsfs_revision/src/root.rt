@@ -7,8 +7,9 @@ ghost use Rattle.fsfs_revision.specs.Damages.{AsRoot, RootIn};
 
 use crate::node::read_node_at;
 use crate::trailer::read_trailer;
-use fsfs_base::{Kind, RevNum};
+use fsfs_base::Kind;
 use fsfs_damage::{DamageKind, ReadError, RevOffset};
+use fsfs_fields::RevNum;
 use fsfs_noderev::{NodeId, NodeRev, Place};
 use std::alloc::Global;
 

@@ -7,9 +7,10 @@ ghost use Rattle.fsfs_book.specs.Told.{RevisionBytes, Keeps};
 ghost use Rattle.fsfs_rep.specs.Faults.{IsRefusedFor};
 ghost use Rattle.fsfs_revprops.specs.RevProps.{RevPropsIn, RevPropsOf, IsToldProps};
 
-use fsfs_base::{Pairs, RevNum};
+use fsfs_base::Pairs;
 use fsfs_book::{Book, BookFault};
 use fsfs_damage::{DamageKind, ReadError, RevOffset, Wrong};
+use fsfs_fields::RevNum;
 use fsfs_hash::{HashError, read_hash};
 use std::alloc::Global;
 

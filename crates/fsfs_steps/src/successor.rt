@@ -5,7 +5,8 @@ ghost use Rattle.fsfs_drafts.specs.Rules.{draft_root, lasting_root, is_after, ro
 ghost use Rattle.fsfs_own.specs.Views.{root_value};
 ghost use Rattle.fsfs_drafts.specs.Steps.{IsSuccessor};
 
-use fsfs_base::{FsPath, RevNum, TxnName};
+use fsfs_base::FsPath;
+use fsfs_fields::{RevNum, TxnName};
 use fsfs_noderev::{CopyRoot, NodeId, NodeRev, Part, Place};
 use std::alloc::{AllocError, Global};
 

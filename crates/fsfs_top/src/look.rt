@@ -15,13 +15,14 @@ ghost use Rattle.fsfs_top.specs.Looks.{AllBytes, KnowsAll, TextOf, LacksRevision
 ghost use Rattle.fsfs_top.specs.Scenes.{scene, sink_scene};
 
 use crate::output::{line_fault, print_revision, print_uuid};
-use fsfs_base::{FsPath, RevNum};
+use fsfs_base::FsPath;
 use fsfs_book::Book;
 use fsfs_changed_look::changed_text;
 use fsfs_cli::{Look, Printed, RevisionLook};
 use fsfs_disk::{Disk, Host};
 use fsfs_faults::{Fault, OutsideFault, RequestFault};
 use fsfs_fetch::{disk_of, over_disk};
+use fsfs_fields::RevNum;
 use fsfs_history_look::history_text;
 use fsfs_layout::Opened;
 use fsfs_look::{LookError, cat, tree_text};

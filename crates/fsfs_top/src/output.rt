@@ -8,8 +8,9 @@ ghost use Rattle.fsfs_top.specs.TxnAnswers.{names_text};
 ghost use Rattle.fsfs_txns.specs.Txns.{text_of};
 
 use arrayvec::ArrayString;
-use fsfs_base::{Failed, RevNum, TxnName};
+use fsfs_base::Failed;
 use fsfs_faults::{Fault, OutsideFault, txn_text};
+use fsfs_fields::{RevNum, TxnName};
 use fsfs_layout::Uuid;
 use fsfs_streams::{Sink, print};
 use itoa::Buffer;

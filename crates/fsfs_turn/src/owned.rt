@@ -5,8 +5,9 @@ ghost use Rattle.fsfs_turn.specs.Views.{View};
 ghost use Rattle.fsfs_turn.specs.Standing.{Knows};
 
 use crate::turns::Turns;
-use fsfs_base::{Failed, Name, RevNum};
+use fsfs_base::{Failed, Name};
 use fsfs_disk::{Disk, Label, ListFault};
+use fsfs_fields::RevNum;
 use fsfs_layout::{Layout, OnlyFile};
 use fsfs_places::DiskPlace;
 use std::alloc::Global;

@@ -23,8 +23,9 @@ ghost use Rattle.fsfs_machine.specs.Kept.{IsIn};
 ghost use Rattle.fsfs_turn.specs.Views.{View, rev_name, props_name, IsDue, MayAdopt, MayGive, Answers, Called, Adopted, Looked, LockTaken, FoundStuck, LockGiven, Revealed, ReadTurn};
 ghost use Rattle.fsfs_turn.specs.Learning.{PropsRead, FloorRead, ReadsCounter, Listed, MayMake, BenchMade, MayPurge, Purged, SpentPurged};
 
-use fsfs_base::{Failed, Name, RevNum};
+use fsfs_base::{Failed, Name};
 use fsfs_disk::{Bench, Label, ListFault};
+use fsfs_fields::RevNum;
 use fsfs_places::DiskPlace;
 use std::alloc::Global;
 

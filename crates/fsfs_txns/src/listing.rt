@@ -6,8 +6,9 @@ ghost use Rattle.fsfs_disk.specs.Trace.{labels_now};
 ghost use Rattle.fsfs_txns.specs.Txns.{text_of, AreTxns};
 ghost use Rattle.fsfs_txns.specs.Entries.{name_at};
 
-use fsfs_base::{Name, TxnName, plain_txn_name};
+use fsfs_base::Name;
 use fsfs_disk::{Disk, ListFault};
+use fsfs_fields::{TxnName, plain_txn_name};
 use fsfs_layout::{OnlyFile, txn_entry};
 use std::alloc::{AllocError, Global};
 

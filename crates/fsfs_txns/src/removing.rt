@@ -7,8 +7,9 @@ ghost use Rattle.fsfs_disk.specs.Crash.{AllImages, AreAll, Leaves, LeavesBoth};
 ghost use Rattle.fsfs_txns.specs.Txns.{pair_of, txn_label};
 ghost use Rattle.fsfs_txns.specs.Removals.{HasLabels, IsImageOf, WasKept, Removes, IfFailed};
 
-use fsfs_base::{Failed, TxnName};
+use fsfs_base::Failed;
 use fsfs_disk::{Disk, Label};
+use fsfs_fields::TxnName;
 use thiserror::Error;
 
 /// Why transactions weren't all removed.
