@@ -17,14 +17,22 @@ use fsfs_layout::OnlyFile;
 use std::alloc::Global;
 use std::collections::BTreeMap;
 
-// The lock that Subversion's own writers take, where its file is there.
-fn lock_file<C: Calls + Drop>(folders: &mut Folders<C>) -> Result<(), CallError>
+// A lock that Subversion's own writers take, where its file is there.
+fn lock_file<C: Calls + Drop>(folders: &mut Folders<C>, file: OnlyFile) -> Result<(), CallError>
     ensures { told (C.history folders.new.calls) ≡ told (C.history folders.old.calls) }
 {
-    match folders.lock(&Path::of(&OnlyFile::WriteLock.name())) {
+    match folders.lock(&Path::of(&file.name())) {
         Err(CallError::NotFound) => Ok(()),
         taken => taken,
     }
+}
+
+// Their commits take the one, and their transactions the other, as they begin.
+fn lock_files<C: Calls + Drop>(folders: &mut Folders<C>) -> Result<(), CallError>
+    ensures { told (C.history folders.new.calls) ≡ told (C.history folders.old.calls) }
+{
+    lock_file(folders, OnlyFile::WriteLock)?;
+    lock_file(folders, OnlyFile::TxnCurrentLock)
 }
 
 // Where there is no repository yet, refuses a folder with anything but what a creation leaves that was cut off, and makes `db`. The
@@ -56,7 +64,7 @@ fn make_ready<F: FileSystem>(
 {
     refuse_below_repository(files, alloc, path)?;
     let absent = make_room(alloc, files, folders, path)?;
-    lock_file(folders)?;
+    lock_files(folders)?;
     doubt_names(alloc, folders)?;
     Ok(absent)
 }
