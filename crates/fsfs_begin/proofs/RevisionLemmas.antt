@@ -97,7 +97,7 @@ module _ (o : Opened) (rev : ℕ) (R : RevisionBytes → Type 0) (same : (look o
       same (rev_bytes o.layout (files_now u)) (rev_bytes o.layout (files_now t))
       (ap (λ (m : Files). rev_bytes o.layout m rev) now ∙ bytes_raised raised.0 (files_now t) o.layout rev) (told u refl floor le)
 
-begun_same : (name : TxnName) (root : NodeRev) (look other : RevisionBytes) → look name.base ≡ other name.base → IsBegunOn look name root → IsBegunOn other name root
+pub begun_same : (name : TxnName) (root : NodeRev) (look other : RevisionBytes) → look name.base ≡ other name.base → IsBegunOn look name root → IsBegunOn other name root
 begun_same name root look other e (x, of, on) = (x, root_same look other name.base (Ok x) e of, on)
 
 -- two facts of a value that was given
@@ -110,7 +110,7 @@ both_ok (Err e) P Q R f p q = tt
 old_below : (part : PartValue) → part ≡ Old 0 → IsBelow 0 part
 old_below part e = subst (IsBelow 0) (sym e) tt
 
-stands_for : (look : RevisionBytes) (name : TxnName) (root : NodeRev) (held : Option Files) → IsBegunOn look name root → StandsForBase look name root held
+pub stands_for : (look : RevisionBytes) (name : TxnName) (root : NodeRev) (held : Option Files) → IsBegunOn look name root → StandsForBase look name root held
 stands_for look name root held (x, of, on) = λ top trees proto shown rule le.
     let base = name.base in
     let stands : StandsAt look base [] x = (x, of, refl) in

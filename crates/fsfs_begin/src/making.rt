@@ -26,8 +26,8 @@ pub enum BenchFault {
     Bench,
 }
 
-// Writes the first files of a transaction.
-fn fill<B: Bench>(bench: &mut B, root: &[u8]) -> Result<(), Failed>
+/// Writes the first files of a transaction, among them its root of the text that is given.
+pub fn fill<B: Bench>(bench: &mut B, root: &[u8]) -> Result<(), Failed>
     ensures files { OnOk result (B.contents bench.new ≡ option_map (with_first_files root.now) (B.contents bench.old)) }
     ensures cause { HasCause (B.faults bench.old) (B.faults bench.new) result }
 {

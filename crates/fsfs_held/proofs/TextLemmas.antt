@@ -1,5 +1,5 @@
 -- A prototype revision file that got longer, as the folder has it.
-use Rattle.std.proofs.Common.{◌≡◌, ◌++◌, ℕ, true, List, [], length, refl, sym, ap, subst, ◌∙◌, append-nil}
+use Rattle.std.proofs.Common.{◌≡◌, ◌++◌, ℕ, true, List, [], length, refl, sym, ap, subst}
 use Rattle.std.specs.Prelude.{Option, Some, None, is_some, option_map, Result, Ok, Err, IfOk, IfErr, IfSome}
 use Rattle.fsfs_base.specs.Files.{Files as BenchFiles}
 use Rattle.fsfs_fields.specs.declared.txn_name.TxnName.{TxnName}
@@ -16,10 +16,9 @@ use Rattle.fsfs_proto.specs.Reps.{framed, IsRepOf}
 use Rattle.fsfs_proto.specs.Texts.{IsPut, IsLeft}
 use Rattle.fsfs_proto.proofs.Longer.{read}
 use Rattle.fsfs_drafts.specs.Steps.{Files}
-use Rattle.fsfs_drafts.specs.Drafts.{Folder}
 use Rattle.fsfs_held.specs.declared.held.NextNumbers.{NextNumbers}
 use Rattle.fsfs_held.specs.Views.{folder_of}
-use Rattle.fsfs_held.specs.Texts.{longer, AreLonger, IsTextPut, IsTextLeft}
+use Rattle.fsfs_held.specs.Texts.{AreLonger, IsTextPut, IsTextLeft}
 
 -- the file's bytes; a bench that doesn't tell has none before and none after
 proto_longer : (old new : Option BenchFiles) (name more : List ℕ) → new ≡ option_map (appended name more) old → (added : List ℕ) × (bytes_on new name ≡ bytes_on old name ++ added)

@@ -1,13 +1,13 @@
 //! Copies of what a transaction keeps of a node-revision.
 ghost use Rattle.std.specs.Prelude.{◌≡◌, IfOk, option_map};
-ghost use Rattle.fsfs_dag.specs.Views.{entry_values};
+ghost use Rattle.fsfs_listing.specs.Views.{listed};
 ghost use Rattle.fsfs_own.specs.Views.{kept_value};
 
 use fsfs_base::Pairs;
-use fsfs_dag::DirEntry;
+use fsfs_listing::Listing;
 use fsfs_noderev::{CopyRoot, CopySource, NodeRev};
 use fsfs_own::KeptNode;
-use std::alloc::{AllocError, Global};
+use std::alloc::AllocError;
 
 fn same_source(source: &Option<CopySource>) -> Result<Option<CopySource>, AllocError>
     ensures { IfOk result (λ same. same ≡ source.now) }
@@ -56,32 +56,14 @@ pub(crate) fn same_node(node: &NodeRev) -> Result<NodeRev, AllocError>
     })
 }
 
-/// A copy of the entries of a directory.
-pub fn same_entries(alloc: Global, entries: &[DirEntry]) -> Result<Vec<DirEntry>, AllocError>
-    ensures { IfOk result (λ v. entry_values v.items ≡ entry_values entries.now) }
-{
-    let mut all = Vec::new(alloc);
-    for entry in entries {
-        let name = String::from_str(alloc, entry.name.as_str())?;
-        all.push(DirEntry {
-            name,
-            kind: entry.kind,
-            id: entry.id,
-        })?;
-    }
-    Ok(all)
-}
-
-fn same_list(
-    alloc: Global,
-    entries: &Option<Vec<DirEntry>>,
-) -> Result<Option<Vec<DirEntry>>, AllocError>
-    ensures { IfOk result (λ same. option_map (λ v. entry_values v.items) same ≡ option_map (λ v. entry_values v.items) entries.now) }
+// The same entries. Nothing is copied.
+fn same_list(entries: &Option<Listing>) -> Result<Option<Listing>, AllocError>
+    ensures { IfOk result (λ same. option_map listed same ≡ option_map listed entries.now) }
 {
     match entries {
         None => Ok(None),
         Some(entries) => {
-            let same = same_entries(alloc, entries.as_slice())?;
+            let same = entries.shared()?;
             Ok(Some(same))
         }
     }
@@ -100,12 +82,12 @@ pub(crate) fn same_props(props: &Option<Pairs>) -> Result<Option<Pairs>, AllocEr
     }
 }
 
-/// A copy of all that is kept of a node-revision.
-pub(crate) fn same_kept(alloc: Global, kept: &KeptNode) -> Result<KeptNode, AllocError>
+/// All that is kept of a node-revision. Its list of entries is not copied.
+pub(crate) fn same_kept(kept: &KeptNode) -> Result<KeptNode, AllocError>
     ensures { IfOk result (λ same. kept_value same ≡ kept_value kept.now) }
 {
     let node = same_node(&kept.node)?;
-    let entries = same_list(alloc, &kept.entries)?;
+    let entries = same_list(&kept.entries)?;
     let props = same_props(&kept.props)?;
     Ok(KeptNode {
         node,

@@ -5,17 +5,17 @@ ghost use Rattle.fsfs_held.specs.Keys.{at_key};
 ghost use Rattle.fsfs_held.specs.Lists.{files_of, with_steps};
 ghost use Rattle.fsfs_held.specs.Views.{begun_folder};
 
-use crate::changed::{new_node, relinked, with_entries, with_props, with_text, without_name};
+use crate::changed::{new_node, relinked, with_entries, with_props, with_text};
 use crate::keys::{NodeKey, key_of};
 use crate::nodes::{Nodes, make_room, node_at, put, settle_steps};
 use crate::steps::{Step, last_of};
-use fsfs_base::{B36, Name, Pairs, next_b36};
+use fsfs_base::{B36, Kind, Name, Pairs, next_b36};
 use fsfs_changes::ChangeItem;
 use fsfs_clash::MergedDir;
-use fsfs_dag::DirEntry;
 use fsfs_disk::Bench;
 use fsfs_fields::TxnName;
 use fsfs_land::Relink;
+use fsfs_listing::{Listing, Target};
 use fsfs_noderev::{NodeId, NodeRev, Rep};
 use fsfs_own::{KeptNode, Own, OwnError};
 use std::alloc::{AllocError, Global};
@@ -143,14 +143,18 @@ impl<D: Bench> Own for HeldNodes<D> {
     fn put_child(
         &mut self,
         dir: &NodeId,
-        entries: Vec<DirEntry>,
+        entries: Listing,
+        name: &str,
+        kind: Kind,
         child: NodeRev,
     ) -> Result<(), AllocError> {
         let key = key_of(dir);
         let Some(kept) = self.found(&key) else {
             return Err(AllocError);
         };
-        let opened = with_entries(kept, entries)?;
+        let target = Target { kind, id: child.id };
+        let new = entries.with(self.alloc, name, target)?;
+        let opened = with_entries(kept, new)?;
         self.steps.reserve(2)?;
         let child_key = key_of(&child.id);
         let made = new_node(child);
@@ -162,17 +166,13 @@ impl<D: Bench> Own for HeldNodes<D> {
         Ok(())
     }
 
-    fn take_entry(
-        &mut self,
-        dir: &NodeId,
-        entries: Vec<DirEntry>,
-        name: &str,
-    ) -> Result<(), AllocError> {
+    fn take_entry(&mut self, dir: &NodeId, entries: Listing, name: &str) -> Result<(), AllocError> {
         let key = key_of(dir);
         let Some(kept) = self.found(&key) else {
             return Err(AllocError);
         };
-        let opened = with_entries(kept, without_name(entries, name))?;
+        let new = entries.without(self.alloc, name)?;
+        let opened = with_entries(kept, new)?;
         self.steps.push(Step { key, kept: opened })?;
         Ok(())
     }
@@ -182,7 +182,7 @@ impl<D: Bench> Own for HeldNodes<D> {
         let Some(kept) = self.found(&key) else {
             return Err(AllocError);
         };
-        let changed = with_text(self.alloc, kept, rep)?;
+        let changed = with_text(kept, rep)?;
         self.steps.push(Step { key, kept: changed })?;
         Ok(())
     }
@@ -192,7 +192,7 @@ impl<D: Bench> Own for HeldNodes<D> {
         let Some(kept) = self.found(&key) else {
             return Err(AllocError);
         };
-        let changed = with_props(self.alloc, kept, props)?;
+        let changed = with_props(kept, props)?;
         self.steps.push(Step { key, kept: changed })?;
         Ok(())
     }
@@ -222,7 +222,7 @@ impl<D: Bench> Relink for HeldNodes<D> {
         let Some(kept) = self.found(&key) else {
             return Err(AllocError);
         };
-        let merged = relinked(kept, dir)?;
+        let merged = relinked(self.alloc, kept, dir)?;
         self.steps.push(Step { key, kept: merged })?;
         Ok(())
     }

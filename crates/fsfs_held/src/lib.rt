@@ -9,6 +9,5 @@ mod nodes;
 mod steps;
 mod texts;
 
-pub use copies::same_entries;
 pub use held::HeldNodes;
 pub use texts::OwnTexts;

@@ -20,7 +20,6 @@ use Rattle.fsfs_noderev.specs.declared.node_id.NodeId.{NodeId}
 use Rattle.fsfs_noderev.specs.declared.node_rev.NodeRev.{NodeRev}
 use Rattle.fsfs_shows.specs.Reading.{DirEntry, named}
 use Rattle.fsfs_ancestry.specs.Trees.{ShowTrees}
-use Rattle.fsfs_dag.specs.Views.{entry_values}
 use Rattle.fsfs_drafts.specs.Own.{OwnNode, Own}
 use Rattle.fsfs_drafts.specs.Drafts.{Kept, Folder, kept_of, IsBelow, AreItemsOf}
 use Rattle.fsfs_drafts.specs.Edits.{IsDraftAfter}
@@ -209,8 +208,9 @@ module _ (look : RevisionBytes) (trees : ℕ → TreeFunction) (top base head : 
       own_is : IsMine p
       dir : MergedDir
       link : dir.link ≡ link_of own_is.at.y own_is.v.node.id
-      listed : (name : PathName) → IsListed (named name (entry_values dir.entries.items)) (landed_nodes see (nodes head) met (p ++ name ∷ []))
-      now : kept_at after.nodes own_is.v.node.id ≡ Some (relinked_kept dir (kept_of own_is.v))
+      entries : List DirEntry
+      listed : (name : PathName) → IsListed (named name entries) (landed_nodes see (nodes head) met (p ++ name ∷ []))
+      now : kept_at after.nodes own_is.v.node.id ≡ Some (relinked_kept dir entries (kept_of own_is.v))
 
     wrote : (p : Path) → is_merged see p ≡ true → Wrote p
     wrote p m = by (so.each (part_value w.v.node.id.node) (part_value w.v.node.id.copy))
@@ -222,13 +222,20 @@ module _ (look : RevisionBytes) (trees : ℕ → TreeFunction) (top base head : 
         key dir pl = (ap (λ (id : NodeId). part_value id.node) (planned_id p dir pl w), ap (λ (id : NodeId). part_value id.copy) (planned_id p dir pl w))
 
         by : IsWritten f after dirs (part_value w.v.node.id.node) (part_value w.v.node.id.copy) → Wrote p
-        by (Merged dir k one of was now) =
+        by (Merged dir entries k one of list was now) =
             let pl = planned_at p w.v w.here dir one of in
             let same : k ≡ kept_of w.v = same_Some k (kept_of w.v) (sym was ∙ d.shows.is_draft.kept p w.v w.here) in
-            record { own_is = w; dir = dir; link = planned_link p dir pl w; listed = pl.listed; now = now ∙ ap (λ (z : Kept). Some (relinked_kept dir z)) same }
+            record {
+              own_is = w;
+              dir = dir;
+              link = planned_link p dir pl w;
+              entries = entries;
+              listed = λ name. subst (λ (o : Option DirEntry). IsListed o (landed_nodes see (nodes head) met (p ++ name ∷ []))) (sym (list name)) (pl.listed name);
+              now = now ∙ ap (λ (z : Kept). Some (relinked_kept dir entries z)) same;
+            }
         by (Same apart e) = absurd (apart (one_as (IsPlanned see (nodes head) met p) (IsOfKey (part_value w.v.node.id.node) (part_value w.v.node.id.copy)) dirs key (plan.all p m)))
 
-    list_is : (p : Path) (w : Wrote p) → lists p ≡ entry_values w.dir.entries.items
+    list_is : (p : Path) (w : Wrote p) → lists p ≡ w.entries
     list_is p w = ap (own_list after.nodes) w.own_is.here ∙ ap list_of_kept w.now
 
     listing : AreLists see (nodes head) met lists
@@ -249,7 +256,7 @@ module _ (look : RevisionBytes) (trees : ℕ → TreeFunction) (top base head : 
     kept_now p v e = elim (own_now look top trees base head tree marks nodes see txn f own lists are merge clear d.shows.is_draft d.files d.once p v e) [
       | IsLinked m l ↦ subst (λ (z : OwnNode). kept_at after.nodes z.node.id ≡ Some (kept_of z)) (sym l.same) (linked_kept p (wrote p m) l.at.y l.old l.at.head_is l.here)
       | IsStill here o still ↦ elim (so.each (part_value v.node.id.node) (part_value v.node.id.copy)) [
-        | Merged dir k one key was now ↦ absurd (both_ways (is_merged see p) still (planned_at p v here dir one key).merged)
+        | Merged dir entries k one key list was now ↦ absurd (both_ways (is_merged see p) still (planned_at p v here dir one key).merged)
         | Same apart same ↦ same ∙ d.shows.is_draft.kept p v here
       ]
     ]
@@ -257,7 +264,7 @@ module _ (look : RevisionBytes) (trees : ℕ → TreeFunction) (top base head : 
     drawn_now : (node copy : PartValue) (k : Kept) → after.nodes node copy ≡ Some k → IsBelow after.next_node node × IsBelow after.next_copy copy
     drawn_now node copy k e =
         let old : IsBelow f.next_node node × IsBelow f.next_copy copy = elim (so.each node copy) [
-          | Merged dir before one key was now ↦ d.shows.is_draft.drawn node copy before was
+          | Merged dir entries before one key list was now ↦ d.shows.is_draft.drawn node copy before was
           | Same apart same ↦ d.shows.is_draft.drawn node copy k (sym same ∙ e)
         ] in
         (subst (λ (n : ℕ). IsBelow n node) (sym so.next_node) old.0, subst (λ (n : ℕ). IsBelow n copy) (sym so.next_copy) old.1)

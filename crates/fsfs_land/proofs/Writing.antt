@@ -9,7 +9,8 @@ use Rattle.fsfs_drafts.specs.Drafts.{Kept, Folder}
 use Rattle.fsfs_drafts.specs.Steps.{same_value, kept_at}
 use Rattle.fsfs_drafts.proofs.Files.{same_value-is, same_value-refl}
 use Rattle.fsfs_clash.specs.declared.merged.MergedDir.{MergedDir}
-use Rattle.fsfs_land.specs.Relinked.{relinked_kept, relinked, IsRelinked, IsOfKey, IsWritten, Merged, Same, AreRelinked, AreHere}
+use Rattle.fsfs_shows.specs.Reading.{DirEntry}
+use Rattle.fsfs_land.specs.Relinked.{IsListOf, relinked_kept, relinked, IsRelinked, IsOfKey, IsWritten, Merged, Same, AreRelinked, AreHere}
 
 pub none_written : (f : Folder) → AreRelinked f f []
 none_written f = record { each = λ node copy. Same (λ one. one) refl; next_node = refl; next_copy = refl; items = refl; proto = refl }
@@ -28,29 +29,29 @@ is_key dir node copy key =
     (subst (λ (v : PartValue). same_value (part_value dir.link.own.copy) v ≡ true) key.1 (same_value-refl (part_value dir.link.own.copy)))
 
 -- the files of one node-revision: a directory that was written before has the last
-written_at : (before f : Folder) (done : List MergedDir) (dir : MergedDir) (k : Kept) → kept_at f.nodes dir.link.own ≡ Some k → (node copy : PartValue) → IsWritten before f done node copy → IsWritten before (relinked f dir k) (dir ∷ done) node copy
-written_at before f done dir k here node copy old = by (same_value (part_value dir.link.own.node) node && same_value (part_value dir.link.own.copy) copy) refl
+written_at : (before f : Folder) (done : List MergedDir) (dir : MergedDir) (entries : List DirEntry) (k : Kept) → IsListOf dir entries → kept_at f.nodes dir.link.own ≡ Some k → (node copy : PartValue) → IsWritten before f done node copy → IsWritten before (relinked f dir entries k) (dir ∷ done) node copy
+written_at before f done dir entries k listed here node copy old = by (same_value (part_value dir.link.own.node) node && same_value (part_value dir.link.own.copy) copy) refl
   where
     there : IsOfKey node copy dir → f.nodes node copy ≡ Some k
     there key = (λ i. f.nodes (sym key.0 i) (sym key.1 i)) ∙ here
 
-    mine : IsOfKey node copy dir → (relinked f dir k).nodes node copy ≡ Some (relinked_kept dir k) → IsWritten before f done node copy → IsWritten before (relinked f dir k) (dir ∷ done) node copy
-    mine key now (Merged d first one of was is) =
-        let same : k ≡ relinked_kept d first = same_Some k (relinked_kept d first) (sym (there key) ∙ is) in
-        Merged dir first (inl refl) key was (now ∙ ap (λ (z : Kept). Some (relinked_kept dir z)) same)
-    mine key now (Same never is) = Merged dir k (inl refl) key (sym is ∙ there key) now
+    mine : IsOfKey node copy dir → (relinked f dir entries k).nodes node copy ≡ Some (relinked_kept dir entries k) → IsWritten before f done node copy → IsWritten before (relinked f dir entries k) (dir ∷ done) node copy
+    mine key now (Merged d names first one of list was is) =
+        let same : k ≡ relinked_kept d names first = same_Some k (relinked_kept d names first) (sym (there key) ∙ is) in
+        Merged dir entries first (inl refl) key listed was (now ∙ ap (λ (z : Kept). Some (relinked_kept dir entries z)) same)
+    mine key now (Same never is) = Merged dir entries k (inl refl) key listed (sym is ∙ there key) now
 
-    other : (IsOfKey node copy dir → ⊥) → (relinked f dir k).nodes node copy ≡ f.nodes node copy → IsWritten before f done node copy → IsWritten before (relinked f dir k) (dir ∷ done) node copy
-    other apart now (Merged d first one of was is) = Merged d first (inr one) of was (now ∙ is)
+    other : (IsOfKey node copy dir → ⊥) → (relinked f dir entries k).nodes node copy ≡ f.nodes node copy → IsWritten before f done node copy → IsWritten before (relinked f dir entries k) (dir ∷ done) node copy
+    other apart now (Merged d names first one of list was is) = Merged d names first (inr one) of list was (now ∙ is)
     other apart now (Same never is) = Same (λ w. elim w [ inl key ↦ apart key | inr rest ↦ never rest ]) (now ∙ is)
 
-    by : (b : Bool) → (same_value (part_value dir.link.own.node) node && same_value (part_value dir.link.own.copy) copy) ≡ b → IsWritten before (relinked f dir k) (dir ∷ done) node copy
-    by true e = mine (key_of dir node copy e) (ap (λ (b : Bool). cond b (Some (relinked_kept dir k)) (f.nodes node copy)) e) old
-    by false e = other (λ key. false≢true (sym e ∙ is_key dir node copy key)) (ap (λ (b : Bool). cond b (Some (relinked_kept dir k)) (f.nodes node copy)) e) old
+    by : (b : Bool) → (same_value (part_value dir.link.own.node) node && same_value (part_value dir.link.own.copy) copy) ≡ b → IsWritten before (relinked f dir entries k) (dir ∷ done) node copy
+    by true e = mine (key_of dir node copy e) (ap (λ (b : Bool). cond b (Some (relinked_kept dir entries k)) (f.nodes node copy)) e) old
+    by false e = other (λ key. false≢true (sym e ∙ is_key dir node copy key)) (ap (λ (b : Bool). cond b (Some (relinked_kept dir entries k)) (f.nodes node copy)) e) old
 
 pub one_written : (before f after : Folder) (done : List MergedDir) (dir : MergedDir) → AreRelinked before f done → IsRelinked f after dir → AreRelinked before after (dir ∷ done)
 one_written before f after done dir so one = subst (λ (g : Folder). AreRelinked before g (dir ∷ done)) (sym one.after_is) (record {
-  each = λ node copy. written_at before f done dir one.k one.here node copy (so.each node copy);
+  each = λ node copy. written_at before f done dir one.entries one.k one.listed one.here node copy (so.each node copy);
   next_node = so.next_node;
   next_copy = so.next_copy;
   items = so.items;
@@ -68,7 +69,7 @@ was_none : (before f : Folder) (done : List MergedDir) (dir : MergedDir) → Are
 was_none before f done dir so none = by (so.each (part_value dir.link.own.node) (part_value dir.link.own.copy))
   where
     by : IsWritten before f done (part_value dir.link.own.node) (part_value dir.link.own.copy) → kept_at before.nodes dir.link.own ≡ None
-    by (Merged d k one of was is) = absurd (let e : Some (relinked_kept d k) ≡ None = sym is ∙ none in cc)
+    by (Merged d names k one of list was is) = absurd (let e : Some (relinked_kept d names k) ≡ None = sym is ∙ none in cc)
     by (Same never is) = sym is ∙ none
 
 pub never_here : (before f : Folder) (dirs front done : List MergedDir) (dir : MergedDir) → dirs ≡ front ++ dir ∷ done → AreRelinked before f done → kept_at f.nodes dir.link.own ≡ None → AreHere before dirs → ⊥

@@ -1,15 +1,24 @@
 -- What is known of node-revisions of revisions: what their bytes show.
-use Rattle.std.specs.Prelude.{◌≤◌, ℕ, List, Ok}
+use Rattle.std.specs.Prelude.{◌≡◌, ◌≤◌, ℕ, List, Ok}
 use Rattle.std.specs.List.{All}
+use Rattle.fsfs_base.specs.Paths.{PathName}
 use Rattle.fsfs_book.specs.Told.{RevisionBytes}
-use Rattle.fsfs_shows.specs.Reading.{OfId, PropsOf}
-use Rattle.fsfs_dag.specs.Views.{entry_values, home_of}
+use Rattle.fsfs_noderev.specs.declared.node_id.NodeId.{NodeId}
+use Rattle.fsfs_shows.specs.Reading.{DirEntry, OfId, PropsOf, named}
+use Rattle.fsfs_dag.specs.Views.{home_of}
+use Rattle.fsfs_listing.specs.Views.{listed}
 use Rattle.fsfs_own.specs.Entries.{OfIdEntries}
 use Rattle.fsfs_opened.specs.declared.known.Known.{Known}
 
+-- the same entries behind the names as the directory of an id has
+pub record IsListOf (look : RevisionBytes) (id : NodeId) (listed : List DirEntry) : Type 0 where
+  pub entries : List DirEntry
+  pub of : OfIdEntries look id (Ok entries)
+  pub alike : (y : PathName) → named y listed ≡ named y entries
+
 pub record IsKnown (look : RevisionBytes) (k : Known) : Type 0 where
   pub node : OfId look k.node.id (Ok k.node)
-  pub entries : OfIdEntries look k.node.id (Ok (entry_values k.entries.items))
+  pub entries : IsListOf look k.node.id (listed k.entries)
   pub props : PropsOf look k.node (Ok k.props)
 
 -- as far as revisions are told

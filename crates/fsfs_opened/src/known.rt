@@ -2,12 +2,15 @@
 ghost use Rattle.std.specs.Prelude.{◌≡◌, ℕ, IfOk, IfSome};
 ghost use Rattle.fsfs_book.specs.Told.{RevisionBytes, Knows, Keeps};
 ghost use Rattle.fsfs_damage.specs.Causes.{HasCause};
-ghost use Rattle.fsfs_opened.specs.Knowing.{IsKnownUpTo, AreKnown};
+ghost use Rattle.fsfs_shows.specs.Reading.{offset_of};
+ghost use Rattle.fsfs_listing.specs.Views.{listed};
+ghost use Rattle.fsfs_opened.specs.Knowing.{IsListOf, IsKnownUpTo, AreKnown};
 
 use fsfs_base::Pairs;
 use fsfs_book::Book;
-use fsfs_dag::{DirEntry, named_node, props, same_id};
+use fsfs_dag::{named_node, props, same_id};
 use fsfs_damage::ReadError;
+use fsfs_listing::Listing;
 use fsfs_noderev::{NodeId, NodeRev};
 use fsfs_own::lasting_entries;
 use std::alloc::Global;
@@ -16,8 +19,21 @@ use std::alloc::Global;
 #[derive(Drop)]
 pub struct Known {
     pub node: NodeRev,
-    pub entries: Vec<DirEntry>,
+    pub entries: Listing,
     pub props: Pairs,
+}
+
+// The entries of the directory of an id in a revision, by their names; a file has none.
+fn listing_of<B: Book>(alloc: Global, book: &mut B, id: &NodeId) -> Result<Listing, ReadError>
+    ensures told { (look : RevisionBytes) → Knows (B.told book.old).revs (offset_of id.now.place).rev look → IfOk result (λ l. IsListOf look id.now (listed l)) }
+    ensures kept { Keeps (B.told book.old) (B.told book.new) }
+    ensures cause { HasCause (B.faults book.old) (B.faults book.new) result }
+{
+    let entries = lasting_entries(alloc, book, id)?;
+    match Listing::of(alloc, entries) {
+        Ok(listing) => Ok(listing),
+        Err(_) => Err(ReadError::OutOfMemory),
+    }
 }
 
 /// The node-revision of an id in a revision, with what is in it.
@@ -32,7 +48,7 @@ pub(crate) fn known_of<B: Book>(
 {
     let found = named_node(alloc, book, id)?;
     let props = props(alloc, book, &found)?;
-    let entries = lasting_entries(alloc, book, id)?;
+    let entries = listing_of(alloc, book, id)?;
     Ok(Known {
         node: found.node,
         entries,

@@ -7,10 +7,9 @@ ghost use Rattle.fsfs_opened.specs.Knowing.{AreKnown};
 ghost use Rattle.fsfs_opened.specs.Opening.{OpensAt, IfOpened};
 
 use crate::known::{Known, find, known_of};
-use crate::reaching::entries_known;
+use crate::reaching::listed_known;
 use fsfs_base::FsPath;
 use fsfs_book::Book;
-use fsfs_dag::entry_named;
 use fsfs_damage::ReadError;
 use fsfs_edit::found_at;
 use fsfs_noderev::NodeId;
@@ -46,12 +45,23 @@ fn source_of<N: Own>(own: &N, id: &NodeId) -> Option<NodeId> {
     }
 }
 
-// Reads it, and adds it to what is known. Of what can't be read nothing is known.
-fn note<B: Book, N: Own>(
+// The same of what stands above. An own directory with a `children` file tells its entries itself, and no more of it is wanted.
+fn source_above<N: Own>(own: &N, id: &NodeId) -> Option<NodeId> {
+    if is_revision_id(id) {
+        return Some(*id);
+    }
+    let kept = own.kept(id)?;
+    match kept.entries {
+        Some(_) => None,
+        None => kept.node.predecessor,
+    }
+}
+
+// Reads it, if there is one, and adds it to what is known. Of what can't be read nothing is known.
+fn note<B: Book>(
     alloc: Global,
     book: &mut B,
-    own: &N,
-    id: &NodeId,
+    source: Option<NodeId>,
     known: &mut Vec<Known>,
 ) -> Result<(), EditError>
     ensures known { (look : RevisionBytes) (top : ℕ) → Knows (B.told book.old).revs top look → AreKnown look top known.old.items → OnOk result (AreKnown look top known.new.items) }
@@ -60,7 +70,7 @@ fn note<B: Book, N: Own>(
     ensures cause { HasDiskCause (B.faults book.old) (B.faults book.new) result }
     ensures quiet { (faults : ℕ) → HasBenchCause faults faults result }
 {
-    let Some(source) = source_of(own, id) else {
+    let Some(source) = source else {
         return Ok(());
     };
     match known_of(alloc, book, &source) {
@@ -78,12 +88,12 @@ fn note<B: Book, N: Own>(
 fn child_id<N: Own>(own: &N, known: &[Known], dir: &NodeId, name: &str) -> Option<NodeId> {
     if is_revision_id(dir) {
         let one = find(known, dir)?;
-        let entry = entry_named(one.entries.as_slice(), name)?;
+        let entry = one.entries.get(name)?;
         return Some(entry.id);
     }
     let kept = own.kept(dir)?;
-    let entries = entries_known(known, kept)?;
-    let entry = entry_named(entries, name)?;
+    let entries = listed_known(known, kept)?;
+    let entry = entries.get(name)?;
     Some(entry.id)
 }
 
@@ -102,14 +112,14 @@ fn known_to<B: Book, N: Own>(
 {
     let mut known = Vec::new(alloc);
     let mut at = root_id(own.name());
-    note(alloc, book, own, &at, &mut known)?;
     for name in path.names() {
+        note(alloc, book, source_above(own, &at), &mut known)?;
         let Some(id) = child_id(own, known.as_slice(), &at, name) else {
             return Ok(known);
         };
-        note(alloc, book, own, &id, &mut known)?;
         at = id;
     }
+    note(alloc, book, source_of(own, &at), &mut known)?;
     Ok(known)
 }
 

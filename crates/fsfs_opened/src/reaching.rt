@@ -1,22 +1,21 @@
 //! How all that stands on the way down a path becomes the transaction's own, by what is known of the revisions.
-ghost use Rattle.std.specs.Prelude.{◌≡◌, ◌≤◌, [], ℕ, Some, Ok, IfSome, OnOk};
+ghost use Rattle.std.specs.Prelude.{◌≡◌, ◌≤◌, [], ℕ, Some, IfSome, OnOk};
 ghost use Rattle.fsfs_tree.specs.Nodes.{TreeFunction};
 ghost use Rattle.fsfs_base.specs.Paths.{Path};
 ghost use Rattle.fsfs_base.specs.declared.kind.Kind.TheVariants.{Dir};
 ghost use Rattle.fsfs_book.specs.Told.{RevisionBytes};
-ghost use Rattle.fsfs_dag.specs.Views.{entry_values};
+ghost use Rattle.fsfs_listing.specs.Views.{listed};
 ghost use Rattle.fsfs_drafts.specs.Own.{Own as Owns, OwnNode};
 ghost use Rattle.fsfs_drafts.specs.Drafts.{IsDraft, ShowTrees};
 ghost use Rattle.fsfs_own.specs.Causes.{HasBenchCause};
-ghost use Rattle.fsfs_own.specs.Entries.{IsWithin, OfKept};
+ghost use Rattle.fsfs_own.specs.Entries.{IsListedAs, IsWithin};
 ghost use Rattle.fsfs_own.specs.Views.{kept_value};
 ghost use Rattle.fsfs_opened.specs.Knowing.{AreKnown};
 ghost use Rattle.fsfs_opened.specs.Reaching.{ReachesChild, Reaches};
 
 use crate::known::{Known, find};
 use fsfs_base::{FsPath, Kind};
-use fsfs_dag::{DirEntry, entry_named};
-use fsfs_held::same_entries;
+use fsfs_listing::Listing;
 use fsfs_noderev::NodeId;
 use fsfs_own::{EditError, KeptNode, Own};
 use fsfs_revision::is_revision_id;
@@ -24,16 +23,16 @@ use fsfs_steps::change_child;
 use std::alloc::Global;
 
 /// The entries of an own directory: those of its `children` file, or those that are known of what it goes on from.
-pub(crate) fn entries_known<'a>(known: &'a [Known], kept: &'a KeptNode) -> Option<&'a [DirEntry]>
-    ensures { (look : RevisionBytes) (top : ℕ) → AreKnown look top known.now → IsWithin top kept.now.node.predecessor → IfSome result (λ es. OfKept look (kept_value kept.now) (Ok (entry_values es.now))) }
+pub(crate) fn listed_known<'a>(known: &'a [Known], kept: &'a KeptNode) -> Option<&'a Listing>
+    ensures { (look : RevisionBytes) (top : ℕ) → AreKnown look top known.now → IsWithin top kept.now.node.predecessor → IfSome result (λ l. IsListedAs look (kept_value kept.now) (listed l.now)) }
 {
     match &kept.entries {
-        Some(entries) => Some(entries.as_slice()),
+        Some(entries) => Some(entries),
         None => match &kept.node.predecessor {
             None => None,
             Some(id) => match find(known, id) {
                 None => None,
-                Some(one) => Some(one.entries.as_slice()),
+                Some(one) => Some(&one.entries),
             },
         },
     }
@@ -56,10 +55,10 @@ fn child_in<N: Own>(
     let Some(kept) = own.kept(dir) else {
         return Err(EditError::Lacking);
     };
-    let Some(entries) = entries_known(known, kept) else {
+    let Some(entries) = listed_known(known, kept) else {
         return Err(EditError::Lacking);
     };
-    let Some(entry) = entry_named(entries, name) else {
+    let Some(entry) = entries.get(name) else {
         return Err(EditError::Lacking);
     };
     let kind = entry.kind;
@@ -70,7 +69,7 @@ fn child_in<N: Own>(
     let Some(old) = find(known, &id) else {
         return Err(EditError::Lacking);
     };
-    let all = same_entries(alloc, entries)?;
+    let all = entries.shared()?;
     change_child(alloc, own, dir, all, name, kind, &old.node)
 }
 

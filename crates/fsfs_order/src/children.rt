@@ -87,7 +87,8 @@ pub(crate) fn push_children<'a, N: Own>(
     match &dir.entries {
         None => Ok(()),
         Some(entries) => {
-            let ids = ids_by_name(alloc, entries.as_slice())?;
+            let all = entries.to_vec(alloc)?;
+            let ids = ids_by_name(alloc, all.as_slice())?;
             push_named(own, ids, next)
         }
     }

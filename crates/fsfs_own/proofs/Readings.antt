@@ -1,5 +1,5 @@
 -- Readings one after another.
-use Rattle.std.proofs.Common.{◌≡◌, List, [], Result, Ok, sym, subst}
+use Rattle.std.proofs.Common.{◌≡◌, List, [], Result, Ok, refl, sym, ap, subst}
 use Rattle.std.specs.Prelude.{Option, Some, None}
 use Rattle.std.specs.declared.vec.Vec.{Vec}
 use Rattle.std.specs.declared.alloc.Global.{Global}
@@ -12,12 +12,12 @@ use Rattle.fsfs_damage.specs.declared.wrong.Wrong.{Wrong}
 use Rattle.fsfs_damage.specs.declared.wrong.ReadError.{ReadError}
 use Rattle.fsfs_damage.specs.Readings.{Answers}
 use Rattle.fsfs_damage.proofs.Answering.{answers_as}
-use Rattle.fsfs_shows.specs.Reading.{DirEntry as EntryValue, EntriesOf, Pairs}
+use Rattle.fsfs_shows.specs.Reading.{DirEntry as EntryValue, EntriesOf, Pairs, named}
 use Rattle.fsfs_dag.specs.declared.directory.DirEntry.{DirEntry}
 use Rattle.fsfs_dag.proofs.PairLemmas.{entries_seen}
 use Rattle.fsfs_drafts.specs.Drafts.{Kept}
 use Rattle.fsfs_own.specs.Properties.{OfIdProps, OfPredecessorProps, OfSetProps, OfKeptProps}
-use Rattle.fsfs_own.specs.Entries.{OfKind, OfIdEntries, OfPredecessor, OfListed, OfKept}
+use Rattle.fsfs_own.specs.Entries.{OfKind, OfIdEntries, OfPredecessor, OfListed, OfKept, IsListedAs}
 
 pub in_kind : (look : RevisionBytes) (v : NodeRev) (kind : Kind) (r : Result (List EntryValue) Wrong) → kind ≡ File → r ≡ Ok [] → OfKind look kind v r
 in_kind look v kind r is h = subst (λ (k : Kind). OfKind look k v r) (sym is) h
@@ -35,6 +35,18 @@ kept_reads look k id result none is h = answers_as entries_seen result (OfIdEntr
   where
     moved : (r : Result (List EntryValue) Wrong) → OfIdEntries look id r → OfKept look k r
     moved r g = subst (λ (o : Option (List EntryValue)). OfListed look o k.node.predecessor r) (sym none) (subst (λ (o : Option NodeId). OfPredecessor look o r) (sym is) g)
+
+-- what is listed where there is no `children` file
+pub predecessor_list : (look : RevisionBytes) (k : Kept) (id : NodeId) (entries : List EntryValue) → k.entries ≡ None → k.node.predecessor ≡ Some id → OfIdEntries look id (Ok entries) → OfKept look k (Ok entries)
+predecessor_list look k id entries none is h =
+    subst (λ (o : Option (List EntryValue)). OfListed look o k.node.predecessor (Ok entries)) (sym none) (subst (λ (o : Option NodeId). OfPredecessor look o (Ok entries)) (sym is) h)
+
+-- what stands in a `children` file
+pub own_list : (look : RevisionBytes) (k : Kept) (entries : List EntryValue) → k.entries ≡ Some entries → OfKept look k (Ok entries)
+own_list look k entries is = subst (λ (o : Option (List EntryValue)). OfListed look o k.node.predecessor (Ok entries)) (sym is) refl
+
+pub listed_own : (look : RevisionBytes) (k : Kept) (entries new : List EntryValue) → k.entries ≡ Some entries → new ≡ entries → IsListedAs look k new
+listed_own look k entries new is same = record { entries = entries; of = own_list look k entries is; alike = λ y. ap (λ (l : List EntryValue). named y l) same }
 
 -- what is read of an own node-revision without a `props` file
 pub kept_props_read : (look : RevisionBytes) (k : Kept) (id : NodeId) (result : Result Pairs ReadError) → k.props ≡ None → k.node.predecessor ≡ Some id → Answers (λ (pairs : Pairs). pairs) (OfIdProps look id) result → Answers (λ (pairs : Pairs). pairs) (OfKeptProps look k) result

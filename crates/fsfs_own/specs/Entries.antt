@@ -1,13 +1,19 @@
 -- What the entries of an own directory are.
-use Rattle.std.specs.Prelude.{◌≡◌, ◌≤◌, ℕ, List, [], Option, Some, None, Result, Ok}
+use Rattle.std.specs.Prelude.{◌≡◌, ◌≤◌, ℕ, List, [], Option, Some, None, Result, Ok, Err}
+use Rattle.std.specs.declared.vec.Vec.{Vec}
+use Rattle.std.specs.declared.alloc.Global.{Global}
+use Rattle.fsfs_base.specs.Paths.{PathName}
 use Rattle.fsfs_base.specs.declared.kind.Kind.{Kind}
 use Rattle.fsfs_base.specs.declared.kind.Kind.TheVariants.{File, Dir}
 use Rattle.fsfs_book.specs.Told.{RevisionBytes}
 use Rattle.fsfs_noderev.specs.declared.node_id.NodeId.{NodeId}
 use Rattle.fsfs_noderev.specs.declared.node_rev.NodeRev.{NodeRev}
 use Rattle.fsfs_damage.specs.declared.wrong.Wrong.{Wrong}
-use Rattle.fsfs_damage.specs.Readings.{AndThen}
-use Rattle.fsfs_shows.specs.Reading.{DirEntry, EntriesOf, OfId, offset_of}
+use Rattle.fsfs_damage.specs.declared.wrong.ReadError.{ReadError}
+use Rattle.fsfs_damage.specs.Readings.{AndThen, Answers}
+use Rattle.fsfs_shows.specs.Reading.{DirEntry, EntriesOf, OfId, offset_of, named}
+use Rattle.fsfs_dag.specs.declared.directory.DirEntry.{DirEntry as ListedEntry}
+use Rattle.fsfs_dag.specs.Views.{entry_values}
 use Rattle.fsfs_drafts.specs.Drafts.{Kept}
 
 -- of a directory; a file has none
@@ -34,3 +40,13 @@ OfKept look k r = OfListed look k.entries k.node.predecessor r
 abbrev pub IsWithin : ℕ → Option NodeId → Type 0
 IsWithin top None = Unit {0}
 IsWithin top (Some id) = (offset_of id.place).rev ≤ top
+
+-- the same entries behind the names
+pub record IsListedAs (look : RevisionBytes) (k : Kept) (listed : List DirEntry) : Type 0 where
+  pub entries : List DirEntry
+  pub of : OfKept look k (Ok entries)
+  pub alike : (y : PathName) → named y listed ≡ named y entries
+
+-- what is wrong with them, where that is why they are not told
+abbrev pub FailsLike : RevisionBytes → Kept → ReadError → Type 0
+FailsLike look k e = Answers (λ (v : Vec ListedEntry Global). entry_values v.items) (OfKept look k) (Err e)

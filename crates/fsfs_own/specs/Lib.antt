@@ -5,5 +5,6 @@ pub mod Items
 pub mod Entries
 pub mod Properties
 pub mod Names
+pub mod Put
 pub mod Taken
 pub mod Walks

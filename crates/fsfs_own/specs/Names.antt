@@ -40,6 +40,10 @@ HasSpace tree p = (count : ℕ) × HasEntries tree p count × (count < 1048576)
 abbrev pub IsRoom : List DirEntry → Bool → Type 0
 IsRoom entries room = (count : ℕ) × HasNames entries count × (room ≡ nat_lt count 1048576)
 
+-- so few are in its `children` file
+abbrev pub HasFew : Kept → Type 0
+HasFew k = (entries : List DirEntry) × (k.entries ≡ Some entries) × (length entries < 1048576)
+
 abbrev pub IsRoomOf : RevisionBytes → Kept → Result Bool EditError → Type 0
 IsRoomOf look k (Ok room) = (entries : List DirEntry) × OfKept look k (Ok entries) × IsRoom entries room
 IsRoomOf look k (Err errors.BenchFault) = ⊥

@@ -7,13 +7,13 @@ use Rattle.fsfs_noderev.specs.declared.node_rev.CopyRoot.{CopyRoot}
 use Rattle.fsfs_noderev.specs.declared.node_rev.NodeRev.{NodeRev}
 use Rattle.fsfs_drafts.specs.Rules.{Root}
 use Rattle.fsfs_shows.specs.Reading.{DirEntry}
-use Rattle.fsfs_dag.specs.Views.{entry_values}
+use Rattle.fsfs_listing.specs.Views.{listed}
 use Rattle.fsfs_drafts.specs.Drafts.{Kept, Folder}
 use Rattle.fsfs_drafts.specs.Steps.{with_kept}
 use Rattle.fsfs_own.specs.declared.own.KeptNode.{KeptNode}
 
 abbrev pub kept_value : KeptNode → Kept
-kept_value k = record { node = k.node; entries = option_map (λ v. entry_values v.items) k.entries; props = k.props }
+kept_value k = record { node = k.node; entries = option_map listed k.entries; props = k.props }
 
 abbrev pub new_kept : NodeRev → Kept
 new_kept node = record { node = node; entries = None; props = None }

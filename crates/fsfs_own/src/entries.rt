@@ -1,12 +1,13 @@
 //! The entries of an own directory.
-ghost use Rattle.std.specs.Prelude.{◌≡◌, ◌≤◌, ℕ, List, Some, Ok, IfOk, map, take};
+ghost use Rattle.std.specs.Prelude.{◌≡◌, ◌≤◌, ℕ, List, Some, Ok, IfOk, IfErr, map, take};
 ghost use Rattle.fsfs_base.specs.declared.kind.Kind.TheVariants.{Dir};
 ghost use Rattle.fsfs_book.specs.Told.{RevisionBytes, Knows, Keeps};
 ghost use Rattle.fsfs_damage.specs.Readings.{Answers};
 ghost use Rattle.fsfs_shows.specs.Reading.{offset_of};
 ghost use Rattle.fsfs_damage.specs.Causes.{HasCause};
 ghost use Rattle.fsfs_dag.specs.Views.{entry_values};
-ghost use Rattle.fsfs_own.specs.Entries.{OfKept, OfIdEntries, IsWithin};
+ghost use Rattle.fsfs_listing.specs.Views.{listed};
+ghost use Rattle.fsfs_own.specs.Entries.{OfKept, OfIdEntries, IsWithin, IsListedAs, FailsLike};
 ghost use Rattle.fsfs_own.specs.Views.{kept_value};
 
 use crate::own::KeptNode;
@@ -14,24 +15,9 @@ use fsfs_base::Kind;
 use fsfs_book::Book;
 use fsfs_dag::{DirEntry, entries, named_node};
 use fsfs_damage::ReadError;
+use fsfs_listing::Listing;
 use fsfs_noderev::NodeId;
-use std::alloc::{AllocError, Global};
-
-// A copy of the entries.
-fn copied(alloc: Global, entries: &[DirEntry]) -> Result<Vec<DirEntry>, AllocError>
-    ensures { IfOk result (λ v. entry_values v.items ≡ entry_values entries.now) }
-{
-    let mut all = Vec::new(alloc);
-    for entry in entries {
-        let name = String::from_str(alloc, entry.name.as_str())?;
-        all.push(DirEntry {
-            name,
-            kind: entry.kind,
-            id: entry.id,
-        })?;
-    }
-    Ok(all)
-}
+use std::alloc::Global;
 
 /// The entries of the directory of an id in a revision; a file has none.
 pub fn lasting_entries<B: Book>(
@@ -61,7 +47,7 @@ pub fn entries_in<B: Book>(
     ensures cause { HasCause (B.faults book.old) (B.faults book.new) result }
 {
     match &kept.entries {
-        Some(entries) => match copied(alloc, entries) {
+        Some(entries) => match entries.to_vec(alloc) {
             Ok(all) => Ok(all),
             Err(_) => Err(ReadError::OutOfMemory),
         },
@@ -69,5 +55,30 @@ pub fn entries_in<B: Book>(
             None => Ok(Vec::new(alloc)),
             Some(id) => lasting_entries(alloc, book, id),
         },
+    }
+}
+
+/// The entries of an own directory by their names: those of its `children` file, of which none is copied, or of what it goes on
+/// from.
+pub fn listed_in<B: Book>(
+    alloc: Global,
+    book: &mut B,
+    kept: &KeptNode,
+) -> Result<Listing, ReadError>
+    ensures told { (look : RevisionBytes) (top : ℕ) → Knows (B.told book.old).revs top look → IsWithin top kept.now.node.predecessor → IfOk result (λ l. IsListedAs look (kept_value kept.now) (listed l)) }
+    ensures fails { (look : RevisionBytes) (top : ℕ) → Knows (B.told book.old).revs top look → IsWithin top kept.now.node.predecessor → IfErr result (FailsLike look (kept_value kept.now)) }
+    ensures kept { Keeps (B.told book.old) (B.told book.new) }
+    ensures cause { HasCause (B.faults book.old) (B.faults book.new) result }
+{
+    if let Some(entries) = &kept.entries {
+        return match entries.shared() {
+            Ok(listing) => Ok(listing),
+            Err(_) => Err(ReadError::OutOfMemory),
+        };
+    }
+    let entries = entries_in(alloc, book, kept)?;
+    match Listing::of(alloc, entries) {
+        Ok(listing) => Ok(listing),
+        Err(_) => Err(ReadError::OutOfMemory),
     }
 }

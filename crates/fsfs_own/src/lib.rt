@@ -8,7 +8,7 @@ mod own;
 mod properties;
 mod walk;
 
-pub use entries::{entries_in, lasting_entries};
+pub use entries::{entries_in, lasting_entries, listed_in};
 pub use error::EditError;
 pub use names::room_in;
 pub use own::{KeptNode, Own, OwnError};

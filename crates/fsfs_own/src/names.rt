@@ -1,13 +1,14 @@
 //! How many names an own directory has.
-ghost use Rattle.std.specs.Prelude.{◌≡◌, IfOk};
+ghost use Rattle.std.specs.Prelude.{◌≡◌, true, IfOk};
 ghost use Rattle.fsfs_book.specs.Told.{Keeps};
 ghost use Rattle.fsfs_dag.specs.Views.{entry_values};
 ghost use Rattle.fsfs_own.specs.Causes.{HasDiskCause, HasBenchCause};
-ghost use Rattle.fsfs_own.specs.Names.{HasNames, IsRoom, TellsRoom};
+ghost use Rattle.fsfs_own.specs.Views.{kept_value};
+ghost use Rattle.fsfs_own.specs.Names.{HasFew, HasNames, IsRoom, TellsRoom};
 
 use crate::entries::entries_in;
 use crate::error::EditError;
-use crate::own::Own;
+use crate::own::{KeptNode, Own};
 use fsfs_base::FsPath;
 use fsfs_book::Book;
 use fsfs_dag::DirEntry;
@@ -40,6 +41,16 @@ fn has_room(alloc: Global, entries: &[DirEntry]) -> Result<bool, AllocError>
     Ok(count < MOST_ENTRIES)
 }
 
+// Whether a directory has fewer entries than it may have, as far as its `children` file tells without a count.
+fn has_few(kept: &KeptNode) -> bool
+    ensures { result ≡ true → HasFew (kept_value kept.now) }
+{
+    match &kept.entries {
+        None => false,
+        Some(entries) => entries.most() < MOST_ENTRIES,
+    }
+}
+
 /// Whether an own directory may have one more entry: it has fewer than 1,048,576.
 pub fn room_in<B: Book, N: Own>(
     alloc: Global,
@@ -55,6 +66,9 @@ pub fn room_in<B: Book, N: Own>(
     let Some(kept) = own.kept(dir) else {
         return Err(EditError::Lacking);
     };
+    if has_few(kept) {
+        return Ok(true);
+    }
     let entries = entries_in(alloc, book, kept)?;
     let room = has_room(alloc, &entries)?;
     Ok(room)

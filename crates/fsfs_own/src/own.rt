@@ -2,28 +2,29 @@
 ghost use Rattle.std.specs.Prelude.{◌≡◌, ◌+◌, ℕ, None, Some, IfOk, IfErr, OnOk, IsSome, option_map};
 ghost use Rattle.fsfs_fields.specs.declared.txn_name.TxnName.{TxnName};
 ghost use Rattle.fsfs_drafts.specs.Drafts.{Folder, Kept};
-ghost use Rattle.fsfs_drafts.specs.Steps.{with_kept, kept_at};
+ghost use Rattle.fsfs_drafts.specs.Steps.{kept_at};
 ghost use Rattle.fsfs_own.specs.Causes.{HasSettleCause};
 ghost use Rattle.fsfs_own.specs.Errors.{IfMemory};
 ghost use Rattle.fsfs_own.specs.Items.{with_item};
+ghost use Rattle.fsfs_own.specs.Put.{IsEntryPut};
 ghost use Rattle.fsfs_own.specs.Taken.{IsEntryTaken};
-ghost use Rattle.fsfs_own.specs.Views.{kept_value, new_kept, opened_kept, text_put, props_put};
-ghost use Rattle.fsfs_dag.specs.Views.{entry_values};
+ghost use Rattle.fsfs_own.specs.Views.{kept_value, text_put, props_put};
+ghost use Rattle.fsfs_listing.specs.Views.{listed};
 
-use fsfs_base::{B36, Pairs};
+use fsfs_base::{B36, Kind, Pairs};
 use fsfs_changes::ChangeItem;
-use fsfs_dag::DirEntry;
 use fsfs_fields::TxnName;
+use fsfs_listing::Listing;
 use fsfs_noderev::{NodeId, NodeRev, Rep};
 use std::alloc::AllocError;
 use thiserror::Error;
 
 /// The files of an own node-revision.
-#[derive(Debug, Drop)]
+#[derive(Drop)]
 pub struct KeptNode {
     pub node: NodeRev,
     /// The entries of its `children` file; none: it has no such file.
-    pub entries: Option<Vec<DirEntry>>,
+    pub entries: Option<Listing>,
     /// The pairs of its `props` file.
     pub props: Option<Pairs>,
 }
@@ -77,29 +78,26 @@ pub trait Own {
         ensures quiet { faults self.new ≡ faults self.old }
         ensures name { txn self.new ≡ txn self.old };
 
-    /// Puts a node-revision that has no file yet, and with it the entries of a directory.
+    /// Puts a node-revision that has no file yet behind a name of a directory with these entries.
     fn put_child(
         &mut self,
         dir: &NodeId,
-        entries: Vec<DirEntry>,
+        entries: Listing,
+        name: &str,
+        kind: Kind,
         child: NodeRev,
     ) -> Result<(), AllocError>
         requires dir { IsSome (kept_at (folder self.old).nodes dir.now) }
         requires new { kept_at (folder self.old).nodes child.id ≡ None }
-        ensures done { (k : Kept) → kept_at (folder self.old).nodes dir.now ≡ Some k → OnOk result (folder self.new ≡ record (folder self.old) { nodes = with_kept dir.now (opened_kept k (entry_values entries.items)) (with_kept child.id (new_kept child) (folder self.old).nodes) }) }
+        ensures done { (k : Kept) → kept_at (folder self.old).nodes dir.now ≡ Some k → OnOk result (IsEntryPut (folder self.old) (folder self.new) dir.now k (listed entries) name.now kind child) }
         ensures settled { settled self.new ≡ settled self.old }
         ensures quiet { faults self.new ≡ faults self.old }
         ensures name { txn self.new ≡ txn self.old };
 
     /// Takes away the entry of a name, of a directory with these entries.
-    fn take_entry(
-        &mut self,
-        dir: &NodeId,
-        entries: Vec<DirEntry>,
-        name: &str,
-    ) -> Result<(), AllocError>
+    fn take_entry(&mut self, dir: &NodeId, entries: Listing, name: &str) -> Result<(), AllocError>
         requires dir { IsSome (kept_at (folder self.old).nodes dir.now) }
-        ensures done { OnOk result (IsEntryTaken (folder self.old) (folder self.new) dir.now (entry_values entries.items) name.now) }
+        ensures done { OnOk result (IsEntryTaken (folder self.old) (folder self.new) dir.now (listed entries) name.now) }
         ensures settled { settled self.new ≡ settled self.old }
         ensures quiet { faults self.new ≡ faults self.old }
         ensures name { txn self.new ≡ txn self.old };

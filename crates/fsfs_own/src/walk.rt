@@ -10,12 +10,12 @@ ghost use Rattle.fsfs_fields.specs.declared.txn_name.TxnName.{TxnName};
 ghost use Rattle.fsfs_own.specs.Walks.{IsRootId, IsAt, IsLastingAt, HasKind, IsChild, IsFound};
 ghost use Rattle.fsfs_own.specs.Causes.{HasDiskCause, HasBenchCause};
 
-use crate::entries::entries_in;
+use crate::entries::listed_in;
 use crate::error::EditError;
 use crate::own::Own;
 use fsfs_base::{B36, FsPath, Kind};
 use fsfs_book::Book;
-use fsfs_dag::{PlacedNode, child_named, child_of, entry_named};
+use fsfs_dag::{PlacedNode, child_named, child_of};
 use fsfs_fields::TxnName;
 use fsfs_noderev::{NodeId, Part, Place};
 use fsfs_revision::is_revision_id;
@@ -62,8 +62,8 @@ fn own_child<B: Book, N: Own>(
     let Some(kept) = own.kept(dir) else {
         return Err(EditError::Lacking);
     };
-    let entries = entries_in(alloc, book, kept)?;
-    let Some(entry) = entry_named(&entries, name) else {
+    let entries = listed_in(alloc, book, kept)?;
+    let Some(entry) = entries.get(name) else {
         return Ok(None);
     };
     let kind = entry.kind;

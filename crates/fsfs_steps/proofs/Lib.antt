@@ -1,4 +1,4 @@
-pub mod Replacing
+pub mod Alike
 pub mod Steps
 pub mod Making
 pub mod MakingNew

@@ -1,4 +1,3 @@
-pub mod Entries
 pub mod Mutable
 pub mod Made
 pub mod Copied

@@ -8,20 +8,19 @@ ghost use Rattle.fsfs_noderev.specs.Ids.{New, part_value};
 ghost use Rattle.fsfs_shows.specs.Reading.{StandsAt};
 ghost use Rattle.fsfs_drafts.specs.Own.{Own as Owns, OwnNode, draft_tree};
 ghost use Rattle.fsfs_drafts.specs.Drafts.{IsDraft, ShowTrees};
-ghost use Rattle.fsfs_dag.specs.Views.{entry_values};
+ghost use Rattle.fsfs_listing.specs.Views.{listed};
 ghost use Rattle.fsfs_own.specs.Errors.{IsWant};
 ghost use Rattle.fsfs_steps.specs.Mutable.{IsAmiss};
 ghost use Rattle.fsfs_steps.specs.Copied.{IsCopyNode, IsCopyPut, LeavesCopy};
 ghost use Rattle.fsfs_own.specs.Causes.{HasDiskCause, HasBenchCause};
 
-use crate::entries::replaced;
 use crate::ids::id_of;
 use crate::mutable::drawn_part;
 use fsfs_book::Book;
-use fsfs_dag::{DirEntry, entry_named};
 use fsfs_fields::TxnName;
+use fsfs_listing::Listing;
 use fsfs_noderev::{CopySource, NodeId, NodeRev, Part, Place};
-use fsfs_own::{EditError, Own, entries_in};
+use fsfs_own::{EditError, Own, listed_in};
 use std::alloc::{AllocError, Global};
 
 /// The same revision and path.
@@ -75,12 +74,12 @@ fn copy_child<N: Own>(
     alloc: Global,
     own: &mut N,
     dir: &NodeId,
-    entries: Vec<DirEntry>,
+    entries: Listing,
     name: &str,
     source: &NodeRev,
     from: &CopySource,
 ) -> Result<NodeId, EditError>
-    ensures done { IfOk result (IsCopyPut (N.folder own.old) (N.folder own.new) (N.txn own.old) dir.now (entry_values entries.items) name.now source.now from.now) }
+    ensures done { IfOk result (IsCopyPut (N.folder own.old) (N.folder own.new) (N.txn own.old) dir.now (listed entries) name.now source.now from.now) }
     ensures cause { IfErr result (λ e. IsWant e (IsAmiss (N.folder own.old) dir.now source.now.id)) }
     ensures settled { N.settled own.new ≡ N.settled own.old }
     ensures name { N.txn own.new ≡ N.txn own.old }
@@ -96,8 +95,7 @@ fn copy_child<N: Own>(
     };
     let child = copy_node(alloc, txn, &kept.node, source, from, copy, name)?;
     let id = id_of(&child);
-    let new = replaced(alloc, entries, name, source.kind, &id)?;
-    own.put_child(dir, new, child)?;
+    own.put_child(dir, entries, name, source.kind, child)?;
     Ok(id)
 }
 
@@ -123,8 +121,8 @@ pub fn copy_to<B: Book, N: Own>(
     let Some(kept) = own.kept(dir) else {
         return Err(EditError::Lacking);
     };
-    let entries = entries_in(alloc, book, kept)?;
-    if entry_named(&entries, name).is_some() {
+    let entries = listed_in(alloc, book, kept)?;
+    if entries.get(name).is_some() {
         return Err(EditError::Lacking);
     }
     copy_child(alloc, own, dir, entries, name, source, from)

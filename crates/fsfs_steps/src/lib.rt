@@ -7,7 +7,6 @@
 
 mod bubble;
 mod copied;
-mod entries;
 mod ids;
 mod made;
 mod mutable;

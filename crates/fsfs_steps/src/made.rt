@@ -7,20 +7,19 @@ ghost use Rattle.fsfs_book.specs.Told.{RevisionBytes, Knows, Keeps};
 ghost use Rattle.fsfs_noderev.specs.Ids.{New, part_value};
 ghost use Rattle.fsfs_drafts.specs.Own.{Own as Owns, OwnNode, draft_tree};
 ghost use Rattle.fsfs_drafts.specs.Drafts.{IsDraft, ShowTrees};
-ghost use Rattle.fsfs_dag.specs.Views.{entry_values};
+ghost use Rattle.fsfs_listing.specs.Views.{listed};
 ghost use Rattle.fsfs_own.specs.Errors.{IsWant};
 ghost use Rattle.fsfs_steps.specs.Made.{drawn_node, IsNewNode, IsAmissNode, IsChildMade, LeavesNew};
 ghost use Rattle.fsfs_own.specs.Causes.{HasDiskCause, HasBenchCause};
 
-use crate::entries::replaced;
 use crate::ids::{id_of, id_with};
 use crate::successor::own_root;
 use fsfs_base::Kind;
 use fsfs_book::Book;
-use fsfs_dag::{DirEntry, entry_named};
 use fsfs_fields::TxnName;
+use fsfs_listing::Listing;
 use fsfs_noderev::{NodeId, NodeRev, Part, Place};
-use fsfs_own::{EditError, Own, entries_in};
+use fsfs_own::{EditError, Own, listed_in};
 use std::alloc::{AllocError, Global};
 
 // A new node-revision under a name of the directory.
@@ -78,11 +77,11 @@ fn new_child<N: Own>(
     alloc: Global,
     own: &mut N,
     dir: &NodeId,
-    entries: Vec<DirEntry>,
+    entries: Listing,
     name: &str,
     kind: Kind,
 ) -> Result<NodeId, EditError>
-    ensures done { IfOk result (IsChildMade (N.folder own.old) (N.folder own.new) (N.txn own.old) dir.now (entry_values entries.items) name.now kind) }
+    ensures done { IfOk result (IsChildMade (N.folder own.old) (N.folder own.new) (N.txn own.old) dir.now (listed entries) name.now kind) }
     ensures cause { IfErr result (λ e. IsWant e (IsAmissNode (N.folder own.old) dir.now)) }
     ensures settled { N.settled own.new ≡ N.settled own.old }
     ensures name { N.txn own.new ≡ N.txn own.old }
@@ -99,8 +98,7 @@ fn new_child<N: Own>(
     };
     let child = new_node(alloc, txn, &kept.node, node, kind, name)?;
     let id = id_of(&child);
-    let new = replaced(alloc, entries, name, kind, &id)?;
-    own.put_child(dir, new, child)?;
+    own.put_child(dir, entries, name, kind, child)?;
     Ok(id)
 }
 
@@ -125,8 +123,8 @@ pub fn make_node<B: Book, N: Own>(
     let Some(kept) = own.kept(dir) else {
         return Err(EditError::Lacking);
     };
-    let entries = entries_in(alloc, book, kept)?;
-    if entry_named(&entries, name).is_some() {
+    let entries = listed_in(alloc, book, kept)?;
+    if entries.get(name).is_some() {
         return Err(EditError::Lacking);
     }
     new_child(alloc, own, dir, entries, name, kind)

@@ -8,20 +8,20 @@ ghost use Rattle.fsfs_book.specs.Told.{RevisionBytes, Knows, Keeps};
 ghost use Rattle.fsfs_drafts.specs.Own.{Own as Owns, OwnNode, draft_tree};
 ghost use Rattle.fsfs_drafts.specs.Drafts.{IsDraft, ShowTrees};
 ghost use Rattle.fsfs_drafts.specs.Steps.{kept_at};
-ghost use Rattle.fsfs_dag.specs.Views.{entry_values};
+ghost use Rattle.fsfs_listing.specs.Views.{listed};
 ghost use Rattle.fsfs_own.specs.Errors.{IsWant};
 ghost use Rattle.fsfs_steps.specs.Mutable.{drawn, IsPartFrom, IsAmiss, IsChildChanged, LeavesMutable};
 ghost use Rattle.fsfs_own.specs.Causes.{HasDiskCause, HasBenchCause};
 
-use crate::entries::replaced;
 use crate::ids::{id_of, id_with};
 use crate::successor::{is_after, own_rev, root_rev, successor};
 use fsfs_base::Kind;
 use fsfs_book::Book;
-use fsfs_dag::{DirEntry, entry_named, named_node};
+use fsfs_dag::named_node;
 use fsfs_fields::RevNum;
+use fsfs_listing::Listing;
 use fsfs_noderev::{NodeId, NodeRev, Part};
-use fsfs_own::{EditError, Own, entries_in};
+use fsfs_own::{EditError, Own, listed_in};
 use fsfs_revision::is_revision_id;
 use std::alloc::Global;
 
@@ -71,12 +71,12 @@ pub fn change_child<N: Own>(
     alloc: Global,
     own: &mut N,
     dir: &NodeId,
-    entries: Vec<DirEntry>,
+    entries: Listing,
     name: &str,
     kind: Kind,
     old: &NodeRev,
 ) -> Result<NodeId, EditError>
-    ensures done { IfOk result (IsChildChanged (N.folder own.old) (N.folder own.new) (N.txn own.old) dir.now (entry_values entries.items) name.now kind old.now) }
+    ensures done { IfOk result (IsChildChanged (N.folder own.old) (N.folder own.new) (N.txn own.old) dir.now (listed entries) name.now kind old.now) }
     ensures cause { IfErr result (λ e. IsWant e (IsAmiss (N.folder own.old) dir.now old.now.id)) }
     ensures settled { N.settled own.new ≡ N.settled own.old }
     ensures name { N.txn own.new ≡ N.txn own.old }
@@ -93,8 +93,7 @@ pub fn change_child<N: Own>(
     };
     let child = successor(alloc, txn, &kept.node, old, copy, name)?;
     let id = id_of(&child);
-    let new = replaced(alloc, entries, name, kind, &id)?;
-    own.put_child(dir, new, child)?;
+    own.put_child(dir, entries, name, kind, child)?;
     Ok(id)
 }
 
@@ -119,8 +118,8 @@ pub fn make_mutable<B: Book, N: Own>(
     let Some(kept) = own.kept(dir) else {
         return Err(EditError::Lacking);
     };
-    let entries = entries_in(alloc, book, kept)?;
-    let Some(entry) = entry_named(&entries, name) else {
+    let entries = listed_in(alloc, book, kept)?;
+    let Some(entry) = entries.get(name) else {
         return Err(EditError::Lacking);
     };
     let kind = entry.kind;

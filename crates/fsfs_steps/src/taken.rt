@@ -11,7 +11,7 @@ ghost use Rattle.fsfs_own.specs.Causes.{HasDiskCause, HasBenchCause};
 
 use fsfs_book::Book;
 use fsfs_noderev::NodeId;
-use fsfs_own::{EditError, Own, entries_in};
+use fsfs_own::{EditError, Own, listed_in};
 use std::alloc::Global;
 
 /// Takes away what stands under a name of an own directory, and all below it.
@@ -34,7 +34,7 @@ pub fn take_away<B: Book, N: Own>(
     let Some(kept) = own.kept(dir) else {
         return Err(EditError::Lacking);
     };
-    let entries = entries_in(alloc, book, kept)?;
+    let entries = listed_in(alloc, book, kept)?;
     own.take_entry(dir, entries, name)?;
     Ok(())
 }

@@ -3,8 +3,9 @@ use Rattle.fsfs_book.specs.Told.{Knows}
 use Rattle.fsfs_book.proofs.Keeping.{keeps_trans}
 use Rattle.fsfs_noderev.specs.declared.node_id.NodeId.{NodeId}
 use Rattle.fsfs_shows.specs.Reading.{OfId, offset_of}
-use Rattle.fsfs_dag.specs.Views.{home_of, entry_values}
-use Rattle.fsfs_own.specs.Entries.{OfIdEntries}
+use Rattle.fsfs_dag.specs.Views.{home_of}
+use Rattle.fsfs_listing.specs.Views.{listed}
+use Rattle.fsfs_opened.specs.Knowing.{IsListOf}
 use Rattle.fsfs_opened.proofs.known.known_of.Goals as goal
 
 pub returns-clause-known : goal.returns-clause-known
@@ -17,7 +18,7 @@ returns-clause-known g c = λ look top knows within.
     let later : Knows (g.B.Book.told c.props.new.book).revs (offset_of c.args.id.now.place).rev look = λ n h. c.in_ok-props.ensures.kept.revs n (look n) (c.in_ok-found.ensures.kept.revs n (look n) (low n h)) in
     record {
       node = subst (λ (id : NodeId). OfId look id (Ok v)) (sym same) (c.in_ok-found.ensures.told look low);
-      entries = subst (λ (id : NodeId). OfIdEntries look id (Ok (entry_values c.in_ok-entries.entries.items))) (sym same) (c.in_ok-entries.ensures.told look later);
+      entries = subst (λ (id : NodeId). IsListOf look id (listed c.in_ok-entries.entries)) (sym same) (c.in_ok-entries.ensures.told look later);
       props = c.in_ok-props.ensures.told look mid;
     }
 

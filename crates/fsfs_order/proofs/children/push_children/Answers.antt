@@ -1,8 +1,9 @@
 use Rattle.std.proofs.Common.{◌≡◌, ◌∙◌, List, Option, Some, sym, ap, subst}
-use Rattle.std.specs.Prelude.{option_map, Vec, OnOk, IfErr}
-use Rattle.std.specs.Global.{Global}
+use Rattle.std.specs.Prelude.{option_map, OnOk, IfErr}
 use Rattle.fsfs_dag.specs.declared.directory.DirEntry.{DirEntry as Listed}
 use Rattle.fsfs_dag.specs.Views.{entry_values}
+use Rattle.fsfs_listing.specs.declared.listing.Listing.{Listing}
+use Rattle.fsfs_listing.specs.Views.{listed}
 use Rattle.fsfs_shows.specs.Reading.{DirEntry}
 use Rattle.fsfs_order.specs.Orders.{last_first}
 use Rattle.fsfs_base.specs.Paths.{PathName}
@@ -10,8 +11,8 @@ use Rattle.fsfs_order.specs.Children.{IdsByName, id_named, ids_in, ArePushed, La
 use Rattle.fsfs_order.proofs.Pushing.{no_children}
 use Rattle.fsfs_order.proofs.children.push_children.Goals as goal
 
-abbrev values : Option (Vec Listed Global) → Option (List DirEntry)
-values o = option_map (λ (v : Vec Listed Global). entry_values v.items) o
+abbrev values : Option Listing → Option (List DirEntry)
+values o = option_map listed o
 
 pub returns-in-None-clause-pushed : goal.returns-in-None-clause-pushed
 returns-in-None-clause-pushed g c =
@@ -21,11 +22,11 @@ returns-in-None-clause-pushed g c =
 pub returns-in_ok-ids-in-Some-clause-pushed : goal.returns-in_ok-ids-in-Some-clause-pushed
 returns-in_ok-ids-in-Some-clause-pushed g c =
     let same : (name : PathName) → ids_in c.in_ok-ids-in-Some.ids name ≡ id_named (values c.args.dir.now.entries) name = λ name.
-    c.in_ok-ids-in-Some.ensures name ∙ ap (λ (l : List Listed). id_named (Some (entry_values l)) name) c.as_slice.ensures.value ∙ ap (λ (o : Option (List DirEntry)). id_named o name) (sym (ap values c.in-Some.is)) in
+    c.in_ok-ids-in-Some.ensures name ∙ ap (λ (l : List Listed). id_named (Some (entry_values l)) name) c.as_slice.ensures.value ∙ ap (λ (l : List DirEntry). id_named (Some l) name) c.in_ok-all-in-Some.ensures ∙ ap (λ (o : Option (List DirEntry)). id_named o name) (sym (ap values c.in-Some.is)) in
     subst (λ (ids : IdsByName). OnOk c.push_named.result (ArePushed (g.N.Own.folder c.args.own.now).nodes ids (last_first c.args.next.now.items) (last_first c.push_named.new.next.items))) (λ i name. same name i) c.push_named.ensures.pushed
 
 pub returns-in_ok-ids-in-Some-clause-lacking : goal.returns-in_ok-ids-in-Some-clause-lacking
 returns-in_ok-ids-in-Some-clause-lacking g c =
     let same : (name : PathName) → ids_in c.in_ok-ids-in-Some.ids name ≡ id_named (values c.args.dir.now.entries) name = λ name.
-    c.in_ok-ids-in-Some.ensures name ∙ ap (λ (l : List Listed). id_named (Some (entry_values l)) name) c.as_slice.ensures.value ∙ ap (λ (o : Option (List DirEntry)). id_named o name) (sym (ap values c.in-Some.is)) in
+    c.in_ok-ids-in-Some.ensures name ∙ ap (λ (l : List Listed). id_named (Some (entry_values l)) name) c.as_slice.ensures.value ∙ ap (λ (l : List DirEntry). id_named (Some l) name) c.in_ok-all-in-Some.ensures ∙ ap (λ (o : Option (List DirEntry)). id_named o name) (sym (ap values c.in-Some.is)) in
     subst (λ (ids : IdsByName). IfErr c.push_named.result (λ e. IfLacking e (LacksChild (g.N.Own.folder c.args.own.now).nodes ids))) (λ i name. same name i) c.push_named.ensures.lacking

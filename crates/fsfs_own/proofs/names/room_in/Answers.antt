@@ -1,4 +1,5 @@
-use Rattle.std.proofs.Common.{◌≡◌, List, Some, Ok, Err, sym, subst, ◌∙◌}
+use Rattle.std.proofs.Common.{◌≡◌, ◌≤◌, true, List, length, Some, Ok, Err, sym, ap, subst, ◌∙◌, arith}
+use Rattle.std.specs.Prelude.{nat_lt}
 use Rattle.std.proofs.lemmas.Result.{err_from_is_err_and}
 use Rattle.fsfs_damage.specs.Readings.{Answers}
 use Rattle.fsfs_dag.specs.declared.directory.DirEntry.{DirEntry}
@@ -8,8 +9,19 @@ use Rattle.fsfs_drafts.specs.Drafts.{Kept}
 use Rattle.fsfs_own.specs.Entries.{OfKept, IsWithin}
 use Rattle.fsfs_own.specs.Names.{IsRoom}
 use Rattle.fsfs_own.specs.Views.{kept_value}
-use Rattle.fsfs_own.proofs.Counting.{room_fails}
+use Rattle.fsfs_own.proofs.Counting.{names_in, room_fails}
+use Rattle.fsfs_own.proofs.Readings.{own_list}
 use Rattle.fsfs_own.proofs.names.room_in.Goals as goal
+
+pub returns-then-has_few-clause-tells : goal.returns-then-has_few-clause-tells
+returns-then-has_few-clause-tells g c = λ look top k knows there within.
+    let both : Some (kept_value c.in-Some.kept.now) ≡ Some k = c.in-Some.ensures ∙ there in
+    let one : kept_value c.in-Some.kept.now ≡ k = cc in
+    let few = c.has_few.ensures c.if-has_few.true in
+    let n = names_in few.0 in
+    let le : n.0 ≤ length few.0 = n.2 in
+    let lt = few.2 in
+    (few.0, own_list look k few.0 (ap (λ (x : Kept). x.entries) (sym one) ∙ few.1), (n.0, n.1, (let e : true ≡ nat_lt n.0 1048576 = grind (arith, le, lt) in e)))
 
 pub returns-in_err-entries-clause-tells : goal.returns-in_err-entries-clause-tells
 returns-in_err-entries-clause-tells g c = λ look top k knows there within.

@@ -1,13 +1,10 @@
 use Rattle.std.proofs.Common.{◌≡◌, Some, None, sym, ap, subst, ◌∙◌}
 use Rattle.fsfs_fields.specs.declared.txn_name.TxnName.{TxnName}
 use Rattle.fsfs_noderev.specs.Ids.{part_value}
-use Rattle.fsfs_noderev.specs.declared.node_id.NodeId.{NodeId}
-use Rattle.fsfs_dag.specs.Views.{entry_values}
 use Rattle.fsfs_drafts.specs.Drafts.{Folder}
-use Rattle.fsfs_drafts.specs.Steps.{with_kept, kept_at, IsReplaced}
+use Rattle.fsfs_drafts.specs.Steps.{with_kept, kept_at}
 use Rattle.fsfs_own.specs.Views.{kept_value, new_kept, opened_kept}
 use Rattle.fsfs_steps.specs.Copied.{IsCopyNode}
-use Rattle.fsfs_steps.proofs.Replacing.{is_replaced}
 use Rattle.fsfs_steps.proofs.copied.copy_child.Goals as goal
 
 pub returns-clause-done : goal.returns-clause-done
@@ -20,6 +17,7 @@ returns-clause-done g c =
     let there : kept_at between.nodes c.args.dir.now ≡ Some k = sym c.in-Some.ensures in
     let here : kept_at f.nodes c.args.dir.now ≡ Some k = subst (λ (h : Folder). kept_at h.nodes c.args.dir.now ≡ Some k) done.1 there in
     let made : IsCopyNode (g.N.Own.txn c.args.own.now) k.node c.args.source.now w c.args.from.now c.args.name.now = subst (λ (txn : TxnName). IsCopyNode txn k.node c.args.source.now w c.args.from.now c.args.name.now) (c.name-txn.ensures ∙ c.in_ok-copy.ensures.name) c.in_ok-child.ensures.told in
+    let put = c.in_ok-put_child.ensures.done k there in
     record {
       k = k;
       here = here;
@@ -28,7 +26,7 @@ returns-clause-done g c =
       copy = made;
       part = ap part_value c.in_ok-child.ensures.copy ∙ done.0;
       free = (λ i. f.nodes (part_value (made.node i)) (part_value (c.in_ok-child.ensures.copy i))) ∙ subst (λ (h : Folder). h.nodes (part_value c.args.source.now.id.node) (part_value c.in_ok-copy.copy) ≡ None) done.1 done.2;
-      new = entry_values c.in_ok-new.new.items;
-      replaced = subst (λ (i : NodeId). IsReplaced (entry_values c.args.entries.items) c.args.name.now c.args.source.now.kind i (entry_values c.in_ok-new.new.items)) c.id_of-id.ensures (is_replaced (entry_values c.args.entries.items) c.args.name.now c.args.source.now.kind c.id_of-id.result (entry_values c.in_ok-new.new.items) c.in_ok-new.ensures);
-      after_is = subst (λ (h : Folder). g.N.Own.folder c.put_child.new.self ≡ record h { nodes = with_kept c.args.dir.now (opened_kept k (entry_values c.in_ok-new.new.items)) (with_kept w.id (new_kept w) h.nodes) }) done.1 (c.in_ok-put_child.ensures.done k there);
+      new = put.new;
+      replaced = put.put;
+      after_is = subst (λ (h : Folder). g.N.Own.folder c.put_child.new.self ≡ record h { nodes = with_kept c.args.dir.now (opened_kept k put.new) (with_kept w.id (new_kept w) h.nodes) }) done.1 put.after_is;
     }

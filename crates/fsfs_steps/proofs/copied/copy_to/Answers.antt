@@ -1,21 +1,18 @@
-use Rattle.std.proofs.Common.{◌≡◌, true, List, Ok, Err, sym, ap, subst, ◌∙◌}
+use Rattle.std.proofs.Common.{◌≡◌, true, sym, ap, subst, ◌∙◌}
 use Rattle.std.specs.Prelude.{IfOk, IfErr, is_some}
 use Rattle.std.proofs.lemmas.Result.{err_from_is_err_and}
 use Rattle.fsfs_noderev.specs.declared.node_id.NodeId.{NodeId}
-use Rattle.fsfs_damage.specs.Readings.{Answers}
-use Rattle.fsfs_shows.specs.Reading.{named}
-use Rattle.fsfs_dag.specs.declared.directory.DirEntry.{DirEntry}
-use Rattle.fsfs_dag.specs.Views.{entry_values}
 use Rattle.fsfs_drafts.specs.Drafts.{Kept}
 use Rattle.fsfs_drafts.specs.Steps.{kept_at}
-use Rattle.fsfs_own.specs.Entries.{OfKept, IsWithin}
+use Rattle.fsfs_listing.specs.Views.{listed}
+use Rattle.fsfs_own.specs.Entries.{IsWithin, IsListedAs, FailsLike}
 use Rattle.fsfs_own.specs.Errors.{IsWant}
 use Rattle.fsfs_steps.specs.Mutable.{IsAmiss}
 use Rattle.fsfs_steps.specs.Copied.{IsCopyPut}
 use Rattle.fsfs_own.specs.Views.{kept_value}
-use Rattle.fsfs_dag.proofs.PairLemmas.{entries_seen}
 use Rattle.fsfs_steps.proofs.Steps.{some_not_none, want_disk}
 use Rattle.fsfs_own.proofs.OwnEntries.{there_kept, kept_same, pred_within, entries_here, entries_fail, none_named}
+use Rattle.fsfs_steps.proofs.Alike.{copied_as}
 use Rattle.fsfs_steps.proofs.CopyingNew.{copying_leaves}
 use Rattle.fsfs_steps.proofs.copied.copy_to.Goals as goal
 
@@ -31,29 +28,28 @@ returns-in_err-entries-clause-draft g c = λ look trees top base nodes p d knows
     let within : IsWithin top c.in-Some.kept.now.node.predecessor = subst (λ (x : Kept). IsWithin top x.node.predecessor) (sym k) (pred_within look top base trees shown le (g.N.Own.txn c.args.own.now) (g.N.Own.folder c.args.own.now) nodes draft p d here dir) in
     let e = c.in_err-entries.field-0.0 in
     rw (r.1, r.2) (entries_fail look top base trees shown le (g.N.Own.txn c.args.own.now) (g.N.Own.folder c.args.own.now) nodes draft p d here dir e
-    (subst (λ (x : Kept). Answers entries_seen (OfKept look x) (Err e)) k (c.in_err-entries.ensures.told look top knows within)))
+    (subst (λ (x : Kept). FailsLike look x e) k (c.in_err-entries.ensures.fails look top knows within)))
 
 pub returns-then-is_some-clause-draft : goal.returns-then-is_some-clause-draft
 returns-then-is_some-clause-draft g c = λ look trees top base nodes p d knows shown le draft here same dir none from_le source.
     let k = kept_same look top base trees shown le (g.N.Own.txn c.args.own.now) (g.N.Own.folder c.args.own.now) nodes draft p d here dir c.args.dir.now (kept_value c.in-Some.kept.now) same (sym c.in-Some.ensures) in
     let within : IsWithin top c.in-Some.kept.now.node.predecessor = subst (λ (x : Kept). IsWithin top x.node.predecessor) (sym k) (pred_within look top base trees shown le (g.N.Own.txn c.args.own.now) (g.N.Own.folder c.args.own.now) nodes draft p d here dir) in
-    let items = c.in_ok-entries.entries.items in
-    let listed = entries_here look top base trees shown le (g.N.Own.txn c.args.own.now) (g.N.Own.folder c.args.own.now) nodes draft p d here dir (entry_values items)
-    (subst (λ (x : Kept). OfKept look x (Ok (entry_values items))) k (c.in_ok-entries.ensures.told look top knows within)) in
-    let lacks = none_named look top base trees shown le (g.N.Own.txn c.args.own.now) (g.N.Own.folder c.args.own.now) nodes draft p d here dir c.args.name.now (entry_values items) listed none in
-    some_not_none _ c.entry_named.result _ (let e : is_some c.entry_named.result ≡ true = cc in e) (c.entry_named.ensures ∙ ap (λ (t : List DirEntry). named c.args.name.now (entry_values t)) c.deref.ensures.value) lacks
+    let t = subst (λ (x : Kept). IsListedAs look x (listed c.in_ok-entries.entries)) k (c.in_ok-entries.ensures.told look top knows within) in
+    let all = entries_here look top base trees shown le (g.N.Own.txn c.args.own.now) (g.N.Own.folder c.args.own.now) nodes draft p d here dir t.entries t.of in
+    let lacks = none_named look top base trees shown le (g.N.Own.txn c.args.own.now) (g.N.Own.folder c.args.own.now) nodes draft p d here dir c.args.name.now t.entries all none in
+    some_not_none _ c.get.result _ (let e : is_some c.get.result ≡ true = cc in e) (c.get.ensures ∙ t.alike c.args.name.now) lacks
 
 pub returns-clause-draft : goal.returns-clause-draft
 returns-clause-draft g c = λ look trees top base nodes p d knows shown le draft here same dir none from_le source.
     let k = kept_same look top base trees shown le (g.N.Own.txn c.args.own.now) (g.N.Own.folder c.args.own.now) nodes draft p d here dir c.args.dir.now (kept_value c.in-Some.kept.now) same (sym c.in-Some.ensures) in
     let within : IsWithin top c.in-Some.kept.now.node.predecessor = subst (λ (x : Kept). IsWithin top x.node.predecessor) (sym k) (pred_within look top base trees shown le (g.N.Own.txn c.args.own.now) (g.N.Own.folder c.args.own.now) nodes draft p d here dir) in
-    let items = c.in_ok-entries.entries.items in
-    let listed = entries_here look top base trees shown le (g.N.Own.txn c.args.own.now) (g.N.Own.folder c.args.own.now) nodes draft p d here dir (entry_values items)
-    (subst (λ (x : Kept). OfKept look x (Ok (entry_values items))) k (c.in_ok-entries.ensures.told look top knows within)) in
-    let lacks = none_named look top base trees shown le (g.N.Own.txn c.args.own.now) (g.N.Own.folder c.args.own.now) nodes draft p d here dir c.args.name.now (entry_values items) listed none in
-    copying_leaves look top base trees shown le (g.N.Own.txn c.args.own.now) (g.N.Own.folder c.args.own.now) nodes draft p d here dir c.args.name.now (entry_values items) listed lacks c.args.source.now c.args.from.now from_le source
+    let t = subst (λ (x : Kept). IsListedAs look x (listed c.in_ok-entries.entries)) k (c.in_ok-entries.ensures.told look top knows within) in
+    let all = entries_here look top base trees shown le (g.N.Own.txn c.args.own.now) (g.N.Own.folder c.args.own.now) nodes draft p d here dir t.entries t.of in
+    let lacks = none_named look top base trees shown le (g.N.Own.txn c.args.own.now) (g.N.Own.folder c.args.own.now) nodes draft p d here dir c.args.name.now t.entries all none in
+    copying_leaves look top base trees shown le (g.N.Own.txn c.args.own.now) (g.N.Own.folder c.args.own.now) nodes draft p d here dir c.args.name.now t.entries all lacks c.args.source.now c.args.from.now from_le source
     (g.N.Own.folder c.copy_child.new.own) c.copy_child.result
-    (subst (λ (i : NodeId). IfOk c.copy_child.result (IsCopyPut (g.N.Own.folder c.args.own.now) (g.N.Own.folder c.copy_child.new.own) (g.N.Own.txn c.args.own.now) i (entry_values items) c.args.name.now c.args.source.now c.args.from.now)) (sym same) c.copy_child.ensures.done)
+    (subst (λ (i : NodeId). IfOk c.copy_child.result (IsCopyPut (g.N.Own.folder c.args.own.now) (g.N.Own.folder c.copy_child.new.own) (g.N.Own.txn c.args.own.now) i t.entries c.args.name.now c.args.source.now c.args.from.now)) (sym same)
+    (copied_as (listed c.in_ok-entries.entries) t.entries t.alike (g.N.Own.folder c.args.own.now) (g.N.Own.folder c.copy_child.new.own) (g.N.Own.txn c.args.own.now) c.args.dir.now c.args.name.now c.args.source.now c.args.from.now c.copy_child.result c.copy_child.ensures.done))
     (subst (λ (i : NodeId). IfErr c.copy_child.result (λ y. IsWant y (IsAmiss (g.N.Own.folder c.args.own.now) i c.args.source.now.id))) (sym same) c.copy_child.ensures.cause)
 
 pub returns-clause-cause : goal.returns-clause-cause

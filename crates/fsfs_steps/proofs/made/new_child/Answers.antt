@@ -3,13 +3,11 @@ use Rattle.std.proofs.lemmas.Result.{err_from_is_err_and}
 use Rattle.fsfs_fields.specs.declared.txn_name.TxnName.{TxnName}
 use Rattle.fsfs_noderev.specs.Ids.{part_value}
 use Rattle.fsfs_noderev.specs.declared.node_id.NodeId.{NodeId}
-use Rattle.fsfs_dag.specs.Views.{entry_values}
 use Rattle.fsfs_drafts.specs.Drafts.{Folder}
-use Rattle.fsfs_drafts.specs.Steps.{with_kept, kept_at, IsReplaced}
+use Rattle.fsfs_drafts.specs.Steps.{with_kept, kept_at}
 use Rattle.fsfs_own.specs.Views.{kept_value, new_kept, opened_kept}
 use Rattle.fsfs_steps.specs.Made.{IsNewNode, IsAmissNode}
 use Rattle.fsfs_steps.proofs.MakingNew.{want_as}
-use Rattle.fsfs_steps.proofs.Replacing.{is_replaced}
 use Rattle.fsfs_steps.proofs.made.new_child.Goals as goal
 
 pub returns-in_err-node-clause-cause : goal.returns-in_err-node-clause-cause
@@ -31,6 +29,7 @@ returns-clause-done g c =
     let made : IsNewNode (g.N.Own.txn c.args.own.now) k.node w c.args.kind c.args.name.now = subst (λ (txn : TxnName). IsNewNode txn k.node w c.args.kind c.args.name.now) (c.name-txn.ensures ∙ c.in_ok-node.ensures.name) c.in_ok-child.ensures.told in
     let copies : c.in-Some.kept.now.node.id.copy ≡ w.id.copy = (λ i. (one i).node.id.copy) ∙ sym made.copy in
     let to_key : w.id.copy ≡ c.id_with.result.copy = sym copies ∙ ap (λ (i : NodeId). i.copy) (sym c.id_with.ensures) in
+    let put = c.in_ok-put_child.ensures.done k there in
     record {
       k = k;
       here = here;
@@ -39,7 +38,7 @@ returns-clause-done g c =
       made = made;
       part = ap part_value c.in_ok-child.ensures.node ∙ done.0;
       free = (λ i. f.nodes (part_value (c.in_ok-child.ensures.node i)) (part_value (to_key i))) ∙ done.2;
-      new = entry_values c.in_ok-new.new.items;
-      replaced = subst (λ (i : NodeId). IsReplaced (entry_values c.args.entries.items) c.args.name.now c.args.kind i (entry_values c.in_ok-new.new.items)) c.id_of-id.ensures (is_replaced (entry_values c.args.entries.items) c.args.name.now c.args.kind c.id_of-id.result (entry_values c.in_ok-new.new.items) c.in_ok-new.ensures);
-      after_is = subst (λ (h : Folder). g.N.Own.folder c.put_child.new.self ≡ record h { nodes = with_kept c.args.dir.now (opened_kept k (entry_values c.in_ok-new.new.items)) (with_kept w.id (new_kept w) h.nodes) }) done.1 (c.in_ok-put_child.ensures.done k there);
+      new = put.new;
+      replaced = put.put;
+      after_is = subst (λ (h : Folder). g.N.Own.folder c.put_child.new.self ≡ record h { nodes = with_kept c.args.dir.now (opened_kept k put.new) (with_kept w.id (new_kept w) h.nodes) }) done.1 put.after_is;
     }

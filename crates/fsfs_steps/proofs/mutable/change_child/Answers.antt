@@ -1,13 +1,10 @@
 use Rattle.std.proofs.Common.{◌≡◌, Some, sym, subst, ◌∙◌}
 use Rattle.fsfs_fields.specs.declared.txn_name.TxnName.{TxnName}
 use Rattle.fsfs_noderev.specs.declared.node_id.Part.{Part}
-use Rattle.fsfs_noderev.specs.declared.node_id.NodeId.{NodeId}
-use Rattle.fsfs_dag.specs.Views.{entry_values}
-use Rattle.fsfs_drafts.specs.Steps.{Files, kept_at, IsSuccessor, IsReplaced}
+use Rattle.fsfs_drafts.specs.Steps.{Files, kept_at, IsSuccessor}
 use Rattle.fsfs_steps.specs.Mutable.{IsPartFrom}
 use Rattle.fsfs_own.specs.Views.{kept_value}
 use Rattle.fsfs_steps.proofs.Steps.{part_nodes}
-use Rattle.fsfs_steps.proofs.Replacing.{is_replaced}
 use Rattle.fsfs_steps.proofs.mutable.change_child.Goals as goal
 
 pub returns-clause-done : goal.returns-clause-done
@@ -17,6 +14,7 @@ returns-clause-done g c =
     let w = c.in_ok-child.child in
     let part = c.in_ok-copy.ensures.done in
     let there : kept_at (g.N.Own.folder c.copy_part.new.own).nodes c.args.dir.now ≡ Some k = sym c.in-Some-kept.ensures in
+    let put = c.in_ok-put_child.ensures.done k there in
     record {
       k = k;
       here = subst (λ (files : Files). kept_at files c.args.dir.now ≡ Some k) (part_nodes _ _ _ _ _ part.of) there;
@@ -25,7 +23,7 @@ returns-clause-done g c =
       next = subst (λ (txn : TxnName). IsSuccessor txn k.node u w c.args.name.now) (c.name-txn.ensures ∙ c.in_ok-copy.ensures.name) c.in_ok-child.ensures.told;
       between = g.N.Own.folder c.copy_part.new.own;
       part = subst (λ (copy : Part). IsPartFrom (g.N.Own.folder c.args.own.now) (g.N.Own.folder c.copy_part.new.own) c.args.dir.now.copy u.id copy) (sym c.in_ok-child.ensures.copy) part;
-      new = entry_values c.in_ok-new.new.items;
-      replaced = subst (λ (i : NodeId). IsReplaced (entry_values c.args.entries.items) c.args.name.now c.args.kind i (entry_values c.in_ok-new.new.items)) c.id_of-id.ensures (is_replaced (entry_values c.args.entries.items) c.args.name.now c.args.kind c.id_of-id.result (entry_values c.in_ok-new.new.items) c.in_ok-new.ensures);
-      after_is = c.in_ok-put_child.ensures.done k there;
+      new = put.new;
+      replaced = put.put;
+      after_is = put.after_is;
     }

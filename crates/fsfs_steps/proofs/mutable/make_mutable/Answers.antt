@@ -1,23 +1,22 @@
-use Rattle.std.proofs.Common.{◌≡◌, true, List, Some, None, Ok, Err, refl, sym, ap, subst, ◌∙◌, arith}
+use Rattle.std.proofs.Common.{◌≡◌, true, Some, None, refl, sym, ap, subst, ◌∙◌, arith}
 use Rattle.std.specs.Prelude.{IfOk, IfErr}
 use Rattle.std.proofs.lemmas.Result.{err_from_is_err_and}
 use Rattle.fsfs_book.proofs.Keeping.{keeps_trans}
 use Rattle.fsfs_book.specs.Told.{Knows}
 use Rattle.fsfs_noderev.specs.declared.node_id.NodeId.{NodeId}
 use Rattle.fsfs_revision.specs.Nodes.{is_revision_id}
-use Rattle.fsfs_damage.specs.Readings.{Answers}
 use Rattle.fsfs_shows.specs.Reading.{named, offset_of}
-use Rattle.fsfs_dag.specs.declared.directory.DirEntry.{DirEntry}
 use Rattle.fsfs_dag.specs.declared.node.PlacedNode.{PlacedNode}
-use Rattle.fsfs_dag.specs.Views.{entry_value, entry_values}
+use Rattle.fsfs_dag.specs.Views.{entry_value}
 use Rattle.fsfs_drafts.specs.Drafts.{Kept}
 use Rattle.fsfs_drafts.specs.Steps.{kept_at}
-use Rattle.fsfs_own.specs.Entries.{OfKept, IsWithin}
+use Rattle.fsfs_listing.specs.Views.{listed}
+use Rattle.fsfs_own.specs.Entries.{IsWithin, IsListedAs, FailsLike}
 use Rattle.fsfs_own.specs.Errors.{IsWant}
 use Rattle.fsfs_steps.specs.Mutable.{IsAmiss, IsChildChanged}
 use Rattle.fsfs_own.specs.Views.{kept_value}
-use Rattle.fsfs_dag.proofs.PairLemmas.{entries_seen}
 use Rattle.fsfs_drafts.proofs.EditLaw.{edits_keep_drafts}
+use Rattle.fsfs_steps.proofs.Alike.{changed_as}
 use Rattle.fsfs_steps.proofs.Steps.{changed_proto, want_disk}
 use Rattle.fsfs_own.proofs.OwnEntries.{there_kept, kept_same, pred_within, entries_here, entries_fail, has_named, own_entry, lasting_entry, entry_fails}
 use Rattle.fsfs_steps.proofs.Making.{lasting_leaves}
@@ -35,28 +34,26 @@ returns-in_err-entries-clause-draft g c = λ look trees top base nodes p d knows
     let within : IsWithin top c.in-Some.kept.now.node.predecessor = subst (λ (x : Kept). IsWithin top x.node.predecessor) (sym k) (pred_within look top base trees shown le (g.N.Own.txn c.args.own.now) (g.N.Own.folder c.args.own.now) nodes draft p d here dir) in
     let e = c.in_err-entries.field-0.0 in
     rw (r.1, r.2) (entries_fail look top base trees shown le (g.N.Own.txn c.args.own.now) (g.N.Own.folder c.args.own.now) nodes draft p d here dir e
-    (subst (λ (x : Kept). Answers entries_seen (OfKept look x) (Err e)) k (c.in_err-entries.ensures.told look top knows within)))
+    (subst (λ (x : Kept). FailsLike look x e) k (c.in_err-entries.ensures.fails look top knows within)))
 
-pub returns-in_default-entry_named-clause-draft : goal.returns-in_default-entry_named-clause-draft
-returns-in_default-entry_named-clause-draft g c = λ look trees top base nodes p d knows shown le draft here same dir some.
+pub returns-in_default-get-clause-draft : goal.returns-in_default-get-clause-draft
+returns-in_default-get-clause-draft g c = λ look trees top base nodes p d knows shown le draft here same dir some.
     let k = kept_same look top base trees shown le (g.N.Own.txn c.args.own.now) (g.N.Own.folder c.args.own.now) nodes draft p d here dir c.args.dir.now (kept_value c.in-Some.kept.now) same (sym c.in-Some.ensures) in
     let within : IsWithin top c.in-Some.kept.now.node.predecessor = subst (λ (x : Kept). IsWithin top x.node.predecessor) (sym k) (pred_within look top base trees shown le (g.N.Own.txn c.args.own.now) (g.N.Own.folder c.args.own.now) nodes draft p d here dir) in
-    let items = c.in_ok-entries.entries.items in
-    let listed = entries_here look top base trees shown le (g.N.Own.txn c.args.own.now) (g.N.Own.folder c.args.own.now) nodes draft p d here dir (entry_values items)
-    (subst (λ (x : Kept). OfKept look x (Ok (entry_values items))) k (c.in_ok-entries.ensures.told look top knows within)) in
-    let is : named c.args.name.now (entry_values items) ≡ None = sym (c.in_default-entry_named.ensures ∙ ap (λ (t : List DirEntry). named c.args.name.now (entry_values t)) c.deref.ensures.value) in
-    has_named look top base trees shown le (g.N.Own.txn c.args.own.now) (g.N.Own.folder c.args.own.now) nodes draft p d here dir c.args.name.now (entry_values items) listed some is
+    let t = subst (λ (x : Kept). IsListedAs look x (listed c.in_ok-entries.entries)) k (c.in_ok-entries.ensures.told look top knows within) in
+    let all = entries_here look top base trees shown le (g.N.Own.txn c.args.own.now) (g.N.Own.folder c.args.own.now) nodes draft p d here dir t.entries t.of in
+    let is : named c.args.name.now t.entries ≡ None = sym (c.in_default-get.ensures ∙ t.alike c.args.name.now) in
+    has_named look top base trees shown le (g.N.Own.txn c.args.own.now) (g.N.Own.folder c.args.own.now) nodes draft p d here dir c.args.name.now t.entries all some is
 
 pub returns-then-not-is_revision_id-clause-draft : goal.returns-then-not-is_revision_id-clause-draft
 returns-then-not-is_revision_id-clause-draft g c = λ look trees top base nodes p d knows shown le draft here same dir some.
     let k = kept_same look top base trees shown le (g.N.Own.txn c.args.own.now) (g.N.Own.folder c.args.own.now) nodes draft p d here dir c.args.dir.now (kept_value c.in-Some.kept.now) same (sym c.in-Some.ensures) in
     let within : IsWithin top c.in-Some.kept.now.node.predecessor = subst (λ (x : Kept). IsWithin top x.node.predecessor) (sym k) (pred_within look top base trees shown le (g.N.Own.txn c.args.own.now) (g.N.Own.folder c.args.own.now) nodes draft p d here dir) in
-    let items = c.in_ok-entries.entries.items in
-    let listed = entries_here look top base trees shown le (g.N.Own.txn c.args.own.now) (g.N.Own.folder c.args.own.now) nodes draft p d here dir (entry_values items)
-    (subst (λ (x : Kept). OfKept look x (Ok (entry_values items))) k (c.in_ok-entries.ensures.told look top knows within)) in
-    let x = entry_value c.in-Some-entry_named.entry.now in
-    let is : named c.args.name.now (entry_values items) ≡ Some x = sym (c.in-Some-entry_named.ensures ∙ ap (λ (t : List DirEntry). named c.args.name.now (entry_values t)) c.deref.ensures.value) in
-    let v = own_entry look top base trees shown le (g.N.Own.txn c.args.own.now) (g.N.Own.folder c.args.own.now) nodes draft p d here dir c.args.name.now (entry_values items) listed x is (sym c.if-not-is_revision_id.ensures) in
+    let t = subst (λ (x : Kept). IsListedAs look x (listed c.in_ok-entries.entries)) k (c.in_ok-entries.ensures.told look top knows within) in
+    let all = entries_here look top base trees shown le (g.N.Own.txn c.args.own.now) (g.N.Own.folder c.args.own.now) nodes draft p d here dir t.entries t.of in
+    let x = entry_value c.in-Some-get.entry.now in
+    let is : named c.args.name.now t.entries ≡ Some x = sym (c.in-Some-get.ensures ∙ t.alike c.args.name.now) in
+    let v = own_entry look top base trees shown le (g.N.Own.txn c.args.own.now) (g.N.Own.folder c.args.own.now) nodes draft p d here dir c.args.name.now t.entries all x is (sym c.if-not-is_revision_id.ensures) in
     (nodes, draft, λ q. refl, v.0, v.1, v.2, λ tree marks first o. edits_keep_drafts.has look trees top base (g.N.Own.txn c.args.own.now) (g.N.Own.folder c.args.own.now) tree marks first nodes p c.args.name.now v.0 o v.1)
 
 pub returns-in_err-old-clause-draft : goal.returns-in_err-old-clause-draft
@@ -64,42 +61,41 @@ returns-in_err-old-clause-draft g c = λ look trees top base nodes p d knows sho
     let r = err_from_is_err_and c.from_residual-in_err-old.result c.from_residual-in_err-old.ensures.1 in
     let k = kept_same look top base trees shown le (g.N.Own.txn c.args.own.now) (g.N.Own.folder c.args.own.now) nodes draft p d here dir c.args.dir.now (kept_value c.in-Some.kept.now) same (sym c.in-Some.ensures) in
     let within : IsWithin top c.in-Some.kept.now.node.predecessor = subst (λ (x : Kept). IsWithin top x.node.predecessor) (sym k) (pred_within look top base trees shown le (g.N.Own.txn c.args.own.now) (g.N.Own.folder c.args.own.now) nodes draft p d here dir) in
-    let items = c.in_ok-entries.entries.items in
-    let listed = entries_here look top base trees shown le (g.N.Own.txn c.args.own.now) (g.N.Own.folder c.args.own.now) nodes draft p d here dir (entry_values items)
-    (subst (λ (x : Kept). OfKept look x (Ok (entry_values items))) k (c.in_ok-entries.ensures.told look top knows within)) in
-    let x = entry_value c.in-Some-entry_named.entry.now in
-    let is : named c.args.name.now (entry_values items) ≡ Some x = sym (c.in-Some-entry_named.ensures ∙ ap (λ (t : List DirEntry). named c.args.name.now (entry_values t)) c.deref.ensures.value) in
+    let t = subst (λ (x : Kept). IsListedAs look x (listed c.in_ok-entries.entries)) k (c.in_ok-entries.ensures.told look top knows within) in
+    let all = entries_here look top base trees shown le (g.N.Own.txn c.args.own.now) (g.N.Own.folder c.args.own.now) nodes draft p d here dir t.entries t.of in
+    let x = entry_value c.in-Some-get.entry.now in
+    let is : named c.args.name.now t.entries ≡ Some x = sym (c.in-Some-get.ensures ∙ t.alike c.args.name.now) in
     let lasts : is_revision_id x.id ≡ true = sym c.if-not-is_revision_id.ensures in
-    let u = lasting_entry look top base trees shown le (g.N.Own.txn c.args.own.now) (g.N.Own.folder c.args.own.now) nodes draft p d here dir c.args.name.now (entry_values items) listed x is lasts in
+    let u = lasting_entry look top base trees shown le (g.N.Own.txn c.args.own.now) (g.N.Own.folder c.args.own.now) nodes draft p d here dir c.args.name.now t.entries all x is lasts in
     let le_u = u.2 in
-    let later : Knows (g.B.Book.told c.entries_in.new.book).revs (offset_of x.id.place).rev look = λ n h. c.in_ok-entries.ensures.kept.revs n (look n) (knows n (omega (arith, h, le_u))) in
+    let later : Knows (g.B.Book.told c.listed_in.new.book).revs (offset_of x.id.place).rev look = λ n h. c.in_ok-entries.ensures.kept.revs n (look n) (knows n (omega (arith, h, le_u))) in
     let e = c.in_err-old.field-0.0 in
-    rw (r.1, r.2) (entry_fails look top base trees shown le (g.N.Own.txn c.args.own.now) (g.N.Own.folder c.args.own.now) nodes draft p d here dir c.args.name.now (entry_values items) listed x is (λ (n : PlacedNode). n.node) lasts e
+    rw (r.1, r.2) (entry_fails look top base trees shown le (g.N.Own.txn c.args.own.now) (g.N.Own.folder c.args.own.now) nodes draft p d here dir c.args.name.now t.entries all x is (λ (n : PlacedNode). n.node) lasts e
     (c.in_err-old.ensures.told look later))
 
 pub returns-clause-draft : goal.returns-clause-draft
 returns-clause-draft g c = λ look trees top base nodes p d knows shown le draft here same dir some.
     let k = kept_same look top base trees shown le (g.N.Own.txn c.args.own.now) (g.N.Own.folder c.args.own.now) nodes draft p d here dir c.args.dir.now (kept_value c.in-Some.kept.now) same (sym c.in-Some.ensures) in
     let within : IsWithin top c.in-Some.kept.now.node.predecessor = subst (λ (x : Kept). IsWithin top x.node.predecessor) (sym k) (pred_within look top base trees shown le (g.N.Own.txn c.args.own.now) (g.N.Own.folder c.args.own.now) nodes draft p d here dir) in
-    let items = c.in_ok-entries.entries.items in
-    let listed = entries_here look top base trees shown le (g.N.Own.txn c.args.own.now) (g.N.Own.folder c.args.own.now) nodes draft p d here dir (entry_values items)
-    (subst (λ (x : Kept). OfKept look x (Ok (entry_values items))) k (c.in_ok-entries.ensures.told look top knows within)) in
-    let x = entry_value c.in-Some-entry_named.entry.now in
-    let is : named c.args.name.now (entry_values items) ≡ Some x = sym (c.in-Some-entry_named.ensures ∙ ap (λ (t : List DirEntry). named c.args.name.now (entry_values t)) c.deref.ensures.value) in
+    let t = subst (λ (x : Kept). IsListedAs look x (listed c.in_ok-entries.entries)) k (c.in_ok-entries.ensures.told look top knows within) in
+    let all = entries_here look top base trees shown le (g.N.Own.txn c.args.own.now) (g.N.Own.folder c.args.own.now) nodes draft p d here dir t.entries t.of in
+    let x = entry_value c.in-Some-get.entry.now in
+    let is : named c.args.name.now t.entries ≡ Some x = sym (c.in-Some-get.ensures ∙ t.alike c.args.name.now) in
     let lasts : is_revision_id x.id ≡ true = sym c.if-not-is_revision_id.ensures in
-    let le_u = (lasting_entry look top base trees shown le (g.N.Own.txn c.args.own.now) (g.N.Own.folder c.args.own.now) nodes draft p d here dir c.args.name.now (entry_values items) listed x is lasts).2 in
-    let later : Knows (g.B.Book.told c.entries_in.new.book).revs (offset_of x.id.place).rev look = λ n h. c.in_ok-entries.ensures.kept.revs n (look n) (knows n (omega (arith, h, le_u))) in
+    let le_u = (lasting_entry look top base trees shown le (g.N.Own.txn c.args.own.now) (g.N.Own.folder c.args.own.now) nodes draft p d here dir c.args.name.now t.entries all x is lasts).2 in
+    let later : Knows (g.B.Book.told c.listed_in.new.book).revs (offset_of x.id.place).rev look = λ n h. c.in_ok-entries.ensures.kept.revs n (look n) (knows n (omega (arith, h, le_u))) in
     let u = c.in_ok-old.old.node in
-    lasting_leaves look top base trees shown le (g.N.Own.txn c.args.own.now) (g.N.Own.folder c.args.own.now) nodes draft p d here dir c.args.name.now (entry_values items) listed x is lasts u (c.in_ok-old.ensures.told look later)
+    lasting_leaves look top base trees shown le (g.N.Own.txn c.args.own.now) (g.N.Own.folder c.args.own.now) nodes draft p d here dir c.args.name.now t.entries all x is lasts u (c.in_ok-old.ensures.told look later)
     (g.N.Own.folder c.change_child.new.own) c.change_child.result
-    (subst (λ (i : NodeId). IfOk c.change_child.result (IsChildChanged (g.N.Own.folder c.args.own.now) (g.N.Own.folder c.change_child.new.own) (g.N.Own.txn c.args.own.now) i (entry_values items) c.args.name.now x.kind u)) (sym same) c.change_child.ensures.done)
+    (subst (λ (i : NodeId). IfOk c.change_child.result (IsChildChanged (g.N.Own.folder c.args.own.now) (g.N.Own.folder c.change_child.new.own) (g.N.Own.txn c.args.own.now) i t.entries c.args.name.now x.kind u)) (sym same)
+    (changed_as (listed c.in_ok-entries.entries) t.entries t.alike (g.N.Own.folder c.args.own.now) (g.N.Own.folder c.change_child.new.own) (g.N.Own.txn c.args.own.now) c.args.dir.now c.args.name.now x.kind u c.change_child.result c.change_child.ensures.done))
     (subst (λ (i : NodeId). IfErr c.change_child.result (λ y. IsWant y (IsAmiss (g.N.Own.folder c.args.own.now) i u.id))) (sym same) c.change_child.ensures.cause)
 
 pub returns-clause-kept : goal.returns-clause-kept
 returns-clause-kept g c = keeps_trans _ _ _ c.in_ok-entries.ensures.kept c.in_ok-old.ensures.kept
 
 pub returns-clause-proto : goal.returns-clause-proto
-returns-clause-proto g c = changed_proto (g.N.Own.folder c.args.own.now) (g.N.Own.folder c.change_child.new.own) (g.N.Own.txn c.args.own.now) c.args.dir.now (entry_values c.in_ok-entries.entries.items) c.args.name.now c.in-Some-entry_named.entry.now.kind c.in_ok-old.old.node c.change_child.result c.change_child.ensures.done
+returns-clause-proto g c = changed_proto (g.N.Own.folder c.args.own.now) (g.N.Own.folder c.change_child.new.own) (g.N.Own.txn c.args.own.now) c.args.dir.now (listed c.in_ok-entries.entries) c.args.name.now c.in-Some-get.entry.now.kind c.in_ok-old.old.node c.change_child.result c.change_child.ensures.done
 
 pub returns-clause-cause : goal.returns-clause-cause
 returns-clause-cause g c = record {

@@ -1,15 +1,14 @@
-use Rattle.std.proofs.Common.{Ok, Err, sym, subst, ap, ◌∙◌}
+use Rattle.std.proofs.Common.{sym, subst, ap, ◌∙◌}
 use Rattle.std.proofs.lemmas.Result.{err_from_is_err_and}
 use Rattle.fsfs_noderev.specs.declared.node_id.NodeId.{NodeId}
-use Rattle.fsfs_damage.specs.Readings.{Answers}
-use Rattle.fsfs_dag.specs.Views.{entry_values}
 use Rattle.fsfs_drafts.specs.Drafts.{Kept}
 use Rattle.fsfs_drafts.specs.Steps.{kept_at}
-use Rattle.fsfs_own.specs.Entries.{OfKept, IsWithin}
+use Rattle.fsfs_listing.specs.Views.{listed}
+use Rattle.fsfs_own.specs.Entries.{IsWithin, IsListedAs, FailsLike}
 use Rattle.fsfs_own.specs.Taken.{IsEntryTaken}
 use Rattle.fsfs_own.specs.Views.{kept_value}
-use Rattle.fsfs_dag.proofs.PairLemmas.{entries_seen}
 use Rattle.fsfs_own.proofs.OwnEntries.{there_kept, kept_same, pred_within, entries_here, entries_fail}
+use Rattle.fsfs_steps.proofs.Alike.{taken_as}
 use Rattle.fsfs_steps.proofs.Taking.{taken_leaves}
 use Rattle.fsfs_steps.proofs.taken.take_away.Goals as goal
 
@@ -25,15 +24,15 @@ returns-in_err-entries-clause-draft g c = λ look trees top base nodes p d knows
     let within : IsWithin top c.in-Some.kept.now.node.predecessor = subst (λ (x : Kept). IsWithin top x.node.predecessor) (sym k) (pred_within look top base trees shown le (g.N.Own.txn c.args.own.now) (g.N.Own.folder c.args.own.now) nodes draft p d here dir) in
     let e = c.in_err-entries.field-0.0 in
     rw (r.1, r.2) (entries_fail look top base trees shown le (g.N.Own.txn c.args.own.now) (g.N.Own.folder c.args.own.now) nodes draft p d here dir e
-    (subst (λ (x : Kept). Answers entries_seen (OfKept look x) (Err e)) k (c.in_err-entries.ensures.told look top knows within)))
+    (subst (λ (x : Kept). FailsLike look x e) k (c.in_err-entries.ensures.fails look top knows within)))
 
 pub returns-clause-draft : goal.returns-clause-draft
 returns-clause-draft g c = λ look trees top base nodes p d knows shown le draft here same dir.
     let k = kept_same look top base trees shown le (g.N.Own.txn c.args.own.now) (g.N.Own.folder c.args.own.now) nodes draft p d here dir c.args.dir.now (kept_value c.in-Some.kept.now) same (sym c.in-Some.ensures) in
     let within : IsWithin top c.in-Some.kept.now.node.predecessor = subst (λ (x : Kept). IsWithin top x.node.predecessor) (sym k) (pred_within look top base trees shown le (g.N.Own.txn c.args.own.now) (g.N.Own.folder c.args.own.now) nodes draft p d here dir) in
-    let items = c.in_ok-entries.entries.items in
-    let listed = entries_here look top base trees shown le (g.N.Own.txn c.args.own.now) (g.N.Own.folder c.args.own.now) nodes draft p d here dir (entry_values items)
-    (subst (λ (x : Kept). OfKept look x (Ok (entry_values items))) k (c.in_ok-entries.ensures.told look top knows within)) in
-    taken_leaves look top base trees shown le (g.N.Own.txn c.args.own.now) (g.N.Own.folder c.args.own.now) nodes draft p d here dir c.args.name.now (entry_values items) listed
+    let t = subst (λ (x : Kept). IsListedAs look x (listed c.in_ok-entries.entries)) k (c.in_ok-entries.ensures.told look top knows within) in
+    let all = entries_here look top base trees shown le (g.N.Own.txn c.args.own.now) (g.N.Own.folder c.args.own.now) nodes draft p d here dir t.entries t.of in
+    taken_leaves look top base trees shown le (g.N.Own.txn c.args.own.now) (g.N.Own.folder c.args.own.now) nodes draft p d here dir c.args.name.now t.entries all
     (g.N.Own.folder c.take_entry.new.self)
-    (subst (λ (i : NodeId). IsEntryTaken (g.N.Own.folder c.args.own.now) (g.N.Own.folder c.take_entry.new.self) i (entry_values items) c.args.name.now) (sym same) c.in_ok-take_entry.ensures.done)
+    (subst (λ (i : NodeId). IsEntryTaken (g.N.Own.folder c.args.own.now) (g.N.Own.folder c.take_entry.new.self) i t.entries c.args.name.now) (sym same)
+    (taken_as (listed c.in_ok-entries.entries) t.entries t.alike (g.N.Own.folder c.args.own.now) (g.N.Own.folder c.take_entry.new.self) c.args.dir.now c.args.name.now c.in_ok-take_entry.ensures.done))
