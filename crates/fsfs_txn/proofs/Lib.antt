@@ -1,3 +1,7 @@
+pub mod Counting
+pub mod Looking
 pub mod Meeting
 pub mod Viewing
 pub mod Saying
+pub mod Putting
+pub mod Landing

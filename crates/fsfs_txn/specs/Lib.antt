@@ -1,9 +1,15 @@
 pub mod Spending
 pub mod Standing
+pub mod Mergeinfo
+pub mod Seeing
 pub mod Making
 pub mod Deleting
+pub mod Sources
 pub mod Copying
-pub mod Properties
-pub mod Texts
 pub mod Getting
+pub mod GettingTexts
+pub mod Opening
+pub mod Texts
+pub mod Properties
+pub mod Merging
 pub mod Items

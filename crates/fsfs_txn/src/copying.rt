@@ -1,43 +1,59 @@
 //! Copies.
-ghost use Rattle.std.specs.Prelude.{◌≡◌, None};
+ghost use Rattle.std.specs.Prelude.{◌≡◌, ◌++◌, ◌∷◌, [], None};
 ghost use Rattle.fsfs_book.specs.Told.{Keeps};
 ghost use Rattle.fsfs_flat.specs.Edits.{parent};
-ghost use Rattle.fsfs_edit.specs.Copying.{MeetsCopy};
 ghost use Rattle.fsfs_own.specs.Causes as causes;
 ghost use Rattle.fsfs_txn.specs.Spending.{IsSpentAfter, IsCounted, StaysSpent, HasDiskCause, HasBenchCause};
-ghost use Rattle.fsfs_txn.specs.Copying.{is_copied, MeetsCopying};
+ghost use Rattle.fsfs_txn.specs.Copying.{outcome_of, is_copied, barred_by, CopiesIn, Copies, MeetsCopying};
 
+use crate::above::{Above, is_taken, look_above};
 use crate::paths::last_name;
+use crate::sources::{Source, is_plain, source_at};
 use crate::txn::Txn;
 use crate::txn_error::TxnError;
 use fsfs_base::FsPath;
 use fsfs_book::Book;
-use fsfs_edit::{Copied, copy_at};
+use fsfs_edit::copy_at;
+use fsfs_fields::RevNum;
 use fsfs_noderev::CopySource;
-use fsfs_own::{EditError, Own};
+use fsfs_own::{EditError, Own, Step};
 use std::alloc::Global;
 
-// Puts a copy at a path with this last name. What an earlier failure left unsettled is forgotten first.
-fn copy_named<B: Book, N: Own>(
-    alloc: Global,
-    book: &mut B,
-    own: &mut N,
-    path: &FsPath,
-    name: &str,
-    from: &CopySource,
-) -> Result<Copied, EditError>
-    ensures meets { MeetsCopy (B.told book.old).revs (B.told book.old).youngest (N.txn own.old) (N.settled own.old) (N.settled own.new) (parent path.now) name.now from.now result }
-    ensures name { N.txn own.new ≡ N.txn own.old }
-    ensures bench { causes.HasBenchCause (N.faults own.old) (N.faults own.new) result }
-    ensures kept { Keeps (B.told book.old) (B.told book.new) }
-    ensures cause { causes.HasDiskCause (B.faults book.old) (B.faults book.new) result }
+/// What became of a copy: it was put, or why it can't be.
+#[derive(Clone, Copy, Debug, PartialEq, Eq)]
+pub enum Copied {
+    Done,
+    /// So many names of the path above the target lead to nothing.
+    NotFound(usize),
+    /// So many names of the path above the target lead to a file.
+    NotDir(usize),
+    /// Something stands at the target.
+    Exists,
+    /// There is no such revision; this is the youngest.
+    NoRev(RevNum),
+    /// So many names of the source's path lead to nothing.
+    SourceNotFound(usize),
+    /// So many names of the source's path lead to a file.
+    SourceNotDir(usize),
+    /// A directory that would be changed has counts of mergeinfo, or the base's root or the source has.
+    Mergeinfo,
+    /// The directory has 1,048,576 entries, or more.
+    TooManyEntries,
+}
+
+fn from_copied(copied: fsfs_edit::Copied) -> Copied
+    ensures { result ≡ outcome_of copied }
 {
-    own.forget();
-    let parent = match path.prefix(alloc, path.depth().saturating_sub(1)) {
-        Ok(parent) => parent,
-        Err(_) => return Err(EditError::OutOfMemory),
-    };
-    copy_at(alloc, book, own, &parent, name, from)
+    match copied {
+        fsfs_edit::Copied::Done => Copied::Done,
+        fsfs_edit::Copied::NotFound(depth) => Copied::NotFound(depth),
+        fsfs_edit::Copied::NotDir(depth) => Copied::NotDir(depth),
+        fsfs_edit::Copied::Exists => Copied::Exists,
+        fsfs_edit::Copied::NoRev(youngest) => Copied::NoRev(youngest),
+        fsfs_edit::Copied::SourceNotFound(depth) => Copied::SourceNotFound(depth),
+        fsfs_edit::Copied::SourceNotDir(depth) => Copied::SourceNotDir(depth),
+        fsfs_edit::Copied::TooManyEntries => Copied::TooManyEntries,
+    }
 }
 
 fn was_copied(outcome: &Copied) -> bool
@@ -51,15 +67,86 @@ fn was_copied(outcome: &Copied) -> bool
         Copied::NoRev(_) => false,
         Copied::SourceNotFound(_) => false,
         Copied::SourceNotDir(_) => false,
+        Copied::Mergeinfo => false,
         Copied::TooManyEntries => false,
+    }
+}
+
+// Why what stands at the source can't be copied; where it can, counts of mergeinfo are in the way.
+fn barred_by(source: Source) -> Copied
+    ensures { result ≡ barred_by source }
+{
+    match source {
+        Source::NoRev(youngest) => Copied::NoRev(youngest),
+        Source::NotFound(depth) => Copied::SourceNotFound(depth),
+        Source::NotDir(depth) => Copied::SourceNotDir(depth),
+        Source::Node { .. } => Copied::Mergeinfo,
+    }
+}
+
+// Puts a copy under a name of a directory on whose way no counts of mergeinfo are met.
+fn copy_in<B: Book, N: Own>(
+    alloc: Global,
+    book: &mut B,
+    own: &mut N,
+    dir: &FsPath,
+    step: &Step,
+    name: &str,
+    from: &CopySource,
+) -> Result<Copied, EditError>
+    requires whole { N.folder own.old ≡ N.settled own.old }
+    ensures copies { CopiesIn (B.told book.old).revs (B.told book.old).youngest (N.txn own.old) (N.settled own.old) (N.settled own.new) dir.now name.now step.now from.now result }
+    ensures name { N.txn own.new ≡ N.txn own.old }
+    ensures bench { causes.HasBenchCause (N.faults own.old) (N.faults own.new) result }
+    ensures kept { Keeps (B.told book.old) (B.told book.new) }
+    ensures cause { causes.HasDiskCause (B.faults book.old) (B.faults book.new) result }
+{
+    let source = source_at(alloc, book, from)?;
+    if is_plain(&source) {
+        let copied = copy_at(alloc, book, own, dir, name, from)?;
+        return Ok(from_copied(copied));
+    }
+    if is_taken(alloc, book, &*own, step, name)? {
+        return Ok(Copied::Exists);
+    }
+    Ok(barred_by(source))
+}
+
+// Puts a copy at a path with this last name. What an earlier failure left unsettled is forgotten first.
+fn copy_named<B: Book, N: Own>(
+    alloc: Global,
+    book: &mut B,
+    own: &mut N,
+    path: &FsPath,
+    name: &str,
+    from: &CopySource,
+) -> Result<Copied, EditError>
+    requires last { path.now ≡ parent path.now ++ name.now ∷ [] }
+    ensures copies { Copies (B.told book.old).revs (B.told book.old).youngest (N.txn own.old) (N.settled own.old) (N.settled own.new) path.now from.now result }
+    ensures name { N.txn own.new ≡ N.txn own.old }
+    ensures bench { causes.HasBenchCause (N.faults own.old) (N.faults own.new) result }
+    ensures kept { Keeps (B.told book.old) (B.told book.new) }
+    ensures cause { causes.HasDiskCause (B.faults book.old) (B.faults book.new) result }
+{
+    match look_above(alloc, book, own, path, name)? {
+        Above::NotFound(depth) => Ok(Copied::NotFound(depth)),
+        Above::NotDir(depth) => Ok(Copied::NotDir(depth)),
+        Above::Counted { taken } => {
+            if taken {
+                return Ok(Copied::Exists);
+            }
+            let source = source_at(alloc, book, from)?;
+            Ok(barred_by(source))
+        }
+        Above::Dir { parent, step } => copy_in(alloc, book, own, &parent, &step, name, from),
     }
 }
 
 impl<N: Own> Txn<N> {
     /// Puts a copy of what stands at a path of a revision at another path; nothing below is copied. It is refused where the path
     /// above the target leads to no directory, where something stands there, where there is no such revision, where nothing stands
-    /// at the source, or where the directory is full, in this order. A refusal leaves the transaction as it was, and so does every
-    /// failure but the bench's, which spends it.
+    /// at the source, where counts of mergeinfo would have to change, or where the directory is full, in this order. A refusal leaves
+    /// the transaction as it was, and so does every failure but the bench's, which spends it.
     pub fn copy<B: Book>(
         &mut self,
         alloc: Global,

@@ -1,12 +1,12 @@
 //! Deletes.
-ghost use Rattle.std.specs.Prelude.{◌≡◌, None};
+ghost use Rattle.std.specs.Prelude.{◌≡◌, ◌++◌, ◌∷◌, [], None};
 ghost use Rattle.fsfs_book.specs.Told.{Keeps};
 ghost use Rattle.fsfs_flat.specs.Edits.{parent};
-ghost use Rattle.fsfs_edit.specs.Deleting.{MeetsDelete};
 ghost use Rattle.fsfs_own.specs.Causes as causes;
 ghost use Rattle.fsfs_txn.specs.Spending.{IsSpentAfter, IsCounted, StaysSpent, HasDiskCause, HasBenchCause};
-ghost use Rattle.fsfs_txn.specs.Deleting.{is_deleted, outcome_of, MeetsDeleting};
+ghost use Rattle.fsfs_txn.specs.Deleting.{is_deleted, outcome_of, Deletes, MeetsDeleting};
 
+use crate::above::{Above, look_above};
 use crate::paths::last_name;
 use crate::txn::Txn;
 use crate::txn_error::TxnError;
@@ -28,28 +28,8 @@ pub enum Deleted {
     Absent,
     /// It is the root, which stays.
     RootFixed,
-}
-
-// Takes away what stands at a path with this last name. What an earlier failure left unsettled is forgotten first.
-fn delete_named<B: Book, N: Own>(
-    alloc: Global,
-    book: &mut B,
-    own: &mut N,
-    path: &FsPath,
-    name: &str,
-) -> Result<Gone, EditError>
-    ensures meets { MeetsDelete (B.told book.old).revs (N.txn own.old) (N.settled own.old) (N.settled own.new) (parent path.now) name.now result }
-    ensures name { N.txn own.new ≡ N.txn own.old }
-    ensures bench { causes.HasBenchCause (N.faults own.old) (N.faults own.new) result }
-    ensures kept { Keeps (B.told book.old) (B.told book.new) }
-    ensures cause { causes.HasDiskCause (B.faults book.old) (B.faults book.new) result }
-{
-    own.forget();
-    let parent = match path.prefix(alloc, path.depth().saturating_sub(1)) {
-        Ok(parent) => parent,
-        Err(_) => return Err(EditError::OutOfMemory),
-    };
-    delete_at(alloc, book, own, &parent, name)
+    /// A directory that would be changed has counts of mergeinfo, or the base's root has.
+    Mergeinfo,
 }
 
 fn from_gone(gone: Gone) -> Deleted
@@ -72,13 +52,45 @@ fn was_deleted(outcome: &Deleted) -> bool
         Deleted::NotDir(_) => false,
         Deleted::Absent => false,
         Deleted::RootFixed => false,
+        Deleted::Mergeinfo => false,
+    }
+}
+
+// Takes away what stands at a path with this last name. What an earlier failure left unsettled is forgotten first.
+fn delete_named<B: Book, N: Own>(
+    alloc: Global,
+    book: &mut B,
+    own: &mut N,
+    path: &FsPath,
+    name: &str,
+) -> Result<Deleted, EditError>
+    requires last { path.now ≡ parent path.now ++ name.now ∷ [] }
+    ensures deletes { Deletes (B.told book.old).revs (N.txn own.old) (N.settled own.old) (N.settled own.new) path.now result }
+    ensures name { N.txn own.new ≡ N.txn own.old }
+    ensures bench { causes.HasBenchCause (N.faults own.old) (N.faults own.new) result }
+    ensures kept { Keeps (B.told book.old) (B.told book.new) }
+    ensures cause { causes.HasDiskCause (B.faults book.old) (B.faults book.new) result }
+{
+    match look_above(alloc, book, own, path, name)? {
+        Above::NotFound(depth) => Ok(Deleted::NotFound(depth)),
+        Above::NotDir(depth) => Ok(Deleted::NotDir(depth)),
+        Above::Counted { taken } => {
+            if taken {
+                return Ok(Deleted::Mergeinfo);
+            }
+            Ok(Deleted::Absent)
+        }
+        Above::Dir { parent, .. } => {
+            let gone = delete_at(alloc, book, own, &parent, name)?;
+            Ok(from_gone(gone))
+        }
     }
 }
 
 impl<N: Own> Txn<N> {
     /// Takes away what stands at a path, and all below it. It is refused where the path above leads to no directory, where nothing
-    /// stands there, or where it is the root. A refusal leaves the transaction as it was, and so does every failure but the
-    /// bench's, which spends it.
+    /// stands there, where it is the root, or where counts of mergeinfo would have to change, in this order. A refusal leaves the
+    /// transaction as it was, and so does every failure but the bench's, which spends it.
     pub fn delete<B: Book>(
         &mut self,
         alloc: Global,
@@ -103,8 +115,7 @@ impl<N: Own> Txn<N> {
             return Ok(Deleted::RootFixed);
         };
         match delete_named(alloc, book, &mut self.own, path, name) {
-            Ok(gone) => {
-                let outcome = from_gone(gone);
+            Ok(outcome) => {
                 self.count(moves, was_deleted(&outcome));
                 Ok(outcome)
             }

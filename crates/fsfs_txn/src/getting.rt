@@ -6,13 +6,15 @@ ghost use Rattle.fsfs_drafts.specs.Drafts.{Folder};
 ghost use Rattle.fsfs_own.specs.Causes as causes;
 ghost use Rattle.fsfs_txn.specs.Spending.{IsSpentAfter, StaysSpent, HasDiskCause, HasBenchCause};
 ghost use Rattle.fsfs_txn.specs.Getting.{ReadsProps, Gets, MeetsGetting};
+ghost use Rattle.fsfs_txn.specs.GettingTexts.{GetsText, MeetsGettingText};
 
+use crate::node_texts::text_of;
 use crate::txn::Txn;
 use crate::txn_error::TxnError;
 use fsfs_base::{FsPath, Kind, Pairs};
 use fsfs_book::Book;
 use fsfs_dag::{PlacedNode, props};
-use fsfs_noderev::NodeId;
+use fsfs_noderev::{NodeId, Rep};
 use fsfs_own::{EditError, Found, Own, Step, met, properties_in, root_id};
 use std::alloc::Global;
 
@@ -21,6 +23,8 @@ use std::alloc::Global;
 pub struct NodeView {
     pub kind: Kind,
     pub props: Pairs,
+    /// The representation of its text; none: it has no byte.
+    pub text: Option<Rep>,
 }
 
 /// What stands at a path, or why nothing does.
@@ -97,6 +101,7 @@ fn got_at<B: Book, N: Own>(
     path: &FsPath,
 ) -> Result<Got, EditError>
     ensures gets { Gets (B.told book.old).revs (N.txn own.now) (N.folder own.now) path.now result }
+    ensures text { GetsText (B.told book.old).revs (N.txn own.now) (N.folder own.now) path.now result }
     ensures kept { Keeps (B.told book.old) (B.told book.new) }
     ensures cause { causes.HasDiskCause (B.faults book.old) (B.faults book.new) result }
     ensures bench { causes.HasBenchCause (N.faults own.now) (N.faults own.now) result }
@@ -107,9 +112,11 @@ fn got_at<B: Book, N: Own>(
         Found::File(depth) => Ok(Got::NotDir(depth)),
         Found::Node(child) => {
             let props = props_of(alloc, book, own, &child.step)?;
+            let text = text_of(own, &child.step)?;
             Ok(Got::Node(NodeView {
                 kind: child.kind,
                 props,
+                text,
             }))
         }
     }
@@ -123,6 +130,7 @@ fn got_settled<B: Book, N: Own>(
     path: &FsPath,
 ) -> Result<Got, EditError>
     ensures gets { Gets (B.told book.old).revs (N.txn own.old) (N.settled own.old) path.now result }
+    ensures text { GetsText (B.told book.old).revs (N.txn own.old) (N.settled own.old) path.now result }
     ensures settled { N.settled own.new ≡ N.settled own.old }
     ensures name { N.txn own.new ≡ N.txn own.old }
     ensures bench { causes.HasBenchCause (N.faults own.old) (N.faults own.new) result }
@@ -134,8 +142,8 @@ fn got_settled<B: Book, N: Own>(
 }
 
 impl<N: Own> Txn<N> {
-    /// What stands at a path of the transaction's tree, with its properties, or that the path leads to nothing. Nothing is changed;
-    /// a failure of the bench spends the transaction.
+    /// What stands at a path of the transaction's tree, with its properties and its text, or that the path leads to nothing. Nothing is
+    /// changed; a failure of the bench spends the transaction.
     pub fn get<B: Book>(
         &mut self,
         alloc: Global,
@@ -143,6 +151,7 @@ impl<N: Own> Txn<N> {
         path: &FsPath,
     ) -> Result<Got, TxnError>
         ensures meets { self.old.spent ≡ None → MeetsGetting (B.told book.old).revs self.old.base (N.txn self.old.own) (N.settled self.old.own) path.now result }
+        ensures text { self.old.spent ≡ None → MeetsGettingText (B.told book.old).revs self.old.base (N.txn self.old.own) (N.settled self.old.own) path.now result }
         ensures settled { N.settled self.new.own ≡ N.settled self.old.own }
         ensures stays { StaysSpent self.old.spent result (self.new ≡ self.old) }
         ensures spent { IsSpentAfter self.old.spent self.new.spent result }

@@ -1,42 +1,48 @@
 //! New directories and files.
-ghost use Rattle.std.specs.Prelude.{◌≡◌, None};
+ghost use Rattle.std.specs.Prelude.{◌≡◌, ◌++◌, ◌∷◌, [], None};
+ghost use Rattle.fsfs_base.specs.declared.kind.Kind.TheVariants as kinds;
 ghost use Rattle.fsfs_book.specs.Told.{Keeps};
 ghost use Rattle.fsfs_flat.specs.Edits.{parent};
-ghost use Rattle.fsfs_edit.specs.Making.{MeetsMake};
 ghost use Rattle.fsfs_own.specs.Causes as causes;
 ghost use Rattle.fsfs_txn.specs.Spending.{IsSpentAfter, IsCounted, StaysSpent, HasDiskCause, HasBenchCause};
-ghost use Rattle.fsfs_txn.specs.Making.{is_made, MeetsMaking};
+ghost use Rattle.fsfs_txn.specs.Making.{outcome_of, is_made, Makes, MeetsMaking};
 
+use crate::above::{Above, look_above};
 use crate::paths::last_name;
 use crate::txn::Txn;
 use crate::txn_error::TxnError;
 use fsfs_base::{FsPath, Kind};
 use fsfs_book::Book;
-use fsfs_edit::{Made, make_at};
+use fsfs_edit::make_at;
 use fsfs_own::{EditError, Own};
 use std::alloc::Global;
 
-// Makes an empty node at a path with this last name. What an earlier failure left unsettled is forgotten first.
-fn make_named<B: Book, N: Own>(
-    alloc: Global,
-    book: &mut B,
-    own: &mut N,
-    path: &FsPath,
-    name: &str,
-    kind: Kind,
-) -> Result<Made, EditError>
-    ensures meets { MeetsMake (B.told book.old).revs (N.txn own.old) (N.settled own.old) (N.settled own.new) (parent path.now) name.now kind result }
-    ensures name { N.txn own.new ≡ N.txn own.old }
-    ensures bench { causes.HasBenchCause (N.faults own.old) (N.faults own.new) result }
-    ensures kept { Keeps (B.told book.old) (B.told book.new) }
-    ensures cause { causes.HasDiskCause (B.faults book.old) (B.faults book.new) result }
+/// What became of a new node: it was made, or why it can't be.
+#[derive(Clone, Copy, Debug, PartialEq, Eq)]
+pub enum Made {
+    Done,
+    /// So many names of the path above lead to nothing.
+    NotFound(usize),
+    /// So many names of the path above lead to a file.
+    NotDir(usize),
+    /// Something stands there.
+    Exists,
+    /// A directory that would be changed has counts of mergeinfo, or the base's root has.
+    Mergeinfo,
+    /// The directory has 1,048,576 entries, or more.
+    TooManyEntries,
+}
+
+fn from_made(made: fsfs_edit::Made) -> Made
+    ensures { result ≡ outcome_of made }
 {
-    own.forget();
-    let parent = match path.prefix(alloc, path.depth().saturating_sub(1)) {
-        Ok(parent) => parent,
-        Err(_) => return Err(EditError::OutOfMemory),
-    };
-    make_at(alloc, book, own, &parent, name, kind)
+    match made {
+        fsfs_edit::Made::Done => Made::Done,
+        fsfs_edit::Made::NotFound(depth) => Made::NotFound(depth),
+        fsfs_edit::Made::NotDir(depth) => Made::NotDir(depth),
+        fsfs_edit::Made::Exists => Made::Exists,
+        fsfs_edit::Made::TooManyEntries => Made::TooManyEntries,
+    }
 }
 
 fn was_made(outcome: &Made) -> bool
@@ -47,15 +53,46 @@ fn was_made(outcome: &Made) -> bool
         Made::NotFound(_) => false,
         Made::NotDir(_) => false,
         Made::Exists => false,
+        Made::Mergeinfo => false,
         Made::TooManyEntries => false,
     }
 }
 
+// Makes an empty node at a path with this last name. What an earlier failure left unsettled is forgotten first.
+fn make_named<B: Book, N: Own>(
+    alloc: Global,
+    book: &mut B,
+    own: &mut N,
+    path: &FsPath,
+    name: &str,
+    kind: Kind,
+) -> Result<Made, EditError>
+    requires last { path.now ≡ parent path.now ++ name.now ∷ [] }
+    ensures makes { Makes (B.told book.old).revs (N.txn own.old) (N.settled own.old) (N.settled own.new) path.now kind result }
+    ensures name { N.txn own.new ≡ N.txn own.old }
+    ensures bench { causes.HasBenchCause (N.faults own.old) (N.faults own.new) result }
+    ensures kept { Keeps (B.told book.old) (B.told book.new) }
+    ensures cause { causes.HasDiskCause (B.faults book.old) (B.faults book.new) result }
+{
+    match look_above(alloc, book, own, path, name)? {
+        Above::NotFound(depth) => Ok(Made::NotFound(depth)),
+        Above::NotDir(depth) => Ok(Made::NotDir(depth)),
+        Above::Counted { taken } => {
+            if taken {
+                return Ok(Made::Exists);
+            }
+            Ok(Made::Mergeinfo)
+        }
+        Above::Dir { parent, .. } => {
+            let made = make_at(alloc, book, own, &parent, name, kind)?;
+            Ok(from_made(made))
+        }
+    }
+}
+
 impl<N: Own> Txn<N> {
-    /// Makes an empty node of a kind at a path. It is refused where the path above leads to no directory, where something stands
-    /// there, or where the directory is full, in this order. A refusal leaves the transaction as it was, and so does every failure
-    /// but the bench's, which spends it.
-    pub fn make<B: Book>(
+    // Makes an empty node of a kind.
+    fn make<B: Book>(
         &mut self,
         alloc: Global,
         book: &mut B,
@@ -86,5 +123,47 @@ impl<N: Own> Txn<N> {
             }
             Err(error) => Err(self.failed(error)),
         }
+    }
+
+    /// Makes an empty directory at a path. It is refused where the path above leads to no directory, where something stands there,
+    /// where counts of mergeinfo would have to change, or where the directory above is full, in this order. A refusal leaves the
+    /// transaction as it was, and so does every failure but the bench's, which spends it.
+    pub fn mkdir<B: Book>(
+        &mut self,
+        alloc: Global,
+        book: &mut B,
+        path: &FsPath,
+    ) -> Result<Made, TxnError>
+        ensures meets { self.old.spent ≡ None → MeetsMaking (B.told book.old).revs self.old.base (N.txn self.old.own) (N.settled self.old.own) (N.settled self.new.own) path.now kinds.Dir result }
+        ensures stays { StaysSpent self.old.spent result (self.new ≡ self.old) }
+        ensures spent { IsSpentAfter self.old.spent self.new.spent result }
+        ensures moves { IsCounted is_made self.old.moves self.new.moves result }
+        ensures base { self.new.base ≡ self.old.base }
+        ensures name { N.txn self.new.own ≡ N.txn self.old.own }
+        ensures bench { HasBenchCause (N.faults self.old.own) (N.faults self.new.own) result }
+        ensures kept { Keeps (B.told book.old) (B.told book.new) }
+        ensures cause { HasDiskCause (B.faults book.old) (B.faults book.new) result }
+    {
+        self.make(alloc, book, path, Kind::Dir)
+    }
+
+    /// Makes an empty file at a path, with the refusals of `mkdir`.
+    pub fn mkfile<B: Book>(
+        &mut self,
+        alloc: Global,
+        book: &mut B,
+        path: &FsPath,
+    ) -> Result<Made, TxnError>
+        ensures meets { self.old.spent ≡ None → MeetsMaking (B.told book.old).revs self.old.base (N.txn self.old.own) (N.settled self.old.own) (N.settled self.new.own) path.now kinds.File result }
+        ensures stays { StaysSpent self.old.spent result (self.new ≡ self.old) }
+        ensures spent { IsSpentAfter self.old.spent self.new.spent result }
+        ensures moves { IsCounted is_made self.old.moves self.new.moves result }
+        ensures base { self.new.base ≡ self.old.base }
+        ensures name { N.txn self.new.own ≡ N.txn self.old.own }
+        ensures bench { HasBenchCause (N.faults self.old.own) (N.faults self.new.own) result }
+        ensures kept { Keeps (B.told book.old) (B.told book.new) }
+        ensures cause { HasDiskCause (B.faults book.old) (B.faults book.new) result }
+    {
+        self.make(alloc, book, path, Kind::File)
     }
 }

@@ -1,66 +1,98 @@
-//! Properties.
+//! Properties set or removed at what was opened.
 ghost use Rattle.std.specs.Prelude.{◌≡◌, None};
-ghost use Rattle.fsfs_book.specs.Told.{Keeps};
-ghost use Rattle.fsfs_edit.specs.Properties.{MeetsProperty};
 ghost use Rattle.fsfs_own.specs.Causes as causes;
-ghost use Rattle.fsfs_txn.specs.Spending.{IsSpentAfter, StaysSpent, HasDiskCause, HasBenchCause};
-ghost use Rattle.fsfs_txn.specs.Properties.{MeetsSettingProp};
+ghost use Rattle.fsfs_opened.specs.Properties.{MeetsPutProp};
+ghost use Rattle.fsfs_txn.specs.Spending.{IsSpentAfter, StaysSpent, HasBenchCause};
+ghost use Rattle.fsfs_txn.specs.Properties.{is_mergeinfo, outcome_of, MeetsSettingProp, IsStaleProp};
 
+use crate::opening::Opened;
 use crate::txn::Txn;
 use crate::txn_error::TxnError;
-use fsfs_base::FsPath;
-use fsfs_book::Book;
-use fsfs_edit::{PropertySet, set_property_at};
 use fsfs_fields::PropName;
+use fsfs_opened::{PropertyPut, Way, put_property};
 use fsfs_own::{EditError, Own};
 use std::alloc::Global;
 
-// Sets or removes a property at a path. What an earlier failure left unsettled is forgotten first.
-fn set_settled<B: Book, N: Own>(
+/// What became of a property: it was set or removed, or why it can't be.
+#[derive(Clone, Copy, Debug, PartialEq, Eq)]
+pub enum PropertySet {
+    Done,
+    /// A node was made, copied or taken away since it was opened, or the transaction landed on a later revision: so many such moves
+    /// there were then, and so many there are now.
+    Stale { opened: u64, now: u64 },
+    /// What would be changed has counts of mergeinfo, or the base's root has, or the property is `svn:mergeinfo`.
+    Mergeinfo,
+    /// The value has more than 1,048,576 bytes.
+    TooLong,
+}
+
+fn from_put(put: PropertyPut) -> PropertySet
+    ensures { result ≡ outcome_of put }
+{
+    match put {
+        PropertyPut::Done => PropertySet::Done,
+        PropertyPut::TooLong => PropertySet::TooLong,
+    }
+}
+
+fn is_mergeinfo(name: &PropName) -> bool
+    ensures { result ≡ is_mergeinfo name.now }
+{
+    name.as_str() == "svn:mergeinfo"
+}
+
+// Sets or removes the property. What an earlier failure left unsettled is forgotten first.
+fn set_settled<N: Own>(
     alloc: Global,
-    book: &mut B,
     own: &mut N,
-    path: &FsPath,
+    way: &Way,
     name: &PropName,
     value: Option<Vec<u8>>,
-) -> Result<PropertySet, EditError>
-    ensures meets { MeetsProperty (B.told book.old).revs (N.txn own.old) (N.settled own.old) (N.settled own.new) path.now name.now value result }
+) -> Result<PropertyPut, EditError>
+    ensures meets { MeetsPutProp (N.txn own.old) (N.settled own.old) (N.settled own.new) way.now name.now value result }
     ensures name { N.txn own.new ≡ N.txn own.old }
     ensures bench { causes.HasBenchCause (N.faults own.old) (N.faults own.new) result }
-    ensures kept { Keeps (B.told book.old) (B.told book.new) }
-    ensures cause { causes.HasDiskCause (B.faults book.old) (B.faults book.new) result }
 {
     own.forget();
-    set_property_at(alloc, book, own, path, name, value)
+    put_property(alloc, own, way, name, value)
 }
 
 impl<N: Own> Txn<N> {
-    /// Gives what stands at a path a property, or takes it away where there is no value; one that is absent is taken away too. It
-    /// is refused where the path leads to nothing, or where the value has more than 1,048,576 bytes, in this order. A refusal
-    /// leaves the transaction as it was, and so does every failure but the bench's, which spends it.
-    pub fn set_prop<B: Book>(
+    /// Gives what was opened a property, or takes it away where there is no value; one that is absent is taken away too. No book is
+    /// read. It is refused where the opening is stale, where counts of mergeinfo would have to change, or where the value has more than
+    /// 1,048,576 bytes, in this order. A refusal leaves the transaction as it was, and so does every failure but the bench's, which
+    /// spends it.
+    pub fn set_prop(
         &mut self,
         alloc: Global,
-        book: &mut B,
-        path: &FsPath,
+        opened: &Opened,
         name: &PropName,
         value: Option<Vec<u8>>,
     ) -> Result<PropertySet, TxnError>
-        ensures meets { self.old.spent ≡ None → MeetsSettingProp (B.told book.old).revs self.old.base (N.txn self.old.own) (N.settled self.old.own) (N.settled self.new.own) path.now name.now value result }
+        // The transaction is the one that the node was opened in, whose history this is.
+        ensures meets { self.old.spent ≡ None → MeetsSettingProp self.old.base self.old.moves (N.txn self.old.own) (N.settled self.old.own) (N.settled self.new.own) opened.now name.now value result }
+        ensures stale { self.old.spent ≡ None → IsStaleProp opened.now.moves self.old.moves result }
         ensures stays { StaysSpent self.old.spent result (self.new ≡ self.old) }
         ensures spent { IsSpentAfter self.old.spent self.new.spent result }
         ensures moves { self.new.moves ≡ self.old.moves }
         ensures base { self.new.base ≡ self.old.base }
         ensures name { N.txn self.new.own ≡ N.txn self.old.own }
         ensures bench { HasBenchCause (N.faults self.old.own) (N.faults self.new.own) result }
-        ensures kept { Keeps (B.told book.old) (B.told book.new) }
-        ensures cause { HasDiskCause (B.faults book.old) (B.faults book.new) result }
     {
         if let Some(first) = self.spent {
             return Err(TxnError::Spent { first });
         }
-        match set_settled(alloc, book, &mut self.own, path, name, value) {
-            Ok(outcome) => Ok(outcome),
+        if opened.moves != self.moves {
+            return Ok(PropertySet::Stale {
+                opened: opened.moves,
+                now: self.moves,
+            });
+        }
+        if opened.counted || is_mergeinfo(name) {
+            return Ok(PropertySet::Mergeinfo);
+        }
+        match set_settled(alloc, &mut self.own, &opened.way, name, value) {
+            Ok(put) => Ok(from_put(put)),
             Err(error) => Err(self.failed(error)),
         }
     }

@@ -8,12 +8,13 @@ use fsfs_base::Failed;
 use fsfs_fields::{RevNum, TxnName};
 use fsfs_own::{EditError, Own};
 
-/// A transaction: edits on a revision, its base, kept by its own node-revisions.
+/// A transaction: edits on a revision, its base, kept by its own node-revisions. It stands for its base, its tree and its marks.
 #[derive(Drop)]
 pub struct Txn<N> {
     pub(crate) own: N,
     pub(crate) base: RevNum,
-    /// How many nodes were made, copied or taken away. The count stops a call before it comes to its end.
+    /// How many nodes were made, copied or taken away, and how often it landed on a later revision. The count stops a call before
+    /// it comes to its end.
     pub(crate) moves: u64,
     /// The first failure of its bench.
     pub(crate) spent: Option<Failed>,

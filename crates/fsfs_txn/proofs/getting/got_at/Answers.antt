@@ -1,4 +1,4 @@
-use Rattle.std.proofs.Common.{Ok, Err, subst}
+use Rattle.std.proofs.Common.{Ok, Err, sym, subst}
 use Rattle.std.proofs.lemmas.Result.{err_from_is_err_and}
 use Rattle.fsfs_fields.specs.declared.txn_name.TxnName.{TxnName}
 use Rattle.fsfs_book.specs.Told.{Knows}
@@ -7,7 +7,8 @@ use Rattle.fsfs_own.specs.Walks.{IsRootId, IsFound}
 use Rattle.fsfs_own.specs.declared.walk.Found.{Found}
 use Rattle.fsfs_own.specs.declared.walk.Found.TheVariants as founds
 use Rattle.fsfs_edit.proofs.Reaching.{found_by_tree}
-use Rattle.fsfs_txn.proofs.Viewing.{walked, seen}
+use Rattle.fsfs_drafts.specs.Own.{draft_tree}
+use Rattle.fsfs_txn.proofs.Viewing.{walked, seen, bare_text}
 use Rattle.fsfs_txn.proofs.getting.got_at.Goals as goal
 
 pub returns-in_err-depth-clause-gets : goal.returns-in_err-depth-clause-gets
@@ -48,18 +49,40 @@ returns-in_err-props-in-Node-clause-gets g c = λ look trees top base tree marks
     let r = err_from_is_err_and c.from_residual-in_err-props-in-Node.result c.from_residual-in_err-props-in-Node.ensures.1 in
     rw (r.1, r.2) (c.in_err-props-in-Node.ensures.told look trees top base d.0.shows.own path later shown le d.0.shows.is_draft d.0.files found.0)
 
-pub returns-in_ok-props-in-Node-clause-gets : goal.returns-in_ok-props-in-Node-clause-gets
-returns-in_ok-props-in-Node-clause-gets g c = λ look trees top base tree marks knows shown le is_tree d.
+pub returns-in_err-text-in-Node-clause-gets : goal.returns-in_err-text-in-Node-clause-gets
+returns-in_err-text-in-Node-clause-gets g c = λ look trees top base tree marks knows shown le is_tree d.
+    let txn = g.N.Own.txn c.args.own.now in
+    let f = g.N.Own.folder c.args.own.now in
+    let path = c.args.path.now in
+    let id : IsRootId txn c.root_id-root.result = subst (λ (t : TxnName). IsRootId t c.root_id-root.result) c.name.ensures c.root_id-root.ensures in
+    let found : IsFound look trees base d.0.shows.own path (Ok (founds.Node c.in-Node.child)) = subst (λ (x : Found). IsFound look trees base d.0.shows.own path (Ok x)) c.in-Node.is (walked look trees top base shown le txn f tree marks is_tree d path c.root_id-root.result (Ok c.in_ok-depth.field-0) id (λ nodes v draft here same dir. c.in_ok-depth.ensures.draft look trees top base nodes v knows shown le draft here same dir)) in
+    let r = err_from_is_err_and c.from_residual-in_err-text-in-Node.result c.from_residual-in_err-text-in-Node.ensures.1 in
+    rw (r.1, r.2) (c.in_err-text-in-Node.ensures.told look trees top base d.0.shows.own path shown le d.0.shows.is_draft found.0)
+
+pub returns-in_ok-text-in-Node-clause-gets : goal.returns-in_ok-text-in-Node-clause-gets
+returns-in_ok-text-in-Node-clause-gets g c = λ look trees top base tree marks knows shown le is_tree d.
     let txn = g.N.Own.txn c.args.own.now in
     let f = g.N.Own.folder c.args.own.now in
     let path = c.args.path.now in
     let id : IsRootId txn c.root_id-root.result = subst (λ (t : TxnName). IsRootId t c.root_id-root.result) c.name.ensures c.root_id-root.ensures in
     let found : IsFound look trees base d.0.shows.own path (Ok (founds.Node c.in-Node.child)) = subst (λ (x : Found). IsFound look trees base d.0.shows.own path (Ok x)) c.in-Node.is (walked look trees top base shown le txn f tree marks is_tree d path c.root_id-root.result (Ok c.in_ok-depth.field-0) id (λ nodes v draft here same dir. c.in_ok-depth.ensures.draft look trees top base nodes v knows shown le draft here same dir)) in
     let later : Knows (g.B.Book.told c.met.new.book).revs top look = λ n h. c.in_ok-depth.ensures.kept.revs n (look n) (knows n h) in
-    seen look trees top base shown le txn f tree marks is_tree d path c.in-Node.child c.in_ok-props-in-Node.props found (c.in_ok-props-in-Node.ensures.told look trees top base d.0.shows.own path later shown le d.0.shows.is_draft d.0.files found.0)
+    seen look trees top base shown le txn f tree marks is_tree d path c.in-Node.child c.in_ok-props-in-Node.props c.in_ok-text-in-Node.text found (c.in_ok-props-in-Node.ensures.told look trees top base d.0.shows.own path later shown le d.0.shows.is_draft d.0.files found.0)
+
+pub returns-in_ok-text-in-Node-clause-text : goal.returns-in_ok-text-in-Node-clause-text
+returns-in_ok-text-in-Node-clause-text g c = λ look trees top base tree marks knows shown le is_tree d.
+    let txn = g.N.Own.txn c.args.own.now in
+    let f = g.N.Own.folder c.args.own.now in
+    let path = c.args.path.now in
+    let id : IsRootId txn c.root_id-root.result = subst (λ (t : TxnName). IsRootId t c.root_id-root.result) c.name.ensures c.root_id-root.ensures in
+    let found : IsFound look trees base d.0.shows.own path (Ok (founds.Node c.in-Node.child)) = subst (λ (x : Found). IsFound look trees base d.0.shows.own path (Ok x)) c.in-Node.is (walked look trees top base shown le txn f tree marks is_tree d path c.root_id-root.result (Ok c.in_ok-depth.field-0) id (λ nodes v draft here same dir. c.in_ok-depth.ensures.draft look trees top base nodes v knows shown le draft here same dir)) in
+    bare_text look f.proto (draft_tree trees d.0.shows.own (trees base) path) (tree path) c.in_ok-text-in-Node.text (sym (d.0.shows.each path)) (c.in_ok-text-in-Node.ensures.told look trees top base d.0.shows.own path shown le d.0.shows.is_draft found.0)
 
 pub returns-in_err-props-in-Node-clause-kept : goal.returns-in_err-props-in-Node-clause-kept
 returns-in_err-props-in-Node-clause-kept g c = keeps_trans _ _ _ c.in_ok-depth.ensures.kept c.in_err-props-in-Node.ensures.kept
 
-pub returns-in_ok-props-in-Node-clause-kept : goal.returns-in_ok-props-in-Node-clause-kept
-returns-in_ok-props-in-Node-clause-kept g c = keeps_trans _ _ _ c.in_ok-depth.ensures.kept c.in_ok-props-in-Node.ensures.kept
+pub returns-in_err-text-in-Node-clause-kept : goal.returns-in_err-text-in-Node-clause-kept
+returns-in_err-text-in-Node-clause-kept g c = keeps_trans _ _ _ c.in_ok-depth.ensures.kept c.in_ok-props-in-Node.ensures.kept
+
+pub returns-in_ok-text-in-Node-clause-kept : goal.returns-in_ok-text-in-Node-clause-kept
+returns-in_ok-text-in-Node-clause-kept g c = keeps_trans _ _ _ c.in_ok-depth.ensures.kept c.in_ok-props-in-Node.ensures.kept

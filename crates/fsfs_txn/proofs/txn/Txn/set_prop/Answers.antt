@@ -1,18 +1,26 @@
-use Rattle.std.proofs.Common.{◌≡◌, sym, subst}
+use Rattle.std.proofs.Common.{◌≡◌, sym, subst, ◌∙◌}
+use Rattle.std.specs.Prelude.{Ok}
 use Rattle.fsfs_drafts.specs.Drafts.{Folder}
+use Rattle.fsfs_txn.specs.declared.properties.PropertySet.{PropertySet}
 use Rattle.fsfs_txn.specs.declared.txn_error.TxnError.{TxnError}
-use Rattle.fsfs_txn.specs.Spending.{IfStays}
-use Rattle.fsfs_txn.proofs.Meeting.{is_tree, prop_set}
+use Rattle.fsfs_txn.specs.Texts.{IfLeft}
+use Rattle.fsfs_txn.specs.Properties.{is_mergeinfo, IsSettingProp}
+use Rattle.fsfs_txn.proofs.Meeting.{is_tree}
+use Rattle.fsfs_txn.proofs.Putting.{neither, prop_put}
 use Rattle.fsfs_txn.proofs.txn.Txn.set_prop.Goals as goal
 
 pub returns-in-Ok-clause-meets : goal.returns-in-Ok-clause-meets
-returns-in-Ok-clause-meets g c = λ unspent look trees top tree marks knows shown revs le stands.
-    prop_set look trees top c.args.self.now.base (g.N.Own.txn c.args.self.now.own) (g.N.Own.settled c.args.self.now.own) tree marks revs stands c.args.path.now (g.N.Own.settled c.set_settled.new.own) c.args.name.now c.args.value c.in-Ok.outcome
-    (c.in-Ok.ensures.meets look trees top c.args.self.now.base tree marks knows shown le (is_tree look trees top c.args.self.now.base (g.N.Own.txn c.args.self.now.own) (g.N.Own.settled c.args.self.now.own) tree marks revs stands) stands.shows)
+returns-in-Ok-clause-meets g c = λ unspent look trees top tree marks known shown revs le stands.
+    let s = c.args.self.now in
+    let after = g.N.Own.settled c.set_settled.new.own in
+    subst (λ (o : PropertySet). IsSettingProp look trees top s.base (g.N.Own.txn s.own) tree marks s.moves c.args.opened.now c.args.name.now c.args.value (g.N.Own.settled s.own) after (Ok o)) (sym c.from_put.ensures)
+    (prop_put look trees top s.base (g.N.Own.txn s.own) (g.N.Own.settled s.own) tree marks revs stands s.moves c.args.opened.now c.args.name.now c.args.value after c.in-Ok.put (neither c.args.opened.now.counted (is_mergeinfo c.args.name.now) c.if-opened.false (sym c.is_mergeinfo.ensures ∙ c.if-is_mergeinfo.false))
+    (c.in-Ok.ensures.meets look trees top s.base tree marks known shown le (is_tree look trees top s.base (g.N.Own.txn s.own) (g.N.Own.settled s.own) tree marks revs stands) stands.shows))
 
 pub returns-in-Err-clause-meets : goal.returns-in-Err-clause-meets
-returns-in-Err-clause-meets g c = λ unspent look trees top tree marks knows shown revs le stands.
+returns-in-Err-clause-meets g c = λ unspent look trees top tree marks known shown revs le stands.
+    let s = c.args.self.now in
     let kept : g.N.Own.settled c.failed.new.self.own ≡ g.N.Own.settled c.set_settled.new.own = λ i. g.N.Own.settled (c.failed.ensures.spent i).own in
-    subst (λ (f : Folder). IfStays c.failed.result (f ≡ g.N.Own.settled c.args.self.now.own)) (sym kept)
-    (subst (λ (e : TxnError). IfStays e (g.N.Own.settled c.set_settled.new.own ≡ g.N.Own.settled c.args.self.now.own)) (sym c.failed.ensures.error)
-    (c.in-Err.ensures.meets look trees top c.args.self.now.base tree marks knows shown le (is_tree look trees top c.args.self.now.base (g.N.Own.txn c.args.self.now.own) (g.N.Own.settled c.args.self.now.own) tree marks revs stands) stands.shows))
+    subst (λ (f : Folder). IfLeft c.failed.result (f ≡ g.N.Own.settled s.own)) (sym kept)
+    (subst (λ (e : TxnError). IfLeft e (g.N.Own.settled c.set_settled.new.own ≡ g.N.Own.settled s.own)) (sym c.failed.ensures.error)
+    (c.in-Err.ensures.meets look trees top s.base tree marks known shown le (is_tree look trees top s.base (g.N.Own.txn s.own) (g.N.Own.settled s.own) tree marks revs stands) stands.shows))
