@@ -1,1 +1,11 @@
+pub mod Bare
+pub mod Totals
+pub mod Holding
+pub mod Held
+pub mod OnlyPut
+pub mod ItemLemmas
+pub mod PutRooms
+pub mod ItemRooms
+pub mod Telling
+pub mod TextLaw
 pub mod FinalBytesLaw

@@ -1,1 +1,4 @@
 pub mod FinalBytes
+pub mod Items
+pub mod Rooms
+pub mod Texts

@@ -1,5 +1,5 @@
 -- Entries put to a list one after another, the first of each name.
-use Rattle.std.proofs.Common.{◌≡◌, ◌∙◌, ◌+◌, ◌<◌, ℕ, length, take, get_or, Bool, true, false, cond, List, [], ◌∷◌, ◌++◌, Option, Some, None, refl, sym, ap, subst, Ordering, Less, Equal, Greater}
+use Rattle.std.proofs.Common.{◌≡◌, ◌∙◌, ◌+◌, ◌<◌, ◌≤◌, arith, ℕ, length, take, get_or, Bool, true, false, cond, List, [], ◌∷◌, ◌++◌, Option, Some, None, refl, sym, ap, subst, Ordering, Less, Equal, Greater}
 use Rattle.std.specs.Prelude.{is_some, if◌then◌else◌}
 use Rattle.std.specs.List.{AllByRecursion}
 use Rattle.std.specs.Ordering.{nat_cmp, is_eq, match_ordering}
@@ -9,6 +9,7 @@ use Rattle.std.specs.BTreeMap.{insert_entry, is_at}
 use Rattle.std.specs.Map.{lookup}
 use Rattle.std.specs.FinMap.{slice_cmp-IsAntisymmetric, nat_cmp-IsAntisymmetric}
 use Rattle.std.proofs.lemmas.List.{take_more, map_push}
+use Rattle.std.proofs.lemmas.List.Sums.{sum_by-append, sum_by-cons}
 use Rattle.fsfs_base.specs.Paths.{PathName, same_name}
 use Rattle.fsfs_base.proofs.PathLemmas.{same_name-refl, same_name-is}
 use Rattle.fsfs_damage.specs.declared.damage.RevOffset.{RevOffset}
@@ -16,7 +17,12 @@ use Rattle.fsfs_revision.specs.Nodes.{is_revision_id}
 use Rattle.fsfs_shows.specs.Reading.{Pairs, DirEntry, IsEntryValue, AreEntries, named}
 use Rattle.fsfs_dag.specs.declared.directory.DirEntry.{DirEntry as Listed}
 use Rattle.fsfs_dag.specs.Views.{entry_value, entry_values}
-use Rattle.fsfs_laying.specs.Entries.{IsFirstIn, ArePairs, HasFirsts, MayStand, ListsEntries}
+use Rattle.fsfs_laying.specs.Entries.{IsFirstIn, ArePairs, pair_room, pairs_room, entry_room, entries_room, HasFirsts, MayStand, ListsEntries}
+
+-- ---- bytes
+
+pub more_room : (es : List DirEntry) (e : DirEntry) → entries_room (es ++ e ∷ []) ≡ entries_room es + entry_room e
+more_room es e = sum_by-append entry_room es (e ∷ []) ∙ omega arith
 
 abbrev pub text_cmp : List ℕ → List ℕ → Ordering
 text_cmp = slice_cmp nat_cmp
@@ -110,6 +116,20 @@ module _ (new : List DirEntry) (e : DirEntry) (value : List ℕ) (is_value : is_
         first = (f.0, r.first);
       }
 
+-- it takes so many bytes more at most
+put_room : (name value : List ℕ) (ps : Pairs) → pairs_room (insert_entry text_cmp ps name value) ≤ pairs_room ps + pair_room (name, value)
+put_room name value [] = omega arith
+put_room name value (p ∷ ps) = by (text_cmp name p.0) (put_room name value ps)
+  where
+    all : pairs_room (p ∷ ps) ≡ pair_room p + pairs_room ps
+    all = sum_by-cons pair_room p ps
+
+    by : (o : Ordering) → pairs_room (insert_entry text_cmp ps name value) ≤ pairs_room ps + pair_room (name, value)
+        → pairs_room (match_ordering o ((name, value) ∷ p ∷ ps) ((p.0, value) ∷ ps) (p ∷ insert_entry text_cmp ps name value)) ≤ pairs_room (p ∷ ps) + pair_room (name, value)
+    by Less rest = omega (arith, sum_by-cons pair_room (name, value) (p ∷ ps))
+    by Equal rest = omega (arith, all, sum_by-cons pair_room (p.0, value) ps)
+    by Greater rest = omega (arith, all, rest, sum_by-cons pair_room p (insert_entry text_cmp ps name value))
+
 -- ---- the two ways of the loop
 
 -- the name has an entry: nothing changes
@@ -121,6 +141,7 @@ kept_first es e ps w there =
       pairs_are = w.pairs_are;
       same = λ y. w.same y ∙ by y (named y es) refl (same_name e.name y) refl here ∙ sym (named_push y es e);
       first = stay_first es e w.sorted w.first;
+      room = omega (arith, w.room, more_room es e);
     }
   where
     by : (y : PathName) (o : Option DirEntry) → named y es ≡ o → (b : Bool) → same_name e.name y ≡ b → is_some (named e.name es) ≡ true → named y es ≡ pushed (named y es) e y
@@ -130,9 +151,9 @@ kept_first es e ps w there =
     by y None is false h here = is ∙ sym (ap (λ (o : Option DirEntry). pushed o e y) is ∙ ap (λ (b : Bool). cond b (Some e) None) h)
 
 -- the name has none: the entry is put
-pub put_first_in : (es : List DirEntry) (e : DirEntry) (ps : Pairs) (value : List ℕ) → HasFirsts es ps → is_some (lookup (is_at (text_cmp e.name)) ps) ≡ false → (is_revision_id e.id ≡ true → IsEntryValue value e.kind e.id)
+pub put_first_in : (es : List DirEntry) (e : DirEntry) (ps : Pairs) (value : List ℕ) → length value ≤ 117 → HasFirsts es ps → is_some (lookup (is_at (text_cmp e.name)) ps) ≡ false → (is_revision_id e.id ≡ true → IsEntryValue value e.kind e.id)
     → HasFirsts (es ++ e ∷ []) (insert_entry text_cmp ps e.name value)
-put_first_in es e ps value w gone is_value =
+put_first_in es e ps value short w gone is_value =
     let none : is_some (named e.name es) ≡ false = ap is_some (sym (w.same e.name)) ∙ sym (found e.name ps w.sorted w.pairs_are) ∙ gone in
     let r = put_in (es ++ e ∷ []) e value is_value (mine (named e.name es) refl none) ps w.sorted w.pairs_are (stay_first es e w.sorted w.first) in
     record {
@@ -140,6 +161,7 @@ put_first_in es e ps value w gone is_value =
       pairs_are = r.are;
       same = λ y. r.same y ∙ ap (λ (o : Option DirEntry). cond (same_name e.name y) (Some e) o) (w.same y) ∙ by y (named y es) refl (same_name e.name y) refl none ∙ sym (named_push y es e);
       first = r.first;
+      room = omega (arith, w.room, more_room es e, put_room e.name value ps, short);
     }
   where
     mine : (o : Option DirEntry) → named e.name es ≡ o → is_some (named e.name es) ≡ false → IsFirstIn (es ++ e ∷ []) e
@@ -153,7 +175,7 @@ put_first_in es e ps value w gone is_value =
     by y (Some x) is false h none = ap (λ (b : Bool). cond b (Some e) (named y es)) h ∙ is ∙ sym (ap (λ (o : Option DirEntry). pushed o e y) is)
 
 pub firsts_none : HasFirsts [] []
-firsts_none = record { sorted = []; pairs_are = tt; same = λ y. refl; first = tt }
+firsts_none = record { sorted = []; pairs_are = tt; same = λ y. refl; first = tt; room = omega arith }
 
 -- ---- as a directory's list
 
@@ -166,7 +188,7 @@ are_entries es home (p ∷ ps) (x ∷ xs) w f h =
     (record { name = w.0; name_is = s.name_is; value_is = w.1 s.lasting; before = s.before }, are_entries es home ps xs w.2 f.1 h)
 
 pub firsts_list : (es : List DirEntry) (ps : Pairs) → HasFirsts es ps → ListsEntries es ps
-firsts_list es ps w = record { sorted = w.sorted; same = w.same; are = λ home h. are_entries es home ps w.sorted w.pairs_are w.first h }
+firsts_list es ps w = record { sorted = w.sorted; same = w.same; room = w.room; are = λ home h. are_entries es home ps w.sorted w.pairs_are w.first h }
 
 -- ---- in the loop
 

@@ -14,7 +14,7 @@ use Rattle.fsfs_noderev.specs.declared.node_rev.CopyRoot.{CopyRoot}
 use Rattle.fsfs_noderev.specs.declared.node_rev.NodeRev.{NodeRev}
 use Rattle.fsfs_changes.specs.Changes.{AreRevisionChanges}
 use Rattle.fsfs_changes.specs.declared.item.ChangeItem.{ChangeItem}
-use Rattle.fsfs_hash.specs.Dump.{IsDump, dump_text}
+use Rattle.fsfs_hash.specs.Dump.{Entries, IsDump, dump_text}
 use Rattle.fsfs_revision.specs.Nodes.{is_revision_id}
 use Rattle.fsfs_revision.specs.Trailers.{IsOffset, IsTrailer}
 use Rattle.fsfs_revision.proofs.TrailerLemmas.{written}
@@ -25,11 +25,12 @@ use Rattle.fsfs_laying.specs.Nodes.{IsNodePut}
 use Rattle.fsfs_laying.specs.Endings.{IsEndPut}
 
 pub list_put : (n start : ℕ) (old a b new text : List ℕ) (pairs : Pairs) (rep : Rep) → rep.rev ≡ Some n → rep.offset ≡ start + length old → rep.length ≡ length text → rep.size ≡ length text → rep.md5.bytes ≡ md5 text → rep.unique ≡ None
-    → text ≡ dump_text pairs → IsDump text pairs → a ≡ old ++ codes "PLAIN\n" → b ≡ a ++ text → new ≡ b ++ codes "ENDREP\n" → IsListPut n start old new pairs rep
-list_put n start old a b new text pairs rep r o l s m u t d first second third = record {
+    → text ≡ dump_text pairs → IsDump text pairs → Entries text pairs → a ≡ old ++ codes "PLAIN\n" → b ≡ a ++ text → new ≡ b ++ codes "ENDREP\n" → IsListPut n start old new pairs rep
+list_put n start old a b new text pairs rep r o l s m u t d e first second third = record {
   rev_is = r;
   is = record { offset = o; length_is = l ∙ ap length t; size = s ∙ ap length t; md5_is = m ∙ ap md5 t; unique = u };
   dump = subst (λ (x : List ℕ). IsDump x pairs) t d;
+  in_order = subst (λ (x : List ℕ). Entries x pairs) t e;
   added = third
       ∙ ap (λ (x : List ℕ). x ++ codes "ENDREP\n") (second ∙ ap (λ (x : List ℕ). x ++ text) first)
       ∙ append_assoc (old ++ codes "PLAIN\n") text (codes "ENDREP\n")

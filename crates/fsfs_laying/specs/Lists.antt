@@ -5,7 +5,7 @@ use Rattle.std.specs.Prelude.{◌≡◌, ◌+◌, ℕ, List, [], ◌++◌, lengt
 use Rattle.fsfs_noderev.specs.declared.rep.Rep.{Rep}
 use Rattle.fsfs_noderev.specs.declared.rep.Contents.{Contents}
 use Rattle.fsfs_noderev.specs.declared.rep.Contents.TheVariants as contents
-use Rattle.fsfs_hash.specs.Dump.{IsDump, dump_text}
+use Rattle.fsfs_hash.specs.Dump.{Entries, IsDump, dump_text}
 use Rattle.fsfs_shows.specs.Reading.{Pairs}
 use Rattle.fsfs_final.specs.Laid.{IsRepAt, IsFramed}
 
@@ -18,6 +18,7 @@ pub record IsListPut (n start : ℕ) (old new : List ℕ) (pairs : Pairs) (rep :
   pub rev_is : rep.rev ≡ Some n
   pub is : IsRepAt (start + length old) rep (dump_text pairs)
   pub dump : IsDump (dump_text pairs) pairs
+  pub in_order : Entries (dump_text pairs) pairs
   pub added : new ≡ old ++ framed_text (dump_text pairs)
 
 -- a list that there is no file for is empty

@@ -1,5 +1,5 @@
 //! The list of a directory's entries.
-ghost use Rattle.std.specs.Prelude.{◌≡◌, ◌++◌, ◌∷◌, [], true, List, IfOk, OnOk};
+ghost use Rattle.std.specs.Prelude.{◌≡◌, ◌≤◌, ◌++◌, ◌∷◌, [], true, List, length, IfOk, OnOk};
 ghost use Rattle.fsfs_revision.specs.Nodes.{is_revision_id};
 ghost use Rattle.fsfs_shows.specs.Reading.{DirEntry as Entry, kind_word as word_of, IsEntryValue};
 ghost use Rattle.fsfs_dag.specs.Views.{entry_value, entry_values};
@@ -21,7 +21,8 @@ fn kind_word(kind: Kind) -> &'static [u8]
 
 // The value of an entry: the kind of what it names, and its id in a revision.
 fn entry_text(alloc: Global, kind: Kind, id: &NodeId) -> Result<Vec<u8>, AllocError>
-    ensures { is_revision_id id.now ≡ true → IfOk result (λ value. IsEntryValue value.items kind id.now) }
+    ensures value { is_revision_id id.now ≡ true → IfOk result (λ value. IsEntryValue value.items kind id.now) }
+    ensures short { IfOk result (λ value. length value.items ≤ 117) }
 {
     let mut value = Vec::from_slice(alloc, kind_word(kind))?;
     put_id(&mut value, id)?;

@@ -26,7 +26,8 @@ fn final_list(
     match &kept.entries {
         None => Ok(None),
         Some(entries) => {
-            let named = final_entries(alloc, ids, &kept.node.created_path, entries.as_slice())?;
+            let all = entries.to_vec(alloc)?;
+            let named = final_entries(alloc, ids, &kept.node.created_path, all.as_slice())?;
             let pairs = entry_pairs(alloc, named.as_slice())?;
             Ok(Some(pairs))
         }

@@ -27,6 +27,6 @@ returns c = λ earlier w.
     let put : c.set.new.self ≡ insert_entry text_cmp ps (string_bytes c.args.entry.now.name) c.in_ok-value.value.items
     = c.in_ok-set.ensures.ok ∙ ap (λ (k : List ℕ). insert_entry text_cmp ps k c.in_ok-value.value.items) (c.in_ok-key.ensures.items ∙ name) in
     subst (λ (qs : Pairs). HasFirsts (earlier ++ entry_value c.args.entry.now ∷ []) qs) (sym put)
-    (put_first_in earlier (entry_value c.args.entry.now) ps c.in_ok-value.value.items w
+    (put_first_in earlier (entry_value c.args.entry.now) ps c.in_ok-value.value.items c.in_ok-value.ensures.short w
     (ap (λ (k : List ℕ). is_some (lookup (is_at (text_cmp k)) ps)) (sym name) ∙ sym (ap is_some c.get.ensures) ∙ some_map _ c.get.result ∙ sym c.is_some.ensures ∙ c.if-is_some.false)
-    c.in_ok-value.ensures)
+    c.in_ok-value.ensures.value)

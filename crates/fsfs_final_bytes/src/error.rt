@@ -1,0 +1,54 @@
+//! Why the bytes were not written.
+ghost use Rattle.std.specs.Prelude.{◌≡◌};
+
+use fsfs_base::Failed;
+use fsfs_order::OrderError;
+use std::alloc::AllocError;
+use thiserror::Error;
+
+/// The bytes of a new revision were not written, or a first part of them.
+#[derive(Clone, Copy, Debug, PartialEq, Eq, Error)]
+pub enum FinalError {
+    /// Nothing was written. There is no number for an offset, too.
+    #[error("out of memory")]
+    OutOfMemory,
+    /// The sink failed, and its count of faults rose.
+    #[error("the sink failed")]
+    SinkFault,
+    /// The folder holds no draft: an own node-revision lacks. Nothing was written.
+    #[error("the transaction is not whole")]
+    Lacking,
+}
+
+impl From<AllocError> for FinalError {
+    ghost use Rattle.fsfs_final_bytes.specs.declared.error.FinalError.TheVariants.{OutOfMemory};
+
+    ghost from_gives = { λ _ e. e ≡ OutOfMemory };
+
+    fn from(_error: AllocError) -> FinalError {
+        FinalError::OutOfMemory
+    }
+}
+
+impl From<Failed> for FinalError {
+    ghost use Rattle.fsfs_final_bytes.specs.declared.error.FinalError.TheVariants.{SinkFault};
+
+    ghost from_gives = { λ _ e. e ≡ SinkFault };
+
+    fn from(_error: Failed) -> FinalError {
+        FinalError::SinkFault
+    }
+}
+
+impl From<OrderError> for FinalError {
+    ghost use Rattle.fsfs_final_bytes.specs.Texts.{of_order};
+
+    ghost from_gives = { λ error e. e ≡ of_order error };
+
+    fn from(error: OrderError) -> FinalError {
+        match error {
+            OrderError::OutOfMemory => FinalError::OutOfMemory,
+            OrderError::Lacking => FinalError::Lacking,
+        }
+    }
+}

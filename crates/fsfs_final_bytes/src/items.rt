@@ -1,0 +1,72 @@
+//! The changed paths of the revision.
+ghost use Rattle.std.specs.Prelude.{◌≡◌, All, IfOk, map};
+ghost use Rattle.fsfs_changes.specs.Items.{HasText};
+ghost use Rattle.fsfs_fold.specs.FoldedItems.{HasPath};
+ghost use Rattle.fsfs_laying.specs.Naming.{ids_of};
+ghost use Rattle.fsfs_final_bytes.specs.Items.{own_item, told_item, AreFinalItems};
+
+use fsfs_base::{Action, FsPath};
+use fsfs_changes::ChangeItem;
+use fsfs_fields::TxnName;
+use fsfs_fold::fold;
+use fsfs_laying::name_final;
+use fsfs_noderev::{NodeId, Place};
+use std::alloc::{AllocError, Global};
+use std::collections::BTreeMap;
+
+// An item that is no delete names a node-revision of the transaction.
+fn name_own(txn: &TxnName, item: &mut ChangeItem)
+    ensures { item.new ≡ own_item txn.now item.old }
+{
+    match item.action {
+        Action::Delete => {}
+        Action::Add => item.id.place = Place::In(*txn),
+        Action::Replace => item.id.place = Place::In(*txn),
+        Action::Modify => item.id.place = Place::In(*txn),
+    }
+}
+
+// The item as the revision tells it. Of a whole transaction each item that is no delete names what stands at its path in the
+// revision; where none of its node-revisions stands there, its id is one of the transaction.
+fn tell(txn: &TxnName, ids: &BTreeMap<FsPath, NodeId>, item: &mut ChangeItem)
+    ensures { item.new ≡ told_item txn.now (ids_of ids.now) item.old }
+{
+    name_own(txn, item);
+    name_final(ids, item);
+}
+
+fn told_items(
+    alloc: Global,
+    folded: Vec<ChangeItem>,
+    txn: &TxnName,
+    ids: &BTreeMap<FsPath, NodeId>,
+) -> Result<Vec<ChangeItem>, AllocError>
+    ensures { IfOk result (λ v. v.items ≡ map (told_item txn.now (ids_of ids.now)) folded.items) }
+{
+    let mut left = folded;
+    left.reverse();
+    let mut all = Vec::new(alloc);
+    while let Some(item) = left.pop() {
+        let mut there = item;
+        tell(txn, ids, &mut there);
+        all.push(there)?;
+    }
+    Ok(all)
+}
+
+/// What the items of a transaction come to, in byte order of the paths' texts, as the revision tells it: `ids` gives the ids in the
+/// revision of what is the transaction's own.
+pub(crate) fn final_items(
+    alloc: Global,
+    items: &[ChangeItem],
+    txn: &TxnName,
+    ids: &BTreeMap<FsPath, NodeId>,
+) -> Result<Vec<ChangeItem>, AllocError>
+    requires paths { All HasPath items.now }
+    requires text { All HasText items.now }
+    ensures { IfOk result (λ v. AreFinalItems txn.now items.now (ids_of ids.now) v.items) }
+{
+    let folded = fold(alloc, items)?;
+    let told = told_items(alloc, folded, txn, ids)?;
+    Ok(told)
+}
