@@ -1,0 +1,12 @@
+pub mod PlaceLemmas
+pub mod LineLemmas
+pub mod TextLemmas
+pub mod ReadLemmas
+pub mod JobLemmas
+pub mod Decided
+pub mod Standing
+pub mod FrontLemmas
+pub mod WrittenLemmas
+pub mod JobsFound
+pub mod JobsAgain
+pub mod ScriptLemmas

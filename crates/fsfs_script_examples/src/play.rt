@@ -1,0 +1,112 @@
+// A whole text about scripts.
+use crate::line::Line;
+use crate::shown::{put_error, put_job};
+use anyhow::Result;
+use fsfs_escapes::{Transcript, bytes_of};
+use fsfs_memstreams::MemSource;
+use fsfs_script::Script;
+use std::alloc::{AllocError, Global};
+
+// More jobs than this are counted, and not printed.
+const SHOWN: usize = 3;
+
+// The script so far, and what has been printed.
+#[derive(Drop)]
+struct Player {
+    alloc: Global,
+    script: Vec<u8>,
+    out: Transcript,
+}
+
+// The jobs of a script, up to its end or the first refusal.
+fn put_jobs(out: &mut Transcript, alloc: Global, script: &mut Script<MemSource>) {
+    let mut count: usize = 0;
+    for _ in 0..u64::MAX {
+        match script.read_job(alloc) {
+            Ok(Some(job)) => {
+                if count < SHOWN {
+                    put_job(out, &job);
+                }
+                count = count.saturating_add(1);
+            }
+            Ok(None) => {
+                out.tell("end behind ", &count);
+                return out.say("\n");
+            }
+            Err(error) => return put_error(out, error),
+        }
+    }
+}
+
+impl Player {
+    fn add(&mut self, text: &str, end: &[u8]) -> Result<()> {
+        let bytes = bytes_of(self.alloc, text)?;
+        self.script.extend_from_slice(&bytes)?;
+        self.script.extend_from_slice(end)?;
+        Ok(())
+    }
+
+    fn add_many(&mut self, count: usize, text: &str) -> Result<()> {
+        for _ in 0..count {
+            self.add(text, b"")?;
+        }
+        Ok(())
+    }
+
+    fn read(&mut self, failing: Vec<u64>) -> Result<()> {
+        let bytes = Vec::from_slice(self.alloc, &self.script)?;
+        self.script.clear();
+        let mut script = Script::new(self.alloc, MemSource::with_faults(bytes, failing))?;
+        put_jobs(&mut self.out, self.alloc, &mut script);
+        Ok(())
+    }
+
+    fn read_failing(&mut self, call: u64) -> Result<()> {
+        let mut failing = Vec::new(self.alloc);
+        failing.push(call)?;
+        self.read(failing)
+    }
+
+    fn act(&mut self, line: Line<'_>) -> Result<()> {
+        match line {
+            Line::Nothing => {}
+            Line::Headline(text) => {
+                self.out.say("== ");
+                self.out.say(text);
+                self.out.say("\n");
+            }
+            Line::Whole(text) => return self.add(text, b"\n"),
+            Line::Cut(text) => return self.add(text, b""),
+            Line::Many(count, text) => return self.add_many(count, text),
+            Line::Read => return self.read(Vec::new(self.alloc)),
+            Line::Fails(call) => return self.read_failing(call),
+        }
+        Ok(())
+    }
+
+    // Does what a line says. Where that can't be done, its number is printed, and why.
+    fn play(&mut self, number: usize, line: &str) {
+        let done = match Line::read(line) {
+            Ok(line) => self.act(line),
+            Err(error) => Err(error),
+        };
+        if let Err(error) = done {
+            self.out.tell("? ", &number);
+            self.out.tell(": ", &error);
+            self.out.say("\n");
+        }
+    }
+}
+
+/// What is printed of a text about scripts.
+pub fn transcript_of(alloc: Global, text: &str) -> Result<String, AllocError> {
+    let mut player = Player {
+        alloc,
+        script: Vec::new(alloc),
+        out: Transcript::new(alloc),
+    };
+    for (at, line) in text.lines().enumerate() {
+        player.play(at.saturating_add(1), line);
+    }
+    player.out.finish()
+}
