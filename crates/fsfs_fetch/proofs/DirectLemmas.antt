@@ -65,7 +65,7 @@ right_later n reach m new floor kept rev f known right =
     (λ le. agrees_later (rev_file n m rev) (rev_file n new rev) (rev_bytes n m rev) (rev_bytes n new rev) (f.own rev known) (f.bytes rev known) (right_above n m floor kept rev le right))
 
 -- what is found stays found
-found_next : (v w : View) (floor : ℕ) (kept : Option KeptManifest) (m : Files) (rev : ℕ) → Later v w → IsFoundAt v floor kept rev m → (new : Files) × IsFoundAt w floor kept rev new
+found_next : {B : Type 0} (v w : View B) (floor : ℕ) (kept : Option KeptManifest) (m : Files) (rev : ℕ) → Later v w → IsFoundAt v floor kept rev m → (new : Files) × IsFoundAt w floor kept rev new
 found_next v w floor kept m rev e p =
     let k = next v w m e p.told in
     let P : Layout → Type 0 = λ n. is_right n k.files floor kept rev ≡ true in (
@@ -77,10 +77,10 @@ found_next v w floor kept m rev e p =
       },
     )
 
-pub finds_later : (v w : View) (floor : ℕ) (kept : Option KeptManifest) → Later v w → FindsAsWell v floor kept w floor kept
+pub finds_later : {B : Type 0} (v w : View B) (floor : ℕ) (kept : Option KeptManifest) → Later v w → FindsAsWell v floor kept w floor kept
 finds_later v w floor kept e = λ m rev p. found_next v w floor kept m rev e p
 
-pub finds_serving : (v w : View) (floor : ℕ) (old new : Option KeptManifest) → Later v w → ServesAsWell v old new → FindsAsWell v floor old w floor new
+pub finds_serving : {B : Type 0} (v w : View B) (floor : ℕ) (old new : Option KeptManifest) → Later v w → ServesAsWell v old new → FindsAsWell v floor old w floor new
 finds_serving v w floor old new e serves = λ m rev p.
     let right = make_right v.layout m floor new rev
     (λ lt. let q = right_below v.layout m floor old rev lt p.right in (q.0, serves m rev (record { told = p.told; packed = q.0; fits = q.1 })))
@@ -110,7 +110,7 @@ fresh_right n m rev floor is =
     (λ le. own_agrees n m rev floor (rev_file n m rev) (rev_bytes n m rev) refl (bytes_own n m rev floor is le))
 
 -- a floor that was read anew
-pub finds_fresh : (v w : View) (floor fresh : ℕ) (kept : Option KeptManifest) → Later v w → IfSome w.files (λ m. refused (floor_in w.layout m) ≡ Ok fresh) → FindsAsWell v floor kept w fresh None
+pub finds_fresh : {B : Type 0} (v w : View B) (floor fresh : ℕ) (kept : Option KeptManifest) → Later v w → IfSome w.files (λ m. refused (floor_in w.layout m) ≡ Ok fresh) → FindsAsWell v floor kept w fresh None
 finds_fresh v w floor fresh kept e read = λ m rev p.
     let k = next v w m e p.told in
     let Q : Files → Type 0 = λ f. refused (floor_in w.layout f) ≡ Ok fresh in
@@ -123,7 +123,7 @@ finds_fresh v w floor fresh kept e read = λ m rev p.
       },
     )
 
-pub finds_more : (u v w : View) (a b c : ℕ) (k l p : Option KeptManifest) → FindsAsWell u a k v b l → FindsAsWell v b l w c p → FindsAsWell u a k w c p
+pub finds_more : {B : Type 0} (u v w : View B) (a b c : ℕ) (k l p : Option KeptManifest) → FindsAsWell u a k v b l → FindsAsWell v b l w c p → FindsAsWell u a k w c p
 finds_more u v w a b c k l p f g = λ m rev h. let q = f m rev h in g q.0 rev q.1
 
 -- ---- the bytes that are found
@@ -154,16 +154,16 @@ own_bytes file bytes (Err f) is h = let P : Option (List ℕ) → Type 0 = λ o.
 
 -- ---- what is answered
 
-pub packed_at : (v : View) (floor : ℕ) (kept : Option KeptManifest) (m : Files) (rev : ℕ) → rev < floor → IsFoundAt v floor kept rev m → IsPackedAt v kept rev m
+pub packed_at : {B : Type 0} (v : View B) (floor : ℕ) (kept : Option KeptManifest) (m : Files) (rev : ℕ) → rev < floor → IsFoundAt v floor kept rev m → IsPackedAt v kept rev m
 packed_at v floor kept m rev lt p = let q = right_below v.layout m floor kept rev lt p.right in record { told = p.told; packed = q.0; fits = q.1 }
 
-pub own_goes : (v : View) (m : Files) (rev : ℕ) (n : Layout) (name : List ℕ) → v.files ≡ Some m → IsKnown v.reach rev → n ≡ v.layout → name ≡ in_shard (codes "db/revs") n rev → MayGo v name (rev_file v.layout m rev)
+pub own_goes : {B : Type 0} (v : View B) (m : Files) (rev : ℕ) (n : Layout) (name : List ℕ) → v.files ≡ Some m → IsKnown v.reach rev → n ≡ v.layout → name ≡ in_shard (codes "db/revs") n rev → MayGo v name (rev_file v.layout m rev)
 own_goes v m rev n name told known e named =
     let P : List ℕ → Type 0 = λ t. MayGo v t (rev_file v.layout m rev) in
     let is : in_shard (codes "db/revs") v.layout rev ≡ name = ap (λ k. in_shard (codes "db/revs") k rev) (sym e) ∙ sym named in
     subst P is (record { now = m; told = told; later = λ new f. f.own rev known })
 
-pub gone_at : (v w : View) (m : Files) (rev : ℕ) (n : Layout) (name : List ℕ) → Later v w → v.files ≡ Some m → IsKnown v.reach rev → n ≡ v.layout → name ≡ in_shard (codes "db/revs") n rev → (k : Files) × (w.files ≡ Some k) × (map.get k name ≡ None)
+pub gone_at : {B : Type 0} (v w : View B) (m : Files) (rev : ℕ) (n : Layout) (name : List ℕ) → Later v w → v.files ≡ Some m → IsKnown v.reach rev → n ≡ v.layout → name ≡ in_shard (codes "db/revs") n rev → (k : Files) × (w.files ≡ Some k) × (map.get k name ≡ None)
     → (new : Files) × (IsGoneAt w rev new) × (rev_bytes w.layout new rev ≡ rev_bytes v.layout m rev)
 gone_at v w m rev n name e told known same named p =
     let k = next v w m e told in
@@ -198,14 +198,14 @@ floor_err_len (Ok n) whole other (Short r o) f h = cc
 floor_err_len (Err fault) whole other (Short r o) f h = cc
 
 -- after the floor was read anew: its fault is the revision's; or the revision is packed; or it isn't anywhere
-pub fresh_fault : (v w : View) (m : Files) (rev other : ℕ) (e : BookFault) → Later v w → IsGoneAt v rev m → IfSome w.files (λ f. Gives {X = Unit {0}} (λ _. other) (Err e) (refused (floor_in w.layout f)))
+pub fresh_fault : {B : Type 0} (v w : View B) (m : Files) (rev other : ℕ) (e : BookFault) → Later v w → IsGoneAt v rev m → IfSome w.files (λ f. Gives {X = Unit {0}} (λ _. other) (Err e) (refused (floor_in w.layout f)))
     → (new : Files) × (Gives {X = Unit {0}} (λ _. other) (Err e) (refused (floor_in w.layout new))) × (rev_bytes w.layout new rev ≡ rev_bytes v.layout m rev)
 fresh_fault v w m rev other e later p h =
     let k = next v w m later p.told in
     let Q : Files → Type 0 = λ f. Gives {X = Unit {0}} (λ _. other) (Err e) (refused (floor_in w.layout f)) in
     (k.files, told_at w.files k.files Q k.told h, ap (λ j. rev_bytes j k.files rev) later.layout ∙ k.follows.bytes rev p.known)
 
-pub record Fresh (v w : View) (m : Files) (rev fresh : ℕ) : Type 0 where
+pub record Fresh {B : Type 0} (v w : View B) (m : Files) (rev fresh : ℕ) : Type 0 where
   pub new : Files
   pub told : w.files ≡ Some new
   pub known : IsKnown w.reach rev
@@ -217,7 +217,7 @@ still_gone : {A : Type 0} (a b : Option A) → a ≡ None → (b ≡ a) ⊎ (b �
 still_gone a b e (inl same) = same ∙ e
 still_gone a b e (inr none) = none
 
-pub fresh_floor : (v w : View) (m : Files) (rev fresh : ℕ) → Later v w → IsGoneAt v rev m → IfSome w.files (λ f. refused (floor_in w.layout f) ≡ Ok fresh) → Fresh v w m rev fresh
+pub fresh_floor : {B : Type 0} (v w : View B) (m : Files) (rev fresh : ℕ) → Later v w → IsGoneAt v rev m → IfSome w.files (λ f. refused (floor_in w.layout f) ≡ Ok fresh) → Fresh v w m rev fresh
 fresh_floor v w m rev fresh later p h =
     let k = next v w m later p.told in
     let Q : Files → Type 0 = λ f. refused (floor_in w.layout f) ≡ Ok fresh in
@@ -231,16 +231,16 @@ fresh_floor v w m rev fresh later p h =
       bytes = ap (λ j. rev_bytes j k.files rev) later.layout ∙ k.follows.bytes rev p.known;
     }
 
-pub fresh_packed : (v w : View) (m : Files) (rev fresh : ℕ) (f : Fresh v w m rev fresh) → rev < fresh → (IsPackedAt w None rev f.new) × (packed_bytes w.layout f.new rev ≡ rev_bytes v.layout m rev)
+pub fresh_packed : {B : Type 0} (v w : View B) (m : Files) (rev fresh : ℕ) (f : Fresh v w m rev fresh) → rev < fresh → (IsPackedAt w None rev f.new) × (packed_bytes w.layout f.new rev ≡ rev_bytes v.layout m rev)
 fresh_packed v w m rev fresh f lt =
     let packed : is_packed w.layout f.new rev ≡ true = below_is w.layout f.new rev fresh f.floor ∙ lt-ltb rev fresh lt in
     (record { told = f.told; packed = packed; fits = refl }, sym (bytes_packed w.layout f.new rev packed) ∙ f.bytes)
 
-pub fresh_missing : (v w : View) (m : Files) (rev fresh : ℕ) (f : Fresh v w m rev fresh) → fresh ≤ rev → rev_bytes v.layout m rev ≡ Err (Missing rev)
+pub fresh_missing : {B : Type 0} (v w : View B) (m : Files) (rev fresh : ℕ) (f : Fresh v w m rev fresh) → fresh ≤ rev → rev_bytes v.layout m rev ≡ Err (Missing rev)
 fresh_missing v w m rev fresh f le = sym f.bytes ∙ bytes_gone w.layout f.new rev fresh f.floor le f.gone
 
 -- what is found, is found in the files that are met later, with the same bytes
-pub found_later : (v w : View) (floor : ℕ) (kept : Option KeptManifest) (m : Files) (rev : ℕ) → Later v w → IsFoundAt v floor kept rev m
+pub found_later : {B : Type 0} (v w : View B) (floor : ℕ) (kept : Option KeptManifest) (m : Files) (rev : ℕ) → Later v w → IsFoundAt v floor kept rev m
     → (new : Files) × (IsFoundAt w floor kept rev new) × (rev_bytes w.layout new rev ≡ rev_bytes v.layout m rev)
 found_later v w floor kept m rev e p =
     let k = next v w m e p.told in
@@ -255,7 +255,7 @@ found_later v w floor kept m rev e p =
     )
 
 -- the own file of a revision that is found, where the kept floor is no greater
-pub own_right : (v : View) (floor : ℕ) (kept : Option KeptManifest) (m : Files) (rev : ℕ) → floor ≤ rev → IsFoundAt v floor kept rev m → agrees (rev_file v.layout m rev) (rev_bytes v.layout m rev) ≡ true
+pub own_right : {B : Type 0} (v : View B) (floor : ℕ) (kept : Option KeptManifest) (m : Files) (rev : ℕ) → floor ≤ rev → IsFoundAt v floor kept rev m → agrees (rev_file v.layout m rev) (rev_bytes v.layout m rev) ≡ true
 own_right v floor kept m rev le p = right_above v.layout m floor kept rev le p.right
 
 -- what was read of a file that has the revision's bytes
@@ -283,7 +283,7 @@ gone_err view look f file read new name (Refused r) gone h = absurd h
 gone_err view look f file read new name (Short r o) gone h = let no : ◌≡◌ {A = Option (List ℕ)} (Some h.0) None = sym h.1 ∙ gone in cc
 
 -- the own file of a revision whose bytes were read after the floor was
-pub fresh_goes : (v w : View) (m : Files) (rev fresh : ℕ) (n : Layout) (name : List ℕ) (f : Fresh v w m rev fresh) → n ≡ w.layout → name ≡ in_shard (codes "db/revs") n rev → MayGo w name (rev_file w.layout f.new rev)
+pub fresh_goes : {B : Type 0} (v w : View B) (m : Files) (rev fresh : ℕ) (n : Layout) (name : List ℕ) (f : Fresh v w m rev fresh) → n ≡ w.layout → name ≡ in_shard (codes "db/revs") n rev → MayGo w name (rev_file w.layout f.new rev)
 fresh_goes v w m rev fresh n name f e named = own_goes w f.new rev n name f.told f.known e named
 
 -- what is answered of one reading is answered of an equal one
@@ -291,18 +291,18 @@ pub gives_at : {X Y A : Type 0} (view : X → Y) (result : Result X BookFault) (
 gives_at view result F a b e h = let P : _ → Type 0 = λ x. Gives view result (F x) in subst P e h
 
 -- a refusal of the floor leaves what is kept
-pub finds_same : (v w : View) (f g : ℕ) (k l : Option KeptManifest) → Later v w → g ≡ f → l ≡ k → FindsAsWell v f k w g l
+pub finds_same : {B : Type 0} (v w : View B) (f g : ℕ) (k l : Option KeptManifest) → Later v w → g ≡ f → l ≡ k → FindsAsWell v f k w g l
 finds_same v w f g k l e same_floor same_kept =
     let P : ℕ → Type 0 = λ n. FindsAsWell v f k w n l in
     let Q : Option KeptManifest → Type 0 = λ o. FindsAsWell v f k w f o in
     subst P (sym same_floor) (subst Q (sym same_kept) (finds_later v w f k e))
 
 -- the floor that was read, with no manifest
-pub finds_read : (v w : View) (floor fresh : ℕ) (kept left : Option KeptManifest) → Later v w → IfSome w.files (λ m. refused (floor_in w.layout m) ≡ Ok fresh) → left ≡ None → FindsAsWell v floor kept w fresh left
+pub finds_read : {B : Type 0} (v w : View B) (floor fresh : ℕ) (kept left : Option KeptManifest) → Later v w → IfSome w.files (λ m. refused (floor_in w.layout m) ≡ Ok fresh) → left ≡ None → FindsAsWell v floor kept w fresh left
 finds_read v w floor fresh kept left e read none = let P : Option KeptManifest → Type 0 = λ o. FindsAsWell v floor kept w fresh o in subst P (sym none) (finds_fresh v w floor fresh kept e read)
 
 -- and a packed revision is found by it
-pub fresh_found : (v w : View) (m : Files) (rev fresh : ℕ) (left : Option KeptManifest) (f : Fresh v w m rev fresh) → rev < fresh → left ≡ None → (IsPackedAt w left rev f.new) × (packed_bytes w.layout f.new rev ≡ rev_bytes v.layout m rev)
+pub fresh_found : {B : Type 0} (v w : View B) (m : Files) (rev fresh : ℕ) (left : Option KeptManifest) (f : Fresh v w m rev fresh) → rev < fresh → left ≡ None → (IsPackedAt w left rev f.new) × (packed_bytes w.layout f.new rev ≡ rev_bytes v.layout m rev)
 fresh_found v w m rev fresh left f lt none =
     let p = fresh_packed v w m rev fresh f lt in
     let P : Option KeptManifest → Type 0 = λ o. IsPackedAt w o rev f.new in
@@ -310,13 +310,13 @@ fresh_found v w m rev fresh left f lt none =
 
 -- ---- properties
 
-pub props_stay : (v : View) (m : Files) (rev : ℕ) (n : Layout) (name : List ℕ) → v.files ≡ Some m → IsKnown v.reach rev → n ≡ v.layout → name ≡ in_shard (codes "db/revprops") n rev → MayGo v name (props_file v.layout m rev)
+pub props_stay : {B : Type 0} (v : View B) (m : Files) (rev : ℕ) (n : Layout) (name : List ℕ) → v.files ≡ Some m → IsKnown v.reach rev → n ≡ v.layout → name ≡ in_shard (codes "db/revprops") n rev → MayGo v name (props_file v.layout m rev)
 props_stay v m rev n name told known e named =
     let P : List ℕ → Type 0 = λ t. MayGo v t (props_file v.layout m rev) in
     let is : in_shard (codes "db/revprops") v.layout rev ≡ name = ap (λ k. in_shard (codes "db/revprops") k rev) (sym e) ∙ sym named in
     subst P is (record { now = m; told = told; later = λ new f. inl (f.props rev known) })
 
-pub props_gone : (v w : View) (m : Files) (rev : ℕ) (n : Layout) (name : List ℕ) → Later v w → v.files ≡ Some m → IsKnown v.reach rev → n ≡ v.layout → name ≡ in_shard (codes "db/revprops") n rev → (k : Files) × (w.files ≡ Some k) × (map.get k name ≡ None)
+pub props_gone : {B : Type 0} (v w : View B) (m : Files) (rev : ℕ) (n : Layout) (name : List ℕ) → Later v w → v.files ≡ Some m → IsKnown v.reach rev → n ≡ v.layout → name ≡ in_shard (codes "db/revprops") n rev → (k : Files) × (w.files ≡ Some k) × (map.get k name ≡ None)
     → props_bytes v.layout m rev ≡ Err (Missing rev)
 props_gone v w m rev n name e told known same named p =
     let k = next v w m e told in

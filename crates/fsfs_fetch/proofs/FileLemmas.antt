@@ -16,7 +16,7 @@ use Rattle.fsfs_fetch.specs.Answers.{Stays, MayGo, FromFile, size_of_file, part_
 use Rattle.fsfs_fetch.specs.ViewLemmas.{later_more, told_at, stays_later, stays_now, goes_later, goes_now}
 
 -- what one call reads of a file that stays
-pub read_stays : (v w : View) (name : List ℕ) (file : Option (List ℕ)) (P : Option (List ℕ) → Type 0) → Later v w → Stays v name file → IfSome w.files (λ m. P (map.get m name)) → P file
+pub read_stays : {B : Type 0} (v w : View B) (name : List ℕ) (file : Option (List ℕ)) (P : Option (List ℕ) → Type 0) → Later v w → Stays v name file → IfSome w.files (λ m. P (map.get m name)) → P file
 read_stays v w name file P e s h =
     let t = stays_later v w name file e s in
     let Q : Files → Type 0 = λ m. P (map.get m name) in
@@ -32,7 +32,7 @@ found_size file (Some bytes) new name m None told here stands is = let h : ◌�
 found_size file (Some bytes) new name m (Some n) told here (inl same) is = (bytes, sym same, ap (λ (k : ℕ). Ok k) (sym (same_Some n (length bytes) is)))
 found_size file (Some bytes) new name m (Some n) told here (inr none) is = cc
 
-pub size_found : (v w : View) (name : List ℕ) (file : Option (List ℕ)) (size : Option ℕ) → Later v w → MayGo v name file → IfSome w.files (λ m. IsSize (map.get m name) size) → FromFile {X = ℕ} {Y = ℕ} file w.files name (λ n. n) size_of_file (Ok size)
+pub size_found : {B : Type 0} (v w : View B) (name : List ℕ) (file : Option (List ℕ)) (size : Option ℕ) → Later v w → MayGo v name file → IfSome w.files (λ m. IsSize (map.get m name) size) → FromFile {X = ℕ} {Y = ℕ} file w.files name (λ n. n) size_of_file (Ok size)
 size_found v w name file size e s h =
     let t = goes_later v w name file e s in
     let Q : Files → Type 0 = λ m. IsSize (map.get m name) size in
@@ -46,7 +46,7 @@ size_result file at new name m (Err (Refused r)) told here stands is failed = cc
 size_result file at new name m (Err (Short r o)) told here stands is failed = cc
 size_result file at new name m (Ok found) told here stands is failed = found_size file at new name m found told here stands is
 
-pub size_of_result : (v w : View) (name : List ℕ) (file : Option (List ℕ)) (result : Result (Option ℕ) BookFault) → Later v w → MayGo v name file → IfSome w.files (λ m. IfOk result (IsSize (map.get m name))) → IfErr result (λ e. e ≡ DiskFault)
+pub size_of_result : {B : Type 0} (v w : View B) (name : List ℕ) (file : Option (List ℕ)) (result : Result (Option ℕ) BookFault) → Later v w → MayGo v name file → IfSome w.files (λ m. IfOk result (IsSize (map.get m name))) → IfErr result (λ e. e ≡ DiskFault)
     → FromFile {X = ℕ} {Y = ℕ} file w.files name (λ n. n) size_of_file result
 size_of_result v w name file result e s h failed =
     let t = goes_later v w name file e s in
@@ -59,14 +59,14 @@ sized file None size stands is = let h : ◌≡◌ {A = Option ℕ} (Some size) 
 sized file (Some bytes) size (inl same) is = (bytes, sym same, same_Some size (length bytes) is)
 sized file (Some bytes) size (inr none) is = let h : ◌≡◌ {A = Option (List ℕ)} (Some bytes) None = none in cc
 
-pub has_size : (v w : View) (name : List ℕ) (file : Option (List ℕ)) (size : ℕ) → Later v w → MayGo v name file → IfSome w.files (λ m. IsSize (map.get m name) (Some size)) → (bytes : List ℕ) × (file ≡ Some bytes) × (size ≡ length bytes)
+pub has_size : {B : Type 0} (v w : View B) (name : List ℕ) (file : Option (List ℕ)) (size : ℕ) → Later v w → MayGo v name file → IfSome w.files (λ m. IsSize (map.get m name) (Some size)) → (bytes : List ℕ) × (file ≡ Some bytes) × (size ≡ length bytes)
 has_size v w name file size e s h =
     let t = goes_later v w name file e s in
     let Q : Files → Type 0 = λ m. IsSize (map.get m name) (Some size) in
     sized file (map.get t.now name) size (goes_now w name file t) (told_at w.files t.now Q t.told h)
 
 -- an offset past the end
-pub past_end : (v w : View) (name : List ℕ) (file : Option (List ℕ)) (rev offset count size : ℕ) → Later v w → MayGo v name file → IfSome w.files (λ m. IsSize (map.get m name) (Some size)) → size < offset
+pub past_end : {B : Type 0} (v w : View B) (name : List ℕ) (file : Option (List ℕ)) (rev offset count size : ℕ) → Later v w → MayGo v name file → IfSome w.files (λ m. IsSize (map.get m name) (Some size)) → size < offset
     → (bytes : List ℕ) × (file ≡ Some bytes) × (part_of_file rev offset count bytes ≡ Err (Short rev offset))
 past_end v w name file rev offset count size e s h lt =
     let p = has_size v w name file size e s h in
@@ -92,7 +92,7 @@ part_there file None offset count old new stands read = let h : ◌≡◌ {A = O
 part_there file (Some bytes) offset count old new (inl same) read = (bytes, sym same, read)
 part_there file (Some bytes) offset count old new (inr none) read = let h : ◌≡◌ {A = Option (List ℕ)} (Some bytes) None = none in cc
 
-has_part : (v w : View) (name : List ℕ) (file : Option (List ℕ)) (offset count : ℕ) (old new : List ℕ) → Later v w → MayGo v name file → IfSome w.files (λ m. IsRead (map.get m name) offset old new (Some count))
+has_part : {B : Type 0} (v w : View B) (name : List ℕ) (file : Option (List ℕ)) (offset count : ℕ) (old new : List ℕ) → Later v w → MayGo v name file → IfSome w.files (λ m. IsRead (map.get m name) offset old new (Some count))
     → (bytes : List ℕ) × (file ≡ Some bytes) × IsRead (Some bytes) offset old new (Some count)
 has_part v w name file offset count old new e s h =
     let t = goes_later v w name file e s in
@@ -103,7 +103,7 @@ within : (bytes old : List ℕ) (offset count : ℕ) → 0 < count → count ≡
 within bytes old offset count some is = omega (arith, some, is)
 
 -- a read that found bytes
-pub part_found : (v w : View) (name : List ℕ) (file : Option (List ℕ)) (rev offset count : ℕ) (old new : List ℕ) → Later v w → MayGo v name file → IfSome w.files (λ m. IsRead (map.get m name) offset old new (Some count)) → 0 < count
+pub part_found : {B : Type 0} (v w : View B) (name : List ℕ) (file : Option (List ℕ)) (rev offset count : ℕ) (old new : List ℕ) → Later v w → MayGo v name file → IfSome w.files (λ m. IsRead (map.get m name) offset old new (Some count)) → 0 < count
     → FromFile {X = ℕ} {Y = List ℕ} file w.files name (λ n. take n new) (part_of_file rev offset (length old)) (Ok (Some count))
 part_found v w name file rev offset count old new e s h some =
     let p = has_part v w name file offset count old new e s h in
@@ -111,7 +111,7 @@ part_found v w name file rev offset count old new e s h some =
     (p.0, p.1, part_same p.0 p.0 old new rev offset count refl le p.2)
 
 -- a read that found nothing more, up to the end
-pub end_found : (u v w : View) (name : List ℕ) (file : Option (List ℕ)) (rev offset count size : ℕ) (old new : List ℕ) → Later u v → Later v w → MayGo u name file → IfSome v.files (λ m. IsRead (map.get m name) offset old new (Some count))
+pub end_found : {B : Type 0} (u v w : View B) (name : List ℕ) (file : Option (List ℕ)) (rev offset count size : ℕ) (old new : List ℕ) → Later u v → Later v w → MayGo u name file → IfSome v.files (λ m. IsRead (map.get m name) offset old new (Some count))
     → IfSome w.files (λ m. IsSize (map.get m name) (Some size)) → offset ≤ size → FromFile {X = ℕ} {Y = List ℕ} file w.files name (λ n. take n new) (part_of_file rev offset (length old)) (Ok (Some count))
 end_found u v w name file rev offset count size old new e f s read h le =
     let p = has_part u v name file offset count old new e s read in
@@ -125,7 +125,7 @@ none_there None offset old new read = refl
 none_there (Some bytes) offset old new read = let h : ◌≡◌ {A = Option ℕ} None (Some (min (length old) (length bytes - offset))) = read.0 in cc
 
 -- a read that found no file
-pub no_part : (v w : View) (name : List ℕ) (file : Option (List ℕ)) (rev offset : ℕ) (old new : List ℕ) → Later v w → MayGo v name file → IfSome w.files (λ m. IsRead (map.get m name) offset old new None)
+pub no_part : {B : Type 0} (v w : View B) (name : List ℕ) (file : Option (List ℕ)) (rev offset : ℕ) (old new : List ℕ) → Later v w → MayGo v name file → IfSome w.files (λ m. IsRead (map.get m name) offset old new None)
     → FromFile {X = ℕ} {Y = List ℕ} file w.files name (λ n. take n new) (part_of_file rev offset (length old)) (Ok None)
 no_part v w name file rev offset old new e s h =
     let t = goes_later v w name file e s in

@@ -30,7 +30,7 @@ use Rattle.fsfs_fetch.specs.Answers.{Stays, refused}
 use Rattle.fsfs_fetch.specs.Kept.{IsPackedAt, fits, are_offsets, keeps_shard, kept_offsets}
 
 -- the manifest and the pack of a packed revision stay
-pub manifest_stays : (view : View) (kept : Option KeptManifest) (rev : ℕ) (m : Files) (shard : ℕ) → IsPackedAt view kept rev m → shard_of view.layout rev ≡ shard → Stays view (small_name (Manifest shard)) (manifest_file m shard)
+pub manifest_stays : {B : Type 0} (view : View B) (kept : Option KeptManifest) (rev : ℕ) (m : Files) (shard : ℕ) → IsPackedAt view kept rev m → shard_of view.layout rev ≡ shard → Stays view (small_name (Manifest shard)) (manifest_file m shard)
 manifest_stays view kept rev m shard p e =
     let P : ℕ → Type 0 = λ k. Stays view (small_name (Manifest k)) (manifest_file m k) in
     subst P e (record { now = m; told = p.told; later = λ new f. f.manifest rev p.packed })
@@ -55,7 +55,7 @@ kept_ok n m (Some kept) rev shard fit e is =
     let Q : ℕ → Type 0 = λ k. manifest_in n m k ≡ Ok kept.offsets.items in
     subst Q e found
 
-pub kept_told : (view : View) (kept : Option KeptManifest) (rev : ℕ) (m : Files) (shard : ℕ) → IsPackedAt view kept rev m → shard_of view.layout rev ≡ shard → keeps_shard kept shard ≡ true → refused (manifest_in view.layout m shard) ≡ Ok (kept_offsets kept)
+pub kept_told : {B : Type 0} (view : View B) (kept : Option KeptManifest) (rev : ℕ) (m : Files) (shard : ℕ) → IsPackedAt view kept rev m → shard_of view.layout rev ≡ shard → keeps_shard kept shard ≡ true → refused (manifest_in view.layout m shard) ≡ Ok (kept_offsets kept)
 kept_told view kept rev m shard p e is = ap refused (kept_ok view.layout m kept rev shard p.fits e is)
 
 if_other : (b test : Bool) → (b ≡ true → test ≡ true) → cond b test true ≡ true

@@ -25,7 +25,7 @@ use Rattle.fsfs_disk.proofs.WholeFiles.{read_bytes}
 use Rattle.fsfs_fetch.proofs.FileLemmas.{read_stays}
 use Rattle.fsfs_fetch.specs.ViewLemmas.{stays_later}
 
-pub pack_stays : (view : View) (kept : Option KeptManifest) (rev : ℕ) (m : Files) → IsPackedAt view kept rev m → Stays view (in_pack (shard_of view.layout rev) (codes "/pack")) (pack_in m (shard_of view.layout rev))
+pub pack_stays : {B : Type 0} (view : View B) (kept : Option KeptManifest) (rev : ℕ) (m : Files) → IsPackedAt view kept rev m → Stays view (in_pack (shard_of view.layout rev) (codes "/pack")) (pack_in m (shard_of view.layout rev))
 pack_stays view kept rev m p = record { now = m; told = p.told; later = λ new f. f.pack rev p.packed }
 
 -- a section of a pack of this size
@@ -39,7 +39,7 @@ section_ok rev i size (Ok kept) (Some bytes) offsets found e is at =
     let same : kept ≡ offsets = cc in
     ap (λ (s : Section). Ok s) ((λ j. section_at (same j) i (same_size j)) ∙ sym at)
 
-pub section_told : (v w : View) (kept : Option KeptManifest) (rev size : ℕ) (m : Files) (offsets : List ℕ) (found : Section) → IsPackedAt v kept rev m → Later v w → refused (manifest_in v.layout m (shard_of v.layout rev)) ≡ Ok offsets
+pub section_told : {B : Type 0} (v w : View B) (kept : Option KeptManifest) (rev size : ℕ) (m : Files) (offsets : List ℕ) (found : Section) → IsPackedAt v kept rev m → Later v w → refused (manifest_in v.layout m (shard_of v.layout rev)) ≡ Ok offsets
     → IfSome w.files (λ f. IsSize (map.get f (in_pack (shard_of v.layout rev) (codes "/pack"))) (Some size)) → found ≡ section_at offsets (place_in_shard v.layout rev) size → as_book (packed_section v.layout m rev) ≡ Ok found
 section_told v w kept rev size m offsets found p e read h at =
     let P : Option (List ℕ) → Type 0 = λ f. IsSize f (Some size) in
@@ -51,7 +51,7 @@ no_section rev i (Ok kept) None offsets e is = refl
 no_section rev i (Ok kept) (Some bytes) offsets e is = let h : ◌≡◌ {A = Option ℕ} None (Some (length bytes)) = is in cc
 no_section rev i (Err f) pack offsets e is = cc
 
-pub missing_told : (v w : View) (kept : Option KeptManifest) (rev : ℕ) (m : Files) (offsets : List ℕ) → IsPackedAt v kept rev m → Later v w → refused (manifest_in v.layout m (shard_of v.layout rev)) ≡ Ok offsets
+pub missing_told : {B : Type 0} (v w : View B) (kept : Option KeptManifest) (rev : ℕ) (m : Files) (offsets : List ℕ) → IsPackedAt v kept rev m → Later v w → refused (manifest_in v.layout m (shard_of v.layout rev)) ≡ Ok offsets
     → IfSome w.files (λ f. IsSize (map.get f (in_pack (shard_of v.layout rev) (codes "/pack"))) None) → as_book (packed_section v.layout m rev) ≡ Err (Refused (Missing rev))
 missing_told v w kept rev m offsets p e read h =
     let P : Option (List ℕ) → Type 0 = λ f. IsSize f None in
@@ -134,7 +134,7 @@ part_past n m rev offset count found e lt =
 
 -- ---- the same by the numbers that the code has
 
-pub section_is : (v u w : View) (kept : Option KeptManifest) (rev shard index size : ℕ) (m : Files) (offsets given name : List ℕ) (found : Section) → IsPackedAt v kept rev m → shard ≡ shard_of v.layout rev → index ≡ place_in_shard v.layout rev
+pub section_is : {B : Type 0} (v u w : View B) (kept : Option KeptManifest) (rev shard index size : ℕ) (m : Files) (offsets given name : List ℕ) (found : Section) → IsPackedAt v kept rev m → shard ≡ shard_of v.layout rev → index ≡ place_in_shard v.layout rev
     → Later v w → refused (manifest_in v.layout m shard) ≡ Ok offsets → name ≡ in_pack shard (codes "/pack") → IfSome w.files (λ f. IsSize (map.get f name) (Some size)) → given ≡ offsets → found ≡ section_at given index size
     → as_book (packed_section v.layout m rev) ≡ Ok found
 section_is v u w kept rev shard index size m offsets given name found p e f later read named h same at =
@@ -144,7 +144,7 @@ section_is v u w kept rev shard index size m offsets given name found p e f late
     let section : found ≡ section_at offsets (place_in_shard v.layout rev) size = at ∙ (λ i. section_at (same i) (f i) size) in
     section_told v w kept rev size m offsets found p later (subst P e read) (subst Q there h) section
 
-pub missing_is : (v w : View) (kept : Option KeptManifest) (rev shard : ℕ) (m : Files) (offsets name : List ℕ) → IsPackedAt v kept rev m → shard ≡ shard_of v.layout rev → Later v w
+pub missing_is : {B : Type 0} (v w : View B) (kept : Option KeptManifest) (rev shard : ℕ) (m : Files) (offsets name : List ℕ) → IsPackedAt v kept rev m → shard ≡ shard_of v.layout rev → Later v w
     → refused (manifest_in v.layout m shard) ≡ Ok offsets → name ≡ in_pack shard (codes "/pack") → IfSome w.files (λ f. IsSize (map.get f name) None) → as_book (packed_section v.layout m rev) ≡ Err (Refused (Missing rev))
 missing_is v w kept rev shard m offsets name p e later read named h =
     let P : ℕ → Type 0 = λ k. refused (manifest_in v.layout m k) ≡ Ok offsets in
@@ -157,7 +157,7 @@ section_stops n m rev shard offsets e same h =
     let P : ℕ → Type 0 = λ k. Gives {X = Unit {0}} (λ _. offsets) (Err e) (refused (manifest_in n m k)) in
     section_err {X = Unit {0}} (λ _. offsets) rev (place_in_shard n rev) (manifest_in n m (shard_of n rev)) (pack_in m (shard_of n rev)) e (subst P same h)
 
-pub pack_of : (v w : View) (kept : Option KeptManifest) (rev : ℕ) (m : Files) (pack : List ℕ) → IsPackedAt v kept rev m → pack_in m (shard_of v.layout rev) ≡ Some pack → (e : Later v w) → Stays w (in_pack (shard_of w.layout rev) (codes "/pack")) (Some pack)
+pub pack_of : {B : Type 0} (v w : View B) (kept : Option KeptManifest) (rev : ℕ) (m : Files) (pack : List ℕ) → IsPackedAt v kept rev m → pack_in m (shard_of v.layout rev) ≡ Some pack → (e : Later v w) → Stays w (in_pack (shard_of w.layout rev) (codes "/pack")) (Some pack)
 pack_of v w kept rev m pack p there e =
     let P : Option (List ℕ) → Type 0 = λ f. Stays v (in_pack (shard_of v.layout rev) (codes "/pack")) f in
     let Q : Layout → Type 0 = λ k. Stays w (in_pack (shard_of k rev) (codes "/pack")) (Some pack) in

@@ -19,9 +19,9 @@ use Rattle.fsfs_rev_file.specs.declared.section.Section.{Section}
 use Rattle.fsfs_rev_file.specs.RevBytes.{rev_bytes, rev_file, props_bytes, or_missing, by_floor, floor_in, packed_bytes, packed_section, pack_in, cut, cut_from}
 use Rattle.fsfs_fetch.specs.Views.{Reach, Ends, Grows, IsKnown, IsYoungest, Extends, View, Later}
 use Rattle.fsfs_disk.specs.Benches.{HasShortFiles}
-use Rattle.fsfs_fetch.specs.Kept.{TellsFiles, telling, within, revs_in, props_in, is_short, is_right, last_of, IsFoundAt, FindsAsWell}
+use Rattle.fsfs_fetch.specs.Kept.{TellsFiles, TellsOwn, telling, within, revs_in, props_in, is_short, is_right, last_of, IsFoundAt, FindsAsWell}
 use Rattle.fsfs_fetch.specs.ViewLemmas.{next, known_later}
-use Rattle.fsfs_fetch.proofs.DirectLemmas.{found_later, fresh_right}
+use Rattle.fsfs_fetch.proofs.DirectLemmas.{found_later, fresh_right, make_right}
 
 -- a revision above the youngest
 pub record IsPast (reach : Reach) (rev : ℕ) (read : Result (List ℕ) Refusal) : Type 0 where
@@ -66,7 +66,7 @@ if_short_some true false bytes read told = cc
 if_short_some false short bytes read told = cc
 
 -- the bytes that are told
-pub record IsToldAt (view : View) (floor : ℕ) (kept : Option KeptManifest) (rev : ℕ) (read : Result (List ℕ) Refusal) : Type 0 where
+pub record IsToldAt {B : Type 0} (view : View B) (floor : ℕ) (kept : Option KeptManifest) (rev : ℕ) (read : Result (List ℕ) Refusal) : Type 0 where
   pub files : Files
   pub found : IsFoundAt view floor kept rev files
   pub short : is_short (rev_bytes view.layout files rev) ≡ true
@@ -79,7 +79,7 @@ revs_some n floor kept (Some m) rev read told =
     let p = if_short_some (is_right n m floor kept rev) (is_short (rev_bytes n m rev)) (rev_bytes n m rev) read told in
     (m, refl, p.0, p.1, p.2)
 
-pub told_revs : (v : View) (floor : ℕ) (kept : Option KeptManifest) (rev : ℕ) (read : Result (List ℕ) Refusal) → (telling v floor kept).revs rev ≡ Some read → (IsPast v.reach rev read) ⊎ (IsToldAt v floor kept rev read)
+pub told_revs : {B : Type 0} (v : View B) (floor : ℕ) (kept : Option KeptManifest) (rev : ℕ) (read : Result (List ℕ) Refusal) → (telling v floor kept).revs rev ≡ Some read → (IsPast v.reach rev read) ⊎ (IsToldAt v floor kept rev read)
 unfolding telling
 told_revs v floor kept rev read told =
     elim (within_read v.reach rev (revs_in v.layout floor kept v.files rev) read told) [
@@ -89,14 +89,14 @@ told_revs v floor kept rev read told =
           inr (record { files = q.0; found = record { told = q.1; known = p.0; right = q.2 }; short = q.3; bytes = q.4 })
     ]
 
-pub tells_past : (v : View) (floor : ℕ) (kept : Option KeptManifest) (rev : ℕ) (read : Result (List ℕ) Refusal) → IsPast v.reach rev read → (telling v floor kept).revs rev ≡ Some read
+pub tells_past : {B : Type 0} (v : View B) (floor : ℕ) (kept : Option KeptManifest) (rev : ℕ) (read : Result (List ℕ) Refusal) → IsPast v.reach rev read → (telling v floor kept).revs rev ≡ Some read
 unfolding telling
 tells_past v floor kept rev read p = within_past v.reach rev p.youngest (revs_in v.layout floor kept v.files rev) p.ends p.above ∙ ap (λ (r : Result (List ℕ) Refusal). Some r) (sym p.is)
 
 revs_found : (n : Layout) (floor : ℕ) (kept : Option KeptManifest) (files : Option Files) (m : Files) (rev : ℕ) → files ≡ Some m → is_right n m floor kept rev ≡ true → is_short (rev_bytes n m rev) ≡ true → revs_in n floor kept files rev ≡ Some (rev_bytes n m rev)
 revs_found n floor kept files m rev e right short = ap (λ f. revs_in n floor kept f rev) e ∙ rw (right, short) refl
 
-pub tells_found : (v : View) (floor : ℕ) (kept : Option KeptManifest) (m : Files) (rev : ℕ) → IsFoundAt v floor kept rev m → is_short (rev_bytes v.layout m rev) ≡ true → (telling v floor kept).revs rev ≡ Some (rev_bytes v.layout m rev)
+pub tells_found : {B : Type 0} (v : View B) (floor : ℕ) (kept : Option KeptManifest) (m : Files) (rev : ℕ) → IsFoundAt v floor kept rev m → is_short (rev_bytes v.layout m rev) ≡ true → (telling v floor kept).revs rev ≡ Some (rev_bytes v.layout m rev)
 unfolding telling
 tells_found v floor kept m rev p short = within_known v.reach rev (revs_in v.layout floor kept v.files rev) p.known ∙ revs_found v.layout floor kept v.files m rev p.told p.right short
 
@@ -104,13 +104,13 @@ props_some : (n : Layout) (files : Option Files) (rev : ℕ) (read : Result (Lis
 props_some n None rev read told = cc
 props_some n (Some m) rev read told = (m, refl, cc)
 
-pub record HasProps (view : View) (rev : ℕ) (read : Result (List ℕ) Refusal) : Type 0 where
+pub record HasProps {B : Type 0} (view : View B) (rev : ℕ) (read : Result (List ℕ) Refusal) : Type 0 where
   pub files : Files
   pub told : view.files ≡ Some files
   pub known : IsKnown view.reach rev
   pub bytes : props_bytes view.layout files rev ≡ read
 
-pub told_props : (v : View) (floor : ℕ) (kept : Option KeptManifest) (rev : ℕ) (read : Result (List ℕ) Refusal) → (telling v floor kept).props rev ≡ Some read → (IsPast v.reach rev read) ⊎ (HasProps v rev read)
+pub told_props : {B : Type 0} (v : View B) (floor : ℕ) (kept : Option KeptManifest) (rev : ℕ) (read : Result (List ℕ) Refusal) → (telling v floor kept).props rev ≡ Some read → (IsPast v.reach rev read) ⊎ (HasProps v rev read)
 unfolding telling
 told_props v floor kept rev read told =
     elim (within_read v.reach rev (props_in v.layout v.files rev) read told) [
@@ -120,17 +120,17 @@ told_props v floor kept rev read told =
           inr (record { files = q.0; told = q.1; known = p.0; bytes = q.2 })
     ]
 
-pub tells_past_props : (v : View) (floor : ℕ) (kept : Option KeptManifest) (rev : ℕ) (read : Result (List ℕ) Refusal) → IsPast v.reach rev read → (telling v floor kept).props rev ≡ Some read
+pub tells_past_props : {B : Type 0} (v : View B) (floor : ℕ) (kept : Option KeptManifest) (rev : ℕ) (read : Result (List ℕ) Refusal) → IsPast v.reach rev read → (telling v floor kept).props rev ≡ Some read
 unfolding telling
 tells_past_props v floor kept rev read p = within_past v.reach rev p.youngest (props_in v.layout v.files rev) p.ends p.above ∙ ap (λ (r : Result (List ℕ) Refusal). Some r) (sym p.is)
 
-pub tells_props : (v : View) (floor : ℕ) (kept : Option KeptManifest) (m : Files) (rev : ℕ) → v.files ≡ Some m → IsKnown v.reach rev → (telling v floor kept).props rev ≡ Some (props_bytes v.layout m rev)
+pub tells_props : {B : Type 0} (v : View B) (floor : ℕ) (kept : Option KeptManifest) (m : Files) (rev : ℕ) → v.files ≡ Some m → IsKnown v.reach rev → (telling v floor kept).props rev ≡ Some (props_bytes v.layout m rev)
 unfolding telling
 tells_props v floor kept m rev e known = within_known v.reach rev (props_in v.layout v.files rev) known ∙ ap (λ f. props_in v.layout f rev) e
 
 -- ---- what is told stays told
 
-past_later : (v w : View) (rev : ℕ) (read : Result (List ℕ) Refusal) → Later v w → IsPast v.reach rev read → IsPast w.reach rev read
+past_later : {B : Type 0} (v w : View B) (rev : ℕ) (read : Result (List ℕ) Refusal) → Later v w → IsPast v.reach rev read → IsPast w.reach rev read
 past_later v w rev read e p =
     let P : Reach → Type 0 = λ r. Extends r w.reach in
     let ends : w.reach ≡ Ends p.youngest = subst P p.ends e.reach in
@@ -140,7 +140,7 @@ last_later : (a b : Reach) (y : ℕ) → Extends a b → last_of a ≡ Some y �
 last_later (Ends n) b y e is = ap last_of e ∙ is
 last_later (Grows n) b y e is = cc
 
-found_told : (v w : View) (f g : ℕ) (k l : Option KeptManifest) (rev : ℕ) (read : Result (List ℕ) Refusal) → Later v w → FindsAsWell v f k w g l → IsToldAt v f k rev read → (telling w g l).revs rev ≡ Some read
+found_told : {B : Type 0} (v w : View B) (f g : ℕ) (k l : Option KeptManifest) (rev : ℕ) (read : Result (List ℕ) Refusal) → Later v w → FindsAsWell v f k w g l → IsToldAt v f k rev read → (telling w g l).revs rev ≡ Some read
 found_told v w f g k l rev read e finds p =
     let q = finds p.files rev p.found in
     let n = next v w p.files e p.found.told in
@@ -149,22 +149,22 @@ found_told v w f g k l rev read e finds p =
     ap (λ m. rev_bytes w.layout m rev) (sym one) ∙ ap (λ j. rev_bytes j n.files rev) e.layout ∙ n.follows.bytes rev p.found.known in
     tells_found w g l q.0 rev q.1 (ap is_short same ∙ p.short) ∙ ap (λ (r : Result (List ℕ) Refusal). Some r) (same ∙ p.bytes)
 
-props_told : (v w : View) (g : ℕ) (l : Option KeptManifest) (rev : ℕ) (read : Result (List ℕ) Refusal) → Later v w → HasProps v rev read → (telling w g l).props rev ≡ Some read
+props_told : {B : Type 0} (v w : View B) (g : ℕ) (l : Option KeptManifest) (rev : ℕ) (read : Result (List ℕ) Refusal) → Later v w → HasProps v rev read → (telling w g l).props rev ≡ Some read
 props_told v w g l rev read e p =
     let n = next v w p.files e p.told in
     let same : props_bytes w.layout n.files rev ≡ props_bytes v.layout p.files rev =
     ap (λ j. props_bytes j n.files rev) e.layout ∙ ap (or_missing rev) (n.follows.props rev p.known) in
     tells_props w g l n.files rev n.told (known_later v.reach w.reach rev e.reach p.known) ∙ ap (λ (r : Result (List ℕ) Refusal). Some r) (same ∙ p.bytes)
 
-youngest_told : (v w : View) (f g : ℕ) (k l : Option KeptManifest) (y : ℕ) → Later v w → (telling v f k).youngest ≡ Some y → (telling w g l).youngest ≡ Some y
+youngest_told : {B : Type 0} (v w : View B) (f g : ℕ) (k l : Option KeptManifest) (y : ℕ) → Later v w → (telling v f k).youngest ≡ Some y → (telling w g l).youngest ≡ Some y
 unfolding telling
 youngest_told v w f g k l y e is = last_later v.reach w.reach y e.reach is
 
-below_told : (v w : View) (f g : ℕ) (k l : Option KeptManifest) → Later v w → (telling w g l).below ≡ (telling v f k).below
+below_told : {B : Type 0} (v w : View B) (f g : ℕ) (k l : Option KeptManifest) → Later v w → (telling w g l).below ≡ (telling v f k).below
 unfolding telling
 below_told v w f g k l e = e.below
 
-pub keeps : (v w : View) (f g : ℕ) (k l : Option KeptManifest) → Later v w → FindsAsWell v f k w g l → Keeps (telling v f k) (telling w g l)
+pub keeps : {B : Type 0} (v w : View B) (f g : ℕ) (k l : Option KeptManifest) → Later v w → FindsAsWell v f k w g l → Keeps (telling v f k) (telling w g l)
 keeps v w f g k l e finds = record {
   revs = λ rev read told. elim (told_revs v f k rev read told) [ inl p ↦ tells_past w g l rev read (past_later v w rev read e p) | inr p ↦ found_told v w f g k l rev read e finds p ];
   props = λ rev read told. elim (told_props v f k rev read told) [ inl p ↦ tells_past_props w g l rev read (past_later v w rev read e p) | inr p ↦ props_told v w g l rev read e p ];
@@ -181,19 +181,19 @@ not_above (Grows least) rev n is lt known = omega (arith, is, lt, known)
 youngest_is : (reach : Reach) (n y : ℕ) → IsYoungest reach n → reach ≡ Ends y → n ≡ y
 youngest_is reach n y is e = let P : Reach → Type 0 = λ r. IsYoungest r n in subst P e is
 
-past_read : (v w : View) (rev n : ℕ) (read : Result (List ℕ) Refusal) → Later v w → IsYoungest w.reach n → IsPast v.reach rev read → read ≡ Err (NoRev rev n)
+past_read : {B : Type 0} (v w : View B) (rev n : ℕ) (read : Result (List ℕ) Refusal) → Later v w → IsYoungest w.reach n → IsPast v.reach rev read → read ≡ Err (NoRev rev n)
 past_read v w rev n read e is p =
     let q = past_later v w rev read e p in
     q.is ∙ ap (λ y. Err (NoRev rev y)) (sym (youngest_is w.reach n q.youngest is q.ends))
 
-pub revs_above : (v w : View) (floor : ℕ) (kept : Option KeptManifest) (rev n : ℕ) (read : Result (List ℕ) Refusal) → Later v w → IsYoungest w.reach n → n < rev → (telling v floor kept).revs rev ≡ Some read → read ≡ Err (NoRev rev n)
+pub revs_above : {B : Type 0} (v w : View B) (floor : ℕ) (kept : Option KeptManifest) (rev n : ℕ) (read : Result (List ℕ) Refusal) → Later v w → IsYoungest w.reach n → n < rev → (telling v floor kept).revs rev ≡ Some read → read ≡ Err (NoRev rev n)
 revs_above v w floor kept rev n read e is lt told =
     elim (told_revs v floor kept rev read told) [
       | inl p ↦ past_read v w rev n read e is p
       | inr p ↦ absurd (not_above w.reach rev n is lt (known_later v.reach w.reach rev e.reach p.found.known))
     ]
 
-pub props_above : (v w : View) (floor : ℕ) (kept : Option KeptManifest) (rev n : ℕ) (read : Result (List ℕ) Refusal) → Later v w → IsYoungest w.reach n → n < rev → (telling v floor kept).props rev ≡ Some read → read ≡ Err (NoRev rev n)
+pub props_above : {B : Type 0} (v w : View B) (floor : ℕ) (kept : Option KeptManifest) (rev n : ℕ) (read : Result (List ℕ) Refusal) → Later v w → IsYoungest w.reach n → n < rev → (telling v floor kept).props rev ≡ Some read → read ≡ Err (NoRev rev n)
 props_above v w floor kept rev n read e is lt told =
     elim (told_props v floor kept rev read told) [
       | inl p ↦ past_read v w rev n read e is p
@@ -201,15 +201,15 @@ props_above v w floor kept rev n read e is lt told =
     ]
 
 -- there is a revision, by the youngest
-abbrev pub IsThere : View → ℕ → Type 0
+abbrev pub IsThere : {B : Type 0} → View B → ℕ → Type 0
 IsThere view rev = (n : ℕ) × IsYoungest view.reach n × (rev ≤ n)
 
-not_past_there : (v w : View) (rev : ℕ) (read : Result (List ℕ) Refusal) → Later v w → IsThere w rev → ¬ IsPast v.reach rev read
+not_past_there : {B : Type 0} (v w : View B) (rev : ℕ) (read : Result (List ℕ) Refusal) → Later v w → IsThere w rev → ¬ IsPast v.reach rev read
 not_past_there v w rev read e there p =
     let q = past_later v w rev read e p in
     omega (arith, q.above, there.2, youngest_is w.reach there.0 q.youngest there.1 q.ends)
 
-pub revs_there : (v w : View) (floor : ℕ) (kept : Option KeptManifest) (rev : ℕ) (read : Result (List ℕ) Refusal) → Later v w → IsThere w rev → (telling v floor kept).revs rev ≡ Some read
+pub revs_there : {B : Type 0} (v w : View B) (floor : ℕ) (kept : Option KeptManifest) (rev : ℕ) (read : Result (List ℕ) Refusal) → Later v w → IsThere w rev → (telling v floor kept).revs rev ≡ Some read
     → (new : Files) × (IsFoundAt w floor kept rev new) × (rev_bytes w.layout new rev ≡ read)
 revs_there v w floor kept rev read e there told =
     elim (told_revs v floor kept rev read told) [
@@ -217,7 +217,7 @@ revs_there v w floor kept rev read e there told =
       | inr p ↦ let k = found_later v w floor kept p.files rev e p.found in (k.0, k.1, k.2 ∙ p.bytes)
     ]
 
-pub props_there : (v w : View) (floor : ℕ) (kept : Option KeptManifest) (rev : ℕ) (read : Result (List ℕ) Refusal) → Later v w → IsThere w rev → (telling v floor kept).props rev ≡ Some read → HasProps w rev read
+pub props_there : {B : Type 0} (v w : View B) (floor : ℕ) (kept : Option KeptManifest) (rev : ℕ) (read : Result (List ℕ) Refusal) → Later v w → IsThere w rev → (telling v floor kept).props rev ≡ Some read → HasProps w rev read
 props_there v w floor kept rev read e there told =
     elim (told_props v floor kept rev read told) [
       | inl p ↦ absurd (not_past_there v w rev read e there p)
@@ -232,7 +232,7 @@ youngest_within : (a b : Reach) (n : ℕ) → Extends a b → IsYoungest b n →
 youngest_within (Ends y) b n e is = youngest_is b n y is e
 youngest_within (Grows least) b n e is = tt
 
-pub youngest_same : (v w : View) (floor : ℕ) (kept : Option KeptManifest) (n : ℕ) → Later v w → IsYoungest w.reach n → IfSome (telling v floor kept).youngest (λ y. n ≡ y)
+pub youngest_same : {B : Type 0} (v w : View B) (floor : ℕ) (kept : Option KeptManifest) (n : ℕ) → Later v w → IsYoungest w.reach n → IfSome (telling v floor kept).youngest (λ y. n ≡ y)
 unfolding telling
 youngest_same v w floor kept n e is = youngest_within v.reach w.reach n e.reach is
 
@@ -280,15 +280,21 @@ short_bytes : (n : Layout) (m : Files) (rev : ℕ) → HasShortFiles m → is_sh
 unfolding rev_bytes
 short_bytes n m rev short = short_by_floor n m rev (floor_in n m) short
 
-youngest_last : (v : View) (floor : ℕ) (kept : Option KeptManifest) → (telling v floor kept).youngest ≡ last_of v.reach
+youngest_last : {B : Type 0} (v : View B) (floor : ℕ) (kept : Option KeptManifest) → (telling v floor kept).youngest ≡ last_of v.reach
 unfolding telling
 youngest_last v floor kept = refl
 
-pub below_same : (v : View) (floor : ℕ) (kept : Option KeptManifest) → (telling v floor kept).below ≡ v.below
+pub below_same : {B : Type 0} (v : View B) (floor : ℕ) (kept : Option KeptManifest) → (telling v floor kept).below ≡ v.below
 unfolding telling
 below_same v floor kept = refl
 
-pub tells_files : (v : View) (floor : ℕ) (m : Files) → v.files ≡ Some m → floor_in v.layout m ≡ Ok floor → HasShortFiles m → TellsFiles v m (telling v floor None)
+pub tells_own : {B : Type 0} (v : View B) (floor : ℕ) (m : Files) → v.files ≡ Some m → HasShortFiles m → TellsOwn v floor m (telling v floor None)
+tells_own v floor m told short = record {
+  revs = λ rev known le own. tells_found v floor None m rev (record { told = told; known = known; right = make_right v.layout m floor None rev (λ lt. absurd (omega (arith, lt, le))) (λ _. own) }) (short_bytes v.layout m rev short);
+  props = λ rev known. tells_props v floor None m rev told known;
+}
+
+pub tells_files : {B : Type 0} (v : View B) (floor : ℕ) (m : Files) → v.files ≡ Some m → floor_in v.layout m ≡ Ok floor → HasShortFiles m → TellsFiles v m (telling v floor None)
 tells_files v floor m told is short = record {
   revs = λ rev known. tells_found v floor None m rev (record { told = told; known = known; right = fresh_right v.layout m rev floor is }) (short_bytes v.layout m rev short);
   props = λ rev known. tells_props v floor None m rev told known;

@@ -11,13 +11,13 @@ use Rattle.fsfs_book.specs.Told.{part_read}
 use Rattle.fsfs_fetch.specs.Views.{View, Follows}
 
 -- the file with this name stays as it is
-pub record Stays (view : View) (name : List ℕ) (file : Option (List ℕ)) : Type 0 where
+pub record Stays {B : Type 0} (view : View B) (name : List ℕ) (file : Option (List ℕ)) : Type 0 where
   pub now : Files
   pub told : view.files ≡ Some now
   pub later : (new : Files) → Follows view.layout view.reach now new → map.get new name ≡ file
 
 -- the file with this name stays as it is, or goes
-pub record MayGo (view : View) (name : List ℕ) (file : Option (List ℕ)) : Type 0 where
+pub record MayGo {B : Type 0} (view : View B) (name : List ℕ) (file : Option (List ℕ)) : Type 0 where
   pub now : Files
   pub told : view.files ≡ Some now
   pub later : (new : Files) → Follows view.layout view.reach now new → (map.get new name ≡ file) ⊎ (map.get new name ≡ None)

@@ -1,5 +1,5 @@
 -- What a reader tells that keeps a floor and a manifest.
-use Rattle.std.specs.Prelude.{◌≡◌, ℕ, Bool, true, false, nat_lt, nat_eq, ◌==◌, ◌&&◌, if◌then◌else◌, List, [], length, Option, Some, None, Result, Ok, Err}
+use Rattle.std.specs.Prelude.{◌≡◌, ◌≤◌, ℕ, Bool, true, false, nat_lt, nat_eq, ◌==◌, ◌&&◌, if◌then◌else◌, List, [], length, Option, Some, None, Result, Ok, Err}
 use Rattle.std.specs.Cmp.Lexicographic.{pointwise}
 use Rattle.fsfs_base.specs.Files.{Files}
 use Rattle.fsfs_base.specs.declared.small_fault.SmallFault.{SmallFault}
@@ -9,7 +9,7 @@ use Rattle.fsfs_book.specs.Told.{Telling}
 use Rattle.fsfs_layout.specs.declared.layout.Layout.{Layout}
 use Rattle.fsfs_layout.specs.Layouts.{shard_of}
 use Rattle.fsfs_fetch.specs.declared.manifests.KeptManifest.{KeptManifest}
-use Rattle.fsfs_fetch.specs.Views.{DiskState, View, Reach, Ends, Grows, IsKnown, is_packed}
+use Rattle.fsfs_fetch.specs.Views.{View, Reach, Ends, Grows, IsKnown, is_packed}
 use Rattle.fsfs_rev_file.specs.RevBytes.{rev_bytes, rev_file, props_bytes, manifest_in}
 
 abbrev pub are_offsets : List ℕ → Result (List ℕ) SmallFault → Bool
@@ -60,7 +60,7 @@ last_of (Ends youngest) = Some youngest
 last_of (Grows least) = None
 
 -- what a reader over a store tells, that keeps this floor and this manifest
-unfoldable pub telling : View → ℕ → Option KeptManifest → Telling (Option DiskState)
+unfoldable pub telling : {B : Type 0} → View B → ℕ → Option KeptManifest → Telling B
 telling view floor kept = record {
   revs = λ rev. within view.reach rev (revs_in view.layout floor kept view.files rev);
   props = λ rev. within view.reach rev (props_in view.layout view.files rev);
@@ -69,10 +69,16 @@ telling view floor kept = record {
 }
 
 -- of each revision that there is, all is told that these files say
-pub record TellsFiles (view : View) (files : Files) {Below : Type 0} (told : Telling Below) : Type 0 where
+pub record TellsFiles {B : Type 0} (view : View B) (files : Files) {Below : Type 0} (told : Telling Below) : Type 0 where
   pub revs : (rev : ℕ) → IsKnown view.reach rev → told.revs rev ≡ Some (rev_bytes view.layout files rev)
   pub props : (rev : ℕ) → IsKnown view.reach rev → told.props rev ≡ Some (props_bytes view.layout files rev)
   pub youngest : told.youngest ≡ last_of view.reach
+
+-- Of these revisions all is told that these files say: of one at or above this floor whose own file has its bytes, where there is one;
+-- and its properties.
+pub record TellsOwn {B : Type 0} (view : View B) (floor : ℕ) (files : Files) {Below : Type 0} (told : Telling Below) : Type 0 where
+  pub revs : (rev : ℕ) → IsKnown view.reach rev → floor ≤ rev → agrees (rev_file view.layout files rev) (rev_bytes view.layout files rev) ≡ true → told.revs rev ≡ Some (rev_bytes view.layout files rev)
+  pub props : (rev : ℕ) → IsKnown view.reach rev → told.props rev ≡ Some (props_bytes view.layout files rev)
 
 abbrev pub keeps_shard : Option KeptManifest → ℕ → Bool
 keeps_shard None shard = false
@@ -83,27 +89,27 @@ kept_offsets None = []
 kept_offsets (Some kept) = kept.offsets.items
 
 -- a revision of these files is packed, and the kept manifest serves it
-pub record IsPackedAt (view : View) (kept : Option KeptManifest) (rev : ℕ) (m : Files) : Type 0 where
+pub record IsPackedAt {B : Type 0} (view : View B) (kept : Option KeptManifest) (rev : ℕ) (m : Files) : Type 0 where
   pub told : view.files ≡ Some m
   pub packed : is_packed view.layout m rev ≡ true
   pub fits : fits view.layout m kept rev ≡ true
 
 -- a manifest that was kept since serves what the one before served
-abbrev pub ServesAsWell : View → Option KeptManifest → Option KeptManifest → Type 0
+abbrev pub ServesAsWell : {B : Type 0} → View B → Option KeptManifest → Option KeptManifest → Type 0
 ServesAsWell view old new = (m : Files) (rev : ℕ) → IsPackedAt view old rev m → fits view.layout m new rev ≡ true
 
 -- a revision that there is is found in these files by what is kept
-pub record IsFoundAt (view : View) (floor : ℕ) (kept : Option KeptManifest) (rev : ℕ) (m : Files) : Type 0 where
+pub record IsFoundAt {B : Type 0} (view : View B) (floor : ℕ) (kept : Option KeptManifest) (rev : ℕ) (m : Files) : Type 0 where
   pub told : view.files ≡ Some m
   pub known : IsKnown view.reach rev
   pub right : is_right view.layout m floor kept rev ≡ true
 
 -- and all that was found by what was kept is found by what is kept now
-abbrev pub FindsAsWell : View → ℕ → Option KeptManifest → View → ℕ → Option KeptManifest → Type 0
+abbrev pub FindsAsWell : {B : Type 0} → View B → ℕ → Option KeptManifest → View B → ℕ → Option KeptManifest → Type 0
 FindsAsWell view floor kept new_view new_floor new_kept = (m : Files) (rev : ℕ) → IsFoundAt view floor kept rev m → (new : Files) × IsFoundAt new_view new_floor new_kept rev new
 
 -- a revision that there is whose own file is gone
-pub record IsGoneAt (view : View) (rev : ℕ) (m : Files) : Type 0 where
+pub record IsGoneAt {B : Type 0} (view : View B) (rev : ℕ) (m : Files) : Type 0 where
   pub told : view.files ≡ Some m
   pub known : IsKnown view.reach rev
   pub gone : rev_file view.layout m rev ≡ None

@@ -34,6 +34,6 @@ short_within (Ends youngest) rev read bytes g told = chosen_read (nat_lt younges
 short_within (Grows least) rev read bytes g told = chosen_read (nat_lt least rev) None read bytes (λ e. cc) g told
 
 -- no revision that is told has 2^64 bytes
-pub told_short : (view : View) (floor : ℕ) (kept : Option KeptManifest) (rev : ℕ) (bytes : List ℕ) → (telling view floor kept).revs rev ≡ Some (Ok bytes) → length bytes < 2 ^ 64
+pub told_short : {B : Type 0} (view : View B) (floor : ℕ) (kept : Option KeptManifest) (rev : ℕ) (bytes : List ℕ) → (telling view floor kept).revs rev ≡ Some (Ok bytes) → length bytes < 2 ^ 64
 unfolding telling
 told_short view floor kept rev bytes told = short_within view.reach rev (revs_in view.layout floor kept view.files rev) bytes (short_in view.layout floor kept view.files rev bytes) told

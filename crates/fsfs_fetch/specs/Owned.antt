@@ -7,7 +7,7 @@ use Rattle.fsfs_layout.specs.declared.layout.Layout.{Layout}
 use Rattle.fsfs_fetch.specs.Views.{View, DiskState, Ends}
 use Rattle.fsfs_rev_file.specs.RevBytes.{rev_bytes, props_bytes}
 
-abbrev pub owned_view : DiskState → ℕ → Layout → View
+abbrev pub owned_view : DiskState → ℕ → Layout → View (Option DiskState)
 owned_view disk youngest layout = record { layout = layout; reach = Ends youngest; files = option_map files_now disk.trace; below = Some disk }
 
 abbrev pub state_of : Option Trace → List ℕ → Bool → ℕ → DiskState

@@ -62,10 +62,10 @@ files_more n r s (Some a) None c e f g = absurd f
 files_more n r s (Some a) (Some b) None e f g = absurd g
 files_more n r s (Some a) (Some b) (Some c) e f g = follows_more n r s a b c e f g
 
-pub later_same : (v : View) → Later v v
+pub later_same : {B : Type 0} (v : View B) → Later v v
 later_same v = record { layout = refl; reach = extends_same v.reach; files = files_same v.layout v.reach v.files; below = refl }
 
-pub later_more : (u v w : View) → Later u v → Later v w → Later u w
+pub later_more : {B : Type 0} (u v w : View B) → Later u v → Later v w → Later u w
 later_more u v w e f =
     let P : Layout → Type 0 = λ n. FilesLater n v.reach v.files w.files in
     record {
@@ -76,7 +76,7 @@ later_more u v w e f =
     }
 
 -- the files that are met later, where they are told now
-pub record Next (v w : View) (m : Files) : Type 0 where
+pub record Next {B : Type 0} (v w : View B) (m : Files) : Type 0 where
   pub files : Files
   pub told : w.files ≡ Some files
   pub follows : Follows v.layout v.reach m files
@@ -85,7 +85,7 @@ next_files : (n : Layout) (reach : Reach) (a : Files) (b : Option Files) → Fil
 next_files n reach a None f = absurd f
 next_files n reach a (Some b) f = (b, refl, f)
 
-pub next : (v w : View) (m : Files) → Later v w → v.files ≡ Some m → Next v w m
+pub next : {B : Type 0} (v w : View B) (m : Files) → Later v w → v.files ≡ Some m → Next v w m
 next v w m e told =
     let P : Option Files → Type 0 = λ o. FilesLater v.layout v.reach o w.files in
     let p = next_files v.layout v.reach m w.files (subst P told e.files) in
@@ -95,7 +95,7 @@ pub told_at : (files : Option Files) (m : Files) (P : Files → Type 0) → file
 told_at files m P e h = let Q : Option Files → Type 0 = λ o. IfSome o P in subst Q e h
 
 -- what stays, stays later
-pub stays_later : (v w : View) (name : List ℕ) (file : Option (List ℕ)) → Later v w → Stays v name file → Stays w name file
+pub stays_later : {B : Type 0} (v w : View B) (name : List ℕ) (file : Option (List ℕ)) → Later v w → Stays v name file → Stays w name file
 stays_later v w name file e s =
     let n = next v w s.now e s.told in
     let P : Layout → Files → Type 0 = λ k new. Follows k w.reach n.files new in
@@ -105,10 +105,10 @@ stays_later v w name file e s =
       later = λ new f. s.later new (follows_more v.layout v.reach w.reach s.now n.files new e.reach n.follows (let Q : Layout → Type 0 = λ k. P k new in subst Q e.layout f));
     }
 
-pub stays_now : (v : View) (name : List ℕ) (file : Option (List ℕ)) → (s : Stays v name file) → map.get s.now name ≡ file
+pub stays_now : {B : Type 0} (v : View B) (name : List ℕ) (file : Option (List ℕ)) → (s : Stays v name file) → map.get s.now name ≡ file
 stays_now v name file s = s.later s.now (follows_same v.layout v.reach s.now)
 
-pub goes_later : (v w : View) (name : List ℕ) (file : Option (List ℕ)) → Later v w → MayGo v name file → MayGo w name file
+pub goes_later : {B : Type 0} (v w : View B) (name : List ℕ) (file : Option (List ℕ)) → Later v w → MayGo v name file → MayGo w name file
 goes_later v w name file e s =
     let n = next v w s.now e s.told in
     record {
@@ -117,7 +117,7 @@ goes_later v w name file e s =
       later = λ new f. s.later new (follows_more v.layout v.reach w.reach s.now n.files new e.reach n.follows (let Q : Layout → Type 0 = λ k. Follows k w.reach n.files new in subst Q e.layout f));
     }
 
-pub goes_now : (v : View) (name : List ℕ) (file : Option (List ℕ)) → (s : MayGo v name file) → (map.get s.now name ≡ file) ⊎ (map.get s.now name ≡ None)
+pub goes_now : {B : Type 0} (v : View B) (name : List ℕ) (file : Option (List ℕ)) → (s : MayGo v name file) → (map.get s.now name ≡ file) ⊎ (map.get s.now name ≡ None)
 goes_now v name file s = s.later s.now (follows_same v.layout v.reach s.now)
 
 -- ---- counts of faults

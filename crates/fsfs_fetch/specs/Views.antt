@@ -34,13 +34,12 @@ pub record DiskState : Type 0 where
   pub may_write : Bool
   pub bench_faults : ℕ
 
--- what a store tells: its layout, its revisions, its files as the last call met them, and the disk below it,
--- where it tells these
-pub record View : Type 0 where
+-- what a store tells: its layout, its revisions, its files as the last call met them, where it tells these; and what is below it
+pub record View (Below : Type 0) : Type 0 where
   pub layout : Layout
   pub reach : Reach
   pub files : Option Files
-  pub below : Option DiskState
+  pub below : Below
 
 abbrev pub is_below : ℕ → Result ℕ SmallFault → Bool
 is_below rev (Err fault) = false
@@ -65,8 +64,8 @@ FilesLater layout reach None new = Unit {0}
 FilesLater layout reach (Some old) None = ⊥
 FilesLater layout reach (Some old) (Some new) = Follows layout reach old new
 
--- what a store may tell later; reading leaves the disk below as it is
-pub record Later (old new : View) : Type 0 where
+-- what a store may tell later; reading leaves what is below as it is
+pub record Later {B : Type 0} (old new : View B) : Type 0 where
   pub layout : new.layout ≡ old.layout
   pub reach : Extends old.reach new.reach
   pub files : FilesLater old.layout old.reach old.files new.files

@@ -8,7 +8,7 @@ ghost use Rattle.fsfs_disk.specs.Trace.{Trace, files_now};
 ghost use Rattle.fsfs_fetch.specs.Owned.{TellsAll, state_of};
 ghost use Rattle.fsfs_rev_file.specs.RevBytes.{rev_bytes, props_bytes, floor_in};
 ghost use Rattle.fsfs_fetch.specs.Views.{Later, IsYoungest, IsKnown};
-ghost use Rattle.fsfs_fetch.specs.Kept.{IsFoundAt, FindsAsWell, IsGoneAt, TellsFiles, telling};
+ghost use Rattle.fsfs_fetch.specs.Kept.{IsFoundAt, FindsAsWell, IsGoneAt, TellsFiles, TellsOwn, telling};
 
 use crate::files::{file_len, file_part};
 use crate::floors::refresh;
@@ -43,6 +43,8 @@ impl<R: Reads> Direct<R> {
         ensures kept { result.kept ≡ None }
         ensures told { (m : Files) → (R.view reads).files ≡ Some m → floor_in (R.view reads).layout m ≡ Ok floor
             → TellsFiles (R.view reads) m (⟦<Direct<R> as Book>⟧.told result) }
+        // With any floor, of each revision from it on whose own file isn't left over from before it was packed.
+        ensures own { (m : Files) → (R.view reads).files ≡ Some m → TellsOwn (R.view reads) floor m (⟦<Direct<R> as Book>⟧.told result) }
         ensures below { (⟦<Direct<R> as Book>⟧.told result).below ≡ (R.view reads).below }
     {
         Direct {
@@ -238,10 +240,8 @@ fn props_of<R: Reads>(
 
 impl<R: Reads> Book for Direct<R> {
     ghost use Rattle.fsfs_fetch.specs.KeptLemmas.{told_short};
-    ghost use Rattle.std.specs.Prelude.{Option};
-    ghost use Rattle.fsfs_fetch.specs.Views.{DiskState};
 
-    ghost Below = { Option DiskState };
+    ghost Below = { R.Below };
 
     ghost told = { λ d. telling (R.view d.reads) d.floor d.kept };
 

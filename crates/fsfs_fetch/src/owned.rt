@@ -40,6 +40,10 @@ impl<D: Disk> OwnedReads<D> {
 impl<D: Disk> Reads for OwnedReads<D> {
     ghost use Rattle.fsfs_fetch.specs.Owned.{owned_view, state_of};
     ghost use Rattle.fsfs_fetch.specs.OwnedShort.{owned_short};
+    ghost use Rattle.std.specs.Prelude.{Option};
+    ghost use Rattle.fsfs_fetch.specs.Views.{DiskState};
+
+    ghost Below = { Option DiskState };
 
     ghost view = { λ r. owned_view (state_of (D.trace r.disk) (D.mount_path r.disk) (D.may_write r.disk) (D.bench_faults r.disk)) r.youngest r.layout };
 

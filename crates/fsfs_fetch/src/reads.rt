@@ -13,8 +13,12 @@ use fsfs_layout::Layout;
 /// A store of revisions that is read: the files of a repository, of which others may make more, and pack some, between
 /// two calls. Each call meets the files of one moment.
 pub trait Reads {
-    /// What it tells: its layout, which revisions there are, and its files as the last call met them.
-    ghost view: { Self → View };
+    /// What can be said of what is below it, as a disk.
+    ghost Below: { Type 0 };
+
+    /// What it tells: its layout, which revisions there are, its files as the last call met them, and what is below it, which no call
+    /// changes.
+    ghost view: { Self → View Below };
 
     /// How often it has failed. The count stops at the last number of a u64.
     ghost faults: { Self → ℕ };

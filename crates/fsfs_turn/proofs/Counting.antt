@@ -1,8 +1,8 @@
 -- A begin's first call: `txn-current` is read.
-use Rattle.std.proofs.Common.{◌≡◌, ◌<◌, ◌+◌, ◌-◌, ◌^◌, ℕ, List, [], ◌++◌, length, true, cond, refl, sym, ap, subst, ◌∙◌, arith, take, drop}
-use Rattle.std.specs.Prelude.{Option, Some, IfSome, Result, Ok, Err, IfOk, nat_lt, ◌&&◌}
+use Rattle.std.proofs.Common.{◌≡◌, ◌<◌, ◌≤◌, ◌+◌, ◌-◌, ◌^◌, ℕ, List, [], ◌++◌, length, true, cond, refl, sym, ap, subst, ◌∙◌, arith, drop}
+use Rattle.std.specs.Prelude.{Option, Some, IfSome, Result, Ok, Err, IfOk, nat_lt, ◌&&◌, option_map}
 use Rattle.std.specs.FinMap.{get}
-use Rattle.std.proofs.lemmas.List.{take_all, length-take}
+use Rattle.std.proofs.lemmas.List.{take_all}
 use Rattle.fsfs_layout.specs.FileNames.{only_name}
 use Rattle.fsfs_layout.specs.Small.{IsBase36Line}
 use Rattle.fsfs_layout.specs.declared.layout.Layout.{Layout}
@@ -22,6 +22,7 @@ use Rattle.fsfs_machine.specs.Disk.{found}
 use Rattle.fsfs_machine.specs.Machine.{World, did, barred, either, answer, learns, number_of, inside, held_by, drawn, counted, count_read, with_next, stuck_place}
 use Rattle.fsfs_machine.specs.Kept.{Kept, coming, AllBelow}
 use Rattle.fsfs_machine.proofs.Images.{read_is_image}
+use Rattle.fsfs_machine.proofs.Answering.{seen_of}
 use Rattle.fsfs_machine.proofs.Steps.{step_keeps}
 use Rattle.fsfs_machine.proofs.Whose.{length_at}
 use Rattle.fsfs_images.specs.RealNames.{machine_name}
@@ -35,12 +36,15 @@ use Rattle.fsfs_turn.proofs.Stepping.{kept_bare, at_itself, held_here, lock_is, 
 use Rattle.fsfs_turn.proofs.Due.{at_found}
 
 module _ (layout : Layout) (young : ℕ) (stuck : Option DiskPlace) (t : Trace) (w : World) (v : View) (store : IsStore layout young stuck t w) (sees : Sees w v) (layout_is : v.layout ≡ layout) (number_is : v.number ≡ 0) (safe : Safe layout v.since t v.opened w.floor w.history (doubt w.lock))
-    (base : ℕ) (begun : v.section ≡ Some Begun) (seen_base : base < length v.seen) where
+    (base : ℕ) (begun : v.section ≡ Some Begun) (told_base : base ≤ v.pass.least) where
   lock : w.lock ≡ Held v.number Begun
   lock = lock_is v.number w.lock Begun (sees.section ∙ begun)
 
+  least_in : v.pass.least < length w.history
+  least_in = (seen_of (length w.history) w.floor w.passes v.number v.pass store.kept.seen sees.pass).least
+
   base_in : base < length w.history
-  base_in = let e : length v.seen ≡ length (take v.pass.seen w.history) = ap length sees.seen in omega (arith, seen_base, e, length-take v.pass.seen w.history)
+  base_in = omega (arith, told_base, least_in)
 
   counter : (k : ℕ) × (found w.disk Counter ≡ Some (Number k)) × AllBelow k w.given
   counter = store.kept.counts w.disk (read_is_image w.disk)
@@ -84,6 +88,7 @@ module _ (layout : Layout) (young : ℕ) (stuck : Option DiskPlace) (t : Trace) 
       is = refl;
       grows = (drop v.pass.seen w.history, take_drop v.pass.seen w.history ∙ ap (λ l. l ++ drop v.pass.seen w.history) (sym sees.seen));
       within = λ sure. let up : w.young + 1 ≡ length w.history = store.kept.young sees.up in omega (arith, up, sees.sure sure);
+      all = least_in;
       shown = store.shown;
     },
   )
@@ -111,11 +116,14 @@ module _ (layout : Layout) (young : ℕ) (stuck : Option DiskPlace) (t : Trace) 
       safe_then = subst (λ d. Safe layout v.since t v.opened w.floor w.history d) (doubtless went) (subst (λ l. Safe layout v.since t v.opened w.floor w.history (doubt l)) lock safe)
 
   pub counter_comes : {E : Type 0} (told : Option Trace) → told ≡ Some t → (name old new : List ℕ) → name ≡ only_name only.TxnCurrent → (result : Result (Option ℕ) E) → IfOk result (IsRead (file_at t name) 0 old new)
-      → ReadsCounter (Knows layout young stuck told) base result old new v
+      → ReadsCounter (Knows layout young stuck told) (option_map files_now told) base result old new v
   counter_comes told same name old new named result read = record {
     text = at.0;
     number = counter.0;
     line = at.2;
+    files = files_now t;
+    files_are = ap (λ o. option_map files_now o) same;
+    there = at.1;
     read = read_it result read;
     turned = λ few. by_result result few;
     full = λ many. subst (λ o. Knows layout young stuck o v) (sym same) (w, store, sees, layout_is, number_is, safe);

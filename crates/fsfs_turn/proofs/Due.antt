@@ -1,6 +1,6 @@
 -- The call that is due, as the machine's change.
 use Rattle.std.proofs.Common.{◌≡◌, ◌⊎◌, ◌<◌, ◌≤◌, ◌^◌, ℕ, List, ◌∷◌, length, true, ⊎_elim, refl, sym, ap, subst, ◌∙◌}
-use Rattle.std.specs.Prelude.{Option, Some, None, OnOk, OnErr, Result, Ok, Err}
+use Rattle.std.specs.Prelude.{Option, Some, OnOk, OnErr, Result, Ok, Err}
 use Rattle.std.specs.FinMap.{get}
 use Rattle.fsfs_base.specs.Files.{Files}
 use Rattle.fsfs_layout.specs.Small.{IsRevLine}
@@ -26,9 +26,10 @@ use Rattle.fsfs_machine.specs.Disk.{Disk, found, IsImage}
 use Rattle.fsfs_machine.specs.Machine.{World, either, after, spoiled, due, is_due, rename_of, disk_after}
 use Rattle.fsfs_machine.specs.Kept.{KnowsAt, Stands}
 use Rattle.fsfs_images.specs.RealNames.{machine_name}
-use Rattle.fsfs_images.specs.Shown.{Fits, Reads, AtName, AreRead, IsTraceOf, Putting, Renaming, Firming, Attempting}
+use Rattle.fsfs_images.specs.Shown.{Fits, Reads, AreRead, IsTraceOf, Putting, Renaming, Firming, Attempting}
 use Rattle.fsfs_turn.specs.Views.{View, coming_at, Sees, IsDue, Answers, Called}
 use Rattle.fsfs_turn.specs.Past.{doubt_in, doubt, Safe}
+pub use Rattle.fsfs_turn.specs.Found.{at_found}
 use Rattle.fsfs_turn.specs.Standing.{no_others, IsStore, Knows}
 use Rattle.fsfs_images.proofs.Showing.{now_read, image_read, torn_read}
 use Rattle.fsfs_turn.proofs.Moments.{doubt_after, part_due, safe_step, safe_not}
@@ -105,13 +106,6 @@ firm_due w v (Begin begin.Firm) d = record { section = CountRenamed d.0; inside 
 firm_due w v (Commit FirmRev) d = record { section = PropsPut d.0; inside = d.1; is = refl; change = refl }
 firm_due w v (Commit FirmCurrent) d = record { section = CurrentRenamed d.0; inside = d.1; is = refl; change = refl }
 firm_due w v place d = absurd d
-
--- what stands at a name that is found
-pub at_found : (n : FileName) (o : Option (List ℕ)) (f : Option Contents) (c : Contents) → f ≡ Some c → AtName n o f → (bytes : List ℕ) × (o ≡ Some bytes) × Reads n bytes c
-at_found n None None c e at = absurd cc
-at_found n (Some bytes) None c e at = absurd cc
-at_found n None (Some z) c e at = absurd at
-at_found n (Some bytes) (Some z) c e at = let same : z ≡ c = cc in (bytes, refl, subst (λ k. Reads n bytes k) same at)
 
 pub junk : (n : FileName) (bytes : List ℕ) → Reads n bytes Junk
 junk n bytes = tt

@@ -92,6 +92,7 @@ module _ (layout : Layout) (young : ℕ) (stuck : Option DiskPlace) (t : Trace) 
     is = refl;
     grows = (drop v.pass.seen w.history, take_drop v.pass.seen w.history ∙ ap (λ l. l ++ drop v.pass.seen w.history) (sym sees.seen));
     within = λ sure. let up : w.young + 1 ≡ length w.history = store.kept.young sees.up in omega (arith, up, sees.sure sure);
+    all = (seen_of (length w.history) w.floor w.passes v.number v.pass store.kept.seen sees.pass).least;
     shown = store.shown;
   }
 

@@ -1,5 +1,5 @@
 -- The calls of an owned store, whatever its disk tells.
-use Rattle.std.proofs.Common.{◌≡◌, ◌⊎◌, ◌<◌, ◌^◌, ◌||◌, ℕ, List, [], ◌∷◌, length, true, false, cond, inl, inr, ⊎_elim, refl, sym, ap, subst, ◌∙◌}
+use Rattle.std.proofs.Common.{◌≡◌, ◌⊎◌, ◌<◌, ◌≤◌, ◌^◌, ◌||◌, ℕ, List, [], ◌∷◌, length, true, false, cond, inl, inr, ⊎_elim, refl, sym, ap, subst, ◌∙◌}
 use Rattle.std.specs.Prelude.{Option, Some, None, Bool, IfSome, IsSome, OnOk, OnErr, IfOk, Result, Ok, Err, slice_get, option_map}
 use Rattle.std.specs.FinMap.{empty}
 use Rattle.fsfs_base.specs.Files.{Files}
@@ -10,7 +10,7 @@ use Rattle.fsfs_layout.specs.Small.{IsRevLine}
 use Rattle.fsfs_layout.specs.declared.only_file.OnlyFile.TheVariants as only
 use Rattle.fsfs_hash.specs.Dump.{IsDump}
 use Rattle.fsfs_disk.specs.Labels.{Label, same_label, has_label, with_label, without_label}
-use Rattle.fsfs_disk.specs.Trace.{Trace, KeepLabel, DropLabel, file_at, labels_now, IsRead, IsSize, Performs, PerformsIfThere, FailsAt, FailsToPut, FailsToAdopt, StaysAt}
+use Rattle.fsfs_disk.specs.Trace.{Trace, KeepLabel, DropLabel, file_at, files_now, labels_now, IsRead, IsSize, Performs, PerformsIfThere, FailsAt, FailsToPut, FailsToAdopt, StaysAt}
 use Rattle.fsfs_disk.specs.Trace as real
 use Rattle.fsfs_disk.proofs.TraceLemmas.{file_at-put}
 use Rattle.fsfs_machine.specs.declared.machine.Recorded.{Recorded}
@@ -188,11 +188,11 @@ module _ (layout : Layout) (young : ℕ) (stuck : Option DiskPlace) where
       floor_comes layout young stuck t known.0 v known.1 known.2 known.3 known.4 known.5 new same offset name buffer filled named result read
 
   pub counter_known : {E : Type 0} (old new : Option Trace) → new ≡ old → (offset : ℕ) (name buffer filled : List ℕ) (result : Result (Option ℕ) E) → IfSome old (λ t. IfOk result (IsRead (file_at t name) offset buffer filled))
-      → (v : View) (base : ℕ) → Knows layout young stuck old v → v.section ≡ Some Begun → base < length v.seen → name ≡ only_name only.TxnCurrent → offset ≡ 0
-      → ReadsCounter (Knows layout young stuck new) base result buffer filled v
-  counter_known None new same offset name buffer filled result read v base known begun seen named first = absurd known
-  counter_known (Some t) new same offset name buffer filled result read v base known begun seen named first =
-      counter_comes layout young stuck t known.0 v known.1 known.2 known.3 known.4 known.5 base begun seen new same name buffer filled named result (subst (λ o. IfOk result (IsRead (file_at t name) o buffer filled)) first read)
+      → (v : View) (base : ℕ) → Knows layout young stuck old v → v.section ≡ Some Begun → base ≤ v.pass.least → name ≡ only_name only.TxnCurrent → offset ≡ 0
+      → ReadsCounter (Knows layout young stuck new) (option_map files_now new) base result buffer filled v
+  counter_known None new same offset name buffer filled result read v base known begun at_most named first = absurd known
+  counter_known (Some t) new same offset name buffer filled result read v base known begun at_most named first =
+      counter_comes layout young stuck t known.0 v known.1 known.2 known.3 known.4 known.5 base begun at_most new same name buffer filled named result (subst (λ o. IfOk result (IsRead (file_at t name) o buffer filled)) first read)
 
   pub size_known : {E : Type 0} (old new : Option Trace) → new ≡ old → (name : List ℕ) (result : Result (Option ℕ) E) → IfSome old (λ t. IfOk result (IsSize (file_at t name)))
       → (v : View) (r : ℕ) (x : Recorded) → Knows layout young stuck old v → slice_get v.seen r ≡ Some x → r < 2 ^ 32 → name ≡ rev_name v r

@@ -1,7 +1,7 @@
 -- Looks and moves of the lock, over an owned store.
 use Rattle.std.proofs.Common.{◌≡◌, ◌⊎◌, ◌<◌, ◌≤◌, ◌+◌, ℕ, suc, zero, List, [], ◌∷◌, ◌++◌, length, true, false, cond, inl, inr, ⊎_elim, refl, sym, ap, subst, ◌∙◌, arith, take, length-append}
 use Rattle.std.specs.Prelude.{Option, Some, None, IfSome, slice_get, nat_lt, ◌&&◌, if◌then◌else◌}
-use Rattle.std.proofs.lemmas.List.{take_all, take-append-le, length-take}
+use Rattle.std.proofs.lemmas.List.{take_all, take-append-le}
 use Rattle.fsfs_layout.specs.declared.layout.Layout.{Layout}
 use Rattle.fsfs_disk.specs.Trace.{Trace}
 use Rattle.fsfs_machine.specs.declared.machine.Recorded.{Recorded}
@@ -23,6 +23,7 @@ use Rattle.fsfs_images.specs.Shown.{IsTraceOf}
 use Rattle.fsfs_turn.specs.Bytes.{BytesShow, AllShow}
 use Rattle.fsfs_turn.specs.Views.{View, coming_at, is_held, Sees, with_txns, Looked, LockTaken, FoundStuck, outside, LockGiven, revealed_view, Revealed}
 use Rattle.fsfs_turn.specs.Past.{doubt, Safe}
+pub use Rattle.fsfs_turn.specs.Found.{seen_within}
 use Rattle.fsfs_turn.specs.Standing.{no_others, IsStore, Knows}
 use Rattle.fsfs_turn.proofs.Moments.{quiet_doubt, safe_more, part_revealed}
 use Rattle.fsfs_turn.proofs.Stepping.{kept_bare, at_itself, held_here, lock_is}
@@ -31,10 +32,6 @@ pub there_in : {A : Type 0} (xs : List A) (p : ℕ) (x : A) → slice_get xs p �
 there_in [] p x e = absurd cc
 there_in (y ∷ ys) zero x e = grind arith
 there_in (y ∷ ys) (suc p) x e = let rest : nat_lt p (length ys) ≡ true = there_in ys p x e in grind (arith, rest)
-
--- the pass has seen no more than there is
-pub seen_within : (w : World) (v : View) → Sees w v → length v.seen ≤ length w.history
-seen_within w v sees = let e : length v.seen ≡ length (take v.pass.seen w.history) = ap length sees.seen in omega (arith, e, length-take v.pass.seen w.history)
 
 -- one more
 show_more : (h : List Recorded) (x : Coming) → AllShow h → BytesShow (with_next h x) → AllShow (with_next h x)

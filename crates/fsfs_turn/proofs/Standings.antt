@@ -1,6 +1,6 @@
 -- Each image of a store stands for a history.
-use Rattle.std.proofs.Common.{◌≡◌, ◌<◌, ℕ, suc, zero, List, [], ◌∷◌, ◌++◌, length, true, false, cond, refl, sym, ap, subst, ◌∙◌, arith, drop}
-use Rattle.std.specs.Prelude.{Bool, Option, Some, None, Ok, unwrap_or, slice_get, nat_lt}
+use Rattle.std.proofs.Common.{◌≡◌, ◌<◌, ℕ, suc, zero, List, [], ◌∷◌, ◌++◌, length, true, false, refl, sym, ap, subst, ◌∙◌, arith, drop}
+use Rattle.std.specs.Prelude.{Bool, Option, Some, None, Ok, unwrap_or, slice_get}
 use Rattle.std.specs.FinMap.{get}
 use Rattle.std.proofs.Math.Nat.{zero-mod}
 use Rattle.std.proofs.lemmas.Bool.{both_ways}
@@ -8,7 +8,7 @@ use Rattle.std.proofs.lemmas.Option.{slice_get_within}
 use Rattle.fsfs_base.specs.Files.{Files}
 use Rattle.fsfs_tree.specs.Dated.{last_of}
 use Rattle.fsfs_tree.specs.Revisions.{Revision}
-use Rattle.fsfs_layout.specs.FileNames.{file_name, only_name}
+use Rattle.fsfs_layout.specs.FileNames.{only_name}
 use Rattle.fsfs_layout.specs.Opening.{text_at}
 use Rattle.fsfs_layout.specs.Small.{IsUuid, IsRevLine, IsMinUnpackedRev, IsBase36Line}
 use Rattle.fsfs_layout.specs.declared.layout.Layout.{Layout}
@@ -17,7 +17,7 @@ use Rattle.fsfs_layout.specs.declared.only_file.OnlyFile.TheVariants as only
 use Rattle.fsfs_layout.specs.declared.repository_file.RepositoryFile.{RepositoryFile}
 use Rattle.fsfs_layout.specs.declared.repository_file.RepositoryFile.TheVariants as file
 use Rattle.fsfs_layout.proofs.Apart.{names_apart}
-use Rattle.fsfs_rev_file.specs.RevBytes.{floor_in, packed_bytes, or_missing, by_floor, rev_bytes, props_bytes}
+use Rattle.fsfs_rev_file.specs.RevBytes.{floor_in, or_missing, rev_bytes, props_bytes}
 use Rattle.fsfs_rev_file.proofs.FloorLemmas.{floor_is}
 use Rattle.fsfs_ancestry.specs.Bounded.{AreSameUpTo}
 use Rattle.fsfs_ancestry.proofs.BoundedIds.{ids_same}
@@ -37,6 +37,7 @@ use Rattle.fsfs_images.specs.Shown.{AreRead, IsBeside}
 use Rattle.fsfs_images.proofs.Showing.{image_read, kept_same}
 use Rattle.fsfs_turn.specs.Bytes.{bytes_beside, bytes_of}
 use Rattle.fsfs_turn.specs.Past.{doubt, IsPast}
+use Rattle.fsfs_turn.specs.Found.{rev_is, text_there}
 use Rattle.fsfs_turn.specs.Standing.{no_others}
 use Rattle.fsfs_turn.specs.Whole.{HasHistory}
 use Rattle.fsfs_turn.specs.Stands.{ImagesStand}
@@ -57,18 +58,6 @@ in_revisions : (g : List Recorded) (r : ℕ) (z : Revision) → slice_get (revis
 in_revisions [] r z e = let f : None ≡ Some z = e in absurd cc
 in_revisions (x ∷ g) zero z e = let same : x.revision ≡ z = (let f : Some x.revision ≡ Some z = e in cc) in (x, refl, same)
 in_revisions (x ∷ g) (suc r) z e = in_revisions g r z e
-
--- ---- a revision's own file
-
-rev_is : (n : Layout) (m : Files) (r : ℕ) (bytes : List ℕ) → floor_in n m ≡ Ok 0 → get m (file_name n (file.Revision r)) ≡ Some bytes → rev_bytes n m r ≡ Ok bytes
-unfolding rev_bytes
-rev_is n m r bytes floor there =
-    let e : nat_lt r 0 ≡ false = grind arith in
-    ap (by_floor n m r) floor ∙ ap (λ b. cond b (packed_bytes n m r) (or_missing r (get m (file_name n (file.Revision r))))) e ∙ ap (or_missing r) there
-
--- a file that is there has its text
-text_there : {X : Type 0} (m : Files) (name text : List ℕ) (G : List ℕ → X → Type 0) (x : X) → get m name ≡ Some text → G text x → G (text_at m name) x
-text_there m name text G x there is = subst (λ (t : List ℕ). G t x) (sym (ap (λ (o : Option (List ℕ)). unwrap_or o []) there)) is
 
 -- ---- the files that no turn touches
 

@@ -23,6 +23,7 @@ use Rattle.fsfs_images.specs.Shown.{IsTraceOf}
 use Rattle.fsfs_turn.specs.Bytes.{BytesShow, AllShow}
 use Rattle.fsfs_turn.specs.Views.{View, Sees, with_txns, given_by, called_view, Called}
 use Rattle.fsfs_turn.specs.Past.{doubt_in, doubt, Safe}
+pub use Rattle.fsfs_turn.specs.Found.{get_taken}
 use Rattle.fsfs_turn.specs.Standing.{no_others, IsStore}
 
 -- no transaction is laid in
@@ -51,13 +52,6 @@ lock_is p (Held q z) s e =
 
 pub take_drop : {A : Type 0} (n : ℕ) (xs : List A) → xs ≡ take n xs ++ drop n xs
 take_drop n xs = sym (take-append-drop n xs)
-
--- what stands in a first part stands in the whole
-pub get_taken : {A : Type 0} (n r : ℕ) (xs : List A) (x : A) → slice_get (take n xs) r ≡ Some x → slice_get xs r ≡ Some x
-get_taken zero r xs x e = absurd cc
-get_taken (suc n) r [] x e = e
-get_taken (suc n) zero (y ∷ ys) x e = e
-get_taken (suc n) (suc r) (y ∷ ys) x e = get_taken n r ys x e
 
 abbrev pub named_by : Section → Went → List Drawn → List Drawn
 named_by (CountRenamed x) Fine named = named ++ x ∷ []

@@ -12,6 +12,7 @@ use Rattle.fsfs_machine.specs.declared.machine.Outcome.{Outcome}
 use Rattle.fsfs_machine.specs.declared.machine.Step.{Step}
 use Rattle.fsfs_machine.specs.Machine.{World, Happens, did, at_place}
 use Rattle.fsfs_machine.specs.Kept.{Kept}
+use Rattle.fsfs_machine.proofs.Answering.{seen_of}
 use Rattle.fsfs_machine.proofs.Steps.{step_keeps}
 use Rattle.fsfs_machine.proofs.Whose.{length_at}
 use Rattle.fsfs_images.specs.Shown.{IsTraceOf}
@@ -42,6 +43,7 @@ module _ (layout : Layout) (young : ℕ) (stuck : Option DiskPlace) (old : Trace
       is = refl;
       grows = (drop v.pass.seen w.history, take_drop v.pass.seen w.history ∙ ap (λ l. l ++ drop v.pass.seen w.history) (sym sees.seen));
       within = λ sure. let up : w.young + 1 ≡ length w.history = store.kept.young sees.up in omega (arith, up, sees.sure sure);
+      all = (seen_of (length w.history) w.floor w.passes v.number v.pass store.kept.seen sees.pass).least;
       shown = store.shown;
     },
   )

@@ -1,12 +1,12 @@
 -- What a pass has seen is whole in each image.
-use Rattle.std.proofs.Common.{◌≡◌, ◌<◌, ◌≤◌, ◌+◌, ◌^◌, ℕ, List, [], ◌∷◌, length, false, cond, ⊎_elim, sym, ap, subst, ◌∙◌, ◌++◌, arith, take, drop, length-append}
+use Rattle.std.proofs.Common.{◌≡◌, ◌<◌, ◌≤◌, ◌+◌, ◌^◌, ℕ, List, [], ◌∷◌, length, ⊎_elim, sym, ap, subst, ◌∙◌, ◌++◌, arith, take, drop, length-append}
 use Rattle.std.proofs.lemmas.List.{take_all, take-append-le}
 use Rattle.std.proofs.lemmas.Option.{slice_get_within}
 use Rattle.fsfs_turn.specs.Bytes.{BytesShow, AllShow}
 use Rattle.fsfs_turn.specs.Past.{doubt_in, doubt, IsPart, WasLeft, Safe}
 use Rattle.fsfs_turn.proofs.Moments.{past_of}
 use Rattle.fsfs_turn.proofs.Stepping.{take_drop, get_taken}
-use Rattle.std.specs.Prelude.{Some, None, IfSome, slice_get, nat_lt}
+use Rattle.std.specs.Prelude.{Some, IfSome, slice_get}
 use Rattle.std.specs.FinMap.{get}
 use Rattle.fsfs_base.specs.Files.{Files}
 use Rattle.fsfs_layout.specs.declared.layout.Layout.{Layout}
@@ -20,7 +20,7 @@ use Rattle.fsfs_machine.specs.declared.machine.Section.{Section}
 use Rattle.fsfs_machine.specs.declared.machine.Section.TheVariants.{RevFirm, CurrentPut, CurrentRenamed, CurrentFirm, Doubtful}
 use Rattle.fsfs_machine.specs.declared.machine.Lock.{Lock}
 use Rattle.fsfs_machine.specs.declared.machine.Lock.TheVariants.{Free, Held, Stuck, Down, DownDoubtful}
-use Rattle.fsfs_machine.specs.Disk.{Disk, found, shown, IsImage}
+use Rattle.fsfs_machine.specs.Disk.{Disk, found, IsImage}
 use Rattle.fsfs_machine.specs.Machine.{World, file_of, with_next}
 use Rattle.fsfs_machine.specs.Kept.{coming, coming_in, StandsFor, StandsForEither, StandsIn, Stands, NamesLast}
 use Rattle.fsfs_machine.proofs.Answering.{has_all}
@@ -28,42 +28,12 @@ use Rattle.fsfs_layout.specs.Small.{IsRevLine}
 use Rattle.fsfs_images.specs.RealNames.{machine_name}
 use Rattle.fsfs_images.specs.Shown.{AreRead}
 use Rattle.fsfs_turn.specs.Views.{Sees}
+use Rattle.fsfs_turn.specs.Found.{unpacked, LastFrom, last_at}
 use Rattle.fsfs_turn.specs.Standing.{no_others, IsStore}
 use Rattle.fsfs_turn.specs.Whole.{HasRevision, NamesFrom, SeenIsWhole, NamesLastOf, HasHistory, EachMomentStands, KnownFromNow}
 use Rattle.fsfs_images.proofs.Showing.{image_read}
 use Rattle.fsfs_turn.proofs.Due.{at_found}
 use Rattle.fsfs_turn.proofs.Locking.{seen_within}
-
--- `current` names the last revision or the one to come
-abbrev LastFrom : Disk → ℕ → Type 0
-LastFrom m n = (k : ℕ) × (found m Current ≡ Some (Number k)) × (n ≤ k + 1)
-
-last_of : (m : Disk) (n : ℕ) → NamesLast m n → LastFrom m n
-last_of m n l = (l.0, l.1, omega (arith, l.2))
-
-last_next : (m : Disk) (h : List Recorded) (x : Coming) → NamesLast m (length (with_next h x)) → LastFrom m (length h)
-last_next m h x l = let more : length (with_next h x) ≡ length h + 1 = grind (arith, length-append) in (l.0, l.1, omega (arith, l.2, more))
-
-last_either : (f : ℕ) (m : Disk) (h : List Recorded) (x : Coming) → StandsForEither f m h x → LastFrom m (length h)
-last_either f m h x e = ⊎_elim (λ a. last_of m (length h) a.1) (λ a. last_next m h x a.1) e
-
-last_in : (f : ℕ) (h : List Recorded) (s : Section) (m : Disk) → StandsIn f h s m → LastFrom m (length h)
-last_in f h (RevFirm x) m s = last_of m (length h) s.0.1
-last_in f h (CurrentPut x) m s = last_of m (length h) s.0.1
-last_in f h (CurrentRenamed x) m s = last_either f m h x s.0
-last_in f h (Doubtful place x) m s = last_either f m h x s.0
-last_in f h (CurrentFirm x) m s = last_next m h x s.1
-last_in f h s m i = last_of m (length h) i.1
-
-last_at : (f : ℕ) (h : List Recorded) (lock : Lock) (m : Disk) → Stands f h lock m → LastFrom m (length h)
-last_at f h (Held p s) m i = last_in f h s m i
-last_at f h (Stuck place x) m i = last_either f m h x i.0
-last_at f h (DownDoubtful x) m i = last_either f m h x i
-last_at f h Free m i = last_of m (length h) i.1
-last_at f h Down m i = last_of m (length h) i.1
-
-unpacked : (f : ℕ) (m : Disk) (r : ℕ) → f ≡ 0 → shown f m r ≡ found m (Rev r)
-unpacked f m r is = let e : nat_lt r f ≡ false = grind (arith, is) in ap (λ b. cond b None (found m (Rev r))) e
 
 pub seen_is_whole : SeenIsWhole
 seen_is_whole layout young stuck t v known m image = (each, names)

@@ -1,6 +1,10 @@
 -- Turns that tell a pass the history as it is: reads of small files, listings, and calls on the benches of transactions.
 use Rattle.std.specs.Prelude.{◌≡◌, ◌+◌, ◌-◌, ◌^◌, ◌<◌, ◌≤◌, ◌||◌, ◌==◌, if◌then◌else◌, ℕ, List, [], ◌∷◌, length, Bool, true, false, Option, Some, None, Result, IfOk}
+use Rattle.std.specs.FinMap.{get}
+use Rattle.fsfs_base.specs.Files.{Files}
+use Rattle.fsfs_layout.specs.FileNames.{only_name}
 use Rattle.fsfs_layout.specs.Small.{IsBase36Line}
+use Rattle.fsfs_layout.specs.declared.only_file.OnlyFile.TheVariants.{TxnCurrent}
 use Rattle.fsfs_disk.specs.Labels.{Label, Txn as TxnLabel, Pack, HotCopy}
 use Rattle.fsfs_disk.specs.Trace.{IsRead}
 use Rattle.fsfs_machine.specs.declared.machine.Recorded.{Recorded}
@@ -38,6 +42,8 @@ pub record Learned (lay : World → World) (step : Step) (outcome : Outcome) (te
   pub grows : Begins u.seen v.seen
   -- while the pass is sure there is no more to be seen
   pub within : v.sure ≡ true → length u.seen ≤ v.pass.least + 1
+  -- it has seen the youngest revision that it was told of
+  pub all : v.pass.least < length u.seen
   pub shown : AllShow u.seen
 
 -- the property file of revision r, which is x, was read
@@ -57,13 +63,18 @@ pub record CounterRead (base number : ℕ) (went : Went) (v u : View) : Type 0 w
   pub is : u ≡ record v { pass = learns (length u.seen) (place.Begin begin.Read) went v.pass; seen = u.seen; section = Some (either went (CountRead (drawn_of base number)) Over) }
   pub grows : Begins u.seen v.seen
   pub within : v.sure ≡ true → length u.seen ≤ v.pass.least + 1
+  -- it has seen the youngest revision that it was told of
+  pub all : v.pass.least < length u.seen
   pub shown : AllShow u.seen
 
 -- What stands there, as a begin reads it from the beginning on; the machine has no reading of numbers from 2^64 - 1 on.
-pub record ReadsCounter (knows : View → Type 0) (base : ℕ) {E : Type 0} (result : Result (Option ℕ) E) (old new : List ℕ) (v : View) : Type 0 where
+pub record ReadsCounter (knows : View → Type 0) (told : Option Files) (base : ℕ) {E : Type 0} (result : Result (Option ℕ) E) (old new : List ℕ) (v : View) : Type 0 where
   pub text : List ℕ
   pub number : ℕ
   pub line : IsBase36Line text number
+  pub files : Files
+  pub files_are : told ≡ Some files
+  pub there : get files (only_name TxnCurrent) ≡ Some text
   pub read : IfOk result (IsRead (Some text) 0 old new)
   pub turned : number < 2 ^ 64 - 1 → (u : View) × (went : Went) × knows u × Answers result went × CounterRead base number went v u
   pub full : 2 ^ 64 - 1 ≤ number → knows v

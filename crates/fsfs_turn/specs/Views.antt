@@ -218,4 +218,6 @@ pub record ReadTurn (r offset size : ℕ) (x : Recorded) (went : Went) (v u : Vi
   pub grows : Begins u.seen v.seen
   -- while the pass is sure there is no more to be seen
   pub within : v.sure ≡ true → length u.seen ≤ v.pass.least + 1
+  -- it has seen the youngest revision that it was told of
+  pub all : v.pass.least < length u.seen
   pub shown : AllShow u.seen

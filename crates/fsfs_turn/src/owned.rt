@@ -4,7 +4,7 @@ ghost use Rattle.fsfs_disk.specs.Trace.{file_at, labels_now};
 ghost use Rattle.fsfs_turn.specs.Views.{View};
 ghost use Rattle.fsfs_turn.specs.Standing.{Knows};
 
-use crate::turns::Turns;
+use crate::turns::{LoneTurns, Turns};
 use fsfs_base::{Failed, Name};
 use fsfs_disk::{Disk, Label, ListFault};
 use fsfs_fields::RevNum;
@@ -53,6 +53,9 @@ impl<D: Disk> Owned<D> {
 }
 
 impl<R, D: Disk> Turns<R> for Owned<D> {
+    ghost use Rattle.fsfs_turn.specs.Telling.{OwnedState, state_of, owned_view};
+    ghost use Rattle.fsfs_turn.specs.OwnedLemmas.{owned_tells};
+    ghost use Rattle.fsfs_fetch.specs.OwnedShort.{owned_short};
     ghost use Rattle.std.specs.Prelude.{◌⊎◌, ℕ, IfOk, OnOk, OnErr};
     ghost use Rattle.fsfs_base.specs.Failures.{HasCause};
     ghost use Rattle.fsfs_disk.specs.Labels.{Txn as TxnLabel, label_of, has_label, without_label};
@@ -68,9 +71,17 @@ impl<R, D: Disk> Turns<R> for Owned<D> {
 
     ghost in_use = { λ s name. IfSome (D.trace s.disk) (λ t. IsSome (file_at t name)) };
 
+    ghost Lasting = { OwnedState };
+
+    ghost store = { λ s. owned_view (state_of s.layout s.young s.stuck (D.trace s.disk)) };
+
     ghost labels = { λ s. option_map labels_now (D.trace s.disk) };
 
     ghost faults = { λ s. D.faults s.disk };
+
+    fn layout(&self) -> Layout {
+        self.layout
+    }
 
     fn look(&mut self) -> RevNum {
         self.young
@@ -162,4 +173,17 @@ impl<R, D: Disk> Turns<R> for Owned<D> {
     {
         self.disk.drop_bench(label, bench)
     }
+
+    ghost tells = { λ s v known. owned_tells s.layout s.young s.stuck (D.trace s.disk) v known };
+
+    ghost short = { λ s. owned_short (D.trace s.disk) (D.short s.disk) };
+}
+
+impl<R, D: Disk> LoneTurns<R> for Owned<D> {
+    ghost use Rattle.fsfs_turn.specs.Telling.{state_of};
+    ghost use Rattle.fsfs_turn.specs.OwnedLemmas.{known_still, files_same};
+
+    ghost still = { λ a b v same known. known_still (state_of a.layout a.young a.stuck (D.trace a.disk)) (state_of b.layout b.young b.stuck (D.trace b.disk)) v same known };
+
+    ghost same_files = { λ a b same. files_same (state_of a.layout a.young a.stuck (D.trace a.disk)) (state_of b.layout b.young b.stuck (D.trace b.disk)) same };
 }

@@ -1,6 +1,6 @@
 //! What a section is written over.
 ghost use Rattle.std.specs.Prelude.{◌≡◌, ◌⊎◌, ◌<◌, ◌≤◌, ◌^◌, ℕ, List, Option, Some, None, length, slice_get, option_map, OnOk, OnErr, IfOk, IfErr, IfSome, IsErrOf};
-ghost use Rattle.std.specs.FinMap.{empty};
+ghost use Rattle.std.specs.FinMap.{get, empty};
 ghost use Rattle.fsfs_tree.specs.Revisions.{Revision};
 ghost use Rattle.fsfs_base.specs.Failures.{HasCause, Rose};
 ghost use Rattle.fsfs_layout.specs.FileNames.{only_name};
@@ -8,7 +8,7 @@ ghost use Rattle.fsfs_layout.specs.Small.{IsRevLine};
 ghost use Rattle.fsfs_layout.specs.declared.only_file.OnlyFile.TheVariants.{MinUnpackedRev, TxnCurrent};
 ghost use Rattle.fsfs_hash.specs.Dump.{IsDump};
 ghost use Rattle.fsfs_disk.specs.Labels.{Label as KeptLabel, Txn as TxnLabel, label_of, has_label, with_label, without_label, IsListing};
-ghost use Rattle.fsfs_disk.specs.Benches.{removed, bytes_on, IsFirmFile};
+ghost use Rattle.fsfs_disk.specs.Benches.{removed, bytes_on, IsFirmFile, HasShortFiles};
 ghost use Rattle.fsfs_disk.specs.Trace.{Put, Rename, FirmNames, IsRead, IsSize};
 ghost use Rattle.fsfs_machine.specs.declared.machine.Recorded.{Recorded};
 ghost use Rattle.fsfs_machine.specs.declared.machine.Coming.{Coming};
@@ -21,11 +21,14 @@ ghost use Rattle.fsfs_machine.specs.declared.machine.Went.{Went};
 ghost use Rattle.fsfs_machine.specs.declared.machine.Went.TheVariants.{Fine, Before};
 ghost use Rattle.fsfs_machine.specs.Kept.{IsIn};
 ghost use Rattle.fsfs_turn.specs.Views.{View, rev_name, props_name, IsDue, MayAdopt, MayGive, Answers, Called, Adopted, Looked, LockTaken, FoundStuck, LockGiven, Revealed, ReadTurn};
+ghost use Rattle.fsfs_fetch.specs.Views.{View as StoreView, Later, IsYoungest};
+ghost use Rattle.fsfs_turn.specs.Telling.{TellsSeen};
 ghost use Rattle.fsfs_turn.specs.Learning.{PropsRead, FloorRead, ReadsCounter, Listed, MayMake, BenchMade, MayPurge, Purged, SpentPurged};
 
 use fsfs_base::{Failed, Name};
 use fsfs_disk::{Bench, Label, ListFault};
 use fsfs_fields::RevNum;
+use fsfs_layout::Layout;
 use fsfs_places::DiskPlace;
 use std::alloc::Global;
 
@@ -41,19 +44,32 @@ pub trait Turns<R> {
     /// The name is in use, as far as the disk tells.
     ghost in_use: { Self → List ℕ → Type 0 };
 
+    /// What neither reading nor taking the lock changes.
+    ghost Lasting: { Type 0 };
+
+    /// What it tells one who reads: how the files are laid out, which revisions there are, and the files as the last call met them.
+    ghost store: { Self → StoreView Lasting };
+
     /// The labels that are kept, where the disk tells.
     ghost labels: { Self → Option (List KeptLabel) };
 
     /// How often its turns have failed. The count stops at the last number of a u64.
     ghost faults: { Self → ℕ };
 
+    /// How the files are laid out.
+    fn layout(&self) -> Layout
+        ensures { result ≡ (store self.now).layout };
+
     /// The youngest revision. It waits for nobody.
     fn look(&mut self) -> RevNum
+        ensures youngest { IsYoungest (store self.new).reach result }
+        ensures later { Later (store self.old) (store self.new) }
         ensures turned { (v : View) → knows self.old v → (u : View) × knows self.new u × Looked result v u }
         ensures faults { faults self.new ≡ faults self.old };
 
     /// Takes the write lock, or says at which place it is stuck.
     fn take_lock(&mut self, rt: &R) -> Result<(), DiskPlace>
+        ensures same { (store self.new).below ≡ (store self.old).below }
         ensures ok { (v : View) → knows self.old v → v.section ≡ None → OnOk result ((u : View) × knows self.new u × LockTaken v u) }
         ensures stuck { (v : View) → knows self.old v → v.section ≡ None → IfErr result (λ place. (u : View) × knows self.new u × FoundStuck place v u) }
         ensures faults { faults self.new ≡ faults self.old };
@@ -119,6 +135,7 @@ pub trait Turns<R> {
 
     /// Fills the buffer from an offset on, as far as the file goes. Of a revision that the pass has seen it gives the bytes beside it.
     /// In the same way it gives the properties of one, the floor, and, as a begin's first call, the number in `txn-current`.
+    /// `None`: there is no such file.
     fn read(
         &mut self,
         rt: &R,
@@ -127,18 +144,22 @@ pub trait Turns<R> {
         buffer: &mut [u8],
     ) -> Result<Option<usize>, Failed>
         ensures bound { IfOk result (λ found. IfSome found (λ n. n ≤ length buffer.new)) }
+        ensures bytes { IfSome (store self.new).files (λ m. IfOk result (IsRead (get m name.now) offset buffer.old buffer.new)) }
+        ensures later { Later (store self.old) (store self.new) }
         ensures turned { (v : View) (r : ℕ) (x : Recorded) → knows self.old v → slice_get v.seen r ≡ Some x → r < 2 ^ 32 → name.now ≡ rev_name v r
             → (u : View) × (went : Went) × knows self.new u × Answers result went × ReadTurn r offset (length buffer.old) x went v u × IfOk result (IsRead (Some x.bytes) offset buffer.old buffer.new) }
         ensures properties { (v : View) (r : ℕ) (x : Recorded) → knows self.old v → slice_get v.seen r ≡ Some x → r < 2 ^ 32 → name.now ≡ props_name v r
             → (u : View) × (went : Went) × (text : List ℕ) × knows self.new u × Answers result went × PropsRead r x went v u × IsDump text x.revision.properties × IfOk result (IsRead (Some text) offset buffer.old buffer.new) }
         ensures floor { (v : View) → knows self.old v → name.now ≡ only_name MinUnpackedRev
             → (u : View) × (went : Went) × (floor : ℕ) × (text : List ℕ) × knows self.new u × Answers result went × FloorRead floor went v u × IsRevLine text floor × IfOk result (IsRead (Some text) offset buffer.old buffer.new) }
-        ensures counted { (v : View) (base : ℕ) → knows self.old v → v.section ≡ Some Begun → base < length v.seen → name.now ≡ only_name TxnCurrent → offset ≡ 0
-            → ReadsCounter (knows self.new) base result buffer.old buffer.new v }
+        ensures counted { (v : View) (base : ℕ) → knows self.old v → v.section ≡ Some Begun → base ≤ v.pass.least → name.now ≡ only_name TxnCurrent → offset ≡ 0
+            → ReadsCounter (knows self.new) (store self.new).files base result buffer.old buffer.new v }
         ensures cause { HasCause (faults self.old) (faults self.new) result };
 
     /// The length of a file. Of a revision that the pass has seen it is that of the bytes beside it.
     fn size(&mut self, rt: &R, name: &Name) -> Result<Option<u64>, Failed>
+        ensures length { IfSome (store self.new).files (λ m. IfOk result (IsSize (get m name.now))) }
+        ensures later { Later (store self.old) (store self.new) }
         ensures turned { (v : View) (r : ℕ) (x : Recorded) → knows self.old v → slice_get v.seen r ≡ Some x → r < 2 ^ 32 → name.now ≡ rev_name v r
             → (u : View) × (went : Went) × knows self.new u × Answers result went × ReadTurn r 0 0 x went v u × IfOk result (IsSize (Some x.bytes)) }
         ensures cause { HasCause (faults self.old) (faults self.new) result };
@@ -189,4 +210,19 @@ pub trait Turns<R> {
         ensures failed_first { (v : View) (txn : Txn) (properties : List (List ℕ × List ℕ)) (next : Revision) (bytes : List ℕ) → knows self.old v → MayAdopt v txn properties next bytes
             → OnErr result ((u : View) × knows self.new u × Adopted txn properties next bytes Before v u) }
         ensures cause { HasCause (faults self.old) (faults self.new) result };
+
+    /// What the pass has seen can be read, where something is known.
+    ghost tells: { (turns : Self) (v : View) → knows turns v → TellsSeen (store turns) v };
+
+    /// No file is longer than 2^62 bytes.
+    ghost short: { (turns : Self) → IfSome (store turns).files HasShortFiles };
+}
+
+/// The turns of a pass that is alone: nobody else steps, so between its own turns nothing changes, and reading tells it nothing new.
+pub trait LoneTurns<R>: Turns<R> {
+    /// What it knows is of what no reading changes.
+    ghost still: { (old new : Self) (v : View) → (Self.store new).below ≡ (Self.store old).below → Self.knows old v → Self.knows new v };
+
+    /// So are the files.
+    ghost same_files: { (old new : Self) → (Self.store new).below ≡ (Self.store old).below → (Self.store new).files ≡ (Self.store old).files };
 }

@@ -1,0 +1,33 @@
+-- The label and the files of a bench that was made or dropped.
+use Rattle.std.proofs.Common.{◌≡◌, ◌≤◌, ℕ, List, Bool, true, inl, inr, refl, sym, ap, subst, ◌∙◌, arith}
+use Rattle.std.specs.Prelude.{Option, Some, None, IfSome, option_map, Result, Ok, Err, OnOk, OnErr}
+use Rattle.std.specs.FinMap.{empty}
+use Rattle.fsfs_base.specs.Files.{Files}
+use Rattle.fsfs_base.specs.Failures.{Rose}
+use Rattle.fsfs_disk.specs.Labels.{Label, has_label, with_label, without_label}
+use Rattle.fsfs_disk.proofs.LabelLemmas.{has-without, has-with}
+use Rattle.fsfs_begin.specs.Benches.{first_files, with_first_files}
+use Rattle.fsfs_turn_begin.specs.Faults.{IsDropped}
+
+pub kept_now : (l : Label) (old new : Option (List Label)) → new ≡ option_map (with_label l) old → IfSome new (λ ls. has_label l ls ≡ true)
+kept_now l None new is = subst (λ o. IfSome o (λ ls. has_label l ls ≡ true)) (sym is) tt
+kept_now l (Some ls) new is = subst (λ o. IfSome o (λ ls. has_label l ls ≡ true)) (sym is) (has-with l ls)
+
+gone_now : (rose : Type 0) (l : Label) (old new : Option (List Label)) → new ≡ option_map (without_label l) old → IsDropped l new rose
+gone_now rose l None new is = subst (λ o. IsDropped l o rose) (sym is) tt
+gone_now rose l (Some ls) new is = subst (λ o. IsDropped l o rose) (sym is) (inl (has-without l ls))
+
+left_now : (rose : Type 0) (l : Label) (new : Option (List Label)) → rose → IsDropped l new rose
+left_now rose l None r = tt
+left_now rose l (Some ls) r = inr r
+
+pub dropped_now : {E : Type 0} (l : Label) (old new : Option (List Label)) (first before now : ℕ) (result : Result Bool E) → first ≤ before → OnOk result (new ≡ option_map (without_label l) old) → OnErr result (Rose before now) → IsDropped l new (Rose first now)
+dropped_now l old new first before now (Ok there) later done failed = gone_now (Rose first now) l old new done
+dropped_now l old new first before now (Err e) later done failed = left_now (Rose first now) l new (omega (arith, later, failed))
+
+pub filled_now : (l : Label) (root : List ℕ) (old new : Option (List Label)) (held left : Option Files) → new ≡ option_map (with_label l) old → held ≡ option_map (λ _. empty) old → left ≡ option_map (with_first_files root) held → left ≡ option_map (λ _. first_files root) new
+filled_now l root old new held left kept empty_is files = files ∙ ap (λ o. option_map (with_first_files root) o) empty_is ∙ by_old old ∙ ap (λ o. option_map (λ _. first_files root) o) (sym kept)
+  where
+    by_old : (o : Option (List Label)) → option_map (with_first_files root) (option_map (λ _. empty) o) ≡ option_map (λ _. first_files root) (option_map (with_label l) o)
+    by_old None = refl
+    by_old (Some ls) = refl

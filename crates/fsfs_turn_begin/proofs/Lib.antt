@@ -1,0 +1,5 @@
+pub mod Going
+pub mod Reading
+pub mod Moving
+pub mod Benching
+pub mod Parts

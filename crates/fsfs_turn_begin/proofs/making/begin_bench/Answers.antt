@@ -1,0 +1,47 @@
+use Rattle.std.proofs.Common.{refl, ap, ◌∙◌}
+use Rattle.fsfs_txns.specs.Txns.{pair_of, txn_label}
+use Rattle.fsfs_turn.specs.Learning.{drawn_of}
+use Rattle.fsfs_turn.specs.Views.{View}
+use Rattle.fsfs_turn_begin.proofs.Benching.{dropped_now, filled_now, kept_now}
+use Rattle.fsfs_turn_begin.proofs.Moving.{is_made, outside_then, dropped, make_fault}
+use Rattle.fsfs_turn_begin.proofs.making.begin_bench.Goals as goal
+
+pub returns-in-Ok-fill-clause-filled : goal.returns-in-Ok-fill-clause-filled
+returns-in-Ok-fill-clause-filled g c =
+    filled_now (txn_label (pair_of c.args.name.now)) c.args.root.now (g.T.Turns.labels c.args.turns.now) (g.T.Turns.labels c.bench.new.self) (g.T.Bench.Bench.contents c.in-Ok.bench) (g.T.Bench.Bench.contents c.fill.new.bench)
+    c.in-Ok.ensures.kept c.in-Ok.ensures.empty c.in-Ok-fill.ensures.files
+
+pub returns-in-Ok-fill-clause-kept : goal.returns-in-Ok-fill-clause-kept
+returns-in-Ok-fill-clause-kept g c = kept_now (txn_label (pair_of c.args.name.now)) (g.T.Turns.labels c.args.turns.now) (g.T.Turns.labels c.bench.new.self) c.in-Ok.ensures.kept
+
+pub returns-in-Ok-fill-clause-made : goal.returns-in-Ok-fill-clause-made
+returns-in-Ok-fill-clause-made g c = λ v known may.
+    let x = drawn_of c.args.name.now.base c.args.name.now.number.number in
+    let a = c.in-Ok.ensures.turned v x known may refl in
+    (a.0, a.2, is_made x a.1 v a.0 a.3 a.4)
+
+pub returns-in-Err-fill-clause-refused : goal.returns-in-Err-fill-clause-refused
+returns-in-Err-fill-clause-refused g c = λ v known may.
+    let x = drawn_of c.args.name.now.base c.args.name.now.number.number in
+    let a = c.in-Ok.ensures.turned v x known may refl in
+    let o = outside_then x v may a.1 a.0 a.4 in
+    let d = c.drop_bench.ensures.spent a.0 x.name x.base a.2 o.0 o.1 refl in
+    (d.0, d.2, dropped x v may a.1 d.1 a.0 d.0 a.4 d.4, ap {A = View} (λ z. z.given) d.4.is ∙ ap {A = View} (λ z. z.given) a.4.is, tt)
+
+pub returns-in-Err-fill-clause-dropped : goal.returns-in-Err-fill-clause-dropped
+returns-in-Err-fill-clause-dropped g c =
+    dropped_now (txn_label (pair_of c.args.name.now)) (g.T.Turns.labels c.bench.new.self) (g.T.Turns.labels c.drop_bench.new.self) (g.T.Turns.faults c.args.turns.now) (g.T.Turns.faults c.bench.new.self) (g.T.Turns.faults c.drop_bench.new.self) c.drop_bench.result
+    c.in-Ok.ensures.cause.later c.drop_bench.ensures.dropped c.drop_bench.ensures.cause.failed
+
+pub returns-in-Err-clause-refused : goal.returns-in-Err-clause-refused
+returns-in-Err-clause-refused g c = λ v known may.
+    let x = drawn_of c.args.name.now.base c.args.name.now.number.number in
+    let a = c.in-Err.ensures.turned v x known may refl in
+    let o = outside_then x v may a.1 a.0 a.4 in
+    let d = c.drop_bench-in-Err.ensures.spent a.0 x.name x.base a.2 o.0 o.1 refl in
+    (d.0, d.2, dropped x v may a.1 d.1 a.0 d.0 a.4 d.4, ap {A = View} (λ z. z.given) d.4.is ∙ ap {A = View} (λ z. z.given) a.4.is, make_fault x v may a.1 d.1 a.0 d.0 a.3 a.4 d.4)
+
+pub returns-in-Err-clause-dropped : goal.returns-in-Err-clause-dropped
+returns-in-Err-clause-dropped g c =
+    dropped_now (txn_label (pair_of c.args.name.now)) (g.T.Turns.labels c.bench.new.self) (g.T.Turns.labels c.drop_bench-in-Err.new.self) (g.T.Turns.faults c.args.turns.now) (g.T.Turns.faults c.bench.new.self) (g.T.Turns.faults c.drop_bench-in-Err.new.self) c.drop_bench-in-Err.result
+    c.in-Err.ensures.cause.later c.drop_bench-in-Err.ensures.dropped c.drop_bench-in-Err.ensures.cause.failed

@@ -1,0 +1,32 @@
+-- A transaction that was begun by turns.
+use Rattle.std.specs.Prelude.{◌≡◌, ◌<◌, ℕ, List, ◌∷◌, length, false, Option, None, option_map}
+use Rattle.fsfs_base.specs.Files.{Files}
+use Rattle.fsfs_fields.specs.declared.txn_name.TxnName.{TxnName}
+use Rattle.fsfs_noderev.specs.declared.node_rev.NodeRev.{NodeRev}
+use Rattle.fsfs_begin.specs.Beginning.{IsRootText}
+use Rattle.fsfs_begin.specs.Begun.{IsBegunOn, StandsForBase}
+use Rattle.fsfs_begin.specs.Benches.{first_files}
+use Rattle.fsfs_turn.specs.Bytes.{bytes_of}
+use Rattle.fsfs_turn.specs.Views.{View, Begins}
+use Rattle.fsfs_turn_begin.specs.Steps.{Steps}
+
+-- the bench holds the files that a transaction begins with, among them the text of this root; where anything is told
+abbrev pub HoldsRoot : {A : Type 0} → NodeRev → Option A → Option Files → Type 0
+HoldsRoot root told held = (text : List ℕ) × IsRootText root text × (held ≡ option_map (λ _. first_files text) told)
+
+-- the pass saw the history as it is then, and nothing else is changed for it
+pub record IsMade (v u : View) : Type 0 where
+  pub is : u ≡ record v { pass = record v.pass { seen = length u.seen }; seen = u.seen }
+  pub grows : Begins u.seen v.seen
+  pub steps : Steps v u
+
+-- BEGUN: the name is known to be given, its base is a revision that the pass has seen, and the root goes on from that revision's. The
+-- pass is in no section.
+pub record HasBegun (name : TxnName) (node : NodeRev) (held : Option Files) (v u : View) : Type 0 where
+  pub is : u ≡ record v { pass = record v.pass { seen = length u.seen; least = u.pass.least }; seen = u.seen; section = None; sure = false; given = name.number.number ∷ v.given }
+  pub base : name.base < length u.seen
+  pub root : IsBegunOn (bytes_of u.seen) name node
+  -- where these bytes show trees, it is a draft of its base's, without marks
+  pub draft : StandsForBase (bytes_of u.seen) name node held
+  pub grows : Begins u.seen v.seen
+  pub steps : Steps v u

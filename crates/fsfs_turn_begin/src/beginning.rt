@@ -1,0 +1,107 @@
+//! A transaction is begun by turns.
+ghost use Rattle.std.specs.Prelude.{◌≡◌, ◌≤◌, true, None, OnOk, IfOk, IfErr, IfSome};
+ghost use Rattle.fsfs_base.specs.Failures.{Rose};
+ghost use Rattle.fsfs_disk.specs.Labels.{has_label};
+ghost use Rattle.fsfs_txns.specs.Txns.{pair_of, txn_label};
+ghost use Rattle.fsfs_begin.specs.Begun.{IsBegunOn};
+ghost use Rattle.fsfs_turn.specs.Bytes.{bytes_of};
+ghost use Rattle.fsfs_turn.specs.Views.{View};
+ghost use Rattle.fsfs_turn.specs.Learning.{MayMake, drawn_of};
+ghost use Rattle.fsfs_turn_begin.specs.Steps.{HasSmallCounter, Moved};
+ghost use Rattle.fsfs_turn_begin.specs.Faults.{Cause, IfBench, IfDisk, IsAbove, IsDropped, LeavesNone, read_fault};
+ghost use Rattle.fsfs_turn_begin.specs.Begun.{HoldsRoot, IsMade, HasBegun};
+
+use crate::begin_fault::BeginFault;
+use crate::drawing::draw;
+use crate::making::make;
+use crate::root::base_root;
+use fsfs_begin::Begun;
+use fsfs_damage::ReadError;
+use fsfs_fields::{RevNum, TxnName};
+use fsfs_places::DiskPlace;
+use fsfs_turn::{LoneTurns, Turns};
+use std::alloc::Global;
+
+fn read_fault(error: ReadError) -> BeginFault
+    ensures { result ≡ read_fault error }
+{
+    match error {
+        ReadError::OutOfMemory => BeginFault::Memory,
+        ReadError::DiskFault => BeginFault::DiskFault(DiskPlace::Read),
+        ReadError::Wrong(wrong) => BeginFault::Wrong(wrong),
+    }
+}
+
+// Begins a transaction whose name was drawn, and gives the turns back.
+fn begin_named<R, T: LoneTurns<R>>(
+    alloc: Global,
+    rt: &R,
+    turns: T,
+    name: TxnName,
+) -> (T, Result<Begun<T::Bench>, BeginFault>)
+    ensures name { IfOk result.1 (λ begun. begun.name ≡ name) }
+    ensures filled { IfOk result.1 (λ begun. HoldsRoot begun.root (T.labels result.0) (T.Bench.contents begun.bench)) }
+    ensures sound { IfOk result.1 (λ begun. T.Bench.faults begun.bench ≡ 0) }
+    ensures kept { IfSome (T.labels result.0) (λ ls. OnOk result.1 (has_label (txn_label (pair_of name)) ls ≡ true)) }
+    ensures begun { (v : View) → T.knows turns v → MayMake v (drawn_of name.base name.number.number)
+        → IfOk result.1 (λ begun. (u : View) × T.knows result.0 u × IsMade v u × IsBegunOn (bytes_of v.seen) name begun.root) }
+    ensures refused { (v : View) → T.knows turns v → MayMake v (drawn_of name.base name.number.number)
+        → IfErr result.1 (λ why. (u : View) × T.knows result.0 u × Moved v u × (u.given ≡ v.given) × Cause name.base why u) }
+    ensures dropped { IfErr result.1 (λ why. IfBench why (IsDropped (txn_label (pair_of name)) (T.labels result.0) (Rose (T.faults turns) (T.faults result.0)))) }
+    ensures later { T.faults turns ≤ T.faults result.0 }
+    ensures cause { IfErr result.1 (λ why. IfDisk why (Rose (T.faults turns) (T.faults result.0))) }
+    ensures there { IfErr result.1 (IsAbove name.base) }
+{
+    let (back, found) = base_root(alloc, rt, turns, name.base);
+    let mut turns = back;
+    match found {
+        Ok(base) => {
+            let begun = make(alloc, rt, &mut turns, name, &base.node);
+            (turns, begun)
+        }
+        Err(error) => (turns, Err(read_fault(error))),
+    }
+}
+
+/// Begins a transaction on a revision, and gives the turns back, whatever is answered. Its name is drawn first, by a section of its
+/// own; then the root of the base is read, and last the bench is made and filled. No name is given twice, whatever fails and whenever
+/// the disk stops, and whatever fails the lock is given, unless it was found stuck. Where the bench fails it is dropped again, and its
+/// label, as far as the disk lets.
+pub fn begin<R, T: LoneTurns<R>>(
+    alloc: Global,
+    rt: &R,
+    turns: T,
+    base: RevNum,
+) -> (T, Result<Begun<T::Bench>, BeginFault>)
+    ensures base { IfOk result.1 (λ begun. begun.name.base ≡ base) }
+    // Its bench holds the files that a transaction begins with, and no others: among them its root's text. Its label is kept.
+    ensures filled { IfOk result.1 (λ begun. HoldsRoot begun.root (T.labels result.0) (T.Bench.contents begun.bench)) }
+    ensures sound { IfOk result.1 (λ begun. T.Bench.faults begun.bench ≡ 0) }
+    ensures kept { IfSome (T.labels result.0) (λ ls. IfOk result.1 (λ begun. has_label (txn_label (pair_of begun.name)) ls ≡ true)) }
+    // What the pass knows then; and why none was begun, where none was.
+    ensures begun { (v : View) → T.knows turns v → v.section ≡ None → HasSmallCounter (T.store turns)
+        → IfOk result.1 (λ begun. (u : View) × T.knows result.0 u × HasBegun begun.name begun.root (T.Bench.contents begun.bench) v u) }
+    ensures refused { (v : View) → T.knows turns v → v.section ≡ None → HasSmallCounter (T.store turns)
+        → IfErr result.1 (λ why. (u : View) × T.knows result.0 u × Moved v u × Cause base why u
+        × IfBench why (LeavesNone base (T.labels result.0) (Rose (T.faults turns) (T.faults result.0)) v u)) }
+    // Whatever the disk tells.
+    ensures above { IfErr result.1 (IsAbove base) }
+    ensures later { T.faults turns ≤ T.faults result.0 }
+    ensures cause { IfErr result.1 (λ why. IfDisk why (Rose (T.faults turns) (T.faults result.0))) }
+{
+    let mut turns = turns;
+    let youngest = turns.look();
+    if youngest < base {
+        return (
+            turns,
+            Err(BeginFault::NoRev {
+                asked: base,
+                youngest,
+            }),
+        );
+    }
+    match draw(alloc, rt, &mut turns, base) {
+        Ok(name) => begin_named(alloc, rt, turns, name),
+        Err(fault) => (turns, Err(fault)),
+    }
+}

@@ -1,0 +1,16 @@
+-- What a book over turns tells.
+use Rattle.std.specs.Prelude.{◌≡◌, ◌<◌, ℕ, List, length, Some, Ok, slice_get}
+use Rattle.fsfs_hash.specs.Dump.{IsDump}
+use Rattle.fsfs_book.specs.Told.{Telling}
+use Rattle.fsfs_machine.specs.declared.machine.Recorded.{Recorded}
+use Rattle.fsfs_turn.specs.Bytes.{bytes_of}
+use Rattle.fsfs_turn.specs.Views.{View}
+
+-- a dump of these properties is told
+abbrev pub TellsProps : {Below : Type 0} → Telling Below → ℕ → Recorded → Type 0
+TellsProps told r x = (text : List ℕ) × (told.props r ≡ Some (Ok text)) × IsDump text x.revision.properties
+
+-- of each revision that the pass has seen the bytes beside it are told, and its properties
+pub record TellsRevisions (v : View) {Below : Type 0} (told : Telling Below) : Type 0 where
+  pub revs : (r : ℕ) → r < length v.seen → told.revs r ≡ Some (bytes_of v.seen r)
+  pub props : (r : ℕ) (x : Recorded) → slice_get v.seen r ≡ Some x → TellsProps told r x
