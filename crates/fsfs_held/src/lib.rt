@@ -1,4 +1,4 @@
-//! The own node-revisions of a transaction, held in memory beside its bench.
+//! The own node-revisions of a transaction, held in memory and written into its bench.
 #![tactic(auto)]
 
 mod changed;
@@ -8,6 +8,7 @@ mod keys;
 mod nodes;
 mod steps;
 mod texts;
+mod writing;
 
 pub use held::HeldNodes;
 pub use texts::OwnTexts;
