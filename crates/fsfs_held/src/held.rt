@@ -1,5 +1,6 @@
 //! The own node-revisions of a transaction, held in memory beside its bench.
-ghost use Rattle.std.specs.Prelude.{◌≡◌, option_map, IfOk, IfErr};
+ghost use Rattle.std.specs.Prelude.{◌≡◌, length, option_map, IfOk, IfErr, IfSome};
+ghost use Rattle.fsfs_base.specs.Failures.{HasCause};
 ghost use Rattle.fsfs_own.specs.Views.{kept_value};
 ghost use Rattle.fsfs_held.specs.Keys.{at_key};
 ghost use Rattle.fsfs_held.specs.Lists.{files_of, with_steps};
@@ -9,7 +10,7 @@ use crate::changed::{new_node, relinked, with_entries, with_props, with_text};
 use crate::keys::{NodeKey, key_of};
 use crate::nodes::{Nodes, make_room, node_at, put, settle_steps};
 use crate::steps::{Step, last_of};
-use fsfs_base::{B36, Kind, Name, Pairs, next_b36};
+use fsfs_base::{B36, Failed, Kind, Name, Pairs, next_b36};
 use fsfs_changes::ChangeItem;
 use fsfs_clash::MergedDir;
 use fsfs_disk::Bench;
@@ -89,6 +90,28 @@ impl<D: Bench> HeldNodes<D> {
     {
         let HeldNodes { bench, .. } = self;
         bench
+    }
+
+    /// The items of its edits, in their order.
+    pub fn items(&self) -> &[ChangeItem]
+        ensures { result.now ≡ (⟦<HeldNodes<D> as Own>⟧.settled self.now).items }
+    {
+        self.items.as_slice()
+    }
+
+    /// How many bytes its prototype file has; none where there is no such file.
+    pub fn proto_length(&mut self) -> Result<u64, Failed>
+        ensures length { IfSome (D.contents self.old.bench) (λ m. IfOk result (λ n. n ≡ length (⟦<HeldNodes<D> as Own>⟧.settled self.old).proto)) }
+        ensures folder { ⟦<HeldNodes<D> as Own>⟧.folder self.new ≡ ⟦<HeldNodes<D> as Own>⟧.folder self.old }
+        ensures settled { ⟦<HeldNodes<D> as Own>⟧.settled self.new ≡ ⟦<HeldNodes<D> as Own>⟧.settled self.old }
+        ensures name { ⟦<HeldNodes<D> as Own>⟧.txn self.new ≡ ⟦<HeldNodes<D> as Own>⟧.txn self.old }
+        ensures cause { HasCause (D.faults self.old.bench) (D.faults self.new.bench) result }
+    {
+        match self.bench.len(&self.proto) {
+            Ok(Some(count)) => Ok(count),
+            Ok(None) => Ok(0),
+            Err(failed) => Err(failed),
+        }
     }
 
     // The node-revision at a key, as the steps left it.
