@@ -1,7 +1,7 @@
 //! The bytes that were read last, kept for the node-revisions that stand beside the one that was read.
 //!
 //! The nodes of a directory are mostly written in one revision, one behind the other and before the directory itself.
-ghost use Rattle.std.specs.Prelude.{◌≡◌, ◌==◌, ◌&&◌, ℕ, true, length, take, Ok, IfOk, IfSome};
+ghost use Rattle.std.specs.Prelude.{◌≡◌, ◌==◌, ◌&&◌, ◌||◌, ◌-◌, nat_le, nat_lt, ℕ, true, length, take, Ok, IfOk, IfSome};
 ghost use Rattle.fsfs_book.specs.Told.{RevisionBytes, Knows, Keeps, IsTold};
 ghost use Rattle.fsfs_revision.specs.Nodes.{is_ordered};
 ghost use Rattle.fsfs_damage.specs.Readings.{Answers};
@@ -28,6 +28,9 @@ const KEPT: usize = 8192;
 // How many of them stand before the node-revision for which they are read, so that they show the nodes of a small directory
 // too.
 const BEFORE: u64 = 1024;
+
+// How far from its beginning a stretch still goes on: to the node-revisions right behind what is kept.
+const NEAR: u64 = 16384;
 
 /// Bytes of a revision that were read together, and their place.
 #[derive(Drop)]
@@ -72,11 +75,13 @@ impl Stretch {
         self.count = 0;
     }
 
-    // Whether it is of this revision and holds nothing yet.
-    fn begins(&self, rev: RevNum) -> bool
-        ensures { result ≡ (self.now.at.rev == rev && self.now.count == 0) }
+    // Whether what is kept goes on to a place: it is of the same revision, and holds nothing yet or begins a little before it.
+    fn goes_on(&self, at: &RevOffset) -> bool
+        ensures { result ≡ (self.now.at.rev == at.now.rev && (self.now.count == 0 || (nat_le self.now.at.offset at.now.offset && nat_lt (at.now.offset - self.now.at.offset) 16384))) }
     {
-        self.at.rev.get() == rev.get() && self.count == 0
+        self.at.rev.get() == at.rev.get()
+            && (self.count == 0
+                || (self.at.offset <= at.offset && at.offset - self.at.offset < NEAR))
     }
 
     // What is kept from a place on.
@@ -119,7 +124,7 @@ impl SeenBytes {
         }
     }
 
-    // Turns to the other stretch where that shows the place, or where the one that was used last is full and doesn't.
+    // Turns to the other stretch where that shows the place, or where the one that was used last doesn't go on to it.
     fn turn(&mut self, at: &RevOffset)
         ensures first { self.new.first ≡ self.old.first }
         ensures second { self.new.second ≡ self.old.second }
@@ -127,9 +132,9 @@ impl SeenBytes {
         let first = self.first.from_place(at).is_some();
         let second = self.second.from_place(at).is_some();
         let turns = if self.uses_second {
-            !second && (first || !self.second.begins(at.rev))
+            !second && (first || !self.second.goes_on(at))
         } else {
-            !first && (second || !self.first.begins(at.rev))
+            !first && (second || !self.first.goes_on(at))
         };
         if turns {
             self.uses_second = !self.uses_second;
