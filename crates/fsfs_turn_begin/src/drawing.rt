@@ -1,5 +1,5 @@
 // The name of a new transaction is drawn, by a section of its own.
-ghost use Rattle.std.specs.Prelude.{◌≡◌, ◌≤◌, ℕ, Some, None, IfOk, IfErr, OnOk, OnErr};
+ghost use Rattle.std.specs.Prelude.{◌≡◌, ◌≤◌, ℕ, Some, None, IfOk, IfErr};
 ghost use Rattle.fsfs_base.specs.Failures.{HasCause, Rose};
 ghost use Rattle.fsfs_layout.specs.Small.{IsBase36Line};
 ghost use Rattle.fsfs_begin.specs.Drawing.{IsSmallIn};

@@ -11,7 +11,7 @@ ghost use Rattle.fsfs_turn.specs.Views.{View};
 use fsfs_dag::{PlacedNode, root_of};
 use fsfs_damage::ReadError;
 use fsfs_fields::RevNum;
-use fsfs_turn::{LoneTurns, Turns};
+use fsfs_turn::LoneTurns;
 use fsfs_turn_book::{over_turns, turns_of};
 use std::alloc::Global;
 
