@@ -1,4 +1,5 @@
 //! What a file is read as.
+use crate::nodes::read_node;
 use anyhow::{Result, bail};
 use fsfs_changes::{read_changes, read_revision_changes};
 use fsfs_hash::read_hash;
@@ -14,6 +15,10 @@ pub(crate) enum Form {
     Revision,
     /// The text of a representation.
     Text,
+    /// A node-revision, many times.
+    Node,
+    /// The bytes of a revision whose tree is written.
+    Tree,
 }
 
 pub(crate) fn form_of(word: &str) -> Option<Form> {
@@ -22,12 +27,14 @@ pub(crate) fn form_of(word: &str) -> Option<Form> {
         "changes" => Some(Form::Changes),
         "revision" => Some(Form::Revision),
         "text" => Some(Form::Text),
+        "node" => Some(Form::Node),
+        "tree" => Some(Form::Tree),
         _ => None,
     }
 }
 
 impl Form {
-    /// How many things are read; of a text its bytes, which are not read.
+    /// How many things are read; of a text and a tree their bytes, which are not read.
     pub(crate) fn read(self, alloc: Global, bytes: &[u8]) -> Result<usize> {
         match self {
             Form::Dump => match read_hash(alloc, bytes) {
@@ -42,7 +49,8 @@ impl Form {
                 Ok(items) => Ok(items.len()),
                 Err(_) => bail!("the revision's changes are refused"),
             },
-            Form::Text => Ok(bytes.len()),
+            Form::Node => read_node(alloc, bytes),
+            Form::Text | Form::Tree => Ok(bytes.len()),
         }
     }
 }

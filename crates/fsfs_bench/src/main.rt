@@ -1,14 +1,16 @@
 //! Times of reading large input: `fsfs_bench dump FILE`, `fsfs_bench changes FILE`, `fsfs_bench revision FILE`,
-//! `fsfs_bench text FILE`.
+//! `fsfs_bench text FILE`, `fsfs_bench node FILE`, `fsfs_bench tree FILE`.
 //!
 //! Without words it reads a little of each form, and tells no times.
 #![tactic(auto)]
 
 mod form;
+mod nodes;
 mod text;
 
 use anyhow::{Result, bail};
 use form::{Form, form_of};
+use nodes::Tree;
 use std::env::args;
 use std::fs;
 use std::rt::{Clock, Files};
@@ -22,11 +24,13 @@ const ROUNDS: u32 = 5;
 fn time<R: Clock + Files + Print + AllocGlobal>(rt: &R, form: Form, path: &str) -> Result<()> {
     let bytes = fs::read(rt, path)?;
     let mut text = Text::new(rt.alloc(), &bytes)?;
+    let mut tree = Tree::new(rt.alloc(), &bytes)?;
     let mut quickest = u64::MAX;
     for _ in 0..ROUNDS {
         let start = Instant::now(rt)?;
         let _count = match form {
             Form::Text => text.read()?,
+            Form::Tree => tree.read(rt.alloc())?,
             _ => form.read(rt.alloc(), &bytes)?,
         };
         let took = start.elapsed(rt)?;
@@ -56,6 +60,6 @@ fn main(rt: HostRuntime) -> Result<()> {
             Some(form) => time(&rt, form, path.as_str()),
             None => bail!("there is no such form"),
         },
-        _ => bail!("fsfs_bench [dump FILE | changes FILE | revision FILE | text FILE]"),
+        _ => bail!("fsfs_bench [dump | changes | revision | text | node | tree FILE]"),
     }
 }

@@ -1,6 +1,6 @@
 -- The entries of a directory, pair by pair.
 use Rattle.std.proofs.Common.{◌≡◌, ℕ, suc, ◌≤◌, List, [], ◌∷◌, ◌++◌, length, true, false, Option, Some, Result, Ok, Err, refl, sym, ap, subst, ◌∙◌, arith, inl, inr}
-use Rattle.std.specs.Prelude.{Bool, is_ok, is_err, if◌then◌else◌, cond}
+use Rattle.std.specs.Prelude.{Bool, is_ok, is_err, if◌then◌else◌, cond, codes}
 use Rattle.std.specs.declared.vec.Vec.{Vec}
 use Rattle.std.specs.declared.alloc.Global.{Global}
 use Rattle.std.proofs.lemmas.List.{append-nil}
@@ -9,37 +9,39 @@ use Rattle.fsfs_damage.specs.declared.damage.RevOffset.{RevOffset}
 use Rattle.fsfs_damage.specs.declared.wrong.Wrong.{Wrong}
 use Rattle.fsfs_damage.specs.declared.wrong.ReadError.{ReadError}
 use Rattle.fsfs_damage.specs.declared.wrong.ReadError.TheVariants as errors
+use Rattle.fsfs_damage.specs.declared.damage.DamageKind.TheVariants as what
+use Rattle.fsfs_damage.specs.declared.damage.RepWhat.TheVariants as repwhat
+use Rattle.fsfs_damage.specs.Damages.{damaged}
 use Rattle.fsfs_damage.specs.Readings.{AndThen, Answers}
-use Rattle.fsfs_shows.specs.Reading.{DirEntry as EntryValue, IsEntry, AreEntries, EntryIn, FirstPairFails, EntriesIn, EntriesOf, ChildOf, OfNamed, OfEntry, named, offset_of}
+use Rattle.fsfs_noderev.specs.Fields.{IsIdText}
+use Rattle.fsfs_noderev.specs.declared.node_id.NodeId.{NodeId}
+use Rattle.fsfs_rep.specs.Frames.{bad_rep}
+use Rattle.fsfs_rep.proofs.HeaderLemmas.{head_same}
+use Rattle.fsfs_shows.proofs.OneEntry.{value_one}
+use Rattle.fsfs_shows.specs.Reading.{DirEntry as EntryValue, IsEntryName, IsEntryValue, IsEntry, AreEntries, FirstPairFails, kind_word, EntriesIn, EntriesOf, ChildOf, OfNamed, OfEntry, named, offset_of}
 use Rattle.fsfs_base.specs.Paths.{PathName, same_name}
+use Rattle.fsfs_base.specs.declared.kind.Kind.{Kind}
+use Rattle.fsfs_base.specs.declared.kind.Kind.TheVariants.{File, Dir}
 use Rattle.fsfs_book.specs.Told.{RevisionBytes}
 use Rattle.fsfs_noderev.specs.declared.node_id.Place.{Place}
 use Rattle.fsfs_noderev.specs.declared.node_id.Place.TheVariants as places
 use Rattle.fsfs_noderev.specs.declared.node_rev.NodeRev.{NodeRev}
 use Rattle.fsfs_revision.specs.Nodes.{place_before}
 use Rattle.fsfs_dag.specs.declared.directory.DirEntry.{DirEntry}
-use Rattle.fsfs_dag.specs.Views.{entry_value, entry_values, IsBefore, AreBefore}
+use Rattle.fsfs_dag.specs.Views.{entry_value, entry_values, IsBefore, AreBefore, PutsEntry}
 use Rattle.fsfs_dag.proofs.Reps.{before_le}
-use Rattle.fsfs_grammar.specs.Reading.{text_at}
-use Rattle.fsfs_grammar.proofs.Readers.{text_reads, ok_is}
 
-pub word_not : (word value rest : List ℕ) (left : ℕ) → text_at word value ≡ Err left → value ≡ word ++ rest → ⊥
-word_not word value rest left e parts =
-    let one : text_at word (word ++ rest) ≡ Ok (tt, rest) = (text_reads word (suc (length (word ++ rest)))).again word tt rest (omega arith) refl in
-    let two : text_at word value ≡ Ok (tt, rest) = ap (text_at word) parts ∙ one in
-    cc
+-- ---- the word before an id
 
-pub word_found : (word value rest : List ℕ) → text_at word value ≡ Ok (tt, rest) → value ≡ word ++ rest
-word_found word value rest e =
-    let w = (text_reads word (suc (length value))).found value tt rest (omega arith) e in
-    w.parts ∙ ap (λ (f : List ℕ). f ++ rest) w.text
+words_one : (k l : Kind) (a b : List ℕ) → kind_word k ++ a ≡ kind_word l ++ b → a ≡ b
+words_one File File a b e = cc
+words_one File Dir a b e = absurd (let h = head_same 102 100 (codes "ile " ++ a) (codes "ir " ++ b) e in omega arith)
+words_one Dir File a b e = absurd (let h = head_same 100 102 (codes "ir " ++ a) (codes "ile " ++ b) e in omega arith)
+words_one Dir Dir a b e = cc
 
-pub word_rest : (word value rest other : List ℕ) → text_at word value ≡ Ok (tt, rest) → value ≡ word ++ other → rest ≡ other
-word_rest word value rest other e parts =
-    let one : text_at word (word ++ other) ≡ Ok (tt, other) = (text_reads word (suc (length (word ++ other)))).again word tt other (omega arith) refl in
-    let two : text_at word value ≡ Ok (tt, other) = ap (text_at word) parts ∙ one in
-    let both = ok_is {A = Unit {0} × List ℕ} (tt, rest) (tt, other) (sym e ∙ two) in
-    ap (λ (p : Unit {0} × List ℕ). p.1) both
+-- the id behind the word of a value
+pub id_behind : (value text : List ℕ) (k l : Kind) (id : NodeId) → value ≡ kind_word k ++ text → IsEntryValue value l id → IsIdText text id
+id_behind value text k l id parts v = subst (λ (t : List ℕ). IsIdText t id) (words_one l k v.id_text text (sym v.parts ∙ parts)) v.id_is
 
 -- ---- the pairs of a dump, one after another
 
@@ -82,11 +84,11 @@ one_more home rep pairs left rest pair items new entry so is one before pushed =
 abbrev pub entries_seen : Vec DirEntry Global → List EntryValue
 entries_seen v = entry_values v.items
 
-pub first_wrong : (home : RevOffset) (rep : Rep) (pairs left rest : List Pair) (pair : Pair) (items : List DirEntry) (e : ReadError)
-    → AreSoFar home rep pairs left items → left ≡ pair ∷ rest → Answers entry_value (EntryIn home rep pair) (Err e) → Answers entries_seen (EntriesIn home rep pairs) (Err e)
-first_wrong home rep pairs left rest pair items (errors.Wrong w) so is h = so.wrong w (subst (λ (p : List Pair). FirstPairFails home rep p w) (sym is) (inl h))
-first_wrong home rep pairs left rest pair items errors.OutOfMemory so is h = tt
-first_wrong home rep pairs left rest pair items errors.DiskFault so is h = tt
+pub first_wrong : (home : RevOffset) (rep : Rep) (pairs left rest : List Pair) (pair : Pair) (items new : List DirEntry) (e : ReadError)
+    → AreSoFar home rep pairs left items → left ≡ pair ∷ rest → PutsEntry home rep pair items new (Err e) → Answers entries_seen (EntriesIn home rep pairs) (Err e)
+first_wrong home rep pairs left rest pair items new (errors.Wrong w) so is h = so.wrong w (subst (λ (p : List Pair). FirstPairFails home rep p w) (sym is) (inl h))
+first_wrong home rep pairs left rest pair items new errors.OutOfMemory so is h = tt
+first_wrong home rep pairs left rest pair items new errors.DiskFault so is h = tt
 
 pub all_found : (home : RevOffset) (rep : Rep) (pairs left : List Pair) (items : List DirEntry) → AreSoFar home rep pairs left items → left ≡ [] → AreEntries home pairs (entry_values items)
 all_found home rep pairs left items so is =
@@ -101,10 +103,24 @@ goes_on_through view (Err (errors.Wrong w)) R S T x r (inr (y, s, t)) = inr (y, 
 goes_on_through view (Err errors.OutOfMemory) R S T x r h = tt
 goes_on_through view (Err errors.DiskFault) R S T x r h = tt
 
+-- ---- one pair
+
 -- what was put at the end, where the push did not fail
 pub pushed : {A : Type 0} (r : Result (Unit {0}) A) (old new : List DirEntry) (entry : DirEntry) → false ≡ is_err r → new ≡ (if is_ok r then old ++ entry ∷ [] else old) → new ≡ old ++ entry ∷ []
 pushed (Ok x) old new entry e h = h
 pushed (Err x) old new entry e h = absurd cc
+
+module _ (home : RevOffset) (rep : Rep) (pair : Pair) (old new : List DirEntry) where
+  pub bad_value : (e : ReadError) → e ≡ errors.Wrong (bad_rep rep repwhat.EntryValue) → IsEntryName pair.0 → ((kind : Kind) (id : NodeId) → IsEntryValue pair.1 kind id → ⊥) → PutsEntry home rep pair old new (Err e)
+  bad_value e is name none = subst (λ (x : ReadError). PutsEntry home rep pair old new (Err x)) (sym is) (inr (name, inl ((λ v. none v.0 v.1 v.2), refl)))
+
+  pub late_place : (e : ReadError) (kind : Kind) (id : NodeId) → e ≡ errors.Wrong (damaged home what.PlaceOrder) → IsEntryName pair.0 → IsEntryValue pair.1 kind id → place_before home id.place ≡ false → PutsEntry home rep pair old new (Err e)
+  late_place e kind id is name value late =
+      let none : (found : (entry : EntryValue) × IsEntry home pair entry) → ⊥ = λ found.
+      let same = value_one pair.1 found.0.kind kind found.0.id id found.1.value_is value in
+      let no : true ≡ false = sym found.1.before ∙ ap (λ (i : NodeId). place_before home i.place) same.1 ∙ late in
+      cc in
+      subst (λ (x : ReadError). PutsEntry home rep pair old new (Err x)) (sym is) (inr (name, inr ((kind, id, value), inl (none, refl))))
 
 -- ---- the entry of a name
 

@@ -11,9 +11,9 @@ use Rattle.fsfs_damage.specs.Readings.{Answers}
 use Rattle.fsfs_revision.specs.Nodes.{IsNodeAt}
 use Rattle.fsfs_revision.specs.Damages.{NodeIn}
 use Rattle.fsfs_shows.specs.Reading.{NodeAt}
-use Rattle.fsfs_dag.specs.Seen.{IsSeen}
+use Rattle.fsfs_dag.specs.Seen.{IsKept}
 use Rattle.fsfs_dag.specs.Told.{WindowAt, is_decided}
-use Rattle.fsfs_dag.specs.declared.seen_bytes.SeenBytes.{SeenBytes}
+use Rattle.fsfs_dag.specs.declared.seen_bytes.Stretch.{Stretch}
 use Rattle.fsfs_dag.proofs.Windows.{node_found_in_front}
 
 -- ---- a later part of what is kept
@@ -23,7 +23,7 @@ part_from count skipped xs kept is within =
     let parts : count ≡ skipped + (count - skipped) = omega (arith, ap length is, length-take count xs) in
     ap (drop skipped) (is ∙ ap (λ (n : ℕ). take n xs) parts) ∙ drop-take skipped (count - skipped) xs
 
-module _ (look : RevisionBytes) (seen : SeenBytes) (at : RevOffset) (kept : List ℕ) (is : kept ≡ take seen.count seen.bytes) (same : at.rev ≡ seen.at.rev) (after : seen.at.offset ≤ at.offset)
+module _ (look : RevisionBytes) (seen : Stretch) (at : RevOffset) (kept : List ℕ) (is : kept ≡ take seen.count seen.bytes) (same : at.rev ≡ seen.at.rev) (after : seen.at.offset ≤ at.offset)
     (within : at.offset - seen.at.offset < length kept) where
   abbrev pub Part : Type 0
   Part = (count : ℕ) × WindowAt look at count (Ok (take (length kept - (at.offset - seen.at.offset)) (drop (at.offset - seen.at.offset) kept)))
@@ -40,7 +40,7 @@ module _ (look : RevisionBytes) (seen : SeenBytes) (at : RevOffset) (kept : List
   nothing : seen.count ≡ 0 → Part
   nothing none = absurd (omega (arith, none, ap length is, length-take seen.count seen.bytes, within))
 
-  pub seen_from_place : IsSeen look seen → Part
+  pub seen_from_place : IsKept look seen → Part
   seen_from_place h = elim h [ inl none ↦ nothing none | inr w ↦ part_of w.0 w.1 ]
 
 -- ---- a node-revision in a part, however long

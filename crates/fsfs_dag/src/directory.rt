@@ -5,20 +5,17 @@ ghost use Rattle.fsfs_base.specs.declared.kind.Kind.{Kind};
 ghost use Rattle.fsfs_base.specs.declared.kind.Kind.TheVariants.{Dir};
 ghost use Rattle.fsfs_book.specs.Told.{RevisionBytes, Knows, Keeps};
 ghost use Rattle.fsfs_hash.specs.Reading.{views};
-ghost use Rattle.fsfs_noderev.specs.Fields.{IsIdText};
-ghost use Rattle.fsfs_noderev.specs.declared.node_id.NodeId.{NodeId};
-ghost use Rattle.fsfs_revision.specs.Nodes.{is_revision_id, place_before};
+ghost use Rattle.fsfs_revision.specs.Nodes.{place_before};
 ghost use Rattle.fsfs_damage.specs.Readings.{AndThen, Answers};
-ghost use Rattle.fsfs_shows.specs.Reading.{EntryIn, PairsIn, EntriesIn, EntriesOf, IsEntryName, IsEntryValue, named};
+ghost use Rattle.fsfs_shows.specs.Reading.{PairsIn, EntriesIn, EntriesOf, IsEntryName, kind_word, named};
 ghost use Rattle.fsfs_damage.specs.Causes.{HasCause, IsQuiet};
-ghost use Rattle.fsfs_dag.specs.Views.{entry_value, entry_values, home_of, AreBefore, IsBefore};
+ghost use Rattle.fsfs_dag.specs.Views.{entry_value, entry_values, home_of, AreBefore, PutsEntry};
 
 use crate::contents::{hash_in_place, rep_read};
 use crate::node::PlacedNode;
 use fsfs_base::{Kind, is_name};
 use fsfs_book::Book;
 use fsfs_damage::{DamageKind, ReadError, RepWhat, RevOffset};
-use fsfs_grammar::pieces::text;
 use fsfs_noderev::{NodeId, Place, Rep, read_id};
 use fsfs_rep::bad_rep;
 use fsfs_revision::{is_before, is_revision_id};
@@ -32,29 +29,15 @@ pub struct DirEntry {
     pub id: NodeId,
 }
 
-// The id of a revision's form behind a word.
-fn id_behind(word: &[u8], value: &[u8]) -> Option<NodeId>
-    ensures found { IfSome result (λ id. (id_text : List ℕ) × IsIdText id_text id × (value.now ≡ word.now ++ id_text) × (is_revision_id id ≡ true)) }
-    ensures only { (id : NodeId) (id_text : List ℕ) → IsIdText id_text id → value.now ≡ word.now ++ id_text → is_revision_id id ≡ true → IsSome result }
+// The kind that an entry's value says, and what stands behind the word for it.
+fn split_value(value: &[u8]) -> Option<(Kind, &[u8])>
+    ensures found { IfSome result (λ p. value.now ≡ kind_word p.0 ++ p.1.now) }
+    ensures only { (kind : Kind) (id_text : List ℕ) → value.now ≡ kind_word kind ++ id_text → IsSome result }
 {
-    let Ok(rest) = text(word, value) else {
-        return None;
-    };
-    let id = read_id(rest)?;
-    if is_revision_id(&id) { Some(id) } else { None }
-}
-
-// The kind and the id that an entry's value is.
-fn value_of(value: &[u8]) -> Option<(Kind, NodeId)>
-    ensures found { IfSome result (λ p. IsEntryValue value.now p.0 p.1) }
-    ensures only { (kind : Kind) (id : NodeId) → IsEntryValue value.now kind id → IsSome result }
-{
-    match id_behind(b"file ", value) {
-        Some(id) => Some((Kind::File, id)),
-        None => match id_behind(b"dir ", value) {
-            Some(id) => Some((Kind::Dir, id)),
-            None => None,
-        },
+    match value {
+        [b'f', b'i', b'l', b'e', b' ', id_text @ ..] => Some((Kind::File, id_text)),
+        [b'd', b'i', b'r', b' ', id_text @ ..] => Some((Kind::Dir, id_text)),
+        _ => None,
     }
 }
 
@@ -78,32 +61,41 @@ fn stands_before(home: &RevOffset, place: &Place) -> bool
     }
 }
 
-// An entry of the directory at `home`, of a pair of its dump.
-fn entry_of(
+// Puts the entry that a pair of the dump of the directory at `home` is behind those before it. It goes straight into its
+// place, since an id is dear to move.
+fn put_entry(
     alloc: Global,
     home: &RevOffset,
     rep: &Rep,
     name: &[u8],
     value: &[u8],
-) -> Result<DirEntry, ReadError>
-    ensures told { Answers entry_value (EntryIn home.now rep.now (name.now, value.now)) result }
+    entries: &mut Vec<DirEntry>,
+) -> Result<(), ReadError>
+    ensures told { PutsEntry home.now rep.now (name.now, value.now) entries.old.items entries.new.items result }
     ensures quiet { IsQuiet result }
-    ensures before { IfOk result (IsBefore home.now) }
 {
     let Some(name) = name_of(name) else {
         return Err(bad_rep(rep, RepWhat::BadName));
     };
-    let Some(target) = value_of(value) else {
+    let Some((kind, id_text)) = split_value(value) else {
         return Err(bad_rep(rep, RepWhat::EntryValue));
     };
-    let (kind, id) = target;
+    let Some(id) = read_id(id_text) else {
+        return Err(bad_rep(rep, RepWhat::EntryValue));
+    };
+    if !is_revision_id(&id) {
+        return Err(bad_rep(rep, RepWhat::EntryValue));
+    }
     if !stands_before(home, &id.place) {
         return Err(ReadError::damaged(*home, DamageKind::PlaceOrder));
     }
-    match String::from_str(alloc, name) {
-        Ok(name) => Ok(DirEntry { name, kind, id }),
-        Err(_) => Err(ReadError::OutOfMemory),
+    let Ok(name) = String::from_str(alloc, name) else {
+        return Err(ReadError::OutOfMemory);
+    };
+    if entries.push(DirEntry { name, kind, id }).is_err() {
+        return Err(ReadError::OutOfMemory);
     }
+    Ok(())
 }
 
 // The entries of the pairs, one by one.
@@ -119,10 +111,7 @@ fn entries_of(
 {
     let mut entries = Vec::new(alloc);
     for pair in pairs {
-        let entry = entry_of(alloc, home, rep, pair.0, pair.1)?;
-        if entries.push(entry).is_err() {
-            return Err(ReadError::OutOfMemory);
-        }
+        put_entry(alloc, home, rep, pair.0, pair.1, &mut entries)?;
     }
     Ok(entries)
 }

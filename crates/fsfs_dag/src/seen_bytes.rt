@@ -1,14 +1,14 @@
 //! The bytes that were read last, kept for the node-revisions that stand beside the one that was read.
 //!
 //! The nodes of a directory are mostly written in one revision, one behind the other and before the directory itself.
-ghost use Rattle.std.specs.Prelude.{◌≡◌, ℕ, true, length, take, Ok, IfOk, IfSome};
+ghost use Rattle.std.specs.Prelude.{◌≡◌, ◌==◌, ◌&&◌, ◌||◌, ◌-◌, nat_le, nat_lt, ℕ, true, length, take, Ok, IfOk, IfSome};
 ghost use Rattle.fsfs_book.specs.Told.{RevisionBytes, Knows, Keeps, IsTold};
 ghost use Rattle.fsfs_revision.specs.Nodes.{is_ordered};
 ghost use Rattle.fsfs_damage.specs.Readings.{Answers};
 ghost use Rattle.fsfs_damage.specs.Causes.{HasCause, IsQuiet};
 ghost use Rattle.fsfs_shows.specs.Reading.{NodeAt, OfEntry, offset_of};
 ghost use Rattle.fsfs_dag.specs.Told.{WindowAt, is_decided};
-ghost use Rattle.fsfs_dag.specs.Seen.{IsSeen};
+ghost use Rattle.fsfs_dag.specs.Seen.{IsKept, IsSeen};
 ghost use Rattle.fsfs_dag.specs.Views.{entry_value};
 
 use crate::directory::DirEntry;
@@ -29,20 +29,33 @@ const KEPT: usize = 8192;
 // too.
 const BEFORE: u64 = 1024;
 
-/// The bytes of a revision that were read last, and their place.
+// How far from its beginning a stretch still goes on: to the node-revisions right behind what is kept.
+const NEAR: u64 = 16384;
+
+/// Bytes of a revision that were read together, and their place.
 #[derive(Drop)]
-pub struct SeenBytes {
+pub struct Stretch {
     at: RevOffset,
     count: usize,
     bytes: [u8; KEPT],
 }
 
-impl SeenBytes {
+/// The two stretches that were read last. A directory's names may go by turns through two rows of nodes, as `f998`, `f9980`
+/// to `f9989`, `f999` do where they were made by their numbers.
+#[derive(Drop)]
+pub struct SeenBytes {
+    first: Stretch,
+    second: Stretch,
+    // Whether the second is the one that was used last.
+    uses_second: bool,
+}
+
+impl Stretch {
     /// Nothing is kept.
-    pub fn new() -> SeenBytes
-        ensures { (look : RevisionBytes) → IsSeen look result }
+    fn new() -> Stretch
+        ensures { (look : RevisionBytes) → IsKept look result }
     {
-        SeenBytes {
+        Stretch {
             at: RevOffset {
                 rev: RevNum::ZERO,
                 offset: 0,
@@ -62,9 +75,18 @@ impl SeenBytes {
         self.count = 0;
     }
 
+    // Whether what is kept goes on to a place: it is of the same revision, and holds nothing yet or begins a little before it.
+    fn goes_on(&self, at: &RevOffset) -> bool
+        ensures { result ≡ (self.now.at.rev == at.now.rev && (self.now.count == 0 || (nat_le self.now.at.offset at.now.offset && nat_lt (at.now.offset - self.now.at.offset) 16384))) }
+    {
+        self.at.rev.get() == at.rev.get()
+            && (self.count == 0
+                || (self.at.offset <= at.offset && at.offset - self.at.offset < NEAR))
+    }
+
     // What is kept from a place on.
     fn from_place(&self, at: &RevOffset) -> Option<&[u8]>
-        ensures { (look : RevisionBytes) → IsSeen look self.now → IfSome result (λ seen. (count : ℕ) × WindowAt look at.now count (Ok seen.now)) }
+        ensures { (look : RevisionBytes) → IsKept look self.now → IfSome result (λ seen. (count : ℕ) × WindowAt look at.now count (Ok seen.now)) }
     {
         let kept = self.bytes.get(..self.count)?;
         if at.rev.get() != self.at.rev.get() || at.offset < self.at.offset {
@@ -80,7 +102,7 @@ impl SeenBytes {
     // Keeps a revision's bytes from a place on.
     fn read<B: Book>(&mut self, book: &mut B, at: RevOffset) -> Result<(), ReadError>
         ensures told { (look : RevisionBytes) → IsTold (B.told book.old) look at.rev → Answers (λ _. take self.new.count self.new.bytes) (WindowAt look at (length self.old.bytes)) result }
-        ensures seen { (look : RevisionBytes) → IsTold (B.told book.old) look at.rev → IsSeen look self.new }
+        ensures seen { (look : RevisionBytes) → IsTold (B.told book.old) look at.rev → IsKept look self.new }
         ensures kept { Keeps (B.told book.old) (B.told book.new) }
         ensures cause { HasCause (B.faults book.old) (B.faults book.new) result }
     {
@@ -90,9 +112,39 @@ impl SeenBytes {
     }
 }
 
+impl SeenBytes {
+    /// Nothing is kept.
+    pub fn new() -> SeenBytes
+        ensures { (look : RevisionBytes) → IsSeen look result }
+    {
+        SeenBytes {
+            first: Stretch::new(),
+            second: Stretch::new(),
+            uses_second: false,
+        }
+    }
+
+    // Turns to the other stretch where that shows the place, or where the one that was used last doesn't go on to it.
+    fn turn(&mut self, at: &RevOffset)
+        ensures first { self.new.first ≡ self.old.first }
+        ensures second { self.new.second ≡ self.old.second }
+    {
+        let first = self.first.from_place(at).is_some();
+        let second = self.second.from_place(at).is_some();
+        let turns = if self.uses_second {
+            !second && (first || !self.second.goes_on(at))
+        } else {
+            !first && (second || !self.first.goes_on(at))
+        };
+        if turns {
+            self.uses_second = !self.uses_second;
+        }
+    }
+}
+
 // The node-revision at a place, as what is kept shows it. That may end within one, so that damage decides nothing.
-fn node_kept(alloc: Global, at: &RevOffset, seen: &SeenBytes) -> Result<NodeRev, ReadError>
-    ensures told { (look : RevisionBytes) → IsSeen look seen.now → is_decided result ≡ true → Answers (λ v. v) (NodeAt look at.now) result }
+fn node_kept(alloc: Global, at: &RevOffset, seen: &Stretch) -> Result<NodeRev, ReadError>
+    ensures told { (look : RevisionBytes) → IsKept look seen.now → is_decided result ≡ true → Answers (λ v. v) (NodeAt look at.now) result }
     ensures ordered { IfOk result (λ v. is_ordered at.now v ≡ true) }
     ensures quiet { IsQuiet result }
 {
@@ -107,10 +159,10 @@ fn node_anew<B: Book>(
     alloc: Global,
     book: &mut B,
     at: &RevOffset,
-    seen: &mut SeenBytes,
+    seen: &mut Stretch,
 ) -> Result<NodeRev, ReadError>
     ensures told { (look : RevisionBytes) → IsTold (B.told book.old) look at.now.rev → Answers (λ v. v) (NodeAt look at.now) result }
-    ensures seen { (look : RevisionBytes) → IsTold (B.told book.old) look at.now.rev → IsSeen look seen.new }
+    ensures seen { (look : RevisionBytes) → IsTold (B.told book.old) look at.now.rev → IsKept look seen.new }
     ensures ordered { IfOk result (λ v. is_ordered at.now v ≡ true) }
     ensures kept { Keeps (B.told book.old) (B.told book.new) }
     ensures cause { HasCause (B.faults book.old) (B.faults book.new) result }
@@ -134,10 +186,10 @@ fn node_beside<B: Book>(
     alloc: Global,
     book: &mut B,
     at: &RevOffset,
-    seen: &mut SeenBytes,
+    seen: &mut Stretch,
 ) -> Result<NodeRev, ReadError>
-    ensures told { (look : RevisionBytes) → IsTold (B.told book.old) look at.now.rev → IsSeen look seen.old → Answers (λ v. v) (NodeAt look at.now) result }
-    ensures seen { (look : RevisionBytes) → IsTold (B.told book.old) look at.now.rev → IsSeen look seen.old → IsSeen look seen.new }
+    ensures told { (look : RevisionBytes) → IsTold (B.told book.old) look at.now.rev → IsKept look seen.old → Answers (λ v. v) (NodeAt look at.now) result }
+    ensures seen { (look : RevisionBytes) → IsTold (B.told book.old) look at.now.rev → IsKept look seen.old → IsKept look seen.new }
     ensures ordered { IfOk result (λ v. is_ordered at.now v ≡ true) }
     ensures kept { Keeps (B.told book.old) (B.told book.new) }
     ensures cause { HasCause (B.faults book.old) (B.faults book.new) result }
@@ -150,6 +202,26 @@ fn node_beside<B: Book>(
 }
 
 // The node-revision at a place. The first of a revision is read alone, since it may be the only one that is asked for there.
+fn node_near<B: Book>(
+    alloc: Global,
+    book: &mut B,
+    at: &RevOffset,
+    seen: &mut Stretch,
+) -> Result<NodeRev, ReadError>
+    ensures told { (look : RevisionBytes) → IsTold (B.told book.old) look at.now.rev → IsKept look seen.old → Answers (λ v. v) (NodeAt look at.now) result }
+    ensures seen { (look : RevisionBytes) → IsTold (B.told book.old) look at.now.rev → IsKept look seen.old → IsKept look seen.new }
+    ensures ordered { IfOk result (λ v. is_ordered at.now v ≡ true) }
+    ensures kept { Keeps (B.told book.old) (B.told book.new) }
+    ensures cause { HasCause (B.faults book.old) (B.faults book.new) result }
+{
+    if seen.at.rev.get() != at.rev.get() {
+        seen.turn_to(*at);
+        return node_read(alloc, book, at);
+    }
+    node_beside(alloc, book, at, seen)
+}
+
+// The node-revision at a place, by that of the two stretches that shows it, or else by the one that was used longer ago.
 fn node_seen<B: Book>(
     alloc: Global,
     book: &mut B,
@@ -162,11 +234,12 @@ fn node_seen<B: Book>(
     ensures kept { Keeps (B.told book.old) (B.told book.new) }
     ensures cause { HasCause (B.faults book.old) (B.faults book.new) result }
 {
-    if seen.at.rev.get() != at.rev.get() {
-        seen.turn_to(*at);
-        return node_read(alloc, book, at);
+    seen.turn(at);
+    if seen.uses_second {
+        node_near(alloc, book, at, &mut seen.second)
+    } else {
+        node_near(alloc, book, at, &mut seen.first)
     }
-    node_beside(alloc, book, at, seen)
 }
 
 /// The node-revision that an entry names, as `child_of` reads it, where what was read last is kept from call to call: it is

@@ -35,7 +35,7 @@ none_pair : {A : Type 0} (o : ℕ) (v : NodeRev) → None ≡ laid_at o v → A
 none_pair o v e = absurd (false≢true (ap is_some e))
 
 -- a node-revision's text is not empty
-some_text : (text : List ℕ) (v : NodeRev) → IsNodeRev text v → 1 ≤ length text
+pub some_text : (text : List ℕ) (v : NodeRev) → IsNodeRev text v → 1 ≤ length text
 some_text text v is = omega (arith, ap length is.text_is.parts, length-append (flat_map line is.text_is.lines) (10 ∷ []))
 
 placed_stays : (n : ℕ) (bytes more : List ℕ) (o : ℕ) (v : NodeRev) → IsPlaced n bytes o v → IsPlaced n (bytes ++ more) o v

@@ -24,7 +24,7 @@ use Rattle.fsfs_final.proofs.Commit.{shows_as}
 use Rattle.fsfs_final.specs.NextShown.{IsWrittenAs, NextIsShown}
 
 -- the last one, or one of those before
-got_more : (h : List Revision) (next : Revision) (r : ℕ) (x : Revision) → slice_get (h ++ next ∷ []) r ≡ Some x → (slice_get h r ≡ Some x) ⊎ ((r ≡ length h) × (next ≡ x))
+pub got_more : (h : List Revision) (next : Revision) (r : ℕ) (x : Revision) → slice_get (h ++ next ∷ []) r ≡ Some x → (slice_get h r ≡ Some x) ⊎ ((r ≡ length h) × (next ≡ x))
 got_more [] next zero x e = inr (refl, let f : Some next ≡ Some x = e in cc)
 got_more [] next (suc r) x e = let f : None ≡ Some x = e in absurd cc
 got_more (z ∷ h) next zero x e = inl e

@@ -49,7 +49,7 @@ blocked_not : (k : ℕ) (v : NodeRev) → Blocked k ≡ Stands v → ⊥
 blocked_not k v e = cc
 
 -- what a directory has of a name, from what is met there
-child_in : (look : RevisionBytes) (a d : NodeRev) (depth : ℕ) (p : Path) (name : PathName) (m : Met) → MetFrom look a depth p (Ok (Stands d)) → d.kind ≡ Dir → MetFrom look a depth (p ++ name ∷ []) (Ok m) → (o : Option NodeRev) × ChildOf look d name (Ok o)
+pub child_in : (look : RevisionBytes) (a d : NodeRev) (depth : ℕ) (p : Path) (name : PathName) (m : Met) → MetFrom look a depth p (Ok (Stands d)) → d.kind ≡ Dir → MetFrom look a depth (p ++ name ∷ []) (Ok m) → (o : Option NodeRev) × ChildOf look d name (Ok o)
 child_in look a d depth [] name m at kind on =
     let same : d ≡ a = (let e = ok_same (Stands d) (Stands a) at in cc) in
     here a.kind (sym (ap (λ (z : NodeRev). z.kind) same) ∙ kind) on

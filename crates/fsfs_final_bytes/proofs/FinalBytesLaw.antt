@@ -12,18 +12,8 @@ use Rattle.fsfs_book.specs.Told.{RevisionBytes}
 use Rattle.fsfs_shows.specs.IdRules.{IdRule}
 use Rattle.fsfs_stands.specs.History.{ShowsRevision, ShowsHistory}
 use Rattle.fsfs_final.proofs.Commit.{shows_as}
-use Rattle.fsfs_final.proofs.NextShownLaw.{count}
+use Rattle.fsfs_final.proofs.NextShownLaw.{count, got_more}
 use Rattle.fsfs_final_bytes.specs.FinalBytes.{IsCommittedAs, FinalBytesAreEnough}
-
--- the last one, or one of those before
-got_more : (h : List Revision) (next : Revision) (r : ℕ) (x : Revision) → slice_get (h ++ next ∷ []) r ≡ Some x → (slice_get h r ≡ Some x) ⊎ ((r ≡ length h) × (next ≡ x))
-got_more [] next zero x e = inr (refl, let f : Some next ≡ Some x = e in cc)
-got_more [] next (suc r) x e = let f : None ≡ Some x = e in absurd cc
-got_more (z ∷ h) next zero x e = inl e
-got_more (z ∷ h) next (suc r) x e = elim (got_more h next r x e) [
-  | inl a ↦ inl a
-  | inr b ↦ inr (ap (λ n. suc n) b.0, b.1)
-]
 
 module _ (look props : RevisionBytes) (h : List Revision) (e : Entry) (next : Revision) (shows : ShowsHistory look props h) (entry : IsEntry h e) (is : IsNext h e next) (w : IsCommittedAs look props h e next) where
   abbrev top : ℕ

@@ -44,6 +44,7 @@ use Rattle.fsfs_laying.specs.Naming.{FinalIds}
 use Rattle.fsfs_order.proofs.OwnChildren.{Below, not_of_revision, heads, bare_dir}
 use Rattle.fsfs_putting.specs.Laying.{LeadsOn, LeadAlike, IsListPut, IsTextKept, IsPut, AreLaid}
 use Rattle.fsfs_final_bytes.proofs.Totals.{has_child}
+use Rattle.fsfs_laying.proofs.NodeLaws.{same_rep}
 
 -- ---- what is laid at a path
 
@@ -54,9 +55,6 @@ node_in other (Some at) = at.1
 abbrev pub off_in : Option (ℕ × NodeRev) → ℕ
 off_in None = 0
 off_in (Some at) = at.0
-
-same_rep : (n : ℕ) (rep : Rep) (rev : ℕ) → rep.rev ≡ Some rev → in_revision n rep ≡ rep
-same_rep n rep rev e = ap (λ (r : Option ℕ). let made : Rep = record rep { rev = Some (unwrap_or r n) } in made) e ∙ ap (λ (r : Option ℕ). let made : Rep = record rep { rev = r } in made) (sym e)
 
 -- what stands in a revision is kept as it is
 pub lasting_kept : (n : ℕ) (c d : Option Contents) → has_revision_rep c ≡ true → IsTextKept n c d → d ≡ c

@@ -13,7 +13,7 @@ use Rattle.fsfs_grammar.specs.Numeral.{IsNumber}
 use Rattle.fsfs_grammar.proofs.Unique.{numeral_decimal}
 use Rattle.fsfs_noderev.specs.Fields.{IsIdText, IsKindText, IsPathText}
 use Rattle.fsfs_noderev.specs.declared.node_rev.CopySource.{CopySource}
-use Rattle.fsfs_noderev.proofs.Lengths.{id_most}
+use Rattle.fsfs_noderev.proofs.Lengths.{id_most, AtMost, cut_most, path_most, rev_most}
 use Rattle.fsfs_changes.specs.Words.{IsFlagText, IsActionText, IsActionAndKind}
 use Rattle.fsfs_changes.specs.Items.{IsFirstLine, IsSecondLine, IsItem}
 use Rattle.fsfs_changes.specs.Changes.{HasNewPath, Items, HavePathsOnce}
@@ -24,20 +24,6 @@ use Rattle.fsfs_laying.specs.Endings.{IsEndPut}
 use Rattle.fsfs_final_bytes.proofs.ItemLemmas.{apart_of, contained_at}
 
 -- ---- one item
-
-abbrev AtMost : {X : Type 0} → ℕ → (List ℕ → X → Type 0) → Type 0
-AtMost {X} n G = (text : List ℕ) (x : X) → G text x → length text ≤ n
-
-cut_most : {X Y : Type 0} (G : List ℕ → X → Type 0) (H : List ℕ → Y → Type 0) (m n c : ℕ) → AtMost m G → AtMost n H → (text : List ℕ) (p : X × Y) → IsCutOf c G H text p → length text ≤ m + 1 + n
-cut_most G H m n c first second text p w = omega (arith, ap length w.4, length-append w.0 (c ∷ w.1), first w.0 p.0 w.2, second w.1 p.1 w.3)
-
-rev_most : AtMost 20 IsRev
-rev_most text n w =
-    let small : n < 2 ^ 64 = (let fits = w.1 in omega (arith, fits)) in
-    omega (arith, ap length (numeral_decimal text n small w.0), length-decimal-le 20 n (omega arith) (omega (arith, small)) small)
-
-path_most : AtMost 4096 IsPathText
-path_most text p w = omega (arith, ap length w.text_is, w.path_is.fits)
 
 flag_most : AtMost 5 IsFlagText
 flag_most text true w = omega (arith, ap length w)

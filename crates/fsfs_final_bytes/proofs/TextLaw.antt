@@ -51,7 +51,7 @@ use Rattle.fsfs_final.proofs.ChangesLaw.{changes_fit}
 use Rattle.fsfs_final.proofs.ContentsLaw.{content_laws}
 use Rattle.fsfs_final.proofs.Held.{held_drafts_are_read}
 use Rattle.fsfs_final.proofs.KeepsIds.{written_keeps_ids}
-use Rattle.fsfs_final.proofs.LaidLaw.{loop_laws}
+use Rattle.fsfs_final.proofs.LaidLaw.{loop_laws, some_text}
 use Rattle.fsfs_final.proofs.ShowsLanded.{written_shows_landing}
 use Rattle.fsfs_final.proofs.Written.{directories_are_enough}
 use Rattle.fsfs_laying.specs.Endings.{IsEndPut, IsEnded}
@@ -107,9 +107,6 @@ laid_longer n bytes more own left laid ids all = record {
   order = all.order;
   each = λ p v here out. put_longer n bytes more laid ids p v (all.each p v here out);
 }
-
-some_text : (text : List ℕ) (v : NodeRev) → IsNodeRev text v → 1 ≤ length text
-some_text text v is = omega (arith, ap length is.text_is.parts, length-append (flat_map line is.text_is.lines) (10 ∷ []))
 
 -- ---- a transaction over bytes with one revision more
 

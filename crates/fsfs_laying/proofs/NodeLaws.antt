@@ -107,7 +107,7 @@ own_props n start old new None list d w is = let no : ⊥ = cc in absurd no
 own_props n start old new (Some (contents.At rep)) list d w is = let no : ⊥ = cc in absurd no
 own_props n start old new (Some contents.Own) list d w is = (λ none. (let f = sym none ∙ w.1 in cc), ap contents_rev w.1 ∙ ap (λ (r : Option ℕ). unwrap_or r 0) w.2.rev_is)
 
-same_rep : (n : ℕ) (rep : Rep) (rev : ℕ) → rep.rev ≡ Some rev → in_revision n rep ≡ rep
+pub same_rep : (n : ℕ) (rep : Rep) (rev : ℕ) → rep.rev ≡ Some rev → in_revision n rep ≡ rep
 same_rep n rep rev e = ap (λ (r : Option ℕ). let made : Rep = record rep { rev = Some (unwrap_or r n) } in made) e ∙ ap (λ (r : Option ℕ). let made : Rep = record rep { rev = r } in made) (sym e)
 
 other_props : (n start : ℕ) (old new : List ℕ) (c : Option Contents) (list : Option Pairs) (d : Option Contents) → AreContentsPut n start old new c list d → HasPropsBefore n c → (c ≢ own_file) → d ≡ c

@@ -25,10 +25,10 @@ use Rattle.fsfs_noderev.specs.Writing.{IsLineOf, IsOptional, IsFlag}
 use Rattle.fsfs_noderev.specs.declared.node_rev.NodeRev.{NodeRev}
 
 -- each text of G has so many bytes at most
-abbrev AtMost : {X : Type 0} → ℕ → (List ℕ → X → Type 0) → Type 0
+abbrev pub AtMost : {X : Type 0} → ℕ → (List ℕ → X → Type 0) → Type 0
 AtMost {X} n G = (text : List ℕ) (x : X) → G text x → length text ≤ n
 
-cut_most : {X Y : Type 0} (G : List ℕ → X → Type 0) (H : List ℕ → Y → Type 0) (m n c : ℕ) → AtMost m G → AtMost n H → (text : List ℕ) (p : X × Y) → IsCutOf c G H text p → length text ≤ m + 1 + n
+pub cut_most : {X Y : Type 0} (G : List ℕ → X → Type 0) (H : List ℕ → Y → Type 0) (m n c : ℕ) → AtMost m G → AtMost n H → (text : List ℕ) (p : X × Y) → IsCutOf c G H text p → length text ≤ m + 1 + n
 cut_most G H m n c first second text p w = omega (arith, ap length w.4, length-append w.0 (c ∷ w.1), first w.0 p.0 w.2, second w.1 p.1 w.3)
 
 decimal_most : (limit : ℕ) → limit < 2 ^ 64 → AtMost 20 (IsPlain 10 limit)
@@ -36,7 +36,7 @@ decimal_most limit small text n w =
     let sized : n < 2 ^ 64 = omega (arith, w.1, small) in
     omega (arith, ap length (numeral_decimal text n sized w.0), length-decimal-le 20 n (omega arith) (omega (arith, sized)) sized)
 
-rev_most : AtMost 20 IsRev
+pub rev_most : AtMost 20 IsRev
 rev_most = decimal_most last_rev (omega arith)
 
 number_most : AtMost 20 IsNumber64
@@ -97,7 +97,7 @@ values_most text (reps.At r) w = rep_most text r w
 contents_most : AtMost 207 AreContentsText
 contents_most text k w = values_most text (contents_value k) w
 
-path_most : AtMost 4096 IsPathText
+pub path_most : AtMost 4096 IsPathText
 path_most text p w = omega (arith, ap length w.text_is, w.path_is.fits)
 
 source_most : AtMost 4117 IsSourceText

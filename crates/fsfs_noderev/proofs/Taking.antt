@@ -1,8 +1,7 @@
 -- Lines are taken in one way at most.
-use Rattle.std.proofs.Common.{◌≡◌, ◌<◌, ◌≤◌, ◌-◌, ℕ, List, [], ◌∷◌, ◌++◌, length, Option, Some, None, Result, Ok, Err, refl, sym, ap, subst, ◌∙◌, append_assoc, arith, inl, inr}
+use Rattle.std.proofs.Common.{◌≡◌, ◌<◌, ◌≤◌, ◌-◌, ℕ, List, [], ◌∷◌, ◌++◌, length, Option, Some, None, refl, sym, ap, subst, ◌∙◌, append_assoc, arith, inl, inr}
 use Rattle.std.proofs.lemmas.Option.{some_pair_parts, same_Some}
 use Rattle.std.specs.List.{flat_map}
-use Rattle.std.specs.Prelude.{IfOk, IfErr, MatchResult}
 use Rattle.std.proofs.lemmas.List.{length-append, nil_from_length, append-nil}
 use Rattle.fsfs_grammar.specs.Grammar.{Begins}
 use Rattle.fsfs_grammar.specs.Cuts.{Lacks, cut}
@@ -11,16 +10,14 @@ use Rattle.fsfs_grammar.proofs.CutLemmas.{cut_found, cut_again, cut_none}
 use Rattle.fsfs_noderev.specs.Ids.{IsNumber64}
 use Rattle.fsfs_noderev.specs.Lines.{IsPair, line, pair_at}
 use Rattle.fsfs_noderev.specs.Fields.{field_named, IsIdText, IsKindText, AreContentsText, IsPathText, IsSourceText, IsRootText, IsYes, Sets, Puts, Bars, Refuses, nothing}
-use Rattle.fsfs_noderev.specs.NodeRevs.{Takes, IsNodeText, Means, IsRead, IsRefused, StopsAt, IsMissing, NoId, NoKind, NoPath}
-use Rattle.fsfs_noderev.specs.Steps.{IsTaken, HasFront, IsLack, IsExact, IsOutOfMemory}
+use Rattle.fsfs_noderev.specs.NodeRevs.{Takes, IsNodeText, Means, AreFull, AreRead, IsRead, IsRefused, StopsAt, IsMissing, NoId, NoKind, NoPath, IsNodeFault}
+use Rattle.fsfs_noderev.specs.Steps.{IsTaken, HasFront}
 use Rattle.fsfs_noderev.specs.declared.fields.Fields.{Fields}
 use Rattle.fsfs_noderev.specs.declared.node_rev.Field.{Field}
 use Rattle.fsfs_noderev.specs.declared.node_rev.Field.TheVariants.{Id, NodeKind, Predecessor, Count, Text, Props, CreatedPath, CopiedFrom, CopiedRoot, FreshTxnRoot, MergeinfoCount, MergeinfoHere}
 use Rattle.fsfs_noderev.specs.declared.node_rev.Which.{Which}
 use Rattle.fsfs_noderev.specs.declared.node_rev.Which.TheVariants.{BadLine, NoEnd}
 use Rattle.fsfs_noderev.specs.declared.node_rev.NodeRev.{NodeRev}
-use Rattle.fsfs_noderev.specs.declared.reading.NodeError.{NodeError}
-use Rattle.fsfs_noderev.specs.declared.reading.NodeError.TheVariants as errors
 use Rattle.fsfs_noderev.proofs.FieldTexts.{id_one, kind_one, number_one, contents_one, path_one, source_one, root_one, yes_one}
 use Rattle.fsfs_noderev.proofs.LineTexts.{pair_found, pair_again, line_parts, line_cut}
 
@@ -191,13 +188,10 @@ front_of bytes fields rest b =
     let w = b.text in
     (w.lines, w.taken, b.parts ∙ ap (λ (t : List ℕ). t ++ rest) w.parts ∙ append_assoc (flat_map line w.lines) (10 ∷ []) rest)
 
-pub read_found : (bytes : List ℕ) (fields : Fields) (rest : List ℕ) (node : NodeRev) → HasFront bytes fields (10 ∷ rest) → Means fields node → IsRead bytes node
-read_found bytes fields rest node v means = record { fields = fields; rest = rest; begins = begun bytes fields rest v; means = means }
-
 fields_same : (bytes : List ℕ) (s t : Fields) (a b : List ℕ) → HasFront bytes s (10 ∷ a) → HasFront bytes t (10 ∷ b) → s ≡ t
 fields_same bytes s t a b v w = (both_end v.0 w.0 nothing s t a b v.1 w.1 (sym v.2 ∙ w.2)).0
 
-means_same : (s : Fields) (m n : NodeRev) → Means s m → Means s n → m ≡ n
+pub means_same : (s : Fields) (m n : NodeRev) → Means s m → Means s n → m ≡ n
 means_same s m n v w =
     let id = same_Some m.id n.id (sym v.id ∙ w.id) in
     let kind = same_Some m.kind n.kind (sym v.kind ∙ w.kind) in
@@ -226,11 +220,6 @@ means_same s m n v w =
       has_mergeinfo = here i;
     }
 
-pub read_only : (bytes : List ℕ) (fields : Fields) (rest : List ℕ) (m n : NodeRev) → HasFront bytes fields (10 ∷ rest) → Means fields m → IsRead bytes n → m ≡ n
-read_only bytes fields rest m n v means w =
-    let same = fields_same bytes fields w.fields rest w.rest v (front_of bytes w.fields w.rest w.begins) in
-    means_same w.fields m n (subst (λ (f : Fields). Means f m) same means) w.means
-
 pub stop_not_read : (bytes : List ℕ) (left : ℕ) (which : Which) (n : NodeRev) → StopsAt nothing bytes left which → IsRead bytes n → ⊥
 stop_not_read bytes left which n s w =
     let v = front_of bytes w.fields w.rest w.begins in
@@ -248,17 +237,19 @@ missing_not_read bytes fields rest which n v missing w =
 
 -- ---- all of a node-revision, of what was made of its lines
 
-module _ (bytes : List ℕ) (fields : Fields) (rest : List ℕ) (at : ℕ) (v : HasFront bytes fields (10 ∷ rest)) where
-  pub completed_found : (r : Result NodeRev NodeError) → MatchResult r (Means fields) (IsLack fields at) → IfOk r (IsRead bytes)
-  completed_found (Ok node) w = read_found bytes fields rest node v w
-  completed_found (Err e) w = tt
+module _ (bytes : List ℕ) (fields : Fields) (rest : List ℕ) (v : HasFront bytes fields (10 ∷ rest)) where
+  pub fields_read : AreFull fields → AreRead bytes fields
+  fields_read full = record { rest = rest; begins = begun bytes fields rest v; full = full }
 
-  pub completed_only : (r : Result NodeRev NodeError) → MatchResult r (Means fields) (IsLack fields at) → (n : NodeRev) → IsRead bytes n → MatchResult r (λ m. m ≡ n) IsOutOfMemory
-  completed_only (Ok node) w n is = read_only bytes fields rest node n v w is
-  completed_only (Err errors.OutOfMemory) w n is = absurd w
-  completed_only (Err (errors.Fault fault)) w n is = absurd (missing_not_read bytes fields rest fault.which n v w.0 is)
+  pub fields_mean : (n : NodeRev) → IsRead bytes n → Means fields n
+  fields_mean n w = subst (λ (f : Fields). Means f n) (sym (fields_same bytes fields w.fields rest w.rest v (front_of bytes w.fields w.rest w.begins))) w.means
 
-  pub completed_fault : at ≡ length bytes - length rest → (r : Result NodeRev NodeError) → MatchResult r (Means fields) (IsLack fields at) → IfErr r (IsExact bytes)
-  completed_fault e (Ok node) w = tt
-  completed_fault e (Err errors.OutOfMemory) w = tt
-  completed_fault e (Err (errors.Fault fault)) w = inr (record { fields = fields; rest = rest; begins = begun bytes fields rest v; missing = w.0; place = w.1 ∙ e })
+  pub fields_lack : (at : ℕ) (which : Which) → IsMissing fields which → at ≡ length bytes - length rest → IsNodeFault bytes (record { at = at; which = which })
+  fields_lack at which missing e = inr (record { fields = fields; rest = rest; begins = begun bytes fields rest v; missing = missing; place = e })
+
+-- the node-revision that fields mean
+pub node_read : (bytes : List ℕ) (fields : Fields) (n : NodeRev) → AreRead bytes fields → Means fields n → IsRead bytes n
+node_read bytes fields n w means = record { fields = fields; rest = w.rest; begins = w.begins; means = means }
+
+pub read_only : (bytes : List ℕ) (fields : Fields) (rest : List ℕ) (m n : NodeRev) → HasFront bytes fields (10 ∷ rest) → Means fields m → IsRead bytes n → m ≡ n
+read_only bytes fields rest m n v means w = means_same fields m n means (fields_mean bytes fields rest v n w)

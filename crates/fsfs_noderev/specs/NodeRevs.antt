@@ -1,5 +1,5 @@
 -- What a node-revision's text is: lines, of which each is taken, and an empty line; and which line is the first refused.
-use Rattle.std.specs.Prelude.{◌≡◌, ◌≢◌, ◌-◌, ℕ, List, [], ◌∷◌, ◌++◌, length, Some, None, ◌⊎◌, unwrap_or, is_some}
+use Rattle.std.specs.Prelude.{◌≡◌, ◌≢◌, ◌-◌, ℕ, List, [], ◌∷◌, ◌++◌, length, Some, None, ◌⊎◌, unwrap_or, is_some, IsSome}
 use Rattle.std.specs.List.{flat_map}
 use Rattle.fsfs_grammar.specs.Grammar.{Begins}
 use Rattle.fsfs_grammar.specs.Cuts.{Lacks}
@@ -50,6 +50,18 @@ pub record IsRead (bytes : List ℕ) (node : NodeRev) : Type 0 where
   pub rest : List ℕ
   pub begins : Begins IsNodeText bytes fields rest
   pub means : Means fields node
+
+-- the fields have all that a node-revision must have
+pub record AreFull (fields : Fields) : Type 0 where
+  pub id : IsSome fields.id
+  pub kind : IsSome fields.kind
+  pub created_path : IsSome fields.created_path
+
+-- the bytes begin with the text of a node-revision, of which these are the fields
+pub record AreRead (bytes : List ℕ) (fields : Fields) : Type 0 where
+  pub rest : List ℕ
+  pub begins : Begins IsNodeText bytes fields rest
+  pub full : AreFull fields
 
 -- no line: the bytes end
 pub record HasNoEnd (bytes : List ℕ) (left : ℕ) (which : Which) : Type 0 where

@@ -3,7 +3,7 @@ use Rattle.std.specs.Prelude.{◌≡◌, ℕ, List, ◌∷◌, ◌++◌}
 use Rattle.std.specs.List.{flat_map}
 use Rattle.fsfs_noderev.specs.Lines.{IsPair, line}
 use Rattle.fsfs_noderev.specs.Fields.{field_named, Puts, nothing}
-use Rattle.fsfs_noderev.specs.NodeRevs.{Takes, IsMissing, IsNodeFault}
+use Rattle.fsfs_noderev.specs.NodeRevs.{Takes, IsNodeFault}
 use Rattle.fsfs_noderev.specs.declared.fields.Fields.{Fields}
 use Rattle.fsfs_noderev.specs.declared.node_rev.Which.{Which}
 use Rattle.fsfs_noderev.specs.declared.reading.Step.{Step}
@@ -31,11 +31,6 @@ StopIs P (stops.At left which) = P left which
 -- lines that are taken, and what stands behind them
 abbrev pub HasFront : List ℕ → Fields → List ℕ → Type 0
 HasFront bytes fields rest = (lines : List (List ℕ × List ℕ)) × Takes nothing lines fields × (bytes ≡ flat_map line lines ++ rest)
-
--- a field is missing, behind so many bytes
-abbrev pub IsLack : Fields → ℕ → NodeError → Type 0
-IsLack fields at errors.OutOfMemory = ⊥
-IsLack fields at (errors.Fault fault) = IsMissing fields fault.which × (fault.at ≡ at)
 
 -- a fault is exact; want of memory may come anywhere
 abbrev pub IsExact : List ℕ → NodeError → Type 0

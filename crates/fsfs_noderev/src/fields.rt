@@ -157,7 +157,7 @@ fn root_of(alloc: Global, text: &[u8]) -> Result<Option<CopyRoot>, AllocError>
 
 impl Fields {
     /// Nothing so far.
-    pub(crate) fn new() -> Fields
+    pub fn new() -> Fields
         ensures { result ≡ nothing }
     {
         Fields {

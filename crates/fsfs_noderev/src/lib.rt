@@ -13,6 +13,6 @@ mod writing;
 pub use fields::Fields;
 pub use node_id::{NodeId, Part, Place, put_id, read_id, write_id};
 pub use node_rev::{CopyRoot, CopySource, Field, NodeFault, NodeRev, Which};
-pub use reading::{MAX_NODE_REV, NodeError, read_noderev};
+pub use reading::{MAX_NODE_REV, NodeError, read_fields, read_noderev};
 pub use rep::{Contents, Rep, Uniquifier, put_contents, put_rep, read_contents, read_rep};
 pub use writing::write_noderev;

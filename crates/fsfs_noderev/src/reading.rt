@@ -1,14 +1,13 @@
 //! Node-revisions read from their lines.
-ghost use Rattle.std.specs.Prelude.{◌≡◌, ◌<◌, ◌-◌, ◌∷◌, List, ℕ, length, take, option_map, OnOk, IfOk, IfErr, MatchResult, Ok};
+ghost use Rattle.std.specs.Prelude.{◌≡◌, ◌<◌, ◌-◌, ◌∷◌, List, ℕ, length, take, option_map, OnOk, IfOk, IfErr, MatchOption, MatchResult};
 ghost use Rattle.fsfs_noderev.specs.Lines.{pair_at};
 ghost use Rattle.fsfs_noderev.specs.Fields.{field_named, Puts, Refuses, nothing};
 ghost use Rattle.fsfs_noderev.specs.Faults.{IfRefused};
-ghost use Rattle.fsfs_noderev.specs.NodeRevs.{IsRefused, StopsAt, Means, IsRead};
+ghost use Rattle.fsfs_noderev.specs.NodeRevs.{IsRefused, StopsAt, IsMissing, Means, AreFull, AreRead, IsRead};
 ghost use Rattle.fsfs_noderev.specs.Writing.{HasText};
-ghost use Rattle.fsfs_noderev.specs.Steps.{StepIs, StopIs, HasFront, IsLack, IsExact, IsOutOfMemory};
+ghost use Rattle.fsfs_noderev.specs.Steps.{StepIs, StopIs, HasFront, IsExact, IsOutOfMemory};
 ghost use Rattle.fsfs_noderev.specs.declared.node_rev.NodeRev.{NodeRev};
 ghost use Rattle.fsfs_noderev.specs.declared.node_rev.Which.TheVariants.{Missing};
-ghost use Rattle.fsfs_noderev.specs.declared.reading.NodeError.TheVariants.{Fault};
 
 use crate::fields::{Fields, LineError, field_named};
 use crate::node_rev::{Field, NodeFault, NodeRev, Which};
@@ -88,43 +87,48 @@ impl Fields {
         }
     }
 
-    /// The node-revision of these fields, of which the empty line ended at `at`. What they own is moved out of them.
-    fn complete(&mut self, at: usize) -> Result<NodeRev, NodeError>
-        ensures { MatchResult result (Means self.old) (IsLack self.old at) }
+    /// The first field that a node-revision must have and that is absent.
+    fn lacks(&self) -> Option<Field>
+        ensures { MatchOption result (AreFull self.now) (λ field. IsMissing self.now (Missing field)) }
     {
-        match self.id {
-            None => Err(missing(Field::Id, at)),
-            Some(id) => match self.kind {
-                None => Err(missing(Field::NodeKind, at)),
-                Some(kind) => match self.created_path.take() {
-                    None => Err(missing(Field::CreatedPath, at)),
-                    Some(created_path) => Ok(NodeRev {
-                        id,
-                        kind,
-                        predecessor: self.predecessor,
-                        count: self.count.unwrap_or(0),
-                        text: self.text,
-                        props: self.props,
-                        created_path,
-                        copy_from: self.copy_from.take(),
-                        copy_root: self.copy_root.take(),
-                        is_fresh_txn_root: self.fresh_txn_root.is_some(),
-                        mergeinfo_count: self.mergeinfo_count,
-                        has_mergeinfo: self.mergeinfo_here.is_some(),
-                    }),
-                },
-            },
+        if self.id.is_none() {
+            Some(Field::Id)
+        } else if self.kind.is_none() {
+            Some(Field::NodeKind)
+        } else if self.created_path.is_none() {
+            Some(Field::CreatedPath)
+        } else {
+            None
         }
     }
-}
 
-fn missing(field: Field, at: usize) -> NodeError
-    ensures { result ≡ Fault (record { at = at; which = Missing field }) }
-{
-    NodeError::Fault(NodeFault {
-        at,
-        which: Which::Missing(field),
-    })
+    /// The node-revision of these fields. What they own is moved out of them.
+    pub fn take_node(&mut self) -> NodeRev
+        requires { AreFull self.old }
+        ensures { Means self.old result }
+    {
+        let Some(created_path) = self.created_path.take() else {
+            unreachable!()
+        };
+        let Some(id) = &self.id else { unreachable!() };
+        let Some(kind) = self.kind else {
+            unreachable!()
+        };
+        NodeRev {
+            id: *id,
+            kind,
+            predecessor: self.predecessor,
+            count: self.count.unwrap_or(0),
+            text: self.text,
+            props: self.props,
+            created_path,
+            copy_from: self.copy_from.take(),
+            copy_root: self.copy_root.take(),
+            is_fresh_txn_root: self.fresh_txn_root.is_some(),
+            mergeinfo_count: self.mergeinfo_count,
+            has_mergeinfo: self.mergeinfo_here.is_some(),
+        }
+    }
 }
 
 /// Takes the lines up to the empty one, and gives the bytes behind that.
@@ -143,20 +147,26 @@ fn read_lines<'a>(alloc: Global, bytes: &'a [u8], fields: &mut Fields) -> Result
     }
 }
 
-/// The node-revision that all of these bytes begin with.
-fn read_all(alloc: Global, bytes: &[u8]) -> Result<NodeRev, NodeError>
-    ensures found { IfOk result (IsRead bytes.now) }
-    ensures only { (n : NodeRev) → IsRead bytes.now n → MatchResult result (λ m. m ≡ n) IsOutOfMemory }
+/// The fields of the node-revision that all of these bytes begin with.
+fn read_all(alloc: Global, bytes: &[u8], fields: &mut Fields) -> Result<(), NodeError>
+    requires { fields.old ≡ nothing }
+    ensures found { OnOk result (AreRead bytes.now fields.new) }
+    ensures only { (n : NodeRev) → IsRead bytes.now n → MatchResult result (λ _. Means fields.new n) IsOutOfMemory }
     ensures fault { IfErr result (IsExact bytes.now) }
 {
-    let mut fields = Fields::new();
-    match read_lines(alloc, bytes, &mut fields) {
+    match read_lines(alloc, bytes, fields) {
         Err(Stop::OutOfMemory) => Err(NodeError::OutOfMemory),
         Err(Stop::At(left, which)) => Err(NodeError::Fault(NodeFault {
             at: bytes.len().saturating_sub(left),
             which,
         })),
-        Ok(rest) => fields.complete(bytes.len().saturating_sub(rest.len())),
+        Ok(rest) => match fields.lacks() {
+            None => Ok(()),
+            Some(field) => Err(NodeError::Fault(NodeFault {
+                at: bytes.len().saturating_sub(rest.len()),
+                which: Which::Missing(field),
+            })),
+        },
     }
 }
 
@@ -168,6 +178,17 @@ fn front(limit: usize, bytes: &[u8]) -> &[u8]
     } else {
         bytes
     }
+}
+
+/// Reads the fields of the node-revision that the bytes begin with into fields that have nothing so far. `read_noderev` says
+/// what is read and what is refused; here nothing as big as a node-revision is handed from call to call.
+pub fn read_fields(alloc: Global, bytes: &[u8], fields: &mut Fields) -> Result<(), NodeError>
+    requires { fields.old ≡ nothing }
+    ensures found { OnOk result (AreRead (take 65536 bytes.now) fields.new) }
+    ensures only { (n : NodeRev) → IsRead (take 65536 bytes.now) n → MatchResult result (λ _. Means fields.new n) IsOutOfMemory }
+    ensures fault { IfErr result (IsExact (take 65536 bytes.now)) }
+{
+    read_all(alloc, front(MAX_NODE_REV, bytes), fields)
 }
 
 /// The node-revision that the bytes begin with: lines of a name, a colon, a space and a value, and an empty line.
@@ -182,5 +203,9 @@ pub fn read_noderev(alloc: Global, bytes: &[u8]) -> Result<NodeRev, NodeError>
     // What is read can be written.
     ensures writable { IfOk result HasText }
 {
-    read_all(alloc, front(MAX_NODE_REV, bytes))
+    let mut fields = Fields::new();
+    match read_fields(alloc, bytes, &mut fields) {
+        Err(error) => Err(error),
+        Ok(()) => Ok(fields.take_node()),
+    }
 }

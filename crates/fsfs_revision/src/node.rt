@@ -8,7 +8,7 @@ ghost use Rattle.fsfs_revision.specs.Damages.{NodeIn};
 use fsfs_damage::{DamageKind, ReadError, RevOffset};
 use fsfs_fields::RevNum;
 use fsfs_noderev::{
-    Contents, CopyRoot, CopySource, NodeError, NodeId, NodeRev, Part, Place, read_noderev,
+    Contents, CopyRoot, CopySource, Fields, NodeError, NodeId, NodeRev, Part, Place, read_fields,
 };
 use std::alloc::Global;
 
@@ -143,17 +143,18 @@ pub fn read_node_at(alloc: Global, at: &RevOffset, bytes: &[u8]) -> Result<NodeR
     ensures ordered { IfOk result (λ v. is_ordered at.now v ≡ true) }
     ensures quiet { IsQuiet result }
 {
-    match read_noderev(alloc, bytes) {
-        Err(NodeError::OutOfMemory) => Err(ReadError::OutOfMemory),
-        Err(NodeError::Fault(_)) => Err(ReadError::damaged(*at, DamageKind::NodeRev)),
-        Ok(node) => {
-            if !is_of_revision(&node) {
-                return Err(ReadError::damaged(*at, DamageKind::NodeRev));
-            }
-            if !is_ordered(at, &node) {
-                return Err(ReadError::damaged(*at, DamageKind::PlaceOrder));
-            }
-            Ok(node)
-        }
+    let mut fields = Fields::new();
+    match read_fields(alloc, bytes, &mut fields) {
+        Ok(()) => {}
+        Err(NodeError::OutOfMemory) => return Err(ReadError::OutOfMemory),
+        Err(NodeError::Fault(_)) => return Err(ReadError::damaged(*at, DamageKind::NodeRev)),
     }
+    let node = fields.take_node();
+    if !is_of_revision(&node) {
+        return Err(ReadError::damaged(*at, DamageKind::NodeRev));
+    }
+    if !is_ordered(at, &node) {
+        return Err(ReadError::damaged(*at, DamageKind::PlaceOrder));
+    }
+    Ok(node)
 }

@@ -1,4 +1,4 @@
-use Rattle.fsfs_dag.proofs.seen_bytes.SeenBytes.read.Goals as goal
+use Rattle.fsfs_dag.proofs.seen_bytes.Stretch.read.Goals as goal
 
 pub returns-clause-told : goal.returns-clause-told
 returns-clause-told g c = λ look told.

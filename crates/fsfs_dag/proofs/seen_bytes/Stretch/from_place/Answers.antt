@@ -1,6 +1,6 @@
 use Rattle.std.proofs.Common.{◌≤◌, ◌<◌, ◌-◌, ◌≡◌, length, take, arith, rules}
 use Rattle.fsfs_dag.proofs.SeenLemmas.{seen_from_place}
-use Rattle.fsfs_dag.proofs.seen_bytes.SeenBytes.from_place.Goals as goal
+use Rattle.fsfs_dag.proofs.seen_bytes.Stretch.from_place.Goals as goal
 
 pub returns : goal.returns
 returns c = λ look h.
