@@ -25,6 +25,8 @@ impl OpenFile for HostFile {
 pub struct HostCalls<R: Files<File = File> + AllocGlobal + Clone + Drop> {
     rt: R,
     folder: String,
+    // The path of the file that is opened: its room serves each opening.
+    opened: String,
     // What is locked: as long as these are open.
     locked: Vec<File>,
 }
@@ -67,28 +69,52 @@ fn append_some(mut file: &File, bytes: &[u8]) -> Result<usize, CallError>
     Err(CallError::Failed)
 }
 
+// Makes a text the path of what stands below a folder.
+fn put_path(whole: &mut String, folder: &str, path: &Path) -> Result<(), CallError> {
+    whole.clear();
+    whole.push_str(folder)?;
+    whole.push('/')?;
+    whole.push_str(path.as_str())?;
+    Ok(())
+}
+
+// Whether a path is a file's. What else is known of it goes no further, since it is dear to move.
+fn is_file<R: Files>(rt: &R, path: &str) -> io::Result<bool> {
+    match fs::metadata(rt, path) {
+        Ok(found) => Ok(found.is_file()),
+        Err(error) => Err(error),
+    }
+}
+
 impl<R: Files<File = File> + AllocGlobal + Clone + Drop> HostCalls<R> {
     /// The calls on what stands below this folder.
     pub fn new(rt: R, folder: String) -> HostCalls<R> {
+        let opened = String::new(rt.alloc());
         let locked = Vec::new(rt.alloc());
-        HostCalls { rt, folder, locked }
+        HostCalls {
+            rt,
+            folder,
+            opened,
+            locked,
+        }
     }
 
     fn path_of(&self, path: &Path) -> Result<String, CallError> {
         let mut whole = String::with_capacity(self.rt.alloc(), 256)?;
-        write!(whole, "{}/{}", self.folder, path.as_str())?;
+        put_path(&mut whole, self.folder.as_str(), path)?;
         Ok(whole)
     }
 
     // What is no file is refused before it is opened: a pipe would be waited for, and a device has no end.
-    fn open_file(&self, path: &Path, append: bool) -> Result<HostFile, CallError> {
-        let path = self.path_of(path)?;
-        let mut how = File::options();
-        let _ = how.read(true).append(append);
-        if !finished(|| fs::metadata(&self.rt, path.as_str()))?.is_file() {
+    fn open_file(&mut self, path: &Path, append: bool) -> Result<HostFile, CallError> {
+        put_path(&mut self.opened, self.folder.as_str(), path)?;
+        let path = self.opened.as_str();
+        if !finished(|| is_file(&self.rt, path))? {
             return Err(CallError::OtherKind);
         }
-        let file = finished(|| how.open(&self.rt, path.as_str()))?;
+        let mut how = File::options();
+        let _ = how.read(true).append(append);
+        let file = finished(|| how.open(&self.rt, path))?;
         Ok(HostFile { file })
     }
 

@@ -25,7 +25,7 @@ pub fn run(rt: HostRuntime, tool: Tool) -> ExitCode {
         rt.alloc(),
         tool,
         &words,
-        &mut FolderHost::new(rt.alloc(), HostFileSystem::new(rt)),
+        &mut FolderHost::new(rt.alloc(), HostFileSystem::for_one_folder(rt)),
         &mut StreamSource::new(rt.stdin()),
         &mut StreamSink::new(rt.stdout()),
         &mut err,
