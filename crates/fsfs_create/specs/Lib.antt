@@ -1,3 +1,4 @@
 pub mod NewFiles
 pub mod Creation
+pub mod NewStore
 pub mod FirstRoot

@@ -6,6 +6,7 @@ ghost use Rattle.fsfs_disk.specs.Crash.{AllImages, Leaves, IsFirm};
 ghost use Rattle.fsfs_layout.specs.CreatedFiles.{identifier_text};
 ghost use Rattle.fsfs_create.specs.NewFiles.{named};
 ghost use Rattle.fsfs_create.specs.Creation.{after_puts, after_publishing, after_creation, StopsInPuts, StopsPublishing, StopsAt, HasRepository, IsNoRepository, IsUnpublished, IsCreated, IsNoneOrWhole, CreateFails};
+ghost use Rattle.fsfs_create.specs.NewStore.{IsNewStore, IsNoneOrNew};
 
 use crate::initial::{NewFile, created_files};
 use fsfs_base::Failed;
@@ -111,6 +112,11 @@ pub fn create<D: Disk>(
     // A crash at any moment leaves no repository or the whole of this one.
     ensures any_moment { AllImages (D.trace disk.old) IsUnpublished
         → Leaves (D.trace disk.old) (D.trace disk.new) (IsNoneOrWhole layout.shard_size (identifier_text identifier) moment (D.trace disk.old)) }
+
+    // So it leaves no repository, or a store of which it is known what it stands for: the history of revision 0 alone. From the last
+    // firming on it leaves that store.
+    ensures stands_or_none { AllImages (D.trace disk.old) IsUnpublished → Leaves (D.trace disk.old) (D.trace disk.new) (IsNoneOrNew moment) }
+    ensures stands { OnOk result (AllImages (D.trace disk.new) (IsNewStore moment)) }
 
     ensures mounted { D.mount_path disk.new ≡ D.mount_path disk.old }
     ensures right { D.may_write disk.new ≡ D.may_write disk.old }

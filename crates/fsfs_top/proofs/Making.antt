@@ -1,24 +1,30 @@
 -- What a creation that was done leaves stands for the history of revision 0.
-use Rattle.std.proofs.Common.{◌≡◌, ◌≤◌, ℕ, List, inl, inr, ap, sym, subst, ◌∙◌, arith}
+use Rattle.std.proofs.Common.{◌≡◌, ◌≤◌, ℕ, List, inl, inr, ⊎_elim, ap, sym, subst, ◌∙◌, arith}
 use Rattle.std.specs.Prelude.{Option, Some, None, IfSome, option_map}
 use Rattle.fsfs_fields.specs.Dates.{IsDateAt}
 use Rattle.fsfs_base.specs.Files.{Files}
-use Rattle.fsfs_disk.specs.Trace.{files_now}
+use Rattle.fsfs_disk.specs.Trace.{Trace, files_now}
+use Rattle.fsfs_disk.specs.Crash.{AllImages, Leaves}
+use Rattle.fsfs_disk.proofs.CrashLemmas.{leaves_with}
 use Rattle.fsfs_faults.specs.Lines.{status_of}
 use Rattle.fsfs_faults.specs.declared.fault.Fault.{Fault}
 use Rattle.fsfs_faults.specs.declared.fault.Fault.TheVariants.{Words, Request, Repository, Outside, Memory}
 use Rattle.fsfs_answers.specs.Answers.{new_history}
+use Rattle.fsfs_create.specs.Creation.{IsUnpublished}
+use Rattle.fsfs_create.specs.NewStore.{IsNewStore}
+use Rattle.fsfs_create.proofs.NewStoreLemmas.{created_is_new}
 use Rattle.fsfs_layout.specs.CreatedFiles.{created_over, random_identifier}
 use Rattle.fsfs_stands.specs.Files.{StandsFor}
 use Rattle.fsfs_stands.specs.NewRepository.{HoldsNew}
 use Rattle.fsfs_stands.proofs.Creations.{creations_hold_new}
 use Rattle.fsfs_stands.proofs.NewRepository.{new_repositories_stand}
-use Rattle.fsfs_top.specs.Command.{Created, Did, identifier_of}
+use Rattle.fsfs_top.specs.Command.{Created, Did, IsNoneOrCreated, IsNoneOrStore, identifier_of}
 use Rattle.fsfs_top.specs.Replies.{MadeStands}
 use Rattle.fsfs_top.specs.Scenes.{Scene}
 use Rattle.fsfs_top.proofs.TaskDone.{task_done}
 use Rattle.fsfs_cli.specs.declared.request.Task.TheVariants.{Create}
 use Rattle.fsfs_cli.specs.declared.tool.Tool.{Tool}
+use Rattle.fsfs_cli.specs.Readings.{Asks}
 use Rattle.fsfs_cli.proofs.TaskLemmas.{asks_task}
 
 -- the files that are told are made of others
@@ -50,3 +56,20 @@ module _ (tool : Tool) (ws : List (List ℕ)) (clock : Option ℕ) (dice : Optio
         let is = made_of (created_over shard (identifier_of clock dice d) date) (option_map files_now (a.host.disk_at repos)) (files_now t) (sym (ap (option_map files_now) here) ∙ files) in
         let holds = creations_hold_new (record { shard_size = shard; some = omega (arith, size.0); most = omega (arith, size.1) }) d.moment (random_identifier d.bits) date is.0 dated in
         (d.moment, date, d.moment_is, dated, new_repositories_stand (files_now t) date (subst (λ (m : Files). HoldsNew m date) (sym is.1) holds))
+
+-- ---- what a crash leaves
+
+store_left : (shard : ℕ) (clock : Option ℕ) (dice : Option (List ℕ)) (t : Trace) (m : Files) → (1 ≤ shard) × (shard ≤ 100_000) → IsNoneOrCreated shard clock dice (Some t) m → IsNoneOrStore clock m
+store_left shard clock dice t m size (d, left) = ⊎_elim (λ none. inl none) (λ whole. inr (
+  d.moment,
+  d.moment_is,
+  subst (IsNewStore d.moment) (sym whole.2) (created_is_new (record { shard_size = shard; some = omega (arith, size.0); most = omega (arith, size.1) }) d.moment (random_identifier d.bits) whole.0 (files_now t) whole.1),
+)) left
+
+stores_left : (shard : ℕ) (clock : Option ℕ) (dice : Option (List ℕ)) (old new : Option Trace) → (1 ≤ shard) × (shard ≤ 100_000) → Leaves old new (IsNoneOrCreated shard clock dice old) → Leaves old new (IsNoneOrStore clock)
+stores_left shard clock dice None new size leaves = tt
+stores_left shard clock dice (Some t) new size leaves = leaves_with (Some t) new (IsNoneOrCreated shard clock dice (Some t)) (IsNoneOrStore clock) (λ m left. store_left shard clock dice t m size left) leaves
+
+pub stands_or_none : (tool : Tool) (ws : List (List ℕ)) (repos : List ℕ) (shard : ℕ) (clock : Option ℕ) (dice : Option (List ℕ)) (old new : Option Trace) → Asks tool ws repos (Create shard)
+    → (AllImages old IsUnpublished → Leaves old new (IsNoneOrCreated shard clock dice old)) → AllImages old IsUnpublished → Leaves old new (IsNoneOrStore clock)
+stands_or_none tool ws repos shard clock dice old new asks leaves all = stores_left shard clock dice old new (asks_task tool ws repos (Create shard) asks).1 (leaves all)

@@ -11,7 +11,8 @@ use Rattle.fsfs_faults.specs.declared.fault.Fault.{Fault}
 use Rattle.fsfs_faults.specs.declared.fault.Fault.TheVariants.{Outside}
 use Rattle.fsfs_faults.specs.declared.outside_fault.OutsideFault.TheVariants.{Mount}
 use Rattle.fsfs_layout.specs.CreatedFiles.{identifier_text, random_identifier}
-use Rattle.fsfs_create.specs.Creation.{CreateFails, IsCreated, IsNoneOrWhole, IsNoRepository}
+use Rattle.fsfs_create.specs.Creation.{CreateFails, IsCreated, IsNoneOrWhole, IsNoRepository, IsUnpublished}
+use Rattle.fsfs_create.specs.NewStore.{IsNewStore}
 use Rattle.fsfs_places.specs.declared.create_fault.CreateFault.{CreateFault}
 use Rattle.fsfs_cli.specs.Words.{asked}
 use Rattle.fsfs_cli.specs.Readings.{Asks, Refuses}
@@ -46,6 +47,11 @@ Created repos shard clock dice a b fault =
 -- a crash at some moment of a creation leaves no repository, or the whole of the one that it makes
 abbrev pub IsNoneOrCreated : ℕ → Option ℕ → Option (List ℕ) → Option Trace → Files → Type 0
 IsNoneOrCreated shard clock dice old m = (d : Drawn clock dice) × IsNoneOrWhole shard (identifier_of clock dice d) d.moment old m
+
+-- by what it stands for: no repository, or the new store, whose history is revision 0 alone with the date of the moment that the clock
+-- gave, where it tells
+abbrev pub IsNoneOrStore : Option ℕ → Files → Type 0
+IsNoneOrStore clock m = IsUnpublished m ⊎ ((moment : ℕ) × IfSome clock (λ c. moment ≡ c) × IsNewStore moment m)
 
 -- ---- a command
 

@@ -5,7 +5,7 @@ ghost use Rattle.fsfs_disk.specs.Crash.{AllImages, IsFirm, Leaves};
 ghost use Rattle.fsfs_create.specs.Creation.{IsUnpublished, HasRepository};
 ghost use Rattle.fsfs_cli.specs.Readings.{Asks};
 ghost use Rattle.fsfs_cli.specs.declared.request.Task.TheVariants.{Create, RemoveTxns};
-ghost use Rattle.fsfs_top.specs.Command.{Created, Did, IsNoneOrCreated, Tells, answer_of, fault_of};
+ghost use Rattle.fsfs_top.specs.Command.{Created, Did, IsNoneOrCreated, IsNoneOrStore, Tells, answer_of, fault_of};
 ghost use Rattle.fsfs_top.specs.Replies.{Replies, Gives, MadeStands};
 ghost use Rattle.fsfs_top.specs.Scenes.{host_scene, sink_scene, scene};
 ghost use Rattle.fsfs_top.specs.Transactions.{HasSameLabels, LeavesRemoval};
@@ -114,6 +114,10 @@ pub fn command<H: Host, I: Source, O: Sink, E: Sink, C: Clock, R: Dice, G: Gate>
     // A crash at any moment of a creation leaves no repository at the path, or the whole new one.
     ensures any_moment { (repos : List ℕ) (shard : ℕ) → Asks tool (map string_bytes words.now) repos (Create shard) → AllImages (H.disk_at host.old repos) IsUnpublished
         → Leaves (H.disk_at host.old repos) (H.disk_at host.new repos) (IsNoneOrCreated shard (C.next clock.old) (R.next dice.old) (H.disk_at host.old repos)) }
+
+    // So what it leaves stands for the history of revision 0, or an opening refuses it as no repository.
+    ensures stands_or_none { (repos : List ℕ) (shard : ℕ) → Asks tool (map string_bytes words.now) repos (Create shard) → AllImages (H.disk_at host.old repos) IsUnpublished
+        → Leaves (H.disk_at host.old repos) (H.disk_at host.new repos) (IsNoneOrStore (C.next clock.old)) }
 
     // A repository that was made stands for the history of revision 0, and is firm.
     ensures made { result ≡ 0 → MadeStands tool (map string_bytes words.now) (C.next clock.old) (H.disk_at host.new) }

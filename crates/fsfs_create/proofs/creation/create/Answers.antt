@@ -7,6 +7,7 @@ use Rattle.fsfs_layout.specs.CreatedFiles.{identifier_text, unpublished_files, f
 use Rattle.fsfs_create.specs.NewFiles.{named}
 use Rattle.fsfs_create.proofs.CrashLemmas.{last_done, leaves_done, leaves_stopped, leaves_whole, ended_so, stopped_so}
 use Rattle.fsfs_create.proofs.CreatedFilesLemmas.{created_files_now, not_there, not_both, no_format}
+use Rattle.fsfs_create.proofs.NewStoreLemmas.{none_or_new, all_new}
 use Rattle.fsfs_create.proofs.creation.create.Goals as goal
 
 pub returns-in-Ok-clause-created : goal.returns-in-Ok-clause-created
@@ -80,3 +81,12 @@ returns-in-Ok-clause-firm g c =
     let done = ended_so c.args.layout.shard_size id date (map named c.deref-2.result.now) c.deref-3.result.now old (told c.size.new.self) new files format c.in-Ok-None.ensures.same c.in-Ok.ensures.done in
     let firm = option_map (after_firm (unpublished_files id date)) old in
     firm_after (option_map (after_rename (format_text c.args.layout.shard_size)) firm) new (last_done (unpublished_files id date) (format_text c.args.layout.shard_size) old new firm done refl)
+
+pub returns-in-Ok-clause-stands_or_none : goal.returns-in-Ok-clause-stands_or_none
+returns-in-Ok-clause-stands_or_none g c = none_or_new c.args.layout c.args.moment c.args.identifier (g.D.Disk.trace c.args.disk.now) (g.D.Disk.trace c.write_files.new.disk) (returns-in-Ok-clause-any_moment g c)
+
+pub returns-clause-stands_or_none : goal.returns-clause-stands_or_none
+returns-clause-stands_or_none g c = none_or_new c.args.layout c.args.moment c.args.identifier (g.D.Disk.trace c.args.disk.now) (g.D.Disk.trace c.write_files.new.disk) (returns-clause-any_moment g c)
+
+pub returns-in-Ok-clause-stands : goal.returns-in-Ok-clause-stands
+returns-in-Ok-clause-stands g c = all_new c.args.layout c.args.moment c.args.identifier (g.D.Disk.trace c.args.disk.now) (g.D.Disk.trace c.write_files.new.disk) (returns-in-Ok-clause-created g c) (returns-in-Ok-clause-firm g c)

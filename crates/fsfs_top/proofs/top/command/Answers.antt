@@ -2,7 +2,7 @@ use Rattle.std.proofs.Common.{◌∙◌, map, refl, sym}
 use Rattle.std.specs.Prelude.{string_bytes, Some, None}
 use Rattle.fsfs_faults.specs.Lines.{line_of}
 use Rattle.fsfs_top.specs.Scenes.{scene, sink_scene}
-use Rattle.fsfs_top.proofs.Making.{made_stands, no_zero}
+use Rattle.fsfs_top.proofs.Making.{made_stands, no_zero, stands_or_none}
 use Rattle.fsfs_top.proofs.CommandReplies.{replies, told_line}
 use Rattle.fsfs_top.proofs.top.command.Goals as goal
 
@@ -34,3 +34,13 @@ returns-in-Err-clause-made g c = λ zero. absurd (no_zero c.in-Err.fault (sym c.
 
 pub returns-in-Ok-clause-firm : goal.returns-in-Ok-clause-firm
 returns-in-Ok-clause-firm g c = λ repos shard asks zero. c.in-Ok.ensures.firm repos shard asks
+
+pub returns-in-Ok-clause-stands_or_none : goal.returns-in-Ok-clause-stands_or_none
+returns-in-Ok-clause-stands_or_none g c = λ repos shard asks.
+    stands_or_none c.args.tool (map string_bytes c.args.words.now) repos shard (g.C.Clock.next c.args.clock.now) (g.R.Dice.next c.args.dice.now) (g.H.Host.disk_at c.args.host.now repos) (g.H.Host.disk_at c.run.new.host repos) asks
+    (c.run.ensures.any_moment repos shard asks)
+
+pub returns-in-Err-clause-stands_or_none : goal.returns-in-Err-clause-stands_or_none
+returns-in-Err-clause-stands_or_none g c = λ repos shard asks.
+    stands_or_none c.args.tool (map string_bytes c.args.words.now) repos shard (g.C.Clock.next c.args.clock.now) (g.R.Dice.next c.args.dice.now) (g.H.Host.disk_at c.args.host.now repos) (g.H.Host.disk_at c.run.new.host repos) asks
+    (c.run.ensures.any_moment repos shard asks)
