@@ -148,7 +148,7 @@ as_told x (Some t) None e = absurd cc
 as_told x (Some t) (Some u) e = refl
 
 pub holds_on : (root : NodeRev) (old mid : Option Trace) (held : Option Files) → option_map labels_now mid ≡ option_map labels_now old → HoldsRoot root mid held → HoldsRoot root old held
-holds_on root old mid held same (text, is, holds) = (text, is, holds ∙ as_told (first_files text) mid old same)
+holds_on root old mid held same (text, is, holds) = (text, is, holds ∙ as_told (first_files root.id text) mid old same)
 
 pub new_told : {X E : Type 0} (number_of : X → ℕ) (n : ℕ) (old : Option Trace) (r : Result X E) → IfOk r (λ x. number_of x ≡ n) → IfSome old (λ t. (low : ℕ) → AllImages (Some t) (IsAtLeast low) → low ≤ n)
     → IfSome old (λ t. IfOk r (λ x. (low : ℕ) → AllImages (Some t) (IsAtLeast low) → low ≤ number_of x))

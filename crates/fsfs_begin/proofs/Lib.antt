@@ -7,3 +7,4 @@ pub mod RevisionLemmas
 pub mod LeavingLemmas
 pub mod BeginLemmas
 pub mod OpeningLemmas
+pub mod FirstFiles

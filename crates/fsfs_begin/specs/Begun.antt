@@ -53,7 +53,7 @@ pub record WasDrawn (n : ℕ) (old new : Option Trace) : Type 0 where
 
 -- the bench holds the files that a transaction begins with, among them the text of this root
 abbrev pub HoldsRoot : NodeRev → Option Trace → Option Files → Type 0
-HoldsRoot root told held = (text : List ℕ) × IsRootText root text × (held ≡ option_map (λ _. first_files text) told)
+HoldsRoot root told held = (text : List ℕ) × IsRootText root text × (held ≡ option_map (λ _. first_files root.id text) told)
 
 -- the root goes on from that of the base, as the bytes of the revisions have it
 abbrev pub IsBegunOn : RevisionBytes → TxnName → NodeRev → Type 0

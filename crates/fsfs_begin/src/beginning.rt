@@ -13,7 +13,7 @@ ghost use Rattle.fsfs_shows.specs.Reading.{RootOf};
 ghost use Rattle.fsfs_txns.specs.Txns.{pair_of, txn_label};
 ghost use Rattle.fsfs_txns.specs.Removals.{HasLabels, IsImageOf};
 ghost use Rattle.fsfs_begin.specs.Beginning.{BeginsOn};
-ghost use Rattle.fsfs_begin.specs.Benches.{IsOldOrThis};
+ghost use Rattle.fsfs_begin.specs.Benches.{IsOldOrThis, TellsRoot};
 ghost use Rattle.fsfs_begin.specs.Counter.{IsAtLeast, IsOldOrNext};
 ghost use Rattle.fsfs_begin.specs.Drawing.{counter_told};
 ghost use Rattle.fsfs_begin.specs.Begun.{named_fault, read_fault, made_fault, HoldsRoot, WasDrawn, IsOldOrDrawn, MakeFails, BeginFails, IfWrongBase, IsBegunOn, StandsForBase, BeginIsDecided, IsUpToDate};
@@ -28,6 +28,7 @@ use fsfs_damage::ReadError;
 use fsfs_disk::{Bench, Disk};
 use fsfs_fetch::{disk_of, over_disk};
 use fsfs_fields::{RevNum, TxnName};
+use fsfs_folder_files::id_fits;
 use fsfs_layout::Opened;
 use fsfs_noderev::{NodeRev, write_noderev};
 use fsfs_places::DiskPlace;
@@ -113,6 +114,7 @@ fn make<D: Disk>(
     ensures name { IfOk result (λ begun. begun.name ≡ name) }
     ensures root { IfOk result (λ begun. BeginsOn name base.now begun.root) }
     ensures filled { IfOk result (λ begun. HoldsRoot begun.root (D.trace disk.old) (D.Bench.contents begun.bench)) }
+    ensures tells { IfOk result (λ begun. TellsRoot begun.root (D.Bench.contents begun.bench)) }
     ensures sound { IfOk result (λ begun. D.Bench.faults begun.bench ≡ 0) }
     ensures kept { OnOk result (HasLabels (with_label (txn_label (pair_of name))) (D.trace disk.old) (D.trace disk.new)) }
     ensures refused { IfErr result (MakeFails (Rose (D.faults disk.old) (D.faults disk.new)) (Rose (D.bench_faults disk.old) (D.bench_faults disk.new)) (txn_label (pair_of name)) (D.trace disk.old) (D.trace disk.new)) }
@@ -132,7 +134,8 @@ fn make<D: Disk>(
     let Ok(text) = write_noderev(alloc, &root) else {
         return Err(BeginFault::Memory);
     };
-    match begin_bench(disk, &name, &text) {
+    id_fits(&root.id);
+    match begin_bench(disk, &name, &root.id, &text) {
         Ok(bench) => Ok(Begun { name, root, bench }),
         Err(fault) => Err(made_fault(fault)),
     }
@@ -150,6 +153,7 @@ fn begin_named<D: Disk>(
     ensures root { (t : Trace) → D.trace disk ≡ Some t → floor_in opened.now.layout (files_now t) ≡ Ok opened.now.min_unpacked_rev → name.base ≤ opened.now.youngest
         → IfOk result.1 (λ begun. IsBegunOn (rev_bytes opened.now.layout (files_now t)) name begun.root) }
     ensures filled { IfOk result.1 (λ begun. HoldsRoot begun.root (D.trace disk) (D.Bench.contents begun.bench)) }
+    ensures tells { IfOk result.1 (λ begun. TellsRoot begun.root (D.Bench.contents begun.bench)) }
     ensures sound { IfOk result.1 (λ begun. D.Bench.faults begun.bench ≡ 0) }
     ensures kept { OnOk result.1 (HasLabels (with_label (txn_label (pair_of name))) (D.trace disk) (D.trace result.0)) }
     ensures refused { IfErr result.1 (MakeFails (Rose (D.faults disk) (D.faults result.0)) (Rose (D.bench_faults disk) (D.bench_faults result.0)) (txn_label (pair_of name)) (D.trace disk) (D.trace result.0)) }
@@ -193,6 +197,8 @@ pub fn begin<D: Disk>(
     ensures kept { IfOk result.1 (λ begun. HasLabels (with_label (txn_label (pair_of begun.name))) (D.trace disk) (D.trace result.0)) }
     // Its bench holds the files that a transaction begins with, and no others: among them its root's text.
     ensures filled { IfOk result.1 (λ begun. HoldsRoot begun.root (D.trace disk) (D.Bench.contents begun.bench)) }
+    // So they tell the folder that it begins with.
+    ensures tells { IfOk result.1 (λ begun. TellsRoot begun.root (D.Bench.contents begun.bench)) }
     ensures sound { IfOk result.1 (λ begun. D.Bench.faults begun.bench ≡ 0) }
     // Its root goes on from the root of its base.
     ensures root { IfSome (D.trace disk) (λ t. IfOk result.1 (λ begun. IsBegunOn (rev_bytes opened.now.layout (files_now t)) begun.name begun.root)) }

@@ -5,6 +5,7 @@
 mod begin_fault;
 mod beginning;
 mod drawing;
+mod holding;
 mod making;
 mod name_fault;
 mod purging;

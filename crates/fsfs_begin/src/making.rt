@@ -12,6 +12,8 @@ use crate::purging::purge;
 use fsfs_base::{Failed, Name};
 use fsfs_disk::{Bench, Disk, Label};
 use fsfs_fields::TxnName;
+use fsfs_noderev::NodeId;
+use fsfs_txn_files::FolderFile;
 use fsfs_txns::rmtxn;
 use thiserror::Error;
 
@@ -26,28 +28,31 @@ pub enum BenchFault {
     Bench,
 }
 
-/// Writes the first files of a transaction, among them its root of the text that is given.
-pub fn fill<B: Bench>(bench: &mut B, root: &[u8]) -> Result<(), Failed>
-    ensures files { OnOk result (B.contents bench.new ≡ option_map (with_first_files root.now) (B.contents bench.old)) }
+/// Writes the first files of a transaction, among them its root of this id, of the text that is given.
+pub fn fill<B: Bench>(bench: &mut B, id: &NodeId, root: &[u8]) -> Result<(), Failed>
+    ensures files { OnOk result (B.contents bench.new ≡ option_map (with_first_files id.now root.now) (B.contents bench.old)) }
     ensures cause { HasCause (B.faults bench.old) (B.faults bench.new) result }
 {
     bench.write(&Name::new("props"), b"END\n")?;
     bench.write(&Name::new("next-ids"), b"0 0\n")?;
     bench.write(&Name::new("changes"), b"")?;
-    bench.write(&Name::new("node.0.0"), root)
+    bench.write(&Name::new("rev"), b"")?;
+    bench.write(&FolderFile::Node(*id).name(), root)
 }
 
 /// Makes the bench of a new transaction, with the files that it begins with: `props` without properties, `next-ids` with no number
-/// drawn, `changes` without items, and `node.0.0`, its root, of the text that is given. Where that fails the bench is dropped again,
-/// and its label, as far as the disk lets. It takes no memory.
+/// drawn, `changes` without items, `rev`, its prototype revision file, without texts, and its root, of this id and the text that is
+/// given: `node.0.0`, as the format has it, where the base's root has node and copy part 0. Where that fails the bench is dropped
+/// again, and its label, as far as the disk lets. It takes no memory.
 pub fn begin_bench<D: Disk>(
     disk: &mut D,
     name: &TxnName,
+    id: &NodeId,
     root: &[u8],
 ) -> Result<D::Bench, BenchFault>
     requires { IsTrue (D.may_write disk.old) }
     // It holds these files, and no others.
-    ensures filled { IfOk result (λ bench. D.Bench.contents bench ≡ option_map (λ _. first_files root.now) (D.trace disk.old)) }
+    ensures filled { IfOk result (λ bench. D.Bench.contents bench ≡ option_map (λ _. first_files id.now root.now) (D.trace disk.old)) }
     ensures sound { IfOk result (λ bench. D.Bench.faults bench ≡ 0) }
     // Its label is kept now; of the disk's calls that is the only change.
     ensures kept { OnOk result (HasLabels (with_label (txn_label (pair_of name.now))) (D.trace disk.old) (D.trace disk.new)) }
@@ -66,7 +71,7 @@ pub fn begin_bench<D: Disk>(
     ensures benches { OnOk result (D.bench_faults disk.new ≡ D.bench_faults disk.old) }
 {
     match disk.bench(&Label::Txn(*name)) {
-        Ok(mut bench) => match fill(&mut bench, root) {
+        Ok(mut bench) => match fill(&mut bench, id, root) {
             Ok(()) => Ok(bench),
             Err(_) => {
                 let _ = purge(disk, name, bench);

@@ -1,2 +1,3 @@
 pub mod FileLemmas
-pub mod Steps
+pub mod StepLemmas
+pub mod Writing

@@ -15,7 +15,7 @@ use Rattle.fsfs_drafts.specs.Drafts.{Kept, Folder}
 use Rattle.fsfs_drafts.specs.Steps.{with_kept, kept_at}
 use Rattle.fsfs_own.specs.Items.{with_item}
 use Rattle.fsfs_own.specs.Views.{new_kept}
-use Rattle.fsfs_txn_files.specs.FileNames.{FitsId}
+use Rattle.fsfs_txn_files.specs.FileNames.{FitsId, file_name}
 use Rattle.fsfs_txn_files.specs.Texts.{IsNodeFile, ArePropsOf}
 use Rattle.fsfs_txn_files.specs.Children.{IsWholeList, IsPutRecord, IsTakenRecord, HasPut, HasTaken}
 use Rattle.fsfs_txn_files.specs.Changes.{changed, changed_all, IsChange}
@@ -46,8 +46,10 @@ root_folder root proto = record { nodes = with_kept root.id (new_kept root) (λ 
 
 pub record ChangesTell : Type 0 where
   -- the first files of a transaction
-  pub begun : (m : Files) (root : NodeRev) (text proto : List ℕ) → part_value root.id.node ≡ Old 0 → part_value root.id.copy ≡ Old 0 → IsNodeFile root text
-      → get m (codes "node.0.0") ≡ Some text → get m (codes "next-ids") ≡ Some (codes "0 0\n") → get m (codes "changes") ≡ Some [] → TellsFolder m (root_folder root proto)
+  pub begun : (m : Files) (root : NodeRev) (text proto : List ℕ) → FitsNode root.id → IsNodeFile root text
+      → get m (file_name (Node root.id)) ≡ Some text → get m (codes "next-ids") ≡ Some (codes "0 0\n") → get m (codes "changes") ≡ Some [] → TellsFolder m (root_folder root proto)
+  -- where the root has node and copy part 0, as a draft's has
+  pub first : (id : NodeId) → part_value id.node ≡ Old 0 → part_value id.copy ≡ Old 0 → file_name (Node id) ≡ codes "node.0.0"
   -- a new node-revision, without lists of its own
   pub new : (m : Files) (f : Folder) (id : NodeId) (k : Kept) (c : FileChange) → TellsFolder m f → FitsNode id → k.entries ≡ None → k.props ≡ None → IsNodeChange c id k → TellsFolder (changed c m) (put_kept f id k)
   -- the first entry that is put or taken of a directory whose entries were not listed in its own file

@@ -16,7 +16,8 @@ use Rattle.fsfs_proto.specs.Reps.{framed, IsRepOf}
 use Rattle.fsfs_proto.specs.Texts.{IsPut, IsLeft}
 use Rattle.fsfs_proto.proofs.Longer.{read}
 use Rattle.fsfs_drafts.specs.Steps.{Files}
-use Rattle.fsfs_held.specs.declared.held.NextNumbers.{NextNumbers}
+use Rattle.fsfs_drafts.specs.Drafts.{Folder}
+use Rattle.fsfs_layout.specs.declared.next_ids_file.NextIds.{NextIds}
 use Rattle.fsfs_held.specs.Views.{folder_of}
 use Rattle.fsfs_held.specs.Texts.{AreLonger, IsTextPut, IsTextLeft}
 
@@ -36,7 +37,7 @@ told_read old new from to name expect txn number rep p told = subst (λ (o : Opt
     by None some at = absurd cc
     by (Some m) some at = subst (λ (bytes : List ℕ). RepIn rep bytes (Ok p.text)) (sym (bytes_in-appended m name (framed p.text))) (read rep (bytes_in m name) p.text txn number (subst (λ (n : ℕ). IsRepOf rep n p.text txn number) at p.rep_is))
 
-module _ (nodes files : Files) (next drawn : NextNumbers) (items : List ChangeItem) (old new : Option BenchFiles) (name : List ℕ) where
+module _ (nodes files : Files) (next drawn : NextIds) (items : List ChangeItem) (old new : Option BenchFiles) (name : List ℕ) where
   are_longer : (more : List ℕ) → bytes_on new name ≡ bytes_on old name ++ more → AreLonger (folder_of nodes next items old name) (folder_of nodes next items new name) (folder_of files drawn items old name) (folder_of files drawn items new name) more
   are_longer more is = (
     ap (λ (t : List ℕ). record (folder_of nodes next items old name) { proto = t }) is,

@@ -1,5 +1,6 @@
 pub mod Keys
 pub mod Lists
 pub mod Views
+pub mod Written
 pub mod Texts
 pub mod Merged

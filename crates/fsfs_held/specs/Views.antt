@@ -7,10 +7,10 @@ use Rattle.fsfs_changes.specs.declared.item.ChangeItem.{ChangeItem}
 use Rattle.fsfs_drafts.specs.Drafts.{Folder}
 use Rattle.fsfs_drafts.specs.Steps.{Files, with_kept}
 use Rattle.fsfs_own.specs.Views.{new_kept}
-use Rattle.fsfs_held.specs.declared.held.NextNumbers.{NextNumbers}
+use Rattle.fsfs_layout.specs.declared.next_ids_file.NextIds.{NextIds}
 
 -- the folder of these node-revisions, with the bytes that the bench tells of its prototype file
-abbrev pub folder_of : Files → NextNumbers → List ChangeItem → Option BenchFiles → List ℕ → Folder
+abbrev pub folder_of : Files → NextIds → List ChangeItem → Option BenchFiles → List ℕ → Folder
 folder_of nodes next items bench proto = record { nodes = nodes; next_node = next.node.number; next_copy = next.copy.number; items = items; proto = bytes_on bench proto }
 
 -- a transaction that has just begun: its root alone

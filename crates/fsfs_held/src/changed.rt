@@ -8,7 +8,7 @@ use crate::copies::{same_kept, same_node, same_props};
 use fsfs_base::Pairs;
 use fsfs_clash::MergedDir;
 use fsfs_listing::Listing;
-use fsfs_noderev::{Contents, NodeRev, Rep};
+use fsfs_noderev::{Contents, NodeId, NodeRev, Rep};
 use fsfs_own::KeptNode;
 use std::alloc::{AllocError, Global};
 
@@ -57,6 +57,13 @@ pub(crate) fn with_props(kept: &KeptNode, props: Pairs) -> Result<KeptNode, Allo
     changed.node.is_fresh_txn_root = false;
     changed.props = Some(props);
     Ok(changed)
+}
+
+/// The id of a merged directory.
+pub(crate) fn merged_id(dir: &MergedDir) -> NodeId
+    ensures { result ≡ dir.now.link.own }
+{
+    dir.link.own
 }
 
 /// Gone on from the head's node-revision, with the entries that a merge found.

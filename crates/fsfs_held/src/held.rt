@@ -1,35 +1,38 @@
 //! The own node-revisions of a transaction, held in memory beside its bench.
-ghost use Rattle.std.specs.Prelude.{◌≡◌, option_map, IfOk, IfErr};
+ghost use Rattle.std.specs.Prelude.{◌≡◌, codes, length, option_map, IfOk, IfErr, IfSome};
+ghost use Rattle.fsfs_base.specs.Failures.{HasCause};
 ghost use Rattle.fsfs_own.specs.Views.{kept_value};
 ghost use Rattle.fsfs_held.specs.Keys.{at_key};
 ghost use Rattle.fsfs_held.specs.Lists.{files_of, with_steps};
 ghost use Rattle.fsfs_held.specs.Views.{begun_folder};
+ghost use Rattle.fsfs_held.specs.Written.{filed, HasTold, LeadTo};
 
-use crate::changed::{new_node, relinked, with_entries, with_props, with_text};
+use crate::changed::{merged_id, new_node, relinked, with_entries, with_props, with_text};
+use crate::files::OwnFiles;
 use crate::keys::{NodeKey, key_of};
 use crate::nodes::{Nodes, make_room, node_at, put, settle_steps};
 use crate::steps::{Step, last_of};
-use fsfs_base::{B36, Kind, Name, Pairs, next_b36};
+use crate::writing::{take_files, write_files};
+use fsfs_base::{B36, Failed, Kind, Name, Pairs, next_b36};
 use fsfs_changes::ChangeItem;
 use fsfs_clash::MergedDir;
 use fsfs_disk::Bench;
 use fsfs_fields::TxnName;
+use fsfs_folder_files::{
+    child_files, merged_files, next_files, property_files, settled_files, taken_files, text_files,
+};
 use fsfs_land::Relink;
+use fsfs_layout::NextIds;
 use fsfs_listing::{Listing, Target};
 use fsfs_noderev::{NodeId, NodeRev, Rep};
 use fsfs_own::{KeptNode, Own, OwnError};
+use fsfs_txn_files::FileChange;
 use std::alloc::{AllocError, Global};
 use std::collections::HashMap;
 
-/// The numbers that the next new node part and the next new copy part get.
-#[derive(Clone, Copy, Debug, PartialEq, Eq)]
-pub struct NextNumbers {
-    pub node: B36,
-    pub copy: B36,
-}
-
-/// The own node-revisions of a transaction. They are held in memory and never read back from the bench, which is there for the
-/// prototype revision file. The steps of the edit that is being made stand beside what is settled, the newest last.
+/// The own node-revisions of a transaction. They are held in memory and never read back from the bench, into which what is settled is
+/// written; and it has the prototype revision file. The steps of the edit that is being made stand beside what is settled, the newest
+/// last, and what they are to write.
 #[derive(Drop)]
 pub struct HeldNodes<D: Bench> {
     alloc: Global,
@@ -38,24 +41,26 @@ pub struct HeldNodes<D: Bench> {
     pub(crate) proto: Name,
     settled: Nodes,
     steps: Vec<Step>,
-    settled_next: NextNumbers,
-    next: NextNumbers,
+    changes: Vec<FileChange>,
+    settled_next: NextIds,
+    next: NextIds,
     items: Vec<ChangeItem>,
+    // The name that a transaction's prototype revision file has in its bench. No other file of the folder has it.
+    ghost named: { proto ≡ codes "rev" },
+    /// As long as the bench has not failed, its files tell what is settled, wherever it tells them.
+    pub ghost told: { ∥ HasTold (D.faults bench) (D.contents bench) (filed (files_of settled) settled_next items.items) ∥₁ },
+    // What the steps are to write leads to what they leave.
+    ghost ready: { ∥ LeadTo changes.items (filed (files_of settled) settled_next items.items) (filed (with_steps steps.items (files_of settled)) settled_next items.items) ∥₁ },
 }
 
 impl<D: Bench> HeldNodes<D> {
-    /// A transaction that has just begun: it has its root alone. Its texts go into this file of the bench. An `Err` is for want of
-    /// memory, and gives the bench back.
-    pub fn begin(
-        alloc: Global,
-        txn: TxnName,
-        root: NodeRev,
-        bench: D,
-        proto: Name,
-    ) -> Result<HeldNodes<D>, D>
+    /// A transaction that has just begun: it has its root alone, as its bench tells. Its texts go into the bench's file `rev`. An `Err`
+    /// is for want of memory, and gives the bench back.
+    pub fn begin(alloc: Global, txn: TxnName, root: NodeRev, bench: D) -> Result<HeldNodes<D>, D>
+        requires told { HasTold (D.faults bench) (D.contents bench) (begun_folder root (D.contents bench) (codes "rev")) }
         ensures name { IfOk result (λ held. ⟦<HeldNodes<D> as Own>⟧.txn held ≡ txn) }
-        ensures folder { IfOk result (λ held. ⟦<HeldNodes<D> as Own>⟧.folder held ≡ begun_folder root (D.contents bench) proto) }
-        ensures settled { IfOk result (λ held. ⟦<HeldNodes<D> as Own>⟧.settled held ≡ begun_folder root (D.contents bench) proto) }
+        ensures folder { IfOk result (λ held. ⟦<HeldNodes<D> as Own>⟧.folder held ≡ begun_folder root (D.contents bench) (codes "rev")) }
+        ensures settled { IfOk result (λ held. ⟦<HeldNodes<D> as Own>⟧.settled held ≡ begun_folder root (D.contents bench) (codes "rev")) }
         ensures faults { IfOk result (λ held. ⟦<HeldNodes<D> as Own>⟧.faults held ≡ D.faults bench) }
         ensures back { IfErr result (λ back. back ≡ bench) }
     {
@@ -66,10 +71,11 @@ impl<D: Bench> HeldNodes<D> {
         let key = key_of(&root.id);
         let kept = new_node(root);
         put(&mut settled, Step { key, kept });
-        let next = NextNumbers {
+        let next = NextIds {
             node: B36 { number: 0 },
             copy: B36 { number: 0 },
         };
+        let proto = Name::new("rev");
         Ok(HeldNodes {
             alloc,
             txn,
@@ -77,6 +83,7 @@ impl<D: Bench> HeldNodes<D> {
             proto,
             settled,
             steps: Vec::new(alloc),
+            changes: Vec::new(alloc),
             settled_next: next,
             next,
             items: Vec::new(alloc),
@@ -89,6 +96,28 @@ impl<D: Bench> HeldNodes<D> {
     {
         let HeldNodes { bench, .. } = self;
         bench
+    }
+
+    /// The items of its edits, in their order.
+    pub fn items(&self) -> &[ChangeItem]
+        ensures { result.now ≡ (⟦<HeldNodes<D> as Own>⟧.settled self.now).items }
+    {
+        self.items.as_slice()
+    }
+
+    /// How many bytes its prototype file has; none where there is no such file.
+    pub fn proto_length(&mut self) -> Result<u64, Failed>
+        ensures length { IfSome (D.contents self.old.bench) (λ m. IfOk result (λ n. n ≡ length (⟦<HeldNodes<D> as Own>⟧.settled self.old).proto)) }
+        ensures folder { ⟦<HeldNodes<D> as Own>⟧.folder self.new ≡ ⟦<HeldNodes<D> as Own>⟧.folder self.old }
+        ensures settled { ⟦<HeldNodes<D> as Own>⟧.settled self.new ≡ ⟦<HeldNodes<D> as Own>⟧.settled self.old }
+        ensures name { ⟦<HeldNodes<D> as Own>⟧.txn self.new ≡ ⟦<HeldNodes<D> as Own>⟧.txn self.old }
+        ensures cause { HasCause (D.faults self.old.bench) (D.faults self.new.bench) result }
+    {
+        match self.bench.len(&self.proto) {
+            Ok(Some(count)) => Ok(count),
+            Ok(None) => Ok(0),
+            Err(failed) => Err(failed),
+        }
     }
 
     // The node-revision at a key, as the steps left it.
@@ -148,14 +177,19 @@ impl<D: Bench> Own for HeldNodes<D> {
         kind: Kind,
         child: NodeRev,
     ) -> Result<(), AllocError> {
+        let alloc = self.alloc;
         let key = key_of(dir);
         let Some(kept) = self.found(&key) else {
             return Err(AllocError);
         };
         let target = Target { kind, id: child.id };
-        let new = entries.with(self.alloc, name, target)?;
+        let new = entries.with(alloc, name, target)?;
         let opened = with_entries(kept, new)?;
+        let files = child_files(alloc, dir, kept, &entries, &opened.node, name, kind, &child)?;
         self.steps.reserve(2)?;
+        let Ok(()) = take_files(&mut self.changes, files) else {
+            return Err(AllocError);
+        };
         let child_key = key_of(&child.id);
         let made = new_node(child);
         self.steps.push_reserved(Step {
@@ -167,43 +201,72 @@ impl<D: Bench> Own for HeldNodes<D> {
     }
 
     fn take_entry(&mut self, dir: &NodeId, entries: Listing, name: &str) -> Result<(), AllocError> {
+        let alloc = self.alloc;
         let key = key_of(dir);
         let Some(kept) = self.found(&key) else {
             return Err(AllocError);
         };
-        let new = entries.without(self.alloc, name)?;
+        let new = entries.without(alloc, name)?;
         let opened = with_entries(kept, new)?;
-        self.steps.push(Step { key, kept: opened })?;
+        let files = taken_files(alloc, dir, kept, &entries, &opened.node, name)?;
+        self.steps.reserve(1)?;
+        let Ok(()) = take_files(&mut self.changes, files) else {
+            return Err(AllocError);
+        };
+        self.steps.push_reserved(Step { key, kept: opened });
         Ok(())
     }
 
     fn put_text(&mut self, id: &NodeId, rep: &Rep) -> Result<(), AllocError> {
+        let alloc = self.alloc;
         let key = key_of(id);
         let Some(kept) = self.found(&key) else {
             return Err(AllocError);
         };
         let changed = with_text(kept, rep)?;
-        self.steps.push(Step { key, kept: changed })?;
+        let files = text_files(alloc, id, &changed.node)?;
+        self.steps.reserve(1)?;
+        let Ok(()) = take_files(&mut self.changes, files) else {
+            return Err(AllocError);
+        };
+        self.steps.push_reserved(Step { key, kept: changed });
         Ok(())
     }
 
     fn put_props(&mut self, id: &NodeId, props: Pairs) -> Result<(), AllocError> {
+        let alloc = self.alloc;
         let key = key_of(id);
         let Some(kept) = self.found(&key) else {
             return Err(AllocError);
         };
         let changed = with_props(kept, props)?;
-        self.steps.push(Step { key, kept: changed })?;
+        let Some(list) = &changed.props else {
+            return Err(AllocError);
+        };
+        let files = property_files(alloc, id, &changed.node, list)?;
+        self.steps.reserve(1)?;
+        let Ok(()) = take_files(&mut self.changes, files) else {
+            return Err(AllocError);
+        };
+        self.steps.push_reserved(Step { key, kept: changed });
         Ok(())
     }
 
     fn settle(&mut self, item: ChangeItem) -> Result<(), OwnError> {
+        let Ok(last) = settled_files(self.alloc, &self.next, &item) else {
+            return Err(OwnError::OutOfMemory);
+        };
+        let Ok(()) = self.items.reserve(1) else {
+            return Err(OwnError::OutOfMemory);
+        };
         let Ok(()) = make_room(&mut self.settled, self.steps.len()) else {
             return Err(OwnError::OutOfMemory);
         };
-        let Ok(()) = self.items.push(item) else {
-            return Err(OwnError::OutOfMemory);
+        let Ok(()) = write_files(&mut self.bench, &self.changes, &last) else {
+            return Err(OwnError::BenchFault);
         };
+        self.changes.clear();
+        self.items.push_reserved(item);
         settle_steps(&mut self.settled, &mut self.steps);
         self.settled_next = self.next;
         Ok(())
@@ -211,27 +274,55 @@ impl<D: Bench> Own for HeldNodes<D> {
 
     fn forget(&mut self) {
         self.steps.clear();
+        self.changes.clear();
         self.next = self.settled_next;
     }
+}
+
+/// What is settled is written into its bench.
+impl<D: Bench> OwnFiles for HeldNodes<D> {
+    ghost use Rattle.fsfs_held.specs.Lists.{files_of};
+    ghost use Rattle.fsfs_held.specs.Written.{files_told};
+
+    ghost files = { λ h. D.contents h.bench };
+
+    ghost told = { λ h. files_told (D.faults h.bench) (D.contents h.bench) (files_of h.settled) h.settled_next h.items.items h.proto h.named h.told };
 }
 
 /// A merge writes its directories in memory, like the steps of an edit.
 impl<D: Bench> Relink for HeldNodes<D> {
     fn relink(&mut self, dir: MergedDir) -> Result<(), AllocError> {
-        let key = key_of(&dir.link.own);
+        let alloc = self.alloc;
+        let own = merged_id(&dir);
+        let key = key_of(&own);
         let Some(kept) = self.found(&key) else {
             return Err(AllocError);
         };
-        let merged = relinked(self.alloc, kept, dir)?;
-        self.steps.push(Step { key, kept: merged })?;
+        let merged = relinked(alloc, kept, dir)?;
+        let Some(entries) = &merged.entries else {
+            return Err(AllocError);
+        };
+        let files = merged_files(alloc, &own, entries, &merged.node)?;
+        self.steps.reserve(1)?;
+        let Ok(()) = take_files(&mut self.changes, files) else {
+            return Err(AllocError);
+        };
+        self.steps.push_reserved(Step { key, kept: merged });
         Ok(())
     }
 
     fn settle_merged(&mut self) -> Result<(), OwnError> {
+        let Ok(last) = next_files(self.alloc, &self.next) else {
+            return Err(OwnError::OutOfMemory);
+        };
         let Ok(()) = make_room(&mut self.settled, self.steps.len()) else {
             return Err(OwnError::OutOfMemory);
         };
         let next = self.next;
+        let Ok(()) = write_files(&mut self.bench, &self.changes, &last) else {
+            return Err(OwnError::BenchFault);
+        };
+        self.changes.clear();
         settle_steps(&mut self.settled, &mut self.steps);
         self.settled_next = next;
         Ok(())

@@ -1,13 +1,16 @@
-//! The own node-revisions of a transaction, held in memory beside its bench.
+//! The own node-revisions of a transaction, held in memory and written into its bench.
 #![tactic(auto)]
 
 mod changed;
 mod copies;
+mod files;
 mod held;
 mod keys;
 mod nodes;
 mod steps;
 mod texts;
+mod writing;
 
+pub use files::OwnFiles;
 pub use held::HeldNodes;
 pub use texts::OwnTexts;

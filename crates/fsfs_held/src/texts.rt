@@ -4,17 +4,17 @@ ghost use Rattle.fsfs_proto.specs.Texts.{IsRefusedText};
 ghost use Rattle.fsfs_proto.specs.Causes.{HasSourceCause, HasBenchCause};
 ghost use Rattle.fsfs_held.specs.Texts.{IsTextPut, IsTextLeft};
 
+use crate::files::OwnFiles;
 use crate::held::HeldNodes;
 use fsfs_base::B36;
 use fsfs_disk::Bench;
 use fsfs_fields::HexDigest;
 use fsfs_noderev::Rep;
-use fsfs_own::Own;
 use fsfs_proto::{TextError, append_text as append};
 use fsfs_streams::Source;
 
-/// Own node-revisions beside a prototype revision file.
-pub trait OwnTexts: Own {
+/// Own node-revisions beside a prototype revision file, whose texts are written like their other files.
+pub trait OwnTexts: OwnFiles {
     /// Whether its bench tells the files.
     ghost tells: { Self → Bool };
 

@@ -24,7 +24,8 @@ use std::alloc::Global;
 
 /// The entries of an own directory: those of its `children` file, or those that are known of what it goes on from.
 pub(crate) fn listed_known<'a>(known: &'a [Known], kept: &'a KeptNode) -> Option<&'a Listing>
-    ensures { (look : RevisionBytes) (top : ℕ) → AreKnown look top known.now → IsWithin top kept.now.node.predecessor → IfSome result (λ l. IsListedAs look (kept_value kept.now) (listed l.now)) }
+    ensures told { (look : RevisionBytes) (top : ℕ) → AreKnown look top known.now → IsWithin top kept.now.node.predecessor → IfSome result (λ l. IsListedAs look (kept_value kept.now) (listed l.now)) }
+    ensures own { IfSome result (λ l. IfSome (kept_value kept.now).entries (λ entries. listed l.now ≡ entries)) }
 {
     match &kept.entries {
         Some(entries) => Some(entries),

@@ -2,3 +2,4 @@ pub mod Readings
 pub mod OwnEntries
 pub mod Walking
 pub mod Counting
+pub mod HeldLists

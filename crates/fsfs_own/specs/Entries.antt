@@ -14,7 +14,8 @@ use Rattle.fsfs_damage.specs.Readings.{AndThen, Answers}
 use Rattle.fsfs_shows.specs.Reading.{DirEntry, EntriesOf, OfId, offset_of, named}
 use Rattle.fsfs_dag.specs.declared.directory.DirEntry.{DirEntry as ListedEntry}
 use Rattle.fsfs_dag.specs.Views.{entry_values}
-use Rattle.fsfs_drafts.specs.Drafts.{Kept}
+use Rattle.fsfs_drafts.specs.Drafts.{Kept, Folder}
+use Rattle.fsfs_drafts.specs.Steps.{kept_at}
 
 -- of a directory; a file has none
 abbrev pub OfKind : RevisionBytes → Kind → NodeRev → Result (List DirEntry) Wrong → Type 0
@@ -50,3 +51,7 @@ pub record IsListedAs (look : RevisionBytes) (k : Kept) (listed : List DirEntry)
 -- what is wrong with them, where that is why they are not told
 abbrev pub FailsLike : RevisionBytes → Kept → ReadError → Type 0
 FailsLike look k e = Answers (λ (v : Vec ListedEntry Global). entry_values v.items) (OfKept look k) (Err e)
+
+-- where a directory has a `children` file, these are its entries
+abbrev pub AreOwnEntries : Folder → NodeId → List DirEntry → Type 0
+AreOwnEntries f dir listed = (k : Kept) (entries : List DirEntry) → kept_at f.nodes dir ≡ Some k → k.entries ≡ Some entries → listed ≡ entries

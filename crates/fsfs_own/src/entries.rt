@@ -1,5 +1,5 @@
 //! The entries of an own directory.
-ghost use Rattle.std.specs.Prelude.{◌≡◌, ◌≤◌, ℕ, List, Some, Ok, IfOk, IfErr, map, take};
+ghost use Rattle.std.specs.Prelude.{◌≡◌, ◌≤◌, ℕ, List, Some, Ok, IfOk, IfErr, IfSome, map, take};
 ghost use Rattle.fsfs_base.specs.declared.kind.Kind.TheVariants.{Dir};
 ghost use Rattle.fsfs_book.specs.Told.{RevisionBytes, Knows, Keeps};
 ghost use Rattle.fsfs_damage.specs.Readings.{Answers};
@@ -66,6 +66,7 @@ pub fn listed_in<B: Book>(
     kept: &KeptNode,
 ) -> Result<Listing, ReadError>
     ensures told { (look : RevisionBytes) (top : ℕ) → Knows (B.told book.old).revs top look → IsWithin top kept.now.node.predecessor → IfOk result (λ l. IsListedAs look (kept_value kept.now) (listed l)) }
+    ensures own { IfOk result (λ l. IfSome (kept_value kept.now).entries (λ entries. listed l ≡ entries)) }
     ensures fails { (look : RevisionBytes) (top : ℕ) → Knows (B.told book.old).revs top look → IsWithin top kept.now.node.predecessor → IfErr result (FailsLike look (kept_value kept.now)) }
     ensures kept { Keeps (B.told book.old) (B.told book.new) }
     ensures cause { HasCause (B.faults book.old) (B.faults book.new) result }

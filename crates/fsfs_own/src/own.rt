@@ -4,6 +4,7 @@ ghost use Rattle.fsfs_fields.specs.declared.txn_name.TxnName.{TxnName};
 ghost use Rattle.fsfs_drafts.specs.Drafts.{Folder, Kept};
 ghost use Rattle.fsfs_drafts.specs.Steps.{kept_at};
 ghost use Rattle.fsfs_own.specs.Causes.{HasSettleCause};
+ghost use Rattle.fsfs_own.specs.Entries.{AreOwnEntries};
 ghost use Rattle.fsfs_own.specs.Errors.{IfMemory};
 ghost use Rattle.fsfs_own.specs.Items.{with_item};
 ghost use Rattle.fsfs_own.specs.Put.{IsEntryPut};
@@ -78,7 +79,8 @@ pub trait Own {
         ensures quiet { faults self.new ≡ faults self.old }
         ensures name { txn self.new ≡ txn self.old };
 
-    /// Puts a node-revision that has no file yet behind a name of a directory with these entries.
+    /// Puts a node-revision that has no file yet behind a name of a directory with these entries. Those of a directory that has a
+    /// `children` file are the ones there.
     fn put_child(
         &mut self,
         dir: &NodeId,
@@ -89,6 +91,7 @@ pub trait Own {
     ) -> Result<(), AllocError>
         requires dir { IsSome (kept_at (folder self.old).nodes dir.now) }
         requires new { kept_at (folder self.old).nodes child.id ≡ None }
+        requires entries { AreOwnEntries (folder self.old) dir.now (listed entries) }
         ensures done { (k : Kept) → kept_at (folder self.old).nodes dir.now ≡ Some k → OnOk result (IsEntryPut (folder self.old) (folder self.new) dir.now k (listed entries) name.now kind child) }
         ensures settled { settled self.new ≡ settled self.old }
         ensures quiet { faults self.new ≡ faults self.old }
@@ -97,6 +100,7 @@ pub trait Own {
     /// Takes away the entry of a name, of a directory with these entries.
     fn take_entry(&mut self, dir: &NodeId, entries: Listing, name: &str) -> Result<(), AllocError>
         requires dir { IsSome (kept_at (folder self.old).nodes dir.now) }
+        requires entries { AreOwnEntries (folder self.old) dir.now (listed entries) }
         ensures done { OnOk result (IsEntryTaken (folder self.old) (folder self.new) dir.now (listed entries) name.now) }
         ensures settled { settled self.new ≡ settled self.old }
         ensures quiet { faults self.new ≡ faults self.old }

@@ -9,6 +9,7 @@ ghost use Rattle.fsfs_shows.specs.Reading.{StandsAt};
 ghost use Rattle.fsfs_drafts.specs.Own.{Own as Owns, OwnNode, draft_tree};
 ghost use Rattle.fsfs_drafts.specs.Drafts.{IsDraft, ShowTrees};
 ghost use Rattle.fsfs_listing.specs.Views.{listed};
+ghost use Rattle.fsfs_own.specs.Entries.{AreOwnEntries};
 ghost use Rattle.fsfs_own.specs.Errors.{IsWant};
 ghost use Rattle.fsfs_steps.specs.Mutable.{IsAmiss};
 ghost use Rattle.fsfs_steps.specs.Copied.{IsCopyNode, IsCopyPut, LeavesCopy};
@@ -79,6 +80,7 @@ fn copy_child<N: Own>(
     source: &NodeRev,
     from: &CopySource,
 ) -> Result<NodeId, EditError>
+    requires { AreOwnEntries (N.folder own.old) dir.now (listed entries) }
     ensures done { IfOk result (IsCopyPut (N.folder own.old) (N.folder own.new) (N.txn own.old) dir.now (listed entries) name.now source.now from.now) }
     ensures cause { IfErr result (λ e. IsWant e (IsAmiss (N.folder own.old) dir.now source.now.id)) }
     ensures settled { N.settled own.new ≡ N.settled own.old }

@@ -8,6 +8,7 @@ ghost use Rattle.fsfs_noderev.specs.Ids.{New, part_value};
 ghost use Rattle.fsfs_drafts.specs.Own.{Own as Owns, OwnNode, draft_tree};
 ghost use Rattle.fsfs_drafts.specs.Drafts.{IsDraft, ShowTrees};
 ghost use Rattle.fsfs_listing.specs.Views.{listed};
+ghost use Rattle.fsfs_own.specs.Entries.{AreOwnEntries};
 ghost use Rattle.fsfs_own.specs.Errors.{IsWant};
 ghost use Rattle.fsfs_steps.specs.Made.{drawn_node, IsNewNode, IsAmissNode, IsChildMade, LeavesNew};
 ghost use Rattle.fsfs_own.specs.Causes.{HasDiskCause, HasBenchCause};
@@ -81,6 +82,7 @@ fn new_child<N: Own>(
     name: &str,
     kind: Kind,
 ) -> Result<NodeId, EditError>
+    requires { AreOwnEntries (N.folder own.old) dir.now (listed entries) }
     ensures done { IfOk result (IsChildMade (N.folder own.old) (N.folder own.new) (N.txn own.old) dir.now (listed entries) name.now kind) }
     ensures cause { IfErr result (λ e. IsWant e (IsAmissNode (N.folder own.old) dir.now)) }
     ensures settled { N.settled own.new ≡ N.settled own.old }

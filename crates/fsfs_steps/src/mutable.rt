@@ -9,6 +9,7 @@ ghost use Rattle.fsfs_drafts.specs.Own.{Own as Owns, OwnNode, draft_tree};
 ghost use Rattle.fsfs_drafts.specs.Drafts.{IsDraft, ShowTrees};
 ghost use Rattle.fsfs_drafts.specs.Steps.{kept_at};
 ghost use Rattle.fsfs_listing.specs.Views.{listed};
+ghost use Rattle.fsfs_own.specs.Entries.{AreOwnEntries};
 ghost use Rattle.fsfs_own.specs.Errors.{IsWant};
 ghost use Rattle.fsfs_steps.specs.Mutable.{drawn, IsPartFrom, IsAmiss, IsChildChanged, LeavesMutable};
 ghost use Rattle.fsfs_own.specs.Causes.{HasDiskCause, HasBenchCause};
@@ -76,6 +77,7 @@ pub fn change_child<N: Own>(
     kind: Kind,
     old: &NodeRev,
 ) -> Result<NodeId, EditError>
+    requires { AreOwnEntries (N.folder own.old) dir.now (listed entries) }
     ensures done { IfOk result (IsChildChanged (N.folder own.old) (N.folder own.new) (N.txn own.old) dir.now (listed entries) name.now kind old.now) }
     ensures cause { IfErr result (λ e. IsWant e (IsAmiss (N.folder own.old) dir.now old.now.id)) }
     ensures settled { N.settled own.new ≡ N.settled own.old }

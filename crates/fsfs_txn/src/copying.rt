@@ -2,6 +2,7 @@
 ghost use Rattle.std.specs.Prelude.{◌≡◌, ◌++◌, ◌∷◌, [], None};
 ghost use Rattle.fsfs_book.specs.Told.{Keeps};
 ghost use Rattle.fsfs_flat.specs.Edits.{parent};
+ghost use Rattle.fsfs_held.specs.Written.{HasFiles};
 ghost use Rattle.fsfs_own.specs.Causes as causes;
 ghost use Rattle.fsfs_txn.specs.Spending.{IsSpentAfter, IsCounted, StaysSpent, HasDiskCause, HasBenchCause};
 ghost use Rattle.fsfs_txn.specs.Copying.{outcome_of, is_copied, barred_by, CopiesIn, Copies, MeetsCopying};
@@ -15,6 +16,7 @@ use fsfs_base::FsPath;
 use fsfs_book::Book;
 use fsfs_edit::copy_at;
 use fsfs_fields::RevNum;
+use fsfs_held::OwnFiles;
 use fsfs_noderev::CopySource;
 use fsfs_own::{EditError, Own, Step};
 use std::alloc::Global;
@@ -142,7 +144,7 @@ fn copy_named<B: Book, N: Own>(
     }
 }
 
-impl<N: Own> Txn<N> {
+impl<N: OwnFiles> Txn<N> {
     /// Puts a copy of what stands at a path of a revision at another path; nothing below is copied. It is refused where the path
     /// above the target leads to no directory, where something stands there, where there is no such revision, where nothing stands
     /// at the source, where counts of mergeinfo would have to change, or where the directory is full, in this order. A refusal leaves
@@ -159,6 +161,8 @@ impl<N: Own> Txn<N> {
         ensures spent { IsSpentAfter self.old.spent self.new.spent result }
         ensures moves { IsCounted is_copied self.old.moves self.new.moves result }
         ensures base { self.new.base ≡ self.old.base }
+        // The bench's files are those of what the transaction holds, whatever is answered, as long as the bench has not failed.
+        ensures folder { HasFiles (N.faults self.new.own) (N.files self.new.own) (N.settled self.new.own) }
         ensures name { N.txn self.new.own ≡ N.txn self.old.own }
         ensures bench { HasBenchCause (N.faults self.old.own) (N.faults self.new.own) result }
         ensures kept { Keeps (B.told book.old) (B.told book.new) }

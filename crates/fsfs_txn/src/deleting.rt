@@ -2,6 +2,7 @@
 ghost use Rattle.std.specs.Prelude.{◌≡◌, ◌++◌, ◌∷◌, [], None};
 ghost use Rattle.fsfs_book.specs.Told.{Keeps};
 ghost use Rattle.fsfs_flat.specs.Edits.{parent};
+ghost use Rattle.fsfs_held.specs.Written.{HasFiles};
 ghost use Rattle.fsfs_own.specs.Causes as causes;
 ghost use Rattle.fsfs_txn.specs.Spending.{IsSpentAfter, IsCounted, StaysSpent, HasDiskCause, HasBenchCause};
 ghost use Rattle.fsfs_txn.specs.Deleting.{is_deleted, outcome_of, Deletes, MeetsDeleting};
@@ -13,6 +14,7 @@ use crate::txn_error::TxnError;
 use fsfs_base::FsPath;
 use fsfs_book::Book;
 use fsfs_edit::{Gone, delete_at};
+use fsfs_held::OwnFiles;
 use fsfs_own::{EditError, Own};
 use std::alloc::Global;
 
@@ -87,7 +89,7 @@ fn delete_named<B: Book, N: Own>(
     }
 }
 
-impl<N: Own> Txn<N> {
+impl<N: OwnFiles> Txn<N> {
     /// Takes away what stands at a path, and all below it. It is refused where the path above leads to no directory, where nothing
     /// stands there, where it is the root, or where counts of mergeinfo would have to change, in this order. A refusal leaves the
     /// transaction as it was, and so does every failure but the bench's, which spends it.
@@ -102,6 +104,8 @@ impl<N: Own> Txn<N> {
         ensures spent { IsSpentAfter self.old.spent self.new.spent result }
         ensures moves { IsCounted is_deleted self.old.moves self.new.moves result }
         ensures base { self.new.base ≡ self.old.base }
+        // The bench's files are those of what the transaction holds, whatever is answered, as long as the bench has not failed.
+        ensures folder { HasFiles (N.faults self.new.own) (N.files self.new.own) (N.settled self.new.own) }
         ensures name { N.txn self.new.own ≡ N.txn self.old.own }
         ensures bench { HasBenchCause (N.faults self.old.own) (N.faults self.new.own) result }
         ensures kept { Keeps (B.told book.old) (B.told book.new) }

@@ -3,6 +3,7 @@ ghost use Rattle.std.specs.Prelude.{◌≡◌, ◌++◌, ◌∷◌, [], None};
 ghost use Rattle.fsfs_base.specs.declared.kind.Kind.TheVariants as kinds;
 ghost use Rattle.fsfs_book.specs.Told.{Keeps};
 ghost use Rattle.fsfs_flat.specs.Edits.{parent};
+ghost use Rattle.fsfs_held.specs.Written.{HasFiles};
 ghost use Rattle.fsfs_own.specs.Causes as causes;
 ghost use Rattle.fsfs_txn.specs.Spending.{IsSpentAfter, IsCounted, StaysSpent, HasDiskCause, HasBenchCause};
 ghost use Rattle.fsfs_txn.specs.Making.{outcome_of, is_made, Makes, MeetsMaking};
@@ -14,6 +15,7 @@ use crate::txn_error::TxnError;
 use fsfs_base::{FsPath, Kind};
 use fsfs_book::Book;
 use fsfs_edit::make_at;
+use fsfs_held::OwnFiles;
 use fsfs_own::{EditError, Own};
 use std::alloc::Global;
 
@@ -90,7 +92,7 @@ fn make_named<B: Book, N: Own>(
     }
 }
 
-impl<N: Own> Txn<N> {
+impl<N: OwnFiles> Txn<N> {
     // Makes an empty node of a kind.
     fn make<B: Book>(
         &mut self,
@@ -104,6 +106,7 @@ impl<N: Own> Txn<N> {
         ensures spent { IsSpentAfter self.old.spent self.new.spent result }
         ensures moves { IsCounted is_made self.old.moves self.new.moves result }
         ensures base { self.new.base ≡ self.old.base }
+        ensures folder { HasFiles (N.faults self.new.own) (N.files self.new.own) (N.settled self.new.own) }
         ensures name { N.txn self.new.own ≡ N.txn self.old.own }
         ensures bench { HasBenchCause (N.faults self.old.own) (N.faults self.new.own) result }
         ensures kept { Keeps (B.told book.old) (B.told book.new) }
@@ -139,6 +142,8 @@ impl<N: Own> Txn<N> {
         ensures spent { IsSpentAfter self.old.spent self.new.spent result }
         ensures moves { IsCounted is_made self.old.moves self.new.moves result }
         ensures base { self.new.base ≡ self.old.base }
+        // The bench's files are those of what the transaction holds, whatever is answered, as long as the bench has not failed.
+        ensures folder { HasFiles (N.faults self.new.own) (N.files self.new.own) (N.settled self.new.own) }
         ensures name { N.txn self.new.own ≡ N.txn self.old.own }
         ensures bench { HasBenchCause (N.faults self.old.own) (N.faults self.new.own) result }
         ensures kept { Keeps (B.told book.old) (B.told book.new) }
@@ -159,6 +164,8 @@ impl<N: Own> Txn<N> {
         ensures spent { IsSpentAfter self.old.spent self.new.spent result }
         ensures moves { IsCounted is_made self.old.moves self.new.moves result }
         ensures base { self.new.base ≡ self.old.base }
+        // The bench's files are those of what the transaction holds, whatever is answered, as long as the bench has not failed.
+        ensures folder { HasFiles (N.faults self.new.own) (N.files self.new.own) (N.settled self.new.own) }
         ensures name { N.txn self.new.own ≡ N.txn self.old.own }
         ensures bench { HasBenchCause (N.faults self.old.own) (N.faults self.new.own) result }
         ensures kept { Keeps (B.told book.old) (B.told book.new) }

@@ -1,6 +1,7 @@
 //! Merges with later revisions.
 ghost use Rattle.std.specs.Prelude.{◌≡◌, Ok, None};
 ghost use Rattle.fsfs_book.specs.Told.{Keeps};
+ghost use Rattle.fsfs_held.specs.Written.{HasFiles};
 ghost use Rattle.fsfs_own.specs.Causes as causes;
 ghost use Rattle.fsfs_land.specs.declared.land.Outcome.TheVariants.{Landed};
 ghost use Rattle.fsfs_txn.specs.Spending.{IsSpentAfter, StaysSpent, HasDiskCause, HasBenchCause};
@@ -10,6 +11,7 @@ use crate::txn::Txn;
 use crate::txn_error::TxnError;
 use fsfs_book::Book;
 use fsfs_fields::RevNum;
+use fsfs_held::OwnFiles;
 use fsfs_land::{Outcome, Relink, merge};
 use fsfs_own::{EditError, Own};
 use std::alloc::Global;
@@ -32,7 +34,7 @@ fn merge_settled<B: Book, N: Relink>(
     merge(alloc, book, own, base, head)
 }
 
-impl<N: Relink> Txn<N> {
+impl<N: Relink + OwnFiles> Txn<N> {
     // Notes that it landed on a revision, with so many moves.
     fn landed_on(&mut self, head: RevNum, moves: u64)
         ensures { self.new ≡ record self.old { base = head; moves = moves } }
@@ -56,6 +58,8 @@ impl<N: Relink> Txn<N> {
         ensures stays { StaysSpent self.old.spent result (self.new ≡ self.old) }
         ensures spent { IsSpentAfter self.old.spent self.new.spent result }
         ensures landed { IsLandedOn head self.old.base self.new.base self.old.moves self.new.moves result }
+        // The bench's files are those of what the transaction holds, whatever is answered, as long as the bench has not failed.
+        ensures folder { HasFiles (N.faults self.new.own) (N.files self.new.own) (N.settled self.new.own) }
         ensures name { N.txn self.new.own ≡ N.txn self.old.own }
         ensures bench { HasBenchCause (N.faults self.old.own) (N.faults self.new.own) result }
         ensures kept { Keeps (B.told book.old) (B.told book.new) }

@@ -1,5 +1,6 @@
 //! Properties set or removed at what was opened.
 ghost use Rattle.std.specs.Prelude.{◌≡◌, None};
+ghost use Rattle.fsfs_held.specs.Written.{HasFiles};
 ghost use Rattle.fsfs_own.specs.Causes as causes;
 ghost use Rattle.fsfs_opened.specs.Properties.{MeetsPutProp};
 ghost use Rattle.fsfs_txn.specs.Spending.{IsSpentAfter, StaysSpent, HasBenchCause};
@@ -9,6 +10,7 @@ use crate::opening::Opened;
 use crate::txn::Txn;
 use crate::txn_error::TxnError;
 use fsfs_fields::PropName;
+use fsfs_held::OwnFiles;
 use fsfs_opened::{PropertyPut, Way, put_property};
 use fsfs_own::{EditError, Own};
 use std::alloc::Global;
@@ -57,7 +59,7 @@ fn set_settled<N: Own>(
     put_property(alloc, own, way, name, value)
 }
 
-impl<N: Own> Txn<N> {
+impl<N: OwnFiles> Txn<N> {
     /// Gives what was opened a property, or takes it away where there is no value; one that is absent is taken away too. No book is
     /// read. It is refused where the opening is stale, where counts of mergeinfo would have to change, or where the value has more than
     /// 1,048,576 bytes, in this order. A refusal leaves the transaction as it was, and so does every failure but the bench's, which
@@ -76,6 +78,8 @@ impl<N: Own> Txn<N> {
         ensures spent { IsSpentAfter self.old.spent self.new.spent result }
         ensures moves { self.new.moves ≡ self.old.moves }
         ensures base { self.new.base ≡ self.old.base }
+        // The bench's files are those of what the transaction holds, whatever is answered, as long as the bench has not failed.
+        ensures folder { HasFiles (N.faults self.new.own) (N.files self.new.own) (N.settled self.new.own) }
         ensures name { N.txn self.new.own ≡ N.txn self.old.own }
         ensures bench { HasBenchCause (N.faults self.old.own) (N.faults self.new.own) result }
     {

@@ -1,5 +1,6 @@
 //! Texts put at what was opened.
 ghost use Rattle.std.specs.Prelude.{◌≡◌, None, true};
+ghost use Rattle.fsfs_held.specs.Written.{HasFiles};
 ghost use Rattle.fsfs_opened.specs.Failing as failing;
 ghost use Rattle.fsfs_opened.specs.Texts.{MeetsPut};
 ghost use Rattle.fsfs_txn.specs.Spending.{IsSpentAfter, StaysSpent};
@@ -101,6 +102,8 @@ impl<N: OwnTexts> Txn<N> {
         ensures spent { IsSpentAfter self.old.spent self.new.spent result }
         ensures moves { self.new.moves ≡ self.old.moves }
         ensures base { self.new.base ≡ self.old.base }
+        // The bench's files are those of what the transaction holds, whatever is answered, as long as the bench has not failed.
+        ensures folder { HasFiles (N.faults self.new.own) (N.files self.new.own) (N.settled self.new.own) }
         ensures name { N.txn self.new.own ≡ N.txn self.old.own }
         ensures source_cause { HasSourceRise (I.faults source.old) (I.faults source.new) result }
         ensures bench_cause { HasBenchRise (N.faults self.old.own) (N.faults self.new.own) result }

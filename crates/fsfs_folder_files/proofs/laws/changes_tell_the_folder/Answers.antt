@@ -1,4 +1,4 @@
-use Rattle.fsfs_folder_files.proofs.Steps.{changes_tell}
+use Rattle.fsfs_folder_files.proofs.StepLemmas.{changes_tell}
 use Rattle.fsfs_folder_files.proofs.laws.changes_tell_the_folder.Goals as goal
 
 pub returns : goal.returns

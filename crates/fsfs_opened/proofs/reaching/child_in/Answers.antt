@@ -1,5 +1,5 @@
 use Rattle.std.proofs.Common.{◌≡◌, ◌≤◌, true, List, Some, Ok, refl, sym, ap, subst, ◌∙◌}
-use Rattle.std.specs.Prelude.{IfOk, IfErr}
+use Rattle.std.specs.Prelude.{IfOk, IfErr, IfSome}
 use Rattle.fsfs_base.specs.Paths.{PathName}
 use Rattle.fsfs_noderev.specs.declared.node_id.NodeId.{NodeId}
 use Rattle.fsfs_revision.specs.Nodes.{is_revision_id}
@@ -16,6 +16,7 @@ use Rattle.fsfs_steps.proofs.Alike.{changed_as}
 use Rattle.fsfs_steps.proofs.Steps.{changed_proto}
 use Rattle.fsfs_own.proofs.OwnEntries.{kept_same, pred_within, entries_here, own_entry, lasting_entry}
 use Rattle.fsfs_steps.proofs.Making.{lasting_leaves}
+use Rattle.fsfs_own.proofs.HeldLists.{own_listed}
 use Rattle.fsfs_opened.proofs.ReachLemmas.{child_reached}
 use Rattle.fsfs_opened.proofs.reaching.child_in.Goals as goal
 
@@ -25,7 +26,7 @@ returns-then-not-is_revision_id-clause-draft g c = λ look trees top base nodes 
     let f = g.N.Own.folder c.args.own.now in
     let k = kept_same look top base trees shown le txn f nodes draft p d here dir c.args.dir.now (kept_value c.in-Some.kept.now) same (sym c.in-Some.ensures) in
     let within : IsWithin top c.in-Some.kept.now.node.predecessor = subst (λ (x : Kept). IsWithin top x.node.predecessor) (sym k) (pred_within look top base trees shown le txn f nodes draft p d here dir) in
-    let t = subst (λ (x : Kept). IsListedAs look x (listed c.in-Some-listed_known.entries.now)) k (c.in-Some-listed_known.ensures look top known within) in
+    let t = subst (λ (x : Kept). IsListedAs look x (listed c.in-Some-listed_known.entries.now)) k (c.in-Some-listed_known.ensures.told look top known within) in
     let all = entries_here look top base trees shown le txn f nodes draft p d here dir t.entries t.of in
     let x = entry_value c.in-Some-get.entry.now in
     let is : named c.args.name.now t.entries ≡ Some x = sym (c.in-Some-get.ensures ∙ t.alike c.args.name.now) in
@@ -41,7 +42,7 @@ returns-clause-draft g c = λ look trees top base nodes p d known shown le draft
     let within : IsWithin top c.in-Some.kept.now.node.predecessor = subst (λ (x : Kept). IsWithin top x.node.predecessor) (sym k) (pred_within look top base trees shown le txn f nodes draft p d here dir) in
     let found = listed c.in-Some-listed_known.entries.now in
     let shared = listed c.in_ok-all.all in
-    let t = subst (λ (x : Kept). IsListedAs look x found) k (c.in-Some-listed_known.ensures look top known within) in
+    let t = subst (λ (x : Kept). IsListedAs look x found) k (c.in-Some-listed_known.ensures.told look top known within) in
     let all = entries_here look top base trees shown le txn f nodes draft p d here dir t.entries t.of in
     let x = entry_value c.in-Some-get.entry.now in
     let is : named name t.entries ≡ Some x = sym (c.in-Some-get.ensures ∙ t.alike name) in
@@ -64,3 +65,9 @@ returns-clause-draft g c = λ look trees top base nodes p d known shown le draft
 
 pub returns-clause-proto : goal.returns-clause-proto
 returns-clause-proto g c = changed_proto (g.N.Own.folder c.args.own.now) (g.N.Own.folder c.change_child.new.own) (g.N.Own.txn c.args.own.now) c.args.dir.now (listed c.in_ok-all.all) c.args.name.now c.in-Some-get.entry.now.kind c.in-Some-find.old.now.node c.change_child.result c.change_child.ensures.done
+
+pub change_child-requires : goal.change_child-requires
+change_child-requires g c =
+    let found = kept_value c.in-Some.kept.now in
+    own_listed (g.N.Own.folder c.args.own.now) c.args.dir.now found (listed c.in_ok-all.all) c.in-Some.ensures
+    (subst (λ (l : List DirEntry). IfSome found.entries (λ entries. l ≡ entries)) (sym c.in_ok-all.ensures) c.in-Some-listed_known.ensures.own)

@@ -1,20 +1,20 @@
-use Rattle.std.proofs.Common.{◌≤◌, Option, sym, subst, ap, refl}
-use Rattle.std.specs.Prelude.{option_map}
+use Rattle.std.proofs.Common.{◌≡◌, ◌≤◌, List, Option, sym, subst, ap, refl}
+use Rattle.std.specs.Prelude.{IfSome, option_map}
 use Rattle.fsfs_listing.specs.declared.listing.Listing.{Listing}
 use Rattle.fsfs_listing.specs.Views.{listed}
 use Rattle.fsfs_noderev.specs.declared.node_id.NodeId.{NodeId}
-use Rattle.fsfs_shows.specs.Reading.{offset_of}
+use Rattle.fsfs_shows.specs.Reading.{DirEntry, offset_of}
 use Rattle.fsfs_own.specs.Entries.{IsWithin}
 use Rattle.fsfs_own.specs.Views.{kept_value}
 use Rattle.fsfs_own.proofs.Readings.{listed_own, predecessor_list}
 use Rattle.fsfs_opened.specs.Knowing.{IsListOf}
 use Rattle.fsfs_opened.proofs.reaching.listed_known.Goals as goal
 
-pub returns-in-Some : goal.returns-in-Some
-returns-in-Some c = λ look top known within. listed_own look (kept_value c.args.kept.now) (listed c.in-Some.entries) (listed c.in-Some.entries) (ap (λ (o : Option Listing). option_map listed o) c.in-Some.is) refl
+pub returns-in-Some-clause-told : goal.returns-in-Some-clause-told
+returns-in-Some-clause-told c = λ look top known within. listed_own look (kept_value c.args.kept.now) (listed c.in-Some.entries) (listed c.in-Some.entries) (ap (λ (o : Option Listing). option_map listed o) c.in-Some.is) refl
 
-pub returns-in-Some-find : goal.returns-in-Some-find
-returns-in-Some-find c = λ look top known within.
+pub returns-in-Some-find-clause-told : goal.returns-in-Some-find-clause-told
+returns-in-Some-find-clause-told c = λ look top known within.
     let id = c.in-Some-predecessor.id in
     let k = c.in-Some-find.one.now in
     let le : (offset_of id.place).rev ≤ top = subst (λ (o : Option NodeId). IsWithin top o) c.in-Some-predecessor.is within in
@@ -26,3 +26,9 @@ returns-in-Some-find c = λ look top known within.
       of = predecessor_list look (kept_value c.args.kept.now) id all.entries (ap (λ (o : Option Listing). option_map listed o) c.in-None.is) c.in-Some-predecessor.is all.of;
       alike = all.alike;
     }
+
+pub returns-in-Some-clause-own : goal.returns-in-Some-clause-own
+returns-in-Some-clause-own c = subst (λ (o : Option Listing). IfSome (option_map listed o) (λ entries. listed c.in-Some.entries ≡ entries)) (sym c.in-Some.is) refl
+
+pub returns-in-Some-find-clause-own : goal.returns-in-Some-find-clause-own
+returns-in-Some-find-clause-own c = subst (λ (o : Option Listing). IfSome (option_map listed o) (λ entries. listed c.in-Some-find.one.now.entries ≡ entries)) (sym c.in-None.is) tt

@@ -14,6 +14,7 @@ use Rattle.fsfs_steps.proofs.Steps.{some_not_none, want_disk}
 use Rattle.fsfs_own.proofs.OwnEntries.{there_kept, kept_same, pred_within, entries_here, entries_fail, none_named}
 use Rattle.fsfs_steps.proofs.Alike.{copied_as}
 use Rattle.fsfs_steps.proofs.CopyingNew.{copying_leaves}
+use Rattle.fsfs_own.proofs.HeldLists.{own_listed}
 use Rattle.fsfs_steps.proofs.copied.copy_to.Goals as goal
 
 pub returns-in_default-clause-draft : goal.returns-in_default-clause-draft
@@ -57,3 +58,6 @@ returns-clause-cause g c = record {
   later = c.in_ok-entries.ensures.cause.later;
   failed = want_disk c.copy_child.result (IsAmiss (g.N.Own.folder c.args.own.now) c.args.dir.now c.args.source.now.id) _ c.copy_child.ensures.cause;
 }
+
+pub copy_child-requires : goal.copy_child-requires
+copy_child-requires g c = own_listed (g.N.Own.folder c.args.own.now) c.args.dir.now (kept_value c.in-Some.kept.now) (listed c.in_ok-entries.entries) c.in-Some.ensures c.in_ok-entries.ensures.own

@@ -13,6 +13,7 @@ use Rattle.fsfs_steps.proofs.Steps.{some_not_none, want_disk}
 use Rattle.fsfs_own.proofs.OwnEntries.{there_kept, kept_same, pred_within, entries_here, entries_fail, none_named}
 use Rattle.fsfs_steps.proofs.Alike.{made_as}
 use Rattle.fsfs_steps.proofs.MakingNew.{new_leaves}
+use Rattle.fsfs_own.proofs.HeldLists.{own_listed}
 use Rattle.fsfs_steps.proofs.made.make_node.Goals as goal
 
 pub returns-in_default-clause-draft : goal.returns-in_default-clause-draft
@@ -56,3 +57,6 @@ returns-clause-cause g c = record {
   later = c.in_ok-entries.ensures.cause.later;
   failed = want_disk c.new_child.result (IsAmissNode (g.N.Own.folder c.args.own.now) c.args.dir.now) _ c.new_child.ensures.cause;
 }
+
+pub new_child-requires : goal.new_child-requires
+new_child-requires g c = own_listed (g.N.Own.folder c.args.own.now) c.args.dir.now (kept_value c.in-Some.kept.now) (listed c.in_ok-entries.entries) c.in-Some.ensures c.in_ok-entries.ensures.own

@@ -8,6 +8,8 @@ use Rattle.fsfs_drafts.specs.Steps.{with_kept, kept_at}
 use Rattle.fsfs_own.specs.Views.{kept_value, new_kept, opened_kept}
 use Rattle.fsfs_steps.specs.Made.{IsNewNode, IsAmissNode}
 use Rattle.fsfs_steps.proofs.MakingNew.{want_as}
+use Rattle.fsfs_listing.specs.Views.{listed}
+use Rattle.fsfs_own.proofs.HeldLists.{own_same}
 use Rattle.fsfs_steps.proofs.made.new_child.Goals as goal
 
 pub returns-in_err-node-clause-cause : goal.returns-in_err-node-clause-cause
@@ -42,3 +44,7 @@ returns-clause-done g c =
       replaced = put.put;
       after_is = subst (λ (h : Folder). g.N.Own.folder c.put_child.new.self ≡ record h { nodes = with_kept c.args.dir.now (opened_kept k put.new) (with_kept w.id (new_kept w) h.nodes) }) done.1 put.after_is;
     }
+
+pub put_child-requires-clause-entries : goal.put_child-requires-clause-entries
+put_child-requires-clause-entries g c =
+    own_same (g.N.Own.folder c.args.own.now) (g.N.Own.folder c.drawn_node_part.new.own) c.args.dir.now (listed c.args.entries) (ap (λ (h : Folder). h.nodes) c.in_ok-node.ensures.done.1) c.requires

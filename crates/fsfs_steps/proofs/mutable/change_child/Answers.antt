@@ -5,6 +5,8 @@ use Rattle.fsfs_drafts.specs.Steps.{Files, kept_at, IsSuccessor}
 use Rattle.fsfs_steps.specs.Mutable.{IsPartFrom}
 use Rattle.fsfs_own.specs.Views.{kept_value}
 use Rattle.fsfs_steps.proofs.Steps.{part_nodes}
+use Rattle.fsfs_listing.specs.Views.{listed}
+use Rattle.fsfs_own.proofs.HeldLists.{own_same}
 use Rattle.fsfs_steps.proofs.mutable.change_child.Goals as goal
 
 pub returns-clause-done : goal.returns-clause-done
@@ -27,3 +29,7 @@ returns-clause-done g c =
       replaced = put.put;
       after_is = put.after_is;
     }
+
+pub put_child-requires-clause-entries : goal.put_child-requires-clause-entries
+put_child-requires-clause-entries g c =
+    own_same (g.N.Own.folder c.args.own.now) (g.N.Own.folder c.copy_part.new.own) c.args.dir.now (listed c.args.entries) (part_nodes _ _ _ _ _ c.in_ok-copy.ensures.done.of) c.requires

@@ -20,6 +20,7 @@ use Rattle.fsfs_steps.proofs.Alike.{changed_as}
 use Rattle.fsfs_steps.proofs.Steps.{changed_proto, want_disk}
 use Rattle.fsfs_own.proofs.OwnEntries.{there_kept, kept_same, pred_within, entries_here, entries_fail, has_named, own_entry, lasting_entry, entry_fails}
 use Rattle.fsfs_steps.proofs.Making.{lasting_leaves}
+use Rattle.fsfs_own.proofs.HeldLists.{own_listed}
 use Rattle.fsfs_steps.proofs.mutable.make_mutable.Goals as goal
 
 pub returns-in_default-clause-draft : goal.returns-in_default-clause-draft
@@ -102,3 +103,6 @@ returns-clause-cause g c = record {
   later = omega (arith, c.in_ok-entries.ensures.cause.later, c.in_ok-old.ensures.cause.later);
   failed = want_disk c.change_child.result (IsAmiss (g.N.Own.folder c.args.own.now) c.args.dir.now c.in_ok-old.old.node.id) _ c.change_child.ensures.cause;
 }
+
+pub change_child-requires : goal.change_child-requires
+change_child-requires g c = own_listed (g.N.Own.folder c.args.own.now) c.args.dir.now (kept_value c.in-Some.kept.now) (listed c.in_ok-entries.entries) c.in-Some.ensures c.in_ok-entries.ensures.own

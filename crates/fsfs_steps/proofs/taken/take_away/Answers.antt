@@ -10,6 +10,7 @@ use Rattle.fsfs_own.specs.Views.{kept_value}
 use Rattle.fsfs_own.proofs.OwnEntries.{there_kept, kept_same, pred_within, entries_here, entries_fail}
 use Rattle.fsfs_steps.proofs.Alike.{taken_as}
 use Rattle.fsfs_steps.proofs.Taking.{taken_leaves}
+use Rattle.fsfs_own.proofs.HeldLists.{own_listed}
 use Rattle.fsfs_steps.proofs.taken.take_away.Goals as goal
 
 pub returns-in_default-clause-draft : goal.returns-in_default-clause-draft
@@ -36,3 +37,6 @@ returns-clause-draft g c = λ look trees top base nodes p d knows shown le draft
     (g.N.Own.folder c.take_entry.new.self)
     (subst (λ (i : NodeId). IsEntryTaken (g.N.Own.folder c.args.own.now) (g.N.Own.folder c.take_entry.new.self) i t.entries c.args.name.now) (sym same)
     (taken_as (listed c.in_ok-entries.entries) t.entries t.alike (g.N.Own.folder c.args.own.now) (g.N.Own.folder c.take_entry.new.self) c.args.dir.now c.args.name.now c.in_ok-take_entry.ensures.done))
+
+pub take_entry-requires-clause-entries : goal.take_entry-requires-clause-entries
+take_entry-requires-clause-entries g c = own_listed (g.N.Own.folder c.args.own.now) c.args.dir.now (kept_value c.in-Some.kept.now) (listed c.in_ok-entries.entries) c.in-Some.ensures c.in_ok-entries.ensures.own

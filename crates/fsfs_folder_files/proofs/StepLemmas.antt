@@ -18,7 +18,7 @@ use Rattle.fsfs_drafts.specs.Drafts.{Kept, Folder}
 use Rattle.fsfs_drafts.specs.Steps.{kept_at}
 use Rattle.fsfs_own.specs.Items.{with_item}
 use Rattle.fsfs_own.specs.Views.{new_kept}
-use Rattle.fsfs_txn_files.specs.FileNames.{node_name, children_name, props_name, FitsId}
+use Rattle.fsfs_txn_files.specs.FileNames.{node_name, children_name, props_name, file_name}
 use Rattle.fsfs_txn_files.specs.Texts.{IsNodeFile, ArePropsOf}
 use Rattle.fsfs_txn_files.specs.Children.{IsWholeList, IsPutRecord, IsTakenRecord, Tells}
 use Rattle.fsfs_txn_files.specs.Changes.{changed, changed_all, IsChange}
@@ -186,20 +186,22 @@ zero_ids = record {
 abbrev no_folder : List ℕ → Folder
 no_folder proto = record { nodes = λ node copy. None; next_node = 0; next_copy = 0; items = []; proto = proto }
 
-told_begun : (m : Files) (root : NodeRev) (text proto : List ℕ) → part_value root.id.node ≡ Old 0 → part_value root.id.copy ≡ Old 0 → IsNodeFile root text
-    → get m (codes "node.0.0") ≡ Some text → get m (codes "next-ids") ≡ Some (codes "0 0\n") → get m (codes "changes") ≡ Some [] → TellsFolder m (root_folder root proto)
-told_begun m root text proto e d is itself next changes =
-    let name : node_name (node_of root.id) (copy_of root.id) ≡ codes "node.0.0" = (λ i. node_name (e i) (d i)) ∙ zero_name in
-    let fits : FitsId (Old 0) (Old 0) = (omega arith, omega arith) in
+told_begun : (m : Files) (root : NodeRev) (text proto : List ℕ) → FitsNode root.id → IsNodeFile root text
+    → get m (file_name (Node root.id)) ≡ Some text → get m (codes "next-ids") ≡ Some (codes "0 0\n") → get m (codes "changes") ≡ Some [] → TellsFolder m (root_folder root proto)
+told_begun m root text proto fits is itself next changes =
     kept_put m m (no_folder proto) root.id (new_kept root)
     (record { each = λ node copy k here. absurd cc; next = (codes "0 0\n", next, zero_ids); changes = ([], changes, refl) })
-    (subst (λ (p : PartValue × PartValue). FitsId p.0 p.1) (λ i. (sym e i, sym d i)) fits)
-    (record { itself = (text, ap (get m) name ∙ itself, is); children = tt; properties = tt })
+    fits
+    (record { itself = (text, itself, is); children = tt; properties = tt })
     (λ q away. refl)
+
+first_name : (id : NodeId) → part_value id.node ≡ Old 0 → part_value id.copy ≡ Old 0 → file_name (Node id) ≡ codes "node.0.0"
+first_name id e d = (λ i. node_name (e i) (d i)) ∙ zero_name
 
 pub changes_tell : ChangesTell
 changes_tell = record {
   begun = told_begun;
+  first = first_name;
   new = told_new;
   opened = told_opened;
   further = told_further;

@@ -1,0 +1,27 @@
+//! A transaction that has begun, as edits are made in it.
+ghost use Rattle.std.specs.Prelude.{◌≡◌, IfOk, IfErr, codes};
+ghost use Rattle.fsfs_held.specs.Views.{begun_folder};
+ghost use Rattle.fsfs_begin.specs.Benches.{TellsRoot};
+
+use crate::beginning::Begun;
+use fsfs_disk::Bench;
+use fsfs_held::HeldNodes;
+use fsfs_own::Own;
+use std::alloc::Global;
+
+impl<B: Bench> Begun<B> {
+    /// Its own node-revisions, held in memory and written into its bench, whose file `rev` is its prototype revision file. An `Err`
+    /// is for want of memory, and gives the bench back.
+    pub fn hold(self, alloc: Global) -> Result<HeldNodes<B>, B>
+        // As a beginning ensures.
+        requires { TellsRoot self.root (B.contents self.bench) }
+        ensures name { IfOk result (λ held. ⟦<HeldNodes<B> as Own>⟧.txn held ≡ self.name) }
+        ensures folder { IfOk result (λ held. ⟦<HeldNodes<B> as Own>⟧.folder held ≡ begun_folder self.root (B.contents self.bench) (codes "rev")) }
+        ensures settled { IfOk result (λ held. ⟦<HeldNodes<B> as Own>⟧.settled held ≡ begun_folder self.root (B.contents self.bench) (codes "rev")) }
+        ensures faults { IfOk result (λ held. ⟦<HeldNodes<B> as Own>⟧.faults held ≡ B.faults self.bench) }
+        ensures back { IfErr result (λ back. back ≡ self.bench) }
+    {
+        let Begun { name, root, bench } = self;
+        HeldNodes::begin(alloc, name, root, bench)
+    }
+}

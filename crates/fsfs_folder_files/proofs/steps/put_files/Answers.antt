@@ -1,0 +1,14 @@
+use Rattle.std.proofs.Common.{List}
+use Rattle.fsfs_shows.specs.Reading.{DirEntry}
+use Rattle.fsfs_listing.specs.Views.{listed}
+use Rattle.fsfs_own.specs.Views.{kept_value}
+use Rattle.fsfs_txn_files.specs.Children.{HasPut}
+use Rattle.fsfs_folder_files.specs.Telling.{Put}
+use Rattle.fsfs_folder_files.proofs.Writing.{tells_entry}
+use Rattle.fsfs_folder_files.proofs.steps.put_files.Goals as goal
+
+pub returns : goal.returns
+returns c =
+    tells_entry c.args.id.now (kept_value c.args.kept.now) (listed c.args.entries.now) c.args.node.now (λ (old new : List DirEntry). HasPut old c.args.name.now c.args.kind c.args.child.now new)
+    c.in_ok-record.record c.in_ok-itself.itself c.in_ok-files.files.items c.push.new.self.items c.push-2.new.self.items
+    (λ old new has. Put c.args.name.now c.args.kind c.args.child.now c.in_ok-record.ensures has) c.in_ok-itself.ensures c.in_ok-files.ensures c.in_ok-push.ensures.items c.in_ok-push-2.ensures.items

@@ -1,0 +1,14 @@
+use Rattle.std.proofs.Common.{List}
+use Rattle.fsfs_shows.specs.Reading.{DirEntry}
+use Rattle.fsfs_listing.specs.Views.{listed}
+use Rattle.fsfs_own.specs.Views.{kept_value}
+use Rattle.fsfs_txn_files.specs.Children.{HasTaken}
+use Rattle.fsfs_folder_files.specs.Telling.{Taken}
+use Rattle.fsfs_folder_files.proofs.Writing.{tells_entry}
+use Rattle.fsfs_folder_files.proofs.steps.taken_files.Goals as goal
+
+pub returns : goal.returns
+returns c =
+    tells_entry c.args.id.now (kept_value c.args.kept.now) (listed c.args.entries.now) c.args.node.now (λ (old new : List DirEntry). HasTaken old c.args.name.now new)
+    c.in_ok-record.record c.in_ok-itself.itself c.in_ok-files.files.items c.push.new.self.items c.push-2.new.self.items
+    (λ old new less. Taken c.args.name.now c.in_ok-record.ensures less) c.in_ok-itself.ensures c.in_ok-files.ensures c.in_ok-push.ensures.items c.in_ok-push-2.ensures.items
