@@ -1,6 +1,6 @@
 -- A transaction's bytes behind the history's: they show the next revision.
-use Rattle.std.proofs.Common.{◌≡◌, ◌∙◌, ◌⊎◌, ℕ, zero, suc, List, [], ◌∷◌, ◌++◌, length, refl, sym, ap, subst, inl, inr, arith}
-use Rattle.std.specs.Prelude.{Some, None, slice_get}
+use Rattle.std.proofs.Common.{◌≡◌, ◌∙◌, ℕ, suc, List, [], ◌∷◌, ◌++◌, length, sym, ap, subst, inl, inr, arith}
+use Rattle.std.specs.Prelude.{Some, slice_get}
 use Rattle.std.specs.FinMap.{get}
 use Rattle.std.proofs.lemmas.List.{length-append}
 use Rattle.fsfs_base.specs.Paths.{Path}

@@ -39,7 +39,6 @@ use Rattle.fsfs_final.specs.Bytes.{LeadsTo, Lists, Listed, Written, Inherited, B
 use Rattle.fsfs_final.specs.Laid.{Laid}
 use Rattle.fsfs_final.proofs.LaidLaw.{loop_laws}
 use Rattle.fsfs_final.proofs.Stays.{ready}
-use Rattle.fsfs_laying.specs.Lists.{in_revision}
 use Rattle.fsfs_laying.specs.Naming.{FinalIds}
 use Rattle.fsfs_order.proofs.OwnChildren.{Below, not_of_revision, heads, bare_dir}
 use Rattle.fsfs_putting.specs.Laying.{LeadsOn, LeadAlike, IsListPut, IsTextKept, IsPut, AreLaid}

@@ -8,4 +8,5 @@ pub mod PutRooms
 pub mod ItemRooms
 pub mod Telling
 pub mod TextLaw
+pub mod Refusals
 pub mod FinalBytesLaw

@@ -1,7 +1,6 @@
 -- The text behind the prototype file: a whole transaction that was put, its changed paths and the trailer.
 use Rattle.std.proofs.Common.{◌≡◌, ◌∙◌, ◌+◌, ◌≤◌, ◌<◌, ℕ, suc, Bool, cond, List, [], ◌∷◌, ◌++◌, length, Option, Some, None, refl, sym, ap, subst, arith}
 use Rattle.std.specs.Prelude.{Ok}
-use Rattle.std.specs.List.{AllByRecursion, flat_map}
 use Rattle.std.proofs.lemmas.List.{length-append}
 use Rattle.std.proofs.lemmas.Option.{same_Some}
 use Rattle.fsfs_base.specs.Paths.{Path}
@@ -16,8 +15,6 @@ use Rattle.fsfs_ancestry.proofs.Bounded.{back_same, stands_same_bytes, shows_sam
 use Rattle.fsfs_ancestry.proofs.BoundedIds.{ids_same}
 use Rattle.fsfs_ancestry.proofs.Revisions.{shown_revisions}
 use Rattle.fsfs_changes.specs.declared.item.ChangeItem.{ChangeItem}
-use Rattle.fsfs_noderev.specs.Lines.{line}
-use Rattle.fsfs_noderev.specs.NodeRevs.{IsNodeRev}
 use Rattle.fsfs_noderev.specs.declared.node_id.NodeId.{NodeId}
 use Rattle.fsfs_noderev.specs.declared.node_rev.NodeRev.{NodeRev}
 use Rattle.fsfs_noderev.specs.declared.rep.Contents.{Contents}
@@ -59,17 +56,13 @@ use Rattle.fsfs_laying.specs.Naming.{FinalIds}
 use Rattle.fsfs_laying.specs.Nodes.{HasList}
 use Rattle.fsfs_laying.proofs.EndLaws.{put_ends_are_read}
 use Rattle.fsfs_laying.proofs.ListLaws.{behind, put_behind}
-use Rattle.fsfs_order.specs.Orders.{AreHeld, IsOrder}
-use Rattle.fsfs_order.specs.declared.error.OrderError.{OrderError}
-use Rattle.fsfs_order.specs.declared.error.OrderError.TheVariants as orders
-use Rattle.fsfs_putting.specs.Putting.{ArePut, HaveTexts, no_ids}
-use Rattle.fsfs_putting.specs.Laying.{HoldTexts, IsCommittable, IsPut, AreLaid}
+use Rattle.fsfs_order.specs.Orders.{IsOrder}
+use Rattle.fsfs_putting.specs.Putting.{ArePut, no_ids}
+use Rattle.fsfs_putting.specs.Laying.{IsCommittable, IsPut, AreLaid}
 use Rattle.fsfs_putting.proofs.Turns.{puts_lay}
 use Rattle.fsfs_final_bytes.specs.FinalBytes.{IsFinalBytes, IsNextRevision}
 use Rattle.fsfs_final_bytes.specs.Items.{AreFinalItems}
-use Rattle.fsfs_final_bytes.specs.Texts.{IsHandedOver, IsFinalText, IfSink, IfUnwritten, of_order, offset_in, root_at}
-use Rattle.fsfs_final_bytes.specs.declared.error.FinalError.{FinalError}
-use Rattle.fsfs_final_bytes.specs.declared.error.FinalError.TheVariants as errors
+use Rattle.fsfs_final_bytes.specs.Texts.{IsHandedOver, IsFinalText, offset_in, root_at}
 use Rattle.fsfs_final_bytes.proofs.Bare.{same_bare}
 use Rattle.fsfs_final_bytes.proofs.Held as held
 use Rattle.fsfs_final_bytes.proofs.Holding.{off_in}
@@ -91,6 +84,7 @@ put_longer : (n : ℕ) (bytes more : List ℕ) (laid : Laid) (ids : FinalIds) (p
 put_longer n bytes more laid ids p v is = record {
   off = is.off;
   done = is.done;
+  path = is.path;
   at = is.at;
   id_is = is.id_is;
   place = is.place;
@@ -111,7 +105,7 @@ laid_longer n bytes more own left laid ids all = record {
 -- ---- a transaction over bytes with one revision more
 
 module _ (look : RevisionBytes) (trees : ℕ → TreeFunction) (top : ℕ) (txn : TxnName) (f : Folder) (tree : TreeFunction) (marks : List Mark) (rev start : ℕ) (items : List ChangeItem)
-    (is : IsHandedOver look trees top txn f tree marks rev start items) (texts : HoldTexts f) where
+    (is : IsHandedOver look trees top txn f tree marks rev start items) where
   abbrev pub own : Own
   own = is.draft.shows.own
 
@@ -136,7 +130,7 @@ module _ (look : RevisionBytes) (trees : ℕ → TreeFunction) (top : ℕ) (txn 
   -- what was put
   module _ (ks : List Kept) (out : List ℕ) (ids : FinalIds) (order : IsOrder own ks) (put : ArePut (suc top) (length f.proto) ks [] no_ids out ids) where
     laid : (laid : Laid) × AreLaid (suc top) (f.proto ++ out) own [] laid ids
-    laid = puts_lay look trees top nodes txn f tree marks committable texts ks [] out ids order put
+    laid = puts_lay look trees top nodes txn f tree marks committable ks [] out ids order put
 
     root : IsPut (suc top) (f.proto ++ out) laid.0 ids [] draft.root
     root = laid.1.each [] draft.root draft.root_is refl
@@ -274,27 +268,7 @@ module _ (look : RevisionBytes) (trees : ℕ → TreeFunction) (top : ℕ) (txn 
       pub text_final : IsFinalText look trees top f.proto tree marks items text
       text_final other same now = next_there other same now
 
-pub held_texts : (f : Folder) → HoldTexts f → (ks : List Kept) → AreHeld f.nodes ks → AllByRecursion HaveTexts ks
-held_texts f texts [] held = tt
-held_texts f texts (k ∷ ks) held = (texts held.0.0 k held.0.1, held_texts f texts ks held.1)
-
 -- the parts as they were put, with the numbers that were handed over
 pub put_as : (rev start n long : ℕ) (ks : List Kept) (old out : List ℕ) (ids : FinalIds) → rev ≡ n → start ≡ long → old ≡ [] → ArePut rev start ks old no_ids out ids → ArePut n long ks [] no_ids out ids
 put_as rev start n long ks old out ids r s e put =
     subst (λ (k : ℕ). ArePut k long ks [] no_ids out ids) r (subst (λ (k : ℕ). ArePut rev k ks [] no_ids out ids) s (subst (λ (l : List ℕ). ArePut rev start ks l no_ids out ids) e put))
-
--- ---- failures
-
-pub order_quiet : (e : OrderError) → IfSink (of_order e) ⊥
-order_quiet orders.OutOfMemory = tt
-order_quiet orders.Lacking = tt
-
-pub sink_never : (e : FinalError) (P : Type 0) → IfSink e ⊥ → IfSink e P
-sink_never errors.OutOfMemory P h = tt
-sink_never errors.SinkFault P h = absurd h
-sink_never errors.Lacking P h = tt
-
-pub unwritten_still : (e : FinalError) (P : Type 0) → P → IfUnwritten e P
-unwritten_still errors.OutOfMemory P h = h
-unwritten_still errors.SinkFault P h = tt
-unwritten_still errors.Lacking P h = h

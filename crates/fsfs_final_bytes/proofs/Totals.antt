@@ -1,17 +1,15 @@
 -- What a directory that stands in a revision has of a name.
-use Rattle.std.proofs.Common.{◌≡◌, ℕ, suc, [], ◌∷◌, ◌++◌, sym, ap, subst, ◌∙◌, Option, Some, None}
+use Rattle.std.proofs.Common.{◌≡◌, ℕ, [], ◌∷◌, ◌++◌, subst, Option}
 use Rattle.std.specs.Prelude.{Ok}
 use Rattle.fsfs_base.specs.Paths.{PathName, Path}
-use Rattle.fsfs_base.specs.declared.kind.Kind.{Kind}
-use Rattle.fsfs_base.specs.declared.kind.Kind.TheVariants.{File, Dir}
+use Rattle.fsfs_base.specs.declared.kind.Kind.TheVariants.{Dir}
 use Rattle.fsfs_tree.specs.Nodes.{TreeFunction}
 use Rattle.fsfs_book.specs.Told.{RevisionBytes}
 use Rattle.fsfs_noderev.specs.declared.node_rev.NodeRev.{NodeRev}
 use Rattle.fsfs_damage.proofs.OneAnswer.{ok_same}
-use Rattle.fsfs_shows.specs.Reading.{ChildOf, Met, Stands, OrLacking, InDirectory, MetFrom, StandsAt}
+use Rattle.fsfs_shows.specs.Reading.{ChildOf, MetFrom, StandsAt}
 use Rattle.fsfs_shows.specs.Shown.{Shows}
 use Rattle.fsfs_shows.proofs.OneNode.{root_of_one}
-use Rattle.fsfs_shows.proofs.OneWalk.{child_one}
 use Rattle.fsfs_final.proofs.Written.{child_in}
 
 pub has_child : (look : RevisionBytes) (r : ℕ) (tree : TreeFunction) (q : Path) (d : NodeRev) (name : PathName) → Shows look r tree → StandsAt look r q d → d.kind ≡ Dir → (o : Option NodeRev) × ChildOf look d name (Ok o)

@@ -1,5 +1,5 @@
 -- The changed paths of a new revision, made of a transaction's items.
-use Rattle.std.specs.Prelude.{◌≡◌, ◌≤◌, List, [], All, length, map}
+use Rattle.std.specs.Prelude.{◌≡◌, ◌≤◌, false, List, [], All, length, map, Any}
 use Rattle.std.specs.List.{AllZip}
 use Rattle.std.specs.List.Sorted.{IsStrictlySortedBy}
 use Rattle.std.specs.Ordering.{nat_cmp}
@@ -15,6 +15,8 @@ use Rattle.fsfs_noderev.specs.declared.node_id.Place.TheVariants as places
 use Rattle.fsfs_changes.specs.Items.{HasText}
 use Rattle.fsfs_changes.specs.Changes.{HavePathsOnce}
 use Rattle.fsfs_changes.specs.declared.item.ChangeItem.{ChangeItem}
+use Rattle.fsfs_limits.specs.Limits.{IsItemPast, is_told}
+use Rattle.fsfs_limits.specs.declared.limit.PathLimit.{PathLimit}
 use Rattle.fsfs_fold.specs.FoldedItems.{fold_items, item_at, text_of}
 use Rattle.fsfs_fold.specs.Marks.{SaysMark, AgreesWith}
 use Rattle.fsfs_laying.specs.Naming.{FinalIds, final_item}
@@ -43,3 +45,16 @@ pub record AreFinalItems (txn : TxnName) (items : List ChangeItem) (ids : FinalI
   pub rising : IsStrictlySortedBy (slice_cmp nat_cmp) (map text_of told)
   pub once : HavePathsOnce [] told
   pub text : All HasText told
+
+-- ---- what has no text
+
+-- it tells no kind, or is a delete with a flag
+abbrev pub IsUntold : ChangeItem → Type 0
+IsUntold item = is_told item ≡ false
+
+abbrev pub IsOneUntold : List ChangeItem → Type 0
+IsOneUntold items = Any IsUntold items
+
+-- a path of one of them is past this limit
+abbrev pub IsOneItemPast : PathLimit → List ChangeItem → Type 0
+IsOneItemPast limit items = Any (IsItemPast limit) items

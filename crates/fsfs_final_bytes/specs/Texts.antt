@@ -14,12 +14,18 @@ use Rattle.fsfs_noderev.specs.declared.node_id.Place.TheVariants as places
 use Rattle.fsfs_changes.specs.declared.item.ChangeItem.{ChangeItem}
 use Rattle.fsfs_streams.specs.Streams.{Adds}
 use Rattle.fsfs_streams.specs.Output.{AddsFront}
-use Rattle.fsfs_drafts.specs.Drafts.{Folder}
+use Rattle.fsfs_limits.specs.Limits.{IsNodePast}
+use Rattle.fsfs_limits.specs.declared.limit.PathLimit.{PathLimit}
+use Rattle.fsfs_limits.specs.declared.limit.LimitError.{LimitError}
+use Rattle.fsfs_limits.specs.declared.limit.LimitError.TheVariants as limits
+use Rattle.fsfs_drafts.specs.Drafts.{Kept, Folder}
+use Rattle.fsfs_drafts.specs.Steps.{kept_at}
 use Rattle.fsfs_drafts.specs.Staying.{IsYoungest}
 use Rattle.fsfs_drafts.specs.Whole.{IsDraftOf}
 use Rattle.fsfs_order.specs.declared.error.OrderError.{OrderError}
 use Rattle.fsfs_order.specs.declared.error.OrderError.TheVariants as orders
 use Rattle.fsfs_final_bytes.specs.FinalBytes.{IsNextRevision}
+use Rattle.fsfs_final_bytes.specs.Items.{IsOneItemPast}
 use Rattle.fsfs_final_bytes.specs.declared.error.FinalError.{FinalError}
 use Rattle.fsfs_final_bytes.specs.declared.error.FinalError.TheVariants as errors
 
@@ -43,6 +49,7 @@ abbrev pub IsWrittenText : (List ℕ → Type 0) → Option (List ℕ) → Optio
 IsWrittenText Final old new (Ok done) = (text : List ℕ) × Final text × Adds old new text
 IsWrittenText Final old new (Err errors.SinkFault) = (text : List ℕ) × Final text × AddsFront old new text
 IsWrittenText Final old new (Err errors.OutOfMemory) = new ≡ old
+IsWrittenText Final old new (Err (errors.PastLimit limit)) = new ≡ old
 IsWrittenText Final old new (Err errors.Lacking) = ⊥
 
 -- ---- failures
@@ -52,12 +59,33 @@ abbrev pub IfSink : FinalError → Type 0 → Type 0
 IfSink errors.SinkFault P = P
 IfSink errors.OutOfMemory P = Unit {0}
 IfSink errors.Lacking P = Unit {0}
+IfSink (errors.PastLimit limit) P = Unit {0}
 
 -- a fact, where nothing was written
 abbrev pub IfUnwritten : FinalError → Type 0 → Type 0
 IfUnwritten errors.SinkFault P = Unit {0}
 IfUnwritten errors.OutOfMemory P = P
 IfUnwritten errors.Lacking P = P
+IfUnwritten (errors.PastLimit limit) P = P
+
+-- no sink failed: memory ran out, or it lacks something and so this is so, or a path is past a limit of which this is so
+abbrev pub IsRefused : Type 0 → (PathLimit → Type 0) → FinalError → Type 0
+IsRefused Lacks Past errors.OutOfMemory = Unit {0}
+IsRefused Lacks Past errors.SinkFault = ⊥
+IsRefused Lacks Past errors.Lacking = Lacks
+IsRefused Lacks Past (errors.PastLimit limit) = Past limit
+
+-- a fact of the limit, where a path is past it
+abbrev pub IfPastLimit : (PathLimit → Type 0) → FinalError → Type 0
+IfPastLimit Past errors.OutOfMemory = Unit {0}
+IfPastLimit Past errors.SinkFault = Unit {0}
+IfPastLimit Past errors.Lacking = Unit {0}
+IfPastLimit Past (errors.PastLimit limit) = Past limit
+
+-- a path of an item is past the limit, or one of a node-revision that the folder holds
+pub data HasPathPast (f : Folder) (items : List ChangeItem) (limit : PathLimit) : Type 0 where
+  OfItem : IsOneItemPast limit items → HasPathPast f items limit
+  OfNode : (id : NodeId) (k : Kept) → kept_at f.nodes id ≡ Some k → IsNodePast limit k.node → HasPathPast f items limit
 
 abbrev pub HasSinkCause : {T : Type 0} → ℕ → ℕ → Result T FinalError → Type 0
 HasSinkCause before now result = HasCause IfSink before now result
@@ -65,6 +93,10 @@ HasSinkCause before now result = HasCause IfSink before now result
 abbrev pub of_order : OrderError → FinalError
 of_order orders.OutOfMemory = errors.OutOfMemory
 of_order orders.Lacking = errors.Lacking
+
+abbrev pub of_limit : LimitError → FinalError
+of_limit limits.OutOfMemory = errors.OutOfMemory
+of_limit (limits.Past limit) = errors.PastLimit limit
 
 -- ---- the root's offset
 

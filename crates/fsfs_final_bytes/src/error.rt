@@ -2,6 +2,7 @@
 ghost use Rattle.std.specs.Prelude.{◌≡◌};
 
 use fsfs_base::Failed;
+use fsfs_limits::{LimitError, PathLimit};
 use fsfs_order::OrderError;
 use std::alloc::AllocError;
 use thiserror::Error;
@@ -15,9 +16,12 @@ pub enum FinalError {
     /// The sink failed, and its count of faults rose.
     #[error("the sink failed")]
     SinkFault,
-    /// The folder holds no draft: an own node-revision lacks. Nothing was written.
+    /// The folder holds no draft: an own node-revision lacks, or the kind of an item, or a delete has a flag. Nothing was written.
     #[error("the transaction is not whole")]
     Lacking,
+    /// A path of an own node-revision or of an item is past this limit. Nothing was written.
+    #[error("a path is past its limits")]
+    PastLimit(PathLimit),
 }
 
 impl From<AllocError> for FinalError {
@@ -49,6 +53,19 @@ impl From<OrderError> for FinalError {
         match error {
             OrderError::OutOfMemory => FinalError::OutOfMemory,
             OrderError::Lacking => FinalError::Lacking,
+        }
+    }
+}
+
+impl From<LimitError> for FinalError {
+    ghost use Rattle.fsfs_final_bytes.specs.Texts.{of_limit};
+
+    ghost from_gives = { λ error e. e ≡ of_limit error };
+
+    fn from(error: LimitError) -> FinalError {
+        match error {
+            LimitError::OutOfMemory => FinalError::OutOfMemory,
+            LimitError::Past(limit) => FinalError::PastLimit(limit),
         }
     }
 }

@@ -1,15 +1,18 @@
 //! The changed paths of the revision.
-ghost use Rattle.std.specs.Prelude.{◌≡◌, All, IfOk, map};
+ghost use Rattle.std.specs.Prelude.{◌≡◌, All, IfOk, IfErr, OnOk, map};
 ghost use Rattle.fsfs_changes.specs.Items.{HasText};
-ghost use Rattle.fsfs_fold.specs.FoldedItems.{HasPath};
+ghost use Rattle.fsfs_limits.specs.Limits.{IsItemPast};
 ghost use Rattle.fsfs_laying.specs.Naming.{ids_of};
-ghost use Rattle.fsfs_final_bytes.specs.Items.{own_item, told_item, AreFinalItems};
+ghost use Rattle.fsfs_final_bytes.specs.Items.{own_item, told_item, AreFinalItems, IsUntold, IsOneUntold, IsOneItemPast};
+ghost use Rattle.fsfs_final_bytes.specs.Texts.{IsRefused};
 
+use crate::error::FinalError;
 use fsfs_base::{Action, FsPath};
 use fsfs_changes::ChangeItem;
 use fsfs_fields::TxnName;
 use fsfs_fold::fold;
 use fsfs_laying::name_final;
+use fsfs_limits::{check_item, is_told};
 use fsfs_noderev::{NodeId, Place};
 use std::alloc::{AllocError, Global};
 use std::collections::BTreeMap;
@@ -54,6 +57,29 @@ fn told_items(
     Ok(all)
 }
 
+// Whether an item has a text.
+fn check_text(alloc: Global, item: &ChangeItem) -> Result<(), FinalError>
+    ensures text { OnOk result (HasText item.now) }
+    ensures refused { IfErr result (IsRefused (IsUntold item.now) (λ limit. IsItemPast limit item.now)) }
+{
+    check_item(alloc, item)?;
+    if !is_told(item) {
+        return Err(FinalError::Lacking);
+    }
+    Ok(())
+}
+
+// Whether each item has a text.
+fn check_texts(alloc: Global, items: &[ChangeItem]) -> Result<(), FinalError>
+    ensures text { OnOk result (All HasText items.now) }
+    ensures refused { IfErr result (IsRefused (IsOneUntold items.now) (λ limit. IsOneItemPast limit items.now)) }
+{
+    for item in items {
+        check_text(alloc, item)?;
+    }
+    Ok(())
+}
+
 /// What the items of a transaction come to, in byte order of the paths' texts, as the revision tells it: `ids` gives the ids in the
 /// revision of what is the transaction's own.
 pub(crate) fn final_items(
@@ -61,11 +87,11 @@ pub(crate) fn final_items(
     items: &[ChangeItem],
     txn: &TxnName,
     ids: &BTreeMap<FsPath, NodeId>,
-) -> Result<Vec<ChangeItem>, AllocError>
-    requires paths { All HasPath items.now }
-    requires text { All HasText items.now }
-    ensures { IfOk result (λ v. AreFinalItems txn.now items.now (ids_of ids.now) v.items) }
+) -> Result<Vec<ChangeItem>, FinalError>
+    ensures items { IfOk result (λ v. AreFinalItems txn.now items.now (ids_of ids.now) v.items) }
+    ensures refused { IfErr result (IsRefused (IsOneUntold items.now) (λ limit. IsOneItemPast limit items.now)) }
 {
+    check_texts(alloc, items)?;
     let folded = fold(alloc, items)?;
     let told = told_items(alloc, folded, txn, ids)?;
     Ok(told)

@@ -4,8 +4,10 @@
 mod error;
 mod items;
 mod laws;
+mod next;
 mod writing;
 
 pub use error::FinalError;
 pub use laws::final_bytes_are_enough;
+pub use next::next_bytes;
 pub use writing::{final_bytes, final_text};

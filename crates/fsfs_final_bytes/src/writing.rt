@@ -1,14 +1,11 @@
 //! The bytes of a new revision behind its prototype file.
-ghost use Rattle.std.specs.Prelude.{◌≡◌, [], ℕ, List, All, IfOk, IfErr};
+ghost use Rattle.std.specs.Prelude.{◌≡◌, [], ℕ, List, IfOk, IfErr};
 ghost use Rattle.fsfs_tree.specs.Nodes.{TreeFunction};
 ghost use Rattle.fsfs_flat.specs.declared.mark.Mark.{Mark};
 ghost use Rattle.fsfs_book.specs.Told.{RevisionBytes};
-ghost use Rattle.fsfs_changes.specs.Items.{HasText};
-ghost use Rattle.fsfs_fold.specs.FoldedItems.{HasPath};
 ghost use Rattle.fsfs_laying.specs.Naming.{ids_of};
-ghost use Rattle.fsfs_putting.specs.Laying.{HoldTexts};
 ghost use Rattle.fsfs_final_bytes.specs.Rooms.{IsWithinRoom};
-ghost use Rattle.fsfs_final_bytes.specs.Texts.{IsHandedOver, IsFinalText, IsWrittenText, IfSink, IfUnwritten, HasSinkCause, root_at};
+ghost use Rattle.fsfs_final_bytes.specs.Texts.{IsHandedOver, IsFinalText, IsWrittenText, IsRefused, HasPathPast, IfPastLimit, IfUnwritten, HasSinkCause, root_at};
 
 use crate::error::FinalError;
 use crate::items::final_items;
@@ -49,19 +46,17 @@ pub fn final_text<N: Own>(
     rev: RevNum,
     start: u64,
 ) -> Result<Vec<u8>, FinalError>
-    requires paths { All HasPath items.now }
-    requires text { All HasText items.now }
-    requires nodes { HoldTexts (N.folder own.now) }
     // Behind the prototype file they are the next revision, which shows the tree that lands.
     ensures next { (look : RevisionBytes) (trees : ℕ → TreeFunction) (top : ℕ) (tree : TreeFunction) (marks : List Mark) → IsHandedOver look trees top (N.txn own.now) (N.folder own.now) tree marks rev start items.now
         → IfOk result (λ text. IsFinalText look trees top (N.folder own.now).proto tree marks items.now text.items) }
     // It is no longer than what the transaction holds allows.
     ensures room { (look : RevisionBytes) (trees : ℕ → TreeFunction) (top : ℕ) (tree : TreeFunction) (marks : List Mark) → (is : IsHandedOver look trees top (N.txn own.now) (N.folder own.now) tree marks rev start items.now)
         → IfOk result (λ text. IsWithinRoom is.draft.shows.own items.now text.items) }
-    // Of such a transaction memory alone may lack.
+    // Of such a transaction memory alone may lack, or a path of it is past a limit.
     ensures whole { (look : RevisionBytes) (trees : ℕ → TreeFunction) (top : ℕ) (tree : TreeFunction) (marks : List Mark) → IsHandedOver look trees top (N.txn own.now) (N.folder own.now) tree marks rev start items.now
-        → IfErr result (λ e. e ≡ FinalError.OutOfMemory) }
-    ensures sink { IfErr result (λ e. IfSink e ⊥) }
+        → IfErr result (IsRefused ⊥ (HasPathPast (N.folder own.now) items.now)) }
+    // Whatever the folder holds.
+    ensures refused { IfErr result (IsRefused (Unit {0}) (HasPathPast (N.folder own.now) items.now)) }
 {
     let order = own_nodes(alloc, own)?;
     let mut out = Vec::new(alloc);
@@ -84,12 +79,10 @@ pub fn final_bytes<N: Own, S: Sink>(
     start: u64,
     sink: &mut S,
 ) -> Result<(), FinalError>
-    requires paths { All HasPath items.now }
-    requires text { All HasText items.now }
-    requires nodes { HoldTexts (N.folder own.now) }
     ensures written { (look : RevisionBytes) (trees : ℕ → TreeFunction) (top : ℕ) (tree : TreeFunction) (marks : List Mark) → (is : IsHandedOver look trees top (N.txn own.now) (N.folder own.now) tree marks rev start items.now)
         → IsWrittenText (λ text. IsFinalText look trees top (N.folder own.now).proto tree marks items.now text × IsWithinRoom is.draft.shows.own items.now text) (S.written sink.old) (S.written sink.new) result }
     // Whatever the folder holds.
+    ensures limit { IfErr result (IfPastLimit (HasPathPast (N.folder own.now) items.now)) }
     ensures unwritten { IfErr result (λ e. IfUnwritten e (S.written sink.new ≡ S.written sink.old)) }
     ensures cause { HasSinkCause (S.faults sink.old) (S.faults sink.new) result }
 {

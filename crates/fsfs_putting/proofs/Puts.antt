@@ -3,7 +3,6 @@ use Rattle.std.proofs.Common.{◌≡◌, ◌∙◌, ◌+◌, ◌≤◌, ◌<◌,
 use Rattle.std.specs.Prelude.{option_map, is_some, unwrap_or, if◌then◌else◌}
 use Rattle.std.proofs.lemmas.List.{length-append}
 use Rattle.fsfs_base.specs.Paths.{PathName, Path, same_path}
-use Rattle.fsfs_base.specs.PathTexts.{IsName, IsPath}
 use Rattle.fsfs_base.proofs.PathLemmas.{same_path-is, same_path-refl}
 use Rattle.fsfs_fields.specs.declared.txn_name.TxnName.{TxnName}
 use Rattle.fsfs_tree.specs.Nodes.{TreeFunction}
@@ -47,7 +46,7 @@ use Rattle.fsfs_order.proofs.Lists.{differ, is_false, not_itself, in_front, in_n
 use Rattle.fsfs_order.proofs.OwnChildren.{Below, not_of_revision, heads, lasting, child_own}
 use Rattle.fsfs_order.proofs.Walking.{parent_in}
 use Rattle.fsfs_putting.specs.Putting.{AreUtf8, AreFinalPairs, IsNextPut}
-use Rattle.fsfs_putting.specs.Laying.{HoldTexts, IsCommittable, LeadAlike, IsListPut, IsPut, AreLaid}
+use Rattle.fsfs_putting.specs.Laying.{IsCommittable, LeadAlike, IsListPut, IsPut, AreLaid}
 use Rattle.fsfs_putting.proofs.ReadNames.{read_name}
 use Rattle.fsfs_putting.proofs.NameLemmas.{last_name, named_name, named_final, final_revision, plain_place, earlier_offset, earlier_place, list_grows, text_kept, node_grown, mid_within}
 
@@ -70,7 +69,7 @@ listed_in ids dir (Some es) entries (Some pairs) is w =
       utf8 = subst AreUtf8 same w.1;
     }
 
-module _ (look : RevisionBytes) (trees : ℕ → TreeFunction) (top : ℕ) (nodes : ℕ → NodesAt) (txn : TxnName) (f : Folder) (tree : TreeFunction) (marks : List Mark) (is : IsCommittable look trees top nodes txn f tree marks) (texts : HoldTexts f) where
+module _ (look : RevisionBytes) (trees : ℕ → TreeFunction) (top : ℕ) (nodes : ℕ → NodesAt) (txn : TxnName) (f : Folder) (tree : TreeFunction) (marks : List Mark) (is : IsCommittable look trees top nodes txn f tree marks) where
   abbrev pub own : Own
   own = is.draft.shows.own
 
@@ -97,12 +96,6 @@ module _ (look : RevisionBytes) (trees : ℕ → TreeFunction) (top : ℕ) (node
 
     at_met : met p ≡ Some v.node
     at_met = hanging.met_own look top top trees nodes is.shows is.are le txn f own draft p v here
-
-    own_name : (name : PathName) (w : OwnNode) → own (p ++ name ∷ []) ≡ Some w → IsName name
-    own_name name w at =
-        let text = texts w.node.id (kept_of w) (draft.kept (p ++ name ∷ []) w at) in
-        let path : IsPath (p ++ name ∷ []) = subst IsPath (draft.paths (p ++ name ∷ []) w at) text.created_path in
-        last_name p name path.names
 
     -- what an id of a revision leads to
     record LastsAt (name : PathName) (e : DirEntry) : Type 0 where
@@ -218,6 +211,7 @@ module _ (look : RevisionBytes) (trees : ℕ → TreeFunction) (top : ℕ) (node
       stays = record {
         off = was.off;
         done = was.done;
+        path = was.path;
         at = laid_other q other_path ∙ was.at;
         id_is = ids_other q other_path ∙ was.id_is;
         place = was.place;
@@ -298,7 +292,7 @@ module _ (look : RevisionBytes) (trees : ℕ → TreeFunction) (top : ℕ) (node
           let c = own_at name e found mine_id in
           let fin = c.put.final in
           record {
-            name_is = subst IsEntryName (sym (named_name name entries e found)) (record { name_is = own_name p v here name c.node_at c.there; utf8 = l.utf8 name e found });
+            name_is = subst IsEntryName (sym (named_name name entries e found)) (record { name_is = last_name p name c.put.path.names; utf8 = l.utf8 name e found });
             lasting = ap is_revision_id c.id ∙ final_revision n c.put.off c.put.done.id c.node_at.node.id.node c.node_at.node.id.copy fin.node fin.copy c.put.place;
             before = ap (λ (x : NodeId). place_before (place_of n node.off) x.place) c.id
                 ∙ ap (λ (x : Place). place_before (place_of n node.off) x) c.put.place
@@ -336,6 +330,7 @@ module _ (look : RevisionBytes) (trees : ℕ → TreeFunction) (top : ℕ) (node
     put_here = record {
       off = node.off;
       done = step.done;
+      path = step.within.created_path;
       at = laid_here;
       id_is = ids_here;
       place = node.place;

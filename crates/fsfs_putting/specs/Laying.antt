@@ -1,12 +1,11 @@
 -- What was put of a whole draft, as it is laid in the revision.
 use Rattle.std.specs.Prelude.{◌≡◌, ℕ, suc, true, false, List, [], ◌∷◌, ◌++◌, length, Option, Some, None}
 use Rattle.fsfs_base.specs.Paths.{PathName, Path}
+use Rattle.fsfs_base.specs.PathTexts.{IsPath}
 use Rattle.fsfs_fields.specs.declared.txn_name.TxnName.{TxnName}
 use Rattle.fsfs_tree.specs.Nodes.{TreeFunction}
 use Rattle.fsfs_flat.specs.declared.mark.Mark.{Mark}
 use Rattle.fsfs_book.specs.Told.{RevisionBytes}
-use Rattle.fsfs_noderev.specs.Writing.{HasText}
-use Rattle.fsfs_noderev.specs.declared.node_id.NodeId.{NodeId}
 use Rattle.fsfs_noderev.specs.declared.node_id.Place.TheVariants as places
 use Rattle.fsfs_noderev.specs.declared.rep.Contents.{Contents}
 use Rattle.fsfs_noderev.specs.declared.rep.Contents.TheVariants as contents
@@ -18,7 +17,6 @@ use Rattle.fsfs_drafts.specs.Drafts.{Kept, Folder, ShowTrees}
 use Rattle.fsfs_drafts.specs.OwnSides.{NodesAt}
 use Rattle.fsfs_drafts.specs.Met.{AreNodes}
 use Rattle.fsfs_drafts.specs.Staying.{IsYoungest}
-use Rattle.fsfs_drafts.specs.Steps.{kept_at}
 use Rattle.fsfs_drafts.specs.Whole.{IsDraftOf}
 use Rattle.fsfs_final.specs.Final.{IsFinal}
 use Rattle.fsfs_final.specs.Laid.{Laid, IsLaid}
@@ -27,10 +25,6 @@ use Rattle.fsfs_laying.specs.Naming.{FinalIds}
 use Rattle.fsfs_laying.specs.Nodes.{HasList}
 use Rattle.fsfs_order.specs.Orders.{is_in, AreInOrder, IsOrder}
 use Rattle.fsfs_putting.specs.Putting.{ArePut, no_ids}
-
--- what is in the folder can be written
-abbrev pub HoldTexts : Folder → Type 0
-HoldTexts f = (id : NodeId) (k : Kept) → kept_at f.nodes id ≡ Some k → HasText k.node
 
 -- a whole draft on the youngest revision
 pub record IsCommittable (look : RevisionBytes) (trees : ℕ → TreeFunction) (top : ℕ) (nodes : ℕ → NodesAt) (txn : TxnName) (f : Folder) (tree : TreeFunction) (marks : List Mark) : Type 0 where
@@ -71,6 +65,7 @@ IsTextKept n (Some (contents.At rep)) now = now ≡ Some (contents.At (in_revisi
 pub record IsPut (n : ℕ) (bytes : List ℕ) (laid : Laid) (ids : FinalIds) (p : Path) (v : OwnNode) : Type 0 where
   pub off : ℕ
   pub done : NodeRev
+  pub path : IsPath p
   pub at : laid p ≡ Some (off, done)
   pub id_is : ids p ≡ Some done.id
   pub place : done.id.place ≡ places.At n off
@@ -87,6 +82,6 @@ pub record AreLaid (n : ℕ) (bytes : List ℕ) (own : Own) (left : List Kept) (
 
 -- all of a whole draft, behind the prototype file
 abbrev pub PutsLay : Type 0
-PutsLay = (look : RevisionBytes) (trees : ℕ → TreeFunction) (top : ℕ) (nodes : ℕ → NodesAt) (txn : TxnName) (f : Folder) (tree : TreeFunction) (marks : List Mark) (is : IsCommittable look trees top nodes txn f tree marks) → HoldTexts f
+PutsLay = (look : RevisionBytes) (trees : ℕ → TreeFunction) (top : ℕ) (nodes : ℕ → NodesAt) (txn : TxnName) (f : Folder) (tree : TreeFunction) (marks : List Mark) (is : IsCommittable look trees top nodes txn f tree marks)
     → (ks : List Kept) (old new : List ℕ) (ids : FinalIds) → IsOrder is.draft.shows.own ks → ArePut (suc top) (length f.proto) ks old no_ids new ids
     → (laid : Laid) × AreLaid (suc top) (f.proto ++ new) is.draft.shows.own [] laid ids

@@ -1,15 +1,15 @@
 //! Own node-revisions, each behind its lists.
-ghost use Rattle.std.specs.Prelude.{◌≡◌, IfOk, OnOk};
-ghost use Rattle.std.specs.List.{AllByRecursion};
-ghost use Rattle.fsfs_noderev.specs.Writing.{HasText};
+ghost use Rattle.std.specs.Prelude.{◌≡◌, IfOk, IfErr, OnOk};
+ghost use Rattle.fsfs_limits.specs.Limits.{IfPast, IsNodePast};
 ghost use Rattle.fsfs_own.specs.Views.{kept_value};
 ghost use Rattle.fsfs_laying.specs.Naming.{ids_of};
 ghost use Rattle.fsfs_order.specs.Orders.{last_first};
-ghost use Rattle.fsfs_putting.specs.Putting.{IsFinalList, IsNextPut, ArePut, HaveTexts, no_ids};
+ghost use Rattle.fsfs_putting.specs.Putting.{IsFinalList, IsNextPut, ArePut, IsOnePast, no_ids};
 
 use fsfs_base::{FsPath, Pairs};
 use fsfs_fields::RevNum;
 use fsfs_laying::{entry_pairs, final_entries, put_node};
+use fsfs_limits::{LimitError, check_node};
 use fsfs_noderev::NodeId;
 use fsfs_own::KeptNode;
 use std::alloc::{AllocError, Global};
@@ -34,7 +34,7 @@ fn final_list(
     }
 }
 
-// Puts one own node-revision, behind those in it, and notes its id in the revision.
+// Puts one own node-revision, behind those in it, and notes its id in the revision. One with a path past its limits has no text.
 fn put_next(
     alloc: Global,
     out: &mut Vec<u8>,
@@ -42,10 +42,11 @@ fn put_next(
     start: u64,
     kept: &KeptNode,
     ids: &mut BTreeMap<FsPath, NodeId>,
-) -> Result<(), AllocError>
-    requires { HasText kept.now.node }
-    ensures { OnOk result (IsNextPut rev start out.old.items out.new.items (kept_value kept.now) (ids_of ids.old) (ids_of ids.new)) }
+) -> Result<(), LimitError>
+    ensures put { OnOk result (IsNextPut rev start out.old.items out.new.items (kept_value kept.now) (ids_of ids.old) (ids_of ids.new)) }
+    ensures past { IfErr result (IfPast (λ limit. IsNodePast limit kept.now.node)) }
 {
+    check_node(alloc, &kept.node)?;
     let list = final_list(alloc, kept, &*ids)?;
     let done = put_node(alloc, out, rev, start, &kept.node, &list, &kept.props)?;
     let path = kept.node.created_path.clone()?;
@@ -56,16 +57,17 @@ fn put_next(
 /// Puts own node-revisions at the end of a buffer, from the end of the list on: so what is in a directory stands before it in the
 /// revision. Answers their ids in the revision, by their paths. The buffer begins at the offset `start` of the revision.
 ///
-/// An `Err` is for an offset that there is no number for, too.
+/// An `Err` for want of memory is for an offset that there is no number for, too.
 pub fn put_all(
     alloc: Global,
     order: Vec<&KeptNode>,
     out: &mut Vec<u8>,
     rev: RevNum,
     start: u64,
-) -> Result<BTreeMap<FsPath, NodeId>, AllocError>
-    requires { AllByRecursion HaveTexts (last_first order.items) }
-    ensures { IfOk result (λ ids. ArePut rev start (last_first order.entry.items) out.old.items no_ids out.new.items (ids_of ids)) }
+) -> Result<BTreeMap<FsPath, NodeId>, LimitError>
+    ensures put { IfOk result (λ ids. ArePut rev start (last_first order.entry.items) out.old.items no_ids out.new.items (ids_of ids)) }
+    // A path of one of them is past that limit.
+    ensures past { IfErr result (IfPast (λ limit. IsOnePast limit (last_first order.entry.items))) }
 {
     let mut left = order;
     let mut ids = BTreeMap::new(alloc);

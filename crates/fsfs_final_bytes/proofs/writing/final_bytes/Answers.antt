@@ -1,19 +1,17 @@
-use Rattle.std.proofs.Common.{ℕ, List, Err, refl, sym, subst, arith}
+use Rattle.std.proofs.Common.{ℕ, List, refl, subst, arith}
 use Rattle.std.proofs.lemmas.Result.{err_from_is_err_and}
 use Rattle.fsfs_streams.specs.Output.{AddsFront}
 use Rattle.fsfs_streams.specs.Streams.{Adds}
 use Rattle.fsfs_final_bytes.specs.Rooms.{IsWithinRoom}
-use Rattle.fsfs_final_bytes.specs.Texts.{IsFinalText, IsWrittenText}
-use Rattle.fsfs_final_bytes.specs.declared.error.FinalError.{FinalError}
-use Rattle.fsfs_final_bytes.proofs.TextLaw.{sink_never, unwritten_still}
+use Rattle.fsfs_final_bytes.specs.Texts.{IsFinalText, HasPathPast}
+use Rattle.fsfs_final_bytes.proofs.Refusals.{none_written, only_past, sink_never, unwritten_still}
 use Rattle.fsfs_final_bytes.proofs.writing.final_bytes.Goals as goal
 
 pub returns-in_err-text-clause-written : goal.returns-in_err-text-clause-written
 returns-in_err-text-clause-written g c = λ look trees top tree marks is.
     let r = err_from_is_err_and c.from_residual.result c.from_residual.ensures.1 in
     let Final = (λ (text : List ℕ). IsFinalText look trees top (g.N.Own.folder c.args.own.now).proto tree marks c.args.items.now text × IsWithinRoom is.draft.shows.own c.args.items.now text) in
-    let e = c.in_err-text.ensures.whole look trees top tree marks is in
-    rw (r.1, r.2) (subst (λ (x : FinalError). IsWrittenText Final (g.S.Sink.written c.args.sink.now) (g.S.Sink.written c.args.sink.now) (Err x)) (sym e) refl)
+    rw (r.1, r.2) (none_written Final (g.S.Sink.written c.args.sink.now) (HasPathPast (g.N.Own.folder c.args.own.now) c.args.items.now) c.in_err-text.field-0.0 (c.in_err-text.ensures.whole look trees top tree marks is))
 
 pub returns-in_err-print-clause-written : goal.returns-in_err-print-clause-written
 returns-in_err-print-clause-written g c = λ look trees top tree marks is.
@@ -34,4 +32,9 @@ returns-in_err-text-clause-unwritten g c =
 pub returns-in_err-text-clause-cause : goal.returns-in_err-text-clause-cause
 returns-in_err-text-clause-cause g c =
     let r = err_from_is_err_and c.from_residual.result c.from_residual.ensures.1 in
-    record { later = omega arith; failed = rw (r.1, r.2) (sink_never c.in_err-text.field-0.0 _ c.in_err-text.ensures.sink) }
+    record { later = omega arith; failed = rw (r.1, r.2) (sink_never (HasPathPast (g.N.Own.folder c.args.own.now) c.args.items.now) c.in_err-text.field-0.0 _ c.in_err-text.ensures.refused) }
+
+pub returns-in_err-text-clause-limit : goal.returns-in_err-text-clause-limit
+returns-in_err-text-clause-limit g c =
+    let r = err_from_is_err_and c.from_residual.result c.from_residual.ensures.1 in
+    rw (r.1, r.2) (only_past (HasPathPast (g.N.Own.folder c.args.own.now) c.args.items.now) c.in_err-text.field-0.0 c.in_err-text.ensures.refused)

@@ -1,14 +1,14 @@
 use Rattle.std.proofs.Common.{ℕ, List, length}
-use Rattle.std.specs.List.{AllByRecursion}
+use Rattle.fsfs_limits.specs.declared.limit.PathLimit.{PathLimit}
 use Rattle.fsfs_laying.specs.Naming.{FinalIds, ids_of}
 use Rattle.fsfs_order.specs.Orders.{last_first}
-use Rattle.fsfs_putting.specs.Putting.{ArePut, HaveTexts, no_ids}
+use Rattle.fsfs_putting.specs.Putting.{ArePut, IsOnePast, no_ids}
 use Rattle.fsfs_putting.proofs.putting.put_all.Given as goal
 
 -- what is left, put behind what was put, is all
 abbrev pub invariant-loop-kept : goal.invariant-loop-kept
 invariant-loop-kept l = record {
-  texts : AllByRecursion HaveTexts (last_first l.left.items);
+  past : (limit : PathLimit) → IsOnePast limit (last_first l.left.items) → IsOnePast limit (last_first l.fn.order.items);
   put : (new : List ℕ) (now : FinalIds) → ArePut l.rev l.start (last_first l.left.items) l.out.items (ids_of l.ids) new now → ArePut l.rev l.start (last_first l.fn.order.items) l.fn.out.items no_ids new now;
 }
 
