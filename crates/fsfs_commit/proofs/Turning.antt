@@ -1,6 +1,6 @@
 -- The turns of a commit.
-use Rattle.std.proofs.Common.{◌≡◌, ◌<◌, ◌≤◌, ◌+◌, ◌^◌, ℕ, List, [], ◌∷◌, ◌++◌, length, true, refl, sym, ap, subst, ◌∙◌, arith, take, append_assoc, append-nil}
-use Rattle.std.specs.Prelude.{Option, Some, None, Result, Ok, Err, IfOk, IfErr}
+use Rattle.std.proofs.Common.{◌≡◌, ◌<◌, ◌≤◌, ◌+◌, ◌^◌, ℕ, List, [], ◌∷◌, ◌++◌, length, true, refl, sym, ap, subst, ◌∙◌, arith, take, drop, append_assoc, append-nil}
+use Rattle.std.specs.Prelude.{Option, Some, None, Result, Ok, Err, IfOk, IfErr, OnOk, OnErr}
 use Rattle.std.proofs.lemmas.List.{take_all, length-take}
 use Rattle.fsfs_tree.specs.Revisions.{Revision}
 use Rattle.fsfs_tree.specs.Histories.{IsHistory}
@@ -28,9 +28,10 @@ use Rattle.fsfs_commit.specs.declared.committing.CommitFault.{CommitFault}
 use Rattle.fsfs_commit.specs.declared.committing.CommitFault.TheVariants as fault
 use Rattle.fsfs_commit.specs.Courses.{Course, End, More, IsMade, Published, StoppedAt, ends_at}
 use Rattle.fsfs_commit.specs.Works.{CanCommit, LandedOn, Landings, Unmoved, Moved as LandedMore, ReadOnly}
-use Rattle.fsfs_commit.specs.Replies.{Drifted, IsReady, Committed, Lost, IsTurn, Cause, Refused}
+use Rattle.fsfs_commit.specs.Replies.{Drifted, IsReady, Committed, Lost, IsTurn, Refusals, EndsShort, Cause, Refused}
 use Rattle.fsfs_commit.proofs.Going.{append}
 use Rattle.fsfs_turn.proofs.Longer.{txn_later}
+use Rattle.fsfs_turn.proofs.Stepping.{take_drop}
 use Rattle.fsfs_commit.proofs.Handing.{entry_back}
 
 -- ---- what a pass drifts by
@@ -38,10 +39,10 @@ use Rattle.fsfs_commit.proofs.Handing.{entry_back}
 one_step : (txns : List Txn) (s : Step) (o : Outcome) (v u : View) → Turned txns s o v u → Course v u
 one_step txns s o v u t = More txns s o v u u t (End u)
 
-none_more : (h g : List Recorded) → h ≡ g → Begins h g
+pub none_more : (h g : List Recorded) → h ≡ g → Begins h g
 none_more h g same = ([], same ∙ sym (append-nil g))
 
-begins_on : (a b c : List Recorded) → Begins b a → Begins c b → Begins c a
+pub begins_on : (a b c : List Recorded) → Begins b a → Begins c b → Begins c a
 begins_on a b c f g = (f.0 ++ g.0, g.1 ∙ ap (λ l. l ++ g.0) f.1 ∙ append_assoc a f.0 g.0)
 
 pub drifted_on : (v m u : View) → Drifted v m → Drifted m u → Drifted v u
@@ -107,6 +108,10 @@ by_stopping place v u l = record {
   course = append v l.before u l.course (one_step [] (ends_at place v.number) outcome.Done l.before u l.last.turned);
 }
 
+-- what a draft means stays, as more is seen
+pub begins_take : (n : ℕ) (h : List Recorded) → Begins h (take n h)
+begins_take n h = (drop n h, take_drop n h)
+
 -- ---- landings, as more is seen
 
 pub landings_later : (g h : List Recorded) (x y : Txn) → Begins h g → Landings g x y → Landings h x y
@@ -152,28 +157,32 @@ can_looked head v m x properties l can = can_same v m x properties (ap {A = View
 pub based_low : (head : ℕ) (v m : View) (x : Txn) (properties : List (List ℕ × List ℕ)) → Looked head v m → CanCommit v x properties → x.base ≤ head
 based_low head v m x properties l can = omega (arith, l.seen, can.based)
 
+-- no more was seen than the head
+pub seen_low : (head : ℕ) (v m : View) → Looked head v m → length m.seen ≤ head + 1
+seen_low head v m l = let e : length m.seen ≡ length v.seen = ap {A = View} (λ z. length z.seen) l.is in omega (arith, e, l.seen)
+
 pub told : (head : ℕ) (v m : View) → Looked head v m → head ≤ m.pass.least
 told head v m l = let e : m.pass.least ≡ head = ap {A = View} (λ z. z.pass.least) l.is in omega (arith, e)
 
-pub full : {E : Type 0} (head : ℕ) (v m : View) (x : Txn) → 2147483647 ≤ head → Looked head v m → Refused {E = E} fault.RevsFull v m x x
+pub full : {E : Type 0} {Says : Refusals E} (head : ℕ) (v m : View) (x : Txn) → 2147483647 ≤ head → Looked head v m → Refused Says fault.RevsFull v m x x
 full head v m x most l = record {
   moved = record { drifted = by_look head v m l; section = ap {A = View} (λ z. z.section) l.is };
   landings = Unmoved x;
   cause = let e : m.pass.least ≡ head = ap {A = View} (λ z. z.pass.least) l.is in omega (arith, e, most);
 }
 
-pub not_landed : {E : Type 0} (refusal : E) (head : ℕ) (v m u : View) (x : Txn) → Looked head v m → ReadOnly m u → Refused {E = E} (fault.Refused refusal) v u x x
-not_landed refusal head v m u x l r = record {
+pub not_landed : {E : Type 0} {Says : Refusals E} (refusal : E) (head : ℕ) (v m u : View) (x : Txn) → Looked head v m → ReadOnly m u → Says refusal head u.seen x → Refused Says (fault.Refused refusal) v u x x
+not_landed refusal head v m u x l r says = record {
   moved = record { drifted = drifted_on v m u (by_look head v m l) (by_reads m u r); section = ap {A = View} (λ z. z.section) r.is ∙ ap {A = View} (λ z. z.section) l.is };
   landings = Unmoved x;
-  cause = tt;
+  cause = (head, l.least, says);
 }
 
-pub no_memory : {E : Type 0} (head : ℕ) (v m u : View) (x y : Txn) → Looked head v m → ReadOnly m u → LandedOn head u.seen x y → Refused {E = E} fault.Memory v u x y
-no_memory head v m u x y l r landed = record {
+pub not_made : {E : Type 0} {Says : Refusals E} (refusal : E) (head : ℕ) (v m u : View) (x y : Txn) → Looked head v m → ReadOnly m u → LandedOn head u.seen x y → ((n : ℕ) (h : List Recorded) (z : Txn) → Says refusal n h z) → Refused Says (fault.Refused refusal) v u x y
+not_made refusal head v m u x y l r landed says = record {
   moved = record { drifted = drifted_on v m u (by_look head v m l) (by_reads m u r); section = ap {A = View} (λ z. z.section) r.is ∙ ap {A = View} (λ z. z.section) l.is };
   landings = LandedMore x x y head u.seen (Unmoved x) (none_more u.seen u.seen refl) landed;
-  cause = tt;
+  cause = (head, l.least, says head u.seen y);
 }
 
 -- what a marshalling gives
@@ -215,7 +224,7 @@ marshalled_for holds rev next number made p q u y e same w = subst (λ n. Marsha
 
 -- ---- the turn
 
-pub found_stuck : {E : Type 0} (holds : List ℕ → Type 0) (place : DiskPlace) (ready : Ready) (properties : List (List ℕ × List ℕ)) (v u m : View) (x y : Txn) → IsReady holds ready properties v u x y → FoundStuck place u m → Refused {E = E} (fault.Stuck place) v m x y
+pub found_stuck : {E : Type 0} {Says : Refusals E} (holds : List ℕ → Type 0) (place : DiskPlace) (ready : Ready) (properties : List (List ℕ × List ℕ)) (v u m : View) (x y : Txn) → IsReady holds ready properties v u x y → FoundStuck place u m → Refused Says (fault.Stuck place) v m x y
 found_stuck holds place ready properties v u m x y r f = record {
   moved = record { drifted = drifted_on v u m r.moved.drifted (by_finding place u m f); section = ap {A = View} (λ z. z.section) f.is ∙ r.moved.section };
   landings = landings_later u.seen m.seen x y (by_finding place u m f).grows r.landings;
@@ -298,12 +307,25 @@ module _ (holds : List ℕ → Type 0) (ready : Ready) (properties : List (List 
     course = append v n o drifted.course p.course;
   }
 
-  pub failed_at : {E : Type 0} (place : CommitPlace) (o : View) → v.section ≡ None → StoppedAt place n o → Refused {E = E} (fault.DiskFault place) v o x y
+  pub failed_at : {E : Type 0} {Says : Refusals E} (place : CommitPlace) (o : View) → v.section ≡ None → StoppedAt place n o → Refused Says (fault.DiskFault place) v o x y
   failed_at place o none s = record {
     moved = record { drifted = drifted_on v n o drifted (by_stopping place n o s); section = ap {A = View} (λ z. z.section) s.is ∙ sym none };
     landings = landings_later n.seen o.seen x y (by_stopping place n o s).grows landings_here;
     cause = (n.pass.faults, ap {A = View} (λ z. z.pass.faults) s.is);
   }
+
+  pub not_written : {E : Type 0} {Says : Refusals E} (refusal : E) (o : View) → v.section ≡ None → LockGiven (step.GiveLock n.number) n o → ((head : ℕ) (h : List Recorded) (z : Txn) → Says refusal head h z) → Refused Says (fault.Refused refusal) v o x y
+  not_written refusal o none g says = record {
+    moved = record { drifted = drifted_on v n o drifted (by_giving (step.GiveLock n.number) n o g); section = ap {A = View} (λ z. z.section) g.is ∙ sym none };
+    landings = landings_later n.seen o.seen x y (by_giving (step.GiveLock n.number) n o g).grows landings_here;
+    cause = (v.pass.least, omega arith, says v.pass.least o.seen y);
+  }
+
+  pub short_at : {E : Type 0} {Says : Refusals E} (f : CommitFault E) (o : View) → v.section ≡ None → EndsShort Says f n o → Refused Says f v o x y
+  short_at fault.RevsFull o none s = absurd s
+  short_at (fault.Stuck place) o none s = absurd s
+  short_at (fault.Refused refusal) o none s = not_written refusal o none s.0 s.1
+  short_at (fault.DiskFault place) o none s = failed_at place o none s
 
 -- the lock was taken, and the youngest number is still the head
 module _ (holds : List ℕ → Type 0) (young : ℕ) (ready : Ready) (properties : List (List ℕ × List ℕ)) (v u m n : View) (x y : Txn) (r : IsReady holds ready properties v u x y) (t : LockTaken u m) (l : Looked young m n) (same : young ≡ ready.head) where
@@ -346,8 +368,8 @@ module _ (holds : List ℕ → Type 0) (young : ℕ) (ready : Ready) (properties
   pub commits_at : (o : View) → Published y properties next_at bytes_at n o → Committed ready.made.rev properties v o x y
   commits_at o p = committed holds ready properties v u n x y r section_at sure_at least_at seen_at given_at layout_at (drifted_in holds young ready properties v u m n x y r t l) within_at o p
 
-  pub fails_at : {E : Type 0} (place : CommitPlace) (o : View) → v.section ≡ None → StoppedAt place n o → Refused {E = E} (fault.DiskFault place) v o x y
-  fails_at place o none s = failed_at holds ready properties v u n x y r section_at sure_at least_at seen_at given_at layout_at (drifted_in holds young ready properties v u m n x y r t l) within_at place o none s
+  pub fails_at : {E : Type 0} {Says : Refusals E} (f : CommitFault E) (o : View) → v.section ≡ None → EndsShort Says f n o → Refused Says f v o x y
+  fails_at f o none s = short_at holds ready properties v u n x y r section_at sure_at least_at seen_at given_at layout_at (drifted_in holds young ready properties v u m n x y r t l) within_at f o none s
 
 -- ---- one turn after another
 
@@ -378,19 +400,18 @@ committed_on rev p v m o x y z d can landings c = record {
     first : Landings c.before x y
     first = landings_later m.seen c.before x y c.begins landings
 
-pub refused_on : {E : Type 0} (f : CommitFault E) (v m o : View) (x y z : Txn) → Drifted v m → m.section ≡ v.section → Landings m.seen x y → Refused f m o y z → Refused f v o x z
-refused_on f v m o x y z d section landings r = record {
+pub refused_on : {E : Type 0} {Says : Refusals E} (f : CommitFault E) (v m o : View) (x y z : Txn) → Drifted v m → m.section ≡ v.section → Landings m.seen x y → Refused Says f m o y z → Refused Says f v o x z
+refused_on {Says = Says} f v m o x y z d section landings r = record {
   moved = record { drifted = drifted_on v m o d r.moved.drifted; section = r.moved.section ∙ section };
   landings = landings_on o.seen x y z (landings_later m.seen o.seen x y r.moved.drifted.grows landings) r.landings;
-  cause = cause_on f m v o o refl r.cause;
+  cause = cause_on Says f r.cause;
 }
   where
-    cause_on : {E : Type 0} (f : CommitFault E) (m v u o : View) → o.pass ≡ u.pass → Cause f m u → Cause f v o
-    cause_on fault.RevsFull m v u o same c = subst (λ p. 2147483647 ≤ p.least) (sym same) c
-    cause_on (fault.Stuck place) m v u o same c = subst (λ p. p.stuck ≡ Some place) (sym same) c
-    cause_on (fault.Refused e) m v u o same c = tt
-    cause_on fault.Memory m v u o same c = tt
-    cause_on (fault.DiskFault place) m v u o same c = subst (λ p. (before : List DiskPlace) × (p.faults ≡ before ++ Commit place ∷ [])) (sym same) c
+    cause_on : {F : Type 0} (W : Refusals F) (g : CommitFault F) → Cause W g m o z → Cause W g v o z
+    cause_on W fault.RevsFull c = c
+    cause_on W (fault.Stuck place) c = c
+    cause_on W (fault.Refused refusal) c = (c.0, omega (arith, d.least, c.1), c.2)
+    cause_on W (fault.DiskFault place) c = c
 
 pub turn_on : (came : Option ℕ) (p : List (List ℕ × List ℕ)) (v m o : View) (x y z : Txn) → Lost p v m x y → IsTurn came p m o y z → IsTurn came p v o x z
 turn_on (Some rev) p v m o x y z l t = committed_on rev p v m o x y z l.moved.drifted l.from l.landings t
@@ -401,12 +422,12 @@ turn_on None p v m o x y z l t = record {
   can = t.can;
 }
 
-pub refused_after : {E : Type 0} (f : CommitFault E) (p : List (List ℕ × List ℕ)) (v m o : View) (x y z : Txn) → Lost p v m x y → Refused f m o y z → Refused f v o x z
+pub refused_after : {E : Type 0} {Says : Refusals E} (f : CommitFault E) (p : List (List ℕ × List ℕ)) (v m o : View) (x y z : Txn) → Lost p v m x y → Refused Says f m o y z → Refused Says f v o x z
 refused_after f p v m o x y z l r = refused_on f v m o x y z l.moved.drifted l.moved.section l.landings r
 
 -- ---- the last turn
 
-pub stuck_first : {E : Type 0} (place : DiskPlace) (v m : View) (x : Txn) → FoundStuck place v m → Refused {E = E} (fault.Stuck place) v m x x
+pub stuck_first : {E : Type 0} {Says : Refusals E} (place : DiskPlace) (v m : View) (x : Txn) → FoundStuck place v m → Refused Says (fault.Stuck place) v m x x
 stuck_first place v m x f = record { moved = record { drifted = by_finding place v m f; section = ap {A = View} (λ z. z.section) f.is }; landings = Unmoved x; cause = ap {A = View} (λ z. z.pass.stuck) f.is }
 
 pub can_taken : (v m : View) (x : Txn) (p : List (List ℕ × List ℕ)) → LockTaken v m → CanCommit v x p → CanCommit m x p
@@ -418,19 +439,24 @@ begun_then v m u t same = same ∙ ap {A = View} (λ z. z.section) t.is
 pub let_go_of : (v m u : View) → LockTaken v m → u.section ≡ m.section → MayGive u
 let_go_of v m u t same = record { inside = Begun; is = begun_then v m u t same; quiet = refl }
 
-pub refused_last : {E : Type 0} (f : CommitFault E) (v m u o : View) (x y : Txn) → v.section ≡ None → LockTaken v m → Refused f m u x y → LockGiven (step.GiveLock u.number) u o → Refused f v o x y
-refused_last f v m u o x y none t r g = record {
+pub refused_last : {E : Type 0} {Says : Refusals E} (f : CommitFault E) (v m u o : View) (x y : Txn) → v.section ≡ None → LockTaken v m → Refused Says f m u x y → LockGiven (step.GiveLock u.number) u o → Refused Says f v o x y
+refused_last {Says = Says} f v m u o x y none t r g = record {
   moved = record { drifted = drifted_on v u o (drifted_on v m u (by_taking v m t) r.moved.drifted) (by_giving (step.GiveLock u.number) u o g); section = ap {A = View} (λ z. z.section) g.is ∙ sym none };
   landings = landings_later u.seen o.seen x y (by_giving (step.GiveLock u.number) u o g).grows r.landings;
-  cause = cause_given f m v u o (ap {A = View} (λ z. z.pass) g.is) r.cause;
+  cause = cause_given Says f r.cause;
 }
   where
-    cause_given : {E : Type 0} (f : CommitFault E) (m v u o : View) → o.pass ≡ u.pass → Cause f m u → Cause f v o
-    cause_given fault.RevsFull m v u o same c = subst (λ p. 2147483647 ≤ p.least) (sym same) c
-    cause_given (fault.Stuck place) m v u o same c = subst (λ p. p.stuck ≡ Some place) (sym same) c
-    cause_given (fault.Refused e) m v u o same c = tt
-    cause_given fault.Memory m v u o same c = tt
-    cause_given (fault.DiskFault place) m v u o same c = subst (λ p. (before : List DiskPlace) × (p.faults ≡ before ++ Commit place ∷ [])) (sym same) c
+    same : o.pass ≡ u.pass
+    same = ap {A = View} (λ z. z.pass) g.is
+
+    seen : o.seen ≡ u.seen
+    seen = ap {A = View} (λ z. z.seen) g.is
+
+    cause_given : {F : Type 0} (W : Refusals F) (g : CommitFault F) → Cause W g m u y → Cause W g v o y
+    cause_given W fault.RevsFull c = subst (λ p. 2147483647 ≤ p.least) (sym same) c
+    cause_given W (fault.Stuck place) c = subst (λ p. p.stuck ≡ Some place) (sym same) c
+    cause_given W (fault.Refused refusal) c = (c.0, omega (arith, (by_taking v m t).least, c.1), subst (λ h. W refusal c.0 h y) (sym seen) c.2)
+    cause_given W (fault.DiskFault place) c = subst (λ p. (before : List DiskPlace) × (p.faults ≡ before ++ Commit place ∷ [])) (sym same) c
 
 module _ (holds : List ℕ → Type 0) (ready : Ready) (p : List (List ℕ × List ℕ)) (v m u : View) (x y : Txn) (t : LockTaken v m) (r : IsReady holds ready p m u x y) where
   pub last_section : u.section ≡ Some Begun
@@ -457,14 +483,54 @@ module _ (holds : List ℕ → Type 0) (ready : Ready) (p : List (List ℕ × Li
   pub last_commits : (o : View) → CanCommit v x p → Published y p last_next last_bytes u o → Committed ready.made.rev p v o x y
   last_commits o can published = committed_on ready.made.rev p v m o x x y (by_taking v m t) can (Unmoved x) (committed holds ready p m u u x y r last_section (r.sure ∙ last_held) r.least refl refl refl r.moved.drifted (r.within last_held) o published)
 
-  pub last_fails : {E : Type 0} (place : CommitPlace) (o : View) → v.section ≡ None → StoppedAt place u o → Refused {E = E} (fault.DiskFault place) v o x y
-  last_fails place o none s = record {
+  last_stopped : {E : Type 0} {Says : Refusals E} (place : CommitPlace) (o : View) → v.section ≡ None → StoppedAt place u o → Refused Says (fault.DiskFault place) v o x y
+  last_stopped place o none s = record {
     moved = record { drifted = drifted_on v u o (drifted_on v m u (by_taking v m t) r.moved.drifted) (by_stopping place u o s); section = ap {A = View} (λ z. z.section) s.is ∙ sym none };
     landings = landings_later u.seen o.seen x y (by_stopping place u o s).grows r.landings;
     cause = (u.pass.faults, ap {A = View} (λ z. z.pass.faults) s.is);
   }
 
+  last_unwritten : {E : Type 0} {Says : Refusals E} (refusal : E) (o : View) → v.section ≡ None → LockGiven (step.GiveLock u.number) u o → ((head : ℕ) (h : List Recorded) (z : Txn) → Says refusal head h z) → Refused Says (fault.Refused refusal) v o x y
+  last_unwritten refusal o none g says = record {
+    moved = record { drifted = drifted_on v u o (drifted_on v m u (by_taking v m t) r.moved.drifted) (by_giving (step.GiveLock u.number) u o g); section = ap {A = View} (λ z. z.section) g.is ∙ sym none };
+    landings = landings_later u.seen o.seen x y (by_giving (step.GiveLock u.number) u o g).grows r.landings;
+    cause = (v.pass.least, omega arith, says v.pass.least o.seen y);
+  }
+
+  pub last_fails : {E : Type 0} {Says : Refusals E} (f : CommitFault E) (o : View) → v.section ≡ None → EndsShort Says f u o → Refused Says f v o x y
+  last_fails fault.RevsFull o none s = absurd s
+  last_fails (fault.Stuck place) o none s = absurd s
+  last_fails (fault.Refused refusal) o none s = last_unwritten refusal o none s.0 s.1
+  last_fails (fault.DiskFault place) o none s = last_stopped place o none s
+
+-- ---- what a pass has seen, after calls with the lock
+
+pub locked_grows : (young : ℕ) (u m n : View) → LockTaken u m → Looked young m n → Begins n.seen u.seen
+locked_grows young u m n t l = begins_on u.seen m.seen n.seen (by_taking u m t).grows (by_look young m n l).grows
+
+pub published_grows : (txn : Txn) (p : List (List ℕ × List ℕ)) (next : Revision) (bytes : List ℕ) (v u : View) → Published txn p next bytes v u → Begins u.seen v.seen
+published_grows txn p next bytes v u published = (recorded (coming_of v txn p next bytes) ∷ [], ap {A = View} (λ z. z.seen) published.is)
+
+pub short_grows : {E : Type 0} (Says : Refusals E) (f : CommitFault E) (v u : View) → EndsShort Says f v u → Begins u.seen v.seen
+short_grows Says fault.RevsFull v u s = absurd s
+short_grows Says (fault.Stuck place) v u s = absurd s
+short_grows Says (fault.Refused refusal) v u s = (by_giving (step.GiveLock v.number) v u s.0).grows
+short_grows Says (fault.DiskFault place) v u s = (by_stopping place v u s).grows
+
 -- ---- for answers
+
+-- what a call says, where its answer is known
+pub on_ok : {X E : Type 0} (r : Result X E) (x : X) (P : Type 0) → r ≡ Ok x → OnOk r P → P
+on_ok r x P e w = subst (λ z. OnOk z P) e w
+
+pub on_err : {X E : Type 0} (r : Result X E) (x : E) (P : Type 0) → r ≡ Err x → OnErr r P → P
+on_err r x P e w = subst (λ z. OnErr z P) e w
+
+pub if_ok : {X E : Type 0} (r : Result X E) (x : X) (P : X → Type 0) → r ≡ Ok x → IfOk r P → P x
+if_ok r x P e w = subst (λ z. IfOk z P) e w
+
+pub if_err : {X E : Type 0} (r : Result X E) (x : E) (P : E → Type 0) → r ≡ Err x → IfErr r P → P x
+if_err r x P e w = subst (λ z. IfErr z P) e w
 
 pub turn_is : (o came : Option ℕ) (p : List (List ℕ × List ℕ)) (v u : View) (x y : Txn) → o ≡ came → IsTurn o p v u x y → IsTurn came p v u x y
 turn_is o came p v u x y same t = subst (λ z. IsTurn z p v u x y) same t
@@ -483,15 +549,15 @@ pub if_err_then : {X E : Type 0} (r : Result X E) (P Q : E → Type 0) → ((e :
 if_err_then (Ok x) P Q f p = tt
 if_err_then (Err e) P Q f p = f e p
 
-module _ (K : View → Type 0) (M : Txn → Type 0) (p q : List (List ℕ × List ℕ)) (v m : View) (x y : Txn) (same : q ≡ p) (l : Lost p v m x y) where
-  pub all_turns : {E : Type 0} (r : Result (Option ℕ) E) → IfOk r (λ came. (u : View) × (z : Txn) × K u × M z × IsTurn came q m u y z) → IfOk r (λ came. (u : View) × (z : Txn) × K u × M z × IsTurn came p v u x z)
+module _ (K : View → Type 0) (M : List Recorded → Txn → Type 0) (p q : List (List ℕ × List ℕ)) (v m : View) (x y : Txn) (same : q ≡ p) (l : Lost p v m x y) where
+  pub all_turns : {E : Type 0} (r : Result (Option ℕ) E) → IfOk r (λ came. (u : View) × (z : Txn) × K u × M u.seen z × IsTurn came q m u y z) → IfOk r (λ came. (u : View) × (z : Txn) × K u × M u.seen z × IsTurn came p v u x z)
   all_turns r w = if_ok_then r _ _ (λ came a. (a.0, a.1, a.2, a.3, turn_after came p q v m a.0 x y a.1 same l a.4)) w
 
-  pub all_commits : {E : Type 0} (r : Result ℕ E) → IfOk r (λ rev. (u : View) × (z : Txn) × K u × M z × Committed rev q m u y z) → IfOk r (λ rev. (u : View) × (z : Txn) × K u × M z × Committed rev p v u x z)
+  pub all_commits : {E : Type 0} (r : Result ℕ E) → IfOk r (λ rev. (u : View) × (z : Txn) × K u × M u.seen z × Committed rev q m u y z) → IfOk r (λ rev. (u : View) × (z : Txn) × K u × M u.seen z × Committed rev p v u x z)
   all_commits r w = if_ok_then r _ _ (λ rev a. (a.0, a.1, a.2, a.3, turn_after (Some rev) p q v m a.0 x y a.1 same l a.4)) w
 
-  pub all_refusals : {X E : Type 0} (r : Result X (CommitFault E)) → IfErr r (λ f. (u : View) × (z : Txn) × K u × M z × Refused f m u y z) → IfErr r (λ f. (u : View) × (z : Txn) × K u × M z × Refused f v u x z)
-  all_refusals r w = if_err_then r _ _ (λ f a. (a.0, a.1, a.2, a.3, refused_after f p v m a.0 x y a.1 l a.4)) w
+  pub all_refusals : {X E : Type 0} (Says : Refusals E) (r : Result X (CommitFault E)) → IfErr r (λ f. (u : View) × (z : Txn) × K u × M u.seen z × Refused Says f m u y z) → IfErr r (λ f. (u : View) × (z : Txn) × K u × M u.seen z × Refused Says f v u x z)
+  all_refusals Says r w = if_err_then r _ _ (λ f a. (a.0, a.1, a.2, a.3, refused_after f p v m a.0 x y a.1 l a.4)) w
 
 pub of_rev : (rev same : ℕ) (p : List (List ℕ × List ℕ)) (v u : View) (x y : Txn) → same ≡ rev → Committed rev p v u x y → Committed same p v u x y
 of_rev rev same p v u x y e c = subst (λ n. Committed n p v u x y) (sym e) c

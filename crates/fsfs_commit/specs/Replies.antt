@@ -9,12 +9,13 @@ use Rattle.fsfs_places.specs.declared.place.DiskPlace.{DiskPlace}
 use Rattle.fsfs_places.specs.declared.place.DiskPlace.TheVariants.{Commit}
 use Rattle.fsfs_machine.specs.Machine.{revisions, entry_of}
 use Rattle.fsfs_turn.specs.Bytes.{BytesShow}
-use Rattle.fsfs_turn.specs.Views.{View, Begins, is_held}
+use Rattle.fsfs_machine.specs.declared.machine.Step.TheVariants.{GiveLock}
+use Rattle.fsfs_turn.specs.Views.{View, Begins, is_held, LockGiven}
 use Rattle.fsfs_commit.specs.declared.made.Made.{Made}
 use Rattle.fsfs_commit.specs.declared.committing.Ready.{Ready}
 use Rattle.fsfs_commit.specs.declared.committing.CommitFault.{CommitFault}
-use Rattle.fsfs_commit.specs.declared.committing.CommitFault.TheVariants.{RevsFull, Stuck, Refused as Refuses, Memory, DiskFault}
-use Rattle.fsfs_commit.specs.Courses.{Course, IsMade}
+use Rattle.fsfs_commit.specs.declared.committing.CommitFault.TheVariants.{RevsFull, Stuck, Refused as Refuses, DiskFault}
+use Rattle.fsfs_commit.specs.Courses.{Course, IsMade, StoppedAt}
 use Rattle.fsfs_commit.specs.Works.{CanCommit, Landings}
 
 -- the pass added nothing: it saw more, was told more, and faults came
@@ -83,19 +84,30 @@ abbrev pub IsTurn : Option ℕ → List (List ℕ × List ℕ) → View → View
 IsTurn (Some rev) properties v u x y = Committed rev properties v u x y
 IsTurn None properties v u x y = Lost properties v u x y
 
--- why a commit was refused, in what the pass knows after it
-abbrev pub Cause : {E : Type 0} → CommitFault E → View → View → Type 0
-Cause RevsFull v u = 2147483647 ≤ u.pass.least
-Cause (Stuck place) v u = u.pass.stuck ≡ Some place
-Cause (Refuses refusal) v u = Unit {0}
-Cause Memory v u = Unit {0}
-Cause (DiskFault place) v u = (before : List DiskPlace) × (u.pass.faults ≡ before ++ Commit place ∷ [])
+-- what a draft's refusals say of a landing on a revision
+abbrev pub Refusals : Type 0 → Type 1
+Refusals E = E → ℕ → List Recorded → Txn → Type 0
+
+-- with the lock held: the draft could not be written, and the lock was given; or the call at a place failed
+abbrev pub EndsShort : {E : Type 0} → Refusals E → CommitFault E → View → View → Type 0
+EndsShort Says RevsFull v u = ⊥
+EndsShort Says (Stuck place) v u = ⊥
+EndsShort Says (Refuses refusal) v u = LockGiven (GiveLock v.number) v u × ((head : ℕ) (h : List Recorded) (x : Txn) → Says refusal head h x)
+EndsShort Says (DiskFault place) v u = StoppedAt place v u
+
+-- why a commit was refused, in what the pass knows after it; a draft's refusal is of the transaction as it stood then, and of a revision
+-- that the pass was told of, or a later one
+abbrev pub Cause : {E : Type 0} → Refusals E → CommitFault E → View → View → Txn → Type 0
+Cause Says RevsFull v u y = 2147483647 ≤ u.pass.least
+Cause Says (Stuck place) v u y = u.pass.stuck ≡ Some place
+Cause Says (Refuses refusal) v u y = (head : ℕ) × (v.pass.least ≤ head) × Says refusal head u.seen y
+Cause Says (DiskFault place) v u y = (before : List DiskPlace) × (u.pass.faults ≡ before ++ Commit place ∷ [])
 
 -- REFUSED: nothing was added; the transaction stands on the head of the last landing, or as it was
-pub record Refused {E : Type 0} (fault : CommitFault E) (v u : View) (x y : Txn) : Type 0 where
+pub record Refused {E : Type 0} (Says : Refusals E) (fault : CommitFault E) (v u : View) (x y : Txn) : Type 0 where
   pub moved : Moved v u
   pub landings : Landings u.seen x y
-  pub cause : Cause fault v u
+  pub cause : Cause Says fault v u y
 
 -- a fault of the disk comes only where the count rose
 abbrev pub RoseIfDisk : {E : Type 0} → Type 0 → CommitFault E → Type 0

@@ -1,11 +1,14 @@
 //! A commit: up to four turns. Each of the first three merges and writes to memory before it takes the lock, and is lost where the
 //! youngest revision is another by then. The fourth takes the lock first, so it can't be lost.
-ghost use Rattle.std.specs.Prelude.{◌≡◌, ◌≤◌, ◌==◌, None, IfOk, IfErr, OnOk};
+ghost use Rattle.std.specs.Prelude.{◌≡◌, ◌≤◌, ◌==◌, ℕ, List, None, IfOk, IfErr, OnOk};
 ghost use Rattle.fsfs_base.specs.Failures.{Rose};
+ghost use Rattle.fsfs_tree.specs.Revisions.{Revision};
+ghost use Rattle.fsfs_machine.specs.declared.machine.Recorded.{Recorded};
 ghost use Rattle.fsfs_machine.specs.declared.machine.Txn.{Txn};
-ghost use Rattle.fsfs_turn.specs.Views.{View};
+ghost use Rattle.fsfs_turn.specs.Views.{View, MayAdopt};
+ghost use Rattle.fsfs_commit.specs.Courses.{IsMade, Published};
 ghost use Rattle.fsfs_commit.specs.Works.{CanCommit};
-ghost use Rattle.fsfs_commit.specs.Replies.{IsReady, IsTurn, Committed, RoseIfDisk, Refused};
+ghost use Rattle.fsfs_commit.specs.Replies.{IsReady, IsTurn, Committed, EndsShort, RoseIfDisk, Refused};
 
 use crate::draft::Draft;
 use crate::made::Made;
@@ -22,10 +25,8 @@ pub enum CommitFault<E: Drop> {
     RevsFull,
     /// The write lock is stuck at this place.
     Stuck(DiskPlace),
-    /// The draft was refused: it clashes, or could not be read.
+    /// The draft was refused: it clashes, could not be read, made or written.
     Refused(E),
-    /// Memory was wanting, and nothing was written.
-    Memory,
     /// The disk failed at this place.
     DiskFault(CommitPlace),
 }
@@ -50,30 +51,32 @@ impl Ready {
 fn prepare<R, T: Turns<R>, D: Draft<R, T>>(
     alloc: Global,
     rt: &R,
-    turns: &mut T,
+    turns: T,
     draft: &mut D,
-) -> Result<Ready, CommitFault<D::Refusal>>
-    ensures ok { (v : View) (x : Txn) → T.knows turns.old v → D.means draft.old x → CanCommit v x (D.properties draft.old)
-        → IfOk result (λ ready. (u : View) × (y : Txn) × T.knows turns.new u × D.means draft.new y × IsReady (D.holds draft.new) ready (D.properties draft.old) v u x y) }
-    ensures written { OnOk result (D.is_written draft.new) }
-    ensures err { (v : View) (x : Txn) → T.knows turns.old v → D.means draft.old x → CanCommit v x (D.properties draft.old)
-        → IfErr result (λ fault. (u : View) × (y : Txn) × T.knows turns.new u × D.means draft.new y × Refused fault v u x y) }
+) -> (T, Result<Ready, CommitFault<D::Refusal>>)
+    ensures ok { (v : View) (x : Txn) → T.knows turns v → D.means draft.old v.seen x → CanCommit v x (D.properties draft.old)
+        → IfOk result.1 (λ ready. (u : View) × (y : Txn) × T.knows result.0 u × D.means draft.new u.seen y × IsReady (D.holds draft.new) ready (D.properties draft.old) v u x y) }
+    ensures err { (v : View) (x : Txn) → T.knows turns v → D.means draft.old v.seen x → CanCommit v x (D.properties draft.old)
+        → IfErr result.1 (λ fault. (u : View) × (y : Txn) × T.knows result.0 u × D.means draft.new u.seen y × Refused D.refuses fault v u x y) }
     ensures same { D.properties draft.new ≡ D.properties draft.old }
-    ensures later { T.faults turns.old ≤ T.faults turns.new }
-    ensures cause { IfErr result (RoseIfDisk (Rose (T.faults turns.old) (T.faults turns.new))) }
+    ensures later { T.faults turns ≤ T.faults result.0 }
+    ensures cause { IfErr result.1 (RoseIfDisk (Rose (T.faults turns) (T.faults result.0))) }
 {
+    let mut turns = turns;
     let head = turns.look();
     let next = match head.next() {
         Some(next) => next,
-        None => return Err(CommitFault::RevsFull),
+        None => return (turns, Err(CommitFault::RevsFull)),
     };
-    match draft.merge(rt, turns, head) {
+    let (turns, merged) = draft.merge(alloc, rt, turns, head);
+    match merged {
         Ok(()) => {}
-        Err(refusal) => return Err(CommitFault::Refused(refusal)),
+        Err(refusal) => return (turns, Err(CommitFault::Refused(refusal))),
     }
-    match draft.marshal(alloc, next) {
-        Ok(made) => Ok(Ready { head, made }),
-        Err(_) => Err(CommitFault::Memory),
+    let layout = turns.layout();
+    match draft.marshal(alloc, layout, next) {
+        Ok(made) => (turns, Ok(Ready { head, made })),
+        Err(refusal) => (turns, Err(CommitFault::Refused(refusal))),
     }
 }
 
@@ -84,38 +87,74 @@ fn is_still(head: RevNum, youngest: RevNum) -> bool
     head.get() == youngest.get()
 }
 
+// With the lock held: writes the draft and publishes it. Where it can't be written, the lock is given.
+fn add<R, T: Turns<R>, D: Draft<R, T>>(
+    rt: &R,
+    turns: &mut T,
+    draft: D,
+    made: &Made,
+) -> (D, Result<RevNum, CommitFault<D::Refusal>>)
+    ensures number { IfOk result.1 (λ rev. rev ≡ made.now.rev) }
+    ensures ok { (v : View) (txn : Txn) (next : Revision) (bytes : List ℕ) → T.knows turns.old v → D.holds draft bytes → MayAdopt v txn (D.properties draft) next bytes
+        → IsMade v (D.properties draft) made.now.rev made.now.rev_file made.now.props_file made.now.properties.items made.now.current.items
+        → OnOk result.1 ((u : View) × T.knows turns.new u × Published txn (D.properties draft) next bytes v u) }
+    ensures err { (v : View) (txn : Txn) (next : Revision) (bytes : List ℕ) → T.knows turns.old v → D.holds draft bytes → MayAdopt v txn (D.properties draft) next bytes
+        → IsMade v (D.properties draft) made.now.rev made.now.rev_file made.now.props_file made.now.properties.items made.now.current.items
+        → IfErr result.1 (λ fault. (u : View) × T.knows turns.new u × EndsShort D.refuses fault v u) }
+    ensures means { (h : List Recorded) (x : Txn) → D.means draft h x → D.means result.0 h x }
+    ensures same { D.properties result.0 ≡ D.properties draft }
+    ensures later { T.faults turns.old ≤ T.faults turns.new }
+    ensures cause { IfErr result.1 (RoseIfDisk (Rose (T.faults turns.old) (T.faults turns.new))) }
+{
+    let (mut draft, written) = draft.write();
+    match written {
+        Ok(()) => {}
+        Err(refusal) => {
+            turns.give_lock();
+            return (draft, Err(CommitFault::Refused(refusal)));
+        }
+    }
+    let rev = made.rev();
+    match publish(rt, turns, &mut draft, made) {
+        Ok(()) => (draft, Ok(rev)),
+        Err(place) => (draft, Err(CommitFault::DiskFault(place))),
+    }
+}
+
 // A turn. `None`: it was lost.
 fn take_turn<R, T: Turns<R>, D: Draft<R, T>>(
     alloc: Global,
     rt: &R,
-    turns: &mut T,
-    draft: &mut D,
-) -> Result<Option<RevNum>, CommitFault<D::Refusal>>
-    ensures ok { (v : View) (x : Txn) → T.knows turns.old v → D.means draft.old x → CanCommit v x (D.properties draft.old) → v.section ≡ None
-        → IfOk result (λ done. (u : View) × (y : Txn) × T.knows turns.new u × D.means draft.new y × IsTurn done (D.properties draft.old) v u x y) }
-    ensures err { (v : View) (x : Txn) → T.knows turns.old v → D.means draft.old x → CanCommit v x (D.properties draft.old) → v.section ≡ None
-        → IfErr result (λ fault. (u : View) × (y : Txn) × T.knows turns.new u × D.means draft.new y × Refused fault v u x y) }
-    ensures same { D.properties draft.new ≡ D.properties draft.old }
-    ensures later { T.faults turns.old ≤ T.faults turns.new }
-    ensures cause { IfErr result (RoseIfDisk (Rose (T.faults turns.old) (T.faults turns.new))) }
+    turns: T,
+    draft: D,
+) -> (T, D, Result<Option<RevNum>, CommitFault<D::Refusal>>)
+    ensures ok { (v : View) (x : Txn) → T.knows turns v → D.means draft v.seen x → CanCommit v x (D.properties draft) → v.section ≡ None
+        → IfOk result.2 (λ done. (u : View) × (y : Txn) × T.knows result.0 u × D.means result.1 u.seen y × IsTurn done (D.properties draft) v u x y) }
+    ensures err { (v : View) (x : Txn) → T.knows turns v → D.means draft v.seen x → CanCommit v x (D.properties draft) → v.section ≡ None
+        → IfErr result.2 (λ fault. (u : View) × (y : Txn) × T.knows result.0 u × D.means result.1 u.seen y × Refused D.refuses fault v u x y) }
+    ensures same { D.properties result.1 ≡ D.properties draft }
+    ensures later { T.faults turns ≤ T.faults result.0 }
+    ensures cause { IfErr result.2 (RoseIfDisk (Rose (T.faults turns) (T.faults result.0))) }
 {
-    let ready = match prepare(alloc, rt, turns, draft) {
+    let mut draft = draft;
+    let (mut turns, prepared) = prepare(alloc, rt, turns, &mut draft);
+    let ready = match prepared {
         Ok(ready) => ready,
-        Err(fault) => return Err(fault),
+        Err(fault) => return (turns, draft, Err(fault)),
     };
     let head = ready.head();
-    let rev = ready.made.rev();
     match turns.take_lock(rt) {
         Ok(()) => {}
-        Err(place) => return Err(CommitFault::Stuck(place)),
+        Err(place) => return (turns, draft, Err(CommitFault::Stuck(place))),
     }
     if !is_still(head, turns.look()) {
         turns.give_lock();
-        return Ok(None);
+        return (turns, draft, Ok(None));
     }
-    match publish(rt, turns, draft, &ready.made) {
-        Ok(()) => Ok(Some(rev)),
-        Err(place) => Err(CommitFault::DiskFault(place)),
+    let (draft, added) = add(rt, &mut turns, draft, &ready.made);
+    match added {
+        Ok(rev) => (turns, draft, Ok(Some(rev))),
+        Err(fault) => (turns, draft, Err(fault)),
     }
 }
 
@@ -123,31 +162,34 @@ fn take_turn<R, T: Turns<R>, D: Draft<R, T>>(
 fn take_last_turn<R, T: Turns<R>, D: Draft<R, T>>(
     alloc: Global,
     rt: &R,
-    turns: &mut T,
-    draft: &mut D,
-) -> Result<RevNum, CommitFault<D::Refusal>>
-    ensures ok { (v : View) (x : Txn) → T.knows turns.old v → D.means draft.old x → CanCommit v x (D.properties draft.old) → v.section ≡ None
-        → IfOk result (λ rev. (u : View) × (y : Txn) × T.knows turns.new u × D.means draft.new y × Committed rev (D.properties draft.old) v u x y) }
-    ensures err { (v : View) (x : Txn) → T.knows turns.old v → D.means draft.old x → CanCommit v x (D.properties draft.old) → v.section ≡ None
-        → IfErr result (λ fault. (u : View) × (y : Txn) × T.knows turns.new u × D.means draft.new y × Refused fault v u x y) }
-    ensures later { T.faults turns.old ≤ T.faults turns.new }
-    ensures cause { IfErr result (RoseIfDisk (Rose (T.faults turns.old) (T.faults turns.new))) }
+    turns: T,
+    draft: D,
+) -> (T, D, Result<RevNum, CommitFault<D::Refusal>>)
+    ensures ok { (v : View) (x : Txn) → T.knows turns v → D.means draft v.seen x → CanCommit v x (D.properties draft) → v.section ≡ None
+        → IfOk result.2 (λ rev. (u : View) × (y : Txn) × T.knows result.0 u × D.means result.1 u.seen y × Committed rev (D.properties draft) v u x y) }
+    ensures err { (v : View) (x : Txn) → T.knows turns v → D.means draft v.seen x → CanCommit v x (D.properties draft) → v.section ≡ None
+        → IfErr result.2 (λ fault. (u : View) × (y : Txn) × T.knows result.0 u × D.means result.1 u.seen y × Refused D.refuses fault v u x y) }
+    ensures later { T.faults turns ≤ T.faults result.0 }
+    ensures cause { IfErr result.2 (RoseIfDisk (Rose (T.faults turns) (T.faults result.0))) }
 {
+    let mut turns = turns;
+    let mut draft = draft;
     match turns.take_lock(rt) {
         Ok(()) => {}
-        Err(place) => return Err(CommitFault::Stuck(place)),
+        Err(place) => return (turns, draft, Err(CommitFault::Stuck(place))),
     }
-    let ready = match prepare(alloc, rt, turns, draft) {
+    let (mut turns, prepared) = prepare(alloc, rt, turns, &mut draft);
+    let ready = match prepared {
         Ok(ready) => ready,
         Err(fault) => {
             turns.give_lock();
-            return Err(fault);
+            return (turns, draft, Err(fault));
         }
     };
-    let rev = ready.made.rev();
-    match publish(rt, turns, draft, &ready.made) {
-        Ok(()) => Ok(rev),
-        Err(place) => Err(CommitFault::DiskFault(place)),
+    let (draft, added) = add(rt, &mut turns, draft, &ready.made);
+    match added {
+        Ok(rev) => (turns, draft, Ok(rev)),
+        Err(fault) => (turns, draft, Err(fault)),
     }
 }
 
@@ -155,48 +197,60 @@ fn take_last_turn<R, T: Turns<R>, D: Draft<R, T>>(
 fn take_three_turns<R, T: Turns<R>, D: Draft<R, T>>(
     alloc: Global,
     rt: &R,
-    turns: &mut T,
-    draft: &mut D,
-) -> Result<Option<RevNum>, CommitFault<D::Refusal>>
-    ensures ok { (v : View) (x : Txn) → T.knows turns.old v → D.means draft.old x → CanCommit v x (D.properties draft.old) → v.section ≡ None
-        → IfOk result (λ done. (u : View) × (y : Txn) × T.knows turns.new u × D.means draft.new y × IsTurn done (D.properties draft.old) v u x y) }
-    ensures err { (v : View) (x : Txn) → T.knows turns.old v → D.means draft.old x → CanCommit v x (D.properties draft.old) → v.section ≡ None
-        → IfErr result (λ fault. (u : View) × (y : Txn) × T.knows turns.new u × D.means draft.new y × Refused fault v u x y) }
-    ensures same { D.properties draft.new ≡ D.properties draft.old }
-    ensures later { T.faults turns.old ≤ T.faults turns.new }
-    ensures cause { IfErr result (RoseIfDisk (Rose (T.faults turns.old) (T.faults turns.new))) }
+    turns: T,
+    draft: D,
+) -> (T, D, Result<Option<RevNum>, CommitFault<D::Refusal>>)
+    ensures ok { (v : View) (x : Txn) → T.knows turns v → D.means draft v.seen x → CanCommit v x (D.properties draft) → v.section ≡ None
+        → IfOk result.2 (λ done. (u : View) × (y : Txn) × T.knows result.0 u × D.means result.1 u.seen y × IsTurn done (D.properties draft) v u x y) }
+    ensures err { (v : View) (x : Txn) → T.knows turns v → D.means draft v.seen x → CanCommit v x (D.properties draft) → v.section ≡ None
+        → IfErr result.2 (λ fault. (u : View) × (y : Txn) × T.knows result.0 u × D.means result.1 u.seen y × Refused D.refuses fault v u x y) }
+    ensures same { D.properties result.1 ≡ D.properties draft }
+    ensures later { T.faults turns ≤ T.faults result.0 }
+    ensures cause { IfErr result.2 (RoseIfDisk (Rose (T.faults turns) (T.faults result.0))) }
 {
-    match take_turn(alloc, rt, turns, draft) {
-        Ok(None) => {}
-        Ok(Some(rev)) => return Ok(Some(rev)),
-        Err(fault) => return Err(fault),
+    let (turns, draft, first) = take_turn(alloc, rt, turns, draft);
+    let first = match first {
+        Ok(first) => first,
+        Err(fault) => return (turns, draft, Err(fault)),
+    };
+    match first {
+        None => {}
+        Some(rev) => return (turns, draft, Ok(Some(rev))),
     }
-    match take_turn(alloc, rt, turns, draft) {
-        Ok(None) => {}
-        Ok(Some(rev)) => return Ok(Some(rev)),
-        Err(fault) => return Err(fault),
+    let (turns, draft, second) = take_turn(alloc, rt, turns, draft);
+    let second = match second {
+        Ok(second) => second,
+        Err(fault) => return (turns, draft, Err(fault)),
+    };
+    match second {
+        None => {}
+        Some(rev) => return (turns, draft, Ok(Some(rev))),
     }
     take_turn(alloc, rt, turns, draft)
 }
 
-/// Commits the draft: answers its revision, or why nothing was added. Then the draft stands on the head of its last landing, or
-/// where it stood.
+/// Commits the draft, and gives the turns and the draft back: answers its revision, or why nothing was added. Then the draft stands
+/// on the head of its last landing, or where it stood, as far as it still tells what it means.
 pub fn commit<R, T: Turns<R>, D: Draft<R, T>>(
     alloc: Global,
     rt: &R,
-    turns: &mut T,
-    draft: &mut D,
-) -> Result<RevNum, CommitFault<D::Refusal>>
-    ensures committed { (v : View) (x : Txn) → T.knows turns.old v → D.means draft.old x → CanCommit v x (D.properties draft.old) → v.section ≡ None
-        → IfOk result (λ rev. (u : View) × (y : Txn) × T.knows turns.new u × D.means draft.new y × Committed rev (D.properties draft.old) v u x y) }
-    ensures refused { (v : View) (x : Txn) → T.knows turns.old v → D.means draft.old x → CanCommit v x (D.properties draft.old) → v.section ≡ None
-        → IfErr result (λ fault. (u : View) × (y : Txn) × T.knows turns.new u × D.means draft.new y × Refused fault v u x y) }
-    ensures later { T.faults turns.old ≤ T.faults turns.new }
-    ensures cause { IfErr result (RoseIfDisk (Rose (T.faults turns.old) (T.faults turns.new))) }
+    turns: T,
+    draft: D,
+) -> (T, D, Result<RevNum, CommitFault<D::Refusal>>)
+    ensures committed { (v : View) (x : Txn) → T.knows turns v → D.means draft v.seen x → CanCommit v x (D.properties draft) → v.section ≡ None
+        → IfOk result.2 (λ rev. (u : View) × (y : Txn) × T.knows result.0 u × D.means result.1 u.seen y × Committed rev (D.properties draft) v u x y) }
+    ensures refused { (v : View) (x : Txn) → T.knows turns v → D.means draft v.seen x → CanCommit v x (D.properties draft) → v.section ≡ None
+        → IfErr result.2 (λ fault. (u : View) × (y : Txn) × T.knows result.0 u × D.means result.1 u.seen y × Refused D.refuses fault v u x y) }
+    ensures later { T.faults turns ≤ T.faults result.0 }
+    ensures cause { IfErr result.2 (RoseIfDisk (Rose (T.faults turns) (T.faults result.0))) }
 {
-    match take_three_turns(alloc, rt, turns, draft) {
-        Ok(None) => take_last_turn(alloc, rt, turns, draft),
-        Ok(Some(rev)) => Ok(rev),
-        Err(fault) => Err(fault),
+    let (turns, draft, done) = take_three_turns(alloc, rt, turns, draft);
+    let done = match done {
+        Ok(done) => done,
+        Err(fault) => return (turns, draft, Err(fault)),
+    };
+    match done {
+        None => take_last_turn(alloc, rt, turns, draft),
+        Some(rev) => (turns, draft, Ok(rev)),
     }
 }

@@ -5,6 +5,7 @@ ghost use Rattle.fsfs_tree.specs.Revisions.{Revision};
 ghost use Rattle.fsfs_base.specs.Failures.{HasCause};
 ghost use Rattle.fsfs_disk.specs.Trace.{Put};
 ghost use Rattle.fsfs_machine.specs.declared.machine.Coming.{Coming};
+ghost use Rattle.fsfs_machine.specs.declared.machine.Recorded.{Recorded};
 ghost use Rattle.fsfs_machine.specs.declared.machine.Txn.{Txn};
 ghost use Rattle.fsfs_places.specs.declared.place.DiskPlace.{DiskPlace as SpecPlace};
 ghost use Rattle.fsfs_machine.specs.declared.machine.Section.TheVariants.{RevPut, PropsPut, RevFirm, CurrentPut, CurrentRenamed, CurrentFirm};
@@ -49,7 +50,7 @@ fn put_revision<R, T: Turns<R>, D: Draft<R, T>>(
     ensures turned { (v : View) (txn : Txn) (next : Revision) (bytes : List ℕ) → T.knows turns.old v → D.holds draft.old bytes → MayAdopt v txn (D.properties draft.old) next bytes
         → IsMade v (D.properties draft.old) made.now.rev made.now.rev_file made.now.props_file made.now.properties.items made.now.current.items
         → Goes (T.knows turns.new) result (coming_of v txn (D.properties draft.old) next bytes) (RevPut (coming_of v txn (D.properties draft.old) next bytes)) v }
-    ensures means { (x : Txn) → D.means draft.old x → D.means draft.new x }
+    ensures means { (h : List Recorded) (x : Txn) → D.means draft.old h x → D.means draft.new h x }
     ensures same { D.properties draft.new ≡ D.properties draft.old }
     ensures cause { HasCause (T.faults turns.old) (T.faults turns.new) result }
 {
@@ -142,7 +143,7 @@ fn write_revision<R, T: Turns<R>, D: Draft<R, T>>(
     ensures turned { (v : View) (txn : Txn) (next : Revision) (bytes : List ℕ) → T.knows turns.old v → D.holds draft.old bytes → MayAdopt v txn (D.properties draft.old) next bytes
         → IsMade v (D.properties draft.old) made.now.rev made.now.rev_file made.now.props_file made.now.properties.items made.now.current.items
         → Goes (T.knows turns.new) result (coming_of v txn (D.properties draft.old) next bytes) (RevFirm (coming_of v txn (D.properties draft.old) next bytes)) v }
-    ensures means { (x : Txn) → D.means draft.old x → D.means draft.new x }
+    ensures means { (h : List Recorded) (x : Txn) → D.means draft.old h x → D.means draft.new h x }
     ensures same { D.properties draft.new ≡ D.properties draft.old }
     ensures cause { HasCause (T.faults turns.old) (T.faults turns.new) result }
 {
@@ -220,7 +221,7 @@ pub fn publish<R, T: Turns<R>, D: Draft<R, T>>(
         → IfErr result (λ place. (u : View) × T.knows turns.new u × StoppedAt place v u) }
 
     // Whatever the disk tells: a fault comes only where the count of failed turns rose in this call.
-    ensures means { (x : Txn) → D.means draft.old x → D.means draft.new x }
+    ensures means { (h : List Recorded) (x : Txn) → D.means draft.old h x → D.means draft.new h x }
     ensures same { D.properties draft.new ≡ D.properties draft.old }
     ensures cause { HasCause (T.faults turns.old) (T.faults turns.new) result }
 {
@@ -247,7 +248,7 @@ fn write_all<R, T: Turns<R>, D: Draft<R, T>>(
     ensures turned { (v : View) (txn : Txn) (next : Revision) (bytes : List ℕ) → T.knows turns.old v → D.holds draft.old bytes → MayAdopt v txn (D.properties draft.old) next bytes
         → IsMade v (D.properties draft.old) made.now.rev made.now.rev_file made.now.props_file made.now.properties.items made.now.current.items
         → Goes (T.knows turns.new) result (coming_of v txn (D.properties draft.old) next bytes) (CurrentFirm (coming_of v txn (D.properties draft.old) next bytes)) v }
-    ensures means { (x : Txn) → D.means draft.old x → D.means draft.new x }
+    ensures means { (h : List Recorded) (x : Txn) → D.means draft.old h x → D.means draft.new h x }
     ensures same { D.properties draft.new ≡ D.properties draft.old }
     ensures cause { HasCause (T.faults turns.old) (T.faults turns.new) result }
 {

@@ -1,6 +1,6 @@
 -- What an owned store tells one who reads it.
 use Rattle.std.proofs.Common.{◌≡◌, ℕ, refl, sym, ap, subst}
-use Rattle.std.specs.Prelude.{Option, Some, None, option_map}
+use Rattle.std.specs.Prelude.{Option, Some, None, option_map, is_some, IsSome}
 use Rattle.fsfs_layout.specs.declared.layout.Layout.{Layout}
 use Rattle.fsfs_disk.specs.Trace.{Trace, files_now}
 use Rattle.fsfs_places.specs.declared.place.DiskPlace.{DiskPlace}
@@ -18,6 +18,11 @@ owned_tells layout young stuck (Some t) v known = record {
   each = λ r x at. readable layout young stuck t v known r x at;
   shown = known.2.shown;
 }
+
+-- a bench tells as its disk does
+pub owned_benches_tell : {X : Type 0} (layout : Layout) (young : ℕ) (stuck : Option DiskPlace) (told : Option Trace) (held : Option X) (v : View) → is_some held ≡ is_some told → Knows layout young stuck told v → IsSome held
+owned_benches_tell layout young stuck None held v same known = absurd known
+owned_benches_tell layout young stuck (Some t) held v same known = same
 
 -- what is known is a fact of the state alone
 pub known_still : (a b : OwnedState) (v : View) → b ≡ a → Knows a.layout a.young a.stuck a.trace v → Knows b.layout b.young b.stuck b.trace v

@@ -54,7 +54,7 @@ impl<D: Disk> Owned<D> {
 
 impl<R, D: Disk> Turns<R> for Owned<D> {
     ghost use Rattle.fsfs_turn.specs.Telling.{OwnedState, state_of, owned_view};
-    ghost use Rattle.fsfs_turn.specs.OwnedLemmas.{owned_tells};
+    ghost use Rattle.fsfs_turn.specs.OwnedLemmas.{owned_tells, owned_benches_tell};
     ghost use Rattle.fsfs_fetch.specs.OwnedShort.{owned_short};
     ghost use Rattle.std.specs.Prelude.{◌⊎◌, ℕ, IfOk, OnOk, OnErr};
     ghost use Rattle.fsfs_base.specs.Failures.{HasCause};
@@ -175,6 +175,8 @@ impl<R, D: Disk> Turns<R> for Owned<D> {
     }
 
     ghost tells = { λ s v known. owned_tells s.layout s.young s.stuck (D.trace s.disk) v known };
+
+    ghost benches_tell = { λ s v bench known. owned_benches_tell s.layout s.young s.stuck (D.trace s.disk) (D.Bench.contents bench) v (D.benches_tell s.disk bench) known };
 
     ghost short = { λ s. owned_short (D.trace s.disk) (D.short s.disk) };
 }

@@ -1,5 +1,5 @@
 //! What a section is written over.
-ghost use Rattle.std.specs.Prelude.{◌≡◌, ◌⊎◌, ◌<◌, ◌≤◌, ◌^◌, ℕ, List, Option, Some, None, length, slice_get, option_map, OnOk, OnErr, IfOk, IfErr, IfSome, IsErrOf};
+ghost use Rattle.std.specs.Prelude.{◌≡◌, ◌⊎◌, ◌<◌, ◌≤◌, ◌^◌, ℕ, List, Option, Some, None, length, slice_get, option_map, OnOk, OnErr, IfOk, IfErr, IfSome, IsErrOf, IsSome};
 ghost use Rattle.std.specs.FinMap.{get, empty};
 ghost use Rattle.fsfs_tree.specs.Revisions.{Revision};
 ghost use Rattle.fsfs_base.specs.Failures.{HasCause, Rose};
@@ -213,6 +213,9 @@ pub trait Turns<R> {
 
     /// What the pass has seen can be read, where something is known.
     ghost tells: { (turns : Self) (v : View) → knows turns v → TellsSeen (store turns) v };
+
+    /// Where something is known, its benches tell their files.
+    ghost benches_tell: { (turns : Self) (v : View) (bench : Self.Bench) → knows turns v → IsSome (Self.Bench.contents bench) };
 
     /// No file is longer than 2^62 bytes.
     ghost short: { (turns : Self) → IfSome (store turns).files HasShortFiles };

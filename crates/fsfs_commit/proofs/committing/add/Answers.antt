@@ -1,0 +1,30 @@
+use Rattle.std.proofs.Common.{refl, sym, subst}
+use Rattle.fsfs_machine.specs.declared.machine.Section.TheVariants.{Begun}
+use Rattle.fsfs_turn.specs.Views.{MayAdopt}
+use Rattle.fsfs_commit.specs.Courses.{IsMade, Published}
+use Rattle.fsfs_commit.proofs.Turning.{on_ok, if_err}
+use Rattle.fsfs_commit.proofs.committing.add.Goals as goal
+
+pub publish-requires : goal.publish-requires
+publish-requires g c = on_ok c.write-draft.result.1 tt _ c.in-Ok.is c.write-draft.ensures.written
+
+pub returns-in-Err-clause-err : goal.returns-in-Err-clause-err
+returns-in-Err-clause-err g c = λ v txn next bytes known held may made.
+    let o = c.give_lock.ensures.turned v known (record { inside = Begun; is = may.begun; quiet = refl }) in
+    (o.0, o.1, (o.2, if_err c.write-draft.result.1 c.in-Err.refusal _ c.in-Err.is c.write-draft.ensures.refused))
+
+pub returns-in-Ok-publish-clause-ok : goal.returns-in-Ok-publish-clause-ok
+returns-in-Ok-publish-clause-ok g c = λ v txn next bytes known held may made.
+    let same = c.write-draft.ensures.same in
+    let here = on_ok c.write-draft.result.1 tt _ c.in-Ok.is (c.write-draft.ensures.held bytes held) in
+    let p = c.in-Ok-publish.ensures.ok v txn next bytes known here (subst (λ q. MayAdopt v txn q next bytes) (sym same) may)
+    (subst (λ q. IsMade v q c.args.made.now.rev c.args.made.now.rev_file c.args.made.now.props_file c.args.made.now.properties.items c.args.made.now.current.items) (sym same) made) in
+    (p.0, p.1, subst (λ q. Published txn q next bytes v p.0) same p.2)
+
+pub returns-in-Err-publish-clause-err : goal.returns-in-Err-publish-clause-err
+returns-in-Err-publish-clause-err g c = λ v txn next bytes known held may made.
+    let same = c.write-draft.ensures.same in
+    let here = on_ok c.write-draft.result.1 tt _ c.in-Ok.is (c.write-draft.ensures.held bytes held) in
+    let p = c.in-Err-publish.ensures.err v txn next bytes known here (subst (λ q. MayAdopt v txn q next bytes) (sym same) may)
+    (subst (λ q. IsMade v q c.args.made.now.rev c.args.made.now.rev_file c.args.made.now.props_file c.args.made.now.properties.items c.args.made.now.current.items) (sym same) made) in
+    (p.0, p.1, p.2)
