@@ -5,21 +5,26 @@ ghost use Rattle.fsfs_begin.specs.Begun.{IsUpToDate};
 
 use fsfs_base::{Failed, Name};
 use fsfs_begin::{BeginFault, begin};
+use fsfs_create::create;
 use fsfs_disk::Disk;
 use fsfs_escapes::{Transcript, bytes_of};
 use fsfs_fields::{RevNum, TxnName, put_txn_name, read_txn_name};
-use fsfs_layout::Opened;
-use fsfs_places::OpenFault;
+use fsfs_layout::{Layout, Opened};
+use fsfs_places::{CreateFault, OpenFault};
 use fsfs_repo::open;
 use fsfs_txns::{rmtxn, txns};
 use std::alloc::Global;
+use uuid::Builder;
 
-// A word, and what is left of the line.
-fn cut(line: &str) -> (&str, &str) {
+// 2024-01-02T03:04:05.678901Z
+const MOMENT: u64 = 1_704_164_645_678_901;
+
+/// A word, and what is left of the line.
+pub fn cut(line: &str) -> (&str, &str) {
     line.split_once(' ').unwrap_or((line, ""))
 }
 
-fn say_txn(alloc: Global, name: &TxnName, out: &mut Transcript) {
+pub fn say_txn(alloc: Global, name: &TxnName, out: &mut Transcript) {
     let mut text = Vec::new(alloc);
     match put_txn_name(&mut text, name) {
         Ok(()) => out.bytes(&text),
@@ -35,7 +40,7 @@ fn say_txns(alloc: Global, names: &[TxnName], out: &mut Transcript) {
     }
 }
 
-fn say_open_fault(fault: &OpenFault, out: &mut Transcript) {
+pub fn say_open_fault(fault: &OpenFault, out: &mut Transcript) {
     match fault {
         OpenFault::NotRepo => out.say("NotRepo"),
         OpenFault::OtherFormat(number) => out.tell("OtherFormat ", number),
@@ -115,6 +120,30 @@ where
             say_open_fault(&fault, out);
             disk
         }
+    }
+}
+
+fn say_create_fault(fault: &CreateFault, out: &mut Transcript) {
+    match fault {
+        CreateFault::AlreadyRepo => out.say("AlreadyRepo"),
+        CreateFault::DiskFault(place) => {
+            out.say("DiskFault ");
+            out.say(place.word());
+        }
+        CreateFault::Memory => out.lose(),
+    }
+}
+
+// Makes a repository, with two revisions in a shard.
+fn make<D: Disk>(alloc: Global, disk: &mut D, out: &mut Transcript)
+    requires { IsTrue (D.may_write disk.old) }
+    ensures right { D.may_write disk.new ≡ D.may_write disk.old }
+    ensures mounted { D.mount_path disk.new ≡ D.mount_path disk.old }
+{
+    let identifier = Builder::from_random_bytes([0; 16]).into_uuid();
+    match create(alloc, disk, identifier, Layout::sharded(2), MOMENT) {
+        Ok(()) => out.say("created"),
+        Err(fault) => say_create_fault(&fault, out),
     }
 }
 
@@ -205,6 +234,7 @@ where
     let mut disk = disk;
     let (word, rest) = cut(line);
     match word {
+        "create" => make(alloc, &mut disk, out),
         "begin" => return begin_on(alloc, disk, rest, out),
         "list" => list(alloc, &mut disk, out),
         "remove" => remove(&mut disk, rest, out),

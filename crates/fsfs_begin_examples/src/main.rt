@@ -1,14 +1,16 @@
-//! Transactions that begin and are removed: reads a text of examples, makes their calls over a disk in memory, and prints what is
-//! answered and what is left. With the words `REPOS LINE ..` it makes the calls of these lines in the folder of a repository, and
-//! leaves there what they made. `docs/EXAMPLES.md` has the form of the lines.
+//! Transactions that begin, are purged and are removed, and creations: reads a text of examples, makes their calls over a disk in
+//! memory, and prints what is answered and what is left. With the words `REPOS LINE ..` it makes the calls of these lines in the
+//! folder of a repository, and leaves there what they made. `docs/EXAMPLES.md` has the form of the lines.
 #![tactic(auto)]
 
 mod calls;
 mod failing;
 mod folder;
+mod memory;
 mod play;
 mod scene;
 mod table;
+mod turns;
 
 use anyhow::Result;
 use fsfs_escapes::Transcript;

@@ -1,5 +1,5 @@
 // What stands before a call.
-use crate::calls::call_lines;
+use crate::memory::memory_lines;
 use fsfs_escapes::Transcript;
 use fsfs_memdisk::MemDisk;
 use std::alloc::Global;
@@ -26,7 +26,7 @@ impl<'a> Scene<'a> {
     pub fn play(&self, out: &mut Transcript) -> MemDisk {
         let first = self.text.get(..self.first).unwrap_or(&[]);
         let mut unseen = Transcript::new(self.alloc);
-        let disk = call_lines(self.alloc, MemDisk::new(self.alloc), first, &mut unseen);
-        call_lines(self.alloc, disk, self.lines(), out)
+        let disk = memory_lines(self.alloc, MemDisk::new(self.alloc), first, &mut unseen);
+        memory_lines(self.alloc, disk, self.lines(), out)
     }
 }

@@ -1,6 +1,6 @@
 // A table of one call: what is answered and left where calls fail, and what a crash leaves then.
-use crate::calls::call;
 use crate::failing::{PATTERNS, Way, crashed, failing, sound};
+use crate::memory::memory_call;
 use crate::scene::Scene;
 use fsfs_escapes::Transcript;
 use fsfs_memdisk::MemDisk;
@@ -14,15 +14,15 @@ fn failed(scene: &Scene<'_>, line: &str, way: Way, number: u64, out: &mut Transc
     let mut unseen = Transcript::new(scene.alloc);
     let disk = scene.play(&mut unseen);
     let disk = failing(scene.alloc, disk, way, number, out);
-    call(scene.alloc, disk, line, out)
+    memory_call(scene.alloc, disk, line, out)
 }
 
 // Which transactions there are, and the name of the next.
 fn put_left(alloc: Global, disk: MemDisk, out: &mut Transcript) {
     out.say(" [");
-    let disk = call(alloc, sound(alloc, disk), "list", out);
+    let disk = memory_call(alloc, sound(alloc, disk), "list", out);
     out.say(", ");
-    let _ = call(alloc, disk, "begin 0", out);
+    let _ = memory_call(alloc, disk, "begin 0", out);
     out.say("]");
 }
 

@@ -6,6 +6,7 @@ use Rattle.fsfs_base.specs.Files.{Files}
 use Rattle.fsfs_base.specs.Failures.{Rose}
 use Rattle.fsfs_disk.specs.Labels.{Label, has_label, with_label, without_label}
 use Rattle.fsfs_disk.proofs.LabelLemmas.{has-without, has-with}
+use Rattle.fsfs_noderev.specs.declared.node_id.NodeId.{NodeId}
 use Rattle.fsfs_begin.specs.Benches.{first_files, with_first_files}
 use Rattle.fsfs_turn_begin.specs.Faults.{IsDropped}
 
@@ -25,9 +26,9 @@ pub dropped_now : {E : Type 0} (l : Label) (old new : Option (List Label)) (firs
 dropped_now l old new first before now (Ok there) later done failed = gone_now (Rose first now) l old new done
 dropped_now l old new first before now (Err e) later done failed = left_now (Rose first now) l new (omega (arith, later, failed))
 
-pub filled_now : (l : Label) (root : List ℕ) (old new : Option (List Label)) (held left : Option Files) → new ≡ option_map (with_label l) old → held ≡ option_map (λ _. empty) old → left ≡ option_map (with_first_files root) held → left ≡ option_map (λ _. first_files root) new
-filled_now l root old new held left kept empty_is files = files ∙ ap (λ o. option_map (with_first_files root) o) empty_is ∙ by_old old ∙ ap (λ o. option_map (λ _. first_files root) o) (sym kept)
+pub filled_now : (l : Label) (id : NodeId) (root : List ℕ) (old new : Option (List Label)) (held left : Option Files) → new ≡ option_map (with_label l) old → held ≡ option_map (λ _. empty) old → left ≡ option_map (with_first_files id root) held → left ≡ option_map (λ _. first_files id root) new
+filled_now l id root old new held left kept empty_is files = files ∙ ap (λ o. option_map (with_first_files id root) o) empty_is ∙ by_old old ∙ ap (λ o. option_map (λ _. first_files id root) o) (sym kept)
   where
-    by_old : (o : Option (List Label)) → option_map (with_first_files root) (option_map (λ _. empty) o) ≡ option_map (λ _. first_files root) (option_map (with_label l) o)
+    by_old : (o : Option (List Label)) → option_map (with_first_files id root) (option_map (λ _. empty) o) ≡ option_map (λ _. first_files id root) (option_map (with_label l) o)
     by_old None = refl
     by_old (Some ls) = refl

@@ -164,10 +164,10 @@ undrawn base v m k u names.Memory t w g = (
 -- ---- the bench
 
 -- a call of the disk that is no part of a section
-abbrev Tells : DiskPlace → Bool → View → View → Type 0
+abbrev pub Tells : DiskPlace → Bool → View → View → Type 0
 Tells at fine v u = u ≡ record v { pass = record v.pass { seen = length u.seen; faults = cond fine v.pass.faults (v.pass.faults ++ at ∷ []) }; seen = u.seen }
 
-told_moved : (at : DiskPlace) (fine : Bool) (v u : View) → v.section ≡ None → Tells at fine v u → Begins u.seen v.seen → Steps v u → Moved v u
+pub told_moved : (at : DiskPlace) (fine : Bool) (v u : View) → v.section ≡ None → Tells at fine v u → Begins u.seen v.seen → Steps v u → Moved v u
 told_moved at fine v u none is grows steps = record {
   number = ap {A = View} (λ z. z.number) is;
   layout = ap {A = View} (λ z. z.layout) is;
@@ -183,7 +183,7 @@ told_moved at fine v u none is grows steps = record {
 made_steps : (x : Drawn) (went : Went) (v u : View) → BenchMade x went v u → Steps v u
 made_steps x went v u b = one_step (with_named (x ∷ [])) (step.MakeBench v.number 0 went) (answer went) v u b.turned
 
-spent_steps : (name : ℕ) (went : Went) (v u : View) → SpentPurged name went v u → Steps v u
+pub spent_steps : (name : ℕ) (went : Went) (v u : View) → SpentPurged name went v u → Steps v u
 spent_steps name went v u b = one_step (with_spent name) (step.PurgeSpent v.number 0 went) (answer went) v u b.turned
 
 pub is_made : (x : Drawn) (went : Went) (v u : View) → is_fine_in went ≡ true → BenchMade x went v u → IsMade v u

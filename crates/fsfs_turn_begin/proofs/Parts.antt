@@ -70,6 +70,8 @@ module _ (young : ℕ) (v a b : View) (number : ℕ) (l : Looked young v a) (h :
   has_begun name root held u same le made on = record {
     is = whole ∙ ap (λ (k : ℕ). record v { pass = record v.pass { seen = length u.seen; least = k }; seen = u.seen; section = None; sure = false; given = number ∷ v.given }) (sym young_is)
         ∙ ap (λ (n : ℕ). record v { pass = record v.pass { seen = length u.seen; least = u.pass.least }; seen = u.seen; section = None; sure = false; given = n ∷ v.given }) (sym same);
+    least = omega (arith, young_is, l.least);
+    all = omega (arith, young_is, least_is, h.all, longer b.seen u.seen a.pass.least made.grows h.all);
     base = longer b.seen u.seen name.base made.grows within;
     root = begun;
     draft = stands_for (bytes_of u.seen) name root held begun;

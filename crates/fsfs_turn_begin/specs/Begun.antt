@@ -1,5 +1,5 @@
 -- A transaction that was begun by turns.
-use Rattle.std.specs.Prelude.{◌≡◌, ◌<◌, ℕ, List, ◌∷◌, length, false, Option, None, option_map}
+use Rattle.std.specs.Prelude.{◌≡◌, ◌<◌, ◌≤◌, ℕ, List, ◌∷◌, length, false, Option, None, option_map}
 use Rattle.fsfs_base.specs.Files.{Files}
 use Rattle.fsfs_fields.specs.declared.txn_name.TxnName.{TxnName}
 use Rattle.fsfs_noderev.specs.declared.node_rev.NodeRev.{NodeRev}
@@ -12,7 +12,7 @@ use Rattle.fsfs_turn_begin.specs.Steps.{Steps}
 
 -- the bench holds the files that a transaction begins with, among them the text of this root; where anything is told
 abbrev pub HoldsRoot : {A : Type 0} → NodeRev → Option A → Option Files → Type 0
-HoldsRoot root told held = (text : List ℕ) × IsRootText root text × (held ≡ option_map (λ _. first_files text) told)
+HoldsRoot root told held = (text : List ℕ) × IsRootText root text × (held ≡ option_map (λ _. first_files root.id text) told)
 
 -- the pass saw the history as it is then, and nothing else is changed for it
 pub record IsMade (v u : View) : Type 0 where
@@ -24,6 +24,9 @@ pub record IsMade (v u : View) : Type 0 where
 -- pass is in no section.
 pub record HasBegun (name : TxnName) (node : NodeRev) (held : Option Files) (v u : View) : Type 0 where
   pub is : u ≡ record v { pass = record v.pass { seen = length u.seen; least = u.pass.least }; seen = u.seen; section = None; sure = false; given = name.number.number ∷ v.given }
+  -- it was told a revision as young as before or younger, and has seen that
+  pub least : v.pass.least ≤ u.pass.least
+  pub all : u.pass.least < length u.seen
   pub base : name.base < length u.seen
   pub root : IsBegunOn (bytes_of u.seen) name node
   -- where these bytes show trees, it is a draft of its base's, without marks

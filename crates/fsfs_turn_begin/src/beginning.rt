@@ -4,6 +4,7 @@ ghost use Rattle.fsfs_base.specs.Failures.{Rose};
 ghost use Rattle.fsfs_disk.specs.Labels.{has_label};
 ghost use Rattle.fsfs_txns.specs.Txns.{pair_of, txn_label};
 ghost use Rattle.fsfs_begin.specs.Begun.{IsBegunOn};
+ghost use Rattle.fsfs_begin.specs.Benches.{TellsRoot};
 ghost use Rattle.fsfs_turn.specs.Bytes.{bytes_of};
 ghost use Rattle.fsfs_turn.specs.Views.{View};
 ghost use Rattle.fsfs_turn.specs.Learning.{MayMake, drawn_of};
@@ -41,6 +42,7 @@ fn begin_named<R, T: LoneTurns<R>>(
 ) -> (T, Result<Begun<T::Bench>, BeginFault>)
     ensures name { IfOk result.1 (λ begun. begun.name ≡ name) }
     ensures filled { IfOk result.1 (λ begun. HoldsRoot begun.root (T.labels result.0) (T.Bench.contents begun.bench)) }
+    ensures tells { IfOk result.1 (λ begun. TellsRoot begun.root (T.Bench.contents begun.bench)) }
     ensures sound { IfOk result.1 (λ begun. T.Bench.faults begun.bench ≡ 0) }
     ensures kept { IfSome (T.labels result.0) (λ ls. OnOk result.1 (has_label (txn_label (pair_of name)) ls ≡ true)) }
     ensures begun { (v : View) → T.knows turns v → MayMake v (drawn_of name.base name.number.number)
@@ -76,6 +78,8 @@ pub fn begin<R, T: LoneTurns<R>>(
     ensures base { IfOk result.1 (λ begun. begun.name.base ≡ base) }
     // Its bench holds the files that a transaction begins with, and no others: among them its root's text. Its label is kept.
     ensures filled { IfOk result.1 (λ begun. HoldsRoot begun.root (T.labels result.0) (T.Bench.contents begun.bench)) }
+    // So they tell the folder that it begins with.
+    ensures tells { IfOk result.1 (λ begun. TellsRoot begun.root (T.Bench.contents begun.bench)) }
     ensures sound { IfOk result.1 (λ begun. T.Bench.faults begun.bench ≡ 0) }
     ensures kept { IfSome (T.labels result.0) (λ ls. IfOk result.1 (λ begun. has_label (txn_label (pair_of begun.name)) ls ≡ true)) }
     // What the pass knows then; and why none was begun, where none was.

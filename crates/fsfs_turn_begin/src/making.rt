@@ -4,7 +4,7 @@ ghost use Rattle.fsfs_base.specs.Failures.{Rose};
 ghost use Rattle.fsfs_disk.specs.Labels.{has_label};
 ghost use Rattle.fsfs_noderev.specs.Writing.{HasText};
 ghost use Rattle.fsfs_begin.specs.Beginning.{BeginsOn};
-ghost use Rattle.fsfs_begin.specs.Benches.{first_files};
+ghost use Rattle.fsfs_begin.specs.Benches.{first_files, TellsRoot};
 ghost use Rattle.fsfs_txns.specs.Txns.{pair_of, txn_label};
 ghost use Rattle.fsfs_turn.specs.Views.{View};
 ghost use Rattle.fsfs_turn.specs.Learning.{MayMake, drawn_of};
@@ -16,7 +16,8 @@ use crate::begin_fault::BeginFault;
 use fsfs_begin::{Begun, BenchFault, fill, first_root};
 use fsfs_disk::Label;
 use fsfs_fields::TxnName;
-use fsfs_noderev::{NodeRev, write_noderev};
+use fsfs_folder_files::id_fits;
+use fsfs_noderev::{NodeId, NodeRev, write_noderev};
 use fsfs_places::DiskPlace;
 use fsfs_turn::Turns;
 use std::alloc::Global;
@@ -36,9 +37,10 @@ fn begin_bench<R, T: Turns<R>>(
     rt: &R,
     turns: &mut T,
     name: &TxnName,
+    id: &NodeId,
     root: &[u8],
 ) -> Result<T::Bench, BenchFault>
-    ensures filled { IfOk result (λ bench. T.Bench.contents bench ≡ option_map (λ _. first_files root.now) (T.labels turns.new)) }
+    ensures filled { IfOk result (λ bench. T.Bench.contents bench ≡ option_map (λ _. first_files id.now root.now) (T.labels turns.new)) }
     ensures sound { IfOk result (λ bench. T.Bench.faults bench ≡ 0) }
     ensures kept { IfSome (T.labels turns.new) (λ ls. OnOk result (has_label (txn_label (pair_of name.now)) ls ≡ true)) }
     ensures made { (v : View) → T.knows turns.old v → MayMake v (drawn_of name.now.base name.now.number.number) → OnOk result ((u : View) × T.knows turns.new u × IsMade v u) }
@@ -50,7 +52,7 @@ fn begin_bench<R, T: Turns<R>>(
 {
     let label = Label::Txn(*name);
     match turns.bench(rt, &label) {
-        Ok(mut bench) => match fill(&mut bench, root) {
+        Ok(mut bench) => match fill(&mut bench, id, root) {
             Ok(()) => Ok(bench),
             Err(_) => {
                 let _ = turns.drop_bench(rt, &label, Some(bench));
@@ -76,6 +78,7 @@ pub(crate) fn make<R, T: Turns<R>>(
     ensures name { IfOk result (λ begun. begun.name ≡ name) }
     ensures root { IfOk result (λ begun. BeginsOn name base.now begun.root) }
     ensures filled { IfOk result (λ begun. HoldsRoot begun.root (T.labels turns.new) (T.Bench.contents begun.bench)) }
+    ensures tells { IfOk result (λ begun. TellsRoot begun.root (T.Bench.contents begun.bench)) }
     ensures sound { IfOk result (λ begun. T.Bench.faults begun.bench ≡ 0) }
     ensures kept { IfSome (T.labels turns.new) (λ ls. OnOk result (has_label (txn_label (pair_of name)) ls ≡ true)) }
     ensures made { (v : View) → T.knows turns.old v → MayMake v (drawn_of name.base name.number.number) → OnOk result ((u : View) × T.knows turns.new u × IsMade v u) }
@@ -92,7 +95,8 @@ pub(crate) fn make<R, T: Turns<R>>(
     let Ok(text) = write_noderev(alloc, &root) else {
         return Err(BeginFault::Memory);
     };
-    match begin_bench(rt, turns, &name, &text) {
+    id_fits(&root.id);
+    match begin_bench(rt, turns, &name, &root.id, &text) {
         Ok(bench) => Ok(Begun { name, root, bench }),
         Err(fault) => Err(made_fault(fault)),
     }

@@ -8,7 +8,7 @@ use Rattle.fsfs_turn_begin.proofs.making.begin_bench.Goals as goal
 
 pub returns-in-Ok-fill-clause-filled : goal.returns-in-Ok-fill-clause-filled
 returns-in-Ok-fill-clause-filled g c =
-    filled_now (txn_label (pair_of c.args.name.now)) c.args.root.now (g.T.Turns.labels c.args.turns.now) (g.T.Turns.labels c.bench.new.self) (g.T.Bench.Bench.contents c.in-Ok.bench) (g.T.Bench.Bench.contents c.fill.new.bench)
+    filled_now (txn_label (pair_of c.args.name.now)) c.args.id.now c.args.root.now (g.T.Turns.labels c.args.turns.now) (g.T.Turns.labels c.bench.new.self) (g.T.Bench.Bench.contents c.in-Ok.bench) (g.T.Bench.Bench.contents c.fill.new.bench)
     c.in-Ok.ensures.kept c.in-Ok.ensures.empty c.in-Ok-fill.ensures.files
 
 pub returns-in-Ok-fill-clause-kept : goal.returns-in-Ok-fill-clause-kept

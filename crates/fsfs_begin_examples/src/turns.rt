@@ -1,0 +1,86 @@
+// A transaction that is begun and purged by turns.
+use crate::calls::{say_open_fault, say_txn};
+use fsfs_begin::Begun;
+use fsfs_escapes::Transcript;
+use fsfs_fields::RevNum;
+use fsfs_memdisk::{MemBench, MemDisk};
+use fsfs_opened_store::{OpenedStore, Unopened, open_store};
+use fsfs_places::DiskPlace;
+use fsfs_turn::Owned;
+use fsfs_turn_begin::{BeginFault, begin};
+use fsfs_turn_purge::{PurgeFault, purge};
+use std::alloc::Global;
+
+fn say_disk_fault(place: DiskPlace, out: &mut Transcript) {
+    out.say("DiskFault ");
+    out.say(place.word());
+}
+
+fn say_begin_fault(fault: &BeginFault, out: &mut Transcript) {
+    match fault {
+        BeginFault::NoRev { asked, youngest } => {
+            out.tell("NoRev ", asked);
+            out.tell(" ", youngest);
+        }
+        BeginFault::Stuck(place) => {
+            out.say("Stuck ");
+            out.say(place.word());
+        }
+        BeginFault::Small(fault) => out.tell("Small TxnCurrent ", &fault.at),
+        BeginFault::NamesFull => out.say("NamesFull"),
+        BeginFault::Wrong(_) => out.say("Corrupt"),
+        BeginFault::DiskFault(place) => say_disk_fault(*place, out),
+        BeginFault::BenchFault => out.say("BenchFault"),
+        BeginFault::Memory => out.lose(),
+    }
+}
+
+fn purge_begun(
+    alloc: Global,
+    store: &mut Owned<MemDisk>,
+    begun: Begun<MemBench>,
+    out: &mut Transcript,
+) {
+    let Begun { name, bench, .. } = begun;
+    out.say("begun ");
+    say_txn(alloc, &name, out);
+    let rt = ();
+    match purge(&rt, store, &name, bench) {
+        Ok(()) => out.say(", purged"),
+        Err(PurgeFault::DiskFault(place)) => {
+            out.say(", ");
+            say_disk_fault(place, out);
+        }
+    }
+}
+
+fn begin_and_purge(
+    alloc: Global,
+    store: Owned<MemDisk>,
+    base: RevNum,
+    out: &mut Transcript,
+) -> MemDisk {
+    let rt = ();
+    let (back, begun) = begin(alloc, &rt, store, base);
+    let mut store = back;
+    match begun {
+        Ok(begun) => purge_begun(alloc, &mut store, begun, out),
+        Err(fault) => say_begin_fault(&fault, out),
+    }
+    store.into_disk()
+}
+
+/// Opens the store, begins a transaction on a revision, and purges it.
+pub fn purge_on(alloc: Global, disk: MemDisk, word: &str, out: &mut Transcript) -> MemDisk {
+    let Some(base) = RevNum::plain(word.as_bytes()) else {
+        out.say("? no revision");
+        return disk;
+    };
+    match open_store(alloc, disk) {
+        Ok(OpenedStore { store, .. }) => begin_and_purge(alloc, store, base, out),
+        Err(Unopened { why, disk }) => {
+            say_open_fault(&why, out);
+            disk
+        }
+    }
+}
