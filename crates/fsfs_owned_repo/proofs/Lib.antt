@@ -1,0 +1,6 @@
+mod Shown
+mod Alone
+mod Readers
+mod Begun
+mod Crashes
+mod Dropped

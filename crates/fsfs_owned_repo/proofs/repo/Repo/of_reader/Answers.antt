@@ -1,0 +1,6 @@
+use Rattle.std.proofs.Common.{sym, subst}
+use Rattle.fsfs_owned_repo.specs.Alone.{KnowsIn}
+use Rattle.fsfs_owned_repo.proofs.repo.Repo.of_reader.Goals as goal
+
+pub returns-clause-known : goal.returns-clause-known
+returns-clause-known g c = λ v known. subst (λ s. KnowsIn s v) (sym c.turns_of.ensures.below) known

@@ -1,0 +1,5 @@
+pub mod Alone
+pub mod Readers
+pub mod Begun
+pub mod Purged
+pub mod Crashes

@@ -1,0 +1,50 @@
+//! Transactions are purged.
+ghost use Rattle.std.specs.Prelude.{◌≡◌, ◌⊎◌, ◌<◌, None, false, length, option_map, IfSome, OnOk, OnErr};
+ghost use Rattle.fsfs_base.specs.Failures.{HasCause};
+ghost use Rattle.fsfs_disk.specs.Labels.{has_label, without_label};
+ghost use Rattle.fsfs_machine.specs.Kept.{IsIn};
+ghost use Rattle.fsfs_txns.specs.Txns.{pair_of, txn_label};
+ghost use Rattle.fsfs_turn.specs.Views.{View};
+ghost use Rattle.fsfs_owned_repo.specs.Purged.{PurgesAny};
+ghost use Rattle.fsfs_owned_repo.specs.Crashes.{CrashesLeave};
+
+use crate::repo::Repo;
+use fsfs_disk::{Bench, Disk};
+use fsfs_fields::TxnName;
+use fsfs_held::HeldNodes;
+use fsfs_own::Own;
+use fsfs_turn::{Owned, Turns};
+use fsfs_turn_purge::{PurgeFault, purge};
+use fsfs_txn::Txn;
+
+// The bench of a transaction, and its name.
+fn bench_of<B: Bench>(txn: Txn<HeldNodes<B>>) -> (TxnName, B)
+    ensures name { result.0 ≡ ⟦<HeldNodes<B> as Own>⟧.txn txn.own }
+    ensures bench { result.1 ≡ txn.own.bench }
+{
+    let name = txn.name();
+    (name, txn.into_own().into_bench())
+}
+
+impl<D: Disk> Repo<D> {
+    /// Purges a transaction, also one whose bench has failed: what its bench holds goes, then the bench, and last its label. A failure
+    /// may leave its name listed; no revision is touched.
+    pub fn purge<R>(&mut self, rt: &R, txn: Txn<HeldNodes<D::Bench>>) -> Result<(), PurgeFault>
+        // Its label isn't kept any more, and all others are as they were.
+        ensures unlisted { IfSome (⟦<Owned<D> as Turns<R>>⟧.labels self.new.turns) (λ ls. OnOk result (has_label (txn_label (pair_of (⟦<HeldNodes<D::Bench> as Own>⟧.txn txn.own))) ls ≡ false)) }
+        ensures others { OnOk result (⟦<Owned<D> as Turns<R>>⟧.labels self.new.turns ≡ option_map (without_label (txn_label (pair_of (⟦<HeldNodes<D::Bench> as Own>⟧.txn txn.own)))) (⟦<Owned<D> as Turns<R>>⟧.labels self.old.turns)) }
+        // A failure leaves all labels, or all but this one.
+        ensures left { OnErr result ((⟦<Owned<D> as Turns<R>>⟧.labels self.new.turns ≡ ⟦<Owned<D> as Turns<R>>⟧.labels self.old.turns)
+            ⊎ (⟦<Owned<D> as Turns<R>>⟧.labels self.new.turns ≡ option_map (without_label (txn_label (pair_of (⟦<HeldNodes<D::Bench> as Own>⟧.txn txn.own)))) (⟦<Owned<D> as Turns<R>>⟧.labels self.old.turns))) }
+        // It is one step of the machine, however it went: of a transaction under way, whatever its edits were.
+        ensures purged { (v : View) → ⟦<Owned<D> as Turns<R>>⟧.knows self.old.turns v → v.section ≡ None → IsIn (⟦<HeldNodes<D::Bench> as Own>⟧.txn txn.own).number.number v.given
+            → (⟦<HeldNodes<D::Bench> as Own>⟧.txn txn.own).base < length v.seen
+            → PurgesAny (⟦<Owned<D> as Turns<R>>⟧.knows self.new.turns) (⟦<HeldNodes<D::Bench> as Own>⟧.txn txn.own).number.number result v }
+        // What is known then says what a crash leaves, at each moment of the call too.
+        ensures crashes { (u : View) → ⟦<Owned<D> as Turns<R>>⟧.knows self.new.turns u → CrashesLeave self.new.turns.layout (D.trace self.new.turns.disk) u }
+        ensures cause { HasCause (⟦<Owned<D> as Turns<R>>⟧.faults self.old.turns) (⟦<Owned<D> as Turns<R>>⟧.faults self.new.turns) result }
+    {
+        let (name, bench) = bench_of(txn);
+        purge(rt, &mut self.turns, &name, bench)
+    }
+}

@@ -1,0 +1,42 @@
+//! Readers of a repository that runs.
+ghost use Rattle.std.specs.Prelude.{◌≡◌, None};
+ghost use Rattle.fsfs_turn.specs.Views.{View};
+ghost use Rattle.fsfs_owned_repo.specs.Alone.{HasAll, KnowsIn};
+ghost use Rattle.fsfs_owned_repo.specs.Readers.{TellsSeenAll};
+
+use crate::repo::Repo;
+use fsfs_book::Book;
+use fsfs_disk::Disk;
+use fsfs_fetch::Direct;
+use fsfs_turn::{Owned, Turns};
+use fsfs_turn_book::{TurnReads, over_turns, turns_of};
+use std::alloc::Global;
+
+/// A book of a repository's revisions, whose calls are turns. Where a revision's own file is absent it reads the floor again once,
+/// and then the revision once more.
+pub type Reader<'a, R, D> = Direct<TurnReads<'a, R, Owned<D>>>;
+
+impl<D: Disk> Repo<D> {
+    /// A reader, which takes the repository until it gives it back.
+    pub fn reader<'a, R>(self, rt: &'a R, alloc: Global) -> Direct<TurnReads<'a, R, Owned<D>>>
+        // Of each revision up to the youngest it tells the bytes beside it, which show its tree, and a dump of its properties.
+        ensures told { (v : View) → ⟦<Owned<D> as Turns<R>>⟧.knows self.turns v → v.section ≡ None
+            → (u : View) × HasAll self.turns.young v u × TellsSeenAll u (⟦<Direct<TurnReads<'a, R, Owned<D>>> as Book>⟧.told result) }
+        ensures below { (⟦<Direct<TurnReads<'a, R, Owned<D>>> as Book>⟧.told result).below ≡ (⟦<Owned<D> as Turns<R>>⟧.store self.turns).below }
+        ensures faults { ⟦<Direct<TurnReads<'a, R, Owned<D>>> as Book>⟧.faults result ≡ ⟦<Owned<D> as Turns<R>>⟧.faults self.turns }
+    {
+        let Repo { turns } = self;
+        over_turns(alloc, rt, turns)
+    }
+
+    /// The repository of a reader again. What the pass knew is known then.
+    pub fn of_reader<'a, R>(reader: Direct<TurnReads<'a, R, Owned<D>>>) -> Repo<D>
+        ensures below { (⟦<Owned<D> as Turns<R>>⟧.store result.turns).below ≡ (⟦<Direct<TurnReads<'a, R, Owned<D>>> as Book>⟧.told reader.entry).below }
+        ensures known { (v : View) → KnowsIn (⟦<Direct<TurnReads<'a, R, Owned<D>>> as Book>⟧.told reader.entry).below v → ⟦<Owned<D> as Turns<R>>⟧.knows result.turns v }
+        ensures faults { ⟦<Owned<D> as Turns<R>>⟧.faults result.turns ≡ ⟦<Direct<TurnReads<'a, R, Owned<D>>> as Book>⟧.faults reader.entry }
+    {
+        Repo {
+            turns: turns_of(reader),
+        }
+    }
+}
