@@ -96,7 +96,7 @@ opens_badly (Some more) a b is_full line stops.OutOfMemory here r = tt
 
 -- ---- whole jobs
 
-is_error_more : (P Q : ScriptError → Type 0) (e : ScriptError) → ((e : ScriptError) → P e → Q e) → IsError P e → IsError Q e
+pub is_error_more : (P Q : ScriptError → Type 0) (e : ScriptError) → ((e : ScriptError) → P e → Q e) → IsError P e → IsError Q e
 is_error_more P Q (errors.BadScript bad) more p = more (errors.BadScript bad) p
 is_error_more P Q errors.TextTooLong more p = more errors.TextTooLong p
 is_error_more P Q errors.PropTooLong more p = more errors.PropTooLong p

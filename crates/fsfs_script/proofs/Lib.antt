@@ -10,3 +10,4 @@ pub mod WrittenLemmas
 pub mod JobsFound
 pub mod JobsAgain
 pub mod ScriptLemmas
+pub mod WholeLemmas

@@ -6,3 +6,4 @@ pub mod Jobs
 pub mod JobTexts
 pub mod Scripts
 pub mod Laws
+pub mod Whole

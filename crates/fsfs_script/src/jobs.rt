@@ -3,7 +3,7 @@ ghost use Rattle.std.specs.Prelude.{◌≡◌, IfOk};
 ghost use Rattle.fsfs_base.specs.Counts.{HasCause};
 ghost use Rattle.fsfs_script.specs.Places.{place_of};
 ghost use Rattle.fsfs_script.specs.Errors.{IfReadFault};
-ghost use Rattle.fsfs_script.specs.Jobs.{start, stage_after, with_command, FillsJob, Opens, ReadsJob};
+ghost use Rattle.fsfs_script.specs.Jobs.{start, stage_after, with_command, FillsJob, Opens, ReadsJob, ReadsNext};
 
 use crate::ahead::Ahead;
 use crate::commands::{Command, Next};
@@ -101,6 +101,27 @@ impl Ahead {
                 let mut job = begun(alloc, line, base);
                 self.commands(alloc, source, &mut job)?;
                 Ok(Job::Commit(job))
+            }
+        }
+    }
+
+    /// The next job; none where only empty lines are left.
+    pub(crate) fn next_job<S: Source>(
+        &mut self,
+        alloc: Global,
+        source: &mut S,
+        is_full: bool,
+    ) -> Result<Option<Job>, ScriptError>
+        ensures given { ReadsNext is_full (place_of (S.remaining source.old) self.old) (place_of (S.remaining source.new) self.new) result }
+        ensures cause { HasCause IfReadFault (S.faults source.old) (S.faults source.new) result }
+    {
+        let line = self.line();
+        match self.skip_empty_lines(source) {
+            Err(stop) => Err(stopped_at(line, stop)),
+            Ok(false) => Ok(None),
+            Ok(true) => {
+                let job = self.job(alloc, source, is_full)?;
+                Ok(Some(job))
             }
         }
     }

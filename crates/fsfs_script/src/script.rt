@@ -6,7 +6,7 @@ ghost use Rattle.fsfs_script.specs.Errors.{IfReadFault};
 ghost use Rattle.fsfs_script.specs.Jobs.{ReadsNext, room_after};
 
 use crate::ahead::Ahead;
-use crate::script_error::{ScriptError, stopped_at};
+use crate::script_error::ScriptError;
 use fsfs_job_lines::Job;
 use fsfs_streams::Source;
 use std::alloc::{AllocError, Global};
@@ -46,13 +46,10 @@ impl<S: Source + Drop> Script<S> {
         ensures stopped { self.new.stopped ≡ self.old.stopped }
         ensures cause { HasCause IfReadFault (S.faults self.old.source) (S.faults self.new.source) result }
     {
-        let line = self.ahead.line();
-        match self.ahead.skip_empty_lines(&mut self.source) {
-            Err(stop) => Err(stopped_at(line, stop)),
-            Ok(false) => Ok(None),
-            Ok(true) => {
-                let is_full = self.room == 0;
-                let job = self.ahead.job(alloc, &mut self.source, is_full)?;
+        let is_full = self.room == 0;
+        match self.ahead.next_job(alloc, &mut self.source, is_full)? {
+            None => Ok(None),
+            Some(job) => {
                 self.room = self.room.saturating_sub(1);
                 Ok(Some(job))
             }
