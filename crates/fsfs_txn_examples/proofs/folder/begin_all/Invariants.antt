@@ -1,0 +1,7 @@
+use Rattle.std.proofs.Common.{◌≡◌}
+use Rattle.fsfs_txn_examples.proofs.folder.begin_all.Given as goal
+
+abbrev pub invariant-loop-line : goal.invariant-loop-line
+invariant-loop-line g l = record {
+  right : g.D.Disk.may_write l.left ≡ g.D.Disk.may_write l.fn.disk;
+}

@@ -1,0 +1,78 @@
+// Why a call gave nothing.
+use fsfs_begin::BeginFault;
+use fsfs_damage::{Refusal, Wrong};
+use fsfs_escapes::Transcript;
+use fsfs_final_bytes::FinalError;
+use fsfs_own::EditError;
+use fsfs_txn::TxnError;
+
+fn say_wrong(wrong: &Wrong, out: &mut Transcript) {
+    match wrong {
+        Wrong::Refused(Refusal::NoRev { asked, youngest }) => {
+            out.tell("NoRev ", asked);
+            out.tell(" ", youngest);
+        }
+        Wrong::Refused(Refusal::Missing { rev }) => out.tell("Missing ", rev),
+        Wrong::Refused(Refusal::Small(_)) => out.say("Small"),
+        Wrong::Damaged(damage) => {
+            out.tell("Corrupt ", &damage.at.rev);
+            out.tell(" ", &damage.at.offset);
+            out.say(" ");
+            out.name(&damage.what);
+        }
+        Wrong::Delta(at) => {
+            out.tell("Delta ", &at.rev);
+            out.tell(" ", &at.offset);
+        }
+    }
+}
+
+fn say_edit_error(error: &EditError, out: &mut Transcript) {
+    match error {
+        EditError::OutOfMemory => out.lose(),
+        EditError::DiskFault => out.say("DiskFault"),
+        EditError::BenchFault => out.say("BenchFault"),
+        EditError::Wrong(wrong) => say_wrong(wrong, out),
+        EditError::Lacking => out.say("Lacking"),
+    }
+}
+
+/// Why a call of a transaction gave nothing.
+pub fn say_txn_error(error: &TxnError, out: &mut Transcript) {
+    match error {
+        TxnError::Spent { .. } => out.say("Spent"),
+        TxnError::Fault(error) => say_edit_error(error, out),
+    }
+}
+
+/// Why no transaction began.
+pub fn say_begin_fault(fault: &BeginFault, out: &mut Transcript) {
+    match fault {
+        BeginFault::NoRev { asked, youngest } => {
+            out.tell("NoRev ", asked);
+            out.tell(" ", youngest);
+        }
+        BeginFault::Small(_) => out.say("Small"),
+        BeginFault::NamesFull => out.say("NamesFull"),
+        BeginFault::Wrong(wrong) => say_wrong(wrong, out),
+        BeginFault::DiskFault(place) => {
+            out.say("DiskFault ");
+            out.say(place.word());
+        }
+        BeginFault::BenchFault => out.say("BenchFault"),
+        BeginFault::Memory => out.lose(),
+    }
+}
+
+/// Why no bytes of a revision were written.
+pub fn say_final_error(error: &FinalError, out: &mut Transcript) {
+    match error {
+        FinalError::OutOfMemory => out.lose(),
+        FinalError::SinkFault => out.say("SinkFault"),
+        FinalError::Lacking => out.say("Lacking"),
+        FinalError::PastLimit(limit) => {
+            out.say("PastLimit ");
+            out.name(limit);
+        }
+    }
+}

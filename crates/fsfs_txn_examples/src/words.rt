@@ -1,0 +1,38 @@
+// The words of a line.
+use fsfs_base::{FsPath, Name};
+use fsfs_escapes::bytes_of;
+use fsfs_fields::{PropName, RevNum};
+use std::alloc::Global;
+
+/// A word, and what is left of the line.
+pub fn cut(line: &str) -> (&str, &str) {
+    line.split_once(' ').unwrap_or((line, ""))
+}
+
+/// The path that a word is.
+pub fn path_of(alloc: Global, word: &str) -> Option<FsPath> {
+    FsPath::parse(alloc, word).ok()
+}
+
+/// The name of a property that a word is.
+pub fn prop_name_of(alloc: Global, word: &str) -> Option<PropName> {
+    PropName::parse(alloc, word).ok()
+}
+
+/// The revision that a word is.
+pub fn rev_of(word: &str) -> Option<RevNum> {
+    RevNum::plain(word.as_bytes())
+}
+
+/// The name of a file that a word is.
+pub fn file_of(word: &str) -> Option<Name> {
+    if word.len() > 128 {
+        return None;
+    }
+    Some(Name::new(word))
+}
+
+/// The bytes that a text stands for.
+pub fn text_of(alloc: Global, text: &str) -> Option<Vec<u8>> {
+    bytes_of(alloc, text).ok()
+}
