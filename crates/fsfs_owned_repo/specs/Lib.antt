@@ -3,3 +3,4 @@ pub mod Readers
 pub mod Begun
 pub mod Purged
 pub mod Crashes
+pub mod Commits
