@@ -1,5 +1,5 @@
 -- An end of the object, a crash and an opening keep it.
-use Rattle.std.proofs.Common.{◌≡◌, ◌≤◌, ◌+◌, ◌-◌, ◌^◌, ℕ, suc, zero, List, [], ◌∷◌, ◌++◌, length, Bool, true, false, cond, inl, inr, ⊎_elim, refl, sym, ap, subst, ◌∙◌, arith, take}
+use Rattle.std.proofs.Common.{◌≡◌, ◌≤◌, ◌+◌, ◌-◌, ◌^◌, ℕ, suc, zero, List, [], ◌∷◌, ◌++◌, length, Bool, true, false, cond, inl, inr, ⊎_elim, refl, sym, ap, subst, ◌∙◌, arith, take, length-append}
 use Rattle.std.proofs.lemmas.Bool.{both_ways}
 use Rattle.std.specs.Prelude.{Some, None, IfSome, slice_get, nat_lt}
 use Rattle.std.proofs.lemmas.List.{take_all}
@@ -16,7 +16,7 @@ use Rattle.fsfs_machine.specs.declared.machine.Went.{Went}
 use Rattle.fsfs_machine.specs.declared.machine.Went.TheVariants.{Fine, Before, After, Torn}
 use Rattle.fsfs_machine.specs.declared.machine.Outcome.TheVariants as outcome
 use Rattle.fsfs_machine.specs.Disk.{Disk, found, shown, left}
-use Rattle.fsfs_machine.specs.Machine.{World, did, barred, disk_after, labels_left, revisions, with_next, is_up, file_of, number_of, down, ends, revision_in, read_one, read_back, opened, named, open_at}
+use Rattle.fsfs_machine.specs.Machine.{World, did, barred, disk_after, labels_left, recorded, revisions, with_next, is_up, file_of, number_of, down, ends, revision_in, read_one, read_back, opened, named, open_at}
 use Rattle.fsfs_machine.specs.Kept.{HasAll, StandsFor, StandsForEither, Stands, CountsOn, KnowsAt, coming, Follows, IsHolder, FloorIs, Kept, Grows, AllGiven}
 use Rattle.fsfs_machine.proofs.Answering.{some_at}
 use Rattle.fsfs_machine.proofs.KeptParts.{Steady, steady, keeps_disk}
@@ -128,16 +128,20 @@ reads f d h (suc n) all le =
     ∙ ap (λ o. read_one (Some (take n h)) (revision_in (Some (file_of x)) o)) files.1
     ∙ ap (λ l. Some l) (sym (take_one h n x at.1))
 
+grown_more : (h new : List Recorded) → Grows h new → length h ≤ length new
+grown_more h new (inl same) = omega (arith, ap length same)
+grown_more h new (inr (x, f, is)) = omega (arith, ap length is, length-append h (recorded x ∷ []))
+
 -- an opening goes on from what the files stand for
 opened_keeps : (w : World) (h : List Recorded) (k : ℕ) → StandsFor w.floor w.disk h → IsHistory (revisions h) → Grows w.history h → k + 1 ≡ length h → Kept w → Moves w (opened w k w.floor (Some h)).world
 opened_keeps w h k s is g last kept = record {
   kept = record {
     young = λ up. last;
-    seen = (record { seen = omega (arith, last); least = omega (arith, last); mine = tt; floor = omega arith }, tt);
+    seen = (record { seen = omega (arith, last); least = omega (arith, last); mine = tt; floor = refl }, tt);
     history = is;
     transactions = tt;
     stands = each_firm w.disk (λ m. StandsFor w.floor m h) s;
-    floor = kept.floor;
+    floor = omega (arith, kept.floor, grown_more w.history h g);
     floors = each_firm w.disk (FloorIs w.floor) (kept.floors w.disk (read_is_image w.disk));
     counts = each_firm w.disk (CountsOn w.given) (kept.counts w.disk (read_is_image w.disk));
     once = kept.once;

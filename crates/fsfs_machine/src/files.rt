@@ -52,15 +52,11 @@ pub fn find<'a>(disk: &'a VecDeque<NameChange>, name: &FileName) -> Option<&'a C
     None
 }
 
-/// The file of a revision, which is in no pack unless it is below the floor.
-pub fn find_rev(disk: &VecDeque<NameChange>, floor: u64, rev: u64) -> Option<&Contents>
-    ensures { MatchOption result (shown floor disk.now.items rev ≡ None) (λ c. shown floor disk.now.items rev ≡ Some c.now) }
+/// The file of a revision. Whether its bytes stand in a pack, below the floor, is nothing of the machine's.
+pub fn find_rev(disk: &VecDeque<NameChange>, _floor: u64, rev: u64) -> Option<&Contents>
+    ensures { MatchOption result (shown _floor disk.now.items rev ≡ None) (λ c. shown _floor disk.now.items rev ≡ Some c.now) }
 {
-    if rev < floor {
-        None
-    } else {
-        find(disk, &FileName::Rev(rev))
-    }
+    find(disk, &FileName::Rev(rev))
 }
 
 /// The number in a file.

@@ -1,11 +1,12 @@
 -- Which stores are known as they are opened.
-use Rattle.std.specs.Prelude.{◌≡◌, ◌+◌, ℕ, List, [], ◌∷◌, length, Some, None}
+use Rattle.std.specs.Prelude.{◌≡◌, ◌+◌, ◌<◌, ℕ, List, [], ◌∷◌, length, Option, Some, None}
 use Rattle.fsfs_base.specs.Files.{Files}
 use Rattle.fsfs_base.specs.FirstRevision.{first_bytes}
 use Rattle.fsfs_tree.specs.Dated.{date_name}
 use Rattle.fsfs_tree.specs.Revisions.{Revision}
 use Rattle.fsfs_disk.specs.Labels.{Label}
 use Rattle.fsfs_disk.specs.Trace.{Operation, Done, FirmNames, files_after}
+use Rattle.fsfs_rev_file.specs.RevBytes.{rev_file}
 use Rattle.fsfs_stands.specs.Files.{StandsFor}
 use Rattle.fsfs_stands.specs.NewRepository.{HoldsNew}
 use Rattle.fsfs_machine.specs.declared.machine.Recorded.{Recorded}
@@ -24,9 +25,13 @@ NewStoreIsKnown = (first : Files) (labels : List Label) (before : List Operation
     → (v : View) × Knows new.layout 0 None (Some (record { first = first; labels = labels; operations = Done FirmNames ∷ before })) v
     × (v.section ≡ None) × (v.pass ≡ first_pass 1 0) × (v.seen ≡ new_revision date ∷ []) × (v.since ≡ length before + 1)
 
--- Of a disk that has just made its names firm, and whose files stand for a history of which no revision is packed, it is known: a pass has
--- seen all of it, and is in no section. Images are spoken of from now on.
+-- no file is left over of a revision that is packed
+abbrev pub IsClear : {files : Files} {h : List Revision} → StandsFor files h → Type 0
+IsClear {files} stands = (r : ℕ) → r < stands.opened.min_unpacked_rev → rev_file stands.opened.layout files r ≡ None
+
+-- Of a disk that has just made its names firm, and whose files stand for a history and are clear, it is known: a pass has seen all of it,
+-- and is in no section. Images are spoken of from now on.
 abbrev pub StoreIsKnown : Type 0
-StoreIsKnown = (first : Files) (labels : List Label) (before : List Operation) (h : List Revision) (s : StandsFor (files_after first before) h) → s.opened.min_unpacked_rev ≡ 0
+StoreIsKnown = (first : Files) (labels : List Label) (before : List Operation) (h : List Revision) (s : StandsFor (files_after first before) h) → IsClear s
     → (v : View) × Knows s.opened.layout s.opened.youngest None (Some (record { first = first; labels = labels; operations = Done FirmNames ∷ before })) v
-    × (v.section ≡ None) × (v.pass ≡ first_pass (length h) 0) × (revisions v.seen ≡ h) × (v.since ≡ length before + 1)
+    × (v.section ≡ None) × (v.pass ≡ first_pass (length h) s.opened.min_unpacked_rev) × (revisions v.seen ≡ h) × (v.since ≡ length before + 1)
