@@ -1,0 +1,4 @@
+pub mod Edits
+pub mod Lines
+pub mod Pieces
+pub mod Serial
