@@ -1,9 +1,9 @@
 -- What is left of a walk, and what it weighs: what stands in a directory weighs less than the directory.
 use Rattle.std.proofs.Common.{◌≡◌, ℕ, suc, ◌≤◌, ◌<◌, ◌+◌, ◌*◌, ◌^◌, List, [], ◌∷◌, ◌++◌, map, length, Option, Some, None, Result, Ok, Err, refl, sym, ap, subst, ◌∙◌, arith, true, Vec, Global}
-use Rattle.std.specs.Prelude.{OnOk, IfErr, MatchOption, option_to_list}
+use Rattle.std.specs.Prelude.{OnOk, IfErr, reverse}
 use Rattle.std.proofs.Math.Nat.{one-le-pow, pow-le-pow_right, pow-suc, mul-le-mul_left}
 use Rattle.std.proofs.lemmas.Bool.Decides.{nat_tests}
-use Rattle.std.proofs.lemmas.List.{reverse-append, nil_from_length}
+use Rattle.std.proofs.lemmas.List.{append-nil, append_assoc, reverse-append}
 use Rattle.fsfs_book.specs.Told.{RevisionBytes}
 use Rattle.fsfs_noderev.specs.declared.node_id.Place.{Place}
 use Rattle.fsfs_noderev.specs.declared.node_id.Place.TheVariants as places
@@ -16,20 +16,19 @@ use Rattle.fsfs_damage.specs.Readings.{Answers}
 use Rattle.fsfs_revision.specs.Nodes.{is_before, place_before}
 use Rattle.fsfs_shows.specs.Reading.{EntriesOf, offset_of}
 use Rattle.fsfs_dag.specs.declared.directory.DirEntry.{DirEntry}
-use Rattle.fsfs_dag.specs.declared.tree_walk.Pending.{Pending}
-use Rattle.fsfs_dag.specs.TreeWalks.{pending_value, Left, in_order, at_level, AreWithin, Enters, rank, weight, total}
-use Rattle.fsfs_dag.specs.Views.{AreBefore, entry_values}
+use Rattle.fsfs_dag.specs.declared.tree_walk.Entered.{Entered}
+use Rattle.fsfs_dag.specs.TreeWalks.{Left, at_level, below, below_all, AreWithin, Enters, rank, weight, total}
+use Rattle.fsfs_dag.specs.Views.{AreBefore, entry_value, entry_values}
 use Rattle.fsfs_dag.proofs.PairLemmas.{place_le}
 
--- ---- the stack, in order
+-- ---- what is left, in order
 
-pub pushed_first : (todo : List Pending) (p : Pending) → in_order (todo ++ p ∷ []) ≡ pending_value p ∷ in_order todo
-pushed_first todo p = ap (map pending_value) (reverse-append todo (p ∷ []))
+pub popped_first : (level : ℕ) (old new : List DirEntry) (entry : DirEntry) → old ≡ new ++ entry ∷ [] → at_level level (entry_values (reverse old)) ≡ (level, entry_value entry) ∷ at_level level (entry_values (reverse new))
+popped_first level old new entry is = ap (λ (t : List DirEntry). at_level level (entry_values t)) (ap reverse is ∙ reverse-append new (entry ∷ []))
 
-pub popped_first : (old new : List Pending) (r : Option Pending) (before after : ℕ) → before ≡ length old → old ≡ new ++ option_to_list r → MatchOption r ((before ≡ 0) × (after ≡ 0)) (λ p. after + 1 ≡ before)
-    → MatchOption r (in_order old ≡ []) (λ next. in_order old ≡ pending_value next ∷ in_order new)
-popped_first old new None before after long is none = ap in_order (nil_from_length old (sym long ∙ none.0))
-popped_first old new (Some p) before after long is more = ap in_order is ∙ pushed_first new p
+pub pushed_last : (far : List Entered) (near : Entered) → below_all (far ++ near ∷ []) ≡ below near ++ below_all far
+pushed_last [] near = sym (append-nil (below near))
+pushed_last (e ∷ far) near = ap (λ (t : Left). t ++ below e) (pushed_last far near) ∙ append_assoc (below near) (below_all far) (below e)
 
 -- ---- a directory is entered
 

@@ -8,7 +8,8 @@ use Rattle.fsfs_damage.specs.declared.wrong.ReadError.{ReadError}
 use Rattle.fsfs_damage.specs.declared.wrong.ReadError.TheVariants as errors
 use Rattle.fsfs_noderev.specs.declared.node_rev.NodeRev.{NodeRev}
 use Rattle.fsfs_shows.specs.Reading.{DirEntry as EntryValue, EntriesOf, offset_of}
-use Rattle.fsfs_dag.specs.Views.{entry_value}
+use Rattle.fsfs_dag.specs.Views.{entry_value, entry_values}
+use Rattle.fsfs_dag.specs.declared.tree_walk.Entered.{Entered}
 use Rattle.fsfs_dag.specs.declared.tree_walk.Pending.{Pending}
 use Rattle.fsfs_dag.specs.declared.tree_walk.TreeWalk.{TreeWalk}
 
@@ -20,15 +21,20 @@ pending_value p = (p.level, entry_value p.entry)
 abbrev pub Left : Type 0
 Left = List (ℕ × EntryValue)
 
--- of a stack: the last is the first
-abbrev pub in_order : List Pending → Left
-in_order todo = map pending_value (reverse todo)
-
-abbrev pub left : TreeWalk → Left
-left walk = in_order walk.todo.items
-
 abbrev pub at_level : ℕ → List EntryValue → Left
 at_level level = map (λ entry. (level, entry))
+
+-- of one directory: the last is the first
+abbrev pub below : Entered → Left
+below here = at_level here.level (entry_values (reverse here.below.items))
+
+-- of the directories above: the last is the nearest
+abbrev pub below_all : List Entered → Left
+below_all [] = []
+below_all (far ∷ near) = below_all near ++ below far
+
+abbrev pub left : TreeWalk → Left
+left walk = below walk.here ++ below_all walk.above.items
 
 -- all that is left stands in revisions up to this one
 abbrev pub AreWithin : ℕ → Left → Type 0

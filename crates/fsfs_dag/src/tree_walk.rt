@@ -1,7 +1,7 @@
 //! A walk through a tree, parents first.
 //!
-//! A directory's entries are put onto a stack of what is left, the first on top, so that a chain of directories of any length
-//! takes no more of the machine's own stack.
+//! What is left of the directories that were entered stands on a stack of its own, so that a chain of directories of any length
+//! takes no more of the machine's.
 ghost use Rattle.std.specs.Prelude.{◌≡◌, ◌≤◌, ◌+◌, ◌++◌, ◌<◌, ◌∷◌, ℕ, [], OnOk, IfOk, IfErr, MatchOption};
 ghost use Rattle.fsfs_base.specs.declared.kind.Kind.TheVariants.{Dir};
 ghost use Rattle.fsfs_book.specs.Told.{RevisionBytes, Knows, Keeps};
@@ -10,7 +10,7 @@ ghost use Rattle.fsfs_damage.specs.Readings.{Answers};
 ghost use Rattle.fsfs_damage.specs.declared.wrong.ReadError.TheVariants.{OutOfMemory};
 ghost use Rattle.fsfs_shows.specs.Reading.{OfEntry, offset_of};
 ghost use Rattle.fsfs_dag.specs.Seen.{IsSeen};
-ghost use Rattle.fsfs_dag.specs.TreeWalks.{pending_value, in_order, left, at_level, AreWithin, Enters, weight, total};
+ghost use Rattle.fsfs_dag.specs.TreeWalks.{pending_value, left, at_level, AreWithin, Enters, weight, total};
 ghost use Rattle.fsfs_dag.specs.Views.{entry_value, entry_values, home_of};
 
 use crate::directory::{DirEntry, entries};
@@ -19,6 +19,7 @@ use crate::seen_bytes::{SeenBytes, child_seen};
 use fsfs_book::Book;
 use fsfs_damage::ReadError;
 use std::alloc::Global;
+use std::mem;
 
 /// An entry that is left, and how many levels it stands below where the walk began.
 #[derive(Debug, Drop)]
@@ -27,31 +28,24 @@ pub struct Pending {
     pub entry: DirEntry,
 }
 
+/// A directory that was entered: its entries that are left, the first last, and how many levels they stand below where the walk
+/// began.
+#[derive(Drop)]
+pub struct Entered {
+    level: usize,
+    below: Vec<DirEntry>,
+}
+
 /// What is left of a walk through a tree, and the bytes that were read last: it is to walk in one book.
 ///
 /// Contracts see `left`, the entries in the order in which they are walked. What stands in a directory weighs less than the
 /// directory, so that `total` falls with each entry that is taken, also where the directory is entered.
 #[derive(Drop)]
 pub struct TreeWalk {
-    todo: Vec<Pending>,
+    // The directory that was entered last, and those above it that have entries left, the nearest last.
+    here: Entered,
+    above: Vec<Entered>,
     seen: SeenBytes,
-}
-
-// Puts the entries of a directory onto what is left, the first on top.
-fn put_entries(
-    todo: &mut Vec<Pending>,
-    level: usize,
-    mut below: Vec<DirEntry>,
-) -> Result<(), ReadError>
-    ensures items { OnOk result (in_order todo.new.items ≡ at_level level (entry_values below.items) ++ in_order todo.old.items) }
-    ensures memory { IfErr result (λ e. e ≡ OutOfMemory) }
-{
-    while let Some(entry) = below.pop() {
-        if todo.push(Pending { level, entry }).is_err() {
-            return Err(ReadError::OutOfMemory);
-        }
-    }
-    Ok(())
 }
 
 impl TreeWalk {
@@ -60,8 +54,13 @@ impl TreeWalk {
         ensures left { left result ≡ [] }
         ensures seen { (look : RevisionBytes) → IsSeen look result.seen }
     {
+        let here = Entered {
+            level: 0,
+            below: Vec::new(alloc),
+        };
         TreeWalk {
-            todo: Vec::new(alloc),
+            here,
+            above: Vec::new(alloc),
             seen: SeenBytes::new(),
         }
     }
@@ -71,7 +70,35 @@ impl TreeWalk {
         ensures next { MatchOption result (left self.old ≡ []) (λ next. left self.old ≡ pending_value next ∷ left self.new) }
         ensures seen { self.new.seen ≡ self.old.seen }
     {
-        self.todo.pop()
+        'levels: loop {
+            if let Some(entry) = self.here.below.pop() {
+                let level = self.here.level;
+                return Some(Pending { level, entry });
+            }
+            match self.above.pop() {
+                Some(entered) => self.here = entered,
+                None => return None,
+            }
+        }
+    }
+
+    // Puts the entries of a directory before all that is left.
+    fn put(&mut self, level: usize, mut below: Vec<DirEntry>) -> Result<(), ReadError>
+        ensures items { OnOk result (left self.new ≡ at_level level (entry_values below.items) ++ left self.old) }
+        ensures memory { IfErr result (λ e. e ≡ OutOfMemory) }
+        ensures seen { self.new.seen ≡ self.old.seen }
+    {
+        below.reverse();
+        let entered = Entered { level, below };
+        if self.here.below.is_empty() {
+            self.here = entered;
+            return Ok(());
+        }
+        let above = mem::replace(&mut self.here, entered);
+        if self.above.push(above).is_err() {
+            return Err(ReadError::OutOfMemory);
+        }
+        Ok(())
     }
 
     /// The node-revision that an entry names, as `child_of` reads it.
@@ -113,6 +140,6 @@ impl TreeWalk {
             return Err(ReadError::OutOfMemory);
         };
         let below = entries(alloc, book, dir)?;
-        put_entries(&mut self.todo, next, below)
+        self.put(next, below)
     }
 }
