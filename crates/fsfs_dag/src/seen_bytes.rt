@@ -14,7 +14,7 @@ ghost use Rattle.fsfs_dag.specs.Views.{entry_value};
 use crate::directory::DirEntry;
 use crate::node::PlacedNode;
 use crate::places::offset_of;
-use crate::reading::{check_id, check_kind, is_decided, node_in_whole, node_read, window};
+use crate::reading::{check_id, check_kind, is_decided, node_in_whole, window};
 use fsfs_book::Book;
 use fsfs_damage::{DamageKind, ReadError, RevOffset};
 use fsfs_fields::RevNum;
@@ -31,6 +31,9 @@ const BEFORE: u64 = 1024;
 
 // How far from its beginning a stretch still goes on: to the node-revisions right behind what is kept.
 const NEAR: u64 = 16384;
+
+// How many bytes are read of a revision of which none are kept: the node-revision may be the only one that is asked for there.
+const ALONE: usize = 1024;
 
 /// Bytes of a revision that were read together, and their place.
 #[derive(Drop)]
@@ -99,15 +102,16 @@ impl Stretch {
         Some(&kept[skipped as usize..])
     }
 
-    // Keeps a revision's bytes from a place on.
-    fn read<B: Book>(&mut self, book: &mut B, at: RevOffset) -> Result<(), ReadError>
-        ensures told { (look : RevisionBytes) → IsTold (B.told book.old) look at.rev → Answers (λ _. take self.new.count self.new.bytes) (WindowAt look at (length self.old.bytes)) result }
+    // Keeps a revision's bytes from a place on, so many at most.
+    fn read<B: Book>(&mut self, book: &mut B, at: RevOffset, most: usize) -> Result<(), ReadError>
+        requires { most ≤ 8192 }
+        ensures told { (look : RevisionBytes) → IsTold (B.told book.old) look at.rev → Answers (λ _. take self.new.count self.new.bytes) (WindowAt look at most) result }
         ensures seen { (look : RevisionBytes) → IsTold (B.told book.old) look at.rev → IsKept look self.new }
         ensures kept { Keeps (B.told book.old) (B.told book.new) }
         ensures cause { HasCause (B.faults book.old) (B.faults book.new) result }
     {
         self.turn_to(at);
-        self.count = window(book, &at, &mut self.bytes)?;
+        self.count = window(book, &at, &mut self.bytes[..most])?;
         Ok(())
     }
 }
@@ -154,24 +158,25 @@ fn node_kept(alloc: Global, at: &RevOffset, seen: &Stretch) -> Result<NodeRev, R
     }
 }
 
-// The node-revision at a place, of what is read anew, or, where that doesn't show one, of all its bytes.
+// The node-revision at a place, of what is read anew of its revision, so many bytes from another place on, or, where that doesn't
+// show one, of all its bytes.
 fn node_anew<B: Book>(
     alloc: Global,
     book: &mut B,
     at: &RevOffset,
+    begins: RevOffset,
+    most: usize,
     seen: &mut Stretch,
 ) -> Result<NodeRev, ReadError>
+    requires rev { begins.rev ≡ at.now.rev }
+    requires most { most ≤ 8192 }
     ensures told { (look : RevisionBytes) → IsTold (B.told book.old) look at.now.rev → Answers (λ v. v) (NodeAt look at.now) result }
     ensures seen { (look : RevisionBytes) → IsTold (B.told book.old) look at.now.rev → IsKept look seen.new }
     ensures ordered { IfOk result (λ v. is_ordered at.now v ≡ true) }
     ensures kept { Keeps (B.told book.old) (B.told book.new) }
     ensures cause { HasCause (B.faults book.old) (B.faults book.new) result }
 {
-    let begins = RevOffset {
-        rev: at.rev,
-        offset: at.offset.saturating_sub(BEFORE),
-    };
-    seen.read(book, begins)?;
+    seen.read(book, begins, most)?;
     let kept = node_kept(alloc, at, seen);
     if is_decided(&kept) {
         return kept;
@@ -198,7 +203,11 @@ fn node_beside<B: Book>(
     if is_decided(&kept) {
         return kept;
     }
-    node_anew(alloc, book, at, seen)
+    let begins = RevOffset {
+        rev: at.rev,
+        offset: at.offset.saturating_sub(BEFORE),
+    };
+    node_anew(alloc, book, at, begins, KEPT, seen)
 }
 
 // The node-revision at a place. The first of a revision is read alone, since it may be the only one that is asked for there.
@@ -215,8 +224,7 @@ fn node_near<B: Book>(
     ensures cause { HasCause (B.faults book.old) (B.faults book.new) result }
 {
     if seen.at.rev.get() != at.rev.get() {
-        seen.turn_to(*at);
-        return node_read(alloc, book, at);
+        return node_anew(alloc, book, at, *at, ALONE, seen);
     }
     node_beside(alloc, book, at, seen)
 }
