@@ -29,8 +29,8 @@ use std::alloc::Global;
 // How many bytes are read and written at a time.
 const PIECE: usize = 65536;
 
-// Reads a representation to its end, and checks it.
-fn check_rep<B: Book>(book: &mut B, rep: &Rep, piece: &mut [u8]) -> Result<(), ReadError>
+/// Reads a representation to its end, a piece of this size at a time, and checks it: its frame, its size and its digests.
+pub fn check_rep<B: Book>(book: &mut B, rep: &Rep, piece: &mut [u8]) -> Result<(), ReadError>
     requires rev { IsSome rep.now.rev }
     requires room { 0 < length piece.old }
     ensures bytes { (bytes : List ℕ) → (B.told book.old).revs (rev_of rep.now) ≡ Some (Ok bytes) → MatchResult result (λ _. IsWhole rep.now bytes) (IsFaultOf rep.now bytes) }

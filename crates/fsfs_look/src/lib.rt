@@ -10,8 +10,9 @@ mod path;
 mod piece;
 mod tree;
 
-pub use file::cat;
+pub use file::{cat, check_rep};
 pub use lines::put_spaces;
 pub use look_error::LookError;
+pub use path::found_at;
 pub use piece::{write_full, write_last, write_piece};
 pub use tree::tree_text;

@@ -13,8 +13,8 @@ use fsfs_fields::RevNum;
 use fsfs_printed::LookFault;
 use std::alloc::Global;
 
-/// The node that stands at a path of a revision.
-pub(crate) fn found_at<B: Book>(
+/// The node that stands at a path of a revision. It writes nothing.
+pub fn found_at<B: Book>(
     alloc: Global,
     book: &mut B,
     rev: RevNum,

@@ -4,5 +4,5 @@
 mod listing;
 mod removing;
 
-pub use listing::txns;
+pub use listing::{txns, txns_among};
 pub use removing::{RemovalFault, rmtxn, rmtxns};

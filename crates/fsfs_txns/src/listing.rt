@@ -26,8 +26,8 @@ fn txn_of(entry: &Name) -> Option<TxnName>
     }
 }
 
-// The transactions whose folders have these names; other names are passed over.
-fn txns_among(alloc: Global, entries: &[Name]) -> Result<Vec<TxnName>, AllocError>
+/// The transactions whose folders have these names; other names are passed over.
+pub fn txns_among(alloc: Global, entries: &[Name]) -> Result<Vec<TxnName>, AllocError>
     ensures { IfOk result (λ names. map text_of names.items ≡ flat_map name_at entries.now) }
 {
     let mut names = Vec::new(alloc);
