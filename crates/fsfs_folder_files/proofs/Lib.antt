@@ -1,3 +1,5 @@
 pub mod FileLemmas
+pub mod ItemLemmas
+pub mod SameLemmas
 pub mod StepLemmas
 pub mod Writing

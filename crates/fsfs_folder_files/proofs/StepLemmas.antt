@@ -1,5 +1,5 @@
 -- The changes of files that go with a step of an edit.
-use Rattle.std.proofs.Common.{◌≡◌, ◌∙◌, ℕ, List, [], ◌∷◌, ◌++◌, Option, Some, None, refl, sym, ap, subst, arith}
+use Rattle.std.proofs.Common.{◌≡◌, ◌∙◌, ℕ, List, [], ◌∷◌, ◌++◌, Option, Some, None, refl, sym, subst, arith}
 use Rattle.std.specs.Prelude.{codes}
 use Rattle.std.specs.FinMap.{get}
 use Rattle.fsfs_base.specs.Files.{Files}
@@ -117,6 +117,48 @@ told_further m f id k now old new one node told here had is_one is_node has are 
     (had_props m (changed one m) f id k now told here are (record_other one id old new (props_name (node_of id) (copy_of id)) m is_one apart))
     (λ q away. record_away one id old new q m is_one away)
 
+-- ---- a node-revision that is as it was, whose file is left
+
+left_told : (m n : Files) (f : Folder) (id : NodeId) (k now : Kept) → TellsFolder m f → kept_at f.nodes id ≡ Some k → now.node ≡ k.node → get n (node_name (node_of id) (copy_of id)) ≡ get m (node_name (node_of id) (copy_of id))
+    → TellsEntries n (children_name (node_of id) (copy_of id)) now.entries → TellsProps n (props_name (node_of id) (copy_of id)) now.props → ((q : List ℕ) → IsAway (node_of id) (copy_of id) q → get n q ≡ get m q) → TellsFolder n (put_kept f id now)
+left_told m n f id k now told here are same entries properties away =
+    let w = told.each (node_of id) (copy_of id) k here in
+    kept_put m n f id now told w.0
+    (record {
+      itself = subst (λ (v : NodeRev). HasFile n (node_name (node_of id) (copy_of id)) (IsNodeFile v)) (sym are) (file_same m n (node_name (node_of id) (copy_of id)) (IsNodeFile k.node) same w.1.itself);
+      children = entries;
+      properties = properties;
+    })
+    away
+
+told_opened_only : (m : Files) (f : Folder) (id : NodeId) (k now : Kept) (old new : List DirEntry) (list one : FileChange) → TellsFolder m f → kept_at f.nodes id ≡ Some k
+    → IsChange list (Children id) Whole (IsWholeList old) → IsRecord one id old new → now.node ≡ k.node → now.entries ≡ Some new → now.props ≡ k.props → TellsFolder (changed_all (list ∷ one ∷ []) m) (put_kept f id now)
+told_opened_only m f id k now old new list one told here is_list is_one same has are =
+    let fits = (told.each (node_of id) (copy_of id) k here).0 in
+    let from_props = λ (e : props_name (node_of id) (copy_of id) ≡ children_name (node_of id) (copy_of id)). children_not_props (node_of id) (copy_of id) fits (sym e) in
+    let from_node = λ (e : node_name (node_of id) (copy_of id) ≡ children_name (node_of id) (copy_of id)). children_not_node (node_of id) (copy_of id) fits (sym e) in
+    let n = changed one (changed list m) in
+    left_told m n f id k now told here same
+    (record_other one id old new (node_name (node_of id) (copy_of id)) (changed list m) is_one from_node ∙ changed_other list (Children id) Whole (IsWholeList old) (node_name (node_of id) (copy_of id)) m is_list from_node)
+    (has_entries n id new now.entries has (record_told one id old new (changed list m) is_one (whole_told list id old m is_list)))
+    (had_props m n f id k now told here are (record_other one id old new (props_name (node_of id) (copy_of id)) (changed list m) is_one from_props ∙ changed_other list (Children id) Whole (IsWholeList old) (props_name (node_of id) (copy_of id)) m is_list from_props))
+    (λ q away. record_away one id old new q (changed list m) is_one away ∙ away_changed list (Children id) Whole (IsWholeList old) id q m is_list (of_children id) away)
+
+told_further_only : (m : Files) (f : Folder) (id : NodeId) (k now : Kept) (old new : List DirEntry) (one : FileChange) → TellsFolder m f → kept_at f.nodes id ≡ Some k → k.entries ≡ Some old
+    → IsRecord one id old new → now.node ≡ k.node → now.entries ≡ Some new → now.props ≡ k.props → TellsFolder (changed one m) (put_kept f id now)
+told_further_only m f id k now old new one told here had is_one same has are =
+    let w = told.each (node_of id) (copy_of id) k here in
+    let from_props = λ (e : props_name (node_of id) (copy_of id) ≡ children_name (node_of id) (copy_of id)). children_not_props (node_of id) (copy_of id) w.0 (sym e) in
+    let from_node = λ (e : node_name (node_of id) (copy_of id) ≡ children_name (node_of id) (copy_of id)). children_not_node (node_of id) (copy_of id) w.0 (sym e) in
+    let before : TellsEntries m (children_name (node_of id) (copy_of id)) (Some old) = subst (λ (z : Option (List DirEntry)). TellsEntries m (children_name (node_of id) (copy_of id)) z) had w.1.children in
+    left_told m (changed one m) f id k now told here same
+    (record_other one id old new (node_name (node_of id) (copy_of id)) m is_one from_node)
+    (has_entries (changed one m) id new now.entries has (record_told one id old new m is_one before))
+    (had_props m (changed one m) f id k now told here are (record_other one id old new (props_name (node_of id) (copy_of id)) m is_one from_props))
+    (λ q away. record_away one id old new q m is_one away)
+
+-- ---- other steps
+
 told_merged : (m : Files) (f : Folder) (id : NodeId) (k now : Kept) (entries : List DirEntry) (list node : FileChange) → TellsFolder m f → kept_at f.nodes id ≡ Some k
     → IsChange list (Children id) Whole (IsWholeList entries) → IsNodeChange node id now → now.entries ≡ Some entries → now.props ≡ k.props → TellsFolder (changed_all (list ∷ node ∷ []) m) (put_kept f id now)
 told_merged m f id k now entries list node told here is_list is_node has are =
@@ -205,6 +247,8 @@ changes_tell = record {
   new = told_new;
   opened = told_opened;
   further = told_further;
+  opened_only = told_opened_only;
+  further_only = told_further_only;
   merged = told_merged;
   text = told_text;
   properties = told_properties;

@@ -1,5 +1,5 @@
 -- The changes that a step makes ready tell what the folder holds then.
-use Rattle.std.proofs.Common.{◌≡◌, ◌∙◌, ℕ, true, List, [], ◌∷◌, ◌++◌, Option, Some, None, refl, sym, ap, subst}
+use Rattle.std.proofs.Common.{◌≡◌, ◌∙◌, true, List, [], ◌∷◌, ◌++◌, Option, Some, None, refl, sym, ap, subst}
 use Rattle.fsfs_base.specs.Files.{Files}
 use Rattle.fsfs_noderev.specs.declared.node_id.NodeId.{NodeId}
 use Rattle.fsfs_noderev.specs.declared.node_rev.NodeRev.{NodeRev}
@@ -21,7 +21,7 @@ use Rattle.fsfs_txn_files.specs.declared.change.How.TheVariants.{Whole, AtEnd}
 use Rattle.fsfs_txn_files.specs.declared.folder_file.FolderFile.TheVariants.{NextIds, Changes, Node, Children, Props}
 use Rattle.fsfs_folder_files.specs.Folders.{TellsFolder}
 use Rattle.fsfs_folder_files.specs.Telling.{FitsNode, IsRecord, put_kept}
-use Rattle.fsfs_folder_files.specs.Written.{IsListFirst, TellsNew, TellsEntry, TellsChild, TellsMerged, TellsText, TellsPropsSet, TellsNext, TellsSettled, with_next}
+use Rattle.fsfs_folder_files.specs.Written.{IsListFirst, IsNodeLast, Same, Other, TellsNew, TellsEntry, TellsChild, TellsMerged, TellsText, TellsPropsSet, TellsNext, TellsSettled, with_next}
 use Rattle.fsfs_folder_files.proofs.StepLemmas.{changes_tell}
 
 -- one after another
@@ -42,23 +42,31 @@ pub tells_text : (id : NodeId) (node : NodeRev) (c : FileChange) (files : List F
 tells_text id node c files is all = λ m f k told here. as_files files (c ∷ []) _ m all (changes_tell.text m f id k (record k { node = node }) c told here is refl refl)
 
 -- where a list goes first, it is the one that there was not
-tells_entry_by : (id : NodeId) (k : Kept) (entries : List DirEntry) (node : NodeRev) (IsNew : List DirEntry → List DirEntry → Type 0) (own : Option (List DirEntry)) (one itself : FileChange) (first files : List FileChange) → k.entries ≡ own
-    → ((old new : List DirEntry) → IsNew old new → IsRecord one id old new) → IsChange itself (Node id) Whole (IsNodeFile node) → IsListFirst id own entries first → files ≡ (first ++ one ∷ []) ++ itself ∷ []
+tells_entry_by : (id : NodeId) (k : Kept) (entries : List DirEntry) (node : NodeRev) (IsNew : List DirEntry → List DirEntry → Type 0) (own : Option (List DirEntry)) (one : FileChange) (first last files : List FileChange) → k.entries ≡ own
+    → ((old new : List DirEntry) → IsNew old new → IsRecord one id old new) → IsNodeLast id k.node node last → IsListFirst id own entries first → files ≡ (first ++ one ∷ []) ++ last
     → TellsEntry id k entries node IsNew files
-tells_entry_by id k entries node IsNew None one itself first files own_is record_is node_is begins all = λ m f new told here those is.
-    let list : files ≡ begins.0 ∷ one ∷ itself ∷ [] = all ∙ ap (λ (l : List FileChange). (l ++ one ∷ []) ++ itself ∷ []) begins.2 in
+tells_entry_by id k entries node IsNew None one first last files own_is record_is (Other itself unlike node_is ends) begins all = λ m f new told here those is.
+    let list : files ≡ begins.0 ∷ one ∷ itself ∷ [] = all ∙ (λ i. (begins.2 i ++ one ∷ []) ++ ends i) in
     as_files files (begins.0 ∷ one ∷ itself ∷ []) _ m list
     (changes_tell.opened m f id k (record { node = node; entries = Some new; props = k.props }) entries new begins.0 one itself told here begins.1 (record_is entries new is) node_is refl refl)
-tells_entry_by id k entries node IsNew (Some own) one itself first files own_is record_is node_is begins all = λ m f new told here those is.
-    let list : files ≡ one ∷ itself ∷ [] = all ∙ ap (λ (l : List FileChange). (l ++ one ∷ []) ++ itself ∷ []) begins in
+tells_entry_by id k entries node IsNew None one first last files own_is record_is (Same as_was ends) begins all = λ m f new told here those is.
+    let list : files ≡ begins.0 ∷ one ∷ [] = all ∙ (λ i. (begins.2 i ++ one ∷ []) ++ ends i) in
+    as_files files (begins.0 ∷ one ∷ []) _ m list
+    (changes_tell.opened_only m f id k (record { node = node; entries = Some new; props = k.props }) entries new begins.0 one told here begins.1 (record_is entries new is) as_was refl refl)
+tells_entry_by id k entries node IsNew (Some own) one first last files own_is record_is (Other itself unlike node_is ends) begins all = λ m f new told here those is.
+    let list : files ≡ one ∷ itself ∷ [] = all ∙ (λ i. (begins i ++ one ∷ []) ++ ends i) in
     as_files files (one ∷ itself ∷ []) _ m list
     (changes_tell.further m f id k (record { node = node; entries = Some new; props = k.props }) entries new one itself told here (own_is ∙ ap Some (sym (those own own_is))) (record_is entries new is) node_is refl refl)
+tells_entry_by id k entries node IsNew (Some own) one first last files own_is record_is (Same as_was ends) begins all = λ m f new told here those is.
+    let list : files ≡ one ∷ [] = all ∙ (λ i. (begins i ++ one ∷ []) ++ ends i) in
+    as_files files (one ∷ []) _ m list
+    (changes_tell.further_only m f id k (record { node = node; entries = Some new; props = k.props }) entries new one told here (own_is ∙ ap Some (sym (those own own_is))) (record_is entries new is) as_was refl refl)
 
-pub tells_entry : (id : NodeId) (k : Kept) (entries : List DirEntry) (node : NodeRev) (IsNew : List DirEntry → List DirEntry → Type 0) (one itself : FileChange) (first second files : List FileChange)
-    → ((old new : List DirEntry) → IsNew old new → IsRecord one id old new) → IsChange itself (Node id) Whole (IsNodeFile node) → IsListFirst id k.entries entries first → second ≡ first ++ one ∷ [] → files ≡ second ++ itself ∷ []
+pub tells_entry : (id : NodeId) (k : Kept) (entries : List DirEntry) (node : NodeRev) (IsNew : List DirEntry → List DirEntry → Type 0) (one : FileChange) (first second last files : List FileChange)
+    → ((old new : List DirEntry) → IsNew old new → IsRecord one id old new) → IsNodeLast id k.node node last → IsListFirst id k.entries entries first → second ≡ first ++ one ∷ [] → files ≡ second ++ last
     → TellsEntry id k entries node IsNew files
-tells_entry id k entries node IsNew one itself first second files record_is node_is begins push last =
-    tells_entry_by id k entries node IsNew k.entries one itself first files refl record_is node_is begins (last ∙ ap (λ (l : List FileChange). l ++ itself ∷ []) push)
+tells_entry id k entries node IsNew one first second last files record_is node_is begins push append =
+    tells_entry_by id k entries node IsNew k.entries one first last files refl record_is node_is begins (append ∙ ap (λ (l : List FileChange). l ++ last) push)
 
 -- changes after others
 pub changed-both : (cs ds : List FileChange) (m : Files) → changed_all (cs ++ ds) m ≡ changed_all ds (changed_all cs m)

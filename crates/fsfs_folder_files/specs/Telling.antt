@@ -58,6 +58,11 @@ pub record ChangesTell : Type 0 where
   -- a further one: only the record, and the node-revision
   pub further : (m : Files) (f : Folder) (id : NodeId) (k now : Kept) (old new : List DirEntry) (one node : FileChange) → TellsFolder m f → kept_at f.nodes id ≡ Some k → k.entries ≡ Some old
       → IsRecord one id old new → IsNodeChange node id now → now.entries ≡ Some new → now.props ≡ k.props → TellsFolder (changed_all (one ∷ node ∷ []) m) (put_kept f id now)
+  -- both, where the node-revision is as it was: its file is left
+  pub opened_only : (m : Files) (f : Folder) (id : NodeId) (k now : Kept) (old new : List DirEntry) (list one : FileChange) → TellsFolder m f → kept_at f.nodes id ≡ Some k
+      → IsChange list (Children id) Whole (IsWholeList old) → IsRecord one id old new → now.node ≡ k.node → now.entries ≡ Some new → now.props ≡ k.props → TellsFolder (changed_all (list ∷ one ∷ []) m) (put_kept f id now)
+  pub further_only : (m : Files) (f : Folder) (id : NodeId) (k now : Kept) (old new : List DirEntry) (one : FileChange) → TellsFolder m f → kept_at f.nodes id ≡ Some k → k.entries ≡ Some old
+      → IsRecord one id old new → now.node ≡ k.node → now.entries ≡ Some new → now.props ≡ k.props → TellsFolder (changed one m) (put_kept f id now)
   -- the entries of a merged directory
   pub merged : (m : Files) (f : Folder) (id : NodeId) (k now : Kept) (entries : List DirEntry) (list node : FileChange) → TellsFolder m f → kept_at f.nodes id ≡ Some k
       → IsChange list (Children id) Whole (IsWholeList entries) → IsNodeChange node id now → now.entries ≡ Some entries → now.props ≡ k.props → TellsFolder (changed_all (list ∷ node ∷ []) m) (put_kept f id now)

@@ -10,11 +10,12 @@ use Rattle.fsfs_drafts.specs.Drafts.{Kept, Folder}
 use Rattle.fsfs_drafts.specs.Steps.{kept_at}
 use Rattle.fsfs_own.specs.Items.{with_item}
 use Rattle.fsfs_own.specs.Views.{new_kept}
+use Rattle.fsfs_txn_files.specs.Texts.{IsNodeFile}
 use Rattle.fsfs_txn_files.specs.Children.{IsWholeList}
 use Rattle.fsfs_txn_files.specs.Changes.{changed_all, IsChange}
 use Rattle.fsfs_txn_files.specs.declared.change.FileChange.{FileChange}
 use Rattle.fsfs_txn_files.specs.declared.change.How.TheVariants.{Whole}
-use Rattle.fsfs_txn_files.specs.declared.folder_file.FolderFile.TheVariants.{Children}
+use Rattle.fsfs_txn_files.specs.declared.folder_file.FolderFile.TheVariants.{Node, Children}
 use Rattle.fsfs_folder_files.specs.Folders.{TellsFolder}
 use Rattle.fsfs_folder_files.specs.Telling.{put_kept}
 
@@ -26,6 +27,11 @@ TellsNew node files = (m : Files) (f : Folder) → TellsFolder m f → TellsFold
 abbrev pub IsListFirst : NodeId → (own : Option (List DirEntry)) → List DirEntry → List FileChange → Type 0
 IsListFirst id None entries files = (c : FileChange) × IsChange c (Children id) Whole (IsWholeList entries) × (files ≡ c ∷ [])
 IsListFirst id (Some own) entries files = files ≡ []
+
+-- a node-revision's file goes last, where it is another than it was
+pub data IsNodeLast (id : NodeId) (old node : NodeRev) (files : List FileChange) : Type 0 where
+  Same : node ≡ old → files ≡ [] → IsNodeLast id old node files
+  Other : (c : FileChange) → (node ≡ old → ⊥) → IsChange c (Node id) Whole (IsNodeFile node) → files ≡ c ∷ [] → IsNodeLast id old node files
 
 -- where there is a list of its own, the entries are those
 abbrev pub AreThose : Option (List DirEntry) → List DirEntry → Type 0

@@ -11,12 +11,14 @@ ghost use Rattle.fsfs_txn_files.specs.Children.{HasPut, HasTaken};
 ghost use Rattle.fsfs_txn_files.specs.Texts.{IsNodeFile};
 ghost use Rattle.fsfs_txn_files.specs.declared.folder_file.FolderFile.TheVariants.{Changes, Node};
 ghost use Rattle.fsfs_txn_files.specs.declared.change.How.TheVariants.{AtEnd, Whole};
-ghost use Rattle.fsfs_folder_files.specs.Written.{IsListFirst, TellsNew, TellsEntry, TellsChild, TellsMerged, TellsText, TellsPropsSet, TellsNext, TellsSettled};
+ghost use Rattle.fsfs_folder_files.specs.Written.{IsListFirst, IsNodeLast, TellsNew, TellsEntry, TellsChild, TellsMerged, TellsText, TellsPropsSet, TellsNext, TellsSettled};
 
-use crate::limits::{has_text, id_fits, item_has_text};
+use crate::ids::id_fits;
+use crate::same::same_noderev;
 use fsfs_base::{Kind, Pairs};
 use fsfs_changes::ChangeItem;
 use fsfs_layout::NextIds;
+use fsfs_limits::{check_item, check_node, is_told};
 use fsfs_listing::Listing;
 use fsfs_noderev::{NodeId, NodeRev};
 use fsfs_own::KeptNode;
@@ -27,9 +29,9 @@ use std::alloc::{AllocError, Global};
 fn node_file(alloc: Global, id: &NodeId, node: &NodeRev) -> Result<FileChange, AllocError>
     ensures { IfOk result (λ c. IsChange c (Node id.now) Whole (IsNodeFile node.now)) }
 {
-    if !has_text(alloc, node)? {
+    let Ok(()) = check_node(alloc, node) else {
         return Err(AllocError);
-    }
+    };
     let mut change = FileChange::node(alloc, node)?;
     change.file = FolderFile::Node(*id);
     Ok(change)
@@ -39,10 +41,10 @@ fn node_file(alloc: Global, id: &NodeId, node: &NodeRev) -> Result<FileChange, A
 fn item_file(alloc: Global, item: &ChangeItem) -> Result<FileChange, AllocError>
     ensures { IfOk result (λ c. IsChange c Changes AtEnd (λ text. IsItem text item.now)) }
 {
-    if !item_has_text(alloc, item)? {
-        return Err(AllocError);
+    match check_item(alloc, item) {
+        Ok(()) if is_told(item) => FileChange::item(alloc, item),
+        _ => Err(AllocError),
     }
-    FileChange::item(alloc, item)
 }
 
 // A new node-revision, which has no list of its own.
@@ -77,6 +79,24 @@ fn list_first(
     }
 }
 
+// The file of a node-revision that was another before. Of one that is as it was nothing is written: its file tells it.
+fn node_last(
+    alloc: Global,
+    id: &NodeId,
+    old: &NodeRev,
+    node: &NodeRev,
+) -> Result<Vec<FileChange>, AllocError>
+    ensures { IfOk result (λ v. IsNodeLast id.now old.now node.now v.items) }
+{
+    let mut files = Vec::new(alloc);
+    if same_noderev(old, node) {
+        return Ok(files);
+    }
+    let file = node_file(alloc, id, node)?;
+    files.push(file)?;
+    Ok(files)
+}
+
 // An entry that is put into a directory of these entries, in place of the one of its name. `node` is the directory's node-revision
 // from then on.
 fn put_files(
@@ -92,10 +112,10 @@ fn put_files(
     ensures { IfOk result (λ v. TellsEntry id.now (kept_value kept.now) (listed entries.now) node.now (λ old new. HasPut old name.now kind child.now new) v.items) }
 {
     let record = FileChange::put_entry(alloc, id, name, kind, child)?;
-    let itself = node_file(alloc, id, node)?;
+    let mut last = node_last(alloc, id, &kept.node, node)?;
     let mut files = list_first(alloc, id, kept, entries)?;
     files.push(record)?;
-    files.push(itself)?;
+    files.append(&mut last)?;
     Ok(files)
 }
 
@@ -131,10 +151,10 @@ pub fn taken_files(
     ensures { IfOk result (λ v. TellsEntry id.now (kept_value kept.now) (listed entries.now) node.now (λ old new. HasTaken old name.now new) v.items) }
 {
     let record = FileChange::taken_entry(alloc, id, name)?;
-    let itself = node_file(alloc, id, node)?;
+    let mut last = node_last(alloc, id, &kept.node, node)?;
     let mut files = list_first(alloc, id, kept, entries)?;
     files.push(record)?;
-    files.push(itself)?;
+    files.append(&mut last)?;
     Ok(files)
 }
 
