@@ -1,6 +1,7 @@
 //! The own node-revisions of a transaction, held in memory beside its bench.
 ghost use Rattle.std.specs.Prelude.{◌≡◌, codes, length, option_map, IfOk, IfErr, IfSome};
 ghost use Rattle.fsfs_base.specs.Failures.{HasCause};
+ghost use Rattle.fsfs_disk.specs.Benches.{bytes_on};
 ghost use Rattle.fsfs_own.specs.Views.{kept_value};
 ghost use Rattle.fsfs_held.specs.Keys.{at_key};
 ghost use Rattle.fsfs_held.specs.Lists.{files_of, with_steps};
@@ -96,6 +97,15 @@ impl<D: Bench> HeldNodes<D> {
     {
         let HeldNodes { bench, .. } = self;
         bench
+    }
+
+    /// The bench again, and the name of its prototype file.
+    pub fn into_parts(self) -> (D, Name)
+        ensures proto { bytes_on (D.contents result.0) result.1 ≡ (⟦<HeldNodes<D> as Own>⟧.settled self).proto }
+        ensures bench { result.0 ≡ self.bench }
+    {
+        let HeldNodes { bench, proto, .. } = self;
+        (bench, proto)
     }
 
     /// The items of its edits, in their order.

@@ -36,7 +36,9 @@ use Rattle.fsfs_edit.proofs.Setting as setting
 use Rattle.fsfs_held.specs.Texts.{longer, IsTextPut, IsTextLeft}
 use Rattle.fsfs_opened.specs.declared.texts.TextPut.TheVariants as puts
 use Rattle.fsfs_rep.specs.Frames.{RepIn}
+use Rattle.fsfs_opened.specs.declared.known.Known.{Known}
 use Rattle.fsfs_opened.specs.Growing.{grown, IsLonger}
+use Rattle.fsfs_opened.specs.Leading.{LeadsDown}
 use Rattle.fsfs_opened.specs.Failing.{IfLeft, IfBench, IfSource}
 use Rattle.fsfs_opened.specs.Texts.{refusal_of, IsPuttingText}
 use Rattle.fsfs_opened.proofs.Growing.{grown_opened}
@@ -89,6 +91,10 @@ module _ (Told : Type 0) (look : RevisionBytes) (trees : ℕ → TreeFunction) (
 
   pub open_still : (more : List ℕ) → drawn ≡ record mid { next_node = mid.next_node + 1 } → appended ≡ longer drawn more → IsOpenedAt look trees top base txn marks tree d.0.shows.own p File appended id
   open_still more draw is = subst (λ (f : Folder). IsOpenedAt look trees top base txn marks tree d.0.shows.own p File f id) (sym (grew more draw is)) (grown_opened look trees top base txn marks tree d.0.shows.own p File mid id 1 more o)
+
+  -- whatever led somewhere leads there still
+  pub grown_leads : (more : List ℕ) → drawn ≡ record mid { next_node = mid.next_node + 1 } → appended ≡ longer drawn more → (known : List Known) (path : Path) (at : NodeId) → LeadsDown look mid.nodes known path at → LeadsDown look appended.nodes known path at
+  grown_leads more draw is known path at leads = subst (λ (f : Folder). LeadsDown look f.nodes known path at) (sym (grew more draw is)) leads
 
   pub kept_still : (more : List ℕ) → drawn ≡ record mid { next_node = mid.next_node + 1 } → appended ≡ longer drawn more → kept_at appended.nodes id ≡ None → ⊥
   kept_still more draw is none = let e = sym none ∙ setting.kept_there look trees top base shown le txn before tree marks d p File appended id (open_still more draw is) has in cc

@@ -15,6 +15,11 @@ IfLeft errors.DiskFault P = ⊥
 IfLeft (errors.Wrong w) P = ⊥
 IfLeft errors.Lacking P = P
 
+-- a fact of what is left, whatever was answered, but where the bench failed
+abbrev pub OnLeft : {T : Type 0} → Result T EditError → Type 0 → Type 0
+OnLeft (Ok x) P = P
+OnLeft (Err e) P = IfLeft e P
+
 -- a fact, where the bench failed
 abbrev pub IfBench : EditError → Type 0 → Type 0
 IfBench errors.BenchFault P = P

@@ -1,9 +1,11 @@
 -- What is known of node-revisions of revisions: what their bytes show.
-use Rattle.std.specs.Prelude.{◌≡◌, ◌≤◌, ℕ, List, Ok}
+use Rattle.std.specs.Prelude.{◌≡◌, ◌≤◌, ℕ, List, Ok, Err}
 use Rattle.std.specs.List.{All}
 use Rattle.fsfs_base.specs.Paths.{PathName}
 use Rattle.fsfs_book.specs.Told.{RevisionBytes}
 use Rattle.fsfs_noderev.specs.declared.node_id.NodeId.{NodeId}
+use Rattle.fsfs_noderev.specs.declared.node_rev.NodeRev.{NodeRev}
+use Rattle.fsfs_damage.specs.declared.wrong.Wrong.{Wrong}
 use Rattle.fsfs_shows.specs.Reading.{DirEntry, OfId, PropsOf, named}
 use Rattle.fsfs_dag.specs.Views.{home_of}
 use Rattle.fsfs_listing.specs.Views.{listed}
@@ -27,3 +29,9 @@ IsKnownUpTo look top k = (home_of k.node).rev ≤ top → IsKnown look k
 
 abbrev pub AreKnown : RevisionBytes → ℕ → List Known → Type 0
 AreKnown look top ks = All (λ k. IsKnownUpTo look top k) ks
+
+-- nothing that is read of the node-revision of an id is wrong
+pub record IsWhole (look : RevisionBytes) (id : NodeId) : Type 0 where
+  pub node : (w : Wrong) → OfId look id (Err w) → ⊥
+  pub entries : (w : Wrong) → OfIdEntries look id (Err w) → ⊥
+  pub props : (v : NodeRev) (w : Wrong) → OfId look id (Ok v) → PropsOf look v (Err w) → ⊥

@@ -4,5 +4,7 @@ pub mod Reached
 pub mod Opening
 pub mod Growing
 pub mod Failing
+pub mod Leading
+pub mod Stepping
 pub mod Texts
 pub mod Properties

@@ -14,6 +14,7 @@ use Rattle.fsfs_own.specs.declared.error.EditError.{EditError}
 use Rattle.fsfs_opened.specs.declared.opening.Way.{Way}
 use Rattle.fsfs_opened.specs.declared.opening.Opening.{Opening}
 use Rattle.fsfs_opened.specs.declared.opening.Opening.TheVariants as openings
+use Rattle.fsfs_opened.specs.Leading.{Leads}
 
 -- a fact of what was opened
 abbrev pub IfOpened : Result Opening EditError → (Way → Type 0) → Type 0
@@ -33,3 +34,8 @@ IsOpening tree p (Err e) = IsFailure e
 abbrev pub OpensAt : Told → TxnName → Folder → Path → Result Opening EditError → Type 0
 OpensAt told txn f p result = (look : RevisionBytes) (trees : ℕ → TreeFunction) (top base : ℕ) (tree : TreeFunction) (marks : List Mark) → Knows told top look → ShowTrees look top trees → base ≤ top → IsTree tree
     → IsDraftAfter look trees top base txn f tree marks → IsOpening tree p result
+
+-- and the way that was opened leads to its path
+abbrev pub OpensLeading : Told → TxnName → Folder → Result Opening EditError → Type 0
+OpensLeading told txn f result = (look : RevisionBytes) (trees : ℕ → TreeFunction) (top base : ℕ) (tree : TreeFunction) (marks : List Mark) → Knows told top look → ShowTrees look top trees → base ≤ top → IsTree tree
+    → IsDraftAfter look trees top base txn f tree marks → IfOpened result (λ way. Leads look txn f way)

@@ -27,6 +27,7 @@ use Rattle.fsfs_opened.specs.declared.properties.PropertyPut.{PropertyPut}
 use Rattle.fsfs_opened.specs.declared.properties.PropertyPut.TheVariants as puts
 use Rattle.fsfs_opened.specs.Knowing.{AreKnown}
 use Rattle.fsfs_opened.specs.Failing.{IfLeft}
+use Rattle.fsfs_opened.specs.Leading.{IsEndKnown, LeadsDown, HasAll}
 
 abbrev pub ArePropsOf : RevisionBytes → Kept → Result Pairs EditError → Type 0
 ArePropsOf look k (Ok pairs) = OfKeptProps look k (Ok pairs)
@@ -47,6 +48,24 @@ abbrev pub SetsProp : TxnName → Folder → Folder → Folder → Way → NodeI
 SetsProp txn before mid after way id kind name value result = (look : RevisionBytes) (trees : ℕ → TreeFunction) (top base : ℕ) (tree : TreeFunction) (marks : List Mark) → AreKnown look top way.known.items → ShowTrees look top trees → base ≤ top
     → (d : IsDraftAfter look trees top base txn before tree marks) → IsOpenedAt look trees top base txn marks tree d.0.shows.own way.path kind mid id → HasKind (tree way.path) kind → fits_value (bytes_of value) ≡ true
     → IsPuttingProp look trees top base txn tree marks way.path name value before after result
+
+-- nothing is lacking at an own node-revision that is known
+abbrev pub SetsAll : TxnName → Folder → Folder → Way → NodeId → Kind → Result PropertyPut EditError → Type 0
+SetsAll txn before mid way id kind result = (look : RevisionBytes) (trees : ℕ → TreeFunction) (top base : ℕ) (tree : TreeFunction) (marks : List Mark) → ShowTrees look top trees → base ≤ top
+    → (d : IsDraftAfter look trees top base txn before tree marks) → IsOpenedAt look trees top base txn marks tree d.0.shows.own way.path kind mid id → HasKind (tree way.path) kind → IsEndKnown mid.nodes way.known.items id
+    → HasAll result
+
+-- a fact, where the property was set or removed
+abbrev pub IfSet : Result PropertyPut EditError → Type 0 → Type 0
+IfSet (Ok puts.Done) P = P
+IfSet (Ok puts.TooLong) P = Unit {0}
+IfSet (Err e) P = Unit {0}
+
+-- whatever led somewhere leads there still
+abbrev pub SetsStill : TxnName → Folder → Folder → Folder → Way → NodeId → Kind → Result PropertyPut EditError → Type 0
+SetsStill txn before mid after way id kind result = (look : RevisionBytes) (trees : ℕ → TreeFunction) (top base : ℕ) (tree : TreeFunction) (marks : List Mark) → ShowTrees look top trees → base ≤ top
+    → (d : IsDraftAfter look trees top base txn before tree marks) → IsOpenedAt look trees top base txn marks tree d.0.shows.own way.path kind mid id → HasKind (tree way.path) kind
+    → (known : List Known) (path : Path) (at : NodeId) → LeadsDown look mid.nodes known path at → IfSet result (LeadsDown look after.nodes known path at)
 
 -- over any draft it is the flat model's edit, or its refusal
 abbrev pub MeetsPutProp : TxnName → Folder → Folder → Way → List ℕ → Option (Vec ℕ Global) → Result PropertyPut EditError → Type 0

@@ -31,6 +31,8 @@ use Rattle.fsfs_opened.specs.declared.texts.TextPut.TheVariants as puts
 use Rattle.fsfs_opened.specs.Knowing.{AreKnown}
 use Rattle.fsfs_opened.specs.Growing.{IsLonger}
 use Rattle.fsfs_opened.specs.Failing.{IfLeft}
+use Rattle.fsfs_opened.specs.declared.known.Known.{Known}
+use Rattle.fsfs_opened.specs.Leading.{LeadsDown, HasAll}
 
 abbrev pub refusal_of : TextError → Result TextPut EditError
 refusal_of refused.SourceFault = Ok puts.SourceFault
@@ -62,6 +64,26 @@ abbrev pub PutsText : Type 0 → TxnName → Folder → Folder → Folder → Pa
 PutsText Told txn before mid after p id from to expect result = (look : RevisionBytes) (trees : ℕ → TreeFunction) (top base : ℕ) (tree : TreeFunction) (marks : List Mark) → ShowTrees look top trees → base ≤ top
     → (d : IsDraftAfter look trees top base txn before tree marks) → IsOpenedAt look trees top base txn marks tree d.0.shows.own p File mid id → HasKind (tree p) File
     → IsPuttingText Told look trees top base txn tree marks p from to expect before after result
+
+-- nothing is lacking at an own file
+abbrev pub PutsAll : TxnName → Folder → Folder → Path → NodeId → Result TextPut EditError → Type 0
+PutsAll txn before mid p id result = (look : RevisionBytes) (trees : ℕ → TreeFunction) (top base : ℕ) (tree : TreeFunction) (marks : List Mark) → ShowTrees look top trees → base ≤ top
+    → (d : IsDraftAfter look trees top base txn before tree marks) → IsOpenedAt look trees top base txn marks tree d.0.shows.own p File mid id → HasKind (tree p) File → HasAll result
+
+-- a fact, where the text was put
+abbrev pub IfPut : Result TextPut EditError → Type 0 → Type 0
+IfPut (Ok puts.Done) P = P
+IfPut (Ok puts.NotFile) P = Unit {0}
+IfPut (Ok puts.SourceFault) P = Unit {0}
+IfPut (Ok puts.TooLong) P = Unit {0}
+IfPut (Ok (puts.Checksum kept found)) P = Unit {0}
+IfPut (Err e) P = Unit {0}
+
+-- whatever led somewhere leads there still
+abbrev pub PutsStill : TxnName → Folder → Folder → Folder → Path → NodeId → Result TextPut EditError → Type 0
+PutsStill txn before mid after p id result = (look : RevisionBytes) (trees : ℕ → TreeFunction) (top base : ℕ) (tree : TreeFunction) (marks : List Mark) → ShowTrees look top trees → base ≤ top
+    → (d : IsDraftAfter look trees top base txn before tree marks) → IsOpenedAt look trees top base txn marks tree d.0.shows.own p File mid id → HasKind (tree p) File
+    → (known : List Known) (path : Path) (at : NodeId) → LeadsDown look mid.nodes known path at → IfPut result (LeadsDown look after.nodes known path at)
 
 -- over any draft it is the flat model's edit, or its refusal
 abbrev pub MeetsPut : Type 0 → TxnName → Folder → Folder → Way → Option (List ℕ) → Option (List ℕ) → Option (HexDigest 16) → Result TextPut EditError → Type 0

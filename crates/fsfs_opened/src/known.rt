@@ -1,10 +1,13 @@
 //! What was read of node-revisions of revisions.
-ghost use Rattle.std.specs.Prelude.{◌≡◌, ℕ, IfOk, IfSome};
+ghost use Rattle.std.specs.Prelude.{◌≡◌, ◌≤◌, ℕ, true, Err, IfOk, IfErr, IfSome, is_some};
 ghost use Rattle.fsfs_book.specs.Told.{RevisionBytes, Knows, Keeps};
 ghost use Rattle.fsfs_damage.specs.Causes.{HasCause};
+ghost use Rattle.fsfs_damage.specs.Readings.{IfWrong};
 ghost use Rattle.fsfs_shows.specs.Reading.{offset_of};
 ghost use Rattle.fsfs_listing.specs.Views.{listed};
-ghost use Rattle.fsfs_opened.specs.Knowing.{IsListOf, IsKnownUpTo, AreKnown};
+ghost use Rattle.fsfs_own.specs.Entries.{OfIdEntries};
+ghost use Rattle.fsfs_opened.specs.Knowing.{IsListOf, IsKnownUpTo, AreKnown, IsWhole};
+ghost use Rattle.fsfs_opened.specs.Leading.{IsAmong};
 
 use fsfs_base::Pairs;
 use fsfs_book::Book;
@@ -26,6 +29,7 @@ pub struct Known {
 // The entries of the directory of an id in a revision, by their names; a file has none.
 fn listing_of<B: Book>(alloc: Global, book: &mut B, id: &NodeId) -> Result<Listing, ReadError>
     ensures told { (look : RevisionBytes) → Knows (B.told book.old).revs (offset_of id.now.place).rev look → IfOk result (λ l. IsListOf look id.now (listed l)) }
+    ensures wrong { (look : RevisionBytes) → Knows (B.told book.old).revs (offset_of id.now.place).rev look → IfErr result (IfWrong (λ w. OfIdEntries look id.now (Err w))) }
     ensures kept { Keeps (B.told book.old) (B.told book.new) }
     ensures cause { HasCause (B.faults book.old) (B.faults book.new) result }
 {
@@ -43,6 +47,8 @@ pub(crate) fn known_of<B: Book>(
     id: &NodeId,
 ) -> Result<Known, ReadError>
     ensures known { (look : RevisionBytes) (top : ℕ) → Knows (B.told book.old).revs top look → IfOk result (IsKnownUpTo look top) }
+    ensures id { IfOk result (λ k. k.node.id ≡ id.now) }
+    ensures whole { (look : RevisionBytes) (top : ℕ) → Knows (B.told book.old).revs top look → (offset_of id.now.place).rev ≤ top → IsWhole look id.now → IfErr result (IfWrong (λ _. ⊥)) }
     ensures kept { Keeps (B.told book.old) (B.told book.new) }
     ensures cause { HasCause (B.faults book.old) (B.faults book.new) result }
 {
@@ -60,6 +66,7 @@ pub(crate) fn known_of<B: Book>(
 pub(crate) fn find<'a>(known: &'a [Known], id: &NodeId) -> Option<&'a Known>
     ensures known { (look : RevisionBytes) (top : ℕ) → AreKnown look top known.now → IfSome result (λ k. IsKnownUpTo look top k.now) }
     ensures id { IfSome result (λ k. k.now.node.id ≡ id.now) }
+    ensures found { IsAmong id.now known.now → is_some result ≡ true }
 {
     for one in known {
         if same_id(&one.node.id, id) {

@@ -1,10 +1,27 @@
 //! The opening of a node: what stands at its path, and what is known of the way to it.
-ghost use Rattle.std.specs.Prelude.{◌≡◌, ℕ, IfOk, IfErr, OnOk};
+ghost use Rattle.std.specs.Prelude.{◌≡◌, ◌≤◌, ◌++◌, ◌∷◌, [], ℕ, true, false, List, Some, None, Ok, IfOk, IfErr, OnOk, option_map};
+ghost use Rattle.fsfs_base.specs.declared.kind.Kind.{Kind as Kinds};
 ghost use Rattle.fsfs_book.specs.Told.{RevisionBytes, Knows, Keeps};
+ghost use Rattle.fsfs_drafts.specs.Drafts.{Kept, IsDraft, ShowTrees};
+ghost use Rattle.fsfs_drafts.specs.Edits.{IsDraftAfter};
+ghost use Rattle.fsfs_drafts.specs.Own.{Own as Owns, OwnNode, draft_tree};
+ghost use Rattle.fsfs_drafts.specs.Steps.{kept_at};
+ghost use Rattle.fsfs_flat.specs.declared.mark.Mark.{Mark};
+ghost use Rattle.fsfs_revision.specs.Nodes.{is_revision_id};
+ghost use Rattle.fsfs_shows.specs.Reading.{DirEntry, named, offset_of};
+ghost use Rattle.fsfs_tree.specs.Nodes.{TreeFunction};
+ghost use Rattle.fsfs_tree.specs.Trees.{IsTree};
 ghost use Rattle.fsfs_own.specs.Causes.{HasDiskCause, HasBenchCause};
+ghost use Rattle.fsfs_own.specs.Entries.{OfIdEntries, OfKept, IsWithin};
 ghost use Rattle.fsfs_own.specs.Errors.{IsFailure};
+ghost use Rattle.fsfs_own.specs.Walks.{HasKind};
+ghost use Rattle.fsfs_own.specs.declared.error.EditError.TheVariants.{OutOfMemory};
+ghost use Rattle.fsfs_own.specs.Views.{kept_value};
+ghost use Rattle.fsfs_steps.specs.Mutable.{LeadsTo};
 ghost use Rattle.fsfs_opened.specs.Knowing.{AreKnown};
-ghost use Rattle.fsfs_opened.specs.Opening.{OpensAt, IfOpened};
+ghost use Rattle.fsfs_opened.specs.Leading.{IsAmong, IsSourceKnown, LeadsDown, Leads};
+ghost use Rattle.fsfs_opened.specs.Opening.{OpensAt, IfOpened, OpensLeading};
+ghost use Rattle.fsfs_opened.specs.Stepping.{IsDirKnown, IsNext, StillKnown, BecomesKnown};
 
 use crate::known::{Known, find, known_of};
 use crate::reaching::listed_known;
@@ -13,7 +30,7 @@ use fsfs_book::Book;
 use fsfs_damage::ReadError;
 use fsfs_edit::found_at;
 use fsfs_noderev::NodeId;
-use fsfs_own::{EditError, Found, Own, root_id};
+use fsfs_own::{EditError, Found, KeptNode, Own, root_id};
 use fsfs_revision::is_revision_id;
 use std::alloc::Global;
 
@@ -35,7 +52,10 @@ pub enum Opening {
 }
 
 // The node-revision of a revision that stands there, or that an own one goes on from.
-fn source_of<N: Own>(own: &N, id: &NodeId) -> Option<NodeId> {
+fn source_of<N: Own>(own: &N, id: &NodeId) -> Option<NodeId>
+    ensures lasting { is_revision_id id.now ≡ true → result ≡ Some id.now }
+    ensures own { (k : Kept) → is_revision_id id.now ≡ false → kept_at (N.folder own.now).nodes id.now ≡ Some k → result ≡ k.node.predecessor }
+{
     if is_revision_id(id) {
         return Some(*id);
     }
@@ -46,14 +66,30 @@ fn source_of<N: Own>(own: &N, id: &NodeId) -> Option<NodeId> {
 }
 
 // The same of what stands above. An own directory with a `children` file tells its entries itself, and no more of it is wanted.
-fn source_above<N: Own>(own: &N, id: &NodeId) -> Option<NodeId> {
+fn source_above<N: Own>(own: &N, id: &NodeId) -> Option<NodeId>
+    ensures lasting { is_revision_id id.now ≡ true → result ≡ Some id.now }
+    ensures own { (k : Kept) → is_revision_id id.now ≡ false → kept_at (N.folder own.now).nodes id.now ≡ Some k → k.entries ≡ None → result ≡ k.node.predecessor }
+{
     if is_revision_id(id) {
         return Some(*id);
     }
-    let kept = own.kept(id)?;
-    match kept.entries {
-        Some(_) => None,
-        None => kept.node.predecessor,
+    match own.kept(id) {
+        None => None,
+        Some(kept) => match &kept.entries {
+            Some(_) => None,
+            None => kept.node.predecessor,
+        },
+    }
+}
+
+// Adds it to what is known.
+fn add(known: &mut Vec<Known>, one: Known) -> Result<(), EditError>
+    ensures done { OnOk result (known.new.items ≡ known.old.items ++ one ∷ []) }
+    ensures memory { IfErr result (λ e. e ≡ OutOfMemory) }
+{
+    match known.push(one) {
+        Ok(()) => Ok(()),
+        Err(_) => Err(EditError::OutOfMemory),
     }
 }
 
@@ -65,6 +101,8 @@ fn note<B: Book>(
     known: &mut Vec<Known>,
 ) -> Result<(), EditError>
     ensures known { (look : RevisionBytes) (top : ℕ) → Knows (B.told book.old).revs top look → AreKnown look top known.old.items → OnOk result (AreKnown look top known.new.items) }
+    ensures still { StillKnown known.old.items known.new.items result }
+    ensures becomes { (look : RevisionBytes) (top : ℕ) → Knows (B.told book.old).revs top look → BecomesKnown look top source known.new.items result }
     ensures failure { IfErr result (λ e. IsFailure e) }
     ensures kept { Keeps (B.told book.old) (B.told book.new) }
     ensures cause { HasDiskCause (B.faults book.old) (B.faults book.new) result }
@@ -77,41 +115,66 @@ fn note<B: Book>(
         Err(ReadError::OutOfMemory) => Err(EditError::OutOfMemory),
         Err(ReadError::DiskFault) => Err(EditError::DiskFault),
         Err(ReadError::Wrong(_)) => Ok(()),
-        Ok(one) => match known.push(one) {
-            Ok(()) => Ok(()),
-            Err(_) => Err(EditError::OutOfMemory),
-        },
+        Ok(one) => add(known, one),
+    }
+}
+
+// The id that a name of a directory of a revision leads to.
+fn lasting_child(known: &[Known], dir: &NodeId, name: &str) -> Option<NodeId>
+    ensures { (look : RevisionBytes) (top : ℕ) → AreKnown look top known.now → (offset_of dir.now.place).rev ≤ top → IsAmong dir.now known.now → (entries : List DirEntry) × OfIdEntries look dir.now (Ok entries) × (result ≡ option_map (λ (e : DirEntry). e.id) (named name.now entries)) }
+{
+    let Some(one) = find(known, dir) else {
+        return None;
+    };
+    match one.entries.get(name) {
+        None => None,
+        Some(entry) => Some(entry.id),
+    }
+}
+
+// The id that a name of an own directory leads to.
+fn own_child(known: &[Known], kept: &KeptNode, name: &str) -> Option<NodeId>
+    ensures { (look : RevisionBytes) (top : ℕ) → AreKnown look top known.now → IsWithin top kept.now.node.predecessor → ((kept_value kept.now).entries ≡ None → IsSourceKnown known.now kept.now.node.predecessor) → (entries : List DirEntry) × OfKept look (kept_value kept.now) (Ok entries) × (result ≡ option_map (λ (e : DirEntry). e.id) (named name.now entries)) }
+{
+    let Some(entries) = listed_known(known, kept) else {
+        return None;
+    };
+    match entries.get(name) {
+        None => None,
+        Some(entry) => Some(entry.id),
     }
 }
 
 // The id that a name of a directory leads to.
-fn child_id<N: Own>(own: &N, known: &[Known], dir: &NodeId, name: &str) -> Option<NodeId> {
+fn child_id<N: Own>(own: &N, known: &[Known], dir: &NodeId, name: &str) -> Option<NodeId>
+    ensures { (look : RevisionBytes) (top : ℕ) → AreKnown look top known.now → IsDirKnown top (N.folder own.now).nodes known.now dir.now → IsNext look (N.folder own.now).nodes known.now dir.now name.now result }
+{
     if is_revision_id(dir) {
-        let one = find(known, dir)?;
-        let entry = one.entries.get(name)?;
-        return Some(entry.id);
+        return lasting_child(known, dir, name);
     }
-    let kept = own.kept(dir)?;
-    let entries = listed_known(known, kept)?;
-    let entry = entries.get(name)?;
-    Some(entry.id)
+    match own.kept(dir) {
+        None => None,
+        Some(kept) => own_child(known, kept, name),
+    }
 }
 
-// What is known of the revisions on the way to the path.
+// What is known of the revisions on the way from the root to the path.
 fn known_to<B: Book, N: Own>(
     alloc: Global,
     book: &mut B,
     own: &N,
+    root: &NodeId,
     path: &FsPath,
 ) -> Result<Vec<Known>, EditError>
     ensures known { (look : RevisionBytes) (top : ℕ) → Knows (B.told book.old).revs top look → IfOk result (λ all. AreKnown look top all.items) }
+    ensures leads { (look : RevisionBytes) (trees : ℕ → TreeFunction) (top base : ℕ) (nodes : Owns) (v : OwnNode) → Knows (B.told book.old).revs top look → ShowTrees look top trees → base ≤ top → IsDraft look top base (N.txn own.now) (N.folder own.now) nodes → nodes [] ≡ Some v → v.node.id ≡ root.now → LeadsTo (draft_tree trees nodes (trees base)) path.now → IfOk result (λ all. LeadsDown look (N.folder own.now).nodes all.items path.now root.now) }
     ensures failure { IfErr result (λ e. IsFailure e) }
     ensures kept { Keeps (B.told book.old) (B.told book.new) }
     ensures cause { HasDiskCause (B.faults book.old) (B.faults book.new) result }
     ensures quiet { (faults : ℕ) → HasBenchCause faults faults result }
 {
     let mut known = Vec::new(alloc);
-    let mut at = root_id(own.name());
+    let mut at = *root;
     for name in path.names() {
         note(alloc, book, source_above(own, &at), &mut known)?;
         let Some(id) = child_id(own, known.as_slice(), &at, name) else {
@@ -132,12 +195,14 @@ fn way_to<B: Book, N: Own>(
 ) -> Result<Way, EditError>
     ensures path { IfOk result (λ way. way.path ≡ path.now) }
     ensures known { (look : RevisionBytes) (top : ℕ) → Knows (B.told book.old).revs top look → IfOk result (λ way. AreKnown look top way.known.items) }
+    ensures leads { (look : RevisionBytes) (trees : ℕ → TreeFunction) (top base : ℕ) (tree : TreeFunction) (marks : List Mark) (kind : Kinds) → Knows (B.told book.old).revs top look → ShowTrees look top trees → base ≤ top → IsTree tree → IsDraftAfter look trees top base (N.txn own.now) (N.folder own.now) tree marks → HasKind (tree path.now) kind → IfOk result (λ way. Leads look (N.txn own.now) (N.folder own.now) way) }
     ensures failure { IfErr result (λ e. IsFailure e) }
     ensures kept { Keeps (B.told book.old) (B.told book.new) }
     ensures cause { HasDiskCause (B.faults book.old) (B.faults book.new) result }
     ensures quiet { (faults : ℕ) → HasBenchCause faults faults result }
 {
-    let known = known_to(alloc, book, own, path)?;
+    let root = root_id(own.name());
+    let known = known_to(alloc, book, own, &root, path)?;
     let path = path.clone()?;
     Ok(Way { path, known })
 }
@@ -152,6 +217,7 @@ pub fn open_at<B: Book, N: Own>(
     ensures opens { OpensAt (B.told book.old).revs (N.txn own.now) (N.folder own.now) path.now result }
     ensures path { IfOpened result (λ way. way.path ≡ path.now) }
     ensures known { (look : RevisionBytes) (top : ℕ) → Knows (B.told book.old).revs top look → IfOpened result (λ way. AreKnown look top way.known.items) }
+    ensures leads { OpensLeading (B.told book.old).revs (N.txn own.now) (N.folder own.now) result }
     ensures kept { Keeps (B.told book.old) (B.told book.new) }
     ensures cause { HasDiskCause (B.faults book.old) (B.faults book.new) result }
     ensures bench { HasBenchCause (N.faults own.now) (N.faults own.now) result }

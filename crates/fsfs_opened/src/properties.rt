@@ -1,7 +1,10 @@
 //! A property set or removed at what was opened.
-ghost use Rattle.std.specs.Prelude.{◌≡◌};
+ghost use Rattle.std.specs.Prelude.{◌≡◌, Some};
+ghost use Rattle.fsfs_drafts.specs.Drafts.{Kept};
+ghost use Rattle.fsfs_drafts.specs.Steps.{kept_at};
 ghost use Rattle.fsfs_own.specs.Causes.{HasBenchCause};
-ghost use Rattle.fsfs_opened.specs.Properties.{TellsProps, SetsProp, MeetsPutProp};
+ghost use Rattle.fsfs_opened.specs.Leading.{IsSourceKnown, HasAll, LacksNothing, LeadStill};
+ghost use Rattle.fsfs_opened.specs.Properties.{TellsProps, SetsProp, SetsAll, SetsStill, MeetsPutProp};
 
 use crate::known::{Known, find};
 use crate::opening::Way;
@@ -30,6 +33,7 @@ fn props_known<N: Own>(
     id: &NodeId,
 ) -> Result<Pairs, EditError>
     ensures tells { TellsProps (N.folder own.now) known.now id.now result }
+    ensures all { (k : Kept) → kept_at (N.folder own.now).nodes id.now ≡ Some k → IsSourceKnown known.now k.node.predecessor → HasAll result }
     ensures bench { HasBenchCause (N.faults own.now) (N.faults own.now) result }
 {
     let Some(kept) = own.kept(id) else {
@@ -64,6 +68,8 @@ fn property_in<N: Own>(
     value: Option<Vec<u8>>,
 ) -> Result<PropertyPut, EditError>
     ensures sets { SetsProp (N.txn own.old) (N.settled own.old) (N.folder own.old) (N.settled own.new) way.now id.now kind name.now value result }
+    ensures all { SetsAll (N.txn own.old) (N.settled own.old) (N.folder own.old) way.now id.now kind result }
+    ensures still { SetsStill (N.txn own.old) (N.settled own.old) (N.folder own.old) (N.settled own.new) way.now id.now kind result }
     ensures name { N.txn own.new ≡ N.txn own.old }
     ensures bench { HasBenchCause (N.faults own.old) (N.faults own.new) result }
 {
@@ -84,6 +90,8 @@ fn property_steps<N: Own>(
 ) -> Result<PropertyPut, EditError>
     requires whole { N.folder own.old ≡ N.settled own.old }
     ensures meets { MeetsPutProp (N.txn own.old) (N.settled own.old) (N.settled own.new) way.now name.now value result }
+    ensures all { LacksNothing (N.txn own.old) (N.settled own.old) way.now result }
+    ensures still { LeadStill (N.txn own.old) (N.settled own.old) (N.settled own.new) way.now result }
     ensures name { N.txn own.new ≡ N.txn own.old }
     ensures bench { HasBenchCause (N.faults own.old) (N.faults own.new) result }
 {
@@ -108,6 +116,8 @@ pub fn put_property<N: Own>(
 ) -> Result<PropertyPut, EditError>
     requires whole { N.folder own.old ≡ N.settled own.old }
     ensures meets { MeetsPutProp (N.txn own.old) (N.settled own.old) (N.settled own.new) way.now name.now value result }
+    ensures all { LacksNothing (N.txn own.old) (N.settled own.old) way.now result }
+    ensures still { LeadStill (N.txn own.old) (N.settled own.old) (N.settled own.new) way.now result }
     ensures whole { N.folder own.new ≡ N.settled own.new }
     ensures name { N.txn own.new ≡ N.txn own.old }
     ensures bench { HasBenchCause (N.faults own.old) (N.faults own.new) result }

@@ -2,7 +2,7 @@
 ghost use Rattle.std.specs.Prelude.{◌≡◌, OnOk, option_map};
 ghost use Rattle.fsfs_drafts.specs.Steps.{kept_at};
 ghost use Rattle.fsfs_own.specs.Causes.{HasBenchCause};
-ghost use Rattle.fsfs_opened.specs.Reached.{ReachesTo};
+ghost use Rattle.fsfs_opened.specs.Reached.{ReachesTo, ReachesKnown, ReachesStill};
 
 use crate::opening::Way;
 use crate::reaching::reach;
@@ -14,6 +14,8 @@ use std::alloc::Global;
 /// Makes all that stands on the way, and what stands at its end, the transaction's own, and answers its id. No book is read.
 pub(crate) fn reached<N: Own>(alloc: Global, own: &mut N, way: &Way) -> Result<NodeId, EditError>
     ensures opens { ReachesTo (N.txn own.old) (N.folder own.old) (N.folder own.new) way.now.known.items way.now.path result }
+    ensures leads { ReachesKnown (N.txn own.old) (N.folder own.old) (N.folder own.new) way.now result }
+    ensures still { ReachesStill (N.txn own.old) (N.folder own.old) (N.folder own.new) way.now result }
     ensures proto { OnOk result ((N.folder own.new).proto ≡ (N.folder own.old).proto) }
     ensures settled { N.settled own.new ≡ N.settled own.old }
     ensures name { N.txn own.new ≡ N.txn own.old }

@@ -1,5 +1,5 @@
 //! How all that stands on the way down a path becomes the transaction's own, by what is known of the revisions.
-ghost use Rattle.std.specs.Prelude.{◌≡◌, ◌≤◌, [], ℕ, Some, IfSome, OnOk};
+ghost use Rattle.std.specs.Prelude.{◌≡◌, ◌≤◌, [], ◌∷◌, ℕ, Some, None, IfSome, MatchOption, OnOk};
 ghost use Rattle.fsfs_tree.specs.Nodes.{TreeFunction};
 ghost use Rattle.fsfs_base.specs.Paths.{Path};
 ghost use Rattle.fsfs_base.specs.declared.kind.Kind.TheVariants.{Dir};
@@ -11,7 +11,9 @@ ghost use Rattle.fsfs_own.specs.Causes.{HasBenchCause};
 ghost use Rattle.fsfs_own.specs.Entries.{IsListedAs, IsWithin};
 ghost use Rattle.fsfs_own.specs.Views.{kept_value};
 ghost use Rattle.fsfs_opened.specs.Knowing.{AreKnown};
+ghost use Rattle.fsfs_opened.specs.Leading.{IsSourceKnown, LeadsDown};
 ghost use Rattle.fsfs_opened.specs.Reaching.{ReachesChild, Reaches};
+ghost use Rattle.fsfs_opened.specs.Stepping.{LeadsOn, LeadsAsBefore};
 
 use crate::known::{Known, find};
 use fsfs_base::{FsPath, Kind};
@@ -26,6 +28,7 @@ use std::alloc::Global;
 pub(crate) fn listed_known<'a>(known: &'a [Known], kept: &'a KeptNode) -> Option<&'a Listing>
     ensures told { (look : RevisionBytes) (top : ℕ) → AreKnown look top known.now → IsWithin top kept.now.node.predecessor → IfSome result (λ l. IsListedAs look (kept_value kept.now) (listed l.now)) }
     ensures own { IfSome result (λ l. IfSome (kept_value kept.now).entries (λ entries. listed l.now ≡ entries)) }
+    ensures none { ((kept_value kept.now).entries ≡ None → IsSourceKnown known.now kept.now.node.predecessor) → MatchOption result (((kept_value kept.now).entries ≡ None) × (kept.now.node.predecessor ≡ None)) (λ _. Unit {0}) }
 {
     match &kept.entries {
         Some(entries) => Some(entries),
@@ -48,6 +51,8 @@ fn child_in<N: Own>(
     name: &str,
 ) -> Result<NodeId, EditError>
     ensures draft { (look : RevisionBytes) (trees : ℕ → TreeFunction) (top base : ℕ) (nodes : Owns) (p : Path) (d : OwnNode) → AreKnown look top known.now → ShowTrees look top trees → base ≤ top → IsDraft look top base (N.txn own.old) (N.folder own.old) nodes → nodes p ≡ Some d → d.node.id ≡ dir.now → d.node.kind ≡ Dir → ReachesChild look trees top base (N.txn own.old) (N.folder own.old) nodes p name.now (N.folder own.new) result }
+    ensures leads { (look : RevisionBytes) (trees : ℕ → TreeFunction) (top base : ℕ) (nodes : Owns) (p : Path) (d : OwnNode) → AreKnown look top known.now → ShowTrees look top trees → base ≤ top → IsDraft look top base (N.txn own.old) (N.folder own.old) nodes → nodes p ≡ Some d → d.node.id ≡ dir.now → d.node.kind ≡ Dir → (rest : Path) → LeadsDown look (N.folder own.old).nodes known.now (name.now ∷ rest) dir.now → LeadsOn look (N.folder own.new).nodes known.now rest result }
+    ensures still { (look : RevisionBytes) (trees : ℕ → TreeFunction) (top base : ℕ) (nodes : Owns) (p : Path) (d : OwnNode) → AreKnown look top known.now → ShowTrees look top trees → base ≤ top → IsDraft look top base (N.txn own.old) (N.folder own.old) nodes → nodes p ≡ Some d → d.node.id ≡ dir.now → d.node.kind ≡ Dir → LeadsAsBefore look (N.folder own.old).nodes (N.folder own.new).nodes result }
     ensures proto { OnOk result ((N.folder own.new).proto ≡ (N.folder own.old).proto) }
     ensures settled { N.settled own.new ≡ N.settled own.old }
     ensures name { N.txn own.new ≡ N.txn own.old }
@@ -83,6 +88,8 @@ fn child_at<N: Own>(
     name: &str,
 ) -> Result<NodeId, EditError>
     ensures draft { (look : RevisionBytes) (trees : ℕ → TreeFunction) (top base : ℕ) (nodes : Owns) (p : Path) (d : OwnNode) → AreKnown look top known.now → ShowTrees look top trees → base ≤ top → IsDraft look top base (N.txn own.old) (N.folder own.old) nodes → nodes p ≡ Some d → d.node.id ≡ dir.now → ReachesChild look trees top base (N.txn own.old) (N.folder own.old) nodes p name.now (N.folder own.new) result }
+    ensures leads { (look : RevisionBytes) (trees : ℕ → TreeFunction) (top base : ℕ) (nodes : Owns) (p : Path) (d : OwnNode) → AreKnown look top known.now → ShowTrees look top trees → base ≤ top → IsDraft look top base (N.txn own.old) (N.folder own.old) nodes → nodes p ≡ Some d → d.node.id ≡ dir.now → (rest : Path) → LeadsDown look (N.folder own.old).nodes known.now (name.now ∷ rest) dir.now → LeadsOn look (N.folder own.new).nodes known.now rest result }
+    ensures still { (look : RevisionBytes) (trees : ℕ → TreeFunction) (top base : ℕ) (nodes : Owns) (p : Path) (d : OwnNode) → AreKnown look top known.now → ShowTrees look top trees → base ≤ top → IsDraft look top base (N.txn own.old) (N.folder own.old) nodes → nodes p ≡ Some d → d.node.id ≡ dir.now → LeadsAsBefore look (N.folder own.old).nodes (N.folder own.new).nodes result }
     ensures proto { OnOk result ((N.folder own.new).proto ≡ (N.folder own.old).proto) }
     ensures settled { N.settled own.new ≡ N.settled own.old }
     ensures name { N.txn own.new ≡ N.txn own.old }
@@ -107,6 +114,8 @@ pub(crate) fn reach<N: Own>(
     path: &FsPath,
 ) -> Result<NodeId, EditError>
     ensures draft { (look : RevisionBytes) (trees : ℕ → TreeFunction) (top base : ℕ) (nodes : Owns) (v : OwnNode) → AreKnown look top known.now → ShowTrees look top trees → base ≤ top → IsDraft look top base (N.txn own.old) (N.folder own.old) nodes → nodes [] ≡ Some v → v.node.id ≡ root.now → Reaches look trees top base (N.txn own.old) (N.folder own.old) nodes path.now (N.folder own.new) result }
+    ensures leads { (look : RevisionBytes) (trees : ℕ → TreeFunction) (top base : ℕ) (nodes : Owns) (v : OwnNode) → AreKnown look top known.now → ShowTrees look top trees → base ≤ top → IsDraft look top base (N.txn own.old) (N.folder own.old) nodes → nodes [] ≡ Some v → v.node.id ≡ root.now → LeadsDown look (N.folder own.old).nodes known.now path.now root.now → LeadsOn look (N.folder own.new).nodes known.now [] result }
+    ensures still { (look : RevisionBytes) (trees : ℕ → TreeFunction) (top base : ℕ) (nodes : Owns) (v : OwnNode) → AreKnown look top known.now → ShowTrees look top trees → base ≤ top → IsDraft look top base (N.txn own.old) (N.folder own.old) nodes → nodes [] ≡ Some v → v.node.id ≡ root.now → LeadsAsBefore look (N.folder own.old).nodes (N.folder own.new).nodes result }
     ensures proto { OnOk result ((N.folder own.new).proto ≡ (N.folder own.old).proto) }
     ensures settled { N.settled own.new ≡ N.settled own.old }
     ensures name { N.txn own.new ≡ N.txn own.old }

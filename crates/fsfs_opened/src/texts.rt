@@ -1,7 +1,8 @@
 //! A text put at what was opened.
 ghost use Rattle.std.specs.Prelude.{◌≡◌, true};
 ghost use Rattle.fsfs_opened.specs.Failing.{HasSourceRise, HasBenchRise};
-ghost use Rattle.fsfs_opened.specs.Texts.{refusal_of, PutsText, MeetsPut};
+ghost use Rattle.fsfs_opened.specs.Leading.{LacksNothing, LeadStill};
+ghost use Rattle.fsfs_opened.specs.Texts.{refusal_of, PutsText, PutsAll, PutsStill, MeetsPut};
 
 use crate::opening::Way;
 use crate::reached::{kind_of, reached};
@@ -55,6 +56,8 @@ fn text_in<N: OwnTexts, I: Source>(
     expect: Option<HexDigest<16>>,
 ) -> Result<TextPut, EditError>
     ensures puts { PutsText ((x : N) → N.tells x ≡ true) (N.txn own.old) (N.settled own.old) (N.folder own.old) (N.settled own.new) path.now id.now (I.remaining source.old) (I.remaining source.new) expect result }
+    ensures all { PutsAll (N.txn own.old) (N.settled own.old) (N.folder own.old) path.now id.now result }
+    ensures still { PutsStill (N.txn own.old) (N.settled own.old) (N.folder own.old) (N.settled own.new) path.now id.now result }
     ensures name { N.txn own.new ≡ N.txn own.old }
     ensures source_cause { HasSourceRise (I.faults source.old) (I.faults source.new) result }
     ensures bench_cause { HasBenchRise (N.faults own.old) (N.faults own.new) result }
@@ -79,6 +82,8 @@ fn put_steps<N: OwnTexts, I: Source>(
 ) -> Result<TextPut, EditError>
     requires whole { N.folder own.old ≡ N.settled own.old }
     ensures meets { MeetsPut ((x : N) → N.tells x ≡ true) (N.txn own.old) (N.settled own.old) (N.settled own.new) way.now (I.remaining source.old) (I.remaining source.new) expect result }
+    ensures all { LacksNothing (N.txn own.old) (N.settled own.old) way.now result }
+    ensures still { LeadStill (N.txn own.old) (N.settled own.old) (N.settled own.new) way.now result }
     ensures name { N.txn own.new ≡ N.txn own.old }
     ensures source_cause { HasSourceRise (I.faults source.old) (I.faults source.new) result }
     ensures bench_cause { HasBenchRise (N.faults own.old) (N.faults own.new) result }
@@ -105,6 +110,8 @@ pub fn put_text<N: OwnTexts, I: Source>(
 ) -> Result<TextPut, EditError>
     requires whole { N.folder own.old ≡ N.settled own.old }
     ensures meets { MeetsPut ((x : N) → N.tells x ≡ true) (N.txn own.old) (N.settled own.old) (N.settled own.new) way.now (I.remaining source.old) (I.remaining source.new) expect result }
+    ensures all { LacksNothing (N.txn own.old) (N.settled own.old) way.now result }
+    ensures still { LeadStill (N.txn own.old) (N.settled own.old) (N.settled own.new) way.now result }
     ensures whole { N.folder own.new ≡ N.settled own.new }
     ensures name { N.txn own.new ≡ N.txn own.old }
     ensures source_cause { HasSourceRise (I.faults source.old) (I.faults source.new) result }

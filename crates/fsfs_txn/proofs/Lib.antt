@@ -5,3 +5,4 @@ pub mod Viewing
 pub mod Saying
 pub mod Putting
 pub mod Landing
+pub mod Leading

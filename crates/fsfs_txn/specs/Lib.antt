@@ -10,6 +10,7 @@ pub mod Getting
 pub mod GettingTexts
 pub mod Opening
 pub mod Texts
+pub mod Leading
 pub mod Properties
 pub mod Merging
 pub mod Items

@@ -4,6 +4,7 @@
 mod above;
 mod copying;
 mod deleting;
+mod ending;
 mod getting;
 mod laws;
 mod making;

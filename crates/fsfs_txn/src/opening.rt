@@ -1,9 +1,16 @@
 //! Nodes of a transaction that were opened.
-ghost use Rattle.std.specs.Prelude.{◌≡◌, ℕ, None};
+ghost use Rattle.std.specs.Prelude.{◌≡◌, ◌≤◌, ℕ, List, None};
+ghost use Rattle.fsfs_tree.specs.Nodes.{TreeFunction};
+ghost use Rattle.fsfs_tree.specs.Trees.{IsTree};
+ghost use Rattle.fsfs_flat.specs.declared.mark.Mark.{Mark};
+ghost use Rattle.fsfs_drafts.specs.Drafts.{ShowTrees};
+ghost use Rattle.fsfs_drafts.specs.Edits.{IsDraftAfter};
 ghost use Rattle.fsfs_book.specs.Told.{RevisionBytes, Knows, Keeps};
 ghost use Rattle.fsfs_own.specs.Causes as causes;
 ghost use Rattle.fsfs_opened.specs.Knowing.{AreKnown};
+ghost use Rattle.fsfs_opened.specs.Leading.{Leads};
 ghost use Rattle.fsfs_txn.specs.Spending.{IsSpentAfter, StaysSpent, HasDiskCause, HasBenchCause};
+ghost use Rattle.fsfs_txn.specs.Leading.{OpensLeading};
 ghost use Rattle.fsfs_txn.specs.Opening.{OpensPath, MeetsOpening, IfOpenedPath};
 
 use crate::seeing::{Seen, seen_on};
@@ -46,6 +53,7 @@ fn open_settled<B: Book, N: Own>(
     ensures opens { OpensPath (B.told book.old).revs (N.txn own.old) (N.settled own.old) path.now result }
     ensures opened { IfOpenedPath result (λ opened. (opened.way.path ≡ path.now) × (opened.moves ≡ moves)) }
     ensures known { (look : RevisionBytes) (top : ℕ) → Knows (B.told book.old).revs top look → IfOpenedPath result (λ opened. AreKnown look top opened.way.known.items) }
+    ensures leads { (look : RevisionBytes) (trees : ℕ → TreeFunction) (top base : ℕ) (tree : TreeFunction) (marks : List Mark) → Knows (B.told book.old).revs top look → ShowTrees look top trees → base ≤ top → IsTree tree → IsDraftAfter look trees top base (N.txn own.old) (N.settled own.old) tree marks → IfOpenedPath result (λ opened. Leads look (N.txn own.old) (N.settled own.old) opened.way) }
     ensures settled { N.settled own.new ≡ N.settled own.old }
     ensures name { N.txn own.new ≡ N.txn own.old }
     ensures bench { causes.HasBenchCause (N.faults own.old) (N.faults own.new) result }
@@ -80,6 +88,7 @@ impl<N: Own> Txn<N> {
     ) -> Result<PathOpened, TxnError>
         ensures meets { self.old.spent ≡ None → MeetsOpening (B.told book.old).revs self.old.base (N.txn self.old.own) (N.settled self.old.own) path.now result }
         ensures known { (look : RevisionBytes) (top : ℕ) → Knows (B.told book.old).revs top look → IfOpenedPath result (λ opened. AreKnown look top opened.way.known.items) }
+        ensures leads { self.old.spent ≡ None → OpensLeading (B.told book.old).revs self.old.base (N.txn self.old.own) (N.settled self.old.own) result }
         ensures opened { IfOpenedPath result (λ opened. (opened.way.path ≡ path.now) × (opened.moves ≡ self.old.moves)) }
         ensures settled { N.settled self.new.own ≡ N.settled self.old.own }
         ensures stays { StaysSpent self.old.spent result (self.new ≡ self.old) }

@@ -2,7 +2,9 @@
 ghost use Rattle.std.specs.Prelude.{◌≡◌, None};
 ghost use Rattle.fsfs_held.specs.Written.{HasFiles};
 ghost use Rattle.fsfs_own.specs.Causes as causes;
+ghost use Rattle.fsfs_opened.specs.Leading as leading;
 ghost use Rattle.fsfs_opened.specs.Properties.{MeetsPutProp};
+ghost use Rattle.fsfs_txn.specs.Leading.{LacksNothing, LeadStill};
 ghost use Rattle.fsfs_txn.specs.Spending.{IsSpentAfter, StaysSpent, HasBenchCause};
 ghost use Rattle.fsfs_txn.specs.Properties.{is_mergeinfo, outcome_of, MeetsSettingProp, IsStaleProp};
 
@@ -52,6 +54,8 @@ fn set_settled<N: Own>(
     value: Option<Vec<u8>>,
 ) -> Result<PropertyPut, EditError>
     ensures meets { MeetsPutProp (N.txn own.old) (N.settled own.old) (N.settled own.new) way.now name.now value result }
+    ensures all { leading.LacksNothing (N.txn own.old) (N.settled own.old) way.now result }
+    ensures still { leading.LeadStill (N.txn own.old) (N.settled own.old) (N.settled own.new) way.now result }
     ensures name { N.txn own.new ≡ N.txn own.old }
     ensures bench { causes.HasBenchCause (N.faults own.old) (N.faults own.new) result }
 {
@@ -74,6 +78,8 @@ impl<N: OwnFiles> Txn<N> {
         // The transaction is the one that the node was opened in, whose history this is.
         ensures meets { self.old.spent ≡ None → MeetsSettingProp self.old.base self.old.moves (N.txn self.old.own) (N.settled self.old.own) (N.settled self.new.own) opened.now name.now value result }
         ensures stale { self.old.spent ≡ None → IsStaleProp opened.now.moves self.old.moves result }
+        ensures lacking { self.old.spent ≡ None → LacksNothing self.old.base (N.txn self.old.own) (N.settled self.old.own) opened.now result }
+        ensures leads { self.old.spent ≡ None → LeadStill self.old.base (N.txn self.old.own) (N.settled self.old.own) (N.settled self.new.own) opened.now result }
         ensures stays { StaysSpent self.old.spent result (self.new ≡ self.old) }
         ensures spent { IsSpentAfter self.old.spent self.new.spent result }
         ensures moves { self.new.moves ≡ self.old.moves }

@@ -2,7 +2,9 @@
 ghost use Rattle.std.specs.Prelude.{◌≡◌, None, true};
 ghost use Rattle.fsfs_held.specs.Written.{HasFiles};
 ghost use Rattle.fsfs_opened.specs.Failing as failing;
+ghost use Rattle.fsfs_opened.specs.Leading as leading;
 ghost use Rattle.fsfs_opened.specs.Texts.{MeetsPut};
+ghost use Rattle.fsfs_txn.specs.Leading.{LacksNothing, LeadStill};
 ghost use Rattle.fsfs_txn.specs.Spending.{IsSpentAfter, StaysSpent};
 ghost use Rattle.fsfs_txn.specs.Texts.{outcome_of, counted_text, MeetsPuttingText, IsStaleText, HasSourceRise, HasBenchRise};
 
@@ -75,6 +77,8 @@ fn put_settled<N: OwnTexts, I: Source>(
     expect: Option<HexDigest<16>>,
 ) -> Result<TextPut, EditError>
     ensures meets { MeetsPut ((x : N) → N.tells x ≡ true) (N.txn own.old) (N.settled own.old) (N.settled own.new) way.now (I.remaining source.old) (I.remaining source.new) expect result }
+    ensures all { leading.LacksNothing (N.txn own.old) (N.settled own.old) way.now result }
+    ensures still { leading.LeadStill (N.txn own.old) (N.settled own.old) (N.settled own.new) way.now result }
     ensures name { N.txn own.new ≡ N.txn own.old }
     ensures source_cause { failing.HasSourceRise (I.faults source.old) (I.faults source.new) result }
     ensures bench_cause { failing.HasBenchRise (N.faults own.old) (N.faults own.new) result }
@@ -98,6 +102,8 @@ impl<N: OwnTexts> Txn<N> {
         // The transaction is the one that the file was opened in, whose history this is.
         ensures meets { self.old.spent ≡ None → MeetsPuttingText ((x : N) → N.tells x ≡ true) self.old.base self.old.moves (N.txn self.old.own) (N.settled self.old.own) (N.settled self.new.own) opened.now (I.remaining source.old) (I.remaining source.new) expect result }
         ensures stale { self.old.spent ≡ None → IsStaleText opened.now.moves self.old.moves result }
+        ensures lacking { self.old.spent ≡ None → LacksNothing self.old.base (N.txn self.old.own) (N.settled self.old.own) opened.now result }
+        ensures leads { self.old.spent ≡ None → LeadStill self.old.base (N.txn self.old.own) (N.settled self.old.own) (N.settled self.new.own) opened.now result }
         ensures stays { StaysSpent self.old.spent result (self.new ≡ self.old) }
         ensures spent { IsSpentAfter self.old.spent self.new.spent result }
         ensures moves { self.new.moves ≡ self.old.moves }

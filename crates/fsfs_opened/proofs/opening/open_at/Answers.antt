@@ -37,3 +37,8 @@ pub returns-in_err-way-in-Node-clause-opens : goal.returns-in_err-way-in-Node-cl
 returns-in_err-way-in-Node-clause-opens g c = λ look trees top base tree marks knows shown le is_tree d.
     let r = err_from_is_err_and c.from_residual-in_err-way-in-Node.result c.from_residual-in_err-way-in-Node.ensures.1 in
     rw (r.1, r.2) c.in_err-way-in-Node.ensures.failure
+
+pub returns-in_ok-way-in-Node-clause-leads : goal.returns-in_ok-way-in-Node-clause-leads
+returns-in_ok-way-in-Node-clause-leads g c = λ look trees top base tree marks knows shown le is_tree d.
+    let has = subst (λ (x : Found). IsFoundIn tree c.args.path.now (Ok x)) c.in-Node.is (c.in_ok-depth.ensures.finds look trees top base tree marks knows shown le is_tree d) in
+    c.in_ok-way-in-Node.ensures.leads look trees top base tree marks c.in-Node._child.kind (λ n h. c.in_ok-depth.ensures.kept.revs n (look n) (knows n h)) shown le is_tree d has

@@ -7,6 +7,8 @@ use Rattle.fsfs_own.specs.Entries.{IsWithin}
 use Rattle.fsfs_own.specs.Properties.{OfKeptProps}
 use Rattle.fsfs_own.specs.Views.{kept_value}
 use Rattle.fsfs_own.proofs.Readings.{kept_props_read}
+use Rattle.fsfs_opened.specs.Leading.{IsAmong, IsSourceKnown}
+use Rattle.fsfs_opened.proofs.Following.{not_none}
 use Rattle.fsfs_opened.proofs.properties.props_known.Goals as goal
 
 pub returns-in_ok-pairs-in-Some-find-clause-tells : goal.returns-in_ok-pairs-in-Some-find-clause-tells
@@ -22,3 +24,15 @@ returns-in_ok-pairs-in-Some-find-clause-tells g c = λ look top k known there wi
     subst (λ (x : Kept). OfKeptProps look x (Ok c.in_ok-pairs-in-Some-find.pairs)) one
     (kept_props_read look (kept_value c.in-Some.kept.now) id (Ok c.in_ok-pairs-in-Some-find.pairs) c.in-None.is c.in-Some-predecessor.is
     (found.node, subst (λ (i : NodeId). OfId look i (Ok found.node)) same is.node, subst (λ (s : Pairs). PropsOf look found.node (Ok s)) (sym c.in_ok-pairs-in-Some-find.ensures.cases) is.props))
+
+pub returns-in_default-clause-all : goal.returns-in_default-clause-all
+returns-in_default-clause-all g c = λ k there source. not_none _ k there (sym c.in_default.ensures)
+
+pub returns-in-None-find-clause-all : goal.returns-in-None-find-clause-all
+returns-in-None-find-clause-all g c = λ k there source.
+    let both : Some (kept_value c.in-Some.kept.now) ≡ Some k = c.in-Some.ensures ∙ there in
+    let one : kept_value c.in-Some.kept.now ≡ k = cc in
+    let from : IsSourceKnown c.args.known.now c.in-Some.kept.now.node.predecessor = subst (λ (x : Kept). IsSourceKnown c.args.known.now x.node.predecessor) (sym one) source in
+    let among : IsAmong c.in-Some-predecessor.from c.args.known.now = subst (λ (o : Option NodeId). IsSourceKnown c.args.known.now o) c.in-Some-predecessor.is from in
+    let e = c.in-None-find.ensures.found among in
+    absurd cc

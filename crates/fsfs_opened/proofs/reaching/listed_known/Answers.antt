@@ -1,13 +1,14 @@
-use Rattle.std.proofs.Common.{◌≡◌, ◌≤◌, List, Option, sym, subst, ap, refl}
+use Rattle.std.proofs.Common.{◌≡◌, ◌≤◌, Option, sym, subst, ap, refl}
 use Rattle.std.specs.Prelude.{IfSome, option_map}
 use Rattle.fsfs_listing.specs.declared.listing.Listing.{Listing}
 use Rattle.fsfs_listing.specs.Views.{listed}
 use Rattle.fsfs_noderev.specs.declared.node_id.NodeId.{NodeId}
-use Rattle.fsfs_shows.specs.Reading.{DirEntry, offset_of}
+use Rattle.fsfs_shows.specs.Reading.{offset_of}
 use Rattle.fsfs_own.specs.Entries.{IsWithin}
 use Rattle.fsfs_own.specs.Views.{kept_value}
 use Rattle.fsfs_own.proofs.Readings.{listed_own, predecessor_list}
 use Rattle.fsfs_opened.specs.Knowing.{IsListOf}
+use Rattle.fsfs_opened.specs.Leading.{IsAmong, IsSourceKnown}
 use Rattle.fsfs_opened.proofs.reaching.listed_known.Goals as goal
 
 pub returns-in-Some-clause-told : goal.returns-in-Some-clause-told
@@ -32,3 +33,12 @@ returns-in-Some-clause-own c = subst (λ (o : Option Listing). IfSome (option_ma
 
 pub returns-in-Some-find-clause-own : goal.returns-in-Some-find-clause-own
 returns-in-Some-find-clause-own c = subst (λ (o : Option Listing). IfSome (option_map listed o) (λ entries. listed c.in-Some-find.one.now.entries ≡ entries)) (sym c.in-None.is) tt
+
+pub returns-in-None-predecessor-clause-none : goal.returns-in-None-predecessor-clause-none
+returns-in-None-predecessor-clause-none c = λ source. (ap (λ (o : Option Listing). option_map listed o) c.in-None.is, c.in-None-predecessor.is)
+
+pub returns-in-None-find-clause-none : goal.returns-in-None-find-clause-none
+returns-in-None-find-clause-none c = λ source.
+    let among : IsAmong c.in-Some-predecessor.id c.args.known.now = subst (λ (o : Option NodeId). IsSourceKnown c.args.known.now o) c.in-Some-predecessor.is (source (ap (λ (o : Option Listing). option_map listed o) c.in-None.is)) in
+    let e = c.in-None-find.ensures.found among in
+    absurd cc

@@ -1,4 +1,4 @@
-use Rattle.std.proofs.Common.{◌≡◌, ◌≤◌, ℕ, Some, [], ◌++◌, drop, map}
+use Rattle.std.proofs.Common.{◌≡◌, ◌≤◌, ℕ, List, Some, [], ◌++◌, drop, map}
 use Rattle.std.specs.String.{string_bytes}
 use Rattle.fsfs_base.specs.Paths.{Path}
 use Rattle.fsfs_tree.specs.Nodes.{TreeFunction}
@@ -7,6 +7,9 @@ use Rattle.fsfs_drafts.specs.Own.{Own as Owns, OwnNode}
 use Rattle.fsfs_drafts.specs.Drafts.{IsDraft, ShowTrees}
 use Rattle.fsfs_steps.specs.Mutable.{IsSameDraft, OpensTo}
 use Rattle.fsfs_opened.specs.Knowing.{AreKnown}
+use Rattle.fsfs_opened.specs.declared.known.Known.{Known}
+use Rattle.fsfs_noderev.specs.declared.node_id.NodeId.{NodeId}
+use Rattle.fsfs_opened.specs.Leading.{LeadsDown}
 use Rattle.fsfs_opened.proofs.reaching.reach.Given as goal
 
 -- all so far is the transaction's own, and the tree is as it was
@@ -19,4 +22,8 @@ invariant-loop-name g l = record {
   draft : (look : RevisionBytes) (trees : ℕ → TreeFunction) (top base : ℕ) (nodes : Owns) (v : OwnNode) → AreKnown look top l.known → ShowTrees look top trees → base ≤ top → IsDraft look top base (g.N.Own.txn l.fn.own) (g.N.Own.folder l.fn.own) nodes → nodes [] ≡ Some v → v.node.id ≡ l.fn.root
       → (front : Path) × (front ++ map string_bytes (drop l.name-index l.name-items) ≡ l.path) × (now : Owns) × IsSameDraft look trees top base (g.N.Own.txn l.fn.own) nodes (g.N.Own.folder l.own) now × (w : OwnNode) × (now front ≡ Some w) × (w.node.id ≡ l.id)
       × OpensTo look trees top base (g.N.Own.txn l.fn.own) (g.N.Own.folder l.fn.own) nodes [] (g.N.Own.folder l.own) now front;
+  leads : (look : RevisionBytes) (trees : ℕ → TreeFunction) (top base : ℕ) (nodes : Owns) (v : OwnNode) → AreKnown look top l.known → ShowTrees look top trees → base ≤ top → IsDraft look top base (g.N.Own.txn l.fn.own) (g.N.Own.folder l.fn.own) nodes → nodes [] ≡ Some v → v.node.id ≡ l.fn.root
+      → LeadsDown look (g.N.Own.folder l.fn.own).nodes l.known l.path l.fn.root → LeadsDown look (g.N.Own.folder l.own).nodes l.known (map string_bytes (drop l.name-index l.name-items)) l.id;
+  still : (look : RevisionBytes) (trees : ℕ → TreeFunction) (top base : ℕ) (nodes : Owns) (v : OwnNode) → AreKnown look top l.known → ShowTrees look top trees → base ≤ top → IsDraft look top base (g.N.Own.txn l.fn.own) (g.N.Own.folder l.fn.own) nodes → nodes [] ≡ Some v → v.node.id ≡ l.fn.root
+      → (all : List Known) (path : Path) (at : NodeId) → LeadsDown look (g.N.Own.folder l.fn.own).nodes all path at → LeadsDown look (g.N.Own.folder l.own).nodes all path at;
 }

@@ -9,6 +9,8 @@ use Rattle.fsfs_opened.specs.Opening.{IsOpening, IfOpened}
 use Rattle.fsfs_txn.specs.declared.seeing.Seen.{Seen}
 use Rattle.fsfs_txn.specs.Seeing.{IsSeen}
 use Rattle.fsfs_txn.proofs.Looking.{same_sees, same_opens}
+use Rattle.fsfs_opened.specs.Leading.{Leads}
+use Rattle.fsfs_txn.proofs.Leading.{same_leading}
 use Rattle.fsfs_txn.proofs.opening.open_settled.Goals as goal
 
 pub returns-in_err-depth-clause-opens : goal.returns-in_err-depth-clause-opens
@@ -75,3 +77,10 @@ returns-clause-known g c = λ look top knows.
 
 pub returns-clause-kept : goal.returns-clause-kept
 returns-clause-kept g c = keeps_trans _ _ _ c.in_ok-depth.ensures.kept c.in_ok-depth-in-Node.ensures.kept
+
+pub returns-clause-leads : goal.returns-clause-leads
+returns-clause-leads g c = λ look trees top base tree marks knows shown le is_tree d.
+    let later : Knows (g.B.Book.told c.seen_on.new.book).revs top look = λ n h. c.in_ok-depth.ensures.kept.revs n (look n) (knows n h) in
+    let leads = same_leading (g.B.Book.told c.seen_on.new.book).revs (g.N.Own.txn c.forget.new.self) (g.N.Own.txn c.args.own.now) (g.N.Own.folder c.forget.new.self) (g.N.Own.settled c.args.own.now) (Ok c.in_ok-depth-in-Node.field-0)
+    c.forget.ensures.name c.forget.ensures.back c.in_ok-depth-in-Node.ensures.leads in
+    subst (λ (x : Opening). IfOpened (Ok x) (λ way. Leads look (g.N.Own.txn c.args.own.now) (g.N.Own.settled c.args.own.now) way)) c.in-Node-2.is (leads look trees top base tree marks later shown le is_tree d)
