@@ -8,7 +8,6 @@ use Rattle.fsfs_flat.specs.Transactions.{IsNext}
 use Rattle.fsfs_machine.specs.declared.machine.Recorded.{Recorded}
 use Rattle.fsfs_machine.specs.declared.machine.Txn.{Txn}
 use Rattle.fsfs_places.specs.declared.place.DiskPlace.{DiskPlace}
-use Rattle.fsfs_places.specs.declared.place.DiskPlace.TheVariants.{Commit}
 use Rattle.fsfs_places.specs.declared.place.CommitPlace.{CommitPlace}
 use Rattle.fsfs_machine.specs.declared.machine.Section.TheVariants.{Begun}
 use Rattle.fsfs_machine.specs.declared.machine.Outcome.{Outcome}
@@ -46,13 +45,14 @@ pub begins_on : (a b c : List Recorded) → Begins b a → Begins c b → Begins
 begins_on a b c f g = (f.0 ++ g.0, g.1 ∙ ap (λ l. l ++ g.0) f.1 ∙ append_assoc a f.0 g.0)
 
 pub drifted_on : (v m u : View) → Drifted v m → Drifted m u → Drifted v u
-drifted_on v m u a b = record { number = b.number ∙ a.number; layout = b.layout ∙ a.layout; mine = b.mine ∙ a.mine; least = omega (arith, a.least, b.least); grows = begins_on v.seen m.seen u.seen a.grows b.grows; course = append v m u a.course b.course }
+drifted_on v m u a b = record { number = b.number ∙ a.number; layout = b.layout ∙ a.layout; mine = b.mine ∙ a.mine; least = omega (arith, a.least, b.least); given = b.given ∙ a.given; grows = begins_on v.seen m.seen u.seen a.grows b.grows; course = append v m u a.course b.course }
 
 pub by_look : (young : ℕ) (v u : View) → Looked young v u → Drifted v u
 by_look young v u l = record {
   number = ap {A = View} (λ z. z.number) l.is;
   layout = ap {A = View} (λ z. z.layout) l.is;
   mine = ap {A = View} (λ z. z.pass.mine) l.is;
+  given = ap {A = View} (λ z. z.given) l.is;
   least = let e : u.pass.least ≡ young = ap {A = View} (λ z. z.pass.least) l.is in omega (arith, e, l.least);
   grows = none_more u.seen v.seen (ap {A = View} (λ z. z.seen) l.is);
   course = one_step [] (step.Look v.number) (outcome.Youngest young) v u l.turned;
@@ -63,6 +63,7 @@ by_reads v u r = record {
   number = ap {A = View} (λ z. z.number) r.is;
   layout = ap {A = View} (λ z. z.layout) r.is;
   mine = ap {A = View} (λ z. z.pass.mine) r.is;
+  given = ap {A = View} (λ z. z.given) r.is;
   least = let e : u.pass.least ≡ v.pass.least = ap {A = View} (λ z. z.pass.least) r.is in omega (arith, e);
   grows = r.grows;
   course = r.course;
@@ -73,6 +74,7 @@ by_taking v u l = record {
   number = ap {A = View} (λ z. z.number) l.is;
   layout = ap {A = View} (λ z. z.layout) l.is;
   mine = ap {A = View} (λ z. z.pass.mine) l.is;
+  given = ap {A = View} (λ z. z.given) l.is;
   least = let e : u.pass.least ≡ v.pass.least = ap {A = View} (λ z. z.pass.least) l.is in omega (arith, e);
   grows = none_more u.seen v.seen (ap {A = View} (λ z. z.seen) l.is);
   course = one_step [] (step.TakeLock v.number) outcome.Done v u l.turned;
@@ -83,6 +85,7 @@ by_finding place v u l = record {
   number = ap {A = View} (λ z. z.number) l.is;
   layout = ap {A = View} (λ z. z.layout) l.is;
   mine = ap {A = View} (λ z. z.pass.mine) l.is;
+  given = ap {A = View} (λ z. z.given) l.is;
   least = let e : u.pass.least ≡ v.pass.least = ap {A = View} (λ z. z.pass.least) l.is in omega (arith, e);
   grows = none_more u.seen v.seen (ap {A = View} (λ z. z.seen) l.is);
   course = one_step [] (step.TakeLock v.number) (outcome.Stuck place) v u l.turned;
@@ -93,6 +96,7 @@ by_giving s v u l = record {
   number = ap {A = View} (λ z. z.number) l.is;
   layout = ap {A = View} (λ z. z.layout) l.is;
   mine = ap {A = View} (λ z. z.pass.mine) l.is;
+  given = ap {A = View} (λ z. z.given) l.is;
   least = let e : u.pass.least ≡ v.pass.least = ap {A = View} (λ z. z.pass.least) l.is in omega (arith, e);
   grows = none_more u.seen v.seen (ap {A = View} (λ z. z.seen) l.is);
   course = one_step [] s outcome.Done v u l.turned;
@@ -103,6 +107,7 @@ by_stopping place v u l = record {
   number = ap {A = View} (λ z. z.number) l.is;
   layout = ap {A = View} (λ z. z.layout) l.is;
   mine = ap {A = View} (λ z. z.pass.mine) l.is;
+  given = ap {A = View} (λ z. z.given) l.is;
   least = let e : u.pass.least ≡ v.pass.least = ap {A = View} (λ z. z.pass.least) l.is in omega (arith, e);
   grows = none_more u.seen v.seen (ap {A = View} (λ z. z.seen) l.is);
   course = append v l.before u l.course (one_step [] (ends_at place v.number) outcome.Done l.before u l.last.turned);
@@ -172,17 +177,17 @@ full head v m x most l = record {
 }
 
 pub not_landed : {E : Type 0} {Says : Refusals E} (refusal : E) (head : ℕ) (v m u : View) (x : Txn) → Looked head v m → ReadOnly m u → Says refusal head u.seen x → Refused Says (fault.Refused refusal) v u x x
-not_landed refusal head v m u x l r says = record {
+not_landed {Says = Says} refusal head v m u x l r says = record {
   moved = record { drifted = drifted_on v m u (by_look head v m l) (by_reads m u r); section = ap {A = View} (λ z. z.section) r.is ∙ ap {A = View} (λ z. z.section) l.is };
   landings = Unmoved x;
-  cause = (head, l.least, says);
+  cause = subst (λ n. Says refusal n u.seen x) (sym (ap {A = View} (λ z. z.pass.least) r.is ∙ ap {A = View} (λ z. z.pass.least) l.is)) says;
 }
 
 pub not_made : {E : Type 0} {Says : Refusals E} (refusal : E) (head : ℕ) (v m u : View) (x y : Txn) → Looked head v m → ReadOnly m u → LandedOn head u.seen x y → ((n : ℕ) (h : List Recorded) (z : Txn) → Says refusal n h z) → Refused Says (fault.Refused refusal) v u x y
 not_made refusal head v m u x y l r landed says = record {
   moved = record { drifted = drifted_on v m u (by_look head v m l) (by_reads m u r); section = ap {A = View} (λ z. z.section) r.is ∙ ap {A = View} (λ z. z.section) l.is };
   landings = LandedMore x x y head u.seen (Unmoved x) (none_more u.seen u.seen refl) landed;
-  cause = (head, l.least, says head u.seen y);
+  cause = says u.pass.least u.seen y;
 }
 
 -- what a marshalling gives
@@ -302,6 +307,7 @@ module _ (holds : List ℕ → Type 0) (ready : Ready) (properties : List (List 
     above = omega (arith, r.above, r.rev);
     is_next = subst (λ k. IsNext (revisions n.seen) (entry_of k y properties) next) drifted.number next_is;
     shows = shows;
+    given = ap {A = View} (λ z. z.given) p.is ∙ drifted.given;
     mine = ap {A = View} (λ z. z.pass.mine) p.is ∙ ap (λ k. n.pass.mine ++ k ∷ []) (sym is_made.number) ∙ ap (λ l. l ++ ready.made.rev ∷ []) drifted.mine;
     outside = ap {A = View} (λ z. z.section) p.is;
     course = append v n o drifted.course p.course;
@@ -311,14 +317,14 @@ module _ (holds : List ℕ → Type 0) (ready : Ready) (properties : List (List 
   failed_at place o none s = record {
     moved = record { drifted = drifted_on v n o drifted (by_stopping place n o s); section = ap {A = View} (λ z. z.section) s.is ∙ sym none };
     landings = landings_later n.seen o.seen x y (by_stopping place n o s).grows landings_here;
-    cause = (n.pass.faults, ap {A = View} (λ z. z.pass.faults) s.is);
+    cause = (n, drifted, s);
   }
 
   pub not_written : {E : Type 0} {Says : Refusals E} (refusal : E) (o : View) → v.section ≡ None → LockGiven (step.GiveLock n.number) n o → ((head : ℕ) (h : List Recorded) (z : Txn) → Says refusal head h z) → Refused Says (fault.Refused refusal) v o x y
   not_written refusal o none g says = record {
     moved = record { drifted = drifted_on v n o drifted (by_giving (step.GiveLock n.number) n o g); section = ap {A = View} (λ z. z.section) g.is ∙ sym none };
     landings = landings_later n.seen o.seen x y (by_giving (step.GiveLock n.number) n o g).grows landings_here;
-    cause = (v.pass.least, omega arith, says v.pass.least o.seen y);
+    cause = says o.pass.least o.seen y;
   }
 
   pub short_at : {E : Type 0} {Says : Refusals E} (f : CommitFault E) (o : View) → v.section ≡ None → EndsShort Says f n o → Refused Says f v o x y
@@ -393,6 +399,7 @@ committed_on rev p v m o x y z d can landings c = record {
   is_next = subst (λ k. IsNext (revisions c.before) (entry_of k z p) c.next.revision) d.number c.is_next;
   shows = c.shows;
   mine = c.mine ∙ ap (λ l. l ++ rev ∷ []) d.mine;
+  given = c.given ∙ d.given;
   outside = c.outside;
   course = append v m o d.course c.course;
 }
@@ -410,8 +417,8 @@ refused_on {Says = Says} f v m o x y z d section landings r = record {
     cause_on : {F : Type 0} (W : Refusals F) (g : CommitFault F) → Cause W g m o z → Cause W g v o z
     cause_on W fault.RevsFull c = c
     cause_on W (fault.Stuck place) c = c
-    cause_on W (fault.Refused refusal) c = (c.0, omega (arith, d.least, c.1), c.2)
-    cause_on W (fault.DiskFault place) c = c
+    cause_on W (fault.Refused refusal) c = c
+    cause_on W (fault.DiskFault place) c = (c.0, drifted_on v m c.0 d c.1, c.2)
 
 pub turn_on : (came : Option ℕ) (p : List (List ℕ × List ℕ)) (v m o : View) (x y z : Txn) → Lost p v m x y → IsTurn came p m o y z → IsTurn came p v o x z
 turn_on (Some rev) p v m o x y z l t = committed_on rev p v m o x y z l.moved.drifted l.from l.landings t
@@ -455,8 +462,9 @@ refused_last {Says = Says} f v m u o x y none t r g = record {
     cause_given : {F : Type 0} (W : Refusals F) (g : CommitFault F) → Cause W g m u y → Cause W g v o y
     cause_given W fault.RevsFull c = subst (λ p. 2147483647 ≤ p.least) (sym same) c
     cause_given W (fault.Stuck place) c = subst (λ p. p.stuck ≡ Some place) (sym same) c
-    cause_given W (fault.Refused refusal) c = (c.0, omega (arith, (by_taking v m t).least, c.1), subst (λ h. W refusal c.0 h y) (sym seen) c.2)
-    cause_given W (fault.DiskFault place) c = subst (λ p. (before : List DiskPlace) × (p.faults ≡ before ++ Commit place ∷ [])) (sym same) c
+    cause_given W (fault.Refused refusal) c = subst (λ h. W refusal o.pass.least h y) (sym seen) (subst (λ p. W refusal p.least u.seen y) (sym same) c)
+    cause_given W (fault.DiskFault place) c =
+        let e : Some Begun ≡ None = sym (begun_then v m u t r.moved.section) ∙ ap {A = View} (λ z. z.section) c.2.is in absurd cc
 
 module _ (holds : List ℕ → Type 0) (ready : Ready) (p : List (List ℕ × List ℕ)) (v m u : View) (x y : Txn) (t : LockTaken v m) (r : IsReady holds ready p m u x y) where
   pub last_section : u.section ≡ Some Begun
@@ -487,14 +495,14 @@ module _ (holds : List ℕ → Type 0) (ready : Ready) (p : List (List ℕ × Li
   last_stopped place o none s = record {
     moved = record { drifted = drifted_on v u o (drifted_on v m u (by_taking v m t) r.moved.drifted) (by_stopping place u o s); section = ap {A = View} (λ z. z.section) s.is ∙ sym none };
     landings = landings_later u.seen o.seen x y (by_stopping place u o s).grows r.landings;
-    cause = (u.pass.faults, ap {A = View} (λ z. z.pass.faults) s.is);
+    cause = (u, drifted_on v m u (by_taking v m t) r.moved.drifted, s);
   }
 
   last_unwritten : {E : Type 0} {Says : Refusals E} (refusal : E) (o : View) → v.section ≡ None → LockGiven (step.GiveLock u.number) u o → ((head : ℕ) (h : List Recorded) (z : Txn) → Says refusal head h z) → Refused Says (fault.Refused refusal) v o x y
   last_unwritten refusal o none g says = record {
     moved = record { drifted = drifted_on v u o (drifted_on v m u (by_taking v m t) r.moved.drifted) (by_giving (step.GiveLock u.number) u o g); section = ap {A = View} (λ z. z.section) g.is ∙ sym none };
     landings = landings_later u.seen o.seen x y (by_giving (step.GiveLock u.number) u o g).grows r.landings;
-    cause = (v.pass.least, omega arith, says v.pass.least o.seen y);
+    cause = says o.pass.least o.seen y;
   }
 
   pub last_fails : {E : Type 0} {Says : Refusals E} (f : CommitFault E) (o : View) → v.section ≡ None → EndsShort Says f u o → Refused Says f v o x y

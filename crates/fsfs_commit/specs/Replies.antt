@@ -5,8 +5,6 @@ use Rattle.fsfs_tree.specs.Histories.{IsHistory}
 use Rattle.fsfs_flat.specs.Transactions.{IsNext}
 use Rattle.fsfs_machine.specs.declared.machine.Recorded.{Recorded}
 use Rattle.fsfs_machine.specs.declared.machine.Txn.{Txn}
-use Rattle.fsfs_places.specs.declared.place.DiskPlace.{DiskPlace}
-use Rattle.fsfs_places.specs.declared.place.DiskPlace.TheVariants.{Commit}
 use Rattle.fsfs_machine.specs.Machine.{revisions, entry_of}
 use Rattle.fsfs_turn.specs.Bytes.{BytesShow}
 use Rattle.fsfs_machine.specs.declared.machine.Step.TheVariants.{GiveLock}
@@ -24,6 +22,7 @@ pub record Drifted (v u : View) : Type 0 where
   pub layout : u.layout ≡ v.layout
   pub mine : u.pass.mine ≡ v.pass.mine
   pub least : v.pass.least ≤ u.pass.least
+  pub given : u.given ≡ v.given
   pub grows : Begins u.seen v.seen
   pub course : Course v u
 
@@ -70,6 +69,7 @@ pub record Committed (rev : ℕ) (properties : List (List ℕ × List ℕ)) (v u
   pub handed_in : IsNext (revisions before) (entry_of v.number x properties) next.revision
   pub shows : BytesShow (before ++ next ∷ [])
   pub mine : u.pass.mine ≡ v.pass.mine ++ rev ∷ []
+  pub given : u.given ≡ v.given
   pub outside : u.section ≡ None
   pub course : Course v u
 
@@ -95,13 +95,13 @@ EndsShort Says (Stuck place) v u = ⊥
 EndsShort Says (Refuses refusal) v u = LockGiven (GiveLock v.number) v u × ((head : ℕ) (h : List Recorded) (x : Txn) → Says refusal head h x)
 EndsShort Says (DiskFault place) v u = StoppedAt place v u
 
--- why a commit was refused, in what the pass knows after it; a draft's refusal is of the transaction as it stood then, and of a revision
--- that the pass was told of, or a later one
+-- why a commit was refused, in what the pass knows after it; a draft's refusal is of the transaction as it stood then, and of the youngest
+-- revision that the pass was told of; a fault of the disk is that of the section that came last
 abbrev pub Cause : {E : Type 0} → Refusals E → CommitFault E → View → View → Txn → Type 0
 Cause Says RevsFull v u y = 2147483647 ≤ u.pass.least
 Cause Says (Stuck place) v u y = u.pass.stuck ≡ Some place
-Cause Says (Refuses refusal) v u y = (head : ℕ) × (v.pass.least ≤ head) × Says refusal head u.seen y
-Cause Says (DiskFault place) v u y = (before : List DiskPlace) × (u.pass.faults ≡ before ++ Commit place ∷ [])
+Cause Says (Refuses refusal) v u y = Says refusal u.pass.least u.seen y
+Cause Says (DiskFault place) v u y = (m : View) × Drifted v m × StoppedAt place m u
 
 -- REFUSED: nothing was added; the transaction stands on the head of the last landing, or as it was
 pub record Refused {E : Type 0} (Says : Refusals E) (fault : CommitFault E) (v u : View) (x y : Txn) : Type 0 where

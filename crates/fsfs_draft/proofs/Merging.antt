@@ -1,0 +1,134 @@
+-- A merge over what a pass has seen.
+use Rattle.std.proofs.Common.{◌≡◌, ◌<◌, ◌≤◌, ◌+◌, ℕ, suc, zero, List, [], ◌∷◌, ◌++◌, length, refl, sym, ap, subst, ◌∙◌, arith, take, append-nil}
+use Rattle.std.specs.Prelude.{Option, Some, None, Result, Ok, Err}
+use Rattle.std.specs.FinMap.{get}
+use Rattle.fsfs_base.specs.Paths.{Path}
+use Rattle.fsfs_base.specs.declared.failed.Failed.{Failed}
+use Rattle.fsfs_book.specs.Told.{Told, Knows}
+use Rattle.fsfs_fields.specs.declared.txn_name.TxnName.{TxnName}
+use Rattle.fsfs_tree.specs.Revisions.{tree_of}
+use Rattle.fsfs_flat.specs.Landing.{IsFirstClash}
+use Rattle.fsfs_ancestry.specs.Trees.{ShowTrees}
+use Rattle.fsfs_drafts.specs.Drafts.{Folder}
+use Rattle.fsfs_land.specs.declared.land.Outcome.{Outcome}
+use Rattle.fsfs_land.specs.declared.land.Outcome.TheVariants as outcomes
+use Rattle.fsfs_own.specs.declared.error.EditError.TheVariants as edits
+use Rattle.fsfs_txn.specs.declared.txn_error.TxnError.{TxnError}
+use Rattle.fsfs_txn.specs.declared.txn_error.TxnError.TheVariants as txns
+use Rattle.fsfs_txn.specs.Spending.{IfStays, IsSpentAfter}
+use Rattle.fsfs_txn.specs.Standing.{Stands}
+use Rattle.fsfs_txn.specs.Merging.{IsMerging, MeetsMerging}
+use Rattle.fsfs_machine.specs.declared.machine.Recorded.{Recorded}
+use Rattle.fsfs_machine.specs.declared.machine.Txn.{Txn}
+use Rattle.fsfs_machine.specs.declared.machine.Outcome.TheVariants as outcome
+use Rattle.fsfs_machine.specs.declared.machine.Step.TheVariants as step
+use Rattle.fsfs_machine.specs.declared.machine.Went.{Went}
+use Rattle.fsfs_machine.specs.Machine.{revisions, either}
+use Rattle.fsfs_turn.specs.Bytes.{bytes_of, AllShow}
+use Rattle.fsfs_turn.specs.Views.{View, Begins, ReadTurn}
+use Rattle.fsfs_turn.proofs.Longer.{tree_first}
+use Rattle.fsfs_final_bytes.specs.declared.error.FinalError.{FinalError}
+use Rattle.fsfs_final_bytes.specs.declared.error.FinalError.TheVariants as finals
+use Rattle.fsfs_commit.specs.Courses.{End, More}
+use Rattle.fsfs_commit.specs.Works.{LandedOn, ReadOnly}
+use Rattle.fsfs_draft.specs.Meaning.{IsTxnOf}
+use Rattle.fsfs_draft.specs.Refusals.{of_txn, of_final, IsClashAt, Refuses}
+use Rattle.fsfs_draft.specs.SeenLemmas.{bytes_same, shown_trees}
+use Rattle.fsfs_draft.proofs.Landing.{first_part, part_long, part_last, landed, landed_means, landed_on}
+
+-- ---- what only reading tells
+
+pub reads_nothing : (v : View) → AllShow v.seen → ReadOnly v v
+reads_nothing v shown = record { is = refl; grows = ([], sym (append-nil v.seen)); shown = shown; within = λ sure le. le; course = End v }
+
+pub reads_once : (r offset size : ℕ) (x : Recorded) (went : Went) (v u : View) → ReadTurn r offset size x went v u → ReadOnly v u
+reads_once r offset size x went v u t = record {
+  is = t.is ∙ (λ i. record v { pass = record v.pass { seen = ap {A = View} (λ z. z.pass.seen) (sym t.is) i; faults = ap {A = View} (λ z. z.pass.faults) (sym t.is) i; floor = ap {A = View} (λ z. z.pass.floor) (sym t.is) i }; seen = u.seen });
+  grows = t.grows;
+  shown = t.shown;
+  within = λ sure le. t.within sure;
+  course = More [] (step.Read v.number r offset size went) (either went (outcome.Bytes _) outcome.Failed) v u u t.turned (End u);
+}
+
+-- ---- the first part that ends with the head, where no more was seen before
+
+begins_take : {X : Type 0} (n : ℕ) (v more : List X) → length v ≤ n → (rest : List X) × (take n (v ++ more) ≡ v ++ rest)
+begins_take n [] more le = (take n more, refl)
+begins_take zero (x ∷ v) more le = absurd (omega (arith, le))
+begins_take (suc n) (x ∷ v) more le = let w = begins_take n v more (omega (arith, le)) in (w.0, ap (λ l. x ∷ l) w.1)
+
+pub begins_part : (n : ℕ) (g h : List Recorded) → Begins h g → length g ≤ n → Begins (take n h) g
+begins_part n g h b le = let w = begins_take n g b.0 le in (w.0, ap (λ l. take n l) b.1 ∙ w.1)
+
+pub whole_part : (n : ℕ) (h : List Recorded) → length h ≤ n → Begins (take n h) h
+whole_part n h le = begins_part n h h ([], sym (append-nil h)) le
+
+-- ---- the merge
+
+module _ (v : View) (head : ℕ) (less : head < length v.seen) (name : TxnName) (base : ℕ) (settled after : Folder) (x : Txn) (low : base < head) (is : IsTxnOf (take (head + 1) v.seen) name base settled x) (shown : AllShow v.seen) (told : Told) (tells : (r : ℕ) → r < length v.seen → told r ≡ Some (bytes_of v.seen r)) where
+  abbrev part : List Recorded
+  part = take (head + 1) v.seen
+
+  same_tree : (r : ℕ) → r ≤ head → tree_of (revisions part) r ≡ tree_of (revisions v.seen) r
+  same_tree r le = tree_first part v.seen r (first_part (head + 1) v.seen) (omega (arith, le, part_long head v.seen less))
+
+  knows : Knows told head (bytes_of part)
+  knows r le = tells r (omega (arith, le, less)) ∙ ap (λ read. Some read) (sym (bytes_same part v.seen r (first_part (head + 1) v.seen) (omega (arith, le, part_long head v.seen less))))
+
+  shows : ShowTrees (bytes_of part) head (tree_of (revisions part))
+  shows = subst (λ top. ShowTrees (bytes_of part) top (tree_of (revisions part))) (part_last head v.seen less) (shown_trees part (omega (arith, part_long head v.seen less)) (shown (head + 1) (omega arith)))
+
+  stands : Stands (bytes_of part) (tree_of (revisions part)) head base name settled (get x.tree) x.marks
+  stands = subst (λ top. Stands (bytes_of part) (tree_of (revisions part)) top base name settled (get x.tree) x.marks) (part_last head v.seen less) is.stands
+
+  merging : (result : Result Outcome TxnError) → MeetsMerging told base head name settled after result → IsMerging IfStays (bytes_of part) (tree_of (revisions part)) head base head name (get x.tree) x.marks settled after result
+  merging result meets = meets (bytes_of part) (tree_of (revisions part)) head (get x.tree) x.marks knows shows low (omega arith) stands
+
+  module _ (result : Result Outcome TxnError) (meets : MeetsMerging told base head name settled after result) where
+    abbrev Says : Result Outcome TxnError → Type 0
+    Says r = IsMerging IfStays (bytes_of part) (tree_of (revisions part)) head base head name (get x.tree) x.marks settled after r
+
+    pub is_landed : result ≡ Ok outcomes.Landed → LandedOn head v.seen x (landed head v.seen less name base settled x low is) × IsTxnOf (take (head + 1) v.seen) name head after (landed head v.seen less name base settled x low is)
+    is_landed e = let w = subst (λ r. Says r) e (merging result meets) in (landed_on head v.seen less name base settled x low is after w.1 w.0, landed_means head v.seen less name base settled x low is after w.1 w.0)
+
+    pub is_clash : (path : Path) → result ≡ Ok (outcomes.Clash path) → IsClashAt path head v.seen x × (after ≡ settled)
+    is_clash path e =
+        let w = subst (λ r. Says r) e (merging result meets) in (
+          record {
+            later = omega (arith, is.on, low);
+            there = less;
+            first = subst (λ b. IsFirstClash b (tree_of (revisions v.seen) b) (tree_of (revisions v.seen) head) (get x.tree) x.marks path) (sym is.on)
+                (subst (λ a. IsFirstClash base a (tree_of (revisions v.seen) head) (get x.tree) x.marks path) (same_tree base (omega (arith, low))) (subst (λ s. IsFirstClash base (tree_of (revisions part) base) s (get x.tree) x.marks path) (same_tree head (omega arith)) w.0));
+          },
+          w.1,
+        )
+
+    pub has_failed : (error : TxnError) → result ≡ Err error → IfStays error (after ≡ settled)
+    has_failed error e = subst (λ r. Says r) e (merging result meets)
+
+-- no failure is a clash
+pub no_clash : (error : TxnError) (head : ℕ) (h : List Recorded) (x : Txn) → Refuses (of_txn error) head h x
+no_clash (txns.Spent first) head h x = tt
+no_clash (txns.Fault edits.OutOfMemory) head h x = tt
+no_clash (txns.Fault edits.DiskFault) head h x = tt
+no_clash (txns.Fault edits.BenchFault) head h x = tt
+no_clash (txns.Fault (edits.Wrong w)) head h x = tt
+no_clash (txns.Fault edits.Lacking) head h x = tt
+
+pub no_clash_made : (error : FinalError) (head : ℕ) (h : List Recorded) (x : Txn) → Refuses (of_final error) head h x
+no_clash_made finals.OutOfMemory head h x = tt
+no_clash_made finals.SinkFault head h x = tt
+no_clash_made finals.Lacking head h x = tt
+no_clash_made (finals.PastLimit limit) head h x = tt
+
+not_none : (o : Option Failed) (first : Failed) → o ≡ Some first → o ≡ None → ⊥
+not_none o first e none = let same : Some first ≡ None = sym e ∙ none in cc
+
+-- a failure that doesn't spend the transaction leaves it
+pub stays_after : (error : TxnError) (old new : Option Failed) (P : Type 0) → IsSpentAfter {T = Outcome} old new (Err error) → IfStays error P → new ≡ None → P
+stays_after (txns.Spent first) old new P after stays none = absurd stays
+stays_after (txns.Fault edits.OutOfMemory) old new P after stays none = stays
+stays_after (txns.Fault edits.DiskFault) old new P after stays none = stays
+stays_after (txns.Fault edits.BenchFault) old new P after stays none = absurd (not_none new (record {}) after.1 none)
+stays_after (txns.Fault (edits.Wrong w)) old new P after stays none = absurd stays
+stays_after (txns.Fault edits.Lacking) old new P after stays none = absurd stays

@@ -1,0 +1,45 @@
+use Rattle.std.proofs.Common.{◌∙◌, ◌+◌, refl, sym, ap, subst, take}
+use Rattle.std.specs.Prelude.{Ok}
+use Rattle.fsfs_txn.specs.Merging.{IsLandedOn}
+use Rattle.fsfs_txn.specs.Spending.{IsSpentAfter}
+use Rattle.fsfs_draft.specs.Refusals.{Refuses}
+use Rattle.fsfs_draft.proofs.Landing.{landed}
+use Rattle.fsfs_draft.proofs.Merging.{is_landed, is_clash, has_failed, stays_after, no_clash}
+use Rattle.fsfs_draft.proofs.Writing.{txn_as}
+use Rattle.fsfs_draft.proofs.open_txn.OpenTxn.land.Goals as goal
+
+pub returns-in-Ok-Landed-clause-ok : goal.returns-in-Ok-Landed-clause-ok
+returns-in-Ok-Landed-clause-ok g c = λ v x known none means low less.
+    let head = c.args.head in
+    let tells = c.over_turns-book.ensures.told v known in
+    let shown = (g.met.T.Turns.tells c.args.turns v known).shown in
+    let e = c.in-Ok-Landed.is ∙ ap (λ o. Ok o) c.in-Ok-Landed.field-0-is in
+    let w = is_landed v head less _ _ _ _ x low (means none) shown _ tells.revs c.merge-merged.result (c.merge-merged.ensures.meets none) e in
+    let still = g.met.T.LoneTurns.still c.args.turns c.turns_of-turns.result v (c.turns_of-turns.ensures.below ∙ c.merge-merged.ensures.kept.below ∙ c.over_turns-book.ensures.below) known in
+    let base = (subst (λ r. IsLandedOn head c.args.self.now.txn.base c.merge-merged.new.self.base c.args.self.now.txn.moves c.merge-merged.new.self.moves r) e c.merge-merged.ensures.landed).0 in
+    (landed head v.seen less _ _ _ x low (means none), still, w.0, λ spent. txn_as (take (head + 1) v.seen) _ _ _ _ _ _ _ c.merge-merged.ensures.name base refl w.1)
+
+pub returns-in-Ok-Clash-clause-err : goal.returns-in-Ok-Clash-clause-err
+returns-in-Ok-Clash-clause-err g c = λ v h x known none means low less.
+    let head = c.args.head in
+    let path = c.in-Ok-Clash.path in
+    let tells = c.over_turns-book.ensures.told v known in
+    let shown = (g.met.T.Turns.tells c.args.turns v known).shown in
+    let e = c.in-Ok-Clash.is ∙ ap (λ o. Ok o) c.in-Ok-Clash.field-0-is in
+    let w = is_clash v head less _ _ _ _ x low (means none) shown _ tells.revs c.merge-merged.result (c.merge-merged.ensures.meets none) path e in
+    let still = g.met.T.LoneTurns.still c.args.turns c.turns_of-turns.result v (c.turns_of-turns.ensures.below ∙ c.merge-merged.ensures.kept.below ∙ c.over_turns-book.ensures.below) known in
+    let base = (subst (λ r. IsLandedOn head c.args.self.now.txn.base c.merge-merged.new.self.base c.args.self.now.txn.moves c.merge-merged.new.self.moves r) e c.merge-merged.ensures.landed).0 in
+    (still, (refl, w.0), λ was spent. txn_as h _ _ _ _ _ _ x c.merge-merged.ensures.name base w.1 (was none))
+
+pub returns-in-Err-clause-err : goal.returns-in-Err-clause-err
+returns-in-Err-clause-err g c = λ v h x known none means low less.
+    let head = c.args.head in
+    let error = c.in-Err.error in
+    let tells = c.over_turns-book.ensures.told v known in
+    let shown = (g.met.T.Turns.tells c.args.turns v known).shown in
+    let e = c.in-Err.is in
+    let w = has_failed v head less _ _ _ _ x low (means none) shown _ tells.revs c.merge-merged.result (c.merge-merged.ensures.meets none) error e in
+    let still = g.met.T.LoneTurns.still c.args.turns c.turns_of-turns.result v (c.turns_of-turns.ensures.below ∙ c.merge-merged.ensures.kept.below ∙ c.over_turns-book.ensures.below) known in
+    let base = (subst (λ r. IsLandedOn head c.args.self.now.txn.base c.merge-merged.new.self.base c.args.self.now.txn.moves c.merge-merged.new.self.moves r) e c.merge-merged.ensures.landed).0 in
+    let after = subst (λ r. IsSpentAfter c.args.self.now.txn.spent c.merge-merged.new.self.spent r) e c.merge-merged.ensures.spent in
+    (still, subst (λ why. Refuses why head v.seen x) (sym c.not_landed.ensures) (no_clash error head v.seen x), λ was spent. txn_as h _ _ _ _ _ _ x c.merge-merged.ensures.name base (stays_after error _ _ _ after w spent) (was none))

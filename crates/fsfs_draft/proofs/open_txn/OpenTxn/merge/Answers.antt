@@ -1,0 +1,63 @@
+use Rattle.std.proofs.Common.{◌<◌, ◌∙◌, ◌+◌, sym, ap, take, arith}
+use Rattle.std.specs.Prelude.{length}
+use Rattle.fsfs_base.proofs.ResultLemmas.{none_of}
+use Rattle.fsfs_layout.specs.FileNames.{file_name}
+use Rattle.fsfs_layout.specs.declared.repository_file.RepositoryFile.TheVariants as file
+use Rattle.fsfs_turn.proofs.Standings.{there_below}
+use Rattle.fsfs_draft.specs.StayingLemmas.{txn_stays}
+use Rattle.fsfs_draft.proofs.Landing.{stays_on}
+use Rattle.fsfs_draft.proofs.Merging.{reads_nothing, reads_once, begins_part, whole_part}
+use Rattle.fsfs_draft.proofs.Writing.{ok_then, if_err_then}
+use Rattle.fsfs_draft.proofs.open_txn.OpenTxn.merge.Goals as goal
+
+pub returns-then-is_spent-clause-err : goal.returns-then-is_spent-clause-err
+returns-then-is_spent-clause-err g c = λ v x known means le long told.
+    let shown = (g.met.T.Turns.tells c.args.turns v known).shown in
+    (v, known, means, reads_nothing v shown, tt)
+
+pub returns-then-get-clause-ok : goal.returns-then-get-clause-ok
+returns-then-get-clause-ok g c = λ v x known means le long told.
+    let head = c.args.head in
+    let shown = (g.met.T.Turns.tells c.args.turns v known).shown in
+    let none = none_of c.args.self.now.txn.spent (sym c.is_spent.ensures ∙ c.if-is_spent.false) in
+    let same = sym c.base-base.ensures ∙ sym c.get.ensures.same ∙ c.if-get.true ∙ c.get-2.ensures.same in
+    let is = means none in
+    (v, x, known, λ spent. txn_stays v.seen (take (head + 1) v.seen) _ _ _ x is (whole_part (head + 1) v.seen long), reads_nothing v shown, stays_on head v.seen _ c.args.self.now.txn.base _ x same is)
+
+pub returns-in-Err-clause-err : goal.returns-in-Err-clause-err
+returns-in-Err-clause-err g c = λ v x known means le long told.
+    let base = c.args.self.now.txn.base in
+    let none = none_of c.args.self.now.txn.spent (sym c.is_spent.ensures ∙ c.if-is_spent.false) in
+    let is = means none in
+    let y = there_below v.seen base is.based in
+    let name = c.name-file.ensures ∙ ap (λ r. file_name c.layout.result (file.Revision r)) c.base-base.ensures ∙ ap (λ l. file_name l (file.Revision base)) (c.layout.ensures ∙ (g.met.T.Turns.tells c.args.turns v known).layout) in
+    let s = c.in-Err.ensures.turned v base y.0 known y.1 (omega (arith, c.get.ensures.limit, c.base-base.ensures)) name in
+    (s.0, s.2, means, reads_once base 0 0 y.0 s.1 v s.0 s.4, tt)
+
+pub returns-in-Ok-clause-ok : goal.returns-in-Ok-clause-ok
+returns-in-Ok-clause-ok g c = λ v x known means le long told.
+    let head = c.args.head in
+    let base = c.args.self.now.txn.base in
+    let none = none_of c.args.self.now.txn.spent (sym c.is_spent.ensures ∙ c.if-is_spent.false) in
+    let is = means none in
+    let y = there_below v.seen base is.based in
+    let name = c.name-file.ensures ∙ ap (λ r. file_name c.layout.result (file.Revision r)) c.base-base.ensures ∙ ap (λ l. file_name l (file.Revision base)) (c.layout.ensures ∙ (g.met.T.Turns.tells c.args.turns v known).layout) in
+    let s = c.in-Ok.ensures.turned v base y.0 known y.1 (omega (arith, c.get.ensures.limit, c.base-base.ensures)) name in
+    let less : head < length s.0.seen = omega (arith, s.4.all, told) in
+    let low : base < head = omega (arith, is.on, le, c.if-get.false, c.base-base.ensures, c.get.ensures.same, c.get-2.ensures.same) in
+    let part = txn_stays v.seen (take (head + 1) s.0.seen) _ _ _ x is (begins_part (head + 1) v.seen s.0.seen s.4.grows long) in
+    ok_then c.land.result.1 _ _ (λ w. (s.0, w.0, w.1, w.3, reads_once base 0 0 y.0 s.1 v s.0 s.4, w.2)) (c.land.ensures.ok s.0 x s.2 none (λ spent. part) low less)
+
+pub returns-in-Ok-clause-err : goal.returns-in-Ok-clause-err
+returns-in-Ok-clause-err g c = λ v x known means le long told.
+    let head = c.args.head in
+    let base = c.args.self.now.txn.base in
+    let none = none_of c.args.self.now.txn.spent (sym c.is_spent.ensures ∙ c.if-is_spent.false) in
+    let is = means none in
+    let y = there_below v.seen base is.based in
+    let name = c.name-file.ensures ∙ ap (λ r. file_name c.layout.result (file.Revision r)) c.base-base.ensures ∙ ap (λ l. file_name l (file.Revision base)) (c.layout.ensures ∙ (g.met.T.Turns.tells c.args.turns v known).layout) in
+    let s = c.in-Ok.ensures.turned v base y.0 known y.1 (omega (arith, c.get.ensures.limit, c.base-base.ensures)) name in
+    let less : head < length s.0.seen = omega (arith, s.4.all, told) in
+    let low : base < head = omega (arith, is.on, le, c.if-get.false, c.base-base.ensures, c.get.ensures.same, c.get-2.ensures.same) in
+    let part = txn_stays v.seen (take (head + 1) s.0.seen) _ _ _ x is (begins_part (head + 1) v.seen s.0.seen s.4.grows long) in
+    if_err_then c.land.result.1 _ _ (λ why w. (s.0, w.0, w.2 means, reads_once base 0 0 y.0 s.1 v s.0 s.4, w.1)) (c.land.ensures.err s.0 v.seen x s.2 none (λ spent. part) low less)

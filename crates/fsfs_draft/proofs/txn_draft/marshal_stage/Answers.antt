@@ -1,0 +1,10 @@
+use Rattle.fsfs_draft.proofs.Stages.{meaning, if_open}
+use Rattle.fsfs_draft.proofs.txn_draft.marshal_stage.Goals as goal
+
+pub returns-in-Open-clause-made : goal.returns-in-Open-clause-made
+returns-in-Open-clause-made g c = λ h x tells means youngest.
+    c.marshal.ensures.made h x tells (if_open c.args.stage.now c.in-Open.live (meaning g.B.Bench.contents h x) c.in-Open.is means) youngest
+
+pub returns-in-Open-clause-means : goal.returns-in-Open-clause-means
+returns-in-Open-clause-means g c = λ h x means.
+    c.marshal.ensures.means h x (if_open c.args.stage.now c.in-Open.live (meaning g.B.Bench.contents h x) c.in-Open.is means)

@@ -1,0 +1,142 @@
+//! A transaction under way, as it is landed and written.
+ghost use Rattle.std.specs.Prelude.{◌≡◌, ◌<◌, ◌≤◌, ◌+◌, ℕ, List, None, IsSome, length, take, option_map, IfErr, OnOk};
+ghost use Rattle.fsfs_disk.specs.Benches.{bytes_on, IsFirmFile};
+ghost use Rattle.fsfs_machine.specs.declared.machine.Recorded.{Recorded};
+ghost use Rattle.fsfs_machine.specs.declared.machine.Txn.{Txn as SpecTxn};
+ghost use Rattle.fsfs_turn.specs.Views.{View};
+ghost use Rattle.fsfs_commit.specs.Works.{LandedOn, ReadOnly};
+ghost use Rattle.fsfs_draft.specs.Meaning.{IsTxnOf, Means, IsYoungestOf, IsTextBehind, HoldsBehind};
+ghost use Rattle.fsfs_draft.specs.Refusals.{Refuses};
+
+use crate::ended_txn::{EndedTxn, end_file};
+use crate::refusal::{CommitRefusal, not_landed, not_made};
+use fsfs_disk::Bench;
+use fsfs_fields::RevNum;
+use fsfs_final_bytes::final_text;
+use fsfs_held::HeldNodes;
+use fsfs_layout::RepositoryFile;
+use fsfs_own::Own;
+use fsfs_turn::{LoneTurns, Turns};
+use fsfs_turn_book::{over_turns, turns_of};
+use fsfs_txn::{Outcome, Txn};
+use std::alloc::Global;
+
+/// A transaction under way, and the bytes that were made last to stand behind its texts.
+#[derive(Drop)]
+pub(crate) struct OpenTxn<B: Bench> {
+    pub(crate) txn: Txn<HeldNodes<B>>,
+    pub(crate) text: Option<Vec<u8>>,
+}
+
+impl<B: Bench> OpenTxn<B> {
+    // Lands it on a later revision, which is read by turns.
+    fn land<R, T: LoneTurns<R>>(
+        &mut self,
+        alloc: Global,
+        rt: &R,
+        turns: T,
+        head: RevNum,
+    ) -> (T, Result<(), CommitRefusal>)
+        ensures ok { (v : View) (x : SpecTxn) → T.knows turns v → self.old.txn.spent ≡ None → Means self.old.txn.spent (take (head + 1) v.seen) (⟦<HeldNodes<B> as Own>⟧.txn self.old.txn.own) self.old.txn.base (⟦<HeldNodes<B> as Own>⟧.settled self.old.txn.own) x
+            → self.old.txn.base < head → head < length v.seen
+            → OnOk result.1 ((y : SpecTxn) × T.knows result.0 v × LandedOn head v.seen x y
+            × Means self.new.txn.spent (take (head + 1) v.seen) (⟦<HeldNodes<B> as Own>⟧.txn self.new.txn.own) self.new.txn.base (⟦<HeldNodes<B> as Own>⟧.settled self.new.txn.own) y) }
+        ensures err { (v : View) (h : List Recorded) (x : SpecTxn) → T.knows turns v → self.old.txn.spent ≡ None → Means self.old.txn.spent (take (head + 1) v.seen) (⟦<HeldNodes<B> as Own>⟧.txn self.old.txn.own) self.old.txn.base (⟦<HeldNodes<B> as Own>⟧.settled self.old.txn.own) x
+            → self.old.txn.base < head → head < length v.seen
+            → IfErr result.1 (λ why. T.knows result.0 v × Refuses why head v.seen x × (Means self.old.txn.spent h (⟦<HeldNodes<B> as Own>⟧.txn self.old.txn.own) self.old.txn.base (⟦<HeldNodes<B> as Own>⟧.settled self.old.txn.own) x
+            → Means self.new.txn.spent h (⟦<HeldNodes<B> as Own>⟧.txn self.new.txn.own) self.new.txn.base (⟦<HeldNodes<B> as Own>⟧.settled self.new.txn.own) x)) }
+        ensures later { T.faults turns ≤ T.faults result.0 }
+    {
+        let mut book = over_turns(alloc, rt, turns);
+        let merged = self.txn.merge(alloc, &mut book, head);
+        let turns = turns_of(book);
+        match merged {
+            Ok(Outcome::Landed) => (turns, Ok(())),
+            Ok(Outcome::Clash(path)) => (turns, Err(CommitRefusal::Clash { head, path })),
+            Err(error) => (turns, Err(not_landed(error))),
+        }
+    }
+
+    /// Lands it on this revision, and gives the turns back; where it stands there already, it does nothing. It has to have seen the
+    /// revision: so it asks for a file's size first.
+    pub(crate) fn merge<R, T: LoneTurns<R>>(
+        &mut self,
+        alloc: Global,
+        rt: &R,
+        turns: T,
+        head: RevNum,
+    ) -> (T, Result<(), CommitRefusal>)
+        ensures ok { (v : View) (x : SpecTxn) → T.knows turns v → Means self.old.txn.spent v.seen (⟦<HeldNodes<B> as Own>⟧.txn self.old.txn.own) self.old.txn.base (⟦<HeldNodes<B> as Own>⟧.settled self.old.txn.own) x
+            → x.base ≤ head → length v.seen ≤ head + 1 → head ≤ v.pass.least
+            → OnOk result.1 ((u : View) × (y : SpecTxn) × T.knows result.0 u
+            × Means self.new.txn.spent (take (head + 1) u.seen) (⟦<HeldNodes<B> as Own>⟧.txn self.new.txn.own) self.new.txn.base (⟦<HeldNodes<B> as Own>⟧.settled self.new.txn.own) y
+            × ReadOnly v u × LandedOn head u.seen x y) }
+        ensures err { (v : View) (x : SpecTxn) → T.knows turns v → Means self.old.txn.spent v.seen (⟦<HeldNodes<B> as Own>⟧.txn self.old.txn.own) self.old.txn.base (⟦<HeldNodes<B> as Own>⟧.settled self.old.txn.own) x
+            → x.base ≤ head → length v.seen ≤ head + 1 → head ≤ v.pass.least
+            → IfErr result.1 (λ why. (u : View) × T.knows result.0 u
+            × Means self.new.txn.spent v.seen (⟦<HeldNodes<B> as Own>⟧.txn self.new.txn.own) self.new.txn.base (⟦<HeldNodes<B> as Own>⟧.settled self.new.txn.own) x
+            × ReadOnly v u × Refuses why head u.seen x) }
+        ensures later { T.faults turns ≤ T.faults result.0 }
+    {
+        if self.txn.is_spent() {
+            return (turns, Err(CommitRefusal::Spent));
+        }
+        let base = self.txn.base();
+        if base.get() == head.get() {
+            return (turns, Ok(()));
+        }
+        let mut turns = turns;
+        let file = RepositoryFile::Revision(base).name(turns.layout());
+        match turns.size(rt, &file) {
+            Ok(_) => self.land(alloc, rt, turns, head),
+            Err(_) => (turns, Err(CommitRefusal::DiskFault)),
+        }
+    }
+
+    /// Makes the bytes of the revision that it becomes, behind its texts.
+    pub(crate) fn marshal(&mut self, alloc: Global, rev: RevNum) -> Result<(), CommitRefusal>
+        ensures made { (h : List Recorded) (x : SpecTxn) → ((bench : B) → IsSome (B.contents bench)) → Means self.old.txn.spent h (⟦<HeldNodes<B> as Own>⟧.txn self.old.txn.own) self.old.txn.base (⟦<HeldNodes<B> as Own>⟧.settled self.old.txn.own) x
+            → IsYoungestOf h rev x
+            → OnOk result (IsTxnOf h (⟦<HeldNodes<B> as Own>⟧.txn self.new.txn.own) self.new.txn.base (⟦<HeldNodes<B> as Own>⟧.settled self.new.txn.own) x
+            × IsTextBehind h (⟦<HeldNodes<B> as Own>⟧.settled self.new.txn.own) x (option_map (λ t. t.items) self.new.text)) }
+        ensures refused { IfErr result (λ why. (head : ℕ) (h : List Recorded) (x : SpecTxn) → Refuses why head h x) }
+        ensures means { (h : List Recorded) (x : SpecTxn) → Means self.old.txn.spent h (⟦<HeldNodes<B> as Own>⟧.txn self.old.txn.own) self.old.txn.base (⟦<HeldNodes<B> as Own>⟧.settled self.old.txn.own) x
+            → Means self.new.txn.spent h (⟦<HeldNodes<B> as Own>⟧.txn self.new.txn.own) self.new.txn.base (⟦<HeldNodes<B> as Own>⟧.settled self.new.txn.own) x }
+    {
+        if self.txn.is_spent() {
+            return Err(CommitRefusal::Spent);
+        }
+        self.txn.forget();
+        let start = match self.txn.proto_length() {
+            Ok(start) => start,
+            Err(_) => return Err(CommitRefusal::BenchFault),
+        };
+        let own = self.txn.own();
+        match final_text(alloc, own, own.items(), rev, start) {
+            Ok(text) => {
+                self.text = Some(text);
+                Ok(())
+            }
+            Err(error) => Err(not_made(error)),
+        }
+    }
+
+    /// Writes the bytes that were made behind its texts, and makes them firm: its bench is left, and a refusal leaves that, too.
+    pub(crate) fn write(self) -> (EndedTxn<B>, Result<(), CommitRefusal>)
+        ensures held { (bytes : List ℕ) → HoldsBehind (B.contents self.txn.own.bench) (⟦<HeldNodes<B> as Own>⟧.settled self.txn.own).proto (option_map (λ t. t.items) self.text) bytes
+            → OnOk result.1 (bytes ≡ bytes_on (B.contents result.0.bench) result.0.file) }
+        ensures refused { IfErr result.1 (λ why. (head : ℕ) (h : List Recorded) (x : SpecTxn) → Refuses why head h x) }
+        ensures firm { OnOk result.1 (IsFirmFile (B.contents result.0.bench) (B.firm_to result.0.bench result.0.file) result.0.file) }
+    {
+        let OpenTxn { txn, text } = self;
+        let (bench, file) = txn.into_own().into_parts();
+        let mut bench = bench;
+        let Some(text) = text else {
+            return (EndedTxn { bench, file }, Err(CommitRefusal::Lacking));
+        };
+        match end_file(&mut bench, &file, &text) {
+            Ok(()) => (EndedTxn { bench, file }, Ok(())),
+            Err(_) => (EndedTxn { bench, file }, Err(CommitRefusal::BenchFault)),
+        }
+    }
+}
