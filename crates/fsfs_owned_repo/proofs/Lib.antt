@@ -4,3 +4,5 @@ mod Readers
 mod Begun
 mod Crashes
 mod Dropped
+mod Listed
+mod Commits

@@ -1,12 +1,17 @@
 //! The repository that runs, with one owner: opened, read, changed by transactions, and closed.
 #![tactic(auto)]
 
+mod answers;
 mod beginning;
+mod committing;
+mod ending;
 mod laws;
+mod listing;
 mod purging;
 mod reading;
 mod repo;
 
+pub use answers::{CommitAnswer, CommitBar};
 pub use laws::a_lone_pass_sees_all;
 pub use reading::Reader;
 pub use repo::{OpenedRepo, Repo};

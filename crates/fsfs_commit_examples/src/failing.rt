@@ -1,0 +1,84 @@
+// Disks that fail, and disks behind a crash.
+use fsfs_escapes::Transcript;
+use fsfs_memdisk::MemDisk;
+use std::alloc::{AllocError, Global};
+
+/// How calls fail.
+#[derive(Clone, Copy)]
+pub enum Way {
+    /// One of the disk.
+    Disk,
+    /// One of the bench.
+    Bench,
+    /// One of the disk, and each behind it.
+    Stop,
+}
+
+impl Way {
+    pub fn word(self) -> &'static str {
+        match self {
+            Way::Disk => "disk",
+            Way::Bench => "bench",
+            Way::Stop => "stop",
+        }
+    }
+}
+
+/// The same disk, whose call of this number fails; the first is 1.
+pub fn failing(
+    alloc: Global,
+    disk: MemDisk,
+    way: Way,
+    number: u64,
+    out: &mut Transcript,
+) -> MemDisk {
+    let none = Vec::new(alloc);
+    let Ok(this) = Vec::from_slice(alloc, &[number]) else {
+        out.lose();
+        return disk;
+    };
+    let passing = number.saturating_sub(1);
+    match way {
+        Way::Disk => disk.failing(this, none),
+        Way::Bench => disk.failing(none, this),
+        Way::Stop => disk.failing(none, Vec::new(alloc)).fuse(passing),
+    }
+}
+
+/// The same disk, of whose calls none fails.
+pub fn sound(alloc: Global, disk: MemDisk) -> MemDisk {
+    disk.failing(Vec::new(alloc), Vec::new(alloc))
+}
+
+/// In so many ways a crash leaves changes or not.
+pub const PATTERNS: u32 = 16;
+
+// Of changes beside one another no more can be left or not in each way.
+const PERIOD: u32 = 4;
+
+// So many changes and labels are picked; no example has more.
+const MOST: u32 = 64;
+
+// Which changes are left: the bits of the pattern, again and again.
+fn picks(alloc: Global, pattern: u32) -> Result<Vec<bool>, AllocError> {
+    let mut picks = Vec::new(alloc);
+    for at in 0..MOST {
+        picks.push((pattern >> (at % PERIOD)) & 1 == 1)?;
+    }
+    Ok(picks)
+}
+
+/// What a crash leaves of the disk. Over all patterns four changes or labels beside one another are left or not in each way.
+pub fn crashed(alloc: Global, disk: MemDisk, pattern: u32, out: &mut Transcript) -> MemDisk {
+    let Ok(picks) = picks(alloc, pattern) else {
+        out.lose();
+        return disk;
+    };
+    match disk.crash(&picks) {
+        Ok(left) => left,
+        Err(_) => {
+            out.lose();
+            MemDisk::new(alloc)
+        }
+    }
+}

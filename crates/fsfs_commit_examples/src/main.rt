@@ -1,0 +1,27 @@
+//! Commits: reads a text of examples, makes their calls over a disk in memory, and prints what is answered and what is left, where
+//! calls fail too, and behind crashes. `docs/EXAMPLES.md` has the form of the lines.
+#![tactic(auto)]
+
+mod answers;
+mod failing;
+mod jobs;
+mod lines;
+mod looking;
+mod play;
+mod racing;
+mod rivals;
+mod scene;
+mod table;
+
+use anyhow::Result;
+use fsfs_escapes::Transcript;
+use std::io;
+
+fn main(rt: HostRuntime) -> Result<()> {
+    let alloc = rt.alloc();
+    let text = io::read_to_string(alloc, rt.stdin())?;
+    let mut out = Transcript::new(alloc);
+    play::play(alloc, text.as_str(), &mut out)?;
+    rt.print(out.finish()?)?;
+    Ok(())
+}

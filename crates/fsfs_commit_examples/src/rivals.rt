@@ -1,0 +1,180 @@
+// Turns of a test: others commit before the lock is taken.
+ghost use Rattle.std.specs.Prelude.{◌≡◌, ◌⊎◌, ℕ, None, OnOk, OnErr, IfOk, IfSome, option_map};
+ghost use Rattle.fsfs_base.specs.Failures.{HasCause};
+ghost use Rattle.fsfs_disk.specs.Labels.{Txn as TxnLabel, label_of, has_label, without_label};
+ghost use Rattle.fsfs_machine.specs.declared.machine.Txn.{Txn};
+ghost use Rattle.fsfs_machine.specs.declared.machine.Went.{Went};
+ghost use Rattle.fsfs_machine.specs.Kept.{IsIn};
+ghost use Rattle.fsfs_turn.specs.Views.{View, Answers};
+ghost use Rattle.fsfs_turn.specs.Learning.{MayPurge, Purged, SpentPurged};
+
+use fsfs_base::{Failed, Name};
+use fsfs_disk::{Disk, Label, ListFault};
+use fsfs_fields::RevNum;
+use fsfs_layout::Layout;
+use fsfs_memdisk::MemDisk;
+use fsfs_places::DiskPlace;
+use fsfs_turn::{LoneTurns, Owned, Turns};
+use std::alloc::Global;
+
+/// A store on whose disk some revisions stand that are not revealed yet. Each time that the lock is to be taken the next of them is, as
+/// if another had committed it. It tells nothing.
+#[derive(Drop)]
+pub struct Rivals {
+    inner: Owned<MemDisk>,
+    young: RevNum,
+    /// The last of them.
+    last: RevNum,
+    /// How often the lock was asked for.
+    asked: u64,
+}
+
+impl Rivals {
+    /// The store, its youngest revision, and the last that stands on its disk.
+    pub fn new(inner: Owned<MemDisk>, young: RevNum, last: RevNum) -> Rivals {
+        Rivals {
+            inner,
+            young,
+            last,
+            asked: 0,
+        }
+    }
+
+    /// The store again, and how often the lock was asked for.
+    pub fn into_parts(self) -> (Owned<MemDisk>, u64) {
+        let Rivals { inner, asked, .. } = self;
+        (inner, asked)
+    }
+}
+
+impl Turns<()> for Rivals {
+    ghost use Rattle.std.specs.Prelude.{ℕ, List, Option};
+    ghost use Rattle.fsfs_fetch.specs.Views.{Grows};
+
+    type Bench = <MemDisk as Disk>::Bench;
+
+    ghost knows = { λ s v. ⊥ };
+
+    ghost in_use = { λ s name. ⟦<Owned<MemDisk> as Turns<()>>⟧.in_use s.inner name };
+
+    ghost Lasting = { Unit {0} };
+
+    ghost store = { λ s. record { layout = s.inner.layout; reach = Grows 0; files = None; below = tt } };
+
+    ghost labels = { λ s. ⟦<Owned<MemDisk> as Turns<()>>⟧.labels s.inner };
+
+    ghost faults = { λ s. ⟦<Owned<MemDisk> as Turns<()>>⟧.faults s.inner };
+
+    fn layout(&self) -> Layout {
+        <Owned<MemDisk> as Turns<()>>::layout(&self.inner)
+    }
+
+    fn look(&mut self) -> RevNum {
+        <Owned<MemDisk> as Turns<()>>::look(&mut self.inner)
+    }
+
+    fn take_lock(&mut self, rt: &()) -> Result<(), DiskPlace> {
+        self.asked = self.asked.saturating_add(1);
+        if let Some(next) = self.young.next() {
+            if next <= self.last {
+                self.young = next;
+                self.inner.reveal(rt, next);
+            }
+        }
+        self.inner.take_lock(rt)
+    }
+
+    fn give_lock(&mut self) {
+        <Owned<MemDisk> as Turns<()>>::give_lock(&mut self.inner);
+    }
+
+    fn stick(&mut self, place: DiskPlace) {
+        <Owned<MemDisk> as Turns<()>>::stick(&mut self.inner, place);
+    }
+
+    fn reveal(&mut self, rt: &(), rev: RevNum) {
+        self.inner.reveal(rt, rev);
+    }
+
+    fn adopt(&mut self, rt: &(), name: &Name, bytes: &[u8]) -> Result<(), Failed> {
+        self.inner.adopt(rt, name, bytes)
+    }
+
+    fn put(&mut self, rt: &(), name: &Name, bytes: &[u8]) -> Result<(), Failed> {
+        self.inner.put(rt, name, bytes)
+    }
+
+    fn rename(&mut self, rt: &(), from: &Name, to: &Name) -> Result<(), Failed> {
+        self.inner.rename(rt, from, to)
+    }
+
+    fn firm_names(&mut self, rt: &()) -> Result<(), Failed> {
+        self.inner.firm_names(rt)
+    }
+
+    fn adopt_file(
+        &mut self,
+        rt: &(),
+        bench: &mut <MemDisk as Disk>::Bench,
+        file: &Name,
+        to: &Name,
+    ) -> Result<(), Failed> {
+        self.inner.adopt_file(rt, bench, file, to)
+    }
+
+    fn read(
+        &mut self,
+        rt: &(),
+        name: &Name,
+        offset: u64,
+        buffer: &mut [u8],
+    ) -> Result<Option<usize>, Failed> {
+        self.inner.read(rt, name, offset, buffer)
+    }
+
+    fn size(&mut self, rt: &(), name: &Name) -> Result<Option<u64>, Failed> {
+        self.inner.size(rt, name)
+    }
+
+    fn list(&mut self, rt: &(), alloc: Global) -> Result<Vec<Name>, ListFault> {
+        self.inner.list(rt, alloc)
+    }
+
+    fn bench(&mut self, rt: &(), label: &Label) -> Result<<MemDisk as Disk>::Bench, Failed> {
+        self.inner.bench(rt, label)
+    }
+
+    fn drop_bench(
+        &mut self,
+        rt: &(),
+        label: &Label,
+        bench: Option<<MemDisk as Disk>::Bench>,
+    ) -> Result<bool, Failed>
+        ensures purged { (v : View) (txn : Txn) (base : ℕ) → ⊥ → MayPurge v txn → label_of label.now ≡ TxnLabel base txn.name
+            → (u : View) × (went : Went) × ⊥ × Answers result went × Purged txn went v u }
+        ensures spent { (v : View) (name base : ℕ) → ⊥ → v.section ≡ None → IsIn name v.given → label_of label.now ≡ TxnLabel base name
+            → (u : View) × (went : Went) × ⊥ × Answers result went × SpentPurged name went v u }
+        ensures there { IfSome (⟦<Owned<MemDisk> as Turns<()>>⟧.labels self.old.inner) (λ ls. IfOk result (λ there. there ≡ has_label (label_of label.now) ls)) }
+        ensures dropped { OnOk result (⟦<Owned<MemDisk> as Turns<()>>⟧.labels self.new.inner ≡ option_map (without_label (label_of label.now)) (⟦<Owned<MemDisk> as Turns<()>>⟧.labels self.old.inner)) }
+        ensures left { OnErr result ((⟦<Owned<MemDisk> as Turns<()>>⟧.labels self.new.inner ≡ ⟦<Owned<MemDisk> as Turns<()>>⟧.labels self.old.inner) ⊎ (⟦<Owned<MemDisk> as Turns<()>>⟧.labels self.new.inner ≡ option_map (without_label (label_of label.now)) (⟦<Owned<MemDisk> as Turns<()>>⟧.labels self.old.inner))) }
+        ensures cause { HasCause (⟦<Owned<MemDisk> as Turns<()>>⟧.faults self.old.inner) (⟦<Owned<MemDisk> as Turns<()>>⟧.faults self.new.inner) result }
+    {
+        self.inner.drop_bench(rt, label, bench)
+    }
+
+    fn make_folder(&mut self, rt: &(), name: &Name) -> Result<(), Failed> {
+        self.inner.make_folder(rt, name)
+    }
+
+    ghost tells = { λ s v known. absurd known };
+
+    ghost benches_tell = { λ s v bench known. absurd known };
+
+    ghost short = { λ s. tt };
+}
+
+impl LoneTurns<()> for Rivals {
+    ghost still = { λ a b v same known. absurd known };
+
+    ghost same_files = { λ a b same i. None };
+}

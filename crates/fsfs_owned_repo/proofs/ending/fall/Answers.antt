@@ -1,0 +1,21 @@
+use Rattle.std.proofs.Common.{subst}
+use Rattle.fsfs_base.specs.Failures.{Rose}
+use Rattle.fsfs_owned_repo.specs.Fates.{Fated, IfStopped}
+use Rattle.fsfs_owned_repo.proofs.Commits.{no_more, commit_place_then, rose_later}
+use Rattle.fsfs_owned_repo.proofs.ending.fall.Goals as goal
+
+pub returns-in-Barred-clause-ends : goal.returns-in-Barred-clause-ends
+returns-in-Barred-clause-ends g c = λ p v u x y known moved none given named landings is means.
+    c.hand_back.ensures.ends p v u x y known moved none given named landings (subst (λ f. Fated f v u y) c.in-Barred.is is) means
+
+pub returns-in-DiskFault-clause-ends : goal.returns-in-DiskFault-clause-ends
+returns-in-DiskFault-clause-ends g c = λ p v u x y known moved none given named landings is means.
+    (u, subst (λ f. Fated f v u y) c.in-DiskFault.is is, no_more _ v u x c.args.name.now.number.number c.drop_bench.result moved none given named (λ out there. c.drop_bench.ensures.dropped u known out there))
+
+pub returns-in-BenchFault-clause-ends : goal.returns-in-BenchFault-clause-ends
+returns-in-BenchFault-clause-ends g c = λ p v u x y known moved none given named landings is means.
+    (u, no_more _ v u x c.args.name.now.number.number c.drop_bench-in-BenchFault.result moved none given named (λ out there. c.drop_bench-in-BenchFault.ensures.dropped u known out there))
+
+pub returns-in-DiskFault-clause-cause : goal.returns-in-DiskFault-clause-cause
+returns-in-DiskFault-clause-cause g c = λ n rose.
+    commit_place_then c.in-DiskFault.place _ _ (rose_later n _ _ c.drop_bench.ensures.later) (subst (λ f. IfStopped f (Rose n (g.D.Disk.faults c.args.turns.now.disk))) c.in-DiskFault.is rose)

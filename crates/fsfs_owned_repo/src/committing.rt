@@ -1,0 +1,68 @@
+//! Transactions are committed.
+ghost use Rattle.std.specs.Prelude.{◌≡◌, ◌≤◌, ℕ, List, None, false, IfSome};
+ghost use Rattle.fsfs_base.specs.Failures.{Rose};
+ghost use Rattle.fsfs_disk.specs.Labels.{has_label};
+ghost use Rattle.fsfs_machine.specs.declared.machine.Txn.{Txn as MachineTxn};
+ghost use Rattle.fsfs_machine.specs.Kept.{IsIn};
+ghost use Rattle.fsfs_turn.specs.Views.{View};
+ghost use Rattle.fsfs_txns.specs.Txns.{pair_of, txn_label};
+ghost use Rattle.fsfs_draft.specs.Meaning.{IsTxnOf};
+ghost use Rattle.fsfs_owned_repo.specs.Commits.{IfFailed, IfPurged, Meets};
+ghost use Rattle.fsfs_owned_repo.specs.Crashes.{CrashesLeave};
+
+use crate::answers::{CommitAnswer, CommitBar};
+use crate::ending::end;
+use crate::repo::Repo;
+use fsfs_base::Pairs;
+use fsfs_commit::commit;
+use fsfs_disk::Disk;
+use fsfs_draft::{TxnDraft, dated};
+use fsfs_held::HeldNodes;
+use fsfs_own::Own;
+use fsfs_turn::{Owned, Turns};
+use fsfs_txn::Txn;
+use std::alloc::Global;
+
+impl<D: Disk> Repo<D> {
+    /// Commits a transaction with these properties, and as their `svn:date` a moment in microseconds after 1970-01-01T00:00:00 UTC, in
+    /// a year up to 2099. It takes up to four turns, each of which lands the transaction on the youngest revision and makes what is
+    /// written; with the write lock held it writes that behind the texts, and publishes it by the section. What is left of the
+    /// transaction is purged then. The lock is given in the end, but where a fault left it stuck.
+    pub fn commit<R>(
+        self,
+        rt: &R,
+        alloc: Global,
+        txn: Txn<HeldNodes<D::Bench>>,
+        properties: Pairs,
+        micros: u64,
+    ) -> (Repo<D>, CommitAnswer<Txn<HeldNodes<D::Bench>>>)
+        requires moment { micros ≤ 4102444799999999 }
+        requires sound { txn.spent ≡ None }
+        // Over what the pass may know, of a transaction that stands for x: the revision that was added is the landing of the entry of x;
+        // or nothing was added, why, and what is left.
+        ensures meets { (v : View) (x : MachineTxn) → ⟦<Owned<D> as Turns<R>>⟧.knows self.turns v → v.section ≡ None → IsIn x.name v.given
+            → IsTxnOf v.seen (⟦<HeldNodes<D::Bench> as Own>⟧.txn txn.own) txn.base (⟦<HeldNodes<D::Bench> as Own>⟧.settled txn.own) x
+            → Meets (⟦<Owned<D> as Turns<R>>⟧.knows result.0.turns) (λ h y t. (t.spent ≡ None) × IsTxnOf h (⟦<HeldNodes<D::Bench> as Own>⟧.txn t.own) t.base (⟦<HeldNodes<D::Bench> as Own>⟧.settled t.own) y) micros properties v x result.1 }
+        // Where its files are gone, its label isn't kept any more.
+        ensures unlisted { IfPurged result.1 (IfSome (⟦<Owned<D> as Turns<R>>⟧.labels result.0.turns) (λ ls. has_label (txn_label (pair_of (⟦<HeldNodes<D::Bench> as Own>⟧.txn txn.own))) ls ≡ false)) }
+        // What is known then says what a crash leaves, at each moment of the call too.
+        ensures crashes { (u : View) → ⟦<Owned<D> as Turns<R>>⟧.knows result.0.turns u → CrashesLeave result.0.turns.layout (D.trace result.0.turns.disk) u }
+        ensures later { ⟦<Owned<D> as Turns<R>>⟧.faults self.turns ≤ ⟦<Owned<D> as Turns<R>>⟧.faults result.0.turns }
+        ensures cause { IfFailed result.1 (Rose (⟦<Owned<D> as Turns<R>>⟧.faults self.turns) (⟦<Owned<D> as Turns<R>>⟧.faults result.0.turns)) }
+    {
+        let Repo { turns } = self;
+        let given = match dated(alloc, properties, micros) {
+            Ok(given) => given,
+            Err(_) => {
+                let bar = CommitBar::Memory;
+                return (Repo { turns }, CommitAnswer::Barred { bar, txn });
+            }
+        };
+        let name = txn.name();
+        let (back, draft, done) = commit(alloc, rt, turns, TxnDraft::new(txn, given));
+        let left = draft.into_left();
+        let mut turns = back;
+        let answer = end(rt, &mut turns, &name, left, done);
+        (Repo { turns }, answer)
+    }
+}

@@ -1,0 +1,125 @@
+//! What becomes of a transaction behind a commit.
+ghost use Rattle.std.specs.Prelude.{◌≡◌, ◌≤◌, ℕ, List, true, false, None, IfOk, IfErr, IfSome};
+ghost use Rattle.fsfs_base.specs.Failures.{Rose};
+ghost use Rattle.fsfs_disk.specs.Labels.{has_label};
+ghost use Rattle.fsfs_machine.specs.declared.machine.Recorded.{Recorded};
+ghost use Rattle.fsfs_machine.specs.declared.machine.Txn.{Txn as MachineTxn};
+ghost use Rattle.fsfs_machine.specs.Kept.{IsIn};
+ghost use Rattle.fsfs_turn.specs.Views.{View};
+ghost use Rattle.fsfs_txns.specs.Txns.{pair_of, txn_label};
+ghost use Rattle.fsfs_commit.specs.Replies.{Committed, Moved, Refused, RoseIfDisk};
+ghost use Rattle.fsfs_commit.specs.Works.{Landings};
+ghost use Rattle.fsfs_draft.specs.Meaning.{IfTxn, IsTxnOf, Means};
+ghost use Rattle.fsfs_draft.specs.Refusals.{Refuses};
+ghost use Rattle.fsfs_owned_repo.specs.Commits.{Bars, Ends, IfFailed, IfPurged, IsDropped};
+ghost use Rattle.fsfs_owned_repo.specs.Fates.{Fated, IfStopped};
+
+use crate::answers::{CommitAnswer, CommitBar, Fate, fate_of};
+use fsfs_commit::CommitFault;
+use fsfs_disk::Disk;
+use fsfs_draft::{CommitRefusal, Left};
+use fsfs_fields::{RevNum, TxnName};
+use fsfs_held::HeldNodes;
+use fsfs_own::Own;
+use fsfs_turn::{Owned, Turns};
+use fsfs_turn_purge::purge;
+use fsfs_txn::Txn;
+
+// Purges a transaction that is no more, by its bench. Whether its files are gone.
+fn drop_bench<R, D: Disk>(rt: &R, turns: &mut Owned<D>, name: &TxnName, bench: D::Bench) -> bool
+    ensures dropped { (m : View) → ⟦<Owned<D> as Turns<R>>⟧.knows turns.old m → m.section ≡ None → IsIn name.now.number.number m.given
+        → IsDropped (⟦<Owned<D> as Turns<R>>⟧.knows turns.new) result name.now.number.number m }
+    ensures unlisted { result ≡ true → IfSome (⟦<Owned<D> as Turns<R>>⟧.labels turns.new) (λ ls. has_label (txn_label (pair_of name.now)) ls ≡ false) }
+    ensures later { ⟦<Owned<D> as Turns<R>>⟧.faults turns.old ≤ ⟦<Owned<D> as Turns<R>>⟧.faults turns.new }
+    ensures cause { result ≡ false → Rose (⟦<Owned<D> as Turns<R>>⟧.faults turns.old) (⟦<Owned<D> as Turns<R>>⟧.faults turns.new) }
+{
+    match purge(rt, turns, name, bench) {
+        Ok(()) => true,
+        Err(_) => false,
+    }
+}
+
+// Hands a transaction back. One that was written, or whose bench failed, is no more.
+fn hand_back<R, D: Disk>(
+    rt: &R,
+    turns: &mut Owned<D>,
+    name: &TxnName,
+    left: Left<D::Bench>,
+    bar: CommitBar,
+) -> CommitAnswer<Txn<HeldNodes<D::Bench>>>
+    ensures ends { (p : List (List ℕ × List ℕ)) (v u : View) (x y : MachineTxn) → ⟦<Owned<D> as Turns<R>>⟧.knows turns.old u → Moved v u → v.section ≡ None → IsIn x.name v.given
+        → x.name ≡ name.now.number.number → Landings u.seen x y → Bars bar u y
+        → IfTxn left (λ t. Means t.spent u.seen (⟦<HeldNodes<D::Bench> as Own>⟧.txn t.own) t.base (⟦<HeldNodes<D::Bench> as Own>⟧.settled t.own) y)
+        → Ends (⟦<Owned<D> as Turns<R>>⟧.knows turns.new) (λ h z t. (t.spent ≡ None) × IsTxnOf h (⟦<HeldNodes<D::Bench> as Own>⟧.txn t.own) t.base (⟦<HeldNodes<D::Bench> as Own>⟧.settled t.own) z) p v x result }
+    ensures later { ⟦<Owned<D> as Turns<R>>⟧.faults turns.old ≤ ⟦<Owned<D> as Turns<R>>⟧.faults turns.new }
+    ensures cause { (n : ℕ) → IfFailed result (Rose n (⟦<Owned<D> as Turns<R>>⟧.faults turns.new)) }
+    ensures label { IfPurged result (IfSome (⟦<Owned<D> as Turns<R>>⟧.labels turns.new) (λ ls. has_label (txn_label (pair_of name.now)) ls ≡ false)) }
+{
+    let txn = match left {
+        Left::Txn(txn) => txn,
+        Left::Bench(bench) => {
+            drop_bench(rt, turns, name, bench);
+            return CommitAnswer::BenchFault;
+        }
+    };
+    if txn.is_spent() {
+        drop_bench(rt, turns, name, txn.into_own().into_bench());
+        return CommitAnswer::BenchFault;
+    }
+    CommitAnswer::Barred { bar, txn }
+}
+
+// What comes of a transaction whose commit added nothing.
+fn fall<R, D: Disk>(
+    rt: &R,
+    turns: &mut Owned<D>,
+    name: &TxnName,
+    left: Left<D::Bench>,
+    fate: Fate,
+) -> CommitAnswer<Txn<HeldNodes<D::Bench>>>
+    ensures ends { (p : List (List ℕ × List ℕ)) (v u : View) (x y : MachineTxn) → ⟦<Owned<D> as Turns<R>>⟧.knows turns.old u → Moved v u → v.section ≡ None → IsIn x.name v.given
+        → x.name ≡ name.now.number.number → Landings u.seen x y → Fated fate v u y
+        → IfTxn left (λ t. Means t.spent u.seen (⟦<HeldNodes<D::Bench> as Own>⟧.txn t.own) t.base (⟦<HeldNodes<D::Bench> as Own>⟧.settled t.own) y)
+        → Ends (⟦<Owned<D> as Turns<R>>⟧.knows turns.new) (λ h z t. (t.spent ≡ None) × IsTxnOf h (⟦<HeldNodes<D::Bench> as Own>⟧.txn t.own) t.base (⟦<HeldNodes<D::Bench> as Own>⟧.settled t.own) z) p v x result }
+    ensures later { ⟦<Owned<D> as Turns<R>>⟧.faults turns.old ≤ ⟦<Owned<D> as Turns<R>>⟧.faults turns.new }
+    ensures cause { (n : ℕ) → IfStopped fate (Rose n (⟦<Owned<D> as Turns<R>>⟧.faults turns.old)) → IfFailed result (Rose n (⟦<Owned<D> as Turns<R>>⟧.faults turns.new)) }
+    ensures label { IfPurged result (IfSome (⟦<Owned<D> as Turns<R>>⟧.labels turns.new) (λ ls. has_label (txn_label (pair_of name.now)) ls ≡ false)) }
+{
+    match fate {
+        Fate::Barred(bar) => hand_back(rt, turns, name, left, bar),
+        Fate::DiskFault(place) => {
+            drop_bench(rt, turns, name, left.into_bench());
+            CommitAnswer::DiskFault { place }
+        }
+        Fate::BenchFault => {
+            drop_bench(rt, turns, name, left.into_bench());
+            CommitAnswer::BenchFault
+        }
+    }
+}
+
+/// What comes of a transaction behind its commit.
+pub(crate) fn end<R, D: Disk>(
+    rt: &R,
+    turns: &mut Owned<D>,
+    name: &TxnName,
+    left: Left<D::Bench>,
+    done: Result<RevNum, CommitFault<CommitRefusal>>,
+) -> CommitAnswer<Txn<HeldNodes<D::Bench>>>
+    ensures ends { (p : List (List ℕ × List ℕ)) (v : View) (x : MachineTxn) → v.section ≡ None → IsIn x.name v.given → x.name ≡ name.now.number.number
+        → IfOk done (λ rev. (m : View) × (y : MachineTxn) × ⟦<Owned<D> as Turns<R>>⟧.knows turns.old m × Committed rev p v m x y)
+        → IfErr done (λ fault. (u : View) × (y : MachineTxn) × ⟦<Owned<D> as Turns<R>>⟧.knows turns.old u × Refused Refuses fault v u x y
+        × IfTxn left (λ t. Means t.spent u.seen (⟦<HeldNodes<D::Bench> as Own>⟧.txn t.own) t.base (⟦<HeldNodes<D::Bench> as Own>⟧.settled t.own) y))
+        → Ends (⟦<Owned<D> as Turns<R>>⟧.knows turns.new) (λ h z t. (t.spent ≡ None) × IsTxnOf h (⟦<HeldNodes<D::Bench> as Own>⟧.txn t.own) t.base (⟦<HeldNodes<D::Bench> as Own>⟧.settled t.own) z) p v x result }
+    ensures later { ⟦<Owned<D> as Turns<R>>⟧.faults turns.old ≤ ⟦<Owned<D> as Turns<R>>⟧.faults turns.new }
+    ensures cause { (n : ℕ) → n ≤ ⟦<Owned<D> as Turns<R>>⟧.faults turns.old → IfErr done (RoseIfDisk (Rose n (⟦<Owned<D> as Turns<R>>⟧.faults turns.old))) → IfFailed result (Rose n (⟦<Owned<D> as Turns<R>>⟧.faults turns.new)) }
+    ensures label { IfPurged result (IfSome (⟦<Owned<D> as Turns<R>>⟧.labels turns.new) (λ ls. has_label (txn_label (pair_of name.now)) ls ≡ false)) }
+{
+    match done {
+        Ok(rev) => {
+            let purged = drop_bench(rt, turns, name, left.into_bench());
+            CommitAnswer::Committed { rev, purged }
+        }
+        Err(fault) => fall(rt, turns, name, left, fate_of(fault)),
+    }
+}
