@@ -8,12 +8,14 @@ use Rattle.fsfs_faults.specs.Pieces.{request_front, fault_front, request_path, p
 use Rattle.fsfs_faults.specs.declared.fault.Fault.{Fault}
 use Rattle.fsfs_faults.specs.declared.fault.Fault.TheVariants.{Request}
 use Rattle.fsfs_faults.specs.declared.request_fault.RequestFault.{RequestFault}
-use Rattle.fsfs_faults.specs.declared.request_fault.RequestFault.TheVariants.{NotFound, NotDir, NotFile}
+use Rattle.fsfs_faults.specs.declared.request_fault.RequestFault.TheVariants.{NotFound, NotDir, NotFile, Exists, Mergeinfo}
 
 request_in_pieces : (why : RequestFault) → request_front why ++ request_path why ≡ request_text why
 request_in_pieces (NotFound path) = refl
 request_in_pieces (NotDir path) = refl
 request_in_pieces (NotFile path) = refl
+request_in_pieces (Exists path) = refl
+request_in_pieces (Mergeinfo path) = refl
 request_in_pieces why = append-nil (request_text why)
 
 pub words_in_pieces : (fault : Fault) → fault_front fault ++ path_values fault ≡ fault_words fault

@@ -15,11 +15,14 @@ use Rattle.fsfs_printed.specs.declared.look_fault.LookFault.TheVariants as look
 use Rattle.fsfs_cli.specs.declared.fault.WordsFault.{WordsFault}
 use Rattle.fsfs_cli.specs.declared.fault.WordsFault.TheVariants as words
 use Rattle.fsfs_faults.specs.declared.fault.Fault.{Fault}
-use Rattle.fsfs_faults.specs.declared.fault.Fault.TheVariants.{Words, Request, Repository, Outside, Memory}
+use Rattle.fsfs_faults.specs.declared.fault.Fault.TheVariants.{Words, Request, Repository, Outside, Memory, Limit}
 use Rattle.fsfs_faults.specs.declared.bad_words.BadWords.TheVariants.{Usage, BadPath}
-use Rattle.fsfs_faults.specs.declared.request_fault.RequestFault.TheVariants.{NotFound, NotDir, NotFile, NoRev, AlreadyRepo, NotRepo}
+use Rattle.fsfs_faults.specs.declared.request_fault.RequestFault.TheVariants.{NotFound, NotDir, NotFile, NoRev, AlreadyRepo, NotRepo, BadScript}
 use Rattle.fsfs_faults.specs.declared.repository_fault.RepositoryFault.TheVariants.{OtherFormat, Linear, Small, Corrupt, Delta}
-use Rattle.fsfs_faults.specs.declared.outside_fault.OutsideFault.TheVariants.{Disk}
+use Rattle.fsfs_faults.specs.declared.outside_fault.OutsideFault.TheVariants.{Disk, Read}
+use Rattle.fsfs_faults.specs.declared.limit_fault.LimitFault.TheVariants as limits
+use Rattle.fsfs_script.specs.declared.script_error.ScriptError.{ScriptError}
+use Rattle.fsfs_script.specs.declared.script_error.ScriptError.TheVariants as script
 
 abbrev pub fault_from_words : WordsFault → Fault
 fault_from_words words.Usage = Words Usage
@@ -49,6 +52,15 @@ abbrev pub fault_from_wrong : Wrong → Fault
 fault_from_wrong (wrong.Refused why) = fault_from_refusal why
 fault_from_wrong (wrong.Damaged damage) = Repository (Corrupt damage)
 fault_from_wrong (wrong.Delta at) = Repository (Delta at)
+
+-- of a script that was not read
+abbrev pub fault_from_script : ScriptError → Fault
+fault_from_script (script.BadScript bad) = Request (BadScript bad)
+fault_from_script script.TextTooLong = Limit limits.TextTooLong
+fault_from_script script.PropTooLong = Limit limits.PropTooLong
+fault_from_script script.TooManyJobs = Limit limits.TooManyJobs
+fault_from_script script.ReadFault = Outside Read
+fault_from_script script.OutOfMemory = Memory
 
 -- of a look at a path: where nothing was found or a file is no directory, the path down to there
 abbrev pub fault_from_look : Path → LookFault → Fault

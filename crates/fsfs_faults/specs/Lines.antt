@@ -18,15 +18,20 @@ use Rattle.fsfs_places.specs.Places.{place_word}
 use Rattle.fsfs_cli.specs.Commands.{tool_name}
 use Rattle.fsfs_cli.specs.declared.tool.Tool.{Tool}
 use Rattle.fsfs_faults.specs.declared.fault.Fault.{Fault}
-use Rattle.fsfs_faults.specs.declared.fault.Fault.TheVariants.{Words, Request, Repository, Outside, Memory}
+use Rattle.fsfs_faults.specs.declared.fault.Fault.TheVariants.{Words, Request, Repository, Outside, Memory, Limit}
 use Rattle.fsfs_faults.specs.declared.bad_words.BadWords.{BadWords}
 use Rattle.fsfs_faults.specs.declared.bad_words.BadWords.TheVariants.{Usage, BadPath}
 use Rattle.fsfs_faults.specs.declared.request_fault.RequestFault.{RequestFault}
-use Rattle.fsfs_faults.specs.declared.request_fault.RequestFault.TheVariants.{NotFound, NotDir, NotFile, NoRev, NoTxn, AlreadyRepo, NotRepo}
+use Rattle.fsfs_faults.specs.declared.request_fault.RequestFault.TheVariants.{NotFound, NotDir, NotFile, NoRev, NoTxn, AlreadyRepo, NotRepo, Exists, RootFixed, Mergeinfo, BadScript}
 use Rattle.fsfs_faults.specs.declared.repository_fault.RepositoryFault.{RepositoryFault}
 use Rattle.fsfs_faults.specs.declared.repository_fault.RepositoryFault.TheVariants.{OtherFormat, Linear, Small, Corrupt, Delta}
 use Rattle.fsfs_faults.specs.declared.outside_fault.OutsideFault.{OutsideFault}
 use Rattle.fsfs_faults.specs.declared.outside_fault.OutsideFault.TheVariants as outside
+use Rattle.fsfs_faults.specs.declared.limit_fault.LimitFault.{LimitFault}
+use Rattle.fsfs_faults.specs.declared.limit_fault.LimitFault.TheVariants as limits
+use Rattle.fsfs_job_lines.specs.declared.refusal.Why.{Why}
+use Rattle.fsfs_job_lines.specs.declared.refusal.Why.TheVariants as whys
+use Rattle.fsfs_script.specs.declared.script_error.BadScript.{BadScript as BadScriptAt}
 
 -- ---- names of the rules of a path
 
@@ -85,6 +90,21 @@ what_values damaged.Missing = codes " Missing"
 abbrev pub damage_values : Damage → List ℕ
 damage_values damage = at_values damage.at ++ what_values damage.what
 
+-- why the input is no job script
+abbrev pub script_why : Why → List ℕ
+script_why whys.Word = codes "Word"
+script_why whys.Number = codes "Number"
+script_why whys.Path = codes "Path"
+script_why whys.Name = codes "Name"
+script_why whys.NotUtf8 = codes "NotUtf8"
+script_why whys.LongLine = codes "LongLine"
+script_why whys.NoNewline = codes "NoNewline"
+script_why whys.Short = codes "Short"
+
+-- the line on which the command began, and why
+abbrev pub bad_script_values : BadScriptAt → List ℕ
+bad_script_values bad = (32 ∷ decimal bad.line) ++ codes " " ++ script_why bad.why
+
 -- ---- the words of a fault: its name, and its values; a row for each kind
 
 abbrev pub words_text : BadWords → List ℕ
@@ -102,6 +122,10 @@ request_text (NoRev asked youngest) = no_rev ++ two_numbers asked youngest
 request_text (NoTxn name) = no_txn ++ txn_value (name.base, name.number.number)
 request_text AlreadyRepo = already_repo
 request_text NotRepo = not_repo
+request_text (Exists path) = codes "Exists" ++ path_value path
+request_text RootFixed = codes "RootFixed /"
+request_text (Mergeinfo path) = codes "Mergeinfo" ++ path_value path
+request_text (BadScript bad) = codes "BadScript" ++ bad_script_values bad
 
 abbrev pub repository_text : RepositoryFault → List ℕ
 repository_text (OtherFormat found) = codes "OtherFormat" ++ 32 ∷ decimal found
@@ -115,6 +139,16 @@ outside_text outside.Mount = codes "MountFault"
 outside_text (outside.Disk place) = codes "DiskFault " ++ place_word place
 outside_text outside.Read = codes "ReadFault"
 outside_text outside.Write = codes "WriteFault"
+outside_text outside.Bench = codes "BenchFault"
+outside_text (outside.Stuck place) = codes "Stuck " ++ place_word place
+
+abbrev pub limit_text : LimitFault → List ℕ
+limit_text limits.TextTooLong = codes "TextTooLong 1073741824"
+limit_text limits.PropTooLong = codes "PropTooLong 1048576"
+limit_text limits.TooManyEntries = codes "TooManyEntries 1048576"
+limit_text limits.TooManyJobs = codes "TooManyJobs 4096"
+limit_text limits.NamesFull = codes "NamesFull"
+limit_text limits.RevsFull = codes "RevsFull 2147483647"
 
 -- ---- by groups: the words and the status
 
@@ -124,6 +158,7 @@ fault_words (Request why) = request_text why
 fault_words (Repository why) = repository_text why
 fault_words (Outside why) = outside_text why
 fault_words Memory = codes "Memory"
+fault_words (Limit why) = limit_text why
 
 abbrev pub status_of : Fault → ℕ
 status_of (Request why) = 1
@@ -131,6 +166,7 @@ status_of (Words why) = 2
 status_of (Repository why) = 3
 status_of (Outside why) = 4
 status_of Memory = 5
+status_of (Limit why) = 6
 
 -- the line about a fault on the error output
 abbrev pub line_of : Tool → Fault → List ℕ

@@ -8,13 +8,15 @@ use Rattle.fsfs_faults.specs.Lines.{request_text, fault_words}
 use Rattle.fsfs_faults.specs.declared.fault.Fault.{Fault}
 use Rattle.fsfs_faults.specs.declared.fault.Fault.TheVariants.{Request}
 use Rattle.fsfs_faults.specs.declared.request_fault.RequestFault.{RequestFault}
-use Rattle.fsfs_faults.specs.declared.request_fault.RequestFault.TheVariants.{NotFound, NotDir, NotFile}
+use Rattle.fsfs_faults.specs.declared.request_fault.RequestFault.TheVariants.{NotFound, NotDir, NotFile, Exists, Mergeinfo}
 
 -- its words, but of a path the space alone
 abbrev pub request_front : RequestFault → List ℕ
 request_front (NotFound path) = not_found ++ codes " "
 request_front (NotDir path) = not_dir ++ codes " "
 request_front (NotFile path) = not_file ++ codes " "
+request_front (Exists path) = codes "Exists" ++ codes " "
+request_front (Mergeinfo path) = codes "Mergeinfo" ++ codes " "
 request_front why = request_text why
 
 abbrev pub fault_front : Fault → List ℕ
@@ -26,6 +28,8 @@ abbrev pub request_path : RequestFault → List ℕ
 request_path (NotFound path) = path_text path
 request_path (NotDir path) = path_text path
 request_path (NotFile path) = path_text path
+request_path (Exists path) = path_text path
+request_path (Mergeinfo path) = path_text path
 request_path why = []
 
 abbrev pub path_values : Fault → List ℕ

@@ -2,6 +2,7 @@
 ghost use Rattle.fsfs_faults.specs.Faults.{IsFromLook};
 
 use crate::bad_words::BadWords;
+use crate::limit_fault::LimitFault;
 use crate::outside_fault::OutsideFault;
 use crate::repository_fault::RepositoryFault;
 use crate::request_fault::RequestFault;
@@ -10,6 +11,7 @@ use fsfs_cli::WordsFault;
 use fsfs_damage::{Damage, DamageKind, Refusal, RevOffset, Wrong};
 use fsfs_places::{CreateFault, OpenFault};
 use fsfs_printed::LookFault;
+use fsfs_script::ScriptError;
 use std::alloc::Global;
 use thiserror::Error;
 
@@ -32,6 +34,9 @@ pub enum Fault {
     /// Memory was wanting.
     #[error("out of memory")]
     Memory,
+    /// A limit was reached.
+    #[error(transparent)]
+    Limit(LimitFault),
 }
 
 impl From<WordsFault> for Fault {
@@ -114,6 +119,24 @@ impl From<Wrong> for Fault {
             Wrong::Refused(refusal) => Fault::from(refusal),
             Wrong::Damaged(damage) => Fault::Repository(RepositoryFault::Corrupt(damage)),
             Wrong::Delta(at) => Fault::Repository(RepositoryFault::Delta(at)),
+        }
+    }
+}
+
+impl From<ScriptError> for Fault {
+    ghost use Rattle.std.specs.Prelude.{◌≡◌};
+    ghost use Rattle.fsfs_faults.specs.Faults.{fault_from_script};
+
+    ghost from_gives = { λ e f. f ≡ fault_from_script e };
+
+    fn from(error: ScriptError) -> Fault {
+        match error {
+            ScriptError::BadScript(bad) => Fault::Request(RequestFault::BadScript(bad)),
+            ScriptError::TextTooLong => Fault::Limit(LimitFault::TextTooLong),
+            ScriptError::PropTooLong => Fault::Limit(LimitFault::PropTooLong),
+            ScriptError::TooManyJobs => Fault::Limit(LimitFault::TooManyJobs),
+            ScriptError::ReadFault => Fault::Outside(OutsideFault::Read),
+            ScriptError::OutOfMemory => Fault::Memory,
         }
     }
 }

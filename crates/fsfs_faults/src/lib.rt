@@ -3,6 +3,7 @@
 
 mod bad_words;
 mod fault;
+mod limit_fault;
 mod line;
 mod output;
 mod outside_fault;
@@ -13,9 +14,10 @@ mod values;
 pub use bad_words::BadWords;
 pub use fault::Fault;
 pub use fsfs_cli::Tool;
+pub use limit_fault::LimitFault;
 pub use line::status;
-pub use output::print_fault;
+pub use output::{print_fault, print_path, print_words};
 pub use outside_fault::OutsideFault;
 pub use repository_fault::RepositoryFault;
 pub use request_fault::RequestFault;
-pub use values::txn_text;
+pub use values::{digest_text, number_text, txn_text};

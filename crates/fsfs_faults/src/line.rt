@@ -32,7 +32,7 @@ pub(crate) fn with_values(name: &str, values: &str) -> FaultText
 }
 
 // The name of a fault, and its values; of a path the space alone.
-fn fault_text(fault: &Fault) -> FaultText
+pub(crate) fn fault_text(fault: &Fault) -> FaultText
     ensures { result.bytes ≡ fault_front fault.now }
 {
     match fault {
@@ -40,6 +40,7 @@ fn fault_text(fault: &Fault) -> FaultText
         Fault::Request(why) => why.front(),
         Fault::Repository(why) => why.text(),
         Fault::Outside(why) => why.text(),
+        Fault::Limit(why) => why.text(),
         Fault::Memory => word("Memory"),
     }
 }
@@ -65,5 +66,6 @@ pub fn status(fault: &Fault) -> u8
         Fault::Repository(_) => 3,
         Fault::Outside(_) => 4,
         Fault::Memory => 5,
+        Fault::Limit(_) => 6,
     }
 }

@@ -2,11 +2,11 @@
 ghost use Rattle.std.specs.Prelude.{◌≡◌, ◌∷◌};
 ghost use Rattle.fsfs_base.specs.Paths.{path_text};
 ghost use Rattle.fsfs_streams.specs.Output.{Prints};
-ghost use Rattle.fsfs_faults.specs.Lines.{line_of};
+ghost use Rattle.fsfs_faults.specs.Lines.{fault_words, line_of};
 ghost use Rattle.fsfs_faults.specs.Pieces.{request_path, path_values};
 
 use crate::fault::Fault;
-use crate::line::head_text;
+use crate::line::{fault_text, head_text};
 use crate::request_fault::RequestFault;
 use fsfs_base::{Failed, FsPath};
 use fsfs_cli::Tool;
@@ -20,8 +20,8 @@ fn print_name<S: Sink>(sink: &mut S, name: &str) -> Result<(), Failed>
     print(sink, name.as_bytes())
 }
 
-// Writes the text of a path, name by name.
-fn print_path<S: Sink>(sink: &mut S, path: &FsPath) -> Result<(), Failed>
+/// Writes the text of a path, name by name; or where the sink fails, a first part of it. It takes no memory.
+pub fn print_path<S: Sink>(sink: &mut S, path: &FsPath) -> Result<(), Failed>
     ensures printed { Prints (S.written sink.old) (S.written sink.new) (path_text path.now) (S.faults sink.old) (S.faults sink.new) result }
 {
     if path.is_root() {
@@ -38,8 +38,11 @@ fn print_request_path<S: Sink>(sink: &mut S, why: &RequestFault) -> Result<(), F
     ensures printed { Prints (S.written sink.old) (S.written sink.new) (request_path why.now) (S.faults sink.old) (S.faults sink.new) result }
 {
     match why {
-        RequestFault::NotFound(path) | RequestFault::NotDir(path) | RequestFault::NotFile(path) =>
-            print_path(sink, path),
+        RequestFault::NotFound(path)
+        | RequestFault::NotDir(path)
+        | RequestFault::NotFile(path)
+        | RequestFault::Exists(path)
+        | RequestFault::Mergeinfo(path) => print_path(sink, path),
         _ => Ok(()),
     }
 }
@@ -52,6 +55,14 @@ fn print_path_of<S: Sink>(sink: &mut S, fault: &Fault) -> Result<(), Failed>
         Fault::Request(why) => print_request_path(sink, why),
         _ => Ok(()),
     }
+}
+
+/// Writes the words of a fault: its name, and its values with a space before each; or where the sink fails, a first part of them.
+pub fn print_words<S: Sink>(sink: &mut S, fault: &Fault) -> Result<(), Failed>
+    ensures printed { Prints (S.written sink.old) (S.written sink.new) (fault_words fault.now) (S.faults sink.old) (S.faults sink.new) result }
+{
+    print(sink, fault_text(fault).as_str().as_bytes())?;
+    print_path_of(sink, fault)
 }
 
 /// Writes the line of a fault: the program's name, a colon, a space, the fault's name, its values with a space before

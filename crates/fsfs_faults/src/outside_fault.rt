@@ -15,12 +15,18 @@ pub enum OutsideFault {
     /// A call of the disk failed.
     #[error("the disk failed")]
     Disk(DiskPlace),
-    /// The clock or the random bytes could not be had.
-    #[error("the clock or the random bytes could not be had")]
+    /// The input, the clock or the random bytes could not be had.
+    #[error("the input, the clock or the random bytes could not be had")]
     Read,
     /// The output failed.
     #[error("the output failed")]
     Write,
+    /// A call of a transaction's bench failed.
+    #[error("a bench failed")]
+    Bench,
+    /// The write lock is stuck: a commit failed at this place before.
+    #[error("the write lock is stuck")]
+    Stuck(DiskPlace),
 }
 
 impl OutsideFault {
@@ -33,6 +39,8 @@ impl OutsideFault {
             OutsideFault::Disk(place) => with_values("DiskFault ", place.word()),
             OutsideFault::Read => word("ReadFault"),
             OutsideFault::Write => word("WriteFault"),
+            OutsideFault::Bench => word("BenchFault"),
+            OutsideFault::Stuck(place) => with_values("Stuck ", place.word()),
         }
     }
 }

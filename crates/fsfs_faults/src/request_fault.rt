@@ -3,9 +3,10 @@ ghost use Rattle.std.specs.Prelude.{◌≡◌};
 ghost use Rattle.fsfs_faults.specs.Pieces.{request_front};
 
 use crate::line::{FaultText, with_values, word};
-use crate::values::{numbers_text, txn_value_text};
+use crate::values::{bad_script_text, numbers_text, txn_value_text};
 use fsfs_base::FsPath;
 use fsfs_fields::{RevNum, TxnName};
+use fsfs_script::BadScript;
 use thiserror::Error;
 
 /// What is asked for isn't there, or is of another kind; or what is to be made is there.
@@ -32,6 +33,18 @@ pub enum RequestFault {
     /// There is no repository of this type of filesystem at the path.
     #[error("there is no repository")]
     NotRepo,
+    /// Something stands at the path.
+    #[error("there is such a node")]
+    Exists(FsPath),
+    /// The root can't be taken away.
+    #[error("the root stays")]
+    RootFixed,
+    /// An edit at the path would have to change counts of mergeinfo.
+    #[error("mergeinfo is not kept")]
+    Mergeinfo(FsPath),
+    /// The input is no job script.
+    #[error("the input is no job script")]
+    BadScript(BadScript),
 }
 
 impl RequestFault {
@@ -52,6 +65,12 @@ impl RequestFault {
             RequestFault::NoTxn(name) => with_values("NoTxn", txn_value_text(name).as_str()),
             RequestFault::AlreadyRepo => word("AlreadyRepo"),
             RequestFault::NotRepo => word("NotRepo"),
+            RequestFault::Exists(_) => word("Exists "),
+            RequestFault::RootFixed => word("RootFixed /"),
+            RequestFault::Mergeinfo(_) => word("Mergeinfo "),
+            RequestFault::BadScript(bad) => {
+                with_values("BadScript", bad_script_text(bad).as_str())
+            }
         }
     }
 }

@@ -2,13 +2,14 @@
 ghost use Rattle.std.specs.Prelude.{◌≡◌, ◌<◌, ◌≤◌, ◌+◌, ◌∷◌, ◌++◌, length, slice_index, decimal};
 ghost use Rattle.hex.specs.Hex.{encode_lower, lower_digits};
 ghost use Rattle.fsfs_fields.specs.TxnNames.{txn_text as text_of_txn};
-ghost use Rattle.fsfs_faults.specs.Lines.{why_name, bad_path_values, small_values, at_values, rep_what_values, what_values, damage_values, txn_value};
+ghost use Rattle.fsfs_faults.specs.Lines.{why_name, bad_path_values, small_values, at_values, rep_what_values, what_values, damage_values, txn_value, script_why, bad_script_values};
 
 use arrayvec::ArrayString;
 use fsfs_base::{BadPath, Name, PathFault, SmallFault};
 use fsfs_damage::{Damage, DamageKind, RepWhat, RevOffset};
 use fsfs_fields::{HexDigest, TxnName};
 use fsfs_layout::{small_file_name, txn_entry};
+use fsfs_script::{BadScript, Why};
 use itoa::Buffer;
 
 const DIGITS: &[u8; 16] = b"0123456789abcdef";
@@ -29,8 +30,8 @@ fn why_text(why: PathFault) -> &'static str
     }
 }
 
-// A space and a number.
-pub(crate) fn number_text(number: u64) -> ArrayString<21>
+/// A space and a number.
+pub fn number_text(number: u64) -> ArrayString<21>
     ensures { result.bytes ≡ 32 ∷ decimal number }
 {
     let mut text = ArrayString::new();
@@ -100,8 +101,8 @@ fn hex_text(bytes: &[u8]) -> ArrayString<41>
     text
 }
 
-// A space, and the digits of a digest.
-fn digest_text<const N: usize>(digest: &HexDigest<N>) -> ArrayString<41>
+/// A space, and the digits of a digest.
+pub fn digest_text<const N: usize>(digest: &HexDigest<N>) -> ArrayString<41>
     requires { N ≤ 20 }
     ensures { result.bytes ≡ 32 ∷ encode_lower digest.now.bytes }
 {
@@ -167,6 +168,34 @@ pub(crate) fn bad_path_text(bad: &BadPath) -> ArrayString<192>
     text.push_str(number_text(bad.at as u64).as_str());
     text.push_str(" ");
     text.push_str(why_text(bad.why));
+    text
+}
+
+// Why the input is no job script.
+fn script_why_text(why: Why) -> &'static str
+    ensures text { result.now ≡ script_why why }
+    ensures short { length result.now ≤ 16 }
+{
+    match why {
+        Why::Word => "Word",
+        Why::Number => "Number",
+        Why::Path => "Path",
+        Why::Name => "Name",
+        Why::NotUtf8 => "NotUtf8",
+        Why::LongLine => "LongLine",
+        Why::NoNewline => "NoNewline",
+        Why::Short => "Short",
+    }
+}
+
+// The line of a script that is refused, and why, a space before each.
+pub(crate) fn bad_script_text(bad: &BadScript) -> ArrayString<192>
+    ensures { result.bytes ≡ bad_script_values bad.now }
+{
+    let mut text = ArrayString::new();
+    text.push_str(number_text(bad.line).as_str());
+    text.push_str(" ");
+    text.push_str(script_why_text(bad.why));
     text
 }
 

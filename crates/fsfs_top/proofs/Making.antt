@@ -8,7 +8,7 @@ use Rattle.fsfs_disk.specs.Crash.{AllImages, Leaves}
 use Rattle.fsfs_disk.proofs.CrashLemmas.{leaves_with}
 use Rattle.fsfs_faults.specs.Lines.{status_of}
 use Rattle.fsfs_faults.specs.declared.fault.Fault.{Fault}
-use Rattle.fsfs_faults.specs.declared.fault.Fault.TheVariants.{Words, Request, Repository, Outside, Memory}
+use Rattle.fsfs_faults.specs.declared.fault.Fault.TheVariants.{Words, Request, Repository, Outside, Memory, Limit}
 use Rattle.fsfs_answers.specs.Answers.{new_history}
 use Rattle.fsfs_create.specs.Creation.{IsUnpublished}
 use Rattle.fsfs_create.specs.NewStore.{IsNewStore}
@@ -39,6 +39,7 @@ no_zero (Request why) e = omega arith
 no_zero (Repository why) e = omega arith
 no_zero (Outside why) e = omega arith
 no_zero Memory e = omega arith
+no_zero (Limit why) e = omega arith
 
 no_fault : (fault : Fault) → ◌≡◌ {A = Option Fault} None (Some fault) → ⊥
 no_fault fault e = cc

@@ -1,0 +1,5 @@
+pub mod Edits
+pub mod Lines
+pub mod Pieces
+pub mod Properties
+pub mod Serial

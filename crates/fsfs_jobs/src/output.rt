@@ -1,0 +1,66 @@
+//! Printing the line of a job. It takes no memory.
+ghost use Rattle.std.specs.Prelude.{◌≡◌};
+ghost use Rattle.fsfs_streams.specs.Output.{Prints};
+ghost use Rattle.fsfs_jobs.specs.Lines.{stop_words, job_line, youngest_line};
+ghost use Rattle.fsfs_jobs.specs.Pieces.{answer_back};
+
+use crate::answer::JobAnswer;
+use crate::line::line_front;
+use arrayvec::ArrayString;
+use fsfs_base::Failed;
+use fsfs_faults::{Fault, print_path, print_words};
+use fsfs_fields::RevNum;
+use fsfs_streams::{Sink, print};
+use itoa::Buffer;
+
+// Writes the words of a fault; none of want of memory, which the line has told.
+fn print_stop<S: Sink>(sink: &mut S, fault: &Fault) -> Result<(), Failed>
+    ensures printed { Prints (S.written sink.old) (S.written sink.new) (stop_words fault.now) (S.faults sink.old) (S.faults sink.new) result }
+{
+    match fault {
+        Fault::Memory => Ok(()),
+        Fault::Request(_)
+        | Fault::Limit(_)
+        | Fault::Words(_)
+        | Fault::Repository(_)
+        | Fault::Outside(_) => print_words(sink, fault),
+    }
+}
+
+// Writes what the line tells last.
+fn print_back<S: Sink>(sink: &mut S, answer: &JobAnswer) -> Result<(), Failed>
+    ensures printed { Prints (S.written sink.old) (S.written sink.new) (answer_back answer.now) (S.faults sink.old) (S.faults sink.new) result }
+{
+    match answer {
+        JobAnswer::Committed(_) => Ok(()),
+        JobAnswer::Read(_) => Ok(()),
+        JobAnswer::Conflict { path, .. } => print_path(sink, path),
+        JobAnswer::Stopped { fault, .. } => print_stop(sink, fault),
+    }
+}
+
+/// Writes the line of the job of this number, or where the sink fails a first part of it.
+pub fn print_job_line<S: Sink>(sink: &mut S, number: u64, answer: &JobAnswer) -> Result<(), Failed>
+    ensures printed { Prints (S.written sink.old) (S.written sink.new) (job_line number answer.now) (S.faults sink.old) (S.faults sink.new) result }
+{
+    print(sink, line_front(number, answer).as_str().as_bytes())?;
+    print_back(sink, answer)?;
+    print(sink, b"\n")
+}
+
+fn youngest_text(rev: RevNum) -> ArrayString<32>
+    ensures { result.bytes ≡ youngest_line rev }
+{
+    let mut text = ArrayString::new();
+    text.push_str("youngest ");
+    text.push_str(Buffer::new().format(rev.get() as u64));
+    text.push_str("\n");
+    text
+}
+
+/// Writes the last line of a run, or where the sink fails a first part of it.
+pub fn print_youngest<S: Sink>(sink: &mut S, rev: RevNum) -> Result<(), Failed>
+    ensures printed { Prints (S.written sink.old) (S.written sink.new) (youngest_line rev) (S.faults sink.old) (S.faults sink.new) result }
+{
+    print(sink, youngest_text(rev).as_str().as_bytes())
+}
