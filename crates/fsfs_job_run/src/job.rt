@@ -1,0 +1,41 @@
+//! One job over a repository.
+ghost use Rattle.std.specs.Prelude.{◌≤◌};
+ghost use Rattle.fsfs_base.specs.Failures.{Rose};
+ghost use Rattle.fsfs_turn.specs.Views.{View};
+ghost use Rattle.fsfs_owned_repo.specs.Crashes.{CrashesLeave};
+ghost use Rattle.fsfs_job_run.specs.Running.{HasSeenTo, DoesSo, IfCounted, StopsOver};
+
+use crate::commit_job::commit_job;
+use crate::read_text::read_text;
+use fsfs_disk::Disk;
+use fsfs_job_lines::Job;
+use fsfs_jobs::JobAnswer;
+use fsfs_owned_repo::Repo;
+use fsfs_turn::{Owned, Turns};
+use std::alloc::Global;
+
+/// Does a job, and tells what became of it. A revision that it adds has as its date the moment, in microseconds after
+/// 1970-01-01T00:00:00 UTC, in a year up to 2099. A transaction that is not committed is purged; if that fails too, its name stays
+/// listed.
+pub fn do_job<D: Disk, R>(
+    repo: Repo<D>,
+    rt: &R,
+    alloc: Global,
+    job: &Job,
+    micros: u64,
+) -> (Repo<D>, JobAnswer)
+    requires moment { micros ≤ 4102444799999999 }
+    // Over a pass that has seen all that there is: what the job did, by the definition of jobs, or that it failed.
+    ensures does { (v : View) → ⟦<Owned<D> as Turns<R>>⟧.knows repo.turns v → HasSeenTo repo.turns.young v
+        → DoesSo (⟦<Owned<D> as Turns<R>>⟧.knows result.0.turns) result.0.turns.young (Rose (⟦<Owned<D> as Turns<R>>⟧.faults repo.turns) (⟦<Owned<D> as Turns<R>>⟧.faults result.0.turns)) micros job.now result.1 v }
+    // Where it is refused for mergeinfo: by the flat model, or for counts in the bytes.
+    ensures counted { (v : View) → ⟦<Owned<D> as Turns<R>>⟧.knows repo.turns v → HasSeenTo repo.turns.young v → IfCounted job.now result.1 (StopsOver v.seen) }
+    // What is known then says what a crash leaves, at each moment of the job too.
+    ensures crashes { (u : View) → ⟦<Owned<D> as Turns<R>>⟧.knows result.0.turns u → CrashesLeave result.0.turns.layout (D.trace result.0.turns.disk) u }
+    ensures later { ⟦<Owned<D> as Turns<R>>⟧.faults repo.turns ≤ ⟦<Owned<D> as Turns<R>>⟧.faults result.0.turns }
+{
+    match job {
+        Job::Commit(job) => commit_job(repo, rt, alloc, job, micros),
+        Job::Read(job) => read_text(repo, rt, alloc, job),
+    }
+}
