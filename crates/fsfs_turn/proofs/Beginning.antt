@@ -29,6 +29,7 @@ use Rattle.fsfs_machine.proofs.Created.{created_kept}
 use Rattle.fsfs_images.specs.RealNames.{machine_name}
 use Rattle.fsfs_images.specs.Shown.{AtName, AreRead, Opening}
 use Rattle.fsfs_turn.specs.Bytes.{bytes_of, ShowsOne, BytesShow, AllShow}
+use Rattle.fsfs_turn.specs.Alone.{IsAlone}
 use Rattle.fsfs_turn.specs.Views.{View, Sees}
 use Rattle.fsfs_turn.specs.Standing.{no_others, IsStore, Knows}
 use Rattle.fsfs_turn.specs.Opening.{new_revision, NewStoreIsKnown}
@@ -120,9 +121,9 @@ module _ (first : Files) (labels : List Label) (before : List Operation) (date :
       stands : (e : Disk) → IsImage (Firm ∷ disk) e → Stands 0 (new_revision date ∷ []) Free e
       stands = (created_kept (created ((date_name, date) ∷ []) first_bytes) ((date_name, date) ∷ []) first_bytes refl).stands
 
-  pub new_is_known : (v : View) × Knows new.layout 0 None (Some (record { first = first; labels = labels; operations = Done real.FirmNames ∷ before })) v × (v.section ≡ None) × (v.pass ≡ first_pass 1 0) × (v.seen ≡ new_revision date ∷ []) × (v.since ≡ length before + 1)
+  pub new_is_known : (v : View) × Knows new.layout 0 None (Some (record { first = first; labels = labels; operations = Done real.FirmNames ∷ before })) v × (v.section ≡ None) × (v.pass ≡ first_pass 1 0) × (v.seen ≡ new_revision date ∷ []) × (v.since ≡ length before + 1) × IsAlone 0 v
   unfolding view world
-  new_is_known = (view, (world, store, sees, refl, refl, safe), refl, refl, refl, refl)
+  new_is_known = (view, (world, store, sees, refl, refl, safe), refl, refl, refl, refl, record { all = refl; own = refl })
 
 pub new_store_is_known : NewStoreIsKnown
 new_store_is_known first labels before date new = new_is_known first labels before date new

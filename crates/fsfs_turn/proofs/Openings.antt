@@ -46,6 +46,7 @@ use Rattle.fsfs_images.specs.RealNames.{machine_name}
 use Rattle.fsfs_images.specs.Shown.{AtName, AreRead, Opening}
 use Rattle.fsfs_images.proofs.Showing.{image_read}
 use Rattle.fsfs_turn.specs.Bytes.{bytes_beside, bytes_of, ShowsOne, BytesShow, AllShow}
+use Rattle.fsfs_turn.specs.Alone.{IsAlone}
 use Rattle.fsfs_turn.specs.Views.{View, Sees}
 use Rattle.fsfs_turn.specs.Standing.{no_others, IsStore, Knows}
 use Rattle.fsfs_turn.specs.Opening.{StoreIsKnown}
@@ -327,8 +328,8 @@ module _ (first : Files) (labels : List Label) (before : List Operation) (h : Li
       stands : (e : Disk) → IsImage (Firm ∷ disk) e → Stands 0 g Free e
       stands = kept.stands
 
-  pub is_known : (v : View) × Knows layout s.opened.youngest None (Some trace) v × (v.section ≡ None) × (v.pass ≡ first_pass (length h) 0) × (revisions v.seen ≡ h) × (v.since ≡ length before + 1)
-  is_known = (view, (world, store, sees, refl, refl, safe), refl, ap (λ n. first_pass n 0) long, revisions_are, refl)
+  pub is_known : (v : View) × Knows layout s.opened.youngest None (Some trace) v × (v.section ≡ None) × (v.pass ≡ first_pass (length h) 0) × (revisions v.seen ≡ h) × (v.since ≡ length before + 1) × IsAlone s.opened.youngest v
+  is_known = (view, (world, store, sees, refl, refl, safe), refl, ap (λ n. first_pass n 0) long, revisions_are, refl, record { all = (let c = s.count in omega (arith, long, c)); own = omega arith })
 
 pub store_is_known : StoreIsKnown
 store_is_known first labels before h s unpacked = is_known first labels before h s unpacked

@@ -109,8 +109,8 @@ module _ (layout : Layout) (young : ℕ) (stuck : Option DiskPlace) (t : Trace) 
       floor_is layout 0 m (text_there m (only_name only.MinUnpackedRev) at.0 (IsMinUnpackedRev layout) 0 at.1 (subst (λ k. IsRevLine at.0 k) known.1.kept.floor at.2, zero-mod layout.shard_size))
 
   -- a revision that the pass has seen can be read
-  pub readable : (r : ℕ) (x : Recorded) → slice_get v.seen r ≡ Some x → IsReadable (owned_view (state_of layout young stuck (Some t))) (files_now t) r x
-  readable r x at = record {
+  pub readable : (path : List ℕ) (r : ℕ) (x : Recorded) → slice_get v.seen r ≡ Some x → IsReadable (owned_view (state_of layout young stuck (Some t) path)) (files_now t) r x
+  readable path r x at = record {
     known = omega (arith, slice_get_within v.seen r x at, seen_within w v known.2, up, known.1.young_is);
     bytes = bytes;
     own = (λ i. agrees (own i) (bytes i)) ∙ nat_list_eq_equiv.refl x.bytes;

@@ -12,21 +12,22 @@ use Rattle.fsfs_machine.specs.declared.machine.Recorded.{Recorded}
 use Rattle.fsfs_machine.specs.Machine.{first_revision, first_pass, revisions}
 use Rattle.fsfs_turn.specs.Views.{View}
 use Rattle.fsfs_turn.specs.Standing.{Knows}
+use Rattle.fsfs_turn.specs.Alone.{IsAlone}
 
 -- revision 0, with the bytes beside it
 abbrev pub new_revision : List ℕ → Recorded
 new_revision date = first_revision ((date_name, date) ∷ []) first_bytes
 
--- Of a disk that has just made its names firm, and whose files are those of a new repository, it is known: a pass has seen revision 0,
--- and is in no section. Images are spoken of from now on.
+-- Of a disk that has just made its names firm, and whose files are those of a new repository, it is known: a pass that is alone has seen
+-- revision 0, and is in no section. Images are spoken of from now on.
 abbrev pub NewStoreIsKnown : Type 0
 NewStoreIsKnown = (first : Files) (labels : List Label) (before : List Operation) (date : List ℕ) (new : HoldsNew (files_after first before) date)
     → (v : View) × Knows new.layout 0 None (Some (record { first = first; labels = labels; operations = Done FirmNames ∷ before })) v
-    × (v.section ≡ None) × (v.pass ≡ first_pass 1 0) × (v.seen ≡ new_revision date ∷ []) × (v.since ≡ length before + 1)
+    × (v.section ≡ None) × (v.pass ≡ first_pass 1 0) × (v.seen ≡ new_revision date ∷ []) × (v.since ≡ length before + 1) × IsAlone 0 v
 
--- Of a disk that has just made its names firm, and whose files stand for a history of which no revision is packed, it is known: a pass has
--- seen all of it, and is in no section. Images are spoken of from now on.
+-- Of a disk that has just made its names firm, and whose files stand for a history of which no revision is packed, it is known: a pass
+-- that is alone has seen all of it, and is in no section. Images are spoken of from now on.
 abbrev pub StoreIsKnown : Type 0
 StoreIsKnown = (first : Files) (labels : List Label) (before : List Operation) (h : List Revision) (s : StandsFor (files_after first before) h) → s.opened.min_unpacked_rev ≡ 0
     → (v : View) × Knows s.opened.layout s.opened.youngest None (Some (record { first = first; labels = labels; operations = Done FirmNames ∷ before })) v
-    × (v.section ≡ None) × (v.pass ≡ first_pass (length h) 0) × (revisions v.seen ≡ h) × (v.since ≡ length before + 1)
+    × (v.section ≡ None) × (v.pass ≡ first_pass (length h) 0) × (revisions v.seen ≡ h) × (v.since ≡ length before + 1) × IsAlone s.opened.youngest v

@@ -2,7 +2,7 @@
 ghost use Rattle.std.specs.Prelude.{◌≡◌, None, IfSome, IsSome, IsTrue, option_map};
 ghost use Rattle.fsfs_disk.specs.Trace.{file_at, labels_now};
 ghost use Rattle.fsfs_turn.specs.Views.{View};
-ghost use Rattle.fsfs_turn.specs.Standing.{Knows};
+ghost use Rattle.fsfs_turn.specs.Alone.{KnowsAlone};
 
 use crate::turns::{LoneTurns, Turns};
 use fsfs_base::{Failed, Name};
@@ -13,7 +13,8 @@ use fsfs_places::DiskPlace;
 use std::alloc::Global;
 
 /// A store whose disk has one owner and may be written: the write lock and the youngest revision are fields, and there is one
-/// pass. No call waits.
+/// pass. No call waits. The pass is alone: what it knows says that it has seen all revisions that there are, and that those added since
+/// the opening are its own.
 #[derive(Drop)]
 pub struct Owned<D: Disk> {
     disk: D,
@@ -33,7 +34,7 @@ impl<D: Disk> Owned<D> {
         ensures young { result.young ≡ young }
         ensures free { result.stuck ≡ None }
         // What is known of it with this layout and number is what its pass knows.
-        ensures known { (v : View) → Knows layout young None (D.trace disk) v → Knows result.layout result.young result.stuck (D.trace result.disk) v }
+        ensures known { (v : View) → KnowsAlone layout young None (D.trace disk) v → KnowsAlone result.layout result.young result.stuck (D.trace result.disk) v }
     {
         Owned {
             disk,
@@ -67,17 +68,19 @@ impl<R, D: Disk> Turns<R> for Owned<D> {
 
     type Bench = D::Bench;
 
-    ghost knows = { λ s v. Knows s.layout s.young s.stuck (D.trace s.disk) v };
+    ghost knows = { λ s v. KnowsAlone s.layout s.young s.stuck (D.trace s.disk) v };
 
     ghost in_use = { λ s name. IfSome (D.trace s.disk) (λ t. IsSome (file_at t name)) };
 
     ghost Lasting = { OwnedState };
 
-    ghost store = { λ s. owned_view (state_of s.layout s.young s.stuck (D.trace s.disk)) };
+    ghost store = { λ s. owned_view (state_of s.layout s.young s.stuck (D.trace s.disk) (D.mount_path s.disk)) };
 
     ghost labels = { λ s. option_map labels_now (D.trace s.disk) };
 
     ghost faults = { λ s. D.faults s.disk };
+
+    ghost mount_path = { λ s. D.mount_path s.disk };
 
     fn layout(&self) -> Layout {
         self.layout
@@ -162,10 +165,11 @@ impl<R, D: Disk> Turns<R> for Owned<D> {
         label: &Label,
         bench: Option<D::Bench>,
     ) -> Result<bool, Failed>
-        ensures purged { (v : View) (txn : Txn) (base : ℕ) → Knows self.old.layout self.old.young self.old.stuck (D.trace self.old.disk) v → MayPurge v txn → label_of label.now ≡ TxnLabel base txn.name
-            → (u : View) × (went : Went) × Knows self.new.layout self.new.young self.new.stuck (D.trace self.new.disk) u × Answers result went × Purged txn went v u }
-        ensures spent { (v : View) (name base : ℕ) → Knows self.old.layout self.old.young self.old.stuck (D.trace self.old.disk) v → v.section ≡ None → IsIn name v.given → label_of label.now ≡ TxnLabel base name
-            → (u : View) × (went : Went) × Knows self.new.layout self.new.young self.new.stuck (D.trace self.new.disk) u × Answers result went × SpentPurged name went v u }
+        ensures purged { (v : View) (txn : Txn) (base : ℕ) → KnowsAlone self.old.layout self.old.young self.old.stuck (D.trace self.old.disk) v → MayPurge v txn → label_of label.now ≡ TxnLabel base txn.name
+            → (u : View) × (went : Went) × KnowsAlone self.new.layout self.new.young self.new.stuck (D.trace self.new.disk) u × Answers result went × Purged txn went v u }
+        ensures spent { (v : View) (name base : ℕ) → KnowsAlone self.old.layout self.old.young self.old.stuck (D.trace self.old.disk) v → v.section ≡ None → IsIn name v.given → label_of label.now ≡ TxnLabel base name
+            → (u : View) × (went : Went) × KnowsAlone self.new.layout self.new.young self.new.stuck (D.trace self.new.disk) u × Answers result went × SpentPurged name went v u }
+        ensures mounted { D.mount_path self.new.disk ≡ D.mount_path self.old.disk }
         ensures there { IfSome (option_map labels_now (D.trace self.old.disk)) (λ ls. IfOk result (λ there. there ≡ has_label (label_of label.now) ls)) }
         ensures dropped { OnOk result (option_map labels_now (D.trace self.new.disk) ≡ option_map (without_label (label_of label.now)) (option_map labels_now (D.trace self.old.disk))) }
         ensures left { OnErr result ((option_map labels_now (D.trace self.new.disk) ≡ option_map labels_now (D.trace self.old.disk)) ⊎ (option_map labels_now (D.trace self.new.disk) ≡ option_map (without_label (label_of label.now)) (option_map labels_now (D.trace self.old.disk)))) }
@@ -174,18 +178,20 @@ impl<R, D: Disk> Turns<R> for Owned<D> {
         self.disk.drop_bench(label, bench)
     }
 
-    ghost tells = { λ s v known. owned_tells s.layout s.young s.stuck (D.trace s.disk) v known };
+    ghost tells = { λ s v known. owned_tells s.layout s.young s.stuck (D.trace s.disk) (D.mount_path s.disk) v known.0 };
 
-    ghost benches_tell = { λ s v bench known. owned_benches_tell s.layout s.young s.stuck (D.trace s.disk) (D.Bench.contents bench) v (D.benches_tell s.disk bench) known };
+    ghost benches_tell = { λ s v bench known. owned_benches_tell s.layout s.young s.stuck (D.trace s.disk) (D.Bench.contents bench) v (D.benches_tell s.disk bench) known.0 };
 
     ghost short = { λ s. owned_short (D.trace s.disk) (D.short s.disk) };
 }
 
 impl<R, D: Disk> LoneTurns<R> for Owned<D> {
     ghost use Rattle.fsfs_turn.specs.Telling.{state_of};
-    ghost use Rattle.fsfs_turn.specs.OwnedLemmas.{known_still, files_same};
+    ghost use Rattle.fsfs_turn.specs.OwnedLemmas.{known_still, files_same, path_same};
 
-    ghost still = { λ a b v same known. known_still (state_of a.layout a.young a.stuck (D.trace a.disk)) (state_of b.layout b.young b.stuck (D.trace b.disk)) v same known };
+    ghost still = { λ a b v same known. known_still (state_of a.layout a.young a.stuck (D.trace a.disk) (D.mount_path a.disk)) (state_of b.layout b.young b.stuck (D.trace b.disk) (D.mount_path b.disk)) v same known };
 
-    ghost same_files = { λ a b same. files_same (state_of a.layout a.young a.stuck (D.trace a.disk)) (state_of b.layout b.young b.stuck (D.trace b.disk)) same };
+    ghost same_files = { λ a b same. files_same (state_of a.layout a.young a.stuck (D.trace a.disk) (D.mount_path a.disk)) (state_of b.layout b.young b.stuck (D.trace b.disk) (D.mount_path b.disk)) same };
+
+    ghost same_path = { λ a b same. path_same (state_of a.layout a.young a.stuck (D.trace a.disk) (D.mount_path a.disk)) (state_of b.layout b.young b.stuck (D.trace b.disk) (D.mount_path b.disk)) same };
 }

@@ -56,12 +56,16 @@ pub trait Turns<R> {
     /// How often its turns have failed. The count stops at the last number of a u64.
     ghost faults: { Self → ℕ };
 
+    /// The path that its disk was mounted for. No call changes it.
+    ghost mount_path: { Self → List ℕ };
+
     /// How the files are laid out.
     fn layout(&self) -> Layout
         ensures { result ≡ (store self.now).layout };
 
     /// The youngest revision. It waits for nobody.
     fn look(&mut self) -> RevNum
+        ensures mounted { mount_path self.new ≡ mount_path self.old }
         ensures youngest { IsYoungest (store self.new).reach result }
         ensures later { Later (store self.old) (store self.new) }
         ensures turned { (v : View) → knows self.old v → (u : View) × knows self.new u × Looked result v u }
@@ -69,6 +73,7 @@ pub trait Turns<R> {
 
     /// Takes the write lock, or says at which place it is stuck.
     fn take_lock(&mut self, rt: &R) -> Result<(), DiskPlace>
+        ensures mounted { mount_path self.new ≡ mount_path self.old }
         ensures same { (store self.new).below ≡ (store self.old).below }
         ensures ok { (v : View) → knows self.old v → v.section ≡ None → OnOk result ((u : View) × knows self.new u × LockTaken v u) }
         ensures stuck { (v : View) → knows self.old v → v.section ≡ None → IfErr result (λ place. (u : View) × knows self.new u × FoundStuck place v u) }
@@ -76,21 +81,25 @@ pub trait Turns<R> {
 
     /// Gives the write lock. It waits for nobody.
     fn give_lock(&mut self)
+        ensures mounted { mount_path self.new ≡ mount_path self.old }
         ensures turned { (v : View) → knows self.old v → MayGive v → (u : View) × knows self.new u × LockGiven (GiveLock v.number) v u }
         ensures faults { faults self.new ≡ faults self.old };
 
     /// Leaves the write lock stuck, after a fault at this place. It waits for nobody.
     fn stick(&mut self, place: DiskPlace)
+        ensures mounted { mount_path self.new ≡ mount_path self.old }
         ensures turned { (v : View) (x : Coming) → knows self.old v → v.section ≡ Some (Doubtful place x) → (u : View) × knows self.new u × LockGiven (StickLock v.number) v u }
         ensures faults { faults self.new ≡ faults self.old };
 
     /// The revision that was written joins the history: it is the youngest now.
     fn reveal(&mut self, rt: &R, rev: RevNum)
+        ensures mounted { mount_path self.new ≡ mount_path self.old }
         ensures turned { (v : View) (x : Coming) → knows self.old v → v.section ≡ Some (CurrentFirm x) → rev ≡ length v.seen → (u : View) × knows self.new u × Revealed x v u }
         ensures faults { faults self.new ≡ faults self.old };
 
     /// A commit's first call: the bytes are the file of the revision to come.
     fn adopt(&mut self, rt: &R, name: &Name, bytes: &[u8]) -> Result<(), Failed>
+        ensures mounted { mount_path self.new ≡ mount_path self.old }
         ensures turned { (v : View) (txn : Txn) (properties : List (List ℕ × List ℕ)) (next : Revision) → knows self.old v → MayAdopt v txn properties next bytes.now
             → name.now ≡ rev_name v (length v.seen)
             → (u : View) × (went : Went) × knows self.new u × Answers result went × Adopted txn properties next bytes.now went v u }
@@ -98,6 +107,7 @@ pub trait Turns<R> {
 
     /// Makes a new file, firm, and gives it the name.
     fn put(&mut self, rt: &R, name: &Name, bytes: &[u8]) -> Result<(), Failed>
+        ensures mounted { mount_path self.new ≡ mount_path self.old }
         ensures turned { (v : View) (place : SpecPlace) → knows self.old v → IsDue v place (Put name.now bytes.now)
             → (u : View) × (went : Went) × knows self.new u × Answers result went × Called place went v u }
         ensures used { OnOk result (in_use self.new name.now) }
@@ -106,12 +116,14 @@ pub trait Turns<R> {
     /// Gives a file another name.
     fn rename(&mut self, rt: &R, from: &Name, to: &Name) -> Result<(), Failed>
         requires { in_use self.old from.now }
+        ensures mounted { mount_path self.new ≡ mount_path self.old }
         ensures turned { (v : View) (place : SpecPlace) → knows self.old v → IsDue v place (Rename from.now to.now)
             → (u : View) × (went : Went) × knows self.new u × Answers result went × Called place went v u }
         ensures cause { HasCause (faults self.old) (faults self.new) result };
 
     /// Makes all changes of names firm.
     fn firm_names(&mut self, rt: &R) -> Result<(), Failed>
+        ensures mounted { mount_path self.new ≡ mount_path self.old }
         ensures turned { (v : View) (place : SpecPlace) → knows self.old v → IsDue v place FirmNames
             → (u : View) × (went : Went) × knows self.new u × Answers result went × Called place went v u }
         ensures cause { HasCause (faults self.old) (faults self.new) result };
@@ -125,6 +137,7 @@ pub trait Turns<R> {
         to: &Name,
     ) -> Result<(), Failed>
         requires { IsFirmFile (Self.Bench.contents bench.old) (Self.Bench.firm_to bench.old file.now) file.now }
+        ensures mounted { mount_path self.new ≡ mount_path self.old }
         ensures turned { (v : View) (txn : Txn) (properties : List (List ℕ × List ℕ)) (next : Revision) → knows self.old v → MayAdopt v txn properties next (bytes_on (Self.Bench.contents bench.old) file.now)
             → to.now ≡ rev_name v (length v.seen)
             → (u : View) × (went : Went) × knows self.new u × Answers result went × Adopted txn properties next (bytes_on (Self.Bench.contents bench.old) file.now) went v u }
@@ -143,6 +156,7 @@ pub trait Turns<R> {
         offset: u64,
         buffer: &mut [u8],
     ) -> Result<Option<usize>, Failed>
+        ensures mounted { mount_path self.new ≡ mount_path self.old }
         ensures bound { IfOk result (λ found. IfSome found (λ n. n ≤ length buffer.new)) }
         ensures bytes { IfSome (store self.new).files (λ m. IfOk result (IsRead (get m name.now) offset buffer.old buffer.new)) }
         ensures later { Later (store self.old) (store self.new) }
@@ -158,6 +172,7 @@ pub trait Turns<R> {
 
     /// The length of a file. Of a revision that the pass has seen it is that of the bytes beside it.
     fn size(&mut self, rt: &R, name: &Name) -> Result<Option<u64>, Failed>
+        ensures mounted { mount_path self.new ≡ mount_path self.old }
         ensures length { IfSome (store self.new).files (λ m. IfOk result (IsSize (get m name.now))) }
         ensures later { Later (store self.old) (store self.new) }
         ensures turned { (v : View) (r : ℕ) (x : Recorded) → knows self.old v → slice_get v.seen r ≡ Some x → r < 2 ^ 32 → name.now ≡ rev_name v r
@@ -166,6 +181,7 @@ pub trait Turns<R> {
 
     /// The names of the folders of transactions, in the order of their bytes: one for each label of a transaction that is kept.
     fn list(&mut self, rt: &R, alloc: Global) -> Result<Vec<Name>, ListFault>
+        ensures mounted { mount_path self.new ≡ mount_path self.old }
         ensures names { IfSome (labels self.new) (λ ls. IfOk result (λ found. IsListing ls found.items)) }
         ensures ok { (v : View) → knows self.old v → OnOk result ((ls : List KeptLabel) × (labels self.new ≡ Some ls) × (u : View) × knows self.new u × Listed ls Fine v u) }
         ensures failed { (v : View) → knows self.old v → IsErrOf result ListFault.Failed → (ls : List KeptLabel) × (labels self.new ≡ Some ls) × (u : View) × knows self.new u × Listed ls Before v u }
@@ -178,6 +194,7 @@ pub trait Turns<R> {
 
     /// A begin's last call: keeps the label of a transaction whose name was given, and makes an empty bench for it.
     fn bench(&mut self, rt: &R, label: &Label) -> Result<Self::Bench, Failed>
+        ensures mounted { mount_path self.new ≡ mount_path self.old }
         ensures turned { (v : View) (x : Drawn) → knows self.old v → MayMake v x → label_of label.now ≡ TxnLabel x.base x.name
             → (u : View) × (went : Went) × knows self.new u × Answers result went × BenchMade x went v u }
         ensures kept { OnOk result (labels self.new ≡ option_map (with_label (label_of label.now)) (labels self.old)) }
@@ -194,6 +211,7 @@ pub trait Turns<R> {
         label: &Label,
         bench: Option<Self::Bench>,
     ) -> Result<bool, Failed>
+        ensures mounted { mount_path self.new ≡ mount_path self.old }
         ensures purged { (v : View) (txn : Txn) (base : ℕ) → knows self.old v → MayPurge v txn → label_of label.now ≡ TxnLabel base txn.name
             → (u : View) × (went : Went) × knows self.new u × Answers result went × Purged txn went v u }
         ensures spent { (v : View) (name base : ℕ) → knows self.old v → v.section ≡ None → IsIn name v.given → label_of label.now ≡ TxnLabel base name
@@ -205,6 +223,7 @@ pub trait Turns<R> {
 
     /// Makes a folder and those above it. It is no step; its fault is one of the call that is due.
     fn make_folder(&mut self, rt: &R, name: &Name) -> Result<(), Failed>
+        ensures mounted { mount_path self.new ≡ mount_path self.old }
         ensures done { (v : View) → knows self.old v → OnOk result (knows self.new v) }
         ensures failed { (v : View) (place : SpecPlace) (file bytes : List ℕ) → knows self.old v → IsDue v place (Put file bytes) → OnErr result ((u : View) × knows self.new u × Called place Before v u) }
         ensures failed_first { (v : View) (txn : Txn) (properties : List (List ℕ × List ℕ)) (next : Revision) (bytes : List ℕ) → knows self.old v → MayAdopt v txn properties next bytes
@@ -228,4 +247,7 @@ pub trait LoneTurns<R>: Turns<R> {
 
     /// So are the files.
     ghost same_files: { (old new : Self) → (Self.store new).below ≡ (Self.store old).below → (Self.store new).files ≡ (Self.store old).files };
+
+    /// And the path of its disk.
+    ghost same_path: { (old new : Self) → (Self.store new).below ≡ (Self.store old).below → Self.mount_path new ≡ Self.mount_path old };
 }
