@@ -45,12 +45,14 @@ pub begins_on : (a b c : List Recorded) → Begins b a → Begins c b → Begins
 begins_on a b c f g = (f.0 ++ g.0, g.1 ∙ ap (λ l. l ++ g.0) f.1 ∙ append_assoc a f.0 g.0)
 
 pub drifted_on : (v m u : View) → Drifted v m → Drifted m u → Drifted v u
-drifted_on v m u a b = record { number = b.number ∙ a.number; layout = b.layout ∙ a.layout; mine = b.mine ∙ a.mine; least = omega (arith, a.least, b.least); given = b.given ∙ a.given; grows = begins_on v.seen m.seen u.seen a.grows b.grows; course = append v m u a.course b.course }
+drifted_on v m u a b = record { number = b.number ∙ a.number; layout = b.layout ∙ a.layout; since = b.since ∙ a.since; opened = b.opened ∙ a.opened; mine = b.mine ∙ a.mine; least = omega (arith, a.least, b.least); given = b.given ∙ a.given; grows = begins_on v.seen m.seen u.seen a.grows b.grows; course = append v m u a.course b.course }
 
 pub by_look : (young : ℕ) (v u : View) → Looked young v u → Drifted v u
 by_look young v u l = record {
   number = ap {A = View} (λ z. z.number) l.is;
   layout = ap {A = View} (λ z. z.layout) l.is;
+  since = ap {A = View} (λ z. z.since) l.is;
+  opened = ap {A = View} (λ z. z.opened) l.is;
   mine = ap {A = View} (λ z. z.pass.mine) l.is;
   given = ap {A = View} (λ z. z.given) l.is;
   least = let e : u.pass.least ≡ young = ap {A = View} (λ z. z.pass.least) l.is in omega (arith, e, l.least);
@@ -62,6 +64,8 @@ pub by_reads : (v u : View) → ReadOnly v u → Drifted v u
 by_reads v u r = record {
   number = ap {A = View} (λ z. z.number) r.is;
   layout = ap {A = View} (λ z. z.layout) r.is;
+  since = ap {A = View} (λ z. z.since) r.is;
+  opened = ap {A = View} (λ z. z.opened) r.is;
   mine = ap {A = View} (λ z. z.pass.mine) r.is;
   given = ap {A = View} (λ z. z.given) r.is;
   least = let e : u.pass.least ≡ v.pass.least = ap {A = View} (λ z. z.pass.least) r.is in omega (arith, e);
@@ -73,6 +77,8 @@ pub by_taking : (v u : View) → LockTaken v u → Drifted v u
 by_taking v u l = record {
   number = ap {A = View} (λ z. z.number) l.is;
   layout = ap {A = View} (λ z. z.layout) l.is;
+  since = ap {A = View} (λ z. z.since) l.is;
+  opened = ap {A = View} (λ z. z.opened) l.is;
   mine = ap {A = View} (λ z. z.pass.mine) l.is;
   given = ap {A = View} (λ z. z.given) l.is;
   least = let e : u.pass.least ≡ v.pass.least = ap {A = View} (λ z. z.pass.least) l.is in omega (arith, e);
@@ -84,6 +90,8 @@ pub by_finding : (place : DiskPlace) (v u : View) → FoundStuck place v u → D
 by_finding place v u l = record {
   number = ap {A = View} (λ z. z.number) l.is;
   layout = ap {A = View} (λ z. z.layout) l.is;
+  since = ap {A = View} (λ z. z.since) l.is;
+  opened = ap {A = View} (λ z. z.opened) l.is;
   mine = ap {A = View} (λ z. z.pass.mine) l.is;
   given = ap {A = View} (λ z. z.given) l.is;
   least = let e : u.pass.least ≡ v.pass.least = ap {A = View} (λ z. z.pass.least) l.is in omega (arith, e);
@@ -95,6 +103,8 @@ pub by_giving : (s : Step) (v u : View) → LockGiven s v u → Drifted v u
 by_giving s v u l = record {
   number = ap {A = View} (λ z. z.number) l.is;
   layout = ap {A = View} (λ z. z.layout) l.is;
+  since = ap {A = View} (λ z. z.since) l.is;
+  opened = ap {A = View} (λ z. z.opened) l.is;
   mine = ap {A = View} (λ z. z.pass.mine) l.is;
   given = ap {A = View} (λ z. z.given) l.is;
   least = let e : u.pass.least ≡ v.pass.least = ap {A = View} (λ z. z.pass.least) l.is in omega (arith, e);
@@ -106,6 +116,8 @@ pub by_stopping : (place : CommitPlace) (v u : View) → StoppedAt place v u →
 by_stopping place v u l = record {
   number = ap {A = View} (λ z. z.number) l.is;
   layout = ap {A = View} (λ z. z.layout) l.is;
+  since = ap {A = View} (λ z. z.since) l.is;
+  opened = ap {A = View} (λ z. z.opened) l.is;
   mine = ap {A = View} (λ z. z.pass.mine) l.is;
   given = ap {A = View} (λ z. z.given) l.is;
   least = let e : u.pass.least ≡ v.pass.least = ap {A = View} (λ z. z.pass.least) l.is in omega (arith, e);
@@ -122,6 +134,11 @@ begins_take n h = (drop n h, take_drop n h)
 pub landings_later : (g h : List Recorded) (x y : Txn) → Begins h g → Landings g x y → Landings h x y
 landings_later g h x y b (Unmoved _) = Unmoved x
 landings_later g h x y b (LandedMore _ m _ head seen before begins landed) = LandedMore x m y head seen (landings_later g h x m b before) (begins_on seen g h begins b) landed
+
+-- its name stays
+pub landings_name : (h : List Recorded) (x y : Txn) → Landings h x y → y.name ≡ x.name
+landings_name h x y (Unmoved _) = refl
+landings_name h x y (LandedMore _ m _ head seen before begins landed) = landed.name ∙ landings_name h x m before
 
 -- the history that a course begins with, where the pass is sure of it
 whole_then : (txns : List Txn) (s : Step) (o : Outcome) (v u : View) → Turned txns s o v u → v.sure ≡ true → v.pass.least < length v.seen → IsHistory (revisions v.seen)
@@ -176,18 +193,18 @@ full head v m x most l = record {
   cause = let e : m.pass.least ≡ head = ap {A = View} (λ z. z.pass.least) l.is in omega (arith, e, most);
 }
 
-pub not_landed : {E : Type 0} {Says : Refusals E} (refusal : E) (head : ℕ) (v m u : View) (x : Txn) → Looked head v m → ReadOnly m u → Says refusal head u.seen x → Refused Says (fault.Refused refusal) v u x x
-not_landed {Says = Says} refusal head v m u x l r says = record {
+pub not_landed : {E : Type 0} {Says : Refusals E} (refusal : E) (head : ℕ) (v m u : View) (x : Txn) → head < 2147483647 → Looked head v m → ReadOnly m u → Says refusal head u.seen x → Refused Says (fault.Refused refusal) v u x x
+not_landed {Says = Says} refusal head v m u x less l r says = record {
   moved = record { drifted = drifted_on v m u (by_look head v m l) (by_reads m u r); section = ap {A = View} (λ z. z.section) r.is ∙ ap {A = View} (λ z. z.section) l.is };
   landings = Unmoved x;
-  cause = subst (λ n. Says refusal n u.seen x) (sym (ap {A = View} (λ z. z.pass.least) r.is ∙ ap {A = View} (λ z. z.pass.least) l.is)) says;
+  cause = subst (λ n. (n < 2147483647) × Says refusal n u.seen x) (sym (ap {A = View} (λ z. z.pass.least) r.is ∙ ap {A = View} (λ z. z.pass.least) l.is)) (less, says);
 }
 
-pub not_made : {E : Type 0} {Says : Refusals E} (refusal : E) (head : ℕ) (v m u : View) (x y : Txn) → Looked head v m → ReadOnly m u → LandedOn head u.seen x y → ((n : ℕ) (h : List Recorded) (z : Txn) → Says refusal n h z) → Refused Says (fault.Refused refusal) v u x y
-not_made refusal head v m u x y l r landed says = record {
+pub not_made : {E : Type 0} {Says : Refusals E} (refusal : E) (head : ℕ) (v m u : View) (x y : Txn) → head < 2147483647 → Looked head v m → ReadOnly m u → LandedOn head u.seen x y → ((n : ℕ) (h : List Recorded) (z : Txn) → Says refusal n h z) → Refused Says (fault.Refused refusal) v u x y
+not_made refusal head v m u x y less l r landed says = record {
   moved = record { drifted = drifted_on v m u (by_look head v m l) (by_reads m u r); section = ap {A = View} (λ z. z.section) r.is ∙ ap {A = View} (λ z. z.section) l.is };
   landings = LandedMore x x y head u.seen (Unmoved x) (none_more u.seen u.seen refl) landed;
-  cause = says u.pass.least u.seen y;
+  cause = let e : u.pass.least ≡ head = ap {A = View} (λ z. z.pass.least) r.is ∙ ap {A = View} (λ z. z.pass.least) l.is in (omega (arith, e, less), says u.pass.least u.seen y);
 }
 
 -- what a marshalling gives
@@ -273,6 +290,10 @@ module _ (holds : List ℕ → Type 0) (ready : Ready) (properties : List (List 
   pub shows : BytesShow (n.seen ++ record { revision = next; bytes = bytes } ∷ [])
   shows = subst (λ h. BytesShow (h ++ record { revision = next; bytes = bytes } ∷ [])) first (r.to_come n.number).3.shows
 
+  -- the head isn't the last that there may be
+  pub not_full : n.pass.least < 2147483647
+  not_full = let e : length n.seen ≡ length u.seen = ap length seen in omega (arith, e, least, r.seen, next_is.limit, revisions_length n.seen)
+
   pub may_adopt : MayAdopt n y properties next bytes
   may_adopt =
       let can = can_same u n y properties seen given r.can in
@@ -308,6 +329,8 @@ module _ (holds : List ℕ → Type 0) (ready : Ready) (properties : List (List 
     is_next = subst (λ k. IsNext (revisions n.seen) (entry_of k y properties) next) drifted.number next_is;
     shows = shows;
     given = ap {A = View} (λ z. z.given) p.is ∙ drifted.given;
+    since = ap {A = View} (λ z. z.since) p.is ∙ drifted.since;
+    opened = ap {A = View} (λ z. z.opened) p.is ∙ drifted.opened;
     mine = ap {A = View} (λ z. z.pass.mine) p.is ∙ ap (λ k. n.pass.mine ++ k ∷ []) (sym is_made.number) ∙ ap (λ l. l ++ ready.made.rev ∷ []) drifted.mine;
     outside = ap {A = View} (λ z. z.section) p.is;
     course = append v n o drifted.course p.course;
@@ -324,7 +347,7 @@ module _ (holds : List ℕ → Type 0) (ready : Ready) (properties : List (List 
   not_written refusal o none g says = record {
     moved = record { drifted = drifted_on v n o drifted (by_giving (step.GiveLock n.number) n o g); section = ap {A = View} (λ z. z.section) g.is ∙ sym none };
     landings = landings_later n.seen o.seen x y (by_giving (step.GiveLock n.number) n o g).grows landings_here;
-    cause = says o.pass.least o.seen y;
+    cause = let e : o.pass.least ≡ n.pass.least = ap {A = View} (λ z. z.pass.least) g.is in (omega (arith, e, not_full), says o.pass.least o.seen y);
   }
 
   pub short_at : {E : Type 0} {Says : Refusals E} (f : CommitFault E) (o : View) → v.section ≡ None → EndsShort Says f n o → Refused Says f v o x y
@@ -400,6 +423,8 @@ committed_on rev p v m o x y z d can landings c = record {
   shows = c.shows;
   mine = c.mine ∙ ap (λ l. l ++ rev ∷ []) d.mine;
   given = c.given ∙ d.given;
+  since = c.since ∙ d.since;
+  opened = c.opened ∙ d.opened;
   outside = c.outside;
   course = append v m o d.course c.course;
 }
@@ -462,7 +487,7 @@ refused_last {Says = Says} f v m u o x y none t r g = record {
     cause_given : {F : Type 0} (W : Refusals F) (g : CommitFault F) → Cause W g m u y → Cause W g v o y
     cause_given W fault.RevsFull c = subst (λ p. 2147483647 ≤ p.least) (sym same) c
     cause_given W (fault.Stuck place) c = subst (λ p. p.stuck ≡ Some place) (sym same) c
-    cause_given W (fault.Refused refusal) c = subst (λ h. W refusal o.pass.least h y) (sym seen) (subst (λ p. W refusal p.least u.seen y) (sym same) c)
+    cause_given W (fault.Refused refusal) c = (subst (λ p. p.least < 2147483647) (sym same) c.0, subst (λ h. W refusal o.pass.least h y) (sym seen) (subst (λ p. W refusal p.least u.seen y) (sym same) c.1))
     cause_given W (fault.DiskFault place) c =
         let e : Some Begun ≡ None = sym (begun_then v m u t r.moved.section) ∙ ap {A = View} (λ z. z.section) c.2.is in absurd cc
 
@@ -502,7 +527,9 @@ module _ (holds : List ℕ → Type 0) (ready : Ready) (p : List (List ℕ × Li
   last_unwritten refusal o none g says = record {
     moved = record { drifted = drifted_on v u o (drifted_on v m u (by_taking v m t) r.moved.drifted) (by_giving (step.GiveLock u.number) u o g); section = ap {A = View} (λ z. z.section) g.is ∙ sym none };
     landings = landings_later u.seen o.seen x y (by_giving (step.GiveLock u.number) u o g).grows r.landings;
-    cause = says o.pass.least o.seen y;
+    cause =
+        let e : o.pass.least ≡ u.pass.least = ap {A = View} (λ z. z.pass.least) g.is in
+        (omega (arith, e, not_full holds ready p m u u x y r last_section (r.sure ∙ last_held) r.least refl refl refl r.moved.drifted (r.within last_held)), says o.pass.least o.seen y);
   }
 
   pub last_fails : {E : Type 0} {Says : Refusals E} (f : CommitFault E) (o : View) → v.section ≡ None → EndsShort Says f u o → Refused Says f v o x y

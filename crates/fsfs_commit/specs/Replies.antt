@@ -20,6 +20,8 @@ use Rattle.fsfs_commit.specs.Works.{CanCommit, Landings}
 pub record Drifted (v u : View) : Type 0 where
   pub number : u.number ≡ v.number
   pub layout : u.layout ≡ v.layout
+  pub since : u.since ≡ v.since
+  pub opened : u.opened ≡ v.opened
   pub mine : u.pass.mine ≡ v.pass.mine
   pub least : v.pass.least ≤ u.pass.least
   pub given : u.given ≡ v.given
@@ -69,6 +71,8 @@ pub record Committed (rev : ℕ) (properties : List (List ℕ × List ℕ)) (v u
   pub handed_in : IsNext (revisions before) (entry_of v.number x properties) next.revision
   pub shows : BytesShow (before ++ next ∷ [])
   pub mine : u.pass.mine ≡ v.pass.mine ++ rev ∷ []
+  pub since : u.since ≡ v.since
+  pub opened : u.opened ≡ v.opened
   pub given : u.given ≡ v.given
   pub outside : u.section ≡ None
   pub course : Course v u
@@ -96,11 +100,11 @@ EndsShort Says (Refuses refusal) v u = LockGiven (GiveLock v.number) v u × ((he
 EndsShort Says (DiskFault place) v u = StoppedAt place v u
 
 -- why a commit was refused, in what the pass knows after it; a draft's refusal is of the transaction as it stood then, and of the youngest
--- revision that the pass was told of; a fault of the disk is that of the section that came last
+-- revision that the pass was told of, which isn't the last that there may be; a fault of the disk is that of the section that came last
 abbrev pub Cause : {E : Type 0} → Refusals E → CommitFault E → View → View → Txn → Type 0
 Cause Says RevsFull v u y = 2147483647 ≤ u.pass.least
 Cause Says (Stuck place) v u y = u.pass.stuck ≡ Some place
-Cause Says (Refuses refusal) v u y = Says refusal u.pass.least u.seen y
+Cause Says (Refuses refusal) v u y = (u.pass.least < 2147483647) × Says refusal u.pass.least u.seen y
 Cause Says (DiskFault place) v u y = (m : View) × Drifted v m × StoppedAt place m u
 
 -- REFUSED: nothing was added; the transaction stands on the head of the last landing, or as it was
@@ -109,7 +113,9 @@ pub record Refused {E : Type 0} (Says : Refusals E) (fault : CommitFault E) (v u
   pub landings : Landings u.seen x y
   pub cause : Cause Says fault v u y
 
--- a fault of the disk comes only where the count rose
-abbrev pub RoseIfDisk : {E : Type 0} → Type 0 → CommitFault E → Type 0
-RoseIfDisk rose (DiskFault place) = rose
-RoseIfDisk rose fault = Unit {0}
+-- a fault of the disk, also one for which the draft refused, comes only where the count rose
+abbrev pub RoseIfDisk : {E : Type 0} → (E → Type 0) → Type 0 → CommitFault E → Type 0
+RoseIfDisk is_disk_fault rose RevsFull = Unit {0}
+RoseIfDisk is_disk_fault rose (Stuck place) = Unit {0}
+RoseIfDisk is_disk_fault rose (Refuses refusal) = is_disk_fault refusal → rose
+RoseIfDisk is_disk_fault rose (DiskFault place) = rose

@@ -59,8 +59,9 @@ fn prepare<R, T: Turns<R>, D: Draft<R, T>>(
     ensures err { (v : View) (x : Txn) → T.knows turns v → D.means draft.old v.seen x → CanCommit v x (D.properties draft.old)
         → IfErr result.1 (λ fault. (u : View) × (y : Txn) × T.knows result.0 u × D.means draft.new u.seen y × Refused D.refuses fault v u x y) }
     ensures same { D.properties draft.new ≡ D.properties draft.old }
+    ensures mounted { T.mount_path result.0 ≡ T.mount_path turns }
     ensures later { T.faults turns ≤ T.faults result.0 }
-    ensures cause { IfErr result.1 (RoseIfDisk (Rose (T.faults turns) (T.faults result.0))) }
+    ensures cause { IfErr result.1 (RoseIfDisk D.is_disk_fault (Rose (T.faults turns) (T.faults result.0))) }
 {
     let mut turns = turns;
     let head = turns.look();
@@ -68,6 +69,8 @@ fn prepare<R, T: Turns<R>, D: Draft<R, T>>(
         Some(next) => next,
         None => return (turns, Err(CommitFault::RevsFull)),
     };
+    // So the head isn't the last that there may be.
+    let _ = next.get();
     let (turns, merged) = draft.merge(alloc, rt, turns, head);
     match merged {
         Ok(()) => {}
@@ -103,8 +106,9 @@ fn add<R, T: Turns<R>, D: Draft<R, T>>(
         → IfErr result.1 (λ fault. (u : View) × T.knows turns.new u × EndsShort D.refuses fault v u) }
     ensures means { (h : List Recorded) (x : Txn) → D.means draft h x → D.means result.0 h x }
     ensures same { D.properties result.0 ≡ D.properties draft }
+    ensures mounted { T.mount_path turns.new ≡ T.mount_path turns.old }
     ensures later { T.faults turns.old ≤ T.faults turns.new }
-    ensures cause { IfErr result.1 (RoseIfDisk (Rose (T.faults turns.old) (T.faults turns.new))) }
+    ensures cause { IfErr result.1 (RoseIfDisk D.is_disk_fault (Rose (T.faults turns.old) (T.faults turns.new))) }
 {
     let (mut draft, written) = draft.write();
     match written {
@@ -133,8 +137,9 @@ fn take_turn<R, T: Turns<R>, D: Draft<R, T>>(
     ensures err { (v : View) (x : Txn) → T.knows turns v → D.means draft v.seen x → CanCommit v x (D.properties draft) → v.section ≡ None
         → IfErr result.2 (λ fault. (u : View) × (y : Txn) × T.knows result.0 u × D.means result.1 u.seen y × Refused D.refuses fault v u x y) }
     ensures same { D.properties result.1 ≡ D.properties draft }
+    ensures mounted { T.mount_path result.0 ≡ T.mount_path turns }
     ensures later { T.faults turns ≤ T.faults result.0 }
-    ensures cause { IfErr result.2 (RoseIfDisk (Rose (T.faults turns) (T.faults result.0))) }
+    ensures cause { IfErr result.2 (RoseIfDisk D.is_disk_fault (Rose (T.faults turns) (T.faults result.0))) }
 {
     let mut draft = draft;
     let (mut turns, prepared) = prepare(alloc, rt, turns, &mut draft);
@@ -169,8 +174,9 @@ fn take_last_turn<R, T: Turns<R>, D: Draft<R, T>>(
         → IfOk result.2 (λ rev. (u : View) × (y : Txn) × T.knows result.0 u × D.means result.1 u.seen y × Committed rev (D.properties draft) v u x y) }
     ensures err { (v : View) (x : Txn) → T.knows turns v → D.means draft v.seen x → CanCommit v x (D.properties draft) → v.section ≡ None
         → IfErr result.2 (λ fault. (u : View) × (y : Txn) × T.knows result.0 u × D.means result.1 u.seen y × Refused D.refuses fault v u x y) }
+    ensures mounted { T.mount_path result.0 ≡ T.mount_path turns }
     ensures later { T.faults turns ≤ T.faults result.0 }
-    ensures cause { IfErr result.2 (RoseIfDisk (Rose (T.faults turns) (T.faults result.0))) }
+    ensures cause { IfErr result.2 (RoseIfDisk D.is_disk_fault (Rose (T.faults turns) (T.faults result.0))) }
 {
     let mut turns = turns;
     let mut draft = draft;
@@ -205,8 +211,9 @@ fn take_three_turns<R, T: Turns<R>, D: Draft<R, T>>(
     ensures err { (v : View) (x : Txn) → T.knows turns v → D.means draft v.seen x → CanCommit v x (D.properties draft) → v.section ≡ None
         → IfErr result.2 (λ fault. (u : View) × (y : Txn) × T.knows result.0 u × D.means result.1 u.seen y × Refused D.refuses fault v u x y) }
     ensures same { D.properties result.1 ≡ D.properties draft }
+    ensures mounted { T.mount_path result.0 ≡ T.mount_path turns }
     ensures later { T.faults turns ≤ T.faults result.0 }
-    ensures cause { IfErr result.2 (RoseIfDisk (Rose (T.faults turns) (T.faults result.0))) }
+    ensures cause { IfErr result.2 (RoseIfDisk D.is_disk_fault (Rose (T.faults turns) (T.faults result.0))) }
 {
     let (turns, draft, first) = take_turn(alloc, rt, turns, draft);
     let first = match first {
@@ -241,8 +248,9 @@ pub fn commit<R, T: Turns<R>, D: Draft<R, T>>(
         → IfOk result.2 (λ rev. (u : View) × (y : Txn) × T.knows result.0 u × D.means result.1 u.seen y × Committed rev (D.properties draft) v u x y) }
     ensures refused { (v : View) (x : Txn) → T.knows turns v → D.means draft v.seen x → CanCommit v x (D.properties draft) → v.section ≡ None
         → IfErr result.2 (λ fault. (u : View) × (y : Txn) × T.knows result.0 u × D.means result.1 u.seen y × Refused D.refuses fault v u x y) }
+    ensures mounted { T.mount_path result.0 ≡ T.mount_path turns }
     ensures later { T.faults turns ≤ T.faults result.0 }
-    ensures cause { IfErr result.2 (RoseIfDisk (Rose (T.faults turns) (T.faults result.0))) }
+    ensures cause { IfErr result.2 (RoseIfDisk D.is_disk_fault (Rose (T.faults turns) (T.faults result.0))) }
 {
     let (turns, draft, done) = take_three_turns(alloc, rt, turns, draft);
     let done = match done {

@@ -6,7 +6,7 @@ ghost use Rattle.fsfs_machine.specs.declared.machine.Recorded.{Recorded};
 ghost use Rattle.fsfs_machine.specs.declared.machine.Txn.{Txn};
 ghost use Rattle.fsfs_machine.specs.Machine.{revisions, entry_of};
 ghost use Rattle.fsfs_turn.specs.Bytes.{BytesShow};
-ghost use Rattle.fsfs_base.specs.Failures.{HasCause};
+ghost use Rattle.fsfs_base.specs.Failures.{HasCause, Rose};
 ghost use Rattle.fsfs_machine.specs.declared.machine.Went.{Went};
 ghost use Rattle.fsfs_turn.specs.Views.{View, Begins, MayAdopt, Answers, Adopted, rev_name};
 ghost use Rattle.fsfs_commit.specs.Courses.{IsMade};
@@ -40,6 +40,9 @@ pub trait Draft<R, T: Turns<R>> {
     /// What a refusal to land it on this revision says of the transaction, over these revisions.
     ghost refuses: { Self.Refusal → ℕ → List Recorded → Txn → Type 0 };
 
+    /// It is for a failed call of the disk.
+    ghost is_disk_fault: { Self.Refusal → Type 0 };
+
     /// Lands the transaction on this revision, and gives the turns back; where it stands there already, it does nothing. A refusal
     /// leaves it as it was.
     fn merge(
@@ -53,7 +56,9 @@ pub trait Draft<R, T: Turns<R>> {
             → OnOk result.1 ((u : View) × (y : Txn) × T.knows result.0 u × means self.new (take (head + 1) u.seen) y × ReadOnly v u × LandedOn head u.seen x y) }
         ensures err { (v : View) (x : Txn) → T.knows turns v → means self.old v.seen x → CanCommit v x (properties self.old) → x.base ≤ head → length v.seen ≤ head + 1 → head ≤ v.pass.least
             → IfErr result.1 (λ why. (u : View) × T.knows result.0 u × means self.new v.seen x × ReadOnly v u × refuses why head u.seen x) }
+        ensures mounted { T.mount_path result.0 ≡ T.mount_path turns }
         ensures later { T.faults turns ≤ T.faults result.0 }
+        ensures cause { IfErr result.1 (λ why. is_disk_fault why → Rose (T.faults turns) (T.faults result.0)) }
         ensures same { properties self.new ≡ properties self.old };
 
     /// Makes the bytes of the revision that lands the transaction, which stands on the revision before, and all else that is written.
@@ -64,6 +69,7 @@ pub trait Draft<R, T: Turns<R>> {
             × BytesShow (take rev v.seen ++ record { revision = next; bytes = bytes } ∷ [])
             × (made.rev ≡ rev) × (rev ≡ length v.seen → IsMade v (properties self.old) rev made.rev_file made.props_file made.properties.items made.current.items)) }
         ensures refused { IfErr result (λ why. (head : ℕ) (h : List Recorded) (x : Txn) → refuses why head h x) }
+        ensures no_disk { IfErr result (λ why. is_disk_fault why → ⊥) }
         ensures means { (h : List Recorded) (x : Txn) → means self.old h x → means self.new h x }
         ensures same { properties self.new ≡ properties self.old };
 
@@ -73,6 +79,7 @@ pub trait Draft<R, T: Turns<R>> {
         ensures written { OnOk result.1 (is_written result.0) }
         ensures held { (bytes : List ℕ) → holds self bytes → OnOk result.1 (holds result.0 bytes) }
         ensures refused { IfErr result.1 (λ why. (head : ℕ) (h : List Recorded) (x : Txn) → refuses why head h x) }
+        ensures no_disk { IfErr result.1 (λ why. is_disk_fault why → ⊥) }
         ensures means { (h : List Recorded) (x : Txn) → means self h x → means result.0 h x }
         ensures same { properties result.0 ≡ properties self };
 
@@ -84,6 +91,7 @@ pub trait Draft<R, T: Turns<R>> {
             → (u : View) × (went : Went) × T.knows turns.new u × Answers result went × Adopted txn (properties self.old) next bytes went v u }
         ensures means { (h : List Recorded) (x : Txn) → means self.old h x → means self.new h x }
         ensures same { properties self.new ≡ properties self.old }
+        ensures mounted { T.mount_path turns.new ≡ T.mount_path turns.old }
         ensures cause { HasCause (T.faults turns.old) (T.faults turns.new) result };
 
     /// As more revisions are known, it stands for the same.

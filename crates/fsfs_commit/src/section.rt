@@ -31,6 +31,7 @@ fn make_folder_at<R, T: Turns<R>>(
     ensures failed { (v : View) (place : SpecPlace) (file bytes : List ℕ) → T.knows turns.old v → IsDue v place (Put file bytes) → OnErr result ((u : View) × T.knows turns.new u × Called place Before v u) }
     ensures failed_first { (v : View) (txn : Txn) (properties : List (List ℕ × List ℕ)) (next : Revision) (bytes : List ℕ) → T.knows turns.old v → MayAdopt v txn properties next bytes
         → OnErr result ((u : View) × T.knows turns.new u × Adopted txn properties next bytes Before v u) }
+    ensures mounted { T.mount_path turns.new ≡ T.mount_path turns.old }
     ensures cause { HasCause (T.faults turns.old) (T.faults turns.new) result }
 {
     match folder {
@@ -52,6 +53,7 @@ fn put_revision<R, T: Turns<R>, D: Draft<R, T>>(
         → Goes (T.knows turns.new) result (coming_of v txn (D.properties draft.old) next bytes) (RevPut (coming_of v txn (D.properties draft.old) next bytes)) v }
     ensures means { (h : List Recorded) (x : Txn) → D.means draft.old h x → D.means draft.new h x }
     ensures same { D.properties draft.new ≡ D.properties draft.old }
+    ensures mounted { T.mount_path turns.new ≡ T.mount_path turns.old }
     ensures cause { HasCause (T.faults turns.old) (T.faults turns.new) result }
 {
     match make_folder_at(rt, turns, &made.rev_folder) {
@@ -69,6 +71,7 @@ fn put_properties<R, T: Turns<R>>(rt: &R, turns: &mut T, made: &Made) -> Result<
     ensures turned { (v : View) (x : Coming) → T.knows turns.old v → v.section ≡ Some (RevPut x)
         → IsMade v x.revision.properties made.now.rev made.now.rev_file made.now.props_file made.now.properties.items made.now.current.items
         → Goes (T.knows turns.new) result x (PropsPut x) v }
+    ensures mounted { T.mount_path turns.new ≡ T.mount_path turns.old }
     ensures cause { HasCause (T.faults turns.old) (T.faults turns.new) result }
 {
     match make_folder_at(rt, turns, &made.props_folder) {
@@ -84,6 +87,7 @@ fn put_properties<R, T: Turns<R>>(rt: &R, turns: &mut T, made: &Made) -> Result<
 // Both files' names are made firm.
 fn firm_revision<R, T: Turns<R>>(rt: &R, turns: &mut T) -> Result<(), CommitPlace>
     ensures turned { (v : View) (x : Coming) → T.knows turns.old v → v.section ≡ Some (PropsPut x) → Goes (T.knows turns.new) result x (RevFirm x) v }
+    ensures mounted { T.mount_path turns.new ≡ T.mount_path turns.old }
     ensures cause { HasCause (T.faults turns.old) (T.faults turns.new) result }
 {
     match turns.firm_names(rt) {
@@ -98,6 +102,7 @@ fn put_current<R, T: Turns<R>>(rt: &R, turns: &mut T, made: &Made) -> Result<(),
         → IsMade v x.revision.properties made.now.rev made.now.rev_file made.now.props_file made.now.properties.items made.now.current.items
         → Goes (T.knows turns.new) result x (CurrentPut x) v }
     ensures used { OnOk result (T.in_use turns.new (only_name OnlyFile.CurrentNext)) }
+    ensures mounted { T.mount_path turns.new ≡ T.mount_path turns.old }
     ensures cause { HasCause (T.faults turns.old) (T.faults turns.new) result }
 {
     let next = OnlyFile::CurrentNext.name();
@@ -111,6 +116,7 @@ fn put_current<R, T: Turns<R>>(rt: &R, turns: &mut T, made: &Made) -> Result<(),
 fn rename_current<R, T: Turns<R>>(rt: &R, turns: &mut T) -> Result<(), CommitPlace>
     requires { T.in_use turns.old (only_name OnlyFile.CurrentNext) }
     ensures turned { (v : View) (x : Coming) → T.knows turns.old v → v.section ≡ Some (CurrentPut x) → Goes (T.knows turns.new) result x (CurrentRenamed x) v }
+    ensures mounted { T.mount_path turns.new ≡ T.mount_path turns.old }
     ensures cause { HasCause (T.faults turns.old) (T.faults turns.new) result }
 {
     let next = OnlyFile::CurrentNext.name();
@@ -124,6 +130,7 @@ fn rename_current<R, T: Turns<R>>(rt: &R, turns: &mut T) -> Result<(), CommitPla
 // That name is made firm.
 fn firm_current<R, T: Turns<R>>(rt: &R, turns: &mut T) -> Result<(), CommitPlace>
     ensures turned { (v : View) (x : Coming) → T.knows turns.old v → v.section ≡ Some (CurrentRenamed x) → Goes (T.knows turns.new) result x (CurrentFirm x) v }
+    ensures mounted { T.mount_path turns.new ≡ T.mount_path turns.old }
     ensures cause { HasCause (T.faults turns.old) (T.faults turns.new) result }
 {
     match turns.firm_names(rt) {
@@ -145,6 +152,7 @@ fn write_revision<R, T: Turns<R>, D: Draft<R, T>>(
         → Goes (T.knows turns.new) result (coming_of v txn (D.properties draft.old) next bytes) (RevFirm (coming_of v txn (D.properties draft.old) next bytes)) v }
     ensures means { (h : List Recorded) (x : Txn) → D.means draft.old h x → D.means draft.new h x }
     ensures same { D.properties draft.new ≡ D.properties draft.old }
+    ensures mounted { T.mount_path turns.new ≡ T.mount_path turns.old }
     ensures cause { HasCause (T.faults turns.old) (T.faults turns.new) result }
 {
     match put_revision(rt, turns, draft, made) {
@@ -163,6 +171,7 @@ fn name_current<R, T: Turns<R>>(rt: &R, turns: &mut T, made: &Made) -> Result<()
     ensures turned { (v : View) (x : Coming) → T.knows turns.old v → v.section ≡ Some (RevFirm x)
         → IsMade v x.revision.properties made.now.rev made.now.rev_file made.now.props_file made.now.properties.items made.now.current.items
         → Goes (T.knows turns.new) result x (CurrentFirm x) v }
+    ensures mounted { T.mount_path turns.new ≡ T.mount_path turns.old }
     ensures cause { HasCause (T.faults turns.old) (T.faults turns.new) result }
 {
     match put_current(rt, turns, made) {
@@ -186,6 +195,7 @@ fn is_doubtful(place: CommitPlace) -> bool
 // The lock after a fault: stuck where `current` may name the revision, else given.
 fn settle<R, T: Turns<R>>(turns: &mut T, place: CommitPlace)
     ensures turned { (v : View) (x : Coming) → T.knows turns.old v → v.section ≡ Some (spoilt x place) → (u : View) × T.knows turns.new u × LockGiven (ends_at place v.number) v u }
+    ensures mounted { T.mount_path turns.new ≡ T.mount_path turns.old }
     ensures faults { T.faults turns.new ≡ T.faults turns.old }
 {
     if is_doubtful(place) {
@@ -198,6 +208,7 @@ fn settle<R, T: Turns<R>>(turns: &mut T, place: CommitPlace)
 // The revision is in the history.
 fn finish<R, T: Turns<R>>(rt: &R, turns: &mut T, rev: RevNum)
     ensures turned { (v : View) (x : Coming) → T.knows turns.old v → v.section ≡ Some (CurrentFirm x) → rev ≡ length v.seen → (u : View) × T.knows turns.new u × Ended x v u }
+    ensures mounted { T.mount_path turns.new ≡ T.mount_path turns.old }
     ensures faults { T.faults turns.new ≡ T.faults turns.old }
 {
     turns.reveal(rt, rev);
@@ -223,6 +234,7 @@ pub fn publish<R, T: Turns<R>, D: Draft<R, T>>(
     // Whatever the disk tells: a fault comes only where the count of failed turns rose in this call.
     ensures means { (h : List Recorded) (x : Txn) → D.means draft.old h x → D.means draft.new h x }
     ensures same { D.properties draft.new ≡ D.properties draft.old }
+    ensures mounted { T.mount_path turns.new ≡ T.mount_path turns.old }
     ensures cause { HasCause (T.faults turns.old) (T.faults turns.new) result }
 {
     match write_all(rt, turns, draft, made) {
@@ -250,6 +262,7 @@ fn write_all<R, T: Turns<R>, D: Draft<R, T>>(
         → Goes (T.knows turns.new) result (coming_of v txn (D.properties draft.old) next bytes) (CurrentFirm (coming_of v txn (D.properties draft.old) next bytes)) v }
     ensures means { (h : List Recorded) (x : Txn) → D.means draft.old h x → D.means draft.new h x }
     ensures same { D.properties draft.new ≡ D.properties draft.old }
+    ensures mounted { T.mount_path turns.new ≡ T.mount_path turns.old }
     ensures cause { HasCause (T.faults turns.old) (T.faults turns.new) result }
 {
     match write_revision(rt, turns, draft, made) {

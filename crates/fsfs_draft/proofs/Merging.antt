@@ -3,6 +3,7 @@ use Rattle.std.proofs.Common.{◌≡◌, ◌<◌, ◌≤◌, ◌+◌, ℕ, suc, 
 use Rattle.std.specs.Prelude.{Option, Some, None, Result, Ok, Err}
 use Rattle.std.specs.FinMap.{get}
 use Rattle.fsfs_base.specs.Paths.{Path}
+use Rattle.fsfs_base.specs.Counts.{Rose}
 use Rattle.fsfs_base.specs.declared.failed.Failed.{Failed}
 use Rattle.fsfs_book.specs.Told.{Told, Knows}
 use Rattle.fsfs_fields.specs.declared.txn_name.TxnName.{TxnName}
@@ -15,7 +16,7 @@ use Rattle.fsfs_land.specs.declared.land.Outcome.TheVariants as outcomes
 use Rattle.fsfs_own.specs.declared.error.EditError.TheVariants as edits
 use Rattle.fsfs_txn.specs.declared.txn_error.TxnError.{TxnError}
 use Rattle.fsfs_txn.specs.declared.txn_error.TxnError.TheVariants as txns
-use Rattle.fsfs_txn.specs.Spending.{IfStays, IsSpentAfter}
+use Rattle.fsfs_txn.specs.Spending.{IfStays, IsSpentAfter, HasDiskCause}
 use Rattle.fsfs_txn.specs.Standing.{Stands}
 use Rattle.fsfs_txn.specs.Merging.{IsMerging, MeetsMerging}
 use Rattle.fsfs_machine.specs.declared.machine.Recorded.{Recorded}
@@ -32,7 +33,7 @@ use Rattle.fsfs_final_bytes.specs.declared.error.FinalError.TheVariants as final
 use Rattle.fsfs_commit.specs.Courses.{End, More}
 use Rattle.fsfs_commit.specs.Works.{LandedOn, ReadOnly}
 use Rattle.fsfs_draft.specs.Meaning.{IsTxnOf}
-use Rattle.fsfs_draft.specs.Refusals.{of_txn, of_final, IsClashAt, Refuses}
+use Rattle.fsfs_draft.specs.Refusals.{of_txn, of_final, IsClashAt, IsDiskFault, Refuses}
 use Rattle.fsfs_draft.specs.SeenLemmas.{bytes_same, shown_trees}
 use Rattle.fsfs_draft.proofs.Landing.{first_part, part_long, part_last, landed, landed_means, landed_on}
 
@@ -132,3 +133,21 @@ stays_after (txns.Fault edits.DiskFault) old new P after stays none = stays
 stays_after (txns.Fault edits.BenchFault) old new P after stays none = absurd (not_none new (record {}) after.1 none)
 stays_after (txns.Fault (edits.Wrong w)) old new P after stays none = absurd stays
 stays_after (txns.Fault edits.Lacking) old new P after stays none = absurd stays
+
+-- ---- the count of faults
+
+-- a refusal for a failed call of the disk is of a merge by which the count rose
+pub merge_rose : {X : Type 0} (error : TxnError) (r : Result X TxnError) (before now : ℕ) → r ≡ Err error → HasDiskCause before now r → IsDiskFault (of_txn error) → Rose before now
+merge_rose (txns.Spent first) r before now is cause fault = absurd fault
+merge_rose (txns.Fault edits.OutOfMemory) r before now is cause fault = absurd fault
+merge_rose (txns.Fault edits.DiskFault) r before now is cause fault = (subst (λ z. HasDiskCause before now z) is cause).failed
+merge_rose (txns.Fault edits.BenchFault) r before now is cause fault = absurd fault
+merge_rose (txns.Fault (edits.Wrong wrong)) r before now is cause fault = absurd fault
+merge_rose (txns.Fault edits.Lacking) r before now is cause fault = absurd fault
+
+-- what is made takes no call of the disk
+pub made_none : (error : FinalError) → IsDiskFault (of_final error) → ⊥
+made_none finals.OutOfMemory fault = fault
+made_none finals.SinkFault fault = fault
+made_none finals.Lacking fault = fault
+made_none (finals.PastLimit limit) fault = fault

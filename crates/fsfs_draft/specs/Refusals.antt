@@ -49,3 +49,14 @@ Refuses refusals.BenchFault head h x = Unit {0}
 Refuses (refusals.Wrong wrong) head h x = Unit {0}
 Refuses (refusals.PastLimit limit) head h x = Unit {0}
 Refuses refusals.Lacking head h x = Unit {0}
+
+-- it is for a failed call of the disk, by which a merge read
+abbrev pub IsDiskFault : CommitRefusal → Type 0
+IsDiskFault (refusals.Clash rev path) = ⊥
+IsDiskFault refusals.Spent = ⊥
+IsDiskFault refusals.Memory = ⊥
+IsDiskFault refusals.DiskFault = Unit {0}
+IsDiskFault refusals.BenchFault = ⊥
+IsDiskFault (refusals.Wrong wrong) = ⊥
+IsDiskFault (refusals.PastLimit limit) = ⊥
+IsDiskFault refusals.Lacking = ⊥

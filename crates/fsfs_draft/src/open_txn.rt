@@ -1,12 +1,13 @@
 //! A transaction under way, as it is landed and written.
 ghost use Rattle.std.specs.Prelude.{◌≡◌, ◌<◌, ◌≤◌, ◌+◌, ℕ, List, None, IsSome, length, take, option_map, IfErr, OnOk};
+ghost use Rattle.fsfs_base.specs.Failures.{Rose};
 ghost use Rattle.fsfs_disk.specs.Benches.{bytes_on, IsFirmFile};
 ghost use Rattle.fsfs_machine.specs.declared.machine.Recorded.{Recorded};
 ghost use Rattle.fsfs_machine.specs.declared.machine.Txn.{Txn as SpecTxn};
 ghost use Rattle.fsfs_turn.specs.Views.{View};
 ghost use Rattle.fsfs_commit.specs.Works.{LandedOn, ReadOnly};
 ghost use Rattle.fsfs_draft.specs.Meaning.{IsTxnOf, Means, IsYoungestOf, IsTextBehind, HoldsBehind};
-ghost use Rattle.fsfs_draft.specs.Refusals.{Refuses};
+ghost use Rattle.fsfs_draft.specs.Refusals.{IsDiskFault, Refuses};
 
 use crate::ended_txn::{EndedTxn, end_file};
 use crate::refusal::{CommitRefusal, not_landed, not_made};
@@ -45,7 +46,9 @@ impl<B: Bench> OpenTxn<B> {
             → self.old.txn.base < head → head < length v.seen
             → IfErr result.1 (λ why. T.knows result.0 v × Refuses why head v.seen x × (Means self.old.txn.spent h (⟦<HeldNodes<B> as Own>⟧.txn self.old.txn.own) self.old.txn.base (⟦<HeldNodes<B> as Own>⟧.settled self.old.txn.own) x
             → Means self.new.txn.spent h (⟦<HeldNodes<B> as Own>⟧.txn self.new.txn.own) self.new.txn.base (⟦<HeldNodes<B> as Own>⟧.settled self.new.txn.own) x)) }
+        ensures mounted { T.mount_path result.0 ≡ T.mount_path turns }
         ensures later { T.faults turns ≤ T.faults result.0 }
+        ensures cause { IfErr result.1 (λ why. IsDiskFault why → Rose (T.faults turns) (T.faults result.0)) }
     {
         let mut book = over_turns(alloc, rt, turns);
         let merged = self.txn.merge(alloc, &mut book, head);
@@ -76,7 +79,9 @@ impl<B: Bench> OpenTxn<B> {
             → IfErr result.1 (λ why. (u : View) × T.knows result.0 u
             × Means self.new.txn.spent v.seen (⟦<HeldNodes<B> as Own>⟧.txn self.new.txn.own) self.new.txn.base (⟦<HeldNodes<B> as Own>⟧.settled self.new.txn.own) x
             × ReadOnly v u × Refuses why head u.seen x) }
+        ensures mounted { T.mount_path result.0 ≡ T.mount_path turns }
         ensures later { T.faults turns ≤ T.faults result.0 }
+        ensures cause { IfErr result.1 (λ why. IsDiskFault why → Rose (T.faults turns) (T.faults result.0)) }
     {
         if self.txn.is_spent() {
             return (turns, Err(CommitRefusal::Spent));
@@ -100,6 +105,7 @@ impl<B: Bench> OpenTxn<B> {
             → OnOk result (IsTxnOf h (⟦<HeldNodes<B> as Own>⟧.txn self.new.txn.own) self.new.txn.base (⟦<HeldNodes<B> as Own>⟧.settled self.new.txn.own) x
             × IsTextBehind h (⟦<HeldNodes<B> as Own>⟧.settled self.new.txn.own) x (option_map (λ t. t.items) self.new.text)) }
         ensures refused { IfErr result (λ why. (head : ℕ) (h : List Recorded) (x : SpecTxn) → Refuses why head h x) }
+        ensures no_disk { IfErr result (λ why. IsDiskFault why → ⊥) }
         ensures means { (h : List Recorded) (x : SpecTxn) → Means self.old.txn.spent h (⟦<HeldNodes<B> as Own>⟧.txn self.old.txn.own) self.old.txn.base (⟦<HeldNodes<B> as Own>⟧.settled self.old.txn.own) x
             → Means self.new.txn.spent h (⟦<HeldNodes<B> as Own>⟧.txn self.new.txn.own) self.new.txn.base (⟦<HeldNodes<B> as Own>⟧.settled self.new.txn.own) x }
     {
@@ -126,6 +132,7 @@ impl<B: Bench> OpenTxn<B> {
         ensures held { (bytes : List ℕ) → HoldsBehind (B.contents self.txn.own.bench) (⟦<HeldNodes<B> as Own>⟧.settled self.txn.own).proto (option_map (λ t. t.items) self.text) bytes
             → OnOk result.1 (bytes ≡ bytes_on (B.contents result.0.bench) result.0.file) }
         ensures refused { IfErr result.1 (λ why. (head : ℕ) (h : List Recorded) (x : SpecTxn) → Refuses why head h x) }
+        ensures no_disk { IfErr result.1 (λ why. IsDiskFault why → ⊥) }
         ensures firm { OnOk result.1 (IsFirmFile (B.contents result.0.bench) (B.firm_to result.0.bench result.0.file) result.0.file) }
     {
         let OpenTxn { txn, text } = self;

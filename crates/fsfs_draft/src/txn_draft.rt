@@ -2,7 +2,7 @@
 ghost use Rattle.std.specs.Prelude.{◌≡◌, ℕ, List, None, IsSome, option_map, OnOk, IfErr};
 ghost use Rattle.fsfs_disk.specs.Benches.{bytes_on, IsFirmFile};
 ghost use Rattle.fsfs_draft.specs.Meaning.{IsTxnOf, Means, IsYoungestOf, IsTextBehind, HoldsBehind, IfOpen, OfStage, left_of, IfTxn, bench_of};
-ghost use Rattle.fsfs_draft.specs.Refusals.{Refuses};
+ghost use Rattle.fsfs_draft.specs.Refusals.{IsDiskFault, Refuses};
 ghost use Rattle.fsfs_machine.specs.declared.machine.Recorded.{Recorded};
 ghost use Rattle.fsfs_machine.specs.declared.machine.Txn.{Txn as SpecTxn};
 ghost use Rattle.fsfs_draft.specs.declared.txn_draft.Stage.TheVariants.{Open};
@@ -102,6 +102,7 @@ fn marshal_stage<B: Bench>(
         → IsYoungestOf h rev x
         → OnOk result (OfStage stage.new (λ o. IsTxnOf h (⟦<HeldNodes<B> as Own>⟧.txn o.txn.own) o.txn.base (⟦<HeldNodes<B> as Own>⟧.settled o.txn.own) x × IsTextBehind h (⟦<HeldNodes<B> as Own>⟧.settled o.txn.own) x (option_map (λ t. t.items) o.text)) (λ ended. ⊥)) }
     ensures refused { IfErr result (λ why. (head : ℕ) (h : List Recorded) (x : SpecTxn) → Refuses why head h x) }
+    ensures no_disk { IfErr result (λ why. IsDiskFault why → ⊥) }
     ensures means { (h : List Recorded) (x : SpecTxn) → IfOpen stage.old (λ o. Means o.txn.spent h (⟦<HeldNodes<B> as Own>⟧.txn o.txn.own) o.txn.base (⟦<HeldNodes<B> as Own>⟧.settled o.txn.own) x)
         → IfOpen stage.new (λ o. Means o.txn.spent h (⟦<HeldNodes<B> as Own>⟧.txn o.txn.own) o.txn.base (⟦<HeldNodes<B> as Own>⟧.settled o.txn.own) x) }
 {
@@ -117,6 +118,7 @@ fn written<B: Bench>(stage: Stage<B>) -> (Stage<B>, Result<(), CommitRefusal>)
         → OnOk result.1 (OfStage result.0 (λ o. HoldsBehind (B.contents o.txn.own.bench) (⟦<HeldNodes<B> as Own>⟧.settled o.txn.own).proto (option_map (λ t. t.items) o.text) bytes) (λ ended. bytes ≡ bytes_on (B.contents ended.bench) ended.file)) }
     ensures firm { OnOk result.1 (OfStage result.0 (λ o. ⊥) (λ ended. IsFirmFile (B.contents ended.bench) (B.firm_to ended.bench ended.file) ended.file)) }
     ensures refused { IfErr result.1 (λ why. (head : ℕ) (h : List Recorded) (x : SpecTxn) → Refuses why head h x) }
+    ensures no_disk { IfErr result.1 (λ why. IsDiskFault why → ⊥) }
     ensures ended { OfStage result.0 (λ o. ⊥) (λ ended. Unit {0}) }
 {
     match stage {
@@ -132,7 +134,7 @@ impl<R, T: LoneTurns<R>> Draft<R, T> for TxnDraft<T::Bench> {
     ghost use Rattle.fsfs_draft.specs.Meaning.{Means, HoldsBehind, IfOpen, OfStage};
     ghost use Rattle.fsfs_disk.specs.Benches.{bytes_on, IsFirmFile};
     ghost use Rattle.std.specs.Prelude.{◌≡◌, option_map};
-    ghost use Rattle.fsfs_draft.specs.Refusals.{Refuses};
+    ghost use Rattle.fsfs_draft.specs.Refusals.{IsDiskFault, Refuses};
     ghost use Rattle.fsfs_draft.specs.StayingLemmas.{open_grows};
 
     type Refusal = CommitRefusal;
@@ -146,6 +148,8 @@ impl<R, T: LoneTurns<R>> Draft<R, T> for TxnDraft<T::Bench> {
     ghost is_written = { λ d. OfStage d.stage (λ o. ⊥) (λ e. IsFirmFile (T.Bench.contents e.bench) (T.Bench.firm_to e.bench e.file) e.file) };
 
     ghost refuses = { Refuses };
+
+    ghost is_disk_fault = { IsDiskFault };
 
     fn merge(
         &mut self,

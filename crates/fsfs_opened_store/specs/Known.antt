@@ -16,9 +16,9 @@ abbrev pub IsUnpacked : {files : Files} {h : List Revision} → StandsFor files 
 IsUnpacked stands = stands.opened.min_unpacked_rev ≡ 0
 
 -- A pass has seen all of this history, and is in no section; of images it is spoken from this opening on, which made the names firm
--- by the operation after those of the trace.
+-- by the operation after those of the trace, and had so many revisions.
 abbrev pub HasSeenAll : (View → Type 0) → Trace → List Revision → Type 0
-HasSeenAll knows t h = (v : View) × knows v × (v.section ≡ None) × (v.pass ≡ first_pass (length h) 0) × (revisions v.seen ≡ h) × (v.since ≡ length t.operations + 1)
+HasSeenAll knows t h = (v : View) × knows v × (v.section ≡ None) × (v.pass ≡ first_pass (length h) 0) × (revisions v.seen ≡ h) × (v.since ≡ length t.operations + 1) × (v.opened ≡ length h)
 
 abbrev pub said_by : {X Y : Type 0} → (X → Opened) → (Y → OpenFault) → Result X Y → Result Opened OpenFault
 said_by said why (Ok x) = Ok (said x)

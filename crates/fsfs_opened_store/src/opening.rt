@@ -3,7 +3,7 @@ ghost use Rattle.std.specs.Prelude.{◌≡◌, ◌≤◌, List, IfOk, IfErr, IfS
 ghost use Rattle.fsfs_base.specs.Failures.{Rose};
 ghost use Rattle.fsfs_tree.specs.Revisions.{Revision};
 ghost use Rattle.fsfs_layout.specs.Opening.{IsOpened, small_texts};
-ghost use Rattle.fsfs_disk.specs.Trace.{FirmNames, files_now, FailsAt};
+ghost use Rattle.fsfs_disk.specs.Trace.{FirmNames, files_now, FailsAt, Performs};
 ghost use Rattle.fsfs_stands.specs.Files.{StandsFor};
 ghost use Rattle.fsfs_repo.specs.OpenFaults.{OpensBecause};
 ghost use Rattle.fsfs_opened_store.specs.Known.{HasSeenAll, IsUnpacked, DecidesSo};
@@ -40,9 +40,10 @@ pub fn open_store<D: Disk>(alloc: Global, mut disk: D) -> Result<OpenedStore<D>,
     ensures refused { IfErr result (λ e. OpensBecause (Rose (D.faults disk) (D.faults e.disk)) (D.trace disk) e.why) }
     // Where it is opened or refused is decided by the files alone.
     ensures decided { IfSome (D.trace disk) (λ t. DecidesSo (small_texts (files_now t)) result (λ o. o.said) (λ e. e.why)) }
+    ensures firm { IfOk result (λ o. Performs FirmNames (D.trace disk) (D.trace o.store.disk)) }
     ensures left { IfErr result (λ e. FailsAt FirmNames (D.trace disk) (D.trace e.disk)) }
     ensures later { MatchResult result (λ o. D.faults disk ≤ ⟦<Owned<D> as Turns<()>>⟧.faults o.store) (λ e. D.faults disk ≤ D.faults e.disk) }
-    ensures mounted { IfErr result (λ e. D.mount_path e.disk ≡ D.mount_path disk) }
+    ensures mounted { MatchResult result (λ o. D.mount_path o.store.disk ≡ D.mount_path disk) (λ e. D.mount_path e.disk ≡ D.mount_path disk) }
 {
     match open(alloc, &mut disk) {
         Ok(said) => Ok(OpenedStore {

@@ -25,12 +25,14 @@ use Rattle.fsfs_turn_begin.proofs.Going.{begins_itself, begins_on, steps_on, one
 -- ---- the pass moved on
 
 pub moved_itself : (v : View) → v.section ≡ None → Moved v v
-moved_itself v none = record { number = refl; layout = refl; mine = refl; least = omega arith; grows = begins_itself v.seen; more = []; given = refl; outside = none; steps = End v }
+moved_itself v none = record { number = refl; layout = refl; since = refl; opened = refl; mine = refl; least = omega arith; grows = begins_itself v.seen; more = []; given = refl; outside = none; steps = End v }
 
 pub moved_on : (v m u : View) → Moved v m → Moved m u → Moved v u
 moved_on v m u a b = record {
   number = b.number ∙ a.number;
   layout = b.layout ∙ a.layout;
+  since = b.since ∙ a.since;
+  opened = b.opened ∙ a.opened;
   mine = b.mine ∙ a.mine;
   least = omega (arith, a.least, b.least);
   grows = begins_on v.seen m.seen u.seen a.grows b.grows;
@@ -47,6 +49,8 @@ pub by_look : (young : ℕ) (v u : View) → v.section ≡ None → Looked young
 by_look young v u none l = record {
   number = ap {A = View} (λ z. z.number) l.is;
   layout = ap {A = View} (λ z. z.layout) l.is;
+  since = ap {A = View} (λ z. z.since) l.is;
+  opened = ap {A = View} (λ z. z.opened) l.is;
   mine = ap {A = View} (λ z. z.pass.mine) l.is;
   least = let e : u.pass.least ≡ young = ap {A = View} (λ z. z.pass.least) l.is in omega (arith, e, l.least);
   grows = same_seen v u (ap {A = View} (λ z. z.seen) l.is);
@@ -60,6 +64,8 @@ pub by_stuck : (at : DiskPlace) (v u : View) → v.section ≡ None → FoundStu
 by_stuck at v u none f = record {
   number = ap {A = View} (λ z. z.number) f.is;
   layout = ap {A = View} (λ z. z.layout) f.is;
+  since = ap {A = View} (λ z. z.since) f.is;
+  opened = ap {A = View} (λ z. z.opened) f.is;
   mine = ap {A = View} (λ z. z.pass.mine) f.is;
   least = let e : u.pass.least ≡ v.pass.least = ap {A = View} (λ z. z.pass.least) f.is in omega (arith, e);
   grows = same_seen v u (ap {A = View} (λ z. z.seen) f.is);
@@ -73,6 +79,8 @@ pub by_name : (name : ℕ) (v u : View) → HasName name v u → Moved v u
 by_name name v u h = record {
   number = ap {A = View} (λ z. z.number) h.is;
   layout = ap {A = View} (λ z. z.layout) h.is;
+  since = ap {A = View} (λ z. z.since) h.is;
+  opened = ap {A = View} (λ z. z.opened) h.is;
   mine = ap {A = View} (λ z. z.pass.mine) h.is;
   least = let e : u.pass.least ≡ v.pass.least = ap {A = View} (λ z. z.pass.least) h.is in omega (arith, e);
   grows = h.grows;
@@ -132,10 +140,12 @@ module _ (v m k u : View) (t : LockTaken v m) (g : LockGiven (step.GiveLock k.nu
     steps = course;
   }
 
-  pub moved_by : (number : k.number ≡ m.number) → k.layout ≡ m.layout → k.pass.mine ≡ m.pass.mine → k.pass.least ≡ m.pass.least → k.given ≡ m.given → Moved v u
-  moved_by number layout mine least given = record {
+  pub moved_by : (number : k.number ≡ m.number) → k.layout ≡ m.layout → k.since ≡ m.since → k.opened ≡ m.opened → k.pass.mine ≡ m.pass.mine → k.pass.least ≡ m.pass.least → k.given ≡ m.given → Moved v u
+  moved_by number layout since opened mine least given = record {
     number = ap {A = View} (λ z. z.number) g.is ∙ number ∙ ap {A = View} (λ z. z.number) t.is;
     layout = ap {A = View} (λ z. z.layout) g.is ∙ layout ∙ ap {A = View} (λ z. z.layout) t.is;
+    since = ap {A = View} (λ z. z.since) g.is ∙ since ∙ ap {A = View} (λ z. z.since) t.is;
+    opened = ap {A = View} (λ z. z.opened) g.is ∙ opened ∙ ap {A = View} (λ z. z.opened) t.is;
     mine = ap {A = View} (λ z. z.pass.mine) g.is ∙ mine ∙ ap {A = View} (λ z. z.pass.mine) t.is;
     least = let e : u.pass.least ≡ v.pass.least = ap {A = View} (λ z. z.pass.least) g.is ∙ least ∙ ap {A = View} (λ z. z.pass.least) t.is in omega (arith, e);
     grows = grew;
@@ -153,11 +163,11 @@ pub undrawn : (base : ℕ) (v m k u : View) (why : NameFault) → LockTaken v m 
 undrawn base v m k u (names.Small fault) t w g = absurd w
 undrawn base v m k u names.NamesFull t w g = absurd w
 undrawn base v m k u (names.DiskFault call) t w g = (
-  moved_by v m k u t g w.grows w.steps (ap {A = View} (λ z. z.number) w.is) (ap {A = View} (λ z. z.layout) w.is) (ap {A = View} (λ z. z.pass.mine) w.is) (ap {A = View} (λ z. z.pass.least) w.is) (ap {A = View} (λ z. z.given) w.is),
+  moved_by v m k u t g w.grows w.steps (ap {A = View} (λ z. z.number) w.is) (ap {A = View} (λ z. z.layout) w.is) (ap {A = View} (λ z. z.since) w.is) (ap {A = View} (λ z. z.opened) w.is) (ap {A = View} (λ z. z.pass.mine) w.is) (ap {A = View} (λ z. z.pass.least) w.is) (ap {A = View} (λ z. z.given) w.is),
   record { before = v.pass.faults; later = []; is = stopped_faults v m k u t g w.grows w.steps call w },
 )
 undrawn base v m k u names.Memory t w g = (
-  moved_by v m k u t g w.1.grows w.1.steps (ap {A = View} (λ z. z.number) w.1.is) (ap {A = View} (λ z. z.layout) w.1.is) (ap {A = View} (λ z. z.pass.mine) w.1.is) (ap {A = View} (λ z. z.pass.least) w.1.is) (ap {A = View} (λ z. z.given) w.1.is),
+  moved_by v m k u t g w.1.grows w.1.steps (ap {A = View} (λ z. z.number) w.1.is) (ap {A = View} (λ z. z.layout) w.1.is) (ap {A = View} (λ z. z.since) w.1.is) (ap {A = View} (λ z. z.opened) w.1.is) (ap {A = View} (λ z. z.pass.mine) w.1.is) (ap {A = View} (λ z. z.pass.least) w.1.is) (ap {A = View} (λ z. z.given) w.1.is),
   tt,
 )
 
@@ -171,6 +181,8 @@ pub told_moved : (at : DiskPlace) (fine : Bool) (v u : View) → v.section ≡ N
 told_moved at fine v u none is grows steps = record {
   number = ap {A = View} (λ z. z.number) is;
   layout = ap {A = View} (λ z. z.layout) is;
+  since = ap {A = View} (λ z. z.since) is;
+  opened = ap {A = View} (λ z. z.opened) is;
   mine = ap {A = View} (λ z. z.pass.mine) is;
   least = let e : u.pass.least ≡ v.pass.least = ap {A = View} (λ z. z.pass.least) is in omega (arith, e);
   grows = grows;

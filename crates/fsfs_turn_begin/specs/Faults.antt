@@ -76,8 +76,8 @@ IsDropped l labels rose = IfSome labels (λ ls. (has_label l ls ≡ false) ⊎ r
 abbrev pub LeavesNone : ℕ → Option (List Label) → Type 0 → View → View → Type 0
 LeavesNone base labels rose v u = (n : ℕ) × (u.given ≡ n ∷ v.given) × IsDropped (Txn base n) labels rose
 
--- In what the pass knows behind it. Neither is `txn-current` damaged nor the last number there where the pass knows anything. That a read
--- failed is not among the faults that it knows, since reading told it nothing.
+-- In what the pass knows behind it. Neither is `txn-current` damaged where the pass knows anything, nor is the last number there one that
+-- the machine reads. That a read failed is not among the faults that it knows, since reading told it nothing.
 abbrev pub Cause : ℕ → BeginFault → View → Type 0
 Cause base (NoRev asked youngest) u = (asked ≡ base) × (youngest < asked) × (u.pass.least ≡ youngest)
 Cause base (Stuck at) u = u.pass.stuck ≡ Some at

@@ -1,5 +1,6 @@
 -- What the turns of a begin come to, in what the pass knows.
-use Rattle.std.specs.Prelude.{◌≡◌, ◌≤◌, ◌<◌, ◌^◌, ◌-◌, ℕ, List, [], ◌∷◌, ◌++◌, length, false, Some, None, IfSome}
+use Rattle.std.specs.Prelude.{◌≡◌, ◌≤◌, ◌<◌, ◌^◌, ◌-◌, ℕ, List, [], ◌∷◌, ◌++◌, length, false, Some, None}
+use Rattle.fsfs_base.specs.Files.{Files}
 use Rattle.fsfs_layout.specs.FileNames.{only_name}
 use Rattle.fsfs_layout.specs.Opening.{text_at}
 use Rattle.fsfs_layout.specs.Small.{IsBase36Line}
@@ -50,6 +51,8 @@ pub record HasName (name : ℕ) (v u : View) : Type 0 where
 pub record Moved (v u : View) : Type 0 where
   pub number : u.number ≡ v.number
   pub layout : u.layout ≡ v.layout
+  pub since : u.since ≡ v.since
+  pub opened : u.opened ≡ v.opened
   pub mine : u.pass.mine ≡ v.pass.mine
   pub least : v.pass.least ≤ u.pass.least
   pub grows : Begins u.seen v.seen
@@ -64,6 +67,10 @@ pub record HasFault (place : DiskPlace) (u : View) : Type 0 where
   pub later : List DiskPlace
   pub is : u.pass.faults ≡ before ++ place ∷ later
 
--- The number that stands in `db/txn-current`, where one does, is one that the machine reads.
-abbrev pub HasSmallCounter : {Lasting : Type 0} → StoreView Lasting → Type 0
-HasSmallCounter s = IfSome s.files (λ m. (n : ℕ) → IsBase36Line (text_at m (only_name TxnCurrent)) n → n < 2 ^ 64 - 1)
+-- In `db/txn-current` a number stands that is past those that the machine reads: behind a draw of it nothing is known.
+pub record IsPastNumbers {Lasting : Type 0} (s : StoreView Lasting) : Type 0 where
+  pub files : Files
+  pub told : s.files ≡ Some files
+  pub number : ℕ
+  pub line : IsBase36Line (text_at files (only_name TxnCurrent)) number
+  pub past : 2 ^ 64 - 1 ≤ number

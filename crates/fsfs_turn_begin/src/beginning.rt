@@ -1,5 +1,5 @@
 //! A transaction is begun by turns.
-ghost use Rattle.std.specs.Prelude.{◌≡◌, ◌≤◌, true, None, OnOk, IfOk, IfErr, IfSome};
+ghost use Rattle.std.specs.Prelude.{◌≡◌, ◌⊎◌, ◌≤◌, true, None, OnOk, IfOk, IfErr, IfSome};
 ghost use Rattle.fsfs_base.specs.Failures.{Rose};
 ghost use Rattle.fsfs_disk.specs.Labels.{has_label};
 ghost use Rattle.fsfs_txns.specs.Txns.{pair_of, txn_label};
@@ -8,7 +8,7 @@ ghost use Rattle.fsfs_begin.specs.Benches.{TellsRoot};
 ghost use Rattle.fsfs_turn.specs.Bytes.{bytes_of};
 ghost use Rattle.fsfs_turn.specs.Views.{View};
 ghost use Rattle.fsfs_turn.specs.Learning.{MayMake, drawn_of};
-ghost use Rattle.fsfs_turn_begin.specs.Steps.{HasSmallCounter, Moved};
+ghost use Rattle.fsfs_turn_begin.specs.Steps.{IsPastNumbers, Moved};
 ghost use Rattle.fsfs_turn_begin.specs.Faults.{Cause, IfBench, IfDisk, IsAbove, IsDropped, LeavesNone, read_fault};
 ghost use Rattle.fsfs_turn_begin.specs.Begun.{HoldsRoot, IsMade, HasBegun};
 
@@ -50,6 +50,7 @@ fn begin_named<R, T: LoneTurns<R>>(
     ensures refused { (v : View) → T.knows turns v → MayMake v (drawn_of name.base name.number.number)
         → IfErr result.1 (λ why. (u : View) × T.knows result.0 u × Moved v u × (u.given ≡ v.given) × Cause name.base why u) }
     ensures dropped { IfErr result.1 (λ why. IfBench why (IsDropped (txn_label (pair_of name)) (T.labels result.0) (Rose (T.faults turns) (T.faults result.0)))) }
+    ensures mounted { T.mount_path result.0 ≡ T.mount_path turns }
     ensures later { T.faults turns ≤ T.faults result.0 }
     ensures cause { IfErr result.1 (λ why. IfDisk why (Rose (T.faults turns) (T.faults result.0))) }
     ensures there { IfErr result.1 (IsAbove name.base) }
@@ -82,14 +83,16 @@ pub fn begin<R, T: LoneTurns<R>>(
     ensures tells { IfOk result.1 (λ begun. TellsRoot begun.root (T.Bench.contents begun.bench)) }
     ensures sound { IfOk result.1 (λ begun. T.Bench.faults begun.bench ≡ 0) }
     ensures kept { IfSome (T.labels result.0) (λ ls. IfOk result.1 (λ begun. has_label (txn_label (pair_of begun.name)) ls ≡ true)) }
-    // What the pass knows then; and why none was begun, where none was.
-    ensures begun { (v : View) → T.knows turns v → v.section ≡ None → HasSmallCounter (T.store turns)
-        → IfOk result.1 (λ begun. (u : View) × T.knows result.0 u × HasBegun begun.name begun.root (T.Bench.contents begun.bench) v u) }
-    ensures refused { (v : View) → T.knows turns v → v.section ≡ None → HasSmallCounter (T.store turns)
-        → IfErr result.1 (λ why. (u : View) × T.knows result.0 u × Moved v u × Cause base why u
-        × IfBench why (LeavesNone base (T.labels result.0) (Rose (T.faults turns) (T.faults result.0)) v u)) }
+    // What the pass knows then; and why none was begun, where none was. Or the number that stood in `db/txn-current` is past those that
+    // the machine reads.
+    ensures begun { (v : View) → T.knows turns v → v.section ≡ None
+        → IfOk result.1 (λ begun. ((u : View) × T.knows result.0 u × HasBegun begun.name begun.root (T.Bench.contents begun.bench) v u) ⊎ IsPastNumbers (T.store turns)) }
+    ensures refused { (v : View) → T.knows turns v → v.section ≡ None
+        → IfErr result.1 (λ why. ((u : View) × T.knows result.0 u × Moved v u × Cause base why u
+        × IfBench why (LeavesNone base (T.labels result.0) (Rose (T.faults turns) (T.faults result.0)) v u)) ⊎ IsPastNumbers (T.store turns)) }
     // Whatever the disk tells.
     ensures above { IfErr result.1 (IsAbove base) }
+    ensures mounted { T.mount_path result.0 ≡ T.mount_path turns }
     ensures later { T.faults turns ≤ T.faults result.0 }
     ensures cause { IfErr result.1 (λ why. IfDisk why (Rose (T.faults turns) (T.faults result.0))) }
 {

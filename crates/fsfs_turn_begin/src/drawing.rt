@@ -1,12 +1,12 @@
 // The name of a new transaction is drawn, by a section of its own.
-ghost use Rattle.std.specs.Prelude.{◌≡◌, ◌≤◌, ℕ, Some, None, IfOk, IfErr};
+ghost use Rattle.std.specs.Prelude.{◌≡◌, ◌⊎◌, ◌≤◌, ℕ, Some, None, IfOk, IfErr};
 ghost use Rattle.fsfs_base.specs.Failures.{HasCause, Rose};
 ghost use Rattle.fsfs_layout.specs.Small.{IsBase36Line};
 ghost use Rattle.fsfs_begin.specs.Drawing.{IsSmallIn};
 ghost use Rattle.fsfs_machine.specs.declared.machine.Drawn.{Drawn};
 ghost use Rattle.fsfs_machine.specs.declared.machine.Section.TheVariants.{Begun, CountRead};
 ghost use Rattle.fsfs_turn.specs.Views.{View};
-ghost use Rattle.fsfs_turn_begin.specs.Steps.{HasSmallCounter};
+ghost use Rattle.fsfs_turn_begin.specs.Steps.{IsPastNumbers};
 ghost use Rattle.fsfs_turn_begin.specs.Faults.{IfDisk, IfNameDisk, IsNoBase, IsNoBench, named_fault};
 ghost use Rattle.fsfs_turn_begin.specs.Drawing.{Counts, Raises, Draws, Drew};
 
@@ -35,7 +35,8 @@ fn number_in(bytes: &[u8]) -> Result<B36, NameFault>
 
 // The number that stands in `db/txn-current`, by the section's first call. A file that isn't there counts as empty.
 fn read_number<R, T: LoneTurns<R>>(rt: &R, turns: &mut T) -> Result<B36, NameFault>
-    ensures counted { (v : View) (base : ℕ) → T.knows turns.old v → v.section ≡ Some Begun → base ≤ v.pass.least → HasSmallCounter (T.store turns.old) → Counts (T.knows turns.new) base result v }
+    ensures counted { (v : View) (base : ℕ) → T.knows turns.old v → v.section ≡ Some Begun → base ≤ v.pass.least → Counts (T.knows turns.new) base result v ⊎ IsPastNumbers (T.store turns.old) }
+    ensures mounted { T.mount_path turns.new ≡ T.mount_path turns.old }
     ensures later { T.faults turns.old ≤ T.faults turns.new }
     ensures cause { IfErr result (λ why. IfNameDisk why (Rose (T.faults turns.old) (T.faults turns.new))) }
 {
@@ -52,6 +53,7 @@ fn read_number<R, T: LoneTurns<R>>(rt: &R, turns: &mut T) -> Result<B36, NameFau
 // Lets these bytes be `db/txn-current`, by one change of names, which is made firm.
 fn raise<R, T: Turns<R>>(rt: &R, turns: &mut T, text: &[u8]) -> Result<(), BeginPlace>
     ensures raised { (v : View) (x : Drawn) → T.knows turns.old v → v.section ≡ Some (CountRead x) → IsBase36Line text.now x.next → Raises (T.knows turns.new) x result v }
+    ensures mounted { T.mount_path turns.new ≡ T.mount_path turns.old }
     ensures cause { HasCause (T.faults turns.old) (T.faults turns.new) result }
 {
     let next = OnlyFile::TxnCurrentNext.name();
@@ -78,7 +80,8 @@ fn next_name<R, T: LoneTurns<R>>(
     base: RevNum,
 ) -> Result<TxnName, NameFault>
     ensures base { IfOk result (λ name. name.base ≡ base) }
-    ensures drawn { (v : View) → T.knows turns.old v → v.section ≡ Some Begun → base ≤ v.pass.least → HasSmallCounter (T.store turns.old) → Draws (T.knows turns.new) base result v }
+    ensures drawn { (v : View) → T.knows turns.old v → v.section ≡ Some Begun → base ≤ v.pass.least → Draws (T.knows turns.new) base result v ⊎ IsPastNumbers (T.store turns.old) }
+    ensures mounted { T.mount_path turns.new ≡ T.mount_path turns.old }
     ensures later { T.faults turns.old ≤ T.faults turns.new }
     ensures cause { IfErr result (λ why. IfNameDisk why (Rose (T.faults turns.old) (T.faults turns.new))) }
 {
@@ -119,7 +122,8 @@ pub(crate) fn draw<R, T: LoneTurns<R>>(
     base: RevNum,
 ) -> Result<TxnName, BeginFault>
     ensures base { IfOk result (λ name. name.base ≡ base) }
-    ensures drew { (v : View) → T.knows turns.old v → v.section ≡ None → base ≤ v.pass.least → HasSmallCounter (T.store turns.old) → Drew (T.knows turns.new) base result v }
+    ensures drew { (v : View) → T.knows turns.old v → v.section ≡ None → base ≤ v.pass.least → Drew (T.knows turns.new) base result v ⊎ IsPastNumbers (T.store turns.old) }
+    ensures mounted { T.mount_path turns.new ≡ T.mount_path turns.old }
     ensures later { T.faults turns.old ≤ T.faults turns.new }
     ensures cause { IfErr result (λ why. IfDisk why (Rose (T.faults turns.old) (T.faults turns.new))) }
     ensures named { IfErr result IsNoBase }

@@ -47,6 +47,7 @@ fn begin_bench<R, T: Turns<R>>(
     ensures refused { (v : View) → T.knows turns.old v → MayMake v (drawn_of name.now.base name.now.number.number)
         → IfErr result (λ why. (u : View) × T.knows turns.new u × Moved v u × (u.given ≡ v.given) × IfBenchDisk why (HasFault DiskPlace.MakeBench u)) }
     ensures dropped { OnErr result (IsDropped (txn_label (pair_of name.now)) (T.labels turns.new) (Rose (T.faults turns.old) (T.faults turns.new))) }
+    ensures mounted { T.mount_path turns.new ≡ T.mount_path turns.old }
     ensures later { T.faults turns.old ≤ T.faults turns.new }
     ensures cause { IfErr result (λ why. IfBenchDisk why (Rose (T.faults turns.old) (T.faults turns.new))) }
 {
@@ -85,6 +86,7 @@ pub(crate) fn make<R, T: Turns<R>>(
     ensures refused { (v : View) → T.knows turns.old v → MayMake v (drawn_of name.base name.number.number)
         → IfErr result (λ why. (u : View) × T.knows turns.new u × Moved v u × (u.given ≡ v.given) × Cause name.base why u) }
     ensures dropped { IfErr result (λ why. IfBench why (IsDropped (txn_label (pair_of name)) (T.labels turns.new) (Rose (T.faults turns.old) (T.faults turns.new)))) }
+    ensures mounted { T.mount_path turns.new ≡ T.mount_path turns.old }
     ensures later { T.faults turns.old ≤ T.faults turns.new }
     ensures cause { IfErr result (λ why. IfDisk why (Rose (T.faults turns.old) (T.faults turns.new))) }
     ensures there { IfErr result IsNoBase }

@@ -1,5 +1,5 @@
 // The root of a transaction's base.
-ghost use Rattle.std.specs.Prelude.{◌≤◌, ◌<◌, length, IfOk, IfErr};
+ghost use Rattle.std.specs.Prelude.{◌≡◌, ◌≤◌, ◌<◌, length, IfOk, IfErr};
 ghost use Rattle.fsfs_base.specs.Failures.{Rose};
 ghost use Rattle.fsfs_damage.specs.Causes.{IfDisk};
 ghost use Rattle.fsfs_damage.specs.Readings.{Answers};
@@ -25,6 +25,7 @@ pub(crate) fn base_root<R, T: LoneTurns<R>>(
     ensures told { (v : View) → T.knows turns v → base < length v.seen → Answers (λ found. found.node) (RootOf (bytes_of v.seen) base) result.1 }
     ensures writable { IfOk result.1 (λ found. HasText found.node) }
     ensures still { (v : View) → T.knows turns v → T.knows result.0 v }
+    ensures mounted { T.mount_path result.0 ≡ T.mount_path turns }
     ensures later { T.faults turns ≤ T.faults result.0 }
     ensures cause { IfErr result.1 (λ e. IfDisk e (Rose (T.faults turns) (T.faults result.0))) }
 {

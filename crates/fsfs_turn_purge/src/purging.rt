@@ -37,6 +37,7 @@ pub fn purge<R, T: Turns<R>>(
         → (txn : Txn) × (txn.name ≡ name.now.number.number) × MayPurge v txn × Purges (T.knows turns.new) (with_txns (txn ∷ [])) (λ went. Purge v.number 0 went) result v }
     ensures spent { (v : View) → T.knows turns.old v → v.section ≡ None → IsIn name.now.number.number v.given
         → Purges (T.knows turns.new) (with_spent name.now.number.number) (λ went. PurgeSpent v.number 0 went) result v }
+    ensures mounted { T.mount_path turns.new ≡ T.mount_path turns.old }
     ensures cause { HasCause (T.faults turns.old) (T.faults turns.new) result }
 {
     match turns.drop_bench(rt, &Label::Txn(*name), Some(bench)) {

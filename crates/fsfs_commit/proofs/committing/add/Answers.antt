@@ -28,3 +28,6 @@ returns-in-Err-publish-clause-err g c = λ v txn next bytes known held may made.
     let p = c.in-Err-publish.ensures.err v txn next bytes known here (subst (λ q. MayAdopt v txn q next bytes) (sym same) may)
     (subst (λ q. IsMade v q c.args.made.now.rev c.args.made.now.rev_file c.args.made.now.props_file c.args.made.now.properties.items c.args.made.now.current.items) (sym same) made) in
     (p.0, p.1, p.2)
+
+pub returns-in-Err-clause-cause : goal.returns-in-Err-clause-cause
+returns-in-Err-clause-cause g c = λ fault. absurd (if_err c.write-draft.result.1 c.in-Err.refusal _ c.in-Err.is c.write-draft.ensures.no_disk fault)

@@ -3,33 +3,28 @@ use Rattle.fsfs_begin.proofs.AnswerLemmas.{line_of}
 use Rattle.fsfs_machine.specs.declared.machine.Section.TheVariants.{CountRead}
 use Rattle.fsfs_turn.specs.Learning.{drawn_of}
 use Rattle.fsfs_turn_begin.proofs.Going.{section_on, draws_on, undrawn_on, unwritten}
+use Rattle.fsfs_turn_begin.proofs.Reading.{either_way}
 use Rattle.fsfs_turn_begin.proofs.drawing.next_name.Goals as goal
 
 pub returns-in-Err-clause-drawn : goal.returns-in-Err-clause-drawn
-returns-in-Err-clause-drawn g c = λ v known at le small. c.in-Err.ensures.counted v c.args.base known at le small
+returns-in-Err-clause-drawn g c = λ v known at le. c.in-Err.ensures.counted v c.args.base known at le
 
 pub returns-in_default-clause-drawn : goal.returns-in_default-clause-drawn
-returns-in_default-clause-drawn g c = λ v known at le small.
-    let m = c.in-Ok.ensures.counted v c.args.base known at le small in
-    absurd (omega (arith, m.2.small, c.in_default.ensures))
+returns-in_default-clause-drawn g c = λ v known at le. either_way (λ m. absurd (omega (arith, m.2.small, c.in_default.ensures))) (λ past. past) (c.in-Ok.ensures.counted v c.args.base known at le)
 
 pub returns-in-Err-write_txn_current-clause-drawn : goal.returns-in-Err-write_txn_current-clause-drawn
-returns-in-Err-write_txn_current-clause-drawn g c = λ v known at le small.
-    let m = c.in-Ok.ensures.counted v c.args.base known at le small in
-    unwritten _ c.args.base c.in-Ok.number.number v m.0 m.1 m.2
+returns-in-Err-write_txn_current-clause-drawn g c = λ v known at le. either_way (λ m. unwritten _ c.args.base c.in-Ok.number.number v m.0 m.1 m.2) (λ past. past) (c.in-Ok.ensures.counted v c.args.base known at le)
 
 pub returns-in-Ok-raise-clause-drawn : goal.returns-in-Ok-raise-clause-drawn
-returns-in-Ok-raise-clause-drawn g c = λ v known at le small.
+returns-in-Ok-raise-clause-drawn g c = λ v known at le.
     let n = c.in-Ok.number.number in
-    let m = c.in-Ok.ensures.counted v c.args.base known at le small in
     let line = line_of c.deref.result.now c.in-Ok-write_txn_current.text.items (n + 1) c.in-Some.next.number c.deref.ensures.value c.in-Some.ensures c.in-Ok-write_txn_current.ensures in
-    draws_on _ c.args.base n (record { base = c.args.base; number = c.in-Ok.number }) v refl m.0 m.2
-    (c.in-Ok-raise.ensures.raised m.0 (drawn_of c.args.base n) m.1 (section_on (CountRead (drawn_of c.args.base n)) v m.0 m.2.reached) line)
+    either_way (λ m. draws_on _ c.args.base n (record { base = c.args.base; number = c.in-Ok.number }) v refl m.0 m.2
+    (c.in-Ok-raise.ensures.raised m.0 (drawn_of c.args.base n) m.1 (section_on (CountRead (drawn_of c.args.base n)) v m.0 m.2.reached) line)) (λ past. past) (c.in-Ok.ensures.counted v c.args.base known at le)
 
 pub returns-clause-drawn : goal.returns-clause-drawn
-returns-clause-drawn g c = λ v known at le small.
+returns-clause-drawn g c = λ v known at le.
     let n = c.in-Ok.number.number in
-    let m = c.in-Ok.ensures.counted v c.args.base known at le small in
     let line = line_of c.deref.result.now c.in-Ok-write_txn_current.text.items (n + 1) c.in-Some.next.number c.deref.ensures.value c.in-Some.ensures c.in-Ok-write_txn_current.ensures in
-    undrawn_on _ c.args.base n c.in-Err-raise.place v m.0 m.2
-    (c.in-Err-raise.ensures.raised m.0 (drawn_of c.args.base n) m.1 (section_on (CountRead (drawn_of c.args.base n)) v m.0 m.2.reached) line)
+    either_way (λ m. undrawn_on _ c.args.base n c.in-Err-raise.place v m.0 m.2
+    (c.in-Err-raise.ensures.raised m.0 (drawn_of c.args.base n) m.1 (section_on (CountRead (drawn_of c.args.base n)) v m.0 m.2.reached) line)) (λ past. past) (c.in-Ok.ensures.counted v c.args.base known at le)

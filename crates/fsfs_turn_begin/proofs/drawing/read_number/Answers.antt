@@ -1,22 +1,22 @@
 use Rattle.std.proofs.Common.{ℕ, Ok, refl, ap, ◌∙◌}
 use Rattle.std.specs.Prelude.{Option}
-use Rattle.fsfs_turn_begin.proofs.Reading.{counts_some, counts_none, counts_failed, small_same}
+use Rattle.fsfs_turn_begin.proofs.Reading.{counts_some, counts_none, counts_failed, past_before, either_way}
 use Rattle.fsfs_turn_begin.proofs.drawing.read_number.Goals as goal
 
 pub returns-in-Ok-Some-clause-counted : goal.returns-in-Ok-Some-clause-counted
-returns-in-Ok-Some-clause-counted g c = λ v base known at le small.
+returns-in-Ok-Some-clause-counted g c = λ v base known at le.
     let s = g.T.Turns.store c.read.new.self in
-    let still = small_same (g.T.Turns.store c.args.turns.now) s (g.met.T.LoneTurns.same_files c.args.turns.now c.read.new.self c.read.ensures.later.below) small in
-    counts_some (g.T.Turns.knows c.read.new.self) s base _ c.read.new.buffer v still refl c.in-Ok-Some.count _ c.number_in.result refl c.read.result (c.in-Ok-Some.is ∙ ap (λ (o : Option ℕ). Ok o) c.in-Ok-Some.field-0-is) (c.read.ensures.counted v base known at le c.name-current.ensures refl) c.number_in.ensures.found c.number_in.ensures.refused
+    let before = past_before (g.T.Turns.store c.args.turns.now) s (g.met.T.LoneTurns.same_files c.args.turns.now c.read.new.self c.read.ensures.later.below) in
+    either_way (λ a. a) before (counts_some (g.T.Turns.knows c.read.new.self) s base _ c.read.new.buffer v refl c.in-Ok-Some.count _ c.number_in.result refl c.read.result (c.in-Ok-Some.is ∙ ap (λ (o : Option ℕ). Ok o) c.in-Ok-Some.field-0-is) (c.read.ensures.counted v base known at le c.name-current.ensures refl) c.number_in.ensures.found c.number_in.ensures.refused)
 
 pub returns-in-Ok-None-clause-counted : goal.returns-in-Ok-None-clause-counted
-returns-in-Ok-None-clause-counted g c = λ v base known at le small.
+returns-in-Ok-None-clause-counted g c = λ v base known at le.
     let s = g.T.Turns.store c.read.new.self in
-    let still = small_same (g.T.Turns.store c.args.turns.now) s (g.met.T.LoneTurns.same_files c.args.turns.now c.read.new.self c.read.ensures.later.below) small in
-    counts_none (g.T.Turns.knows c.read.new.self) s base _ c.read.new.buffer v still refl c.number_in-in-Ok-None.result c.read.result (c.in-Ok-None.is ∙ ap (λ (o : Option ℕ). Ok o) c.in-Ok-None.field-0-is) (c.read.ensures.counted v base known at le c.name-current.ensures refl)
+    let before = past_before (g.T.Turns.store c.args.turns.now) s (g.met.T.LoneTurns.same_files c.args.turns.now c.read.new.self c.read.ensures.later.below) in
+    either_way (λ a. a) before (counts_none (g.T.Turns.knows c.read.new.self) s base _ c.read.new.buffer v refl c.number_in-in-Ok-None.result c.read.result (c.in-Ok-None.is ∙ ap (λ (o : Option ℕ). Ok o) c.in-Ok-None.field-0-is) (c.read.ensures.counted v base known at le c.name-current.ensures refl))
 
 pub returns-in-Err-clause-counted : goal.returns-in-Err-clause-counted
-returns-in-Err-clause-counted g c = λ v base known at le small.
+returns-in-Err-clause-counted g c = λ v base known at le.
     let s = g.T.Turns.store c.read.new.self in
-    let still = small_same (g.T.Turns.store c.args.turns.now) s (g.met.T.LoneTurns.same_files c.args.turns.now c.read.new.self c.read.ensures.later.below) small in
-    counts_failed (g.T.Turns.knows c.read.new.self) s base _ c.read.new.buffer v still refl c.in-Err.field-0 c.read.result c.in-Err.is (c.read.ensures.counted v base known at le c.name-current.ensures refl)
+    let before = past_before (g.T.Turns.store c.args.turns.now) s (g.met.T.LoneTurns.same_files c.args.turns.now c.read.new.self c.read.ensures.later.below) in
+    either_way (λ a. a) before (counts_failed (g.T.Turns.knows c.read.new.self) s base _ c.read.new.buffer v refl c.in-Err.field-0 c.read.result c.in-Err.is (c.read.ensures.counted v base known at le c.name-current.ensures refl))

@@ -9,3 +9,6 @@ returns-clause-told g c = λ v known less.
 pub returns-clause-still : goal.returns-clause-still
 returns-clause-still g c = λ v known.
     g.met.T.LoneTurns.still c.args.turns c.turns_of-turns.result v (c.turns_of-turns.ensures.below ∙ c.root_of-found.ensures.kept.below ∙ c.over_turns-book.ensures.below) known
+
+pub returns-clause-mounted : goal.returns-clause-mounted
+returns-clause-mounted g c = g.met.T.LoneTurns.same_path c.args.turns c.turns_of-turns.result (c.turns_of-turns.ensures.below ∙ c.root_of-found.ensures.kept.below ∙ c.over_turns-book.ensures.below)

@@ -1,10 +1,10 @@
-use Rattle.std.proofs.Common.{◌∙◌, ◌+◌, refl, sym, ap, subst, take}
+use Rattle.std.proofs.Common.{◌∙◌, ◌+◌, refl, sym, ap, subst, take, arith}
 use Rattle.std.specs.Prelude.{Ok}
 use Rattle.fsfs_txn.specs.Merging.{IsLandedOn}
 use Rattle.fsfs_txn.specs.Spending.{IsSpentAfter}
-use Rattle.fsfs_draft.specs.Refusals.{Refuses}
+use Rattle.fsfs_draft.specs.Refusals.{IsDiskFault, Refuses}
 use Rattle.fsfs_draft.proofs.Landing.{landed}
-use Rattle.fsfs_draft.proofs.Merging.{is_landed, is_clash, has_failed, stays_after, no_clash}
+use Rattle.fsfs_draft.proofs.Merging.{is_landed, is_clash, has_failed, stays_after, no_clash, merge_rose}
 use Rattle.fsfs_draft.proofs.Writing.{txn_as}
 use Rattle.fsfs_draft.proofs.open_txn.OpenTxn.land.Goals as goal
 
@@ -43,3 +43,20 @@ returns-in-Err-clause-err g c = λ v h x known none means low less.
     let base = (subst (λ r. IsLandedOn head c.args.self.now.txn.base c.merge-merged.new.self.base c.args.self.now.txn.moves c.merge-merged.new.self.moves r) e c.merge-merged.ensures.landed).0 in
     let after = subst (λ r. IsSpentAfter c.args.self.now.txn.spent c.merge-merged.new.self.spent r) e c.merge-merged.ensures.spent in
     (still, subst (λ why. Refuses why head v.seen x) (sym c.not_landed.ensures) (no_clash error head v.seen x), λ was spent. txn_as h _ _ _ _ _ _ x c.merge-merged.ensures.name base (stays_after error _ _ _ after w spent) (was none))
+
+pub returns-in-Ok-Landed-clause-mounted : goal.returns-in-Ok-Landed-clause-mounted
+returns-in-Ok-Landed-clause-mounted g c = g.met.T.LoneTurns.same_path c.args.turns c.turns_of-turns.result (c.turns_of-turns.ensures.below ∙ c.merge-merged.ensures.kept.below ∙ c.over_turns-book.ensures.below)
+
+pub returns-in-Ok-Clash-clause-mounted : goal.returns-in-Ok-Clash-clause-mounted
+returns-in-Ok-Clash-clause-mounted g c = g.met.T.LoneTurns.same_path c.args.turns c.turns_of-turns.result (c.turns_of-turns.ensures.below ∙ c.merge-merged.ensures.kept.below ∙ c.over_turns-book.ensures.below)
+
+pub returns-in-Err-clause-mounted : goal.returns-in-Err-clause-mounted
+returns-in-Err-clause-mounted g c = g.met.T.LoneTurns.same_path c.args.turns c.turns_of-turns.result (c.turns_of-turns.ensures.below ∙ c.merge-merged.ensures.kept.below ∙ c.over_turns-book.ensures.below)
+
+pub returns-in-Ok-Clash-clause-cause : goal.returns-in-Ok-Clash-clause-cause
+returns-in-Ok-Clash-clause-cause g c = λ fault. absurd fault
+
+pub returns-in-Err-clause-cause : goal.returns-in-Err-clause-cause
+returns-in-Err-clause-cause g c = λ fault.
+    let rose = merge_rose c.in-Err.error c.merge-merged.result _ _ c.in-Err.is c.merge-merged.ensures.cause (subst IsDiskFault c.not_landed.ensures fault) in
+    omega (arith, rose, c.over_turns-book.ensures.faults, c.turns_of-turns.ensures.faults)
