@@ -1,5 +1,5 @@
 // Turns of a test: others commit before the lock is taken.
-ghost use Rattle.std.specs.Prelude.{◌≡◌, ◌⊎◌, ℕ, None, OnOk, OnErr, IfOk, IfSome, option_map};
+ghost use Rattle.std.specs.Prelude.{◌≡◌, ◌⊎◌, ℕ, codes, refl, None, OnOk, OnErr, IfOk, IfSome, option_map};
 ghost use Rattle.fsfs_base.specs.Failures.{HasCause};
 ghost use Rattle.fsfs_disk.specs.Labels.{Txn as TxnLabel, label_of, has_label, without_label};
 ghost use Rattle.fsfs_machine.specs.declared.machine.Txn.{Txn};
@@ -64,6 +64,8 @@ impl Turns<()> for Rivals {
     ghost labels = { λ s. ⟦<Owned<MemDisk> as Turns<()>>⟧.labels s.inner };
 
     ghost faults = { λ s. ⟦<Owned<MemDisk> as Turns<()>>⟧.faults s.inner };
+
+    ghost mount_path = { λ s. codes "" };
 
     fn layout(&self) -> Layout {
         <Owned<MemDisk> as Turns<()>>::layout(&self.inner)
@@ -154,6 +156,7 @@ impl Turns<()> for Rivals {
             → (u : View) × (went : Went) × ⊥ × Answers result went × Purged txn went v u }
         ensures spent { (v : View) (name base : ℕ) → ⊥ → v.section ≡ None → IsIn name v.given → label_of label.now ≡ TxnLabel base name
             → (u : View) × (went : Went) × ⊥ × Answers result went × SpentPurged name went v u }
+        ensures mounted { codes "" ≡ codes "" }
         ensures there { IfSome (⟦<Owned<MemDisk> as Turns<()>>⟧.labels self.old.inner) (λ ls. IfOk result (λ there. there ≡ has_label (label_of label.now) ls)) }
         ensures dropped { OnOk result (⟦<Owned<MemDisk> as Turns<()>>⟧.labels self.new.inner ≡ option_map (without_label (label_of label.now)) (⟦<Owned<MemDisk> as Turns<()>>⟧.labels self.old.inner)) }
         ensures left { OnErr result ((⟦<Owned<MemDisk> as Turns<()>>⟧.labels self.new.inner ≡ ⟦<Owned<MemDisk> as Turns<()>>⟧.labels self.old.inner) ⊎ (⟦<Owned<MemDisk> as Turns<()>>⟧.labels self.new.inner ≡ option_map (without_label (label_of label.now)) (⟦<Owned<MemDisk> as Turns<()>>⟧.labels self.old.inner))) }
@@ -177,4 +180,6 @@ impl LoneTurns<()> for Rivals {
     ghost still = { λ a b v same known. absurd known };
 
     ghost same_files = { λ a b same i. None };
+
+    ghost same_path = { λ a b same. refl };
 }

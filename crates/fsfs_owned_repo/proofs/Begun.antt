@@ -85,6 +85,8 @@ module _ (name : TxnName) (root : NodeRev) (held : Option Files) (v u : View) (h
   begun_moved = record {
     number = ap {A = View} (λ z. z.number) h.is;
     layout = ap {A = View} (λ z. z.layout) h.is;
+    since = ap {A = View} (λ z. z.since) h.is;
+    opened = ap {A = View} (λ z. z.opened) h.is;
     mine = ap {A = View} (λ z. z.pass.mine) h.is;
     least = h.least;
     grows = h.grows;

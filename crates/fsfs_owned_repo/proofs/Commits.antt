@@ -1,5 +1,5 @@
 -- What a commit of a repository comes to.
-use Rattle.std.proofs.Common.{◌≡◌, ◌≤◌, ℕ, List, Bool, true, false, refl, sym, ap, subst, ◌∙◌, arith}
+use Rattle.std.proofs.Common.{◌≡◌, ◌<◌, ◌≤◌, ℕ, List, Bool, true, false, refl, sym, ap, subst, ◌∙◌, arith}
 use Rattle.std.specs.Prelude.{Option, None, Result, Ok, Err, IfOk, IfErr, is_some}
 use Rattle.std.specs.FinMap.{get}
 use Rattle.fsfs_base.specs.Failures.{Rose}
@@ -10,8 +10,6 @@ use Rattle.fsfs_tree.specs.Revisions.{tree_of}
 use Rattle.fsfs_tree.specs.Dated.{IsDated, last_of}
 use Rattle.fsfs_flat.specs.Transactions.{IsTransaction}
 use Rattle.fsfs_drafts.specs.Drafts.{Folder}
-use Rattle.fsfs_places.specs.declared.place.DiskPlace.{DiskPlace}
-use Rattle.fsfs_places.specs.declared.place.DiskPlace.TheVariants as place
 use Rattle.fsfs_machine.specs.declared.machine.Recorded.{Recorded}
 use Rattle.fsfs_machine.specs.declared.machine.Txn.{Txn}
 use Rattle.fsfs_machine.specs.declared.machine.Step.TheVariants.{PurgeSpent}
@@ -30,7 +28,7 @@ use Rattle.fsfs_commit.specs.declared.committing.CommitFault.TheVariants as faul
 use Rattle.fsfs_commit.proofs.Turning.{none_more, if_ok_then, if_err_then, committed_as}
 use Rattle.fsfs_draft.specs.Dating.{IsDatedAt}
 use Rattle.fsfs_draft.specs.Meaning.{IfTxn, IsTxnOf, Means}
-use Rattle.fsfs_draft.specs.Refusals.{IsClashAt, Refuses}
+use Rattle.fsfs_draft.specs.Refusals.{IsClashAt, IsDiskFault, Refuses}
 use Rattle.fsfs_draft.specs.declared.refusal.CommitRefusal.{CommitRefusal}
 use Rattle.fsfs_draft.specs.declared.refusal.CommitRefusal.TheVariants as refusals
 use Rattle.fsfs_held.specs.declared.held.HeldNodes.{HeldNodes}
@@ -42,7 +40,7 @@ use Rattle.fsfs_owned_repo.specs.declared.answers.CommitAnswer.{CommitAnswer}
 use Rattle.fsfs_owned_repo.specs.declared.answers.CommitAnswer.TheVariants as answers
 use Rattle.fsfs_owned_repo.specs.declared.answers.Fate.{Fate}
 use Rattle.fsfs_owned_repo.specs.declared.answers.Fate.TheVariants as fates
-use Rattle.fsfs_owned_repo.specs.Commits.{Bars, Ends, FailsAt, IfCommitPlace, IfFailed, IsBack, IsDropped, IsNoMore, Meets}
+use Rattle.fsfs_owned_repo.specs.Commits.{Bars, Ends, FailsAt, IfFailed, IsBack, IsDropped, IsNoMore, Meets}
 use Rattle.fsfs_owned_repo.specs.Fates.{Fated, IfStopped, of_fault, of_refusal}
 
 -- ---- the purge
@@ -71,7 +69,7 @@ can_commit v name base settled x p is given dated = record {
 
 pub unmoved : (v : View) → Moved v v
 unmoved v = record {
-  drifted = record { number = refl; layout = refl; mine = refl; least = omega arith; given = refl; grows = none_more v.seen v.seen refl; course = End v };
+  drifted = record { number = refl; layout = refl; since = refl; opened = refl; mine = refl; least = omega arith; given = refl; grows = none_more v.seen v.seen refl; course = End v };
   section = refl;
 }
 
@@ -88,49 +86,39 @@ back_so spent h name base settled y sound means = let none = none_of spent sound
 
 -- ---- its cause
 
-refused_so : (refusal : CommitRefusal) (v u : View) (y : Txn) → Refuses refusal u.pass.least u.seen y → Fated (of_refusal refusal) v u y
-refused_so (refusals.Clash head path) v u y says = (says.0, subst (λ n. IsClashAt path n u.seen y) (sym says.0) says.1)
-refused_so refusals.Spent v u y says = tt
-refused_so refusals.Memory v u y says = tt
-refused_so refusals.DiskFault v u y says = tt
-refused_so refusals.BenchFault v u y says = tt
-refused_so (refusals.Wrong wrong) v u y says = tt
-refused_so (refusals.PastLimit limit) v u y says = tt
-refused_so refusals.Lacking v u y says = tt
+refused_so : (refusal : CommitRefusal) (v u : View) (y : Txn) → u.pass.least < 2147483647 → Refuses refusal u.pass.least u.seen y → Fated (of_refusal refusal) v u y
+refused_so (refusals.Clash head path) v u y less says = (says.0, omega (arith, says.0, less), subst (λ n. IsClashAt path n u.seen y) (sym says.0) says.1)
+refused_so refusals.Spent v u y less says = tt
+refused_so refusals.Memory v u y less says = tt
+refused_so refusals.DiskFault v u y less says = tt
+refused_so refusals.BenchFault v u y less says = tt
+refused_so (refusals.Wrong wrong) v u y less says = tt
+refused_so (refusals.PastLimit limit) v u y less says = tt
+refused_so refusals.Lacking v u y less says = tt
 
 pub fated : (fault : CommitFault CommitRefusal) (v u : View) (y : Txn) → Cause Refuses fault v u y → Fated (of_fault fault) v u y
 fated faults.RevsFull v u y cause = cause
 fated (faults.Stuck at) v u y cause = cause
-fated (faults.Refused refusal) v u y cause = refused_so refusal v u y cause
+fated (faults.Refused refusal) v u y cause = refused_so refusal v u y cause.0 cause.1
 fated (faults.DiskFault call) v u y cause = cause
 
 -- ---- the counts
 
-refused_stops : (refusal : CommitRefusal) (P : Type 0) → IfStopped (of_refusal refusal) P
-refused_stops (refusals.Clash head path) P = tt
-refused_stops refusals.Spent P = tt
-refused_stops refusals.Memory P = tt
-refused_stops refusals.DiskFault P = tt
-refused_stops refusals.BenchFault P = tt
-refused_stops (refusals.Wrong wrong) P = tt
-refused_stops (refusals.PastLimit limit) P = tt
-refused_stops refusals.Lacking P = tt
+refused_stops : (refusal : CommitRefusal) (P : Type 0) → (IsDiskFault refusal → P) → IfStopped (of_refusal refusal) P
+refused_stops (refusals.Clash head path) P rose = tt
+refused_stops refusals.Spent P rose = tt
+refused_stops refusals.Memory P rose = tt
+refused_stops refusals.DiskFault P rose = rose tt
+refused_stops refusals.BenchFault P rose = tt
+refused_stops (refusals.Wrong wrong) P rose = tt
+refused_stops (refusals.PastLimit limit) P rose = tt
+refused_stops refusals.Lacking P rose = tt
 
-pub stopped : (fault : CommitFault CommitRefusal) (P : Type 0) → RoseIfDisk P fault → IfStopped (of_fault fault) P
+pub stopped : (fault : CommitFault CommitRefusal) (P : Type 0) → RoseIfDisk IsDiskFault P fault → IfStopped (of_fault fault) P
 stopped faults.RevsFull P rose = tt
 stopped (faults.Stuck at) P rose = tt
-stopped (faults.Refused refusal) P rose = refused_stops refusal P
+stopped (faults.Refused refusal) P rose = refused_stops refusal P rose
 stopped (faults.DiskFault call) P rose = rose
-
-pub commit_place_then : (at : DiskPlace) (P Q : Type 0) → (P → Q) → IfCommitPlace at P → IfCommitPlace at Q
-commit_place_then (place.Commit call) P Q f p = f p
-commit_place_then place.Read P Q f p = tt
-commit_place_then place.MakeBench P Q f p = tt
-commit_place_then place.List P Q f p = tt
-commit_place_then place.Remove P Q f p = tt
-commit_place_then (place.Begin call) P Q f p = tt
-commit_place_then (place.Open call) P Q f p = tt
-commit_place_then (place.Create call) P Q f p = tt
 
 pub rose_later : (n a b : ℕ) → a ≤ b → Rose n a → Rose n b
 rose_later n a b later rose = omega (arith, later, rose)

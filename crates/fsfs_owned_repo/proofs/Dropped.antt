@@ -1,5 +1,5 @@
 -- A purge by the name that a transaction has.
-use Rattle.std.proofs.Common.{◌≡◌, ◌<◌, length, subst}
+use Rattle.std.proofs.Common.{◌≡◌, subst}
 use Rattle.std.specs.Prelude.{Result}
 use Rattle.fsfs_fields.specs.declared.txn_name.TxnName.{TxnName}
 use Rattle.fsfs_machine.specs.Kept.{IsIn}
@@ -8,6 +8,5 @@ use Rattle.fsfs_turn_purge.specs.declared.purge_fault.PurgeFault.{PurgeFault}
 use Rattle.fsfs_owned_repo.specs.Purged.{PurgesAny}
 
 pub purges_so : (knows : View → Type 0) (name other : TxnName) (result : Result (Unit {0}) PurgeFault) (v : View) → other ≡ name
-    → (IsIn other.number.number v.given → other.base < length v.seen → PurgesAny knows other.number.number result v)
-    → IsIn name.number.number v.given → name.base < length v.seen → PurgesAny knows name.number.number result v
-purges_so knows name other result v same any = subst (λ (n : TxnName). IsIn n.number.number v.given → n.base < length v.seen → PurgesAny knows n.number.number result v) same any
+    → (IsIn other.number.number v.given → PurgesAny knows other.number.number result v) → IsIn name.number.number v.given → PurgesAny knows name.number.number result v
+purges_so knows name other result v same any = subst (λ (n : TxnName). IsIn n.number.number v.given → PurgesAny knows n.number.number result v) same any

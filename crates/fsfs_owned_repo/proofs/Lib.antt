@@ -1,8 +1,7 @@
-mod Shown
-mod Alone
+pub mod Shown
 mod Readers
 mod Begun
-mod Crashes
+pub mod Crashes
 mod Dropped
 mod Listed
 mod Commits

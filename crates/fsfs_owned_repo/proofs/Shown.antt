@@ -14,7 +14,7 @@ use Rattle.fsfs_machine.specs.Machine.{revisions}
 use Rattle.fsfs_machine.proofs.Growing.{revisions_length}
 use Rattle.fsfs_turn.specs.Bytes.{bytes_of, BytesShow, AllShow}
 use Rattle.fsfs_turn.specs.Views.{View}
-use Rattle.fsfs_turn.specs.Standing.{Knows}
+use Rattle.fsfs_turn.specs.Alone.{KnowsAlone}
 use Rattle.fsfs_turn.proofs.Standings.{there_below}
 
 revision_at : (h : List Recorded) (r : ℕ) (x : Recorded) → slice_get h r ≡ Some x → slice_get (revisions h) r ≡ Some x.revision
@@ -32,6 +32,6 @@ trees_shown h shown some = record { each = λ r le. one r (omega (arith, le, rev
     one r less = let x = there_below h r less in subst (λ o. Shows (bytes_of h) r (node_in o)) (sym (revision_at h r x.0 x.1)) (shown.each r x.0 x.1).tree
 
 -- what a pass has seen is shown
-pub known_shown : (layout : Layout) (young : ℕ) (stuck : Option DiskPlace) (told : Option Trace) (v : View) → Knows layout young stuck told v → AllShow v.seen
-known_shown layout young stuck None v known = absurd known
-known_shown layout young stuck (Some t) v known = known.2.shown
+pub known_shown : (layout : Layout) (young : ℕ) (stuck : Option DiskPlace) (told : Option Trace) (v : View) → KnowsAlone layout young stuck told v → AllShow v.seen
+known_shown layout young stuck None v known = absurd known.0
+known_shown layout young stuck (Some t) v known = known.0.2.shown

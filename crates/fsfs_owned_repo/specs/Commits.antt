@@ -1,5 +1,5 @@
 -- What a commit of a repository answers.
-use Rattle.std.specs.Prelude.{◌≡◌, ◌≤◌, ℕ, List, Bool, true, false, Some}
+use Rattle.std.specs.Prelude.{◌≡◌, ◌<◌, ◌≤◌, ℕ, List, Bool, true, false, Some}
 use Rattle.fsfs_places.specs.declared.place.DiskPlace.{DiskPlace}
 use Rattle.fsfs_places.specs.declared.place.DiskPlace.TheVariants as place
 use Rattle.fsfs_machine.specs.declared.machine.Recorded.{Recorded}
@@ -27,15 +27,17 @@ abbrev pub IsDropped : (View → Type 0) → Bool → ℕ → View → Type 0
 IsDropped knows true name m = (u : View) × knows u × HasPurged (with_spent name) (PurgeSpent m.number 0 Fine) m u
 IsDropped knows false name m = (u : View) × (went : Went) × knows u × (is_fine_in went ≡ false) × HasNotPurged place.Remove (with_spent name) (PurgeSpent m.number 0 went) m u
 
--- The transaction x was handed back: nothing was added, and it stands for y, which is x landed on the way, or x.
+-- The transaction x was handed back: nothing was added, and it stands for y, which is x landed on the way, or x, and has its name.
 pub record IsBack {X : Type 0} (back : List Recorded → Txn → X → Type 0) (v u : View) (x y : Txn) (txn : X) : Type 0 where
   pub moved : Moved v u
   pub landings : Landings u.seen x y
+  pub name : y.name ≡ x.name
   pub stands : back u.seen y txn
 
--- why nothing was added: y clashes with the youngest revision that the pass was told of, first at this path; or else
+-- why nothing was added: y clashes with the youngest revision that the pass was told of, which isn't the last that there may be, first at
+-- this path; or else
 abbrev pub Bars : CommitBar → View → Txn → Type 0
-Bars (bars.Conflict path head) u y = (head ≡ u.pass.least) × IsClashAt path head u.seen y
+Bars (bars.Conflict path head) u y = (head ≡ u.pass.least) × (head < 2147483647) × IsClashAt path head u.seen y
 Bars bars.RevsFull u y = 2147483647 ≤ u.pass.least
 Bars (bars.Stuck at) u y = u.pass.stuck ≡ Some at
 Bars (bars.Wrong wrong) u y = Unit {0}
@@ -78,12 +80,8 @@ abbrev pub IfPurged : {X : Type 0} → CommitAnswer X → Type 0 → Type 0
 IfPurged (answers.Committed rev purged) P = purged ≡ true → P
 IfPurged answer P = Unit {0}
 
-abbrev pub IfCommitPlace : DiskPlace → Type 0 → Type 0
-IfCommitPlace (place.Commit call) P = P
-IfCommitPlace at P = Unit {0}
-
--- a fact, where a call of the section failed, or the purge behind a commit did
+-- a fact, where a call of the disk failed: of the section, or a read of the merge; or the purge behind a commit did
 abbrev pub IfFailed : {X : Type 0} → CommitAnswer X → Type 0 → Type 0
 IfFailed (answers.Committed rev purged) P = purged ≡ false → P
-IfFailed (answers.DiskFault at) P = IfCommitPlace at P
+IfFailed (answers.DiskFault at) P = P
 IfFailed answer P = Unit {0}

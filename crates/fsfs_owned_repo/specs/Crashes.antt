@@ -6,15 +6,15 @@ use Rattle.fsfs_disk.specs.Trace.{Trace, IsImage, ImageSince}
 use Rattle.fsfs_machine.specs.declared.machine.Recorded.{Recorded}
 use Rattle.fsfs_machine.specs.declared.machine.Coming.{Coming}
 use Rattle.fsfs_turn.specs.Past.{IsPart}
-use Rattle.fsfs_turn.specs.Views.{View, Begins}
+use Rattle.fsfs_turn.specs.Views.{View}
 use Rattle.fsfs_turn.specs.Whole.{HasHistory, HasRevision, NamesFrom}
 
--- A crash at any moment since the opening, in the middle of a call too, leaves files that stand for a first part of the history, which
--- begins with what the pass has seen, or for the history with the one revision that `current` may name though it isn't revealed; and that
--- have all that there was at the opening. A crash now leaves all that the pass has seen, and so all that was acknowledged.
+-- A crash at any moment since the opening, in the middle of a call too, leaves files that stand for a first part of the history, which is
+-- what the pass has seen, or for the history with the one revision that `current` may name though it isn't revealed; and that have all that
+-- there was at the opening. A crash now leaves all that the pass has seen, and so all that was acknowledged.
 pub record Survives (layout : Layout) (t : Trace) (v : View) : Type 0 where
   pub moments : (m : Files) → ImageSince v.since t.first t.operations m
-      → (h : List Recorded) × (d : Option Coming) × (g : List Recorded) × Begins h v.seen × IsPart h d g × (v.opened ≤ length g) × HasHistory layout m g
+      → (d : Option Coming) × (g : List Recorded) × IsPart v.seen d g × (v.opened ≤ length g) × HasHistory layout m g
   pub whole : (m : Files) → IsImage t.first t.operations m → (r : ℕ) (x : Recorded) → slice_get v.seen r ≡ Some x → HasRevision layout m r x
   pub named : (m : Files) → IsImage t.first t.operations m → NamesFrom m (length v.seen)
 

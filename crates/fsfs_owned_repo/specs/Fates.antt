@@ -9,7 +9,7 @@ use Rattle.fsfs_draft.specs.declared.refusal.CommitRefusal.TheVariants as refusa
 use Rattle.fsfs_owned_repo.specs.declared.answers.CommitBar.TheVariants as bars
 use Rattle.fsfs_owned_repo.specs.declared.answers.Fate.{Fate}
 use Rattle.fsfs_owned_repo.specs.declared.answers.Fate.TheVariants as fates
-use Rattle.fsfs_owned_repo.specs.Commits.{Bars, FailsAt, IfCommitPlace}
+use Rattle.fsfs_owned_repo.specs.Commits.{Bars, FailsAt}
 
 abbrev pub of_refusal : CommitRefusal → Fate
 of_refusal (refusals.Clash head path) = fates.Barred (bars.Conflict path head)
@@ -33,7 +33,7 @@ Fated (fates.Barred bar) v u y = Bars bar u y
 Fated (fates.DiskFault at) v u y = FailsAt at v u
 Fated fates.BenchFault v u y = Unit {0}
 
--- a fact, where a call of the section failed
+-- a fact, where a call of the disk failed
 abbrev pub IfStopped : Fate → Type 0 → Type 0
-IfStopped (fates.DiskFault at) P = IfCommitPlace at P
+IfStopped (fates.DiskFault at) P = P
 IfStopped fate P = Unit {0}

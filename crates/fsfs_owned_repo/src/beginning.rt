@@ -1,5 +1,5 @@
 //! Transactions begin.
-ghost use Rattle.std.specs.Prelude.{◌≡◌, ◌≤◌, true, codes, None, IfOk, IfErr, IfSome};
+ghost use Rattle.std.specs.Prelude.{◌≡◌, ◌⊎◌, ◌≤◌, true, codes, None, IfOk, IfErr, IfSome};
 ghost use Rattle.fsfs_base.specs.Failures.{Rose};
 ghost use Rattle.fsfs_disk.specs.Labels.{has_label};
 ghost use Rattle.fsfs_begin.specs.Benches.{TellsRoot};
@@ -7,7 +7,7 @@ ghost use Rattle.fsfs_held.specs.Views.{begun_folder};
 ghost use Rattle.fsfs_machine.specs.Kept.{IsIn};
 ghost use Rattle.fsfs_txns.specs.Txns.{pair_of, txn_label};
 ghost use Rattle.fsfs_turn.specs.Views.{View};
-ghost use Rattle.fsfs_turn_begin.specs.Steps.{HasSmallCounter, Moved};
+ghost use Rattle.fsfs_turn_begin.specs.Steps.{IsPastNumbers, Moved};
 ghost use Rattle.fsfs_turn_begin.specs.Faults.{Cause, IfBench, IfDisk, IsAbove, LeavesNone};
 ghost use Rattle.fsfs_owned_repo.specs.Begun.{BeginsTxn};
 ghost use Rattle.fsfs_owned_repo.specs.Crashes.{CrashesLeave};
@@ -45,6 +45,7 @@ fn hold<B: Bench>(alloc: Global, base: RevNum, begun: Begun<B>) -> Result<Txn<He
 fn forget<R, D: Disk>(rt: &R, turns: &mut Owned<D>, name: &TxnName, bench: D::Bench)
     ensures moved { (v : View) → ⟦<Owned<D> as Turns<R>>⟧.knows turns.old v → v.section ≡ None → IsIn name.now.number.number v.given
         → (u : View) × ⟦<Owned<D> as Turns<R>>⟧.knows turns.new u × Moved v u }
+    ensures mounted { D.mount_path turns.new.disk ≡ D.mount_path turns.old.disk }
     ensures later { ⟦<Owned<D> as Turns<R>>⟧.faults turns.old ≤ ⟦<Owned<D> as Turns<R>>⟧.faults turns.new }
 {
     let _ = <Owned<D> as Turns<R>>::drop_bench(turns, rt, &Label::Txn(*name), Some(bench));
@@ -65,17 +66,21 @@ impl<D: Disk> Repo<D> {
         ensures sound { IfOk result.1 (λ txn. ⟦<HeldNodes<D::Bench> as Own>⟧.faults txn.own ≡ 0) }
         // Its label is kept.
         ensures kept { IfSome (⟦<Owned<D> as Turns<R>>⟧.labels result.0.turns) (λ ls. IfOk result.1 (λ txn. has_label (txn_label (pair_of (⟦<HeldNodes<D::Bench> as Own>⟧.txn txn.own))) ls ≡ true)) }
-        // It stands for the tree of its base, and the pass knows its name to be given.
-        ensures begun { (v : View) → ⟦<Owned<D> as Turns<R>>⟧.knows self.turns v → v.section ≡ None → HasSmallCounter (⟦<Owned<D> as Turns<R>>⟧.store self.turns)
-            → IfOk result.1 (λ txn. (u : View) × ⟦<Owned<D> as Turns<R>>⟧.knows result.0.turns u × BeginsTxn (⟦<HeldNodes<D::Bench> as Own>⟧.txn txn.own) base (⟦<HeldNodes<D::Bench> as Own>⟧.settled txn.own) v u) }
+        // It stands for the tree of its base, and the pass knows its name to be given. Or the number that stood in `db/txn-current` is past
+        // those that the machine reads, here and where none was begun.
+        ensures begun { (v : View) → ⟦<Owned<D> as Turns<R>>⟧.knows self.turns v → v.section ≡ None
+            → IfOk result.1 (λ txn. ((u : View) × ⟦<Owned<D> as Turns<R>>⟧.knows result.0.turns u × BeginsTxn (⟦<HeldNodes<D::Bench> as Own>⟧.txn txn.own) base (⟦<HeldNodes<D::Bench> as Own>⟧.settled txn.own) v u)
+            ⊎ IsPastNumbers (⟦<Owned<D> as Turns<R>>⟧.store self.turns)) }
         // Or why none was begun.
-        ensures refused { (v : View) → ⟦<Owned<D> as Turns<R>>⟧.knows self.turns v → v.section ≡ None → HasSmallCounter (⟦<Owned<D> as Turns<R>>⟧.store self.turns)
-            → IfErr result.1 (λ why. (u : View) × ⟦<Owned<D> as Turns<R>>⟧.knows result.0.turns u × Moved v u × Cause base why u
-            × IfBench why (LeavesNone base (⟦<Owned<D> as Turns<R>>⟧.labels result.0.turns) (Rose (⟦<Owned<D> as Turns<R>>⟧.faults self.turns) (⟦<Owned<D> as Turns<R>>⟧.faults result.0.turns)) v u)) }
+        ensures refused { (v : View) → ⟦<Owned<D> as Turns<R>>⟧.knows self.turns v → v.section ≡ None
+            → IfErr result.1 (λ why. ((u : View) × ⟦<Owned<D> as Turns<R>>⟧.knows result.0.turns u × Moved v u × Cause base why u
+            × IfBench why (LeavesNone base (⟦<Owned<D> as Turns<R>>⟧.labels result.0.turns) (Rose (⟦<Owned<D> as Turns<R>>⟧.faults self.turns) (⟦<Owned<D> as Turns<R>>⟧.faults result.0.turns)) v u))
+            ⊎ IsPastNumbers (⟦<Owned<D> as Turns<R>>⟧.store self.turns)) }
         // What is known then says what a crash leaves, at each moment of the call too.
         ensures crashes { (u : View) → ⟦<Owned<D> as Turns<R>>⟧.knows result.0.turns u → CrashesLeave result.0.turns.layout (D.trace result.0.turns.disk) u }
         // Whatever the disk tells.
         ensures above { IfErr result.1 (IsAbove base) }
+        ensures mounted { D.mount_path result.0.turns.disk ≡ D.mount_path self.turns.disk }
         ensures later { ⟦<Owned<D> as Turns<R>>⟧.faults self.turns ≤ ⟦<Owned<D> as Turns<R>>⟧.faults result.0.turns }
         ensures cause { IfErr result.1 (λ why. IfDisk why (Rose (⟦<Owned<D> as Turns<R>>⟧.faults self.turns) (⟦<Owned<D> as Turns<R>>⟧.faults result.0.turns))) }
     {

@@ -47,6 +47,7 @@ impl<D: Disk> Repo<D> {
         ensures unlisted { IfPurged result.1 (IfSome (⟦<Owned<D> as Turns<R>>⟧.labels result.0.turns) (λ ls. has_label (txn_label (pair_of (⟦<HeldNodes<D::Bench> as Own>⟧.txn txn.own))) ls ≡ false)) }
         // What is known then says what a crash leaves, at each moment of the call too.
         ensures crashes { (u : View) → ⟦<Owned<D> as Turns<R>>⟧.knows result.0.turns u → CrashesLeave result.0.turns.layout (D.trace result.0.turns.disk) u }
+        ensures mounted { D.mount_path result.0.turns.disk ≡ D.mount_path self.turns.disk }
         ensures later { ⟦<Owned<D> as Turns<R>>⟧.faults self.turns ≤ ⟦<Owned<D> as Turns<R>>⟧.faults result.0.turns }
         ensures cause { IfFailed result.1 (Rose (⟦<Owned<D> as Turns<R>>⟧.faults self.turns) (⟦<Owned<D> as Turns<R>>⟧.faults result.0.turns)) }
     {

@@ -10,7 +10,7 @@ ghost use Rattle.fsfs_txns.specs.Txns.{pair_of, txn_label};
 ghost use Rattle.fsfs_commit.specs.Replies.{Committed, Moved, Refused, RoseIfDisk};
 ghost use Rattle.fsfs_commit.specs.Works.{Landings};
 ghost use Rattle.fsfs_draft.specs.Meaning.{IfTxn, IsTxnOf, Means};
-ghost use Rattle.fsfs_draft.specs.Refusals.{Refuses};
+ghost use Rattle.fsfs_draft.specs.Refusals.{IsDiskFault, Refuses};
 ghost use Rattle.fsfs_owned_repo.specs.Commits.{Bars, Ends, IfFailed, IfPurged, IsDropped};
 ghost use Rattle.fsfs_owned_repo.specs.Fates.{Fated, IfStopped};
 
@@ -30,6 +30,7 @@ fn drop_bench<R, D: Disk>(rt: &R, turns: &mut Owned<D>, name: &TxnName, bench: D
     ensures dropped { (m : View) → ⟦<Owned<D> as Turns<R>>⟧.knows turns.old m → m.section ≡ None → IsIn name.now.number.number m.given
         → IsDropped (⟦<Owned<D> as Turns<R>>⟧.knows turns.new) result name.now.number.number m }
     ensures unlisted { result ≡ true → IfSome (⟦<Owned<D> as Turns<R>>⟧.labels turns.new) (λ ls. has_label (txn_label (pair_of name.now)) ls ≡ false) }
+    ensures mounted { D.mount_path turns.new.disk ≡ D.mount_path turns.old.disk }
     ensures later { ⟦<Owned<D> as Turns<R>>⟧.faults turns.old ≤ ⟦<Owned<D> as Turns<R>>⟧.faults turns.new }
     ensures cause { result ≡ false → Rose (⟦<Owned<D> as Turns<R>>⟧.faults turns.old) (⟦<Owned<D> as Turns<R>>⟧.faults turns.new) }
 {
@@ -51,6 +52,7 @@ fn hand_back<R, D: Disk>(
         → x.name ≡ name.now.number.number → Landings u.seen x y → Bars bar u y
         → IfTxn left (λ t. Means t.spent u.seen (⟦<HeldNodes<D::Bench> as Own>⟧.txn t.own) t.base (⟦<HeldNodes<D::Bench> as Own>⟧.settled t.own) y)
         → Ends (⟦<Owned<D> as Turns<R>>⟧.knows turns.new) (λ h z t. (t.spent ≡ None) × IsTxnOf h (⟦<HeldNodes<D::Bench> as Own>⟧.txn t.own) t.base (⟦<HeldNodes<D::Bench> as Own>⟧.settled t.own) z) p v x result }
+    ensures mounted { D.mount_path turns.new.disk ≡ D.mount_path turns.old.disk }
     ensures later { ⟦<Owned<D> as Turns<R>>⟧.faults turns.old ≤ ⟦<Owned<D> as Turns<R>>⟧.faults turns.new }
     ensures cause { (n : ℕ) → IfFailed result (Rose n (⟦<Owned<D> as Turns<R>>⟧.faults turns.new)) }
     ensures label { IfPurged result (IfSome (⟦<Owned<D> as Turns<R>>⟧.labels turns.new) (λ ls. has_label (txn_label (pair_of name.now)) ls ≡ false)) }
@@ -81,6 +83,7 @@ fn fall<R, D: Disk>(
         → x.name ≡ name.now.number.number → Landings u.seen x y → Fated fate v u y
         → IfTxn left (λ t. Means t.spent u.seen (⟦<HeldNodes<D::Bench> as Own>⟧.txn t.own) t.base (⟦<HeldNodes<D::Bench> as Own>⟧.settled t.own) y)
         → Ends (⟦<Owned<D> as Turns<R>>⟧.knows turns.new) (λ h z t. (t.spent ≡ None) × IsTxnOf h (⟦<HeldNodes<D::Bench> as Own>⟧.txn t.own) t.base (⟦<HeldNodes<D::Bench> as Own>⟧.settled t.own) z) p v x result }
+    ensures mounted { D.mount_path turns.new.disk ≡ D.mount_path turns.old.disk }
     ensures later { ⟦<Owned<D> as Turns<R>>⟧.faults turns.old ≤ ⟦<Owned<D> as Turns<R>>⟧.faults turns.new }
     ensures cause { (n : ℕ) → IfStopped fate (Rose n (⟦<Owned<D> as Turns<R>>⟧.faults turns.old)) → IfFailed result (Rose n (⟦<Owned<D> as Turns<R>>⟧.faults turns.new)) }
     ensures label { IfPurged result (IfSome (⟦<Owned<D> as Turns<R>>⟧.labels turns.new) (λ ls. has_label (txn_label (pair_of name.now)) ls ≡ false)) }
@@ -111,8 +114,9 @@ pub(crate) fn end<R, D: Disk>(
         → IfErr done (λ fault. (u : View) × (y : MachineTxn) × ⟦<Owned<D> as Turns<R>>⟧.knows turns.old u × Refused Refuses fault v u x y
         × IfTxn left (λ t. Means t.spent u.seen (⟦<HeldNodes<D::Bench> as Own>⟧.txn t.own) t.base (⟦<HeldNodes<D::Bench> as Own>⟧.settled t.own) y))
         → Ends (⟦<Owned<D> as Turns<R>>⟧.knows turns.new) (λ h z t. (t.spent ≡ None) × IsTxnOf h (⟦<HeldNodes<D::Bench> as Own>⟧.txn t.own) t.base (⟦<HeldNodes<D::Bench> as Own>⟧.settled t.own) z) p v x result }
+    ensures mounted { D.mount_path turns.new.disk ≡ D.mount_path turns.old.disk }
     ensures later { ⟦<Owned<D> as Turns<R>>⟧.faults turns.old ≤ ⟦<Owned<D> as Turns<R>>⟧.faults turns.new }
-    ensures cause { (n : ℕ) → n ≤ ⟦<Owned<D> as Turns<R>>⟧.faults turns.old → IfErr done (RoseIfDisk (Rose n (⟦<Owned<D> as Turns<R>>⟧.faults turns.old))) → IfFailed result (Rose n (⟦<Owned<D> as Turns<R>>⟧.faults turns.new)) }
+    ensures cause { (n : ℕ) → n ≤ ⟦<Owned<D> as Turns<R>>⟧.faults turns.old → IfErr done (RoseIfDisk IsDiskFault (Rose n (⟦<Owned<D> as Turns<R>>⟧.faults turns.old))) → IfFailed result (Rose n (⟦<Owned<D> as Turns<R>>⟧.faults turns.new)) }
     ensures label { IfPurged result (IfSome (⟦<Owned<D> as Turns<R>>⟧.labels turns.new) (λ ls. has_label (txn_label (pair_of name.now)) ls ≡ false)) }
 {
     match done {

@@ -5,13 +5,11 @@ mod answers;
 mod beginning;
 mod committing;
 mod ending;
-mod laws;
 mod listing;
 mod purging;
 mod reading;
 mod repo;
 
 pub use answers::{CommitAnswer, CommitBar};
-pub use laws::a_lone_pass_sees_all;
 pub use reading::Reader;
 pub use repo::{OpenedRepo, Repo};

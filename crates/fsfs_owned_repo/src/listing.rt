@@ -24,6 +24,7 @@ impl<D: Disk> Repo<D> {
         // What is known then says what a crash leaves, at each moment of the call too.
         ensures crashes { (u : View) → ⟦<Owned<D> as Turns<R>>⟧.knows self.new.turns u → CrashesLeave self.new.turns.layout (D.trace self.new.turns.disk) u }
         ensures same { ⟦<Owned<D> as Turns<R>>⟧.labels self.new.turns ≡ ⟦<Owned<D> as Turns<R>>⟧.labels self.old.turns }
+        ensures mounted { D.mount_path self.new.turns.disk ≡ D.mount_path self.old.turns.disk }
         ensures later { ⟦<Owned<D> as Turns<R>>⟧.faults self.old.turns ≤ ⟦<Owned<D> as Turns<R>>⟧.faults self.new.turns }
         ensures done { OnOk result (⟦<Owned<D> as Turns<R>>⟧.faults self.new.turns ≡ ⟦<Owned<D> as Turns<R>>⟧.faults self.old.turns) }
         ensures failed { IsErrOf result ListFault.Failed → Rose (⟦<Owned<D> as Turns<R>>⟧.faults self.old.turns) (⟦<Owned<D> as Turns<R>>⟧.faults self.new.turns) }

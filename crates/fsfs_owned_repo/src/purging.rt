@@ -1,5 +1,5 @@
 //! Transactions are purged.
-ghost use Rattle.std.specs.Prelude.{◌≡◌, ◌⊎◌, ◌<◌, None, false, length, option_map, IfSome, OnOk, OnErr};
+ghost use Rattle.std.specs.Prelude.{◌≡◌, ◌⊎◌, None, false, option_map, IfSome, OnOk, OnErr};
 ghost use Rattle.fsfs_base.specs.Failures.{HasCause};
 ghost use Rattle.fsfs_disk.specs.Labels.{has_label, without_label};
 ghost use Rattle.fsfs_machine.specs.Kept.{IsIn};
@@ -38,10 +38,10 @@ impl<D: Disk> Repo<D> {
             ⊎ (⟦<Owned<D> as Turns<R>>⟧.labels self.new.turns ≡ option_map (without_label (txn_label (pair_of (⟦<HeldNodes<D::Bench> as Own>⟧.txn txn.own)))) (⟦<Owned<D> as Turns<R>>⟧.labels self.old.turns))) }
         // It is one step of the machine, however it went: of a transaction under way, whatever its edits were.
         ensures purged { (v : View) → ⟦<Owned<D> as Turns<R>>⟧.knows self.old.turns v → v.section ≡ None → IsIn (⟦<HeldNodes<D::Bench> as Own>⟧.txn txn.own).number.number v.given
-            → (⟦<HeldNodes<D::Bench> as Own>⟧.txn txn.own).base < length v.seen
             → PurgesAny (⟦<Owned<D> as Turns<R>>⟧.knows self.new.turns) (⟦<HeldNodes<D::Bench> as Own>⟧.txn txn.own).number.number result v }
         // What is known then says what a crash leaves, at each moment of the call too.
         ensures crashes { (u : View) → ⟦<Owned<D> as Turns<R>>⟧.knows self.new.turns u → CrashesLeave self.new.turns.layout (D.trace self.new.turns.disk) u }
+        ensures mounted { D.mount_path self.new.turns.disk ≡ D.mount_path self.old.turns.disk }
         ensures cause { HasCause (⟦<Owned<D> as Turns<R>>⟧.faults self.old.turns) (⟦<Owned<D> as Turns<R>>⟧.faults self.new.turns) result }
     {
         let (name, bench) = bench_of(txn);

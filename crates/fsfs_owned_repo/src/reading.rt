@@ -1,7 +1,7 @@
 //! Readers of a repository that runs.
-ghost use Rattle.std.specs.Prelude.{◌≡◌, None};
+ghost use Rattle.std.specs.Prelude.{◌≡◌};
 ghost use Rattle.fsfs_turn.specs.Views.{View};
-ghost use Rattle.fsfs_owned_repo.specs.Alone.{HasAll, KnowsIn};
+ghost use Rattle.fsfs_owned_repo.specs.Alone.{KnowsIn};
 ghost use Rattle.fsfs_owned_repo.specs.Readers.{TellsSeenAll};
 
 use crate::repo::Repo;
@@ -20,9 +20,9 @@ impl<D: Disk> Repo<D> {
     /// A reader, which takes the repository until it gives it back.
     pub fn reader<'a, R>(self, rt: &'a R, alloc: Global) -> Direct<TurnReads<'a, R, Owned<D>>>
         // Of each revision up to the youngest it tells the bytes beside it, which show its tree, and a dump of its properties.
-        ensures told { (v : View) → ⟦<Owned<D> as Turns<R>>⟧.knows self.turns v → v.section ≡ None
-            → (u : View) × HasAll self.turns.young v u × TellsSeenAll u (⟦<Direct<TurnReads<'a, R, Owned<D>>> as Book>⟧.told result) }
+        ensures told { (v : View) → ⟦<Owned<D> as Turns<R>>⟧.knows self.turns v → TellsSeenAll v (⟦<Direct<TurnReads<'a, R, Owned<D>>> as Book>⟧.told result) }
         ensures below { (⟦<Direct<TurnReads<'a, R, Owned<D>>> as Book>⟧.told result).below ≡ (⟦<Owned<D> as Turns<R>>⟧.store self.turns).below }
+        ensures mounted { (⟦<Direct<TurnReads<'a, R, Owned<D>>> as Book>⟧.told result).below.mount_path ≡ D.mount_path self.turns.disk }
         ensures faults { ⟦<Direct<TurnReads<'a, R, Owned<D>>> as Book>⟧.faults result ≡ ⟦<Owned<D> as Turns<R>>⟧.faults self.turns }
     {
         let Repo { turns } = self;
@@ -33,6 +33,7 @@ impl<D: Disk> Repo<D> {
     pub fn of_reader<'a, R>(reader: Direct<TurnReads<'a, R, Owned<D>>>) -> Repo<D>
         ensures below { (⟦<Owned<D> as Turns<R>>⟧.store result.turns).below ≡ (⟦<Direct<TurnReads<'a, R, Owned<D>>> as Book>⟧.told reader.entry).below }
         ensures known { (v : View) → KnowsIn (⟦<Direct<TurnReads<'a, R, Owned<D>>> as Book>⟧.told reader.entry).below v → ⟦<Owned<D> as Turns<R>>⟧.knows result.turns v }
+        ensures mounted { D.mount_path result.turns.disk ≡ (⟦<Direct<TurnReads<'a, R, Owned<D>>> as Book>⟧.told reader.entry).below.mount_path }
         ensures faults { ⟦<Owned<D> as Turns<R>>⟧.faults result.turns ≡ ⟦<Direct<TurnReads<'a, R, Owned<D>>> as Book>⟧.faults reader.entry }
     {
         Repo {

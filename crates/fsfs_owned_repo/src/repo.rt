@@ -1,14 +1,13 @@
 //! A repository that runs.
-ghost use Rattle.std.specs.Prelude.{◌≡◌, ◌≤◌, List, None, IfOk, IfErr, IfSome, IsTrue, MatchResult};
+ghost use Rattle.std.specs.Prelude.{◌≡◌, ◌≤◌, ◌+◌, List, length, IfOk, IfErr, IfSome, IsTrue, MatchResult};
 ghost use Rattle.fsfs_base.specs.Failures.{Rose};
 ghost use Rattle.fsfs_tree.specs.Revisions.{Revision};
 ghost use Rattle.fsfs_layout.specs.Opening.{IsOpened, small_texts};
-ghost use Rattle.fsfs_disk.specs.Trace.{FirmNames, files_now, FailsAt};
+ghost use Rattle.fsfs_disk.specs.Trace.{FirmNames, files_now, FailsAt, Performs};
 ghost use Rattle.fsfs_stands.specs.Files.{StandsFor};
 ghost use Rattle.fsfs_repo.specs.OpenFaults.{OpensBecause};
 ghost use Rattle.fsfs_opened_store.specs.Known.{HasSeenAll, IsUnpacked, DecidesSo};
 ghost use Rattle.fsfs_turn.specs.Views.{View, Looked};
-ghost use Rattle.fsfs_owned_repo.specs.Alone.{HasAll};
 
 use fsfs_disk::Disk;
 use fsfs_fields::RevNum;
@@ -18,7 +17,8 @@ use fsfs_turn::{Owned, Turns};
 use std::alloc::Global;
 
 /// A repository that runs over a disk of its own. It has one pass, so none of its calls waits; `rt` is what a call would wait by.
-/// What the pass knows is a `View`, and each call says by which steps of the machine it goes from one to the next.
+/// What the pass knows is a `View`, and each call says by which steps of the machine it goes from one to the next. The pass is alone, so
+/// it has seen all revisions that there are, and no call but its own commit adds one (`IsAlone` of `fsfs_turn`).
 #[derive(Drop)]
 pub struct Repo<D: Disk> {
     pub(crate) turns: Owned<D>,
@@ -43,9 +43,10 @@ impl<D: Disk> Repo<D> {
         ensures refused { IfErr result (λ e. OpensBecause (Rose (D.faults disk) (D.faults e.disk)) (D.trace disk) e.why) }
         // Where it is opened or refused is decided by the files alone.
         ensures decided { IfSome (D.trace disk) (λ t. DecidesSo (small_texts (files_now t)) result (λ o. o.said) (λ e. e.why)) }
+        ensures firm { IfOk result (λ o. Performs FirmNames (D.trace disk) (D.trace o.repo.turns.disk)) }
         ensures left { IfErr result (λ e. FailsAt FirmNames (D.trace disk) (D.trace e.disk)) }
         ensures later { MatchResult result (λ o. D.faults disk ≤ ⟦<Owned<D> as Turns<()>>⟧.faults o.repo.turns) (λ e. D.faults disk ≤ D.faults e.disk) }
-        ensures mounted { IfErr result (λ e. D.mount_path e.disk ≡ D.mount_path disk) }
+        ensures mounted { MatchResult result (λ o. D.mount_path o.repo.turns.disk ≡ D.mount_path disk) (λ e. D.mount_path e.disk ≡ D.mount_path disk) }
     {
         match open_store(alloc, disk) {
             Ok(OpenedStore { store, said }) => Ok(OpenedRepo {
@@ -61,10 +62,10 @@ impl<D: Disk> Repo<D> {
         // The machine's look: the pass was told the youngest revision.
         ensures turned { (v : View) → ⟦<Owned<D> as Turns<()>>⟧.knows self.old.turns v
             → (u : View) × ⟦<Owned<D> as Turns<()>>⟧.knows self.new.turns u × Looked result v u }
-        // It is alone, so it may be taken to have seen all up to that one.
-        ensures all { (v : View) → ⟦<Owned<D> as Turns<()>>⟧.knows self.old.turns v → v.section ≡ None
-            → (u : View) × ⟦<Owned<D> as Turns<()>>⟧.knows self.new.turns u × HasAll result v u }
+        // It is alone, so it has seen all up to that one.
+        ensures all { (v : View) → ⟦<Owned<D> as Turns<()>>⟧.knows self.new.turns v → length v.seen ≡ result + 1 }
         ensures same { (⟦<Owned<D> as Turns<()>>⟧.store self.new.turns).below ≡ (⟦<Owned<D> as Turns<()>>⟧.store self.old.turns).below }
+        ensures mounted { D.mount_path self.new.turns.disk ≡ D.mount_path self.old.turns.disk }
         ensures faults { ⟦<Owned<D> as Turns<()>>⟧.faults self.new.turns ≡ ⟦<Owned<D> as Turns<()>>⟧.faults self.old.turns }
     {
         <Owned<D> as Turns<()>>::look(&mut self.turns)

@@ -1,7 +1,7 @@
 use Rattle.std.proofs.Common.{subst}
 use Rattle.fsfs_base.specs.Failures.{Rose}
 use Rattle.fsfs_owned_repo.specs.Fates.{Fated, IfStopped}
-use Rattle.fsfs_owned_repo.proofs.Commits.{no_more, commit_place_then, rose_later}
+use Rattle.fsfs_owned_repo.proofs.Commits.{no_more, rose_later}
 use Rattle.fsfs_owned_repo.proofs.ending.fall.Goals as goal
 
 pub returns-in-Barred-clause-ends : goal.returns-in-Barred-clause-ends
@@ -18,4 +18,4 @@ returns-in-BenchFault-clause-ends g c = λ p v u x y known moved none given name
 
 pub returns-in-DiskFault-clause-cause : goal.returns-in-DiskFault-clause-cause
 returns-in-DiskFault-clause-cause g c = λ n rose.
-    commit_place_then c.in-DiskFault.place _ _ (rose_later n _ _ c.drop_bench.ensures.later) (subst (λ f. IfStopped f (Rose n (g.D.Disk.faults c.args.turns.now.disk))) c.in-DiskFault.is rose)
+    rose_later n _ _ c.drop_bench.ensures.later (subst (λ f. IfStopped f (Rose n (g.D.Disk.faults c.args.turns.now.disk))) c.in-DiskFault.is rose)

@@ -1,4 +1,5 @@
 use Rattle.std.proofs.Common.{sym, ◌∙◌}
+use Rattle.fsfs_commit.proofs.Turning.{landings_name}
 use Rattle.fsfs_owned_repo.proofs.Commits.{no_more, back_so, of_txn}
 use Rattle.fsfs_owned_repo.proofs.ending.hand_back.Goals as goal
 
@@ -12,4 +13,4 @@ returns-then-is_spent-clause-ends g c = λ p v u x y known moved none given name
 
 pub returns-clause-ends : goal.returns-clause-ends
 returns-clause-ends g c = λ p v u x y known moved none given named landings bars means.
-    (u, y, known, record { moved = moved; landings = landings; stands = back_so _ u.seen _ _ _ y (sym c.is_spent.ensures ∙ c.if-is_spent.false) (of_txn c.args.left c.in-Txn.txn _ c.in-Txn.is means) }, bars)
+    (u, y, known, record { moved = moved; landings = landings; name = landings_name u.seen x y landings; stands = back_so _ u.seen _ _ _ y (sym c.is_spent.ensures ∙ c.if-is_spent.false) (of_txn c.args.left c.in-Txn.txn _ c.in-Txn.is means) }, bars)

@@ -4,6 +4,7 @@ use Rattle.fsfs_begin.specs.Benches.{TellsRoot}
 use Rattle.fsfs_machine.specs.Kept.{IsIn}
 use Rattle.fsfs_turn.specs.Views.{View}
 use Rattle.fsfs_turn_begin.proofs.Moving.{moved_on}
+use Rattle.fsfs_turn_begin.proofs.Reading.{either_way}
 use Rattle.fsfs_owned_repo.proofs.Begun.{begins_as, begun_moved}
 use Rattle.fsfs_owned_repo.proofs.Crashes.{survives}
 use Rattle.fsfs_owned_repo.proofs.Shown.{known_shown}
@@ -23,7 +24,7 @@ hold-requires g c = told_ok c.begin-back.result.1 c.in-Ok.begun (λ z. TellsRoot
 -- ---- none was begun
 
 pub returns-in-Err-clause-refused : goal.returns-in-Err-clause-refused
-returns-in-Err-clause-refused g c = λ v known none small. told_err c.begin-back.result.1 c.in-Err.fault _ c.in-Err.is (c.begin-back.ensures.refused v known none small)
+returns-in-Err-clause-refused g c = λ v known none. told_err c.begin-back.result.1 c.in-Err.fault _ c.in-Err.is (c.begin-back.ensures.refused v known none)
 
 pub returns-in-Err-clause-crashes : goal.returns-in-Err-clause-crashes
 returns-in-Err-clause-crashes g c = λ u known. let turns = c.begin-back.result.0 in survives turns.layout turns.young turns.stuck (g.D.Disk.trace turns.disk) u known
@@ -31,15 +32,15 @@ returns-in-Err-clause-crashes g c = λ u known. let turns = c.begin-back.result.
 -- ---- one was begun
 
 pub returns-in-Ok-hold-clause-begun : goal.returns-in-Ok-hold-clause-begun
-returns-in-Ok-hold-clause-begun g c = λ v known none small.
+returns-in-Ok-hold-clause-begun g c = λ v known none.
     let turns = c.begin-back.result.0 in
     let begun = c.in-Ok.begun in
-    let b = told_ok c.begin-back.result.1 begun _ c.in-Ok.is (c.begin-back.ensures.begun v known none small) in
-    let base : begun.name.base ≡ c.args.base = told_ok c.begin-back.result.1 begun (λ z. z.name.base ≡ c.args.base) c.in-Ok.is c.begin-back.ensures.base in (
+    let base : begun.name.base ≡ c.args.base = told_ok c.begin-back.result.1 begun (λ z. z.name.base ≡ c.args.base) c.in-Ok.is c.begin-back.ensures.base in
+    either_way (λ b. (
       b.0,
       b.1,
       begins_as begun.name _ begun.root (g.D.Bench.Bench.contents begun.bench) v b.0 b.2 (codes "rev") _ c.args.base (known_shown turns.layout turns.young turns.stuck (g.D.Disk.trace turns.disk) b.0 b.1) base c.in-Ok-hold.ensures.name c.in-Ok-hold.ensures.folder,
-    )
+    )) (λ past. past) (told_ok c.begin-back.result.1 begun _ c.in-Ok.is (c.begin-back.ensures.begun v known none))
 
 pub returns-in-Ok-hold-clause-crashes : goal.returns-in-Ok-hold-clause-crashes
 returns-in-Ok-hold-clause-crashes g c = λ u known. let turns = c.begin-back.result.0 in survives turns.layout turns.young turns.stuck (g.D.Disk.trace turns.disk) u known
@@ -47,11 +48,11 @@ returns-in-Ok-hold-clause-crashes g c = λ u known. let turns = c.begin-back.res
 -- ---- there was no memory to hold it
 
 pub returns-in-Err-hold-clause-refused : goal.returns-in-Err-hold-clause-refused
-returns-in-Err-hold-clause-refused g c = λ v known none small.
+returns-in-Err-hold-clause-refused g c = λ v known none.
     let begun = c.in-Ok.begun in
-    let b = told_ok c.begin-back.result.1 begun _ c.in-Ok.is (c.begin-back.ensures.begun v known none small) in
+    either_way (λ b.
     let d = c.forget.ensures.moved b.0 b.1 (ap {A = View} (λ z. z.section) b.2.is) (subst (λ xs. IsIn begun.name.number.number xs) (sym (ap {A = View} (λ z. z.given) b.2.is)) (inl refl)) in
-    (d.0, d.1, moved_on v b.0 d.0 (begun_moved begun.name begun.root (g.D.Bench.Bench.contents begun.bench) v b.0 b.2) d.2, tt, tt)
+    (d.0, d.1, moved_on v b.0 d.0 (begun_moved begun.name begun.root (g.D.Bench.Bench.contents begun.bench) v b.0 b.2) d.2, tt, tt)) (λ past. past) (told_ok c.begin-back.result.1 begun _ c.in-Ok.is (c.begin-back.ensures.begun v known none))
 
 pub returns-in-Err-hold-clause-crashes : goal.returns-in-Err-hold-clause-crashes
 returns-in-Err-hold-clause-crashes g c = λ u known. let turns = c.forget.new.turns in survives turns.layout turns.young turns.stuck (g.D.Disk.trace turns.disk) u known

@@ -1,6 +1,10 @@
-use Rattle.std.proofs.Common.{sym, subst}
+use Rattle.std.proofs.Common.{sym, subst, ap}
+use Rattle.fsfs_turn.specs.Telling.{OwnedState}
 use Rattle.fsfs_owned_repo.specs.Alone.{KnowsIn}
 use Rattle.fsfs_owned_repo.proofs.repo.Repo.of_reader.Goals as goal
 
 pub returns-clause-known : goal.returns-clause-known
 returns-clause-known g c = λ v known. subst (λ s. KnowsIn s v) (sym c.turns_of.ensures.below) known
+
+pub returns-clause-mounted : goal.returns-clause-mounted
+returns-clause-mounted g c = ap {A = OwnedState} (λ s. s.mount_path) c.turns_of.ensures.below
