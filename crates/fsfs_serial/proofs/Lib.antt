@@ -1,0 +1,4 @@
+pub mod JobLemmas
+pub mod LineLemmas
+pub mod Finite
+pub mod Clashing
