@@ -262,12 +262,12 @@ disk_later before now (Request why) le h = tt
 disk_later before now (Limit why) le h = tt
 disk_later before now (Words why) le h = tt
 disk_later before now (Repository why) le h = tt
-disk_later before now (Outside outsides.Mount) le h = tt
+disk_later before now (Outside outsides.Mount) le h = absurd h
 disk_later before now (Outside (outsides.Disk place)) le h = omega (arith, le, h)
-disk_later before now (Outside outsides.Read) le h = tt
-disk_later before now (Outside outsides.Write) le h = tt
+disk_later before now (Outside outsides.Read) le h = absurd h
+disk_later before now (Outside outsides.Write) le h = absurd h
 disk_later before now (Outside outsides.Bench) le h = tt
-disk_later before now (Outside (outsides.Stuck place)) le h = tt
+disk_later before now (Outside (outsides.Stuck place)) le h = absurd h
 disk_later before now Memory le h = tt
 
 pub quiet_since : (before now : ℕ) (result : Result (Unit {0}) Fault) → before ≤ now → HasDiskCause now now result → HasDiskCause before now result

@@ -152,13 +152,14 @@ AreEditing steps txn base after (Err stopped) look trees top tree marks = IfRefu
 
 -- ---- counts of faults
 
+-- of the outside only the disk and the bench fail
 abbrev pub IfDiskIn : OutsideFault → Type 0 → Type 0
-IfDiskIn outside.Mount P = Unit {0}
+IfDiskIn outside.Mount P = ⊥
 IfDiskIn (outside.Disk place) P = P
-IfDiskIn outside.Read P = Unit {0}
-IfDiskIn outside.Write P = Unit {0}
+IfDiskIn outside.Read P = ⊥
+IfDiskIn outside.Write P = ⊥
 IfDiskIn outside.Bench P = Unit {0}
-IfDiskIn (outside.Stuck place) P = Unit {0}
+IfDiskIn (outside.Stuck place) P = ⊥
 
 abbrev pub IfBenchIn : OutsideFault → Type 0 → Type 0
 IfBenchIn outside.Mount P = Unit {0}
@@ -168,7 +169,7 @@ IfBenchIn outside.Write P = Unit {0}
 IfBenchIn outside.Bench P = P
 IfBenchIn (outside.Stuck place) P = Unit {0}
 
--- a fact, where the disk failed
+-- a fact, where the disk failed, and that nothing else of the outside did but the bench
 abbrev pub IfDisk : Fault → Type 0 → Type 0
 IfDisk (Request why) P = Unit {0}
 IfDisk (Limit why) P = Unit {0}
