@@ -1,0 +1,116 @@
+-- A transaction that has begun, and why none was begun.
+use Rattle.std.proofs.Common.{◌≡◌, ◌≤◌, ◌<◌, ◌∷◌, ℕ, List, [], length, ap, inr, arith}
+use Rattle.std.specs.Prelude.{Err}
+use Rattle.fsfs_fields.specs.declared.txn_name.TxnName.{TxnName}
+use Rattle.fsfs_drafts.specs.Drafts.{Folder}
+use Rattle.fsfs_damage.specs.declared.wrong.Wrong.{Wrong}
+use Rattle.fsfs_damage.specs.declared.wrong.Wrong.TheVariants as wrongs
+use Rattle.fsfs_damage.specs.declared.wrong.Refusal.TheVariants as refusals
+use Rattle.fsfs_machine.specs.declared.machine.Recorded.{Recorded}
+use Rattle.fsfs_machine.specs.Machine.{revisions}
+use Rattle.fsfs_tree.specs.Dated.{last_of}
+use Rattle.fsfs_machine.proofs.Growing.{revisions_length}
+use Rattle.fsfs_shows.specs.Reading.{RootOf}
+use Rattle.fsfs_turn.specs.Bytes.{bytes_of}
+use Rattle.fsfs_turn.specs.Views.{View}
+use Rattle.fsfs_faults.specs.Faults.{fault_from_wrong}
+use Rattle.fsfs_faults.specs.declared.fault.Fault.{Fault}
+use Rattle.fsfs_turn_begin.specs.Steps.{Moved}
+use Rattle.fsfs_turn_begin.specs.Faults.{Cause, IfDisk}
+use Rattle.fsfs_turn_begin.specs.declared.begin_fault.BeginFault.{BeginFault}
+use Rattle.fsfs_turn_begin.specs.declared.begin_fault.BeginFault.TheVariants as begin
+use Rattle.fsfs_owned_repo.specs.Begun.{BeginsTxn}
+use Rattle.fsfs_faults.specs.declared.outside_fault.OutsideFault.TheVariants as outside
+use Rattle.fsfs_job_lines.specs.declared.job.CommitJob.{CommitJob}
+use Rattle.fsfs_job_lines.specs.declared.job.Job.TheVariants as jobs
+use Rattle.fsfs_jobs.specs.declared.answer.JobAnswer.TheVariants.{Stopped}
+use Rattle.fsfs_serial.specs.Jobs.{Fails, ByOutside, ByMemory, ByNames}
+use Rattle.fsfs_job_run.specs.Faults.{fault_of_begin}
+use Rattle.fsfs_job_run.specs.Running.{Stays, HasOutsideCause, IfCounted, CommitsSo, StopsOver}
+use Rattle.fsfs_job_run.proofs.Staying.{IsCounted, seen_same, bare_leaves}
+
+-- it gave a name, and added nothing
+pub begun_stays : (name : TxnName) (base : ℕ) (settled : Folder) (v u : View) → BeginsTxn name base settled v u → IsCounted v → IsCounted u → Stays v u
+begun_stays name base settled v u b all after = record {
+  seen = seen_same v u all b.grows after (ap {A = View} (λ z. z.opened) b.is) (ap {A = View} (λ z. z.pass.mine) b.is);
+  since = ap {A = View} (λ z. z.since) b.is;
+  opened = ap {A = View} (λ z. z.opened) b.is;
+  own = ap {A = View} (λ z. z.pass.mine) b.is;
+  number = ap {A = View} (λ z. z.number) b.is;
+  outside = ap {A = View} (λ z. z.section) b.is;
+  more = name.number.number ∷ [];
+  given = ap {A = View} (λ z. z.given) b.is;
+}
+
+-- and the pass is told still of the last revision that it has seen
+pub begun_told : (name : TxnName) (base : ℕ) (settled : Folder) (v u : View) → BeginsTxn name base settled v u → u.seen ≡ v.seen → v.pass.least ≡ last_of (revisions v.seen) → u.pass.least ≡ last_of (revisions u.seen)
+begun_told name base settled v u b same told = let long : length u.seen ≡ length v.seen = ap (λ (h : List Recorded). length h) same in omega (arith, long, revisions_length v.seen, revisions_length u.seen, b.least, b.all, told)
+
+pub unbegun_stays : (v u : View) → Moved v u → IsCounted v → IsCounted u → Stays v u
+unbegun_stays v u m all after = record {
+  seen = seen_same v u all m.grows after m.opened m.mine;
+  since = m.since;
+  opened = m.opened;
+  own = m.mine;
+  number = m.number;
+  outside = m.outside;
+  more = m.more;
+  given = m.given;
+}
+
+-- Why none was begun on a revision that there is, of which the pass was told: a failure. (Neither is the base above the youngest, nor are the
+-- bytes of its root wrong.)
+module _ (base line : ℕ) (job : CommitJob) (v u : View) (told : v.pass.least ≡ last_of (revisions v.seen)) (there : base ≤ last_of (revisions v.seen)) (moved : Moved v u) (whole : (wrong : Wrong) → base < length u.seen → RootOf (bytes_of u.seen) base (Err wrong) → ⊥) where
+  pub begin_fails : (why : BeginFault) → Cause base why u → Fails (jobs.Commit job) (Stopped line (fault_of_begin why))
+  begin_fails (begin.NoRev asked youngest) c = let on : asked ≡ base = c.0 in let most : u.pass.least ≡ youngest = c.2 in absurd (omega (arith, on, c.1, most, moved.least, told, there))
+  begin_fails (begin.Stuck at) c = ByOutside (jobs.Commit job) line (outside.Stuck at)
+  begin_fails (begin.Small fault) c = absurd c
+  begin_fails begin.NamesFull c = ByNames job line
+  begin_fails (begin.Wrong wrong) c = absurd (whole wrong c.0 c.1)
+  begin_fails (begin.DiskFault at) c = ByOutside (jobs.Commit job) line (outside.Disk at)
+  begin_fails begin.BenchFault c = ByOutside (jobs.Commit job) line outside.Bench
+  begin_fails begin.Memory c = ByMemory (jobs.Commit job) line
+
+  pub begin_outside : (rose : Type 0) (why : BeginFault) → Cause base why u → IfDisk why rose → HasOutsideCause rose u (Stopped line (fault_of_begin why))
+  begin_outside rose (begin.NoRev asked youngest) c disk = tt
+  begin_outside rose (begin.Stuck at) c disk = c
+  begin_outside rose (begin.Small fault) c disk = tt
+  begin_outside rose begin.NamesFull c disk = tt
+  begin_outside rose (begin.Wrong wrong) c disk = absurd (whole wrong c.0 c.1)
+  begin_outside rose (begin.DiskFault at) c disk = disk
+  begin_outside rose begin.BenchFault c disk = tt
+  begin_outside rose begin.Memory c disk = tt
+
+-- none of them is told as one for counts of mergeinfo
+wrong_counted : (job : CommitJob) (line : ℕ) (wrong : Wrong) (P : CommitJob → ℕ → Fault → Type 0) → IfCounted (jobs.Commit job) (Stopped line (fault_from_wrong wrong)) P
+wrong_counted job line (wrongs.Refused (refusals.NoRev asked youngest)) P = tt
+wrong_counted job line (wrongs.Refused (refusals.Missing rev)) P = tt
+wrong_counted job line (wrongs.Refused (refusals.Small small)) P = tt
+wrong_counted job line (wrongs.Damaged damage) P = tt
+wrong_counted job line (wrongs.Delta at) P = tt
+
+pub begin_counted : (job : CommitJob) (line : ℕ) (why : BeginFault) (P : CommitJob → ℕ → Fault → Type 0) → IfCounted (jobs.Commit job) (Stopped line (fault_of_begin why)) P
+begin_counted job line (begin.NoRev asked youngest) P = tt
+begin_counted job line (begin.Stuck at) P = tt
+begin_counted job line (begin.Small fault) P = tt
+begin_counted job line begin.NamesFull P = tt
+begin_counted job line (begin.Wrong wrong) P = wrong_counted job line wrong P
+begin_counted job line (begin.DiskFault at) P = tt
+begin_counted job line begin.BenchFault P = tt
+begin_counted job line begin.Memory P = tt
+
+-- so the job failed
+pub unbegun_so : (knows : View → Type 0) (rose : Type 0) (moment base : ℕ) (job : CommitJob) (why : BeginFault) (v u : View) → knows u → IsCounted v → IsCounted u → v.pass.least ≡ last_of (revisions v.seen) → base ≤ last_of (revisions v.seen) → Moved v u
+    → ((wrong : Wrong) → base < length u.seen → RootOf (bytes_of u.seen) base (Err wrong) → ⊥) → Cause base why u → IfDisk why rose → CommitsSo knows rose moment job (Stopped job.line (fault_of_begin why)) v
+unbegun_so knows rose moment base job why v u known all after told there moved whole cause disk = (
+  (
+    u,
+    known,
+    record {
+      done = inr (begin_fails base job.line job v u told there moved whole why cause);
+      leaves = bare_leaves (Stopped job.line (fault_of_begin why)) v u tt (unbegun_stays v u moved all after);
+    },
+    begin_outside base job.line job v u told there moved whole rose why cause disk,
+  ),
+  begin_counted job job.line why (StopsOver v.seen),
+)

@@ -1,0 +1,102 @@
+-- Causes of failures, one behind another, and what is told where a job was refused for mergeinfo.
+use Rattle.std.proofs.Common.{◌≡◌, ℕ, List, [], subst}
+use Rattle.fsfs_fields.specs.declared.txn_name.TxnName.{TxnName}
+use Rattle.fsfs_tree.specs.Dated.{last_of}
+use Rattle.fsfs_tree.specs.Revisions.{tree_of}
+use Rattle.fsfs_machine.specs.declared.machine.Recorded.{Recorded}
+use Rattle.fsfs_machine.specs.Machine.{revisions}
+use Rattle.fsfs_turn.specs.Bytes.{bytes_of}
+use Rattle.fsfs_turn.specs.Views.{View}
+use Rattle.fsfs_job_lines.specs.declared.job.CommitJob.{CommitJob}
+use Rattle.fsfs_job_lines.specs.declared.job.Job.{Job}
+use Rattle.fsfs_job_lines.specs.declared.job.Job.TheVariants as jobs
+use Rattle.fsfs_faults.specs.declared.fault.Fault.{Fault}
+use Rattle.fsfs_faults.specs.declared.fault.Fault.TheVariants.{Words, Request, Repository, Outside, Memory, Limit}
+use Rattle.fsfs_faults.specs.declared.outside_fault.OutsideFault.TheVariants as outside
+use Rattle.fsfs_faults.specs.declared.request_fault.RequestFault.{RequestFault}
+use Rattle.fsfs_faults.specs.declared.request_fault.RequestFault.TheVariants as requests
+use Rattle.fsfs_jobs.specs.Edits.{StopsAt}
+use Rattle.fsfs_jobs.specs.Serial.{base_of}
+use Rattle.fsfs_jobs.specs.declared.answer.JobAnswer.{JobAnswer}
+use Rattle.fsfs_jobs.specs.declared.answer.JobAnswer.TheVariants as answers
+use Rattle.fsfs_job_edits.specs.Editing.{Bars, IfRefused, IfDisk}
+use Rattle.fsfs_job_run.specs.Running.{HasOutsideCause, IfCounted, IsNoRequest, StopsOver, DoesSo}
+
+-- ---- causes
+
+outside_on : (P Q : Type 0) (u : View) (answer : JobAnswer) → (P → Q) → HasOutsideCause P u answer → HasOutsideCause Q u answer
+outside_on P Q u (answers.Committed rev) f h = tt
+outside_on P Q u (answers.Read text) f h = tt
+outside_on P Q u (answers.Conflict head path) f h = tt
+outside_on P Q u (answers.Stopped line (Words why)) f h = tt
+outside_on P Q u (answers.Stopped line (Request why)) f h = tt
+outside_on P Q u (answers.Stopped line (Repository why)) f h = tt
+outside_on P Q u (answers.Stopped line (Outside outside.Mount)) f h = h
+outside_on P Q u (answers.Stopped line (Outside (outside.Disk at))) f h = f h
+outside_on P Q u (answers.Stopped line (Outside outside.Read)) f h = h
+outside_on P Q u (answers.Stopped line (Outside outside.Write)) f h = h
+outside_on P Q u (answers.Stopped line (Outside outside.Bench)) f h = tt
+outside_on P Q u (answers.Stopped line (Outside (outside.Stuck at))) f h = h
+outside_on P Q u (answers.Stopped line Memory) f h = tt
+outside_on P Q u (answers.Stopped line (Limit why)) f h = tt
+
+-- the same, over more calls
+pub does_on : (knows : View → Type 0) (P Q : Type 0) (moment : ℕ) (job : Job) (answer : JobAnswer) (v : View) → (P → Q) → DoesSo knows P moment job answer v → DoesSo knows Q moment job answer v
+does_on knows P Q moment job answer v f d = (d.0, d.1, d.2, outside_on P Q d.0 answer f d.3)
+
+-- of an edit
+pub edits_outside : (P Q : Type 0) (line : ℕ) (u : View) (fault : Fault) → (P → Q) → IfDisk fault P → HasOutsideCause Q u (answers.Stopped line fault)
+edits_outside P Q line u (Words why) f h = tt
+edits_outside P Q line u (Request why) f h = tt
+edits_outside P Q line u (Repository why) f h = tt
+edits_outside P Q line u (Outside outside.Mount) f h = h
+edits_outside P Q line u (Outside (outside.Disk at)) f h = f h
+edits_outside P Q line u (Outside outside.Read) f h = h
+edits_outside P Q line u (Outside outside.Write) f h = h
+edits_outside P Q line u (Outside outside.Bench) f h = tt
+edits_outside P Q line u (Outside (outside.Stuck at)) f h = absurd h
+edits_outside P Q line u Memory f h = tt
+edits_outside P Q line u (Limit why) f h = tt
+
+-- ---- mergeinfo
+
+pub none_counted : (job : Job) (answer : JobAnswer) (P : CommitJob → ℕ → Fault → Type 0) → IsNoRequest answer → IfCounted job answer P
+none_counted (jobs.Read job) answer P none = tt
+none_counted (jobs.Commit job) (answers.Committed rev) P none = tt
+none_counted (jobs.Commit job) (answers.Read text) P none = tt
+none_counted (jobs.Commit job) (answers.Conflict head path) P none = tt
+none_counted (jobs.Commit job) (answers.Stopped line (Words why)) P none = tt
+none_counted (jobs.Commit job) (answers.Stopped line (Request why)) P none = absurd none
+none_counted (jobs.Commit job) (answers.Stopped line (Repository why)) P none = tt
+none_counted (jobs.Commit job) (answers.Stopped line (Outside why)) P none = tt
+none_counted (jobs.Commit job) (answers.Stopped line Memory) P none = tt
+none_counted (jobs.Commit job) (answers.Stopped line (Limit why)) P none = tt
+
+pub refused_counted : (base : ℕ) (name : TxnName) (job : CommitJob) (line : ℕ) (fault : Fault) (h : List Recorded) → base ≡ base_of job.base (last_of (revisions h))
+    → IfRefused fault (StopsAt (Bars (bytes_of h) (tree_of (revisions h)) (last_of (revisions h)) base name) (tree_of (revisions h)) (last_of (revisions h)) (tree_of (revisions h) base) [] job.steps line fault)
+    → IfCounted (jobs.Commit job) (answers.Stopped line fault) (StopsOver h)
+refused_counted base name job line fault h on s = by fault s
+  where
+    asked : (why : RequestFault) → StopsAt (Bars (bytes_of h) (tree_of (revisions h)) (last_of (revisions h)) base name) (tree_of (revisions h)) (last_of (revisions h)) (tree_of (revisions h) base) [] job.steps line (Request why)
+        → IfCounted (jobs.Commit job) (answers.Stopped line (Request why)) (StopsOver h)
+    asked (requests.NotFound path) s = tt
+    asked (requests.NotDir path) s = tt
+    asked (requests.NotFile path) s = tt
+    asked (requests.NoRev n youngest) s = tt
+    asked (requests.NoTxn txn) s = tt
+    asked requests.AlreadyRepo s = tt
+    asked requests.NotRepo s = tt
+    asked (requests.Exists path) s = tt
+    asked requests.RootFixed s = tt
+    asked (requests.Mergeinfo path) s =
+        (name, subst (λ (b : ℕ). StopsAt (Bars (bytes_of h) (tree_of (revisions h)) (last_of (revisions h)) b name) (tree_of (revisions h)) (last_of (revisions h)) (tree_of (revisions h) b) [] job.steps line (Request (requests.Mergeinfo path))) on s)
+    asked (requests.BadScript bad) s = tt
+
+    by : (f : Fault) → IfRefused f (StopsAt (Bars (bytes_of h) (tree_of (revisions h)) (last_of (revisions h)) base name) (tree_of (revisions h)) (last_of (revisions h)) (tree_of (revisions h) base) [] job.steps line f)
+        → IfCounted (jobs.Commit job) (answers.Stopped line f) (StopsOver h)
+    by (Words why) s = tt
+    by (Request why) s = asked why s
+    by (Repository why) s = tt
+    by (Outside why) s = tt
+    by Memory s = tt
+    by (Limit why) s = tt

@@ -1,0 +1,17 @@
+pub mod Staying
+pub mod Ended
+pub mod Edited
+pub mod PropertyLemmas
+pub mod Based
+pub mod Refused
+pub mod Reading
+pub mod Going
+pub mod Ends
+pub mod Begun
+pub mod Whole
+pub mod Composed
+pub mod Barred
+pub mod Alone
+pub mod Counted
+pub mod Answered
+pub mod Seen

@@ -1,0 +1,36 @@
+use Rattle.std.proofs.Common.{ℕ, refl, sym, subst, arith}
+use Rattle.fsfs_base.specs.Failures.{Rose}
+use Rattle.fsfs_tree.specs.Dated.{last_of}
+use Rattle.fsfs_tree.specs.Revisions.{tree_of}
+use Rattle.fsfs_machine.specs.Kept.{IsIn}
+use Rattle.fsfs_machine.specs.Machine.{revisions}
+use Rattle.fsfs_machine.proofs.Growing.{revisions_length}
+use Rattle.fsfs_turn.specs.Alone.{KnowsAlone}
+use Rattle.fsfs_turn.specs.Bytes.{bytes_of}
+use Rattle.fsfs_job_run.proofs.Composed.{stands_for, edited_so, stopped_so, edits_done, edits_stopped, edits_failed, txn_as, given_as}
+use Rattle.fsfs_job_run.proofs.commit_job.edit_and_commit.Goals as goal
+
+pub returns-in-Ok-clause-does : goal.returns-in-Ok-clause-does
+returns-in-Ok-clause-does g c = λ v known none told given based on stands.
+    let mid = c.edit-repo.result.0.turns in
+    let after = c.commit_edited.result.0.turns in
+    let job = c.args.job.now in
+    let base = c.args.txn.base in
+    let e = edits_done job.steps _ base _ c.edit-repo.result.1 _ (bytes_of v.seen) (tree_of (revisions v.seen)) (last_of (revisions v.seen)) (tree_of (revisions v.seen) base) c.in-Ok.is (c.edit-repo.ensures.edits v known based stands) in
+    let s = stands_for v _ base _ job based e in
+    edited_so (KnowsAlone after.layout after.young after.stuck (g.D.Disk.trace after.disk)) (Rose (g.D.Disk.faults mid.disk) (g.D.Disk.faults after.disk)) (Rose (g.D.Disk.faults c.args.repo.turns.disk) (g.D.Disk.faults after.disk)) c.args.micros base job c.commit_edited.result.1 s.0 v
+    (λ r. omega (arith, r, c.edit-repo.ensures.later)) on (omega (arith, based, revisions_length v.seen)) s.2 c.commit_edited.ensures.plain
+    (c.commit_edited.ensures.ends v s.0 (c.edit-repo.ensures.known v known) none told (subst (λ (n : ℕ). IsIn n v.given) (sym s.1.numbered) given)
+    (txn_as v.seen _ _ _ _ _ s.0 c.edit-repo.ensures.name c.edit-repo.ensures.base s.1))
+
+pub returns-in-Err-clause-does : goal.returns-in-Err-clause-does
+returns-in-Err-clause-does g c = λ v known none told given based on stands.
+    let mid = c.edit-repo.result.0.turns in
+    let after = c.purged.result.turns in
+    let job = c.args.job.now in
+    let base = c.args.txn.base in
+    stopped_so (KnowsAlone after.layout after.young after.stuck (g.D.Disk.trace after.disk)) (Rose (g.D.Disk.faults c.args.repo.turns.disk) (g.D.Disk.faults mid.disk)) (Rose (g.D.Disk.faults c.args.repo.turns.disk) (g.D.Disk.faults after.disk)) c.args.micros base _ job c.in-Err.field-0.line c.in-Err.field-0.fault v
+    (λ r. omega (arith, r, c.purged.ensures.later)) on (omega (arith, based, revisions_length v.seen))
+    (edits_stopped job.steps _ base _ c.edit-repo.result.1 c.in-Err.field-0 c.in-Err.field-0.line c.in-Err.field-0.fault (bytes_of v.seen) (tree_of (revisions v.seen)) (last_of (revisions v.seen)) (tree_of (revisions v.seen) base) c.in-Err.is refl refl (c.edit-repo.ensures.edits v known based stands))
+    (edits_failed c.edit-repo.result.1 c.in-Err.field-0 c.in-Err.field-0.fault (Rose (g.D.Disk.faults c.args.repo.turns.disk) (g.D.Disk.faults mid.disk)) c.in-Err.is refl c.edit-repo.ensures.cause)
+    (c.purged.ensures.leaves v (c.edit-repo.ensures.known v known) none (given_as _ _ v.given c.edit-repo.ensures.name given))

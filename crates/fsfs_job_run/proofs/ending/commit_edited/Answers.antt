@@ -1,0 +1,22 @@
+use Rattle.std.proofs.Common.{ℕ, inr, subst}
+use Rattle.fsfs_base.specs.Failures.{Rose}
+use Rattle.fsfs_machine.specs.Kept.{IsIn}
+use Rattle.fsfs_turn.specs.Alone.{KnowsAlone}
+use Rattle.fsfs_faults.specs.declared.fault.Fault.TheVariants.{Memory}
+use Rattle.fsfs_job_lines.specs.declared.job.Job.TheVariants as jobs
+use Rattle.fsfs_jobs.specs.declared.answer.JobAnswer.TheVariants.{Stopped}
+use Rattle.fsfs_serial.specs.Jobs.{ByMemory}
+use Rattle.fsfs_job_run.proofs.Alone.{is_lone}
+use Rattle.fsfs_job_run.proofs.Ends.{ends_purged}
+use Rattle.fsfs_job_run.proofs.Staying.{stays_here}
+use Rattle.fsfs_job_run.proofs.ending.commit_edited.Goals as goal
+
+pub returns-in-Ok-clause-ends : goal.returns-in-Ok-clause-ends
+returns-in-Ok-clause-ends g c = λ v x known none told given is. c.commit_with.ensures.ends v x known none told given is
+
+pub returns-in-Err-clause-ends : goal.returns-in-Err-clause-ends
+returns-in-Err-clause-ends g c = λ v x known none told given is.
+    let after = c.purged.result.turns in
+    let job = c.args.job.now in
+    ends_purged (KnowsAlone after.layout after.young after.stuck (g.D.Disk.trace after.disk)) (is_lone after.layout after.young after.stuck (g.D.Disk.trace after.disk)) (Rose (g.D.Disk.faults c.args.repo.turns.disk) (g.D.Disk.faults after.disk)) c.args.micros job (Stopped job.line Memory) x v v (stays_here v none) tt (inr (ByMemory (jobs.Commit job) job.line)) (λ u same. tt)
+    (c.purged.ensures.leaves v known none (subst (λ (k : ℕ). IsIn k v.given) is.numbered given))

@@ -1,0 +1,47 @@
+use Rattle.std.proofs.Common.{sym, subst}
+use Rattle.fsfs_base.specs.Failures.{Rose}
+use Rattle.fsfs_turn.specs.Alone.{KnowsAlone}
+use Rattle.fsfs_job_run.specs.Running.{IsNoRequest}
+use Rattle.fsfs_job_run.proofs.Alone.{is_lone}
+use Rattle.fsfs_job_run.proofs.Answered.{committed_by, barred_by, disk_by, bench_by}
+use Rattle.fsfs_job_run.proofs.Barred.{bar_none}
+use Rattle.fsfs_job_run.proofs.Seen.{some_seen, history_seen, over_seen}
+use Rattle.fsfs_job_run.proofs.ending.commit_with.Goals as goal
+
+pub returns-in-Committed-clause-ends : goal.returns-in-Committed-clause-ends
+returns-in-Committed-clause-ends g c = λ v x known none told given is.
+    let before = c.args.repo.turns in
+    let after = c.commit-repo.result.0.turns in
+    committed_by _ _ _ _ c.commit-repo.result.1 (Rose (g.D.Disk.faults before.disk) (g.D.Disk.faults after.disk)) c.args.micros c.args.job.now c.args.properties v x (KnowsAlone after.layout after.young after.stuck (g.D.Disk.trace after.disk)) (is_lone after.layout after.young after.stuck (g.D.Disk.trace after.disk)) c.in-Committed.rev c.in-Committed.purged ((is_lone before.layout before.young before.stuck (g.D.Disk.trace before.disk)).number v known) known.1.own
+    c.requires.undated c.in-Committed.is (c.commit-repo.ensures.meets v x known none given is)
+
+pub returns-in-Barred-clause-ends : goal.returns-in-Barred-clause-ends
+returns-in-Barred-clause-ends g c = λ v x known none told given is.
+    let before = c.args.repo.turns in
+    let mid = c.commit-repo.result.0.turns in
+    let after = c.purged.result.turns in
+    barred_by _ _ _ _ c.commit-repo.result.1 (Rose (g.D.Disk.faults before.disk) (g.D.Disk.faults after.disk)) c.args.micros c.args.job.now c.args.properties v x (KnowsAlone mid.layout mid.young mid.stuck (g.D.Disk.trace mid.disk)) (KnowsAlone after.layout after.young after.stuck (g.D.Disk.trace after.disk)) (is_lone mid.layout mid.young mid.stuck (g.D.Disk.trace mid.disk)) (is_lone after.layout after.young after.stuck (g.D.Disk.trace after.disk)) c.in-Barred.bar c.in-Barred.txn c.barred.result
+    (history_seen before.layout before.young before.stuck (g.D.Disk.trace before.disk) v known) (over_seen v.seen _ _ _ x is) known.1.own none told (some_seen before.layout before.young before.stuck (g.D.Disk.trace before.disk) v known) given c.barred.ensures c.in-Barred.is (c.commit-repo.ensures.meets v x known none given is) (λ u k o i. c.purged.ensures.leaves u k o i)
+
+pub returns-in-DiskFault-clause-ends : goal.returns-in-DiskFault-clause-ends
+returns-in-DiskFault-clause-ends g c = λ v x known none told given is.
+    let before = c.args.repo.turns in
+    let after = c.commit-repo.result.0.turns in
+    disk_by _ _ _ _ c.commit-repo.result.1 (Rose (g.D.Disk.faults before.disk) (g.D.Disk.faults after.disk)) c.args.micros c.args.job.now c.args.properties v x (KnowsAlone after.layout after.young after.stuck (g.D.Disk.trace after.disk)) (is_lone after.layout after.young after.stuck (g.D.Disk.trace after.disk)) c.in-DiskFault.place c.stopped.result known.1.own none c.stopped.ensures c.in-DiskFault.is
+    c.commit-repo.ensures.cause (c.commit-repo.ensures.meets v x known none given is)
+
+pub returns-in-BenchFault-clause-ends : goal.returns-in-BenchFault-clause-ends
+returns-in-BenchFault-clause-ends g c = λ v x known none told given is.
+    let before = c.args.repo.turns in
+    let after = c.commit-repo.result.0.turns in
+    bench_by _ _ _ _ c.commit-repo.result.1 (Rose (g.D.Disk.faults before.disk) (g.D.Disk.faults after.disk)) c.args.micros c.args.job.now c.args.properties v x (KnowsAlone after.layout after.young after.stuck (g.D.Disk.trace after.disk)) (is_lone after.layout after.young after.stuck (g.D.Disk.trace after.disk)) c.stopped-in-BenchFault.result known.1.own none c.stopped-in-BenchFault.ensures c.in-BenchFault.is
+    (c.commit-repo.ensures.meets v x known none given is)
+
+pub returns-in-Barred-clause-plain : goal.returns-in-Barred-clause-plain
+returns-in-Barred-clause-plain g c = subst IsNoRequest (sym c.barred.ensures) (bar_none c.args.job.now.line c.in-Barred.bar)
+
+pub returns-in-DiskFault-clause-plain : goal.returns-in-DiskFault-clause-plain
+returns-in-DiskFault-clause-plain g c = subst IsNoRequest (sym c.stopped.ensures) tt
+
+pub returns-in-BenchFault-clause-plain : goal.returns-in-BenchFault-clause-plain
+returns-in-BenchFault-clause-plain g c = subst IsNoRequest (sym c.stopped-in-BenchFault.ensures) tt

@@ -1,0 +1,39 @@
+-- What becomes of a job's transaction.
+use Rattle.std.specs.Prelude.{◌≡◌, ◌⊎◌, ◌<◌, ℕ, List, [], length}
+use Rattle.std.specs.FinMap.{get}
+use Rattle.fsfs_fields.specs.Dates.{IsDateAt}
+use Rattle.fsfs_fields.specs.RevNums.{last_rev}
+use Rattle.fsfs_tree.specs.Revisions.{Revision, tree_of}
+use Rattle.fsfs_tree.specs.Dated.{last_of}
+use Rattle.fsfs_machine.specs.declared.machine.Txn.{Txn}
+use Rattle.fsfs_machine.specs.Machine.{revisions, entry_of}
+use Rattle.fsfs_turn.specs.Views.{View}
+use Rattle.fsfs_job_lines.specs.declared.job.CommitJob.{CommitJob}
+use Rattle.fsfs_job_lines.specs.declared.job.Job.TheVariants as jobs
+use Rattle.fsfs_faults.specs.declared.fault.Fault.TheVariants.{Limit}
+use Rattle.fsfs_faults.specs.declared.limit_fault.LimitFault.TheVariants.{RevsFull}
+use Rattle.fsfs_jobs.specs.Edits.{TakesSteps}
+use Rattle.fsfs_jobs.specs.Properties.{job_properties}
+use Rattle.fsfs_jobs.specs.Serial.{Commits}
+use Rattle.fsfs_jobs.specs.declared.answer.JobAnswer.{JobAnswer}
+use Rattle.fsfs_jobs.specs.declared.answer.JobAnswer.TheVariants.{Stopped}
+use Rattle.fsfs_serial.specs.Jobs.{IfAdded, Fails, Leaves}
+use Rattle.fsfs_job_run.specs.Running.{HasOutsideCause}
+
+-- what a commit of the transaction answers, by the flat model: it is added, or clashes; or all numbers of revisions were given
+pub data CommitsTxn (moment pass : ℕ) (job : CommitJob) (h : List Revision) (x : Txn) : JobAnswer → List Revision → Type 0 where
+  ByCommit : (date : List ℕ) (answer : JobAnswer) (now : List Revision) → IfAdded answer (IsDateAt moment date) → Commits h (entry_of pass x (job_properties date job)) answer now → CommitsTxn moment pass job h x answer now
+  ByRevs : last_rev < length h → CommitsTxn moment pass job h x (Stopped job.line (Limit RevsFull)) h
+
+-- ENDS: the transaction x was committed, or is purged
+pub record EndsTxn (moment : ℕ) (job : CommitJob) (answer : JobAnswer) (x : Txn) (v u : View) : Type 0 where
+  pub done : CommitsTxn moment v.number job (revisions v.seen) x answer (revisions u.seen) ⊎ Fails (jobs.Commit job) answer
+  pub leaves : Leaves answer v u
+
+abbrev pub EndsSo : (View → Type 0) → Type 0 → ℕ → CommitJob → JobAnswer → Txn → View → Type 0
+EndsSo knows rose moment job answer x v = (u : View) × knows u × EndsTxn moment job answer x v u × HasOutsideCause rose u answer
+
+-- the edits of the job were done in it
+pub record IsEdited (job : CommitJob) (base : ℕ) (h : List Revision) (x : Txn) : Type 0 where
+  pub on : x.base ≡ base
+  pub takes : TakesSteps (tree_of h) (last_of h) (tree_of h base) [] job.steps (get x.tree) x.marks

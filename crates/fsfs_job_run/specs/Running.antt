@@ -1,0 +1,106 @@
+-- What a job does over a repository that runs.
+use Rattle.std.specs.Prelude.{◌≡◌, ◌<◌, ◌++◌, ◌∷◌, ℕ, List, [], None, Some}
+use Rattle.fsfs_fields.specs.declared.txn_name.TxnName.{TxnName}
+use Rattle.fsfs_tree.specs.Revisions.{tree_of}
+use Rattle.fsfs_tree.specs.Dated.{last_of}
+use Rattle.fsfs_machine.specs.declared.machine.Recorded.{Recorded}
+use Rattle.fsfs_machine.specs.Machine.{revisions}
+use Rattle.fsfs_turn.specs.Bytes.{bytes_of}
+use Rattle.fsfs_turn.specs.Views.{View}
+use Rattle.fsfs_turn.specs.Telling.{OwnedState, owned_view}
+use Rattle.fsfs_turn_begin.specs.Steps.{IsPastNumbers}
+use Rattle.fsfs_owned_repo.specs.Alone.{KnowsIn}
+use Rattle.fsfs_job_lines.specs.declared.job.Base.{Base}
+use Rattle.fsfs_job_lines.specs.declared.job.Base.TheVariants.{Number}
+use Rattle.fsfs_job_lines.specs.declared.job.CommitJob.{CommitJob}
+use Rattle.fsfs_job_lines.specs.declared.job.Job.{Job}
+use Rattle.fsfs_job_lines.specs.declared.job.Job.TheVariants as jobs
+use Rattle.fsfs_faults.specs.declared.fault.Fault.{Fault}
+use Rattle.fsfs_faults.specs.declared.fault.Fault.TheVariants.{Request, Outside}
+use Rattle.fsfs_faults.specs.declared.request_fault.RequestFault.TheVariants.{NoRev, Mergeinfo}
+use Rattle.fsfs_faults.specs.declared.outside_fault.OutsideFault.TheVariants as outside
+use Rattle.fsfs_jobs.specs.Edits.{StopsAt}
+use Rattle.fsfs_jobs.specs.Serial.{base_of}
+use Rattle.fsfs_jobs.specs.declared.answer.JobAnswer.{JobAnswer}
+use Rattle.fsfs_jobs.specs.declared.answer.JobAnswer.TheVariants.{Stopped}
+use Rattle.fsfs_job_edits.specs.Editing.{Bars}
+use Rattle.fsfs_serial.specs.Jobs.{RunsJob, RunJobs}
+
+-- Why the outside is told to have failed: the count rose, or the lock is stuck there. A bench's own count ends with it.
+abbrev pub HasOutsideCause : Type 0 → View → JobAnswer → Type 0
+HasOutsideCause rose u (Stopped line (Outside outside.Mount)) = ⊥
+HasOutsideCause rose u (Stopped line (Outside (outside.Disk at))) = rose
+HasOutsideCause rose u (Stopped line (Outside outside.Read)) = ⊥
+HasOutsideCause rose u (Stopped line (Outside outside.Write)) = ⊥
+HasOutsideCause rose u (Stopped line (Outside outside.Bench)) = Unit {0}
+HasOutsideCause rose u (Stopped line (Outside (outside.Stuck at))) = u.pass.stuck ≡ Some at
+HasOutsideCause rose u answer = Unit {0}
+
+-- DOES: behind the job the pass knows what the job did
+abbrev pub DoesSo : (View → Type 0) → Type 0 → ℕ → Job → JobAnswer → View → Type 0
+DoesSo knows rose moment job answer v = (u : View) × knows u × RunsJob moment job answer v u × HasOutsideCause rose u answer
+
+-- the same of jobs one after another; behind the last the pass is in no section
+abbrev pub DoAll : (View → Type 0) → ℕ → List Job → List JobAnswer → View → Type 0
+DoAll knows moment js answers v = (u : View) × knows u × (u.section ≡ None) × RunJobs moment js answers v u
+
+-- A first part of the jobs was done so, each with its answer. Then, in a state of the store in which the pass knew that, a number stood in
+-- `db/txn-current` that is past those that the machine reads. If no job was done before, the state is that at the start.
+pub record RunsPast (start : OwnedState) (moment : ℕ) (js : List Job) (answers : List JobAnswer) (v : View) : Type 0 where
+  pub before : List Job
+  pub job : Job
+  pub after : List Job
+  pub jobs_are : js ≡ before ++ job ∷ after
+  pub told : List JobAnswer
+  pub more : List JobAnswer
+  pub answers_are : answers ≡ told ++ more
+  pub known : View
+  pub runs : RunJobs moment before told v known
+  pub state : OwnedState
+  pub knows : KnowsIn state known
+  pub past : IsPastNumbers (owned_view state)
+  pub first : before ≡ [] → state ≡ start
+
+-- ---- counts of mergeinfo
+
+-- the first edit that is not done stands on this line, and is refused for this: by the flat model, or for counts of mergeinfo in the bytes
+abbrev pub StopsOver : List Recorded → CommitJob → ℕ → Fault → Type 0
+StopsOver h job line fault =
+    (name : TxnName) × StopsAt (Bars (bytes_of h) (tree_of (revisions h)) (last_of (revisions h)) (base_of job.base (last_of (revisions h))) name) (tree_of (revisions h)) (last_of (revisions h))
+    (tree_of (revisions h) (base_of job.base (last_of (revisions h)))) [] job.steps line fault
+
+-- a fact of a job that was refused for mergeinfo
+abbrev pub IfCounted : Job → JobAnswer → (CommitJob → ℕ → Fault → Type 0) → Type 0
+IfCounted (jobs.Commit job) (Stopped line (Request (Mergeinfo path))) P = P job line (Request (Mergeinfo path))
+IfCounted job answer P = Unit {0}
+
+-- a job that commits is done so, and tells why where it is refused for mergeinfo
+abbrev pub CommitsSo : (View → Type 0) → Type 0 → ℕ → CommitJob → JobAnswer → View → Type 0
+CommitsSo knows rose moment job answer v = DoesSo knows rose moment (jobs.Commit job) answer v × IfCounted (jobs.Commit job) answer (StopsOver v.seen)
+
+-- no request was refused
+abbrev pub IsNoRequest : JobAnswer → Type 0
+IsNoRequest (Stopped line (Request why)) = ⊥
+IsNoRequest answer = Unit {0}
+
+-- ---- the base of a job
+
+-- there is no such revision
+abbrev pub LacksBase : Base → ℕ → Fault → Type 0
+LacksBase base young fault = (n : ℕ) × (base ≡ Number n) × (young < n) × (fault ≡ Request (NoRev n young))
+
+-- Nothing was added. The pass is in no section, and knows more names to be given.
+pub record Stays (v u : View) : Type 0 where
+  pub seen : u.seen ≡ v.seen
+  pub since : u.since ≡ v.since
+  pub opened : u.opened ≡ v.opened
+  pub own : u.pass.mine ≡ v.pass.mine
+  pub number : u.number ≡ v.number
+  pub outside : u.section ≡ None
+  pub more : List ℕ
+  pub given : u.given ≡ more ++ v.given
+
+-- the youngest revision was looked at
+pub record HasLooked (v u : View) : Type 0 where
+  pub stays : Stays v u
+  pub least : u.pass.least ≡ last_of (revisions v.seen)

@@ -1,0 +1,44 @@
+//! One job over a repository.
+ghost use Rattle.std.specs.Prelude.{◌≡◌, ◌⊎◌, ◌≤◌, None};
+ghost use Rattle.fsfs_base.specs.Failures.{Rose};
+ghost use Rattle.fsfs_turn.specs.Views.{View};
+ghost use Rattle.fsfs_turn_begin.specs.Steps.{IsPastNumbers};
+ghost use Rattle.fsfs_owned_repo.specs.Crashes.{CrashesLeave};
+ghost use Rattle.fsfs_job_run.specs.Running.{DoesSo, IfCounted, StopsOver};
+
+use crate::commit_job::commit_job;
+use crate::read_text::read_text;
+use fsfs_disk::Disk;
+use fsfs_job_lines::Job;
+use fsfs_jobs::JobAnswer;
+use fsfs_owned_repo::Repo;
+use fsfs_turn::{Owned, Turns};
+use std::alloc::Global;
+
+/// Does a job, and tells what became of it. A revision that it adds has as its date the moment, in microseconds after
+/// 1970-01-01T00:00:00 UTC, in a year up to 2099. A transaction that is not committed is purged; if that fails too, its name stays
+/// listed.
+pub fn do_job<D: Disk, R>(
+    repo: Repo<D>,
+    rt: &R,
+    alloc: Global,
+    job: &Job,
+    micros: u64,
+) -> (Repo<D>, JobAnswer)
+    requires moment { micros ≤ 4102444799999999 }
+    // Over what the pass knows, in no section: what the job did, by the definition of jobs, or that it failed. Or the number that stood in
+    // `db/txn-current` is past those that the machine reads.
+    ensures does { (v : View) → ⟦<Owned<D> as Turns<R>>⟧.knows repo.turns v → v.section ≡ None
+        → DoesSo (⟦<Owned<D> as Turns<R>>⟧.knows result.0.turns) (Rose (⟦<Owned<D> as Turns<R>>⟧.faults repo.turns) (⟦<Owned<D> as Turns<R>>⟧.faults result.0.turns)) micros job.now result.1 v ⊎ IsPastNumbers (⟦<Owned<D> as Turns<R>>⟧.store repo.turns) }
+    // Where it is refused for mergeinfo: by the flat model, or for counts in the bytes.
+    ensures counted { (v : View) → ⟦<Owned<D> as Turns<R>>⟧.knows repo.turns v → v.section ≡ None → IfCounted job.now result.1 (StopsOver v.seen) ⊎ IsPastNumbers (⟦<Owned<D> as Turns<R>>⟧.store repo.turns) }
+    // What is known then says what a crash leaves, at each moment of the job too.
+    ensures crashes { (u : View) → ⟦<Owned<D> as Turns<R>>⟧.knows result.0.turns u → CrashesLeave result.0.turns.layout (D.trace result.0.turns.disk) u }
+    ensures mounted { D.mount_path result.0.turns.disk ≡ D.mount_path repo.turns.disk }
+    ensures later { ⟦<Owned<D> as Turns<R>>⟧.faults repo.turns ≤ ⟦<Owned<D> as Turns<R>>⟧.faults result.0.turns }
+{
+    match job {
+        Job::Commit(job) => commit_job(repo, rt, alloc, job, micros),
+        Job::Read(job) => read_text(repo, rt, alloc, job),
+    }
+}

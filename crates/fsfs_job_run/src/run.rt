@@ -1,0 +1,50 @@
+//! The jobs of a script one after another.
+ghost use Rattle.std.specs.Prelude.{◌≡◌, ◌⊎◌, ◌≤◌, None, length, IfOk, OnErr};
+ghost use Rattle.fsfs_turn.specs.Views.{View};
+ghost use Rattle.fsfs_owned_repo.specs.Crashes.{CrashesLeave};
+ghost use Rattle.fsfs_job_run.specs.Running.{DoAll, RunsPast};
+
+use crate::job::do_job;
+use fsfs_disk::Disk;
+use fsfs_job_lines::Job;
+use fsfs_jobs::JobAnswer;
+use fsfs_owned_repo::Repo;
+use fsfs_streams::{Gate, GatePlace};
+use fsfs_turn::{Owned, Turns};
+use std::alloc::{AllocError, Global};
+
+/// Does the jobs of a script one after another, and gives the answer of each. The gate is passed behind each answer. The room for
+/// the answers is taken first: an `Err` is for want of it, and then no job was done.
+pub fn run_jobs<D: Disk, R, G: Gate>(
+    mut repo: Repo<D>,
+    rt: &R,
+    alloc: Global,
+    jobs: &[Job],
+    micros: u64,
+    gate: &G,
+) -> (Repo<D>, Result<Vec<JobAnswer>, AllocError>)
+    requires moment { micros ≤ 4102444799999999 }
+    // Over what the pass knows, in no section: jobs one after another, and behind the last it is in none. Or before one of them the number
+    // in `db/txn-current` was past those that the machine reads.
+    ensures does { (v : View) → ⟦<Owned<D> as Turns<R>>⟧.knows repo.turns v → v.section ≡ None
+        → IfOk result.1 (λ answers. DoAll (⟦<Owned<D> as Turns<R>>⟧.knows result.0.turns) micros jobs.now answers.items v ⊎ RunsPast (⟦<Owned<D> as Turns<R>>⟧.store repo.turns).below micros jobs.now answers.items v) }
+    ensures each { IfOk result.1 (λ answers. length answers.items ≡ length jobs.now) }
+    ensures none { OnErr result.1 (result.0 ≡ repo) }
+    ensures crashes { (u : View) → ⟦<Owned<D> as Turns<R>>⟧.knows result.0.turns u → CrashesLeave result.0.turns.layout (D.trace result.0.turns.disk) u }
+    ensures mounted { D.mount_path result.0.turns.disk ≡ D.mount_path repo.turns.disk }
+    ensures later { ⟦<Owned<D> as Turns<R>>⟧.faults repo.turns ≤ ⟦<Owned<D> as Turns<R>>⟧.faults result.0.turns }
+{
+    let mut answers = match Vec::with_capacity(alloc, jobs.len()) {
+        Ok(answers) => answers,
+        Err(error) => return (repo, Err(error)),
+    };
+    let mut number: u64 = 0;
+    for job in jobs {
+        number += 1;
+        let (after, answer) = do_job(repo, rt, alloc, job, micros);
+        repo = after;
+        gate.at(GatePlace::AfterJob, number);
+        answers.push_reserved(answer);
+    }
+    (repo, Ok(answers))
+}
