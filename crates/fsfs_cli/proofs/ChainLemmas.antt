@@ -99,6 +99,9 @@ own_shard = own_by (codes "shard") 115 refl (λ e. omega (arith, e)) (λ e. omeg
 pub own_txns : IsOwn (codes "TXN")
 own_txns = own_by (codes "TXN") 84 refl (λ e. omega (arith, e)) (λ e. omega (arith, e)) (λ e. omega (arith, e))
 
+pub own_workers : IsOwn (codes "workers")
+own_workers = own_by (codes "workers") 119 refl (λ e. omega (arith, e)) (λ e. omega (arith, e)) (λ e. omega (arith, e))
+
 pub own_revision : IsOwn (codes "revision")
 own_revision = own_by (codes "revision") 114 refl (λ e. omega (arith, e)) (λ e. omega (arith, e)) (λ e. omega (arith, e))
 

@@ -5,7 +5,7 @@ use Rattle.clap.specs.Words.{App, Rule, app_of, rule_of, with_rule}
 use Rattle.clap.specs.declared.builder.arg.Arg.{Arg}
 use Rattle.clap.specs.declared.builder.command.Command.{Command}
 use Rattle.fsfs_cli.specs.Chains.{Fits, NeedsValue, IsChain, HasValue}
-use Rattle.fsfs_cli.proofs.ChainLemmas.{chain_more, all_apart, all_none, all_more, IsOwn, fits_chain, has_value, own_repos, own_path, own_shard, own_txns, own_revision, own_show_ids}
+use Rattle.fsfs_cli.proofs.ChainLemmas.{chain_more, all_apart, all_none, all_more, IsOwn, fits_chain, has_value, own_repos, own_path, own_shard, own_workers, own_txns, own_revision, own_show_ids}
 
 -- what clap is told, an argument more
 pub told_more : (c d : Command) (a : Arg) (app : App) (rule : Rule) → AddsArg c a d → a.global ≡ false → app_of c ≡ app → rule_of a ≡ rule → app_of d ≡ with_rule app rule
@@ -26,6 +26,9 @@ more_repos c d repos more name own other r f chain added =
 
 pub create_repos : (c d : Command) (repos shard : Arg) → NeedsValue (codes "REPOS") repos → Fits (codes "shard") shard → IsChain (repos ∷ []) c → AddsArg c shard d → HasValue (codes "REPOS") d
 create_repos c d repos shard = more_repos c d repos shard (codes "shard") own_shard refl
+
+pub jobs_repos : (c d : Command) (repos workers : Arg) → NeedsValue (codes "REPOS") repos → Fits (codes "workers") workers → IsChain (repos ∷ []) c → AddsArg c workers d → HasValue (codes "REPOS") d
+jobs_repos c d repos workers = more_repos c d repos workers (codes "workers") own_workers refl
 
 pub rmtxns_repos : (c d : Command) (repos txns : Arg) → NeedsValue (codes "REPOS") repos → Fits (codes "TXN") txns → IsChain (repos ∷ []) c → AddsArg c txns d → HasValue (codes "REPOS") d
 rmtxns_repos c d repos txns = more_repos c d repos txns (codes "TXN") own_txns refl

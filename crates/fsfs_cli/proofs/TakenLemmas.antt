@@ -9,7 +9,7 @@ use Rattle.clap.specs.Walk.{is_empty}
 use Rattle.clap.specs.declared.error.kind.ErrorKind.{ErrorKind}
 use Rattle.clap.specs.declared.error.kind.ErrorKind.TheVariants as kind
 use Rattle.clap.proofs.OnLiterals.{clap_on_literals}
-use Rattle.fsfs_cli.specs.Commands.{create_app, lstxns_app, rmtxns_app, youngest_app, uuid_app, revision_app, tree_app, history_app, cat_app}
+use Rattle.fsfs_cli.specs.Commands.{create_app, jobs_app, lstxns_app, rmtxns_app, youngest_app, uuid_app, revision_app, tree_app, history_app, cat_app}
 use Rattle.fsfs_cli.specs.Words.{taken}
 
 pub is_simple_too : (app : App) → is_simple_and_free app ≡ true → is_simple app ≡ true
@@ -37,6 +37,10 @@ refused_kind app words k (inr among) not = not_taken app words k among
 pub create_is_free : is_simple_and_free create_app ≡ true
 unfolding clap_on_literals
 create_is_free = refl
+
+pub jobs_is_free : is_simple_and_free jobs_app ≡ true
+unfolding clap_on_literals
+jobs_is_free = refl
 
 pub lstxns_is_free : is_simple_and_free lstxns_app ≡ true
 unfolding clap_on_literals

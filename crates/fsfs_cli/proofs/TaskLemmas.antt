@@ -5,15 +5,15 @@ use Rattle.std.specs.Prelude.{Option, Some, None, option_map, unwrap_or, codes, 
 use Rattle.std.specs.Str.{bytes_eq}
 use Rattle.clap.specs.Words.{first_of}
 use Rattle.fsfs_base.specs.Paths.{Path}
-use Rattle.fsfs_cli.specs.Commands.{create_app, lstxns_app, rmtxns_app, youngest_app, uuid_app, revision_app, tree_app, history_app, cat_app, revision_verb, verb_named}
-use Rattle.fsfs_cli.specs.Grammars.{shard_of}
+use Rattle.fsfs_cli.specs.Commands.{create_app, jobs_app, lstxns_app, rmtxns_app, youngest_app, uuid_app, revision_app, tree_app, history_app, cat_app, revision_verb, verb_named}
+use Rattle.fsfs_cli.specs.Grammars.{shard_of, workers_of}
 use Rattle.fsfs_cli.specs.Readings.{Asks}
-use Rattle.fsfs_cli.specs.Words.{Asked, asked, asked_by, taken, number_of, shard_in, txns_in, revision_in, pathless, create_in, rmtxns_in, tree_in, cat_in, history_in, printed_in, create_asked, rmtxns_asked, tree_asked, cat_asked, history_asked, printed_asked, printed_by}
+use Rattle.fsfs_cli.specs.Words.{Asked, asked, asked_by, asked_by_command, asked_by_jobs, taken, number_of, shard_in, workers_in, txns_in, revision_in, pathless, create_in, jobs_in, rmtxns_in, tree_in, cat_in, history_in, printed_in, create_asked, jobs_asked, rmtxns_asked, tree_asked, cat_asked, history_asked, printed_asked, printed_by}
 use Rattle.fsfs_cli.specs.declared.request.Look.TheVariants.{Youngest, Uuid}
 use Rattle.fsfs_cli.specs.declared.request.Printed.{Printed}
 use Rattle.fsfs_cli.specs.declared.request.Printed.TheVariants.{Author, Date, Log, Info, Changed}
 use Rattle.fsfs_cli.specs.declared.request.Task.{Task}
-use Rattle.fsfs_cli.specs.declared.request.Task.TheVariants.{Create, ListTxns, RemoveTxns, Look}
+use Rattle.fsfs_cli.specs.declared.request.Task.TheVariants.{Create, ListTxns, RemoveTxns, Look, RunJobs}
 use Rattle.fsfs_cli.specs.declared.tool.Tool.{Tool}
 use Rattle.fsfs_cli.specs.declared.tool.Tool.TheVariants as tools
 use Rattle.fsfs_cli.specs.declared.verb.Verb.{Verb}
@@ -29,6 +29,7 @@ IsTaskOf tool (Create shard) = (tool ≡ tools.Admin) × IsShardSize shard
 IsTaskOf tool ListTxns = tool ≡ tools.Admin
 IsTaskOf tool (RemoveTxns txns) = tool ≡ tools.Admin
 IsTaskOf tool (Look look) = tool ≡ tools.Look
+IsTaskOf tool (RunJobs workers) = (tool ≡ tools.Jobs) × (workers ≡ 1)
 
 -- ---- the size of a shard
 
@@ -42,6 +43,16 @@ word_size word n (Some k) is e =
 given_size : (given : Option (List ℕ)) (n : ℕ) → option_map (λ k. unwrap_or k 1000) (number_of shard_of given) ≡ Some n → IsShardSize n
 given_size None n e = let same : 1000 ≡ n = cc in subst IsShardSize same (omega arith, omega arith)
 given_size (Some word) n e = word_size word n (shard_of word) refl e
+
+-- ---- the number of workers
+
+one_word : (b : Bool) (n : ℕ) → option_map (λ k. unwrap_or k 1) (option_map (λ (k : ℕ). Some k) (if b then Some 1 else None)) ≡ Some n → n ≡ 1
+one_word true n e = sym (same_Some 1 n e)
+one_word false n e = absurd cc
+
+given_workers : (given : Option (List ℕ)) (n : ℕ) → option_map (λ k. unwrap_or k 1) (number_of workers_of given) ≡ Some n → n ≡ 1
+given_workers None n e = sym (same_Some 1 n e)
+given_workers (Some word) n e = one_word (bytes_eq word (codes "1")) n e
 
 -- ---- the words behind a command's own
 
@@ -116,10 +127,20 @@ tool_named tools.Admin word v e = admin_named (bytes_eq word (codes "create")) (
 tool_named tools.Look word v e = look_named word (bytes_eq word (codes "youngest")) (bytes_eq word (codes "uuid")) (bytes_eq word (codes "tree")) (bytes_eq word (codes "cat")) (bytes_eq word (codes "history")) v e
 tool_named tools.Jobs word v e = absurd cc
 
-asked_of : (tool : Tool) (words : List (List ℕ)) (a : Asked) (path : Path) → asked tool words ≡ Some a → IsTaskOf tool (a.task path)
-asked_of tool [] a path e = absurd cc
-asked_of tool (word ∷ words) a path e = option_and_then_some (λ v. asked_by v words) (verb_named tool word) a e (λ v named is.
+by_command : (tool : Tool) (words : List (List ℕ)) (a : Asked) (path : Path) → asked_by_command tool words ≡ Some a → IsTaskOf tool (a.task path)
+by_command tool [] a path e = absurd cc
+by_command tool (word ∷ words) a path e = option_and_then_some (λ v. asked_by v words) (verb_named tool word) a e (λ v named is.
     subst (λ (t : Tool). IsTaskOf t (a.task path)) (sym (tool_named tool word v named)) (by_verb v words a path is))
+
+by_jobs : (words : List (List ℕ)) (a : Asked) (path : Path) → asked_by_jobs words ≡ Some a → IsTaskOf tools.Jobs (a.task path)
+by_jobs words a path e = option_and_then_some jobs_asked (taken jobs_app words) a e (λ rows found is.
+    let n = mapped (jobs_in rows) (workers_in rows) a is in
+    subst (λ (x : Asked). IsTaskOf tools.Jobs (x.task path)) n.2 (refl, given_workers (first_of (codes "workers") rows) n.0 n.1))
+
+asked_of : (tool : Tool) (words : List (List ℕ)) (a : Asked) (path : Path) → asked tool words ≡ Some a → IsTaskOf tool (a.task path)
+asked_of tools.Admin words a path e = by_command tools.Admin words a path e
+asked_of tools.Look words a path e = by_command tools.Look words a path e
+asked_of tools.Jobs words a path e = by_jobs words a path e
 
 pub asks_task : (tool : Tool) (words : List (List ℕ)) (repos : List ℕ) (task : Task) → Asks tool words repos task → IsTaskOf tool task
 asks_task tool words repos task (a, is, (same, (path, given, t))) = subst (IsTaskOf tool) (sym t) (asked_of tool words a path is)

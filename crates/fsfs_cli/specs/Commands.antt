@@ -55,6 +55,10 @@ repos_rule = record (new_rule (codes "REPOS")) { required = true; action = Some 
 abbrev pub shard_rule : Rule
 shard_rule = record (new_rule (codes "shard")) { long = Some (codes "shard") }
 
+-- [-j N]
+abbrev pub workers_rule : Rule
+workers_rule = record (new_rule (codes "workers")) { short = Some 106 }
+
 -- TXN.., one or more
 abbrev pub txns_rule : Rule
 txns_rule = record (new_rule (codes "TXN")) { required = true; action = Some Append }
@@ -92,6 +96,10 @@ lstxns_app = with_rule (bare (codes "lstxns")) repos_rule
 -- rmtxns REPOS TXN..
 abbrev pub rmtxns_app : App
 rmtxns_app = with_rule (with_rule (bare (codes "rmtxns")) repos_rule) txns_rule
+
+-- svnjobs REPOS [-j N], which has no word of its own
+abbrev pub jobs_app : App
+jobs_app = with_rule (with_rule (bare (codes "svnjobs")) repos_rule) workers_rule
 
 -- youngest REPOS
 abbrev pub youngest_app : App

@@ -1,5 +1,5 @@
--- The grammars of single words: a revision, the size of a shard, names of transactions, a path. (This project's profile.)
-use Rattle.std.specs.Prelude.{◌≡◌, ◌≤◌, ℕ, List, [], ◌∷◌, ◌==◌, ◌&&◌, nat_lt, nat_le, length, Option, Some, None, option_map, option_and_then, Bool, if◌then◌else◌, decimal}
+-- The grammars of single words: a revision, the size of a shard, a number of workers, names of transactions, a path. (This project's profile.)
+use Rattle.std.specs.Prelude.{◌≡◌, ◌≤◌, ℕ, List, [], ◌∷◌, ◌==◌, ◌&&◌, nat_lt, nat_le, length, Option, Some, None, option_map, option_and_then, Bool, if◌then◌else◌, decimal, codes}
 use Rattle.std.specs.Char.{is_ascii_digit}
 use Rattle.std.specs.List.{list_all}
 use Rattle.std.specs.Str.{bytes_eq}
@@ -26,6 +26,10 @@ is_shard text shard = bytes_eq text (decimal shard) && nat_le 1 shard && nat_le 
 -- that number
 unfoldable pub shard_of : List ℕ → Option ℕ
 shard_of text = if is_shard text (digits_value 10 text) then Some (digits_value 10 text) else None
+
+-- N of `-j N`, how many workers do the jobs: one, as there are no more yet
+abbrev pub workers_of : List ℕ → Option ℕ
+workers_of text = if bytes_eq text (codes "1") then Some 1 else None
 
 -- TXN..: the base and the number of the transaction that each word names; none where one of them names none
 abbrev pub txns_named : List (List ℕ) → Option (List (ℕ × ℕ))

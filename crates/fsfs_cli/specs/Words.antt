@@ -4,15 +4,16 @@ use Rattle.std.specs.Option.{option_map_or}
 use Rattle.std.specs.Str.{bytes_eq}
 use Rattle.clap.specs.Words.{App, Row, all_of, fault_of, first_of, matches_of}
 use Rattle.clap.specs.Walk.{is_empty}
-use Rattle.fsfs_cli.specs.Commands.{verb_named, create_app, lstxns_app, rmtxns_app, youngest_app, uuid_app, revision_app, tree_app, history_app, cat_app}
-use Rattle.fsfs_cli.specs.Grammars.{revision_of, shard_of, txns_named}
+use Rattle.fsfs_cli.specs.Commands.{verb_named, create_app, jobs_app, lstxns_app, rmtxns_app, youngest_app, uuid_app, revision_app, tree_app, history_app, cat_app}
+use Rattle.fsfs_cli.specs.Grammars.{revision_of, shard_of, workers_of, txns_named}
 use Rattle.fsfs_base.specs.Paths.{Path}
 use Rattle.fsfs_cli.specs.declared.request.Task.{Task}
-use Rattle.fsfs_cli.specs.declared.request.Task.TheVariants.{Create, ListTxns, RemoveTxns, Look}
+use Rattle.fsfs_cli.specs.declared.request.Task.TheVariants.{Create, ListTxns, RemoveTxns, Look, RunJobs}
 use Rattle.fsfs_cli.specs.declared.request.Look.TheVariants.{Youngest, Uuid, AtRevision}
 use Rattle.fsfs_cli.specs.declared.request.Printed.{Printed}
 use Rattle.fsfs_cli.specs.declared.request.Printed.TheVariants.{Tree, Text, Author, Date, Log, Info, Changed, History}
 use Rattle.fsfs_cli.specs.declared.tool.Tool.{Tool}
+use Rattle.fsfs_cli.specs.declared.tool.Tool.TheVariants as tools
 use Rattle.fsfs_cli.specs.declared.verb.Verb.{Verb}
 use Rattle.fsfs_cli.specs.declared.verb.Verb.TheVariants as verb
 
@@ -41,6 +42,10 @@ revision_in rows = number_of revision_of (first_of (codes "revision") rows)
 -- [--shard N], 1000 where it is left out
 abbrev pub shard_in : List Row → Option ℕ
 shard_in rows = option_map (λ n. unwrap_or n 1000) (number_of shard_of (first_of (codes "shard") rows))
+
+-- [-j N], 1 where it is left out
+abbrev pub workers_in : List Row → Option ℕ
+workers_in rows = option_map (λ n. unwrap_or n 1) (number_of workers_of (first_of (codes "workers") rows))
 
 -- TXN..
 abbrev pub txns_in : List Row → Option (List (ℕ × ℕ))
@@ -73,6 +78,9 @@ look_at revision printed = Look (AtRevision (record { revision = revision; print
 abbrev pub create_in : List Row → ℕ → Asked
 create_in rows shard = pathless rows (Create shard)
 
+abbrev pub jobs_in : List Row → ℕ → Asked
+jobs_in rows workers = pathless rows (RunJobs workers)
+
 abbrev pub rmtxns_in : List Row → List (ℕ × ℕ) → Asked
 rmtxns_in rows txns = pathless rows (RemoveTxns txns)
 
@@ -93,6 +101,9 @@ printed_in printed rows revision = pathless rows (look_at revision printed)
 
 abbrev pub create_asked : List Row → Option Asked
 create_asked rows = option_map (create_in rows) (shard_in rows)
+
+abbrev pub jobs_asked : List Row → Option Asked
+jobs_asked rows = option_map (jobs_in rows) (workers_in rows)
 
 abbrev pub rmtxns_asked : List Row → Option Asked
 rmtxns_asked rows = option_map (rmtxns_in rows) (txns_in rows)
@@ -129,8 +140,18 @@ asked_by verb.Info words = printed_by (codes "info") Info words
 asked_by verb.Changed words = printed_by (codes "changed") Changed words
 asked_by verb.History words = option_and_then history_asked (taken history_app words)
 
+-- the first word names one of the program's commands
+abbrev pub asked_by_command : Tool → List (List ℕ) → Option Asked
+asked_by_command tool [] = None
+asked_by_command tool (word ∷ words) = option_and_then (λ verb. asked_by verb words) (verb_named tool word)
+
+-- all words are those of the one command that the program has
+abbrev pub asked_by_jobs : List (List ℕ) → Option Asked
+asked_by_jobs words = option_and_then jobs_asked (taken jobs_app words)
+
 -- What a program's words ask for. Nothing where the first names none of its commands, where clap doesn't take the others,
 -- or where a number is outside its grammar.
 abbrev pub asked : Tool → List (List ℕ) → Option Asked
-asked tool [] = None
-asked tool (word ∷ words) = option_and_then (λ verb. asked_by verb words) (verb_named tool word)
+asked tools.Admin words = asked_by_command tools.Admin words
+asked tools.Look words = asked_by_command tools.Look words
+asked tools.Jobs words = asked_by_jobs words

@@ -11,6 +11,7 @@ mod shard;
 mod tool;
 mod txn_names;
 mod verb;
+mod workers;
 
 pub use fault::WordsFault;
 pub use path_word::read_path;
@@ -20,3 +21,4 @@ pub use revision::read_revision;
 pub use shard::read_shard;
 pub use tool::Tool;
 pub use txn_names::{TxnNames, read_txns};
+pub use workers::read_workers;

@@ -2,12 +2,12 @@
 ghost use Rattle.std.specs.Prelude.{◌≡◌, ◌==◌, ℕ, List, map, string_bytes, true, is_some, option_map, IfOk};
 ghost use Rattle.clap.specs.Words.{app_of, found_of, is_simple_and_free, rows_of, first_of, IsParsedFrom};
 ghost use Rattle.fsfs_cli.specs.Commands.{revision_app};
-ghost use Rattle.fsfs_cli.specs.Words.{taken, asked, asked_by, printed_by, revision_in, shard_in, txns_in, shows_ids, path_in, required_in};
+ghost use Rattle.fsfs_cli.specs.Words.{taken, asked, asked_by, asked_by_command, asked_by_jobs, printed_by, revision_in, shard_in, workers_in, txns_in, shows_ids, path_in, required_in};
 ghost use Rattle.fsfs_cli.specs.Readings.{Reads, Finds, GivesPath};
 
 use crate::commands::{
-    cat_command, create_command, history_command, look_command, revision_command, rmtxns_command,
-    tree_command,
+    cat_command, create_command, history_command, jobs_command, look_command, revision_command,
+    rmtxns_command, tree_command,
 };
 use crate::fault::WordsFault;
 use crate::path_word::read_path;
@@ -17,6 +17,7 @@ use crate::shard::read_shard;
 use crate::tool::Tool;
 use crate::txn_names::{TxnNames, read_txns};
 use crate::verb::{Verb, verb_of};
+use crate::workers::read_workers;
 use clap::error::ErrorKind;
 use clap::{ArgMatches, Command};
 use fsfs_base::FsPath;
@@ -84,6 +85,19 @@ fn shard_given(matches: &ArgMatches<'_>) -> Result<u32, WordsFault>
     }
 }
 
+// [-j N]
+fn workers_given(matches: &ArgMatches<'_>) -> Result<u32, WordsFault>
+    ensures { Finds (workers_in (rows_of (found_of matches.now))) (λ workers. workers) result }
+{
+    match word_of(matches, "workers") {
+        None => Ok(1),
+        Some(word) => match read_workers(word) {
+            Some(number) => Ok(number),
+            None => Err(WordsFault::Usage),
+        },
+    }
+}
+
 // TXN..
 fn txns_given(alloc: Global, matches: &ArgMatches<'_>) -> Result<TxnNames, WordsFault>
     ensures { Finds (txns_in (rows_of (found_of matches.now))) (λ names. names) result }
@@ -121,6 +135,16 @@ fn read_create<'a>(alloc: Global, words: &'a [String]) -> Result<Request<'a>, Wo
     let repos = required(&matches, "REPOS");
     let shard = shard_given(&matches)?;
     let task = Task::Create { shard };
+    Ok(Request { repos, task })
+}
+
+fn read_jobs<'a>(alloc: Global, words: &'a [String]) -> Result<Request<'a>, WordsFault>
+    ensures { Reads (asked_by_jobs (map string_bytes words.entry.now)) result }
+{
+    let matches = matches_of(jobs_command(alloc)?, words)?;
+    let repos = required(&matches, "REPOS");
+    let workers = workers_given(&matches)?;
+    let task = Task::RunJobs { workers };
     Ok(Request { repos, task })
 }
 
@@ -216,13 +240,13 @@ fn read_printed<'a>(
     Ok(Request { repos, task })
 }
 
-/// What a program's words, those behind its name, ask for.
-pub fn read_words<'a>(
+// The first word names a command.
+fn read_command<'a>(
     alloc: Global,
     tool: Tool,
     words: &'a [String],
 ) -> Result<Request<'a>, WordsFault>
-    ensures { Reads (asked tool (map string_bytes words.entry.now)) result }
+    ensures { Reads (asked_by_command tool (map string_bytes words.entry.now)) result }
 {
     let [word, words @ ..] = words else {
         return Err(WordsFault::Usage);
@@ -242,5 +266,20 @@ pub fn read_words<'a>(
         Some(Verb::Changed) => read_printed(alloc, "changed", Printed::Changed, words),
         Some(Verb::History) => read_history(alloc, words),
         None => Err(WordsFault::Usage),
+    }
+}
+
+/// What a program's words, those behind its name, ask for.
+pub fn read_words<'a>(
+    alloc: Global,
+    tool: Tool,
+    words: &'a [String],
+) -> Result<Request<'a>, WordsFault>
+    ensures { Reads (asked tool (map string_bytes words.entry.now)) result }
+{
+    match tool {
+        Tool::Admin => read_command(alloc, Tool::Admin, words),
+        Tool::Look => read_command(alloc, Tool::Look, words),
+        Tool::Jobs => read_jobs(alloc, words),
     }
 }

@@ -29,6 +29,11 @@ pub enum Task {
     },
     /// A command of `svnlook`, which reads and prints.
     Look(Look),
+    /// `svnjobs`: the jobs of the script in the input are done.
+    RunJobs {
+        /// How many workers do them: 1.
+        workers: u32,
+    },
 }
 
 /// What is looked at.

@@ -1,0 +1,10 @@
+//! The word N of `-j N`.
+ghost use Rattle.std.specs.Prelude.{◌≡◌};
+ghost use Rattle.fsfs_cli.specs.Grammars.{workers_of};
+
+/// How many workers do the jobs of a script: one, as there are no more yet.
+pub fn read_workers(text: &str) -> Option<u32>
+    ensures { result ≡ workers_of text.now }
+{
+    if text == "1" { Some(1) } else { None }
+}
