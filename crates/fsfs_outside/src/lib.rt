@@ -5,8 +5,10 @@
 mod arguments;
 mod faults;
 mod once;
+mod progress;
 mod standard;
 
 pub use arguments::words;
-pub use once::{OpenGate, SystemClock, SystemDice};
+pub use once::{SystemClock, SystemDice};
+pub use progress::ProgressGate;
 pub use standard::{StreamSink, StreamSource};

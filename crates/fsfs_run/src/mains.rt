@@ -3,8 +3,9 @@
 use fsfs_faults::{Fault, OutsideFault, print_fault, status};
 use fsfs_hostcalls::HostFileSystem;
 use fsfs_mount::FolderHost;
-use fsfs_outside::{OpenGate, StreamSink, StreamSource, SystemClock, SystemDice, words};
+use fsfs_outside::{ProgressGate, StreamSink, StreamSource, SystemClock, SystemDice, words};
 use fsfs_top::{Tool, command};
+use std::io::IsTerminal;
 use std::process::ExitCode;
 
 /// Makes the real outside, calls `command` for this program, and gives its status. Where the machine can't give the moment or
@@ -21,6 +22,13 @@ pub fn run(rt: HostRuntime, tool: Tool) -> ExitCode {
         let _ = print_fault(&mut err, tool, &fault);
         return ExitCode::from(status(&fault));
     };
+    // A run of a script tells a terminal how far it has come.
+    let shown = if rt.stderr().is_terminal() {
+        Some(rt.stderr())
+    } else {
+        None
+    };
+    let gate = ProgressGate::new(rt, shown);
     ExitCode::from(command(
         rt.alloc(),
         tool,
@@ -31,6 +39,6 @@ pub fn run(rt: HostRuntime, tool: Tool) -> ExitCode {
         &mut err,
         &mut clock,
         &mut dice,
-        &OpenGate,
+        &gate,
     ))
 }

@@ -10,9 +10,11 @@ use Rattle.fsfs_cli.specs.Readings.{Asks}
 use Rattle.fsfs_cli.specs.declared.fault.WordsFault.{WordsFault}
 use Rattle.fsfs_cli.specs.declared.request.Look.{Look as SomeLook}
 use Rattle.fsfs_cli.specs.declared.request.Task.{Task}
-use Rattle.fsfs_cli.specs.declared.request.Task.TheVariants.{Create, ListTxns, RemoveTxns, Look}
+use Rattle.fsfs_cli.specs.declared.request.Task.TheVariants.{Create, ListTxns, RemoveTxns, Look, RunJobs}
 use Rattle.fsfs_cli.specs.declared.tool.Tool.{Tool}
+use Rattle.fsfs_cli.specs.declared.tool.Tool.TheVariants as tools
 use Rattle.fsfs_cli.proofs.OneMeaning.{one_task, refused_for_memory}
+use Rattle.fsfs_cli.proofs.TaskLemmas.{asks_task}
 use Rattle.fsfs_top.specs.Command.{Drawn, Does, Did}
 use Rattle.fsfs_top.specs.Looks.{LookIsDecided}
 use Rattle.fsfs_top.specs.Transactions.{OpeningIsDecided}
@@ -41,6 +43,7 @@ module _ (clock : Option ℕ) (dice : Option (List ℕ)) (a b : Scene) (fault : 
   )
   starved repos (Look look) is kept =
       (inl (inr (opening.Memory, is, tt, unopened (a.host.disk_at repos), ap (λ (s : Scene). s.out) kept)), subst (LookIsDecided look (a.host.disk_at repos)) (sym is) (look_outside look (a.host.disk_at repos) Memory tt))
+  starved repos (RunJobs workers) is kept = tt
 
   pub task_done : (tool : Tool) (words : List (List ℕ)) (repos : List ℕ) (task : Task) → Did tool words clock dice a b fault → Asks tool words repos task → Does repos task clock dice a b fault
   task_done tool words repos task (inl (r, t, asks, does)) also =
@@ -71,6 +74,13 @@ looks_alone tool words repos r look n x y = let e = (one_task tool words repos r
 -- nor where something else is
 pub others_alone : (tool : Tool) (words : List (List ℕ)) (repos r : List ℕ) (task other : Task) → (task ≡ other → ⊥) → Asks tool words repos task → Asks tool words r other → ⊥
 others_alone tool words repos r task other apart x y = apart (one_task tool words repos r task other x y).1
+
+-- svnjobs is asked for neither
+pub no_creation : (tool : Tool) (words : List (List ℕ)) (repos : List ℕ) (shard : ℕ) → tool ≡ tools.Jobs → Asks tool words repos (Create shard) → ⊥
+no_creation tool words repos shard jobs asks = let e = sym jobs ∙ (asks_task tool words repos (Create shard) asks).0 in cc
+
+pub no_removal : (tool : Tool) (words : List (List ℕ)) (repos : List ℕ) (txns : List (ℕ × ℕ)) → tool ≡ tools.Jobs → Asks tool words repos (RemoveTxns txns) → ⊥
+no_removal tool words repos txns jobs asks = let e = sym jobs ∙ asks_task tool words repos (RemoveTxns txns) asks in cc
 
 -- what holds of the removal that is asked for, of whatever path
 pub at_removal : (P : List ℕ → Type 0) (tool : Tool) (words : List (List ℕ)) (repos : List ℕ) (txns : List (ℕ × ℕ)) → Asks tool words repos (RemoveTxns txns) → P repos → (r : List ℕ) (other : List (ℕ × ℕ)) → Asks tool words r (RemoveTxns other) → P r

@@ -18,7 +18,7 @@ use Rattle.fsfs_cli.specs.Words.{asked}
 use Rattle.fsfs_cli.specs.Readings.{Asks, Refuses}
 use Rattle.fsfs_cli.specs.declared.fault.WordsFault.{WordsFault}
 use Rattle.fsfs_cli.specs.declared.request.Task.{Task}
-use Rattle.fsfs_cli.specs.declared.request.Task.TheVariants.{Create, ListTxns, RemoveTxns, Look}
+use Rattle.fsfs_cli.specs.declared.request.Task.TheVariants.{Create, ListTxns, RemoveTxns, Look, RunJobs}
 use Rattle.fsfs_cli.specs.declared.tool.Tool.{Tool}
 use Rattle.fsfs_top.specs.Looks.{PrintsLook, LookIsDecided}
 use Rattle.fsfs_top.specs.Transactions.{OpeningIsDecided, ListsTxns, RemovesTxns}
@@ -55,12 +55,14 @@ IsNoneOrStore clock m = IsUnpublished m ⊎ ((moment : ℕ) × IfSome clock (λ 
 
 -- ---- a command
 
--- What is done of a task at a path between two moments, by its fault or none: a row for each task.
+-- What is done of a task at a path between two moments, by its fault or none: a row for each task of the programs that have commands. (What svnjobs
+-- does is `DidJobs`.)
 abbrev pub Does : List ℕ → Task → Option ℕ → Option (List ℕ) → Scene → Scene → Option Fault → Type 0
 Does repos (Create shard) clock dice a b fault = Created repos shard clock dice a.host b.host fault × (b.out ≡ a.out)
 Does repos ListTxns clock dice a b fault = ListsTxns repos a b fault × OpeningIsDecided (a.host.disk_at repos) fault
 Does repos (RemoveTxns txns) clock dice a b fault = RemovesTxns repos txns a.host b.host fault × OpeningIsDecided (a.host.disk_at repos) fault × (b.out ≡ a.out)
 Does repos (Look look) clock dice a b fault = PrintsLook repos look a b fault × LookIsDecided look (a.host.disk_at repos) fault
+Does repos (RunJobs workers) clock dice a b fault = Unit {0}
 
 -- the words are refused, and nothing is done
 abbrev pub RefusesWords : Tool → List (List ℕ) → Scene → Scene → Option Fault → Type 0

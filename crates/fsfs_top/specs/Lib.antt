@@ -4,3 +4,4 @@ pub mod Looks
 pub mod Transactions
 pub mod Command
 pub mod Replies
+pub mod Scripts

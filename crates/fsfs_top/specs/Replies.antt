@@ -1,5 +1,5 @@
 -- The replies of commands, as the flat model answers them.
-use Rattle.std.specs.Prelude.{◌≡◌, ◌⊎◌, ℕ, List, Option, Some, None, IfSome, option_map}
+use Rattle.std.specs.Prelude.{◌≡◌, ◌⊎◌, ℕ, List, [], Option, Some, None, IfSome, option_map}
 use Rattle.fsfs_base.specs.Failures.{Rose}
 use Rattle.fsfs_base.specs.Files.{Files}
 use Rattle.fsfs_base.specs.Paths.{Path}
@@ -13,7 +13,7 @@ use Rattle.fsfs_streams.specs.Streams.{Adds}
 use Rattle.fsfs_streams.specs.Output.{AddsFront}
 use Rattle.fsfs_create.specs.Creation.{IsUnpublished}
 use Rattle.fsfs_rev_file.specs.RevBytes.{rev_bytes}
-use Rattle.fsfs_answers.specs.Answers.{Reply, Answer, UuidAnswer, asked_revision, new_history}
+use Rattle.fsfs_answers.specs.Answers.{Reply, prints, Answer, UuidAnswer, asked_revision, new_history}
 use Rattle.fsfs_answers.specs.Answers as model
 use Rattle.fsfs_top.specs.TxnAnswers.{ListingAnswer, RemovalAnswer}
 use Rattle.fsfs_layout.specs.Opening.{small_texts, IsOpened, IsNone}
@@ -25,7 +25,7 @@ use Rattle.fsfs_cli.specs.declared.request.Look.TheVariants.{Youngest, Uuid, AtR
 use Rattle.fsfs_cli.specs.declared.request.Printed.{Printed}
 use Rattle.fsfs_cli.specs.declared.request.Printed.TheVariants.{Tree, Text, Author, Date, Log, Info, Changed, History}
 use Rattle.fsfs_cli.specs.declared.request.Task.{Task}
-use Rattle.fsfs_cli.specs.declared.request.Task.TheVariants.{Create, ListTxns, RemoveTxns, Look}
+use Rattle.fsfs_cli.specs.declared.request.Task.TheVariants.{Create, ListTxns, RemoveTxns, Look, RunJobs}
 use Rattle.fsfs_cli.specs.declared.tool.Tool.{Tool}
 use Rattle.fsfs_txns.specs.Txns.{AreTxns}
 use Rattle.fsfs_top.specs.Transactions.{txns_of}
@@ -70,7 +70,7 @@ look_command revision Info shown = model.Info revision
 look_command revision Changed shown = model.Changed revision
 look_command revision (History path) shown = model.History revision path
 
--- the reply to a task where the files stand for this repository, or for none
+-- The reply to a task where the files stand for this repository, or for none. (That to a script is no function of these: `DidJobs` says it.)
 abbrev pub answer_to : Task → (Path → List ℕ) → Option Repository → Reply
 answer_to (Create shard) shown r = Answer model.Create (option_map (λ (x : Repository). x.history) r)
 answer_to ListTxns shown r = ListingAnswer (option_map (λ (x : Repository). x.names) r)
@@ -78,6 +78,7 @@ answer_to (RemoveTxns txns) shown r = RemovalAnswer txns (option_map (λ (x : Re
 answer_to (Look Youngest) shown r = Answer model.Youngest (option_map (λ (x : Repository). x.history) r)
 answer_to (Look Uuid) shown r = UuidAnswer (option_map (λ (x : Repository). x.identifier) r)
 answer_to (Look (AtRevision look)) shown r = Answer (look_command look.revision look.printed shown) (option_map (λ (x : Repository). x.history) r)
+answer_to (RunJobs workers) shown r = prints []
 
 -- there is no repository: to a creation where there is no `db/format`, to all others also where it is of another type
 abbrev pub HasNone : Task → Files → Type 0
@@ -85,6 +86,7 @@ HasNone (Create shard) files = IsUnpublished files
 HasNone ListTxns files = IsNone (small_texts files)
 HasNone (RemoveTxns txns) files = IsNone (small_texts files)
 HasNone (Look look) files = IsNone (small_texts files)
+HasNone (RunJobs workers) files = ⊥
 
 -- what is shown are the ids of the node-revisions at the paths, or nothing
 abbrev pub ShowsIds : Printed → RevisionBytes → ℕ → (Path → List ℕ) → Type 0
@@ -104,6 +106,7 @@ AreIds (RemoveTxns txns) bytes h shown = Unit {0}
 AreIds (Look Youngest) bytes h shown = Unit {0}
 AreIds (Look Uuid) bytes h shown = Unit {0}
 AreIds (Look (AtRevision look)) bytes h shown = ShowsIds look.printed bytes (asked_revision look.revision h) shown
+AreIds (RunJobs workers) bytes h shown = ⊥
 
 -- what a task is answered by of the transactions that are there: a listing by their names in order, a removal by the transactions
 abbrev pub HasTxns : Task → List Label → List (List ℕ) → List (ℕ × ℕ) → Type 0
@@ -111,6 +114,7 @@ HasTxns (Create shard) labels names txns = Unit {0}
 HasTxns ListTxns labels names txns = AreTxns labels names
 HasTxns (RemoveTxns given) labels names txns = txns ≡ txns_of labels
 HasTxns (Look look) labels names txns = Unit {0}
+HasTxns (RunJobs workers) labels names txns = ⊥
 
 -- the task is answered by the small files, and by the transactions, alone
 abbrev pub IsOfSmallFiles : Task → Type 0
@@ -120,6 +124,7 @@ IsOfSmallFiles (RemoveTxns txns) = Unit {0}
 IsOfSmallFiles (Look Youngest) = Unit {0}
 IsOfSmallFiles (Look Uuid) = Unit {0}
 IsOfSmallFiles (Look (AtRevision look)) = ⊥
+IsOfSmallFiles (RunJobs workers) = ⊥
 
 -- The replies to what the words ask for, of the files that the disks of paths have. (The files of a new repository stand for the history of revision 0:
 -- that is the law `new_repositories_stand`.)

@@ -3,6 +3,7 @@ use Rattle.std.specs.Prelude.{ℕ, List, Option}
 use Rattle.fsfs_disk.specs.Trace.{Trace}
 use Rattle.fsfs_disk.specs.declared.host.Host as Host
 use Rattle.fsfs_streams.specs.declared.streams.Sink as Sink
+use Rattle.fsfs_streams.specs.declared.streams.Source as Source
 
 -- of a host: the disk of each path, where it tells, and how often mounts, disks and benches failed
 pub record HostScene : Type 0 where
@@ -16,6 +17,11 @@ pub record SinkScene : Type 0 where
   pub written : Option (List ℕ)
   pub faults : ℕ
 
+-- of an input: what remains to be read of it, where it tells, and how often it failed
+pub record SourceScene : Type 0 where
+  pub remaining : Option (List ℕ)
+  pub faults : ℕ
+
 -- of the host and the output
 pub record Scene : Type 0 where
   pub host : HostScene
@@ -26,6 +32,9 @@ host_scene g h = record { disk_at = g.disk_at h; mount_faults = g.mount_faults h
 
 abbrev pub sink_scene : {S : Type 0} → Sink.Ghosts S → S → SinkScene
 sink_scene g s = record { written = g.written s; faults = g.faults s }
+
+abbrev pub source_scene : {S : Type 0} → Source.Ghosts S → S → SourceScene
+source_scene g s = record { remaining = g.remaining s; faults = g.faults s }
 
 abbrev pub scene : {H M B O : Type 0} → Host.Ghosts H M B → Sink.Ghosts O → H → O → Scene
 scene g k h o = record { host = host_scene g h; out = sink_scene k o }

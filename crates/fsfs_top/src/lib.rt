@@ -1,6 +1,7 @@
 //! The top call of the repository programs.
 #![tactic(auto)]
 
+mod jobs;
 mod look;
 mod output;
 mod top;

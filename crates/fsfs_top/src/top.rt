@@ -1,16 +1,20 @@
 // The top call.
-ghost use Rattle.std.specs.Prelude.{◌≡◌, ◌≢◌, ◌≤◌, ℕ, List, map, string_bytes, Option, Some, IfSome, IfNone, OnOk, option_map};
+ghost use Rattle.std.specs.Prelude.{◌≡◌, ◌≢◌, ◌≤◌, ℕ, List, map, string_bytes, Option, Some, Result, IfSome, IfNone, OnOk, option_map};
 ghost use Rattle.fsfs_disk.specs.Trace.{Trace, files_now};
 ghost use Rattle.fsfs_disk.specs.Crash.{AllImages, IsFirm, Leaves};
 ghost use Rattle.fsfs_create.specs.Creation.{IsUnpublished, HasRepository};
 ghost use Rattle.fsfs_cli.specs.Readings.{Asks};
 ghost use Rattle.fsfs_cli.specs.declared.request.Task.TheVariants.{Create, RemoveTxns};
+ghost use Rattle.fsfs_cli.specs.declared.tool.Tool.TheVariants.{Jobs};
+ghost use Rattle.fsfs_faults.specs.Lines.{status_of};
+ghost use Rattle.fsfs_top.specs.Scripts.{DidJobs, ended_fault, ended_status};
 ghost use Rattle.fsfs_top.specs.Command.{Created, Did, IsNoneOrCreated, IsNoneOrStore, Tells, answer_of, fault_of};
 ghost use Rattle.fsfs_top.specs.Replies.{Replies, Gives, MadeStands};
-ghost use Rattle.fsfs_top.specs.Scenes.{host_scene, sink_scene, scene};
+ghost use Rattle.fsfs_top.specs.Scenes.{host_scene, sink_scene, source_scene, scene};
 ghost use Rattle.fsfs_top.specs.Transactions.{HasSameLabels, LeavesRemoval};
 ghost use Rattle.fsfs_faults.specs.declared.fault.Fault.{Fault};
 
+use crate::jobs::run_jobs;
 use crate::look::look_at;
 use crate::txns::{list_at, remove_at};
 use fsfs_cli::{Task, Tool, read_words};
@@ -54,7 +58,7 @@ fn create_at<H: Host, C: Clock, R: Dice>(
     }
 }
 
-// Reads the words, and does what they ask for.
+// Reads the words of a program that has commands, and does what they ask for.
 fn run<H: Host, O: Sink, C: Clock, R: Dice>(
     alloc: Global,
     tool: Tool,
@@ -64,6 +68,7 @@ fn run<H: Host, O: Sink, C: Clock, R: Dice>(
     clock: &mut C,
     dice: &mut R,
 ) -> Result<(), Fault>
+    requires { tool ≢ Jobs }
     ensures did { Did tool (map string_bytes words.now) (C.next clock.old) (R.next dice.old) (scene H.Host O.Sink host.old out.old) (scene H.Host O.Sink host.new out.new) (fault_of result) }
     ensures there_same { (repos : List ℕ) (shard : ℕ) (t : Trace) → Asks tool (map string_bytes words.now) repos (Create shard)
         → H.disk_at host.old repos ≡ Some t → HasRepository t → H.disk_at host.new repos ≡ H.disk_at host.old repos }
@@ -82,23 +87,32 @@ fn run<H: Host, O: Sink, C: Clock, R: Dice>(
         Task::ListTxns => list_at(alloc, request.repos, host, out),
         Task::RemoveTxns { names } => remove_at(alloc, request.repos, names, host),
         Task::Look(look) => look_at(alloc, request.repos, look, host, out),
+        // It is svnjobs' own.
+        Task::RunJobs { .. } => unreachable!(),
     }
 }
 
-/// The top call: all that a program does. It answers the program's status, 0 where it did what its words ask for;
-/// else it writes one line about the fault to `err`.
-pub fn command<H: Host, I: Source, O: Sink, E: Sink, C: Clock, R: Dice, G: Gate>(
+// Writes the line about the fault of a program, and gives its status.
+fn tell<E: Sink>(err: &mut E, tool: Tool, fault: &Fault) -> u8
+    ensures status { result ≡ status_of fault.now }
+    ensures told { Tells tool (sink_scene E.Sink err.old) (sink_scene E.Sink err.new) (Some fault.now) }
+{
+    let _ = print_fault(err, tool, fault);
+    status(fault)
+}
+
+// The call of a program that has commands.
+fn do_command<H: Host, O: Sink, E: Sink, C: Clock, R: Dice>(
     alloc: Global,
     tool: Tool,
     words: &[String],
     host: &mut H,
-    _input: &mut I,
     out: &mut O,
     err: &mut E,
     clock: &mut C,
     dice: &mut R,
-    _gate: &G,
 ) -> u8
+    requires { tool ≢ Jobs }
     // One fault or none, to which belong the status, the line, and what was done and printed.
     ensures answer { (fault : Option Fault) × (result ≡ answer_of fault) × Tells tool (sink_scene E.Sink err.old) (sink_scene E.Sink err.new) fault
         × Did tool (map string_bytes words.now) (C.next clock.old) (R.next dice.old) (scene H.Host O.Sink host.old out.old) (scene H.Host O.Sink host.new out.new) fault }
@@ -133,14 +147,73 @@ pub fn command<H: Host, I: Source, O: Sink, E: Sink, C: Clock, R: Dice, G: Gate>
     // No label goes or comes but at a path at which a repository is to be made or transactions are to be removed.
     ensures labels { (path : List ℕ) → ((shard : ℕ) → Asks tool (map string_bytes words.now) path (Create shard) → ⊥) → ((txns : List (ℕ × ℕ)) → Asks tool (map string_bytes words.now) path (RemoveTxns txns) → ⊥)
         → HasSameLabels (H.disk_at host.old path) (H.disk_at host.new path) }
-
-    ensures unread { I.remaining _input.new ≡ I.remaining _input.old }
 {
     match run(alloc, tool, words, host, out, clock, dice) {
         Ok(()) => 0,
-        Err(fault) => {
-            let _ = print_fault(err, tool, &fault);
-            status(&fault)
-        }
+        Err(fault) => tell(err, tool, &fault),
+    }
+}
+
+/// The top call: all that a program does. It answers the program's status, 0 where it did what its words ask for; else it writes one
+/// line about the fault to `err`. Of svnjobs it is the greatest status that a job's line asks for.
+pub fn command<H: Host, I: Source, O: Sink, E: Sink, C: Clock, R: Dice, G: Gate>(
+    alloc: Global,
+    tool: Tool,
+    words: &[String],
+    host: &mut H,
+    input: &mut I,
+    out: &mut O,
+    err: &mut E,
+    clock: &mut C,
+    dice: &mut R,
+    gate: &G,
+) -> u8
+    // Of svnadmin and svnlook: one fault or none, to which belong the status, the line, and what was done and printed.
+    ensures answer { tool ≢ Jobs → (fault : Option Fault) × (result ≡ answer_of fault) × Tells tool (sink_scene E.Sink err.old) (sink_scene E.Sink err.new) fault
+        × Did tool (map string_bytes words.now) (C.next clock.old) (R.next dice.old) (scene H.Host O.Sink host.old out.old) (scene H.Host O.Sink host.new out.new) fault }
+
+    // Commands give the replies of the flat model, of the history that the files stand for.
+    ensures replies { tool ≢ Jobs → Replies tool (map string_bytes words.now) (H.disk_at host.old)
+        (Gives result (scene H.Host O.Sink host.old out.old) (scene H.Host O.Sink host.new out.new) (sink_scene E.Sink err.old) (sink_scene E.Sink err.new)) }
+
+    // A repository that is there stays as it is, whatever a creation answers.
+    ensures there_same { (repos : List ℕ) (shard : ℕ) (t : Trace) → Asks tool (map string_bytes words.now) repos (Create shard)
+        → H.disk_at host.old repos ≡ Some t → HasRepository t → H.disk_at host.new repos ≡ H.disk_at host.old repos }
+
+    // A crash at any moment of a creation leaves no repository at the path, or the whole new one.
+    ensures any_moment { (repos : List ℕ) (shard : ℕ) → Asks tool (map string_bytes words.now) repos (Create shard) → AllImages (H.disk_at host.old repos) IsUnpublished
+        → Leaves (H.disk_at host.old repos) (H.disk_at host.new repos) (IsNoneOrCreated shard (C.next clock.old) (R.next dice.old) (H.disk_at host.old repos)) }
+
+    // So what it leaves stands for the history of revision 0, or an opening refuses it as no repository.
+    ensures stands_or_none { (repos : List ℕ) (shard : ℕ) → Asks tool (map string_bytes words.now) repos (Create shard) → AllImages (H.disk_at host.old repos) IsUnpublished
+        → Leaves (H.disk_at host.old repos) (H.disk_at host.new repos) (IsNoneOrStore (C.next clock.old)) }
+
+    // A repository that was made stands for the history of revision 0, and is firm.
+    ensures made { result ≡ 0 → MadeStands tool (map string_bytes words.now) (C.next clock.old) (H.disk_at host.new) }
+    ensures firm { (repos : List ℕ) (shard : ℕ) → Asks tool (map string_bytes words.now) repos (Create shard) → result ≡ 0 → IsFirm (H.disk_at host.new repos) }
+
+    // No file changes but at a path at which a repository is to be made.
+    ensures others { tool ≢ Jobs → (path : List ℕ) → ((shard : ℕ) → Asks tool (map string_bytes words.now) path (Create shard) → ⊥)
+        → option_map files_now (H.disk_at host.new path) ≡ option_map files_now (H.disk_at host.old path) }
+
+    // A crash at any moment of a removal of transactions leaves files that one before could have left, and no label that was not kept then.
+    ensures removal { (repos : List ℕ) (txns : List (ℕ × ℕ)) → Asks tool (map string_bytes words.now) repos (RemoveTxns txns) → LeavesRemoval (H.disk_at host.old repos) (H.disk_at host.new repos) }
+
+    // No label goes or comes but at a path at which a repository is to be made or transactions are to be removed.
+    ensures labels { tool ≢ Jobs → (path : List ℕ) → ((shard : ℕ) → Asks tool (map string_bytes words.now) path (Create shard) → ⊥) → ((txns : List (ℕ × ℕ)) → Asks tool (map string_bytes words.now) path (RemoveTxns txns) → ⊥)
+        → HasSameLabels (H.disk_at host.old path) (H.disk_at host.new path) }
+
+    // Of svnjobs: what became of the script in the input, to which belong the status and the line about a fault.
+    ensures jobs { tool ≡ Jobs → (ended : Result ℕ Fault) × (result ≡ ended_status ended) × Tells tool (sink_scene E.Sink err.old) (sink_scene E.Sink err.new) (ended_fault ended)
+        × DidJobs (map string_bytes words.now) (C.next clock.old) (scene H.Host O.Sink host.old out.old) (source_scene I.Source input.old) (scene H.Host O.Sink host.new out.new) (source_scene I.Source input.new) ended }
+
+    ensures unread { tool ≢ Jobs → I.remaining input.new ≡ I.remaining input.old }
+{
+    match tool {
+        Tool::Jobs => match run_jobs(alloc, words, host, input, out, clock, gate) {
+            Ok(status) => status,
+            Err(fault) => tell(err, tool, &fault),
+        },
+        _ => do_command(alloc, tool, words, host, out, err, clock, dice),
     }
 }

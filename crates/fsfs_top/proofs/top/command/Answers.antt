@@ -1,46 +1,85 @@
-use Rattle.std.proofs.Common.{◌∙◌, map, refl, sym}
-use Rattle.std.specs.Prelude.{string_bytes, Some, None}
-use Rattle.fsfs_faults.specs.Lines.{line_of}
-use Rattle.fsfs_top.specs.Scenes.{scene, sink_scene}
-use Rattle.fsfs_top.proofs.Making.{made_stands, no_zero, stands_or_none}
-use Rattle.fsfs_top.proofs.CommandReplies.{replies, told_line}
+use Rattle.std.proofs.Common.{map, refl}
+use Rattle.std.specs.Prelude.{string_bytes, Ok, Err}
+use Rattle.fsfs_top.proofs.TaskDone.{no_creation, no_removal}
 use Rattle.fsfs_top.proofs.top.command.Goals as goal
 
+pub do_command-requires : goal.do_command-requires
+do_command-requires g c = c.in_default.not-Jobs
+
+pub returns-in_default-clause-jobs : goal.returns-in_default-clause-jobs
+returns-in_default-clause-jobs g c = λ jobs. absurd (c.in_default.not-Jobs jobs)
+
+pub returns-in_default-clause-unread : goal.returns-in_default-clause-unread
+returns-in_default-clause-unread g c = λ apart. refl
+
+pub returns-in-Ok-clause-answer : goal.returns-in-Ok-clause-answer
+returns-in-Ok-clause-answer g c = λ apart. absurd (apart c.in-Jobs.is)
+
 pub returns-in-Ok-clause-replies : goal.returns-in-Ok-clause-replies
-returns-in-Ok-clause-replies g c =
-    replies c.args.tool (map string_bytes c.args.words.now) (g.C.Clock.next c.args.clock.now) (g.R.Dice.next c.args.dice.now) (scene g.H.Host g.O.Sink c.args.host.now c.args.out.now) (scene g.H.Host g.O.Sink c.run.new.host c.run.new.out)
-    (sink_scene g.E.Sink c.args.err.now) (sink_scene g.E.Sink c.args.err.now) 0 None c.in-Ok.ensures.did (refl, refl)
+returns-in-Ok-clause-replies g c = λ apart. absurd (apart c.in-Jobs.is)
 
-pub returns-in-Err-clause-replies : goal.returns-in-Err-clause-replies
-returns-in-Err-clause-replies g c =
-    let tells = told_line (g.E.Sink.written c.args.err.now) (g.E.Sink.written c.print_fault.new.sink) (line_of c.args.tool c.in-Err.fault) (g.E.Sink.faults c.args.err.now) (g.E.Sink.faults c.print_fault.new.sink) c.print_fault.result c.print_fault.ensures.printed in
-    replies c.args.tool (map string_bytes c.args.words.now) (g.C.Clock.next c.args.clock.now) (g.R.Dice.next c.args.dice.now) (scene g.H.Host g.O.Sink c.args.host.now c.args.out.now) (scene g.H.Host g.O.Sink c.run.new.host c.run.new.out)
-    (sink_scene g.E.Sink c.args.err.now) (sink_scene g.E.Sink c.print_fault.new.sink) c.status.result (Some c.in-Err.fault) c.in-Err.ensures.did (c.status.ensures, tells)
+pub returns-in-Ok-clause-others : goal.returns-in-Ok-clause-others
+returns-in-Ok-clause-others g c = λ apart. absurd (apart c.in-Jobs.is)
 
-pub returns-in-Err-clause-answer : goal.returns-in-Err-clause-answer
-returns-in-Err-clause-answer g c = (
-  Some c.in-Err.fault,
-  c.status.ensures,
-  told_line (g.E.Sink.written c.args.err.now) (g.E.Sink.written c.print_fault.new.sink) (line_of c.args.tool c.in-Err.fault) (g.E.Sink.faults c.args.err.now) (g.E.Sink.faults c.print_fault.new.sink) c.print_fault.result c.print_fault.ensures.printed,
-  c.in-Err.ensures.did,
-)
+pub returns-in-Ok-clause-labels : goal.returns-in-Ok-clause-labels
+returns-in-Ok-clause-labels g c = λ apart. absurd (apart c.in-Jobs.is)
 
-pub returns-in-Ok-clause-made : goal.returns-in-Ok-clause-made
-returns-in-Ok-clause-made g c = λ done.
-    made_stands c.args.tool (map string_bytes c.args.words.now) (g.C.Clock.next c.args.clock.now) (g.R.Dice.next c.args.dice.now) (scene g.H.Host g.O.Sink c.args.host.now c.args.out.now) (scene g.H.Host g.O.Sink c.run.new.host c.run.new.out) c.in-Ok.ensures.did
+pub returns-in-Ok-clause-unread : goal.returns-in-Ok-clause-unread
+returns-in-Ok-clause-unread g c = λ apart. absurd (apart c.in-Jobs.is)
 
-pub returns-in-Err-clause-made : goal.returns-in-Err-clause-made
-returns-in-Err-clause-made g c = λ zero. absurd (no_zero c.in-Err.fault (sym c.status.ensures ∙ zero))
+pub returns-in-Ok-clause-there_same : goal.returns-in-Ok-clause-there_same
+returns-in-Ok-clause-there_same g c = λ repos shard t asks. absurd (no_creation c.args.tool (map string_bytes c.args.words.now) repos shard c.in-Jobs.is asks)
 
-pub returns-in-Ok-clause-firm : goal.returns-in-Ok-clause-firm
-returns-in-Ok-clause-firm g c = λ repos shard asks zero. c.in-Ok.ensures.firm repos shard asks
+pub returns-in-Ok-clause-any_moment : goal.returns-in-Ok-clause-any_moment
+returns-in-Ok-clause-any_moment g c = λ repos shard asks. absurd (no_creation c.args.tool (map string_bytes c.args.words.now) repos shard c.in-Jobs.is asks)
 
 pub returns-in-Ok-clause-stands_or_none : goal.returns-in-Ok-clause-stands_or_none
-returns-in-Ok-clause-stands_or_none g c = λ repos shard asks.
-    stands_or_none c.args.tool (map string_bytes c.args.words.now) repos shard (g.C.Clock.next c.args.clock.now) (g.R.Dice.next c.args.dice.now) (g.H.Host.disk_at c.args.host.now repos) (g.H.Host.disk_at c.run.new.host repos) asks
-    (c.run.ensures.any_moment repos shard asks)
+returns-in-Ok-clause-stands_or_none g c = λ repos shard asks. absurd (no_creation c.args.tool (map string_bytes c.args.words.now) repos shard c.in-Jobs.is asks)
+
+pub returns-in-Ok-clause-firm : goal.returns-in-Ok-clause-firm
+returns-in-Ok-clause-firm g c = λ repos shard asks. absurd (no_creation c.args.tool (map string_bytes c.args.words.now) repos shard c.in-Jobs.is asks)
+
+pub returns-in-Ok-clause-made : goal.returns-in-Ok-clause-made
+returns-in-Ok-clause-made g c = λ zero repos shard t asks here. absurd (no_creation c.args.tool (map string_bytes c.args.words.now) repos shard c.in-Jobs.is asks)
+
+pub returns-in-Ok-clause-removal : goal.returns-in-Ok-clause-removal
+returns-in-Ok-clause-removal g c = λ repos txns asks. absurd (no_removal c.args.tool (map string_bytes c.args.words.now) repos txns c.in-Jobs.is asks)
+
+pub returns-in-Err-clause-answer : goal.returns-in-Err-clause-answer
+returns-in-Err-clause-answer g c = λ apart. absurd (apart c.in-Jobs.is)
+
+pub returns-in-Err-clause-replies : goal.returns-in-Err-clause-replies
+returns-in-Err-clause-replies g c = λ apart. absurd (apart c.in-Jobs.is)
+
+pub returns-in-Err-clause-others : goal.returns-in-Err-clause-others
+returns-in-Err-clause-others g c = λ apart. absurd (apart c.in-Jobs.is)
+
+pub returns-in-Err-clause-labels : goal.returns-in-Err-clause-labels
+returns-in-Err-clause-labels g c = λ apart. absurd (apart c.in-Jobs.is)
+
+pub returns-in-Err-clause-unread : goal.returns-in-Err-clause-unread
+returns-in-Err-clause-unread g c = λ apart. absurd (apart c.in-Jobs.is)
+
+pub returns-in-Err-clause-there_same : goal.returns-in-Err-clause-there_same
+returns-in-Err-clause-there_same g c = λ repos shard t asks. absurd (no_creation c.args.tool (map string_bytes c.args.words.now) repos shard c.in-Jobs.is asks)
+
+pub returns-in-Err-clause-any_moment : goal.returns-in-Err-clause-any_moment
+returns-in-Err-clause-any_moment g c = λ repos shard asks. absurd (no_creation c.args.tool (map string_bytes c.args.words.now) repos shard c.in-Jobs.is asks)
 
 pub returns-in-Err-clause-stands_or_none : goal.returns-in-Err-clause-stands_or_none
-returns-in-Err-clause-stands_or_none g c = λ repos shard asks.
-    stands_or_none c.args.tool (map string_bytes c.args.words.now) repos shard (g.C.Clock.next c.args.clock.now) (g.R.Dice.next c.args.dice.now) (g.H.Host.disk_at c.args.host.now repos) (g.H.Host.disk_at c.run.new.host repos) asks
-    (c.run.ensures.any_moment repos shard asks)
+returns-in-Err-clause-stands_or_none g c = λ repos shard asks. absurd (no_creation c.args.tool (map string_bytes c.args.words.now) repos shard c.in-Jobs.is asks)
+
+pub returns-in-Err-clause-firm : goal.returns-in-Err-clause-firm
+returns-in-Err-clause-firm g c = λ repos shard asks. absurd (no_creation c.args.tool (map string_bytes c.args.words.now) repos shard c.in-Jobs.is asks)
+
+pub returns-in-Err-clause-made : goal.returns-in-Err-clause-made
+returns-in-Err-clause-made g c = λ zero repos shard t asks here. absurd (no_creation c.args.tool (map string_bytes c.args.words.now) repos shard c.in-Jobs.is asks)
+
+pub returns-in-Err-clause-removal : goal.returns-in-Err-clause-removal
+returns-in-Err-clause-removal g c = λ repos txns asks. absurd (no_removal c.args.tool (map string_bytes c.args.words.now) repos txns c.in-Jobs.is asks)
+
+pub returns-in-Ok-clause-jobs : goal.returns-in-Ok-clause-jobs
+returns-in-Ok-clause-jobs g c = λ jobs. (Ok c.in-Ok.status, refl, refl, c.in-Ok.ensures.did)
+
+pub returns-in-Err-clause-jobs : goal.returns-in-Err-clause-jobs
+returns-in-Err-clause-jobs g c = λ jobs. (Err c.in-Err.fault, c.tell.ensures.status, c.tell.ensures.told, c.in-Err.ensures.did)

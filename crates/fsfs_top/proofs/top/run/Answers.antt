@@ -54,33 +54,33 @@ returns-in-Create-clause-others g c = λ path none.
     let asks = subst (Asks c.args.tool words repos) c.in-Create.is c.in_ok-request.ensures in
     ap (option_map files_now) (c.create_at.ensures.others path (λ e. none c.in-Create.shard (subst (λ (p : List ℕ). Asks c.args.tool words p (Create c.in-Create.shard)) (sym e) asks)))
 
-pub returns-clause-did : goal.returns-clause-did
-returns-clause-did g c =
+pub returns-in-Look-clause-did : goal.returns-in-Look-clause-did
+returns-in-Look-clause-did g c =
     let words = map string_bytes c.args.words.now in
     let repos = c.in_ok-request.request.repos.now in
     let asks = subst (Asks c.args.tool words repos) c.in-Look.is c.in_ok-request.ensures in
     inl (repos, Look c.in-Look.look, asks, (c.look_at.ensures.printed, c.look_at.ensures.decided))
 
-pub returns-clause-there_same : goal.returns-clause-there_same
-returns-clause-there_same g c = λ r n t also here has.
+pub returns-in-Look-clause-there_same : goal.returns-in-Look-clause-there_same
+returns-in-Look-clause-there_same g c = λ r n t also here has.
     let words = map string_bytes c.args.words.now in
     let repos = c.in_ok-request.request.repos.now in
     absurd (looks_alone c.args.tool words repos r c.in-Look.look n (subst (Asks c.args.tool words repos) c.in-Look.is c.in_ok-request.ensures) also)
 
-pub returns-clause-any_moment : goal.returns-clause-any_moment
-returns-clause-any_moment g c = λ r n also.
+pub returns-in-Look-clause-any_moment : goal.returns-in-Look-clause-any_moment
+returns-in-Look-clause-any_moment g c = λ r n also.
     let words = map string_bytes c.args.words.now in
     let repos = c.in_ok-request.request.repos.now in
     absurd (looks_alone c.args.tool words repos r c.in-Look.look n (subst (Asks c.args.tool words repos) c.in-Look.is c.in_ok-request.ensures) also)
 
-pub returns-clause-firm : goal.returns-clause-firm
-returns-clause-firm g c = λ r n also.
+pub returns-in-Look-clause-firm : goal.returns-in-Look-clause-firm
+returns-in-Look-clause-firm g c = λ r n also.
     let words = map string_bytes c.args.words.now in
     let repos = c.in_ok-request.request.repos.now in
     absurd (looks_alone c.args.tool words repos r c.in-Look.look n (subst (Asks c.args.tool words repos) c.in-Look.is c.in_ok-request.ensures) also)
 
-pub returns-clause-others : goal.returns-clause-others
-returns-clause-others g c = λ path none.
+pub returns-in-Look-clause-others : goal.returns-in-Look-clause-others
+returns-in-Look-clause-others g c = λ path none.
     same_files (g.H.Host.disk_at c.args.host.now) (g.H.Host.disk_at c.look_at.new.host) c.in_ok-request.request.repos.now path c.look_at.ensures.same c.look_at.ensures.others
 
 pub create_at-requires : goal.create_at-requires
@@ -102,14 +102,14 @@ returns-in-Create-clause-labels g c = λ path none nor.
     let asks = subst (Asks c.args.tool words repos) c.in-Create.is c.in_ok-request.ensures in
     ap (option_map labels_now) (c.create_at.ensures.others path (λ e. none c.in-Create.shard (subst (λ (p : List ℕ). Asks c.args.tool words p (Create c.in-Create.shard)) (sym e) asks)))
 
-pub returns-clause-removal : goal.returns-clause-removal
-returns-clause-removal g c = λ r txns also.
+pub returns-in-Look-clause-removal : goal.returns-in-Look-clause-removal
+returns-in-Look-clause-removal g c = λ r txns also.
     let words = map string_bytes c.args.words.now in
     let repos = c.in_ok-request.request.repos.now in
     absurd (others_alone c.args.tool words repos r (Look c.in-Look.look) (RemoveTxns txns) (λ e. cc) (subst (Asks c.args.tool words repos) c.in-Look.is c.in_ok-request.ensures) also)
 
-pub returns-clause-labels : goal.returns-clause-labels
-returns-clause-labels g c = λ path none nor.
+pub returns-in-Look-clause-labels : goal.returns-in-Look-clause-labels
+returns-in-Look-clause-labels g c = λ path none nor.
     let old = g.H.Host.disk_at c.args.host.now in
     let new = g.H.Host.disk_at c.look_at.new.host in
     let repos = c.in_ok-request.request.repos.now in
@@ -206,3 +206,11 @@ returns-in-RemoveTxns-clause-labels g c = λ path none nor.
     let repos = c.in_ok-request.request.repos.now in
     let asks = subst (Asks c.args.tool words repos) c.in-RemoveTxns.is c.in_ok-request.ensures in
     ap (option_map labels_now) (c.remove_at.ensures.others path (λ e. nor c.in-RemoveTxns.names (subst (λ (p : List ℕ). Asks c.args.tool words p (RemoveTxns c.in-RemoveTxns.names)) (sym e) asks)))
+
+-- ---- a script is svnjobs' own
+
+pub unreachable-requires : goal.unreachable-requires
+unreachable-requires g c =
+    let words = map string_bytes c.args.words.now in
+    let repos = c.in_ok-request.request.repos.now in
+    c.requires (asks_task c.args.tool words repos _ (subst (Asks c.args.tool words repos) c.in-RunJobs.is c.in_ok-request.ensures)).0

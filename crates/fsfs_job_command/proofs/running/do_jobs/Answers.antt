@@ -1,0 +1,22 @@
+use Rattle.std.proofs.Common.{◌≡◌, ◌∙◌, sym, ap, subst}
+use Rattle.std.specs.Prelude.{Result, Ok, IfOk}
+use Rattle.fsfs_turn.specs.Telling.{state_of}
+use Rattle.fsfs_turn.specs.OwnedLemmas.{known_still}
+use Rattle.fsfs_job_command.proofs.RunLemmas.{ran_in}
+use Rattle.fsfs_job_command.proofs.running.do_jobs.Goals as goal
+
+told_ok : {X E : Type 0} (r : Result X E) (x : X) (P : X → Type 0) → r ≡ Ok x → IfOk r P → P x
+told_ok r x P e w = subst (λ z. IfOk z P) e w
+
+pub returns-in-Ok-clause-does : goal.returns-in-Ok-clause-does
+returns-in-Ok-clause-does g c = λ v known none opened.
+    let told = g.D.Disk.trace in
+    let path = g.D.Disk.mount_path in
+    let at = c.run_jobs-repo.result.0.turns in
+    let then = c.youngest-youngest.new.self.turns in
+    let same = c.youngest-youngest.ensures.same in
+    let a = state_of at.layout at.young at.stuck (told at.disk) (path at.disk) in
+    let b = state_of then.layout then.young then.stuck (told then.disk) (path then.disk) in
+    ran_in at.layout at.young at.stuck (told at.disk) (told c.close-disk.result) c.args.micros c.args.jobs.now c.in-Ok.answers.items c.youngest-youngest.result v _ (ap told c.close-disk.ensures ∙ ap (λ s. s.trace) same) opened
+    (λ u k. c.youngest-youngest.ensures.all u (known_still a b u same k)) c.run_jobs-repo.ensures.crashes
+    (told_ok c.run_jobs-repo.result.1 c.in-Ok.answers _ c.in-Ok.is (c.run_jobs-repo.ensures.does v known none))

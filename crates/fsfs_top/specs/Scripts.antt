@@ -1,0 +1,41 @@
+-- What svnjobs does, from its words and its input to the files, the output and the status.
+use Rattle.std.specs.Prelude.{◌≡◌, ◌≢◌, ◌⊎◌, ◌≤◌, ℕ, List, Option, Some, None, IfSome, Result, Ok, Err}
+use Rattle.fsfs_base.specs.Failures.{Rose}
+use Rattle.fsfs_faults.specs.Faults.{fault_from_words}
+use Rattle.fsfs_faults.specs.Lines.{status_of}
+use Rattle.fsfs_faults.specs.declared.fault.Fault.{Fault}
+use Rattle.fsfs_faults.specs.declared.fault.Fault.TheVariants.{Outside}
+use Rattle.fsfs_faults.specs.declared.outside_fault.OutsideFault.TheVariants.{Mount}
+use Rattle.fsfs_cli.specs.Words.{asked}
+use Rattle.fsfs_cli.specs.Readings.{Asks, Refuses}
+use Rattle.fsfs_cli.specs.declared.fault.WordsFault.{WordsFault}
+use Rattle.fsfs_cli.specs.declared.request.Task.TheVariants.{RunJobs}
+use Rattle.fsfs_cli.specs.declared.tool.Tool.TheVariants.{Jobs}
+use Rattle.fsfs_job_command.specs.Runs.{RunScene, RunsScript}
+use Rattle.fsfs_top.specs.Scenes.{Scene, SourceScene}
+
+-- the status of a run, or that of its fault
+abbrev pub ended_status : Result ℕ Fault → ℕ
+ended_status (Ok status) = status
+ended_status (Err fault) = status_of fault
+
+-- the fault of a run, or none
+abbrev pub ended_fault : Result ℕ Fault → Option Fault
+ended_fault (Ok status) = None
+ended_fault (Err fault) = Some fault
+
+-- what the disk of a path, the input and the output tell
+abbrev pub run_scene : List ℕ → Scene → SourceScene → RunScene
+run_scene repos a i = record { trace = a.host.disk_at repos; remaining = i.remaining; read_faults = i.faults; written = a.out.written; write_faults = a.out.faults }
+
+-- the path was mounted and the script run over the disk there, at a moment that the clock gave; or it was not mounted, and nothing was done
+abbrev pub RunsAt : List ℕ → Option ℕ → Scene → SourceScene → Scene → SourceScene → Result ℕ Fault → Type 0
+RunsAt repos clock a i b j ended =
+    ((ended ≡ Err (Outside Mount)) × Rose a.host.mount_faults b.host.mount_faults × (b.host.disk_at repos ≡ a.host.disk_at repos) × (b.out ≡ a.out) × (j ≡ i))
+    ⊎ ((moment : ℕ) × IfSome clock (λ t. moment ≡ t) × RunsScript moment (Rose a.host.disk_faults b.host.disk_faults) (run_scene repos a i) (run_scene repos b j) ended)
+
+-- what svnjobs did: what its words ask for, at that path alone; or they were refused, and nothing was done
+abbrev pub DidJobs : List (List ℕ) → Option ℕ → Scene → SourceScene → Scene → SourceScene → Result ℕ Fault → Type 0
+DidJobs words clock a i b j ended =
+    ((repos : List ℕ) × (workers : ℕ) × Asks Jobs words repos (RunJobs workers) × RunsAt repos clock a i b j ended × ((path : List ℕ) → path ≢ repos → b.host.disk_at path ≡ a.host.disk_at path))
+    ⊎ ((why : WordsFault) × (ended ≡ Err (fault_from_words why)) × Refuses (asked Jobs words) why × (b ≡ a) × (j ≡ i))

@@ -1,0 +1,10 @@
+//! Commits the transactions of a job script: `svnjobs REPOS [-j N]`.
+#![tactic(auto)]
+
+use fsfs_run::run;
+use fsfs_top::Tool;
+use std::process::ExitCode;
+
+fn main(rt: HostRuntime) -> ExitCode {
+    run(rt, Tool::Jobs)
+}
