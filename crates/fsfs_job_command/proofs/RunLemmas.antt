@@ -9,7 +9,8 @@ use Rattle.fsfs_places.specs.declared.open_fault.OpenFault.{OpenFault}
 use Rattle.fsfs_places.specs.declared.open_fault.OpenFault.TheVariants.{NotRepo, OtherFormat, Linear, Small, DiskFault, Memory}
 use Rattle.fsfs_repo.specs.OpenFaults.{OpensBecause}
 use Rattle.fsfs_stands.specs.Files.{StandsFor}
-use Rattle.fsfs_opened_store.specs.Known.{HasSeenAll, IsUnpacked}
+use Rattle.fsfs_opened_store.specs.Known.{HasSeenAll}
+use Rattle.fsfs_turn.specs.Opening.{LeftoversAgree}
 use Rattle.fsfs_script.specs.Errors.{IfReadFault}
 use Rattle.fsfs_script.specs.Whole.{ReadsScript}
 use Rattle.fsfs_script.specs.declared.script_error.ScriptError.{ScriptError}
@@ -151,7 +152,7 @@ not_read {D} moment a b error fault is read rose firm written faults =
     subst (λ (f : Fault). RunsScript moment D a b (Err f)) (sym is) (NotRead error read rose (record { disk = firm; output = written; output_faults = faults }))
 
 -- over what the opening told
-pub ran_over : (knows : View → Type 0) (moment : ℕ) (js : List Job) (answers : List JobAnswer) (youngest : ℕ) (old new : Option Trace) → IfSome old (λ t. (h : List Revision) (stands : StandsFor (files_now t) h) → IsUnpacked stands → HasSeenAll knows t h)
+pub ran_over : (knows : View → Type 0) (moment : ℕ) (js : List Job) (answers : List JobAnswer) (youngest : ℕ) (old new : Option Trace) → IfSome old (λ t. (h : List Revision) (stands : StandsFor (files_now t) h) → LeftoversAgree stands → HasSeenAll knows t h)
     → ((v : View) → knows v → v.section ≡ None → v.opened ≡ length v.seen → RanIn moment v.since js answers youngest (revisions v.seen) new) → RanOver moment js answers youngest old new
 ran_over knows moment js answers youngest None new opened does = tt
 ran_over knows moment js answers youngest (Some t) new opened does = λ h stands flat.

@@ -8,7 +8,7 @@ use Rattle.fsfs_disk.specs.Trace.{Trace, FirmNames, FailsAt, ImageSince, IsImage
 use Rattle.fsfs_streams.specs.Streams.{Adds}
 use Rattle.fsfs_streams.specs.Output.{AddsFront}
 use Rattle.fsfs_stands.specs.Files.{StandsFor}
-use Rattle.fsfs_opened_store.specs.Known.{IsUnpacked}
+use Rattle.fsfs_turn.specs.Opening.{LeftoversAgree}
 use Rattle.fsfs_repo.specs.OpenFaults.{OpensBecause}
 use Rattle.fsfs_places.specs.declared.open_fault.OpenFault.{OpenFault}
 use Rattle.fsfs_machine.specs.declared.machine.Recorded.{Recorded}
@@ -66,7 +66,7 @@ RanIn moment since js answers youngest h new = Ran moment since js answers young
 -- where the files stood for a history of which nothing is packed
 abbrev pub RanOver : ℕ → List Job → List JobAnswer → ℕ → Option Trace → Option Trace → Type 0
 RanOver moment js answers youngest old new =
-    IfSome old (λ t. (h : List Revision) (stands : StandsFor (files_now t) h) → IsUnpacked stands → RanIn moment (length t.operations + 1) js answers youngest h new)
+    IfSome old (λ t. (h : List Revision) (stands : StandsFor (files_now t) h) → LeftoversAgree stands → RanIn moment (length t.operations + 1) js answers youngest h new)
 
 -- no job was done and nothing was printed; of the disk no more was done than that its names were made firm
 pub record IsUntouched (a b : RunScene) : Type 0 where

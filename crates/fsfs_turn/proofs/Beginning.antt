@@ -2,6 +2,7 @@
 use Rattle.std.proofs.Common.{◌≡◌, ◌==◌, ◌+◌, ℕ, suc, zero, List, [], ◌∷◌, length, true, false, cond, ⊎_elim, refl, sym, ap, subst, ◌∙◌, arith}
 use Rattle.std.specs.Prelude.{Option, Some, None, Result, Ok, slice_get, codes}
 use Rattle.std.specs.FinMap.{get}
+use Rattle.std.proofs.Math.Nat.{zero-mod}
 use Rattle.fsfs_disk.specs.Labels.{Label}
 use Rattle.fsfs_disk.specs.Trace.{Operation, Done, files_after, ImageSince}
 use Rattle.fsfs_disk.specs.Trace as real
@@ -24,7 +25,7 @@ use Rattle.fsfs_machine.specs.declared.machine.Lock.TheVariants.{Free}
 use Rattle.fsfs_machine.specs.declared.machine.Recorded.{Recorded}
 use Rattle.fsfs_machine.specs.Disk.{Disk, IsImage}
 use Rattle.fsfs_machine.specs.Machine.{World, created, file_of, first_pass}
-use Rattle.fsfs_machine.specs.Kept.{Stands}
+use Rattle.fsfs_machine.specs.Kept.{Stands, FloorIs}
 use Rattle.fsfs_machine.proofs.Created.{created_kept}
 use Rattle.fsfs_images.specs.RealNames.{machine_name}
 use Rattle.fsfs_images.specs.Shown.{AtName, AreRead, Opening}
@@ -34,7 +35,7 @@ use Rattle.fsfs_turn.specs.Views.{View, Sees}
 use Rattle.fsfs_turn.specs.Standing.{no_others, IsStore, Knows}
 use Rattle.fsfs_turn.specs.Opening.{new_revision, NewStoreIsKnown}
 use Rattle.fsfs_turn.specs.Past.{Safe}
-use Rattle.fsfs_images.proofs.Showing.{image_read}
+use Rattle.fsfs_images.proofs.Showing.{own_file, image_read}
 use Rattle.fsfs_turn.proofs.Moments.{past_of}
 use Rattle.fsfs_turn.proofs.Stepping.{kept_bare}
 
@@ -73,20 +74,20 @@ module _ (first : Files) (labels : List Label) (before : List Operation) (date :
   disk : Disk
   disk = Put Current (Number 0) ∷ Put (Rev 0) (file_of (new_revision date)) ∷ Put (Props 0) (PropsFile ((date_name, date) ∷ [])) ∷ Put Counter (Number 0) ∷ Put Floor (Number 0) ∷ []
 
-  read : AreRead new.layout (files_after first before) disk
+  read : AreRead new.layout 0 (files_after first before) disk
   unfolding disk
   read Current fits = subst (λ o. AtName Current o (Some (Number 0))) (sym new.new.1.1.1.0) zero_line
   read CurrentNext fits = at_none CurrentNext (get (files_after first before) (machine_name new.layout CurrentNext))
   read Counter fits = subst (λ o. AtName Counter o (Some (Number 0))) (sym new.new.1.1.1.1.0) zero_line36
   read CounterNext fits = at_none CounterNext (get (files_after first before) (machine_name new.layout CounterNext))
   read Floor fits = subst (λ o. AtName Floor o (Some (Number 0))) (sym new.new.1.1.1.1.1.0) zero_line
-  read (Rev r) fits = elim (0 == r) as (λ b. (0 == r) ≡ b → AtName (Rev r) (get (files_after first before) (machine_name new.layout (Rev r))) (cond b (Some (file_of (new_revision date))) None)) [
+  read (Rev r) fits = subst (λ o. AtName (Rev r) o (cond (0 == r) (Some (file_of (new_revision date))) None)) (sym (own_file new.layout 0 (files_after first before) (Rev r) (omega arith))) (elim (0 == r) as (λ b. (0 == r) ≡ b → AtName (Rev r) (get (files_after first before) (machine_name new.layout (Rev r))) (cond b (Some (file_of (new_revision date))) None)) [
     | true ↦ λ e.
         let same : 0 ≡ r = grind (arith, e) in
         subst (λ k. AtName (Rev k) (get (files_after first before) (machine_name new.layout (Rev k))) (Some (file_of (new_revision date)))) same
         (subst (λ o. AtName (Rev 0) o (Some (file_of (new_revision date)))) (sym (ap (get (files_after first before)) (first_name (codes "db/revs") new.layout) ∙ new.new.1.1.1.1.1.1.1.1.0)) refl)
     | false ↦ λ e. at_none (Rev r) (get (files_after first before) (machine_name new.layout (Rev r)))
-  ] refl
+  ] refl)
   read (Props r) fits = elim (0 == r) as (λ b. (0 == r) ≡ b → AtName (Props r) (get (files_after first before) (machine_name new.layout (Props r))) (cond b (Some (PropsFile ((date_name, date) ∷ []))) None)) [
     | true ↦ λ e.
         let same : 0 ≡ r = grind (arith, e) in
@@ -103,7 +104,7 @@ module _ (first : Files) (labels : List Label) (before : List Operation) (date :
 
   store : IsStore new.layout 0 None (record { first = first; labels = labels; operations = Done real.FirmNames ∷ before }) world
   unfolding world disk
-  store = record { trace = Opening before disk read; kept = kept_bare world (created_kept world ((date_name, date) ∷ []) first_bytes refl); shown = all_show; coming = tt; young_is = refl; stuck_is = refl; alone = refl }
+  store = record { trace = Opening before disk read; whole = zero-mod new.layout.shard_size; kept = kept_bare world (created_kept world ((date_name, date) ∷ []) first_bytes refl); shown = all_show; coming = tt; young_is = refl; stuck_is = refl; alone = refl }
 
   sees : Sees world view
   unfolding world view
@@ -112,11 +113,14 @@ module _ (first : Files) (labels : List Label) (before : List Operation) (date :
   safe : Safe new.layout (length before + 1) (record { first = first; labels = labels; operations = Done real.FirmNames ∷ before }) 1 0 (new_revision date ∷ []) None
   unfolding disk
   safe m i =
-      let r = image_read new.layout no_others first (Done real.FirmNames ∷ before) (Firm ∷ disk) (Opening before disk read) m (now i) in
-      (r.0, r.2, past_of 1 0 (new_revision date ∷ []) Free r.0 (omega arith) (stands r.0 r.1))
+      let r = image_read new.layout 0 no_others first (Done real.FirmNames ∷ before) (Firm ∷ disk) (Opening before disk read) m (now i) in
+      (r.0, r.2, past_of 1 0 (new_revision date ∷ []) Free r.0 (omega arith) (stands r.0 r.1), floors r.0 r.1)
     where
       now : ImageSince (length before + 1) first (Done real.FirmNames ∷ before) m → real.IsImage first (Done real.FirmNames ∷ before) m
       now i = ⊎_elim (λ a. a) (λ b. absurd (omega (arith, b.0))) i
+
+      floors : (e : Disk) → IsImage (Firm ∷ disk) e → FloorIs 0 e
+      floors = (created_kept (created ((date_name, date) ∷ []) first_bytes) ((date_name, date) ∷ []) first_bytes refl).floors
 
       stands : (e : Disk) → IsImage (Firm ∷ disk) e → Stands 0 (new_revision date ∷ []) Free e
       stands = (created_kept (created ((date_name, date) ∷ []) first_bytes) ((date_name, date) ∷ []) first_bytes refl).stands

@@ -1,8 +1,7 @@
 -- Each image of a store stands for a history.
 use Rattle.std.proofs.Common.{◌≡◌, ◌<◌, ℕ, suc, zero, List, [], ◌∷◌, ◌++◌, length, true, false, refl, sym, ap, subst, ◌∙◌, arith, drop}
-use Rattle.std.specs.Prelude.{Bool, Option, Some, None, Ok, unwrap_or, slice_get}
+use Rattle.std.specs.Prelude.{Bool, Option, Some, None, unwrap_or, slice_get}
 use Rattle.std.specs.FinMap.{get}
-use Rattle.std.proofs.Math.Nat.{zero-mod}
 use Rattle.std.proofs.lemmas.Bool.{both_ways}
 use Rattle.std.proofs.lemmas.Option.{slice_get_within}
 use Rattle.fsfs_base.specs.Files.{Files}
@@ -17,8 +16,7 @@ use Rattle.fsfs_layout.specs.declared.only_file.OnlyFile.TheVariants as only
 use Rattle.fsfs_layout.specs.declared.repository_file.RepositoryFile.{RepositoryFile}
 use Rattle.fsfs_layout.specs.declared.repository_file.RepositoryFile.TheVariants as file
 use Rattle.fsfs_layout.proofs.Apart.{names_apart}
-use Rattle.fsfs_rev_file.specs.RevBytes.{floor_in, or_missing, rev_bytes, props_bytes}
-use Rattle.fsfs_rev_file.proofs.FloorLemmas.{floor_is}
+use Rattle.fsfs_rev_file.specs.RevBytes.{or_missing, rev_bytes, props_bytes}
 use Rattle.fsfs_ancestry.specs.Bounded.{AreSameUpTo}
 use Rattle.fsfs_ancestry.proofs.BoundedIds.{ids_same}
 use Rattle.fsfs_stands.specs.History.{ShowsRevision, ShowsHistory}
@@ -37,7 +35,7 @@ use Rattle.fsfs_images.specs.Shown.{AreRead, IsBeside}
 use Rattle.fsfs_images.proofs.Showing.{image_read, kept_same}
 use Rattle.fsfs_turn.specs.Bytes.{bytes_beside, bytes_of}
 use Rattle.fsfs_turn.specs.Past.{doubt, IsPast}
-use Rattle.fsfs_turn.specs.Found.{rev_is, text_there}
+use Rattle.fsfs_turn.specs.Found.{floor_read, text_there}
 use Rattle.fsfs_turn.specs.Standing.{no_others}
 use Rattle.fsfs_turn.specs.Whole.{HasHistory}
 use Rattle.fsfs_turn.specs.Stands.{ImagesStand}
@@ -83,8 +81,8 @@ own_beside layout f own n fits e =
 
 -- ---- the history
 
-shows_history : (layout : Layout) (m : Files) (g : List Recorded) → floor_in layout m ≡ Ok 0 → HasHistory layout m g → ShowsHistory (rev_bytes layout m) (props_bytes layout m) (revisions g)
-shows_history layout m g floor has = record { each = each; ids = ids_same (last_of (revisions g)) (bytes_of g) (rev_bytes layout m) (same (last_of (revisions g)) (omega (arith, long, has.names.last))) has.shown.ids }
+shows_history : (layout : Layout) (m : Files) (g : List Recorded) → HasHistory layout m g → ShowsHistory (rev_bytes layout m) (props_bytes layout m) (revisions g)
+shows_history layout m g has = record { each = each; ids = ids_same (last_of (revisions g)) (bytes_of g) (rev_bytes layout m) (same (last_of (revisions g)) (omega (arith, long, has.names.last))) has.shown.ids }
   where
     long : length (revisions g) ≡ length g
     long = revisions_length g
@@ -92,7 +90,7 @@ shows_history layout m g floor has = record { each = each; ids = ids_same (last_
     same_at : (q : ℕ) → q < length g → bytes_of g q ≡ rev_bytes layout m q
     same_at q less =
         let x = there_below g q less in
-        ap (λ o. bytes_beside q o) x.1 ∙ sym (rev_is layout m q x.0.bytes floor (has.each q x.0 x.1).bytes)
+        ap (λ o. bytes_beside q o) x.1 ∙ sym (has.each q x.0 x.1).bytes
 
     same : (r : ℕ) → r < length g → AreSameUpTo r (bytes_of g) (rev_bytes layout m)
     same r less q le = same_at q (omega (arith, less, le))
@@ -114,44 +112,41 @@ images_stand layout young stuck t v known own m image = (
   p.0,
   (drop v.pass.seen w.history, take_drop v.pass.seen w.history ∙ ap (λ l. l ++ drop v.pass.seen w.history) (sym known.2.seen)),
   p.3,
-  p.2,
+  omega (arith, p.2, seen_within known.0 v known.2),
   record {
-    opened = record { uuid = own.uuid.0; layout = layout; youngest = has.names.number; min_unpacked_rev = 0; next_txn = record { number = counts.0; small = omega (arith, counter.2.fits) } };
+    opened = record { uuid = own.uuid.0; layout = layout; youngest = has.names.number; min_unpacked_rev = known.0.floor; next_txn = record { number = counts.0; small = omega (arith, counter.2.fits) } };
     small = record {
       format = (own.format.0, record { there = kept_at only.Format refl ∙ own.format.1.there; fs_type = ap (λ (o : Option (List ℕ)). unwrap_or o []) (kept_at only.FsType refl) ∙ own.format.1.fs_type }, own.format.2);
       behind = record {
         uuid = subst (λ (o : Option (List ℕ)). IsUuid (unwrap_or o []) own.uuid.0) (sym (kept_at only.Uuid refl)) own.uuid.1;
         youngest = text_there m (only_name only.Current) has.names.text IsRevLine has.names.number has.names.there has.names.line;
         min_unpacked_rev = floor_text;
-        within = omega arith;
+        within = omega (arith, has.names.last, p.2, known.1.kept.floor);
         next_txn = text_there m (only_name only.TxnCurrent) counter.0 IsBase36Line counts.0 counter.1 counter.2;
       };
     };
     count = let a : length (revisions p.0) ≡ length p.0 = revisions_length p.0 in omega (arith, a, has.names.last);
-    history = shows_history layout m p.0 (floor_is layout 0 m floor_text) has;
+    history = shows_history layout m p.0 has;
   },
 )
   where
     w : World
     w = known.0
 
-    e : (d : Disk) × IsImage known.0.disk d × AreRead layout m d
-    e = image_read layout no_others t.first t.operations known.0.disk known.1.trace m image
+    e : (d : Disk) × IsImage known.0.disk d × AreRead layout known.0.floor m d
+    e = image_read layout known.0.floor no_others t.first t.operations known.0.disk known.1.trace m image
 
-    p : IsPast (length v.seen) known.0.floor known.0.history (doubt known.0.lock) e.0
-    p = past_of (length v.seen) known.0.floor known.0.history known.0.lock e.0 (seen_within known.0 v known.2) (known.1.kept.stands e.0 e.1)
+    p : IsPast (length known.0.history) known.0.floor known.0.history (doubt known.0.lock) e.0
+    p = past_of (length known.0.history) known.0.floor known.0.history known.0.lock e.0 (omega arith) (known.1.kept.stands e.0 e.1)
 
     some : 0 < length p.0
     some = omega (arith, p.1.1.2)
 
     has : HasHistory layout m p.0
-    has = has_history layout known.0.floor m e.0 p.0 known.1.kept.floor e.2 p.1 (part_shown known.0.history known.0.lock p.0 known.1.shown known.1.coming some p.3)
+    has = has_history layout known.0.floor m e.0 p.0 known.1.whole (known.1.kept.floors e.0 e.1) e.2 p.1 (part_shown known.0.history known.0.lock p.0 known.1.shown known.1.coming some p.3)
 
-    floor : (text : List ℕ) × (get m (only_name only.MinUnpackedRev) ≡ Some text) × IsRevLine text known.0.floor
-    floor = at_found Floor (get m (machine_name layout Floor)) (found e.0 Floor) (Number known.0.floor) (known.1.kept.floors e.0 e.1) (e.2 Floor tt)
-
-    floor_text : IsMinUnpackedRev layout (text_at m (only_name only.MinUnpackedRev)) 0
-    floor_text = text_there m (only_name only.MinUnpackedRev) floor.0 (IsMinUnpackedRev layout) 0 floor.1 (subst (λ k. IsRevLine floor.0 k) known.1.kept.floor floor.2, zero-mod layout.shard_size)
+    floor_text : IsMinUnpackedRev layout (text_at m (only_name only.MinUnpackedRev)) known.0.floor
+    floor_text = floor_read layout known.0.floor m e.0 e.2 (known.1.kept.floors e.0 e.1) known.1.whole
 
     counts : CountsOn known.0.given e.0
     counts = known.1.kept.counts e.0 e.1
@@ -160,4 +155,4 @@ images_stand layout young stuck t v known own m image = (
     counter = at_found Counter (get m (machine_name layout Counter)) (found e.0 Counter) (Number counts.0) counts.1 (e.2 Counter tt)
 
     kept_at : (f : OnlyFile) → is_own (file.Only f) ≡ true → get m (only_name f) ≡ get (files_now t) (only_name f)
-    kept_at f own = kept_same layout no_others (only_name f) refl (own_beside layout f own) t.first t.operations known.0.disk known.1.trace m image
+    kept_at f own = kept_same layout known.0.floor no_others (only_name f) refl (own_beside layout f own) t.first t.operations known.0.disk known.1.trace m image

@@ -1,11 +1,13 @@
 -- Which stores are known as they are opened.
-use Rattle.std.specs.Prelude.{◌≡◌, ◌+◌, ℕ, List, [], ◌∷◌, length, Some, None}
+use Rattle.std.specs.Prelude.{◌≡◌, ◌+◌, ◌<◌, ℕ, List, [], ◌∷◌, length, true, Some, None}
 use Rattle.fsfs_base.specs.Files.{Files}
 use Rattle.fsfs_base.specs.FirstRevision.{first_bytes}
 use Rattle.fsfs_tree.specs.Dated.{date_name}
 use Rattle.fsfs_tree.specs.Revisions.{Revision}
 use Rattle.fsfs_disk.specs.Labels.{Label}
 use Rattle.fsfs_disk.specs.Trace.{Operation, Done, FirmNames, files_after}
+use Rattle.fsfs_rev_file.specs.RevBytes.{rev_file, packed_bytes}
+use Rattle.fsfs_fetch.specs.Kept.{agrees}
 use Rattle.fsfs_stands.specs.Files.{StandsFor}
 use Rattle.fsfs_stands.specs.NewRepository.{HoldsNew}
 use Rattle.fsfs_machine.specs.declared.machine.Recorded.{Recorded}
@@ -25,9 +27,13 @@ NewStoreIsKnown = (first : Files) (labels : List Label) (before : List Operation
     → (v : View) × Knows new.layout 0 None (Some (record { first = first; labels = labels; operations = Done FirmNames ∷ before })) v
     × (v.section ≡ None) × (v.pass ≡ first_pass 1 0) × (v.seen ≡ new_revision date ∷ []) × (v.since ≡ length before + 1) × IsAlone 0 v
 
--- Of a disk that has just made its names firm, and whose files stand for a history of which no revision is packed, it is known: a pass
--- that is alone has seen all of it, and is in no section. Images are spoken of from now on.
+-- where a file is left over of a revision that is packed, it has the same bytes
+abbrev pub LeftoversAgree : {files : Files} {h : List Revision} → StandsFor files h → Type 0
+LeftoversAgree {files} stands = (r : ℕ) → r < stands.opened.min_unpacked_rev → agrees (rev_file stands.opened.layout files r) (packed_bytes stands.opened.layout files r) ≡ true
+
+-- Of a disk that has just made its names firm, and whose files stand for a history, and whose leftovers agree, it is known: a pass that
+-- is alone has seen all of it, and is in no section. Images are spoken of from now on.
 abbrev pub StoreIsKnown : Type 0
-StoreIsKnown = (first : Files) (labels : List Label) (before : List Operation) (h : List Revision) (s : StandsFor (files_after first before) h) → s.opened.min_unpacked_rev ≡ 0
+StoreIsKnown = (first : Files) (labels : List Label) (before : List Operation) (h : List Revision) (s : StandsFor (files_after first before) h) → LeftoversAgree s
     → (v : View) × Knows s.opened.layout s.opened.youngest None (Some (record { first = first; labels = labels; operations = Done FirmNames ∷ before })) v
-    × (v.section ≡ None) × (v.pass ≡ first_pass (length h) 0) × (revisions v.seen ≡ h) × (v.since ≡ length before + 1) × IsAlone s.opened.youngest v
+    × (v.section ≡ None) × (v.pass ≡ first_pass (length h) s.opened.min_unpacked_rev) × (revisions v.seen ≡ h) × (v.since ≡ length before + 1) × IsAlone s.opened.youngest v
