@@ -1,11 +1,11 @@
 //! Reads, and steps of passes alone.
 ghost use Rattle.std.specs.Prelude.{◌≡◌, ◌==◌, ◌&&◌, not, slice_get, IfOk, if◌then◌else◌};
-ghost use Rattle.fsfs_machine.specs.Disk.{found, shown};
+ghost use Rattle.fsfs_machine.specs.Disk.{found};
 ghost use Rattle.fsfs_machine.specs.Machine.{did, barred, is_there, either, range_of, floor_of, has_read, properties_in, has_read_props, floor_read, split_off, join_with, number_of};
 ghost use Rattle.fsfs_core.specs.State.{world_of};
 
 use crate::state::State;
-use fsfs_machine::files::{find, find_number, find_rev, is_fine};
+use fsfs_machine::files::{find, find_number, is_fine};
 use fsfs_machine::passes::{join_to, learn, read_floor_by};
 use fsfs_machine::{Contents, FileName, Outcome, Went};
 use fsfs_places::DiskPlace;
@@ -24,10 +24,10 @@ fn floor_answer(found: Option<u64>, went: &Went) -> Outcome
 }
 
 impl State {
-    fn range(&self, floor: u64, rev: u64, offset: u64, length: u64) -> Result<Outcome, AllocError>
-        ensures { IfOk result (λ o. o ≡ range_of offset length (shown floor self.now.disk.items rev)) }
+    fn range(&self, rev: u64, offset: u64, length: u64) -> Result<Outcome, AllocError>
+        ensures { IfOk result (λ o. o ≡ range_of offset length (found self.now.disk.items (FileName.Rev rev))) }
     {
-        match find_rev(&self.disk, floor, rev) {
+        match find(&self.disk, &FileName::Rev(rev)) {
             Some(Contents::RevFile(_, _, bytes)) => {
                 Ok(Outcome::Bytes(bytes.range(self.alloc, offset, length)?))
             }
@@ -39,16 +39,15 @@ impl State {
 
     fn range_answer(
         &self,
-        floor: u64,
         rev: u64,
         offset: u64,
         length: u64,
         went: &Went,
     ) -> Result<Outcome, AllocError>
-        ensures { IfOk result (λ o. o ≡ either went.now (range_of offset length (shown floor self.now.disk.items rev)) Outcome.Failed) }
+        ensures { IfOk result (λ o. o ≡ either went.now (range_of offset length (found self.now.disk.items (FileName.Rev rev))) Outcome.Failed) }
     {
         if is_fine(went) {
-            self.range(floor, rev, offset, length)
+            self.range(rev, offset, length)
         } else {
             Ok(Outcome::Failed)
         }
@@ -73,7 +72,7 @@ impl State {
         if !pass.knows(rev) {
             return Ok(Outcome::Barred);
         }
-        let answer = self.range_answer(pass.floor, rev, offset, length, went)?;
+        let answer = self.range_answer(rev, offset, length, went)?;
         let seen = self.count();
         learn(&mut self.passes, p, seen, DiskPlace::Read, went)?;
         Ok(answer)

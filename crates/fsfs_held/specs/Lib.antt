@@ -1,5 +1,6 @@
 pub mod Keys
 pub mod Lists
+pub mod KeySets
 pub mod Views
 pub mod Written
 pub mod Texts

@@ -12,7 +12,7 @@ use crate::changed::{merged_id, new_node, relinked, with_entries, with_props, wi
 use crate::files::OwnFiles;
 use crate::keys::{NodeKey, key_of};
 use crate::nodes::{Nodes, make_room, node_at, put, settle_steps};
-use crate::steps::{Step, last_of};
+use crate::steps::{Step, Steps};
 use crate::writing::{take_files, write_files};
 use fsfs_base::{B36, Failed, Kind, Name, Pairs, next_b36};
 use fsfs_changes::ChangeItem;
@@ -41,7 +41,7 @@ pub struct HeldNodes<D: Bench> {
     pub(crate) bench: D,
     pub(crate) proto: Name,
     settled: Nodes,
-    steps: Vec<Step>,
+    steps: Steps,
     changes: Vec<FileChange>,
     settled_next: NextIds,
     next: NextIds,
@@ -51,7 +51,7 @@ pub struct HeldNodes<D: Bench> {
     /// As long as the bench has not failed, its files tell what is settled, wherever it tells them.
     pub ghost told: { ∥ HasTold (D.faults bench) (D.contents bench) (filed (files_of settled) settled_next items.items) ∥₁ },
     // What the steps are to write leads to what they leave.
-    ghost ready: { ∥ LeadTo changes.items (filed (files_of settled) settled_next items.items) (filed (with_steps steps.items (files_of settled)) settled_next items.items) ∥₁ },
+    ghost ready: { ∥ LeadTo changes.items (filed (files_of settled) settled_next items.items) (filed (with_steps steps.list.items (files_of settled)) settled_next items.items) ∥₁ },
 }
 
 impl<D: Bench> HeldNodes<D> {
@@ -83,7 +83,7 @@ impl<D: Bench> HeldNodes<D> {
             bench,
             proto,
             settled,
-            steps: Vec::new(alloc),
+            steps: Steps::new(alloc),
             changes: Vec::new(alloc),
             settled_next: next,
             next,
@@ -132,9 +132,9 @@ impl<D: Bench> HeldNodes<D> {
 
     // The node-revision at a key, as the steps left it.
     fn found(&self, key: &NodeKey) -> Option<&KeptNode>
-        ensures { option_map (λ k. kept_value k.now) result ≡ at_key (with_steps self.now.steps.items (files_of self.now.settled)) key.now }
+        ensures { option_map (λ k. kept_value k.now) result ≡ at_key (with_steps self.now.steps.list.items (files_of self.now.settled)) key.now }
     {
-        match last_of(self.steps.as_slice(), key) {
+        match self.steps.last_at(key) {
             Some(kept) => Some(kept),
             None => node_at(&self.settled, key),
         }
@@ -145,7 +145,7 @@ impl<D: Bench> Own for HeldNodes<D> {
     ghost use Rattle.fsfs_held.specs.Lists.{files_of, with_steps};
     ghost use Rattle.fsfs_held.specs.Views.{folder_of};
 
-    ghost folder = { λ h. folder_of (with_steps h.steps.items (files_of h.settled)) h.next h.items.items (D.contents h.bench) h.proto };
+    ghost folder = { λ h. folder_of (with_steps h.steps.list.items (files_of h.settled)) h.next h.items.items (D.contents h.bench) h.proto };
 
     ghost settled = { λ h. folder_of (files_of h.settled) h.settled_next h.items.items (D.contents h.bench) h.proto };
 

@@ -5,6 +5,7 @@ mod changed;
 mod copies;
 mod files;
 mod held;
+mod key_set;
 mod keys;
 mod nodes;
 mod steps;

@@ -6,7 +6,7 @@ ghost use Rattle.fsfs_held.specs.Keys.{at_key, with_key};
 ghost use Rattle.fsfs_held.specs.Lists.{files_of, with_steps};
 
 use crate::keys::NodeKey;
-use crate::steps::Step;
+use crate::steps::{Step, Steps};
 use fsfs_own::KeptNode;
 use std::alloc::AllocError;
 use std::collections::HashMap;
@@ -39,8 +39,8 @@ pub(crate) fn put(nodes: &mut Nodes, step: Step)
     let _replaced = nodes.insert(key, kept);
 }
 
-/// Puts the node-revisions of the steps, one after another. No memory is taken: there is room.
-pub(crate) fn settle_steps(nodes: &mut Nodes, steps: &mut Vec<Step>)
+// Puts the node-revisions of the steps, one after another. No memory is taken: there is room.
+fn put_steps(nodes: &mut Nodes, steps: &mut Vec<Step>)
     requires { vec_len steps.old ≤ spare nodes.old }
     ensures files { files_of nodes.new ≡ with_steps steps.old.items (files_of nodes.old) }
     ensures steps { steps.new.items ≡ [] }
@@ -49,4 +49,14 @@ pub(crate) fn settle_steps(nodes: &mut Nodes, steps: &mut Vec<Step>)
     while let Some(step) = steps.pop() {
         put(nodes, step);
     }
+}
+
+/// Puts the node-revisions of the steps, one after another. No memory is taken: there is room.
+pub(crate) fn settle_steps(nodes: &mut Nodes, steps: &mut Steps)
+    requires { vec_len steps.old.list ≤ spare nodes.old }
+    ensures files { files_of nodes.new ≡ with_steps steps.old.list.items (files_of nodes.old) }
+    ensures steps { steps.new.list.items ≡ [] }
+{
+    put_steps(nodes, &mut steps.list);
+    steps.keys.clear();
 }

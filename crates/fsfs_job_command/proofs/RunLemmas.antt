@@ -9,7 +9,8 @@ use Rattle.fsfs_places.specs.declared.open_fault.OpenFault.{OpenFault}
 use Rattle.fsfs_places.specs.declared.open_fault.OpenFault.TheVariants.{NotRepo, OtherFormat, Linear, Small, DiskFault, Memory}
 use Rattle.fsfs_repo.specs.OpenFaults.{OpensBecause}
 use Rattle.fsfs_stands.specs.Files.{StandsFor}
-use Rattle.fsfs_opened_store.specs.Known.{HasSeenAll, IsUnpacked}
+use Rattle.fsfs_opened_store.specs.Known.{HasSeenAll}
+use Rattle.fsfs_turn.specs.Opening.{LeftoversAgree}
 use Rattle.fsfs_script.specs.Errors.{IfReadFault}
 use Rattle.fsfs_script.specs.Whole.{ReadsScript}
 use Rattle.fsfs_script.specs.declared.script_error.ScriptError.{ScriptError}
@@ -80,6 +81,11 @@ held_all before layout (Some t) u opened leaves = record {
   are = refl;
   moments = λ m image. let w = leaves.moments m image in (w.1, w.4, a_part u.seen w.1 w.0 w.2, omega (arith, w.3, opened));
   whole = leaves.whole;
+  stands = λ m image.
+      let w = leaves.stands m image in
+      let a : length (revisions u.seen) ≡ length u.seen = length-map u.seen (λ (x : Recorded). x.revision) in
+      let b : length (revisions w.1) ≡ length w.1 = length-map w.1 (λ (x : Recorded). x.revision) in
+      (revisions w.1, a_part u.seen w.1 w.0 w.2, omega (arith, a, b, w.3), w.4);
   named = λ m image. subst (NamesFrom m) (sym (length-map u.seen (λ (x : Recorded). x.revision))) (leaves.named m image);
 }
 
@@ -151,11 +157,11 @@ not_read {D} moment a b error fault is read rose firm written faults =
     subst (λ (f : Fault). RunsScript moment D a b (Err f)) (sym is) (NotRead error read rose (record { disk = firm; output = written; output_faults = faults }))
 
 -- over what the opening told
-pub ran_over : (knows : View → Type 0) (moment : ℕ) (js : List Job) (answers : List JobAnswer) (youngest : ℕ) (old new : Option Trace) → IfSome old (λ t. (h : List Revision) (stands : StandsFor (files_now t) h) → IsUnpacked stands → HasSeenAll knows t h)
+pub ran_over : (knows : View → Type 0) (moment : ℕ) (js : List Job) (answers : List JobAnswer) (youngest : ℕ) (old new : Option Trace) → IfSome old (λ t. (h : List Revision) (stands : StandsFor (files_now t) h) → LeftoversAgree stands → HasSeenAll knows t stands.opened.min_unpacked_rev h)
     → ((v : View) → knows v → v.section ≡ None → v.opened ≡ length v.seen → RanIn moment v.since js answers youngest (revisions v.seen) new) → RanOver moment js answers youngest old new
 ran_over knows moment js answers youngest None new opened does = tt
-ran_over knows moment js answers youngest (Some t) new opened does = λ h stands flat.
-    let s = opened h stands flat in
+ran_over knows moment js answers youngest (Some t) new opened does = λ h stands agreeing.
+    let s = opened h stands agreeing in
     let v = s.0 in
     let before : v.opened ≡ length v.seen = s.6 ∙ (ap (λ (l : List Revision). length l) (sym s.4) ∙ length-map v.seen (λ (x : Recorded). x.revision)) in
     subst (λ g. RanIn moment (length t.operations + 1) js answers youngest g new) s.4 (subst (λ n. RanIn moment n js answers youngest (revisions v.seen) new) s.5 (does v s.1 s.2 before))

@@ -8,11 +8,11 @@ use Rattle.fsfs_disk.specs.Trace.{Trace, FirmNames, FailsAt, ImageSince, IsImage
 use Rattle.fsfs_streams.specs.Streams.{Adds}
 use Rattle.fsfs_streams.specs.Output.{AddsFront}
 use Rattle.fsfs_stands.specs.Files.{StandsFor}
-use Rattle.fsfs_opened_store.specs.Known.{IsUnpacked}
 use Rattle.fsfs_repo.specs.OpenFaults.{OpensBecause}
 use Rattle.fsfs_places.specs.declared.open_fault.OpenFault.{OpenFault}
 use Rattle.fsfs_machine.specs.declared.machine.Recorded.{Recorded}
 use Rattle.fsfs_machine.specs.Machine.{revisions}
+use Rattle.fsfs_turn.specs.Opening.{LeftoversAgree}
 use Rattle.fsfs_turn.specs.Whole.{HasHistory, HasRevision, NamesFrom}
 use Rattle.fsfs_job_lines.specs.declared.job.Job.{Job}
 use Rattle.fsfs_script.specs.Errors.{IfReadFault}
@@ -42,7 +42,7 @@ abbrev pub IsPartOf : List Revision → List Revision → Type 0
 IsPartOf h part = ((rest : List Revision) × (h ≡ part ++ rest)) ⊎ ((next : Revision) × (part ≡ h ++ next ∷ []))
 
 -- What a crash leaves behind, or in the middle of, a run that came from the history h to this one. Now each image has each revision of it whole, and
--- `current` names the last of them or a later one. At each moment since the opening (by the number of the disk's operations before it), in the
+-- `current` names the last of them or a later one; it is a repository that stands for this history, or for it with one revision more. At each moment since the opening (by the number of the disk's operations before it), in the
 -- middle of a call too, it has the files of a first part of that history with all that was in h, or of the history with one revision more.
 pub record HoldsAll (since : ℕ) (t : Trace) (h now : List Revision) : Type 0 where
   pub layout : Layout
@@ -50,6 +50,7 @@ pub record HoldsAll (since : ℕ) (t : Trace) (h now : List Revision) : Type 0 w
   pub are : revisions seen ≡ now
   pub whole : (m : Files) → IsImage t.first t.operations m → (r : ℕ) (x : Recorded) → slice_get seen r ≡ Some x → HasRevision layout m r x
   pub named : (m : Files) → IsImage t.first t.operations m → NamesFrom m (length now)
+  pub stands : (m : Files) → IsImage t.first t.operations m → (g : List Revision) × IsPartOf now g × (length now ≤ length g) × StandsFor m g
   pub moments : (m : Files) → ImageSince since t.first t.operations m → (g : List Recorded) × HasHistory layout m g × IsPartOf now (revisions g) × (length h ≤ length g)
 
 -- the jobs were done over the history, the last line names the youngest revision of what they came to, and the disk holds it
@@ -63,10 +64,10 @@ pub record Ran (moment since : ℕ) (js : List Job) (answers : List JobAnswer) (
 abbrev pub RanIn : ℕ → ℕ → List Job → List JobAnswer → ℕ → List Revision → Option Trace → Type 0
 RanIn moment since js answers youngest h new = Ran moment since js answers youngest h new ⊎ StopsShort moment js answers h
 
--- where the files stood for a history of which nothing is packed
+-- where the files stood for a history, packed or not, and files that are left over of packed revisions have the same bytes
 abbrev pub RanOver : ℕ → List Job → List JobAnswer → ℕ → Option Trace → Option Trace → Type 0
 RanOver moment js answers youngest old new =
-    IfSome old (λ t. (h : List Revision) (stands : StandsFor (files_now t) h) → IsUnpacked stands → RanIn moment (length t.operations + 1) js answers youngest h new)
+    IfSome old (λ t. (h : List Revision) (stands : StandsFor (files_now t) h) → LeftoversAgree stands → RanIn moment (length t.operations + 1) js answers youngest h new)
 
 -- no job was done and nothing was printed; of the disk no more was done than that its names were made firm
 pub record IsUntouched (a b : RunScene) : Type 0 where

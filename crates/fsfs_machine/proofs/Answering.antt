@@ -80,15 +80,11 @@ read_gives w p r offset size went (Some x) is k = elim (is_known x r) as (λ b. 
     seen : IsSeen (length w.history) w.floor x
     seen = seen_of (length w.history) w.floor w.passes p x k.seen is
 
-    same_floor : w.floor ≡ x.floor
-    same_floor = omega (arith, seen.floor, k.floor)
-
     by_end : (went : Went) → r < length w.history → GivesBytes w.history r offset size (either went (range_of offset size (shown x.floor w.disk r)) outcome.Failed)
     by_end Fine less =
         let at = some_at w.history r less in
         let file : shown w.floor w.disk r ≡ Some (file_of at.0) = (has_all w.floor w.history w.lock w.disk (k.stands w.disk (read_is_image w.disk)) r at.0 at.1).0 in
-        let here : shown x.floor w.disk r ≡ Some (file_of at.0) = subst (λ f. shown f w.disk r ≡ Some (file_of at.0)) same_floor file in
-        subst (λ o. GivesBytes w.history r offset size (range_of offset size o)) (sym here) (at.0, at.1, refl)
+        subst (λ o. GivesBytes w.history r offset size (range_of offset size o)) (sym file) (at.0, at.1, refl)
     by_end Before less = tt
     by_end After less = tt
     by_end (Torn any) less = tt

@@ -43,11 +43,11 @@ created_kept w properties bytes is = subst (λ z. Kept z) (sym is) kept
     kept : Kept (created properties bytes)
     kept = record {
       young = λ up. refl;
-      seen = (record { seen = omega arith; least = omega arith; mine = tt; floor = omega arith }, tt);
+      seen = (record { seen = omega arith; least = omega arith; mine = tt; floor = refl }, tt);
       history = first_is_history properties bytes;
       transactions = tt;
       stands = each_firm disk (λ m. StandsFor 0 m (first_revision properties bytes ∷ [])) (one_revision disk (first_revision properties bytes) (refl, refl), (0, refl, refl));
-      floor = refl;
+      floor = omega arith;
       floors = each_firm disk (FloorIs 0) refl;
       counts = each_firm disk (CountsOn []) (0, refl, tt);
       once = tt;

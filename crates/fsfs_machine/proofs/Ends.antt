@@ -1,11 +1,11 @@
 -- An end of the object, a crash and an opening keep it.
-use Rattle.std.proofs.Common.{◌≡◌, ◌≤◌, ◌+◌, ◌-◌, ◌^◌, ℕ, suc, zero, List, [], ◌∷◌, ◌++◌, length, Bool, true, false, cond, inl, inr, ⊎_elim, refl, sym, ap, subst, ◌∙◌, arith, take}
+use Rattle.std.proofs.Common.{◌≡◌, ◌≤◌, ◌+◌, ◌-◌, ◌^◌, ℕ, suc, zero, List, [], ◌∷◌, ◌++◌, length, Bool, true, false, cond, inl, inr, ⊎_elim, refl, sym, ap, subst, ◌∙◌, arith, take, length-append}
 use Rattle.std.proofs.lemmas.Bool.{both_ways}
 use Rattle.std.specs.Prelude.{Some, None, IfSome, slice_get, nat_lt}
 use Rattle.std.proofs.lemmas.List.{take_all}
 use Rattle.fsfs_tree.specs.Histories.{IsHistory}
 use Rattle.fsfs_model.proofs.Legal.{commits_make_a_history}
-use Rattle.fsfs_machine.specs.declared.contents.FileName.TheVariants.{Current, Props}
+use Rattle.fsfs_machine.specs.declared.contents.FileName.TheVariants.{Current, Rev, Props}
 use Rattle.fsfs_machine.specs.declared.contents.NameChange.TheVariants.{Firm}
 use Rattle.fsfs_machine.specs.declared.machine.Recorded.{Recorded}
 use Rattle.fsfs_machine.specs.declared.machine.Coming.{Coming}
@@ -15,8 +15,8 @@ use Rattle.fsfs_machine.specs.declared.machine.Lock.TheVariants.{Free, Held, Stu
 use Rattle.fsfs_machine.specs.declared.machine.Went.{Went}
 use Rattle.fsfs_machine.specs.declared.machine.Went.TheVariants.{Fine, Before, After, Torn}
 use Rattle.fsfs_machine.specs.declared.machine.Outcome.TheVariants as outcome
-use Rattle.fsfs_machine.specs.Disk.{Disk, found, shown, left}
-use Rattle.fsfs_machine.specs.Machine.{World, did, barred, disk_after, labels_left, revisions, with_next, is_up, file_of, number_of, down, ends, revision_in, read_one, read_back, opened, named, open_at}
+use Rattle.fsfs_machine.specs.Disk.{Disk, found, left}
+use Rattle.fsfs_machine.specs.Machine.{World, did, barred, disk_after, labels_left, recorded, revisions, with_next, is_up, file_of, number_of, down, ends, revision_in, read_one, read_back, opened, named, open_at}
 use Rattle.fsfs_machine.specs.Kept.{HasAll, StandsFor, StandsForEither, Stands, CountsOn, KnowsAt, coming, Follows, IsHolder, FloorIs, Kept, Grows, AllGiven}
 use Rattle.fsfs_machine.proofs.Answering.{some_at}
 use Rattle.fsfs_machine.proofs.KeptParts.{Steady, steady, keeps_disk}
@@ -117,27 +117,31 @@ take_one [] n x e = let f : None ≡ Some x = e in absurd cc
 take_one (y ∷ ys) zero x e = let f : Some y ≡ Some x = e in let g : y ≡ x = cc in ap (λ z. z ∷ []) g
 take_one (y ∷ ys) (suc n) x e = ap (λ zs. y ∷ zs) (take_one ys n x e)
 
-reads : (f : ℕ) (d : Disk) (h : List Recorded) (n : ℕ) → HasAll f d h → n ≤ length h → read_back f d n ≡ Some (take n h)
+reads : (f : ℕ) (d : Disk) (h : List Recorded) (n : ℕ) → HasAll f d h → n ≤ length h → read_back d n ≡ Some (take n h)
 reads f d h zero all le = refl
 reads f d h (suc n) all le =
     let at = some_at h n (omega (arith, le)) in
     let x = at.0 in
     let files = all n x at.1 in
-    ap (λ o. read_one o (revision_in (shown f d n) (found d (Props n)))) (reads f d h n all (omega (arith, le)))
+    ap (λ o. read_one o (revision_in (found d (Rev n)) (found d (Props n)))) (reads f d h n all (omega (arith, le)))
     ∙ ap (λ o. read_one (Some (take n h)) (revision_in o (found d (Props n)))) files.0
     ∙ ap (λ o. read_one (Some (take n h)) (revision_in (Some (file_of x)) o)) files.1
     ∙ ap (λ l. Some l) (sym (take_one h n x at.1))
+
+grown_more : (h new : List Recorded) → Grows h new → length h ≤ length new
+grown_more h new (inl same) = omega (arith, ap length same)
+grown_more h new (inr (x, f, is)) = omega (arith, ap length is, length-append h (recorded x ∷ []))
 
 -- an opening goes on from what the files stand for
 opened_keeps : (w : World) (h : List Recorded) (k : ℕ) → StandsFor w.floor w.disk h → IsHistory (revisions h) → Grows w.history h → k + 1 ≡ length h → Kept w → Moves w (opened w k w.floor (Some h)).world
 opened_keeps w h k s is g last kept = record {
   kept = record {
     young = λ up. last;
-    seen = (record { seen = omega (arith, last); least = omega (arith, last); mine = tt; floor = omega arith }, tt);
+    seen = (record { seen = omega (arith, last); least = omega (arith, last); mine = tt; floor = refl }, tt);
     history = is;
     transactions = tt;
     stands = each_firm w.disk (λ m. StandsFor w.floor m h) s;
-    floor = kept.floor;
+    floor = omega (arith, kept.floor, grown_more w.history h g);
     floors = each_firm w.disk (FloorIs w.floor) (kept.floors w.disk (read_is_image w.disk));
     counts = each_firm w.disk (CountsOn w.given) (kept.counts w.disk (read_is_image w.disk));
     once = kept.once;
@@ -156,8 +160,8 @@ opened_keeps w h k s is g last kept = record {
 
 named_keeps : (w : World) (h : List Recorded) (k : ℕ) → StandsFor w.floor w.disk h → IsHistory (revisions h) → Grows w.history h → k + 1 ≡ length h → Kept w → Moves w (named w (Some k) (Some w.floor)).world
 named_keeps w h k s is g last kept =
-    let back : read_back w.floor w.disk (k + 1) ≡ Some h = reads w.floor w.disk h (k + 1) s.0 (omega (arith, last)) ∙ ap (λ n. Some (take n h)) last ∙ ap (λ z. Some z) (take_all (length h) h (omega arith)) in
-    elim (nat_lt k (2 ^ 64 - 1)) as (λ b. Moves w (cond b (opened w k w.floor (read_back w.floor w.disk (k + 1))) (did w outcome.Missing)).world) [
+    let back : read_back w.disk (k + 1) ≡ Some h = reads w.floor w.disk h (k + 1) s.0 (omega (arith, last)) ∙ ap (λ n. Some (take n h)) last ∙ ap (λ z. Some z) (take_all (length h) h (omega arith)) in
+    elim (nat_lt k (2 ^ 64 - 1)) as (λ b. Moves w (cond b (opened w k w.floor (read_back w.disk (k + 1))) (did w outcome.Missing)).world) [
       | true ↦ subst (λ o. Moves w (opened w k w.floor o).world) (sym back) (opened_keeps w h k s is g last kept)
       | false ↦ stays w kept
     ]

@@ -8,7 +8,7 @@ use Rattle.fsfs_machine.specs.declared.contents.Contents.TheVariants.{Number}
 use Rattle.fsfs_machine.specs.declared.contents.NameChange.TheVariants.{Put}
 use Rattle.fsfs_machine.specs.declared.machine.Recorded.{Recorded}
 use Rattle.fsfs_machine.specs.declared.machine.Coming.{Coming}
-use Rattle.fsfs_machine.specs.Disk.{Disk, found, shown, packed}
+use Rattle.fsfs_machine.specs.Disk.{Disk, found, shown}
 use Rattle.fsfs_machine.specs.Machine.{recorded, with_next}
 use Rattle.fsfs_machine.specs.Kept.{HasFiles, HasAll, StandsFor}
 
@@ -22,13 +22,9 @@ get_more (z ∷ xs) y (suc r) x e = ⊎_elim (λ a. inl a) (λ b. inr (ap (λ n.
 pub other_number : (n r : ℕ) → r < n → (n == r) ≡ false
 other_number n r less = grind arith
 
--- at or above the floor a revision has its own file
-pub shown_above : (f : ℕ) (m : Disk) (r : ℕ) → f ≤ r → shown f m r ≡ found m (Rev r)
-shown_above f m r le = let e : nat_lt r f ≡ false = grind (arith, le) in ap (λ b. cond b (packed m r) (found m (Rev r))) e
-
 -- the file of a revision to come touches none of the history
 pub past_rev : (f : ℕ) (m : Disk) (h : List Recorded) (c : Contents) → StandsFor f m h → StandsFor f (Put (Rev (length h)) c ∷ m) h
-past_rev f m h c s = (λ r x e. (ap (λ b. cond (nat_lt r f) (packed m r) (cond b (Some c) (found m (Rev r)))) (other_number (length h) r (slice_get_within h r x e)) ∙ (s.0 r x e).0, (s.0 r x e).1), s.1)
+past_rev f m h c s = (λ r x e. (ap (λ b. cond b (Some c) (found m (Rev r))) (other_number (length h) r (slice_get_within h r x e)) ∙ (s.0 r x e).0, (s.0 r x e).1), s.1)
 
 pub past_props : (f : ℕ) (m : Disk) (h : List Recorded) (c : Contents) → StandsFor f m h → StandsFor f (Put (Props (length h)) c ∷ m) h
 past_props f m h c s = (λ r x e. ((s.0 r x e).0, ap (λ b. cond b (Some c) (found m (Props r))) (other_number (length h) r (slice_get_within h r x e)) ∙ (s.0 r x e).1), s.1)
@@ -52,6 +48,6 @@ not_alone f m h named s = let e : s.1.0 ≡ length h = same_number (found m Curr
 pub same_again : (n : ℕ) (c : Contents) (o : Option Contents) → cond (n == n) (Some c) o ≡ Some c
 same_again n c o = let e : (n == n) ≡ true = grind arith in ap (λ t. cond t (Some c) o) e
 
--- with no revision in a pack, what was put as revision r shows it
-pub shown_again : (f : ℕ) (m : Disk) (r : ℕ) (c : Contents) → f ≡ 0 → shown f (Put (Rev r) c ∷ m) r ≡ Some c
-shown_again f m r c e = let le : f ≤ r = omega (arith, e) in shown_above f (Put (Rev r) c ∷ m) r le ∙ same_again r c (found m (Rev r))
+-- what was put as revision r shows it
+pub shown_again : (f : ℕ) (m : Disk) (r : ℕ) (c : Contents) → shown f (Put (Rev r) c ∷ m) r ≡ Some c
+shown_again f m r c = same_again r c (found m (Rev r))

@@ -133,7 +133,7 @@ adopted_keeps w p t txn e bytes went x was there mine is at =
     (transactions_without (revisions w.history) w.txns t at.transactions) (apart_spent w.given w.named w.txns w.spent t txn there at.apart) (λ up. have_without_place w.labels w.txns t (at.benches refl)) in
     let follows : Follows w.history x = subst (λ z. IsEntry (revisions w.history) z × IsNext (revisions w.history) z x.revision) (sym is.entry) (record { transaction = was; dated = is.adds.0 }, is.adds.1) in
     keeps_put less p (Commit PutRev) Begun (Rev (length w.history)) (file_of (recorded x)) (RevPut x) went k (ap (λ z. z.pass) is.entry ∙ mine)
-    (λ m i. i) (λ m any i. past_rev w.floor m w.history any i) (λ m i. i) (λ m any i. i) (shown_again w.floor w.disk (length w.history) (file_of (recorded x)) at.floor) follows
+    (λ m i. i) (λ m any i. past_rev w.floor m w.history any i) (λ m i. i) (λ m any i. i) (shown_again w.floor w.disk (length w.history) (file_of (recorded x))) follows
 
 adopts_txn_keep : (w : World) (p t : ℕ) (properties : List (List ℕ × List ℕ)) (bytes : List ℕ) (went : Went) (o : Option Txn) (d : Did) → slice_get w.txns t ≡ o
     → Kept w → Kept (record w { lock = Held p Begun }) → AdoptsTxn w p t properties bytes went o d → Moves w d.world
@@ -285,7 +285,7 @@ revealed_keeps w p (CurrentFirm x) k at =
         history = next_is_history w.history x at.history at.next;
         transactions = subst (λ z. AreTransactions z w.txns) (sym (revisions_next w.history x)) (transactions_go_on (revisions w.history) x.revision w.txns (some_revision w.history at.history) at.transactions);
         stands = at.stands;
-        floor = at.floor;
+        floor = omega (arith, more, at.floor);
         floors = at.floors;
         counts = at.counts;
         once = at.once;
@@ -330,8 +330,8 @@ props_keep w p r went (Some x) k = elim (is_known x r) as (λ b. Moves w (cond b
   | false ↦ stays w k
 ]
 
-floor_raised : (w : World) (x : ℕ) → found w.disk Floor ≡ Some (Number w.floor) → x ≤ w.floor → raised (number_of (found w.disk Floor)) x ≤ w.floor
-floor_raised w x e le = subst (λ o. raised (number_of o) x ≤ w.floor) (sym e) (omega (arith, le))
+floor_raised : (w : World) (x : ℕ) → found w.disk Floor ≡ Some (Number w.floor) → x ≡ w.floor → raised (number_of (found w.disk Floor)) x ≡ w.floor
+floor_raised w x e same = subst (λ o. raised (number_of o) x ≡ w.floor) (sym e) (omega (arith, same))
 
 floor_read_keeps : (w : World) (p : ℕ) (went : Went) (o : Option Pass) → Kept w → Moves w (floor_read w p went o).world
 floor_read_keeps w p went None k = stays w k
@@ -339,7 +339,7 @@ floor_read_keeps w p went (Some x) k =
     with_pass w p (sees_floor (length w.history) went (number_of (found w.disk Floor)))
     (λ y s. record { seen = omega arith; least = s.least; mine = no_less y.mine y.seen (length w.history) s.seen s.mine; floor = by_end went y s.floor }) (λ y. refl) k
   where
-    by_end : (went : Went) (y : Pass) → y.floor ≤ w.floor → (sees_floor (length w.history) went (number_of (found w.disk Floor)) y).floor ≤ w.floor
+    by_end : (went : Went) (y : Pass) → y.floor ≡ w.floor → (sees_floor (length w.history) went (number_of (found w.disk Floor)) y).floor ≡ w.floor
     by_end Fine y le = floor_raised w y.floor (k.floors w.disk (read_is_image w.disk)) le
     by_end Before y le = le
     by_end After y le = le

@@ -1,5 +1,5 @@
 -- What a disk has at a name, and what a crash may leave of it.
-use Rattle.std.specs.Prelude.{◌≡◌, ◌⊎◌, ◌==◌, nat_lt, ℕ, List, [], ◌∷◌, Bool, true, false, drop, Option, Some, None, if◌then◌else◌}
+use Rattle.std.specs.Prelude.{◌≡◌, ◌⊎◌, ◌==◌, ℕ, List, [], ◌∷◌, Bool, true, false, drop, Option, Some, None, if◌then◌else◌}
 use Rattle.fsfs_machine.specs.declared.contents.FileName.{FileName}
 use Rattle.fsfs_machine.specs.declared.contents.FileName.TheVariants.{Current, CurrentNext, Counter, CounterNext, Floor, Rev, Props}
 use Rattle.fsfs_machine.specs.declared.contents.Contents.{Contents}
@@ -28,13 +28,10 @@ found (Rename from to c ∷ d) n = if same_name to n then Some c else (if same_n
 found (Remove m ∷ d) n = if same_name m n then None else found d n
 found (Firm ∷ d) n = found d n
 
--- a revision in its pack: no step makes packs yet
-abbrev pub packed : Disk → ℕ → Option Contents
-packed d r = None
-
--- the file of revision r, where the revisions below the floor are in packs
+-- The file of revision r, where the revisions below the floor are in packs. The machine's file is the revision's bytes, wherever they
+-- stand: which bytes of a repository that are is said of its files. No step makes packs yet.
 abbrev pub shown : ℕ → Disk → ℕ → Option Contents
-shown floor d r = if nat_lt r floor then packed d r else found d (Rev r)
+shown floor d r = found d (Rev r)
 
 -- what a crash may leave: any subset of the changes since the names were last firm
 abbrev pub IsImage : Disk → Disk → Type 0

@@ -155,7 +155,7 @@ pub record IsSeen (n firm_floor : ℕ) (x : Pass) : Type 0 where
   pub seen : x.seen ≤ n
   pub least : x.least < n
   pub mine : AllBelow x.seen x.mine
-  pub floor : x.floor ≤ firm_floor
+  pub floor : x.floor ≡ firm_floor
 
 abbrev pub AreSeen : ℕ → ℕ → List Pass → Type 0
 AreSeen n floor [] = Unit {0}
@@ -215,8 +215,8 @@ pub record Kept (w : World) : Type 0 where
   -- each image has the bytes beside each revision, and stands for the history; or, where `current` may name the revision to
   -- come, for the history with it; and from the last firming to the reveal for that alone
   pub stands : (m : Disk) → IsImage w.disk m → Stands w.floor w.history w.lock m
-  -- no revision is in a pack
-  pub floor : w.floor ≡ 0
+  -- only revisions of the history are in packs
+  pub floor : w.floor ≤ length w.history
   -- each image shows this floor
   pub floors : (m : Disk) → IsImage w.disk m → FloorIs w.floor m
   -- in each image each transaction name given is below the counter

@@ -483,9 +483,9 @@ read_one (Some h) (Some x) = Some (h ++ x ∷ [])
 read_one h x = None
 
 -- the first n revisions, where the files show so many
-abbrev pub read_back : ℕ → Disk → ℕ → Option (List Recorded)
-read_back floor d zero = Some []
-read_back floor d (suc n) = read_one (read_back floor d n) (revision_in (shown floor d n) (found d (Props n)))
+abbrev pub read_back : Disk → ℕ → Option (List Recorded)
+read_back d zero = Some []
+read_back d (suc n) = read_one (read_back d n) (revision_in (found d (Rev n)) (found d (Props n)))
 
 -- the pass of an opening, which has seen n revisions
 abbrev pub first_pass : ℕ → ℕ → Pass
@@ -497,7 +497,7 @@ opened w k floor (Some h) =
     did (record w { disk = Firm ∷ w.disk; lock = Free; young = k; history = h; opening = k + 1; since = []; floor = floor; named = []; txns = []; spent = []; passes = first_pass (k + 1) floor ∷ [] }) outcome.Done
 
 abbrev pub named : World → Option ℕ → Option ℕ → Did
-named w (Some k) (Some floor) = if nat_lt k (2 ^ 64 - 1) then opened w k floor (read_back floor w.disk (k + 1)) else did w outcome.Missing
+named w (Some k) (Some floor) = if nat_lt k (2 ^ 64 - 1) then opened w k floor (read_back w.disk (k + 1)) else did w outcome.Missing
 named w k floor = did w outcome.Missing
 
 abbrev pub open_at : World → Went → Did

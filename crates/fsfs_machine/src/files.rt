@@ -1,6 +1,6 @@
 //! The machine's disk: what has a name, what a call changes, what a crash leaves.
 ghost use Rattle.std.specs.Prelude.{◌≡◌, ◌++◌, [], drop, OnOk, IfOk, MatchOption, Some, None};
-ghost use Rattle.fsfs_machine.specs.Disk.{found, shown, same_name, left, is_picked, kept_where, is_firm_change};
+ghost use Rattle.fsfs_machine.specs.Disk.{found, same_name, left, is_picked, kept_where, is_firm_change};
 ghost use Rattle.fsfs_machine.specs.Machine.{comes, is_fine_in, number_of};
 
 use crate::contents::{Contents, FileName, NameChange};
@@ -50,17 +50,6 @@ pub fn find<'a>(disk: &'a VecDeque<NameChange>, name: &FileName) -> Option<&'a C
         }
     }
     None
-}
-
-/// The file of a revision, which is in no pack unless it is below the floor.
-pub fn find_rev(disk: &VecDeque<NameChange>, floor: u64, rev: u64) -> Option<&Contents>
-    ensures { MatchOption result (shown floor disk.now.items rev ≡ None) (λ c. shown floor disk.now.items rev ≡ Some c.now) }
-{
-    if rev < floor {
-        None
-    } else {
-        find(disk, &FileName::Rev(rev))
-    }
 }
 
 /// The number in a file.

@@ -1,24 +1,18 @@
 -- What is known of a store as it is opened.
-use Rattle.std.specs.Prelude.{◌≡◌, ◌+◌, List, length, None, Result, Ok, Err}
-use Rattle.fsfs_base.specs.Files.{Files}
+use Rattle.std.specs.Prelude.{◌≡◌, ◌+◌, ℕ, List, length, None, Result, Ok, Err}
 use Rattle.fsfs_tree.specs.Revisions.{Revision}
 use Rattle.fsfs_layout.specs.Opening.{SmallTexts}
 use Rattle.fsfs_layout.specs.declared.opened.Opened.{Opened}
 use Rattle.fsfs_disk.specs.Trace.{Trace}
-use Rattle.fsfs_stands.specs.Files.{StandsFor}
 use Rattle.fsfs_places.specs.declared.open_fault.OpenFault.{OpenFault}
 use Rattle.fsfs_repo.specs.Deciding.{Decides}
 use Rattle.fsfs_machine.specs.Machine.{first_pass, revisions}
 use Rattle.fsfs_turn.specs.Views.{View}
 
--- no revision is in a pack
-abbrev pub IsUnpacked : {files : Files} {h : List Revision} → StandsFor files h → Type 0
-IsUnpacked stands = stands.opened.min_unpacked_rev ≡ 0
-
--- A pass has seen all of this history, and is in no section; of images it is spoken from this opening on, which made the names firm
--- by the operation after those of the trace, and had so many revisions.
-abbrev pub HasSeenAll : (View → Type 0) → Trace → List Revision → Type 0
-HasSeenAll knows t h = (v : View) × knows v × (v.section ≡ None) × (v.pass ≡ first_pass (length h) 0) × (revisions v.seen ≡ h) × (v.since ≡ length t.operations + 1) × (v.opened ≡ length h)
+-- A pass has seen all of this history, and knows this floor, and is in no section; of images it is spoken from this opening on, which made
+-- the names firm by the operation after those of the trace, and had so many revisions.
+abbrev pub HasSeenAll : (View → Type 0) → Trace → ℕ → List Revision → Type 0
+HasSeenAll knows t floor h = (v : View) × knows v × (v.section ≡ None) × (v.pass ≡ first_pass (length h) floor) × (revisions v.seen ≡ h) × (v.since ≡ length t.operations + 1) × (v.opened ≡ length h)
 
 abbrev pub said_by : {X Y : Type 0} → (X → Opened) → (Y → OpenFault) → Result X Y → Result Opened OpenFault
 said_by said why (Ok x) = Ok (said x)

@@ -1,10 +1,13 @@
 -- What a crash leaves of a repository.
-use Rattle.std.specs.Prelude.{◌≡◌, ◌≤◌, ℕ, List, length, Option, Some, IfSome, slice_get}
+use Rattle.std.specs.Prelude.{◌≡◌, ◌≤◌, ℕ, List, length, true, Option, Some, None, IfSome, slice_get}
 use Rattle.fsfs_base.specs.Files.{Files}
 use Rattle.fsfs_layout.specs.declared.layout.Layout.{Layout}
 use Rattle.fsfs_disk.specs.Trace.{Trace, IsImage, ImageSince}
 use Rattle.fsfs_machine.specs.declared.machine.Recorded.{Recorded}
 use Rattle.fsfs_machine.specs.declared.machine.Coming.{Coming}
+use Rattle.fsfs_machine.specs.Machine.{revisions}
+use Rattle.fsfs_stands.specs.Files.{StandsFor}
+use Rattle.fsfs_turn.specs.Alone.{are_harmless}
 use Rattle.fsfs_turn.specs.Past.{IsPart}
 use Rattle.fsfs_turn.specs.Views.{View}
 use Rattle.fsfs_turn.specs.Whole.{HasHistory, HasRevision, NamesFrom}
@@ -17,6 +20,10 @@ pub record Survives (layout : Layout) (t : Trace) (v : View) : Type 0 where
       → (d : Option Coming) × (g : List Recorded) × IsPart v.seen d g × (v.opened ≤ length g) × HasHistory layout m g
   pub whole : (m : Files) → IsImage t.first t.operations m → (r : ℕ) (x : Recorded) → slice_get v.seen r ≡ Some x → HasRevision layout m r x
   pub named : (m : Files) → IsImage t.first t.operations m → NamesFrom m (length v.seen)
+  -- it leaves a repository that stands for what the pass has seen, or for that with the revision in doubt
+  pub stands : (m : Files) → IsImage t.first t.operations m → (d : Option Coming) × (g : List Recorded) × IsPart v.seen d g × (length v.seen ≤ length g) × StandsFor m (revisions g)
+  -- for what it has seen, where the pass is in no section and none of its faults left a revision in doubt
+  pub doubtless : v.section ≡ None → are_harmless v.pass.faults ≡ true → (m : Files) → IsImage t.first t.operations m → StandsFor m (revisions v.seen)
 
 abbrev pub CrashesLeave : Layout → Option Trace → View → Type 0
 CrashesLeave layout told v = IfSome told (λ t. Survives layout t v)

@@ -29,7 +29,7 @@ use Rattle.fsfs_machine.specs.Kept.{Kept, IsIn, coming, one}
 use Rattle.fsfs_machine.proofs.Steps.{step_keeps}
 use Rattle.fsfs_machine.proofs.Whose.{length_at}
 use Rattle.fsfs_images.specs.RealNames.{machine_name}
-use Rattle.fsfs_images.specs.Shown.{IsTraceOf, Reads, AreRead, Putting, Adopting, Attempting}
+use Rattle.fsfs_images.specs.Shown.{IsTraceOf, MayChange, Reads, AreRead, Putting, Adopting, Attempting}
 use Rattle.fsfs_turn.specs.Bytes.{BytesShow}
 use Rattle.fsfs_turn.specs.Views.{View, Sees, with_txns, rev_name, IsTxnOver, MayAdopt, Answers, coming_of, adopting_view, Adopted}
 use Rattle.fsfs_turn.specs.Past.{doubt_in, doubt, IsPart, Safe}
@@ -111,7 +111,7 @@ module _ (layout : Layout) (young : ℕ) (stuck : Option DiskPlace) (old : Trace
   coming_then After = tt
   coming_then (Torn any) = tt
 
-  adopts : (new : Trace) (told : Option Trace) (went : Went) → told ≡ Some new → IsTraceOf layout no_others new.first new.operations (disk_after went (Put (Rev (length w.history)) (file_of (recorded x))) w.disk)
+  adopts : (new : Trace) (told : Option Trace) (went : Went) → told ≡ Some new → IsTraceOf layout w.floor no_others new.first new.operations (disk_after went (Put (Rev (length w.history)) (file_of (recorded x))) w.disk)
       → Safe layout v.since new v.opened w.floor w.history (doubt_in (either went (RevPut x) Over))
       → (u : View) × Knows layout young stuck told u × Adopted txn properties next bytes went v u
   adopts new told went is trace safe_then = (
@@ -126,6 +126,7 @@ module _ (layout : Layout) (young : ℕ) (stuck : Option DiskPlace) (old : Trace
       now : IsStore layout young stuck new (after_it went)
       now = record {
         trace = trace;
+        whole = store.whole;
         kept = kept_after went;
         shown = store.shown;
         coming = coming_then went;
@@ -167,21 +168,21 @@ module _ (layout : Layout) (young : ℕ) (stuck : Option DiskPlace) (old : Trace
       name_is : name ≡ machine_name layout (Rev (length w.history))
       name_is = named ∙ ap (λ k. machine_name k (Rev (length v.seen))) layout_is ∙ ap (λ h. machine_name layout (Rev (length h))) all
 
-      fits : length w.history < 2 ^ 32
-      fits = subst (λ h. length h < 2 ^ 32) all may.fits
+      fits : MayChange w.floor (Rev (length w.history))
+      fits = (subst (λ h. length h < 2 ^ 32) all may.fits, store.kept.floor)
 
-      put : (any : List ℕ) (c : Contents) → Reads (Rev (length w.history)) any c → IsTraceOf layout no_others old.first (Done (real.Put name any) ∷ old.operations) (Put (Rev (length w.history)) c ∷ w.disk)
-      put any c reads = subst (λ n. IsTraceOf layout no_others old.first (Done (real.Put n any) ∷ old.operations) (Put (Rev (length w.history)) c ∷ w.disk)) (sym name_is)
+      put : (any : List ℕ) (c : Contents) → Reads (Rev (length w.history)) any c → IsTraceOf layout w.floor no_others old.first (Done (real.Put name any) ∷ old.operations) (Put (Rev (length w.history)) c ∷ w.disk)
+      put any c reads = subst (λ n. IsTraceOf layout w.floor no_others old.first (Done (real.Put n any) ∷ old.operations) (Put (Rev (length w.history)) c ∷ w.disk)) (sym name_is)
           (Putting old.operations w.disk (Rev (length w.history)) any c store.trace fits reads)
 
-      safe_then : (op : Operation) (went : Went) → IsTraceOf layout no_others old.first (op ∷ old.operations) (disk_after went (Put (Rev (length w.history)) (file_of (recorded x))) w.disk)
-          → ((m : Files) → (ImageAfter (change_of op) (files_after old.first old.operations) (real.IsImage old.first old.operations) m) ⊎ (TornBy (change_of op) (real.IsImage old.first old.operations) m) → (e : Disk) × IsImage (Put (Rev (length w.history)) Junk ∷ w.disk) e × AreRead layout m e)
+      safe_then : (op : Operation) (went : Went) → IsTraceOf layout w.floor no_others old.first (op ∷ old.operations) (disk_after went (Put (Rev (length w.history)) (file_of (recorded x))) w.disk)
+          → ((m : Files) → (ImageAfter (change_of op) (files_after old.first old.operations) (real.IsImage old.first old.operations) m) ⊎ (TornBy (change_of op) (real.IsImage old.first old.operations) m) → (e : Disk) × IsImage (Put (Rev (length w.history)) Junk ∷ w.disk) e × AreRead layout w.floor m e)
           → Safe layout v.since (add_operation op old) v.opened w.floor w.history (doubt_in (either went (RevPut x) Over))
       safe_then op went trace middle =
           safe_step layout v.since v.opened w.floor w.history old op (disk_after went (Put (Rev (length w.history)) (file_of (recorded x))) w.disk) (Put (Rev (length w.history)) Junk ∷ w.disk) (Held v.number (either went (RevPut x) Over)) (Held v.number Over) None
-          (le layout young stuck old w v store sees layout_is number_is safe) (image_read layout no_others old.first (op ∷ old.operations) (disk_after went (Put (Rev (length w.history)) (file_of (recorded x))) w.disk) trace) (kept_after went).stands middle (kept_after (Torn Junk)).stands (doubtless went) (part_here went) safe_here
+          (le layout young stuck old w v store sees layout_is number_is safe) (image_read layout w.floor no_others old.first (op ∷ old.operations) (disk_after went (Put (Rev (length w.history)) (file_of (recorded x))) w.disk) trace) (kept_after went).stands (kept_after went).floors middle (kept_after (Torn Junk)).stands (kept_after (Torn Junk)).floors (doubtless went) (part_here went) safe_here
 
-      torn_here : (bytes : List ℕ) (m : Files) → (ImageAfter (real.Put name bytes) (files_after old.first old.operations) (real.IsImage old.first old.operations) m) ⊎ (TornBy (real.Put name bytes) (real.IsImage old.first old.operations) m) → (e : Disk) × IsImage (Put (Rev (length w.history)) Junk ∷ w.disk) e × AreRead layout m e
+      torn_here : (bytes : List ℕ) (m : Files) → (ImageAfter (real.Put name bytes) (files_after old.first old.operations) (real.IsImage old.first old.operations) m) ⊎ (TornBy (real.Put name bytes) (real.IsImage old.first old.operations) m) → (e : Disk) × IsImage (Put (Rev (length w.history)) Junk ∷ w.disk) e × AreRead layout w.floor m e
       torn_here bytes m c = torn_put layout young stuck old w v store sees layout_is number_is safe (Rev (length w.history)) name bytes name_is fits m c
 
       by_result : {X E : Type 0} (result : Result X E) → OnOk result (Performs (real.Put name bytes) (Some old) told) → OnErr result (FailsToPut name bytes (Some old) told)
@@ -206,25 +207,25 @@ module _ (layout : Layout) (young : ℕ) (stuck : Option DiskPlace) (old : Trace
       name_is : name ≡ machine_name layout (Rev (length w.history))
       name_is = named ∙ ap (λ k. machine_name k (Rev (length v.seen))) layout_is ∙ ap (λ h. machine_name layout (Rev (length h))) all
 
-      fits : length w.history < 2 ^ 32
-      fits = subst (λ h. length h < 2 ^ 32) all may.fits
+      fits : MayChange w.floor (Rev (length w.history))
+      fits = (subst (λ h. length h < 2 ^ 32) all may.fits, store.kept.floor)
 
-      done : IsTraceOf layout no_others old.first (Done (real.Adopt name bytes) ∷ old.operations) (Put (Rev (length w.history)) (file_of (recorded x)) ∷ w.disk)
-      done = subst (λ n. IsTraceOf layout no_others old.first (Done (real.Adopt n bytes) ∷ old.operations) (Put (Rev (length w.history)) (file_of (recorded x)) ∷ w.disk)) (sym name_is)
+      done : IsTraceOf layout w.floor no_others old.first (Done (real.Adopt name bytes) ∷ old.operations) (Put (Rev (length w.history)) (file_of (recorded x)) ∷ w.disk)
+      done = subst (λ n. IsTraceOf layout w.floor no_others old.first (Done (real.Adopt n bytes) ∷ old.operations) (Put (Rev (length w.history)) (file_of (recorded x)) ∷ w.disk)) (sym name_is)
           (Adopting old.operations w.disk (Rev (length w.history)) bytes (file_of (recorded x)) store.trace fits refl)
 
-      middle : (m : Files) → (ImageAfter (real.Adopt name bytes) (files_after old.first old.operations) (real.IsImage old.first old.operations) m) ⊎ (TornBy (real.Adopt name bytes) (real.IsImage old.first old.operations) m) → (e : Disk) × IsImage (Put (Rev (length w.history)) (file_of (recorded x)) ∷ w.disk) e × AreRead layout m e
-      middle m c = ⊎_elim (λ i. image_read layout no_others old.first (Done (real.Adopt name bytes) ∷ old.operations) (Put (Rev (length w.history)) (file_of (recorded x)) ∷ w.disk) done m i) (λ t. absurd t) c
+      middle : (m : Files) → (ImageAfter (real.Adopt name bytes) (files_after old.first old.operations) (real.IsImage old.first old.operations) m) ⊎ (TornBy (real.Adopt name bytes) (real.IsImage old.first old.operations) m) → (e : Disk) × IsImage (Put (Rev (length w.history)) (file_of (recorded x)) ∷ w.disk) e × AreRead layout w.floor m e
+      middle m c = ⊎_elim (λ i. image_read layout w.floor no_others old.first (Done (real.Adopt name bytes) ∷ old.operations) (Put (Rev (length w.history)) (file_of (recorded x)) ∷ w.disk) done m i) (λ t. absurd t) c
 
-      safe_then : (op : Operation) (went : Went) → change_of op ≡ real.Adopt name bytes → IsTraceOf layout no_others old.first (op ∷ old.operations) (disk_after went (Put (Rev (length w.history)) (file_of (recorded x))) w.disk)
+      safe_then : (op : Operation) (went : Went) → change_of op ≡ real.Adopt name bytes → IsTraceOf layout w.floor no_others old.first (op ∷ old.operations) (disk_after went (Put (Rev (length w.history)) (file_of (recorded x))) w.disk)
           → Safe layout v.since (add_operation op old) v.opened w.floor w.history (doubt_in (either went (RevPut x) Over))
       safe_then op went change trace =
           safe_step layout v.since v.opened w.floor w.history old op (disk_after went (Put (Rev (length w.history)) (file_of (recorded x))) w.disk) (Put (Rev (length w.history)) (file_of (recorded x)) ∷ w.disk) (Held v.number (either went (RevPut x) Over)) (Held v.number Over) None
-          (le layout young stuck old w v store sees layout_is number_is safe) (image_read layout no_others old.first (op ∷ old.operations) (disk_after went (Put (Rev (length w.history)) (file_of (recorded x))) w.disk) trace) (kept_after went).stands
-          (subst (λ k. (m : Files) → (ImageAfter k (files_after old.first old.operations) (real.IsImage old.first old.operations) m) ⊎ (TornBy k (real.IsImage old.first old.operations) m) → (e : Disk) × IsImage (Put (Rev (length w.history)) (file_of (recorded x)) ∷ w.disk) e × AreRead layout m e) (sym change) middle)
-          (kept_after After).stands (doubtless went) (part_here went) safe_here
+          (le layout young stuck old w v store sees layout_is number_is safe) (image_read layout w.floor no_others old.first (op ∷ old.operations) (disk_after went (Put (Rev (length w.history)) (file_of (recorded x))) w.disk) trace) (kept_after went).stands (kept_after went).floors
+          (subst (λ k. (m : Files) → (ImageAfter k (files_after old.first old.operations) (real.IsImage old.first old.operations) m) ⊎ (TornBy k (real.IsImage old.first old.operations) m) → (e : Disk) × IsImage (Put (Rev (length w.history)) (file_of (recorded x)) ∷ w.disk) e × AreRead layout w.floor m e) (sym change) middle)
+          (kept_after After).stands (kept_after After).floors (doubtless went) (part_here went) safe_here
 
-      tried : IsTraceOf layout no_others old.first (Attempted (real.Adopt name bytes) ∷ old.operations) w.disk
+      tried : IsTraceOf layout w.floor no_others old.first (Attempted (real.Adopt name bytes) ∷ old.operations) w.disk
       tried = Attempting old.operations w.disk (real.Adopt name bytes) store.trace
 
       by_result : {X E : Type 0} (result : Result X E) → OnOk result (Performs (real.Adopt name bytes) (Some old) told) → OnErr result ((StaysAt (real.Adopt name bytes) (Some old) told × A) ⊎ (Performs (real.Adopt name bytes) (Some old) told × B))

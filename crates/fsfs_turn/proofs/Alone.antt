@@ -1,28 +1,39 @@
--- The one pass of an owned store stays alone: each of its turns but a reveal adds no revision.
-use Rattle.std.proofs.Common.{◌≡◌, ◌≤◌, ◌+◌, ◌-◌, ◌++◌, ◌∷◌, [], ℕ, List, length, ap, ◌∙◌, arith, append-nil, length-append}
+-- The one pass of an owned store stays alone: each of its turns but a reveal adds no revision, and no turn but one that leaves a revision in
+-- doubt leaves the lock stuck.
+use Rattle.std.proofs.Common.{◌≡◌, ◌⊎◌, ◌≤◌, ◌+◌, ◌-◌, ◌++◌, ◌∷◌, [], ℕ, List, length, true, false, cond, inl, inr, ⊎_elim, refl, sym, ap, subst, ◌∙◌, arith, append-nil, length-append}
 use Rattle.std.proofs.lemmas.List.{nil_from_length}
-use Rattle.std.specs.Prelude.{Option, Some, None, Result}
+use Rattle.std.specs.Prelude.{Bool, Option, Some, None, Result, option_map, OnOk, OnErr, IfOk}
 use Rattle.fsfs_base.specs.Files.{Files}
 use Rattle.fsfs_layout.specs.declared.layout.Layout.{Layout}
 use Rattle.fsfs_layout.specs.Small.{IsRevLine}
 use Rattle.fsfs_hash.specs.Dump.{IsDump}
 use Rattle.fsfs_tree.specs.Revisions.{Revision}
 use Rattle.fsfs_disk.specs.Labels.{Label}
-use Rattle.fsfs_disk.specs.Trace.{Trace}
+use Rattle.fsfs_disk.specs.Trace.{Trace, Operation, Done, Attempted, add_operation, Performs, PerformsIfThere, FailsAt, FailsToPut, FailsToAdopt}
+use Rattle.fsfs_disk.specs.Trace as real
+use Rattle.fsfs_disk.proofs.TraceLemmas.{ended, ended_put, ended_adopt, ended_if_there}
 use Rattle.fsfs_places.specs.declared.place.DiskPlace.{DiskPlace}
+use Rattle.fsfs_places.specs.declared.place.DiskPlace.TheVariants.{Begin, Commit}
+use Rattle.fsfs_places.specs.declared.place.DiskPlace.TheVariants as disk
+use Rattle.fsfs_places.specs.declared.place.BeginPlace.TheVariants as begin
+use Rattle.fsfs_places.specs.declared.place.CommitPlace.TheVariants.{PutRev, PutProps, FirmRev, PutCurrent, RenameCurrent, FirmCurrent}
 use Rattle.fsfs_machine.specs.declared.machine.Recorded.{Recorded}
 use Rattle.fsfs_machine.specs.declared.machine.Coming.{Coming}
 use Rattle.fsfs_machine.specs.declared.machine.Drawn.{Drawn}
 use Rattle.fsfs_machine.specs.declared.machine.Txn.{Txn}
+use Rattle.fsfs_machine.specs.declared.machine.Section.{Section}
+use Rattle.fsfs_machine.specs.declared.machine.Section.TheVariants.{Begun, CountRead, CountPut, CountRenamed, RevPut, PropsPut, RevFirm, CurrentPut, CurrentRenamed, CurrentFirm, Doubtful, Over}
 use Rattle.fsfs_machine.specs.declared.machine.Step.{Step}
 use Rattle.fsfs_machine.specs.declared.machine.Went.{Went}
-use Rattle.fsfs_machine.specs.declared.machine.Went.TheVariants.{Before}
-use Rattle.fsfs_machine.specs.Machine.{recorded}
-use Rattle.fsfs_turn.specs.Views.{View, Begins, Answers, Called, Adopted, Looked, LockTaken, FoundStuck, LockGiven, Revealed, ReadTurn}
-use Rattle.fsfs_turn.specs.Learning.{PropsRead, FloorRead, ReadsCounter, Listed, BenchMade, Purged, SpentPurged}
+use Rattle.fsfs_machine.specs.declared.machine.Went.TheVariants.{Fine, Before, After, Torn}
+use Rattle.fsfs_machine.specs.Machine.{recorded, either, after, spoiled}
+use Rattle.fsfs_turn.specs.Views.{View, Begins, coming_of, IsDue, Answers, Called, Adopted, Looked, LockTaken, FoundStuck, LockGiven, Revealed, ReadTurn}
+use Rattle.fsfs_turn.specs.Learning.{PropsRead, FloorRead, drawn_of, CounterRead, ReadsCounter, Listed, BenchMade, Purged, SpentPurged}
 use Rattle.fsfs_turn.specs.Standing.{Knows}
-use Rattle.fsfs_turn.specs.Alone.{IsAlone, KnowsAlone, AloneStays, AloneAdds}
+use Rattle.fsfs_turn.specs.Stands.{OwnFilesStand}
+use Rattle.fsfs_turn.specs.Alone.{brings_doubt, are_harmless, is_doubtful, is_doubtful_at, KnowsAlone, AloneStays, AloneAdds}
 use Rattle.fsfs_turn.specs.Found.{seen_within}
+use Rattle.fsfs_turn.proofs.Standings.{own_more}
 
 -- ---- for callers
 
@@ -34,15 +45,119 @@ same_by_length h g b le =
     b.1 ∙ ap (λ (l : List Recorded). h ++ l) none ∙ append-nil h
 
 pub alone_stays : AloneStays
-alone_stays young now v u a b grows opened mine =
+alone_stays young now stuck left v u a b grows opened mine =
     let own : length u.pass.mine ≡ length v.pass.mine = ap length mine in
     (same_by_length v.seen u.seen grows (omega (arith, a.own, b.own, opened, own)), omega (arith, a.all, b.all, a.own, b.own, opened, own))
 
 pub alone_adds : AloneAdds
-alone_adds young now rev v u before next a b is grows opened mine =
+alone_adds young now rev stuck left v u before next a b is grows opened mine =
     let own : length u.pass.mine ≡ length v.pass.mine + 1 = ap length mine ∙ length-append v.pass.mine (rev ∷ []) in
     let long : length u.seen ≡ length before + 1 = ap length is ∙ length-append before (next ∷ []) in
     (same_by_length v.seen before grows (omega (arith, a.own, b.own, opened, own, long)), omega (arith, a.all, b.all, a.own, b.own, opened, own))
+
+-- ---- faults
+
+harmless_end : (places : List DiskPlace) (place : DiskPlace) → are_harmless (places ++ place ∷ []) ≡ true → (are_harmless places ≡ true) × (brings_doubt place ≡ false)
+harmless_end [] place e = (refl, by_test (brings_doubt place) e)
+  where
+    by_test : (b : Bool) → cond b false true ≡ true → b ≡ false
+    by_test true e = absurd cc
+    by_test false e = refl
+harmless_end (x ∷ places) place e = by_test (brings_doubt x) e (harmless_end places place)
+  where
+    by_test : (b : Bool) → cond b false (are_harmless (places ++ place ∷ [])) ≡ true → (are_harmless (places ++ place ∷ []) ≡ true → (are_harmless places ≡ true) × (brings_doubt place ≡ false))
+        → (cond b false (are_harmless places) ≡ true) × (brings_doubt place ≡ false)
+    by_test true e rest = absurd cc
+    by_test false e rest = rest e
+
+-- after a call the faults are harmless only where they were before
+pub harmless_before : (went : Went) (places : List DiskPlace) (place : DiskPlace) → are_harmless (either went places (places ++ place ∷ [])) ≡ true → are_harmless places ≡ true
+harmless_before Fine places place e = e
+harmless_before Before places place e = (harmless_end places place e).0
+harmless_before After places place e = (harmless_end places place e).0
+harmless_before (Torn any) places place e = (harmless_end places place e).0
+
+-- a section that went on is not in doubt
+after_sound : (s : Section) → is_doubtful (after s) ≡ false
+after_sound Begun = refl
+after_sound (CountRead x) = refl
+after_sound (CountPut x) = refl
+after_sound (CountRenamed x) = refl
+after_sound (RevPut x) = refl
+after_sound (PropsPut x) = refl
+after_sound (RevFirm x) = refl
+after_sound (CurrentPut x) = refl
+after_sound (CurrentRenamed x) = refl
+after_sound (CurrentFirm x) = refl
+after_sound (Doubtful place x) = refl
+after_sound Over = refl
+
+spoiled_sound : (s : Section) (place : DiskPlace) → (is_doubtful (spoiled s) ≡ true → brings_doubt place ≡ true) → brings_doubt place ≡ false → is_doubtful (spoiled s) ≡ false
+spoiled_sound s place brings not = by_test (is_doubtful (spoiled s)) brings
+  where
+    by_test : (b : Bool) → (b ≡ true → brings_doubt place ≡ true) → b ≡ false
+    by_test true brings = sym (brings refl) ∙ not
+    by_test false brings = refl
+
+called_sound : (went : Went) (s : Section) (places : List DiskPlace) (place : DiskPlace) → (is_doubtful (spoiled s) ≡ true → brings_doubt place ≡ true)
+    → are_harmless (either went places (places ++ place ∷ [])) ≡ true → is_doubtful (either went (after s) (spoiled s)) ≡ false
+called_sound Fine s places place brings e = after_sound s
+called_sound Before s places place brings e = spoiled_sound s place brings (harmless_end places place e).1
+called_sound After s places place brings e = spoiled_sound s place brings (harmless_end places place e).1
+called_sound (Torn any) s places place brings e = spoiled_sound s place brings (harmless_end places place e).1
+
+either_sound : (went : Went) (s t : Section) → is_doubtful s ≡ false → is_doubtful t ≡ false → is_doubtful (either went s t) ≡ false
+either_sound Fine s t a b = a
+either_sound Before s t a b = b
+either_sound After s t a b = b
+either_sound (Torn any) s t a b = b
+
+same_section : (s t : Section) → Some s ≡ Some t → s ≡ t
+same_section s t e = cc
+
+spoiled_by : (inside s : Section) (at : Option Section) → at ≡ Some s → at ≡ Some inside → is_doubtful (spoiled s) ≡ false → is_doubtful (spoiled inside) ≡ true → false ≡ true
+spoiled_by inside s at is was calm doubtful = sym calm ∙ ap (λ z. is_doubtful (spoiled z)) (same_section s inside (sym is ∙ was)) ∙ doubtful
+
+-- the call that is due leaves a revision in doubt only at these places
+pub due_brings : (v : View) (place : DiskPlace) (change : real.NameChange) → IsDue v place change → (inside : Section) → v.section ≡ Some inside → is_doubtful (spoiled inside) ≡ true → brings_doubt place ≡ true
+due_brings v (Begin begin.Put) (real.Put name bytes) d inside was doubtful = spoiled_by inside (CountRead d.0) v.section d.1 was refl doubtful
+due_brings v (Begin begin.Rename) (real.Rename from to) d inside was doubtful = spoiled_by inside (CountPut d.0) v.section d.1 was refl doubtful
+due_brings v (Begin begin.Firm) real.FirmNames d inside was doubtful = spoiled_by inside (CountRenamed d.0) v.section d.1 was refl doubtful
+due_brings v (Commit PutProps) (real.Put name bytes) d inside was doubtful = spoiled_by inside (RevPut d.0) v.section d.1 was refl doubtful
+due_brings v (Commit FirmRev) real.FirmNames d inside was doubtful = spoiled_by inside (PropsPut d.0) v.section d.1 was refl doubtful
+due_brings v (Commit PutCurrent) (real.Put name bytes) d inside was doubtful = spoiled_by inside (RevFirm d.0) v.section d.1 was refl doubtful
+due_brings v (Commit RenameCurrent) (real.Rename from to) d inside was doubtful = refl
+due_brings v (Commit FirmCurrent) real.FirmNames d inside was doubtful = refl
+due_brings v place change d inside was doubtful = absurd d
+
+-- ---- the files that no turn touches
+
+-- a call of the disk adds one operation to its trace, or none
+abbrev pub GoesOn : Option Trace → Option Trace → Type 0
+GoesOn old new = (new ≡ old) ⊎ ((op : Operation) × (new ≡ option_map (add_operation op) old))
+
+goes_at : (change : real.NameChange) (old new : Option Trace) → FailsAt change old new → GoesOn old new
+goes_at change old new w = ⊎_elim (λ same. inl same) (λ more. ⊎_elim (λ tried. inr (Attempted change, tried)) (λ done. inr (Done change, done)) more) w
+
+pub goes_by : {X E : Type 0} (change : real.NameChange) (old new : Option Trace) (result : Result X E) → OnOk result (Performs change old new) → OnErr result (FailsAt change old new) → GoesOn old new
+goes_by change old new result ok err = goes_at change old new (ended change old new result ok err)
+
+pub goes_by_put : {X E : Type 0} (name bytes : List ℕ) (old new : Option Trace) (result : Result X E) → OnOk result (Performs (real.Put name bytes) old new) → OnErr result (FailsToPut name bytes old new) → GoesOn old new
+goes_by_put name bytes old new result ok err =
+    ⊎_elim (λ same. inl same) (λ more. ⊎_elim (λ tried. inr (Attempted (real.Put name bytes), tried)) (λ done. inr (Done (real.Put name done.0), done.1)) more) (ended_put name bytes old new result ok err)
+
+pub goes_by_adoption : {X E : Type 0} (change : real.NameChange) (old new : Option Trace) (without : Files → Files) (held left : Option Files) (result : Result X E)
+    → OnOk result (Performs change old new) → OnErr result (FailsToAdopt change old new without held left) → GoesOn old new
+goes_by_adoption change old new without held left result ok err = goes_at change old new (ended_adopt change old new without held left result ok err)
+
+pub goes_if_there : {E : Type 0} (change : real.NameChange) (old new : Option Trace) (result : Result Bool E) → IfOk result (λ there. PerformsIfThere there change old new) → OnErr result (FailsAt change old new) → GoesOn old new
+goes_if_there change old new result ok err = goes_at change old new (ended_if_there change old new result ok err)
+
+own_next : (layout : Layout) (young now : ℕ) (stuck left : Option DiskPlace) (old new : Option Trace) (v u : View) → GoesOn old new → Knows layout young stuck old v → OwnFilesStand layout old → Knows layout now left new u → OwnFilesStand layout new
+own_next layout young now stuck left None new v u goes known own later = absurd known
+own_next layout young now stuck left (Some t) new v u goes known own later = ⊎_elim
+    (λ same. subst (λ o. OwnFilesStand layout o) (sym same) own)
+    (λ more. subst (λ o. OwnFilesStand layout o) (sym more.1) (own_more layout now left t more.0 u (subst (λ o. Knows layout now left o u) more.1 later) own)) goes
 
 -- ---- turns
 
@@ -51,78 +166,141 @@ pub seen_bound : (layout : Layout) (young : ℕ) (stuck : Option DiskPlace) (tol
 seen_bound layout young stuck None v known = absurd known
 seen_bound layout young stuck (Some t) v known = let up : known.0.young + 1 ≡ length known.0.history = known.1.kept.young known.2.up in omega (arith, up, seen_within known.0 v known.2, known.1.young_is)
 
-alone_as : (young : ℕ) (v u : View) → IsAlone young v → length u.seen ≡ length v.seen → u.opened ≡ v.opened → u.pass.mine ≡ v.pass.mine → IsAlone young u
-alone_as young v u a seen opened mine = let own : length u.pass.mine ≡ length v.pass.mine = ap length mine in record { all = omega (arith, a.all, seen); own = omega (arith, a.own, seen, opened, own) }
-
 longer : (h g : List Recorded) → Begins g h → length h ≤ length g
 longer h g b = let long : length g ≡ length h + length b.0 = ap length b.1 ∙ length-append h b.0 in omega (arith, long)
 
--- one that leaves what was seen
-module _ (young : ℕ) (v : View) (alone : IsAlone young v) where
-  still : (u : View) → u.seen ≡ v.seen → u.opened ≡ v.opened → u.pass.mine ≡ v.pass.mine → IsAlone young u
-  still u seen opened mine = alone_as young v u alone (ap length seen) opened mine
+-- what the pass knows after a turn
+module _ (layout : Layout) (young : ℕ) (stuck : Option DiskPlace) (old new : Option Trace) (goes : GoesOn old new) (v : View) (known : KnowsAlone layout young stuck old v) where
+  -- one that added no revision, and by which no section came to be in doubt but by a fault that isn't harmless
+  then_known : (u : View) → Knows layout young stuck new u → length u.seen ≡ length v.seen → u.opened ≡ v.opened → u.pass.mine ≡ v.pass.mine → (are_harmless u.pass.faults ≡ true → are_harmless v.pass.faults ≡ true)
+      → (are_harmless u.pass.faults ≡ true → is_doubtful_at v.section ≡ false → is_doubtful_at u.section ≡ false) → KnowsAlone layout young stuck new u
+  then_known u now seen opened mine faults sound =
+      let own : length u.pass.mine ≡ length v.pass.mine = ap length mine in (
+        now,
+        record { all = omega (arith, known.1.all, seen); own = omega (arith, known.1.own, seen, opened, own); free = λ few. known.1.free (faults few); sound = λ few. sound few (known.1.sound (faults few)) },
+        own_next layout young young stuck stuck old new v u goes known.0 known.2 now,
+      )
 
-  module _ (layout : Layout) (stuck : Option DiskPlace) (told : Option Trace) where
-    pub look_alone : (u : View) × Knows layout young stuck told u × Looked young v u → (u : View) × KnowsAlone layout young stuck told u × Looked young v u
-    look_alone w = (w.0, (w.1, still w.0 (ap {A = View} (λ z. z.seen) w.2.is) (ap {A = View} (λ z. z.opened) w.2.is) (ap {A = View} (λ z. z.pass.mine) w.2.is)), w.2)
+  -- one that leaves what was seen, and the faults
+  leaves : (u : View) → Knows layout young stuck new u → u.seen ≡ v.seen → u.opened ≡ v.opened → u.pass.mine ≡ v.pass.mine → u.pass.faults ≡ v.pass.faults
+      → (is_doubtful_at v.section ≡ false → is_doubtful_at u.section ≡ false) → KnowsAlone layout young stuck new u
+  leaves u now seen opened mine faults sound = then_known u now (ap length seen) opened mine (λ few. sym (ap (λ l. are_harmless l) faults) ∙ few) (λ few s. sound s)
 
-    pub take_alone : (u : View) × Knows layout young stuck told u × LockTaken v u → (u : View) × KnowsAlone layout young stuck told u × LockTaken v u
-    take_alone w = (w.0, (w.1, still w.0 (ap {A = View} (λ z. z.seen) w.2.is) (ap {A = View} (λ z. z.opened) w.2.is) (ap {A = View} (λ z. z.pass.mine) w.2.is)), w.2)
+  -- one that tells the history as it is
+  learned : (place : DiskPlace) (went : Went) (u : View) → Knows layout young stuck new u → Begins u.seen v.seen → u.opened ≡ v.opened → u.pass.mine ≡ v.pass.mine → u.pass.faults ≡ either went v.pass.faults (v.pass.faults ++ place ∷ [])
+      → (are_harmless (either went v.pass.faults (v.pass.faults ++ place ∷ [])) ≡ true → is_doubtful_at v.section ≡ false → is_doubtful_at u.section ≡ false) → KnowsAlone layout young stuck new u
+  learned place went u now grows opened mine faults sound =
+      let same : are_harmless u.pass.faults ≡ are_harmless (either went v.pass.faults (v.pass.faults ++ place ∷ [])) = ap (λ l. are_harmless l) faults in
+      then_known u now (omega (arith, known.1.all, seen_bound layout young stuck new u now, longer v.seen u.seen grows)) opened mine
+      (λ few. harmless_before went v.pass.faults place (sym same ∙ few)) (λ few s. sound (sym same ∙ few) s)
 
-    pub stuck_alone : (place : DiskPlace) → (u : View) × Knows layout young stuck told u × FoundStuck place v u → (u : View) × KnowsAlone layout young stuck told u × FoundStuck place v u
-    stuck_alone place w = (w.0, (w.1, still w.0 (ap {A = View} (λ z. z.seen) w.2.is) (ap {A = View} (λ z. z.opened) w.2.is) (ap {A = View} (λ z. z.pass.mine) w.2.is)), w.2)
+  same_at : (u : View) → u.section ≡ v.section → is_doubtful_at v.section ≡ false → is_doubtful_at u.section ≡ false
+  same_at u is s = ap (λ o. is_doubtful_at o) is ∙ s
 
-    pub give_alone : (step : Step) → (u : View) × Knows layout young stuck told u × LockGiven step v u → (u : View) × KnowsAlone layout young stuck told u × LockGiven step v u
-    give_alone step w = (w.0, (w.1, still w.0 (ap {A = View} (λ z. z.seen) w.2.is) (ap {A = View} (λ z. z.opened) w.2.is) (ap {A = View} (λ z. z.pass.mine) w.2.is)), w.2)
+  pub look_alone : (u : View) × Knows layout young stuck new u × Looked young v u → (u : View) × KnowsAlone layout young stuck new u × Looked young v u
+  look_alone w = (w.0, leaves w.0 w.1 (ap {A = View} (λ z. z.seen) w.2.is) (ap {A = View} (λ z. z.opened) w.2.is) (ap {A = View} (λ z. z.pass.mine) w.2.is) (ap {A = View} (λ z. z.pass.faults) w.2.is) (same_at w.0 (ap {A = View} (λ z. z.section) w.2.is)), w.2)
 
-    pub adopt_alone : {X E : Type 0} (txn : Txn) (properties : List (List ℕ × List ℕ)) (next : Revision) (bytes : List ℕ) (result : Result X E)
-        → (u : View) × (went : Went) × Knows layout young stuck told u × Answers result went × Adopted txn properties next bytes went v u → (u : View) × (went : Went) × KnowsAlone layout young stuck told u × Answers result went × Adopted txn properties next bytes went v u
-    adopt_alone txn properties next bytes result w = (w.0, w.1, (w.2, still w.0 (ap {A = View} (λ z. z.seen) w.4.is) (ap {A = View} (λ z. z.opened) w.4.is) (ap {A = View} (λ z. z.pass.mine) w.4.is)), w.3, w.4)
+  pub take_alone : (u : View) × Knows layout young stuck new u × LockTaken v u → (u : View) × KnowsAlone layout young stuck new u × LockTaken v u
+  take_alone w = (w.0, leaves w.0 w.1 (ap {A = View} (λ z. z.seen) w.2.is) (ap {A = View} (λ z. z.opened) w.2.is) (ap {A = View} (λ z. z.pass.mine) w.2.is) (ap {A = View} (λ z. z.pass.faults) w.2.is) (λ s. ap {A = View} (λ z. is_doubtful_at z.section) w.2.is), w.2)
 
-    pub no_adopt_alone : (txn : Txn) (properties : List (List ℕ × List ℕ)) (next : Revision) (bytes : List ℕ) → (u : View) × Knows layout young stuck told u × Adopted txn properties next bytes Before v u → (u : View) × KnowsAlone layout young stuck told u × Adopted txn properties next bytes Before v u
-    no_adopt_alone txn properties next bytes w = (w.0, (w.1, still w.0 (ap {A = View} (λ z. z.seen) w.2.is) (ap {A = View} (λ z. z.opened) w.2.is) (ap {A = View} (λ z. z.pass.mine) w.2.is)), w.2)
+  pub stuck_alone : (place : DiskPlace) → (u : View) × Knows layout young stuck new u × FoundStuck place v u → (u : View) × KnowsAlone layout young stuck new u × FoundStuck place v u
+  stuck_alone place w = (w.0, leaves w.0 w.1 (ap {A = View} (λ z. z.seen) w.2.is) (ap {A = View} (λ z. z.opened) w.2.is) (ap {A = View} (λ z. z.pass.mine) w.2.is) (ap {A = View} (λ z. z.pass.faults) w.2.is) (same_at w.0 (ap {A = View} (λ z. z.section) w.2.is)), w.2)
 
--- a reveal adds one
-pub reveal_alone : (layout : Layout) (young : ℕ) (stuck : Option DiskPlace) (told : Option Trace) (rev : ℕ) (x : Coming) (v : View) → IsAlone young v → rev ≡ length v.seen → (u : View) × Knows layout rev stuck told u × Revealed x v u → (u : View) × KnowsAlone layout rev stuck told u × Revealed x v u
-reveal_alone layout young stuck told rev x v alone rev_is w = (w.0, (w.1, record { all = omega (arith, rev_is, long); own = omega (arith, alone.own, long, opened, own) }), w.2)
-  where
-    long : length w.0.seen ≡ length v.seen + 1
-    long = ap {A = View} (λ z. length z.seen) w.2.is ∙ length-append v.seen (recorded x ∷ [])
+  pub give_alone : (step : Step) → (u : View) × Knows layout young stuck new u × LockGiven step v u → (u : View) × KnowsAlone layout young stuck new u × LockGiven step v u
+  give_alone step w = (w.0, leaves w.0 w.1 (ap {A = View} (λ z. z.seen) w.2.is) (ap {A = View} (λ z. z.opened) w.2.is) (ap {A = View} (λ z. z.pass.mine) w.2.is) (ap {A = View} (λ z. z.pass.faults) w.2.is) (λ s. ap {A = View} (λ z. is_doubtful_at z.section) w.2.is), w.2)
 
-    opened : w.0.opened ≡ v.opened
-    opened = ap {A = View} (λ z. z.opened) w.2.is
+  -- it is left stuck only where the section was in doubt
+  pub stick_alone : (place : DiskPlace) (x : Coming) (step : Step) → v.section ≡ Some (Doubtful place x) → (u : View) × Knows layout young (Some place) new u × LockGiven step v u → (u : View) × KnowsAlone layout young (Some place) new u × LockGiven step v u
+  stick_alone place x step at w = (
+    w.0,
+    (
+      w.1,
+      record { all = omega (arith, known.1.all, seen); own = omega (arith, known.1.own, seen, opened, own); free = λ few. doubtless few; sound = λ few. ap {A = View} (λ z. is_doubtful_at z.section) w.2.is },
+      own_next layout young young stuck (Some place) old new v w.0 goes known.0 known.2 w.1,
+    ),
+    w.2,
+  )
+    where
+      seen : length w.0.seen ≡ length v.seen
+      seen = ap {A = View} (λ z. length z.seen) w.2.is
 
-    own : length w.0.pass.mine ≡ length v.pass.mine + 1
-    own = ap {A = View} (λ z. length z.pass.mine) w.2.is ∙ length-append v.pass.mine (length v.seen ∷ [])
+      opened : w.0.opened ≡ v.opened
+      opened = ap {A = View} (λ z. z.opened) w.2.is
 
--- one by which the pass saw the history as it was
-module _ (layout : Layout) (young : ℕ) (stuck : Option DiskPlace) (told : Option Trace) (v : View) (alone : IsAlone young v) where
-  grown : (u : View) → Knows layout young stuck told u → Begins u.seen v.seen → u.opened ≡ v.opened → u.pass.mine ≡ v.pass.mine → IsAlone young u
-  grown u known grows opened mine = alone_as young v u alone (omega (arith, alone.all, seen_bound layout young stuck told u known, longer v.seen u.seen grows)) opened mine
+      own : length w.0.pass.mine ≡ length v.pass.mine
+      own = ap {A = View} (λ z. length z.pass.mine) w.2.is
 
-  pub call_alone : {X E : Type 0} (place : DiskPlace) (result : Result X E) → (u : View) × (went : Went) × Knows layout young stuck told u × Answers result went × Called place went v u → (u : View) × (went : Went) × KnowsAlone layout young stuck told u × Answers result went × Called place went v u
-  call_alone place result w = (w.0, w.1, (w.2, grown w.0 w.2 w.4.grows (ap {A = View} (λ z. z.opened) w.4.is) (ap {A = View} (λ z. z.pass.mine) w.4.is)), w.3, w.4)
+      faults : are_harmless w.0.pass.faults ≡ are_harmless v.pass.faults
+      faults = ap {A = View} (λ z. are_harmless z.pass.faults) w.2.is
 
-  pub no_call_alone : (place : DiskPlace) → (u : View) × Knows layout young stuck told u × Called place Before v u → (u : View) × KnowsAlone layout young stuck told u × Called place Before v u
-  no_call_alone place w = (w.0, (w.1, grown w.0 w.1 w.2.grows (ap {A = View} (λ z. z.opened) w.2.is) (ap {A = View} (λ z. z.pass.mine) w.2.is)), w.2)
+      doubtless : are_harmless w.0.pass.faults ≡ true → Some place ≡ None
+      doubtless few = let both : false ≡ true = sym (known.1.sound (sym faults ∙ few)) ∙ ap (λ o. is_doubtful_at o) at in absurd cc
+
+  adopted_alone : (txn : Txn) (properties : List (List ℕ × List ℕ)) (next : Revision) (bytes : List ℕ) (went : Went) (u : View) → Knows layout young stuck new u → Adopted txn properties next bytes went v u → KnowsAlone layout young stuck new u
+  adopted_alone txn properties next bytes went u now a =
+      let same : are_harmless u.pass.faults ≡ are_harmless (either went v.pass.faults (v.pass.faults ++ Commit PutRev ∷ [])) = ap {A = View} (λ z. are_harmless z.pass.faults) a.is in
+      then_known u now (ap {A = View} (λ z. length z.seen) a.is) (ap {A = View} (λ z. z.opened) a.is) (ap {A = View} (λ z. z.pass.mine) a.is) (λ few. harmless_before went v.pass.faults (Commit PutRev) (sym same ∙ few))
+      (λ few s. ap {A = View} (λ z. is_doubtful_at z.section) a.is ∙ either_sound went (RevPut (coming_of v txn properties next bytes)) Over refl refl)
+
+  pub adopt_alone : {X E : Type 0} (txn : Txn) (properties : List (List ℕ × List ℕ)) (next : Revision) (bytes : List ℕ) (result : Result X E)
+      → (u : View) × (went : Went) × Knows layout young stuck new u × Answers result went × Adopted txn properties next bytes went v u → (u : View) × (went : Went) × KnowsAlone layout young stuck new u × Answers result went × Adopted txn properties next bytes went v u
+  adopt_alone txn properties next bytes result w = (w.0, w.1, adopted_alone txn properties next bytes w.1 w.0 w.2 w.4, w.3, w.4)
+
+  pub no_adopt_alone : (txn : Txn) (properties : List (List ℕ × List ℕ)) (next : Revision) (bytes : List ℕ) → (u : View) × Knows layout young stuck new u × Adopted txn properties next bytes Before v u → (u : View) × KnowsAlone layout young stuck new u × Adopted txn properties next bytes Before v u
+  no_adopt_alone txn properties next bytes w = (w.0, adopted_alone txn properties next bytes Before w.0 w.1 w.2, w.2)
+
+  -- a reveal adds one
+  pub reveal_alone : (rev : ℕ) (x : Coming) → rev ≡ length v.seen → (u : View) × Knows layout rev stuck new u × Revealed x v u → (u : View) × KnowsAlone layout rev stuck new u × Revealed x v u
+  reveal_alone rev x rev_is w = (
+    w.0,
+    (w.1, record { all = omega (arith, rev_is, long); own = omega (arith, known.1.own, long, opened, own); free = λ few. known.1.free (sym faults ∙ few); sound = λ few. ap {A = View} (λ z. is_doubtful_at z.section) w.2.is }, own_next layout young rev stuck stuck old new v w.0 goes known.0 known.2 w.1),
+    w.2,
+  )
+    where
+      long : length w.0.seen ≡ length v.seen + 1
+      long = ap {A = View} (λ z. length z.seen) w.2.is ∙ length-append v.seen (recorded x ∷ [])
+
+      opened : w.0.opened ≡ v.opened
+      opened = ap {A = View} (λ z. z.opened) w.2.is
+
+      own : length w.0.pass.mine ≡ length v.pass.mine + 1
+      own = ap {A = View} (λ z. length z.pass.mine) w.2.is ∙ length-append v.pass.mine (length v.seen ∷ [])
+
+      faults : are_harmless w.0.pass.faults ≡ are_harmless v.pass.faults
+      faults = ap {A = View} (λ z. are_harmless z.pass.faults) w.2.is
+
+  -- a call of its section
+  called_alone : (place : DiskPlace) (change : real.NameChange) (went : Went) (u : View) → IsDue v place change → Knows layout young stuck new u → Called place went v u → KnowsAlone layout young stuck new u
+  called_alone place change went u due now c = learned place went u now c.grows (ap {A = View} (λ z. z.opened) c.is) (ap {A = View} (λ z. z.pass.mine) c.is) (ap {A = View} (λ z. z.pass.faults) c.is)
+      (λ few s. ap {A = View} (λ z. is_doubtful_at z.section) c.is ∙ called_sound went c.inside v.pass.faults place (λ doubtful. due_brings v place change due c.inside c.was doubtful) few)
+
+  pub call_alone : {X E : Type 0} (place : DiskPlace) (change : real.NameChange) (result : Result X E) → IsDue v place change → (u : View) × (went : Went) × Knows layout young stuck new u × Answers result went × Called place went v u → (u : View) × (went : Went) × KnowsAlone layout young stuck new u × Answers result went × Called place went v u
+  call_alone place change result due w = (w.0, w.1, called_alone place change w.1 w.0 due w.2 w.4, w.3, w.4)
+
+  pub no_call_alone : (place : DiskPlace) (change : real.NameChange) → IsDue v place change → (u : View) × Knows layout young stuck new u × Called place Before v u → (u : View) × KnowsAlone layout young stuck new u × Called place Before v u
+  no_call_alone place change due w = (w.0, called_alone place change Before w.0 due w.1 w.2, w.2)
 
   -- with what is told beside it
-  pub read_alone : {X E : Type 0} (r offset size : ℕ) (x : Recorded) (result : Result X E) (Read : Type 0) → (u : View) × (went : Went) × Knows layout young stuck told u × Answers result went × ReadTurn r offset size x went v u × Read
-      → (u : View) × (went : Went) × KnowsAlone layout young stuck told u × Answers result went × ReadTurn r offset size x went v u × Read
-  read_alone r offset size x result Read w = (w.0, w.1, (w.2, grown w.0 w.2 w.4.grows (ap {A = View} (λ z. z.opened) w.4.is) (ap {A = View} (λ z. z.pass.mine) w.4.is)), w.3, w.4, w.5)
+  pub read_alone : {X E : Type 0} (r offset size : ℕ) (x : Recorded) (result : Result X E) (Read : Type 0) → (u : View) × (went : Went) × Knows layout young stuck new u × Answers result went × ReadTurn r offset size x went v u × Read
+      → (u : View) × (went : Went) × KnowsAlone layout young stuck new u × Answers result went × ReadTurn r offset size x went v u × Read
+  read_alone r offset size x result Read w = (w.0, w.1, learned disk.Read w.1 w.0 w.2 w.4.grows (ap {A = View} (λ z. z.opened) w.4.is) (ap {A = View} (λ z. z.pass.mine) w.4.is) (ap {A = View} (λ z. z.pass.faults) w.4.is) (λ few. same_at w.0 (ap {A = View} (λ z. z.section) w.4.is)), w.3, w.4, w.5)
 
   pub props_alone : {X E : Type 0} (r : ℕ) (x : Recorded) (result : Result X E) (Read : List ℕ → Type 0)
-      → (u : View) × (went : Went) × (text : List ℕ) × Knows layout young stuck told u × Answers result went × PropsRead r x went v u × IsDump text x.revision.properties × Read text
-      → (u : View) × (went : Went) × (text : List ℕ) × KnowsAlone layout young stuck told u × Answers result went × PropsRead r x went v u × IsDump text x.revision.properties × Read text
-  props_alone r x result Read w = (w.0, w.1, w.2, (w.3, grown w.0 w.3 w.5.grows (ap {A = View} (λ z. z.opened) w.5.is) (ap {A = View} (λ z. z.pass.mine) w.5.is)), w.4, w.5, w.6, w.7)
+      → (u : View) × (went : Went) × (text : List ℕ) × Knows layout young stuck new u × Answers result went × PropsRead r x went v u × IsDump text x.revision.properties × Read text
+      → (u : View) × (went : Went) × (text : List ℕ) × KnowsAlone layout young stuck new u × Answers result went × PropsRead r x went v u × IsDump text x.revision.properties × Read text
+  props_alone r x result Read w = (w.0, w.1, w.2, learned disk.Read w.1 w.0 w.3 w.5.grows (ap {A = View} (λ z. z.opened) w.5.is) (ap {A = View} (λ z. z.pass.mine) w.5.is) (ap {A = View} (λ z. z.pass.faults) w.5.is) (λ few. same_at w.0 (ap {A = View} (λ z. z.section) w.5.is)), w.4, w.5, w.6, w.7)
 
   pub floor_alone : {X E : Type 0} (result : Result X E) (Read : List ℕ → Type 0)
-      → (u : View) × (went : Went) × (floor : ℕ) × (text : List ℕ) × Knows layout young stuck told u × Answers result went × FloorRead floor went v u × IsRevLine text floor × Read text
-      → (u : View) × (went : Went) × (floor : ℕ) × (text : List ℕ) × KnowsAlone layout young stuck told u × Answers result went × FloorRead floor went v u × IsRevLine text floor × Read text
-  floor_alone result Read w = (w.0, w.1, w.2, w.3, (w.4, grown w.0 w.4 w.6.grows (ap {A = View} (λ z. z.opened) w.6.is) (ap {A = View} (λ z. z.pass.mine) w.6.is)), w.5, w.6, w.7, w.8)
+      → (u : View) × (went : Went) × (floor : ℕ) × (text : List ℕ) × Knows layout young stuck new u × Answers result went × FloorRead floor went v u × IsRevLine text floor × Read text
+      → (u : View) × (went : Went) × (floor : ℕ) × (text : List ℕ) × KnowsAlone layout young stuck new u × Answers result went × FloorRead floor went v u × IsRevLine text floor × Read text
+  floor_alone result Read w = (w.0, w.1, w.2, w.3, learned disk.Read w.1 w.0 w.4 w.6.grows (ap {A = View} (λ z. z.opened) w.6.is) (ap {A = View} (λ z. z.pass.mine) w.6.is) (ap {A = View} (λ z. z.pass.faults) w.6.is) (λ few. same_at w.0 (ap {A = View} (λ z. z.section) w.6.is)), w.5, w.6, w.7, w.8)
 
-  pub counter_alone : {E : Type 0} (files : Option Files) (base : ℕ) (result : Result (Option ℕ) E) (old new : List ℕ) → ReadsCounter (Knows layout young stuck told) files base result old new v → ReadsCounter (KnowsAlone layout young stuck told) files base result old new v
-  counter_alone files base result old new c = record {
+  -- what it knew
+  pub same_alone : Knows layout young stuck new v → KnowsAlone layout young stuck new v
+  same_alone now = leaves v now refl refl refl refl (λ s. s)
+
+  pub counter_alone : {E : Type 0} (files : Option Files) (base : ℕ) (result : Result (Option ℕ) E) (before filled : List ℕ) → ReadsCounter (Knows layout young stuck new) files base result before filled v → ReadsCounter (KnowsAlone layout young stuck new) files base result before filled v
+  counter_alone files base result before filled c = record {
     text = c.text;
     number = c.number;
     line = c.line;
@@ -130,18 +308,22 @@ module _ (layout : Layout) (young : ℕ) (stuck : Option DiskPlace) (told : Opti
     files_are = c.files_are;
     there = c.there;
     read = c.read;
-    turned = λ few. let w = c.turned few in (w.0, w.1, (w.2, grown w.0 w.2 w.4.grows (ap {A = View} (λ z. z.opened) w.4.is) (ap {A = View} (λ z. z.pass.mine) w.4.is)), w.3, w.4);
-    full = λ many. (c.full many, alone);
+    turned = λ few. let w = c.turned few in (w.0, w.1, counted w.1 w.0 w.2 w.4, w.3, w.4);
+    full = λ many. same_alone (c.full many);
   }
+    where
+      counted : (went : Went) (u : View) → Knows layout young stuck new u → CounterRead base c.number went v u → KnowsAlone layout young stuck new u
+      counted went u now r = learned (Begin begin.Read) went u now r.grows (ap {A = View} (λ z. z.opened) r.is) (ap {A = View} (λ z. z.pass.mine) r.is) (ap {A = View} (λ z. z.pass.faults) r.is)
+          (λ few s. ap {A = View} (λ z. is_doubtful_at z.section) r.is ∙ either_sound went (CountRead (drawn_of base c.number)) Over refl refl)
 
-  pub list_alone : (labels : Option (List Label)) (went : Went) → (ls : List Label) × (labels ≡ Some ls) × (u : View) × Knows layout young stuck told u × Listed ls went v u → (ls : List Label) × (labels ≡ Some ls) × (u : View) × KnowsAlone layout young stuck told u × Listed ls went v u
-  list_alone labels went w = (w.0, w.1, w.2, (w.3, grown w.2 w.3 w.4.grows (ap {A = View} (λ z. z.opened) w.4.is) (ap {A = View} (λ z. z.pass.mine) w.4.is)), w.4)
+  pub list_alone : (labels : Option (List Label)) (went : Went) → (ls : List Label) × (labels ≡ Some ls) × (u : View) × Knows layout young stuck new u × Listed ls went v u → (ls : List Label) × (labels ≡ Some ls) × (u : View) × KnowsAlone layout young stuck new u × Listed ls went v u
+  list_alone labels went w = (w.0, w.1, w.2, learned disk.List went w.2 w.3 w.4.grows (ap {A = View} (λ z. z.opened) w.4.is) (ap {A = View} (λ z. z.pass.mine) w.4.is) (ap {A = View} (λ z. z.pass.faults) w.4.is) (λ few. same_at w.2 (ap {A = View} (λ z. z.section) w.4.is)), w.4)
 
-  pub make_alone : {X E : Type 0} (x : Drawn) (result : Result X E) → (u : View) × (went : Went) × Knows layout young stuck told u × Answers result went × BenchMade x went v u → (u : View) × (went : Went) × KnowsAlone layout young stuck told u × Answers result went × BenchMade x went v u
-  make_alone x result w = (w.0, w.1, (w.2, grown w.0 w.2 w.4.grows (ap {A = View} (λ z. z.opened) w.4.is) (ap {A = View} (λ z. z.pass.mine) w.4.is)), w.3, w.4)
+  pub make_alone : {X E : Type 0} (x : Drawn) (result : Result X E) → (u : View) × (went : Went) × Knows layout young stuck new u × Answers result went × BenchMade x went v u → (u : View) × (went : Went) × KnowsAlone layout young stuck new u × Answers result went × BenchMade x went v u
+  make_alone x result w = (w.0, w.1, learned disk.MakeBench w.1 w.0 w.2 w.4.grows (ap {A = View} (λ z. z.opened) w.4.is) (ap {A = View} (λ z. z.pass.mine) w.4.is) (ap {A = View} (λ z. z.pass.faults) w.4.is) (λ few. same_at w.0 (ap {A = View} (λ z. z.section) w.4.is)), w.3, w.4)
 
-  pub purge_alone : {X E : Type 0} (txn : Txn) (result : Result X E) → (u : View) × (went : Went) × Knows layout young stuck told u × Answers result went × Purged txn went v u → (u : View) × (went : Went) × KnowsAlone layout young stuck told u × Answers result went × Purged txn went v u
-  purge_alone txn result w = (w.0, w.1, (w.2, grown w.0 w.2 w.4.grows (ap {A = View} (λ z. z.opened) w.4.is) (ap {A = View} (λ z. z.pass.mine) w.4.is)), w.3, w.4)
+  pub purge_alone : {X E : Type 0} (txn : Txn) (result : Result X E) → (u : View) × (went : Went) × Knows layout young stuck new u × Answers result went × Purged txn went v u → (u : View) × (went : Went) × KnowsAlone layout young stuck new u × Answers result went × Purged txn went v u
+  purge_alone txn result w = (w.0, w.1, learned disk.Remove w.1 w.0 w.2 w.4.grows (ap {A = View} (λ z. z.opened) w.4.is) (ap {A = View} (λ z. z.pass.mine) w.4.is) (ap {A = View} (λ z. z.pass.faults) w.4.is) (λ few. same_at w.0 (ap {A = View} (λ z. z.section) w.4.is)), w.3, w.4)
 
-  pub spent_alone : {X E : Type 0} (name : ℕ) (result : Result X E) → (u : View) × (went : Went) × Knows layout young stuck told u × Answers result went × SpentPurged name went v u → (u : View) × (went : Went) × KnowsAlone layout young stuck told u × Answers result went × SpentPurged name went v u
-  spent_alone name result w = (w.0, w.1, (w.2, grown w.0 w.2 w.4.grows (ap {A = View} (λ z. z.opened) w.4.is) (ap {A = View} (λ z. z.pass.mine) w.4.is)), w.3, w.4)
+  pub spent_alone : {X E : Type 0} (name : ℕ) (result : Result X E) → (u : View) × (went : Went) × Knows layout young stuck new u × Answers result went × SpentPurged name went v u → (u : View) × (went : Went) × KnowsAlone layout young stuck new u × Answers result went × SpentPurged name went v u
+  spent_alone name result w = (w.0, w.1, learned disk.Remove w.1 w.0 w.2 w.4.grows (ap {A = View} (λ z. z.opened) w.4.is) (ap {A = View} (λ z. z.pass.mine) w.4.is) (ap {A = View} (λ z. z.pass.faults) w.4.is) (λ few. same_at w.0 (ap {A = View} (λ z. z.section) w.4.is)), w.3, w.4)

@@ -1,21 +1,27 @@
 -- A new store is known.
-use Rattle.std.proofs.Common.{◌≡◌, ◌==◌, ◌+◌, ℕ, suc, zero, List, [], ◌∷◌, length, true, false, cond, ⊎_elim, refl, sym, ap, subst, ◌∙◌, arith}
-use Rattle.std.specs.Prelude.{Option, Some, None, Result, Ok, slice_get, codes}
+use Rattle.std.proofs.Common.{◌≡◌, ◌==◌, ◌≤◌, ◌+◌, ◌++◌, ℕ, suc, zero, List, [], ◌∷◌, length, true, false, cond, ⊎_elim, refl, sym, ap, subst, ◌∙◌, arith}
+use Rattle.std.specs.Prelude.{Option, Some, None, Result, Ok, unwrap_or, slice_get, codes, decimal}
 use Rattle.std.specs.FinMap.{get}
+use Rattle.std.proofs.Math.Nat.{zero-mod}
 use Rattle.fsfs_disk.specs.Labels.{Label}
 use Rattle.fsfs_disk.specs.Trace.{Operation, Done, files_after, ImageSince}
 use Rattle.fsfs_disk.specs.Trace as real
 use Rattle.fsfs_base.specs.Files.{Files}
 use Rattle.fsfs_tree.specs.Dated.{date_name}
 use Rattle.fsfs_hash.specs.Dump.{IsDump}
-use Rattle.fsfs_layout.specs.CreatedFiles.{date_properties}
+use Rattle.fsfs_grammar.specs.Numeral.{IsNumber}
+use Rattle.fsfs_grammar.proofs.Unique.{decimal_plain}
+use Rattle.fsfs_layout.specs.CreatedFiles.{format_text, date_properties}
+use Rattle.fsfs_layout.specs.Formats.{IsFormat}
+use Rattle.fsfs_layout.specs.declared.format_file.Format.TheVariants.{Sharded}
+use Rattle.fsfs_layout.proofs.Writing.{sharded_layout, our_format}
 use Rattle.fsfs_base.specs.FirstRevision.{first_bytes}
 use Rattle.fsfs_stands.specs.History.{ShowsHistory}
 use Rattle.fsfs_answers.specs.Answers.{first_revision as first_shown}
 use Rattle.fsfs_stands.specs.NewRepository.{HoldsNew}
 use Rattle.fsfs_stands.specs.Changes.{AreChangesOf}
 use Rattle.fsfs_stands.proofs.FirstHistory.{first_history}
-use Rattle.fsfs_stands.proofs.NewRepository.{first_name, zero_line, zero_line36}
+use Rattle.fsfs_stands.proofs.NewRepository.{first_name, zero_line, zero_line36, new_repositories_stand}
 use Rattle.fsfs_machine.specs.declared.contents.FileName.{FileName}
 use Rattle.fsfs_machine.specs.declared.contents.FileName.TheVariants.{Current, CurrentNext, Counter, CounterNext, Floor, Rev, Props}
 use Rattle.fsfs_machine.specs.declared.contents.Contents.TheVariants.{PropsFile, Number}
@@ -24,17 +30,18 @@ use Rattle.fsfs_machine.specs.declared.machine.Lock.TheVariants.{Free}
 use Rattle.fsfs_machine.specs.declared.machine.Recorded.{Recorded}
 use Rattle.fsfs_machine.specs.Disk.{Disk, IsImage}
 use Rattle.fsfs_machine.specs.Machine.{World, created, file_of, first_pass}
-use Rattle.fsfs_machine.specs.Kept.{Stands}
+use Rattle.fsfs_machine.specs.Kept.{Stands, FloorIs}
 use Rattle.fsfs_machine.proofs.Created.{created_kept}
 use Rattle.fsfs_images.specs.RealNames.{machine_name}
 use Rattle.fsfs_images.specs.Shown.{AtName, AreRead, Opening}
 use Rattle.fsfs_turn.specs.Bytes.{bytes_of, ShowsOne, BytesShow, AllShow}
-use Rattle.fsfs_turn.specs.Alone.{IsAlone}
+use Rattle.fsfs_turn.specs.Alone.{KnowsAlone}
 use Rattle.fsfs_turn.specs.Views.{View, Sees}
-use Rattle.fsfs_turn.specs.Standing.{no_others, IsStore, Knows}
+use Rattle.fsfs_turn.specs.Standing.{no_others, IsStore}
+use Rattle.fsfs_turn.specs.Stands.{HasOwnFiles}
 use Rattle.fsfs_turn.specs.Opening.{new_revision, NewStoreIsKnown}
 use Rattle.fsfs_turn.specs.Past.{Safe}
-use Rattle.fsfs_images.proofs.Showing.{image_read}
+use Rattle.fsfs_images.proofs.Showing.{own_file, image_read}
 use Rattle.fsfs_turn.proofs.Moments.{past_of}
 use Rattle.fsfs_turn.proofs.Stepping.{kept_bare}
 
@@ -44,6 +51,14 @@ at_none n (Some b) = tt
 
 pub ok_is : {A E : Type 0} (r : Result A E) (a b : A) → r ≡ Ok a → r ≡ Ok b → a ≡ b
 ok_is r a b e f = cc
+
+-- the format of a new repository
+new_format : (n : ℕ) → 1 ≤ n → n ≤ 2147483647 → IsFormat (format_text n) (Sharded n)
+new_format n one most =
+    let number : IsNumber 10 18446744073709551615 10 (decimal n ++ 10 ∷ []) n =
+    record { digits = decimal n; numeral = (decimal_plain 2147483647 n most (omega (arith, most))).0; fits = omega (arith, most); parts = refl } in
+    our_format (codes "4\n") (format_text n) (Sharded n) refl
+    (sharded_layout (codes "4\n") (codes "4\nlayout sharded ") (format_text n) n one most refl (record { text = decimal n ++ 10 ∷ []; text_is = number; parts = refl }))
 
 module _ (first : Files) (labels : List Label) (before : List Operation) (date : List ℕ) (new : HoldsNew (files_after first before) date) where
   shown : ShowsHistory (bytes_of (new_revision date ∷ [])) (λ r. Ok (date_properties date)) (first_shown date ∷ [])
@@ -73,20 +88,20 @@ module _ (first : Files) (labels : List Label) (before : List Operation) (date :
   disk : Disk
   disk = Put Current (Number 0) ∷ Put (Rev 0) (file_of (new_revision date)) ∷ Put (Props 0) (PropsFile ((date_name, date) ∷ [])) ∷ Put Counter (Number 0) ∷ Put Floor (Number 0) ∷ []
 
-  read : AreRead new.layout (files_after first before) disk
+  read : AreRead new.layout 0 (files_after first before) disk
   unfolding disk
   read Current fits = subst (λ o. AtName Current o (Some (Number 0))) (sym new.new.1.1.1.0) zero_line
   read CurrentNext fits = at_none CurrentNext (get (files_after first before) (machine_name new.layout CurrentNext))
   read Counter fits = subst (λ o. AtName Counter o (Some (Number 0))) (sym new.new.1.1.1.1.0) zero_line36
   read CounterNext fits = at_none CounterNext (get (files_after first before) (machine_name new.layout CounterNext))
   read Floor fits = subst (λ o. AtName Floor o (Some (Number 0))) (sym new.new.1.1.1.1.1.0) zero_line
-  read (Rev r) fits = elim (0 == r) as (λ b. (0 == r) ≡ b → AtName (Rev r) (get (files_after first before) (machine_name new.layout (Rev r))) (cond b (Some (file_of (new_revision date))) None)) [
+  read (Rev r) fits = subst (λ o. AtName (Rev r) o (cond (0 == r) (Some (file_of (new_revision date))) None)) (sym (own_file new.layout 0 (files_after first before) (Rev r) (omega arith))) (elim (0 == r) as (λ b. (0 == r) ≡ b → AtName (Rev r) (get (files_after first before) (machine_name new.layout (Rev r))) (cond b (Some (file_of (new_revision date))) None)) [
     | true ↦ λ e.
         let same : 0 ≡ r = grind (arith, e) in
         subst (λ k. AtName (Rev k) (get (files_after first before) (machine_name new.layout (Rev k))) (Some (file_of (new_revision date)))) same
         (subst (λ o. AtName (Rev 0) o (Some (file_of (new_revision date)))) (sym (ap (get (files_after first before)) (first_name (codes "db/revs") new.layout) ∙ new.new.1.1.1.1.1.1.1.1.0)) refl)
     | false ↦ λ e. at_none (Rev r) (get (files_after first before) (machine_name new.layout (Rev r)))
-  ] refl
+  ] refl)
   read (Props r) fits = elim (0 == r) as (λ b. (0 == r) ≡ b → AtName (Props r) (get (files_after first before) (machine_name new.layout (Props r))) (cond b (Some (PropsFile ((date_name, date) ∷ []))) None)) [
     | true ↦ λ e.
         let same : 0 ≡ r = grind (arith, e) in
@@ -103,7 +118,7 @@ module _ (first : Files) (labels : List Label) (before : List Operation) (date :
 
   store : IsStore new.layout 0 None (record { first = first; labels = labels; operations = Done real.FirmNames ∷ before }) world
   unfolding world disk
-  store = record { trace = Opening before disk read; kept = kept_bare world (created_kept world ((date_name, date) ∷ []) first_bytes refl); shown = all_show; coming = tt; young_is = refl; stuck_is = refl; alone = refl }
+  store = record { trace = Opening before disk read; whole = zero-mod new.layout.shard_size; kept = kept_bare world (created_kept world ((date_name, date) ∷ []) first_bytes refl); shown = all_show; coming = tt; young_is = refl; stuck_is = refl; alone = refl }
 
   sees : Sees world view
   unfolding world view
@@ -112,18 +127,29 @@ module _ (first : Files) (labels : List Label) (before : List Operation) (date :
   safe : Safe new.layout (length before + 1) (record { first = first; labels = labels; operations = Done real.FirmNames ∷ before }) 1 0 (new_revision date ∷ []) None
   unfolding disk
   safe m i =
-      let r = image_read new.layout no_others first (Done real.FirmNames ∷ before) (Firm ∷ disk) (Opening before disk read) m (now i) in
-      (r.0, r.2, past_of 1 0 (new_revision date ∷ []) Free r.0 (omega arith) (stands r.0 r.1))
+      let r = image_read new.layout 0 no_others first (Done real.FirmNames ∷ before) (Firm ∷ disk) (Opening before disk read) m (now i) in
+      (r.0, r.2, past_of 1 0 (new_revision date ∷ []) Free r.0 (omega arith) (stands r.0 r.1), floors r.0 r.1)
     where
       now : ImageSince (length before + 1) first (Done real.FirmNames ∷ before) m → real.IsImage first (Done real.FirmNames ∷ before) m
       now i = ⊎_elim (λ a. a) (λ b. absurd (omega (arith, b.0))) i
 
+      floors : (e : Disk) → IsImage (Firm ∷ disk) e → FloorIs 0 e
+      floors = (created_kept (created ((date_name, date) ∷ []) first_bytes) ((date_name, date) ∷ []) first_bytes refl).floors
+
       stands : (e : Disk) → IsImage (Firm ∷ disk) e → Stands 0 (new_revision date ∷ []) Free e
       stands = (created_kept (created ((date_name, date) ∷ []) first_bytes) ((date_name, date) ∷ []) first_bytes refl).stands
 
-  pub new_is_known : (v : View) × Knows new.layout 0 None (Some (record { first = first; labels = labels; operations = Done real.FirmNames ∷ before })) v × (v.section ≡ None) × (v.pass ≡ first_pass 1 0) × (v.seen ≡ new_revision date ∷ []) × (v.since ≡ length before + 1) × IsAlone 0 v
+  own : HasOwnFiles (files_after first before) new.layout
+  own =
+      let s = new_repositories_stand (files_after first before) date new in
+      record {
+        format = (format_text new.layout.shard_size, record { there = new.new.1.1.1.1.1.1.1.1.1.1.0; fs_type = ap (λ (o : Option (List ℕ)). unwrap_or o []) new.new.1.0 }, new_format new.layout.shard_size (omega (arith, new.layout.some)) new.layout.most);
+        uuid = (s.opened.uuid, s.small.behind.uuid);
+      }
+
+  pub new_is_known : (v : View) × KnowsAlone new.layout 0 None (Some (record { first = first; labels = labels; operations = Done real.FirmNames ∷ before })) v × (v.section ≡ None) × (v.pass ≡ first_pass 1 0) × (v.seen ≡ new_revision date ∷ []) × (v.since ≡ length before + 1)
   unfolding view world
-  new_is_known = (view, (world, store, sees, refl, refl, safe), refl, refl, refl, refl, record { all = refl; own = refl })
+  new_is_known = (view, ((world, store, sees, refl, refl, safe), record { all = refl; own = refl; free = λ harmless. refl; sound = λ harmless. refl }, own), refl, refl, refl, refl)
 
 pub new_store_is_known : NewStoreIsKnown
 new_store_is_known first labels before date new = new_is_known first labels before date new

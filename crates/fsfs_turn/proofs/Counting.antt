@@ -110,7 +110,7 @@ module _ (layout : Layout) (young : ℕ) (stuck : Option DiskPlace) (t : Trace) 
       }
 
       now : IsStore layout young stuck t (world went)
-      now = record { trace = store.trace; kept = kept; shown = store.shown; coming = coming_then went; young_is = store.young_is; stuck_is = stuck_then went; alone = length_at w.passes v.number (learns (length w.history) (Begin begin.Read) went) ∙ store.alone }
+      now = record { trace = store.trace; whole = store.whole; kept = kept; shown = store.shown; coming = coming_then went; young_is = store.young_is; stuck_is = stuck_then went; alone = length_at w.passes v.number (learns (length w.history) (Begin begin.Read) went) ∙ store.alone }
 
       safe_then : Safe layout v.since t v.opened w.floor w.history (doubt (Held v.number (either went (CountRead (drawn_of base counter.0)) Over)))
       safe_then = subst (λ d. Safe layout v.since t v.opened w.floor w.history d) (doubtless went) (subst (λ l. Safe layout v.since t v.opened w.floor w.history (doubt l)) lock safe)
@@ -130,7 +130,7 @@ module _ (layout : Layout) (young : ℕ) (stuck : Option DiskPlace) (t : Trace) 
   }
     where
       at : (text : List ℕ) × (get (files_now t) (machine_name layout Counter) ≡ Some text) × IsBase36Line text counter.0
-      at = at_found Counter (get (files_now t) (machine_name layout Counter)) (found w.disk Counter) (Number counter.0) counter.1 (now_read layout no_others t.first t.operations w.disk store.trace Counter tt)
+      at = at_found Counter (get (files_now t) (machine_name layout Counter)) (found w.disk Counter) (Number counter.0) counter.1 (now_read layout w.floor no_others t.first t.operations w.disk store.trace Counter tt)
 
       file_is : file_at t name ≡ Some at.0
       file_is = ap (λ n. get (files_now t) n) named ∙ at.1

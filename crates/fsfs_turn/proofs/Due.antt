@@ -24,14 +24,14 @@ use Rattle.fsfs_machine.specs.declared.machine.Went.{Went}
 use Rattle.fsfs_machine.specs.declared.machine.Went.TheVariants.{Fine, Before, After, Torn}
 use Rattle.fsfs_machine.specs.Disk.{Disk, found, IsImage}
 use Rattle.fsfs_machine.specs.Machine.{World, either, after, spoiled, due, is_due, rename_of, disk_after}
-use Rattle.fsfs_machine.specs.Kept.{KnowsAt, Stands}
+use Rattle.fsfs_machine.specs.Kept.{KnowsAt, Stands, FloorIs}
 use Rattle.fsfs_images.specs.RealNames.{machine_name}
-use Rattle.fsfs_images.specs.Shown.{Fits, Reads, AreRead, IsTraceOf, Putting, Renaming, Firming, Attempting}
+use Rattle.fsfs_images.specs.Shown.{MayChange, Reads, AtName, AreRead, IsTraceOf, Putting, Renaming, Firming, Attempting}
 use Rattle.fsfs_turn.specs.Views.{View, coming_at, Sees, IsDue, Answers, Called}
 use Rattle.fsfs_turn.specs.Past.{doubt_in, doubt, Safe}
 pub use Rattle.fsfs_turn.specs.Found.{at_found}
 use Rattle.fsfs_turn.specs.Standing.{no_others, IsStore, Knows}
-use Rattle.fsfs_images.proofs.Showing.{now_read, image_read, torn_read}
+use Rattle.fsfs_images.proofs.Showing.{own_file, now_read, image_read, torn_read}
 use Rattle.fsfs_turn.proofs.Moments.{doubt_after, part_due, safe_step, safe_not}
 use Rattle.fsfs_turn.proofs.Stepping.{IsCalled, call_turns, kept_called, lock_is}
 
@@ -45,10 +45,10 @@ record PutDue (layout : Layout) (w : World) (v : View) (place : DiskPlace) (name
   pub change : due w section ≡ Some (Put at contents)
   pub named : name ≡ machine_name layout at
   pub reads : Reads at bytes contents
-  pub fits : Fits at
+  pub fits : MayChange w.floor at
 
 put_due : (layout : Layout) (w : World) (v : View) (place : DiskPlace) (name bytes : List ℕ) → v.layout ≡ layout → Sees w v → IsDue v place (real.Put name bytes) → PutDue layout w v place name bytes
-put_due layout w v (Begin begin.Put) name bytes same sees d = record { section = CountRead d.0; inside = d.1; is = refl; at = CounterNext; contents = Number d.0.next; change = refl; named = d.2; reads = d.3; fits = tt }
+put_due layout w v (Begin begin.Put) name bytes same sees d = record { section = CountRead d.0; inside = d.1; is = refl; at = CounterNext; contents = Number d.0.next; change = refl; named = d.2; reads = d.3; fits = (tt, tt) }
 put_due layout w v (Commit PutProps) name bytes same sees d =
     let all : v.seen ≡ w.history = sees.whole d.0 (ap (λ o. coming_at o) d.1) in
     record {
@@ -60,11 +60,11 @@ put_due layout w v (Commit PutProps) name bytes same sees d =
       change = refl;
       named = d.2 ∙ ap (λ k. machine_name k (Props (length v.seen))) same ∙ ap (λ h. machine_name layout (Props (length h))) all;
       reads = d.3;
-      fits = subst (λ h. length h < 2 ^ 32) all d.4;
+      fits = (subst (λ h. length h < 2 ^ 32) all d.4, tt);
     }
 put_due layout w v (Commit PutCurrent) name bytes same sees d =
     let all : v.seen ≡ w.history = sees.whole d.0 (ap (λ o. coming_at o) d.1) in
-    record { section = RevFirm d.0; inside = d.1; is = refl; at = CurrentNext; contents = Number (length w.history); change = refl; named = d.2; reads = subst (λ h. IsRevLine bytes (length h)) all d.3; fits = tt }
+    record { section = RevFirm d.0; inside = d.1; is = refl; at = CurrentNext; contents = Number (length w.history); change = refl; named = d.2; reads = subst (λ h. IsRevLine bytes (length h)) all d.3; fits = (tt, tt) }
 put_due layout w v place name bytes same sees d = absurd d
 
 -- a rename that is due
@@ -79,19 +79,19 @@ record RenameDue (layout : Layout) (w : World) (v : View) (place : DiskPlace) (f
   pub there : found w.disk from ≡ Some (Number number)
   pub from_named : from_name ≡ machine_name layout from
   pub to_named : to_name ≡ machine_name layout to
-  pub from_fits : Fits from
-  pub to_fits : Fits to
+  pub from_fits : MayChange w.floor from
+  pub to_fits : MayChange w.floor to
   pub same : (bytes : List ℕ) → Reads from bytes (Number number) → Reads to bytes (Number number)
 
 rename_due : (layout : Layout) (w : World) (v : View) (place : DiskPlace) (from_name to_name : List ℕ) → Sees w v → KnowsAt w.floor w.history w.given w.lock w.disk → IsDue v place (real.Rename from_name to_name) → RenameDue layout w v place from_name to_name
 rename_due layout w v (Begin begin.Rename) from_name to_name sees knows d =
     let lock : w.lock ≡ Held v.number (CountPut d.0) = lock_is v.number w.lock (CountPut d.0) (sees.section ∙ d.1) in
     let k : KnowsAt w.floor w.history w.given (Held v.number (CountPut d.0)) w.disk = subst (λ l. KnowsAt w.floor w.history w.given l w.disk) lock knows in
-    record { section = CountPut d.0; inside = d.1; is = refl; from = CounterNext; to = Counter; number = d.0.next; change = ap (λ o. rename_of CounterNext Counter o) k.3; there = k.3; from_named = d.2; to_named = d.3; from_fits = tt; to_fits = tt; same = λ bytes r. r }
+    record { section = CountPut d.0; inside = d.1; is = refl; from = CounterNext; to = Counter; number = d.0.next; change = ap (λ o. rename_of CounterNext Counter o) k.3; there = k.3; from_named = d.2; to_named = d.3; from_fits = (tt, tt); to_fits = (tt, tt); same = λ bytes r. r }
 rename_due layout w v (Commit RenameCurrent) from_name to_name sees knows d =
     let lock : w.lock ≡ Held v.number (CurrentPut d.0) = lock_is v.number w.lock (CurrentPut d.0) (sees.section ∙ d.1) in
     let k : KnowsAt w.floor w.history w.given (Held v.number (CurrentPut d.0)) w.disk = subst (λ l. KnowsAt w.floor w.history w.given l w.disk) lock knows in
-    record { section = CurrentPut d.0; inside = d.1; is = refl; from = CurrentNext; to = Current; number = length w.history; change = ap (λ o. rename_of CurrentNext Current o) k; there = k; from_named = d.2; to_named = d.3; from_fits = tt; to_fits = tt; same = λ bytes r. r }
+    record { section = CurrentPut d.0; inside = d.1; is = refl; from = CurrentNext; to = Current; number = length w.history; change = ap (λ o. rename_of CurrentNext Current o) k; there = k; from_named = d.2; to_named = d.3; from_fits = (tt, tt); to_fits = (tt, tt); same = λ bytes r. r }
 rename_due layout w v place from_name to_name sees knows d = absurd d
 
 -- a firming that is due
@@ -129,25 +129,29 @@ module _ (layout : Layout) (young : ℕ) (stuck : Option DiskPlace) (old : Trace
       → (e : Disk) → IsImage (disk_after went change w.disk) e → Stands w.floor w.history (Held v.number (either went (after s) (spoiled s))) e
   stands_after place went s change inside is due_is = (kept_called w v.number place went s change store.kept (sees.section ∙ inside) is due_is).stands
 
+  floors_after : (place : DiskPlace) (went : Went) (s : Section) (change : NameChange) → v.section ≡ Some s → is_due s place ≡ true → due w s ≡ Some change
+      → (e : Disk) → IsImage (disk_after went change w.disk) e → FloorIs w.floor e
+  floors_after place went s change inside is due_is = (kept_called w v.number place went s change store.kept (sees.section ∙ inside) is due_is).floors
+
   -- a call that reached it, with what it may leave in its middle
   safe_done : (op : Operation) (place : DiskPlace) (went mid : Went) (s : Section) (change : NameChange) → v.section ≡ Some s → is_due s place ≡ true → due w s ≡ Some change
-      → IsTraceOf layout no_others old.first (op ∷ old.operations) (disk_after went change w.disk)
-      → ((m : Files) → (ImageAfter (change_of op) (files_after old.first old.operations) (real.IsImage old.first old.operations) m) ⊎ (TornBy (change_of op) (real.IsImage old.first old.operations) m) → (e : Disk) × IsImage (disk_after mid change w.disk) e × AreRead layout m e)
+      → IsTraceOf layout w.floor no_others old.first (op ∷ old.operations) (disk_after went change w.disk)
+      → ((m : Files) → (ImageAfter (change_of op) (files_after old.first old.operations) (real.IsImage old.first old.operations) m) ⊎ (TornBy (change_of op) (real.IsImage old.first old.operations) m) → (e : Disk) × IsImage (disk_after mid change w.disk) e × AreRead layout w.floor m e)
       → Safe layout v.since (add_operation op old) v.opened w.floor w.history (doubt_in (either went (after s) (spoiled s)))
   safe_done op place went mid s change inside is due_is trace middle =
       safe_step layout v.since v.opened w.floor w.history old op (disk_after went change w.disk) (disk_after mid change w.disk) (Held v.number (either went (after s) (spoiled s))) (Held v.number (either mid (after s) (spoiled s))) (doubt_in s) le
-      (image_read layout no_others old.first (op ∷ old.operations) (disk_after went change w.disk) trace) (stands_after place went s change inside is due_is) middle (stands_after place mid s change inside is due_is)
+      (image_read layout w.floor no_others old.first (op ∷ old.operations) (disk_after went change w.disk) trace) (stands_after place went s change inside is due_is) (floors_after place went s change inside is due_is) middle (stands_after place mid s change inside is due_is) (floors_after place mid s change inside is due_is)
       (doubt_after s mid ∙ sym (doubt_after s went)) (λ g q. part_due w.history s place went g is q) (safe_in s inside)
 
   -- in the middle of a put the name may have any bytes
-  pub torn_put : (at : FileName) (name bytes : List ℕ) → name ≡ machine_name layout at → Fits at → (m : Files)
-      → (ImageAfter (real.Put name bytes) (files_after old.first old.operations) (real.IsImage old.first old.operations) m) ⊎ (TornBy (real.Put name bytes) (real.IsImage old.first old.operations) m) → (e : Disk) × IsImage (Put at Junk ∷ w.disk) e × AreRead layout m e
+  pub torn_put : (at : FileName) (name bytes : List ℕ) → name ≡ machine_name layout at → MayChange w.floor at → (m : Files)
+      → (ImageAfter (real.Put name bytes) (files_after old.first old.operations) (real.IsImage old.first old.operations) m) ⊎ (TornBy (real.Put name bytes) (real.IsImage old.first old.operations) m) → (e : Disk) × IsImage (Put at Junk ∷ w.disk) e × AreRead layout w.floor m e
   torn_put at name bytes named fits m c = by_name (subst (λ n. (ImageAfter (real.Put n bytes) (files_after old.first old.operations) (real.IsImage old.first old.operations) m) ⊎ (TornBy (real.Put n bytes) (real.IsImage old.first old.operations) m)) named c)
     where
-      by_name : (ImageAfter (real.Put (machine_name layout at) bytes) (files_after old.first old.operations) (real.IsImage old.first old.operations) m) ⊎ (TornBy (real.Put (machine_name layout at) bytes) (real.IsImage old.first old.operations) m) → (e : Disk) × IsImage (Put at Junk ∷ w.disk) e × AreRead layout m e
+      by_name : (ImageAfter (real.Put (machine_name layout at) bytes) (files_after old.first old.operations) (real.IsImage old.first old.operations) m) ⊎ (TornBy (real.Put (machine_name layout at) bytes) (real.IsImage old.first old.operations) m) → (e : Disk) × IsImage (Put at Junk ∷ w.disk) e × AreRead layout w.floor m e
       by_name c = ⊎_elim
-          (λ i. image_read layout no_others old.first (Done (real.Put (machine_name layout at) bytes) ∷ old.operations) (Put at Junk ∷ w.disk) (Putting old.operations w.disk at bytes Junk store.trace fits (junk at bytes)) m i)
-          (λ t. torn_read layout no_others old.first old.operations w.disk store.trace at bytes fits m t) c
+          (λ i. image_read layout w.floor no_others old.first (Done (real.Put (machine_name layout at) bytes) ∷ old.operations) (Put at Junk ∷ w.disk) (Putting old.operations w.disk at bytes Junk store.trace fits (junk at bytes)) m i)
+          (λ t. torn_read layout w.floor no_others old.first old.operations w.disk store.trace at bytes fits m t) c
 
   known : (new : Trace) (told : Option Trace) (place : DiskPlace) (went : Went) → told ≡ Some new → (c : IsCalled layout young stuck new place went v) → Knows layout young stuck told c.view
   known new told place went is c = subst (λ o. Knows layout young stuck o c.view) (sym is) (c.world, c.store, c.sees, c.layout_is ∙ layout_is, c.number_is ∙ number_is, c.safe)
@@ -157,8 +161,8 @@ module _ (layout : Layout) (young : ℕ) (stuck : Option DiskPlace) (old : Trace
   put_comes told place name bytes (Ok x) d ok err =
       let p = put_due layout w v place name bytes layout_is sees d in
       let new = add_operation (Done (real.Put name bytes)) old in
-      let trace : IsTraceOf layout no_others old.first (Done (real.Put name bytes) ∷ old.operations) (Put p.at p.contents ∷ w.disk) =
-      subst (λ n. IsTraceOf layout no_others old.first (Done (real.Put n bytes) ∷ old.operations) (Put p.at p.contents ∷ w.disk)) (sym p.named)
+      let trace : IsTraceOf layout w.floor no_others old.first (Done (real.Put name bytes) ∷ old.operations) (Put p.at p.contents ∷ w.disk) =
+      subst (λ n. IsTraceOf layout w.floor no_others old.first (Done (real.Put n bytes) ∷ old.operations) (Put p.at p.contents ∷ w.disk)) (sym p.named)
       (Putting old.operations w.disk p.at bytes p.contents store.trace p.fits p.reads) in
       let c = call_turns layout young stuck old new w v place Fine p.section (Put p.at p.contents) store sees p.inside p.is p.change trace (safe_done (Done (real.Put name bytes)) place Fine (Torn Junk) p.section (Put p.at p.contents) p.inside p.is p.change trace (torn_put p.at name bytes p.named p.fits)) in
       (c.view, Fine, known new told place Fine ok c, refl, c.called)
@@ -171,8 +175,8 @@ module _ (layout : Layout) (young : ℕ) (stuck : Option DiskPlace) (old : Trace
       (λ more. ⊎_elim (λ same. (attempt.view, Before, known tried told place Before same attempt, refl, attempt.called))
       (λ torn.
       let new = add_operation (Done (real.Put name torn.0)) old in
-      let trace : IsTraceOf layout no_others old.first (Done (real.Put name torn.0) ∷ old.operations) (Put p.at Junk ∷ w.disk) =
-      subst (λ n. IsTraceOf layout no_others old.first (Done (real.Put n torn.0) ∷ old.operations) (Put p.at Junk ∷ w.disk)) (sym p.named)
+      let trace : IsTraceOf layout w.floor no_others old.first (Done (real.Put name torn.0) ∷ old.operations) (Put p.at Junk ∷ w.disk) =
+      subst (λ n. IsTraceOf layout w.floor no_others old.first (Done (real.Put n torn.0) ∷ old.operations) (Put p.at Junk ∷ w.disk)) (sym p.named)
       (Putting old.operations w.disk p.at torn.0 Junk store.trace p.fits (junk p.at torn.0)) in
       let c = call_turns layout young stuck old new w v place (Torn Junk) p.section (Put p.at p.contents) store sees p.inside p.is p.change trace (safe_done (Done (real.Put name torn.0)) place (Torn Junk) (Torn Junk) p.section (Put p.at p.contents) p.inside p.is p.change trace (torn_put p.at name torn.0 p.named p.fits)) in
       (c.view, Torn Junk, known new told place (Torn Junk) torn.1 c, refl, c.called)) more) err
@@ -185,15 +189,16 @@ module _ (layout : Layout) (young : ℕ) (stuck : Option DiskPlace) (old : Trace
       p = rename_due layout w v place from to sees store.kept.knows d
 
       at : (bytes : List ℕ) × (get (files_now old) (machine_name layout p.from) ≡ Some bytes) × Reads p.from bytes (Number p.number)
-      at = at_found p.from (get (files_now old) (machine_name layout p.from)) (found w.disk p.from) (Number p.number) p.there (now_read layout no_others old.first old.operations w.disk store.trace p.from p.from_fits)
+      at = at_found p.from (get (files_now old) (machine_name layout p.from)) (found w.disk p.from) (Number p.number) p.there
+          (subst (λ o. AtName p.from o (found w.disk p.from)) (own_file layout w.floor (files_now old) p.from p.from_fits.1) (now_read layout w.floor no_others old.first old.operations w.disk store.trace p.from p.from_fits.0))
 
-      done : IsTraceOf layout no_others old.first (Done (real.Rename from to) ∷ old.operations) (Rename p.from p.to (Number p.number) ∷ w.disk)
-      done = subst (λ n. IsTraceOf layout no_others old.first (Done (real.Rename n to) ∷ old.operations) (Rename p.from p.to (Number p.number) ∷ w.disk)) (sym p.from_named)
-          (subst (λ n. IsTraceOf layout no_others old.first (Done (real.Rename (machine_name layout p.from) n) ∷ old.operations) (Rename p.from p.to (Number p.number) ∷ w.disk)) (sym p.to_named)
+      done : IsTraceOf layout w.floor no_others old.first (Done (real.Rename from to) ∷ old.operations) (Rename p.from p.to (Number p.number) ∷ w.disk)
+      done = subst (λ n. IsTraceOf layout w.floor no_others old.first (Done (real.Rename n to) ∷ old.operations) (Rename p.from p.to (Number p.number) ∷ w.disk)) (sym p.from_named)
+          (subst (λ n. IsTraceOf layout w.floor no_others old.first (Done (real.Rename (machine_name layout p.from) n) ∷ old.operations) (Rename p.from p.to (Number p.number) ∷ w.disk)) (sym p.to_named)
           (Renaming old.operations w.disk p.from p.to at.0 (Number p.number) store.trace p.from_fits p.to_fits at.1 (p.same at.0 at.2)))
 
-      middle : (m : Files) → (ImageAfter (real.Rename from to) (files_after old.first old.operations) (real.IsImage old.first old.operations) m) ⊎ (TornBy (real.Rename from to) (real.IsImage old.first old.operations) m) → (e : Disk) × IsImage (Rename p.from p.to (Number p.number) ∷ w.disk) e × AreRead layout m e
-      middle m c = ⊎_elim (λ i. image_read layout no_others old.first (Done (real.Rename from to) ∷ old.operations) (Rename p.from p.to (Number p.number) ∷ w.disk) done m i) (λ t. absurd t) c
+      middle : (m : Files) → (ImageAfter (real.Rename from to) (files_after old.first old.operations) (real.IsImage old.first old.operations) m) ⊎ (TornBy (real.Rename from to) (real.IsImage old.first old.operations) m) → (e : Disk) × IsImage (Rename p.from p.to (Number p.number) ∷ w.disk) e × AreRead layout w.floor m e
+      middle m c = ⊎_elim (λ i. image_read layout w.floor no_others old.first (Done (real.Rename from to) ∷ old.operations) (Rename p.from p.to (Number p.number) ∷ w.disk) done m i) (λ t. absurd t) c
 
       new : Trace
       new = add_operation (Done (real.Rename from to)) old
@@ -220,8 +225,8 @@ module _ (layout : Layout) (young : ℕ) (stuck : Option DiskPlace) (old : Trace
       p : FirmDue w v place
       p = firm_due w v place d
 
-      middle : (m : Files) → (ImageAfter real.FirmNames (files_after old.first old.operations) (real.IsImage old.first old.operations) m) ⊎ (TornBy real.FirmNames (real.IsImage old.first old.operations) m) → (e : Disk) × IsImage (Firm ∷ w.disk) e × AreRead layout m e
-      middle m c = ⊎_elim (λ i. image_read layout no_others old.first (Done real.FirmNames ∷ old.operations) (Firm ∷ w.disk) (Firming old.operations w.disk store.trace) m i) (λ t. absurd t) c
+      middle : (m : Files) → (ImageAfter real.FirmNames (files_after old.first old.operations) (real.IsImage old.first old.operations) m) ⊎ (TornBy real.FirmNames (real.IsImage old.first old.operations) m) → (e : Disk) × IsImage (Firm ∷ w.disk) e × AreRead layout w.floor m e
+      middle m c = ⊎_elim (λ i. image_read layout w.floor no_others old.first (Done real.FirmNames ∷ old.operations) (Firm ∷ w.disk) (Firming old.operations w.disk store.trace) m i) (λ t. absurd t) c
 
       new : Trace
       new = add_operation (Done real.FirmNames) old

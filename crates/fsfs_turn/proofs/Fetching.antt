@@ -1,6 +1,6 @@
 -- Reads of revision files, over an owned store.
-use Rattle.std.proofs.Common.{◌≡◌, ◌<◌, ◌≤◌, ◌+◌, ◌^◌, ℕ, List, [], ◌++◌, length, true, false, cond, refl, sym, ap, subst, ◌∙◌, arith, take, drop}
-use Rattle.std.specs.Prelude.{Option, Some, None, Result, Ok, Err, IfOk, slice_get, nat_lt, nat_le, ◌||◌}
+use Rattle.std.proofs.Common.{◌≡◌, ◌<◌, ◌≤◌, ◌+◌, ◌^◌, ℕ, List, [], ◌++◌, length, true, cond, refl, sym, ap, subst, ◌∙◌, arith, take, drop}
+use Rattle.std.specs.Prelude.{Option, Some, Result, Ok, Err, IfOk, slice_get, nat_lt, nat_le, ◌||◌}
 use Rattle.std.specs.FinMap.{get}
 use Rattle.std.proofs.lemmas.List.{take_all, length-take}
 use Rattle.std.proofs.lemmas.Option.{slice_get_within}
@@ -26,7 +26,8 @@ use Rattle.fsfs_images.specs.RealNames.{machine_name}
 use Rattle.fsfs_turn.specs.Past.{doubt, Safe}
 use Rattle.fsfs_turn.specs.Views.{View, rev_name, Sees, with_txns, Answers, ReadTurn}
 use Rattle.fsfs_turn.specs.Standing.{no_others, IsStore, Knows}
-use Rattle.fsfs_images.proofs.Showing.{now_read}
+use Rattle.fsfs_images.specs.Shown.{file_in}
+use Rattle.fsfs_images.proofs.Showing.{own_file, now_read}
 use Rattle.fsfs_turn.proofs.Stepping.{kept_bare, at_itself, take_drop, get_taken}
 use Rattle.fsfs_turn.proofs.Due.{at_found}
 
@@ -44,15 +45,6 @@ module _ (layout : Layout) (young : ℕ) (stuck : Option DiskPlace) (t : Trace) 
   in_file : shown w.floor w.disk r ≡ Some (file_of x)
   in_file = (has_all w.floor w.history w.lock w.disk (store.kept.stands w.disk (read_is_image w.disk)) r x (get_taken v.pass.seen r w.history x here)).0
 
-  found_it : found w.disk (Rev r) ≡ Some (file_of x)
-  found_it = let e : nat_lt r w.floor ≡ false = grind (arith, store.kept.floor) in sym (ap (λ b. cond b None (found w.disk (Rev r))) e) ∙ in_file
-
-  by_pass : shown v.pass.floor w.disk r ≡ Some (file_of x)
-  by_pass =
-      let low : v.pass.floor ≤ w.floor = (seen_of (length w.history) w.floor w.passes v.number v.pass store.kept.seen sees.pass).floor in
-      let e : nat_lt r v.pass.floor ≡ false = (let z : v.pass.floor ≡ 0 = omega (arith, low, store.kept.floor) in grind (arith, z)) in
-      ap (λ b. cond b None (found w.disk (Rev r))) e ∙ found_it
-
   abbrev given : Went → Outcome
   given went = either went (outcome.Bytes (take size (drop offset x.bytes))) outcome.Failed
 
@@ -65,7 +57,7 @@ module _ (layout : Layout) (young : ℕ) (stuck : Option DiskPlace) (t : Trace) 
   happens : (went : Went) → did (world went) (given went) ≡ has_read (with_txns [] w) v.number r offset size went (slice_get w.passes v.number)
   happens went = sym (ap (λ o. has_read (with_txns [] w) v.number r offset size went o) sees.pass
       ∙ ap (λ b. cond b (did (world went) (either went (range_of offset size (shown v.pass.floor w.disk r)) outcome.Failed)) (barred (with_txns [] w))) known_it
-      ∙ ap (λ o. did (world went) (either went (range_of offset size o) outcome.Failed)) by_pass)
+      ∙ ap (λ o. did (world went) (either went (range_of offset size o) outcome.Failed)) in_file)
 
   kept : (went : Went) → Kept (with_txns [] (world went))
   kept went = kept_bare (world went) (step_keeps (with_txns [] w) (step.Read v.number r offset size went) (did (world went) (given went)) (happens went) store.kept).kept
@@ -84,7 +76,7 @@ module _ (layout : Layout) (young : ℕ) (stuck : Option DiskPlace) (t : Trace) 
   }
 
   now : (went : Went) → IsStore layout young stuck t (world went)
-  now went = record { trace = store.trace; kept = kept went; shown = store.shown; coming = store.coming; young_is = store.young_is; stuck_is = store.stuck_is; alone = length_at w.passes v.number (learns (length w.history) Read went) ∙ store.alone }
+  now went = record { trace = store.trace; whole = store.whole; kept = kept went; shown = store.shown; coming = store.coming; young_is = store.young_is; stuck_is = store.stuck_is; alone = length_at w.passes v.number (learns (length w.history) Read went) ∙ store.alone }
 
   read_turn : (went : Went) → ReadTurn r offset size x went v (view went)
   read_turn went = record {
@@ -97,21 +89,22 @@ module _ (layout : Layout) (young : ℕ) (stuck : Option DiskPlace) (t : Trace) 
   }
 
   -- the file's bytes are those beside the revision
-  file_is : r < 2 ^ 32 → (name : List ℕ) → name ≡ rev_name v r → file_at t name ≡ Some x.bytes
-  file_is fits name named =
-      let at = at_found (Rev r) (get (files_now t) (machine_name layout (Rev r))) (found w.disk (Rev r)) (file_of x) found_it (now_read layout no_others t.first t.operations w.disk store.trace (Rev r) fits) in
-      ap (λ n. get (files_now t) n) (named ∙ ap (λ k. machine_name k (Rev r)) layout_is) ∙ at.1 ∙ ap (λ (b : List ℕ). Some b) at.2
+  file_is : r < 2 ^ 32 → v.pass.floor ≤ r → (name : List ℕ) → name ≡ rev_name v r → file_at t name ≡ Some x.bytes
+  file_is fits above name named =
+      let floor : v.pass.floor ≡ w.floor = (seen_of (length w.history) w.floor w.passes v.number v.pass store.kept.seen sees.pass).floor in
+      let at = at_found (Rev r) (file_in layout w.floor (files_now t) (Rev r)) (found w.disk (Rev r)) (file_of x) in_file (now_read layout w.floor no_others t.first t.operations w.disk store.trace (Rev r) fits) in
+      ap (λ n. get (files_now t) n) (named ∙ ap (λ k. machine_name k (Rev r)) layout_is) ∙ sym (own_file layout w.floor (files_now t) (Rev r) (omega (arith, above, floor))) ∙ at.1 ∙ ap (λ (b : List ℕ). Some b) at.2
 
-  pub read_comes : {E : Type 0} (told : Option Trace) → told ≡ Some t → r < 2 ^ 32 → (name old new : List ℕ) → name ≡ rev_name v r → (result : Result (Option ℕ) E) → IfOk result (IsRead (file_at t name) offset old new)
+  pub read_comes : {E : Type 0} (told : Option Trace) → told ≡ Some t → r < 2 ^ 32 → v.pass.floor ≤ r → (name old new : List ℕ) → name ≡ rev_name v r → (result : Result (Option ℕ) E) → IfOk result (IsRead (file_at t name) offset old new)
       → (u : View) × (went : Went) × Knows layout young stuck told u × Answers result went × ReadTurn r offset size x went v u × IfOk result (IsRead (Some x.bytes) offset old new)
-  read_comes told same fits name old new named (Ok o) read =
-      (view Fine, Fine, subst (λ z. Knows layout young stuck z (view Fine)) (sym same) (world Fine, now Fine, after Fine, layout_is, number_is, safe), refl, read_turn Fine, subst (λ f. IsRead f offset old new o) (file_is fits name named) read)
-  read_comes told same fits name old new named (Err e) read =
+  read_comes told same fits above name old new named (Ok o) read =
+      (view Fine, Fine, subst (λ z. Knows layout young stuck z (view Fine)) (sym same) (world Fine, now Fine, after Fine, layout_is, number_is, safe), refl, read_turn Fine, subst (λ f. IsRead f offset old new o) (file_is fits above name named) read)
+  read_comes told same fits above name old new named (Err e) read =
       (view Before, Before, subst (λ z. Knows layout young stuck z (view Before)) (sym same) (world Before, now Before, after Before, layout_is, number_is, safe), refl, read_turn Before, tt)
 
-  pub size_comes : {E : Type 0} (told : Option Trace) → told ≡ Some t → r < 2 ^ 32 → (name : List ℕ) → name ≡ rev_name v r → (result : Result (Option ℕ) E) → IfOk result (IsSize (file_at t name))
+  pub size_comes : {E : Type 0} (told : Option Trace) → told ≡ Some t → r < 2 ^ 32 → v.pass.floor ≤ r → (name : List ℕ) → name ≡ rev_name v r → (result : Result (Option ℕ) E) → IfOk result (IsSize (file_at t name))
       → (u : View) × (went : Went) × Knows layout young stuck told u × Answers result went × ReadTurn r offset size x went v u × IfOk result (IsSize (Some x.bytes))
-  size_comes told same fits name named (Ok o) read =
-      (view Fine, Fine, subst (λ z. Knows layout young stuck z (view Fine)) (sym same) (world Fine, now Fine, after Fine, layout_is, number_is, safe), refl, read_turn Fine, subst (λ f. IsSize f o) (file_is fits name named) read)
-  size_comes told same fits name named (Err e) read =
+  size_comes told same fits above name named (Ok o) read =
+      (view Fine, Fine, subst (λ z. Knows layout young stuck z (view Fine)) (sym same) (world Fine, now Fine, after Fine, layout_is, number_is, safe), refl, read_turn Fine, subst (λ f. IsSize f o) (file_is fits above name named) read)
+  size_comes told same fits above name named (Err e) read =
       (view Before, Before, subst (λ z. Knows layout young stuck z (view Before)) (sym same) (world Before, now Before, after Before, layout_is, number_is, safe), refl, read_turn Before, tt)

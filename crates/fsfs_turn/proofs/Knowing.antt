@@ -167,11 +167,11 @@ module _ (layout : Layout) (young : ℕ) (stuck : Option DiskPlace) where
   reveal_known (Some t) rev v x known is rev_is = reveals_it layout young stuck t known.0 v known.1 known.2 known.3 known.4 known.5 x rev is rev_is
 
   pub read_known : {E : Type 0} (old new : Option Trace) → new ≡ old → (offset size : ℕ) (name buffer filled : List ℕ) (result : Result (Option ℕ) E) → IfSome old (λ t. IfOk result (IsRead (file_at t name) offset buffer filled))
-      → (v : View) (r : ℕ) (x : Recorded) → Knows layout young stuck old v → slice_get v.seen r ≡ Some x → r < 2 ^ 32 → name ≡ rev_name v r
+      → (v : View) (r : ℕ) (x : Recorded) → Knows layout young stuck old v → slice_get v.seen r ≡ Some x → r < 2 ^ 32 → v.pass.floor ≤ r → name ≡ rev_name v r
       → (u : View) × (went : Went) × Knows layout young stuck new u × Answers result went × ReadTurn r offset size x went v u × IfOk result (IsRead (Some x.bytes) offset buffer filled)
-  read_known None new same offset size name buffer filled result read v r x known there fits named = absurd known
-  read_known (Some t) new same offset size name buffer filled result read v r x known there fits named =
-      read_comes layout young stuck t known.0 v known.1 known.2 known.3 known.4 known.5 r offset size x there new same fits name buffer filled named result read
+  read_known None new same offset size name buffer filled result read v r x known there fits above named = absurd known
+  read_known (Some t) new same offset size name buffer filled result read v r x known there fits above named =
+      read_comes layout young stuck t known.0 v known.1 known.2 known.3 known.4 known.5 r offset size x there new same fits above name buffer filled named result read
 
   pub props_known : {E : Type 0} (old new : Option Trace) → new ≡ old → (offset : ℕ) (name buffer filled : List ℕ) (result : Result (Option ℕ) E) → IfSome old (λ t. IfOk result (IsRead (file_at t name) offset buffer filled))
       → (v : View) (r : ℕ) (x : Recorded) → Knows layout young stuck old v → slice_get v.seen r ≡ Some x → r < 2 ^ 32 → name ≡ props_name v r
@@ -195,11 +195,11 @@ module _ (layout : Layout) (young : ℕ) (stuck : Option DiskPlace) where
       counter_comes layout young stuck t known.0 v known.1 known.2 known.3 known.4 known.5 base begun at_most new same name buffer filled named result (subst (λ o. IfOk result (IsRead (file_at t name) o buffer filled)) first read)
 
   pub size_known : {E : Type 0} (old new : Option Trace) → new ≡ old → (name : List ℕ) (result : Result (Option ℕ) E) → IfSome old (λ t. IfOk result (IsSize (file_at t name)))
-      → (v : View) (r : ℕ) (x : Recorded) → Knows layout young stuck old v → slice_get v.seen r ≡ Some x → r < 2 ^ 32 → name ≡ rev_name v r
+      → (v : View) (r : ℕ) (x : Recorded) → Knows layout young stuck old v → slice_get v.seen r ≡ Some x → r < 2 ^ 32 → v.pass.floor ≤ r → name ≡ rev_name v r
       → (u : View) × (went : Went) × Knows layout young stuck new u × Answers result went × ReadTurn r 0 0 x went v u × IfOk result (IsSize (Some x.bytes))
-  size_known None new same name result size v r x known there fits named = absurd known
-  size_known (Some t) new same name result size v r x known there fits named =
-      size_comes layout young stuck t known.0 v known.1 known.2 known.3 known.4 known.5 r 0 0 x there new same fits name named result size
+  size_known None new same name result size v r x known there fits above named = absurd known
+  size_known (Some t) new same name result size v r x known there fits above named =
+      size_comes layout young stuck t known.0 v known.1 known.2 known.3 known.4 known.5 r 0 0 x there new same fits above name named result size
 
   -- what a listing comes to, however it went
   pub list_known : (old new : Option Trace) → new ≡ old → (v : View) (went : Went) → Knows layout young stuck old v → (ls : List Label) × (option_map labels_now new ≡ Some ls) × (u : View) × Knows layout young stuck new u × Listed ls went v u

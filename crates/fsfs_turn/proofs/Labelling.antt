@@ -115,7 +115,7 @@ module _ (layout : Layout) (young : ℕ) (stuck : Option DiskPlace) (old : Trace
 
   -- a change that no image shows
   record IsUnshown (change : real.NameChange) : Type 0 where
-    pub done : IsTraceOf layout no_others old.first (Done change ∷ old.operations) w.disk
+    pub done : IsTraceOf layout w.floor no_others old.first (Done change ∷ old.operations) w.disk
     pub images : (m : Files) → IsImage old.first (Done change ∷ old.operations) m → IsImage old.first old.operations m
     pub middle : (m : Files) → (ImageAfter change (files_after old.first old.operations) (IsImage old.first old.operations) m) ⊎ (TornBy change (IsImage old.first old.operations) m) → IsImage old.first old.operations m
 
@@ -127,7 +127,7 @@ module _ (layout : Layout) (young : ℕ) (stuck : Option DiskPlace) (old : Trace
 
   -- what a turn of this trace comes to
   abbrev Turn : Option Trace → (Went → View → Type 0) → Type 0
-  Turn told P = (new : Trace) → told ≡ Some new → IsTraceOf layout no_others new.first new.operations w.disk → Safe layout v.since new v.opened w.floor w.history (doubt w.lock) → (went : Went) → (u : View) × Knows layout young stuck told u × P went u
+  Turn told P = (new : Trace) → told ≡ Some new → IsTraceOf layout w.floor no_others new.first new.operations w.disk → Safe layout v.since new v.opened w.floor w.history (doubt w.lock) → (went : Went) → (u : View) × Knows layout young stuck told u × P went u
 
   label_call : {X E : Type 0} (change : real.NameChange) → IsUnshown change → (P : Went → View → Type 0) (told : Option Trace) (result : Result X E)
       → OnOk result ((told ≡ Some old) ⊎ Performs change (Some old) told) → OnErr result (FailsAt change (Some old) told) → Turn told P

@@ -2,6 +2,7 @@
 use Rattle.std.proofs.Common.{◌≡◌, ◌⊎◌, ◌<◌, ◌≤◌, ◌+◌, ℕ, suc, zero, List, [], ◌∷◌, ◌++◌, length, true, false, cond, inl, inr, ⊎_elim, refl, sym, ap, subst, ◌∙◌, arith, take, length-append}
 use Rattle.std.specs.Prelude.{Option, Some, None, IfSome, slice_get, nat_lt, ◌&&◌, if◌then◌else◌}
 use Rattle.std.proofs.lemmas.List.{take_all, take-append-le}
+use Rattle.fsfs_layout.specs.Layouts.{place_in_shard}
 use Rattle.fsfs_layout.specs.declared.layout.Layout.{Layout}
 use Rattle.fsfs_disk.specs.Trace.{Trace}
 use Rattle.fsfs_machine.specs.declared.machine.Recorded.{Recorded}
@@ -47,10 +48,11 @@ show_more h x shown next n some =
 
 module _ (layout : Layout) (young : ℕ) (stuck : Option DiskPlace) (t : Trace) (w : World) (v : View) (store : IsStore layout young stuck t w) (sees : Sees w v) (layout_is : v.layout ≡ layout) (number_is : v.number ≡ 0) (safe : Safe layout v.since t v.opened w.floor w.history (doubt w.lock)) where
   -- the store after a step that leaves the disk and the history
-  moved : (w2 : World) → w2.disk ≡ w.disk → w2.history ≡ w.history → w2.young ≡ w.young → length w2.passes ≡ length w.passes → (o : Option DiskPlace) → stuck_place w2.lock ≡ o
+  moved : (w2 : World) → w2.floor ≡ w.floor → w2.disk ≡ w.disk → w2.history ≡ w.history → w2.young ≡ w.young → length w2.passes ≡ length w.passes → (o : Option DiskPlace) → stuck_place w2.lock ≡ o
       → IfSome (coming w2.lock) (λ x. BytesShow (with_next w.history x)) → Kept (with_txns [] w2) → IsStore layout young o t w2
-  moved w2 disk history young_is passes o stuck_is next kept = record {
-    trace = subst (λ d. IsTraceOf layout no_others t.first t.operations d) (sym disk) store.trace;
+  moved w2 floor disk history young_is passes o stuck_is next kept = record {
+    trace = subst (λ f. IsTraceOf layout f no_others t.first t.operations w2.disk) (sym floor) (subst (λ d. IsTraceOf layout w.floor no_others t.first t.operations d) (sym disk) store.trace);
+    whole = subst (λ f. place_in_shard layout f ≡ 0) (sym floor) store.whole;
     kept = kept;
     shown = subst (λ h. AllShow h) (sym history) store.shown;
     coming = subst (λ h. IfSome (coming w2.lock) (λ x. BytesShow (with_next h x))) (sym history) next;
@@ -68,7 +70,7 @@ module _ (layout : Layout) (young : ℕ) (stuck : Option DiskPlace) (t : Trace) 
   pub looks : (u : View) × Knows layout young stuck (Some t) u × Looked young v u
   looks = (
     view,
-    (world, moved world refl refl refl (length_at w.passes v.number tells) stuck store.stuck_is store.coming kept, seen, layout_is, number_is, safe),
+    (world, moved world refl refl refl refl (length_at w.passes v.number tells) stuck store.stuck_is store.coming kept, seen, layout_is, number_is, safe),
     record {
       turned = record { world = w; kept = store.kept; sees = sees; did = did world (outcome.Youngest w.young); happens = happens; answers = ap (λ (k : ℕ). outcome.Youngest k) store.young_is; after = kept; leaves = seen };
       is = refl;
@@ -127,7 +129,7 @@ module _ (layout : Layout) (young : ℕ) (stuck : Option DiskPlace) (t : Trace) 
   pub takes : v.section ≡ None → stuck ≡ None → (u : View) × Knows layout young stuck (Some t) u × LockTaken v u
   takes none not_stuck = (
     view,
-    (world, moved world refl refl refl refl stuck (sym not_stuck) tt kept, seen, layout_is, number_is, safe_as Free (free none not_stuck)),
+    (world, moved world refl refl refl refl refl stuck (sym not_stuck) tt kept, seen, layout_is, number_is, safe_as Free (free none not_stuck)),
     record {
       turned = record { world = w; kept = store.kept; sees = sees; did = did world outcome.Done; happens = happens; answers = refl; after = kept; leaves = seen };
       is = refl;
@@ -163,7 +165,7 @@ module _ (layout : Layout) (young : ℕ) (stuck : Option DiskPlace) (t : Trace) 
   pub finds_stuck : (place : DiskPlace) → stuck ≡ Some place → (u : View) × Knows layout young stuck (Some t) u × FoundStuck place v u
   finds_stuck place is_stuck = (
     view,
-    (world, moved world refl refl refl (length_at w.passes v.number learns_it) stuck store.stuck_is store.coming kept, seen, layout_is, number_is, safe),
+    (world, moved world refl refl refl refl (length_at w.passes v.number learns_it) stuck store.stuck_is store.coming kept, seen, layout_is, number_is, safe),
     record {
       turned = record { world = w; kept = store.kept; sees = sees; did = did world (outcome.Stuck place); happens = happens; answers = refl; after = kept; leaves = seen };
       is = refl;
@@ -194,7 +196,7 @@ module _ (layout : Layout) (young : ℕ) (stuck : Option DiskPlace) (t : Trace) 
   pub gives_lock : (s : Section) → v.section ≡ Some s → is_quiet s ≡ true → (u : View) × Knows layout young stuck (Some t) u × LockGiven (step.GiveLock v.number) v u
   gives_lock s inside_is quiet = (
     outside v,
-    (world, moved world refl refl refl refl stuck (sym (ap stuck_place lock) ∙ store.stuck_is) tt kept, seen, layout_is, number_is, subst (λ d. Safe layout v.since t v.opened w.floor w.history d) (quiet_doubt s quiet) (safe_as (Held v.number s) lock)),
+    (world, moved world refl refl refl refl refl stuck (sym (ap stuck_place lock) ∙ store.stuck_is) tt kept, seen, layout_is, number_is, subst (λ d. Safe layout v.since t v.opened w.floor w.history d) (quiet_doubt s quiet) (safe_as (Held v.number s) lock)),
     record {
       turned = record { world = w; kept = store.kept; sees = sees; did = did world outcome.Done; happens = happens; answers = refl; after = kept; leaves = seen };
       is = refl;
@@ -219,7 +221,7 @@ module _ (layout : Layout) (young : ℕ) (stuck : Option DiskPlace) (t : Trace) 
   pub sticks : (place : DiskPlace) (x : Coming) → v.section ≡ Some (Doubtful place x) → (u : View) × Knows layout young (Some place) (Some t) u × LockGiven (step.StickLock v.number) v u
   sticks place x inside_is = (
     outside v,
-    (world, moved world refl refl refl refl (Some place) refl next kept, seen, layout_is, number_is, safe_as (Held v.number (Doubtful place x)) lock),
+    (world, moved world refl refl refl refl refl (Some place) refl next kept, seen, layout_is, number_is, safe_as (Held v.number (Doubtful place x)) lock),
     record {
       turned = record { world = w; kept = store.kept; sees = sees; did = did world outcome.Done; happens = happens; answers = refl; after = kept; leaves = seen };
       is = refl;
@@ -276,7 +278,7 @@ module _ (layout : Layout) (young : ℕ) (stuck : Option DiskPlace) (t : Trace) 
       kept = kept_bare world (step_keeps (with_txns [] w) (step.Reveal v.number) (did world outcome.Done) happens store.kept).kept
 
       now : IsStore layout rev stuck t world
-      now = record { trace = store.trace; kept = kept; shown = show_more w.history x store.shown next; coming = tt; young_is = ap length (sym all) ∙ sym rev_is; stuck_is = sym (ap stuck_place lock) ∙ store.stuck_is; alone = length_at w.passes v.number (reveals (length w.history)) ∙ store.alone }
+      now = record { trace = store.trace; whole = store.whole; kept = kept; shown = show_more w.history x store.shown next; coming = tt; young_is = ap length (sym all) ∙ sym rev_is; stuck_is = sym (ap stuck_place lock) ∙ store.stuck_is; alone = length_at w.passes v.number (reveals (length w.history)) ∙ store.alone }
 
       one_more : (h : List Recorded) → length (with_next h x) ≤ length h + 1
       one_more h = grind (arith, length-append)

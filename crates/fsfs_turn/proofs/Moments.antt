@@ -16,7 +16,7 @@ use Rattle.fsfs_machine.specs.declared.machine.Went.{Went}
 use Rattle.fsfs_machine.specs.declared.machine.Went.TheVariants.{Fine, Before, After, Torn}
 use Rattle.fsfs_machine.specs.Disk.{Disk, IsImage}
 use Rattle.fsfs_machine.specs.Machine.{World, either, after, spoiled, is_due, is_quiet, recorded, with_next}
-use Rattle.fsfs_machine.specs.Kept.{StandsFor, StandsForEither, StandsIn, Stands}
+use Rattle.fsfs_machine.specs.Kept.{StandsFor, StandsForEither, StandsIn, Stands, FloorIs}
 use Rattle.fsfs_images.specs.Shown.{AreRead}
 use Rattle.fsfs_turn.specs.Views.{Begins}
 use Rattle.fsfs_turn.specs.Past.{doubt_in, doubt, IsPart, IsPast, WasLeft, Safe}
@@ -144,7 +144,7 @@ pub past_more : (n f : ℕ) (h k : List Recorded) (d b : Option Coming) (e : Dis
 past_more n f h k d b e more p = (p.0, p.1, p.2, more p.0 p.3)
 
 pub safe_more : (layout : Layout) (since n f : ℕ) (t : Trace) (h k : List Recorded) (d b : Option Coming) → ((g : List Recorded) → IsPart h d g → IsPart k b g) → Safe layout since t n f h d → Safe layout since t n f k b
-safe_more layout since n f t h k d b more safe m i = let s = safe m i in (s.0, s.1, past_more n f h k d b s.0 more s.2)
+safe_more layout since n f t h k d b more safe m i = let s = safe m i in (s.0, s.1, past_more n f h k d b s.0 more s.2, s.3)
 
 -- the revision in doubt is in the history now
 pub part_revealed : (h : List Recorded) (x : Coming) (g : List Recorded) → IsPart h (Some x) g → IsPart (with_next h x) None g
@@ -160,18 +160,18 @@ part_due h s place went g due p = ⊎_elim (λ b. inl b) (λ y. inr (y.0, doubt_
 
 -- an operation on the disk: its images now, those in its middle, and those before
 pub safe_step : (layout : Layout) (since n f : ℕ) (h : List Recorded) (old : Trace) (op : Operation) (now then : Disk) (lock mid : Lock) (d : Option Coming) → n ≤ length h
-    → ((m : Files) → real.IsImage old.first (op ∷ old.operations) m → (e : Disk) × IsImage now e × AreRead layout m e)
-    → ((e : Disk) → IsImage now e → Stands f h lock e)
-    → ((m : Files) → (ImageAfter (change_of op) (files_after old.first old.operations) (real.IsImage old.first old.operations) m) ⊎ (TornBy (change_of op) (real.IsImage old.first old.operations) m) → (e : Disk) × IsImage then e × AreRead layout m e)
-    → ((e : Disk) → IsImage then e → Stands f h mid e)
+    → ((m : Files) → real.IsImage old.first (op ∷ old.operations) m → (e : Disk) × IsImage now e × AreRead layout f m e)
+    → ((e : Disk) → IsImage now e → Stands f h lock e) → ((e : Disk) → IsImage now e → FloorIs f e)
+    → ((m : Files) → (ImageAfter (change_of op) (files_after old.first old.operations) (real.IsImage old.first old.operations) m) ⊎ (TornBy (change_of op) (real.IsImage old.first old.operations) m) → (e : Disk) × IsImage then e × AreRead layout f m e)
+    → ((e : Disk) → IsImage then e → Stands f h mid e) → ((e : Disk) → IsImage then e → FloorIs f e)
     → doubt mid ≡ doubt lock → ((g : List Recorded) → IsPart h d g → IsPart h (doubt lock) g)
     → Safe layout since old n f h d → Safe layout since (add_operation op old) n f h (doubt lock)
-safe_step layout since n f h old op now then lock mid d le images stands middle stands_mid same more safe m i =
-    ⊎_elim (λ a. let r = images m a in (r.0, r.2, past_of n f h lock r.0 le (stands r.0 r.1)))
+safe_step layout since n f h old op now then lock mid d le images stands floors middle stands_mid floors_mid same more safe m i =
+    ⊎_elim (λ a. let r = images m a in (r.0, r.2, past_of n f h lock r.0 le (stands r.0 r.1), floors r.0 r.1))
     (λ b. ⊎_elim (λ a. from_mid (inl a)) (λ t. ⊎_elim (λ c. from_mid (inr c)) (λ before. safe_more layout since n f old h h d (doubt lock) more safe m before) t) b.1) i
   where
     from_mid : (ImageAfter (change_of op) (files_after old.first old.operations) (real.IsImage old.first old.operations) m) ⊎ (TornBy (change_of op) (real.IsImage old.first old.operations) m) → WasLeft layout n f h (doubt lock) m
-    from_mid c = let r = middle m c in (r.0, r.2, subst (λ b. IsPast n f h b r.0) same (past_of n f h mid r.0 le (stands_mid r.0 r.1)))
+    from_mid c = let r = middle m c in (r.0, r.2, subst (λ b. IsPast n f h b r.0) same (past_of n f h mid r.0 le (stands_mid r.0 r.1)), floors_mid r.0 r.1)
 
 -- a call that failed before it reached the disk
 pub safe_not : (layout : Layout) (since n : ℕ) (old : Trace) (w : World) (s : Section) (place : DiskPlace) (went : Went) → is_due s place ≡ true → Safe layout since old n w.floor w.history (doubt_in s) → Safe layout since old n w.floor w.history (doubt_in (either went (after s) (spoiled s)))

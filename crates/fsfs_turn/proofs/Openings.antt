@@ -1,5 +1,5 @@
 -- A store whose files stand for a history is known as it is opened.
-use Rattle.std.proofs.Common.{◌≡◌, ◌==◌, ◌<◌, ◌≤◌, ◌+◌, ℕ, suc, zero, List, [], ◌∷◌, ◌++◌, length, true, false, cond, ⊎_elim, refl, sym, ap, subst, ◌∙◌, arith, take}
+use Rattle.std.proofs.Common.{◌≡◌, ◌==◌, ◌<◌, ◌≤◌, ◌+◌, ℕ, suc, zero, List, [], ◌∷◌, ◌++◌, length, Bool, true, false, cond, ⊎_elim, refl, sym, ap, subst, ◌∙◌, arith, take}
 use Rattle.std.proofs.lemmas.Bool.{eqb-true, eq-eqb, both_ways}
 use Rattle.std.proofs.lemmas.List.{take_all, length-take}
 use Rattle.std.proofs.lemmas.Option.{slice_get_within}
@@ -10,16 +10,16 @@ use Rattle.fsfs_base.specs.Files.{Files}
 use Rattle.fsfs_tree.specs.Dated.{last_of}
 use Rattle.fsfs_tree.specs.Revisions.{Revision}
 use Rattle.fsfs_hash.specs.Dump.{IsDump}
-use Rattle.fsfs_layout.specs.FileNames.{file_name, only_name}
+use Rattle.fsfs_layout.specs.FileNames.{only_name}
 use Rattle.fsfs_layout.specs.Opening.{text_at}
 use Rattle.fsfs_layout.specs.Small.{IsMinUnpackedRev}
 use Rattle.fsfs_layout.specs.declared.layout.Layout.{Layout}
 use Rattle.fsfs_layout.specs.declared.only_file.OnlyFile.TheVariants as only
-use Rattle.fsfs_layout.specs.declared.repository_file.RepositoryFile.TheVariants as file
 use Rattle.fsfs_damage.specs.declared.wrong.Refusal.{Refusal}
 use Rattle.fsfs_book.specs.Told.{RevisionBytes}
-use Rattle.fsfs_rev_file.specs.RevBytes.{floor_in, packed_bytes, or_missing, by_floor, rev_bytes, props_bytes}
+use Rattle.fsfs_rev_file.specs.RevBytes.{floor_in, packed_bytes, or_missing, by_floor, rev_file, rev_bytes, props_bytes}
 use Rattle.fsfs_rev_file.proofs.FloorLemmas.{floor_is}
+use Rattle.fsfs_fetch.specs.Kept.{agrees}
 use Rattle.fsfs_ancestry.specs.Bounded.{AreSameUpTo}
 use Rattle.fsfs_ancestry.proofs.BoundedIds.{ids_same}
 use Rattle.fsfs_stands.specs.Changes.{AreChangesOf}
@@ -43,18 +43,18 @@ use Rattle.fsfs_machine.specs.Kept.{Kept, HasFiles, StandsFor as MachineStands, 
 use Rattle.fsfs_machine.proofs.Growing.{revisions_length}
 use Rattle.fsfs_machine.proofs.Images.{each_firm}
 use Rattle.fsfs_images.specs.RealNames.{machine_name}
-use Rattle.fsfs_images.specs.Shown.{AtName, AreRead, Opening}
+use Rattle.fsfs_images.specs.Shown.{AtName, AreRead, Opening, there_in, packed_in, file_in}
 use Rattle.fsfs_images.proofs.Showing.{image_read}
 use Rattle.fsfs_turn.specs.Bytes.{bytes_beside, bytes_of, ShowsOne, BytesShow, AllShow}
-use Rattle.fsfs_turn.specs.Alone.{IsAlone}
+use Rattle.fsfs_turn.specs.Alone.{KnowsAlone}
 use Rattle.fsfs_turn.specs.Views.{View, Sees}
-use Rattle.fsfs_turn.specs.Standing.{no_others, IsStore, Knows}
-use Rattle.fsfs_turn.specs.Opening.{StoreIsKnown}
+use Rattle.fsfs_turn.specs.Standing.{no_others, IsStore}
+use Rattle.fsfs_turn.specs.Opening.{LeftoversAgree, StoreIsKnown}
 use Rattle.fsfs_turn.specs.Past.{Safe}
 use Rattle.fsfs_turn.proofs.Beginning.{at_none, ok_is}
 use Rattle.fsfs_turn.proofs.FirstParts.{ids_lower}
 use Rattle.fsfs_turn.proofs.Moments.{past_of}
-use Rattle.fsfs_turn.proofs.Standings.{there_below}
+use Rattle.fsfs_turn.proofs.Standings.{there_below, own_opened}
 use Rattle.fsfs_turn.proofs.Stepping.{kept_bare, get_taken}
 
 -- ---- a history with the bytes beside it
@@ -137,14 +137,21 @@ not_missing : (r : ℕ) (o : Option (List ℕ)) (bytes : List ℕ) → or_missin
 not_missing r None bytes e = absurd cc
 not_missing r (Some b) bytes e = ap (λ (l : List ℕ). Some l) (ok_is (Ok b) b bytes refl e)
 
-own_file : (layout : Layout) (m : Files) (r : ℕ) (bytes : List ℕ) → floor_in layout m ≡ Ok 0 → rev_bytes layout m r ≡ Ok bytes → get m (file_name layout (file.Revision r)) ≡ Some bytes
-unfolding rev_bytes
-own_file layout m r bytes floor e =
-    let low : nat_lt r 0 ≡ false = grind arith in
-    not_missing r (get m (file_name layout (file.Revision r))) bytes
-    (sym (ap (by_floor layout m r) floor ∙ ap (λ b. cond b (packed_bytes layout m r) (or_missing r (get m (file_name layout (file.Revision r))))) low) ∙ e)
+-- what agrees with the bytes of the pack doesn't hide them
+packed_agreeing : (o : Option (List ℕ)) (p : Result (List ℕ) Refusal) (bytes : List ℕ) → agrees o p ≡ true → p ≡ Ok bytes → packed_in o (there_in p) ≡ Some bytes
+packed_agreeing None p bytes agree e = ap there_in e
+packed_agreeing (Some b) (Err refusal) bytes agree e = absurd cc
+packed_agreeing (Some b) (Ok c) bytes agree e = ap (λ t. cond t (Some c) None) agree ∙ ap there_in e
 
-module _ (first : Files) (labels : List Label) (before : List Operation) (h : List Revision) (s : StandsFor (files_after first before) h) (unpacked : s.opened.min_unpacked_rev ≡ 0) where
+file_there : (layout : Layout) (f : ℕ) (m : Files) (r : ℕ) (bytes : List ℕ) → floor_in layout m ≡ Ok f → (r < f → agrees (rev_file layout m r) (packed_bytes layout m r) ≡ true) → rev_bytes layout m r ≡ Ok bytes → file_in layout f m (Rev r) ≡ Some bytes
+unfolding rev_bytes
+file_there layout f m r bytes floor agreeing e = by_test (nat_lt r f) refl (sym (ap (by_floor layout m r) floor) ∙ e)
+  where
+    by_test : (b : Bool) → nat_lt r f ≡ b → cond b (packed_bytes layout m r) (or_missing r (rev_file layout m r)) ≡ Ok bytes → cond b (packed_in (rev_file layout m r) (there_in (packed_bytes layout m r))) (rev_file layout m r) ≡ Some bytes
+    by_test true is e = let less : r < f = grind (arith, is) in packed_agreeing (rev_file layout m r) (packed_bytes layout m r) bytes (agreeing less) e
+    by_test false is e = not_missing r (rev_file layout m r) bytes e
+
+module _ (first : Files) (labels : List Label) (before : List Operation) (h : List Revision) (s : StandsFor (files_after first before) h) (agreeing : LeftoversAgree s) where
   abbrev layout : Layout
   layout = s.opened.layout
 
@@ -166,11 +173,14 @@ module _ (first : Files) (labels : List Label) (before : List Operation) (h : Li
   some : 0 < length g
   some = let c = s.count in omega (arith, long, c)
 
-  floor_text : IsMinUnpackedRev layout (text_at m (only_name only.MinUnpackedRev)) 0
-  floor_text = subst (λ k. IsMinUnpackedRev layout (text_at m (only_name only.MinUnpackedRev)) k) unpacked s.small.behind.min_unpacked_rev
+  abbrev f : ℕ
+  f = s.opened.min_unpacked_rev
 
-  floor : floor_in layout m ≡ Ok 0
-  floor = floor_is layout 0 m floor_text
+  floor_text : IsMinUnpackedRev layout (text_at m (only_name only.MinUnpackedRev)) f
+  floor_text = s.small.behind.min_unpacked_rev
+
+  floor : floor_in layout m ≡ Ok f
+  floor = floor_is layout f m floor_text
 
   shows : (r : ℕ) (x : Recorded) → slice_get g r ≡ Some x → ShowsRevision look (props_bytes layout m) r x.revision
   shows r x at = s.history.each r x.revision (at_with look r h x at).revision_is
@@ -180,8 +190,8 @@ module _ (first : Files) (labels : List Label) (before : List Operation) (h : Li
       let w = shows r x at in
       w.bytes_are ∙ ap (λ (b : List ℕ). Ok b) (sym ((at_with look r h x at).bytes_are ∙ ap bytes_in w.bytes_are))
 
-  bytes_there : (r : ℕ) (x : Recorded) → slice_get g r ≡ Some x → get m (machine_name layout (Rev r)) ≡ Some x.bytes
-  bytes_there r x at = own_file layout m r x.bytes floor (look_is r x at)
+  bytes_there : (r : ℕ) (x : Recorded) → slice_get g r ≡ Some x → file_in layout f m (Rev r) ≡ Some x.bytes
+  bytes_there r x at = file_there layout f m r x.bytes floor (agreeing r) (look_is r x at)
 
   props_there : (r : ℕ) (x : Recorded) → slice_get g r ≡ Some x → (text : List ℕ) × (get m (machine_name layout (Props r)) ≡ Some text) × IsDump text x.revision.properties
   props_there r x at =
@@ -225,9 +235,9 @@ module _ (first : Files) (labels : List Label) (before : List Operation) (h : Li
   -- ---- the files are those of the machine
 
   abbrev disk : Disk
-  disk = Put Current (Number s.opened.youngest) ∷ Put Counter (Number s.opened.next_txn.number) ∷ Put Floor (Number 0) ∷ files_from (λ r. r) g
+  disk = Put Current (Number s.opened.youngest) ∷ Put Counter (Number s.opened.next_txn.number) ∷ Put Floor (Number f) ∷ files_from (λ r. r) g
 
-  read : AreRead layout m disk
+  read : AreRead layout f m disk
   read Current fits =
       let t = number_there 10 2147483647 10 s.opened.youngest (get m (only_name only.Current)) s.small.behind.youngest in
       subst (λ o. AtName Current o (Some (Number s.opened.youngest))) (sym t.1) t.2
@@ -237,12 +247,12 @@ module _ (first : Files) (labels : List Label) (before : List Operation) (h : Li
       subst (λ o. AtName Counter o (Some (Number s.opened.next_txn.number))) (sym t.1) t.2
   read CounterNext fits = subst (λ c. AtName CounterNext (get m (machine_name layout CounterNext)) c) (sym (no_counter_next (λ r. r) g)) (at_none CounterNext (get m (machine_name layout CounterNext)))
   read Floor fits =
-      let t = number_there 10 2147483647 10 0 (get m (only_name only.MinUnpackedRev)) floor_text.0 in
-      subst (λ o. AtName Floor o (Some (Number 0))) (sym t.1) t.2
-  read (Rev q) fits = rev_found (λ c. AtName (Rev q) (get m (machine_name layout (Rev q))) c) (λ r. r) g q
-      (λ r x at same. subst (λ z. AtName (Rev z) (get m (machine_name layout (Rev z))) (Some (file_of x))) same
+      let t = number_there 10 2147483647 10 f (get m (only_name only.MinUnpackedRev)) floor_text.0 in
+      subst (λ o. AtName Floor o (Some (Number f))) (sym t.1) t.2
+  read (Rev q) fits = rev_found (λ c. AtName (Rev q) (file_in layout f m (Rev q)) c) (λ r. r) g q
+      (λ r x at same. subst (λ z. AtName (Rev z) (file_in layout f m (Rev z)) (Some (file_of x))) same
       (subst (λ o. AtName (Rev r) o (Some (file_of x))) (sym (bytes_there r x at)) refl))
-      (λ lacks. at_none (Rev q) (get m (machine_name layout (Rev q))))
+      (λ lacks. at_none (Rev q) (file_in layout f m (Rev q)))
   read (Props q) fits = props_found (λ c. AtName (Props q) (get m (machine_name layout (Props q))) c) (λ r. r) g q
       (λ r x at same. subst (λ z. AtName (Props z) (get m (machine_name layout (Props z))) (Some (PropsFile x.revision.properties))) same
       (let t = props_there r x at in subst (λ o. AtName (Props r) o (Some (PropsFile x.revision.properties))) (sym t.1) t.2))
@@ -250,13 +260,11 @@ module _ (first : Files) (labels : List Label) (before : List Operation) (h : Li
 
   -- ---- the machine's state
 
-  has_files : (r : ℕ) (x : Recorded) → slice_get g r ≡ Some x → HasFiles 0 (Firm ∷ disk) r x
-  has_files r x at =
-      let low : nat_lt r 0 ≡ false = grind arith in (
-        ap (λ b. cond b None (found (Firm ∷ disk) (Rev r))) low
-            ∙ rev_found (λ c. c ≡ Some (file_of x)) (λ r. r) g r (λ q y there same. ap (λ z. Some (file_of z)) (same_at q y there same)) (λ lacks. absurd (lacks r x at refl)),
-        props_found (λ c. c ≡ Some (PropsFile x.revision.properties)) (λ r. r) g r (λ q y there same. ap (λ (z : Recorded). Some (PropsFile z.revision.properties)) (same_at q y there same)) (λ lacks. absurd (lacks r x at refl)),
-      )
+  has_files : (r : ℕ) (x : Recorded) → slice_get g r ≡ Some x → HasFiles f (Firm ∷ disk) r x
+  has_files r x at = (
+    rev_found (λ c. c ≡ Some (file_of x)) (λ r. r) g r (λ q y there same. ap (λ z. Some (file_of z)) (same_at q y there same)) (λ lacks. absurd (lacks r x at refl)),
+    props_found (λ c. c ≡ Some (PropsFile x.revision.properties)) (λ r. r) g r (λ q y there same. ap (λ (z : Recorded). Some (PropsFile z.revision.properties)) (same_at q y there same)) (λ lacks. absurd (lacks r x at refl)),
+  )
     where
       some_is : (a b : Recorded) → Some a ≡ Some b → a ≡ b
       some_is a b e = cc
@@ -264,7 +272,7 @@ module _ (first : Files) (labels : List Label) (before : List Operation) (h : Li
       same_at : (q : ℕ) (y : Recorded) → slice_get g q ≡ Some y → q ≡ r → y ≡ x
       same_at q y there same = some_is y x (sym there ∙ ap (λ z. slice_get g z) same ∙ at)
 
-  stands_for : MachineStands 0 (Firm ∷ disk) g
+  stands_for : MachineStands f (Firm ∷ disk) g
   stands_for = (has_files, (s.opened.youngest, refl, (let c = s.count in omega (arith, long, c))))
 
   abbrev world : World
@@ -275,24 +283,24 @@ module _ (first : Files) (labels : List Label) (before : List Operation) (h : Li
     history = g;
     opening = length g;
     since = [];
-    floor = 0;
+    floor = f;
     given = [];
     labels = [];
     named = [];
     txns = [];
     spent = [];
-    passes = first_pass (length g) 0 ∷ [];
+    passes = first_pass (length g) f ∷ [];
   }
 
   kept : Kept world
   kept = record {
     young = λ up. (let c = s.count in omega (arith, long, c));
-    seen = (record { seen = omega arith; least = omega (arith, some); mine = tt; floor = omega arith }, tt);
+    seen = (record { seen = omega arith; least = omega (arith, some); mine = tt; floor = refl }, tt);
     history = subst (λ l. IsHistory l) (sym revisions_are) (stood_for_history m h s);
     transactions = tt;
-    stands = each_firm disk (λ e. MachineStands 0 e g) stands_for;
-    floor = refl;
-    floors = each_firm disk (FloorIs 0) refl;
+    stands = each_firm disk (λ e. MachineStands f e g) stands_for;
+    floor = (let c = s.count in omega (arith, long, c, s.small.behind.within));
+    floors = each_firm disk (FloorIs f) refl;
     counts = each_firm disk (CountsOn []) (s.opened.next_txn.number, refl, tt);
     once = tt;
     labels = tt;
@@ -306,30 +314,30 @@ module _ (first : Files) (labels : List Label) (before : List Operation) (h : Li
   }
 
   abbrev view : View
-  view = record { layout = layout; since = length before + 1; opened = length g; number = 0; pass = first_pass (length g) 0; seen = g; section = None; sure = false; given = [] }
+  view = record { layout = layout; since = length before + 1; opened = length g; number = 0; pass = first_pass (length g) f; seen = g; section = None; sure = false; given = [] }
 
   abbrev trace : Trace
   trace = record { first = first; labels = labels; operations = Done real.FirmNames ∷ before }
 
   store : IsStore layout s.opened.youngest None trace world
-  store = record { trace = Opening before disk read; kept = kept_bare world kept; shown = all_show; coming = tt; young_is = refl; stuck_is = refl; alone = refl }
+  store = record { trace = Opening before disk read; whole = floor_text.1; kept = kept_bare world kept; shown = all_show; coming = tt; young_is = refl; stuck_is = refl; alone = refl }
 
   sees : Sees world view
   sees = record { pass = refl; seen = sym (take_all (length g) g (omega arith)); section = refl; up = refl; sure = λ e. absurd cc; whole = λ z e. absurd cc; given = λ q i. absurd i; opened = omega arith; shown = all_show }
 
-  safe : Safe layout (length before + 1) trace (length g) 0 g None
+  safe : Safe layout (length before + 1) trace (length g) f g None
   safe z i =
-      let r = image_read layout no_others first (Done real.FirmNames ∷ before) (Firm ∷ disk) (Opening before disk read) z (now i) in
-      (r.0, r.2, past_of (length g) 0 g Free r.0 (omega arith) (stands r.0 r.1))
+      let r = image_read layout f no_others first (Done real.FirmNames ∷ before) (Firm ∷ disk) (Opening before disk read) z (now i) in
+      (r.0, r.2, past_of (length g) f g Free r.0 (omega arith) (stands r.0 r.1), kept.floors r.0 r.1)
     where
       now : ImageSince (length before + 1) first (Done real.FirmNames ∷ before) z → real.IsImage first (Done real.FirmNames ∷ before) z
       now i = ⊎_elim (λ a. a) (λ b. absurd (omega (arith, b.0))) i
 
-      stands : (e : Disk) → IsImage (Firm ∷ disk) e → Stands 0 g Free e
+      stands : (e : Disk) → IsImage (Firm ∷ disk) e → Stands f g Free e
       stands = kept.stands
 
-  pub is_known : (v : View) × Knows layout s.opened.youngest None (Some trace) v × (v.section ≡ None) × (v.pass ≡ first_pass (length h) 0) × (revisions v.seen ≡ h) × (v.since ≡ length before + 1) × IsAlone s.opened.youngest v
-  is_known = (view, (world, store, sees, refl, refl, safe), refl, ap (λ n. first_pass n 0) long, revisions_are, refl, record { all = (let c = s.count in omega (arith, long, c)); own = omega arith })
+  pub is_known : (v : View) × KnowsAlone layout s.opened.youngest None (Some trace) v × (v.section ≡ None) × (v.pass ≡ first_pass (length h) s.opened.min_unpacked_rev) × (revisions v.seen ≡ h) × (v.since ≡ length before + 1)
+  is_known = (view, ((world, store, sees, refl, refl, safe), record { all = (let c = s.count in omega (arith, long, c)); own = omega arith; free = λ harmless. refl; sound = λ harmless. refl }, own_opened (files_after first before) h s), refl, ap (λ n. first_pass n s.opened.min_unpacked_rev) long, revisions_are, refl)
 
 pub store_is_known : StoreIsKnown
-store_is_known first labels before h s unpacked = is_known first labels before h s unpacked
+store_is_known first labels before h s agreeing = is_known first labels before h s agreeing

@@ -50,7 +50,7 @@ module _ (layout : Layout) (young : ℕ) (stuck : Option DiskPlace) (t : Trace) 
 
   floor_file : (name : List ℕ) → name ≡ only_name only.MinUnpackedRev → (text : List ℕ) × (file_at t name ≡ Some text) × IsRevLine text w.floor
   floor_file name named =
-      let at = at_found Floor (get (files_now t) (machine_name layout Floor)) (found w.disk Floor) (Number w.floor) floor_there (now_read layout no_others t.first t.operations w.disk store.trace Floor tt) in
+      let at = at_found Floor (get (files_now t) (machine_name layout Floor)) (found w.disk Floor) (Number w.floor) floor_there (now_read layout w.floor no_others t.first t.operations w.disk store.trace Floor tt) in
       (at.0, ap (λ n. get (files_now t) n) named ∙ at.1, at.2)
 
   pub floor_comes : {E : Type 0} (told : Option Trace) → told ≡ Some t → (offset : ℕ) (name old new : List ℕ) → name ≡ only_name only.MinUnpackedRev → (result : Result (Option ℕ) E) → IfOk result (IsRead (file_at t name) offset old new)
@@ -91,7 +91,7 @@ module _ (layout : Layout) (young : ℕ) (stuck : Option DiskPlace) (t : Trace) 
 
     props_file : r < 2 ^ 32 → (name : List ℕ) → name ≡ props_name v r → (text : List ℕ) × (file_at t name ≡ Some text) × IsDump text x.revision.properties
     props_file fits name named =
-        let at = at_found (Props r) (get (files_now t) (machine_name layout (Props r))) (found w.disk (Props r)) (PropsFile x.revision.properties) props_there (now_read layout no_others t.first t.operations w.disk store.trace (Props r) fits) in
+        let at = at_found (Props r) (get (files_now t) (machine_name layout (Props r))) (found w.disk (Props r)) (PropsFile x.revision.properties) props_there (now_read layout w.floor no_others t.first t.operations w.disk store.trace (Props r) fits) in
         (at.0, ap (λ n. get (files_now t) n) (named ∙ ap (λ k. machine_name k (Props r)) layout_is) ∙ at.1, at.2)
 
     pub props_comes : {E : Type 0} (told : Option Trace) → told ≡ Some t → (offset : ℕ) → r < 2 ^ 32 → (name old new : List ℕ) → name ≡ props_name v r → (result : Result (Option ℕ) E) → IfOk result (IsRead (file_at t name) offset old new)

@@ -154,7 +154,7 @@ pub record IsCalled (layout : Layout) (young : ℕ) (stuck : Option DiskPlace) (
 
 pub call_turns : (layout : Layout) (young : ℕ) (stuck : Option DiskPlace) (old new : Trace) (w : World) (v : View) (place : DiskPlace) (went : Went) (s : Section) (change : NameChange)
     → IsStore layout young stuck old w → Sees w v → v.section ≡ Some s → is_due s place ≡ true → due w s ≡ Some change
-    → IsTraceOf layout no_others new.first new.operations (disk_after went change w.disk)
+    → IsTraceOf layout w.floor no_others new.first new.operations (disk_after went change w.disk)
     → Safe layout v.since new v.opened w.floor w.history (doubt_in (either went (after s) (spoiled s)))
     → IsCalled layout young stuck new place went v
 call_turns layout young stuck old new w v place went s change store sees section is due_is trace safe = record {
@@ -162,6 +162,7 @@ call_turns layout young stuck old new w v place went s change store sees section
   view = view;
   store = record {
     trace = trace;
+    whole = store.whole;
     kept = kept;
     shown = store.shown;
     coming = coming_either went s (λ x. BytesShow (with_next w.history x)) (subst (λ l. IfSome (coming l) (λ x. BytesShow (with_next w.history x))) lock store.coming);

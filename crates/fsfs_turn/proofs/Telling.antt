@@ -33,7 +33,7 @@ module _ (layout : Layout) (young : ℕ) (stuck : Option DiskPlace) (old : Trace
   pub tells : (lay : World → World) (step : Step) (outcome : Outcome) (tell : ℕ → Pass → Pass) (labels : List ℕ) (named : List Drawn) (txns : List Txn) (spent : List ℕ)
       → Kept (lay w) → Happens (lay w) step (did (told_world w v.number (tell (length w.history)) labels named txns spent) outcome)
       → (tell (length w.history) v.pass).least ≡ v.pass.least → (tell (length w.history) v.pass).seen ≡ length w.history
-      → (new : Trace) (told : Option Trace) → told ≡ Some new → IsTraceOf layout no_others new.first new.operations w.disk → Safe layout v.since new v.opened w.floor w.history (doubt w.lock)
+      → (new : Trace) (told : Option Trace) → told ≡ Some new → IsTraceOf layout w.floor no_others new.first new.operations w.disk → Safe layout v.since new v.opened w.floor w.history (doubt w.lock)
       → (u : View) × Knows layout young stuck told u × Learned lay step outcome tell v u
   tells lay step outcome tell labels named txns spent kept_lay happens least_is seen_is new told is trace safe = (
     told_view w v (tell (length w.history)),
@@ -68,4 +68,4 @@ module _ (layout : Layout) (young : ℕ) (stuck : Option DiskPlace) (old : Trace
       }
 
       now : IsStore layout young stuck new world
-      now = record { trace = trace; kept = kept; shown = store.shown; coming = store.coming; young_is = store.young_is; stuck_is = store.stuck_is; alone = length_at w.passes v.number (tell (length w.history)) ∙ store.alone }
+      now = record { trace = trace; whole = store.whole; kept = kept; shown = store.shown; coming = store.coming; young_is = store.young_is; stuck_is = store.stuck_is; alone = length_at w.passes v.number (tell (length w.history)) ∙ store.alone }

@@ -6,10 +6,13 @@ use Rattle.fsfs_turn.specs.Bytes.{BytesShow, AllShow}
 use Rattle.fsfs_turn.specs.Past.{doubt_in, doubt, IsPart, WasLeft, Safe}
 use Rattle.fsfs_turn.proofs.Moments.{past_of}
 use Rattle.fsfs_turn.proofs.Stepping.{take_drop, get_taken}
-use Rattle.std.specs.Prelude.{Some, IfSome, slice_get}
+use Rattle.std.specs.Prelude.{Some, Ok, IfSome, slice_get}
 use Rattle.std.specs.FinMap.{get}
 use Rattle.fsfs_base.specs.Files.{Files}
+use Rattle.fsfs_layout.specs.Layouts.{place_in_shard}
 use Rattle.fsfs_layout.specs.declared.layout.Layout.{Layout}
+use Rattle.fsfs_rev_file.specs.RevBytes.{floor_in}
+use Rattle.fsfs_rev_file.proofs.FloorLemmas.{floor_is}
 use Rattle.fsfs_disk.specs.Trace.{Operation, ImageSince}
 use Rattle.fsfs_disk.specs.Trace as real
 use Rattle.fsfs_machine.specs.declared.contents.FileName.TheVariants.{Current, Rev, Props}
@@ -22,13 +25,13 @@ use Rattle.fsfs_machine.specs.declared.machine.Lock.{Lock}
 use Rattle.fsfs_machine.specs.declared.machine.Lock.TheVariants.{Free, Held, Stuck, Down, DownDoubtful}
 use Rattle.fsfs_machine.specs.Disk.{Disk, found, IsImage}
 use Rattle.fsfs_machine.specs.Machine.{World, file_of, with_next}
-use Rattle.fsfs_machine.specs.Kept.{coming, coming_in, StandsFor, StandsForEither, StandsIn, Stands, NamesLast}
+use Rattle.fsfs_machine.specs.Kept.{coming, coming_in, StandsFor, StandsForEither, StandsIn, Stands, NamesLast, FloorIs}
 use Rattle.fsfs_machine.proofs.Answering.{has_all}
 use Rattle.fsfs_layout.specs.Small.{IsRevLine}
 use Rattle.fsfs_images.specs.RealNames.{machine_name}
 use Rattle.fsfs_images.specs.Shown.{AreRead}
 use Rattle.fsfs_turn.specs.Views.{Sees}
-use Rattle.fsfs_turn.specs.Found.{unpacked, LastFrom, last_at}
+use Rattle.fsfs_turn.specs.Found.{bytes_are, floor_read, rev_there, LastFrom, last_at}
 use Rattle.fsfs_turn.specs.Standing.{no_others, IsStore}
 use Rattle.fsfs_turn.specs.Whole.{HasRevision, NamesFrom, SeenIsWhole, NamesLastOf, HasHistory, EachMomentStands, KnownFromNow}
 use Rattle.fsfs_images.proofs.Showing.{image_read}
@@ -47,14 +50,17 @@ seen_is_whole layout young stuck t v known m image = (each, names)
     sees : Sees w v
     sees = known.2
 
-    e : (d : Disk) × IsImage w.disk d × AreRead layout m d
-    e = image_read layout no_others t.first t.operations w.disk store.trace m image
+    e : (d : Disk) × IsImage w.disk d × AreRead layout w.floor m d
+    e = image_read layout w.floor no_others t.first t.operations w.disk store.trace m image
 
     stands : Stands w.floor w.history w.lock e.0
     stands = store.kept.stands e.0 e.1
 
     last : LastFrom e.0 (length w.history)
     last = last_at w.floor w.history w.lock e.0 stands
+
+    floor : floor_in layout m ≡ Ok w.floor
+    floor = floor_is layout w.floor m (floor_read layout w.floor m e.0 e.2 (store.kept.floors e.0 e.1) store.whole)
 
     current : (text : List ℕ) × (get m (machine_name layout Current) ≡ Some text) × IsRevLine text last.0
     current = at_found Current (get m (machine_name layout Current)) (found e.0 Current) (Number last.0) last.1 (e.2 Current tt)
@@ -64,16 +70,18 @@ seen_is_whole layout young stuck t v known m image = (each, names)
         let here : slice_get w.history r ≡ Some x = get_taken v.pass.seen r w.history x (ap (λ l. slice_get l r) (sym sees.seen) ∙ at) in
         let fits : r < 2 ^ 32 = omega (arith, slice_get_within w.history r x here, last.2, current.2.fits) in
         let files = has_all w.floor w.history w.lock e.0 stands r x here in
-        let rev = at_found (Rev r) (get m (machine_name layout (Rev r))) (found e.0 (Rev r)) (file_of x) (sym (unpacked w.floor e.0 r store.kept.floor) ∙ files.0) (e.2 (Rev r) fits) in
         let props = at_found (Props r) (get m (machine_name layout (Props r))) (found e.0 (Props r)) (PropsFile x.revision.properties) files.1 (e.2 (Props r) fits) in
-        record { bytes = rev.1 ∙ ap (λ (b : List ℕ). Some b) rev.2; text = props.0; there = props.1; dump = props.2 }
+        record { bytes = bytes_are layout w.floor m r x.bytes floor (rev_there layout w.floor m e.0 r x e.2 fits files); text = props.0; there = props.1; dump = props.2 }
 
     names : NamesFrom m (length v.seen)
     names = record { text = current.0; there = current.1; number = last.0; line = current.2; from = omega (arith, last.2, seen_within w v sees) }
 
-pub has_history : (layout : Layout) (f : ℕ) (m : Files) (e : Disk) (g : List Recorded) → f ≡ 0 → AreRead layout m e → StandsFor f e g → BytesShow g → HasHistory layout m g
-has_history layout f m e g none all stands show = record { each = each; names = names; shown = show }
+pub has_history : (layout : Layout) (f : ℕ) (m : Files) (e : Disk) (g : List Recorded) → place_in_shard layout f ≡ 0 → FloorIs f e → AreRead layout f m e → StandsFor f e g → BytesShow g → HasHistory layout m g
+has_history layout f m e g whole floors all stands show = record { each = each; names = names; shown = show }
   where
+    floor : floor_in layout m ≡ Ok f
+    floor = floor_is layout f m (floor_read layout f m e all floors whole)
+
     current : (text : List ℕ) × (get m (machine_name layout Current) ≡ Some text) × IsRevLine text stands.1.0
     current = at_found Current (get m (machine_name layout Current)) (found e Current) (Number stands.1.0) stands.1.1 (all Current tt)
 
@@ -81,9 +89,8 @@ has_history layout f m e g none all stands show = record { each = each; names = 
     each r x at =
         let fits : r < 2 ^ 32 = omega (arith, slice_get_within g r x at, stands.1.2, current.2.fits) in
         let files = stands.0 r x at in
-        let rev = at_found (Rev r) (get m (machine_name layout (Rev r))) (found e (Rev r)) (file_of x) (sym (unpacked f e r none) ∙ files.0) (all (Rev r) fits) in
         let props = at_found (Props r) (get m (machine_name layout (Props r))) (found e (Props r)) (PropsFile x.revision.properties) files.1 (all (Props r) fits) in
-        record { bytes = rev.1 ∙ ap (λ (b : List ℕ). Some b) rev.2; text = props.0; there = props.1; dump = props.2 }
+        record { bytes = bytes_are layout f m r x.bytes floor (rev_there layout f m e r x all fits files); text = props.0; there = props.1; dump = props.2 }
 
     names : NamesLastOf m (length g)
     names = record { text = current.0; there = current.1; number = stands.1.0; line = current.2; last = stands.1.2 }
@@ -122,7 +129,7 @@ each_moment_stands layout young stuck t v known m i =
       (drop v.pass.seen w.history, take_drop v.pass.seen w.history ∙ ap (λ l. l ++ drop v.pass.seen w.history) (sym sees.seen)),
       p.3,
       p.2,
-      has_history layout w.floor m left.0 p.0 store.kept.floor left.1 p.1 (part_shown w.history w.lock p.0 store.shown store.coming some p.3),
+      has_history layout w.floor m left.0 p.0 store.whole left.3 left.1 p.1 (part_shown w.history w.lock p.0 store.shown store.coming some p.3),
     )
 
 pub known_from_now : KnownFromNow
@@ -134,8 +141,8 @@ known_from_now layout young stuck t v known =
   where
     past : (m : Files) → real.IsImage t.first t.operations m → WasLeft layout (length v.seen) known.0.floor known.0.history (doubt known.0.lock) m
     past m i =
-        let r = image_read layout no_others t.first t.operations known.0.disk known.1.trace m i in
-        (r.0, r.2, past_of (length v.seen) known.0.floor known.0.history known.0.lock r.0 (seen_within known.0 v known.2) (known.1.kept.stands r.0 r.1))
+        let r = image_read layout known.0.floor no_others t.first t.operations known.0.disk known.1.trace m i in
+        (r.0, r.2, past_of (length v.seen) known.0.floor known.0.history known.0.lock r.0 (seen_within known.0 v known.2) (known.1.kept.stands r.0 r.1), known.1.kept.floors r.0 r.1)
 
     now : (first : Files) (ops : List Operation) (m : Files) → ImageSince (length ops) first ops m → real.IsImage first ops m
     now first [] m i = i

@@ -1,26 +1,71 @@
--- The one pass of an owned store is alone: nobody else adds a revision.
-use Rattle.std.specs.Prelude.{◌≡◌, ◌+◌, ℕ, List, [], ◌∷◌, ◌++◌, length, Option}
+-- The one pass of an owned store is alone: nobody else adds a revision, and nobody else leaves the lock stuck.
+use Rattle.std.specs.Prelude.{◌≡◌, ◌+◌, ◌≤◌, if◌then◌else◌, ℕ, List, [], ◌∷◌, ◌++◌, length, Bool, true, false, Option, Some, None}
+use Rattle.fsfs_base.specs.Files.{Files}
 use Rattle.fsfs_layout.specs.declared.layout.Layout.{Layout}
-use Rattle.fsfs_disk.specs.Trace.{Trace}
+use Rattle.fsfs_disk.specs.Trace.{Trace, IsImage}
+use Rattle.fsfs_stands.specs.Files.{StandsFor}
 use Rattle.fsfs_places.specs.declared.place.DiskPlace.{DiskPlace}
+use Rattle.fsfs_places.specs.declared.place.DiskPlace.TheVariants.{Commit}
+use Rattle.fsfs_places.specs.declared.place.CommitPlace.TheVariants.{RenameCurrent, FirmCurrent}
 use Rattle.fsfs_machine.specs.declared.machine.Recorded.{Recorded}
+use Rattle.fsfs_machine.specs.declared.machine.Coming.{Coming}
+use Rattle.fsfs_machine.specs.declared.machine.Section.{Section}
+use Rattle.fsfs_machine.specs.declared.machine.Section.TheVariants.{Doubtful}
+use Rattle.fsfs_machine.specs.Machine.{revisions}
+use Rattle.fsfs_turn.specs.Past.{IsPart}
 use Rattle.fsfs_turn.specs.Views.{View, Begins}
 use Rattle.fsfs_turn.specs.Standing.{Knows}
+use Rattle.fsfs_turn.specs.Stands.{OwnFilesStand}
+use Rattle.fsfs_turn.specs.Whole.{HasHistory}
 
--- It has seen all revisions that there are, and those added since the opening are its own.
-pub record IsAlone (young : ℕ) (v : View) : Type 0 where
+-- a fault there leaves the revision that a commit was to add in doubt
+abbrev pub brings_doubt : DiskPlace → Bool
+brings_doubt (Commit RenameCurrent) = true
+brings_doubt (Commit FirmCurrent) = true
+brings_doubt place = false
+
+-- none of these faults does
+abbrev pub are_harmless : List DiskPlace → Bool
+are_harmless [] = true
+are_harmless (place ∷ places) = if brings_doubt place then false else are_harmless places
+
+-- the lock is to be left stuck
+abbrev pub is_doubtful : Section → Bool
+is_doubtful (Doubtful place x) = true
+is_doubtful s = false
+
+abbrev pub is_doubtful_at : Option Section → Bool
+is_doubtful_at None = false
+is_doubtful_at (Some s) = is_doubtful s
+
+-- It has seen all revisions that there are, and those added since the opening are its own. The lock is stuck, or is to be, by a fault of
+-- its own alone, one that leaves a revision in doubt.
+pub record IsAlone (young : ℕ) (stuck : Option DiskPlace) (v : View) : Type 0 where
   pub all : length v.seen ≡ young + 1
   pub own : length v.seen ≡ v.opened + length v.pass.mine
+  pub free : are_harmless v.pass.faults ≡ true → stuck ≡ None
+  pub sound : are_harmless v.pass.faults ≡ true → is_doubtful_at v.section ≡ false
 
--- what the one pass of a store knows
+-- what the one pass of a store knows; and the files that no turn touches are in their formats
 abbrev pub KnowsAlone : Layout → ℕ → Option DiskPlace → Option Trace → View → Type 0
-KnowsAlone layout young stuck told v = Knows layout young stuck told v × IsAlone young v
+KnowsAlone layout young stuck told v = Knows layout young stuck told v × IsAlone young stuck v × OwnFilesStand layout told
 
 -- Behind calls by which a pass that is alone added nothing it has seen what it had seen, and the youngest revision is the one that it was.
 abbrev pub AloneStays : Type 0
-AloneStays = (young now : ℕ) (v u : View) → IsAlone young v → IsAlone now u → Begins u.seen v.seen → u.opened ≡ v.opened → u.pass.mine ≡ v.pass.mine → (u.seen ≡ v.seen) × (now ≡ young)
+AloneStays = (young now : ℕ) (stuck left : Option DiskPlace) (v u : View) → IsAlone young stuck v → IsAlone now left u → Begins u.seen v.seen → u.opened ≡ v.opened → u.pass.mine ≡ v.pass.mine → (u.seen ≡ v.seen) × (now ≡ young)
 
 -- Behind those by which it added one, that is the one behind what it had seen, and the youngest.
 abbrev pub AloneAdds : Type 0
-AloneAdds = (young now rev : ℕ) (v u : View) (before : List Recorded) (next : Recorded) → IsAlone young v → IsAlone now u → u.seen ≡ before ++ next ∷ [] → Begins before v.seen → u.opened ≡ v.opened → u.pass.mine ≡ v.pass.mine ++ rev ∷ []
+AloneAdds = (young now rev : ℕ) (stuck left : Option DiskPlace) (v u : View) (before : List Recorded) (next : Recorded) → IsAlone young stuck v → IsAlone now left u → u.seen ≡ before ++ next ∷ [] → Begins before v.seen → u.opened ≡ v.opened → u.pass.mine ≡ v.pass.mine ++ rev ∷ []
     → (before ≡ v.seen) × (now ≡ young + 1)
+
+-- Each image now stands for what the pass has seen, or for that with the revision in doubt; where the lock isn't stuck and the pass is in
+-- no section, for what it has seen.
+abbrev pub LoneImagesStand : Type 0
+LoneImagesStand = (layout : Layout) (young : ℕ) (stuck : Option DiskPlace) (t : Trace) (v : View) → KnowsAlone layout young stuck (Some t) v → (m : Files) → IsImage t.first t.operations m
+    → (d : Option Coming) × (g : List Recorded) × IsPart v.seen d g × (length v.seen ≤ length g) × HasHistory layout m g × StandsFor m (revisions g) × (v.section ≡ None → stuck ≡ None → g ≡ v.seen)
+
+-- So it is where none of the pass's faults left a revision in doubt: then the lock isn't stuck.
+abbrev pub NothingInDoubt : Type 0
+NothingInDoubt = (layout : Layout) (young : ℕ) (stuck : Option DiskPlace) (t : Trace) (v : View) → KnowsAlone layout young stuck (Some t) v → v.section ≡ None → are_harmless v.pass.faults ≡ true
+    → (stuck ≡ None) × ((m : Files) → IsImage t.first t.operations m → HasHistory layout m v.seen × StandsFor m (revisions v.seen))

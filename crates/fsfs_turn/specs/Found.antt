@@ -1,22 +1,22 @@
 -- What a pass has seen stands in the files now.
-use Rattle.std.proofs.Common.{◌≡◌, ◌<◌, ◌≤◌, ◌+◌, ◌^◌, ℕ, zero, suc, List, [], ◌∷◌, length, take, false, cond, ⊎_elim, refl, sym, ap, subst, ◌∙◌, arith, length-append}
-use Rattle.std.specs.Prelude.{Option, Some, None, Ok, unwrap_or, slice_get, nat_lt}
+use Rattle.std.proofs.Common.{◌≡◌, ◌<◌, ◌≤◌, ◌+◌, ◌^◌, ℕ, zero, suc, List, [], ◌∷◌, length, take, Bool, true, false, cond, ⊎_elim, refl, sym, ap, subst, ◌∙◌, arith, length-append}
+use Rattle.std.specs.Prelude.{Option, Some, None, Result, Ok, Err, unwrap_or, slice_get, nat_lt, nat_eq}
 use Rattle.std.specs.FinMap.{get}
-use Rattle.std.specs.Cmp.Lexicographic.{nat_list_eq_equiv}
-use Rattle.std.proofs.Math.Nat.{zero-mod}
+use Rattle.std.specs.Cmp.Lexicographic.{nat_list_eq_equiv, pointwise}
 use Rattle.std.proofs.lemmas.List.{length-take}
 use Rattle.std.proofs.lemmas.Option.{slice_get_within}
 use Rattle.fsfs_base.specs.Files.{Files}
 use Rattle.fsfs_hash.specs.Dump.{IsDump}
-use Rattle.fsfs_layout.specs.FileNames.{file_name, only_name}
+use Rattle.fsfs_layout.specs.FileNames.{only_name}
 use Rattle.fsfs_layout.specs.Opening.{text_at}
 use Rattle.fsfs_layout.specs.Small.{IsRevLine, IsMinUnpackedRev}
+use Rattle.fsfs_layout.specs.Layouts.{place_in_shard}
 use Rattle.fsfs_layout.specs.declared.layout.Layout.{Layout}
 use Rattle.fsfs_layout.specs.declared.only_file.OnlyFile.TheVariants as only
-use Rattle.fsfs_layout.specs.declared.repository_file.RepositoryFile.TheVariants as file
-use Rattle.fsfs_rev_file.specs.RevBytes.{floor_in, packed_bytes, or_missing, by_floor, rev_bytes}
+use Rattle.fsfs_rev_file.specs.RevBytes.{floor_in, packed_bytes, or_missing, by_floor, rev_file, rev_bytes}
 use Rattle.fsfs_rev_file.proofs.FloorLemmas.{floor_is}
 use Rattle.fsfs_fetch.specs.Kept.{agrees}
+use Rattle.fsfs_damage.specs.declared.wrong.Refusal.{Refusal}
 use Rattle.fsfs_disk.specs.Trace.{Trace, files_now}
 use Rattle.fsfs_places.specs.declared.place.DiskPlace.{DiskPlace}
 use Rattle.fsfs_machine.specs.declared.contents.Contents.{Contents}
@@ -29,13 +29,13 @@ use Rattle.fsfs_machine.specs.declared.machine.Section.{Section}
 use Rattle.fsfs_machine.specs.declared.machine.Section.TheVariants.{RevFirm, CurrentPut, CurrentRenamed, CurrentFirm, Doubtful}
 use Rattle.fsfs_machine.specs.declared.machine.Lock.{Lock}
 use Rattle.fsfs_machine.specs.declared.machine.Lock.TheVariants.{Free, Held, Stuck, Down, DownDoubtful}
-use Rattle.fsfs_machine.specs.Disk.{Disk, found, shown}
+use Rattle.fsfs_machine.specs.Disk.{Disk, found}
 use Rattle.fsfs_machine.specs.Machine.{World, file_of, with_next}
-use Rattle.fsfs_machine.specs.Kept.{HasFiles, NamesLast, Stands, StandsIn, StandsForEither}
+use Rattle.fsfs_machine.specs.Kept.{HasFiles, NamesLast, Stands, StandsIn, StandsForEither, FloorIs}
 use Rattle.fsfs_machine.proofs.Answering.{has_all}
 use Rattle.fsfs_machine.proofs.Images.{read_is_image}
 use Rattle.fsfs_images.specs.RealNames.{machine_name}
-use Rattle.fsfs_images.specs.Shown.{AtName, Reads}
+use Rattle.fsfs_images.specs.Shown.{AtName, AreRead, Reads, there_in, packed_in, file_in}
 use Rattle.fsfs_images.proofs.Showing.{now_read}
 use Rattle.fsfs_turn.specs.Views.{View, Sees}
 use Rattle.fsfs_turn.specs.Standing.{no_others, Knows}
@@ -58,19 +58,58 @@ get_taken (suc n) (suc r) (y ∷ ys) x e = get_taken n r ys x e
 pub seen_within : (w : World) (v : View) → Sees w v → length v.seen ≤ length w.history
 seen_within w v sees = let e : length v.seen ≡ length (take v.pass.seen w.history) = ap length sees.seen in omega (arith, e, length-take v.pass.seen w.history)
 
--- where no revision is packed each has its own file
-pub unpacked : (f : ℕ) (m : Disk) (r : ℕ) → f ≡ 0 → shown f m r ≡ found m (Rev r)
-unpacked f m r is = let e : nat_lt r f ≡ false = grind (arith, is) in ap (λ b. cond b None (found m (Rev r))) e
-
-pub rev_is : (n : Layout) (m : Files) (r : ℕ) (bytes : List ℕ) → floor_in n m ≡ Ok 0 → get m (file_name n (file.Revision r)) ≡ Some bytes → rev_bytes n m r ≡ Ok bytes
-unfolding rev_bytes
-rev_is n m r bytes floor there =
-    let e : nat_lt r 0 ≡ false = grind arith in
-    ap (by_floor n m r) floor ∙ ap (λ b. cond b (packed_bytes n m r) (or_missing r (get m (file_name n (file.Revision r))))) e ∙ ap (or_missing r) there
-
 -- a file that is there has its text
 pub text_there : {X : Type 0} (m : Files) (name text : List ℕ) (G : List ℕ → X → Type 0) (x : X) → get m name ≡ Some text → G text x → G (text_at m name) x
 text_there m name text G x there is = subst (λ (t : List ℕ). G t x) (sym (ap (λ (o : Option (List ℕ)). unwrap_or o []) there)) is
+
+-- the bytes of a revision, where the files have them below or above this floor
+module _ (layout : Layout) (f : ℕ) (m : Files) (r : ℕ) (bytes : List ℕ) (floor : floor_in layout m ≡ Ok f) (there : file_in layout f m (Rev r) ≡ Some bytes) where
+  abbrev own : Option (List ℕ)
+  own = rev_file layout m r
+
+  abbrev part : Result (List ℕ) Refusal
+  part = packed_bytes layout m r
+
+  part_there : (p : Result (List ℕ) Refusal) → there_in p ≡ Some bytes → p ≡ Ok bytes
+  part_there (Ok b) e = let same : b ≡ bytes = cc in ap (λ (l : List ℕ). Ok l) same
+  part_there (Err refusal) e = absurd cc
+
+  packed_there : (o : Option (List ℕ)) (p : Result (List ℕ) Refusal) → packed_in o (there_in p) ≡ Some bytes → (agrees o (Ok bytes) ≡ true) × (p ≡ Ok bytes)
+  packed_there None p e = (refl, part_there p e)
+  packed_there (Some b) (Err refusal) e = absurd cc
+  packed_there (Some b) (Ok c) e = let r = by_test (pointwise nat_eq b c) refl e in (r.0, ap (λ (l : List ℕ). Ok l) r.1)
+    where
+      by_test : (t : Bool) → pointwise nat_eq b c ≡ t → cond t (Some c) None ≡ Some bytes → (pointwise nat_eq b bytes ≡ true) × (c ≡ bytes)
+      by_test true is e = let same : c ≡ bytes = cc in (subst (λ (l : List ℕ). pointwise nat_eq b l ≡ true) same is, same)
+      by_test false is e = absurd cc
+
+  pub bytes_are : rev_bytes layout m r ≡ Ok bytes
+  unfolding rev_bytes
+  bytes_are = ap (by_floor layout m r) floor ∙ by_test (nat_lt r f) there
+    where
+      by_test : (b : Bool) → cond b (packed_in own (there_in part)) own ≡ Some bytes → cond b part (or_missing r own) ≡ Ok bytes
+      by_test true e = (packed_there own part e).1
+      by_test false e = ap (or_missing r) e
+
+  -- its own file has them, where there is one
+  pub own_agrees : agrees own (rev_bytes layout m r) ≡ true
+  own_agrees = ap (λ (b : Result (List ℕ) Refusal). agrees own b) bytes_are ∙ by_test (nat_lt r f) there
+    where
+      by_test : (b : Bool) → cond b (packed_in own (there_in part)) own ≡ Some bytes → agrees own (Ok bytes) ≡ true
+      by_test true e = (packed_there own part e).0
+      by_test false e = ap (λ (o : Option (List ℕ)). agrees o (Ok bytes)) e ∙ nat_list_eq_equiv.refl bytes
+
+-- the files show the floor
+pub floor_read : (layout : Layout) (f : ℕ) (m : Files) (d : Disk) → AreRead layout f m d → FloorIs f d → place_in_shard layout f ≡ 0 → IsMinUnpackedRev layout (text_at m (only_name only.MinUnpackedRev)) f
+floor_read layout f m d all is whole =
+    let at = at_found Floor (get m (machine_name layout Floor)) (found d Floor) (Number f) is (all Floor tt) in
+    text_there m (only_name only.MinUnpackedRev) at.0 (IsMinUnpackedRev layout) f at.1 (at.2, whole)
+
+-- a revision of the history can be read in files that the machine's are read from
+pub rev_there : (layout : Layout) (f : ℕ) (m : Files) (d : Disk) (r : ℕ) (x : Recorded) → AreRead layout f m d → r < 2 ^ 32 → HasFiles f d r x → file_in layout f m (Rev r) ≡ Some x.bytes
+rev_there layout f m d r x all fits has =
+    let at = at_found (Rev r) (file_in layout f m (Rev r)) (found d (Rev r)) (file_of x) has.0 (all (Rev r) fits) in
+    at.1 ∙ ap (λ (b : List ℕ). Some b) at.2
 
 -- `current` names the last revision or the one to come
 abbrev pub LastFrom : Disk → ℕ → Type 0
@@ -101,19 +140,18 @@ last_at f h Free m i = last_of m (length h) i.1
 last_at f h Down m i = last_of m (length h) i.1
 
 module _ (layout : Layout) (young : ℕ) (stuck : Option DiskPlace) (t : Trace) (v : View) (known : Knows layout young stuck (Some t) v) where
-  floor_zero : floor_in layout (files_now t) ≡ Ok 0
-  floor_zero =
-      let w = known.0 in
-      let m = files_now t in
-      let at = at_found Floor (get m (machine_name layout Floor)) (found w.disk Floor) (Number w.floor) (known.1.kept.floors w.disk (read_is_image w.disk)) (now_read layout no_others t.first t.operations w.disk known.1.trace Floor tt) in
-      floor_is layout 0 m (text_there m (only_name only.MinUnpackedRev) at.0 (IsMinUnpackedRev layout) 0 at.1 (subst (λ k. IsRevLine at.0 k) known.1.kept.floor at.2, zero-mod layout.shard_size))
+  all_read : AreRead layout known.0.floor (files_now t) known.0.disk
+  all_read = now_read layout known.0.floor no_others t.first t.operations known.0.disk known.1.trace
+
+  floor_now : floor_in layout (files_now t) ≡ Ok known.0.floor
+  floor_now = floor_is layout known.0.floor (files_now t) (floor_read layout known.0.floor (files_now t) known.0.disk all_read (known.1.kept.floors known.0.disk (read_is_image known.0.disk)) known.1.whole)
 
   -- a revision that the pass has seen can be read
   pub readable : (path : List ℕ) (r : ℕ) (x : Recorded) → slice_get v.seen r ≡ Some x → IsReadable (owned_view (state_of layout young stuck (Some t) path)) (files_now t) r x
   readable path r x at = record {
     known = omega (arith, slice_get_within v.seen r x at, seen_within w v known.2, up, known.1.young_is);
-    bytes = bytes;
-    own = (λ i. agrees (own i) (bytes i)) ∙ nat_list_eq_equiv.refl x.bytes;
+    bytes = bytes_are layout known.0.floor (files_now t) r x.bytes floor_now rev;
+    own = own_agrees layout known.0.floor (files_now t) r x.bytes floor_now rev;
     text = props.0;
     props = ap (or_missing r) props.1;
     dump = props.2;
@@ -129,7 +167,7 @@ module _ (layout : Layout) (young : ℕ) (stuck : Option DiskPlace) (t : Trace) 
       last = last_at known.0.floor known.0.history known.0.lock known.0.disk (known.1.kept.stands known.0.disk (read_is_image known.0.disk))
 
       current : (text : List ℕ) × (get (files_now t) (machine_name layout Current) ≡ Some text) × IsRevLine text last.0
-      current = at_found Current (get (files_now t) (machine_name layout Current)) (found known.0.disk Current) (Number last.0) last.1 (now_read layout no_others t.first t.operations known.0.disk known.1.trace Current tt)
+      current = at_found Current (get (files_now t) (machine_name layout Current)) (found known.0.disk Current) (Number last.0) last.1 (all_read Current tt)
 
       fits : r < 2 ^ 32
       fits = omega (arith, slice_get_within v.seen r x at, seen_within known.0 v known.2, last.2, current.2.fits)
@@ -140,14 +178,8 @@ module _ (layout : Layout) (young : ℕ) (stuck : Option DiskPlace) (t : Trace) 
       has : HasFiles known.0.floor known.0.disk r x
       has = has_all known.0.floor known.0.history known.0.lock known.0.disk (known.1.kept.stands known.0.disk (read_is_image known.0.disk)) r x here
 
-      rev : (bytes : List ℕ) × (get (files_now t) (machine_name layout (Rev r)) ≡ Some bytes) × Reads (Rev r) bytes (file_of x)
-      rev = at_found (Rev r) (get (files_now t) (machine_name layout (Rev r))) (found known.0.disk (Rev r)) (file_of x) (sym (unpacked known.0.floor known.0.disk r known.1.kept.floor) ∙ has.0) (now_read layout no_others t.first t.operations known.0.disk known.1.trace (Rev r) fits)
-
-      own : get (files_now t) (file_name layout (file.Revision r)) ≡ Some x.bytes
-      own = rev.1 ∙ ap (λ (b : List ℕ). Some b) rev.2
+      rev : file_in layout known.0.floor (files_now t) (Rev r) ≡ Some x.bytes
+      rev = rev_there layout known.0.floor (files_now t) known.0.disk r x all_read fits has
 
       props : (text : List ℕ) × (get (files_now t) (machine_name layout (Props r)) ≡ Some text) × IsDump text x.revision.properties
-      props = at_found (Props r) (get (files_now t) (machine_name layout (Props r))) (found known.0.disk (Props r)) (PropsFile x.revision.properties) has.1 (now_read layout no_others t.first t.operations known.0.disk known.1.trace (Props r) fits)
-
-      bytes : rev_bytes layout (files_now t) r ≡ Ok x.bytes
-      bytes = rev_is layout (files_now t) r x.bytes floor_zero own
+      props = at_found (Props r) (get (files_now t) (machine_name layout (Props r))) (found known.0.disk (Props r)) (PropsFile x.revision.properties) has.1 (all_read (Props r) fits)

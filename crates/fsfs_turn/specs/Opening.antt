@@ -1,18 +1,19 @@
 -- Which stores are known as they are opened.
-use Rattle.std.specs.Prelude.{◌≡◌, ◌+◌, ℕ, List, [], ◌∷◌, length, Some, None}
+use Rattle.std.specs.Prelude.{◌≡◌, ◌+◌, ◌<◌, ℕ, List, [], ◌∷◌, length, true, Some, None}
 use Rattle.fsfs_base.specs.Files.{Files}
 use Rattle.fsfs_base.specs.FirstRevision.{first_bytes}
 use Rattle.fsfs_tree.specs.Dated.{date_name}
 use Rattle.fsfs_tree.specs.Revisions.{Revision}
 use Rattle.fsfs_disk.specs.Labels.{Label}
 use Rattle.fsfs_disk.specs.Trace.{Operation, Done, FirmNames, files_after}
+use Rattle.fsfs_rev_file.specs.RevBytes.{rev_file, packed_bytes}
+use Rattle.fsfs_fetch.specs.Kept.{agrees}
 use Rattle.fsfs_stands.specs.Files.{StandsFor}
 use Rattle.fsfs_stands.specs.NewRepository.{HoldsNew}
 use Rattle.fsfs_machine.specs.declared.machine.Recorded.{Recorded}
 use Rattle.fsfs_machine.specs.Machine.{first_revision, first_pass, revisions}
 use Rattle.fsfs_turn.specs.Views.{View}
-use Rattle.fsfs_turn.specs.Standing.{Knows}
-use Rattle.fsfs_turn.specs.Alone.{IsAlone}
+use Rattle.fsfs_turn.specs.Alone.{KnowsAlone}
 
 -- revision 0, with the bytes beside it
 abbrev pub new_revision : List ℕ → Recorded
@@ -22,12 +23,16 @@ new_revision date = first_revision ((date_name, date) ∷ []) first_bytes
 -- revision 0, and is in no section. Images are spoken of from now on.
 abbrev pub NewStoreIsKnown : Type 0
 NewStoreIsKnown = (first : Files) (labels : List Label) (before : List Operation) (date : List ℕ) (new : HoldsNew (files_after first before) date)
-    → (v : View) × Knows new.layout 0 None (Some (record { first = first; labels = labels; operations = Done FirmNames ∷ before })) v
-    × (v.section ≡ None) × (v.pass ≡ first_pass 1 0) × (v.seen ≡ new_revision date ∷ []) × (v.since ≡ length before + 1) × IsAlone 0 v
+    → (v : View) × KnowsAlone new.layout 0 None (Some (record { first = first; labels = labels; operations = Done FirmNames ∷ before })) v
+    × (v.section ≡ None) × (v.pass ≡ first_pass 1 0) × (v.seen ≡ new_revision date ∷ []) × (v.since ≡ length before + 1)
 
--- Of a disk that has just made its names firm, and whose files stand for a history of which no revision is packed, it is known: a pass
--- that is alone has seen all of it, and is in no section. Images are spoken of from now on.
+-- where a file is left over of a revision that is packed, it has the same bytes
+abbrev pub LeftoversAgree : {files : Files} {h : List Revision} → StandsFor files h → Type 0
+LeftoversAgree {files} stands = (r : ℕ) → r < stands.opened.min_unpacked_rev → agrees (rev_file stands.opened.layout files r) (packed_bytes stands.opened.layout files r) ≡ true
+
+-- Of a disk that has just made its names firm, and whose files stand for a history, and whose leftovers agree, it is known: a pass that
+-- is alone has seen all of it, and is in no section. Images are spoken of from now on.
 abbrev pub StoreIsKnown : Type 0
-StoreIsKnown = (first : Files) (labels : List Label) (before : List Operation) (h : List Revision) (s : StandsFor (files_after first before) h) → s.opened.min_unpacked_rev ≡ 0
-    → (v : View) × Knows s.opened.layout s.opened.youngest None (Some (record { first = first; labels = labels; operations = Done FirmNames ∷ before })) v
-    × (v.section ≡ None) × (v.pass ≡ first_pass (length h) 0) × (revisions v.seen ≡ h) × (v.since ≡ length before + 1) × IsAlone s.opened.youngest v
+StoreIsKnown = (first : Files) (labels : List Label) (before : List Operation) (h : List Revision) (s : StandsFor (files_after first before) h) → LeftoversAgree s
+    → (v : View) × KnowsAlone s.opened.layout s.opened.youngest None (Some (record { first = first; labels = labels; operations = Done FirmNames ∷ before })) v
+    × (v.section ≡ None) × (v.pass ≡ first_pass (length h) s.opened.min_unpacked_rev) × (revisions v.seen ≡ h) × (v.since ≡ length before + 1)

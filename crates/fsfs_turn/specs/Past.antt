@@ -11,7 +11,7 @@ use Rattle.fsfs_machine.specs.declared.machine.Lock.{Lock}
 use Rattle.fsfs_machine.specs.declared.machine.Lock.TheVariants.{Held, Stuck, DownDoubtful}
 use Rattle.fsfs_machine.specs.Disk.{Disk}
 use Rattle.fsfs_machine.specs.Machine.{with_next}
-use Rattle.fsfs_machine.specs.Kept.{StandsFor}
+use Rattle.fsfs_machine.specs.Kept.{StandsFor, FloorIs}
 use Rattle.fsfs_images.specs.Shown.{AreRead}
 use Rattle.fsfs_turn.specs.Views.{Begins}
 
@@ -36,9 +36,9 @@ IsPart h d g = Begins h g ⊎ ((x : Coming) × (d ≡ Some x) × (g ≡ with_nex
 abbrev pub IsPast : ℕ → ℕ → List Recorded → Option Coming → Disk → Type 0
 IsPast opening f h d e = (g : List Recorded) × StandsFor f e g × (opening ≤ length g) × IsPart h d g
 
--- so do these files
+-- so do these files, and they show this floor
 abbrev pub WasLeft : Layout → ℕ → ℕ → List Recorded → Option Coming → Files → Type 0
-WasLeft layout opening f h d m = (e : Disk) × AreRead layout m e × IsPast opening f h d e
+WasLeft layout opening f h d m = (e : Disk) × AreRead layout f m e × IsPast opening f h d e × FloorIs f e
 
 -- each image of each moment since then, in the middle of a call too
 abbrev pub Safe : Layout → ℕ → Trace → ℕ → ℕ → List Recorded → Option Coming → Type 0

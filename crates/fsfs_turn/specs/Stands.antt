@@ -1,5 +1,5 @@
 -- What the images of a store stand for, in the words of files.
-use Rattle.std.specs.Prelude.{◌≤◌, ℕ, List, length, Option, Some}
+use Rattle.std.specs.Prelude.{◌≤◌, ℕ, List, length, Option, Some, IfSome}
 use Rattle.fsfs_base.specs.Files.{Files}
 use Rattle.fsfs_layout.specs.FileNames.{only_name}
 use Rattle.fsfs_layout.specs.Formats.{IsFormat}
@@ -22,6 +22,10 @@ use Rattle.fsfs_turn.specs.Standing.{Knows}
 pub record HasOwnFiles (files : Files) (layout : Layout) : Type 0 where
   pub format : (text : List ℕ) × IsFsfs (small_texts files) text × IsFormat text (Sharded layout.shard_size)
   pub uuid : (uuid : List ℕ) × IsUuid (text_at files (only_name only.Uuid)) uuid
+
+-- they are, where the disk tells its files
+abbrev pub OwnFilesStand : Layout → Option Trace → Type 0
+OwnFilesStand layout told = IfSome told (λ t. HasOwnFiles (files_now t) layout)
 
 -- Each image now stands for a first part of the history (which begins with what the pass has seen) that has at least all that the pass
 -- has seen, or for the history with the revision in doubt.

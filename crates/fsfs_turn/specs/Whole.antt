@@ -1,5 +1,5 @@
 -- What a pass has seen is whole in each image.
-use Rattle.std.specs.Prelude.{◌≡◌, ◌≤◌, ◌+◌, ℕ, List, length, Option, Some, slice_get}
+use Rattle.std.specs.Prelude.{◌≡◌, ◌≤◌, ◌+◌, ℕ, List, length, Option, Some, Ok, slice_get}
 use Rattle.std.specs.FinMap.{get}
 use Rattle.fsfs_base.specs.Files.{Files}
 use Rattle.fsfs_layout.specs.FileNames.{file_name, only_name}
@@ -7,6 +7,7 @@ use Rattle.fsfs_layout.specs.Small.{IsRevLine}
 use Rattle.fsfs_layout.specs.declared.layout.Layout.{Layout}
 use Rattle.fsfs_layout.specs.declared.only_file.OnlyFile.TheVariants as only
 use Rattle.fsfs_layout.specs.declared.repository_file.RepositoryFile.TheVariants as file
+use Rattle.fsfs_rev_file.specs.RevBytes.{rev_bytes}
 use Rattle.fsfs_hash.specs.Dump.{IsDump}
 use Rattle.fsfs_disk.specs.Trace.{Trace, IsImage, ImageSince}
 use Rattle.fsfs_places.specs.declared.place.DiskPlace.{DiskPlace}
@@ -17,9 +18,9 @@ use Rattle.fsfs_turn.specs.Past.{IsPart}
 use Rattle.fsfs_turn.specs.Views.{View, Begins}
 use Rattle.fsfs_turn.specs.Standing.{Knows}
 
--- the files have the bytes beside the revision, and its properties
+-- the files have the bytes beside the revision, packed or not, and its properties
 pub record HasRevision (layout : Layout) (m : Files) (r : ℕ) (x : Recorded) : Type 0 where
-  pub bytes : get m (file_name layout (file.Revision r)) ≡ Some x.bytes
+  pub bytes : rev_bytes layout m r ≡ Ok x.bytes
   pub text : List ℕ
   pub there : get m (file_name layout (file.Props r)) ≡ Some text
   pub dump : IsDump text x.revision.properties

@@ -146,7 +146,8 @@ pub trait Turns<R> {
         ensures bench_same { Self.Bench.faults bench.new ≡ Self.Bench.faults bench.old }
         ensures cause { HasCause (faults self.old) (faults self.new) result };
 
-    /// Fills the buffer from an offset on, as far as the file goes. Of a revision that the pass has seen it gives the bytes beside it.
+    /// Fills the buffer from an offset on, as far as the file goes. Of a revision that the pass has seen, from the floor on, it gives the
+    /// bytes beside it.
     /// In the same way it gives the properties of one, the floor, and, as a begin's first call, the number in `txn-current`.
     /// `None`: there is no such file.
     fn read(
@@ -160,7 +161,7 @@ pub trait Turns<R> {
         ensures bound { IfOk result (λ found. IfSome found (λ n. n ≤ length buffer.new)) }
         ensures bytes { IfSome (store self.new).files (λ m. IfOk result (IsRead (get m name.now) offset buffer.old buffer.new)) }
         ensures later { Later (store self.old) (store self.new) }
-        ensures turned { (v : View) (r : ℕ) (x : Recorded) → knows self.old v → slice_get v.seen r ≡ Some x → r < 2 ^ 32 → name.now ≡ rev_name v r
+        ensures turned { (v : View) (r : ℕ) (x : Recorded) → knows self.old v → slice_get v.seen r ≡ Some x → r < 2 ^ 32 → v.pass.floor ≤ r → name.now ≡ rev_name v r
             → (u : View) × (went : Went) × knows self.new u × Answers result went × ReadTurn r offset (length buffer.old) x went v u × IfOk result (IsRead (Some x.bytes) offset buffer.old buffer.new) }
         ensures properties { (v : View) (r : ℕ) (x : Recorded) → knows self.old v → slice_get v.seen r ≡ Some x → r < 2 ^ 32 → name.now ≡ props_name v r
             → (u : View) × (went : Went) × (text : List ℕ) × knows self.new u × Answers result went × PropsRead r x went v u × IsDump text x.revision.properties × IfOk result (IsRead (Some text) offset buffer.old buffer.new) }
@@ -170,12 +171,12 @@ pub trait Turns<R> {
             → ReadsCounter (knows self.new) (store self.new).files base result buffer.old buffer.new v }
         ensures cause { HasCause (faults self.old) (faults self.new) result };
 
-    /// The length of a file. Of a revision that the pass has seen it is that of the bytes beside it.
+    /// The length of a file. Of a revision that the pass has seen, from the floor on, it is that of the bytes beside it.
     fn size(&mut self, rt: &R, name: &Name) -> Result<Option<u64>, Failed>
         ensures mounted { mount_path self.new ≡ mount_path self.old }
         ensures length { IfSome (store self.new).files (λ m. IfOk result (IsSize (get m name.now))) }
         ensures later { Later (store self.old) (store self.new) }
-        ensures turned { (v : View) (r : ℕ) (x : Recorded) → knows self.old v → slice_get v.seen r ≡ Some x → r < 2 ^ 32 → name.now ≡ rev_name v r
+        ensures turned { (v : View) (r : ℕ) (x : Recorded) → knows self.old v → slice_get v.seen r ≡ Some x → r < 2 ^ 32 → v.pass.floor ≤ r → name.now ≡ rev_name v r
             → (u : View) × (went : Went) × knows self.new u × Answers result went × ReadTurn r 0 0 x went v u × IfOk result (IsSize (Some x.bytes)) }
         ensures cause { HasCause (faults self.old) (faults self.new) result };
 

@@ -4,4 +4,4 @@ use Rattle.fsfs_machine.specs.Machine.{read_back}
 use Rattle.fsfs_core.proofs.state.State.read_back.Given as goal
 
 abbrev pub invariant-loop-rev : goal.invariant-loop-rev
-invariant-loop-rev l = read_back l.floor l.self.disk.items l.rev ≡ Some l.line
+invariant-loop-rev l = read_back l.self.disk.items l.rev ≡ Some l.line

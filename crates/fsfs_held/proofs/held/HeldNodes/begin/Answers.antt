@@ -28,5 +28,5 @@ invariant_of-result g c =
     record {
       named = c.new-proto.ensures;
       told = begun_told (g.D.Bench.faults c.args.bench) (g.D.Bench.contents c.args.bench) root (codes "rev") (files_of c.put.new.nodes) c.new-3.result.items files c.new-3.ensures.items c.requires.told;
-      ready = begun_ready c.new-2.result.items c.new.result.items (files_of c.put.new.nodes) c.new-3.result.items c.new-2.ensures.items c.new.ensures.items;
+      ready = begun_ready c.new-2.result.items c.new.result.list.items (files_of c.put.new.nodes) c.new-3.result.items c.new-2.ensures.items c.new.ensures.items;
     }

@@ -8,5 +8,5 @@ invariant_of-self g c =
     record {
       named = s.named;
       told = s.told;
-      ready = none_ready c.clear-2.new.self.items c.clear.new.self.items (files_of s.settled) s.settled_next s.items.items c.clear-2.ensures.items c.clear.ensures.items;
+      ready = none_ready c.clear-2.new.self.items c.clear.new.self.list.items (files_of s.settled) s.settled_next s.items.items c.clear-2.ensures.items c.clear.ensures.items;
     }

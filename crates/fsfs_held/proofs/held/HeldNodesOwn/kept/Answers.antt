@@ -6,4 +6,4 @@ use Rattle.fsfs_held.proofs.held.HeldNodesOwn.kept.Goals as goal
 pub returns : goal.returns
 returns g c =
     let s = c.args.self.now in
-    c.found.ensures ∙ at_id c.key_of.result c.args.id.now (with_steps s.steps.items (files_of s.settled)) c.key_of.ensures.node c.key_of.ensures.copy
+    c.found.ensures ∙ at_id c.key_of.result c.args.id.now (with_steps s.steps.list.items (files_of s.settled)) c.key_of.ensures.node c.key_of.ensures.copy

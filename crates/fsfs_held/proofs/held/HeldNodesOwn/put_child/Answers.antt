@@ -25,7 +25,7 @@ returns-clause-done g c = λ k here.
       new = new;
       put = c.in_ok-new.ensures;
       after_is = ap (λ (files : Files). folder_of files s.next s.items.items (g.D.Bench.contents s.bench) s.proto)
-          (child_put s.steps.items c.push_reserved.new.self.items c.push_reserved-2.new.self.items made (record { key = key.result; kept = c.in_ok-opened.opened }) (kept_value c.in-Some.kept.now) c.args.child c.args.dir.now k (λ (x : Kept). opened_kept x new) (files_of s.settled)
+          (child_put s.steps.list.items c.push_reserved.new.self.list.items c.push_reserved-2.new.self.list.items made (record { key = key.result; kept = c.in_ok-opened.opened }) (kept_value c.in-Some.kept.now) c.args.child c.args.dir.now k (λ (x : Kept). opened_kept x new) (files_of s.settled)
           (c.push_reserved.ensures.items ∙ ap (λ (l : List Step). l ++ made ∷ []) c.in_ok-reserve.ensures.items) c.push_reserved-2.ensures.items
           (record { node = child_key.ensures.node; copy = child_key.ensures.copy }) c.new_node-made.ensures.value
           (record { node = key.ensures.node; copy = key.ensures.copy }) c.in_ok-opened.ensures c.in-Some.ensures here);
@@ -37,7 +37,7 @@ invariant_of-self g c =
     record {
       named = s.named;
       told = s.told;
-      ready = same_ready s.changes.items s.changes.items s.steps.items c.reserve.new.self.items (files_of s.settled) (files_of s.settled) s.settled_next s.items.items s.items.items refl c.reserve.ensures.items refl refl s.ready;
+      ready = same_ready s.changes.items s.changes.items s.steps.list.items c.reserve.new.self.list.items (files_of s.settled) (files_of s.settled) s.settled_next s.items.items s.items.items refl c.reserve.ensures.items refl refl s.ready;
     }
 
 pub invariant_of-self-in_default-take_files : goal.invariant_of-self-in_default-take_files
@@ -46,7 +46,7 @@ invariant_of-self-in_default-take_files g c =
     record {
       named = s.named;
       told = s.told;
-      ready = same_ready s.changes.items c.take_files.new.changes.items s.steps.items c.reserve.new.self.items (files_of s.settled) (files_of s.settled) s.settled_next s.items.items s.items.items c.in_default-take_files.ensures.left c.reserve.ensures.items refl refl s.ready;
+      ready = same_ready s.changes.items c.take_files.new.changes.items s.steps.list.items c.reserve.new.self.list.items (files_of s.settled) (files_of s.settled) s.settled_next s.items.items s.items.items c.in_default-take_files.ensures.left c.reserve.ensures.items refl refl s.ready;
     }
 
 pub invariant_of-self-2 : goal.invariant_of-self-2
@@ -59,15 +59,15 @@ invariant_of-self-2 g c =
     let made : Step = record { key = child_key.result; kept = c.new_node-made.result } in
     let new = listed c.in_ok-new.new in
     let found = kept_value c.in-Some.kept.now in
-    let cur = with_steps s.steps.items (files_of s.settled) in
+    let cur = with_steps s.steps.list.items (files_of s.settled) in
     let between = with_kept child.id (new_kept child) cur in
     let here = found_at_id key.result id cur found c.in-Some.ensures key.ensures.node key.ensures.copy in
     let more = c.in_ok-files.files.items in
     record {
       named = s.named;
       told = s.told;
-      ready = more_ready s.changes.items more c.take_files.new.changes.items s.steps.items c.push_reserved-2.new.self.items (files_of s.settled) (with_kept id (opened_kept found new) between) s.settled_next s.items.items c.in-Ok.ensures.done
-          (child_put s.steps.items c.push_reserved.new.self.items c.push_reserved-2.new.self.items made (record { key = key.result; kept = c.in_ok-opened.opened }) found child id found (λ (x : Kept). opened_kept x new) (files_of s.settled)
+      ready = more_ready s.changes.items more c.take_files.new.changes.items s.steps.list.items c.push_reserved-2.new.self.list.items (files_of s.settled) (with_kept id (opened_kept found new) between) s.settled_next s.items.items c.in-Ok.ensures.done
+          (child_put s.steps.list.items c.push_reserved.new.self.list.items c.push_reserved-2.new.self.list.items made (record { key = key.result; kept = c.in_ok-opened.opened }) found child id found (λ (x : Kept). opened_kept x new) (files_of s.settled)
           (c.push_reserved.ensures.items ∙ ap (λ (l : List Step). l ++ made ∷ []) c.in_ok-reserve.ensures.items) c.push_reserved-2.ensures.items
           (record { node = child_key.ensures.node; copy = child_key.ensures.copy }) c.new_node-made.ensures.value
           (record { node = key.ensures.node; copy = key.ensures.copy }) c.in_ok-opened.ensures c.in-Some.ensures here)

@@ -21,14 +21,14 @@ returns-clause-done g c =
     let left = listed c.in_ok-new.new in
     let found = kept_value c.in-Some.kept.now in
     let step : Step = record { key = key.result; kept = c.in_ok-opened.opened } in
-    let here = found_at_id key.result c.args.dir.now (with_steps s.steps.items (files_of s.settled)) found c.in-Some.ensures key.ensures.node key.ensures.copy in
+    let here = found_at_id key.result c.args.dir.now (with_steps s.steps.list.items (files_of s.settled)) found c.in-Some.ensures key.ensures.node key.ensures.copy in
     record {
       k = found;
       here = here;
       new = left;
       taken = c.in_ok-new.ensures;
       after_is = ap (λ (files : Files). folder_of files s.next s.items.items (g.D.Bench.contents s.bench) s.proto)
-          (step_changed s.steps.items c.push_reserved.new.self.items step found c.args.dir.now found (λ (x : Kept). opened_kept x left) (files_of s.settled)
+          (step_changed s.steps.list.items c.push_reserved.new.self.list.items step found c.args.dir.now found (λ (x : Kept). opened_kept x left) (files_of s.settled)
           (c.push_reserved.ensures.items ∙ ap (λ (l : List Step). l ++ step ∷ []) c.in_ok-reserve.ensures.items)
           (record { node = key.ensures.node; copy = key.ensures.copy }) c.in_ok-opened.ensures c.in-Some.ensures here);
     }
@@ -39,7 +39,7 @@ invariant_of-self g c =
     record {
       named = s.named;
       told = s.told;
-      ready = same_ready s.changes.items s.changes.items s.steps.items c.reserve.new.self.items (files_of s.settled) (files_of s.settled) s.settled_next s.items.items s.items.items refl c.reserve.ensures.items refl refl s.ready;
+      ready = same_ready s.changes.items s.changes.items s.steps.list.items c.reserve.new.self.list.items (files_of s.settled) (files_of s.settled) s.settled_next s.items.items s.items.items refl c.reserve.ensures.items refl refl s.ready;
     }
 
 pub invariant_of-self-in_default-take_files : goal.invariant_of-self-in_default-take_files
@@ -48,7 +48,7 @@ invariant_of-self-in_default-take_files g c =
     record {
       named = s.named;
       told = s.told;
-      ready = same_ready s.changes.items c.take_files.new.changes.items s.steps.items c.reserve.new.self.items (files_of s.settled) (files_of s.settled) s.settled_next s.items.items s.items.items c.in_default-take_files.ensures.left c.reserve.ensures.items refl refl s.ready;
+      ready = same_ready s.changes.items c.take_files.new.changes.items s.steps.list.items c.reserve.new.self.list.items (files_of s.settled) (files_of s.settled) s.settled_next s.items.items s.items.items c.in_default-take_files.ensures.left c.reserve.ensures.items refl refl s.ready;
     }
 
 pub invariant_of-self-2 : goal.invariant_of-self-2
@@ -59,14 +59,14 @@ invariant_of-self-2 g c =
     let left = listed c.in_ok-new.new in
     let step : Step = record { key = key.result; kept = c.in_ok-opened.opened } in
     let found = kept_value c.in-Some.kept.now in
-    let cur = with_steps s.steps.items (files_of s.settled) in
+    let cur = with_steps s.steps.list.items (files_of s.settled) in
     let here = found_at_id key.result id cur found c.in-Some.ensures key.ensures.node key.ensures.copy in
     let more = c.in_ok-files.files.items in
     record {
       named = s.named;
       told = s.told;
-      ready = more_ready s.changes.items more c.take_files.new.changes.items s.steps.items c.push_reserved.new.self.items (files_of s.settled) (with_kept id (opened_kept found left) cur) s.settled_next s.items.items c.in-Ok.ensures.done
-          (step_changed s.steps.items c.push_reserved.new.self.items step found id found (λ (x : Kept). opened_kept x left) (files_of s.settled)
+      ready = more_ready s.changes.items more c.take_files.new.changes.items s.steps.list.items c.push_reserved.new.self.list.items (files_of s.settled) (with_kept id (opened_kept found left) cur) s.settled_next s.items.items c.in-Ok.ensures.done
+          (step_changed s.steps.list.items c.push_reserved.new.self.list.items step found id found (λ (x : Kept). opened_kept x left) (files_of s.settled)
           (c.push_reserved.ensures.items ∙ ap (λ (l : List Step). l ++ step ∷ []) c.in_ok-reserve.ensures.items)
           (record { node = key.ensures.node; copy = key.ensures.copy }) c.in_ok-opened.ensures c.in-Some.ensures here)
           (λ m told. subst (λ (k : Kept). TellsFolder (changed_all more m) (filed (with_kept id k cur) s.settled_next s.items.items)) (λ i. record found { node = (c.in_ok-opened.ensures i).node; entries = Some left })

@@ -30,7 +30,7 @@ returns-clause-done g c =
     let node_is = key.ensures.node ∙ ap (λ (i : NodeId). part_value i.node) same in
     let copy_is = key.ensures.copy ∙ ap (λ (i : NodeId). part_value i.copy) same in
     let found = kept_value c.in-Some.kept.now in
-    let here = found_at_id key.result id (with_steps s.steps.items (files_of s.settled)) found c.in-Some.ensures node_is copy_is in
+    let here = found_at_id key.result id (with_steps s.steps.list.items (files_of s.settled)) found c.in-Some.ensures node_is copy_is in
     let merged = c.in_ok-merged.ensures in
     let step : Step = record { key = key.result; kept = c.in_ok-merged.merged } in
     record {
@@ -39,7 +39,7 @@ returns-clause-done g c =
       entries = merged.entries;
       listed = merged.listed;
       after_is = ap (λ (files : Files). folder_of files s.next s.items.items (g.D.Bench.contents s.bench) s.proto)
-          (step_changed s.steps.items c.push_reserved.new.self.items step found id found (λ (x : Kept). relinked_kept c.args.dir merged.entries x) (files_of s.settled)
+          (step_changed s.steps.list.items c.push_reserved.new.self.list.items step found id found (λ (x : Kept). relinked_kept c.args.dir merged.entries x) (files_of s.settled)
           (c.push_reserved.ensures.items ∙ ap (λ (l : List Step). l ++ step ∷ []) c.in_ok-reserve.ensures.items)
           (record { node = node_is; copy = copy_is }) merged.new_is c.in-Some.ensures here);
     }
@@ -50,7 +50,7 @@ invariant_of-self g c =
     record {
       named = s.named;
       told = s.told;
-      ready = same_ready s.changes.items s.changes.items s.steps.items c.reserve.new.self.items (files_of s.settled) (files_of s.settled) s.settled_next s.items.items s.items.items refl c.reserve.ensures.items refl refl s.ready;
+      ready = same_ready s.changes.items s.changes.items s.steps.list.items c.reserve.new.self.list.items (files_of s.settled) (files_of s.settled) s.settled_next s.items.items s.items.items refl c.reserve.ensures.items refl refl s.ready;
     }
 
 pub invariant_of-self-in_default-take_files : goal.invariant_of-self-in_default-take_files
@@ -59,7 +59,7 @@ invariant_of-self-in_default-take_files g c =
     record {
       named = s.named;
       told = s.told;
-      ready = same_ready s.changes.items c.take_files.new.changes.items s.steps.items c.reserve.new.self.items (files_of s.settled) (files_of s.settled) s.settled_next s.items.items s.items.items c.in_default-take_files.ensures.left c.reserve.ensures.items refl refl s.ready;
+      ready = same_ready s.changes.items c.take_files.new.changes.items s.steps.list.items c.reserve.new.self.list.items (files_of s.settled) (files_of s.settled) s.settled_next s.items.items s.items.items c.in_default-take_files.ensures.left c.reserve.ensures.items refl refl s.ready;
     }
 
 pub invariant_of-self-2 : goal.invariant_of-self-2
@@ -71,7 +71,7 @@ invariant_of-self-2 g c =
     let node_is = key.ensures.node ∙ ap (λ (i : NodeId). part_value i.node) same in
     let copy_is = key.ensures.copy ∙ ap (λ (i : NodeId). part_value i.copy) same in
     let found = kept_value c.in-Some.kept.now in
-    let cur = with_steps s.steps.items (files_of s.settled) in
+    let cur = with_steps s.steps.list.items (files_of s.settled) in
     let here = found_at_id key.result id cur found c.in-Some.ensures node_is copy_is in
     let merged = c.in_ok-merged.ensures in
     let step : Step = record { key = key.result; kept = c.in_ok-merged.merged } in
@@ -80,8 +80,8 @@ invariant_of-self-2 g c =
     record {
       named = s.named;
       told = s.told;
-      ready = more_ready s.changes.items more c.take_files.new.changes.items s.steps.items c.push_reserved.new.self.items (files_of s.settled) (with_kept id (relinked_kept c.args.dir merged.entries found) cur) s.settled_next s.items.items c.in-Ok.ensures.done
-          (step_changed s.steps.items c.push_reserved.new.self.items step found id found (λ (x : Kept). relinked_kept c.args.dir merged.entries x) (files_of s.settled)
+      ready = more_ready s.changes.items more c.take_files.new.changes.items s.steps.list.items c.push_reserved.new.self.list.items (files_of s.settled) (with_kept id (relinked_kept c.args.dir merged.entries found) cur) s.settled_next s.items.items c.in-Ok.ensures.done
+          (step_changed s.steps.list.items c.push_reserved.new.self.list.items step found id found (λ (x : Kept). relinked_kept c.args.dir merged.entries x) (files_of s.settled)
           (c.push_reserved.ensures.items ∙ ap (λ (l : List Step). l ++ step ∷ []) c.in_ok-reserve.ensures.items)
           (record { node = node_is; copy = copy_is }) merged.new_is c.in-Some.ensures here)
           (λ m told. subst (λ (k : Kept). TellsFolder (changed_all more m) (filed (with_kept id k cur) s.settled_next s.items.items)) (λ i. record found { node = (merged.new_is i).node; entries = list i })

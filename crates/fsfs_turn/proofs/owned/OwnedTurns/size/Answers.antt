@@ -1,3 +1,4 @@
+use Rattle.std.proofs.Common.{inl}
 use Rattle.std.specs.Prelude.{Some, IfOk}
 use Rattle.fsfs_disk.specs.Trace.{IsSize}
 use Rattle.fsfs_turn.proofs.Knowing.{size_known}
@@ -5,6 +6,6 @@ use Rattle.fsfs_turn.proofs.Alone.{read_alone}
 use Rattle.fsfs_turn.proofs.owned.OwnedTurns.size.Goals as goal
 
 pub returns-clause-turned : goal.returns-clause-turned
-returns-clause-turned g c = λ v r x known there fits named.
-    read_alone c.args.self.now.layout c.args.self.now.young c.args.self.now.stuck (g.D.Disk.trace c.size.new.self) v known.1 r 0 0 x c.size.result (IfOk c.size.result (IsSize (Some x.bytes)))
-    (size_known c.args.self.now.layout c.args.self.now.young c.args.self.now.stuck (g.D.Disk.trace c.args.self.now.disk) (g.D.Disk.trace c.size.new.self) c.size.ensures.same c.args.name.now c.size.result c.size.ensures.length v r x known.0 there fits named)
+returns-clause-turned g c = λ v r x known there fits above named.
+    read_alone c.args.self.now.layout c.args.self.now.young c.args.self.now.stuck (g.D.Disk.trace c.args.self.now.disk) (g.D.Disk.trace c.size.new.self) (inl c.size.ensures.same) v known r 0 0 x c.size.result (IfOk c.size.result (IsSize (Some x.bytes)))
+    (size_known c.args.self.now.layout c.args.self.now.young c.args.self.now.stuck (g.D.Disk.trace c.args.self.now.disk) (g.D.Disk.trace c.size.new.self) c.size.ensures.same c.args.name.now c.size.result c.size.ensures.length v r x known.0 there fits above named)

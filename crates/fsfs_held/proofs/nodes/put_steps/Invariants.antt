@@ -2,7 +2,7 @@ use Rattle.std.proofs.Common.{◌≡◌, ◌≤◌, length, reverse}
 use Rattle.std.specs.Prelude.{vec_len}
 use Rattle.std.specs.HashMap.{spare}
 use Rattle.fsfs_held.specs.Lists.{files_of, with_steps}
-use Rattle.fsfs_held.proofs.nodes.settle_steps.Given as goal
+use Rattle.fsfs_held.proofs.nodes.put_steps.Given as goal
 
 -- those that are left, the newest first, lead to the files of all; and there is room for them
 abbrev pub invariant-loop-step : goal.invariant-loop-step
