@@ -12,6 +12,7 @@ mod racing;
 mod rivals;
 mod scene;
 mod table;
+mod tally;
 
 use anyhow::Result;
 use fsfs_escapes::Transcript;

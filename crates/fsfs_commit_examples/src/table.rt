@@ -2,6 +2,7 @@
 use crate::failing::{PATTERNS, Way, crashed, failing, sound};
 use crate::lines::call;
 use crate::scene::Scene;
+use crate::tally::Tally;
 use fsfs_escapes::Transcript;
 use fsfs_memdisk::MemDisk;
 
@@ -16,24 +17,35 @@ fn failed(scene: &Scene<'_>, line: &str, way: Way, number: u64, out: &mut Transc
     call(scene.alloc, disk, line, out)
 }
 
-// Which transactions there are, and what the same line answers then.
-fn put_left(scene: &Scene<'_>, disk: MemDisk, line: &str, out: &mut Transcript) {
+// Which transactions there are, and what the same line answers then; that answer is given.
+fn put_left(scene: &Scene<'_>, disk: MemDisk, line: &str, out: &mut Transcript) -> Transcript {
+    let mut again = Transcript::new(scene.alloc);
     out.say(" [");
     let disk = call(scene.alloc, sound(scene.alloc, disk), "list", out);
     out.say(", ");
-    let _ = call(scene.alloc, disk, line, out);
+    let _ = call(scene.alloc, disk, line, &mut again);
+    out.say(again.as_str());
     out.say("]");
+    again
 }
 
 // All that a crash may leave behind a call that fails.
-fn put_crashes(scene: &Scene<'_>, line: &str, way: Way, number: u64, out: &mut Transcript) {
+fn put_crashes(
+    scene: &Scene<'_>,
+    line: &str,
+    way: Way,
+    number: u64,
+    tally: &mut Tally,
+    out: &mut Transcript,
+) {
     let mut told = Transcript::new(scene.alloc);
     for pattern in 0..PATTERNS {
-        let mut unseen = Transcript::new(scene.alloc);
-        let disk = failed(scene, line, way, number, &mut unseen);
+        let mut first = Transcript::new(scene.alloc);
+        let disk = failed(scene, line, way, number, &mut first);
         let mut left = Transcript::new(scene.alloc);
         let disk = crashed(scene.alloc, disk, pattern, out);
-        put_left(scene, disk, line, &mut left);
+        let again = put_left(scene, disk, line, &mut left);
+        tally.count(first.as_str(), again.as_str());
         if !told.as_str().contains(left.as_str()) {
             told.say(left.as_str());
         }
@@ -42,24 +54,31 @@ fn put_crashes(scene: &Scene<'_>, line: &str, way: Way, number: u64, out: &mut T
 }
 
 // A row of the table. Whether a call failed.
-fn put_row(scene: &Scene<'_>, line: &str, way: Way, number: u64, out: &mut Transcript) -> bool {
+fn put_row(
+    scene: &Scene<'_>,
+    line: &str,
+    way: Way,
+    number: u64,
+    tally: &mut Tally,
+    out: &mut Transcript,
+) -> bool {
     out.say(way.word());
     out.say(": ");
     let disk = failed(scene, line, way, number, out);
     let has_failed = disk.faults() > 0 || disk.bench_faults() > 0;
-    put_left(scene, disk, line, out);
+    let _ = put_left(scene, disk, line, out);
     out.say(", crash");
-    put_crashes(scene, line, way, number, out);
+    put_crashes(scene, line, way, number, tally, out);
     out.say("\n");
     has_failed
 }
 
 // The rows of one way, up to the first where no call failed. One that is as that before is left out.
-fn put_rows(scene: &Scene<'_>, line: &str, way: Way, out: &mut Transcript) {
+fn put_rows(scene: &Scene<'_>, line: &str, way: Way, tally: &mut Tally, out: &mut Transcript) {
     let mut last = Transcript::new(scene.alloc);
     for number in 1..=MOST_CALLS {
         let mut row = Transcript::new(scene.alloc);
-        let has_failed = put_row(scene, line, way, number, &mut row);
+        let has_failed = put_row(scene, line, way, number, tally, &mut row);
         if row.as_str() != last.as_str() {
             out.say(row.as_str());
         }
@@ -70,9 +89,11 @@ fn put_rows(scene: &Scene<'_>, line: &str, way: Way, out: &mut Transcript) {
     }
 }
 
-/// The table of a call behind these lines.
+/// The table of a call behind these lines, and what it counted.
 pub fn put_table(scene: &Scene<'_>, line: &str, out: &mut Transcript) {
+    let mut tally = Tally::new();
     for way in [Way::Disk, Way::Bench, Way::Stop] {
-        put_rows(scene, line, way, out);
+        put_rows(scene, line, way, &mut tally, out);
     }
+    tally.put(out);
 }
