@@ -20,16 +20,19 @@ pub struct Given {
     /// The calls that fail, all at one place; the first call is 1.
     pub place: Place,
     pub calls: Vec<u64>,
+    /// The input of the next command.
+    pub input: Vec<u8>,
 }
 
 impl Given {
-    /// 2024-01-02T03:04:05.678901Z, dice that show zeros, and no call that fails.
+    /// 2024-01-02T03:04:05.678901Z, dice that show zeros, no call that fails, and no input.
     pub fn new(alloc: Global) -> Given {
         Given {
             moment: 1_704_164_645_678_901,
             dice: [0; 16],
             place: Place::Disk,
             calls: Vec::new(alloc),
+            input: Vec::new(alloc),
         }
     }
 
@@ -92,7 +95,7 @@ pub fn run(alloc: Global, line: &str, files: &Files, given: &Given) -> Result<Ra
     host.add_disk("R", disk_with(alloc, files, given.calls_at(Place::Disk))?)?;
     let mut out = given.sink(alloc, Place::Output)?;
     let mut err = given.sink(alloc, Place::Errors)?;
-    let mut input = MemSource::new(alloc, Vec::new(alloc));
+    let mut input = MemSource::new(alloc, Vec::from_slice(alloc, &given.input)?);
     let mut clock = FixedClock::new(given.moment);
     let mut dice = FixedDice { bytes: given.dice };
     let status = command(

@@ -69,6 +69,10 @@ pub enum Line<'a> {
     Dice(&'a str),
     /// These calls of the next command fail.
     Failing(Place, &'a str),
+    /// Goes on with the input of the next command: bytes and a newline.
+    Input(&'a str),
+    /// The same with bytes alone.
+    InputCut(&'a str),
     /// Runs a command.
     Run(&'a str),
     /// Stops the machine: of the changes of the last command that are not firm, these are left.
@@ -128,6 +132,8 @@ impl<'a> Line<'a> {
             "==" => Ok(Line::Example(rest)),
             "like" => Ok(Line::Like(rest)),
             "keep" => Ok(Line::Keep(rest)),
+            "<" => Ok(Line::Input(rest)),
+            "<:" => Ok(Line::InputCut(rest)),
             "$" => Ok(Line::Run(rest)),
             "failing" => {
                 let (place, calls) = split(rest);

@@ -78,6 +78,8 @@ impl Stage {
             Line::OfFile(line) => return edit(self.alloc, &mut self.files, &mut self.open, line),
             Line::Dice(text) => return self.throw(text),
             Line::Failing(place, calls) => return self.fail(place, calls),
+            Line::Input(text) => return self.give(text, b"\n"),
+            Line::InputCut(text) => return self.give(text, b""),
             Line::Run(line) => return self.run(line),
             Line::Crash(picks) => return self.crash(picks),
             Line::Each(_) => bail!("a block in a block"),
@@ -148,6 +150,14 @@ impl Stage {
         Ok(())
     }
 
+    // Goes on with the input of the next command.
+    fn give(&mut self, text: &str, end: &[u8]) -> Result<()> {
+        self.given
+            .input
+            .extend_from_slice(&bytes_of(self.alloc, text)?)?;
+        Ok(self.given.input.extend_from_slice(end)?)
+    }
+
     // Runs a command over the files.
     fn run(&mut self, line: &str) -> Result<()> {
         self.out.say("$ ");
@@ -168,6 +178,7 @@ impl Stage {
             self.calls = calls_since(&disk, self.files.len());
         }
         self.given.calls = Vec::new(self.alloc);
+        self.given.input = Vec::new(self.alloc);
         let files = files_of(self.alloc, &disk)?;
         self.before = mem::replace(&mut self.files, files);
         self.disk = Some(disk);
