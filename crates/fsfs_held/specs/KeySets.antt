@@ -1,9 +1,10 @@
 -- The keys of steps, as a set.
-use Rattle.std.specs.Prelude.{◌≡◌, ◌≤◌, ◌+◌, ℕ, Bool, true, List, [], ◌∷◌, ⊤, vec_len, vec_capacity}
+use Rattle.std.specs.Prelude.{◌≡◌, ◌≤◌, ◌+◌, ℕ, Bool, true, List, vec_len, vec_capacity}
+use Rattle.std.specs.List.{list_all}
 use Rattle.std.specs.HashSet.{HashSet, contains_by, spare}
+use Rattle.std.specs.declared.vec.Vec.{Vec}
 use Rattle.fsfs_held.specs.declared.keys.NodeKey.{NodeKey}
 use Rattle.fsfs_held.specs.declared.steps.Step.{Step}
-use Rattle.fsfs_held.specs.declared.steps.Steps.{Steps}
 use Rattle.fsfs_held.specs.Keys.{part_of, has_parts}
 
 -- whether a set has the key
@@ -16,9 +17,8 @@ KeepsKeys before after = (q : NodeKey) → has_key before q ≡ true → has_key
 
 -- it has the keys of all steps
 abbrev pub AreKeyed : {S : Type 0} → HashSet NodeKey S → List Step → Type 0
-AreKeyed keys [] = ⊤
-AreKeyed keys (s ∷ ss) = (has_key keys s.key ≡ true) × AreKeyed keys ss
+AreKeyed keys steps = list_all (λ (s : Step). has_key keys s.key) steps ≡ true
 
 -- there is room for so many steps more
-abbrev pub HasRoom : ℕ → Steps → Type 0
-HasRoom n steps = (vec_len steps.list + n ≤ vec_capacity steps.list) × (n ≤ spare steps.keys)
+abbrev pub HasRoom : {Z S : Type 0} → ℕ → Vec Step Z → HashSet NodeKey S → Type 0
+HasRoom n steps keys = (vec_len steps + n ≤ vec_capacity steps) × (n ≤ spare keys)

@@ -10,6 +10,7 @@ use crate::key_set::{KeySet, has_key, make_key_room, put_key};
 use crate::keys::NodeKey;
 use fsfs_own::KeptNode;
 use std::alloc::{AllocError, Global};
+use std::collections::HashSet;
 
 /// A step: it puts this node-revision at the key.
 #[derive(Drop)]
@@ -49,7 +50,7 @@ impl Steps {
     {
         Steps {
             list: Vec::new(alloc),
-            keys: KeySet::new(alloc),
+            keys: HashSet::new(alloc),
         }
     }
 
@@ -63,7 +64,7 @@ impl Steps {
     /// Makes room for so many more.
     pub(crate) fn reserve(&mut self, count: usize) -> Result<(), AllocError>
         ensures items { self.new.list.items ≡ self.old.list.items }
-        ensures room { OnOk result (HasRoom count self.new) }
+        ensures room { OnOk result (HasRoom count self.new.list self.new.keys) }
     {
         self.list.reserve(count)?;
         make_key_room(&mut self.keys, count)
@@ -71,9 +72,9 @@ impl Steps {
 
     /// Puts one behind them. No memory is taken: there is room.
     pub(crate) fn push_reserved(&mut self, step: Step)
-        requires { HasRoom 1 self.old }
+        requires { HasRoom 1 self.old.list self.old.keys }
         ensures items { self.new.list.items ≡ self.old.list.items ++ step ∷ [] }
-        ensures room { (n : ℕ) → HasRoom (n + 1) self.old → HasRoom n self.new }
+        ensures room { (n : ℕ) → HasRoom (n + 1) self.old.list self.old.keys → HasRoom n self.new.list self.new.keys }
     {
         put_key(&mut self.keys, step.key);
         self.list.push_reserved(step);

@@ -14,6 +14,9 @@ use Rattle.fsfs_held.proofs.StepLemmas.{child_put}
 use Rattle.fsfs_held.proofs.WrittenLemmas.{more_ready, same_ready}
 use Rattle.fsfs_held.proofs.held.HeldNodesOwn.put_child.Goals as goal
 
+pub push_reserved-requires-2 : goal.push_reserved-requires-2
+push_reserved-requires-2 g c = c.push_reserved.ensures.room 1 c.in_ok-reserve.ensures.room
+
 pub returns-clause-done : goal.returns-clause-done
 returns-clause-done g c = λ k here.
     let s = c.args.self.now in
