@@ -26,9 +26,10 @@ use Rattle.fsfs_commit.specs.declared.committing.Ready.{Ready}
 use Rattle.fsfs_commit.specs.declared.committing.CommitFault.{CommitFault}
 use Rattle.fsfs_commit.specs.declared.committing.CommitFault.TheVariants as fault
 use Rattle.fsfs_commit.specs.Courses.{Course, End, More, IsMade, Published, StoppedAt, ends_at}
-use Rattle.fsfs_commit.specs.Works.{CanCommit, LandedOn, Landings, Unmoved, Moved as LandedMore, ReadOnly}
+use Rattle.fsfs_commit.specs.Works.{BringsNoDoubt, CanCommit, LandedOn, Landings, Unmoved, Moved as LandedMore, ReadOnly}
 use Rattle.fsfs_commit.specs.Replies.{Drifted, IsReady, Committed, Lost, IsTurn, Refusals, EndsShort, Cause, Refused}
 use Rattle.fsfs_commit.proofs.Going.{append}
+use Rattle.fsfs_commit.proofs.Doubts.{same_faults, looked_doubtless, taken_doubtless, found_doubtless, given_doubtless, stopped_doubtless, unless_on}
 use Rattle.fsfs_turn.proofs.Longer.{txn_later}
 use Rattle.fsfs_turn.proofs.Stepping.{take_drop}
 use Rattle.fsfs_commit.proofs.Handing.{entry_back}
@@ -190,6 +191,7 @@ pub full : {E : Type 0} {Says : Refusals E} (head : ℕ) (v m : View) (x : Txn) 
 full head v m x most l = record {
   moved = record { drifted = by_look head v m l; section = ap {A = View} (λ z. z.section) l.is };
   landings = Unmoved x;
+  doubtless = looked_doubtless head v m l;
   cause = let e : m.pass.least ≡ head = ap {A = View} (λ z. z.pass.least) l.is in omega (arith, e, most);
 }
 
@@ -197,6 +199,7 @@ pub not_landed : {E : Type 0} {Says : Refusals E} (refusal : E) (head : ℕ) (v 
 not_landed {Says = Says} refusal head v m u x less l r says = record {
   moved = record { drifted = drifted_on v m u (by_look head v m l) (by_reads m u r); section = ap {A = View} (λ z. z.section) r.is ∙ ap {A = View} (λ z. z.section) l.is };
   landings = Unmoved x;
+  doubtless = λ few. r.doubtless (looked_doubtless head v m l few);
   cause = subst (λ n. (n < 2147483647) × Says refusal n u.seen x) (sym (ap {A = View} (λ z. z.pass.least) r.is ∙ ap {A = View} (λ z. z.pass.least) l.is)) (less, says);
 }
 
@@ -204,6 +207,7 @@ pub not_made : {E : Type 0} {Says : Refusals E} (refusal : E) (head : ℕ) (v m 
 not_made refusal head v m u x y less l r landed says = record {
   moved = record { drifted = drifted_on v m u (by_look head v m l) (by_reads m u r); section = ap {A = View} (λ z. z.section) r.is ∙ ap {A = View} (λ z. z.section) l.is };
   landings = LandedMore x x y head u.seen (Unmoved x) (none_more u.seen u.seen refl) landed;
+  doubtless = λ few. r.doubtless (looked_doubtless head v m l few);
   cause = let e : u.pass.least ≡ head = ap {A = View} (λ z. z.pass.least) r.is ∙ ap {A = View} (λ z. z.pass.least) l.is in (omega (arith, e, less), says u.pass.least u.seen y);
 }
 
@@ -220,6 +224,7 @@ pub prepared : (holds : List ℕ → Type 0) (head : ℕ) (made : Made) (propert
     → ((number : ℕ) → Marshalled holds (head + 1) made properties u y number) → IsReady holds (record { head = head; made = made }) properties v u x y
 prepared holds head made properties v m u x y l r landed can all = record {
   moved = record { drifted = drifted_on v m u (by_look head v m l) (by_reads m u r); section = ap {A = View} (λ z. z.section) r.is ∙ ap {A = View} (λ z. z.section) l.is };
+  doubtless = λ few. r.doubtless (looked_doubtless head v m l few);
   from = can;
   landings = LandedMore x x y head u.seen (Unmoved x) (none_more u.seen u.seen refl) landed;
   can = can_landed head v u x y properties (ap {A = View} (λ z. z.given) r.is ∙ ap {A = View} (λ z. z.given) l.is) landed can;
@@ -250,6 +255,7 @@ pub found_stuck : {E : Type 0} {Says : Refusals E} (holds : List ℕ → Type 0)
 found_stuck holds place ready properties v u m x y r f = record {
   moved = record { drifted = drifted_on v u m r.moved.drifted (by_finding place u m f); section = ap {A = View} (λ z. z.section) f.is ∙ r.moved.section };
   landings = landings_later u.seen m.seen x y (by_finding place u m f).grows r.landings;
+  doubtless = λ few. found_doubtless place u m f (r.doubtless few);
   cause = ap {A = View} (λ z. z.pass.stuck) f.is;
 }
 
@@ -257,12 +263,16 @@ found_stuck holds place ready properties v u m x y r f = record {
 pub drifted_in : (holds : List ℕ → Type 0) (young : ℕ) (ready : Ready) (properties : List (List ℕ × List ℕ)) (v u m n : View) (x y : Txn) → IsReady holds ready properties v u x y → LockTaken u m → Looked young m n → Drifted v n
 drifted_in holds young ready properties v u m n x y r t l = drifted_on v m n (drifted_on v u m r.moved.drifted (by_taking u m t)) (by_look young m n l)
 
+pub doubtless_in : (holds : List ℕ → Type 0) (young : ℕ) (ready : Ready) (properties : List (List ℕ × List ℕ)) (v u m n : View) (x y : Txn) → IsReady holds ready properties v u x y → LockTaken u m → Looked young m n → BringsNoDoubt v n
+doubtless_in holds young ready properties v u m n x y r t l = λ few. looked_doubtless young m n l (taken_doubtless u m t (r.doubtless few))
+
 pub may_let_go : (young : ℕ) (u m n : View) → LockTaken u m → Looked young m n → MayGive n
 may_let_go young u m n t l = record { inside = Begun; is = ap {A = View} (λ z. z.section) l.is ∙ ap {A = View} (λ z. z.section) t.is; quiet = refl }
 
 pub lost : (holds : List ℕ → Type 0) (young : ℕ) (ready : Ready) (properties : List (List ℕ × List ℕ)) (v u m n o : View) (x y : Txn) → v.section ≡ None → IsReady holds ready properties v u x y → LockTaken u m → Looked young m n → LockGiven (step.GiveLock n.number) n o → Lost properties v o x y
 lost holds young ready properties v u m n o x y none r t l g = record {
   moved = record { drifted = drifted_on v n o (drifted_in holds young ready properties v u m n x y r t l) (by_giving (step.GiveLock n.number) n o g); section = ap {A = View} (λ z. z.section) g.is ∙ sym none };
+  doubtless = λ few. given_doubtless (step.GiveLock n.number) n o g (doubtless_in holds young ready properties v u m n x y r t l few);
   from = r.from;
   landings = landings_later u.seen o.seen x y (none_more o.seen u.seen (ap {A = View} (λ z. z.seen) g.is ∙ ap {A = View} (λ z. z.seen) l.is ∙ ap {A = View} (λ z. z.seen) t.is)) r.landings;
   can = can_same u o y properties (ap {A = View} (λ z. z.seen) g.is ∙ ap {A = View} (λ z. z.seen) l.is ∙ ap {A = View} (λ z. z.seen) t.is) (ap {A = View} (λ z. z.given) g.is ∙ ap {A = View} (λ z. z.given) l.is ∙ ap {A = View} (λ z. z.given) t.is) r.can;
@@ -314,8 +324,8 @@ module _ (holds : List ℕ → Type 0) (ready : Ready) (properties : List (List 
   history_at : (o : View) → Published y properties next bytes n o → IsHistory (revisions n.seen)
   history_at o p = first_of n o p.course section (ap {A = View} (λ z. z.section) p.is) sure may_adopt.seen
 
-  pub committed : (o : View) → Published y properties next bytes n o → Committed ready.made.rev properties v o x y
-  committed o p = record {
+  pub committed : (o : View) → BringsNoDoubt v n → Published y properties next bytes n o → Committed ready.made.rev properties v o x y
+  committed o brings p = record {
     landings = landings_here;
     history = history_at o p;
     handed_in = subst (λ k. IsNext (revisions n.seen) (entry_of k x properties) next) drifted.number (entry_back n.seen n.number properties next x y (history_at o p) over_here landings_here next_is);
@@ -333,28 +343,31 @@ module _ (holds : List ℕ → Type 0) (ready : Ready) (properties : List (List 
     opened = ap {A = View} (λ z. z.opened) p.is ∙ drifted.opened;
     mine = ap {A = View} (λ z. z.pass.mine) p.is ∙ ap (λ k. n.pass.mine ++ k ∷ []) (sym is_made.number) ∙ ap (λ l. l ++ ready.made.rev ∷ []) drifted.mine;
     outside = ap {A = View} (λ z. z.section) p.is;
+    doubtless = λ few. same_faults n o (ap {A = View} (λ z. z.pass.faults) p.is) (brings few);
     course = append v n o drifted.course p.course;
   }
 
-  pub failed_at : {E : Type 0} {Says : Refusals E} (place : CommitPlace) (o : View) → v.section ≡ None → StoppedAt place n o → Refused Says (fault.DiskFault place) v o x y
-  failed_at place o none s = record {
+  pub failed_at : {E : Type 0} {Says : Refusals E} (place : CommitPlace) (o : View) → BringsNoDoubt v n → v.section ≡ None → StoppedAt place n o → Refused Says (fault.DiskFault place) v o x y
+  failed_at place o brings none s = record {
     moved = record { drifted = drifted_on v n o drifted (by_stopping place n o s); section = ap {A = View} (λ z. z.section) s.is ∙ sym none };
     landings = landings_later n.seen o.seen x y (by_stopping place n o s).grows landings_here;
+    doubtless = λ certain few. stopped_doubtless place n o s certain (brings few);
     cause = (n, drifted, s);
   }
 
-  pub not_written : {E : Type 0} {Says : Refusals E} (refusal : E) (o : View) → v.section ≡ None → LockGiven (step.GiveLock n.number) n o → ((head : ℕ) (h : List Recorded) (z : Txn) → Says refusal head h z) → Refused Says (fault.Refused refusal) v o x y
-  not_written refusal o none g says = record {
+  pub not_written : {E : Type 0} {Says : Refusals E} (refusal : E) (o : View) → BringsNoDoubt v n → v.section ≡ None → LockGiven (step.GiveLock n.number) n o → ((head : ℕ) (h : List Recorded) (z : Txn) → Says refusal head h z) → Refused Says (fault.Refused refusal) v o x y
+  not_written refusal o brings none g says = record {
     moved = record { drifted = drifted_on v n o drifted (by_giving (step.GiveLock n.number) n o g); section = ap {A = View} (λ z. z.section) g.is ∙ sym none };
     landings = landings_later n.seen o.seen x y (by_giving (step.GiveLock n.number) n o g).grows landings_here;
+    doubtless = λ few. given_doubtless (step.GiveLock n.number) n o g (brings few);
     cause = let e : o.pass.least ≡ n.pass.least = ap {A = View} (λ z. z.pass.least) g.is in (omega (arith, e, not_full), says o.pass.least o.seen y);
   }
 
-  pub short_at : {E : Type 0} {Says : Refusals E} (f : CommitFault E) (o : View) → v.section ≡ None → EndsShort Says f n o → Refused Says f v o x y
-  short_at fault.RevsFull o none s = absurd s
-  short_at (fault.Stuck place) o none s = absurd s
-  short_at (fault.Refused refusal) o none s = not_written refusal o none s.0 s.1
-  short_at (fault.DiskFault place) o none s = failed_at place o none s
+  pub short_at : {E : Type 0} {Says : Refusals E} (f : CommitFault E) (o : View) → BringsNoDoubt v n → v.section ≡ None → EndsShort Says f n o → Refused Says f v o x y
+  short_at fault.RevsFull o brings none s = absurd s
+  short_at (fault.Stuck place) o brings none s = absurd s
+  short_at (fault.Refused refusal) o brings none s = not_written refusal o brings none s.0 s.1
+  short_at (fault.DiskFault place) o brings none s = failed_at place o brings none s
 
 -- the lock was taken, and the youngest number is still the head
 module _ (holds : List ℕ → Type 0) (young : ℕ) (ready : Ready) (properties : List (List ℕ × List ℕ)) (v u m n : View) (x y : Txn) (r : IsReady holds ready properties v u x y) (t : LockTaken u m) (l : Looked young m n) (same : young ≡ ready.head) where
@@ -395,10 +408,10 @@ module _ (holds : List ℕ → Type 0) (young : ℕ) (ready : Ready) (properties
   made_at = is_made holds ready properties v u n x y r section_at sure_at least_at seen_at given_at layout_at (drifted_in holds young ready properties v u m n x y r t l) within_at
 
   pub commits_at : (o : View) → Published y properties next_at bytes_at n o → Committed ready.made.rev properties v o x y
-  commits_at o p = committed holds ready properties v u n x y r section_at sure_at least_at seen_at given_at layout_at (drifted_in holds young ready properties v u m n x y r t l) within_at o p
+  commits_at o p = committed holds ready properties v u n x y r section_at sure_at least_at seen_at given_at layout_at (drifted_in holds young ready properties v u m n x y r t l) within_at o (doubtless_in holds young ready properties v u m n x y r t l) p
 
   pub fails_at : {E : Type 0} {Says : Refusals E} (f : CommitFault E) (o : View) → v.section ≡ None → EndsShort Says f n o → Refused Says f v o x y
-  fails_at f o none s = short_at holds ready properties v u n x y r section_at sure_at least_at seen_at given_at layout_at (drifted_in holds young ready properties v u m n x y r t l) within_at f o none s
+  fails_at f o none s = short_at holds ready properties v u n x y r section_at sure_at least_at seen_at given_at layout_at (drifted_in holds young ready properties v u m n x y r t l) within_at f o (doubtless_in holds young ready properties v u m n x y r t l) none s
 
 -- ---- one turn after another
 
@@ -406,8 +419,8 @@ pub landings_on : (h : List Recorded) (x y z : Txn) → Landings h x y → Landi
 landings_on h x y z a (Unmoved _) = a
 landings_on h x y z a (LandedMore _ m _ head seen b begins landed) = LandedMore x m z head seen (landings_on h x y m a b) begins landed
 
-pub committed_on : (rev : ℕ) (p : List (List ℕ × List ℕ)) (v m o : View) (x y z : Txn) → Drifted v m → CanCommit v x p → Landings m.seen x y → Committed rev p m o y z → Committed rev p v o x z
-committed_on rev p v m o x y z d can landings c = record {
+pub committed_on : (rev : ℕ) (p : List (List ℕ × List ℕ)) (v m o : View) (x y z : Txn) → Drifted v m → BringsNoDoubt v m → CanCommit v x p → Landings m.seen x y → Committed rev p m o y z → Committed rev p v o x z
+committed_on rev p v m o x y z d brings can landings c = record {
   landings = landings_on c.before x y z first c.landings;
   history = c.history;
   handed_in = entry_back c.before v.number p c.next.revision x y c.history (txn_later v.seen c.before x (begins_on v.seen m.seen c.before d.grows c.begins) (omega (arith, can.based)) can.over) first
@@ -426,16 +439,18 @@ committed_on rev p v m o x y z d can landings c = record {
   since = c.since ∙ d.since;
   opened = c.opened ∙ d.opened;
   outside = c.outside;
+  doubtless = λ few. c.doubtless (brings few);
   course = append v m o d.course c.course;
 }
   where
     first : Landings c.before x y
     first = landings_later m.seen c.before x y c.begins landings
 
-pub refused_on : {E : Type 0} {Says : Refusals E} (f : CommitFault E) (v m o : View) (x y z : Txn) → Drifted v m → m.section ≡ v.section → Landings m.seen x y → Refused Says f m o y z → Refused Says f v o x z
-refused_on {Says = Says} f v m o x y z d section landings r = record {
+pub refused_on : {E : Type 0} {Says : Refusals E} (f : CommitFault E) (v m o : View) (x y z : Txn) → Drifted v m → BringsNoDoubt v m → m.section ≡ v.section → Landings m.seen x y → Refused Says f m o y z → Refused Says f v o x z
+refused_on {Says = Says} f v m o x y z d brings section landings r = record {
   moved = record { drifted = drifted_on v m o d r.moved.drifted; section = r.moved.section ∙ section };
   landings = landings_on o.seen x y z (landings_later m.seen o.seen x y r.moved.drifted.grows landings) r.landings;
+  doubtless = unless_on f (BringsNoDoubt m o) (BringsNoDoubt v o) (λ later few. later (brings few)) r.doubtless;
   cause = cause_on Says f r.cause;
 }
   where
@@ -446,21 +461,22 @@ refused_on {Says = Says} f v m o x y z d section landings r = record {
     cause_on W (fault.DiskFault place) c = (c.0, drifted_on v m c.0 d c.1, c.2)
 
 pub turn_on : (came : Option ℕ) (p : List (List ℕ × List ℕ)) (v m o : View) (x y z : Txn) → Lost p v m x y → IsTurn came p m o y z → IsTurn came p v o x z
-turn_on (Some rev) p v m o x y z l t = committed_on rev p v m o x y z l.moved.drifted l.from l.landings t
+turn_on (Some rev) p v m o x y z l t = committed_on rev p v m o x y z l.moved.drifted l.doubtless l.from l.landings t
 turn_on None p v m o x y z l t = record {
   moved = record { drifted = drifted_on v m o l.moved.drifted t.moved.drifted; section = t.moved.section ∙ l.moved.section };
+  doubtless = λ few. t.doubtless (l.doubtless few);
   from = l.from;
   landings = landings_on o.seen x y z (landings_later m.seen o.seen x y t.moved.drifted.grows l.landings) t.landings;
   can = t.can;
 }
 
 pub refused_after : {E : Type 0} {Says : Refusals E} (f : CommitFault E) (p : List (List ℕ × List ℕ)) (v m o : View) (x y z : Txn) → Lost p v m x y → Refused Says f m o y z → Refused Says f v o x z
-refused_after f p v m o x y z l r = refused_on f v m o x y z l.moved.drifted l.moved.section l.landings r
+refused_after f p v m o x y z l r = refused_on f v m o x y z l.moved.drifted l.doubtless l.moved.section l.landings r
 
 -- ---- the last turn
 
 pub stuck_first : {E : Type 0} {Says : Refusals E} (place : DiskPlace) (v m : View) (x : Txn) → FoundStuck place v m → Refused Says (fault.Stuck place) v m x x
-stuck_first place v m x f = record { moved = record { drifted = by_finding place v m f; section = ap {A = View} (λ z. z.section) f.is }; landings = Unmoved x; cause = ap {A = View} (λ z. z.pass.stuck) f.is }
+stuck_first place v m x f = record { moved = record { drifted = by_finding place v m f; section = ap {A = View} (λ z. z.section) f.is }; landings = Unmoved x; doubtless = found_doubtless place v m f; cause = ap {A = View} (λ z. z.pass.stuck) f.is }
 
 pub can_taken : (v m : View) (x : Txn) (p : List (List ℕ × List ℕ)) → LockTaken v m → CanCommit v x p → CanCommit m x p
 can_taken v m x p t can = can_same v m x p (ap {A = View} (λ z. z.seen) t.is) (ap {A = View} (λ z. z.given) t.is) can
@@ -475,6 +491,7 @@ pub refused_last : {E : Type 0} {Says : Refusals E} (f : CommitFault E) (v m u o
 refused_last {Says = Says} f v m u o x y none t r g = record {
   moved = record { drifted = drifted_on v u o (drifted_on v m u (by_taking v m t) r.moved.drifted) (by_giving (step.GiveLock u.number) u o g); section = ap {A = View} (λ z. z.section) g.is ∙ sym none };
   landings = landings_later u.seen o.seen x y (by_giving (step.GiveLock u.number) u o g).grows r.landings;
+  doubtless = unless_on f (BringsNoDoubt m u) (BringsNoDoubt v o) (λ between few. given_doubtless (step.GiveLock u.number) u o g (between (taken_doubtless v m t few))) r.doubtless;
   cause = cause_given Says f r.cause;
 }
   where
@@ -514,12 +531,16 @@ module _ (holds : List ℕ → Type 0) (ready : Ready) (p : List (List ℕ × Li
   last_made = is_made holds ready p m u u x y r last_section (r.sure ∙ last_held) r.least refl refl refl r.moved.drifted (r.within last_held)
 
   pub last_commits : (o : View) → CanCommit v x p → Published y p last_next last_bytes u o → Committed ready.made.rev p v o x y
-  last_commits o can published = committed_on ready.made.rev p v m o x x y (by_taking v m t) can (Unmoved x) (committed holds ready p m u u x y r last_section (r.sure ∙ last_held) r.least refl refl refl r.moved.drifted (r.within last_held) o published)
+  last_commits o can published = committed_on ready.made.rev p v m o x x y (by_taking v m t) (taken_doubtless v m t) can (Unmoved x) (committed holds ready p m u u x y r last_section (r.sure ∙ last_held) r.least refl refl refl r.moved.drifted (r.within last_held) o r.doubtless published)
+
+  last_doubtless : BringsNoDoubt v u
+  last_doubtless = λ few. r.doubtless (taken_doubtless v m t few)
 
   last_stopped : {E : Type 0} {Says : Refusals E} (place : CommitPlace) (o : View) → v.section ≡ None → StoppedAt place u o → Refused Says (fault.DiskFault place) v o x y
   last_stopped place o none s = record {
     moved = record { drifted = drifted_on v u o (drifted_on v m u (by_taking v m t) r.moved.drifted) (by_stopping place u o s); section = ap {A = View} (λ z. z.section) s.is ∙ sym none };
     landings = landings_later u.seen o.seen x y (by_stopping place u o s).grows r.landings;
+    doubtless = λ certain few. stopped_doubtless place u o s certain (last_doubtless few);
     cause = (u, drifted_on v m u (by_taking v m t) r.moved.drifted, s);
   }
 
@@ -527,6 +548,7 @@ module _ (holds : List ℕ → Type 0) (ready : Ready) (p : List (List ℕ × Li
   last_unwritten refusal o none g says = record {
     moved = record { drifted = drifted_on v u o (drifted_on v m u (by_taking v m t) r.moved.drifted) (by_giving (step.GiveLock u.number) u o g); section = ap {A = View} (λ z. z.section) g.is ∙ sym none };
     landings = landings_later u.seen o.seen x y (by_giving (step.GiveLock u.number) u o g).grows r.landings;
+    doubtless = λ few. given_doubtless (step.GiveLock u.number) u o g (last_doubtless few);
     cause =
         let e : o.pass.least ≡ u.pass.least = ap {A = View} (λ z. z.pass.least) g.is in
         (omega (arith, e, not_full holds ready p m u u x y r last_section (r.sure ∙ last_held) r.least refl refl refl r.moved.drifted (r.within last_held)), says o.pass.least o.seen y);

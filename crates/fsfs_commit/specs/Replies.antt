@@ -1,11 +1,13 @@
 -- The answers of a commit, and their causes.
-use Rattle.std.specs.Prelude.{◌≡◌, ◌<◌, ◌≤◌, ◌+◌, ℕ, List, [], ◌∷◌, ◌++◌, length, take, true, Option, Some, None}
+use Rattle.std.specs.Prelude.{◌≡◌, ◌<◌, ◌≤◌, ◌+◌, ℕ, List, [], ◌∷◌, ◌++◌, length, take, true, false, Option, Some, None}
 use Rattle.fsfs_tree.specs.Revisions.{Revision}
 use Rattle.fsfs_tree.specs.Histories.{IsHistory}
 use Rattle.fsfs_flat.specs.Transactions.{IsNext}
 use Rattle.fsfs_machine.specs.declared.machine.Recorded.{Recorded}
 use Rattle.fsfs_machine.specs.declared.machine.Txn.{Txn}
+use Rattle.fsfs_places.specs.declared.place.DiskPlace.TheVariants.{Commit}
 use Rattle.fsfs_machine.specs.Machine.{revisions, entry_of}
+use Rattle.fsfs_turn.specs.Alone.{brings_doubt}
 use Rattle.fsfs_turn.specs.Bytes.{BytesShow}
 use Rattle.fsfs_machine.specs.declared.machine.Step.TheVariants.{GiveLock}
 use Rattle.fsfs_turn.specs.Views.{View, Begins, is_held, LockGiven}
@@ -14,7 +16,7 @@ use Rattle.fsfs_commit.specs.declared.committing.Ready.{Ready}
 use Rattle.fsfs_commit.specs.declared.committing.CommitFault.{CommitFault}
 use Rattle.fsfs_commit.specs.declared.committing.CommitFault.TheVariants.{RevsFull, Stuck, Refused as Refuses, DiskFault}
 use Rattle.fsfs_commit.specs.Courses.{Course, IsMade, StoppedAt}
-use Rattle.fsfs_commit.specs.Works.{CanCommit, Landings}
+use Rattle.fsfs_commit.specs.Works.{BringsNoDoubt, CanCommit, Landings}
 
 -- the pass added nothing: it saw more, was told more, and faults came
 pub record Drifted (v u : View) : Type 0 where
@@ -42,6 +44,7 @@ pub record IsToCome (head : ℕ) (made : Made) (bytes : List ℕ) (number : ℕ)
 -- all is made for the revision that follows the head, on which the transaction stands
 pub record IsReady (holds : List ℕ → Type 0) (ready : Ready) (properties : List (List ℕ × List ℕ)) (v u : View) (x y : Txn) : Type 0 where
   pub moved : Moved v u
+  pub doubtless : BringsNoDoubt v u
   pub from : CanCommit v x properties
   pub landings : Landings u.seen x y
   pub can : CanCommit u y properties
@@ -75,11 +78,13 @@ pub record Committed (rev : ℕ) (properties : List (List ℕ × List ℕ)) (v u
   pub opened : u.opened ≡ v.opened
   pub given : u.given ≡ v.given
   pub outside : u.section ≡ None
+  pub doubtless : BringsNoDoubt v u
   pub course : Course v u
 
 -- a turn that was lost to another commit
 pub record Lost (properties : List (List ℕ × List ℕ)) (v u : View) (x y : Txn) : Type 0 where
   pub moved : Moved v u
+  pub doubtless : BringsNoDoubt v u
   pub from : CanCommit v x properties
   pub landings : Landings u.seen x y
   pub can : CanCommit u y properties
@@ -107,10 +112,18 @@ Cause Says (Stuck place) v u y = u.pass.stuck ≡ Some place
 Cause Says (Refuses refusal) v u y = (u.pass.least < 2147483647) × Says refusal u.pass.least u.seen y
 Cause Says (DiskFault place) v u y = (m : View) × Drifted v m × StoppedAt place m u
 
+-- a fact, unless the call failed at a place that leaves the revision in doubt
+abbrev pub UnlessDoubt : {E : Type 0} → CommitFault E → Type 0 → Type 0
+UnlessDoubt RevsFull P = P
+UnlessDoubt (Stuck place) P = P
+UnlessDoubt (Refuses refusal) P = P
+UnlessDoubt (DiskFault place) P = brings_doubt (Commit place) ≡ false → P
+
 -- REFUSED: nothing was added; the transaction stands on the head of the last landing, or as it was
 pub record Refused {E : Type 0} (Says : Refusals E) (fault : CommitFault E) (v u : View) (x y : Txn) : Type 0 where
   pub moved : Moved v u
   pub landings : Landings u.seen x y
+  pub doubtless : UnlessDoubt fault (BringsNoDoubt v u)
   pub cause : Cause Says fault v u y
 
 -- a fault of the disk, also one for which the draft refused, comes only where the count rose

@@ -32,6 +32,7 @@ use Rattle.fsfs_final_bytes.specs.declared.error.FinalError.{FinalError}
 use Rattle.fsfs_final_bytes.specs.declared.error.FinalError.TheVariants as finals
 use Rattle.fsfs_commit.specs.Courses.{End, More}
 use Rattle.fsfs_commit.specs.Works.{LandedOn, ReadOnly}
+use Rattle.fsfs_commit.proofs.Doubts.{read_doubtless}
 use Rattle.fsfs_draft.specs.Meaning.{IsTxnOf}
 use Rattle.fsfs_draft.specs.Refusals.{of_txn, of_final, IsClashAt, IsDiskFault, Refuses}
 use Rattle.fsfs_draft.specs.SeenLemmas.{bytes_same, shown_trees}
@@ -40,12 +41,13 @@ use Rattle.fsfs_draft.proofs.Landing.{first_part, part_long, part_last, landed, 
 -- ---- what only reading tells
 
 pub reads_nothing : (v : View) → AllShow v.seen → ReadOnly v v
-reads_nothing v shown = record { is = refl; grows = ([], sym (append-nil v.seen)); shown = shown; within = λ sure le. le; course = End v }
+reads_nothing v shown = record { is = refl; grows = ([], sym (append-nil v.seen)); doubtless = λ few. few; shown = shown; within = λ sure le. le; course = End v }
 
 pub reads_once : (r offset size : ℕ) (x : Recorded) (went : Went) (v u : View) → ReadTurn r offset size x went v u → ReadOnly v u
 reads_once r offset size x went v u t = record {
   is = t.is ∙ (λ i. record v { pass = record v.pass { seen = ap {A = View} (λ z. z.pass.seen) (sym t.is) i; faults = ap {A = View} (λ z. z.pass.faults) (sym t.is) i; floor = ap {A = View} (λ z. z.pass.floor) (sym t.is) i }; seen = u.seen });
   grows = t.grows;
+  doubtless = read_doubtless r offset size x went v u t;
   shown = t.shown;
   within = λ sure le. t.within sure;
   course = More [] (step.Read v.number r offset size went) (either went (outcome.Bytes _) outcome.Failed) v u u t.turned (End u);

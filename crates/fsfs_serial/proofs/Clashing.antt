@@ -15,14 +15,9 @@ use Rattle.fsfs_machine.specs.declared.machine.Txn.{Txn}
 use Rattle.fsfs_machine.specs.Machine.{revisions}
 use Rattle.fsfs_machine.proofs.Growing.{revisions_length}
 use Rattle.fsfs_turn.specs.Views.{Begins, IsTxnOver}
-use Rattle.fsfs_turn.proofs.Longer.{tree_first, txn_later}
 use Rattle.fsfs_commit.specs.Works.{LandedOn, Landings, Unmoved, Moved}
+use Rattle.fsfs_commit.proofs.Handing.{over_of, whole_revisions, whole_clear, whole_tree}
 use Rattle.fsfs_serial.specs.Clashes.{ClashesFirst, LandedClashesAreClashes}
-
--- each of the landings is one over the whole
-over_of : (h : List Recorded) (x y : Txn) → IsTxnOver h x → Landings h x y → IsTxnOver h y
-over_of h x y over (Unmoved _) = over
-over_of h x y over (Moved _ m _ head seen before begins landed) = txn_later seen h y begins (omega (arith, landed.there)) landed.over
 
 -- behind one landing
 step : (tree : ℕ → TreeFunction) (last b mid head : ℕ) (t u : TreeFunction) (marks : List Mark) (path : Path) → AreRevisions tree last → IsTransaction tree last b t marks → b ≤ mid → mid ≤ head → head ≤ last
@@ -39,21 +34,6 @@ one_back : (h : List Recorded) (m y : Txn) (mid : ℕ) (seen : List Recorded) (h
     → ClashesFirst h y head path → ClashesFirst h m head path
 one_back h m y mid seen head path hist over begins landed up there first = ⊎_elim (λ same. subst (λ (z : Txn). ClashesFirst h z head path) same first) (λ l. by_landing l.0 l.1) landed.lands
   where
-    tree : ℕ → TreeFunction
-    tree = tree_of (revisions h)
-
-    last_is : last_of (revisions h) ≡ hist.last
-    last_is = let c : length (revisions h) ≡ suc hist.last = hist.counted in omega (arith, c)
-
-    are : AreRevisions (tree_of (revisions h)) (last_of (revisions h))
-    are = subst (λ n. AreRevisions (tree_of (revisions h)) n) (sym last_is) hist.revisions
-
-    base_same : tree_of (revisions seen) m.base ≡ tree_of (revisions h) m.base
-    base_same = tree_first seen h m.base begins (omega (arith, landed.later, landed.there))
-
-    mid_same : tree_of (revisions seen) mid ≡ tree_of (revisions h) mid
-    mid_same = tree_first seen h mid begins landed.there
-
     first_at : IsFirstClash mid (tree_of (revisions h) mid) (tree_of (revisions h) head) (get y.tree) m.marks path
     first_at =
         subst (λ (c : List Mark). IsFirstClash mid (tree_of (revisions h) mid) (tree_of (revisions h) head) (get y.tree) c path) landed.marks
@@ -62,12 +42,10 @@ one_back h m y mid seen head path hist over begins landed up there first = ⊎_e
     by_landing : NoClash m.base (tree_of (revisions seen) m.base) (tree_of (revisions seen) mid) (get m.tree) m.marks
         → ((q : Path) → get y.tree q ≡ land (tree_of (revisions seen) m.base) (tree_of (revisions seen) mid) (get m.tree) m.marks mid q) → ClashesFirst h m head path
     by_landing clear trees =
-        let c : NoClash m.base (tree_of (revisions h) m.base) (tree_of (revisions h) mid) (get m.tree) m.marks =
-        subst (λ s. NoClash m.base (tree_of (revisions h) m.base) s (get m.tree) m.marks) mid_same (subst (λ a. NoClash m.base a (tree_of (revisions seen) mid) (get m.tree) m.marks) base_same clear) in
-        let f : get y.tree ≡ land (tree_of (revisions h) m.base) (tree_of (revisions h) mid) (get m.tree) m.marks mid =
-        (λ i q. trees q i) ∙ ap (λ a. land a (tree_of (revisions seen) mid) (get m.tree) m.marks mid) base_same ∙ ap (λ s. land (tree_of (revisions h) m.base) s (get m.tree) m.marks mid) mid_same in
+        let c = whole_clear h m y mid seen hist begins landed clear in
+        let f = whole_tree h m y mid seen hist begins landed trees in
         let on : y.base ≡ mid = landed.base in
-        step (tree_of (revisions h)) (last_of (revisions h)) m.base mid head (get m.tree) (get y.tree) m.marks path are over landed.later (omega (arith, up, on)) (omega (arith, there, revisions_length h)) c f first_at
+        step (tree_of (revisions h)) (last_of (revisions h)) m.base mid head (get m.tree) (get y.tree) m.marks path (whole_revisions h m y mid seen hist begins landed) over landed.later (omega (arith, up, on)) (omega (arith, there, revisions_length h)) c f first_at
 
 pub clash_back : LandedClashesAreClashes
 clash_back h x y head path hist over (Unmoved _) up there first = first
