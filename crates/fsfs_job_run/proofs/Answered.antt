@@ -1,5 +1,5 @@
 -- What a commit answered, as the end of a job's transaction.
-use Rattle.std.proofs.Common.{◌≡◌, ◌<◌, ℕ, List, Bool, length, sym, ap, subst, ◌∙◌, arith}
+use Rattle.std.proofs.Common.{◌≡◌, ◌<◌, ℕ, List, Bool, length, false, sym, ap, subst, ◌∙◌, arith}
 use Rattle.std.specs.Prelude.{Option, None}
 use Rattle.fsfs_tree.specs.Dated.{last_of}
 use Rattle.fsfs_tree.specs.Histories.{IsHistory}
@@ -9,9 +9,10 @@ use Rattle.fsfs_machine.specs.declared.machine.Txn.{Txn}
 use Rattle.fsfs_machine.specs.Kept.{IsIn}
 use Rattle.fsfs_machine.specs.Machine.{revisions}
 use Rattle.fsfs_machine.proofs.Growing.{revisions_length}
+use Rattle.fsfs_turn.specs.Alone.{brings_doubt}
 use Rattle.fsfs_turn.specs.Views.{View, IsTxnOver}
 use Rattle.fsfs_commit.specs.Replies.{Committed, Moved}
-use Rattle.fsfs_commit.specs.Works.{Landings}
+use Rattle.fsfs_commit.specs.Works.{BringsNoDoubt, Landings}
 use Rattle.fsfs_draft.specs.Dating.{IsDatedAt}
 use Rattle.fsfs_owned_repo.specs.Commits.{Bars, IfFailed, IsDropped, Meets}
 use Rattle.fsfs_owned_repo.specs.declared.answers.CommitAnswer.{CommitAnswer}
@@ -41,10 +42,10 @@ pub committed_ends : (knows : View → Type 0) → IsLone knows → (rose : Type
 committed_ends knows lone rose moment rev job properties gone v x at_first all undated dated date m y c dropped = ends_committed knows lone rose moment rev job properties dated gone x.name v m x y at_first all c.opened undated date c dropped
 
 pub barred_ends : (before after : View → Type 0) → IsLone before → IsLone after → (rose : Type 0) (moment : ℕ) (job : CommitJob) (bar : CommitBar) (answer : JobAnswer) (v u : View) (x y : Txn) → IsHistory (revisions v.seen) → IsTxnOver v.seen x
-    → IsCounted v → v.section ≡ None → v.pass.least ≡ last_of (revisions v.seen) → 0 < length v.seen → before u → Moved v u → Landings u.seen x y → Bars bar u y → answer ≡ answer_of_bar job.line bar → StaysKnown after u → EndsSo after rose moment job answer x v
-barred_ends before after lone alone rose moment job bar answer v u x y hist over all none told some known moved landings bars is left =
+    → IsCounted v → v.section ≡ None → v.pass.least ≡ last_of (revisions v.seen) → 0 < length v.seen → before u → Moved v u → BringsNoDoubt v u → Landings u.seen x y → Bars bar u y → answer ≡ answer_of_bar job.line bar → StaysKnown after u → EndsSo after rose moment job answer x v
+barred_ends before after lone alone rose moment job bar answer v u x y hist over all none told some known moved brings landings bars is left =
     subst (λ (a : JobAnswer). EndsSo after rose moment job a x v) (sym is)
-    (ends_purged after alone rose moment job (answer_of_bar job.line bar) x v u stays (bar_bare job.line bar)
+    (ends_purged after alone rose moment job (answer_of_bar job.line bar) x v u stays brings (bar_bare job.line bar)
     (bar_done moment v.number job v.seen u x y hist over (subst (λ (h : List Recorded). Landings h x y) stays.seen landings) stays.seen some still bar bars) (λ m same. bar_outside rose job.line u m y bar bars same) left)
   where
     stays : Stays v u
@@ -56,16 +57,16 @@ barred_ends before after lone alone rose moment job bar answer v u x y hist over
         omega (arith, revisions_length v.seen, long, moved.drifted.least, lone.told u known, told)
 
 pub disk_ends : (knows : View → Type 0) → IsLone knows → (rose : Type 0) (moment : ℕ) (job : CommitJob) (at : DiskPlace) (answer : JobAnswer) (v : View) (x : Txn) → IsCounted v → v.section ≡ None → rose → answer ≡ answers.Stopped job.line (Outside (outside.Disk at))
-    → (u : View) → Moved v u → (gone : Bool) → IsDropped knows gone x.name u → EndsSo knows rose moment job answer x v
-disk_ends knows lone rose moment job at answer v x all none up is u moved gone dropped =
+    → (u : View) → (brings_doubt at ≡ false → BringsNoDoubt v u) → Moved v u → (gone : Bool) → IsDropped knows gone x.name u → EndsSo knows rose moment job answer x v
+disk_ends knows lone rose moment job at answer v x all none up is u brings moved gone dropped =
     subst (λ (a : JobAnswer). EndsSo knows rose moment job a x v) (sym is)
-    (ends_failed knows lone rose moment job (answers.Stopped job.line (Outside (outside.Disk at))) x gone x.name v u all none tt (ByOutside (jobs.Commit job) job.line (outside.Disk at)) (λ m same. up) moved dropped)
+    (ends_failed knows lone rose moment job (answers.Stopped job.line (Outside (outside.Disk at))) x gone x.name v u all none tt (ByOutside (jobs.Commit job) job.line (outside.Disk at)) (λ m same. up) brings moved dropped)
 
 pub bench_ends : (knows : View → Type 0) → IsLone knows → (rose : Type 0) (moment : ℕ) (job : CommitJob) (answer : JobAnswer) (v : View) (x : Txn) → IsCounted v → v.section ≡ None → answer ≡ answers.Stopped job.line (Outside outside.Bench)
-    → (u : View) → Moved v u → (gone : Bool) → IsDropped knows gone x.name u → EndsSo knows rose moment job answer x v
-bench_ends knows lone rose moment job answer v x all none is u moved gone dropped =
+    → (u : View) → BringsNoDoubt v u → Moved v u → (gone : Bool) → IsDropped knows gone x.name u → EndsSo knows rose moment job answer x v
+bench_ends knows lone rose moment job answer v x all none is u brings moved gone dropped =
     subst (λ (a : JobAnswer). EndsSo knows rose moment job a x v) (sym is)
-    (ends_failed knows lone rose moment job (answers.Stopped job.line (Outside outside.Bench)) x gone x.name v u all none tt (ByOutside (jobs.Commit job) job.line outside.Bench) (λ m same. tt) moved dropped)
+    (ends_failed knows lone rose moment job (answers.Stopped job.line (Outside outside.Bench)) x gone x.name v u all none tt (ByOutside (jobs.Commit job) job.line outside.Bench) (λ m same. tt) (λ calm. brings) moved dropped)
 
 -- the name of one that is handed back is known to be given still
 pub given_back : (v u : View) (x y : Txn) (n : ℕ) → u.given ≡ v.given → IsIn x.name v.given → y.name ≡ x.name → y.name ≡ n → IsIn n u.given
@@ -86,17 +87,17 @@ module _ {X : Type 0} (spent : X → Option Failed) (name : X → TxnName) (base
   barred_by before after lone alone bar t answer hist over all none told some given answer_is is meets left =
       let m = subst (λ (a : CommitAnswer X). Meets before (λ h y t. (spent t ≡ None) × IsTxnOf h (name t) (base t) (settled t) y) moment properties v x a) is meets in
       let stays = back_stays before lone v m.0 all none m.3.moved m.2 in
-      barred_ends before after lone alone rose moment job bar answer v m.0 x m.1 hist over all none told some m.2 m.3.moved m.3.landings m.4 answer_is
+      barred_ends before after lone alone rose moment job bar answer v m.0 x m.1 hist over all none told some m.2 m.3.moved m.3.doubtless m.3.landings m.4 answer_is
       (left m.0 m.2 stays.outside (given_back v m.0 x m.1 (name t).number.number m.3.moved.drifted.given given m.3.name m.3.stands.1.numbered))
 
   pub disk_by : (knows : View → Type 0) → IsLone knows → (at : DiskPlace) (answer : JobAnswer) → IsCounted v → v.section ≡ None → answer ≡ answers.Stopped job.line (Outside (outside.Disk at)) → r ≡ replies.DiskFault at → IfFailed r rose
       → Meets knows (λ h y t. (spent t ≡ None) × IsTxnOf h (name t) (base t) (settled t) y) moment properties v x r → EndsSo knows rose moment job answer x v
   disk_by knows lone at answer all none answer_is is failed meets =
       let m = subst (λ (a : CommitAnswer X). Meets knows (λ h y t. (spent t ≡ None) × IsTxnOf h (name t) (base t) (settled t) y) moment properties v x a) is meets in
-      disk_ends knows lone rose moment job at answer v x all none (subst (λ (a : CommitAnswer X). IfFailed a rose) is failed) answer_is m.0 m.2.0 m.2.1.0 m.2.1.1
+      disk_ends knows lone rose moment job at answer v x all none (subst (λ (a : CommitAnswer X). IfFailed a rose) is failed) answer_is m.0 m.2 m.3.0 m.3.1.0 m.3.1.1
 
   pub bench_by : (knows : View → Type 0) → IsLone knows → (answer : JobAnswer) → IsCounted v → v.section ≡ None → answer ≡ answers.Stopped job.line (Outside outside.Bench) → r ≡ replies.BenchFault
       → Meets knows (λ h y t. (spent t ≡ None) × IsTxnOf h (name t) (base t) (settled t) y) moment properties v x r → EndsSo knows rose moment job answer x v
   bench_by knows lone answer all none answer_is is meets =
       let m = subst (λ (a : CommitAnswer X). Meets knows (λ h y t. (spent t ≡ None) × IsTxnOf h (name t) (base t) (settled t) y) moment properties v x a) is meets in
-      bench_ends knows lone rose moment job answer v x all none answer_is m.0 m.1.0 m.1.1.0 m.1.1.1
+      bench_ends knows lone rose moment job answer v x all none answer_is m.0 m.1 m.2.0 m.2.1.0 m.2.1.1

@@ -16,31 +16,31 @@ use Rattle.fsfs_faults.specs.declared.fault.Fault.TheVariants.{Request}
 use Rattle.fsfs_faults.specs.declared.request_fault.RequestFault.TheVariants.{NoRev}
 use Rattle.fsfs_jobs.specs.declared.answer.JobAnswer.TheVariants.{Stopped}
 use Rattle.fsfs_serial.specs.Jobs.{RunsJob}
-use Rattle.fsfs_job_run.specs.Running.{Stays, LacksBase, HasOutsideCause, IfCounted}
+use Rattle.fsfs_job_run.specs.Running.{HasLooked, LacksBase, HasOutsideCause, IfCounted}
 use Rattle.fsfs_job_run.proofs.Staying.{bare_leaves}
 
 -- a commit
-pub no_base : (moment : ℕ) (job : CommitJob) (fault : Fault) (v u : View) → Stays v u → LacksBase job.base (last_of (revisions v.seen)) fault → RunsJob moment (jobs.Commit job) (Stopped job.line fault) v u
-no_base moment job fault v u stays lacks = record {
+pub no_base : (moment : ℕ) (job : CommitJob) (fault : Fault) (v u : View) → HasLooked v u → LacksBase job.base (last_of (revisions v.seen)) fault → RunsJob moment (jobs.Commit job) (Stopped job.line fault) v u
+no_base moment job fault v u looked lacks = record {
   done = inl ([], tt, λ t less. (t, omega arith, does t));
-  leaves = bare_leaves (Stopped job.line fault) v u tt stays;
+  leaves = bare_leaves (Stopped job.line fault) v u tt looked.stays (λ calm. looked.doubtless);
 }
   where
     does : (t : ℕ) → Runs (revisions v.seen) [] t (jobs.Commit job) (Stopped job.line fault) (revisions u.seen) t
     does t =
-        subst (λ (now : List Revision). Runs (revisions v.seen) [] t (jobs.Commit job) (Stopped job.line fault) now t) (sym (ap revisions stays.seen))
+        subst (λ (now : List Revision). Runs (revisions v.seen) [] t (jobs.Commit job) (Stopped job.line fault) now t) (sym (ap revisions looked.stays.seen))
         (subst (λ (f : Fault). Runs (revisions v.seen) [] t (jobs.Commit job) (Stopped job.line f) (revisions v.seen) t) (sym lacks.3) (Lacks job lacks.0 lacks.1 lacks.2))
 
 -- a reading
-pub no_base_read : (moment : ℕ) (job : ReadJob) (fault : Fault) (v u : View) → Stays v u → LacksBase job.base (last_of (revisions v.seen)) fault → RunsJob moment (jobs.Read job) (Stopped job.line fault) v u
-no_base_read moment job fault v u stays lacks = record {
+pub no_base_read : (moment : ℕ) (job : ReadJob) (fault : Fault) (v u : View) → HasLooked v u → LacksBase job.base (last_of (revisions v.seen)) fault → RunsJob moment (jobs.Read job) (Stopped job.line fault) v u
+no_base_read moment job fault v u looked lacks = record {
   done = inl ([], tt, λ t less. (t, omega arith, does t));
-  leaves = bare_leaves (Stopped job.line fault) v u tt stays;
+  leaves = bare_leaves (Stopped job.line fault) v u tt looked.stays (λ calm. looked.doubtless);
 }
   where
     does : (t : ℕ) → Runs (revisions v.seen) [] t (jobs.Read job) (Stopped job.line fault) (revisions u.seen) t
     does t =
-        subst (λ (now : List Revision). Runs (revisions v.seen) [] t (jobs.Read job) (Stopped job.line fault) now t) (sym (ap revisions stays.seen))
+        subst (λ (now : List Revision). Runs (revisions v.seen) [] t (jobs.Read job) (Stopped job.line fault) now t) (sym (ap revisions looked.stays.seen))
         (subst (λ (f : Fault). Runs (revisions v.seen) [] t (jobs.Read job) (Stopped job.line f) (revisions v.seen) t) (sym lacks.3) (LacksRead job lacks.0 lacks.1 lacks.2))
 
 -- none of these says that the outside failed

@@ -108,7 +108,7 @@ unbegun_so knows rose moment base job why v u known all after told there moved w
     known,
     record {
       done = inr (begin_fails base job.line job v u told there moved whole why cause);
-      leaves = bare_leaves (Stopped job.line (fault_of_begin why)) v u tt (unbegun_stays v u moved all after);
+      leaves = bare_leaves (Stopped job.line (fault_of_begin why)) v u tt (unbegun_stays v u moved all after) (λ calm. moved.doubtless);
     },
     begin_outside base job.line job v u told there moved whole rose why cause disk,
   ),

@@ -17,6 +17,8 @@ use Rattle.fsfs_machine.specs.Machine.{revisions}
 use Rattle.fsfs_turn.specs.Bytes.{bytes_of}
 use Rattle.fsfs_turn.specs.Views.{View}
 use Rattle.fsfs_txn.specs.Standing.{Stands}
+use Rattle.fsfs_commit.specs.Works.{BringsNoDoubt}
+use Rattle.fsfs_commit.proofs.Doubts.{same_faults}
 use Rattle.fsfs_draft.specs.Meaning.{IsTxnOf}
 use Rattle.fsfs_machine.specs.Kept.{IsIn}
 use Rattle.fsfs_owned_repo.specs.Begun.{BeginsTxn}
@@ -121,19 +123,19 @@ refused_job knows rose moment job line fault v done cause left = (
   left.1,
   record {
     done = subst (λ (now : List Revision). DoesJob moment (revisions v.seen) (jobs.Commit job) (Stopped line fault) now ⊎ Fails (jobs.Commit job) (Stopped line fault)) (sym (ap revisions left.2.seen)) done;
-    leaves = bare_leaves (Stopped line fault) v left.0 tt left.2;
+    leaves = bare_leaves (Stopped line fault) v left.0 tt left.2 (λ calm. left.3);
   },
-  cause left.0 left.3,
+  cause left.0 left.4,
 )
 
 -- ---- what came before it added nothing
 
-pub behind : (knows : View → Type 0) (rose : Type 0) (moment : ℕ) (job : CommitJob) (answer : JobAnswer) (v m : View) → Stays v m → DoesSo knows rose moment (jobs.Commit job) answer m → DoesSo knows rose moment (jobs.Commit job) answer v
-behind knows rose moment job answer v m stays d = (d.0, d.1, runs_behind moment job answer v m d.0 stays d.2, d.3)
+pub behind : (knows : View → Type 0) (rose : Type 0) (moment : ℕ) (job : CommitJob) (answer : JobAnswer) (v m : View) → Stays v m → BringsNoDoubt v m → DoesSo knows rose moment (jobs.Commit job) answer m → DoesSo knows rose moment (jobs.Commit job) answer v
+behind knows rose moment job answer v m stays brings d = (d.0, d.1, runs_behind moment job answer v m d.0 stays brings d.2, d.3)
 
-pub commits_behind : (knows : View → Type 0) (P Q : Type 0) (moment : ℕ) (job : CommitJob) (answer : JobAnswer) (v m : View) → (P → Q) → Stays v m → CommitsSo knows P moment job answer m → CommitsSo knows Q moment job answer v
-commits_behind knows P Q moment job answer v m f stays c =
-    (does_on knows P Q moment (jobs.Commit job) answer v f (behind knows P moment job answer v m stays c.0), subst (λ (h : List Recorded). IfCounted (jobs.Commit job) answer (StopsOver h)) stays.seen c.1)
+pub commits_behind : (knows : View → Type 0) (P Q : Type 0) (moment : ℕ) (job : CommitJob) (answer : JobAnswer) (v m : View) → (P → Q) → Stays v m → BringsNoDoubt v m → CommitsSo knows P moment job answer m → CommitsSo knows Q moment job answer v
+commits_behind knows P Q moment job answer v m f stays brings c =
+    (does_on knows P Q moment (jobs.Commit job) answer v f (behind knows P moment job answer v m stays brings c.0), subst (λ (h : List Recorded). IfCounted (jobs.Commit job) answer (StopsOver h)) stays.seen c.1)
 
 -- ---- the whole, behind the edits
 
@@ -160,7 +162,7 @@ pub begun_so : (knows : View → Type 0) (P Q : Type 0) (moment base on_base : �
     → Stands (bytes_of u.seen) (tree_of (revisions u.seen)) (last_of (revisions u.seen)) on_base name settled (tree_of (revisions u.seen) on_base) [] → CommitsSo knows P moment job answer u)
     → CommitsSo knows Q moment job answer v
 begun_so knows P Q moment base on_base name settled job answer v u f all after told on same b does =
-    commits_behind knows P Q moment job answer v u f stays
+    commits_behind knows P Q moment job answer v u f stays (same_faults v u (ap {A = View} (λ z. z.pass.faults) b.is))
     (does stays.outside (begun_told name base settled v u b stays.seen told) (subst (λ (xs : List ℕ). IsIn name.number.number xs) (sym (ap {A = View} (λ z. z.given) b.is)) (inl refl)) (subst (λ (n : ℕ). n < length u.seen) (sym same) b.based)
     (same ∙ on ∙ ap (λ (h : List Recorded). base_of job.base (last_of (revisions h))) (sym stays.seen))
     (subst (λ (n : ℕ). Stands (bytes_of u.seen) (tree_of (revisions u.seen)) (last_of (revisions u.seen)) n name settled (tree_of (revisions u.seen) n) []) (sym same) b.stands))

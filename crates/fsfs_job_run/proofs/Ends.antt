@@ -1,5 +1,5 @@
 -- The end of a job's transaction: it is committed, or nothing was added.
-use Rattle.std.proofs.Common.{◌≡◌, ◌⊎◌, ◌<◌, ◌+◌, ℕ, List, [], ◌∷◌, Bool, true, false, length, length-append, sym, ap, subst, ◌∙◌, inl, inr, arith}
+use Rattle.std.proofs.Common.{◌≡◌, ◌⊎◌, ◌<◌, ◌+◌, ℕ, List, [], ◌∷◌, Bool, true, false, refl, length, length-append, sym, ap, subst, ◌∙◌, inl, inr, arith}
 use Rattle.std.specs.BTreeMap.{insert_entry}
 use Rattle.std.specs.Cmp.Lexicographic.{slice_cmp}
 use Rattle.std.specs.Ordering.{nat_cmp}
@@ -15,18 +15,21 @@ use Rattle.fsfs_machine.specs.declared.machine.Step.{Step}
 use Rattle.fsfs_machine.specs.declared.machine.Step.TheVariants.{PurgeSpent}
 use Rattle.fsfs_machine.specs.declared.machine.Txn.{Txn}
 use Rattle.fsfs_machine.specs.Machine.{World, revisions}
+use Rattle.fsfs_turn.specs.Alone.{brings_doubt}
 use Rattle.fsfs_turn.specs.Learning.{with_spent}
 use Rattle.fsfs_turn.specs.Views.{View, Begins}
 use Rattle.fsfs_turn_purge.specs.Purged.{HasPurged, HasNotPurged, Purges}
 use Rattle.fsfs_turn_purge.specs.declared.purge_fault.PurgeFault.{PurgeFault}
 use Rattle.fsfs_turn_purge.specs.declared.purge_fault.PurgeFault.TheVariants.{DiskFault}
+use Rattle.fsfs_commit.specs.Works.{BringsNoDoubt}
 use Rattle.fsfs_commit.specs.Replies.{Committed, Moved}
+use Rattle.fsfs_commit.proofs.Doubts.{same_faults, fault_more}
 use Rattle.fsfs_job_lines.specs.declared.job.CommitJob.{CommitJob}
 use Rattle.fsfs_job_lines.specs.declared.job.Job.TheVariants as jobs
 use Rattle.fsfs_jobs.specs.Properties.{undated_properties}
 use Rattle.fsfs_jobs.specs.declared.answer.JobAnswer.{JobAnswer}
 use Rattle.fsfs_jobs.specs.declared.answer.JobAnswer.TheVariants as answers
-use Rattle.fsfs_serial.specs.Jobs.{Fails}
+use Rattle.fsfs_serial.specs.Jobs.{Fails, tells_doubt}
 use Rattle.fsfs_draft.specs.Dating.{IsDatedAt}
 use Rattle.fsfs_owned_repo.specs.Commits.{IsDropped}
 use Rattle.fsfs_job_run.specs.Running.{Stays, HasOutsideCause}
@@ -43,22 +46,23 @@ pub record IsLone (knows : View → Type 0) : Type 0 where
 
 -- behind a purge
 abbrev pub StaysKnown : (View → Type 0) → View → Type 0
-StaysKnown knows v = (u : View) × knows u × Stays v u × (u.pass.stuck ≡ v.pass.stuck)
+StaysKnown knows v = (u : View) × knows u × Stays v u × BringsNoDoubt v u × (u.pass.stuck ≡ v.pass.stuck)
 
 module _ (knows : View → Type 0) (lone : IsLone knows) where
   purged_known : (lay : World → World) (step : Step) (v u : View) → IsCounted v → v.section ≡ None → knows u → HasPurged lay step v u → StaysKnown knows v
-  purged_known lay step v u all none known p = (u, known, purge_stays lay step v u p all (lone.all u known) none, ap {A = View} (λ z. z.pass.stuck) p.is)
+  purged_known lay step v u all none known p = (u, known, purge_stays lay step v u p all (lone.all u known) none, same_faults v u (ap {A = View} (λ z. z.pass.faults) p.is), ap {A = View} (λ z. z.pass.stuck) p.is)
 
-  not_purged_known : (place : DiskPlace) (lay : World → World) (step : Step) (v u : View) → IsCounted v → v.section ≡ None → knows u → HasNotPurged place lay step v u → StaysKnown knows v
-  not_purged_known place lay step v u all none known p = (u, known, no_purge_stays place lay step v u p all (lone.all u known) none, ap {A = View} (λ z. z.pass.stuck) p.is)
+  not_purged_known : (place : DiskPlace) (lay : World → World) (step : Step) (v u : View) → brings_doubt place ≡ false → IsCounted v → v.section ≡ None → knows u → HasNotPurged place lay step v u → StaysKnown knows v
+  not_purged_known place lay step v u harmless all none known p =
+      (u, known, no_purge_stays place lay step v u p all (lone.all u known) none, fault_more place v u (ap {A = View} (λ z. z.pass.faults) p.is) harmless, ap {A = View} (λ z. z.pass.stuck) p.is)
 
   pub purges_stay : (lay : World → World) (step : Went → Step) (result : Result (Unit {0}) PurgeFault) (v : View) → IsCounted v → v.section ≡ None → Purges knows lay step result v → StaysKnown knows v
   purges_stay lay step (Ok done) v all none p = purged_known lay (step Fine) v p.0 all none p.1 p.2
-  purges_stay lay step (Err (DiskFault place)) v all none p = not_purged_known place lay (step p.2) v p.1 all none p.3 p.5
+  purges_stay lay step (Err (DiskFault place)) v all none p = not_purged_known place lay (step p.2) v p.1 (ap brings_doubt p.0) all none p.3 p.5
 
   dropped_stays : (gone : Bool) (name : ℕ) (m : View) → IsCounted m → m.section ≡ None → IsDropped knows gone name m → StaysKnown knows m
   dropped_stays true name m all none d = purged_known (with_spent name) (PurgeSpent m.number 0 Fine) m d.0 all none d.1 d.2
-  dropped_stays false name m all none d = not_purged_known Remove (with_spent name) (PurgeSpent m.number 0 d.1) m d.0 all none d.2 d.4
+  dropped_stays false name m all none d = not_purged_known Remove (with_spent name) (PurgeSpent m.number 0 d.1) m d.0 refl all none d.2 d.4
 
   -- what is known behind that, of a pass that may have seen more than was counted
   abbrev GoesOn : View → Type 0
@@ -83,7 +87,7 @@ module _ (knows : View → Type 0) (lone : IsLone knows) where
     left.1,
     record {
       done = inl (subst (λ (now : List Revision). CommitsTxn moment v.number job (revisions v.seen) x (answers.Committed rev) now) (sym (ap revisions left.2.seen)) does);
-      leaves = then_stays (answers.Committed rev) v m left.0 (commit_leaves rev dated v m x y c same (sym after.3 ∙ after.4 ∙ sym at_first)) left.2;
+      leaves = then_stays (answers.Committed rev) v m left.0 (commit_leaves rev dated v m x y c same (sym after.3 ∙ after.4 ∙ sym at_first)) left.2 left.3;
     },
     tt,
   )
@@ -109,9 +113,9 @@ module _ (knows : View → Type 0) (lone : IsLone knows) where
   -- ---- nothing was added, and the transaction is no more
 
   pub ends_failed : (rose : Type 0) (moment : ℕ) (job : CommitJob) (answer : JobAnswer) (x : Txn) (gone : Bool) (name : ℕ) (v m : View) → IsCounted v → v.section ≡ None → IsBare answer → Fails (jobs.Commit job) answer
-      → ((u : View) → u.pass.stuck ≡ m.pass.stuck → HasOutsideCause rose u answer) → Moved v m → IsDropped knows gone name m → EndsSo knows rose moment job answer x v
-  ends_failed rose moment job answer x gone name v m all none bare fails cause moved dropped =
-      (left.0, left.1, record { done = inr fails; leaves = bare_leaves answer v left.0 bare (stays_on v m left.0 stays left.2) }, cause left.0 left.3)
+      → ((u : View) → u.pass.stuck ≡ m.pass.stuck → HasOutsideCause rose u answer) → (tells_doubt answer ≡ false → BringsNoDoubt v m) → Moved v m → IsDropped knows gone name m → EndsSo knows rose moment job answer x v
+  ends_failed rose moment job answer x gone name v m all none bare fails cause brings moved dropped =
+      (left.0, left.1, record { done = inr fails; leaves = bare_leaves answer v left.0 bare (stays_on v m left.0 stays left.2) (λ calm few. left.3 (brings calm few)) }, cause left.0 left.4)
     where
       after : GoesOn m
       after = dropped_on gone name m dropped
@@ -133,14 +137,14 @@ module _ (knows : View → Type 0) (lone : IsLone knows) where
   pub back_stays : (v m : View) → IsCounted v → v.section ≡ None → Moved v m → knows m → Stays v m
   back_stays v m all none moved known = moved_stays v m moved (seen_same v m all moved.drifted.grows (lone.all m known) moved.drifted.opened moved.drifted.mine) none
 
-  pub ends_purged : (rose : Type 0) (moment : ℕ) (job : CommitJob) (answer : JobAnswer) (x : Txn) (v m : View) → Stays v m → IsBare answer → CommitsTxn moment v.number job (revisions v.seen) x answer (revisions v.seen) ⊎ Fails (jobs.Commit job) answer
+  pub ends_purged : (rose : Type 0) (moment : ℕ) (job : CommitJob) (answer : JobAnswer) (x : Txn) (v m : View) → Stays v m → BringsNoDoubt v m → IsBare answer → CommitsTxn moment v.number job (revisions v.seen) x answer (revisions v.seen) ⊎ Fails (jobs.Commit job) answer
       → ((u : View) → u.pass.stuck ≡ m.pass.stuck → HasOutsideCause rose u answer) → StaysKnown knows m → EndsSo knows rose moment job answer x v
-  ends_purged rose moment job answer x v m stays bare done cause left = (
+  ends_purged rose moment job answer x v m stays brings bare done cause left = (
     left.0,
     left.1,
     record {
       done = subst (λ (now : List Revision). CommitsTxn moment v.number job (revisions v.seen) x answer now ⊎ Fails (jobs.Commit job) answer) (sym (ap revisions (left.2.seen ∙ stays.seen))) done;
-      leaves = bare_leaves answer v left.0 bare (stays_on v m left.0 stays left.2);
+      leaves = bare_leaves answer v left.0 bare (stays_on v m left.0 stays left.2) (λ calm few. left.3 (brings few));
     },
-    cause left.0 left.3,
+    cause left.0 left.4,
   )

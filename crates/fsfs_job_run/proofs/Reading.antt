@@ -20,7 +20,7 @@ use Rattle.fsfs_jobs.specs.declared.answer.JobAnswer.{JobAnswer}
 use Rattle.fsfs_jobs.specs.declared.answer.JobAnswer.TheVariants as answers
 use Rattle.fsfs_job_reads.specs.TextReads.{ReadsSo, ByTree, DiskFails, Wants, IfAnswerFails}
 use Rattle.fsfs_serial.specs.Jobs.{IfAdded, DoesJob, Fails, ByOutside, ByMemory, RunsJob}
-use Rattle.fsfs_job_run.specs.Running.{Stays, HasOutsideCause, DoesSo}
+use Rattle.fsfs_job_run.specs.Running.{HasLooked, HasOutsideCause, DoesSo}
 use Rattle.fsfs_job_run.proofs.Staying.{IsBare, bare_leaves}
 
 -- ---- a reading tells no revision that was added
@@ -85,21 +85,21 @@ reads_does moment job h _ within DiskFails = inr (ByOutside (jobs.Read job) job.
 reads_does moment job h _ within Wants = inr (ByMemory (jobs.Read job) job.line)
 
 -- the whole job, over what the pass has seen
-pub reads_job : (moment : ℕ) (job : ReadJob) (answer : JobAnswer) (v u : View) → base_of job.base (last_of (revisions v.seen)) ≤ last_of (revisions v.seen) → Stays v u
+pub reads_job : (moment : ℕ) (job : ReadJob) (answer : JobAnswer) (v u : View) → base_of job.base (last_of (revisions v.seen)) ≤ last_of (revisions v.seen) → HasLooked v u
     → ReadsSo job (base_of job.base (last_of (revisions v.seen))) (found_at (tree_of (revisions v.seen) (base_of job.base (last_of (revisions v.seen)))) job.path) answer → RunsJob moment (jobs.Read job) answer v u
-reads_job moment job answer v u within stays reads = record {
-  done = subst (λ (now : List Revision). DoesJob moment (revisions v.seen) (jobs.Read job) answer now ⊎ Fails (jobs.Read job) answer) (sym (ap revisions stays.seen)) (reads_does moment job (revisions v.seen) answer within reads);
-  leaves = bare_leaves answer v u (is_bare answer (reads_bare job _ _ answer reads)) stays;
+reads_job moment job answer v u within looked reads = record {
+  done = subst (λ (now : List Revision). DoesJob moment (revisions v.seen) (jobs.Read job) answer now ⊎ Fails (jobs.Read job) answer) (sym (ap revisions looked.stays.seen)) (reads_does moment job (revisions v.seen) answer within reads);
+  leaves = bare_leaves answer v u (is_bare answer (reads_bare job _ _ answer reads)) looked.stays (λ calm. looked.doubtless);
 }
 
 -- and what is known behind it
-pub read_so : (knows : View → Type 0) (rose : Type 0) (moment base : ℕ) (job : ReadJob) (answer : JobAnswer) (v u : View) → knows u → Stays v u → base ≡ base_of job.base (last_of (revisions v.seen)) → base ≤ last_of (revisions v.seen)
+pub read_so : (knows : View → Type 0) (rose : Type 0) (moment base : ℕ) (job : ReadJob) (answer : JobAnswer) (v u : View) → knows u → HasLooked v u → base ≡ base_of job.base (last_of (revisions v.seen)) → base ≤ last_of (revisions v.seen)
     → ReadsSo job base (found_at (tree_of (revisions u.seen) base) job.path) answer → IfAnswerFails answer rose → DoesSo knows rose moment (jobs.Read job) answer v
-read_so knows rose moment base job answer v u known stays on within reads failed =
-    (u, known, reads_job moment job answer v u (subst (λ (b : ℕ). b ≤ last_of (revisions v.seen)) on within) stays here, reads_outside rose u job base (found_at (tree_of (revisions u.seen) base) job.path) answer reads failed)
+read_so knows rose moment base job answer v u known looked on within reads failed =
+    (u, known, reads_job moment job answer v u (subst (λ (b : ℕ). b ≤ last_of (revisions v.seen)) on within) looked here, reads_outside rose u job base (found_at (tree_of (revisions u.seen) base) job.path) answer reads failed)
   where
     here : ReadsSo job (base_of job.base (last_of (revisions v.seen))) (found_at (tree_of (revisions v.seen) (base_of job.base (last_of (revisions v.seen)))) job.path) answer
-    here = subst (λ (b : ℕ). ReadsSo job b (found_at (tree_of (revisions v.seen) b) job.path) answer) on (subst (λ (h : List Recorded). ReadsSo job base (found_at (tree_of (revisions h) base) job.path) answer) stays.seen reads)
+    here = subst (λ (b : ℕ). ReadsSo job b (found_at (tree_of (revisions v.seen) b) job.path) answer) on (subst (λ (h : List Recorded). ReadsSo job base (found_at (tree_of (revisions h) base) job.path) answer) looked.stays.seen reads)
 
 -- the counts, seen from outside
 pub fails_as : (answer : JobAnswer) (a b c d : ℕ) → a ≡ c → b ≡ d → IfAnswerFails answer (Rose a b) → IfAnswerFails answer (Rose c d)

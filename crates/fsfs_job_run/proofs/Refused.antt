@@ -9,6 +9,7 @@ use Rattle.fsfs_flat.specs.declared.mark.Mark.{Mark}
 use Rattle.fsfs_machine.specs.declared.machine.Txn.{Txn}
 use Rattle.fsfs_machine.specs.Machine.{revisions}
 use Rattle.fsfs_turn.specs.Views.{View}
+use Rattle.fsfs_commit.specs.Works.{BringsNoDoubt}
 use Rattle.fsfs_job_lines.specs.declared.edit.Edit.{Edit}
 use Rattle.fsfs_job_lines.specs.declared.job.CommitJob.{CommitJob}
 use Rattle.fsfs_job_lines.specs.declared.job.Job.TheVariants as jobs
@@ -66,8 +67,8 @@ ends_job moment job answer x v u within e ends = record { done = by ends.done; l
     by (inr fails) = inr fails
 
 -- what came before it added nothing
-pub runs_behind : (moment : ℕ) (job : CommitJob) (answer : JobAnswer) (v m u : View) → Stays v m → RunsJob moment (jobs.Commit job) answer m u → RunsJob moment (jobs.Commit job) answer v u
-runs_behind moment job answer v m u stays runs = record {
+pub runs_behind : (moment : ℕ) (job : CommitJob) (answer : JobAnswer) (v m u : View) → Stays v m → BringsNoDoubt v m → RunsJob moment (jobs.Commit job) answer m u → RunsJob moment (jobs.Commit job) answer v u
+runs_behind moment job answer v m u stays brings runs = record {
   done = subst (λ (h : List Revision). DoesJob moment h (jobs.Commit job) answer (revisions u.seen) ⊎ Fails (jobs.Commit job) answer) (ap revisions stays.seen) runs.done;
-  leaves = stays_then answer v m u stays runs.leaves;
+  leaves = stays_then answer v m u stays brings runs.leaves;
 }

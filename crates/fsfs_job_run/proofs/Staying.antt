@@ -1,5 +1,5 @@
 -- What the pass knows behind calls that add nothing.
-use Rattle.std.proofs.Common.{◌≡◌, ◌≤◌, ◌+◌, ℕ, List, [], ◌∷◌, ◌++◌, length, refl, sym, ap, subst, ◌∙◌, append_assoc, append-nil, length-append, arith}
+use Rattle.std.proofs.Common.{◌≡◌, ◌≤◌, ◌+◌, ℕ, List, [], ◌∷◌, ◌++◌, length, false, refl, sym, ap, subst, ◌∙◌, append_assoc, append-nil, length-append, arith}
 use Rattle.std.proofs.lemmas.List.{nil_from_length}
 use Rattle.std.specs.Prelude.{None}
 use Rattle.fsfs_places.specs.declared.place.DiskPlace.{DiskPlace}
@@ -11,10 +11,12 @@ use Rattle.fsfs_machine.proofs.Growing.{revisions_length}
 use Rattle.fsfs_tree.specs.Dated.{last_of}
 use Rattle.fsfs_turn.specs.Views.{View, Begins, Looked}
 use Rattle.fsfs_turn_purge.specs.Purged.{HasPurged, HasNotPurged}
+use Rattle.fsfs_commit.specs.Works.{BringsNoDoubt}
 use Rattle.fsfs_commit.specs.Replies.{Committed, Moved as CommitMoved}
+use Rattle.fsfs_commit.proofs.Doubts.{same_faults}
 use Rattle.fsfs_jobs.specs.declared.answer.JobAnswer.{JobAnswer}
 use Rattle.fsfs_jobs.specs.declared.answer.JobAnswer.TheVariants as answers
-use Rattle.fsfs_serial.specs.Jobs.{AddsBy, own_of, Leaves}
+use Rattle.fsfs_serial.specs.Jobs.{AddsBy, own_of, tells_doubt, Leaves}
 use Rattle.fsfs_job_run.specs.Running.{Stays, HasLooked}
 
 -- a history that goes on and is no longer is the same
@@ -62,8 +64,8 @@ added_on answer h k now same adds = subst (λ (l : List Recorded). AddsBy answer
 added_still : (answer : JobAnswer) (h k now : List Recorded) → now ≡ k → AddsBy answer h k → AddsBy answer h now
 added_still answer h k now same adds = subst (λ (l : List Recorded). AddsBy answer h l) (sym same) adds
 
-pub stays_then : (answer : JobAnswer) (v m u : View) → Stays v m → Leaves answer m u → Leaves answer v u
-stays_then answer v m u a b = record {
+pub stays_then : (answer : JobAnswer) (v m u : View) → Stays v m → BringsNoDoubt v m → Leaves answer m u → Leaves answer v u
+stays_then answer v m u a brings b = record {
   adds = added_on answer v.seen m.seen u.seen a.seen b.adds;
   since = b.since ∙ a.since;
   opened = b.opened ∙ a.opened;
@@ -72,10 +74,11 @@ stays_then answer v m u a b = record {
   outside = b.outside;
   more = b.more ++ a.more;
   given = b.given ∙ ap (λ (l : List ℕ). b.more ++ l) a.given ∙ sym (append_assoc b.more a.more v.given);
+  doubtless = λ none few. b.doubtless none (brings few);
 }
 
-pub then_stays : (answer : JobAnswer) (v m u : View) → Leaves answer v m → Stays m u → Leaves answer v u
-then_stays answer v m u a b = record {
+pub then_stays : (answer : JobAnswer) (v m u : View) → Leaves answer v m → Stays m u → BringsNoDoubt m u → Leaves answer v u
+then_stays answer v m u a b brings = record {
   adds = added_still answer v.seen m.seen u.seen b.seen a.adds;
   since = b.since ∙ a.since;
   opened = b.opened ∙ a.opened;
@@ -84,6 +87,7 @@ then_stays answer v m u a b = record {
   outside = b.outside;
   more = b.more ++ a.more;
   given = b.given ∙ ap (λ (l : List ℕ). b.more ++ l) a.given ∙ sym (append_assoc b.more a.more v.given);
+  doubtless = λ none few. brings (a.doubtless none few);
 }
 
 -- an answer that tells no revision
@@ -93,11 +97,11 @@ IsBare (answers.Read text) = Unit {0}
 IsBare (answers.Conflict head path) = Unit {0}
 IsBare (answers.Stopped line fault) = Unit {0}
 
-pub bare_leaves : (answer : JobAnswer) (v u : View) → IsBare answer → Stays v u → Leaves answer v u
-bare_leaves (answers.Committed rev) v u bare s = absurd bare
-bare_leaves (answers.Read text) v u bare s = record { adds = s.seen; since = s.since; opened = s.opened; own = s.own ∙ sym (append-nil v.pass.mine); number = s.number; outside = s.outside; more = s.more; given = s.given }
-bare_leaves (answers.Conflict head path) v u bare s = record { adds = s.seen; since = s.since; opened = s.opened; own = s.own ∙ sym (append-nil v.pass.mine); number = s.number; outside = s.outside; more = s.more; given = s.given }
-bare_leaves (answers.Stopped line fault) v u bare s = record { adds = s.seen; since = s.since; opened = s.opened; own = s.own ∙ sym (append-nil v.pass.mine); number = s.number; outside = s.outside; more = s.more; given = s.given }
+pub bare_leaves : (answer : JobAnswer) (v u : View) → IsBare answer → Stays v u → (tells_doubt answer ≡ false → BringsNoDoubt v u) → Leaves answer v u
+bare_leaves (answers.Committed rev) v u bare s brings = absurd bare
+bare_leaves (answers.Read text) v u bare s brings = record { adds = s.seen; since = s.since; opened = s.opened; own = s.own ∙ sym (append-nil v.pass.mine); number = s.number; outside = s.outside; more = s.more; given = s.given; doubtless = brings }
+bare_leaves (answers.Conflict head path) v u bare s brings = record { adds = s.seen; since = s.since; opened = s.opened; own = s.own ∙ sym (append-nil v.pass.mine); number = s.number; outside = s.outside; more = s.more; given = s.given; doubtless = brings }
+bare_leaves (answers.Stopped line fault) v u bare s brings = record { adds = s.seen; since = s.since; opened = s.opened; own = s.own ∙ sym (append-nil v.pass.mine); number = s.number; outside = s.outside; more = s.more; given = s.given; doubtless = brings }
 
 -- ---- by each call
 
@@ -115,6 +119,7 @@ look_stays young v u none l all = (
       more = [];
       given = ap {A = View} (λ z. z.given) l.is;
     };
+    doubtless = same_faults v u (ap {A = View} (λ z. z.pass.faults) l.is);
     least = least ∙ last;
   },
   last,
@@ -177,4 +182,5 @@ commit_leaves rev properties v u x y c same number = record {
   outside = c.outside;
   more = [];
   given = c.given;
+  doubtless = λ none. c.doubtless;
 }

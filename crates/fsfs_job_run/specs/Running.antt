@@ -8,6 +8,7 @@ use Rattle.fsfs_machine.specs.Machine.{revisions}
 use Rattle.fsfs_turn.specs.Bytes.{bytes_of}
 use Rattle.fsfs_turn.specs.Views.{View}
 use Rattle.fsfs_turn.specs.Telling.{OwnedState, owned_view}
+use Rattle.fsfs_commit.specs.Works.{BringsNoDoubt}
 use Rattle.fsfs_turn_begin.specs.Steps.{IsPastNumbers}
 use Rattle.fsfs_owned_repo.specs.Alone.{KnowsIn}
 use Rattle.fsfs_job_lines.specs.declared.job.Base.{Base}
@@ -103,4 +104,5 @@ pub record Stays (v u : View) : Type 0 where
 -- the youngest revision was looked at
 pub record HasLooked (v u : View) : Type 0 where
   pub stays : Stays v u
+  pub doubtless : BringsNoDoubt v u
   pub least : u.pass.least ≡ last_of (revisions v.seen)

@@ -6,6 +6,7 @@ ghost use Rattle.fsfs_machine.specs.Kept.{IsIn};
 ghost use Rattle.fsfs_machine.specs.Machine.{revisions};
 ghost use Rattle.fsfs_tree.specs.Dated.{last_of};
 ghost use Rattle.fsfs_turn.specs.Views.{View};
+ghost use Rattle.fsfs_commit.specs.Works.{BringsNoDoubt};
 ghost use Rattle.fsfs_draft.specs.Meaning.{IsTxnOf};
 ghost use Rattle.fsfs_faults.specs.declared.fault.Fault.TheVariants.{Outside};
 ghost use Rattle.fsfs_jobs.specs.declared.answer.JobAnswer.TheVariants.{Stopped};
@@ -70,7 +71,7 @@ pub(crate) fn purged<D: Disk, R>(
     txn: Txn<HeldNodes<D::Bench>>,
 ) -> Repo<D>
     ensures leaves { (v : View) → ⟦<Owned<D> as Turns<R>>⟧.knows repo.turns v → v.section ≡ None → IsIn (⟦<HeldNodes<D::Bench> as Own>⟧.txn txn.own).number.number v.given
-        → (u : View) × ⟦<Owned<D> as Turns<R>>⟧.knows result.turns u × Stays v u × (u.pass.stuck ≡ v.pass.stuck) }
+        → (u : View) × ⟦<Owned<D> as Turns<R>>⟧.knows result.turns u × Stays v u × BringsNoDoubt v u × (u.pass.stuck ≡ v.pass.stuck) }
     ensures mounted { D.mount_path result.turns.disk ≡ D.mount_path repo.turns.disk }
     ensures later { ⟦<Owned<D> as Turns<R>>⟧.faults repo.turns ≤ ⟦<Owned<D> as Turns<R>>⟧.faults result.turns }
 {

@@ -23,6 +23,7 @@ use Rattle.fsfs_machine.proofs.Growing.{revisions_length}
 use Rattle.fsfs_places.specs.declared.place.DiskPlace.TheVariants as place
 use Rattle.fsfs_machine.specs.declared.machine.Went.{Went}
 use Rattle.fsfs_machine.specs.Machine.{is_fine_in}
+use Rattle.fsfs_turn.specs.Alone.{are_harmless}
 use Rattle.fsfs_turn.specs.Bytes.{bytes_of, AllShow}
 use Rattle.fsfs_turn.specs.Views.{View}
 use Rattle.fsfs_turn.specs.Learning.{SpentPurged}
@@ -93,6 +94,7 @@ module _ (name : TxnName) (root : NodeRev) (held : Option Files) (v u : View) (h
     more = name.number.number ∷ [];
     given = ap {A = View} (λ z. z.given) h.is;
     outside = ap {A = View} (λ z. z.section) h.is;
+    doubtless = λ few. ap {A = View} (λ z. are_harmless z.pass.faults) h.is ∙ few;
     steps = h.steps;
   }
 
@@ -102,4 +104,4 @@ begins_as name other root held v u h proto settled base all named same folder = 
 
 -- its label was dropped
 pub spent_moved : (name : ℕ) (went : Went) (v u : View) → v.section ≡ None → SpentPurged name went v u → Moved v u
-spent_moved name went v u none d = told_moved place.Remove (is_fine_in went) v u none d.is d.grows (spent_steps name went v u d)
+spent_moved name went v u none d = told_moved place.Remove (is_fine_in went) v u refl none d.is d.grows (spent_steps name went v u d)

@@ -22,7 +22,7 @@ use Rattle.fsfs_turn_purge.specs.declared.purge_fault.PurgeFault.{PurgeFault}
 use Rattle.fsfs_turn_purge.specs.declared.purge_fault.PurgeFault.TheVariants as purges
 use Rattle.fsfs_commit.specs.Courses.{End}
 use Rattle.fsfs_commit.specs.Works.{CanCommit, Landings, Unmoved}
-use Rattle.fsfs_commit.specs.Replies.{Cause, Committed, Moved, Refused, RoseIfDisk}
+use Rattle.fsfs_commit.specs.Replies.{Cause, Committed, Moved, Refused, RoseIfDisk, UnlessDoubt}
 use Rattle.fsfs_commit.specs.declared.committing.CommitFault.{CommitFault}
 use Rattle.fsfs_commit.specs.declared.committing.CommitFault.TheVariants as faults
 use Rattle.fsfs_commit.proofs.Turning.{none_more, if_ok_then, if_err_then, committed_as}
@@ -41,7 +41,7 @@ use Rattle.fsfs_owned_repo.specs.declared.answers.CommitAnswer.TheVariants as an
 use Rattle.fsfs_owned_repo.specs.declared.answers.Fate.{Fate}
 use Rattle.fsfs_owned_repo.specs.declared.answers.Fate.TheVariants as fates
 use Rattle.fsfs_owned_repo.specs.Commits.{Bars, Ends, FailsAt, IfFailed, IsBack, IsDropped, IsNoMore, Meets}
-use Rattle.fsfs_owned_repo.specs.Fates.{Fated, IfStopped, of_fault, of_refusal}
+use Rattle.fsfs_owned_repo.specs.Fates.{Fated, IfStopped, UnlessDoubtful, of_fault, of_refusal}
 
 -- ---- the purge
 
@@ -101,6 +101,24 @@ fated faults.RevsFull v u y cause = cause
 fated (faults.Stuck at) v u y cause = cause
 fated (faults.Refused refusal) v u y cause = refused_so refusal v u y cause.0 cause.1
 fated (faults.DiskFault call) v u y cause = cause
+
+-- ---- what is certain
+
+refused_certain : (refusal : CommitRefusal) (P : Type 0) → P → UnlessDoubtful (of_refusal refusal) P
+refused_certain (refusals.Clash head path) P p = p
+refused_certain refusals.Spent P p = p
+refused_certain refusals.Memory P p = p
+refused_certain refusals.DiskFault P p = λ none. p
+refused_certain refusals.BenchFault P p = p
+refused_certain (refusals.Wrong wrong) P p = p
+refused_certain (refusals.PastLimit limit) P p = p
+refused_certain refusals.Lacking P p = p
+
+pub certain_so : (fault : CommitFault CommitRefusal) (P : Type 0) → UnlessDoubt fault P → UnlessDoubtful (of_fault fault) P
+certain_so faults.RevsFull P p = p
+certain_so (faults.Stuck at) P p = p
+certain_so (faults.Refused refusal) P p = refused_certain refusal P p
+certain_so (faults.DiskFault call) P p = p
 
 -- ---- the counts
 

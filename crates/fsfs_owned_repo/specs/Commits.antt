@@ -8,12 +8,13 @@ use Rattle.fsfs_machine.specs.declared.machine.Went.{Went}
 use Rattle.fsfs_machine.specs.declared.machine.Went.TheVariants.{Fine}
 use Rattle.fsfs_machine.specs.declared.machine.Step.TheVariants.{PurgeSpent}
 use Rattle.fsfs_machine.specs.Machine.{is_fine_in}
+use Rattle.fsfs_turn.specs.Alone.{brings_doubt}
 use Rattle.fsfs_turn.specs.Learning.{with_spent}
 use Rattle.fsfs_turn.specs.Views.{View}
 use Rattle.fsfs_turn_purge.specs.Purged.{HasPurged, HasNotPurged}
 use Rattle.fsfs_commit.specs.Courses.{StoppedAt}
 use Rattle.fsfs_commit.specs.Replies.{Committed, Drifted, Moved}
-use Rattle.fsfs_commit.specs.Works.{Landings}
+use Rattle.fsfs_commit.specs.Works.{BringsNoDoubt, Landings}
 use Rattle.fsfs_draft.specs.Dating.{IsDatedAt}
 use Rattle.fsfs_draft.specs.Refusals.{IsClashAt}
 use Rattle.fsfs_owned_repo.specs.declared.answers.CommitBar.{CommitBar}
@@ -32,6 +33,7 @@ pub record IsBack {X : Type 0} (back : List Recorded → Txn → X → Type 0) (
   pub moved : Moved v u
   pub landings : Landings u.seen x y
   pub name : y.name ≡ x.name
+  pub doubtless : BringsNoDoubt v u
   pub stands : back u.seen y txn
 
 -- why nothing was added: y clashes with the youngest revision that the pass was told of, which isn't the last that there may be, first at
@@ -61,12 +63,13 @@ FailsAt (place.Create call) v u = ⊥
 abbrev pub IsNoMore : (View → Type 0) → View → View → Txn → Type 0
 IsNoMore knows v u x = Moved v u × ((gone : Bool) × IsDropped knows gone x.name u)
 
--- ENDS: the revision was added, with these properties, by the entry of x; or what became of x
+-- ENDS: the revision was added, with these properties, by the entry of x; or what became of x. A revision is left in doubt only by a call
+-- that failed at a place which does that.
 abbrev pub Ends : {X : Type 0} → (View → Type 0) → (List Recorded → Txn → X → Type 0) → List (List ℕ × List ℕ) → View → Txn → CommitAnswer X → Type 0
 Ends knows back properties v x (answers.Committed rev purged) = (m : View) × (y : Txn) × Committed rev properties v m x y × IsDropped knows purged x.name m
 Ends knows back properties v x (answers.Barred bar txn) = (u : View) × (y : Txn) × knows u × IsBack back v u x y txn × Bars bar u y
-Ends knows back properties v x (answers.DiskFault at) = (u : View) × FailsAt at v u × IsNoMore knows v u x
-Ends knows back properties v x answers.BenchFault = (u : View) × IsNoMore knows v u x
+Ends knows back properties v x (answers.DiskFault at) = (u : View) × FailsAt at v u × (brings_doubt at ≡ false → BringsNoDoubt v u) × IsNoMore knows v u x
+Ends knows back properties v x answers.BenchFault = (u : View) × BringsNoDoubt v u × IsNoMore knows v u x
 
 -- MEETS: so it ends, with the moment as the date
 abbrev pub Meets : {X : Type 0} → (View → Type 0) → (List Recorded → Txn → X → Type 0) → ℕ → List (List ℕ × List ℕ) → View → Txn → CommitAnswer X → Type 0

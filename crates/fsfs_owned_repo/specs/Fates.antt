@@ -1,6 +1,8 @@
 -- What becomes of a transaction whose commit added nothing.
+use Rattle.std.specs.Prelude.{◌≡◌, false}
 use Rattle.fsfs_places.specs.declared.place.DiskPlace.TheVariants as place
 use Rattle.fsfs_machine.specs.declared.machine.Txn.{Txn}
+use Rattle.fsfs_turn.specs.Alone.{brings_doubt}
 use Rattle.fsfs_turn.specs.Views.{View}
 use Rattle.fsfs_commit.specs.declared.committing.CommitFault.{CommitFault}
 use Rattle.fsfs_commit.specs.declared.committing.CommitFault.TheVariants as faults
@@ -32,6 +34,12 @@ abbrev pub Fated : Fate → View → View → Txn → Type 0
 Fated (fates.Barred bar) v u y = Bars bar u y
 Fated (fates.DiskFault at) v u y = FailsAt at v u
 Fated fates.BenchFault v u y = Unit {0}
+
+-- a fact, unless a call failed at a place that leaves a revision in doubt
+abbrev pub UnlessDoubtful : Fate → Type 0 → Type 0
+UnlessDoubtful (fates.Barred bar) P = P
+UnlessDoubtful (fates.DiskFault at) P = brings_doubt at ≡ false → P
+UnlessDoubtful fates.BenchFault P = P
 
 -- a fact, where a call of the disk failed
 abbrev pub IfStopped : Fate → Type 0 → Type 0

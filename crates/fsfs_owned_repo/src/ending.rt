@@ -8,11 +8,11 @@ ghost use Rattle.fsfs_machine.specs.Kept.{IsIn};
 ghost use Rattle.fsfs_turn.specs.Views.{View};
 ghost use Rattle.fsfs_txns.specs.Txns.{pair_of, txn_label};
 ghost use Rattle.fsfs_commit.specs.Replies.{Committed, Moved, Refused, RoseIfDisk};
-ghost use Rattle.fsfs_commit.specs.Works.{Landings};
+ghost use Rattle.fsfs_commit.specs.Works.{BringsNoDoubt, Landings};
 ghost use Rattle.fsfs_draft.specs.Meaning.{IfTxn, IsTxnOf, Means};
 ghost use Rattle.fsfs_draft.specs.Refusals.{IsDiskFault, Refuses};
 ghost use Rattle.fsfs_owned_repo.specs.Commits.{Bars, Ends, IfFailed, IfPurged, IsDropped};
-ghost use Rattle.fsfs_owned_repo.specs.Fates.{Fated, IfStopped};
+ghost use Rattle.fsfs_owned_repo.specs.Fates.{Fated, IfStopped, UnlessDoubtful};
 
 use crate::answers::{CommitAnswer, CommitBar, Fate, fate_of};
 use fsfs_commit::CommitFault;
@@ -49,7 +49,7 @@ fn hand_back<R, D: Disk>(
     bar: CommitBar,
 ) -> CommitAnswer<Txn<HeldNodes<D::Bench>>>
     ensures ends { (p : List (List ℕ × List ℕ)) (v u : View) (x y : MachineTxn) → ⟦<Owned<D> as Turns<R>>⟧.knows turns.old u → Moved v u → v.section ≡ None → IsIn x.name v.given
-        → x.name ≡ name.now.number.number → Landings u.seen x y → Bars bar u y
+        → x.name ≡ name.now.number.number → Landings u.seen x y → Bars bar u y → BringsNoDoubt v u
         → IfTxn left (λ t. Means t.spent u.seen (⟦<HeldNodes<D::Bench> as Own>⟧.txn t.own) t.base (⟦<HeldNodes<D::Bench> as Own>⟧.settled t.own) y)
         → Ends (⟦<Owned<D> as Turns<R>>⟧.knows turns.new) (λ h z t. (t.spent ≡ None) × IsTxnOf h (⟦<HeldNodes<D::Bench> as Own>⟧.txn t.own) t.base (⟦<HeldNodes<D::Bench> as Own>⟧.settled t.own) z) p v x result }
     ensures mounted { D.mount_path turns.new.disk ≡ D.mount_path turns.old.disk }
@@ -80,7 +80,7 @@ fn fall<R, D: Disk>(
     fate: Fate,
 ) -> CommitAnswer<Txn<HeldNodes<D::Bench>>>
     ensures ends { (p : List (List ℕ × List ℕ)) (v u : View) (x y : MachineTxn) → ⟦<Owned<D> as Turns<R>>⟧.knows turns.old u → Moved v u → v.section ≡ None → IsIn x.name v.given
-        → x.name ≡ name.now.number.number → Landings u.seen x y → Fated fate v u y
+        → x.name ≡ name.now.number.number → Landings u.seen x y → Fated fate v u y → UnlessDoubtful fate (BringsNoDoubt v u)
         → IfTxn left (λ t. Means t.spent u.seen (⟦<HeldNodes<D::Bench> as Own>⟧.txn t.own) t.base (⟦<HeldNodes<D::Bench> as Own>⟧.settled t.own) y)
         → Ends (⟦<Owned<D> as Turns<R>>⟧.knows turns.new) (λ h z t. (t.spent ≡ None) × IsTxnOf h (⟦<HeldNodes<D::Bench> as Own>⟧.txn t.own) t.base (⟦<HeldNodes<D::Bench> as Own>⟧.settled t.own) z) p v x result }
     ensures mounted { D.mount_path turns.new.disk ≡ D.mount_path turns.old.disk }

@@ -55,6 +55,7 @@ grow moment _ _ _ _ (End v) = record {
   own = sym (append-nil v.pass.mine);
   since = refl;
   opened = refl;
+  doubtless = λ none few. few;
 }
 grow moment _ _ _ _ (More job answer js answers v m u first rest) =
     let g = grow moment js answers m u rest in
@@ -68,4 +69,5 @@ grow moment _ _ _ _ (More job answer js answers v m u first rest) =
       own = g.own ∙ ap (λ (l : List ℕ). l ++ own_of_all answers) first.leaves.own ∙ append_assoc v.pass.mine (own_of answer) (own_of_all answers);
       since = g.since ∙ first.leaves.since;
       opened = g.opened ∙ first.leaves.opened;
+      doubtless = λ none few. g.doubtless none.1 (first.leaves.doubtless none.0 few);
     }

@@ -1,17 +1,20 @@
 -- What a job does to what the pass of a repository knows, and jobs one after another.
-use Rattle.std.specs.Prelude.{◌≡◌, ◌⊎◌, ◌≤◌, ◌<◌, ◌+◌, ◌++◌, ℕ, List, [], ◌∷◌, length, None}
+use Rattle.std.specs.Prelude.{◌≡◌, ◌⊎◌, ◌≤◌, ◌<◌, ◌+◌, ◌++◌, ℕ, List, [], ◌∷◌, length, Bool, false, None}
 use Rattle.fsfs_base.specs.Paths.{Path}
 use Rattle.fsfs_fields.specs.Dates.{IsDateAt}
 use Rattle.fsfs_tree.specs.Revisions.{Revision}
 use Rattle.fsfs_machine.specs.declared.machine.Recorded.{Recorded}
 use Rattle.fsfs_machine.specs.Machine.{revisions}
+use Rattle.fsfs_turn.specs.Alone.{brings_doubt}
 use Rattle.fsfs_turn.specs.Views.{View}
+use Rattle.fsfs_commit.specs.Works.{BringsNoDoubt}
 use Rattle.fsfs_job_lines.specs.declared.job.CommitJob.{CommitJob}
 use Rattle.fsfs_job_lines.specs.declared.job.Job.{Job}
 use Rattle.fsfs_job_lines.specs.declared.job.Job.TheVariants as jobs
 use Rattle.fsfs_faults.specs.declared.fault.Fault.TheVariants.{Request, Repository, Outside, Memory, Limit}
 use Rattle.fsfs_faults.specs.declared.limit_fault.LimitFault.TheVariants.{NamesFull}
 use Rattle.fsfs_faults.specs.declared.outside_fault.OutsideFault.{OutsideFault}
+use Rattle.fsfs_faults.specs.declared.outside_fault.OutsideFault.TheVariants.{Disk}
 use Rattle.fsfs_faults.specs.declared.repository_fault.RepositoryFault.{RepositoryFault}
 use Rattle.fsfs_faults.specs.declared.request_fault.RequestFault.TheVariants.{Mergeinfo}
 use Rattle.fsfs_jobs.specs.Serial.{Runs, last_name}
@@ -54,8 +57,14 @@ own_of (Read text) = []
 own_of (Conflict head path) = []
 own_of (Stopped line fault) = []
 
+-- it tells of a fault that leaves a revision in doubt
+abbrev pub tells_doubt : JobAnswer → Bool
+tells_doubt (Stopped line (Outside (Disk at))) = brings_doubt at
+tells_doubt answer = false
+
 -- What an answer leaves: the pass is in no section, and has seen what it had seen and what the answer tells, which is its own; it knows more names
--- to be given. Images are spoken of since the same moment, at which there were as many revisions.
+-- to be given. Images are spoken of since the same moment, at which there were as many revisions. No revision is left in doubt but where the
+-- answer tells of that.
 pub record Leaves (answer : JobAnswer) (v u : View) : Type 0 where
   pub adds : AddsBy answer v.seen u.seen
   pub since : u.since ≡ v.since
@@ -65,6 +74,7 @@ pub record Leaves (answer : JobAnswer) (v u : View) : Type 0 where
   pub outside : u.section ≡ None
   pub more : List ℕ
   pub given : u.given ≡ more ++ v.given
+  pub doubtless : tells_doubt answer ≡ false → BringsNoDoubt v u
 
 -- A JOB IS DONE over all that the pass has seen, where that is all that there is: by the definition of jobs, or it failed.
 pub record RunsJob (moment : ℕ) (job : Job) (answer : JobAnswer) (v u : View) : Type 0 where
@@ -90,6 +100,11 @@ IsSerialAt moment h t [] (answer ∷ answers) now named = ⊥
 IsSerialAt moment h t (job ∷ js) [] now named = ⊥
 IsSerialAt moment h t (job ∷ js) (answer ∷ answers) now named =
     (date : List ℕ) × IfAdded answer (IsDateAt moment date) × ((between : List Revision) × (drawn : ℕ) × Runs h date t job answer between drawn × IsSerialAt moment between drawn js answers now named)
+
+-- none of these tells of a fault that leaves a revision in doubt
+abbrev pub TellNoDoubt : List JobAnswer → Type 0
+TellNoDoubt [] = Unit {0}
+TellNoDoubt (answer ∷ answers) = (tells_doubt answer ≡ false) × TellNoDoubt answers
 
 -- the revisions that these tell
 abbrev pub own_of_all : List JobAnswer → List ℕ

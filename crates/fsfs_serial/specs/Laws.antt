@@ -2,10 +2,11 @@
 use Rattle.std.specs.Prelude.{◌≡◌, ◌≤◌, ◌+◌, ◌++◌, ℕ, List, [], ◌∷◌, length}
 use Rattle.fsfs_machine.specs.Machine.{revisions}
 use Rattle.fsfs_turn.specs.Views.{View, Begins}
+use Rattle.fsfs_commit.specs.Works.{BringsNoDoubt}
 use Rattle.fsfs_job_lines.specs.declared.job.Job.{Job}
 use Rattle.fsfs_jobs.specs.Serial.{last_name}
 use Rattle.fsfs_jobs.specs.declared.answer.JobAnswer.{JobAnswer}
-use Rattle.fsfs_serial.specs.Jobs.{RunsJob, RunJobs, NoneFails, IsSerialAt, own_of_all}
+use Rattle.fsfs_serial.specs.Jobs.{RunsJob, RunJobs, NoneFails, IsSerialAt, TellNoDoubt, own_of_all}
 
 -- where none failed, and there are names for all, they are the serial run of the jobs over the history
 abbrev pub RunsAreSerial : Type 0
@@ -28,6 +29,8 @@ pub record Grows (jobs : List Job) (answers : List JobAnswer) (v u : View) : Typ
   -- images are spoken of since the same moment
   pub since : u.since ≡ v.since
   pub opened : u.opened ≡ v.opened
+  -- where no answer tells of a fault that leaves a revision in doubt, none came
+  pub doubtless : TellNoDoubt answers → BringsNoDoubt v u
 
 abbrev pub RunsGrow : Type 0
 RunsGrow = (moment : ℕ) (jobs : List Job) (answers : List JobAnswer) (v u : View) → RunJobs moment jobs answers v u → Grows jobs answers v u

@@ -13,6 +13,7 @@ use Rattle.fsfs_machine.specs.declared.machine.Step.TheVariants as step
 use Rattle.fsfs_machine.specs.declared.machine.Went.{Went}
 use Rattle.fsfs_machine.specs.Machine.{is_fine_in, answer}
 use Rattle.fsfs_machine.specs.Kept.{IsIn}
+use Rattle.fsfs_turn.specs.Alone.{are_harmless, brings_doubt}
 use Rattle.fsfs_turn.specs.Bytes.{bytes_beside, bytes_of}
 use Rattle.fsfs_turn.specs.Views.{View, Begins, Looked, LockTaken, FoundStuck, LockGiven, MayGive, outside}
 use Rattle.fsfs_turn.specs.Learning.{BenchMade, SpentPurged, MayMake, drawn_of, with_named, with_spent}
@@ -22,10 +23,23 @@ use Rattle.fsfs_turn_begin.specs.Faults.{Cause, named_fault}
 use Rattle.fsfs_turn_begin.specs.Begun.{IsMade}
 use Rattle.fsfs_turn_begin.proofs.Going.{begins_itself, begins_on, steps_on, one_step, one_turn}
 
+-- ---- faults that leave no revision in doubt
+
+same_harmless : (before now : List DiskPlace) → now ≡ before → are_harmless before ≡ true → are_harmless now ≡ true
+same_harmless before now same few = ap (λ l. are_harmless l) same ∙ few
+
+harmless_more : (places : List DiskPlace) (at : DiskPlace) → brings_doubt at ≡ false → are_harmless places ≡ true → are_harmless (places ++ at ∷ []) ≡ true
+harmless_more [] at none few = ap (λ b. cond b false true) none
+harmless_more (x ∷ places) at none few = by_test (brings_doubt x) few (λ less. harmless_more places at none less)
+  where
+    by_test : (b : Bool) → cond b false (are_harmless places) ≡ true → (are_harmless places ≡ true → are_harmless (places ++ at ∷ []) ≡ true) → cond b false (are_harmless (places ++ at ∷ [])) ≡ true
+    by_test true e rest = absurd cc
+    by_test false e rest = rest e
+
 -- ---- the pass moved on
 
 pub moved_itself : (v : View) → v.section ≡ None → Moved v v
-moved_itself v none = record { number = refl; layout = refl; since = refl; opened = refl; mine = refl; least = omega arith; grows = begins_itself v.seen; more = []; given = refl; outside = none; steps = End v }
+moved_itself v none = record { number = refl; layout = refl; since = refl; opened = refl; mine = refl; least = omega arith; grows = begins_itself v.seen; more = []; given = refl; outside = none; doubtless = λ few. few; steps = End v }
 
 pub moved_on : (v m u : View) → Moved v m → Moved m u → Moved v u
 moved_on v m u a b = record {
@@ -39,6 +53,7 @@ moved_on v m u a b = record {
   more = b.more ++ a.more;
   given = b.given ∙ ap (λ l. b.more ++ l) a.given ∙ sym (append_assoc b.more a.more v.given);
   outside = b.outside;
+  doubtless = λ few. b.doubtless (a.doubtless few);
   steps = steps_on v m u a.steps b.steps;
 }
 
@@ -57,6 +72,7 @@ by_look young v u none l = record {
   more = [];
   given = ap {A = View} (λ z. z.given) l.is;
   outside = ap {A = View} (λ z. z.section) l.is ∙ none;
+  doubtless = same_harmless v.pass.faults u.pass.faults (ap {A = View} (λ z. z.pass.faults) l.is);
   steps = one_turn [] (step.Look v.number) (outcome.Youngest young) v u l.turned;
 }
 
@@ -72,6 +88,7 @@ by_stuck at v u none f = record {
   more = [];
   given = ap {A = View} (λ z. z.given) f.is;
   outside = ap {A = View} (λ z. z.section) f.is ∙ none;
+  doubtless = same_harmless v.pass.faults u.pass.faults (ap {A = View} (λ z. z.pass.faults) f.is);
   steps = one_turn [] (step.TakeLock v.number) (outcome.Stuck at) v u f.turned;
 }
 
@@ -87,6 +104,7 @@ by_name name v u h = record {
   more = name ∷ [];
   given = ap {A = View} (λ z. z.given) h.is;
   outside = ap {A = View} (λ z. z.section) h.is;
+  doubtless = same_harmless v.pass.faults u.pass.faults (ap {A = View} (λ z. z.pass.faults) h.is);
   steps = h.steps;
 }
 
@@ -140,8 +158,8 @@ module _ (v m k u : View) (t : LockTaken v m) (g : LockGiven (step.GiveLock k.nu
     steps = course;
   }
 
-  pub moved_by : (number : k.number ≡ m.number) → k.layout ≡ m.layout → k.since ≡ m.since → k.opened ≡ m.opened → k.pass.mine ≡ m.pass.mine → k.pass.least ≡ m.pass.least → k.given ≡ m.given → Moved v u
-  moved_by number layout since opened mine least given = record {
+  pub moved_by : (number : k.number ≡ m.number) → k.layout ≡ m.layout → k.since ≡ m.since → k.opened ≡ m.opened → k.pass.mine ≡ m.pass.mine → k.pass.least ≡ m.pass.least → k.given ≡ m.given → (are_harmless m.pass.faults ≡ true → are_harmless k.pass.faults ≡ true) → Moved v u
+  moved_by number layout since opened mine least given doubtless = record {
     number = ap {A = View} (λ z. z.number) g.is ∙ number ∙ ap {A = View} (λ z. z.number) t.is;
     layout = ap {A = View} (λ z. z.layout) g.is ∙ layout ∙ ap {A = View} (λ z. z.layout) t.is;
     since = ap {A = View} (λ z. z.since) g.is ∙ since ∙ ap {A = View} (λ z. z.since) t.is;
@@ -152,6 +170,7 @@ module _ (v m k u : View) (t : LockTaken v m) (g : LockGiven (step.GiveLock k.nu
     more = [];
     given = ap {A = View} (λ z. z.given) g.is ∙ given ∙ ap {A = View} (λ z. z.given) t.is;
     outside = ap {A = View} (λ z. z.section) g.is;
+    doubtless = λ few. same_harmless k.pass.faults u.pass.faults (ap {A = View} (λ z. z.pass.faults) g.is) (doubtless (same_harmless v.pass.faults m.pass.faults (ap {A = View} (λ z. z.pass.faults) t.is) few));
     steps = course;
   }
 
@@ -163,11 +182,13 @@ pub undrawn : (base : ℕ) (v m k u : View) (why : NameFault) → LockTaken v m 
 undrawn base v m k u (names.Small fault) t w g = absurd w
 undrawn base v m k u names.NamesFull t w g = absurd w
 undrawn base v m k u (names.DiskFault call) t w g = (
-  moved_by v m k u t g w.grows w.steps (ap {A = View} (λ z. z.number) w.is) (ap {A = View} (λ z. z.layout) w.is) (ap {A = View} (λ z. z.since) w.is) (ap {A = View} (λ z. z.opened) w.is) (ap {A = View} (λ z. z.pass.mine) w.is) (ap {A = View} (λ z. z.pass.least) w.is) (ap {A = View} (λ z. z.given) w.is),
+  moved_by v m k u t g w.grows w.steps (ap {A = View} (λ z. z.number) w.is) (ap {A = View} (λ z. z.layout) w.is) (ap {A = View} (λ z. z.since) w.is) (ap {A = View} (λ z. z.opened) w.is) (ap {A = View} (λ z. z.pass.mine) w.is) (ap {A = View} (λ z. z.pass.least) w.is) (ap {A = View} (λ z. z.given) w.is)
+      (λ few. ap {A = View} (λ z. are_harmless z.pass.faults) w.is ∙ harmless_more m.pass.faults (place.Begin call) refl few),
   record { before = v.pass.faults; later = []; is = stopped_faults v m k u t g w.grows w.steps call w },
 )
 undrawn base v m k u names.Memory t w g = (
-  moved_by v m k u t g w.1.grows w.1.steps (ap {A = View} (λ z. z.number) w.1.is) (ap {A = View} (λ z. z.layout) w.1.is) (ap {A = View} (λ z. z.since) w.1.is) (ap {A = View} (λ z. z.opened) w.1.is) (ap {A = View} (λ z. z.pass.mine) w.1.is) (ap {A = View} (λ z. z.pass.least) w.1.is) (ap {A = View} (λ z. z.given) w.1.is),
+  moved_by v m k u t g w.1.grows w.1.steps (ap {A = View} (λ z. z.number) w.1.is) (ap {A = View} (λ z. z.layout) w.1.is) (ap {A = View} (λ z. z.since) w.1.is) (ap {A = View} (λ z. z.opened) w.1.is) (ap {A = View} (λ z. z.pass.mine) w.1.is) (ap {A = View} (λ z. z.pass.least) w.1.is) (ap {A = View} (λ z. z.given) w.1.is)
+      (same_harmless m.pass.faults k.pass.faults (ap {A = View} (λ z. z.pass.faults) w.1.is)),
   tt,
 )
 
@@ -177,8 +198,12 @@ undrawn base v m k u names.Memory t w g = (
 abbrev pub Tells : DiskPlace → Bool → View → View → Type 0
 Tells at fine v u = u ≡ record v { pass = record v.pass { seen = length u.seen; faults = cond fine v.pass.faults (v.pass.faults ++ at ∷ []) }; seen = u.seen }
 
-pub told_moved : (at : DiskPlace) (fine : Bool) (v u : View) → v.section ≡ None → Tells at fine v u → Begins u.seen v.seen → Steps v u → Moved v u
-told_moved at fine v u none is grows steps = record {
+told_harmless : (at : DiskPlace) (fine : Bool) (places : List DiskPlace) → brings_doubt at ≡ false → are_harmless places ≡ true → are_harmless (cond fine places (places ++ at ∷ [])) ≡ true
+told_harmless at true places none few = few
+told_harmless at false places none few = harmless_more places at none few
+
+pub told_moved : (at : DiskPlace) (fine : Bool) (v u : View) → brings_doubt at ≡ false → v.section ≡ None → Tells at fine v u → Begins u.seen v.seen → Steps v u → Moved v u
+told_moved at fine v u harmless none is grows steps = record {
   number = ap {A = View} (λ z. z.number) is;
   layout = ap {A = View} (λ z. z.layout) is;
   since = ap {A = View} (λ z. z.since) is;
@@ -189,6 +214,7 @@ told_moved at fine v u none is grows steps = record {
   more = [];
   given = ap {A = View} (λ z. z.given) is;
   outside = ap {A = View} (λ z. z.section) is ∙ none;
+  doubtless = λ few. ap {A = View} (λ z. are_harmless z.pass.faults) is ∙ told_harmless at fine v.pass.faults harmless few;
   steps = steps;
 }
 
@@ -212,8 +238,8 @@ module _ (x : Drawn) (v : View) (may : MayMake v x) where
   outside_then went m b = (ap {A = View} (λ z. z.section) b.is ∙ may.outside, subst (λ l. IsIn x.name l) (sym (ap {A = View} (λ z. z.given) b.is)) may.given)
 
   pub dropped : (went other : Went) (m u : View) → BenchMade x went v m → SpentPurged x.name other m u → Moved v u
-  dropped went other m u b d = moved_on v m u (told_moved place.MakeBench (is_fine_in went) v m may.outside b.is b.grows (made_steps x went v m b))
-      (told_moved place.Remove (is_fine_in other) m u (outside_then went m b).0 d.is d.grows (spent_steps x.name other m u d))
+  dropped went other m u b d = moved_on v m u (told_moved place.MakeBench (is_fine_in went) v m refl may.outside b.is b.grows (made_steps x went v m b))
+      (told_moved place.Remove (is_fine_in other) m u refl (outside_then went m b).0 d.is d.grows (spent_steps x.name other m u d))
 
   pub make_fault : (went other : Went) (m u : View) → is_fine_in went ≡ false → BenchMade x went v m → SpentPurged x.name other m u → HasFault place.MakeBench u
   make_fault went other m u ill b d = by_other (is_fine_in other) d.is

@@ -1,5 +1,5 @@
 -- What the turns of a begin come to, in what the pass knows.
-use Rattle.std.specs.Prelude.{◌≡◌, ◌≤◌, ◌<◌, ◌^◌, ◌-◌, ℕ, List, [], ◌∷◌, ◌++◌, length, false, Some, None}
+use Rattle.std.specs.Prelude.{◌≡◌, ◌≤◌, ◌<◌, ◌^◌, ◌-◌, ℕ, List, [], ◌∷◌, ◌++◌, length, true, false, Some, None}
 use Rattle.fsfs_base.specs.Files.{Files}
 use Rattle.fsfs_layout.specs.FileNames.{only_name}
 use Rattle.fsfs_layout.specs.Opening.{text_at}
@@ -14,6 +14,7 @@ use Rattle.fsfs_machine.specs.declared.machine.Section.TheVariants.{Over}
 use Rattle.fsfs_machine.specs.declared.machine.Outcome.{Outcome}
 use Rattle.fsfs_machine.specs.declared.machine.Step.{Step}
 use Rattle.fsfs_machine.specs.Machine.{World}
+use Rattle.fsfs_turn.specs.Alone.{are_harmless}
 use Rattle.fsfs_turn.specs.Views.{View, Begins}
 use Rattle.fsfs_turn.specs.Learning.{TurnedFrom}
 
@@ -47,7 +48,8 @@ pub record HasName (name : ℕ) (v u : View) : Type 0 where
   pub grows : Begins u.seen v.seen
   pub steps : Steps v u
 
--- The pass is in no section; it saw more, was told more, knows more names to be given, and faults came. It added no revision.
+-- The pass is in no section; it saw more, was told more, knows more names to be given, and faults came, none of which leaves a revision in
+-- doubt. It added no revision.
 pub record Moved (v u : View) : Type 0 where
   pub number : u.number ≡ v.number
   pub layout : u.layout ≡ v.layout
@@ -59,6 +61,7 @@ pub record Moved (v u : View) : Type 0 where
   pub more : List ℕ
   pub given : u.given ≡ more ++ v.given
   pub outside : u.section ≡ None
+  pub doubtless : are_harmless v.pass.faults ≡ true → are_harmless u.pass.faults ≡ true
   pub steps : Steps v u
 
 -- a call failed at this place

@@ -1,20 +1,21 @@
 use Rattle.std.proofs.Common.{subst}
 use Rattle.fsfs_base.specs.Failures.{Rose}
-use Rattle.fsfs_owned_repo.specs.Fates.{Fated, IfStopped}
+use Rattle.fsfs_commit.specs.Works.{BringsNoDoubt}
+use Rattle.fsfs_owned_repo.specs.Fates.{Fated, IfStopped, UnlessDoubtful}
 use Rattle.fsfs_owned_repo.proofs.Commits.{no_more, rose_later}
 use Rattle.fsfs_owned_repo.proofs.ending.fall.Goals as goal
 
 pub returns-in-Barred-clause-ends : goal.returns-in-Barred-clause-ends
-returns-in-Barred-clause-ends g c = λ p v u x y known moved none given named landings is means.
-    c.hand_back.ensures.ends p v u x y known moved none given named landings (subst (λ f. Fated f v u y) c.in-Barred.is is) means
+returns-in-Barred-clause-ends g c = λ p v u x y known moved none given named landings is certain means.
+    c.hand_back.ensures.ends p v u x y known moved none given named landings (subst (λ f. Fated f v u y) c.in-Barred.is is) (subst (λ f. UnlessDoubtful f (BringsNoDoubt v u)) c.in-Barred.is certain) means
 
 pub returns-in-DiskFault-clause-ends : goal.returns-in-DiskFault-clause-ends
-returns-in-DiskFault-clause-ends g c = λ p v u x y known moved none given named landings is means.
-    (u, subst (λ f. Fated f v u y) c.in-DiskFault.is is, no_more _ v u x c.args.name.now.number.number c.drop_bench.result moved none given named (λ out there. c.drop_bench.ensures.dropped u known out there))
+returns-in-DiskFault-clause-ends g c = λ p v u x y known moved none given named landings is certain means.
+    (u, subst (λ f. Fated f v u y) c.in-DiskFault.is is, subst (λ f. UnlessDoubtful f (BringsNoDoubt v u)) c.in-DiskFault.is certain, no_more _ v u x c.args.name.now.number.number c.drop_bench.result moved none given named (λ out there. c.drop_bench.ensures.dropped u known out there))
 
 pub returns-in-BenchFault-clause-ends : goal.returns-in-BenchFault-clause-ends
-returns-in-BenchFault-clause-ends g c = λ p v u x y known moved none given named landings is means.
-    (u, no_more _ v u x c.args.name.now.number.number c.drop_bench-in-BenchFault.result moved none given named (λ out there. c.drop_bench-in-BenchFault.ensures.dropped u known out there))
+returns-in-BenchFault-clause-ends g c = λ p v u x y known moved none given named landings is certain means.
+    (u, subst (λ f. UnlessDoubtful f (BringsNoDoubt v u)) c.in-BenchFault.is certain, no_more _ v u x c.args.name.now.number.number c.drop_bench-in-BenchFault.result moved none given named (λ out there. c.drop_bench-in-BenchFault.ensures.dropped u known out there))
 
 pub returns-in-DiskFault-clause-cause : goal.returns-in-DiskFault-clause-cause
 returns-in-DiskFault-clause-cause g c = λ n rose.

@@ -6,7 +6,7 @@ use Rattle.fsfs_owned_repo.proofs.Commits.{can_commit, unmoved, meets_so, added_
 use Rattle.fsfs_owned_repo.proofs.repo.Repo.commit.Goals as goal
 
 pub returns-in-Err-clause-meets : goal.returns-in-Err-clause-meets
-returns-in-Err-clause-meets g c = λ v x known none given is. (v, x, known, record { moved = unmoved v; landings = Unmoved x; name = refl; stands = (c.requires.sound, is) }, tt)
+returns-in-Err-clause-meets g c = λ v x known none given is. (v, x, known, record { moved = unmoved v; landings = Unmoved x; name = refl; doubtless = λ few. few; stands = (c.requires.sound, is) }, tt)
 
 pub returns-in-Err-clause-crashes : goal.returns-in-Err-clause-crashes
 returns-in-Err-clause-crashes g c = λ u known. let turns = c.args.self.turns in survives turns.layout turns.young turns.stuck (g.D.Disk.trace turns.disk) u known
