@@ -13,5 +13,6 @@ pub mod Composed
 pub mod Barred
 pub mod Alone
 pub mod Counted
+pub mod Causes
 pub mod Answered
 pub mod Seen

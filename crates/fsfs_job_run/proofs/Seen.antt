@@ -1,7 +1,6 @@
 -- What the pass knows of the revisions that it has seen: their trees are shown, and they are a history.
 use Rattle.std.proofs.Common.{◌<◌, ℕ, List, length, sym, subst, arith}
-use Rattle.std.proofs.lemmas.List.{take_all}
-use Rattle.std.specs.Prelude.{Option, Some, None}
+use Rattle.std.specs.Prelude.{Option}
 use Rattle.std.specs.FinMap.{get}
 use Rattle.fsfs_fields.specs.declared.txn_name.TxnName.{TxnName}
 use Rattle.fsfs_layout.specs.declared.layout.Layout.{Layout}
@@ -19,24 +18,18 @@ use Rattle.fsfs_machine.specs.declared.machine.Txn.{Txn}
 use Rattle.fsfs_machine.specs.Machine.{revisions}
 use Rattle.fsfs_machine.proofs.Growing.{revisions_length}
 use Rattle.fsfs_turn.specs.Alone.{KnowsAlone}
-use Rattle.fsfs_turn.specs.Bytes.{bytes_of, BytesShow, AllShow}
+use Rattle.fsfs_turn.specs.Bytes.{bytes_of}
 use Rattle.fsfs_turn.specs.Views.{View, IsTxnOver}
 use Rattle.fsfs_draft.specs.Meaning.{IsTxnOf}
 use Rattle.fsfs_draft.specs.SeenLemmas.{shown_trees}
-
-all_shown : (layout : Layout) (young : ℕ) (stuck : Option DiskPlace) (told : Option Trace) (v : View) → KnowsAlone layout young stuck told v → AllShow v.seen
-all_shown layout young stuck None v known = absurd known.0
-all_shown layout young stuck (Some t) v known = known.0.2.shown
-
-whole_shown : (h : List Recorded) → AllShow h → 0 < length h → BytesShow h
-whole_shown h all some = subst BytesShow (take_all (length h) h (omega arith)) (all (length h) some)
+use Rattle.fsfs_owned_repo.proofs.Shown.{seen_shows, known_shown}
 
 module _ (layout : Layout) (young : ℕ) (stuck : Option DiskPlace) (told : Option Trace) (v : View) (known : KnowsAlone layout young stuck told v) where
   pub some_seen : 0 < length v.seen
   some_seen = omega (arith, known.1.all)
 
   pub trees_seen : ShowTrees (bytes_of v.seen) (last_of (revisions v.seen)) (tree_of (revisions v.seen))
-  trees_seen = shown_trees v.seen some_seen (whole_shown v.seen (all_shown layout young stuck told v known) some_seen)
+  trees_seen = shown_trees v.seen some_seen (seen_shows v.seen (known_shown layout young stuck told v known) some_seen)
 
   pub revisions_seen : AreRevisions (tree_of (revisions v.seen)) (last_of (revisions v.seen))
   revisions_seen = shown_revisions (bytes_of v.seen) (last_of (revisions v.seen)) (tree_of (revisions v.seen)) trees_seen

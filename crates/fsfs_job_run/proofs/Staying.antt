@@ -1,6 +1,5 @@
 -- What the pass knows behind calls that add nothing.
 use Rattle.std.proofs.Common.{◌≡◌, ◌≤◌, ◌+◌, ℕ, List, [], ◌∷◌, ◌++◌, length, false, refl, sym, ap, subst, ◌∙◌, append_assoc, append-nil, length-append, arith}
-use Rattle.std.proofs.lemmas.List.{nil_from_length}
 use Rattle.std.specs.Prelude.{None}
 use Rattle.fsfs_places.specs.declared.place.DiskPlace.{DiskPlace}
 use Rattle.fsfs_machine.specs.declared.machine.Recorded.{Recorded}
@@ -10,6 +9,7 @@ use Rattle.fsfs_machine.specs.Machine.{World, revisions}
 use Rattle.fsfs_machine.proofs.Growing.{revisions_length}
 use Rattle.fsfs_tree.specs.Dated.{last_of}
 use Rattle.fsfs_turn.specs.Views.{View, Begins, Looked}
+use Rattle.fsfs_turn.proofs.Alone.{same_by_length}
 use Rattle.fsfs_turn_purge.specs.Purged.{HasPurged, HasNotPurged}
 use Rattle.fsfs_commit.specs.Works.{BringsNoDoubt}
 use Rattle.fsfs_commit.specs.Replies.{Committed, Moved as CommitMoved}
@@ -18,13 +18,6 @@ use Rattle.fsfs_jobs.specs.declared.answer.JobAnswer.{JobAnswer}
 use Rattle.fsfs_jobs.specs.declared.answer.JobAnswer.TheVariants as answers
 use Rattle.fsfs_serial.specs.Jobs.{AddsBy, own_of, tells_doubt, Leaves}
 use Rattle.fsfs_job_run.specs.Running.{Stays, HasLooked}
-
--- a history that goes on and is no longer is the same
-pub same_by_length : (h g : List Recorded) → Begins g h → length g ≤ length h → g ≡ h
-same_by_length h g b le =
-    let long : length g ≡ length h + length b.0 = ap length b.1 ∙ length-append h b.0 in
-    let none : b.0 ≡ [] = nil_from_length b.0 (omega (arith, le, long)) in
-    b.1 ∙ ap (λ (l : List Recorded). h ++ l) none ∙ append-nil h
 
 -- Of the revisions that a pass has seen none came since the opening but its own: what a pass knows that is alone.
 abbrev pub IsCounted : View → Type 0

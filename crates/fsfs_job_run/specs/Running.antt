@@ -25,6 +25,7 @@ use Rattle.fsfs_jobs.specs.Serial.{base_of}
 use Rattle.fsfs_jobs.specs.declared.answer.JobAnswer.{JobAnswer}
 use Rattle.fsfs_jobs.specs.declared.answer.JobAnswer.TheVariants.{Stopped}
 use Rattle.fsfs_job_edits.specs.Editing.{Bars}
+use Rattle.fsfs_job_reads.specs.TextReads.{IfAnswerFails}
 use Rattle.fsfs_serial.specs.Jobs.{RunsJob, RunJobs}
 
 -- Why the outside is told to have failed: the count rose, or the lock is stuck there. A bench's own count ends with it.
@@ -36,6 +37,11 @@ HasOutsideCause rose u (Stopped line (Outside outside.Write)) = ⊥
 HasOutsideCause rose u (Stopped line (Outside outside.Bench)) = Unit {0}
 HasOutsideCause rose u (Stopped line (Outside (outside.Stuck at))) = u.pass.stuck ≡ Some at
 HasOutsideCause rose u answer = Unit {0}
+
+-- a fact, where one of the answers tells that the disk failed
+abbrev pub IfAnyFails : List JobAnswer → Type 0 → Type 0
+IfAnyFails [] P = Unit {0}
+IfAnyFails (answer ∷ answers) P = IfAnswerFails answer P × IfAnyFails answers P
 
 -- DOES: behind the job the pass knows what the job did
 abbrev pub DoesSo : (View → Type 0) → Type 0 → ℕ → Job → JobAnswer → View → Type 0

@@ -1,5 +1,5 @@
 //! The revision that a job is about.
-ghost use Rattle.std.specs.Prelude.{◌≡◌, ◌≤◌, ◌<◌, None, IfOk, IfErr};
+ghost use Rattle.std.specs.Prelude.{◌≡◌, ◌≤◌, ◌<◌, ℕ, None, IfOk, IfErr};
 ghost use Rattle.fsfs_tree.specs.Dated.{last_of};
 ghost use Rattle.fsfs_faults.specs.declared.fault.Fault.TheVariants.{Request};
 ghost use Rattle.fsfs_faults.specs.declared.request_fault.RequestFault.TheVariants.{NoRev};
@@ -34,6 +34,8 @@ pub(crate) fn base_of<D: Disk>(repo: &mut Repo<D>, base: Base) -> Result<RevNum,
     ensures base { (v : View) → ⟦<Owned<D> as Turns<()>>⟧.knows repo.old.turns v → v.section ≡ None
         → IfOk result (λ rev. (rev ≡ base_of base (last_of (revisions v.seen))) × (rev ≤ last_of (revisions v.seen))) }
     ensures lacks { (v : View) → ⟦<Owned<D> as Turns<()>>⟧.knows repo.old.turns v → v.section ≡ None → IfErr result (LacksBase base (last_of (revisions v.seen))) }
+    // Whatever the disk tells.
+    ensures asked { IfErr result (λ fault. (asked : ℕ) × (youngest : ℕ) × (fault ≡ Request (NoRev asked youngest))) }
     ensures same { (⟦<Owned<D> as Turns<()>>⟧.store repo.new.turns).below ≡ (⟦<Owned<D> as Turns<()>>⟧.store repo.old.turns).below }
     ensures faults { ⟦<Owned<D> as Turns<()>>⟧.faults repo.new.turns ≡ ⟦<Owned<D> as Turns<()>>⟧.faults repo.old.turns }
 {

@@ -10,6 +10,7 @@ ghost use Rattle.fsfs_turn.specs.Views.{View};
 ghost use Rattle.fsfs_turn_begin.specs.Steps.{IsPastNumbers};
 ghost use Rattle.fsfs_txn.specs.Standing.{Stands};
 ghost use Rattle.fsfs_job_edits.specs.Editing.{AreEditing, IfDisk};
+ghost use Rattle.fsfs_job_reads.specs.TextReads.{IfAnswerFails};
 ghost use Rattle.fsfs_job_run.specs.Running.{CommitsSo};
 ghost use Rattle.fsfs_jobs.specs.Serial.{base_of as base_in};
 
@@ -71,6 +72,7 @@ fn edit_and_commit<D: Disk, R>(
         → txn.base < length v.seen → txn.base ≡ base_in job.now.base (last_of (revisions v.seen))
         → Stands (bytes_of v.seen) (tree_of (revisions v.seen)) (last_of (revisions v.seen)) txn.base (⟦<HeldNodes<D::Bench> as Own>⟧.txn txn.own) (⟦<HeldNodes<D::Bench> as Own>⟧.settled txn.own) (tree_of (revisions v.seen) txn.base) []
         → CommitsSo (⟦<Owned<D> as Turns<R>>⟧.knows result.0.turns) (Rose (⟦<Owned<D> as Turns<R>>⟧.faults repo.turns) (⟦<Owned<D> as Turns<R>>⟧.faults result.0.turns)) micros job.now result.1 v }
+    ensures cause { IfAnswerFails result.1 (Rose (⟦<Owned<D> as Turns<R>>⟧.faults repo.turns) (⟦<Owned<D> as Turns<R>>⟧.faults result.0.turns)) }
     ensures mounted { D.mount_path result.0.turns.disk ≡ D.mount_path repo.turns.disk }
     ensures later { ⟦<Owned<D> as Turns<R>>⟧.faults repo.turns ≤ ⟦<Owned<D> as Turns<R>>⟧.faults result.0.turns }
 {
@@ -93,6 +95,7 @@ fn begin_and_commit<D: Disk, R>(
     requires moment { micros ≤ 4102444799999999 }
     ensures does { (v : View) → ⟦<Owned<D> as Turns<R>>⟧.knows repo.turns v → v.section ≡ None → v.pass.least ≡ last_of (revisions v.seen) → base ≡ base_in job.now.base (last_of (revisions v.seen)) → base ≤ last_of (revisions v.seen)
         → CommitsSo (⟦<Owned<D> as Turns<R>>⟧.knows result.0.turns) (Rose (⟦<Owned<D> as Turns<R>>⟧.faults repo.turns) (⟦<Owned<D> as Turns<R>>⟧.faults result.0.turns)) micros job.now result.1 v ⊎ IsPastNumbers (⟦<Owned<D> as Turns<R>>⟧.store repo.turns) }
+    ensures cause { IfAnswerFails result.1 (Rose (⟦<Owned<D> as Turns<R>>⟧.faults repo.turns) (⟦<Owned<D> as Turns<R>>⟧.faults result.0.turns)) }
     ensures mounted { D.mount_path result.0.turns.disk ≡ D.mount_path repo.turns.disk }
     ensures later { ⟦<Owned<D> as Turns<R>>⟧.faults repo.turns ≤ ⟦<Owned<D> as Turns<R>>⟧.faults result.0.turns }
 {
@@ -118,6 +121,7 @@ pub(crate) fn commit_job<D: Disk, R>(
     requires moment { micros ≤ 4102444799999999 }
     ensures does { (v : View) → ⟦<Owned<D> as Turns<R>>⟧.knows repo.turns v → v.section ≡ None
         → CommitsSo (⟦<Owned<D> as Turns<R>>⟧.knows result.0.turns) (Rose (⟦<Owned<D> as Turns<R>>⟧.faults repo.turns) (⟦<Owned<D> as Turns<R>>⟧.faults result.0.turns)) micros job.now result.1 v ⊎ IsPastNumbers (⟦<Owned<D> as Turns<R>>⟧.store repo.turns) }
+    ensures cause { IfAnswerFails result.1 (Rose (⟦<Owned<D> as Turns<R>>⟧.faults repo.turns) (⟦<Owned<D> as Turns<R>>⟧.faults result.0.turns)) }
     ensures mounted { D.mount_path result.0.turns.disk ≡ D.mount_path repo.turns.disk }
     ensures later { ⟦<Owned<D> as Turns<R>>⟧.faults repo.turns ≤ ⟦<Owned<D> as Turns<R>>⟧.faults result.0.turns }
 {

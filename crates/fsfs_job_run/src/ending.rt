@@ -12,6 +12,7 @@ ghost use Rattle.fsfs_faults.specs.declared.fault.Fault.TheVariants.{Outside};
 ghost use Rattle.fsfs_jobs.specs.declared.answer.JobAnswer.TheVariants.{Stopped};
 ghost use Rattle.fsfs_jobs.specs.Properties.{undated_properties};
 ghost use Rattle.fsfs_job_run.specs.Faults.{fault_of_merge, answer_of_bar};
+ghost use Rattle.fsfs_job_reads.specs.TextReads.{IfAnswerFails};
 ghost use Rattle.fsfs_job_run.specs.Running.{IsNoRequest, Stays};
 ghost use Rattle.fsfs_job_run.specs.Ending.{EndsSo};
 
@@ -96,6 +97,8 @@ fn commit_with<D: Disk, R>(
         → IsTxnOf v.seen (⟦<HeldNodes<D::Bench> as Own>⟧.txn txn.own) txn.base (⟦<HeldNodes<D::Bench> as Own>⟧.settled txn.own) x
         → EndsSo (⟦<Owned<D> as Turns<R>>⟧.knows result.0.turns) (Rose (⟦<Owned<D> as Turns<R>>⟧.faults repo.turns) (⟦<Owned<D> as Turns<R>>⟧.faults result.0.turns)) micros job.now result.1 x v }
     ensures plain { IsNoRequest result.1 }
+    // Whatever the disk tells: it is told to have failed only where the count of failed calls rose in this call.
+    ensures cause { IfAnswerFails result.1 (Rose (⟦<Owned<D> as Turns<R>>⟧.faults repo.turns) (⟦<Owned<D> as Turns<R>>⟧.faults result.0.turns)) }
     ensures mounted { D.mount_path result.0.turns.disk ≡ D.mount_path repo.turns.disk }
     ensures later { ⟦<Owned<D> as Turns<R>>⟧.faults repo.turns ≤ ⟦<Owned<D> as Turns<R>>⟧.faults result.0.turns }
 {
@@ -124,6 +127,8 @@ pub(crate) fn commit_edited<D: Disk, R>(
         → IsTxnOf v.seen (⟦<HeldNodes<D::Bench> as Own>⟧.txn txn.own) txn.base (⟦<HeldNodes<D::Bench> as Own>⟧.settled txn.own) x
         → EndsSo (⟦<Owned<D> as Turns<R>>⟧.knows result.0.turns) (Rose (⟦<Owned<D> as Turns<R>>⟧.faults repo.turns) (⟦<Owned<D> as Turns<R>>⟧.faults result.0.turns)) micros job.now result.1 x v }
     ensures plain { IsNoRequest result.1 }
+    // Whatever the disk tells: it is told to have failed only where the count of failed calls rose in this call.
+    ensures cause { IfAnswerFails result.1 (Rose (⟦<Owned<D> as Turns<R>>⟧.faults repo.turns) (⟦<Owned<D> as Turns<R>>⟧.faults result.0.turns)) }
     ensures mounted { D.mount_path result.0.turns.disk ≡ D.mount_path repo.turns.disk }
     ensures later { ⟦<Owned<D> as Turns<R>>⟧.faults repo.turns ≤ ⟦<Owned<D> as Turns<R>>⟧.faults result.0.turns }
 {

@@ -3,6 +3,7 @@ ghost use Rattle.std.specs.Prelude.{◌≡◌, ◌≤◌, ℕ, None};
 ghost use Rattle.fsfs_base.specs.Failures.{Rose};
 ghost use Rattle.fsfs_turn.specs.Views.{View};
 ghost use Rattle.fsfs_job_lines.specs.declared.job.Job.TheVariants as jobs;
+ghost use Rattle.fsfs_job_reads.specs.TextReads.{IfAnswerFails};
 ghost use Rattle.fsfs_job_run.specs.Running.{DoesSo};
 
 use crate::bases::base_of;
@@ -23,6 +24,7 @@ pub(crate) fn read_text<D: Disk, R>(
 ) -> (Repo<D>, JobAnswer)
     ensures does { (v : View) (moment : ℕ) → ⟦<Owned<D> as Turns<R>>⟧.knows repo.turns v → v.section ≡ None
         → DoesSo (⟦<Owned<D> as Turns<R>>⟧.knows result.0.turns) (Rose (⟦<Owned<D> as Turns<R>>⟧.faults repo.turns) (⟦<Owned<D> as Turns<R>>⟧.faults result.0.turns)) moment (jobs.Read job.now) result.1 v }
+    ensures cause { IfAnswerFails result.1 (Rose (⟦<Owned<D> as Turns<R>>⟧.faults repo.turns) (⟦<Owned<D> as Turns<R>>⟧.faults result.0.turns)) }
     ensures mounted { D.mount_path result.0.turns.disk ≡ D.mount_path repo.turns.disk }
     ensures later { ⟦<Owned<D> as Turns<R>>⟧.faults repo.turns ≤ ⟦<Owned<D> as Turns<R>>⟧.faults result.0.turns }
 {

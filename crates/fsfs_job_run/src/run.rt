@@ -1,8 +1,9 @@
 //! The jobs of a script one after another.
 ghost use Rattle.std.specs.Prelude.{◌≡◌, ◌⊎◌, ◌≤◌, None, length, IfOk, OnErr};
+ghost use Rattle.fsfs_base.specs.Failures.{Rose};
 ghost use Rattle.fsfs_turn.specs.Views.{View};
 ghost use Rattle.fsfs_owned_repo.specs.Crashes.{CrashesLeave};
-ghost use Rattle.fsfs_job_run.specs.Running.{DoAll, RunsPast};
+ghost use Rattle.fsfs_job_run.specs.Running.{DoAll, IfAnyFails, RunsPast};
 
 use crate::job::do_job;
 use fsfs_disk::Disk;
@@ -31,6 +32,8 @@ pub fn run_jobs<D: Disk, R, G: Gate>(
     ensures each { IfOk result.1 (λ answers. length answers.items ≡ length jobs.now) }
     ensures none { OnErr result.1 (result.0 ≡ repo) }
     ensures crashes { (u : View) → ⟦<Owned<D> as Turns<R>>⟧.knows result.0.turns u → CrashesLeave result.0.turns.layout (D.trace result.0.turns.disk) u }
+    // Whatever the disk tells: an answer tells that it failed only where the count of failed calls rose in this run.
+    ensures cause { IfOk result.1 (λ answers. IfAnyFails answers.items (Rose (⟦<Owned<D> as Turns<R>>⟧.faults repo.turns) (⟦<Owned<D> as Turns<R>>⟧.faults result.0.turns))) }
     ensures mounted { D.mount_path result.0.turns.disk ≡ D.mount_path repo.turns.disk }
     ensures later { ⟦<Owned<D> as Turns<R>>⟧.faults repo.turns ≤ ⟦<Owned<D> as Turns<R>>⟧.faults result.0.turns }
 {

@@ -32,7 +32,8 @@ use Rattle.fsfs_turn_begin.specs.Steps.{Moved}
 use Rattle.fsfs_turn_begin.proofs.Moving.{told_moved, spent_steps}
 use Rattle.fsfs_txn.specs.Standing.{Stands}
 use Rattle.fsfs_owned_repo.specs.Begun.{BeginsTxn}
-use Rattle.fsfs_owned_repo.proofs.Shown.{seen_shows, trees_shown}
+use Rattle.fsfs_draft.specs.SeenLemmas.{shown_trees}
+use Rattle.fsfs_owned_repo.proofs.Shown.{seen_shows}
 
 -- the one own node-revision goes on from the base's: the transaction made nothing
 made_none : (look : RevisionBytes) (trees : ℕ → TreeFunction) (top base : ℕ) (txn : TxnName) (root : NodeRev) (held : Option Files) (proto : List ℕ) (tree : TreeFunction) → root.copy_from ≡ None → is_some root.predecessor ≡ true
@@ -66,7 +67,7 @@ module _ (name : TxnName) (root : NodeRev) (held : Option Files) (v u : View) (h
 
       draft : IsDraftOf (bytes_of u.seen) (tree_of (revisions u.seen)) (last_of (revisions u.seen)) name.base name (begun_folder root held proto) (tree_of (revisions u.seen) name.base) []
       draft =
-          let shown = trees_shown u.seen (seen_shows u.seen all some) some in
+          let shown = shown_trees u.seen some (seen_shows u.seen all some) in
           h.draft (last_of (revisions u.seen)) (tree_of (revisions u.seen)) proto shown.each shown.ids le
 
   begins_txn : (proto : List ℕ) (settled : Folder) (base : ℕ) → AllShow u.seen → name.base ≡ base → settled ≡ begun_folder root held proto → BeginsTxn name base settled v u

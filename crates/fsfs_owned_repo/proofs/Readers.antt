@@ -10,9 +10,10 @@ use Rattle.fsfs_machine.proofs.Growing.{revisions_length}
 use Rattle.fsfs_turn.specs.Views.{View}
 use Rattle.fsfs_turn.specs.Telling.{OwnedState, owned_view}
 use Rattle.fsfs_turn_book.specs.Seen.{TellsRevisions}
+use Rattle.fsfs_draft.specs.SeenLemmas.{shown_trees}
 use Rattle.fsfs_owned_repo.specs.Alone.{KnowsIn}
 use Rattle.fsfs_owned_repo.specs.Readers.{TellsSeenAll}
-use Rattle.fsfs_owned_repo.proofs.Shown.{seen_shows, trees_shown, known_shown}
+use Rattle.fsfs_owned_repo.proofs.Shown.{seen_shows, known_shown}
 
 young_told : (s : OwnedState) (floor : ℕ) (kept : Option KeptManifest) → (telling (owned_view s) floor kept).youngest ≡ Some s.young
 unfolding telling
@@ -27,7 +28,7 @@ pub tells_all : (s other : OwnedState) (floor : ℕ) (kept : Option KeptManifest
 tells_all s other floor kept v known below told = record {
   revisions_are = told;
   revs = λ r le. told.revs r (omega (arith, le, count, known.1.all));
-  shown = trees_shown v.seen (seen_shows v.seen (known_shown s.layout s.young s.stuck s.trace v known) some) some;
+  shown = shown_trees v.seen some (seen_shows v.seen (known_shown s.layout s.young s.stuck s.trace v known) some);
   youngest = youngest_of s other floor kept below ∙ ap (λ n. Some n) last;
   known = subst (λ z. KnowsIn z v) (sym below) known;
 }

@@ -1,4 +1,5 @@
 use Rattle.fsfs_job_run.proofs.Based.{numbered_base, numbered_lacks, youngest_base}
+use Rattle.fsfs_job_run.proofs.Causes.{numbered_asks}
 use Rattle.fsfs_job_run.proofs.Staying.{look_stays}
 use Rattle.fsfs_job_run.proofs.bases.base_of.Goals as goal
 
@@ -24,3 +25,6 @@ pub returns-in-Number-clause-lacks : goal.returns-in-Number-clause-lacks
 returns-in-Number-clause-lacks g c = λ v known none.
     let l = c.youngest-youngest.ensures.turned v known in
     numbered_lacks c.numbered.result c.args.base c.in-Number.asked c.youngest-youngest.result _ c.in-Number.is (look_stays c.youngest-youngest.result v l.0 none l.2 (c.youngest-youngest.ensures.all l.0 l.1)).1 c.numbered.ensures.lacks
+
+pub returns-in-Number-clause-asked : goal.returns-in-Number-clause-asked
+returns-in-Number-clause-asked g c = numbered_asks c.numbered.result c.in-Number.asked c.youngest-youngest.result c.numbered.ensures.lacks

@@ -9,6 +9,8 @@ use Rattle.fsfs_turn.specs.Bytes.{bytes_of}
 use Rattle.fsfs_turn_begin.specs.Faults.{IfDisk}
 use Rattle.fsfs_jobs.specs.declared.answer.JobAnswer.TheVariants.{Stopped}
 use Rattle.fsfs_job_run.specs.Running.{CommitsSo}
+use Rattle.fsfs_job_reads.specs.TextReads.{IfAnswerFails}
+use Rattle.fsfs_job_run.proofs.Causes.{fails_on, begin_fails}
 use Rattle.fsfs_job_run.proofs.Begun.{unbegun_so}
 use Rattle.fsfs_job_run.proofs.Composed.{begun_so}
 use Rattle.fsfs_job_run.proofs.Seen.{trees_seen}
@@ -39,3 +41,17 @@ returns-in-Err-clause-does g c = λ v known none told on le.
     (unbegun_so (KnowsAlone after.layout after.young after.stuck (g.D.Disk.trace after.disk)) rose c.args.micros c.args.base job c.in-Err.why v d.0 d.1 known.1.own d.1.1.own told le d.2
     (λ wrong less root. root_whole (bytes_of d.0.seen) c.args.base (tree_of (revisions d.0.seen) c.args.base) wrong ((trees_seen after.layout after.young after.stuck (g.D.Disk.trace after.disk) d.0 d.1).each c.args.base (omega (arith, less, revisions_length d.0.seen))) root) d.3 disk))) (λ past. inr past)
     (told_err c.begin-repo.result.1 c.in-Err.why _ c.in-Err.is (c.begin-repo.ensures.refused v known none))
+
+pub returns-in-Ok-clause-cause : goal.returns-in-Ok-clause-cause
+returns-in-Ok-clause-cause g c =
+    let start = g.D.Disk.faults c.args.repo.turns.disk in
+    let mid = g.D.Disk.faults c.begin-repo.result.0.turns.disk in
+    let now = g.D.Disk.faults c.edit_and_commit.result.0.turns.disk in
+    fails_on (Rose mid now) (Rose start now) c.edit_and_commit.result.1 (λ r. omega (arith, r, c.begin-repo.ensures.later)) c.edit_and_commit.ensures.cause
+
+pub returns-in-Err-clause-cause : goal.returns-in-Err-clause-cause
+returns-in-Err-clause-cause g c =
+    let rose = Rose (g.D.Disk.faults c.args.repo.turns.disk) (g.D.Disk.faults c.begin-repo.result.0.turns.disk) in
+    let job = c.args.job.now in
+    subst (λ f. IfAnswerFails (Stopped job.line f) rose) (sym c.of_begin-fault.ensures)
+    (begin_fails rose job.line c.in-Err.why (told_err c.begin-repo.result.1 c.in-Err.why (λ why. IfDisk why rose) c.in-Err.is c.begin-repo.ensures.cause))

@@ -9,6 +9,7 @@ use Rattle.fsfs_turn.specs.Telling.{OwnedState, owned_view}
 use Rattle.fsfs_turn_begin.specs.Steps.{IsPastNumbers}
 use Rattle.fsfs_jobs.specs.Serial.{base_of}
 use Rattle.fsfs_job_run.proofs.Based.{no_base, no_base_outside, no_base_counted}
+use Rattle.fsfs_job_run.proofs.Causes.{fails_on, request_fails}
 use Rattle.fsfs_job_run.proofs.Composed.{commits_behind}
 use Rattle.fsfs_job_run.proofs.commit_job.commit_job.Goals as goal
 
@@ -28,3 +29,13 @@ returns-in-Err-clause-does g c = λ v known none.
     let l = c.in-Err.ensures.looked v known none in
     let lacks = c.in-Err.ensures.lacks v known none in
     inl ((l.0, l.1, no_base c.args.micros job c.in-Err.fault v l.0 l.2 lacks, no_base_outside _ job.base _ job.line c.in-Err.fault l.0 lacks), no_base_counted job job.base _ job.line c.in-Err.fault _ lacks)
+
+pub returns-in-Ok-clause-cause : goal.returns-in-Ok-clause-cause
+returns-in-Ok-clause-cause g c =
+    let start = g.D.Disk.faults c.args.repo.turns.disk in
+    let mid = g.D.Disk.faults c.base_of.new.repo.turns.disk in
+    let now = g.D.Disk.faults c.begin_and_commit.result.0.turns.disk in
+    fails_on (Rose mid now) (Rose start now) c.begin_and_commit.result.1 (λ r. omega (arith, r, c.in-Ok.ensures.faults)) c.begin_and_commit.ensures.cause
+
+pub returns-in-Err-clause-cause : goal.returns-in-Err-clause-cause
+returns-in-Err-clause-cause g c = request_fails _ c.args.job.now.line c.in-Err.fault c.in-Err.ensures.asked

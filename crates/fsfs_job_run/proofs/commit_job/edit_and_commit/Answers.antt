@@ -7,6 +7,7 @@ use Rattle.fsfs_machine.specs.Machine.{revisions}
 use Rattle.fsfs_machine.proofs.Growing.{revisions_length}
 use Rattle.fsfs_turn.specs.Alone.{KnowsAlone}
 use Rattle.fsfs_turn.specs.Bytes.{bytes_of}
+use Rattle.fsfs_job_run.proofs.Causes.{fails_on, edit_fails}
 use Rattle.fsfs_job_run.proofs.Composed.{stands_for, edited_so, stopped_so, edits_done, edits_stopped, edits_failed, txn_as, given_as}
 use Rattle.fsfs_job_run.proofs.commit_job.edit_and_commit.Goals as goal
 
@@ -34,3 +35,18 @@ returns-in-Err-clause-does g c = λ v known none told given based on stands.
     (edits_stopped job.steps _ base _ c.edit-repo.result.1 c.in-Err.field-0 c.in-Err.field-0.line c.in-Err.field-0.fault (bytes_of v.seen) (tree_of (revisions v.seen)) (last_of (revisions v.seen)) (tree_of (revisions v.seen) base) c.in-Err.is refl refl (c.edit-repo.ensures.edits v known based stands))
     (edits_failed c.edit-repo.result.1 c.in-Err.field-0 c.in-Err.field-0.fault (Rose (g.D.Disk.faults c.args.repo.turns.disk) (g.D.Disk.faults mid.disk)) c.in-Err.is refl c.edit-repo.ensures.cause)
     (c.purged.ensures.leaves v (c.edit-repo.ensures.known v known) none (given_as _ _ v.given c.edit-repo.ensures.name given))
+
+pub returns-in-Ok-clause-cause : goal.returns-in-Ok-clause-cause
+returns-in-Ok-clause-cause g c =
+    let start = g.D.Disk.faults c.args.repo.turns.disk in
+    let mid = g.D.Disk.faults c.edit-repo.result.0.turns.disk in
+    let now = g.D.Disk.faults c.commit_edited.result.0.turns.disk in
+    fails_on (Rose mid now) (Rose start now) c.commit_edited.result.1 (λ r. omega (arith, r, c.edit-repo.ensures.later)) c.commit_edited.ensures.cause
+
+pub returns-in-Err-clause-cause : goal.returns-in-Err-clause-cause
+returns-in-Err-clause-cause g c =
+    let start = g.D.Disk.faults c.args.repo.turns.disk in
+    let mid = g.D.Disk.faults c.edit-repo.result.0.turns.disk in
+    let now = g.D.Disk.faults c.purged.result.turns.disk in
+    edit_fails (Rose start mid) (Rose start now) c.in-Err.field-0.line c.in-Err.field-0.fault (λ r. omega (arith, r, c.purged.ensures.later))
+    (edits_failed c.edit-repo.result.1 c.in-Err.field-0 c.in-Err.field-0.fault (Rose start mid) c.in-Err.is refl c.edit-repo.ensures.cause)

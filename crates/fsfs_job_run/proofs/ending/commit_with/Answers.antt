@@ -1,7 +1,11 @@
 use Rattle.std.proofs.Common.{sym, subst}
 use Rattle.fsfs_base.specs.Failures.{Rose}
 use Rattle.fsfs_turn.specs.Alone.{KnowsAlone}
+use Rattle.fsfs_owned_repo.specs.Commits.{IfFailed}
+use Rattle.fsfs_jobs.specs.declared.answer.JobAnswer.{JobAnswer}
+use Rattle.fsfs_job_reads.specs.TextReads.{IfAnswerFails}
 use Rattle.fsfs_job_run.specs.Running.{IsNoRequest}
+use Rattle.fsfs_job_run.proofs.Causes.{bar_fails}
 use Rattle.fsfs_job_run.proofs.Alone.{is_lone}
 use Rattle.fsfs_job_run.proofs.Answered.{committed_by, barred_by, disk_by, bench_by}
 use Rattle.fsfs_job_run.proofs.Barred.{bar_none}
@@ -45,3 +49,18 @@ returns-in-DiskFault-clause-plain g c = subst IsNoRequest (sym c.stopped.ensures
 
 pub returns-in-BenchFault-clause-plain : goal.returns-in-BenchFault-clause-plain
 returns-in-BenchFault-clause-plain g c = subst IsNoRequest (sym c.stopped-in-BenchFault.ensures) tt
+
+pub returns-in-Barred-clause-cause : goal.returns-in-Barred-clause-cause
+returns-in-Barred-clause-cause g c =
+    let rose = Rose (g.D.Disk.faults c.args.repo.turns.disk) (g.D.Disk.faults c.purged.result.turns.disk) in
+    subst (λ (a : JobAnswer). IfAnswerFails a rose) (sym c.barred.ensures) (bar_fails rose c.args.job.now.line c.in-Barred.bar)
+
+pub returns-in-DiskFault-clause-cause : goal.returns-in-DiskFault-clause-cause
+returns-in-DiskFault-clause-cause g c =
+    let rose = Rose (g.D.Disk.faults c.args.repo.turns.disk) (g.D.Disk.faults c.commit-repo.result.0.turns.disk) in
+    subst (λ (a : JobAnswer). IfAnswerFails a rose) (sym c.stopped.ensures) (subst (λ a. IfFailed a rose) c.in-DiskFault.is c.commit-repo.ensures.cause)
+
+pub returns-in-BenchFault-clause-cause : goal.returns-in-BenchFault-clause-cause
+returns-in-BenchFault-clause-cause g c =
+    let rose = Rose (g.D.Disk.faults c.args.repo.turns.disk) (g.D.Disk.faults c.commit-repo.result.0.turns.disk) in
+    subst (λ (a : JobAnswer). IfAnswerFails a rose) (sym c.stopped-in-BenchFault.ensures) tt

@@ -7,6 +7,7 @@ use Rattle.fsfs_turn.specs.Alone.{KnowsAlone}
 use Rattle.fsfs_turn.specs.Bytes.{bytes_of}
 use Rattle.fsfs_owned_repo.specs.Alone.{KnowsIn}
 use Rattle.fsfs_job_run.proofs.Based.{no_base_read, no_base_outside}
+use Rattle.fsfs_job_run.proofs.Causes.{request_fails}
 use Rattle.fsfs_job_run.proofs.Reading.{read_so, fails_as}
 use Rattle.fsfs_job_run.proofs.read_text.read_text.Goals as goal
 
@@ -28,3 +29,9 @@ returns-clause-does g c = λ v moment known none.
     read_so (KnowsAlone after.layout after.young after.stuck (g.D.Disk.trace after.disk)) _ moment c.in-Ok.base job c.read_job-answer.result v l.0 (c.of_reader.ensures.known l.0 (subst (λ s. KnowsIn s l.0) (sym c.read_job-answer.ensures.kept.below) told.known)) l.2 b.0 b.1
     (c.read_job-answer.ensures.told (bytes_of l.0.seen) (tree_of (revisions l.0.seen) c.in-Ok.base) (λ r low. told.revs r (omega (arith, low, le))) (told.shown.each c.in-Ok.base le))
     (fails_as c.read_job-answer.result _ _ _ _ (c.reader-reader.ensures.faults ∙ c.in-Ok.ensures.faults) (sym c.of_reader.ensures.faults) c.read_job-answer.ensures.cause.failed)
+
+pub returns-in-Err-clause-cause : goal.returns-in-Err-clause-cause
+returns-in-Err-clause-cause g c = request_fails _ c.args.job.now.line c.in-Err.fault c.in-Err.ensures.asked
+
+pub returns-clause-cause : goal.returns-clause-cause
+returns-clause-cause g c = fails_as c.read_job-answer.result _ _ _ _ (c.reader-reader.ensures.faults ∙ c.in-Ok.ensures.faults) (sym c.of_reader.ensures.faults) c.read_job-answer.ensures.cause.failed

@@ -1,6 +1,8 @@
 use Rattle.std.proofs.Common.{◌+◌, ap, ℕ, ◌∙◌, refl, arith}
 use Rattle.fsfs_turn.specs.Alone.{KnowsAlone}
 use Rattle.fsfs_turn.specs.Telling.{state_of}
+use Rattle.fsfs_base.specs.Failures.{Rose}
+use Rattle.fsfs_job_run.proofs.Causes.{any_none, any_more}
 use Rattle.fsfs_job_run.proofs.Going.{runs_none, runs_more, runs_all, none_taken}
 use Rattle.fsfs_owned_repo.proofs.Crashes.{survives}
 use Rattle.fsfs_job_run.proofs.run.run_jobs.Goals as goal
@@ -16,6 +18,7 @@ loop-job-init g c =
       count = c.in-Ok.ensures.len;
       mounted = refl;
       later = omega arith;
+      cause = any_none _ c.in-Ok.answers.items c.in-Ok.ensures.items;
     }
 
 pub loop-job-preserved : goal.loop-job-preserved
@@ -35,6 +38,8 @@ loop-job-preserved g c =
       count = c.push_reserved.ensures.len ∙ ap (λ (n : ℕ). n + 1) inv.count;
       mounted = c.do_job-after.ensures.mounted ∙ inv.mounted;
       later = omega (arith, inv.later, c.do_job-after.ensures.later);
+      cause = any_more (Rose (g.D.Disk.faults start.disk) (g.D.Disk.faults before.disk)) (Rose (g.D.Disk.faults before.disk) (g.D.Disk.faults after.disk)) (Rose (g.D.Disk.faults start.disk) (g.D.Disk.faults after.disk))
+          c.loop-job.answers.items c.push_reserved.new.self.items c.do_job-after.result.1 c.push_reserved.ensures.items (λ r. omega (arith, r, c.do_job-after.ensures.later)) (λ r. omega (arith, r, inv.later)) inv.cause c.do_job-after.ensures.cause;
     }
 
 pub returns-clause-does : goal.returns-clause-does

@@ -4,6 +4,8 @@ use Rattle.std.specs.Vec.{vec_capacity}
 use Rattle.fsfs_turn.specs.Alone.{KnowsAlone}
 use Rattle.fsfs_turn.specs.Telling.{state_of}
 use Rattle.fsfs_turn.specs.Views.{View}
+use Rattle.fsfs_base.specs.Failures.{Rose}
+use Rattle.fsfs_job_run.specs.Running.{IfAnyFails}
 use Rattle.fsfs_job_run.proofs.Going.{RunsOn}
 use Rattle.fsfs_job_run.proofs.run.run_jobs.Given as goal
 
@@ -18,4 +20,5 @@ invariant-loop-job g l = record {
   count : vec_len l.answers ≡ l.job-index;
   mounted : g.D.Disk.mount_path l.repo.turns.disk ≡ g.D.Disk.mount_path l.fn.repo.turns.disk;
   later : g.D.Disk.faults l.fn.repo.turns.disk ≤ g.D.Disk.faults l.repo.turns.disk;
+  cause : IfAnyFails l.answers.items (Rose (g.D.Disk.faults l.fn.repo.turns.disk) (g.D.Disk.faults l.repo.turns.disk));
 }

@@ -1,0 +1,114 @@
+-- Answers that tell of a failed call of the disk, and why.
+use Rattle.std.proofs.Common.{◌≡◌, ◌<◌, ℕ, List, [], ◌∷◌, ◌++◌, refl, sym, subst}
+use Rattle.std.specs.Prelude.{Result, Ok, Err, IfErr}
+use Rattle.fsfs_damage.specs.declared.wrong.Wrong.{Wrong}
+use Rattle.fsfs_damage.specs.declared.wrong.Wrong.TheVariants as wrongs
+use Rattle.fsfs_damage.specs.declared.wrong.Refusal.TheVariants as refusals
+use Rattle.fsfs_faults.specs.Faults.{fault_from_wrong}
+use Rattle.fsfs_faults.specs.declared.fault.Fault.{Fault}
+use Rattle.fsfs_faults.specs.declared.fault.Fault.TheVariants.{Words, Request, Repository, Outside, Memory, Limit}
+use Rattle.fsfs_faults.specs.declared.outside_fault.OutsideFault.TheVariants as outside
+use Rattle.fsfs_faults.specs.declared.request_fault.RequestFault.TheVariants.{NoRev}
+use Rattle.fsfs_turn_begin.specs.Faults.{IfDisk as IfBeginFails}
+use Rattle.fsfs_turn_begin.specs.declared.begin_fault.BeginFault.{BeginFault}
+use Rattle.fsfs_turn_begin.specs.declared.begin_fault.BeginFault.TheVariants as begin
+use Rattle.fsfs_owned_repo.specs.declared.answers.CommitBar.{CommitBar}
+use Rattle.fsfs_owned_repo.specs.declared.answers.CommitBar.TheVariants as bars
+use Rattle.fsfs_jobs.specs.declared.answer.JobAnswer.{JobAnswer}
+use Rattle.fsfs_jobs.specs.declared.answer.JobAnswer.TheVariants as answers
+use Rattle.fsfs_job_edits.specs.Editing.{IfDisk as IfEditFails}
+use Rattle.fsfs_job_reads.specs.TextReads.{IfAnswerFails, IfDiskFails}
+use Rattle.fsfs_job_run.specs.Faults.{fault_of_begin, fault_of_merge, answer_of_bar}
+use Rattle.fsfs_job_run.specs.Running.{IfAnyFails}
+
+-- ---- over more calls
+
+fault_on : (P Q : Type 0) (fault : Fault) → (P → Q) → IfDiskFails fault P → IfDiskFails fault Q
+fault_on P Q (Words why) more failed = tt
+fault_on P Q (Request why) more failed = tt
+fault_on P Q (Repository why) more failed = tt
+fault_on P Q (Outside outside.Mount) more failed = tt
+fault_on P Q (Outside (outside.Disk at)) more failed = more failed
+fault_on P Q (Outside outside.Read) more failed = tt
+fault_on P Q (Outside outside.Write) more failed = tt
+fault_on P Q (Outside outside.Bench) more failed = tt
+fault_on P Q (Outside (outside.Stuck at)) more failed = tt
+fault_on P Q Memory more failed = tt
+fault_on P Q (Limit why) more failed = tt
+
+pub fails_on : (P Q : Type 0) (answer : JobAnswer) → (P → Q) → IfAnswerFails answer P → IfAnswerFails answer Q
+fails_on P Q (answers.Committed rev) more failed = tt
+fails_on P Q (answers.Read text) more failed = tt
+fails_on P Q (answers.Conflict head path) more failed = tt
+fails_on P Q (answers.Stopped line fault) more failed = fault_on P Q fault more failed
+
+pub any_on : (P Q : Type 0) (told : List JobAnswer) → (P → Q) → IfAnyFails told P → IfAnyFails told Q
+any_on P Q [] more failed = tt
+any_on P Q (answer ∷ told) more failed = (fails_on P Q answer more failed.0, any_on P Q told more failed.1)
+
+-- one answer more
+any_append : (P : Type 0) (told : List JobAnswer) (answer : JobAnswer) → IfAnyFails told P → IfAnswerFails answer P → IfAnyFails (told ++ answer ∷ []) P
+any_append P [] answer failed last = (last, tt)
+any_append P (first ∷ told) answer failed last = (failed.0, any_append P told answer failed.1 last)
+
+pub any_more : (P Q R : Type 0) (told more : List JobAnswer) (answer : JobAnswer) → more ≡ told ++ answer ∷ [] → (P → R) → (Q → R) → IfAnyFails told P → IfAnswerFails answer Q → IfAnyFails more R
+any_more P Q R told more answer are first then failed last = subst (λ (l : List JobAnswer). IfAnyFails l R) (sym are) (any_append R told answer (any_on P R told first failed) (fails_on Q R answer then last))
+
+-- none yet
+pub any_none : (P : Type 0) (told : List JobAnswer) → told ≡ [] → IfAnyFails told P
+any_none P told none = subst (λ (l : List JobAnswer). IfAnyFails l P) (sym none) tt
+
+-- ---- of each kind
+
+pub request_fails : (P : Type 0) (line : ℕ) (fault : Fault) → (asked : ℕ) × (youngest : ℕ) × (fault ≡ Request (NoRev asked youngest)) → IfAnswerFails (answers.Stopped line fault) P
+request_fails P line fault w = subst (λ (f : Fault). IfAnswerFails (answers.Stopped line f) P) (sym w.2) tt
+
+pub numbered_asks : (r : Result ℕ Fault) (asked young : ℕ) → IfErr r (λ fault. (young < asked) × (fault ≡ Request (NoRev asked young))) → IfErr r (λ fault. (n : ℕ) × (youngest : ℕ) × (fault ≡ Request (NoRev n youngest)))
+numbered_asks (Ok rev) asked young lacks = tt
+numbered_asks (Err fault) asked young lacks = (asked, young, lacks.1)
+
+pub edit_fails : (P Q : Type 0) (line : ℕ) (fault : Fault) → (P → Q) → IfEditFails fault P → IfAnswerFails (answers.Stopped line fault) Q
+edit_fails P Q line (Words why) more failed = tt
+edit_fails P Q line (Request why) more failed = tt
+edit_fails P Q line (Repository why) more failed = tt
+edit_fails P Q line (Outside outside.Mount) more failed = tt
+edit_fails P Q line (Outside (outside.Disk at)) more failed = more failed
+edit_fails P Q line (Outside outside.Read) more failed = tt
+edit_fails P Q line (Outside outside.Write) more failed = tt
+edit_fails P Q line (Outside outside.Bench) more failed = tt
+edit_fails P Q line (Outside (outside.Stuck at)) more failed = tt
+edit_fails P Q line Memory more failed = tt
+edit_fails P Q line (Limit why) more failed = tt
+
+wrong_fails : (P : Type 0) (wrong : Wrong) → IfDiskFails (fault_from_wrong wrong) P
+wrong_fails P (wrongs.Refused (refusals.NoRev asked youngest)) = tt
+wrong_fails P (wrongs.Refused (refusals.Missing rev)) = tt
+wrong_fails P (wrongs.Refused (refusals.Small fault)) = tt
+wrong_fails P (wrongs.Damaged damage) = tt
+wrong_fails P (wrongs.Delta at) = tt
+
+pub begin_fails : (P : Type 0) (line : ℕ) (why : BeginFault) → IfBeginFails why P → IfAnswerFails (answers.Stopped line (fault_of_begin why)) P
+begin_fails P line (begin.NoRev asked youngest) failed = tt
+begin_fails P line (begin.Stuck at) failed = tt
+begin_fails P line (begin.Small fault) failed = tt
+begin_fails P line begin.NamesFull failed = tt
+begin_fails P line (begin.Wrong wrong) failed = wrong_fails P wrong
+begin_fails P line (begin.DiskFault at) failed = failed
+begin_fails P line begin.BenchFault failed = tt
+begin_fails P line begin.Memory failed = tt
+
+merge_fails : (P : Type 0) (wrong : Wrong) → IfDiskFails (fault_of_merge wrong) P
+merge_fails P (wrongs.Refused (refusals.NoRev asked youngest)) = tt
+merge_fails P (wrongs.Refused (refusals.Missing rev)) = tt
+merge_fails P (wrongs.Refused (refusals.Small fault)) = tt
+merge_fails P (wrongs.Damaged damage) = tt
+merge_fails P (wrongs.Delta at) = tt
+
+pub bar_fails : (P : Type 0) (line : ℕ) (bar : CommitBar) → IfAnswerFails (answer_of_bar line bar) P
+bar_fails P line (bars.Conflict path head) = tt
+bar_fails P line bars.RevsFull = tt
+bar_fails P line (bars.Stuck at) = tt
+bar_fails P line (bars.Wrong wrong) = merge_fails P wrong
+bar_fails P line (bars.PastLimit limit) = tt
+bar_fails P line bars.Lacking = tt
+bar_fails P line bars.Memory = tt
