@@ -1,5 +1,5 @@
 -- A run of jobs over what a pass has seen is one over histories.
-use Rattle.std.proofs.Common.{◌≡◌, ◌⊎◌, ◌+◌, ℕ, List, [], ◌∷◌, ◌++◌, length, map, refl, sym, ap, subst, ◌∙◌, length-append, inl, inr, arith}
+use Rattle.std.proofs.Common.{◌≡◌, ◌⊎◌, ◌+◌, ℕ, List, [], ◌∷◌, ◌++◌, length, map, true, refl, sym, ap, subst, ◌∙◌, length-append, inl, inr, arith}
 use Rattle.std.proofs.lemmas.List.{map-append, length-map}
 use Rattle.std.specs.Prelude.{Option, Some, None, IfSome, Result, Err}
 use Rattle.fsfs_base.specs.Failures.{Rose}
@@ -17,26 +17,30 @@ use Rattle.fsfs_script.specs.declared.script_error.ScriptError.{ScriptError}
 use Rattle.fsfs_faults.specs.Faults.{fault_from_open, fault_from_script}
 use Rattle.fsfs_faults.specs.declared.fault.Fault.{Fault}
 use Rattle.fsfs_disk.specs.Trace.{Trace, NameChange, FirmNames, FailsAt, Performs, files_now}
+use Rattle.fsfs_disk.proofs.CrashLemmas.{files_are_image}
 use Rattle.fsfs_machine.specs.declared.machine.Recorded.{Recorded}
 use Rattle.fsfs_machine.specs.declared.machine.Coming.{Coming}
 use Rattle.fsfs_machine.specs.Machine.{recorded, revisions}
 use Rattle.fsfs_tree.specs.Revisions.{Revision}
 use Rattle.fsfs_turn.specs.Views.{View}
-use Rattle.fsfs_turn.specs.Alone.{KnowsAlone}
+use Rattle.fsfs_turn.specs.Alone.{are_harmless, KnowsAlone}
 use Rattle.fsfs_turn.specs.Telling.{OwnedState}
 use Rattle.fsfs_turn.specs.Past.{IsPart}
 use Rattle.fsfs_turn.specs.Whole.{NamesFrom}
 use Rattle.fsfs_owned_repo.specs.Crashes.{CrashesLeave}
 use Rattle.fsfs_job_lines.specs.declared.job.Job.{Job}
 use Rattle.fsfs_jobs.specs.declared.answer.JobAnswer.{JobAnswer}
-use Rattle.fsfs_serial.specs.Jobs.{DoesJob, Fails, ByOutside, ByMemory, ByNames, ByBytes, ByCounts, AddsBy, RunsJob, RunJobs, End, More, own_of_all}
+use Rattle.fsfs_serial.specs.Jobs.{DoesJob, Fails, ByDisk, ByBench, ByStuck, ByMemory, ByNames, ByBytes, ByCounts, AddsBy, RunsJob, RunJobs, End, More, own_of_all}
 use Rattle.fsfs_serial.proofs.JobLemmas.{runs_serial, grow}
 use Rattle.fsfs_job_run.specs.Running.{DoAll, RunsPast}
+use Rattle.fsfs_job_run.proofs.Causes.{any_on}
 use Rattle.fsfs_job_command.specs.Histories.{EndsJob, EndJobs, DidScript, StopsShort}
-use Rattle.fsfs_job_command.specs.Runs.{HoldsAll, IsPartOf, Ran, RanIn, RanOver, RunScene, RunsScript, NotOpened, NotRead, NoRoom, Done}
+use Rattle.fsfs_job_command.specs.Runs.{AllStandFor, HoldsAll, IsPartOf, Ran, RanIn, RanOver, RunScene, RunsScript, NotOpened, NotRead, NoRoom, Done}
 
 stays : (job : Job) (answer : JobAnswer) (h now : List Recorded) → Fails job answer → AddsBy answer h now → now ≡ h
-stays _ _ h now (ByOutside job line why) same = same
+stays _ _ h now (ByDisk job line at) same = same
+stays _ _ h now (ByBench job line) same = same
+stays _ _ h now (ByStuck job line at) same = same
 stays _ _ h now (ByMemory job line) same = same
 stays _ _ h now (ByNames job line) same = same
 stays _ _ h now (ByBytes job line why) same = same
@@ -89,9 +93,14 @@ held_all before layout (Some t) u opened leaves = record {
   named = λ m image. subst (NamesFrom m) (sym (length-map u.seen (λ (x : Recorded). x.revision))) (leaves.named m image);
 }
 
-pub ran : (moment : ℕ) (js : List Job) (answers : List JobAnswer) (youngest : ℕ) (v u : View) (layout : Layout) (told : Option Trace) → v.opened ≡ length v.seen → RunJobs moment js answers v u → length u.seen ≡ youngest + 1 → CrashesLeave layout told u
+-- where none of the pass's faults left a revision in doubt
+stands_all : (layout : Layout) (told : Option Trace) (u : View) → u.section ≡ None → are_harmless u.pass.faults ≡ true → CrashesLeave layout told u → IfSome told (λ t. AllStandFor t (revisions u.seen))
+stands_all layout None u none few leaves = tt
+stands_all layout (Some t) u none few leaves = record { now = leaves.doubtless none few (files_now t) (files_are_image t.first t.operations); images = leaves.doubtless none few }
+
+pub ran : (moment : ℕ) (js : List Job) (answers : List JobAnswer) (youngest : ℕ) (v u : View) (layout : Layout) (told : Option Trace) → v.opened ≡ length v.seen → are_harmless v.pass.faults ≡ true → u.section ≡ None → RunJobs moment js answers v u → length u.seen ≡ youngest + 1 → CrashesLeave layout told u
     → Ran moment v.since js answers youngest (revisions v.seen) told
-ran moment js answers youngest v u layout told opened runs last leaves =
+ran moment js answers youngest v u layout told opened few none runs last leaves =
     let grown = grow moment js answers v u runs in
     record {
       now = revisions u.seen;
@@ -99,6 +108,7 @@ ran moment js answers youngest v u layout told opened runs last leaves =
       last = length-map u.seen (λ (x : Recorded). x.revision) ∙ last;
       held = subst (λ n. IfSome told (λ t. HoldsAll n t (revisions v.seen) (revisions u.seen))) grown.since
           (held_all (revisions v.seen) layout told u (grown.opened ∙ (opened ∙ sym (length-map v.seen (λ (x : Recorded). x.revision)))) leaves);
+      certain = λ calm. stands_all layout told u none (grown.doubtless calm few) leaves;
     }
 
 pub stops_short : (start : OwnedState) (moment : ℕ) (js : List Job) (answers : List JobAnswer) (v : View) → RunsPast start moment js answers v → StopsShort moment js answers (revisions v.seen)
@@ -121,12 +131,12 @@ firm_fails change old new done = inr (inr done)
 
 -- ---- what a lone pass knows behind jobs
 
-pub ran_in : (layout : Layout) (young : ℕ) (stuck : Option DiskPlace) (told new : Option Trace) (moment : ℕ) (js : List Job) (answers : List JobAnswer) (youngest : ℕ) (v : View) (start : OwnedState) → new ≡ told → v.opened ≡ length v.seen
+pub ran_in : (layout : Layout) (young : ℕ) (stuck : Option DiskPlace) (told new : Option Trace) (moment : ℕ) (js : List Job) (answers : List JobAnswer) (youngest : ℕ) (v : View) (start : OwnedState) → new ≡ told → v.opened ≡ length v.seen → are_harmless v.pass.faults ≡ true
     → ((u : View) → KnowsAlone layout young stuck told u → length u.seen ≡ youngest + 1) → ((u : View) → KnowsAlone layout young stuck told u → CrashesLeave layout told u)
     → DoAll (KnowsAlone layout young stuck told) moment js answers v ⊎ RunsPast start moment js answers v → RanIn moment v.since js answers youngest (revisions v.seen) new
-ran_in layout young stuck told new moment js answers youngest v start same opened all leaves (inl (u, known, none, runs)) =
-    inl (subst (Ran moment v.since js answers youngest (revisions v.seen)) (sym same) (ran moment js answers youngest v u layout told opened runs (all u known) (leaves u known)))
-ran_in layout young stuck told new moment js answers youngest v start same opened all leaves (inr past) = inr (stops_short start moment js answers v past)
+ran_in layout young stuck told new moment js answers youngest v start same opened few all leaves (inl (u, known, none, runs)) =
+    inl (subst (Ran moment v.since js answers youngest (revisions v.seen)) (sym same) (ran moment js answers youngest v u layout told opened few none runs (all u known) (leaves u known)))
+ran_in layout young stuck told new moment js answers youngest v start same opened few all leaves (inr past) = inr (stops_short start moment js answers v past)
 
 -- ---- a run, told of a count that rose as well
 
@@ -142,7 +152,7 @@ pub runs_weaker : {D E : Type 0} (moment : ℕ) (a b : RunScene) (r : Result ℕ
 runs_weaker moment a b _ f (NotOpened why because untouched unread) = NotOpened why (opens_weaker a.trace why f because) untouched unread
 runs_weaker moment a b _ f (NotRead error read rose untouched) = NotRead error read rose untouched
 runs_weaker moment a b _ f (NoRoom js read untouched) = NoRoom js read untouched
-runs_weaker moment a b _ f (Done js answers youngest result read ends each ran printed) = Done js answers youngest result read ends each ran printed
+runs_weaker {D} {E} moment a b _ f (Done js answers youngest result read ends each failed quiet ran printed) = Done js answers youngest result read ends each (any_on D E answers f failed) (λ none. quiet (λ d. none (f d))) ran printed
 
 -- ---- the ends of a run
 
@@ -158,10 +168,10 @@ not_read {D} moment a b error fault is read rose firm written faults =
 
 -- over what the opening told
 pub ran_over : (knows : View → Type 0) (moment : ℕ) (js : List Job) (answers : List JobAnswer) (youngest : ℕ) (old new : Option Trace) → IfSome old (λ t. (h : List Revision) (stands : StandsFor (files_now t) h) → LeftoversAgree stands → HasSeenAll knows t stands.opened.min_unpacked_rev h)
-    → ((v : View) → knows v → v.section ≡ None → v.opened ≡ length v.seen → RanIn moment v.since js answers youngest (revisions v.seen) new) → RanOver moment js answers youngest old new
+    → ((v : View) → knows v → v.section ≡ None → v.opened ≡ length v.seen → are_harmless v.pass.faults ≡ true → RanIn moment v.since js answers youngest (revisions v.seen) new) → RanOver moment js answers youngest old new
 ran_over knows moment js answers youngest None new opened does = tt
 ran_over knows moment js answers youngest (Some t) new opened does = λ h stands agreeing.
     let s = opened h stands agreeing in
     let v = s.0 in
     let before : v.opened ≡ length v.seen = s.6 ∙ (ap (λ (l : List Revision). length l) (sym s.4) ∙ length-map v.seen (λ (x : Recorded). x.revision)) in
-    subst (λ g. RanIn moment (length t.operations + 1) js answers youngest g new) s.4 (subst (λ n. RanIn moment n js answers youngest (revisions v.seen) new) s.5 (does v s.1 s.2 before))
+    subst (λ g. RanIn moment (length t.operations + 1) js answers youngest g new) s.4 (subst (λ n. RanIn moment n js answers youngest (revisions v.seen) new) s.5 (does v s.1 s.2 before (ap (λ p. are_harmless p.faults) s.3)))

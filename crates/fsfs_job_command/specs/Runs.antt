@@ -24,6 +24,8 @@ use Rattle.fsfs_faults.specs.declared.fault.Fault.TheVariants.{Outside, Memory}
 use Rattle.fsfs_faults.specs.declared.outside_fault.OutsideFault.TheVariants.{Write}
 use Rattle.fsfs_jobs.specs.Lines.{greatest_status, run_text}
 use Rattle.fsfs_jobs.specs.declared.answer.JobAnswer.{JobAnswer}
+use Rattle.fsfs_serial.specs.Jobs.{TellNoDoubt}
+use Rattle.fsfs_job_run.specs.Running.{IfAnyFails}
 use Rattle.fsfs_job_command.specs.Histories.{DidScript, StopsShort}
 
 -- what a disk, the input and the output tell at one moment: the trace; what remains to be read; what was written; and how often the streams failed
@@ -53,12 +55,19 @@ pub record HoldsAll (since : ℕ) (t : Trace) (h now : List Revision) : Type 0 w
   pub stands : (m : Files) → IsImage t.first t.operations m → (g : List Revision) × IsPartOf now g × (length now ≤ length g) × StandsFor m g
   pub moments : (m : Files) → ImageSince since t.first t.operations m → (g : List Recorded) × HasHistory layout m g × IsPartOf now (revisions g) × (length h ≤ length g)
 
+-- the files of the disk are a repository that stands for this history and for no more, and so is each image that a crash now may leave
+pub record AllStandFor (t : Trace) (h : List Revision) : Type 0 where
+  pub now : StandsFor (files_now t) h
+  pub images : (m : Files) → IsImage t.first t.operations m → StandsFor m h
+
 -- the jobs were done over the history, the last line names the youngest revision of what they came to, and the disk holds it
 pub record Ran (moment since : ℕ) (js : List Job) (answers : List JobAnswer) (youngest : ℕ) (h : List Revision) (told : Option Trace) : Type 0 where
   pub now : List Revision
   pub did : DidScript moment js answers h now
   pub last : length now ≡ youngest + 1
   pub held : IfSome told (λ t. HoldsAll since t h now)
+  -- nothing is in doubt where no line tells of a fault as `current` was renamed or made firm
+  pub certain : TellNoDoubt answers → IfSome told (λ t. AllStandFor t now)
 
 -- what is known of them. (Or of a first part: then a number stood in `db/txn-current` that is past those of which anything is known.)
 abbrev pub RanIn : ℕ → ℕ → List Job → List JobAnswer → ℕ → List Revision → Option Trace → Type 0
@@ -89,6 +98,7 @@ pub data RunsScript (moment : ℕ) (disk : Type 0) (a b : RunScene) : Result ℕ
   NotRead : (error : ScriptError) → ReadsScript a.remaining (Err error) → IfReadFault error (Rose a.read_faults b.read_faults) → IsUntouched a b → RunsScript moment disk a b (Err (fault_from_script error))
   -- there is no memory for the answers
   NoRoom : (js : List Job) → ReadsScript a.remaining (Ok js) → IsUntouched a b → RunsScript moment disk a b (Err Memory)
-  -- the input was read to its end, and its jobs were done
-  Done : (js : List Job) (answers : List JobAnswer) (youngest : ℕ) (result : Result ℕ Fault) → ReadsScript a.remaining (Ok js) → EndsSource a.remaining b.remaining → length answers ≡ length js
+  -- The input was read to its end, and its jobs were done. A line tells that the disk failed only where a call of it did; so where none did,
+  -- no line tells of a fault that leaves a revision in doubt.
+  Done : (js : List Job) (answers : List JobAnswer) (youngest : ℕ) (result : Result ℕ Fault) → ReadsScript a.remaining (Ok js) → EndsSource a.remaining b.remaining → length answers ≡ length js → IfAnyFails answers disk → ((disk → ⊥) → TellNoDoubt answers)
       → RanOver moment js answers youngest a.trace b.trace → PrintsRun answers youngest a.written b.written a.write_faults b.write_faults result → RunsScript moment disk a b result

@@ -1,8 +1,10 @@
 //! A script is run.
-ghost use Rattle.std.specs.Prelude.{◌≡◌, ◌≤◌, length, None, IfOk, OnErr, IsTrue};
+ghost use Rattle.std.specs.Prelude.{◌≡◌, ◌≤◌, length, true, None, IfOk, OnErr, IsTrue};
 ghost use Rattle.fsfs_base.specs.Failures.{Rose};
 ghost use Rattle.fsfs_machine.specs.Machine.{revisions};
+ghost use Rattle.fsfs_turn.specs.Alone.{are_harmless};
 ghost use Rattle.fsfs_turn.specs.Views.{View};
+ghost use Rattle.fsfs_job_run.specs.Running.{IfAnyFails};
 ghost use Rattle.fsfs_job_command.specs.Runs.{run_scene, PrintsRun, RanIn, RunsScript};
 
 use fsfs_disk::Disk;
@@ -34,11 +36,12 @@ fn do_jobs<D: Disk, G: Gate>(
     gate: &G,
 ) -> (D, Result<JobsDone, AllocError>)
     requires moment { micros ≤ 4102444799999999 }
-    // Of a pass that has seen what there was as images began to be spoken of.
-    ensures does { (v : View) → ⟦<Owned<D> as Turns<()>>⟧.knows repo.turns v → v.section ≡ None → v.opened ≡ length v.seen
+    // Of a pass that has seen what there was as images began to be spoken of, and met no fault that leaves a revision in doubt.
+    ensures does { (v : View) → ⟦<Owned<D> as Turns<()>>⟧.knows repo.turns v → v.section ≡ None → v.opened ≡ length v.seen → are_harmless v.pass.faults ≡ true
         → IfOk result.1 (λ done. RanIn micros v.since jobs.now done.answers.items done.youngest (revisions v.seen) (D.trace result.0)) }
     ensures each { IfOk result.1 (λ done. length done.answers.items ≡ length jobs.now) }
     ensures none { OnErr result.1 (D.trace result.0 ≡ D.trace repo.turns.disk) }
+    ensures cause { IfOk result.1 (λ done. IfAnyFails done.answers.items (Rose (D.faults repo.turns.disk) (D.faults result.0))) }
     ensures mounted { D.mount_path result.0 ≡ D.mount_path repo.turns.disk }
     ensures later { D.faults repo.turns.disk ≤ D.faults result.0 }
 {

@@ -29,7 +29,7 @@ use Rattle.fsfs_faults.specs.declared.outside_fault.OutsideFault.TheVariants as 
 use Rattle.fsfs_jobs.specs.Properties.{undated_properties}
 use Rattle.fsfs_jobs.specs.declared.answer.JobAnswer.{JobAnswer}
 use Rattle.fsfs_jobs.specs.declared.answer.JobAnswer.TheVariants as answers
-use Rattle.fsfs_serial.specs.Jobs.{ByOutside}
+use Rattle.fsfs_serial.specs.Jobs.{ByDisk, ByBench}
 use Rattle.fsfs_job_run.specs.Faults.{answer_of_bar}
 use Rattle.fsfs_job_run.specs.Running.{Stays}
 use Rattle.fsfs_job_run.specs.Ending.{EndsSo}
@@ -60,13 +60,13 @@ pub disk_ends : (knows : View → Type 0) → IsLone knows → (rose : Type 0) (
     → (u : View) → (brings_doubt at ≡ false → BringsNoDoubt v u) → Moved v u → (gone : Bool) → IsDropped knows gone x.name u → EndsSo knows rose moment job answer x v
 disk_ends knows lone rose moment job at answer v x all none up is u brings moved gone dropped =
     subst (λ (a : JobAnswer). EndsSo knows rose moment job a x v) (sym is)
-    (ends_failed knows lone rose moment job (answers.Stopped job.line (Outside (outside.Disk at))) x gone x.name v u all none tt (ByOutside (jobs.Commit job) job.line (outside.Disk at)) (λ m same. up) brings moved dropped)
+    (ends_failed knows lone rose moment job (answers.Stopped job.line (Outside (outside.Disk at))) x gone x.name v u all none tt (ByDisk (jobs.Commit job) job.line at) (λ m same. up) brings moved dropped)
 
 pub bench_ends : (knows : View → Type 0) → IsLone knows → (rose : Type 0) (moment : ℕ) (job : CommitJob) (answer : JobAnswer) (v : View) (x : Txn) → IsCounted v → v.section ≡ None → answer ≡ answers.Stopped job.line (Outside outside.Bench)
     → (u : View) → BringsNoDoubt v u → Moved v u → (gone : Bool) → IsDropped knows gone x.name u → EndsSo knows rose moment job answer x v
 bench_ends knows lone rose moment job answer v x all none is u brings moved gone dropped =
     subst (λ (a : JobAnswer). EndsSo knows rose moment job a x v) (sym is)
-    (ends_failed knows lone rose moment job (answers.Stopped job.line (Outside outside.Bench)) x gone x.name v u all none tt (ByOutside (jobs.Commit job) job.line outside.Bench) (λ m same. tt) (λ calm. brings) moved dropped)
+    (ends_failed knows lone rose moment job (answers.Stopped job.line (Outside outside.Bench)) x gone x.name v u all none tt (ByBench (jobs.Commit job) job.line) (λ m same. tt) (λ calm. brings) moved dropped)
 
 -- the name of one that is handed back is known to be given still
 pub given_back : (v u : View) (x y : Txn) (n : ℕ) → u.given ≡ v.given → IsIn x.name v.given → y.name ≡ x.name → y.name ≡ n → IsIn n u.given

@@ -18,9 +18,8 @@ use Rattle.fsfs_owned_repo.specs.declared.answers.CommitBar.TheVariants as bars
 use Rattle.fsfs_job_lines.specs.declared.job.CommitJob.{CommitJob}
 use Rattle.fsfs_job_lines.specs.declared.job.Job.TheVariants as jobs
 use Rattle.fsfs_faults.specs.declared.repository_fault.RepositoryFault.TheVariants as repositories
-use Rattle.fsfs_faults.specs.declared.outside_fault.OutsideFault.TheVariants as outside
 use Rattle.fsfs_jobs.specs.declared.answer.JobAnswer.TheVariants.{Conflict, Stopped}
-use Rattle.fsfs_serial.specs.Jobs.{Fails, ByOutside, ByMemory, ByBytes}
+use Rattle.fsfs_serial.specs.Jobs.{Fails, ByStuck, ByMemory, ByBytes}
 use Rattle.fsfs_job_run.specs.Faults.{fault_of_merge, answer_of_bar}
 use Rattle.fsfs_job_run.specs.Running.{HasOutsideCause, IsNoRequest}
 use Rattle.fsfs_job_run.specs.Ending.{CommitsTxn, ByRevs}
@@ -75,7 +74,7 @@ module _ (moment pass : ℕ) (job : CommitJob) (h : List Recorded) (u : View) (x
       let at : IsClashAt path (last_of (revisions h)) h y = subst (λ (n : ℕ). IsClashAt path n h y) head_is (subst (λ (k : List Recorded). IsClashAt path head k y) same b.2) in
       inl (subst (λ (n : ℕ). CommitsTxn moment pass job (revisions h) x (Conflict n path) (revisions h)) (sym head_is) (commits_clash moment pass job h x y path hist over landings some at.later (omega (arith, b.1, head_is)) at.first))
   bar_done bars.RevsFull b = inl (ByRevs (let full : 2147483647 ≤ u.pass.least = b in omega (arith, full, told, some, revisions_length h)))
-  bar_done (bars.Stuck at) b = inr (ByOutside (jobs.Commit job) job.line (outside.Stuck at))
+  bar_done (bars.Stuck at) b = inr (ByStuck (jobs.Commit job) job.line at)
   bar_done (bars.Wrong wrong) b = inr (wrong_fails job wrong)
   bar_done (bars.PastLimit limit) b = inr (ByMemory (jobs.Commit job) job.line)
   bar_done bars.Lacking b = inr (ByMemory (jobs.Commit job) job.line)

@@ -20,11 +20,10 @@ use Rattle.fsfs_turn_begin.specs.Faults.{Cause, IfDisk}
 use Rattle.fsfs_turn_begin.specs.declared.begin_fault.BeginFault.{BeginFault}
 use Rattle.fsfs_turn_begin.specs.declared.begin_fault.BeginFault.TheVariants as begin
 use Rattle.fsfs_owned_repo.specs.Begun.{BeginsTxn}
-use Rattle.fsfs_faults.specs.declared.outside_fault.OutsideFault.TheVariants as outside
 use Rattle.fsfs_job_lines.specs.declared.job.CommitJob.{CommitJob}
 use Rattle.fsfs_job_lines.specs.declared.job.Job.TheVariants as jobs
 use Rattle.fsfs_jobs.specs.declared.answer.JobAnswer.TheVariants.{Stopped}
-use Rattle.fsfs_serial.specs.Jobs.{Fails, ByOutside, ByMemory, ByNames}
+use Rattle.fsfs_serial.specs.Jobs.{Fails, ByDisk, ByBench, ByStuck, ByMemory, ByNames}
 use Rattle.fsfs_job_run.specs.Faults.{fault_of_begin}
 use Rattle.fsfs_job_run.specs.Running.{Stays, HasOutsideCause, IfCounted, CommitsSo, StopsOver}
 use Rattle.fsfs_job_run.proofs.Staying.{IsCounted, seen_same, bare_leaves}
@@ -63,12 +62,12 @@ unbegun_stays v u m all after = record {
 module _ (base line : ℕ) (job : CommitJob) (v u : View) (told : v.pass.least ≡ last_of (revisions v.seen)) (there : base ≤ last_of (revisions v.seen)) (moved : Moved v u) (whole : (wrong : Wrong) → base < length u.seen → RootOf (bytes_of u.seen) base (Err wrong) → ⊥) where
   pub begin_fails : (why : BeginFault) → Cause base why u → Fails (jobs.Commit job) (Stopped line (fault_of_begin why))
   begin_fails (begin.NoRev asked youngest) c = let on : asked ≡ base = c.0 in let most : u.pass.least ≡ youngest = c.2 in absurd (omega (arith, on, c.1, most, moved.least, told, there))
-  begin_fails (begin.Stuck at) c = ByOutside (jobs.Commit job) line (outside.Stuck at)
+  begin_fails (begin.Stuck at) c = ByStuck (jobs.Commit job) line at
   begin_fails (begin.Small fault) c = absurd c
   begin_fails begin.NamesFull c = ByNames job line
   begin_fails (begin.Wrong wrong) c = absurd (whole wrong c.0 c.1)
-  begin_fails (begin.DiskFault at) c = ByOutside (jobs.Commit job) line (outside.Disk at)
-  begin_fails begin.BenchFault c = ByOutside (jobs.Commit job) line outside.Bench
+  begin_fails (begin.DiskFault at) c = ByDisk (jobs.Commit job) line at
+  begin_fails begin.BenchFault c = ByBench (jobs.Commit job) line
   begin_fails begin.Memory c = ByMemory (jobs.Commit job) line
 
   pub begin_outside : (rose : Type 0) (why : BeginFault) → Cause base why u → IfDisk why rose → HasOutsideCause rose u (Stopped line (fault_of_begin why))

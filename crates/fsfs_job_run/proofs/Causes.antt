@@ -1,5 +1,5 @@
 -- Answers that tell of a failed call of the disk, and why.
-use Rattle.std.proofs.Common.{◌≡◌, ◌<◌, ℕ, List, [], ◌∷◌, ◌++◌, refl, sym, subst}
+use Rattle.std.proofs.Common.{◌≡◌, ◌<◌, ℕ, List, [], ◌∷◌, ◌++◌, false, refl, sym, subst}
 use Rattle.std.specs.Prelude.{Result, Ok, Err, IfErr}
 use Rattle.fsfs_damage.specs.declared.wrong.Wrong.{Wrong}
 use Rattle.fsfs_damage.specs.declared.wrong.Wrong.TheVariants as wrongs
@@ -18,6 +18,7 @@ use Rattle.fsfs_jobs.specs.declared.answer.JobAnswer.{JobAnswer}
 use Rattle.fsfs_jobs.specs.declared.answer.JobAnswer.TheVariants as answers
 use Rattle.fsfs_job_edits.specs.Editing.{IfDisk as IfEditFails}
 use Rattle.fsfs_job_reads.specs.TextReads.{IfAnswerFails, IfDiskFails}
+use Rattle.fsfs_serial.specs.Jobs.{tells_doubt, TellNoDoubt}
 use Rattle.fsfs_job_run.specs.Faults.{fault_of_begin, fault_of_merge, answer_of_bar}
 use Rattle.fsfs_job_run.specs.Running.{IfAnyFails}
 
@@ -112,3 +113,28 @@ bar_fails P line (bars.Wrong wrong) = merge_fails P wrong
 bar_fails P line (bars.PastLimit limit) = tt
 bar_fails P line bars.Lacking = tt
 bar_fails P line bars.Memory = tt
+
+-- ---- nothing is in doubt where no call failed
+
+calm_fault : (P : Type 0) (line : ℕ) (fault : Fault) → (P → ⊥) → IfDiskFails fault P → tells_doubt (answers.Stopped line fault) ≡ false
+calm_fault P line (Words why) none failed = refl
+calm_fault P line (Request why) none failed = refl
+calm_fault P line (Repository why) none failed = refl
+calm_fault P line (Outside outside.Mount) none failed = refl
+calm_fault P line (Outside (outside.Disk at)) none failed = absurd (none failed)
+calm_fault P line (Outside outside.Read) none failed = refl
+calm_fault P line (Outside outside.Write) none failed = refl
+calm_fault P line (Outside outside.Bench) none failed = refl
+calm_fault P line (Outside (outside.Stuck at)) none failed = refl
+calm_fault P line Memory none failed = refl
+calm_fault P line (Limit why) none failed = refl
+
+calm : (P : Type 0) (answer : JobAnswer) → (P → ⊥) → IfAnswerFails answer P → tells_doubt answer ≡ false
+calm P (answers.Committed rev) none failed = refl
+calm P (answers.Read text) none failed = refl
+calm P (answers.Conflict head path) none failed = refl
+calm P (answers.Stopped line fault) none failed = calm_fault P line fault none failed
+
+pub calm_all : (P : Type 0) (told : List JobAnswer) → IfAnyFails told P → (P → ⊥) → TellNoDoubt told
+calm_all P [] failed none = tt
+calm_all P (answer ∷ told) failed none = (calm P answer none failed.0, calm_all P told failed.1 none)

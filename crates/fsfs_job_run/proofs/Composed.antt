@@ -31,15 +31,17 @@ use Rattle.fsfs_job_lines.specs.declared.job.CommitJob.{CommitJob}
 use Rattle.fsfs_job_lines.specs.declared.job.Job.TheVariants as jobs
 use Rattle.fsfs_faults.specs.declared.fault.Fault.{Fault}
 use Rattle.fsfs_faults.specs.declared.fault.Fault.TheVariants.{Words, Request, Repository, Outside, Memory, Limit}
+use Rattle.fsfs_faults.specs.declared.outside_fault.OutsideFault.{OutsideFault}
+use Rattle.fsfs_faults.specs.declared.outside_fault.OutsideFault.TheVariants as outside
 use Rattle.fsfs_jobs.specs.Edits.{StopsAt, TakesSteps}
 use Rattle.fsfs_jobs.specs.Serial.{base_of}
 use Rattle.fsfs_jobs.specs.declared.answer.JobAnswer.{JobAnswer}
 use Rattle.fsfs_jobs.specs.declared.answer.JobAnswer.TheVariants.{Stopped}
-use Rattle.fsfs_job_edits.specs.Editing.{Bars, IfRefused, IfDisk, IsCounted as HasCounts, AreEditing, IsEditedWhole, path_of}
+use Rattle.fsfs_job_edits.specs.Editing.{Bars, IfRefused, IfDisk, IfDiskIn, IsCounted as HasCounts, AreEditing, IsEditedWhole, path_of}
 use Rattle.fsfs_job_edits.specs.declared.edits.Stopped.{Stopped as Halted}
 use Rattle.fsfs_job_lines.specs.declared.job.Step.{Step}
 use Rattle.fsfs_base.specs.Counts.{Rose}
-use Rattle.fsfs_serial.specs.Jobs.{DoesJob, Fails, ByOutside, ByMemory}
+use Rattle.fsfs_serial.specs.Jobs.{DoesJob, Fails, ByDisk, ByBench, ByMemory}
 use Rattle.fsfs_job_run.specs.Running.{Stays, HasOutsideCause, DoesSo, CommitsSo, IfCounted, IsNoRequest, StopsOver}
 use Rattle.fsfs_job_run.specs.Ending.{EndsSo, IsEdited}
 use Rattle.fsfs_job_run.proofs.Staying.{IsCounted, bare_leaves}
@@ -92,11 +94,20 @@ pub told_so : (look : RevisionBytes) (trees : ℕ → TreeFunction) (top base : 
     → (path : Path) × (fault ≡ Request (Mergeinfo path))
 told_so look trees top base name t marks edit fault c = (path_of edit, c.fault_is)
 
+-- of the outside only the disk or a bench fails in an edit
+outside_so : (P : Type 0) (job : CommitJob) (line : ℕ) (why : OutsideFault) → IfDiskIn why P → Fails (jobs.Commit job) (Stopped line (Outside why))
+outside_so P job line outside.Mount failed = absurd failed
+outside_so P job line (outside.Disk at) failed = ByDisk (jobs.Commit job) line at
+outside_so P job line outside.Read failed = absurd failed
+outside_so P job line outside.Write failed = absurd failed
+outside_so P job line outside.Bench failed = ByBench (jobs.Commit job) line
+outside_so P job line (outside.Stuck at) failed = absurd failed
+
 -- by the flat model, for counts, or since the outside failed or memory was wanting
-pub refused_so : (moment base : ℕ) (name : TxnName) (job : CommitJob) (line : ℕ) (fault : Fault) (h : List Recorded) → base ≡ base_of job.base (last_of (revisions h)) → base ≤ last_of (revisions h)
+pub refused_so : (P : Type 0) (moment base : ℕ) (name : TxnName) (job : CommitJob) (line : ℕ) (fault : Fault) (h : List Recorded) → base ≡ base_of job.base (last_of (revisions h)) → base ≤ last_of (revisions h)
     → IfRefused fault (StopsAt (Bars (bytes_of h) (tree_of (revisions h)) (last_of (revisions h)) base name) (tree_of (revisions h)) (last_of (revisions h)) (tree_of (revisions h) base) [] job.steps line fault)
-    → DoesJob moment (revisions h) (jobs.Commit job) (Stopped line fault) (revisions h) ⊎ Fails (jobs.Commit job) (Stopped line fault)
-refused_so moment base name job line fault h on within = by fault
+    → IfDisk fault P → DoesJob moment (revisions h) (jobs.Commit job) (Stopped line fault) (revisions h) ⊎ Fails (jobs.Commit job) (Stopped line fault)
+refused_so P moment base name job line fault h on within = by fault
   where
     there : base_of job.base (last_of (revisions h)) ≤ last_of (revisions h)
     there = subst (λ (b : ℕ). b ≤ last_of (revisions h)) on within
@@ -107,13 +118,13 @@ refused_so moment base name job line fault h on within = by fault
         (subst (λ (b : ℕ). StopsAt (Bars (bytes_of h) (tree_of (revisions h)) (last_of (revisions h)) base name) (tree_of (revisions h)) (last_of (revisions h)) (tree_of (revisions h) b) [] job.steps line f) on s)
 
     by : (f : Fault) → IfRefused f (StopsAt (Bars (bytes_of h) (tree_of (revisions h)) (last_of (revisions h)) base name) (tree_of (revisions h)) (last_of (revisions h)) (tree_of (revisions h) base) [] job.steps line f)
-        → DoesJob moment (revisions h) (jobs.Commit job) (Stopped line f) (revisions h) ⊎ Fails (jobs.Commit job) (Stopped line f)
-    by (Words why) s = absurd s
-    by (Request why) s = stopped (Request why) s
-    by (Repository why) s = absurd s
-    by (Outside why) s = inr (ByOutside (jobs.Commit job) line why)
-    by Memory s = inr (ByMemory (jobs.Commit job) line)
-    by (Limit why) s = stopped (Limit why) s
+        → IfDisk f P → DoesJob moment (revisions h) (jobs.Commit job) (Stopped line f) (revisions h) ⊎ Fails (jobs.Commit job) (Stopped line f)
+    by (Words why) s failed = absurd s
+    by (Request why) s failed = stopped (Request why) s
+    by (Repository why) s failed = absurd s
+    by (Outside why) s failed = inr (outside_so P job line why failed)
+    by Memory s failed = inr (ByMemory (jobs.Commit job) line)
+    by (Limit why) s failed = stopped (Limit why) s
 
 -- and it is purged behind that
 pub refused_job : (knows : View → Type 0) (rose : Type 0) (moment : ℕ) (job : CommitJob) (line : ℕ) (fault : Fault) (v : View) → DoesJob moment (revisions v.seen) (jobs.Commit job) (Stopped line fault) (revisions v.seen) ⊎ Fails (jobs.Commit job) (Stopped line fault)
@@ -150,7 +161,7 @@ pub stopped_so : (knows : View → Type 0) (P Q : Type 0) (moment base : ℕ) (n
     → IfRefused fault (StopsAt (Bars (bytes_of v.seen) (tree_of (revisions v.seen)) (last_of (revisions v.seen)) base name) (tree_of (revisions v.seen)) (last_of (revisions v.seen)) (tree_of (revisions v.seen) base) [] job.steps line fault)
     → IfDisk fault P → StaysKnown knows v → CommitsSo knows Q moment job (Stopped line fault) v
 stopped_so knows P Q moment base name job line fault v f on within refused failed left = (
-  refused_job knows Q moment job line fault v (refused_so moment base name job line fault v.seen on within refused) (λ u same. edits_outside P Q line u fault f failed) left,
+  refused_job knows Q moment job line fault v (refused_so P moment base name job line fault v.seen on within refused failed) (λ u same. edits_outside P Q line u fault f failed) left,
   refused_counted base name job line fault v.seen on refused,
 )
 

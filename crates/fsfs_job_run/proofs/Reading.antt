@@ -12,14 +12,13 @@ use Rattle.fsfs_machine.specs.declared.machine.Recorded.{Recorded}
 use Rattle.fsfs_machine.specs.Machine.{revisions}
 use Rattle.fsfs_turn.specs.Views.{View}
 use Rattle.fsfs_places.specs.declared.place.DiskPlace.TheVariants as places
-use Rattle.fsfs_faults.specs.declared.outside_fault.OutsideFault.TheVariants as outside
 use Rattle.fsfs_job_lines.specs.declared.job.ReadJob.{ReadJob}
 use Rattle.fsfs_job_lines.specs.declared.job.Job.TheVariants as jobs
 use Rattle.fsfs_jobs.specs.Serial.{ReadsText, IsReadOf, read_kind, base_of}
 use Rattle.fsfs_jobs.specs.declared.answer.JobAnswer.{JobAnswer}
 use Rattle.fsfs_jobs.specs.declared.answer.JobAnswer.TheVariants as answers
 use Rattle.fsfs_job_reads.specs.TextReads.{ReadsSo, ByTree, DiskFails, Wants, IfAnswerFails}
-use Rattle.fsfs_serial.specs.Jobs.{IfAdded, DoesJob, Fails, ByOutside, ByMemory, RunsJob}
+use Rattle.fsfs_serial.specs.Jobs.{IfAdded, DoesJob, Fails, ByDisk, ByMemory, RunsJob}
 use Rattle.fsfs_job_run.specs.Running.{HasLooked, HasOutsideCause, DoesSo}
 use Rattle.fsfs_job_run.proofs.Staying.{IsBare, bare_leaves}
 
@@ -81,7 +80,7 @@ pub reads_does : (moment : ℕ) (job : ReadJob) (h : List Revision) (answer : Jo
     → ReadsSo job (base_of job.base (last_of h)) (found_at (tree_of h (base_of job.base (last_of h))) job.path) answer → DoesJob moment h (jobs.Read job) answer h ⊎ Fails (jobs.Read job) answer
 reads_does moment job h answer within (ByTree _ is) =
     inl ([], none_added (IsDateAt moment []) answer (found_bare job (base_of job.base (last_of h)) (found_at (tree_of h (base_of job.base (last_of h))) job.path) answer is), λ t less. (t, omega arith, ReadsText job answer within is))
-reads_does moment job h _ within DiskFails = inr (ByOutside (jobs.Read job) job.line (outside.Disk places.Read))
+reads_does moment job h _ within DiskFails = inr (ByDisk (jobs.Read job) job.line places.Read)
 reads_does moment job h _ within Wants = inr (ByMemory (jobs.Read job) job.line)
 
 -- the whole job, over what the pass has seen

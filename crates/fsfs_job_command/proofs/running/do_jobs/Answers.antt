@@ -1,7 +1,9 @@
-use Rattle.std.proofs.Common.{◌≡◌, ◌∙◌, sym, ap, subst}
+use Rattle.std.proofs.Common.{◌≡◌, ◌∙◌, sym, ap, subst, arith}
 use Rattle.std.specs.Prelude.{Result, Ok, IfOk}
 use Rattle.fsfs_turn.specs.Telling.{state_of}
 use Rattle.fsfs_turn.specs.OwnedLemmas.{known_still}
+use Rattle.fsfs_base.specs.Failures.{Rose}
+use Rattle.fsfs_job_run.proofs.Causes.{any_on}
 use Rattle.fsfs_job_command.proofs.RunLemmas.{ran_in}
 use Rattle.fsfs_job_command.proofs.running.do_jobs.Goals as goal
 
@@ -9,7 +11,7 @@ told_ok : {X E : Type 0} (r : Result X E) (x : X) (P : X → Type 0) → r ≡ O
 told_ok r x P e w = subst (λ z. IfOk z P) e w
 
 pub returns-in-Ok-clause-does : goal.returns-in-Ok-clause-does
-returns-in-Ok-clause-does g c = λ v known none opened.
+returns-in-Ok-clause-does g c = λ v known none opened few.
     let told = g.D.Disk.trace in
     let path = g.D.Disk.mount_path in
     let at = c.run_jobs-repo.result.0.turns in
@@ -17,6 +19,15 @@ returns-in-Ok-clause-does g c = λ v known none opened.
     let same = c.youngest-youngest.ensures.same in
     let a = state_of at.layout at.young at.stuck (told at.disk) (path at.disk) in
     let b = state_of then.layout then.young then.stuck (told then.disk) (path then.disk) in
-    ran_in at.layout at.young at.stuck (told at.disk) (told c.close-disk.result) c.args.micros c.args.jobs.now c.in-Ok.answers.items c.youngest-youngest.result v _ (ap told c.close-disk.ensures ∙ ap (λ s. s.trace) same) opened
+    ran_in at.layout at.young at.stuck (told at.disk) (told c.close-disk.result) c.args.micros c.args.jobs.now c.in-Ok.answers.items c.youngest-youngest.result v _ (ap told c.close-disk.ensures ∙ ap (λ s. s.trace) same) opened few
     (λ u k. c.youngest-youngest.ensures.all u (known_still a b u same k)) c.run_jobs-repo.ensures.crashes
     (told_ok c.run_jobs-repo.result.1 c.in-Ok.answers _ c.in-Ok.is (c.run_jobs-repo.ensures.does v known none))
+
+pub returns-in-Ok-clause-cause : goal.returns-in-Ok-clause-cause
+returns-in-Ok-clause-cause g c =
+    let count = g.D.Disk.faults in
+    let start = count c.args.repo.turns.disk in
+    let mid = count c.run_jobs-repo.result.0.turns.disk in
+    let now = count c.close-disk.result in
+    let back : now ≡ count c.youngest-youngest.new.self.turns.disk = ap count c.close-disk.ensures in
+    any_on (Rose start mid) (Rose start now) c.in-Ok.answers.items (λ r. omega (arith, r, c.youngest-youngest.ensures.faults, back)) (told_ok c.run_jobs-repo.result.1 c.in-Ok.answers _ c.in-Ok.is c.run_jobs-repo.ensures.cause)

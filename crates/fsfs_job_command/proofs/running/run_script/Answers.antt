@@ -1,8 +1,10 @@
-use Rattle.std.proofs.Common.{◌≡◌, ◌∙◌, ℕ, List, length, refl, sym, ap, subst, inr}
+use Rattle.std.proofs.Common.{◌≡◌, ◌∙◌, ℕ, List, length, refl, sym, ap, subst, inr, arith}
 use Rattle.std.specs.Prelude.{Option, Result, Ok, Err, IfOk, OnErr}
 use Rattle.fsfs_disk.specs.Trace.{FirmNames, FailsAt}
 use Rattle.fsfs_job_lines.specs.declared.job.Job.{Job}
+use Rattle.fsfs_base.specs.Failures.{Rose}
 use Rattle.fsfs_machine.specs.Machine.{revisions}
+use Rattle.fsfs_job_run.proofs.Causes.{any_on, calm_all}
 use Rattle.fsfs_job_command.specs.Runs.{NoRoom, Done, RanIn}
 use Rattle.fsfs_job_command.proofs.RunLemmas.{firm_fails, not_opened, not_read, ran_over}
 use Rattle.fsfs_job_command.proofs.running.run_script.Goals as goal
@@ -30,9 +32,12 @@ returns-in-Ok-done-clause-ran g c =
     let given : c.as_slice.result.now ≡ js = c.as_slice.ensures in
     let each : length answers ≡ length js = told_ok c.do_jobs-disk.result.1 c.in-Ok-done.done _ c.in-Ok-done.is c.do_jobs-disk.ensures.each ∙ ap (λ (l : List Job). length l) given in
     let over = ran_over _ c.args.micros js answers c.in-Ok-done.done.youngest (told c.args.disk) (told c.do_jobs-disk.result.0) c.in-Ok.ensures.known
-    (λ v known none opened. subst (λ l. RanIn c.args.micros v.since l answers c.in-Ok-done.done.youngest (revisions v.seen) (told c.do_jobs-disk.result.0)) given
-    (told_ok c.do_jobs-disk.result.1 c.in-Ok-done.done _ c.in-Ok-done.is (c.do_jobs-disk.ensures.does v known none opened))) in
-    Done js answers c.in-Ok-done.done.youngest c.tell.result c.in-Ok-read_script.ensures.read c.in-Ok-read_script.ensures.whole each over c.tell.ensures.printed
+    (λ v known none opened few. subst (λ l. RanIn c.args.micros v.since l answers c.in-Ok-done.done.youngest (revisions v.seen) (told c.do_jobs-disk.result.0)) given
+    (told_ok c.do_jobs-disk.result.1 c.in-Ok-done.done _ c.in-Ok-done.is (c.do_jobs-disk.ensures.does v known none opened few))) in
+    let count = g.D.Disk.faults in
+    let now = count c.do_jobs-disk.result.0 in
+    let failed = any_on (Rose (count c.in-Ok.field-0.repo.turns.disk) now) (Rose (count c.args.disk) now) answers (λ r. omega (arith, r, c.in-Ok.ensures.later)) (told_ok c.do_jobs-disk.result.1 c.in-Ok-done.done _ c.in-Ok-done.is c.do_jobs-disk.ensures.cause) in
+    Done js answers c.in-Ok-done.done.youngest c.tell.result c.in-Ok-read_script.ensures.read c.in-Ok-read_script.ensures.whole each failed (calm_all (Rose (count c.args.disk) now) answers failed) over c.tell.ensures.printed
 
 pub returns-clause-ran : goal.returns-clause-ran
 returns-clause-ran g c =
