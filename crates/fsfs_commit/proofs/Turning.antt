@@ -203,12 +203,12 @@ not_landed {Says = Says} refusal head v m u x less l r says = record {
   cause = subst (λ n. (n < 2147483647) × Says refusal n u.seen x) (sym (ap {A = View} (λ z. z.pass.least) r.is ∙ ap {A = View} (λ z. z.pass.least) l.is)) (less, says);
 }
 
-pub not_made : {E : Type 0} {Says : Refusals E} (refusal : E) (head : ℕ) (v m u : View) (x y : Txn) → head < 2147483647 → Looked head v m → ReadOnly m u → LandedOn head u.seen x y → ((n : ℕ) (h : List Recorded) (z : Txn) → Says refusal n h z) → Refused Says (fault.Refused refusal) v u x y
-not_made refusal head v m u x y less l r landed says = record {
+pub not_made : {E : Type 0} {Says : Refusals E} (refusal : E) (head : ℕ) (v m u : View) (x y : Txn) → head < 2147483647 → Looked head v m → ReadOnly m u → LandedOn head u.seen x y → Says refusal y.base u.seen y → Refused Says (fault.Refused refusal) v u x y
+not_made {Says = Says} refusal head v m u x y less l r landed says = record {
   moved = record { drifted = drifted_on v m u (by_look head v m l) (by_reads m u r); section = ap {A = View} (λ z. z.section) r.is ∙ ap {A = View} (λ z. z.section) l.is };
   landings = LandedMore x x y head u.seen (Unmoved x) (none_more u.seen u.seen refl) landed;
   doubtless = λ few. r.doubtless (looked_doubtless head v m l few);
-  cause = let e : u.pass.least ≡ head = ap {A = View} (λ z. z.pass.least) r.is ∙ ap {A = View} (λ z. z.pass.least) l.is in (omega (arith, e, less), says u.pass.least u.seen y);
+  cause = let e : u.pass.least ≡ head = ap {A = View} (λ z. z.pass.least) r.is ∙ ap {A = View} (λ z. z.pass.least) l.is in (omega (arith, e, less), subst (λ n. Says refusal n u.seen y) (landed.base ∙ sym e) says);
 }
 
 -- what a marshalling gives

@@ -8,6 +8,7 @@ ghost use Rattle.fsfs_machine.specs.declared.machine.Txn.{Txn};
 ghost use Rattle.fsfs_turn.specs.Views.{View, MayAdopt};
 ghost use Rattle.fsfs_commit.specs.Courses.{IsMade, Published};
 ghost use Rattle.fsfs_commit.specs.Works.{CanCommit};
+ghost use Rattle.fsfs_commit.specs.Found.{IfRefused};
 ghost use Rattle.fsfs_commit.specs.Replies.{IsReady, IsTurn, Committed, EndsShort, RoseIfDisk, Refused};
 
 use crate::draft::Draft;
@@ -58,6 +59,7 @@ fn prepare<R, T: Turns<R>, D: Draft<R, T>>(
         → IfOk result.1 (λ ready. (u : View) × (y : Txn) × T.knows result.0 u × D.means draft.new u.seen y × IsReady (D.holds draft.new) ready (D.properties draft.old) v u x y) }
     ensures err { (v : View) (x : Txn) → T.knows turns v → D.means draft.old v.seen x → CanCommit v x (D.properties draft.old)
         → IfErr result.1 (λ fault. (u : View) × (y : Txn) × T.knows result.0 u × D.means draft.new u.seen y × Refused D.refuses fault v u x y) }
+    ensures found { IfErr result.1 (IfRefused (D.finds draft.new)) }
     ensures same { D.properties draft.new ≡ D.properties draft.old }
     ensures mounted { T.mount_path result.0 ≡ T.mount_path turns }
     ensures later { T.faults turns ≤ T.faults result.0 }
@@ -105,6 +107,7 @@ fn add<R, T: Turns<R>, D: Draft<R, T>>(
         → IsMade v (D.properties draft) made.now.rev made.now.rev_file made.now.props_file made.now.properties.items made.now.current.items
         → IfErr result.1 (λ fault. (u : View) × T.knows turns.new u × EndsShort D.refuses fault v u) }
     ensures means { (h : List Recorded) (x : Txn) → D.means draft h x → D.means result.0 h x }
+    ensures found { IfErr result.1 (IfRefused (D.finds result.0)) }
     ensures same { D.properties result.0 ≡ D.properties draft }
     ensures mounted { T.mount_path turns.new ≡ T.mount_path turns.old }
     ensures later { T.faults turns.old ≤ T.faults turns.new }
@@ -136,6 +139,7 @@ fn take_turn<R, T: Turns<R>, D: Draft<R, T>>(
         → IfOk result.2 (λ done. (u : View) × (y : Txn) × T.knows result.0 u × D.means result.1 u.seen y × IsTurn done (D.properties draft) v u x y) }
     ensures err { (v : View) (x : Txn) → T.knows turns v → D.means draft v.seen x → CanCommit v x (D.properties draft) → v.section ≡ None
         → IfErr result.2 (λ fault. (u : View) × (y : Txn) × T.knows result.0 u × D.means result.1 u.seen y × Refused D.refuses fault v u x y) }
+    ensures found { IfErr result.2 (IfRefused (D.finds result.1)) }
     ensures same { D.properties result.1 ≡ D.properties draft }
     ensures mounted { T.mount_path result.0 ≡ T.mount_path turns }
     ensures later { T.faults turns ≤ T.faults result.0 }
@@ -174,6 +178,7 @@ fn take_last_turn<R, T: Turns<R>, D: Draft<R, T>>(
         → IfOk result.2 (λ rev. (u : View) × (y : Txn) × T.knows result.0 u × D.means result.1 u.seen y × Committed rev (D.properties draft) v u x y) }
     ensures err { (v : View) (x : Txn) → T.knows turns v → D.means draft v.seen x → CanCommit v x (D.properties draft) → v.section ≡ None
         → IfErr result.2 (λ fault. (u : View) × (y : Txn) × T.knows result.0 u × D.means result.1 u.seen y × Refused D.refuses fault v u x y) }
+    ensures found { IfErr result.2 (IfRefused (D.finds result.1)) }
     ensures mounted { T.mount_path result.0 ≡ T.mount_path turns }
     ensures later { T.faults turns ≤ T.faults result.0 }
     ensures cause { IfErr result.2 (RoseIfDisk D.is_disk_fault (Rose (T.faults turns) (T.faults result.0))) }
@@ -210,6 +215,7 @@ fn take_three_turns<R, T: Turns<R>, D: Draft<R, T>>(
         → IfOk result.2 (λ done. (u : View) × (y : Txn) × T.knows result.0 u × D.means result.1 u.seen y × IsTurn done (D.properties draft) v u x y) }
     ensures err { (v : View) (x : Txn) → T.knows turns v → D.means draft v.seen x → CanCommit v x (D.properties draft) → v.section ≡ None
         → IfErr result.2 (λ fault. (u : View) × (y : Txn) × T.knows result.0 u × D.means result.1 u.seen y × Refused D.refuses fault v u x y) }
+    ensures found { IfErr result.2 (IfRefused (D.finds result.1)) }
     ensures same { D.properties result.1 ≡ D.properties draft }
     ensures mounted { T.mount_path result.0 ≡ T.mount_path turns }
     ensures later { T.faults turns ≤ T.faults result.0 }
@@ -248,6 +254,8 @@ pub fn commit<R, T: Turns<R>, D: Draft<R, T>>(
         → IfOk result.2 (λ rev. (u : View) × (y : Txn) × T.knows result.0 u × D.means result.1 u.seen y × Committed rev (D.properties draft) v u x y) }
     ensures refused { (v : View) (x : Txn) → T.knows turns v → D.means draft v.seen x → CanCommit v x (D.properties draft) → v.section ≡ None
         → IfErr result.2 (λ fault. (u : View) × (y : Txn) × T.knows result.0 u × D.means result.1 u.seen y × Refused D.refuses fault v u x y) }
+    // A refusal says what it is of the draft that is given back, whatever is known.
+    ensures found { IfErr result.2 (IfRefused (D.finds result.1)) }
     ensures mounted { T.mount_path result.0 ≡ T.mount_path turns }
     ensures later { T.faults turns ≤ T.faults result.0 }
     ensures cause { IfErr result.2 (RoseIfDisk D.is_disk_fault (Rose (T.faults turns) (T.faults result.0))) }

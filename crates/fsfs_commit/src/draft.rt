@@ -40,6 +40,9 @@ pub trait Draft<R, T: Turns<R>> {
     /// What a refusal to land it on this revision says of the transaction, over these revisions.
     ghost refuses: { Self.Refusal → ℕ → List Recorded → Txn → Type 0 };
 
+    /// What a refusal says of what it holds then, whatever is known of the store.
+    ghost finds: { Self → Self.Refusal → Type 0 };
+
     /// It is for a failed call of the disk.
     ghost is_disk_fault: { Self.Refusal → Type 0 };
 
@@ -56,6 +59,7 @@ pub trait Draft<R, T: Turns<R>> {
             → OnOk result.1 ((u : View) × (y : Txn) × T.knows result.0 u × means self.new (take (head + 1) u.seen) y × ReadOnly v u × LandedOn head u.seen x y) }
         ensures err { (v : View) (x : Txn) → T.knows turns v → means self.old v.seen x → CanCommit v x (properties self.old) → x.base ≤ head → length v.seen ≤ head + 1 → head ≤ v.pass.least
             → IfErr result.1 (λ why. (u : View) × T.knows result.0 u × means self.new v.seen x × ReadOnly v u × refuses why head u.seen x) }
+        ensures found { IfErr result.1 (finds self.new) }
         ensures mounted { T.mount_path result.0 ≡ T.mount_path turns }
         ensures later { T.faults turns ≤ T.faults result.0 }
         ensures cause { IfErr result.1 (λ why. is_disk_fault why → Rose (T.faults turns) (T.faults result.0)) }
@@ -68,7 +72,10 @@ pub trait Draft<R, T: Turns<R>> {
             → IfOk result (λ made. (bytes : List ℕ) × holds self.new bytes × (next : Revision) × IsNext (revisions (take rev v.seen)) (entry_of number x (properties self.old)) next
             × BytesShow (take rev v.seen ++ record { revision = next; bytes = bytes } ∷ [])
             × (made.rev ≡ rev) × (rev ≡ length v.seen → IsMade v (properties self.old) rev made.rev_file made.props_file made.properties.items made.current.items)) }
-        ensures refused { IfErr result (λ why. (head : ℕ) (h : List Recorded) (x : Txn) → refuses why head h x) }
+        // A refusal is of the transaction on the revision before, on which it stands.
+        ensures refused { (turns : T) (v : View) (x : Txn) → T.knows turns v → means self.old (take rev v.seen) x → CanCommit v x (properties self.old) → x.base + 1 ≡ rev → rev ≤ length v.seen → BytesShow (take rev v.seen)
+            → IfErr result (λ why. refuses why x.base v.seen x) }
+        ensures found { IfErr result (finds self.new) }
         ensures no_disk { IfErr result (λ why. is_disk_fault why → ⊥) }
         ensures means { (h : List Recorded) (x : Txn) → means self.old h x → means self.new h x }
         ensures same { properties self.new ≡ properties self.old };
@@ -78,7 +85,9 @@ pub trait Draft<R, T: Turns<R>> {
     fn write(self) -> (Self, Result<(), Self::Refusal>)
         ensures written { OnOk result.1 (is_written result.0) }
         ensures held { (bytes : List ℕ) → holds self bytes → OnOk result.1 (holds result.0 bytes) }
-        ensures refused { IfErr result.1 (λ why. (head : ℕ) (h : List Recorded) (x : Txn) → refuses why head h x) }
+        // A refusal of bytes that were made is one of any transaction.
+        ensures refused { (bytes : List ℕ) → holds self bytes → IfErr result.1 (λ why. (head : ℕ) (h : List Recorded) (x : Txn) → refuses why head h x) }
+        ensures found { IfErr result.1 (finds result.0) }
         ensures no_disk { IfErr result.1 (λ why. is_disk_fault why → ⊥) }
         ensures means { (h : List Recorded) (x : Txn) → means self h x → means result.0 h x }
         ensures same { properties result.0 ≡ properties self };

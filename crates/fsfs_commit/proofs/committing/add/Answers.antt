@@ -11,7 +11,7 @@ publish-requires g c = on_ok c.write-draft.result.1 tt _ c.in-Ok.is c.write-draf
 pub returns-in-Err-clause-err : goal.returns-in-Err-clause-err
 returns-in-Err-clause-err g c = λ v txn next bytes known held may made.
     let o = c.give_lock.ensures.turned v known (record { inside = Begun; is = may.begun; quiet = refl }) in
-    (o.0, o.1, (o.2, if_err c.write-draft.result.1 c.in-Err.refusal _ c.in-Err.is c.write-draft.ensures.refused))
+    (o.0, o.1, (o.2, if_err c.write-draft.result.1 c.in-Err.refusal _ c.in-Err.is (c.write-draft.ensures.refused bytes held)))
 
 pub returns-in-Ok-publish-clause-ok : goal.returns-in-Ok-publish-clause-ok
 returns-in-Ok-publish-clause-ok g c = λ v txn next bytes known held may made.
@@ -31,3 +31,6 @@ returns-in-Err-publish-clause-err g c = λ v txn next bytes known held may made.
 
 pub returns-in-Err-clause-cause : goal.returns-in-Err-clause-cause
 returns-in-Err-clause-cause g c = λ fault. absurd (if_err c.write-draft.result.1 c.in-Err.refusal _ c.in-Err.is c.write-draft.ensures.no_disk fault)
+
+pub returns-in-Err-clause-found : goal.returns-in-Err-clause-found
+returns-in-Err-clause-found g c = if_err c.write-draft.result.1 c.in-Err.refusal _ c.in-Err.is c.write-draft.ensures.found
