@@ -1,6 +1,6 @@
 -- A merge over what a pass has seen.
 use Rattle.std.proofs.Common.{◌≡◌, ◌<◌, ◌≤◌, ◌+◌, ℕ, suc, zero, List, [], ◌∷◌, ◌++◌, length, refl, sym, ap, subst, ◌∙◌, arith, take, append-nil}
-use Rattle.std.specs.Prelude.{Option, Some, None, Result, Ok, Err}
+use Rattle.std.specs.Prelude.{Option, Some, None, Result, Ok, Err, is_some}
 use Rattle.std.specs.FinMap.{get}
 use Rattle.fsfs_base.specs.Paths.{Path}
 use Rattle.fsfs_base.specs.Counts.{Rose}
@@ -16,7 +16,7 @@ use Rattle.fsfs_land.specs.declared.land.Outcome.TheVariants as outcomes
 use Rattle.fsfs_own.specs.declared.error.EditError.TheVariants as edits
 use Rattle.fsfs_txn.specs.declared.txn_error.TxnError.{TxnError}
 use Rattle.fsfs_txn.specs.declared.txn_error.TxnError.TheVariants as txns
-use Rattle.fsfs_txn.specs.Spending.{IfStays, IsSpentAfter, HasDiskCause}
+use Rattle.fsfs_txn.specs.Spending.{IfStays, IsSpentAfter, HasDiskCause, HasBenchCause}
 use Rattle.fsfs_txn.specs.Standing.{Stands}
 use Rattle.fsfs_txn.specs.Merging.{IsMerging, MeetsMerging}
 use Rattle.fsfs_machine.specs.declared.machine.Recorded.{Recorded}
@@ -28,12 +28,17 @@ use Rattle.fsfs_machine.specs.Machine.{revisions, either}
 use Rattle.fsfs_turn.specs.Bytes.{bytes_of, AllShow}
 use Rattle.fsfs_turn.specs.Views.{View, Begins, ReadTurn}
 use Rattle.fsfs_turn.proofs.Longer.{tree_first}
+use Rattle.fsfs_changes.specs.declared.item.ChangeItem.{ChangeItem}
+use Rattle.fsfs_limits.specs.declared.limit.PathLimit.{PathLimit}
+use Rattle.fsfs_final_bytes.specs.Texts.{IsRefused, HasPathPast}
 use Rattle.fsfs_final_bytes.specs.declared.error.FinalError.{FinalError}
 use Rattle.fsfs_final_bytes.specs.declared.error.FinalError.TheVariants as finals
 use Rattle.fsfs_commit.specs.Courses.{End, More}
 use Rattle.fsfs_commit.specs.Works.{LandedOn, ReadOnly}
 use Rattle.fsfs_commit.proofs.Doubts.{read_doubtless}
 use Rattle.fsfs_draft.specs.Meaning.{IsTxnOf}
+use Rattle.fsfs_draft.specs.declared.refusal.CommitRefusal.{CommitRefusal}
+use Rattle.fsfs_draft.specs.Findings.{Finds}
 use Rattle.fsfs_draft.specs.Refusals.{of_txn, of_final, IsClashAt, IsDiskFault, Refuses}
 use Rattle.fsfs_draft.specs.SeenLemmas.{bytes_same, shown_trees}
 use Rattle.fsfs_draft.proofs.Landing.{first_part, part_long, part_last, landed, landed_means, landed_on}
@@ -109,20 +114,53 @@ module _ (v : View) (head : ℕ) (less : head < length v.seen) (name : TxnName) 
     pub has_failed : (error : TxnError) → result ≡ Err error → IfStays error (after ≡ settled)
     has_failed error e = subst (λ r. Says r) e (merging result meets)
 
--- no failure is a clash
-pub no_clash : (error : TxnError) (head : ℕ) (h : List Recorded) (x : Txn) → Refuses (of_txn error) head h x
-no_clash (txns.Spent first) head h x = tt
-no_clash (txns.Fault edits.OutOfMemory) head h x = tt
-no_clash (txns.Fault edits.DiskFault) head h x = tt
-no_clash (txns.Fault edits.BenchFault) head h x = tt
-no_clash (txns.Fault (edits.Wrong w)) head h x = tt
-no_clash (txns.Fault edits.Lacking) head h x = tt
+-- a failure that leaves the transaction is no clash, no damage, and no want of a part
+pub no_clash : (error : TxnError) (P : Type 0) (head : ℕ) (h : List Recorded) (x : Txn) → IfStays error P → Refuses (of_txn error) head h x
+no_clash (txns.Spent first) P head h x stays = tt
+no_clash (txns.Fault edits.OutOfMemory) P head h x stays = tt
+no_clash (txns.Fault edits.DiskFault) P head h x stays = tt
+no_clash (txns.Fault edits.BenchFault) P head h x stays = tt
+no_clash (txns.Fault (edits.Wrong w)) P head h x stays = absurd stays
+no_clash (txns.Fault edits.Lacking) P head h x stays = absurd stays
 
-pub no_clash_made : (error : FinalError) (head : ℕ) (h : List Recorded) (x : Txn) → Refuses (of_final error) head h x
-no_clash_made finals.OutOfMemory head h x = tt
-no_clash_made finals.SinkFault head h x = tt
-no_clash_made finals.Lacking head h x = tt
-no_clash_made (finals.PastLimit limit) head h x = tt
+-- what is made of a transaction on the youngest revision lacks nothing
+no_clash_made : (error : FinalError) (Past : PathLimit → Type 0) (head : ℕ) (h : List Recorded) (x : Txn) → IsRefused ⊥ Past error → Refuses (of_final error) head h x
+no_clash_made finals.OutOfMemory Past head h x refused = tt
+no_clash_made finals.SinkFault Past head h x refused = tt
+no_clash_made finals.Lacking Past head h x refused = absurd refused
+no_clash_made (finals.PastLimit limit) Past head h x refused = tt
+
+pub made_refuses : (error : FinalError) (why : CommitRefusal) (Past : PathLimit → Type 0) (head : ℕ) (h : List Recorded) (x : Txn) → why ≡ of_final error → IsRefused ⊥ Past error → Refuses why head h x
+made_refuses error why Past head h x same refused = subst (λ z. Refuses z head h x) (sym same) (no_clash_made error Past head h x refused)
+
+-- ---- what the transaction holds then
+
+pub some_failed : (before now : ℕ) → Rose before now → 0 < now
+some_failed before now rose = omega (arith, rose)
+
+error_found : {X : Type 0} (error : TxnError) (old new : Option Failed) (before now : ℕ) (f : Folder) → IsSpentAfter {T = X} old new (Err error) → HasBenchCause {T = X} before now (Err error) → Finds now new f (of_txn error)
+error_found (txns.Spent first) old new before now f spent cause = ap (λ o. is_some o) (spent.1 ∙ spent.0)
+error_found (txns.Fault edits.OutOfMemory) old new before now f spent cause = tt
+error_found (txns.Fault edits.DiskFault) old new before now f spent cause = tt
+error_found (txns.Fault edits.BenchFault) old new before now f spent cause = some_failed before now cause.failed
+error_found (txns.Fault (edits.Wrong w)) old new before now f spent cause = tt
+error_found (txns.Fault edits.Lacking) old new before now f spent cause = tt
+
+-- of a merge that failed
+pub merge_found : {X : Type 0} (error : TxnError) (r : Result X TxnError) (why : CommitRefusal) (old new : Option Failed) (before now : ℕ) (f : Folder) → r ≡ Err error → why ≡ of_txn error → IsSpentAfter old new r → HasBenchCause before now r → Finds now new f why
+merge_found error r why old new before now f is same spent cause =
+    subst (λ z. Finds now new f z) (sym same) (error_found error old new before now f (subst (λ z. IsSpentAfter old new z) is spent) (subst (λ z. HasBenchCause before now z) is cause))
+
+final_found : (error : FinalError) (faults : ℕ) (spent : Option Failed) (f : Folder) → IsRefused (Unit {0}) (HasPathPast f f.items) error → Finds faults spent f (of_final error)
+final_found finals.OutOfMemory faults spent f refused = tt
+final_found finals.SinkFault faults spent f refused = absurd refused
+final_found finals.Lacking faults spent f refused = tt
+final_found (finals.PastLimit limit) faults spent f refused = refused
+
+-- of a text that was not made
+pub made_found : (error : FinalError) (why : CommitRefusal) (faults : ℕ) (spent : Option Failed) (f g : Folder) (items : List ChangeItem) → why ≡ of_final error → g ≡ f → items ≡ f.items → IsRefused (Unit {0}) (HasPathPast g items) error → Finds faults spent f why
+made_found error why faults spent f g items same folder here refused =
+    subst (λ z. Finds faults spent f z) (sym same) (final_found error faults spent f (subst (λ l. IsRefused (Unit {0}) (HasPathPast f l) error) here (subst (λ z. IsRefused (Unit {0}) (HasPathPast z items) error) folder refused)))
 
 not_none : (o : Option Failed) (first : Failed) → o ≡ Some first → o ≡ None → ⊥
 not_none o first e none = let same : Some first ≡ None = sym e ∙ none in cc

@@ -39,16 +39,17 @@ pub record IsClashAt (path : Path) (head : ℕ) (h : List Recorded) (x : Txn) : 
   pub there : head < length h
   pub first : IsFirstClash x.base (tree_of (revisions h) x.base) (tree_of (revisions h) head) (get x.tree) x.marks path
 
--- what a refusal to land the transaction on this revision says: a clash is one with it
+-- what a refusal to land the transaction on this revision, or to write it behind that, says: a clash is one with it. Damage is never told,
+-- nor that the transaction isn't whole: what is known of the store says that it stands.
 abbrev pub Refuses : CommitRefusal → ℕ → List Recorded → Txn → Type 0
 Refuses (refusals.Clash rev path) head h x = (rev ≡ head) × IsClashAt path head h x
 Refuses refusals.Spent head h x = Unit {0}
 Refuses refusals.Memory head h x = Unit {0}
 Refuses refusals.DiskFault head h x = Unit {0}
 Refuses refusals.BenchFault head h x = Unit {0}
-Refuses (refusals.Wrong wrong) head h x = Unit {0}
+Refuses (refusals.Wrong wrong) head h x = ⊥
 Refuses (refusals.PastLimit limit) head h x = Unit {0}
-Refuses refusals.Lacking head h x = Unit {0}
+Refuses refusals.Lacking head h x = ⊥
 
 -- it is for a failed call of the disk, by which a merge read
 abbrev pub IsDiskFault : CommitRefusal → Type 0

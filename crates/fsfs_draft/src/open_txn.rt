@@ -7,6 +7,7 @@ ghost use Rattle.fsfs_machine.specs.declared.machine.Txn.{Txn as SpecTxn};
 ghost use Rattle.fsfs_turn.specs.Views.{View};
 ghost use Rattle.fsfs_commit.specs.Works.{LandedOn, ReadOnly};
 ghost use Rattle.fsfs_draft.specs.Meaning.{IsTxnOf, Means, IsYoungestOf, IsTextBehind, HoldsBehind};
+ghost use Rattle.fsfs_draft.specs.Findings.{Finds, FindsEnded};
 ghost use Rattle.fsfs_draft.specs.Refusals.{IsDiskFault, Refuses};
 
 use crate::ended_txn::{EndedTxn, end_file};
@@ -46,6 +47,7 @@ impl<B: Bench> OpenTxn<B> {
             → self.old.txn.base < head → head < length v.seen
             → IfErr result.1 (λ why. T.knows result.0 v × Refuses why head v.seen x × (Means self.old.txn.spent h (⟦<HeldNodes<B> as Own>⟧.txn self.old.txn.own) self.old.txn.base (⟦<HeldNodes<B> as Own>⟧.settled self.old.txn.own) x
             → Means self.new.txn.spent h (⟦<HeldNodes<B> as Own>⟧.txn self.new.txn.own) self.new.txn.base (⟦<HeldNodes<B> as Own>⟧.settled self.new.txn.own) x)) }
+        ensures found { IfErr result.1 (Finds (B.faults self.new.txn.own.bench) self.new.txn.spent (⟦<HeldNodes<B> as Own>⟧.settled self.new.txn.own)) }
         ensures mounted { T.mount_path result.0 ≡ T.mount_path turns }
         ensures later { T.faults turns ≤ T.faults result.0 }
         ensures cause { IfErr result.1 (λ why. IsDiskFault why → Rose (T.faults turns) (T.faults result.0)) }
@@ -79,6 +81,7 @@ impl<B: Bench> OpenTxn<B> {
             → IfErr result.1 (λ why. (u : View) × T.knows result.0 u
             × Means self.new.txn.spent v.seen (⟦<HeldNodes<B> as Own>⟧.txn self.new.txn.own) self.new.txn.base (⟦<HeldNodes<B> as Own>⟧.settled self.new.txn.own) x
             × ReadOnly v u × Refuses why head u.seen x) }
+        ensures found { IfErr result.1 (Finds (B.faults self.new.txn.own.bench) self.new.txn.spent (⟦<HeldNodes<B> as Own>⟧.settled self.new.txn.own)) }
         ensures mounted { T.mount_path result.0 ≡ T.mount_path turns }
         ensures later { T.faults turns ≤ T.faults result.0 }
         ensures cause { IfErr result.1 (λ why. IsDiskFault why → Rose (T.faults turns) (T.faults result.0)) }
@@ -104,7 +107,9 @@ impl<B: Bench> OpenTxn<B> {
             → IsYoungestOf h rev x
             → OnOk result (IsTxnOf h (⟦<HeldNodes<B> as Own>⟧.txn self.new.txn.own) self.new.txn.base (⟦<HeldNodes<B> as Own>⟧.settled self.new.txn.own) x
             × IsTextBehind h (⟦<HeldNodes<B> as Own>⟧.settled self.new.txn.own) x (option_map (λ t. t.items) self.new.text)) }
-        ensures refused { IfErr result (λ why. (head : ℕ) (h : List Recorded) (x : SpecTxn) → Refuses why head h x) }
+        ensures refused { (h : List Recorded) (x : SpecTxn) → ((bench : B) → IsSome (B.contents bench)) → Means self.old.txn.spent h (⟦<HeldNodes<B> as Own>⟧.txn self.old.txn.own) self.old.txn.base (⟦<HeldNodes<B> as Own>⟧.settled self.old.txn.own) x
+            → IsYoungestOf h rev x → IfErr result (λ why. (head : ℕ) (more : List Recorded) → Refuses why head more x) }
+        ensures found { IfErr result (Finds (B.faults self.new.txn.own.bench) self.new.txn.spent (⟦<HeldNodes<B> as Own>⟧.settled self.new.txn.own)) }
         ensures no_disk { IfErr result (λ why. IsDiskFault why → ⊥) }
         ensures means { (h : List Recorded) (x : SpecTxn) → Means self.old.txn.spent h (⟦<HeldNodes<B> as Own>⟧.txn self.old.txn.own) self.old.txn.base (⟦<HeldNodes<B> as Own>⟧.settled self.old.txn.own) x
             → Means self.new.txn.spent h (⟦<HeldNodes<B> as Own>⟧.txn self.new.txn.own) self.new.txn.base (⟦<HeldNodes<B> as Own>⟧.settled self.new.txn.own) x }
@@ -131,7 +136,9 @@ impl<B: Bench> OpenTxn<B> {
     pub(crate) fn write(self) -> (EndedTxn<B>, Result<(), CommitRefusal>)
         ensures held { (bytes : List ℕ) → HoldsBehind (B.contents self.txn.own.bench) (⟦<HeldNodes<B> as Own>⟧.settled self.txn.own).proto (option_map (λ t. t.items) self.text) bytes
             → OnOk result.1 (bytes ≡ bytes_on (B.contents result.0.bench) result.0.file) }
-        ensures refused { IfErr result.1 (λ why. (head : ℕ) (h : List Recorded) (x : SpecTxn) → Refuses why head h x) }
+        ensures refused { (bytes : List ℕ) → HoldsBehind (B.contents self.txn.own.bench) (⟦<HeldNodes<B> as Own>⟧.settled self.txn.own).proto (option_map (λ t. t.items) self.text) bytes
+            → IfErr result.1 (λ why. (head : ℕ) (h : List Recorded) (x : SpecTxn) → Refuses why head h x) }
+        ensures found { IfErr result.1 (FindsEnded (B.faults result.0.bench)) }
         ensures no_disk { IfErr result.1 (λ why. IsDiskFault why → ⊥) }
         ensures firm { OnOk result.1 (IsFirmFile (B.contents result.0.bench) (B.firm_to result.0.bench result.0.file) result.0.file) }
     {

@@ -1,7 +1,10 @@
 //! A transaction on its way to a revision.
 ghost use Rattle.std.specs.Prelude.{◌≡◌, ℕ, List, None, IsSome, option_map, OnOk, IfErr};
 ghost use Rattle.fsfs_disk.specs.Benches.{bytes_on, IsFirmFile};
+ghost use Rattle.fsfs_final_bytes.specs.Texts.{HasPathPast};
+ghost use Rattle.fsfs_limits.specs.declared.limit.PathLimit.{PathLimit};
 ghost use Rattle.fsfs_draft.specs.Meaning.{IsTxnOf, Means, IsYoungestOf, IsTextBehind, HoldsBehind, IfOpen, OfStage, left_of, IfTxn, bench_of};
+ghost use Rattle.fsfs_draft.specs.Findings.{Finds, FindsEnded};
 ghost use Rattle.fsfs_draft.specs.Refusals.{IsDiskFault, Refuses};
 ghost use Rattle.fsfs_machine.specs.declared.machine.Recorded.{Recorded};
 ghost use Rattle.fsfs_machine.specs.declared.machine.Txn.{Txn as SpecTxn};
@@ -80,6 +83,9 @@ impl<B: Bench> TxnDraft<B> {
         // The transaction means what the draft did.
         ensures means { (h : List Recorded) (x : SpecTxn) → IfOpen self.stage (λ o. Means o.txn.spent h (⟦<HeldNodes<B> as Own>⟧.txn o.txn.own) o.txn.base (⟦<HeldNodes<B> as Own>⟧.settled o.txn.own) x)
             → IfTxn result (λ txn. Means txn.spent h (⟦<HeldNodes<B> as Own>⟧.txn txn.own) txn.base (⟦<HeldNodes<B> as Own>⟧.settled txn.own) x) }
+        // A path past a limit that the draft has is one that the transaction has.
+        ensures past { (limit : PathLimit) → OfStage self.stage (λ o. HasPathPast (⟦<HeldNodes<B> as Own>⟧.settled o.txn.own) (⟦<HeldNodes<B> as Own>⟧.settled o.txn.own).items limit) (λ ended. ⊥)
+            → IfTxn result (λ txn. HasPathPast (⟦<HeldNodes<B> as Own>⟧.settled txn.own) (⟦<HeldNodes<B> as Own>⟧.settled txn.own).items limit) }
     {
         let TxnDraft {
             properties: _,
@@ -101,7 +107,9 @@ fn marshal_stage<B: Bench>(
     ensures made { (h : List Recorded) (x : SpecTxn) → ((bench : B) → IsSome (B.contents bench)) → IfOpen stage.old (λ o. Means o.txn.spent h (⟦<HeldNodes<B> as Own>⟧.txn o.txn.own) o.txn.base (⟦<HeldNodes<B> as Own>⟧.settled o.txn.own) x)
         → IsYoungestOf h rev x
         → OnOk result (OfStage stage.new (λ o. IsTxnOf h (⟦<HeldNodes<B> as Own>⟧.txn o.txn.own) o.txn.base (⟦<HeldNodes<B> as Own>⟧.settled o.txn.own) x × IsTextBehind h (⟦<HeldNodes<B> as Own>⟧.settled o.txn.own) x (option_map (λ t. t.items) o.text)) (λ ended. ⊥)) }
-    ensures refused { IfErr result (λ why. (head : ℕ) (h : List Recorded) (x : SpecTxn) → Refuses why head h x) }
+    ensures refused { (h : List Recorded) (x : SpecTxn) → ((bench : B) → IsSome (B.contents bench)) → IfOpen stage.old (λ o. Means o.txn.spent h (⟦<HeldNodes<B> as Own>⟧.txn o.txn.own) o.txn.base (⟦<HeldNodes<B> as Own>⟧.settled o.txn.own) x)
+        → IsYoungestOf h rev x → IfErr result (λ why. (head : ℕ) (more : List Recorded) → Refuses why head more x) }
+    ensures found { IfErr result (λ why. OfStage stage.new (λ o. Finds (B.faults o.txn.own.bench) o.txn.spent (⟦<HeldNodes<B> as Own>⟧.settled o.txn.own) why) (λ ended. FindsEnded (B.faults ended.bench) why)) }
     ensures no_disk { IfErr result (λ why. IsDiskFault why → ⊥) }
     ensures means { (h : List Recorded) (x : SpecTxn) → IfOpen stage.old (λ o. Means o.txn.spent h (⟦<HeldNodes<B> as Own>⟧.txn o.txn.own) o.txn.base (⟦<HeldNodes<B> as Own>⟧.settled o.txn.own) x)
         → IfOpen stage.new (λ o. Means o.txn.spent h (⟦<HeldNodes<B> as Own>⟧.txn o.txn.own) o.txn.base (⟦<HeldNodes<B> as Own>⟧.settled o.txn.own) x) }
@@ -117,7 +125,9 @@ fn written<B: Bench>(stage: Stage<B>) -> (Stage<B>, Result<(), CommitRefusal>)
     ensures held { (bytes : List ℕ) → OfStage stage (λ o. HoldsBehind (B.contents o.txn.own.bench) (⟦<HeldNodes<B> as Own>⟧.settled o.txn.own).proto (option_map (λ t. t.items) o.text) bytes) (λ ended. bytes ≡ bytes_on (B.contents ended.bench) ended.file)
         → OnOk result.1 (OfStage result.0 (λ o. HoldsBehind (B.contents o.txn.own.bench) (⟦<HeldNodes<B> as Own>⟧.settled o.txn.own).proto (option_map (λ t. t.items) o.text) bytes) (λ ended. bytes ≡ bytes_on (B.contents ended.bench) ended.file)) }
     ensures firm { OnOk result.1 (OfStage result.0 (λ o. ⊥) (λ ended. IsFirmFile (B.contents ended.bench) (B.firm_to ended.bench ended.file) ended.file)) }
-    ensures refused { IfErr result.1 (λ why. (head : ℕ) (h : List Recorded) (x : SpecTxn) → Refuses why head h x) }
+    ensures refused { (bytes : List ℕ) → OfStage stage (λ o. HoldsBehind (B.contents o.txn.own.bench) (⟦<HeldNodes<B> as Own>⟧.settled o.txn.own).proto (option_map (λ t. t.items) o.text) bytes) (λ ended. bytes ≡ bytes_on (B.contents ended.bench) ended.file)
+        → IfErr result.1 (λ why. (head : ℕ) (h : List Recorded) (x : SpecTxn) → Refuses why head h x) }
+    ensures found { IfErr result.1 (λ why. OfStage result.0 (λ o. Finds (B.faults o.txn.own.bench) o.txn.spent (⟦<HeldNodes<B> as Own>⟧.settled o.txn.own) why) (λ ended. FindsEnded (B.faults ended.bench) why)) }
     ensures no_disk { IfErr result.1 (λ why. IsDiskFault why → ⊥) }
     ensures ended { OfStage result.0 (λ o. ⊥) (λ ended. Unit {0}) }
 {
@@ -134,6 +144,7 @@ impl<R, T: LoneTurns<R>> Draft<R, T> for TxnDraft<T::Bench> {
     ghost use Rattle.fsfs_draft.specs.Meaning.{Means, HoldsBehind, IfOpen, OfStage};
     ghost use Rattle.fsfs_disk.specs.Benches.{bytes_on, IsFirmFile};
     ghost use Rattle.std.specs.Prelude.{◌≡◌, option_map};
+    ghost use Rattle.fsfs_draft.specs.Findings.{Finds, FindsEnded};
     ghost use Rattle.fsfs_draft.specs.Refusals.{IsDiskFault, Refuses};
     ghost use Rattle.fsfs_draft.specs.StayingLemmas.{open_grows};
 
@@ -148,6 +159,8 @@ impl<R, T: LoneTurns<R>> Draft<R, T> for TxnDraft<T::Bench> {
     ghost is_written = { λ d. OfStage d.stage (λ o. ⊥) (λ e. IsFirmFile (T.Bench.contents e.bench) (T.Bench.firm_to e.bench e.file) e.file) };
 
     ghost refuses = { Refuses };
+
+    ghost finds = { λ d why. OfStage d.stage (λ o. Finds (T.Bench.faults o.txn.own.bench) o.txn.spent (⟦<HeldNodes<T::Bench> as Own>⟧.settled o.txn.own) why) (λ e. FindsEnded (T.Bench.faults e.bench) why) };
 
     ghost is_disk_fault = { IsDiskFault };
 

@@ -8,3 +8,7 @@ returns-in-Open-clause-made g c = λ h x tells means youngest.
 pub returns-in-Open-clause-means : goal.returns-in-Open-clause-means
 returns-in-Open-clause-means g c = λ h x means.
     c.marshal.ensures.means h x (if_open c.args.stage.now c.in-Open.live (meaning g.B.Bench.contents h x) c.in-Open.is means)
+
+pub returns-in-Open-clause-refused : goal.returns-in-Open-clause-refused
+returns-in-Open-clause-refused g c = λ h x tells means youngest.
+    c.marshal.ensures.refused h x tells (if_open c.args.stage.now c.in-Open.live (meaning g.B.Bench.contents h x) c.in-Open.is means) youngest

@@ -4,7 +4,7 @@ use Rattle.fsfs_txn.specs.Merging.{IsLandedOn}
 use Rattle.fsfs_txn.specs.Spending.{IsSpentAfter}
 use Rattle.fsfs_draft.specs.Refusals.{IsDiskFault, Refuses}
 use Rattle.fsfs_draft.proofs.Landing.{landed}
-use Rattle.fsfs_draft.proofs.Merging.{is_landed, is_clash, has_failed, stays_after, no_clash, merge_rose}
+use Rattle.fsfs_draft.proofs.Merging.{is_landed, is_clash, has_failed, stays_after, no_clash, merge_found, merge_rose}
 use Rattle.fsfs_draft.proofs.Writing.{txn_as}
 use Rattle.fsfs_draft.proofs.open_txn.OpenTxn.land.Goals as goal
 
@@ -42,7 +42,7 @@ returns-in-Err-clause-err g c = λ v h x known none means low less.
     let still = g.met.T.LoneTurns.still c.args.turns c.turns_of-turns.result v (c.turns_of-turns.ensures.below ∙ c.merge-merged.ensures.kept.below ∙ c.over_turns-book.ensures.below) known in
     let base = (subst (λ r. IsLandedOn head c.args.self.now.txn.base c.merge-merged.new.self.base c.args.self.now.txn.moves c.merge-merged.new.self.moves r) e c.merge-merged.ensures.landed).0 in
     let after = subst (λ r. IsSpentAfter c.args.self.now.txn.spent c.merge-merged.new.self.spent r) e c.merge-merged.ensures.spent in
-    (still, subst (λ why. Refuses why head v.seen x) (sym c.not_landed.ensures) (no_clash error head v.seen x), λ was spent. txn_as h _ _ _ _ _ _ x c.merge-merged.ensures.name base (stays_after error _ _ _ after w spent) (was none))
+    (still, subst (λ why. Refuses why head v.seen x) (sym c.not_landed.ensures) (no_clash error _ head v.seen x w), λ was spent. txn_as h _ _ _ _ _ _ x c.merge-merged.ensures.name base (stays_after error _ _ _ after w spent) (was none))
 
 pub returns-in-Ok-Landed-clause-mounted : goal.returns-in-Ok-Landed-clause-mounted
 returns-in-Ok-Landed-clause-mounted g c = g.met.T.LoneTurns.same_path c.args.turns c.turns_of-turns.result (c.turns_of-turns.ensures.below ∙ c.merge-merged.ensures.kept.below ∙ c.over_turns-book.ensures.below)
@@ -60,3 +60,6 @@ pub returns-in-Err-clause-cause : goal.returns-in-Err-clause-cause
 returns-in-Err-clause-cause g c = λ fault.
     let rose = merge_rose c.in-Err.error c.merge-merged.result _ _ c.in-Err.is c.merge-merged.ensures.cause (subst IsDiskFault c.not_landed.ensures fault) in
     omega (arith, rose, c.over_turns-book.ensures.faults, c.turns_of-turns.ensures.faults)
+
+pub returns-in-Err-clause-found : goal.returns-in-Err-clause-found
+returns-in-Err-clause-found g c = merge_found c.in-Err.error c.merge-merged.result _ c.args.self.now.txn.spent c.merge-merged.new.self.spent _ _ _ c.in-Err.is c.not_landed.ensures c.merge-merged.ensures.spent c.merge-merged.ensures.bench

@@ -9,6 +9,7 @@ use Rattle.fsfs_held.specs.Views.{folder_of}
 use Rattle.fsfs_machine.specs.Machine.{revisions}
 use Rattle.fsfs_turn.specs.Bytes.{bytes_of}
 use Rattle.fsfs_draft.proofs.Coming.{handed, handed_as, final_as}
+use Rattle.fsfs_draft.proofs.Merging.{made_refuses, some_failed, made_found}
 use Rattle.fsfs_draft.proofs.Writing.{where_told, txn_as, means_as}
 use Rattle.fsfs_draft.proofs.open_txn.OpenTxn.marshal.Goals as goal
 
@@ -49,3 +50,36 @@ pub returns-in-Err-final_text-clause-means : goal.returns-in-Err-final_text-clau
 returns-in-Err-final_text-clause-means g c = λ h x means.
     means_as c.args.self.now.txn.spent c.proto_length.new.self.spent h _ _ _ _ _ _ x (ap (λ t. t.spent) c.proto_length.ensures.rest ∙ ap (λ t. t.spent) c.forget.ensures.rest) (c.proto_length.ensures.name ∙ c.forget.ensures.name)
     (ap (λ t. t.base) c.proto_length.ensures.rest ∙ ap (λ t. t.base) c.forget.ensures.rest) (c.proto_length.ensures.settled ∙ c.forget.ensures.settled) means
+
+pub returns-in-Err-final_text-clause-refused : goal.returns-in-Err-final_text-clause-refused
+returns-in-Err-final_text-clause-refused g c = λ h x tells means youngest head more.
+    let was = c.args.self.now.txn in
+    let contents = g.B.Bench.contents in
+    let look = bytes_of h in
+    let trees = tree_of (revisions h) in
+    let none = none_of was.spent (sym c.is_spent.ensures ∙ c.if-is_spent.false) in
+    let is = means none in
+    let name = ap (λ o. o.txn) c.own-own.ensures ∙ c.proto_length.ensures.name ∙ c.forget.ensures.name in
+    let folder = ap (λ o. folder_of (with_steps o.steps.list.items (files_of o.settled)) o.next o.items.items (contents o.bench) o.proto) c.own-own.ensures ∙ c.proto_length.ensures.folder ∙ c.forget.ensures.folder in
+    let settled = c.proto_length.ensures.settled ∙ c.forget.ensures.settled in
+    let items = c.items.ensures ∙ ap (λ o. (folder_of (files_of o.settled) o.settled_next o.items.items (contents o.bench) o.proto).items) c.own-own.ensures in
+    let start = where_told (contents c.forget.new.self.own.bench) _ (tells c.forget.new.self.own.bench) c.in-Ok.ensures.length ∙ ap (λ (f : Folder). length f.proto) c.forget.ensures.settled in
+    let given = handed h _ was.base _ x is youngest.shown (youngest.long ∙ sym youngest.next ∙ ap (λ n. n + 1) is.on) c.args.rev c.in-Ok.start c.items.result.now (sym youngest.next ∙ ap (λ n. n + 1) is.on) start (items ∙ ap (λ (f : Folder). f.items) settled) in
+    let over = handed_as look trees was.base _ _ _ _ (get x.tree) x.marks c.args.rev c.in-Ok.start c.items.result.now name folder given in
+    made_refuses c.in-Err-final_text.error _ _ head more x c.not_made.ensures (c.in-Err-final_text.ensures.whole look trees was.base (get x.tree) x.marks over)
+
+-- ---- what the transaction holds then
+
+pub returns-then-is_spent-clause-found : goal.returns-then-is_spent-clause-found
+returns-then-is_spent-clause-found g c = sym c.is_spent.ensures ∙ c.if-is_spent.true
+
+pub returns-in-Err-clause-found : goal.returns-in-Err-clause-found
+returns-in-Err-clause-found g c = some_failed _ _ c.in-Err.ensures.cause.failed
+
+pub returns-in-Err-final_text-clause-found : goal.returns-in-Err-final_text-clause-found
+returns-in-Err-final_text-clause-found g c =
+    let contents = g.B.Bench.contents in
+    let folder = ap (λ o. folder_of (with_steps o.steps.list.items (files_of o.settled)) o.next o.items.items (contents o.bench) o.proto) c.own-own.ensures ∙ c.proto_length.ensures.folder ∙ c.forget.ensures.folder in
+    let settled = c.proto_length.ensures.settled ∙ c.forget.ensures.settled in
+    let items = c.items.ensures ∙ ap (λ o. (folder_of (files_of o.settled) o.settled_next o.items.items (contents o.bench) o.proto).items) c.own-own.ensures in
+    made_found c.in-Err-final_text.error _ _ _ _ _ c.items.result.now c.not_made.ensures (folder ∙ sym settled) items c.in-Err-final_text.ensures.refused

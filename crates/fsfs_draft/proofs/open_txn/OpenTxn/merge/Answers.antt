@@ -61,3 +61,6 @@ returns-in-Ok-clause-err g c = λ v x known means le long told.
     let low : base < head = omega (arith, is.on, le, c.if-get.false, c.base-base.ensures, c.get.ensures.same, c.get-2.ensures.same) in
     let part = txn_stays v.seen (take (head + 1) s.0.seen) _ _ _ x is (begins_part (head + 1) v.seen s.0.seen s.4.grows long) in
     if_err_then c.land.result.1 _ _ (λ why w. (s.0, w.0, w.2 means, reads_once base 0 0 y.0 s.1 v s.0 s.4, w.1)) (c.land.ensures.err s.0 v.seen x s.2 none (λ spent. part) low less)
+
+pub returns-then-is_spent-clause-found : goal.returns-then-is_spent-clause-found
+returns-then-is_spent-clause-found g c = sym c.is_spent.ensures ∙ c.if-is_spent.true

@@ -4,7 +4,7 @@ use Rattle.fsfs_layout.specs.FileNames.{file_name}
 use Rattle.fsfs_layout.specs.declared.repository_file.RepositoryFile.TheVariants as file
 use Rattle.fsfs_commit.specs.Courses.{IsMade}
 use Rattle.fsfs_draft.proofs.Marshalled.{stage_marshalled}
-use Rattle.fsfs_draft.proofs.Writing.{on_ok}
+use Rattle.fsfs_draft.proofs.Writing.{on_ok, if_err}
 use Rattle.fsfs_draft.proofs.txn_draft.TxnDraftBenchDraft.marshal.Goals as goal
 
 pub returns-in-Ok-make_rest-clause-made : goal.returns-in-Ok-make_rest-clause-made
@@ -21,3 +21,11 @@ returns-in-Ok-make_rest-clause-made g c = λ turns v x number known layout_is me
       line = made.line;
       fits = omega (arith, made.line.fits, last);
     })
+
+pub returns-in-Err-clause-refused : goal.returns-in-Err-clause-refused
+returns-in-Err-clause-refused g c = λ turns v x known means can next_to long shown.
+    let rev = c.args.rev in
+    if_err c.marshal_stage.result c.in-Err.refusal _ c.in-Err.is (c.marshal_stage.ensures.refused (take rev v.seen) x (λ bench. g.met.T.Turns.benches_tell turns v bench known) means (record { next = next_to; long = length-take-le rev v.seen long; shown = shown })) x.base v.seen
+
+pub returns-in-Err-clause-found : goal.returns-in-Err-clause-found
+returns-in-Err-clause-found g c = if_err c.marshal_stage.result c.in-Err.refusal _ c.in-Err.is c.marshal_stage.ensures.found

@@ -1,0 +1,30 @@
+-- What a refusal says of what the transaction holds then, whatever is known of the store.
+use Rattle.std.specs.Prelude.{◌≡◌, ◌<◌, ℕ, true, Option, is_some}
+use Rattle.fsfs_base.specs.declared.failed.Failed.{Failed}
+use Rattle.fsfs_drafts.specs.Drafts.{Folder}
+use Rattle.fsfs_final_bytes.specs.Texts.{HasPathPast}
+use Rattle.fsfs_draft.specs.declared.refusal.CommitRefusal.{CommitRefusal}
+use Rattle.fsfs_draft.specs.declared.refusal.CommitRefusal.TheVariants as refusals
+
+-- a transaction that is used up is so by a failure of its bench, which is kept; one that is refused for its bench has one that failed; and
+-- one that is past a limit has a path past that very limit, of an item of its edits or of a node-revision that it holds
+abbrev pub Finds : ℕ → Option Failed → Folder → CommitRefusal → Type 0
+Finds faults spent settled (refusals.Clash rev path) = Unit {0}
+Finds faults spent settled refusals.Spent = is_some spent ≡ true
+Finds faults spent settled refusals.Memory = Unit {0}
+Finds faults spent settled refusals.DiskFault = Unit {0}
+Finds faults spent settled refusals.BenchFault = 0 < faults
+Finds faults spent settled (refusals.Wrong wrong) = Unit {0}
+Finds faults spent settled (refusals.PastLimit limit) = HasPathPast settled settled.items limit
+Finds faults spent settled refusals.Lacking = Unit {0}
+
+-- one that was written, or of which a part was, is past no limit
+abbrev pub FindsEnded : ℕ → CommitRefusal → Type 0
+FindsEnded faults (refusals.Clash rev path) = Unit {0}
+FindsEnded faults refusals.Spent = Unit {0}
+FindsEnded faults refusals.Memory = Unit {0}
+FindsEnded faults refusals.DiskFault = Unit {0}
+FindsEnded faults refusals.BenchFault = 0 < faults
+FindsEnded faults (refusals.Wrong wrong) = Unit {0}
+FindsEnded faults (refusals.PastLimit limit) = ⊥
+FindsEnded faults refusals.Lacking = Unit {0}
