@@ -2,12 +2,17 @@
 use Rattle.std.specs.Prelude.{◌≡◌, ◌<◌, ℕ, true, Option, is_some}
 use Rattle.fsfs_base.specs.declared.failed.Failed.{Failed}
 use Rattle.fsfs_drafts.specs.Drafts.{Folder}
+use Rattle.fsfs_limits.specs.declared.limit.PathLimit.{PathLimit}
 use Rattle.fsfs_final_bytes.specs.Texts.{HasPathPast}
 use Rattle.fsfs_draft.specs.declared.refusal.CommitRefusal.{CommitRefusal}
 use Rattle.fsfs_draft.specs.declared.refusal.CommitRefusal.TheVariants as refusals
 
+-- a path of an item of its edits, or of a node-revision that it holds, is past this limit
+abbrev pub HoldsPast : Folder → PathLimit → Type 0
+HoldsPast settled limit = HasPathPast settled settled.items limit
+
 -- a transaction that is used up is so by a failure of its bench, which is kept; one that is refused for its bench has one that failed; and
--- one that is past a limit has a path past that very limit, of an item of its edits or of a node-revision that it holds
+-- one that is past a limit holds a path past that very limit
 abbrev pub Finds : ℕ → Option Failed → Folder → CommitRefusal → Type 0
 Finds faults spent settled (refusals.Clash rev path) = Unit {0}
 Finds faults spent settled refusals.Spent = is_some spent ≡ true
@@ -15,7 +20,7 @@ Finds faults spent settled refusals.Memory = Unit {0}
 Finds faults spent settled refusals.DiskFault = Unit {0}
 Finds faults spent settled refusals.BenchFault = 0 < faults
 Finds faults spent settled (refusals.Wrong wrong) = Unit {0}
-Finds faults spent settled (refusals.PastLimit limit) = HasPathPast settled settled.items limit
+Finds faults spent settled (refusals.PastLimit limit) = HoldsPast settled limit
 Finds faults spent settled refusals.Lacking = Unit {0}
 
 -- one that was written, or of which a part was, is past no limit
@@ -28,3 +33,14 @@ FindsEnded faults refusals.BenchFault = 0 < faults
 FindsEnded faults (refusals.Wrong wrong) = Unit {0}
 FindsEnded faults (refusals.PastLimit limit) = ⊥
 FindsEnded faults refusals.Lacking = Unit {0}
+
+-- a fact of the limit, where it is for one
+abbrev pub IfLimit : CommitRefusal → (PathLimit → Type 0) → Type 0
+IfLimit (refusals.Clash rev path) P = Unit {0}
+IfLimit refusals.Spent P = Unit {0}
+IfLimit refusals.Memory P = Unit {0}
+IfLimit refusals.DiskFault P = Unit {0}
+IfLimit refusals.BenchFault P = Unit {0}
+IfLimit (refusals.Wrong wrong) P = Unit {0}
+IfLimit (refusals.PastLimit limit) P = P limit
+IfLimit refusals.Lacking P = Unit {0}

@@ -1,10 +1,9 @@
 //! A transaction on its way to a revision.
 ghost use Rattle.std.specs.Prelude.{◌≡◌, ℕ, List, None, IsSome, option_map, OnOk, IfErr};
 ghost use Rattle.fsfs_disk.specs.Benches.{bytes_on, IsFirmFile};
-ghost use Rattle.fsfs_final_bytes.specs.Texts.{HasPathPast};
 ghost use Rattle.fsfs_limits.specs.declared.limit.PathLimit.{PathLimit};
 ghost use Rattle.fsfs_draft.specs.Meaning.{IsTxnOf, Means, IsYoungestOf, IsTextBehind, HoldsBehind, IfOpen, OfStage, left_of, IfTxn, bench_of};
-ghost use Rattle.fsfs_draft.specs.Findings.{Finds, FindsEnded};
+ghost use Rattle.fsfs_draft.specs.Findings.{Finds, FindsEnded, HoldsPast};
 ghost use Rattle.fsfs_draft.specs.Refusals.{IsDiskFault, Refuses};
 ghost use Rattle.fsfs_machine.specs.declared.machine.Recorded.{Recorded};
 ghost use Rattle.fsfs_machine.specs.declared.machine.Txn.{Txn as SpecTxn};
@@ -84,8 +83,8 @@ impl<B: Bench> TxnDraft<B> {
         ensures means { (h : List Recorded) (x : SpecTxn) → IfOpen self.stage (λ o. Means o.txn.spent h (⟦<HeldNodes<B> as Own>⟧.txn o.txn.own) o.txn.base (⟦<HeldNodes<B> as Own>⟧.settled o.txn.own) x)
             → IfTxn result (λ txn. Means txn.spent h (⟦<HeldNodes<B> as Own>⟧.txn txn.own) txn.base (⟦<HeldNodes<B> as Own>⟧.settled txn.own) x) }
         // A path past a limit that the draft has is one that the transaction has.
-        ensures past { (limit : PathLimit) → OfStage self.stage (λ o. HasPathPast (⟦<HeldNodes<B> as Own>⟧.settled o.txn.own) (⟦<HeldNodes<B> as Own>⟧.settled o.txn.own).items limit) (λ ended. ⊥)
-            → IfTxn result (λ txn. HasPathPast (⟦<HeldNodes<B> as Own>⟧.settled txn.own) (⟦<HeldNodes<B> as Own>⟧.settled txn.own).items limit) }
+        ensures past { (limit : PathLimit) → OfStage self.stage (λ o. HoldsPast (⟦<HeldNodes<B> as Own>⟧.settled o.txn.own) limit) (λ ended. ⊥)
+            → IfTxn result (λ txn. HoldsPast (⟦<HeldNodes<B> as Own>⟧.settled txn.own) limit) }
     {
         let TxnDraft {
             properties: _,

@@ -92,9 +92,9 @@ refused_so refusals.Spent v u y less says = tt
 refused_so refusals.Memory v u y less says = tt
 refused_so refusals.DiskFault v u y less says = tt
 refused_so refusals.BenchFault v u y less says = tt
-refused_so (refusals.Wrong wrong) v u y less says = tt
+refused_so (refusals.Wrong wrong) v u y less says = says
 refused_so (refusals.PastLimit limit) v u y less says = tt
-refused_so refusals.Lacking v u y less says = tt
+refused_so refusals.Lacking v u y less says = says
 
 pub fated : (fault : CommitFault CommitRefusal) (v u : View) (y : Txn) → Cause Refuses fault v u y → Fated (of_fault fault) v u y
 fated faults.RevsFull v u y cause = cause

@@ -5,3 +5,4 @@ pub mod Crashes
 mod Dropped
 mod Listed
 mod Commits
+mod Limits

@@ -37,14 +37,15 @@ pub record IsBack {X : Type 0} (back : List Recorded → Txn → X → Type 0) (
   pub stands : back u.seen y txn
 
 -- why nothing was added: y clashes with the youngest revision that the pass was told of, which isn't the last that there may be, first at
--- this path; or else
+-- this path; or else. Of a store that is known to stand no damage is told, nor that the transaction isn't whole. Which path is past a limit
+-- the transaction that is handed back says (`IfPastLimit`).
 abbrev pub Bars : CommitBar → View → Txn → Type 0
 Bars (bars.Conflict path head) u y = (head ≡ u.pass.least) × (head < 2147483647) × IsClashAt path head u.seen y
 Bars bars.RevsFull u y = 2147483647 ≤ u.pass.least
 Bars (bars.Stuck at) u y = u.pass.stuck ≡ Some at
-Bars (bars.Wrong wrong) u y = Unit {0}
+Bars (bars.Wrong wrong) u y = ⊥
 Bars (bars.PastLimit limit) u y = Unit {0}
-Bars bars.Lacking u y = Unit {0}
+Bars bars.Lacking u y = ⊥
 Bars bars.Memory u y = Unit {0}
 
 -- A call of the section failed at this place, last of all, and the lock was given or left stuck there; or a read of the merge failed, which

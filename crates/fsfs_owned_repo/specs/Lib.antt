@@ -5,4 +5,5 @@ pub mod Purged
 pub mod Crashes
 pub mod Listings
 pub mod Commits
+pub mod Limits
 pub mod Fates

@@ -6,9 +6,11 @@ ghost use Rattle.fsfs_machine.specs.declared.machine.Txn.{Txn as MachineTxn};
 ghost use Rattle.fsfs_machine.specs.Kept.{IsIn};
 ghost use Rattle.fsfs_turn.specs.Views.{View};
 ghost use Rattle.fsfs_txns.specs.Txns.{pair_of, txn_label};
+ghost use Rattle.fsfs_draft.specs.Findings.{HoldsPast};
 ghost use Rattle.fsfs_draft.specs.Meaning.{IsTxnOf};
 ghost use Rattle.fsfs_owned_repo.specs.Commits.{IfFailed, IfPurged, Meets};
 ghost use Rattle.fsfs_owned_repo.specs.Crashes.{CrashesLeave};
+ghost use Rattle.fsfs_owned_repo.specs.Limits.{IfPastLimit};
 
 use crate::answers::{CommitAnswer, CommitBar};
 use crate::ending::end;
@@ -43,6 +45,8 @@ impl<D: Disk> Repo<D> {
         ensures meets { (v : View) (x : MachineTxn) → ⟦<Owned<D> as Turns<R>>⟧.knows self.turns v → v.section ≡ None → IsIn x.name v.given
             → IsTxnOf v.seen (⟦<HeldNodes<D::Bench> as Own>⟧.txn txn.own) txn.base (⟦<HeldNodes<D::Bench> as Own>⟧.settled txn.own) x
             → Meets (⟦<Owned<D> as Turns<R>>⟧.knows result.0.turns) (λ h y t. (t.spent ≡ None) × IsTxnOf h (⟦<HeldNodes<D::Bench> as Own>⟧.txn t.own) t.base (⟦<HeldNodes<D::Bench> as Own>⟧.settled t.own) y) micros properties v x result.1 }
+        // Where a limit is told, the transaction that is handed back has a path past it: of an item of its edits, or of a node-revision.
+        ensures past { IfPastLimit result.1 (λ limit t. HoldsPast (⟦<HeldNodes<D::Bench> as Own>⟧.settled t.own) limit) }
         // Where its files are gone, its label isn't kept any more.
         ensures unlisted { IfPurged result.1 (IfSome (⟦<Owned<D> as Turns<R>>⟧.labels result.0.turns) (λ ls. has_label (txn_label (pair_of (⟦<HeldNodes<D::Bench> as Own>⟧.txn txn.own))) ls ≡ false)) }
         // What is known then says what a crash leaves, at each moment of the call too.

@@ -7,12 +7,16 @@ ghost use Rattle.fsfs_machine.specs.declared.machine.Txn.{Txn as MachineTxn};
 ghost use Rattle.fsfs_machine.specs.Kept.{IsIn};
 ghost use Rattle.fsfs_turn.specs.Views.{View};
 ghost use Rattle.fsfs_txns.specs.Txns.{pair_of, txn_label};
+ghost use Rattle.fsfs_limits.specs.declared.limit.PathLimit.{PathLimit};
+ghost use Rattle.fsfs_commit.specs.Found.{IfRefused};
 ghost use Rattle.fsfs_commit.specs.Replies.{Committed, Moved, Refused, RoseIfDisk};
 ghost use Rattle.fsfs_commit.specs.Works.{BringsNoDoubt, Landings};
 ghost use Rattle.fsfs_draft.specs.Meaning.{IfTxn, IsTxnOf, Means};
 ghost use Rattle.fsfs_draft.specs.Refusals.{IsDiskFault, Refuses};
 ghost use Rattle.fsfs_owned_repo.specs.Commits.{Bars, Ends, IfFailed, IfPurged, IsDropped};
 ghost use Rattle.fsfs_owned_repo.specs.Fates.{Fated, IfStopped, UnlessDoubtful};
+ghost use Rattle.fsfs_draft.specs.Findings.{IfLimit, HoldsPast};
+ghost use Rattle.fsfs_owned_repo.specs.Limits.{IfBarLimit, IfFateLimit, IfPastLimit};
 
 use crate::answers::{CommitAnswer, CommitBar, Fate, fate_of};
 use fsfs_commit::CommitFault;
@@ -55,6 +59,8 @@ fn hand_back<R, D: Disk>(
     ensures mounted { D.mount_path turns.new.disk ≡ D.mount_path turns.old.disk }
     ensures later { ⟦<Owned<D> as Turns<R>>⟧.faults turns.old ≤ ⟦<Owned<D> as Turns<R>>⟧.faults turns.new }
     ensures cause { (n : ℕ) → IfFailed result (Rose n (⟦<Owned<D> as Turns<R>>⟧.faults turns.new)) }
+    ensures past { IfBarLimit bar (λ limit. IfTxn left (λ t. HoldsPast (⟦<HeldNodes<D::Bench> as Own>⟧.settled t.own) limit))
+        → IfPastLimit result (λ limit t. HoldsPast (⟦<HeldNodes<D::Bench> as Own>⟧.settled t.own) limit) }
     ensures label { IfPurged result (IfSome (⟦<Owned<D> as Turns<R>>⟧.labels turns.new) (λ ls. has_label (txn_label (pair_of name.now)) ls ≡ false)) }
 {
     let txn = match left {
@@ -86,6 +92,8 @@ fn fall<R, D: Disk>(
     ensures mounted { D.mount_path turns.new.disk ≡ D.mount_path turns.old.disk }
     ensures later { ⟦<Owned<D> as Turns<R>>⟧.faults turns.old ≤ ⟦<Owned<D> as Turns<R>>⟧.faults turns.new }
     ensures cause { (n : ℕ) → IfStopped fate (Rose n (⟦<Owned<D> as Turns<R>>⟧.faults turns.old)) → IfFailed result (Rose n (⟦<Owned<D> as Turns<R>>⟧.faults turns.new)) }
+    ensures past { IfFateLimit fate (λ limit. IfTxn left (λ t. HoldsPast (⟦<HeldNodes<D::Bench> as Own>⟧.settled t.own) limit))
+        → IfPastLimit result (λ limit t. HoldsPast (⟦<HeldNodes<D::Bench> as Own>⟧.settled t.own) limit) }
     ensures label { IfPurged result (IfSome (⟦<Owned<D> as Turns<R>>⟧.labels turns.new) (λ ls. has_label (txn_label (pair_of name.now)) ls ≡ false)) }
 {
     match fate {
@@ -117,6 +125,8 @@ pub(crate) fn end<R, D: Disk>(
     ensures mounted { D.mount_path turns.new.disk ≡ D.mount_path turns.old.disk }
     ensures later { ⟦<Owned<D> as Turns<R>>⟧.faults turns.old ≤ ⟦<Owned<D> as Turns<R>>⟧.faults turns.new }
     ensures cause { (n : ℕ) → n ≤ ⟦<Owned<D> as Turns<R>>⟧.faults turns.old → IfErr done (RoseIfDisk IsDiskFault (Rose n (⟦<Owned<D> as Turns<R>>⟧.faults turns.old))) → IfFailed result (Rose n (⟦<Owned<D> as Turns<R>>⟧.faults turns.new)) }
+    ensures past { IfErr done (IfRefused (λ why. IfLimit why (λ limit. IfTxn left (λ t. HoldsPast (⟦<HeldNodes<D::Bench> as Own>⟧.settled t.own) limit))))
+        → IfPastLimit result (λ limit t. HoldsPast (⟦<HeldNodes<D::Bench> as Own>⟧.settled t.own) limit) }
     ensures label { IfPurged result (IfSome (⟦<Owned<D> as Turns<R>>⟧.labels turns.new) (λ ls. has_label (txn_label (pair_of name.now)) ls ≡ false)) }
 {
     match done {

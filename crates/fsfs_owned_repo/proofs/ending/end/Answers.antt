@@ -4,6 +4,7 @@ use Rattle.fsfs_commit.proofs.Turning.{if_ok, if_err}
 use Rattle.fsfs_commit.specs.Works.{BringsNoDoubt}
 use Rattle.fsfs_owned_repo.specs.Fates.{Fated, IfStopped, UnlessDoubtful}
 use Rattle.fsfs_owned_repo.proofs.Commits.{dropped_as, given_still, fated, certain_so, stopped, rose_before}
+use Rattle.fsfs_owned_repo.proofs.Limits.{fate_past}
 use Rattle.fsfs_owned_repo.proofs.ending.end.Goals as goal
 
 pub returns-in-Ok-clause-ends : goal.returns-in-Ok-clause-ends
@@ -25,3 +26,6 @@ pub returns-in-Err-clause-cause : goal.returns-in-Err-clause-cause
 returns-in-Err-clause-cause g c = λ n low rose.
     let P = Rose n (g.D.Disk.faults c.args.turns.now.disk) in
     c.fall.ensures.cause n (subst (λ f. IfStopped f P) (sym c.fate_of.ensures) (stopped c.in-Err.fault P (if_err c.args.done c.in-Err.fault _ c.in-Err.is rose)))
+
+pub returns-in-Err-clause-past : goal.returns-in-Err-clause-past
+returns-in-Err-clause-past g c = λ past. c.fall.ensures.past (fate_past c.in-Err.fault c.fate_of.result _ c.fate_of.ensures (if_err c.args.done c.in-Err.fault _ c.in-Err.is past))

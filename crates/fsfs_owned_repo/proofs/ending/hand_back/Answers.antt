@@ -1,6 +1,7 @@
 use Rattle.std.proofs.Common.{sym, ◌∙◌}
 use Rattle.fsfs_commit.proofs.Turning.{landings_name}
 use Rattle.fsfs_owned_repo.proofs.Commits.{no_more, back_so, of_txn}
+use Rattle.fsfs_owned_repo.proofs.Limits.{bar_past}
 use Rattle.fsfs_owned_repo.proofs.ending.hand_back.Goals as goal
 
 pub returns-in-Bench-clause-ends : goal.returns-in-Bench-clause-ends
@@ -14,3 +15,6 @@ returns-then-is_spent-clause-ends g c = λ p v u x y known moved none given name
 pub returns-clause-ends : goal.returns-clause-ends
 returns-clause-ends g c = λ p v u x y known moved none given named landings bars brings means.
     (u, y, known, record { moved = moved; landings = landings; name = landings_name u.seen x y landings; doubtless = brings; stands = back_so _ u.seen _ _ _ y (sym c.is_spent.ensures ∙ c.if-is_spent.false) (of_txn c.args.left c.in-Txn.txn _ c.in-Txn.is means) }, bars)
+
+pub returns-clause-past : goal.returns-clause-past
+returns-clause-past g c = λ past. bar_past c.args.bar c.args.left c.in-Txn.txn _ c.in-Txn.is past

@@ -3,6 +3,7 @@ use Rattle.fsfs_fields.specs.declared.txn_name.TxnName.{TxnName}
 use Rattle.fsfs_commit.specs.Works.{CanCommit, Unmoved}
 use Rattle.fsfs_owned_repo.proofs.Crashes.{survives}
 use Rattle.fsfs_owned_repo.proofs.Commits.{can_commit, unmoved, meets_so, added_so, left_so}
+use Rattle.fsfs_owned_repo.proofs.Limits.{commit_found}
 use Rattle.fsfs_owned_repo.proofs.repo.Repo.commit.Goals as goal
 
 pub returns-in-Err-clause-meets : goal.returns-in-Err-clause-meets
@@ -25,3 +26,6 @@ returns-clause-meets g c = λ v x known none given is.
 
 pub returns-clause-crashes : goal.returns-clause-crashes
 returns-clause-crashes g c = λ u known. let turns = c.end-answer.new.turns in survives turns.layout turns.young turns.stuck (g.D.Disk.trace turns.disk) u known
+
+pub returns-clause-past : goal.returns-clause-past
+returns-clause-past g c = c.end-answer.ensures.past (commit_found c.commit-back.result.2 _ _ (λ limit past. c.into_left-left.ensures.past limit past) c.commit-back.ensures.found)
