@@ -16,6 +16,7 @@ use Rattle.fsfs_txn.specs.declared.txn.Txn.{Txn as LiveTxn}
 use Rattle.fsfs_owned_repo.specs.declared.answers.CommitBar.{CommitBar}
 use Rattle.fsfs_owned_repo.specs.declared.answers.CommitBar.TheVariants as bars
 use Rattle.fsfs_owned_repo.specs.declared.answers.Fate.{Fate}
+use Rattle.fsfs_owned_repo.specs.declared.answers.Fate.TheVariants as fates
 use Rattle.fsfs_owned_repo.specs.Fates.{of_fault, of_refusal}
 use Rattle.fsfs_owned_repo.specs.Limits.{IfBarLimit, IfFateLimit}
 
@@ -59,6 +60,9 @@ fault_fate (faults.DiskFault call) P past = tt
 -- of its fate
 pub fate_past : (fault : CommitFault CommitRefusal) (fate : Fate) (P : PathLimit → Type 0) → fate ≡ of_fault fault → IfRefused (λ why. IfLimit why P) fault → IfFateLimit fate P
 fate_past fault fate P same past = subst (λ f. IfFateLimit f P) (sym same) (fault_fate fault P past)
+
+pub barred_past : (fate : Fate) (bar : CommitBar) (P : PathLimit → Type 0) → fate ≡ fates.Barred bar → IfFateLimit fate P → IfBarLimit bar P
+barred_past fate bar P is past = subst (λ f. IfFateLimit f P) is past
 
 -- of the transaction that is handed back
 pub bar_past : {B : Type 0} {D : _} (bar : CommitBar) (left : Left B D) (txn : LiveTxn (HeldNodes B D)) (P : PathLimit → LiveTxn (HeldNodes B D) → Type 0) → left ≡ Kept txn → IfBarLimit bar (λ limit. IfTxn left (P limit)) → IfBarLimit bar (λ limit. P limit txn)

@@ -2,8 +2,8 @@ use Rattle.std.proofs.Common.{subst}
 use Rattle.fsfs_base.specs.Failures.{Rose}
 use Rattle.fsfs_commit.specs.Works.{BringsNoDoubt}
 use Rattle.fsfs_owned_repo.specs.Fates.{Fated, IfStopped, UnlessDoubtful}
-use Rattle.fsfs_owned_repo.specs.Limits.{IfFateLimit}
 use Rattle.fsfs_owned_repo.proofs.Commits.{no_more, rose_later}
+use Rattle.fsfs_owned_repo.proofs.Limits.{barred_past}
 use Rattle.fsfs_owned_repo.proofs.ending.fall.Goals as goal
 
 pub returns-in-Barred-clause-ends : goal.returns-in-Barred-clause-ends
@@ -23,4 +23,4 @@ returns-in-DiskFault-clause-cause g c = λ n rose.
     rose_later n _ _ c.drop_bench.ensures.later (subst (λ f. IfStopped f (Rose n (g.D.Disk.faults c.args.turns.now.disk))) c.in-DiskFault.is rose)
 
 pub returns-in-Barred-clause-past : goal.returns-in-Barred-clause-past
-returns-in-Barred-clause-past g c = λ past. c.hand_back.ensures.past (subst (λ f. IfFateLimit f _) c.in-Barred.is past)
+returns-in-Barred-clause-past g c = λ past. c.hand_back.ensures.past (barred_past c.args.fate c.in-Barred.bar _ c.in-Barred.is past)
