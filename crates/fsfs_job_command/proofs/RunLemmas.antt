@@ -30,7 +30,7 @@ use Rattle.fsfs_turn.specs.Whole.{NamesFrom}
 use Rattle.fsfs_owned_repo.specs.Crashes.{CrashesLeave}
 use Rattle.fsfs_job_lines.specs.declared.job.Job.{Job}
 use Rattle.fsfs_jobs.specs.declared.answer.JobAnswer.{JobAnswer}
-use Rattle.fsfs_serial.specs.Jobs.{DoesJob, Fails, ByDisk, ByBench, ByStuck, ByMemory, ByNames, ByBytes, ByCounts, AddsBy, RunsJob, RunJobs, End, More, own_of_all}
+use Rattle.fsfs_serial.specs.Jobs.{DoesJob, Fails, ByDisk, ByBench, ByStuck, ByMemory, ByNames, ByCounts, AddsBy, RunsJob, RunJobs, End, More, own_of_all}
 use Rattle.fsfs_serial.proofs.JobLemmas.{runs_serial, grow}
 use Rattle.fsfs_job_run.specs.Running.{DoAll, RunsPast}
 use Rattle.fsfs_job_run.proofs.Causes.{any_on}
@@ -43,7 +43,6 @@ stays _ _ h now (ByBench job line) same = same
 stays _ _ h now (ByStuck job line at) same = same
 stays _ _ h now (ByMemory job line) same = same
 stays _ _ h now (ByNames job line) same = same
-stays _ _ h now (ByBytes job line why) same = same
 stays _ _ h now (ByCounts job line path) same = same
 
 ends_job : (moment : ℕ) (job : Job) (answer : JobAnswer) (v u : View) → RunsJob moment job answer v u → EndsJob moment (revisions v.seen) job answer (revisions u.seen)

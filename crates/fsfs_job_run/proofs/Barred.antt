@@ -17,28 +17,13 @@ use Rattle.fsfs_owned_repo.specs.declared.answers.CommitBar.{CommitBar}
 use Rattle.fsfs_owned_repo.specs.declared.answers.CommitBar.TheVariants as bars
 use Rattle.fsfs_job_lines.specs.declared.job.CommitJob.{CommitJob}
 use Rattle.fsfs_job_lines.specs.declared.job.Job.TheVariants as jobs
-use Rattle.fsfs_faults.specs.declared.repository_fault.RepositoryFault.TheVariants as repositories
 use Rattle.fsfs_jobs.specs.declared.answer.JobAnswer.TheVariants.{Conflict, Stopped}
-use Rattle.fsfs_serial.specs.Jobs.{Fails, ByStuck, ByMemory, ByBytes}
+use Rattle.fsfs_serial.specs.Jobs.{Fails, ByStuck, ByMemory}
 use Rattle.fsfs_job_run.specs.Faults.{fault_of_merge, answer_of_bar}
 use Rattle.fsfs_job_run.specs.Running.{HasOutsideCause, IsNoRequest}
 use Rattle.fsfs_job_run.specs.Ending.{CommitsTxn, ByRevs}
 use Rattle.fsfs_job_run.proofs.Ended.{commits_clash}
 use Rattle.fsfs_job_run.proofs.Staying.{IsBare}
-
-wrong_fails : (job : CommitJob) (wrong : Wrong) → Fails (jobs.Commit job) (Stopped job.line (fault_of_merge wrong))
-wrong_fails job (wrongs.Refused (refusals.NoRev asked youngest)) = ByMemory (jobs.Commit job) job.line
-wrong_fails job (wrongs.Refused (refusals.Missing rev)) = ByBytes job job.line _
-wrong_fails job (wrongs.Refused (refusals.Small fault)) = ByBytes job job.line (repositories.Small fault)
-wrong_fails job (wrongs.Damaged damage) = ByBytes job job.line (repositories.Corrupt damage)
-wrong_fails job (wrongs.Delta at) = ByBytes job job.line (repositories.Delta at)
-
-wrong_inside : (rose : Type 0) (line : ℕ) (u : View) (wrong : Wrong) → HasOutsideCause rose u (Stopped line (fault_of_merge wrong))
-wrong_inside rose line u (wrongs.Refused (refusals.NoRev asked youngest)) = tt
-wrong_inside rose line u (wrongs.Refused (refusals.Missing rev)) = tt
-wrong_inside rose line u (wrongs.Refused (refusals.Small fault)) = tt
-wrong_inside rose line u (wrongs.Damaged damage) = tt
-wrong_inside rose line u (wrongs.Delta at) = tt
 
 wrong_none : (line : ℕ) (wrong : Wrong) → IsNoRequest (Stopped line (fault_of_merge wrong))
 wrong_none line (wrongs.Refused (refusals.NoRev asked youngest)) = tt
@@ -75,9 +60,9 @@ module _ (moment pass : ℕ) (job : CommitJob) (h : List Recorded) (u : View) (x
       inl (subst (λ (n : ℕ). CommitsTxn moment pass job (revisions h) x (Conflict n path) (revisions h)) (sym head_is) (commits_clash moment pass job h x y path hist over landings some at.later (omega (arith, b.1, head_is)) at.first))
   bar_done bars.RevsFull b = inl (ByRevs (let full : 2147483647 ≤ u.pass.least = b in omega (arith, full, told, some, revisions_length h)))
   bar_done (bars.Stuck at) b = inr (ByStuck (jobs.Commit job) job.line at)
-  bar_done (bars.Wrong wrong) b = inr (wrong_fails job wrong)
+  bar_done (bars.Wrong wrong) b = absurd b
   bar_done (bars.PastLimit limit) b = inr (ByMemory (jobs.Commit job) job.line)
-  bar_done bars.Lacking b = inr (ByMemory (jobs.Commit job) job.line)
+  bar_done bars.Lacking b = absurd b
   bar_done bars.Memory b = inr (ByMemory (jobs.Commit job) job.line)
 
 -- why the outside is told to have failed, behind the purge too
@@ -85,7 +70,7 @@ pub bar_outside : (rose : Type 0) (line : ℕ) (u m : View) (y : Txn) (bar : Com
 bar_outside rose line u m y (bars.Conflict path head) b same = tt
 bar_outside rose line u m y bars.RevsFull b same = tt
 bar_outside rose line u m y (bars.Stuck at) b same = same ∙ b
-bar_outside rose line u m y (bars.Wrong wrong) b same = wrong_inside rose line m wrong
+bar_outside rose line u m y (bars.Wrong wrong) b same = absurd b
 bar_outside rose line u m y (bars.PastLimit limit) b same = tt
-bar_outside rose line u m y bars.Lacking b same = tt
+bar_outside rose line u m y bars.Lacking b same = absurd b
 bar_outside rose line u m y bars.Memory b same = tt

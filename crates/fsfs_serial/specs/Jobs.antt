@@ -12,10 +12,9 @@ use Rattle.fsfs_commit.specs.Works.{BringsNoDoubt}
 use Rattle.fsfs_job_lines.specs.declared.job.CommitJob.{CommitJob}
 use Rattle.fsfs_job_lines.specs.declared.job.Job.{Job}
 use Rattle.fsfs_job_lines.specs.declared.job.Job.TheVariants as jobs
-use Rattle.fsfs_faults.specs.declared.fault.Fault.TheVariants.{Request, Repository, Outside, Memory, Limit}
+use Rattle.fsfs_faults.specs.declared.fault.Fault.TheVariants.{Request, Outside, Memory, Limit}
 use Rattle.fsfs_faults.specs.declared.limit_fault.LimitFault.TheVariants.{NamesFull}
 use Rattle.fsfs_faults.specs.declared.outside_fault.OutsideFault.TheVariants.{Disk, Bench, Stuck}
-use Rattle.fsfs_faults.specs.declared.repository_fault.RepositoryFault.{RepositoryFault}
 use Rattle.fsfs_faults.specs.declared.request_fault.RequestFault.TheVariants.{Mergeinfo}
 use Rattle.fsfs_jobs.specs.Serial.{Runs, last_name}
 use Rattle.fsfs_jobs.specs.declared.answer.JobAnswer.{JobAnswer}
@@ -34,15 +33,14 @@ abbrev pub DoesJob : ℕ → List Revision → Job → JobAnswer → List Revisi
 DoesJob moment h job answer now =
     (date : List ℕ) × IfAdded answer (IsDateAt moment date) × ((t : ℕ) → t < last_name → (named : ℕ) × (named ≤ t + 1) × Runs h date t job answer now named)
 
--- What that definition does not decide: a call of the disk or of a bench failed, the lock is stuck, or memory was wanting; and of a job that commits: no name was left, the bytes of
--- a revision were wrong that a merge read, or counts of mergeinfo would have to change.
+-- What that definition does not decide: a call of the disk or of a bench failed, the lock is stuck, or memory was wanting; and of a job that
+-- commits: no name was left, or counts of mergeinfo would have to change.
 pub data Fails : Job → JobAnswer → Type 0 where
   ByDisk : (job : Job) (line : ℕ) (at : DiskPlace) → Fails job (Stopped line (Outside (Disk at)))
   ByBench : (job : Job) (line : ℕ) → Fails job (Stopped line (Outside Bench))
   ByStuck : (job : Job) (line : ℕ) (at : DiskPlace) → Fails job (Stopped line (Outside (Stuck at)))
   ByMemory : (job : Job) (line : ℕ) → Fails job (Stopped line Memory)
   ByNames : (job : CommitJob) (line : ℕ) → Fails (jobs.Commit job) (Stopped line (Limit NamesFull))
-  ByBytes : (job : CommitJob) (line : ℕ) (why : RepositoryFault) → Fails (jobs.Commit job) (Stopped line (Repository why))
   ByCounts : (job : CommitJob) (line : ℕ) (path : Path) → Fails (jobs.Commit job) (Stopped line (Request (Mergeinfo path)))
 
 -- what was added, with the bytes beside it: the revision that the answer tells, or nothing
