@@ -172,42 +172,72 @@ longer h g b = let long : length g ≡ length h + length b.0 = ap length b.1 ∙
 -- what the pass knows after a turn
 module _ (layout : Layout) (young : ℕ) (stuck : Option DiskPlace) (old new : Option Trace) (goes : GoesOn old new) (v : View) (known : KnowsAlone layout young stuck old v) where
   -- one that added no revision, and by which no section came to be in doubt but by a fault that isn't harmless
-  then_known : (u : View) → Knows layout young stuck new u → length u.seen ≡ length v.seen → u.opened ≡ v.opened → u.pass.mine ≡ v.pass.mine → (are_harmless u.pass.faults ≡ true → are_harmless v.pass.faults ≡ true)
+  then_known : (u : View) → Knows layout young stuck new u → length u.seen ≡ length v.seen → u.opened ≡ v.opened → u.pass.mine ≡ v.pass.mine → u.pass.stuck ≡ v.pass.stuck → (are_harmless u.pass.faults ≡ true → are_harmless v.pass.faults ≡ true)
       → (are_harmless u.pass.faults ≡ true → is_doubtful_at v.section ≡ false → is_doubtful_at u.section ≡ false) → KnowsAlone layout young stuck new u
-  then_known u now seen opened mine faults sound =
+  then_known u now seen opened mine found faults sound =
       let own : length u.pass.mine ≡ length v.pass.mine = ap length mine in (
         now,
-        record { all = omega (arith, known.1.all, seen); own = omega (arith, known.1.own, seen, opened, own); free = λ few. known.1.free (faults few); sound = λ few. sound few (known.1.sound (faults few)) },
+        record { all = omega (arith, known.1.all, seen); own = omega (arith, known.1.own, seen, opened, own); free = λ few. known.1.free (faults few); sound = λ few. sound few (known.1.sound (faults few)); found = λ few. found ∙ known.1.found (faults few) },
         own_next layout young young stuck stuck old new v u goes known.0 known.2 now,
       )
 
   -- one that leaves what was seen, and the faults
-  leaves : (u : View) → Knows layout young stuck new u → u.seen ≡ v.seen → u.opened ≡ v.opened → u.pass.mine ≡ v.pass.mine → u.pass.faults ≡ v.pass.faults
+  leaves : (u : View) → Knows layout young stuck new u → u.seen ≡ v.seen → u.opened ≡ v.opened → u.pass.mine ≡ v.pass.mine → u.pass.stuck ≡ v.pass.stuck → u.pass.faults ≡ v.pass.faults
       → (is_doubtful_at v.section ≡ false → is_doubtful_at u.section ≡ false) → KnowsAlone layout young stuck new u
-  leaves u now seen opened mine faults sound = then_known u now (ap length seen) opened mine (λ few. sym (ap (λ l. are_harmless l) faults) ∙ few) (λ few s. sound s)
+  leaves u now seen opened mine found faults sound = then_known u now (ap length seen) opened mine found (λ few. sym (ap (λ l. are_harmless l) faults) ∙ few) (λ few s. sound s)
 
   -- one that tells the history as it is
-  learned : (place : DiskPlace) (went : Went) (u : View) → Knows layout young stuck new u → Begins u.seen v.seen → u.opened ≡ v.opened → u.pass.mine ≡ v.pass.mine → u.pass.faults ≡ either went v.pass.faults (v.pass.faults ++ place ∷ [])
+  learned : (place : DiskPlace) (went : Went) (u : View) → Knows layout young stuck new u → Begins u.seen v.seen → u.opened ≡ v.opened → u.pass.mine ≡ v.pass.mine → u.pass.stuck ≡ v.pass.stuck → u.pass.faults ≡ either went v.pass.faults (v.pass.faults ++ place ∷ [])
       → (are_harmless (either went v.pass.faults (v.pass.faults ++ place ∷ [])) ≡ true → is_doubtful_at v.section ≡ false → is_doubtful_at u.section ≡ false) → KnowsAlone layout young stuck new u
-  learned place went u now grows opened mine faults sound =
+  learned place went u now grows opened mine found faults sound =
       let same : are_harmless u.pass.faults ≡ are_harmless (either went v.pass.faults (v.pass.faults ++ place ∷ [])) = ap (λ l. are_harmless l) faults in
-      then_known u now (omega (arith, known.1.all, seen_bound layout young stuck new u now, longer v.seen u.seen grows)) opened mine
+      then_known u now (omega (arith, known.1.all, seen_bound layout young stuck new u now, longer v.seen u.seen grows)) opened mine found
       (λ few. harmless_before went v.pass.faults place (sym same ∙ few)) (λ few s. sound (sym same ∙ few) s)
 
   same_at : (u : View) → u.section ≡ v.section → is_doubtful_at v.section ≡ false → is_doubtful_at u.section ≡ false
   same_at u is s = ap (λ o. is_doubtful_at o) is ∙ s
 
   pub look_alone : (u : View) × Knows layout young stuck new u × Looked young v u → (u : View) × KnowsAlone layout young stuck new u × Looked young v u
-  look_alone w = (w.0, leaves w.0 w.1 (ap {A = View} (λ z. z.seen) w.2.is) (ap {A = View} (λ z. z.opened) w.2.is) (ap {A = View} (λ z. z.pass.mine) w.2.is) (ap {A = View} (λ z. z.pass.faults) w.2.is) (same_at w.0 (ap {A = View} (λ z. z.section) w.2.is)), w.2)
+  look_alone w = (w.0, leaves w.0 w.1 (ap {A = View} (λ z. z.seen) w.2.is) (ap {A = View} (λ z. z.opened) w.2.is) (ap {A = View} (λ z. z.pass.mine) w.2.is) (ap {A = View} (λ z. z.pass.stuck) w.2.is) (ap {A = View} (λ z. z.pass.faults) w.2.is) (same_at w.0 (ap {A = View} (λ z. z.section) w.2.is)), w.2)
 
   pub take_alone : (u : View) × Knows layout young stuck new u × LockTaken v u → (u : View) × KnowsAlone layout young stuck new u × LockTaken v u
-  take_alone w = (w.0, leaves w.0 w.1 (ap {A = View} (λ z. z.seen) w.2.is) (ap {A = View} (λ z. z.opened) w.2.is) (ap {A = View} (λ z. z.pass.mine) w.2.is) (ap {A = View} (λ z. z.pass.faults) w.2.is) (λ s. ap {A = View} (λ z. is_doubtful_at z.section) w.2.is), w.2)
+  take_alone w = (w.0, leaves w.0 w.1 (ap {A = View} (λ z. z.seen) w.2.is) (ap {A = View} (λ z. z.opened) w.2.is) (ap {A = View} (λ z. z.pass.mine) w.2.is) (ap {A = View} (λ z. z.pass.stuck) w.2.is) (ap {A = View} (λ z. z.pass.faults) w.2.is) (λ s. ap {A = View} (λ z. is_doubtful_at z.section) w.2.is), w.2)
 
-  pub stuck_alone : (place : DiskPlace) → (u : View) × Knows layout young stuck new u × FoundStuck place v u → (u : View) × KnowsAlone layout young stuck new u × FoundStuck place v u
-  stuck_alone place w = (w.0, leaves w.0 w.1 (ap {A = View} (λ z. z.seen) w.2.is) (ap {A = View} (λ z. z.opened) w.2.is) (ap {A = View} (λ z. z.pass.mine) w.2.is) (ap {A = View} (λ z. z.pass.faults) w.2.is) (same_at w.0 (ap {A = View} (λ z. z.section) w.2.is)), w.2)
+  -- it is found stuck only where a fault brought doubt
+  pub stuck_alone : (place : DiskPlace) → stuck ≡ Some place → (u : View) × Knows layout young stuck new u × FoundStuck place v u → (u : View) × KnowsAlone layout young stuck new u × FoundStuck place v u
+  stuck_alone place is w = (
+    w.0,
+    (
+      w.1,
+      record {
+        all = omega (arith, known.1.all, seen);
+        own = omega (arith, known.1.own, seen, opened, own);
+        free = λ few. known.1.free (sym faults ∙ few);
+        sound = λ few. ap {A = View} (λ z. is_doubtful_at z.section) w.2.is ∙ known.1.sound (sym faults ∙ few);
+        found = λ few. doubtless few;
+      },
+      own_next layout young young stuck stuck old new v w.0 goes known.0 known.2 w.1,
+    ),
+    w.2,
+  )
+    where
+      seen : length w.0.seen ≡ length v.seen
+      seen = ap {A = View} (λ z. length z.seen) w.2.is
+
+      opened : w.0.opened ≡ v.opened
+      opened = ap {A = View} (λ z. z.opened) w.2.is
+
+      own : length w.0.pass.mine ≡ length v.pass.mine
+      own = ap {A = View} (λ z. length z.pass.mine) w.2.is
+
+      faults : are_harmless w.0.pass.faults ≡ are_harmless v.pass.faults
+      faults = ap {A = View} (λ z. are_harmless z.pass.faults) w.2.is
+
+      doubtless : are_harmless w.0.pass.faults ≡ true → w.0.pass.stuck ≡ None
+      doubtless few = let both : None ≡ Some place = sym (known.1.free (sym faults ∙ few)) ∙ is in absurd cc
 
   pub give_alone : (step : Step) → (u : View) × Knows layout young stuck new u × LockGiven step v u → (u : View) × KnowsAlone layout young stuck new u × LockGiven step v u
-  give_alone step w = (w.0, leaves w.0 w.1 (ap {A = View} (λ z. z.seen) w.2.is) (ap {A = View} (λ z. z.opened) w.2.is) (ap {A = View} (λ z. z.pass.mine) w.2.is) (ap {A = View} (λ z. z.pass.faults) w.2.is) (λ s. ap {A = View} (λ z. is_doubtful_at z.section) w.2.is), w.2)
+  give_alone step w = (w.0, leaves w.0 w.1 (ap {A = View} (λ z. z.seen) w.2.is) (ap {A = View} (λ z. z.opened) w.2.is) (ap {A = View} (λ z. z.pass.mine) w.2.is) (ap {A = View} (λ z. z.pass.stuck) w.2.is) (ap {A = View} (λ z. z.pass.faults) w.2.is) (λ s. ap {A = View} (λ z. is_doubtful_at z.section) w.2.is), w.2)
 
   -- it is left stuck only where the section was in doubt
   pub stick_alone : (place : DiskPlace) (x : Coming) (step : Step) → v.section ≡ Some (Doubtful place x) → (u : View) × Knows layout young (Some place) new u × LockGiven step v u → (u : View) × KnowsAlone layout young (Some place) new u × LockGiven step v u
@@ -215,7 +245,7 @@ module _ (layout : Layout) (young : ℕ) (stuck : Option DiskPlace) (old new : O
     w.0,
     (
       w.1,
-      record { all = omega (arith, known.1.all, seen); own = omega (arith, known.1.own, seen, opened, own); free = λ few. doubtless few; sound = λ few. ap {A = View} (λ z. is_doubtful_at z.section) w.2.is },
+      record { all = omega (arith, known.1.all, seen); own = omega (arith, known.1.own, seen, opened, own); free = λ few. doubtless few; sound = λ few. ap {A = View} (λ z. is_doubtful_at z.section) w.2.is; found = λ few. found ∙ known.1.found (sym faults ∙ few) },
       own_next layout young young stuck (Some place) old new v w.0 goes known.0 known.2 w.1,
     ),
     w.2,
@@ -233,13 +263,16 @@ module _ (layout : Layout) (young : ℕ) (stuck : Option DiskPlace) (old new : O
       faults : are_harmless w.0.pass.faults ≡ are_harmless v.pass.faults
       faults = ap {A = View} (λ z. are_harmless z.pass.faults) w.2.is
 
+      found : w.0.pass.stuck ≡ v.pass.stuck
+      found = ap {A = View} (λ z. z.pass.stuck) w.2.is
+
       doubtless : are_harmless w.0.pass.faults ≡ true → Some place ≡ None
       doubtless few = let both : false ≡ true = sym (known.1.sound (sym faults ∙ few)) ∙ ap (λ o. is_doubtful_at o) at in absurd cc
 
   adopted_alone : (txn : Txn) (properties : List (List ℕ × List ℕ)) (next : Revision) (bytes : List ℕ) (went : Went) (u : View) → Knows layout young stuck new u → Adopted txn properties next bytes went v u → KnowsAlone layout young stuck new u
   adopted_alone txn properties next bytes went u now a =
       let same : are_harmless u.pass.faults ≡ are_harmless (either went v.pass.faults (v.pass.faults ++ Commit PutRev ∷ [])) = ap {A = View} (λ z. are_harmless z.pass.faults) a.is in
-      then_known u now (ap {A = View} (λ z. length z.seen) a.is) (ap {A = View} (λ z. z.opened) a.is) (ap {A = View} (λ z. z.pass.mine) a.is) (λ few. harmless_before went v.pass.faults (Commit PutRev) (sym same ∙ few))
+      then_known u now (ap {A = View} (λ z. length z.seen) a.is) (ap {A = View} (λ z. z.opened) a.is) (ap {A = View} (λ z. z.pass.mine) a.is) (ap {A = View} (λ z. z.pass.stuck) a.is) (λ few. harmless_before went v.pass.faults (Commit PutRev) (sym same ∙ few))
       (λ few s. ap {A = View} (λ z. is_doubtful_at z.section) a.is ∙ either_sound went (RevPut (coming_of v txn properties next bytes)) Over refl refl)
 
   pub adopt_alone : {X E : Type 0} (txn : Txn) (properties : List (List ℕ × List ℕ)) (next : Revision) (bytes : List ℕ) (result : Result X E)
@@ -253,7 +286,7 @@ module _ (layout : Layout) (young : ℕ) (stuck : Option DiskPlace) (old new : O
   pub reveal_alone : (rev : ℕ) (x : Coming) → rev ≡ length v.seen → (u : View) × Knows layout rev stuck new u × Revealed x v u → (u : View) × KnowsAlone layout rev stuck new u × Revealed x v u
   reveal_alone rev x rev_is w = (
     w.0,
-    (w.1, record { all = omega (arith, rev_is, long); own = omega (arith, known.1.own, long, opened, own); free = λ few. known.1.free (sym faults ∙ few); sound = λ few. ap {A = View} (λ z. is_doubtful_at z.section) w.2.is }, own_next layout young rev stuck stuck old new v w.0 goes known.0 known.2 w.1),
+    (w.1, record { all = omega (arith, rev_is, long); own = omega (arith, known.1.own, long, opened, own); free = λ few. known.1.free (sym faults ∙ few); sound = λ few. ap {A = View} (λ z. is_doubtful_at z.section) w.2.is; found = λ few. ap {A = View} (λ z. z.pass.stuck) w.2.is ∙ known.1.found (sym faults ∙ few) }, own_next layout young rev stuck stuck old new v w.0 goes known.0 known.2 w.1),
     w.2,
   )
     where
@@ -271,7 +304,7 @@ module _ (layout : Layout) (young : ℕ) (stuck : Option DiskPlace) (old new : O
 
   -- a call of its section
   called_alone : (place : DiskPlace) (change : real.NameChange) (went : Went) (u : View) → IsDue v place change → Knows layout young stuck new u → Called place went v u → KnowsAlone layout young stuck new u
-  called_alone place change went u due now c = learned place went u now c.grows (ap {A = View} (λ z. z.opened) c.is) (ap {A = View} (λ z. z.pass.mine) c.is) (ap {A = View} (λ z. z.pass.faults) c.is)
+  called_alone place change went u due now c = learned place went u now c.grows (ap {A = View} (λ z. z.opened) c.is) (ap {A = View} (λ z. z.pass.mine) c.is) (ap {A = View} (λ z. z.pass.stuck) c.is) (ap {A = View} (λ z. z.pass.faults) c.is)
       (λ few s. ap {A = View} (λ z. is_doubtful_at z.section) c.is ∙ called_sound went c.inside v.pass.faults place (λ doubtful. due_brings v place change due c.inside c.was doubtful) few)
 
   pub call_alone : {X E : Type 0} (place : DiskPlace) (change : real.NameChange) (result : Result X E) → IsDue v place change → (u : View) × (went : Went) × Knows layout young stuck new u × Answers result went × Called place went v u → (u : View) × (went : Went) × KnowsAlone layout young stuck new u × Answers result went × Called place went v u
@@ -283,21 +316,21 @@ module _ (layout : Layout) (young : ℕ) (stuck : Option DiskPlace) (old new : O
   -- with what is told beside it
   pub read_alone : {X E : Type 0} (r offset size : ℕ) (x : Recorded) (result : Result X E) (Read : Type 0) → (u : View) × (went : Went) × Knows layout young stuck new u × Answers result went × ReadTurn r offset size x went v u × Read
       → (u : View) × (went : Went) × KnowsAlone layout young stuck new u × Answers result went × ReadTurn r offset size x went v u × Read
-  read_alone r offset size x result Read w = (w.0, w.1, learned disk.Read w.1 w.0 w.2 w.4.grows (ap {A = View} (λ z. z.opened) w.4.is) (ap {A = View} (λ z. z.pass.mine) w.4.is) (ap {A = View} (λ z. z.pass.faults) w.4.is) (λ few. same_at w.0 (ap {A = View} (λ z. z.section) w.4.is)), w.3, w.4, w.5)
+  read_alone r offset size x result Read w = (w.0, w.1, learned disk.Read w.1 w.0 w.2 w.4.grows (ap {A = View} (λ z. z.opened) w.4.is) (ap {A = View} (λ z. z.pass.mine) w.4.is) (ap {A = View} (λ z. z.pass.stuck) w.4.is) (ap {A = View} (λ z. z.pass.faults) w.4.is) (λ few. same_at w.0 (ap {A = View} (λ z. z.section) w.4.is)), w.3, w.4, w.5)
 
   pub props_alone : {X E : Type 0} (r : ℕ) (x : Recorded) (result : Result X E) (Read : List ℕ → Type 0)
       → (u : View) × (went : Went) × (text : List ℕ) × Knows layout young stuck new u × Answers result went × PropsRead r x went v u × IsDump text x.revision.properties × Read text
       → (u : View) × (went : Went) × (text : List ℕ) × KnowsAlone layout young stuck new u × Answers result went × PropsRead r x went v u × IsDump text x.revision.properties × Read text
-  props_alone r x result Read w = (w.0, w.1, w.2, learned disk.Read w.1 w.0 w.3 w.5.grows (ap {A = View} (λ z. z.opened) w.5.is) (ap {A = View} (λ z. z.pass.mine) w.5.is) (ap {A = View} (λ z. z.pass.faults) w.5.is) (λ few. same_at w.0 (ap {A = View} (λ z. z.section) w.5.is)), w.4, w.5, w.6, w.7)
+  props_alone r x result Read w = (w.0, w.1, w.2, learned disk.Read w.1 w.0 w.3 w.5.grows (ap {A = View} (λ z. z.opened) w.5.is) (ap {A = View} (λ z. z.pass.mine) w.5.is) (ap {A = View} (λ z. z.pass.stuck) w.5.is) (ap {A = View} (λ z. z.pass.faults) w.5.is) (λ few. same_at w.0 (ap {A = View} (λ z. z.section) w.5.is)), w.4, w.5, w.6, w.7)
 
   pub floor_alone : {X E : Type 0} (result : Result X E) (Read : List ℕ → Type 0)
       → (u : View) × (went : Went) × (floor : ℕ) × (text : List ℕ) × Knows layout young stuck new u × Answers result went × FloorRead floor went v u × IsRevLine text floor × Read text
       → (u : View) × (went : Went) × (floor : ℕ) × (text : List ℕ) × KnowsAlone layout young stuck new u × Answers result went × FloorRead floor went v u × IsRevLine text floor × Read text
-  floor_alone result Read w = (w.0, w.1, w.2, w.3, learned disk.Read w.1 w.0 w.4 w.6.grows (ap {A = View} (λ z. z.opened) w.6.is) (ap {A = View} (λ z. z.pass.mine) w.6.is) (ap {A = View} (λ z. z.pass.faults) w.6.is) (λ few. same_at w.0 (ap {A = View} (λ z. z.section) w.6.is)), w.5, w.6, w.7, w.8)
+  floor_alone result Read w = (w.0, w.1, w.2, w.3, learned disk.Read w.1 w.0 w.4 w.6.grows (ap {A = View} (λ z. z.opened) w.6.is) (ap {A = View} (λ z. z.pass.mine) w.6.is) (ap {A = View} (λ z. z.pass.stuck) w.6.is) (ap {A = View} (λ z. z.pass.faults) w.6.is) (λ few. same_at w.0 (ap {A = View} (λ z. z.section) w.6.is)), w.5, w.6, w.7, w.8)
 
   -- what it knew
   pub same_alone : Knows layout young stuck new v → KnowsAlone layout young stuck new v
-  same_alone now = leaves v now refl refl refl refl (λ s. s)
+  same_alone now = leaves v now refl refl refl refl refl (λ s. s)
 
   pub counter_alone : {E : Type 0} (files : Option Files) (base : ℕ) (result : Result (Option ℕ) E) (before filled : List ℕ) → ReadsCounter (Knows layout young stuck new) files base result before filled v → ReadsCounter (KnowsAlone layout young stuck new) files base result before filled v
   counter_alone files base result before filled c = record {
@@ -313,17 +346,17 @@ module _ (layout : Layout) (young : ℕ) (stuck : Option DiskPlace) (old new : O
   }
     where
       counted : (went : Went) (u : View) → Knows layout young stuck new u → CounterRead base c.number went v u → KnowsAlone layout young stuck new u
-      counted went u now r = learned (Begin begin.Read) went u now r.grows (ap {A = View} (λ z. z.opened) r.is) (ap {A = View} (λ z. z.pass.mine) r.is) (ap {A = View} (λ z. z.pass.faults) r.is)
+      counted went u now r = learned (Begin begin.Read) went u now r.grows (ap {A = View} (λ z. z.opened) r.is) (ap {A = View} (λ z. z.pass.mine) r.is) (ap {A = View} (λ z. z.pass.stuck) r.is) (ap {A = View} (λ z. z.pass.faults) r.is)
           (λ few s. ap {A = View} (λ z. is_doubtful_at z.section) r.is ∙ either_sound went (CountRead (drawn_of base c.number)) Over refl refl)
 
   pub list_alone : (labels : Option (List Label)) (went : Went) → (ls : List Label) × (labels ≡ Some ls) × (u : View) × Knows layout young stuck new u × Listed ls went v u → (ls : List Label) × (labels ≡ Some ls) × (u : View) × KnowsAlone layout young stuck new u × Listed ls went v u
-  list_alone labels went w = (w.0, w.1, w.2, learned disk.List went w.2 w.3 w.4.grows (ap {A = View} (λ z. z.opened) w.4.is) (ap {A = View} (λ z. z.pass.mine) w.4.is) (ap {A = View} (λ z. z.pass.faults) w.4.is) (λ few. same_at w.2 (ap {A = View} (λ z. z.section) w.4.is)), w.4)
+  list_alone labels went w = (w.0, w.1, w.2, learned disk.List went w.2 w.3 w.4.grows (ap {A = View} (λ z. z.opened) w.4.is) (ap {A = View} (λ z. z.pass.mine) w.4.is) (ap {A = View} (λ z. z.pass.stuck) w.4.is) (ap {A = View} (λ z. z.pass.faults) w.4.is) (λ few. same_at w.2 (ap {A = View} (λ z. z.section) w.4.is)), w.4)
 
   pub make_alone : {X E : Type 0} (x : Drawn) (result : Result X E) → (u : View) × (went : Went) × Knows layout young stuck new u × Answers result went × BenchMade x went v u → (u : View) × (went : Went) × KnowsAlone layout young stuck new u × Answers result went × BenchMade x went v u
-  make_alone x result w = (w.0, w.1, learned disk.MakeBench w.1 w.0 w.2 w.4.grows (ap {A = View} (λ z. z.opened) w.4.is) (ap {A = View} (λ z. z.pass.mine) w.4.is) (ap {A = View} (λ z. z.pass.faults) w.4.is) (λ few. same_at w.0 (ap {A = View} (λ z. z.section) w.4.is)), w.3, w.4)
+  make_alone x result w = (w.0, w.1, learned disk.MakeBench w.1 w.0 w.2 w.4.grows (ap {A = View} (λ z. z.opened) w.4.is) (ap {A = View} (λ z. z.pass.mine) w.4.is) (ap {A = View} (λ z. z.pass.stuck) w.4.is) (ap {A = View} (λ z. z.pass.faults) w.4.is) (λ few. same_at w.0 (ap {A = View} (λ z. z.section) w.4.is)), w.3, w.4)
 
   pub purge_alone : {X E : Type 0} (txn : Txn) (result : Result X E) → (u : View) × (went : Went) × Knows layout young stuck new u × Answers result went × Purged txn went v u → (u : View) × (went : Went) × KnowsAlone layout young stuck new u × Answers result went × Purged txn went v u
-  purge_alone txn result w = (w.0, w.1, learned disk.Remove w.1 w.0 w.2 w.4.grows (ap {A = View} (λ z. z.opened) w.4.is) (ap {A = View} (λ z. z.pass.mine) w.4.is) (ap {A = View} (λ z. z.pass.faults) w.4.is) (λ few. same_at w.0 (ap {A = View} (λ z. z.section) w.4.is)), w.3, w.4)
+  purge_alone txn result w = (w.0, w.1, learned disk.Remove w.1 w.0 w.2 w.4.grows (ap {A = View} (λ z. z.opened) w.4.is) (ap {A = View} (λ z. z.pass.mine) w.4.is) (ap {A = View} (λ z. z.pass.stuck) w.4.is) (ap {A = View} (λ z. z.pass.faults) w.4.is) (λ few. same_at w.0 (ap {A = View} (λ z. z.section) w.4.is)), w.3, w.4)
 
   pub spent_alone : {X E : Type 0} (name : ℕ) (result : Result X E) → (u : View) × (went : Went) × Knows layout young stuck new u × Answers result went × SpentPurged name went v u → (u : View) × (went : Went) × KnowsAlone layout young stuck new u × Answers result went × SpentPurged name went v u
-  spent_alone name result w = (w.0, w.1, learned disk.Remove w.1 w.0 w.2 w.4.grows (ap {A = View} (λ z. z.opened) w.4.is) (ap {A = View} (λ z. z.pass.mine) w.4.is) (ap {A = View} (λ z. z.pass.faults) w.4.is) (λ few. same_at w.0 (ap {A = View} (λ z. z.section) w.4.is)), w.3, w.4)
+  spent_alone name result w = (w.0, w.1, learned disk.Remove w.1 w.0 w.2 w.4.grows (ap {A = View} (λ z. z.opened) w.4.is) (ap {A = View} (λ z. z.pass.mine) w.4.is) (ap {A = View} (λ z. z.pass.stuck) w.4.is) (ap {A = View} (λ z. z.pass.faults) w.4.is) (λ few. same_at w.0 (ap {A = View} (λ z. z.section) w.4.is)), w.3, w.4)

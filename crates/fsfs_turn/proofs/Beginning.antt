@@ -149,7 +149,7 @@ module _ (first : Files) (labels : List Label) (before : List Operation) (date :
 
   pub new_is_known : (v : View) × KnowsAlone new.layout 0 None (Some (record { first = first; labels = labels; operations = Done real.FirmNames ∷ before })) v × (v.section ≡ None) × (v.pass ≡ first_pass 1 0) × (v.seen ≡ new_revision date ∷ []) × (v.since ≡ length before + 1)
   unfolding view world
-  new_is_known = (view, ((world, store, sees, refl, refl, safe), record { all = refl; own = refl; free = λ harmless. refl; sound = λ harmless. refl }, own), refl, refl, refl, refl)
+  new_is_known = (view, ((world, store, sees, refl, refl, safe), record { all = refl; own = refl; free = λ harmless. refl; sound = λ harmless. refl; found = λ harmless. refl }, own), refl, refl, refl, refl)
 
 pub new_store_is_known : NewStoreIsKnown
 new_store_is_known first labels before date new = new_is_known first labels before date new

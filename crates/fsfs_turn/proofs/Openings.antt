@@ -337,7 +337,7 @@ module _ (first : Files) (labels : List Label) (before : List Operation) (h : Li
       stands = kept.stands
 
   pub is_known : (v : View) × KnowsAlone layout s.opened.youngest None (Some trace) v × (v.section ≡ None) × (v.pass ≡ first_pass (length h) s.opened.min_unpacked_rev) × (revisions v.seen ≡ h) × (v.since ≡ length before + 1)
-  is_known = (view, ((world, store, sees, refl, refl, safe), record { all = (let c = s.count in omega (arith, long, c)); own = omega arith; free = λ harmless. refl; sound = λ harmless. refl }, own_opened (files_after first before) h s), refl, ap (λ n. first_pass n s.opened.min_unpacked_rev) long, revisions_are, refl)
+  is_known = (view, ((world, store, sees, refl, refl, safe), record { all = (let c = s.count in omega (arith, long, c)); own = omega arith; free = λ harmless. refl; sound = λ harmless. refl; found = λ harmless. refl }, own_opened (files_after first before) h s), refl, ap (λ n. first_pass n s.opened.min_unpacked_rev) long, revisions_are, refl)
 
 pub store_is_known : StoreIsKnown
 store_is_known first labels before h s agreeing = is_known first labels before h s agreeing

@@ -45,6 +45,8 @@ pub record IsAlone (young : ℕ) (stuck : Option DiskPlace) (v : View) : Type 0 
   pub own : length v.seen ≡ v.opened + length v.pass.mine
   pub free : are_harmless v.pass.faults ≡ true → stuck ≡ None
   pub sound : are_harmless v.pass.faults ≡ true → is_doubtful_at v.section ≡ false
+  -- nor was it found so before
+  pub found : are_harmless v.pass.faults ≡ true → v.pass.stuck ≡ None
 
 -- what the one pass of a store knows; and the files that no turn touches are in their formats
 abbrev pub KnowsAlone : Layout → ℕ → Option DiskPlace → Option Trace → View → Type 0
