@@ -30,7 +30,7 @@ use Rattle.fsfs_turn.specs.Whole.{NamesFrom}
 use Rattle.fsfs_owned_repo.specs.Crashes.{CrashesLeave}
 use Rattle.fsfs_job_lines.specs.declared.job.Job.{Job}
 use Rattle.fsfs_jobs.specs.declared.answer.JobAnswer.{JobAnswer}
-use Rattle.fsfs_serial.specs.Jobs.{DoesJob, Fails, ByDisk, ByBench, ByStuck, ByMemory, ByNames, ByCounts, AddsBy, RunsJob, RunJobs, End, More, own_of_all}
+use Rattle.fsfs_serial.specs.Jobs.{DoesJob, Fails, ByDisk, ByBench, ByStuck, ByMemory, ByNames, ByCounts, AddsBy, RunsJob, RunJobs, End, More, StuckBehindDoubt, own_of_all}
 use Rattle.fsfs_serial.proofs.JobLemmas.{runs_serial, grow}
 use Rattle.fsfs_job_run.specs.Running.{DoAll, RunsPast}
 use Rattle.fsfs_job_run.proofs.Causes.{any_on}
@@ -97,9 +97,9 @@ stands_all : (layout : Layout) (told : Option Trace) (u : View) → u.section �
 stands_all layout None u none few leaves = tt
 stands_all layout (Some t) u none few leaves = record { now = leaves.doubtless none few (files_now t) (files_are_image t.first t.operations); images = leaves.doubtless none few }
 
-pub ran : (moment : ℕ) (js : List Job) (answers : List JobAnswer) (youngest : ℕ) (v u : View) (layout : Layout) (told : Option Trace) → v.opened ≡ length v.seen → are_harmless v.pass.faults ≡ true → u.section ≡ None → RunJobs moment js answers v u → length u.seen ≡ youngest + 1 → CrashesLeave layout told u
+pub ran : (moment : ℕ) (js : List Job) (answers : List JobAnswer) (youngest : ℕ) (v u : View) (layout : Layout) (told : Option Trace) → v.opened ≡ length v.seen → are_harmless v.pass.faults ≡ true → u.section ≡ None → StuckBehindDoubt answers → RunJobs moment js answers v u → length u.seen ≡ youngest + 1 → CrashesLeave layout told u
     → Ran moment v.since js answers youngest (revisions v.seen) told
-ran moment js answers youngest v u layout told opened few none runs last leaves =
+ran moment js answers youngest v u layout told opened few none stuck runs last leaves =
     let grown = grow moment js answers v u runs in
     record {
       now = revisions u.seen;
@@ -107,6 +107,7 @@ ran moment js answers youngest v u layout told opened few none runs last leaves 
       last = length-map u.seen (λ (x : Recorded). x.revision) ∙ last;
       held = subst (λ n. IfSome told (λ t. HoldsAll n t (revisions v.seen) (revisions u.seen))) grown.since
           (held_all (revisions v.seen) layout told u (grown.opened ∙ (opened ∙ sym (length-map v.seen (λ (x : Recorded). x.revision)))) leaves);
+      stuck = stuck;
       certain = λ calm. stands_all layout told u none (grown.doubtless calm few) leaves;
     }
 
@@ -133,8 +134,8 @@ firm_fails change old new done = inr (inr done)
 pub ran_in : (layout : Layout) (young : ℕ) (stuck : Option DiskPlace) (told new : Option Trace) (moment : ℕ) (js : List Job) (answers : List JobAnswer) (youngest : ℕ) (v : View) (start : OwnedState) → new ≡ told → v.opened ≡ length v.seen → are_harmless v.pass.faults ≡ true
     → ((u : View) → KnowsAlone layout young stuck told u → length u.seen ≡ youngest + 1) → ((u : View) → KnowsAlone layout young stuck told u → CrashesLeave layout told u)
     → DoAll (KnowsAlone layout young stuck told) moment js answers v ⊎ RunsPast start moment js answers v → RanIn moment v.since js answers youngest (revisions v.seen) new
-ran_in layout young stuck told new moment js answers youngest v start same opened few all leaves (inl (u, known, none, runs)) =
-    inl (subst (Ran moment v.since js answers youngest (revisions v.seen)) (sym same) (ran moment js answers youngest v u layout told opened few none runs (all u known) (leaves u known)))
+ran_in layout young stuck told new moment js answers youngest v start same opened few all leaves (inl (u, known, none, runs, stuck_so)) =
+    inl (subst (Ran moment v.since js answers youngest (revisions v.seen)) (sym same) (ran moment js answers youngest v u layout told opened few none (stuck_so few) runs (all u known) (leaves u known)))
 ran_in layout young stuck told new moment js answers youngest v start same opened few all leaves (inr past) = inr (stops_short start moment js answers v past)
 
 -- ---- a run, told of a count that rose as well

@@ -24,7 +24,7 @@ use Rattle.fsfs_faults.specs.declared.fault.Fault.TheVariants.{Outside, Memory}
 use Rattle.fsfs_faults.specs.declared.outside_fault.OutsideFault.TheVariants.{Write}
 use Rattle.fsfs_jobs.specs.Lines.{greatest_status, run_text}
 use Rattle.fsfs_jobs.specs.declared.answer.JobAnswer.{JobAnswer}
-use Rattle.fsfs_serial.specs.Jobs.{TellNoDoubt}
+use Rattle.fsfs_serial.specs.Jobs.{StuckBehindDoubt, TellNoDoubt}
 use Rattle.fsfs_job_run.specs.Running.{IfAnyFails}
 use Rattle.fsfs_job_command.specs.Histories.{DidScript, StopsShort}
 
@@ -66,6 +66,8 @@ pub record Ran (moment since : ℕ) (js : List Job) (answers : List JobAnswer) (
   pub did : DidScript moment js answers h now
   pub last : length now ≡ youngest + 1
   pub held : IfSome told (λ t. HoldsAll since t h now)
+  -- the lock is told to be stuck only behind a line that tells of a fault as `current` was renamed or made firm
+  pub stuck : StuckBehindDoubt answers
   -- nothing is in doubt where no line tells of a fault as `current` was renamed or made firm
   pub certain : TellNoDoubt answers → IfSome told (λ t. AllStandFor t now)
 

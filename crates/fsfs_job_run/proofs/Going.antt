@@ -1,7 +1,8 @@
 -- Jobs one after another, one more.
-use Rattle.std.proofs.Common.{◌≡◌, ◌⊎◌, ◌<◌, ◌≤◌, ◌+◌, ◌++◌, ◌∷◌, [], List, ℕ, zero, suc, inl, inr, refl, sym, ap, subst, ◌∙◌, take, length, append_assoc, arith}
+use Rattle.std.proofs.Common.{◌≡◌, ◌⊎◌, ◌<◌, ◌≤◌, ◌+◌, ◌++◌, ◌∷◌, [], List, ℕ, zero, suc, inl, inr, refl, sym, ap, subst, ◌∙◌, take, length, true, append_assoc, arith}
 use Rattle.std.proofs.lemmas.List.{take_more, take_all}
 use Rattle.std.specs.Prelude.{None, slice_index_or}
+use Rattle.fsfs_turn.specs.Alone.{are_harmless}
 use Rattle.fsfs_turn.specs.Views.{View}
 use Rattle.fsfs_turn.specs.Telling.{OwnedState, owned_view}
 use Rattle.fsfs_turn_begin.specs.Steps.{IsPastNumbers}
@@ -10,10 +11,11 @@ use Rattle.fsfs_job_lines.specs.declared.job.Job.{Job}
 use Rattle.fsfs_jobs.specs.declared.answer.JobAnswer.{JobAnswer}
 use Rattle.fsfs_serial.specs.Jobs.{RunJobs, End}
 use Rattle.fsfs_job_run.specs.Running.{DoesSo, DoAll, RunsPast}
-use Rattle.fsfs_serial.proofs.JobLemmas.{go_on}
+use Rattle.fsfs_serial.proofs.JobLemmas.{go_on, grow}
+use Rattle.fsfs_job_run.proofs.Stuck.{none_stuck, stuck_more, not_stuck}
 
 pub done_none : (knows : View → Type 0) (moment : ℕ) (answers : List JobAnswer) (v : View) → answers ≡ [] → knows v → v.section ≡ None → DoAll knows moment [] answers v
-done_none knows moment answers v none known out = (v, known, out, subst (λ (xs : List JobAnswer). RunJobs moment [] xs v v) (sym none) (End v))
+done_none knows moment answers v none known out = (v, known, out, subst (λ (xs : List JobAnswer). RunJobs moment [] xs v v) (sym none) (End v), λ few. none_stuck answers none)
 
 -- jobs one after another, all of them done; or at one of them the number was past those of the machine
 abbrev pub RunsOn : (View → Type 0) → OwnedState → ℕ → List Job → List JobAnswer → View → Type 0
@@ -38,9 +40,9 @@ past_on start moment js job answers answer v p = record {
 
 -- one job more, from this state
 pub runs_more : (state start : OwnedState) (after : View → Type 0) (rose : Type 0) (moment : ℕ) (jobs : List Job) (i : ℕ) (job : Job) → i < length jobs → job ≡ slice_index_or jobs i job → (take i jobs ≡ [] → state ≡ start)
-    → (answers : List JobAnswer) (answer : JobAnswer) (more : List JobAnswer) → more ≡ answers ++ answer ∷ [] → (v : View) → RunsOn (KnowsIn state) start moment (take i jobs) answers v
+    → (answers : List JobAnswer) (answer : JobAnswer) (more : List JobAnswer) → more ≡ answers ++ answer ∷ [] → (v : View) → ((u : View) → after u → are_harmless u.pass.faults ≡ true → u.pass.stuck ≡ None) → RunsOn (KnowsIn state) start moment (take i jobs) answers v
     → ((m : View) → KnowsIn state m → m.section ≡ None → DoesSo after rose moment job answer m ⊎ IsPastNumbers (owned_view state)) → RunsOn after start moment (take (i + 1) jobs) more v
-runs_more state start after rose moment jobs i job less is first answers answer more are v so_far does =
+runs_more state start after rose moment jobs i job less is first answers answer more are v found so_far does =
     subst (λ (js : List Job). RunsOn after start moment js more v) (sym jobs_are) (subst (λ (xs : List JobAnswer). RunsOn after start moment (take i jobs ++ job ∷ []) xs v) (sym are) (by so_far))
   where
     jobs_are : take (i + 1) jobs ≡ take i jobs ++ job ∷ []
@@ -50,7 +52,13 @@ runs_more state start after rose moment jobs i job less is first answers answer 
     one so = next (does so.0 so.1 so.2)
       where
         next : DoesSo after rose moment job answer so.0 ⊎ IsPastNumbers (owned_view state) → RunsOn after start moment (take i jobs ++ job ∷ []) (answers ++ answer ∷ []) v
-        next (inl d) = inl (d.0, d.1, d.2.leaves.outside, go_on moment (take i jobs) answers job answer v so.0 d.0 so.3 d.2)
+        next (inl d) = inl (
+          d.0,
+          d.1,
+          d.2.leaves.outside,
+          go_on moment (take i jobs) answers job answer v so.0 d.0 so.3 d.2,
+          λ few. stuck_more answers answer (so.4 few) (λ calm. not_stuck rose answer so.0 d.0 d.2.leaves d.3 (found d.0 d.1) ((grow moment (take i jobs) answers v so.0 so.3).doubtless calm few)),
+        )
         next (inr past) = inr (record {
           before = take i jobs;
           job = job;

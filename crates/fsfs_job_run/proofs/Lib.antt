@@ -13,6 +13,7 @@ pub mod Composed
 pub mod Barred
 pub mod Alone
 pub mod Counted
+pub mod Stuck
 pub mod Causes
 pub mod Answered
 pub mod Seen

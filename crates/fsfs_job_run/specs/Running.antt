@@ -1,11 +1,12 @@
 -- What a job does over a repository that runs.
-use Rattle.std.specs.Prelude.{◌≡◌, ◌<◌, ◌++◌, ◌∷◌, ℕ, List, [], None, Some}
+use Rattle.std.specs.Prelude.{◌≡◌, ◌<◌, ◌++◌, ◌∷◌, ℕ, List, [], true, None, Some}
 use Rattle.fsfs_fields.specs.declared.txn_name.TxnName.{TxnName}
 use Rattle.fsfs_tree.specs.Revisions.{tree_of}
 use Rattle.fsfs_tree.specs.Dated.{last_of}
 use Rattle.fsfs_machine.specs.declared.machine.Recorded.{Recorded}
 use Rattle.fsfs_machine.specs.Machine.{revisions}
 use Rattle.fsfs_turn.specs.Bytes.{bytes_of}
+use Rattle.fsfs_turn.specs.Alone.{are_harmless}
 use Rattle.fsfs_turn.specs.Views.{View}
 use Rattle.fsfs_turn.specs.Telling.{OwnedState, owned_view}
 use Rattle.fsfs_commit.specs.Works.{BringsNoDoubt}
@@ -26,7 +27,7 @@ use Rattle.fsfs_jobs.specs.declared.answer.JobAnswer.{JobAnswer}
 use Rattle.fsfs_jobs.specs.declared.answer.JobAnswer.TheVariants.{Stopped}
 use Rattle.fsfs_job_edits.specs.Editing.{Bars}
 use Rattle.fsfs_job_reads.specs.TextReads.{IfAnswerFails}
-use Rattle.fsfs_serial.specs.Jobs.{RunsJob, RunJobs}
+use Rattle.fsfs_serial.specs.Jobs.{RunsJob, RunJobs, StuckBehindDoubt}
 
 -- Why the outside is told to have failed: the count rose, or the lock is stuck there. A bench's own count ends with it.
 abbrev pub HasOutsideCause : Type 0 → View → JobAnswer → Type 0
@@ -47,9 +48,10 @@ IfAnyFails (answer ∷ answers) P = IfAnswerFails answer P × IfAnyFails answers
 abbrev pub DoesSo : (View → Type 0) → Type 0 → ℕ → Job → JobAnswer → View → Type 0
 DoesSo knows rose moment job answer v = (u : View) × knows u × RunsJob moment job answer v u × HasOutsideCause rose u answer
 
--- the same of jobs one after another; behind the last the pass is in no section
+-- The same of jobs one after another; behind the last the pass is in no section. From a pass on that met no fault which leaves a revision in
+-- doubt, the lock is told to be stuck only behind one that tells of such a fault.
 abbrev pub DoAll : (View → Type 0) → ℕ → List Job → List JobAnswer → View → Type 0
-DoAll knows moment js answers v = (u : View) × knows u × (u.section ≡ None) × RunJobs moment js answers v u
+DoAll knows moment js answers v = (u : View) × knows u × (u.section ≡ None) × RunJobs moment js answers v u × (are_harmless v.pass.faults ≡ true → StuckBehindDoubt answers)
 
 -- A first part of the jobs was done so, each with its answer. Then, in a state of the store in which the pass knew that, a number stood in
 -- `db/txn-current` that is past those that the machine reads. If no job was done before, the state is that at the start.

@@ -1,5 +1,5 @@
 -- What a job does to what the pass of a repository knows, and jobs one after another.
-use Rattle.std.specs.Prelude.{◌≡◌, ◌⊎◌, ◌≤◌, ◌<◌, ◌+◌, ◌++◌, ℕ, List, [], ◌∷◌, length, Bool, false, None}
+use Rattle.std.specs.Prelude.{◌≡◌, ◌⊎◌, ◌≤◌, ◌<◌, ◌+◌, ◌++◌, ℕ, List, [], ◌∷◌, length, Bool, true, false, None}
 use Rattle.fsfs_base.specs.Paths.{Path}
 use Rattle.fsfs_fields.specs.Dates.{IsDateAt}
 use Rattle.fsfs_places.specs.declared.place.DiskPlace.{DiskPlace}
@@ -105,6 +105,16 @@ IsSerialAt moment h t (job ∷ js) (answer ∷ answers) now named =
 abbrev pub TellNoDoubt : List JobAnswer → Type 0
 TellNoDoubt [] = Unit {0}
 TellNoDoubt (answer ∷ answers) = (tells_doubt answer ≡ false) × TellNoDoubt answers
+
+-- it tells that the lock is stuck
+abbrev pub tells_stuck : JobAnswer → Bool
+tells_stuck (Stopped line (Outside (Stuck at))) = true
+tells_stuck answer = false
+
+-- it is told to be stuck only behind an answer that tells of a fault that leaves a revision in doubt
+abbrev pub StuckBehindDoubt : List JobAnswer → Type 0
+StuckBehindDoubt [] = Unit {0}
+StuckBehindDoubt (answer ∷ answers) = (tells_stuck answer ≡ false) × (tells_doubt answer ≡ false → StuckBehindDoubt answers)
 
 -- the revisions that these tell
 abbrev pub own_of_all : List JobAnswer → List ℕ

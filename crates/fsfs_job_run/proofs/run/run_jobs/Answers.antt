@@ -31,7 +31,7 @@ loop-job-preserved g c =
       does = λ v known none.
           runs_more (state_of before.layout before.young before.stuck (g.D.Disk.trace before.disk) (g.D.Disk.mount_path before.disk)) (state_of start.layout start.young start.stuck (g.D.Disk.trace start.disk) (g.D.Disk.mount_path start.disk)) (KnowsAlone after.layout after.young after.stuck (g.D.Disk.trace after.disk)) _ c.args.micros c.args.jobs.now c.loop-job.job-index c.job-item.result (omega arith) c.job-item.is
           (λ at. ap (λ r. state_of r.turns.layout r.turns.young r.turns.stuck (g.D.Disk.trace r.turns.disk) (g.D.Disk.mount_path r.turns.disk)) (inv.first (none_taken c.args.jobs.now c.loop-job.job-index (omega arith) at)))
-          c.loop-job.answers.items c.do_job-after.result.1 c.push_reserved.new.self.items c.push_reserved.ensures.items v (inv.does v known none) (λ m k s. c.do_job-after.ensures.does m k s);
+          c.loop-job.answers.items c.do_job-after.result.1 c.push_reserved.new.self.items c.push_reserved.ensures.items v (λ u k. k.1.found) (inv.does v known none) (λ m k s. c.do_job-after.ensures.does m k s);
       first = λ at. absurd (omega (arith, at));
       numbered = ap (λ (n : ℕ). n + 1) inv.numbered;
       room = c.push_reserved.ensures.capacity ∙ inv.room;
