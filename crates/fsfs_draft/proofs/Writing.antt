@@ -54,7 +54,3 @@ some_same a b e = cc
 -- what was made last, where that is there
 pub held_text : {V : Type 0} (items : V → List ℕ) (o : Option V) (v : V) (more : List ℕ) → o ≡ Some v → option_map items o ≡ Some more → items v ≡ more
 held_text items o v more e w = some_same (items v) more (sym (ap (option_map items) e) ∙ w)
-
--- where nothing was made, none is held
-pub no_text : {V : Type 0} (items : V → List ℕ) (o : Option V) (more : List ℕ) (P : Type 0) → o ≡ None → option_map items o ≡ Some more → P
-no_text items o more P e w = let none : None ≡ Some more = sym (ap (option_map items) e) ∙ w in absurd cc

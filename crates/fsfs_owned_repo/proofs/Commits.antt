@@ -1,6 +1,6 @@
 -- What a commit of a repository comes to.
-use Rattle.std.proofs.Common.{◌≡◌, ◌<◌, ◌≤◌, ℕ, List, Bool, true, false, refl, sym, ap, subst, ◌∙◌, arith}
-use Rattle.std.specs.Prelude.{Option, None, Result, Ok, Err, IfOk, IfErr, is_some}
+use Rattle.std.proofs.Common.{◌≡◌, ◌<◌, ◌≤◌, ℕ, List, Bool, false, refl, sym, subst, ◌∙◌, arith}
+use Rattle.std.specs.Prelude.{Option, None, Result, Err, IfOk, IfErr, is_some}
 use Rattle.std.specs.FinMap.{get}
 use Rattle.fsfs_base.specs.Failures.{Rose}
 use Rattle.fsfs_base.specs.declared.failed.Failed.{Failed}
@@ -16,12 +16,12 @@ use Rattle.fsfs_machine.specs.declared.machine.Step.TheVariants.{PurgeSpent}
 use Rattle.fsfs_machine.specs.Kept.{IsIn}
 use Rattle.fsfs_machine.specs.Machine.{revisions}
 use Rattle.fsfs_turn.specs.Learning.{with_spent}
-use Rattle.fsfs_turn.specs.Views.{View, IsTxnOver}
+use Rattle.fsfs_turn.specs.Views.{View}
 use Rattle.fsfs_turn_purge.specs.Purged.{Purges, HasNotPurged}
 use Rattle.fsfs_turn_purge.specs.declared.purge_fault.PurgeFault.{PurgeFault}
 use Rattle.fsfs_turn_purge.specs.declared.purge_fault.PurgeFault.TheVariants as purges
 use Rattle.fsfs_commit.specs.Courses.{End}
-use Rattle.fsfs_commit.specs.Works.{CanCommit, Landings, Unmoved}
+use Rattle.fsfs_commit.specs.Works.{CanCommit}
 use Rattle.fsfs_commit.specs.Replies.{Cause, Committed, Moved, Refused, RoseIfDisk, UnlessDoubt}
 use Rattle.fsfs_commit.specs.declared.committing.CommitFault.{CommitFault}
 use Rattle.fsfs_commit.specs.declared.committing.CommitFault.TheVariants as faults
@@ -35,12 +35,9 @@ use Rattle.fsfs_held.specs.declared.held.HeldNodes.{HeldNodes}
 use Rattle.fsfs_txn.specs.declared.txn.Txn.{Txn as LiveTxn}
 use Rattle.fsfs_draft.specs.declared.txn_draft.Left.{Left}
 use Rattle.fsfs_draft.specs.declared.txn_draft.Left.TheVariants.{Txn as Kept}
-use Rattle.fsfs_owned_repo.specs.declared.answers.CommitBar.{CommitBar}
 use Rattle.fsfs_owned_repo.specs.declared.answers.CommitAnswer.{CommitAnswer}
 use Rattle.fsfs_owned_repo.specs.declared.answers.CommitAnswer.TheVariants as answers
-use Rattle.fsfs_owned_repo.specs.declared.answers.Fate.{Fate}
-use Rattle.fsfs_owned_repo.specs.declared.answers.Fate.TheVariants as fates
-use Rattle.fsfs_owned_repo.specs.Commits.{Bars, Ends, FailsAt, IfFailed, IsBack, IsDropped, IsNoMore, Meets}
+use Rattle.fsfs_owned_repo.specs.Commits.{Ends, IsDropped, IsNoMore, Meets}
 use Rattle.fsfs_owned_repo.specs.Fates.{Fated, IfStopped, UnlessDoubtful, of_fault, of_refusal}
 
 -- ---- the purge

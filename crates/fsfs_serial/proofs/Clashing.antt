@@ -1,5 +1,5 @@
 -- What clashes behind landings, clashed before them.
-use Rattle.std.proofs.Common.{◌≡◌, ◌<◌, ◌≤◌, ℕ, suc, List, length, ⊎_elim, sym, ap, subst, ◌∙◌, arith}
+use Rattle.std.proofs.Common.{◌≡◌, ◌<◌, ◌≤◌, ℕ, List, length, ⊎_elim, sym, ap, subst, ◌∙◌, arith}
 use Rattle.std.specs.FinMap.{get}
 use Rattle.fsfs_flat.specs.declared.mark.Mark.{Mark}
 use Rattle.fsfs_base.specs.Paths.{Path}
@@ -15,7 +15,7 @@ use Rattle.fsfs_machine.specs.declared.machine.Txn.{Txn}
 use Rattle.fsfs_machine.specs.Machine.{revisions}
 use Rattle.fsfs_machine.proofs.Growing.{revisions_length}
 use Rattle.fsfs_turn.specs.Views.{Begins, IsTxnOver}
-use Rattle.fsfs_commit.specs.Works.{LandedOn, Landings, Unmoved, Moved}
+use Rattle.fsfs_commit.specs.Works.{LandedOn, Unmoved, Moved}
 use Rattle.fsfs_commit.proofs.Handing.{over_of, whole_revisions, whole_clear, whole_tree}
 use Rattle.fsfs_serial.specs.Clashes.{ClashesFirst, LandedClashesAreClashes}
 

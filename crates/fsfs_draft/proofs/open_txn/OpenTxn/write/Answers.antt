@@ -3,7 +3,7 @@ use Rattle.std.specs.Prelude.{IsSome}
 use Rattle.fsfs_held.specs.Lists.{files_of}
 use Rattle.fsfs_held.specs.Views.{folder_of}
 use Rattle.fsfs_draft.proofs.Merging.{some_failed}
-use Rattle.fsfs_draft.proofs.Writing.{written_behind, held_text, no_text}
+use Rattle.fsfs_draft.proofs.Writing.{written_behind, held_text}
 use Rattle.fsfs_draft.proofs.open_txn.OpenTxn.write.Goals as goal
 
 pub returns-in-Ok-clause-held : goal.returns-in-Ok-clause-held
@@ -18,9 +18,6 @@ returns-in-Ok-clause-held g c = λ bytes held.
     (subst (λ b. IsSome (contents b)) (sym bench) held.1) c.in-Ok.ensures.written
     (parts.proto ∙ ap (λ o. (folder_of (files_of o.settled) o.settled_next o.items.items (contents o.bench) o.proto).proto) c.into_own.ensures)
     (held.3 ∙ ap (λ l. proto ++ l) (sym same ∙ sym c.deref.ensures.value))
-
-pub returns-in-None-clause-refused : goal.returns-in-None-clause-refused
-returns-in-None-clause-refused g c = λ bytes held head h x. no_text (λ t. t.items) c.args.self.text held.0 ⊥ c.in-None.is held.2
 
 pub returns-in-Err-clause-found : goal.returns-in-Err-clause-found
 returns-in-Err-clause-found g c = some_failed _ _ c.in-Err.ensures.cause.failed
