@@ -9,7 +9,8 @@ use Rattle.fsfs_machine.specs.declared.machine.Went.{Went}
 use Rattle.fsfs_machine.specs.declared.machine.Went.TheVariants.{Fine, Before, After, Torn}
 use Rattle.fsfs_machine.specs.Machine.{either}
 use Rattle.fsfs_turn.specs.Alone.{are_harmless, brings_doubt}
-use Rattle.fsfs_turn.specs.Views.{View, Looked, LockTaken, FoundStuck, LockGiven, ReadTurn}
+use Rattle.fsfs_turn.specs.Views.{View, Looked, LockTaken, FoundStuck, LockGiven}
+use Rattle.fsfs_turn.specs.Learning.{PropsRead}
 use Rattle.fsfs_commit.specs.declared.committing.CommitFault.{CommitFault}
 use Rattle.fsfs_commit.specs.declared.committing.CommitFault.TheVariants as fault
 use Rattle.fsfs_commit.specs.Courses.{StoppedAt}
@@ -57,8 +58,8 @@ given_doubtless s v u g = same_faults v u (ap {A = View} (λ z. z.pass.faults) g
 pub stopped_doubtless : (place : CommitPlace) (v u : View) → StoppedAt place v u → brings_doubt (Commit place) ≡ false → BringsNoDoubt v u
 stopped_doubtless place v u s = fault_more (Commit place) v u (ap {A = View} (λ z. z.pass.faults) s.is)
 
-pub read_doubtless : (r offset size : ℕ) (x : Recorded) (went : Went) (v u : View) → ReadTurn r offset size x went v u → BringsNoDoubt v u
-read_doubtless r offset size x went v u t = λ few. ap {A = View} (λ z. are_harmless z.pass.faults) t.is ∙ harmless_either went v.pass.faults Read few refl
+pub read_doubtless : (r : ℕ) (x : Recorded) (went : Went) (v u : View) → PropsRead r x went v u → BringsNoDoubt v u
+read_doubtless r x went v u t = λ few. ap {A = View} (λ z. are_harmless z.pass.faults) t.is ∙ harmless_either went v.pass.faults Read few refl
 
 -- ---- an answer
 

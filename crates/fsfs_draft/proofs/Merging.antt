@@ -26,7 +26,8 @@ use Rattle.fsfs_machine.specs.declared.machine.Step.TheVariants as step
 use Rattle.fsfs_machine.specs.declared.machine.Went.{Went}
 use Rattle.fsfs_machine.specs.Machine.{revisions, either}
 use Rattle.fsfs_turn.specs.Bytes.{bytes_of, AllShow}
-use Rattle.fsfs_turn.specs.Views.{View, Begins, ReadTurn}
+use Rattle.fsfs_turn.specs.Views.{View, Begins, Turned}
+use Rattle.fsfs_turn.specs.Learning.{PropsRead}
 use Rattle.fsfs_turn.proofs.Longer.{tree_first}
 use Rattle.fsfs_changes.specs.declared.item.ChangeItem.{ChangeItem}
 use Rattle.fsfs_limits.specs.declared.limit.PathLimit.{PathLimit}
@@ -48,15 +49,18 @@ use Rattle.fsfs_draft.proofs.Landing.{first_part, part_long, part_last, landed, 
 pub reads_nothing : (v : View) → AllShow v.seen → ReadOnly v v
 reads_nothing v shown = record { is = refl; grows = ([], sym (append-nil v.seen)); doubtless = λ few. few; shown = shown; within = λ sure le. le; course = End v }
 
-pub reads_once : (r offset size : ℕ) (x : Recorded) (went : Went) (v u : View) → ReadTurn r offset size x went v u → ReadOnly v u
-reads_once r offset size x went v u t = record {
+pub reads_once : (r : ℕ) (x : Recorded) (went : Went) (v u : View) → PropsRead r x went v u → ReadOnly v u
+reads_once r x went v u t = record {
   is = t.is ∙ (λ i. record v { pass = record v.pass { seen = ap {A = View} (λ z. z.pass.seen) (sym t.is) i; faults = ap {A = View} (λ z. z.pass.faults) (sym t.is) i; floor = ap {A = View} (λ z. z.pass.floor) (sym t.is) i }; seen = u.seen });
   grows = t.grows;
-  doubtless = read_doubtless r offset size x went v u t;
+  doubtless = read_doubtless r x went v u t;
   shown = t.shown;
   within = λ sure le. t.within sure;
-  course = More [] (step.Read v.number r offset size went) (either went (outcome.Bytes _) outcome.Failed) v u u t.turned (End u);
+  course = More [] (step.ReadProps v.number r went) (either went (outcome.Properties x.revision.properties) outcome.Failed) v u u turned (End u);
 }
+  where
+    turned : Turned [] (step.ReadProps v.number r went) (either went (outcome.Properties x.revision.properties) outcome.Failed) v u
+    turned = record { world = t.turned.world; kept = t.turned.kept; sees = t.turned.sees; did = t.turned.did; happens = t.turned.happens; answers = t.turned.answers; after = t.turned.after; leaves = t.turned.leaves }
 
 -- ---- the first part that ends with the head, where no more was seen before
 

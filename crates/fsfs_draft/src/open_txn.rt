@@ -63,7 +63,7 @@ impl<B: Bench> OpenTxn<B> {
     }
 
     /// Lands it on this revision, and gives the turns back; where it stands there already, it does nothing. It has to have seen the
-    /// revision: so it asks for a file's size first.
+    /// revision: so it makes a turn first, a read of no bytes of its base's property file, which is in no pack.
     pub(crate) fn merge<R, T: LoneTurns<R>>(
         &mut self,
         alloc: Global,
@@ -94,8 +94,9 @@ impl<B: Bench> OpenTxn<B> {
             return (turns, Ok(()));
         }
         let mut turns = turns;
-        let file = RepositoryFile::Revision(base).name(turns.layout());
-        match turns.size(rt, &file) {
+        let file = RepositoryFile::Props(base).name(turns.layout());
+        let mut nothing = [0; 0];
+        match turns.read(rt, &file, 0, &mut nothing[..]) {
             Ok(_) => self.land(alloc, rt, turns, head),
             Err(_) => (turns, Err(CommitRefusal::DiskFault)),
         }

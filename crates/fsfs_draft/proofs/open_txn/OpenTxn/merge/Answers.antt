@@ -30,9 +30,9 @@ returns-in-Err-clause-err g c = λ v x known means le long told.
     let none = none_of c.args.self.now.txn.spent (sym c.is_spent.ensures ∙ c.if-is_spent.false) in
     let is = means none in
     let y = there_below v.seen base is.based in
-    let name = c.name-file.ensures ∙ ap (λ r. file_name c.layout.result (file.Revision r)) c.base-base.ensures ∙ ap (λ l. file_name l (file.Revision base)) (c.layout.ensures ∙ (g.met.T.Turns.tells c.args.turns v known).layout) in
-    let s = c.in-Err.ensures.turned v base y.0 known y.1 (omega (arith, c.get.ensures.limit, c.base-base.ensures)) name in
-    (s.0, s.2, means, reads_once base 0 0 y.0 s.1 v s.0 s.4, tt)
+    let name = c.name-file.ensures ∙ ap (λ r. file_name c.layout.result (file.Props r)) c.base-base.ensures ∙ ap (λ l. file_name l (file.Props base)) (c.layout.ensures ∙ (g.met.T.Turns.tells c.args.turns v known).layout) in
+    let s = c.in-Err.ensures.properties v base y.0 known y.1 (omega (arith, c.get.ensures.limit, c.base-base.ensures)) name in
+    (s.0, s.3, means, reads_once base y.0 s.1 v s.0 s.5, tt)
 
 pub returns-in-Ok-clause-ok : goal.returns-in-Ok-clause-ok
 returns-in-Ok-clause-ok g c = λ v x known means le long told.
@@ -41,12 +41,12 @@ returns-in-Ok-clause-ok g c = λ v x known means le long told.
     let none = none_of c.args.self.now.txn.spent (sym c.is_spent.ensures ∙ c.if-is_spent.false) in
     let is = means none in
     let y = there_below v.seen base is.based in
-    let name = c.name-file.ensures ∙ ap (λ r. file_name c.layout.result (file.Revision r)) c.base-base.ensures ∙ ap (λ l. file_name l (file.Revision base)) (c.layout.ensures ∙ (g.met.T.Turns.tells c.args.turns v known).layout) in
-    let s = c.in-Ok.ensures.turned v base y.0 known y.1 (omega (arith, c.get.ensures.limit, c.base-base.ensures)) name in
-    let less : head < length s.0.seen = omega (arith, s.4.all, told) in
+    let name = c.name-file.ensures ∙ ap (λ r. file_name c.layout.result (file.Props r)) c.base-base.ensures ∙ ap (λ l. file_name l (file.Props base)) (c.layout.ensures ∙ (g.met.T.Turns.tells c.args.turns v known).layout) in
+    let s = c.in-Ok.ensures.properties v base y.0 known y.1 (omega (arith, c.get.ensures.limit, c.base-base.ensures)) name in
+    let less : head < length s.0.seen = omega (arith, s.5.all, told) in
     let low : base < head = omega (arith, is.on, le, c.if-get.false, c.base-base.ensures, c.get.ensures.same, c.get-2.ensures.same) in
-    let part = txn_stays v.seen (take (head + 1) s.0.seen) _ _ _ x is (begins_part (head + 1) v.seen s.0.seen s.4.grows long) in
-    ok_then c.land.result.1 _ _ (λ w. (s.0, w.0, w.1, w.3, reads_once base 0 0 y.0 s.1 v s.0 s.4, w.2)) (c.land.ensures.ok s.0 x s.2 none (λ spent. part) low less)
+    let part = txn_stays v.seen (take (head + 1) s.0.seen) _ _ _ x is (begins_part (head + 1) v.seen s.0.seen s.5.grows long) in
+    ok_then c.land.result.1 _ _ (λ w. (s.0, w.0, w.1, w.3, reads_once base y.0 s.1 v s.0 s.5, w.2)) (c.land.ensures.ok s.0 x s.3 none (λ spent. part) low less)
 
 pub returns-in-Ok-clause-err : goal.returns-in-Ok-clause-err
 returns-in-Ok-clause-err g c = λ v x known means le long told.
@@ -55,12 +55,12 @@ returns-in-Ok-clause-err g c = λ v x known means le long told.
     let none = none_of c.args.self.now.txn.spent (sym c.is_spent.ensures ∙ c.if-is_spent.false) in
     let is = means none in
     let y = there_below v.seen base is.based in
-    let name = c.name-file.ensures ∙ ap (λ r. file_name c.layout.result (file.Revision r)) c.base-base.ensures ∙ ap (λ l. file_name l (file.Revision base)) (c.layout.ensures ∙ (g.met.T.Turns.tells c.args.turns v known).layout) in
-    let s = c.in-Ok.ensures.turned v base y.0 known y.1 (omega (arith, c.get.ensures.limit, c.base-base.ensures)) name in
-    let less : head < length s.0.seen = omega (arith, s.4.all, told) in
+    let name = c.name-file.ensures ∙ ap (λ r. file_name c.layout.result (file.Props r)) c.base-base.ensures ∙ ap (λ l. file_name l (file.Props base)) (c.layout.ensures ∙ (g.met.T.Turns.tells c.args.turns v known).layout) in
+    let s = c.in-Ok.ensures.properties v base y.0 known y.1 (omega (arith, c.get.ensures.limit, c.base-base.ensures)) name in
+    let less : head < length s.0.seen = omega (arith, s.5.all, told) in
     let low : base < head = omega (arith, is.on, le, c.if-get.false, c.base-base.ensures, c.get.ensures.same, c.get-2.ensures.same) in
-    let part = txn_stays v.seen (take (head + 1) s.0.seen) _ _ _ x is (begins_part (head + 1) v.seen s.0.seen s.4.grows long) in
-    if_err_then c.land.result.1 _ _ (λ why w. (s.0, w.0, w.2 means, reads_once base 0 0 y.0 s.1 v s.0 s.4, w.1)) (c.land.ensures.err s.0 v.seen x s.2 none (λ spent. part) low less)
+    let part = txn_stays v.seen (take (head + 1) s.0.seen) _ _ _ x is (begins_part (head + 1) v.seen s.0.seen s.5.grows long) in
+    if_err_then c.land.result.1 _ _ (λ why w. (s.0, w.0, w.2 means, reads_once base y.0 s.1 v s.0 s.5, w.1)) (c.land.ensures.err s.0 v.seen x s.3 none (λ spent. part) low less)
 
 pub returns-then-is_spent-clause-found : goal.returns-then-is_spent-clause-found
 returns-then-is_spent-clause-found g c = sym c.is_spent.ensures ∙ c.if-is_spent.true

@@ -19,5 +19,5 @@ returns-in-Ok-clause-held g c = λ bytes held.
     (parts.proto ∙ ap (λ o. (folder_of (files_of o.settled) o.settled_next o.items.items (contents o.bench) o.proto).proto) c.into_own.ensures)
     (held.3 ∙ ap (λ l. proto ++ l) (sym same ∙ sym c.deref.ensures.value))
 
-pub returns-in-Err-clause-found : goal.returns-in-Err-clause-found
-returns-in-Err-clause-found g c = some_failed _ _ c.in-Err.ensures.cause.failed
+pub returns-clause-found : goal.returns-clause-found
+returns-clause-found g c = some_failed _ _ c.in-Err.ensures.cause.failed
