@@ -1,5 +1,5 @@
 // One run of a program.
-use crate::files::{Files, disk_with};
+use crate::files::{Files, firm_disk};
 use crate::line::Place;
 use anyhow::{Result, anyhow, bail};
 use fsfs_escapes::bytes_of;
@@ -43,6 +43,22 @@ impl Given {
         } else {
             &[]
         }
+    }
+
+    // A disk with these files.
+    fn disk(&self, alloc: Global, files: &Files) -> Result<MemDisk> {
+        let calls = Vec::from_slice(alloc, self.calls_at(Place::Disk))?;
+        let disk = firm_disk(alloc, files)?.failing(calls, Vec::new(alloc));
+        match self.calls_at(Place::Stop).first() {
+            Some(call) => Ok(disk.fuse(call.saturating_sub(1))),
+            None => Ok(disk),
+        }
+    }
+
+    fn source(&self, alloc: Global) -> Result<MemSource, AllocError> {
+        let calls = Vec::from_slice(alloc, self.calls_at(Place::Input))?;
+        let bytes = Vec::from_slice(alloc, &self.input)?;
+        Ok(MemSource::with_faults(bytes, calls))
     }
 
     fn sink(&self, alloc: Global, place: Place) -> Result<MemSink, AllocError> {
@@ -92,10 +108,10 @@ pub fn run(alloc: Global, line: &str, files: &Files, given: &Given) -> Result<Ra
         bail!("too late a moment");
     }
     let mut host = MemHost::new(alloc);
-    host.add_disk("R", disk_with(alloc, files, given.calls_at(Place::Disk))?)?;
+    host.add_disk("R", given.disk(alloc, files)?)?;
+    let mut input = given.source(alloc)?;
     let mut out = given.sink(alloc, Place::Output)?;
     let mut err = given.sink(alloc, Place::Errors)?;
-    let mut input = MemSource::new(alloc, Vec::from_slice(alloc, &given.input)?);
     let mut clock = FixedClock::new(given.moment);
     let mut dice = FixedDice { bytes: given.dice };
     let status = command(

@@ -36,26 +36,15 @@ fn add_file(disk: &mut MemDisk, name: &str, bytes: &[u8]) -> Result<()> {
     added.map_err(|_: Failed| anyhow!("no such disk"))
 }
 
-/// A disk with these files, all of them firm, whose calls with these numbers fail; the first call after this is 1.
-pub fn disk_with(alloc: Global, files: &Files, failing: &[u64]) -> Result<MemDisk> {
-    let before = (files.len() as u64).saturating_add(1);
-    let mut calls = Vec::new(alloc);
-    for call in failing {
-        calls.push(call.saturating_add(before))?;
-    }
-    let mut disk = MemDisk::with_faults(alloc, calls);
+/// A disk with these files, all of them firm.
+pub fn firm_disk(alloc: Global, files: &Files) -> Result<MemDisk> {
+    let mut disk = MemDisk::new(alloc);
     for (name, bytes) in files.iter() {
         add_file(&mut disk, name.as_str(), bytes)?;
     }
     disk.firm_names()
         .map_err(|_: Failed| anyhow!("no such disk"))?;
     Ok(disk)
-}
-
-/// How many calls a disk has had since it was made with so many files.
-pub fn calls_since(disk: &MemDisk, files: usize) -> u64 {
-    disk.calls()
-        .saturating_sub((files as u64).saturating_add(1))
 }
 
 /// The files of a disk, and its transactions.

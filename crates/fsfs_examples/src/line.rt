@@ -6,6 +6,10 @@ use anyhow::{Result, bail};
 pub enum Place {
     /// A call of the disk.
     Disk,
+    /// A call of the disk, and each behind it.
+    Stop,
+    /// A read of the input.
+    Input,
     /// A write of the output.
     Output,
     /// A write of the error output.
@@ -16,6 +20,8 @@ impl Place {
     fn read(word: &str) -> Result<Place> {
         match word {
             "disk" => Ok(Place::Disk),
+            "stop" => Ok(Place::Stop),
+            "input" => Ok(Place::Input),
             "output" => Ok(Place::Output),
             "errors" => Ok(Place::Errors),
             _ => bail!("no place of a failing call"),
@@ -25,6 +31,8 @@ impl Place {
     pub fn word(self) -> &'static str {
         match self {
             Place::Disk => "disk",
+            Place::Stop => "stop",
+            Place::Input => "input",
             Place::Output => "output",
             Place::Errors => "errors",
         }
@@ -73,6 +81,8 @@ pub enum Line<'a> {
     Input(&'a str),
     /// The same with bytes alone.
     InputCut(&'a str),
+    /// The same with bytes so many times.
+    InputTimes(u32, &'a str),
     /// Runs a command.
     Run(&'a str),
     /// Stops the machine: of the changes of the last command that are not firm, these are left.
@@ -134,6 +144,10 @@ impl<'a> Line<'a> {
             "keep" => Ok(Line::Keep(rest)),
             "<" => Ok(Line::Input(rest)),
             "<:" => Ok(Line::InputCut(rest)),
+            "<times" => {
+                let (count, text) = split(rest);
+                Ok(Line::InputTimes(count.parse::<u32>()?, text))
+            }
             "$" => Ok(Line::Run(rest)),
             "failing" => {
                 let (place, calls) = split(rest);

@@ -41,7 +41,7 @@ fn play_block(
 // Whether the call that was to fail is past the last one.
 fn is_past(stage: &Stage, place: Place, call: u64, told: &Transcript, whole: &Transcript) -> bool {
     match place {
-        Place::Disk => stage.calls < call,
+        Place::Disk | Place::Stop => stage.calls < call,
         _ => told.as_str() == whole.as_str(),
     }
 }

@@ -1,7 +1,7 @@
 // What the lines of an example work on.
 use crate::command::{Given, Ran, run};
 use crate::edit::edit;
-use crate::files::{Files, calls_since, copy_of, files_of};
+use crate::files::{Files, copy_of, files_of};
 use crate::line::{Line, Place};
 use crate::transcript::{put_changes, put_file, put_files, put_run};
 use anyhow::{Result, bail};
@@ -78,8 +78,9 @@ impl Stage {
             Line::OfFile(line) => return edit(self.alloc, &mut self.files, &mut self.open, line),
             Line::Dice(text) => return self.throw(text),
             Line::Failing(place, calls) => return self.fail(place, calls),
-            Line::Input(text) => return self.give(text, b"\n"),
-            Line::InputCut(text) => return self.give(text, b""),
+            Line::Input(text) => return self.give(1, text, b"\n"),
+            Line::InputCut(text) => return self.give(1, text, b""),
+            Line::InputTimes(count, text) => return self.give(count, text, b""),
             Line::Run(line) => return self.run(line),
             Line::Crash(picks) => return self.crash(picks),
             Line::Each(_) => bail!("a block in a block"),
@@ -150,11 +151,12 @@ impl Stage {
         Ok(())
     }
 
-    // Goes on with the input of the next command.
-    fn give(&mut self, text: &str, end: &[u8]) -> Result<()> {
-        self.given
-            .input
-            .extend_from_slice(&bytes_of(self.alloc, text)?)?;
+    // Goes on with the input of the next command: these bytes so often, and this end.
+    fn give(&mut self, count: u32, text: &str, end: &[u8]) -> Result<()> {
+        let bytes = bytes_of(self.alloc, text)?;
+        for _ in 0..count {
+            self.given.input.extend_from_slice(&bytes)?;
+        }
         Ok(self.given.input.extend_from_slice(end)?)
     }
 
@@ -175,7 +177,7 @@ impl Stage {
     // Goes on with what a command left.
     fn leave(&mut self, disk: MemDisk) -> Result<(), AllocError> {
         if !self.given.calls.is_empty() {
-            self.calls = calls_since(&disk, self.files.len());
+            self.calls = disk.calls();
         }
         self.given.calls = Vec::new(self.alloc);
         self.given.input = Vec::new(self.alloc);
