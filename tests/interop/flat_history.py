@@ -138,7 +138,7 @@ class Sides:
     """What a transaction and a head have done since the transaction's base."""
 
     def __init__(self, history, transaction):
-        self.base, self.marks = transaction.base, outer_marks(transaction.marks)
+        self.base, self.transaction, self.marks = transaction.base, transaction, outer_marks(transaction.marks)
         self.before, self.own = history[transaction.base].tree, transaction.tree
         self.head, self.number = history[-1].tree, len(history)
 
@@ -174,10 +174,14 @@ class Sides:
     def is_reached(self, path):
         return all(self.holds(path[:n]) and self.head_holds(path[:n]) for n in range(len(path)))
 
+    def all_clashes(self):
+        """The paths at which the two clash, the least in front."""
+        paths = sorted({*self.before, *self.own, *self.head})
+        return [p for p in paths if self.is_reached(p) and self.clashes(p)]
+
     def first_clash(self):
         """The least path at which the two clash."""
-        paths = sorted({*self.before, *self.own, *self.head})
-        return next((p for p in paths if self.is_reached(p) and self.clashes(p)), None)
+        return next(iter(self.all_clashes()), None)
 
     def landed_node(self, path):
         if self.holds(path) and not self.has(path, "text", "prop"):
@@ -296,6 +300,10 @@ class History:
         clash = sides.first_clash()
         if clash is not None:
             return f"conflict r{self.youngest()} {text_of(clash).decode()}"
+        return self.land(job, sides)
+
+    def land(self, job, sides):
+        """The job becomes the next revision."""
         props = {name: value for name, value in (("svn:author", job.author), ("svn:log", job.log)) if value is not None}
-        self.revisions.append(Revision(sides.landed(), folded(transaction.marks), props))
+        self.revisions.append(Revision(sides.landed(), folded(sides.transaction.marks), props))
         return f"r{self.youngest()}"

@@ -1,9 +1,17 @@
-"""Runs job scripts by Subversion's own library (`python3-subversion`), to try the simulation. Where its merges differ from ours on purpose,
-the simulation's answer is taken: a transaction that sets a directory's properties beside a head that changed its entries, both sides below
-a directory that was copied whole, and which of two clashes is named."""
+"""Runs job scripts by Subversion's own library (`python3-subversion`), to try the simulation, and tells where that library's merges differ
+from ours on purpose. What it does then is taken into the history: a job that it lands, or doesn't."""
+import re
+
 from svn import core, fs, repos
 
-from flat_history import History
+from flat_history import History, Refused, Sides, Transaction, covers
+
+# What it does otherwise with a job.
+PROPERTIES = "landed beside new entries of a directory whose properties the job sets"
+EQUAL = "landed beside properties of a directory that were set to what they were"
+COPIED = "not landed below a directory that was copied whole"
+ANOTHER = "told another clash than the least"
+CASES = PROPERTIES, EQUAL, COPIED, ANOTHER
 
 
 def text(path):
@@ -30,9 +38,8 @@ def do(root, filesystem, edit):
         fs.change_node_prop(root, text(arguments[0]), arguments[1], arguments[2])
 
 
-def commit(filesystem, job, youngest):
-    """The revision that comes of a job; none where it conflicts."""
-    base = youngest if job.base is None else job.base
+def commit(filesystem, job, base):
+    """Commits a job. The path at which it conflicts, or none."""
     txn = fs.begin_txn2(filesystem, base, 0)
     for name, value in (("svn:author", job.author), ("svn:log", job.log)):
         if value is not None:
@@ -41,12 +48,14 @@ def commit(filesystem, job, youngest):
     for _, edit in job.edits:
         do(root, filesystem, edit)
     try:
-        return fs.commit_txn(txn)
+        fs.commit_txn(txn)
+        return None
     except core.SubversionException as why:
         if why.apr_err != core.SVN_ERR_FS_CONFLICT:
             raise
         fs.abort_txn(txn)
-        return None
+        path = re.search("Conflict at '/(.*)'", str(why))[1]
+        return tuple(name.encode() for name in path.split("/") if name)
 
 
 def note_texts(changes):
@@ -56,19 +65,69 @@ def note_texts(changes):
             changes[path] = change._replace(text=True)
 
 
-def run_theirs(path, script):
-    """Commits the jobs of a script that the simulation commits, one after another; jobs whose answers differ are told."""
+def sides_of(history, job):
+    """The two sides of a job's landing; none where an edit is refused."""
+    try:
+        transaction = Transaction(history.revisions, history.base_of(job))
+        for _, edit in job.edits:
+            transaction.do(edit)
+    except Refused:
+        return None
+    return Sides(history.revisions, transaction)
+
+
+def case_of(sides, path):
+    """Of a clash of ours, why Subversion sees none: the transaction sets the properties of a directory of which the head changed no more
+    than what is in it, or the head set a directory's properties to what they were."""
+    if path in sides.before and sides.before[path].kind == "dir" and sides.holds(path) and sides.head_holds(path):
+        if not sides.head_sets(path):
+            return PROPERTIES
+        if sides.head[path].props == sides.before[path].props:
+            return EQUAL
+    return None
+
+
+def is_copied_whole(history, sides, path):
+    """In the base it is a directory that came there when one above it was copied, and was not changed in that revision or since."""
+    node = sides.before.get(path)
+    if node is None or node.kind != "dir" or node.last_changed != node.added:
+        return False
+    changes = history.revisions[node.added].changes
+    above = any(change.source is not None and covers(p, path) and p != path for p, change in changes.items())
+    return above and not any(covers(path, p) for p in changes)
+
+
+def difference(history, sides, theirs):
+    """The case of what Subversion does otherwise with a job, or what it does, where it is no known one; none where it does the same.
+    `theirs` is the path at which it conflicts, or none."""
+    clashes = sides.all_clashes()
+    ours = clashes[0] if clashes else None
+    if ours == theirs:
+        return None
+    if theirs is None:
+        unknown = [p for p in clashes if case_of(sides, p) is None]
+        return f"landed in spite of {text(unknown[0])}" if unknown else case_of(sides, ours)
+    if ours is None:
+        return COPIED if is_copied_whole(history, sides, theirs) else f"conflicts at {text(theirs)}"
+    known = theirs in clashes or is_copied_whole(history, sides, theirs)
+    return ANOTHER if known else f"conflicts at {text(theirs)} in place of {text(ours)}"
+
+
+def commit_jobs(path, script):
+    """Commits the jobs of a script, one after another. What was done otherwise than by the simulation, for each job where it was."""
     repository = repos.create(path, None, None, None, {"compatible-version": "1.6"})
     filesystem = repos.fs(repository)
-    history = History()
-    for job, answer in zip(script.jobs, script.answers):
-        if job.read is not None or answer.startswith("refused"):
+    history, differences = History(), []
+    for job in script.jobs:
+        sides = sides_of(history, job) if job.read is None else None
+        if sides is None:
             continue
-        answer = history.run(job)
-        if answer.startswith("conflict"):
-            continue
-        if commit(filesystem, job, history.youngest() - 1) is None:
-            history.revisions.pop()
-        else:
+        theirs = commit(filesystem, job, sides.base)
+        found = difference(history, sides, theirs)
+        if found is not None:
+            differences.append(found)
+        if theirs is None:
+            history.land(job, sides)
             note_texts(history.revisions[-1].changes)
     script.history = history
+    return differences
