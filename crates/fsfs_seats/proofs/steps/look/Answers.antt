@@ -1,0 +1,6 @@
+use Rattle.std.proofs.Common.{rules}
+use Rattle.fsfs_seats.proofs.Rules.{looks}
+use Rattle.fsfs_seats.proofs.steps.look.Goals as goal
+
+pub load-found-requires : goal.load-found-requires
+load-found-requires g c = (search rules, search rules, looks _ _ _ _)

@@ -1,0 +1,80 @@
+//! The rule of the table, and what each step tells.
+use crate::seat_view::SeatView;
+use atomic_table::{Play, Seat, Table, TableRule};
+use fsfs_disk::Disk;
+use fsfs_note::Note;
+use fsfs_shared_disk::SharedDisk;
+use std::alloc::Global;
+
+/// The rule: the table holds a state of the machine, and each seat knows what its pass knows of it. The note is the first seat's view.
+pub struct Law;
+
+impl<D: Disk> TableRule<Option<SharedDisk<D>>, SeatView, Note<SeatView>> for Law {
+    ghost use Rattle.fsfs_seats.specs.Rule.{Rule};
+
+    ghost holds = { λ key. Rule key.value };
+
+    ghost first = { λ key. key.value };
+}
+
+/// The table: the words DISK, LOCK and YOUNG, and one slot, for the disk.
+pub type Board<D> = Table<Option<SharedDisk<D>>, SeatView, Note<SeatView>, Law, Global>;
+
+/// A seat at it.
+pub type SharedSeat<D> = Seat<Option<SharedDisk<D>>, SeatView>;
+
+pub(crate) struct Look;
+
+impl<D: Disk> Play<Option<SharedDisk<D>>, SeatView> for Look {
+    ghost use Rattle.fsfs_seats.specs.Tells.{looked};
+
+    ghost then = { looked };
+}
+
+pub(crate) struct TakeLock;
+
+impl<D: Disk> Play<Option<SharedDisk<D>>, SeatView> for TakeLock {
+    ghost use Rattle.fsfs_seats.specs.Tells.{locked};
+
+    ghost then = { locked };
+}
+
+pub(crate) struct GiveLock;
+
+impl<D: Disk> Play<Option<SharedDisk<D>>, SeatView> for GiveLock {
+    ghost use Rattle.fsfs_seats.specs.Tells.{gave_lock};
+
+    ghost then = { gave_lock };
+}
+
+pub(crate) struct StickLock;
+
+impl<D: Disk> Play<Option<SharedDisk<D>>, SeatView> for StickLock {
+    ghost use Rattle.fsfs_seats.specs.Tells.{stuck_it};
+
+    ghost then = { stuck_it };
+}
+
+pub(crate) struct Reveal;
+
+impl<D: Disk> Play<Option<SharedDisk<D>>, SeatView> for Reveal {
+    ghost use Rattle.fsfs_seats.specs.Tells.{revealed};
+
+    ghost then = { revealed };
+}
+
+pub(crate) struct Take;
+
+impl<D: Disk> Play<Option<SharedDisk<D>>, SeatView> for Take {
+    ghost use Rattle.fsfs_seats.specs.Tells.{taken};
+
+    ghost then = { taken };
+}
+
+pub(crate) struct GiveBack;
+
+impl<D: Disk> Play<Option<SharedDisk<D>>, SeatView> for GiveBack {
+    ghost use Rattle.fsfs_seats.specs.Tells.{given_back};
+
+    ghost then = { given_back };
+}

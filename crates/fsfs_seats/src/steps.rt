@@ -1,0 +1,125 @@
+//! The steps of a pass that leave the disk as it is. Each is one atomic step at the table, and one step of the machine where the disk
+//! tells its files.
+ghost use Rattle.std.specs.Prelude.{◌≡◌, ◌≤◌, ◌<◌, [], ◌∷◌, true, Some, None, is_some, IfOk, OnOk, IfErr};
+ghost use Rattle.fsfs_fields.specs.RevNums.{last_rev};
+ghost use Rattle.fsfs_disk.specs.Trace.{Trace};
+ghost use Rattle.fsfs_machine.specs.declared.machine.Coming.{Coming};
+ghost use Rattle.fsfs_machine.specs.declared.machine.Section.TheVariants.{CurrentFirm};
+ghost use Rattle.fsfs_machine.specs.declared.machine.Step.TheVariants.{GiveLock as GivesLock, StickLock as SticksLock};
+ghost use Rattle.fsfs_turn.specs.Views.{Looked, LockTaken, FoundStuck, LockGiven, Revealed};
+ghost use Rattle.fsfs_seats.specs.declared.seat_view.Hand.TheVariants.{Empty, Out};
+ghost use Rattle.fsfs_seats.specs.Seats.{view_of, look_view, lock_view, stuck_view, outside_view, reveal_view, reveal_in};
+ghost use Rattle.fsfs_seats.specs.Tells.{CanGive, CanStick, CanReveal, IsMet};
+
+use crate::law::{Board, GiveBack, GiveLock, Look, Reveal, SharedSeat, StickLock, Take, TakeLock};
+use crate::lock_word::{number_of_place, place_of_number};
+use fsfs_disk::Disk;
+use fsfs_fields::RevNum;
+use fsfs_places::DiskPlace;
+use fsfs_shared_disk::SharedDisk;
+use std::sync::Wait;
+use std::thread;
+
+fn revision_of(number: u64) -> RevNum
+    requires { number ≤ last_rev }
+    ensures { result ≡ number }
+{
+    match RevNum::new(number) {
+        Some(rev) => rev,
+        None => unreachable!(),
+    }
+}
+
+/// The youngest revision: one load, which waits for nobody.
+pub fn look<D: Disk>(board: &Board<D>, seat: &mut SharedSeat<D>) -> RevNum
+    requires { (seat.old.table_id ≡ board.now.shared.table_id) × (board.now.shared.table_id.words ≡ 3) }
+    ensures same { (seat.new.table_id ≡ seat.old.table_id) × (seat.new.id ≡ seat.old.id) × (seat.new.me ≡ (look_view result seat.old.me.0, seat.old.me.1)) }
+    ensures looked { seat.old.me.0.told ≡ true → Looked result (view_of seat.old.me.0) (view_of seat.new.me.0) }
+{
+    let found = board.shared.load::<Look>(seat, 2);
+    revision_of(found)
+}
+
+/// Takes the write lock, or says at which place it is stuck.
+pub fn take_lock<D: Disk, R: Wait>(
+    rt: &R,
+    board: &Board<D>,
+    seat: &mut SharedSeat<D>,
+) -> Result<(), DiskPlace>
+    requires { (seat.old.table_id ≡ board.now.shared.table_id) × (board.now.shared.table_id.words ≡ 3) }
+    ensures same { (seat.new.table_id ≡ seat.old.table_id) × (seat.new.id ≡ seat.old.id) }
+    ensures taken { OnOk result ((seat.new.me ≡ (lock_view seat.old.me.0, seat.old.me.1)) × (seat.old.me.0.told ≡ true → LockTaken (view_of seat.old.me.0) (view_of seat.new.me.0))) }
+    ensures stuck { IfErr result (λ place. (seat.new.me ≡ (stuck_view place seat.old.me.0, seat.old.me.1)) × (seat.old.me.0.told ≡ true → FoundStuck place (view_of seat.old.me.0) (view_of seat.new.me.0))) }
+{
+    for _ in rt.forever() {
+        let found = board.shared.compare_exchange::<TakeLock>(seat, 1, 0, 1);
+        if found == 0 {
+            return Ok(());
+        }
+        if found >= 2 {
+            return Err(place_of_number(found));
+        }
+        thread::yield_now();
+    }
+    unreachable!()
+}
+
+/// Gives the write lock. It waits for nobody.
+pub fn give_lock<D: Disk>(board: &Board<D>, seat: &mut SharedSeat<D>)
+    requires table { (seat.old.table_id ≡ board.now.shared.table_id) × (board.now.shared.table_id.words ≡ 3) }
+    requires may { CanGive seat.old.me.0 }
+    ensures same { (seat.new.table_id ≡ seat.old.table_id) × (seat.new.id ≡ seat.old.id) × (seat.new.me ≡ (outside_view seat.old.me.0, seat.old.me.1)) }
+    ensures given { seat.old.me.0.told ≡ true → LockGiven (GivesLock seat.old.me.0.number) (view_of seat.old.me.0) (view_of seat.new.me.0) }
+{
+    board.shared.store::<GiveLock>(seat, 1, 0);
+}
+
+/// Leaves the write lock stuck, after a fault at this place. It waits for nobody.
+pub fn stick<D: Disk>(board: &Board<D>, seat: &mut SharedSeat<D>, place: DiskPlace)
+    requires table { (seat.old.table_id ≡ board.now.shared.table_id) × (board.now.shared.table_id.words ≡ 3) }
+    requires may { CanStick place seat.old.me.0 }
+    ensures same { (seat.new.table_id ≡ seat.old.table_id) × (seat.new.id ≡ seat.old.id) × (seat.new.me ≡ (outside_view seat.old.me.0, seat.old.me.1)) }
+    ensures given { seat.old.me.0.told ≡ true → LockGiven (SticksLock seat.old.me.0.number) (view_of seat.old.me.0) (view_of seat.new.me.0) }
+{
+    board
+        .shared
+        .store::<StickLock>(seat, 1, number_of_place(place));
+}
+
+/// The revision that was written joins the history: it is the youngest now. It waits for nobody.
+pub fn reveal<D: Disk>(board: &Board<D>, seat: &mut SharedSeat<D>, rev: RevNum)
+    requires table { (seat.old.table_id ≡ board.now.shared.table_id) × (board.now.shared.table_id.words ≡ 3) }
+    requires may { CanReveal rev seat.old.me.0 }
+    ensures same { (seat.new.table_id ≡ seat.old.table_id) × (seat.new.id ≡ seat.old.id) × (seat.new.me ≡ (reveal_in seat.old.me.0.section seat.old.me.0, seat.old.me.1)) }
+    ensures revealed { seat.old.me.0.told ≡ true → (x : Coming) → seat.old.me.0.section ≡ Some (CurrentFirm x) → Revealed x (view_of seat.old.me.0) (view_of (reveal_view x seat.old.me.0)) }
+{
+    board.shared.store::<Reveal>(seat, 2, rev.get() as u64);
+}
+
+/// Takes the disk out of its slot, once it is there.
+pub fn take<D: Disk, R: Wait>(rt: &R, board: &Board<D>, seat: &mut SharedSeat<D>) -> SharedDisk<D>
+    requires { (seat.old.table_id ≡ board.now.shared.table_id) × (board.now.shared.table_id.words ≡ 3) × (board.now.shared.table_id.slots ≡ 1) × (seat.old.me.1 ≡ []) }
+    ensures same { (seat.new.table_id ≡ seat.old.table_id) × (seat.new.id ≡ seat.old.id) }
+    ensures out { seat.new.me ≡ (record seat.old.me.0 { hand = Out result.trace }, (0, None) ∷ []) }
+    ensures told { seat.old.me.0.told ≡ is_some result.trace }
+    ensures met { (t : Trace) → result.trace ≡ Some t → IsMet seat.old.me.0 t }
+{
+    for _ in rt.forever() {
+        if board.shared.compare_exchange::<Take>(seat, 0, 0, 1) == 0 {
+            return board.shared.exchange(seat, 0, None).unwrap();
+        }
+        thread::yield_now();
+    }
+    unreachable!()
+}
+
+/// Gives the disk back as it was taken. It waits for nobody.
+pub fn give_back<D: Disk + Drop>(board: &Board<D>, seat: &mut SharedSeat<D>, disk: SharedDisk<D>)
+    requires table { (seat.old.table_id ≡ board.now.shared.table_id) × (board.now.shared.table_id.words ≡ 3) × (board.now.shared.table_id.slots ≡ 1) }
+    requires out { (seat.old.me.1 ≡ (0, None) ∷ []) × (seat.old.me.0.hand ≡ Out disk.trace) }
+    ensures same { (seat.new.table_id ≡ seat.old.table_id) × (seat.new.id ≡ seat.old.id) }
+    ensures back { seat.new.me ≡ (record seat.old.me.0 { hand = Empty }, []) }
+{
+    board.shared.exchange(seat, 0, Some(disk));
+    board.shared.store::<GiveBack>(seat, 0, 0);
+}
