@@ -212,15 +212,15 @@ not_made {Says = Says} refusal head v m u x y less l r landed says = record {
 }
 
 -- what a marshalling gives
-abbrev pub Marshalled : (List ℕ → Type 0) → ℕ → Made → List (List ℕ × List ℕ) → View → Txn → ℕ → Type 0
-Marshalled holds rev made properties u y number = (bytes : List ℕ) × holds bytes × (next : Revision) × IsNext (revisions (take rev u.seen)) (entry_of number y properties) next
+abbrev pub Marshalled : (Txn → Revision → List ℕ → Type 0) → ℕ → Made → List (List ℕ × List ℕ) → View → Txn → ℕ → Type 0
+Marshalled holds rev made properties u y number = (bytes : List ℕ) × (next : Revision) × holds y next bytes × IsNext (revisions (take rev u.seen)) (entry_of number y properties) next
     × BytesShow (take rev u.seen ++ record { revision = next; bytes = bytes } ∷ [])
     × (made.rev ≡ rev) × (rev ≡ length u.seen → IsMade u properties rev made.rev_file made.props_file made.properties.items made.current.items)
 
 pub marshal_shown : (head next : ℕ) (m u : View) → next ≡ head + 1 → ReadOnly m u → BytesShow (take next u.seen)
 marshal_shown head next m u e r = r.shown next (omega (arith, e))
 
-pub prepared : (holds : List ℕ → Type 0) (head : ℕ) (made : Made) (properties : List (List ℕ × List ℕ)) (v m u : View) (x y : Txn) → Looked head v m → ReadOnly m u → LandedOn head u.seen x y → CanCommit v x properties
+pub prepared : (holds : Txn → Revision → List ℕ → Type 0) (head : ℕ) (made : Made) (properties : List (List ℕ × List ℕ)) (v m u : View) (x y : Txn) → Looked head v m → ReadOnly m u → LandedOn head u.seen x y → CanCommit v x properties
     → ((number : ℕ) → Marshalled holds (head + 1) made properties u y number) → IsReady holds (record { head = head; made = made }) properties v u x y
 prepared holds head made properties v m u x y l r landed can all = record {
   moved = record { drifted = drifted_on v m u (by_look head v m l) (by_reads m u r); section = ap {A = View} (λ z. z.section) r.is ∙ ap {A = View} (λ z. z.section) l.is };
@@ -246,12 +246,12 @@ prepared holds head made properties v m u x y l r landed can all = record {
 pub can_marshal : (head : ℕ) (v m u : View) (x y : Txn) (p q : List (List ℕ × List ℕ)) → q ≡ p → Looked head v m → ReadOnly m u → LandedOn head u.seen x y → CanCommit v x p → CanCommit u y q
 can_marshal head v m u x y p q same l r landed can = subst (λ z. CanCommit u y z) (sym same) (can_landed head v u x y p (ap {A = View} (λ z. z.given) r.is ∙ ap {A = View} (λ z. z.given) l.is) landed can)
 
-pub marshalled_for : (holds : List ℕ → Type 0) (rev next number : ℕ) (made : Made) (p q : List (List ℕ × List ℕ)) (u : View) (y : Txn) → next ≡ rev → q ≡ p → Marshalled holds next made q u y number → Marshalled holds rev made p u y number
+pub marshalled_for : (holds : Txn → Revision → List ℕ → Type 0) (rev next number : ℕ) (made : Made) (p q : List (List ℕ × List ℕ)) (u : View) (y : Txn) → next ≡ rev → q ≡ p → Marshalled holds next made q u y number → Marshalled holds rev made p u y number
 marshalled_for holds rev next number made p q u y e same w = subst (λ n. Marshalled holds n made p u y number) e (subst (λ z. Marshalled holds next made z u y number) same w)
 
 -- ---- the turn
 
-pub found_stuck : {E : Type 0} {Says : Refusals E} (holds : List ℕ → Type 0) (place : DiskPlace) (ready : Ready) (properties : List (List ℕ × List ℕ)) (v u m : View) (x y : Txn) → IsReady holds ready properties v u x y → FoundStuck place u m → Refused Says (fault.Stuck place) v m x y
+pub found_stuck : {E : Type 0} {Says : Refusals E} (holds : Txn → Revision → List ℕ → Type 0) (place : DiskPlace) (ready : Ready) (properties : List (List ℕ × List ℕ)) (v u m : View) (x y : Txn) → IsReady holds ready properties v u x y → FoundStuck place u m → Refused Says (fault.Stuck place) v m x y
 found_stuck holds place ready properties v u m x y r f = record {
   moved = record { drifted = drifted_on v u m r.moved.drifted (by_finding place u m f); section = ap {A = View} (λ z. z.section) f.is ∙ r.moved.section };
   landings = landings_later u.seen m.seen x y (by_finding place u m f).grows r.landings;
@@ -260,16 +260,16 @@ found_stuck holds place ready properties v u m x y r f = record {
 }
 
 -- what is known with the lock held and the youngest number told
-pub drifted_in : (holds : List ℕ → Type 0) (young : ℕ) (ready : Ready) (properties : List (List ℕ × List ℕ)) (v u m n : View) (x y : Txn) → IsReady holds ready properties v u x y → LockTaken u m → Looked young m n → Drifted v n
+pub drifted_in : (holds : Txn → Revision → List ℕ → Type 0) (young : ℕ) (ready : Ready) (properties : List (List ℕ × List ℕ)) (v u m n : View) (x y : Txn) → IsReady holds ready properties v u x y → LockTaken u m → Looked young m n → Drifted v n
 drifted_in holds young ready properties v u m n x y r t l = drifted_on v m n (drifted_on v u m r.moved.drifted (by_taking u m t)) (by_look young m n l)
 
-pub doubtless_in : (holds : List ℕ → Type 0) (young : ℕ) (ready : Ready) (properties : List (List ℕ × List ℕ)) (v u m n : View) (x y : Txn) → IsReady holds ready properties v u x y → LockTaken u m → Looked young m n → BringsNoDoubt v n
+pub doubtless_in : (holds : Txn → Revision → List ℕ → Type 0) (young : ℕ) (ready : Ready) (properties : List (List ℕ × List ℕ)) (v u m n : View) (x y : Txn) → IsReady holds ready properties v u x y → LockTaken u m → Looked young m n → BringsNoDoubt v n
 doubtless_in holds young ready properties v u m n x y r t l = λ few. looked_doubtless young m n l (taken_doubtless u m t (r.doubtless few))
 
 pub may_let_go : (young : ℕ) (u m n : View) → LockTaken u m → Looked young m n → MayGive n
 may_let_go young u m n t l = record { inside = Begun; is = ap {A = View} (λ z. z.section) l.is ∙ ap {A = View} (λ z. z.section) t.is; quiet = refl }
 
-pub lost : (holds : List ℕ → Type 0) (young : ℕ) (ready : Ready) (properties : List (List ℕ × List ℕ)) (v u m n o : View) (x y : Txn) → v.section ≡ None → IsReady holds ready properties v u x y → LockTaken u m → Looked young m n → LockGiven (step.GiveLock n.number) n o → Lost properties v o x y
+pub lost : (holds : Txn → Revision → List ℕ → Type 0) (young : ℕ) (ready : Ready) (properties : List (List ℕ × List ℕ)) (v u m n o : View) (x y : Txn) → v.section ≡ None → IsReady holds ready properties v u x y → LockTaken u m → Looked young m n → LockGiven (step.GiveLock n.number) n o → Lost properties v o x y
 lost holds young ready properties v u m n o x y none r t l g = record {
   moved = record { drifted = drifted_on v n o (drifted_in holds young ready properties v u m n x y r t l) (by_giving (step.GiveLock n.number) n o g); section = ap {A = View} (λ z. z.section) g.is ∙ sym none };
   doubtless = λ few. given_doubtless (step.GiveLock n.number) n o g (doubtless_in holds young ready properties v u m n x y r t l few);
@@ -278,18 +278,18 @@ lost holds young ready properties v u m n o x y none r t l g = record {
   can = can_same u o y properties (ap {A = View} (λ z. z.seen) g.is ∙ ap {A = View} (λ z. z.seen) l.is ∙ ap {A = View} (λ z. z.seen) t.is) (ap {A = View} (λ z. z.given) g.is ∙ ap {A = View} (λ z. z.given) l.is ∙ ap {A = View} (λ z. z.given) t.is) r.can;
 }
 
-module _ (holds : List ℕ → Type 0) (ready : Ready) (properties : List (List ℕ × List ℕ)) (v u n : View) (x y : Txn) (r : IsReady holds ready properties v u x y) (section : n.section ≡ Some Begun) (sure : n.sure ≡ true) (least : n.pass.least ≡ ready.head) (seen : n.seen ≡ u.seen) (given : n.given ≡ u.given) (layout : n.layout ≡ u.layout) (drifted : Drifted v n) (within : length n.seen ≤ ready.head + 1) where
+module _ (holds : Txn → Revision → List ℕ → Type 0) (ready : Ready) (properties : List (List ℕ × List ℕ)) (v u n : View) (x y : Txn) (r : IsReady holds ready properties v u x y) (section : n.section ≡ Some Begun) (sure : n.sure ≡ true) (least : n.pass.least ≡ ready.head) (seen : n.seen ≡ u.seen) (given : n.given ≡ u.given) (layout : n.layout ≡ u.layout) (drifted : Drifted v n) (within : length n.seen ≤ ready.head + 1) where
   length_is : ready.head + 1 ≡ length u.seen
   length_is = let e : length n.seen ≡ length u.seen = ap length seen in omega (arith, e, r.seen, within)
 
   abbrev pub bytes : List ℕ
   bytes = (r.to_come n.number).0
 
-  pub held : holds bytes
-  held = (r.to_come n.number).1
-
   abbrev pub next : Revision
-  next = (r.to_come n.number).2
+  next = (r.to_come n.number).1
+
+  pub held : holds y next bytes
+  held = (r.to_come n.number).2
 
   first : take (ready.head + 1) u.seen ≡ n.seen
   first = take_all (ready.head + 1) u.seen (omega (arith, length_is)) ∙ sym seen
@@ -370,7 +370,7 @@ module _ (holds : List ℕ → Type 0) (ready : Ready) (properties : List (List 
   short_at (fault.DiskFault place) o brings none s = failed_at place o brings none s
 
 -- the lock was taken, and the youngest number is still the head
-module _ (holds : List ℕ → Type 0) (young : ℕ) (ready : Ready) (properties : List (List ℕ × List ℕ)) (v u m n : View) (x y : Txn) (r : IsReady holds ready properties v u x y) (t : LockTaken u m) (l : Looked young m n) (same : young ≡ ready.head) where
+module _ (holds : Txn → Revision → List ℕ → Type 0) (young : ℕ) (ready : Ready) (properties : List (List ℕ × List ℕ)) (v u m n : View) (x y : Txn) (r : IsReady holds ready properties v u x y) (t : LockTaken u m) (l : Looked young m n) (same : young ≡ ready.head) where
   pub section_at : n.section ≡ Some Begun
   section_at = ap {A = View} (λ z. z.section) l.is ∙ ap {A = View} (λ z. z.section) t.is
 
@@ -395,11 +395,11 @@ module _ (holds : List ℕ → Type 0) (young : ℕ) (ready : Ready) (properties
   abbrev pub bytes_at : List ℕ
   bytes_at = bytes holds ready properties v u n x y r section_at sure_at least_at seen_at given_at layout_at (drifted_in holds young ready properties v u m n x y r t l) within_at
 
-  pub held_at : holds bytes_at
-  held_at = held holds ready properties v u n x y r section_at sure_at least_at seen_at given_at layout_at (drifted_in holds young ready properties v u m n x y r t l) within_at
-
   abbrev pub next_at : Revision
   next_at = next holds ready properties v u n x y r section_at sure_at least_at seen_at given_at layout_at (drifted_in holds young ready properties v u m n x y r t l) within_at
+
+  pub held_at : holds y next_at bytes_at
+  held_at = held holds ready properties v u n x y r section_at sure_at least_at seen_at given_at layout_at (drifted_in holds young ready properties v u m n x y r t l) within_at
 
   pub adopts_at : MayAdopt n y properties next_at bytes_at
   adopts_at = may_adopt holds ready properties v u n x y r section_at sure_at least_at seen_at given_at layout_at (drifted_in holds young ready properties v u m n x y r t l) within_at
@@ -508,7 +508,7 @@ refused_last {Says = Says} f v m u o x y none t r g = record {
     cause_given W (fault.DiskFault place) c =
         let e : Some Begun ≡ None = sym (begun_then v m u t r.moved.section) ∙ ap {A = View} (λ z. z.section) c.2.is in absurd cc
 
-module _ (holds : List ℕ → Type 0) (ready : Ready) (p : List (List ℕ × List ℕ)) (v m u : View) (x y : Txn) (t : LockTaken v m) (r : IsReady holds ready p m u x y) where
+module _ (holds : Txn → Revision → List ℕ → Type 0) (ready : Ready) (p : List (List ℕ × List ℕ)) (v m u : View) (x y : Txn) (t : LockTaken v m) (r : IsReady holds ready p m u x y) where
   pub last_section : u.section ≡ Some Begun
   last_section = begun_then v m u t r.moved.section
 
@@ -518,11 +518,11 @@ module _ (holds : List ℕ → Type 0) (ready : Ready) (p : List (List ℕ × Li
   abbrev pub last_bytes : List ℕ
   last_bytes = bytes holds ready p m u u x y r last_section (r.sure ∙ last_held) r.least refl refl refl r.moved.drifted (r.within last_held)
 
-  pub last_holds : holds last_bytes
-  last_holds = held holds ready p m u u x y r last_section (r.sure ∙ last_held) r.least refl refl refl r.moved.drifted (r.within last_held)
-
   abbrev pub last_next : Revision
   last_next = next holds ready p m u u x y r last_section (r.sure ∙ last_held) r.least refl refl refl r.moved.drifted (r.within last_held)
+
+  pub last_holds : holds y last_next last_bytes
+  last_holds = held holds ready p m u u x y r last_section (r.sure ∙ last_held) r.least refl refl refl r.moved.drifted (r.within last_held)
 
   pub last_adopts : MayAdopt u y p last_next last_bytes
   last_adopts = may_adopt holds ready p m u u x y r last_section (r.sure ∙ last_held) r.least refl refl refl r.moved.drifted (r.within last_held)
@@ -620,7 +620,7 @@ pub of_rev : (rev same : ℕ) (p : List (List ℕ × List ℕ)) (v u : View) (x 
 of_rev rev same p v u x y e c = subst (λ n. Committed n p v u x y) (sym e) c
 
 -- the same properties by another name
-pub ready_as : (holds : List ℕ → Type 0) (ready : Ready) (p q : List (List ℕ × List ℕ)) (v u : View) (x y : Txn) → q ≡ p → IsReady holds ready p v u x y → IsReady holds ready q v u x y
+pub ready_as : (holds : Txn → Revision → List ℕ → Type 0) (ready : Ready) (p q : List (List ℕ × List ℕ)) (v u : View) (x y : Txn) → q ≡ p → IsReady holds ready p v u x y → IsReady holds ready q v u x y
 ready_as holds ready p q v u x y same r = subst (λ z. IsReady holds ready z v u x y) (sym same) r
 
 pub committed_as : (rev : ℕ) (p q : List (List ℕ × List ℕ)) (v u : View) (x y : Txn) → q ≡ p → Committed rev q v u x y → Committed rev p v u x y

@@ -19,6 +19,7 @@ use fsfs_disk::Bench;
 use fsfs_fields::RevNum;
 use fsfs_held::HeldNodes;
 use fsfs_layout::Layout;
+use fsfs_note::no_note;
 use fsfs_own::Own;
 use fsfs_turn::{LoneTurns, Turns};
 use fsfs_txn::Txn;
@@ -142,7 +143,7 @@ fn written<B: Bench>(stage: Stage<B>) -> (Stage<B>, Result<(), CommitRefusal>)
 impl<R, T: LoneTurns<R>> Draft<R, T> for TxnDraft<T::Bench> {
     ghost use Rattle.fsfs_draft.specs.Meaning.{Means, HoldsBehind, IfOpen, OfStage};
     ghost use Rattle.fsfs_disk.specs.Benches.{bytes_on, IsFirmFile};
-    ghost use Rattle.std.specs.Prelude.{◌≡◌, option_map};
+    ghost use Rattle.std.specs.Prelude.{◌≡◌, false, option_map};
     ghost use Rattle.fsfs_draft.specs.Findings.{Finds, FindsEnded};
     ghost use Rattle.fsfs_draft.specs.Refusals.{IsDiskFault, Refuses};
     ghost use Rattle.fsfs_draft.specs.StayingLemmas.{open_grows};
@@ -153,7 +154,10 @@ impl<R, T: LoneTurns<R>> Draft<R, T> for TxnDraft<T::Bench> {
 
     ghost properties = { λ d. d.properties };
 
-    ghost holds = { λ d bytes. OfStage d.stage (λ o. HoldsBehind (T.Bench.contents o.txn.own.bench) (⟦<HeldNodes<T::Bench> as Own>⟧.settled o.txn.own).proto (option_map (λ t. t.items) o.text) bytes) (λ e. bytes ≡ bytes_on (T.Bench.contents e.bench) e.file) };
+    // The pass is alone: nobody rests on one transaction.
+    ghost pinned = { λ d. false };
+
+    ghost holds = { λ d txn next bytes. OfStage d.stage (λ o. HoldsBehind (T.Bench.contents o.txn.own.bench) (⟦<HeldNodes<T::Bench> as Own>⟧.settled o.txn.own).proto (option_map (λ t. t.items) o.text) bytes) (λ e. bytes ≡ bytes_on (T.Bench.contents e.bench) e.file) };
 
     ghost is_written = { λ d. OfStage d.stage (λ o. ⊥) (λ e. IsFirmFile (T.Bench.contents e.bench) (T.Bench.firm_to e.bench e.file) e.file) };
 
@@ -200,7 +204,9 @@ impl<R, T: LoneTurns<R>> Draft<R, T> for TxnDraft<T::Bench> {
 
     fn hand_over(&mut self, rt: &R, turns: &mut T, name: &Name) -> Result<(), Failed> {
         match &mut self.stage {
-            Stage::Ended(ended) => turns.adopt_file(rt, &mut ended.bench, &ended.file, name),
+            Stage::Ended(ended) => {
+                turns.adopt_file(rt, &mut ended.bench, &ended.file, name, &no_note())
+            }
             Stage::Open(_) => unreachable!(),
         }
     }

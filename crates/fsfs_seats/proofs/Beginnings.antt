@@ -31,7 +31,7 @@ untold layout = record { layout = layout; since = 0; opened = 0; number = 0; pas
 
 -- who isn't sure knows no more
 unsure : (layout : Layout) (young : ℕ) (t : Trace) (v : View) → Knows layout young None (Some t) v → Knows layout young None (Some t) (record v { sure = false })
-unsure layout young t v k = (k.0, k.1, (let s = k.2 in record { pass = s.pass; seen = s.seen; section = s.section; up = s.up; sure = λ e. absurd cc; whole = s.whole; given = s.given; opened = s.opened; shown = s.shown }), k.3, k.4, k.5)
+unsure layout young t v k = (k.0, k.1, (let s = k.2 in record { pass = s.pass; seen = s.seen; section = s.section; up = s.up; sure = λ e. absurd cc; whole = s.whole; given = s.given; opened = s.opened; shown = s.shown }), k.3, k.4, k.5, k.6)
 
 pub first_there : (layout : Layout) (young : ℕ) (told : Option Trace) → IfSome told (λ t. (v : View) × (v.section ≡ None) × Knows layout young None (Some t) v) → (v : SeatView) × IsFirst layout young told v
 first_there layout young None k = (untold layout, (refl, refl))
@@ -66,7 +66,7 @@ store_first layout young t first k =
       next = known.1.coming;
       safe = subst (λ l. Safe l first.since t first.opened w.floor w.history (doubt w.lock)) (sym known.3) known.5;
       up = known.2.up;
-      lock_is = sym (ap (λ l. lock_word l) (free layout young None t w (view_of first) known.1 known.2 known.3 known.4 known.5 k.3 refl));
+      lock_is = sym (ap (λ l. lock_word l) (free layout young None t w (view_of first) known.1 known.2 known.3 known.4 known.5 known.6 k.3 refl));
       young_is = sym known.1.young_is;
       seats = one_seat (λ j v. Seated first w j v) first record { number = known.4; sees = known.2; sure = λ e. (let no : false ≡ true = sym k.2 ∙ e in absurd cc); layout = refl; since = refl; opened = refl };
     }

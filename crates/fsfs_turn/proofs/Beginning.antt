@@ -118,7 +118,7 @@ module _ (first : Files) (labels : List Label) (before : List Operation) (date :
 
   store : IsStore new.layout 0 None (record { first = first; labels = labels; operations = Done real.FirmNames ∷ before }) world
   unfolding world disk
-  store = record { trace = Opening before disk read; whole = zero-mod new.layout.shard_size; kept = kept_bare world (created_kept world ((date_name, date) ∷ []) first_bytes refl); shown = all_show; coming = tt; young_is = refl; stuck_is = refl; alone = refl }
+  store = record { trace = Opening before disk read; whole = zero-mod new.layout.shard_size; kept = kept_bare world (created_kept world ((date_name, date) ∷ []) first_bytes refl); shown = all_show; coming = tt; young_is = refl; stuck_is = refl }
 
   sees : Sees world view
   unfolding world view
@@ -149,7 +149,7 @@ module _ (first : Files) (labels : List Label) (before : List Operation) (date :
 
   pub new_is_known : (v : View) × KnowsAlone new.layout 0 None (Some (record { first = first; labels = labels; operations = Done real.FirmNames ∷ before })) v × (v.section ≡ None) × (v.pass ≡ first_pass 1 0) × (v.seen ≡ new_revision date ∷ []) × (v.since ≡ length before + 1)
   unfolding view world
-  new_is_known = (view, ((world, store, sees, refl, refl, safe), record { all = refl; own = refl; free = λ harmless. refl; sound = λ harmless. refl; found = λ harmless. refl }, own), refl, refl, refl, refl)
+  new_is_known = (view, ((world, store, sees, refl, refl, safe, refl), record { all = refl; own = refl; free = λ harmless. refl; sound = λ harmless. refl; found = λ harmless. refl }, own), refl, refl, refl, refl)
 
 pub new_store_is_known : NewStoreIsKnown
 new_store_is_known first labels before date new = new_is_known first labels before date new

@@ -34,8 +34,8 @@ there_in [] p x e = absurd cc
 there_in (y ∷ ys) zero x e = grind arith
 there_in (y ∷ ys) (suc p) x e = let rest : nat_lt p (length ys) ≡ true = there_in ys p x e in grind (arith, rest)
 
--- one more
-show_more : (h : List Recorded) (x : Coming) → AllShow h → BytesShow (with_next h x) → AllShow (with_next h x)
+-- with one revision more that shows, each first part shows
+pub show_more : (h : List Recorded) (x : Coming) → AllShow h → BytesShow (with_next h x) → AllShow (with_next h x)
 show_more h x shown next n some =
     ⊎_elim (λ less. subst (λ l. BytesShow l) (sym (take-append-le n h (recorded x ∷ []) less)) (shown n some))
     (λ more. let long : length (with_next h x) ≤ n = let e : length (with_next h x) ≡ length h + 1 = grind (arith, length-append) in omega (arith, more, e) in subst (λ l. BytesShow l) (sym (take_all n (with_next h x) long)) next)
@@ -46,11 +46,11 @@ show_more h x shown next n some =
     split_at (suc a) zero = inr (omega arith)
     split_at (suc a) (suc b) = ⊎_elim (λ l. inl (omega (arith, l))) (λ l. inr (omega (arith, l))) (split_at a b)
 
-module _ (layout : Layout) (young : ℕ) (stuck : Option DiskPlace) (t : Trace) (w : World) (v : View) (store : IsStore layout young stuck t w) (sees : Sees w v) (layout_is : v.layout ≡ layout) (number_is : v.number ≡ 0) (safe : Safe layout v.since t v.opened w.floor w.history (doubt w.lock)) where
+module _ (layout : Layout) (young : ℕ) (stuck : Option DiskPlace) (t : Trace) (w : World) (v : View) (store : IsStore layout young stuck t w) (sees : Sees w v) (layout_is : v.layout ≡ layout) (number_is : v.number ≡ 0) (safe : Safe layout v.since t v.opened w.floor w.history (doubt w.lock)) (alone : length w.passes ≡ 1) where
   -- the store after a step that leaves the disk and the history
-  moved : (w2 : World) → w2.floor ≡ w.floor → w2.disk ≡ w.disk → w2.history ≡ w.history → w2.young ≡ w.young → length w2.passes ≡ length w.passes → (o : Option DiskPlace) → stuck_place w2.lock ≡ o
+  moved : (w2 : World) → w2.floor ≡ w.floor → w2.disk ≡ w.disk → w2.history ≡ w.history → w2.young ≡ w.young → (o : Option DiskPlace) → stuck_place w2.lock ≡ o
       → IfSome (coming w2.lock) (λ x. BytesShow (with_next w.history x)) → Kept (with_txns [] w2) → IsStore layout young o t w2
-  moved w2 floor disk history young_is passes o stuck_is next kept = record {
+  moved w2 floor disk history young_is o stuck_is next kept = record {
     trace = subst (λ f. IsTraceOf layout f no_others t.first t.operations w2.disk) (sym floor) (subst (λ d. IsTraceOf layout w.floor no_others t.first t.operations d) (sym disk) store.trace);
     whole = subst (λ f. place_in_shard layout f ≡ 0) (sym floor) store.whole;
     kept = kept;
@@ -58,7 +58,6 @@ module _ (layout : Layout) (young : ℕ) (stuck : Option DiskPlace) (t : Trace) 
     coming = subst (λ h. IfSome (coming w2.lock) (λ x. BytesShow (with_next h x))) (sym history) next;
     young_is = young_is ∙ store.young_is;
     stuck_is = stuck_is;
-    alone = passes ∙ store.alone;
   }
 
   safe_as : (lock : Lock) → w.lock ≡ lock → Safe layout v.since t v.opened w.floor w.history (doubt lock)
@@ -70,7 +69,7 @@ module _ (layout : Layout) (young : ℕ) (stuck : Option DiskPlace) (t : Trace) 
   pub looks : (u : View) × Knows layout young stuck (Some t) u × Looked young v u
   looks = (
     view,
-    (world, moved world refl refl refl refl (length_at w.passes v.number tells) stuck store.stuck_is store.coming kept, seen, layout_is, number_is, safe),
+    (world, moved world refl refl refl refl stuck store.stuck_is store.coming kept, seen, layout_is, number_is, safe, length_at w.passes v.number tells ∙ alone),
     record {
       turned = record { world = w; kept = store.kept; sees = sees; did = did world (outcome.Youngest w.young); happens = happens; answers = ap (λ (k : ℕ). outcome.Youngest k) store.young_is; after = kept; leaves = seen };
       is = refl;
@@ -118,7 +117,7 @@ module _ (layout : Layout) (young : ℕ) (stuck : Option DiskPlace) (t : Trace) 
       by_lock Free is = is
       by_lock (Held q s) is =
           let holder : IsHolder (length w.passes) (Held q s) = subst (λ l. IsHolder (length w.passes) l) is store.kept.holder in
-          let zero_is : q ≡ 0 = omega (arith, holder.0, store.alone) in
+          let zero_is : q ≡ 0 = omega (arith, holder.0, alone) in
           let here : held_by v.number (Held q s) ≡ Some s = ap (λ n. held_by n (Held q s)) number_is ∙ ap (λ n. held_by 0 (Held n s)) zero_is ∙ held_here 0 s in
           let not : held_by v.number (Held q s) ≡ None = ap (λ l. held_by v.number l) (sym is) ∙ sees.section ∙ none in
           absurd cc
@@ -129,7 +128,7 @@ module _ (layout : Layout) (young : ℕ) (stuck : Option DiskPlace) (t : Trace) 
   pub takes : v.section ≡ None → stuck ≡ None → (u : View) × Knows layout young stuck (Some t) u × LockTaken v u
   takes none not_stuck = (
     view,
-    (world, moved world refl refl refl refl refl stuck (sym not_stuck) tt kept, seen, layout_is, number_is, safe_as Free (free none not_stuck)),
+    (world, moved world refl refl refl refl stuck (sym not_stuck) tt kept, seen, layout_is, number_is, safe_as Free (free none not_stuck), alone),
     record {
       turned = record { world = w; kept = store.kept; sees = sees; did = did world outcome.Done; happens = happens; answers = refl; after = kept; leaves = seen };
       is = refl;
@@ -165,7 +164,7 @@ module _ (layout : Layout) (young : ℕ) (stuck : Option DiskPlace) (t : Trace) 
   pub finds_stuck : (place : DiskPlace) → stuck ≡ Some place → (u : View) × Knows layout young stuck (Some t) u × FoundStuck place v u
   finds_stuck place is_stuck = (
     view,
-    (world, moved world refl refl refl refl (length_at w.passes v.number learns_it) stuck store.stuck_is store.coming kept, seen, layout_is, number_is, safe),
+    (world, moved world refl refl refl refl stuck store.stuck_is store.coming kept, seen, layout_is, number_is, safe, length_at w.passes v.number learns_it ∙ alone),
     record {
       turned = record { world = w; kept = store.kept; sees = sees; did = did world (outcome.Stuck place); happens = happens; answers = refl; after = kept; leaves = seen };
       is = refl;
@@ -196,7 +195,7 @@ module _ (layout : Layout) (young : ℕ) (stuck : Option DiskPlace) (t : Trace) 
   pub gives_lock : (s : Section) → v.section ≡ Some s → is_quiet s ≡ true → (u : View) × Knows layout young stuck (Some t) u × LockGiven (step.GiveLock v.number) v u
   gives_lock s inside_is quiet = (
     outside v,
-    (world, moved world refl refl refl refl refl stuck (sym (ap stuck_place lock) ∙ store.stuck_is) tt kept, seen, layout_is, number_is, subst (λ d. Safe layout v.since t v.opened w.floor w.history d) (quiet_doubt s quiet) (safe_as (Held v.number s) lock)),
+    (world, moved world refl refl refl refl stuck (sym (ap stuck_place lock) ∙ store.stuck_is) tt kept, seen, layout_is, number_is, subst (λ d. Safe layout v.since t v.opened w.floor w.history d) (quiet_doubt s quiet) (safe_as (Held v.number s) lock), alone),
     record {
       turned = record { world = w; kept = store.kept; sees = sees; did = did world outcome.Done; happens = happens; answers = refl; after = kept; leaves = seen };
       is = refl;
@@ -221,7 +220,7 @@ module _ (layout : Layout) (young : ℕ) (stuck : Option DiskPlace) (t : Trace) 
   pub sticks : (place : DiskPlace) (x : Coming) → v.section ≡ Some (Doubtful place x) → (u : View) × Knows layout young (Some place) (Some t) u × LockGiven (step.StickLock v.number) v u
   sticks place x inside_is = (
     outside v,
-    (world, moved world refl refl refl refl refl (Some place) refl next kept, seen, layout_is, number_is, safe_as (Held v.number (Doubtful place x)) lock),
+    (world, moved world refl refl refl refl (Some place) refl next kept, seen, layout_is, number_is, safe_as (Held v.number (Doubtful place x)) lock, alone),
     record {
       turned = record { world = w; kept = store.kept; sees = sees; did = did world outcome.Done; happens = happens; answers = refl; after = kept; leaves = seen };
       is = refl;
@@ -249,7 +248,7 @@ module _ (layout : Layout) (young : ℕ) (stuck : Option DiskPlace) (t : Trace) 
   pub reveals_it : (x : Coming) (rev : ℕ) → v.section ≡ Some (CurrentFirm x) → rev ≡ length v.seen → (u : View) × Knows layout rev stuck (Some t) u × Revealed x v u
   reveals_it x rev inside_is rev_is = (
     view,
-    (world, now, seen, layout_is, number_is, safe_more layout v.since v.opened w.floor t w.history (with_next w.history x) (Some x) None (λ g q. part_revealed w.history x g q) (safe_as (Held v.number (CurrentFirm x)) lock)),
+    (world, now, seen, layout_is, number_is, safe_more layout v.since v.opened w.floor t w.history (with_next w.history x) (Some x) None (λ g q. part_revealed w.history x g q) (safe_as (Held v.number (CurrentFirm x)) lock), length_at w.passes v.number (reveals (length w.history)) ∙ alone),
     record {
       turned = record { world = w; kept = store.kept; sees = sees; did = did world outcome.Done; happens = happens; answers = refl; after = kept; leaves = seen };
       is = refl;
@@ -278,7 +277,7 @@ module _ (layout : Layout) (young : ℕ) (stuck : Option DiskPlace) (t : Trace) 
       kept = kept_bare world (step_keeps (with_txns [] w) (step.Reveal v.number) (did world outcome.Done) happens store.kept).kept
 
       now : IsStore layout rev stuck t world
-      now = record { trace = store.trace; whole = store.whole; kept = kept; shown = show_more w.history x store.shown next; coming = tt; young_is = ap length (sym all) ∙ sym rev_is; stuck_is = sym (ap stuck_place lock) ∙ store.stuck_is; alone = length_at w.passes v.number (reveals (length w.history)) ∙ store.alone }
+      now = record { trace = store.trace; whole = store.whole; kept = kept; shown = show_more w.history x store.shown next; coming = tt; young_is = ap length (sym all) ∙ sym rev_is; stuck_is = sym (ap stuck_place lock) ∙ store.stuck_is }
 
       one_more : (h : List Recorded) → length (with_next h x) ≤ length h + 1
       one_more h = grind (arith, length-append)

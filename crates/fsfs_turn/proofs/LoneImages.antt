@@ -35,7 +35,7 @@ module _ (layout : Layout) (young : ℕ) (stuck : Option DiskPlace) (t : Trace) 
   all_of_it h g d is part le = ⊎_elim (λ b. sym (same_by_length g h b le)) (λ y. absurd (some_is_none y.0 (sym is ∙ y.1))) part
 
   quiet : v.section ≡ None → stuck ≡ None → doubt known.0.0.lock ≡ None
-  quiet outside unstuck = ap (λ l. doubt l) (free layout young stuck t known.0.0 v known.0.1 known.0.2 known.0.3 known.0.4 known.0.5 outside unstuck)
+  quiet outside unstuck = ap (λ l. doubt l) (free layout young stuck t known.0.0 v known.0.1 known.0.2 known.0.3 known.0.4 known.0.5 known.0.6 outside unstuck)
 
   -- the same of each moment since the opening, in the middle of a call too
   pub moment_stands : (m : Files) → ImageSince v.since t.first t.operations m → (d : Option Coming) × (g : List Recorded) × IsPart v.seen d g × (v.opened ≤ length g) × HasHistory layout m g

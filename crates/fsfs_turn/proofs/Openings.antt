@@ -320,7 +320,7 @@ module _ (first : Files) (labels : List Label) (before : List Operation) (h : Li
   trace = record { first = first; labels = labels; operations = Done real.FirmNames ∷ before }
 
   store : IsStore layout s.opened.youngest None trace world
-  store = record { trace = Opening before disk read; whole = floor_text.1; kept = kept_bare world kept; shown = all_show; coming = tt; young_is = refl; stuck_is = refl; alone = refl }
+  store = record { trace = Opening before disk read; whole = floor_text.1; kept = kept_bare world kept; shown = all_show; coming = tt; young_is = refl; stuck_is = refl }
 
   sees : Sees world view
   sees = record { pass = refl; seen = sym (take_all (length g) g (omega arith)); section = refl; up = refl; sure = λ e. absurd cc; whole = λ z e. absurd cc; given = λ q i. absurd i; opened = omega arith; shown = all_show }
@@ -337,7 +337,7 @@ module _ (first : Files) (labels : List Label) (before : List Operation) (h : Li
       stands = kept.stands
 
   pub is_known : (v : View) × KnowsAlone layout s.opened.youngest None (Some trace) v × (v.section ≡ None) × (v.pass ≡ first_pass (length h) s.opened.min_unpacked_rev) × (revisions v.seen ≡ h) × (v.since ≡ length before + 1)
-  is_known = (view, ((world, store, sees, refl, refl, safe), record { all = (let c = s.count in omega (arith, long, c)); own = omega arith; free = λ harmless. refl; sound = λ harmless. refl; found = λ harmless. refl }, own_opened (files_after first before) h s), refl, ap (λ n. first_pass n s.opened.min_unpacked_rev) long, revisions_are, refl)
+  is_known = (view, ((world, store, sees, refl, refl, safe, refl), record { all = (let c = s.count in omega (arith, long, c)); own = omega arith; free = λ harmless. refl; sound = λ harmless. refl; found = λ harmless. refl }, own_opened (files_after first before) h s), refl, ap (λ n. first_pass n s.opened.min_unpacked_rev) long, revisions_are, refl)
 
 pub store_is_known : StoreIsKnown
 store_is_known first labels before h s agreeing = is_known first labels before h s agreeing

@@ -1,6 +1,6 @@
 -- The label and the files of a bench that was made or dropped.
 use Rattle.std.proofs.Common.{◌≡◌, ◌≤◌, ℕ, List, Bool, true, inl, inr, refl, sym, ap, subst, ◌∙◌, arith}
-use Rattle.std.specs.Prelude.{Option, Some, None, IfSome, option_map, Result, Ok, Err, OnOk, OnErr}
+use Rattle.std.specs.Prelude.{Option, Some, None, IfSome, IfOk, option_map, Result, Ok, Err, OnErr}
 use Rattle.std.specs.FinMap.{empty}
 use Rattle.fsfs_base.specs.Files.{Files}
 use Rattle.fsfs_base.specs.Failures.{Rose}
@@ -8,6 +8,7 @@ use Rattle.fsfs_disk.specs.Labels.{Label, has_label, with_label, without_label}
 use Rattle.fsfs_disk.proofs.LabelLemmas.{has-without, has-with}
 use Rattle.fsfs_noderev.specs.declared.node_id.NodeId.{NodeId}
 use Rattle.fsfs_begin.specs.Benches.{first_files, with_first_files}
+use Rattle.fsfs_turn.specs.Labels.{Drops}
 use Rattle.fsfs_turn_begin.specs.Faults.{IsDropped}
 
 pub kept_now : (l : Label) (old new : Option (List Label)) → new ≡ option_map (with_label l) old → IfSome new (λ ls. has_label l ls ≡ true)
@@ -22,13 +23,14 @@ left_now : (rose : Type 0) (l : Label) (new : Option (List Label)) → rose → 
 left_now rose l None r = tt
 left_now rose l (Some ls) r = inr r
 
-pub dropped_now : {E : Type 0} (l : Label) (old new : Option (List Label)) (first before now : ℕ) (result : Result Bool E) → first ≤ before → OnOk result (new ≡ option_map (without_label l) old) → OnErr result (Rose before now) → IsDropped l new (Rose first now)
-dropped_now l old new first before now (Ok there) later done failed = gone_now (Rose first now) l old new done
-dropped_now l old new first before now (Err e) later done failed = left_now (Rose first now) l new (omega (arith, later, failed))
+pub dropped_now : {E : Type 0} (bound : Bool) (l : Label) (old new : Option (List Label)) (first before now : ℕ) (result : Result Bool E) → first ≤ before → IfOk result (λ there. Drops bound l there old new) → OnErr result (Rose before now)
+    → IsDropped l new (Rose first now)
+dropped_now bound l old new first before now (Ok there) later done failed = gone_now (Rose first now) l done.met new done.made
+dropped_now bound l old new first before now (Err e) later done failed = left_now (Rose first now) l new (omega (arith, later, failed))
 
-pub filled_now : (l : Label) (id : NodeId) (root : List ℕ) (old new : Option (List Label)) (held left : Option Files) → new ≡ option_map (with_label l) old → held ≡ option_map (λ _. empty) old → left ≡ option_map (with_first_files id root) held → left ≡ option_map (λ _. first_files id root) new
-filled_now l id root old new held left kept empty_is files = files ∙ ap (λ o. option_map (with_first_files id root) o) empty_is ∙ by_old old ∙ ap (λ o. option_map (λ _. first_files id root) o) (sym kept)
+pub filled_now : (id : NodeId) (root : List ℕ) (new : Option (List Label)) (held left : Option Files) → held ≡ option_map (λ _. empty) new → left ≡ option_map (with_first_files id root) held → left ≡ option_map (λ _. first_files id root) new
+filled_now id root new held left empty_is files = files ∙ ap (λ o. option_map (with_first_files id root) o) empty_is ∙ by_new new
   where
-    by_old : (o : Option (List Label)) → option_map (with_first_files id root) (option_map (λ _. empty) o) ≡ option_map (λ _. first_files id root) (option_map (with_label l) o)
-    by_old None = refl
-    by_old (Some ls) = refl
+    by_new : (o : Option (List Label)) → option_map (with_first_files id root) (option_map (λ _. empty) o) ≡ option_map (λ _. first_files id root) o
+    by_new None = refl
+    by_new (Some ls) = refl

@@ -1,5 +1,5 @@
 // The name of a new transaction is drawn, by a section of its own.
-ghost use Rattle.std.specs.Prelude.{◌≡◌, ◌⊎◌, ◌≤◌, ℕ, Some, None, IfOk, IfErr};
+ghost use Rattle.std.specs.Prelude.{◌≡◌, ◌⊎◌, ◌≤◌, true, Some, None, IfOk, IfErr};
 ghost use Rattle.fsfs_base.specs.Failures.{HasCause, Rose};
 ghost use Rattle.fsfs_layout.specs.Small.{IsBase36Line};
 ghost use Rattle.fsfs_begin.specs.Drawing.{IsSmallIn};
@@ -34,16 +34,15 @@ fn number_in(bytes: &[u8]) -> Result<B36, NameFault>
 }
 
 // The number that stands in `db/txn-current`, by the section's first call. A file that isn't there counts as empty.
-fn read_number<R, T: LoneTurns<R>>(rt: &R, turns: &mut T) -> Result<B36, NameFault>
-    ensures counted { (v : View) (base : ℕ) → T.knows turns.old v → v.section ≡ Some Begun → base ≤ v.pass.least → Counts (T.knows turns.new) base result v ⊎ IsPastNumbers (T.store turns.old) }
+fn read_number<R, T: LoneTurns<R>>(rt: &R, turns: &mut T, base: RevNum) -> Result<B36, NameFault>
+    ensures counted { (v : View) → T.knows turns.old v → v.section ≡ Some Begun → base ≤ v.pass.least → Counts (T.knows turns.new) base result v ⊎ IsPastNumbers (T.store turns.old) }
     ensures mounted { T.mount_path turns.new ≡ T.mount_path turns.old }
     ensures later { T.faults turns.old ≤ T.faults turns.new }
     ensures cause { IfErr result (λ why. IfNameDisk why (Rose (T.faults turns.old) (T.faults turns.new))) }
 {
     let mut buffer = [0; MOST];
     let piece = &mut buffer[..];
-    let current = OnlyFile::TxnCurrent.name();
-    match turns.read(rt, &current, 0, piece) {
+    match turns.draw(rt, base, piece) {
         Ok(Some(count)) => number_in(&piece[..count]),
         Ok(None) => number_in(b""),
         Err(_) => Err(NameFault::DiskFault(BeginPlace::Read)),
@@ -52,8 +51,10 @@ fn read_number<R, T: LoneTurns<R>>(rt: &R, turns: &mut T) -> Result<B36, NameFau
 
 // Lets these bytes be `db/txn-current`, by one change of names, which is made firm.
 fn raise<R, T: Turns<R>>(rt: &R, turns: &mut T, text: &[u8]) -> Result<(), BeginPlace>
+    requires due { T.bound turns.old ≡ true → (v : View) × (x : Drawn) × T.knows turns.old v × (v.section ≡ Some (CountRead x)) × IsBase36Line text.now x.next }
     ensures raised { (v : View) (x : Drawn) → T.knows turns.old v → v.section ≡ Some (CountRead x) → IsBase36Line text.now x.next → Raises (T.knows turns.new) x result v }
     ensures mounted { T.mount_path turns.new ≡ T.mount_path turns.old }
+    ensures duty { T.bound turns.new ≡ T.bound turns.old }
     ensures cause { HasCause (T.faults turns.old) (T.faults turns.new) result }
 {
     let next = OnlyFile::TxnCurrentNext.name();
@@ -85,7 +86,7 @@ fn next_name<R, T: LoneTurns<R>>(
     ensures later { T.faults turns.old ≤ T.faults turns.new }
     ensures cause { IfErr result (λ why. IfNameDisk why (Rose (T.faults turns.old) (T.faults turns.new))) }
 {
-    let number = match read_number(rt, turns) {
+    let number = match read_number(rt, turns, base) {
         Ok(number) => number,
         Err(fault) => return Err(fault),
     };

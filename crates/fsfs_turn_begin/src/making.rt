@@ -40,6 +40,7 @@ fn begin_bench<R, T: Turns<R>>(
     id: &NodeId,
     root: &[u8],
 ) -> Result<T::Bench, BenchFault>
+    requires due { T.bound turns.old ≡ true → (v : View) × T.knows turns.old v × MayMake v (drawn_of name.now.base name.now.number.number) }
     ensures filled { IfOk result (λ bench. T.Bench.contents bench ≡ option_map (λ _. first_files id.now root.now) (T.labels turns.new)) }
     ensures sound { IfOk result (λ bench. T.Bench.faults bench ≡ 0) }
     ensures kept { IfSome (T.labels turns.new) (λ ls. OnOk result (has_label (txn_label (pair_of name.now)) ls ≡ true)) }
@@ -48,6 +49,7 @@ fn begin_bench<R, T: Turns<R>>(
         → IfErr result (λ why. (u : View) × T.knows turns.new u × Moved v u × (u.given ≡ v.given) × IfBenchDisk why (HasFault DiskPlace.MakeBench u)) }
     ensures dropped { OnErr result (IsDropped (txn_label (pair_of name.now)) (T.labels turns.new) (Rose (T.faults turns.old) (T.faults turns.new))) }
     ensures mounted { T.mount_path turns.new ≡ T.mount_path turns.old }
+    ensures duty { T.bound turns.new ≡ T.bound turns.old }
     ensures later { T.faults turns.old ≤ T.faults turns.new }
     ensures cause { IfErr result (λ why. IfBenchDisk why (Rose (T.faults turns.old) (T.faults turns.new))) }
 {
@@ -75,7 +77,8 @@ pub(crate) fn make<R, T: Turns<R>>(
     name: TxnName,
     base: &NodeRev,
 ) -> Result<Begun<T::Bench>, BeginFault>
-    requires { HasText base.now }
+    requires text { HasText base.now }
+    requires due { T.bound turns.old ≡ true → (v : View) × T.knows turns.old v × MayMake v (drawn_of name.base name.number.number) }
     ensures name { IfOk result (λ begun. begun.name ≡ name) }
     ensures root { IfOk result (λ begun. BeginsOn name base.now begun.root) }
     ensures filled { IfOk result (λ begun. HoldsRoot begun.root (T.labels turns.new) (T.Bench.contents begun.bench)) }
@@ -87,6 +90,7 @@ pub(crate) fn make<R, T: Turns<R>>(
         → IfErr result (λ why. (u : View) × T.knows turns.new u × Moved v u × (u.given ≡ v.given) × Cause name.base why u) }
     ensures dropped { IfErr result (λ why. IfBench why (IsDropped (txn_label (pair_of name)) (T.labels turns.new) (Rose (T.faults turns.old) (T.faults turns.new)))) }
     ensures mounted { T.mount_path turns.new ≡ T.mount_path turns.old }
+    ensures duty { T.bound turns.new ≡ T.bound turns.old }
     ensures later { T.faults turns.old ≤ T.faults turns.new }
     ensures cause { IfErr result (λ why. IfDisk why (Rose (T.faults turns.old) (T.faults turns.new))) }
     ensures there { IfErr result IsNoBase }

@@ -1,10 +1,28 @@
-use Rattle.std.proofs.Common.{Ok, Err, refl}
+use Rattle.std.proofs.Common.{Ok, Err, inl, refl, sym, ◌∙◌}
 use Rattle.fsfs_places.specs.declared.place.DiskPlace.TheVariants.{Commit}
 use Rattle.fsfs_places.specs.declared.place.CommitPlace.TheVariants as place
 use Rattle.fsfs_machine.specs.declared.machine.Section.TheVariants as section
 use Rattle.fsfs_machine.specs.declared.machine.Went.TheVariants.{Before}
 use Rattle.fsfs_commit.proofs.Going.{goes_done, goes_failed, props_due, cause_on}
 use Rattle.fsfs_commit.proofs.section.put_properties.Goals as goal
+
+-- ---- the calls are due
+
+pub make_folder_at-requires : goal.make_folder_at-requires
+make_folder_at-requires g c = record {
+  due = λ bound.
+      let w = c.requires.due bound in
+      (w.0, w.2, inl (Commit place.PutProps, c.args.made.now.props_file, c.args.made.now.properties.items, props_due w.0 w.1 c.args.made.now.rev c.args.made.now.rev_file c.args.made.now.props_file c.args.made.now.properties.items c.args.made.now.current.items c.args.made.now.properties.items refl w.3 w.4));
+}
+
+pub put-requires : goal.put-requires
+put-requires g c = record {
+  due = λ bound.
+      let w = c.requires.due (sym c.in-Ok.ensures.duty ∙ bound) in
+      (w.0, Commit place.PutProps, c.in-Ok.ensures.done w.0 w.2, props_due w.0 w.1 c.args.made.now.rev c.args.made.now.rev_file c.args.made.now.props_file c.args.made.now.properties.items c.args.made.now.current.items c.deref.result.now c.deref.ensures.value w.3 w.4);
+}
+
+-- ---- what they come to
 
 pub returns-in-Err-clause-turned : goal.returns-in-Err-clause-turned
 returns-in-Err-clause-turned g c = λ v x known at made.

@@ -7,24 +7,24 @@ use Rattle.fsfs_turn_begin.proofs.Reading.{either_way}
 use Rattle.fsfs_turn_begin.proofs.drawing.next_name.Goals as goal
 
 pub returns-in-Err-clause-drawn : goal.returns-in-Err-clause-drawn
-returns-in-Err-clause-drawn g c = λ v known at le. c.in-Err.ensures.counted v c.args.base known at le
+returns-in-Err-clause-drawn g c = λ v known at le. c.in-Err.ensures.counted v known at le
 
 pub returns-in_default-clause-drawn : goal.returns-in_default-clause-drawn
-returns-in_default-clause-drawn g c = λ v known at le. either_way (λ m. absurd (omega (arith, m.2.small, c.in_default.ensures))) (λ past. past) (c.in-Ok.ensures.counted v c.args.base known at le)
+returns-in_default-clause-drawn g c = λ v known at le. either_way (λ m. absurd (omega (arith, m.2.small, c.in_default.ensures))) (λ past. past) (c.in-Ok.ensures.counted v known at le)
 
 pub returns-in-Err-write_txn_current-clause-drawn : goal.returns-in-Err-write_txn_current-clause-drawn
-returns-in-Err-write_txn_current-clause-drawn g c = λ v known at le. either_way (λ m. unwritten _ c.args.base c.in-Ok.number.number v m.0 m.1 m.2) (λ past. past) (c.in-Ok.ensures.counted v c.args.base known at le)
+returns-in-Err-write_txn_current-clause-drawn g c = λ v known at le. either_way (λ m. unwritten _ c.args.base c.in-Ok.number.number v m.0 m.1 m.2) (λ past. past) (c.in-Ok.ensures.counted v known at le)
 
 pub returns-in-Ok-raise-clause-drawn : goal.returns-in-Ok-raise-clause-drawn
 returns-in-Ok-raise-clause-drawn g c = λ v known at le.
     let n = c.in-Ok.number.number in
     let line = line_of c.deref.result.now c.in-Ok-write_txn_current.text.items (n + 1) c.in-Some.next.number c.deref.ensures.value c.in-Some.ensures c.in-Ok-write_txn_current.ensures in
     either_way (λ m. draws_on _ c.args.base n (record { base = c.args.base; number = c.in-Ok.number }) v refl m.0 m.2
-    (c.in-Ok-raise.ensures.raised m.0 (drawn_of c.args.base n) m.1 (section_on (CountRead (drawn_of c.args.base n)) v m.0 m.2.reached) line)) (λ past. past) (c.in-Ok.ensures.counted v c.args.base known at le)
+    (c.in-Ok-raise.ensures.raised m.0 (drawn_of c.args.base n) m.1 (section_on (CountRead (drawn_of c.args.base n)) v m.0 m.2.reached) line)) (λ past. past) (c.in-Ok.ensures.counted v known at le)
 
 pub returns-clause-drawn : goal.returns-clause-drawn
 returns-clause-drawn g c = λ v known at le.
     let n = c.in-Ok.number.number in
     let line = line_of c.deref.result.now c.in-Ok-write_txn_current.text.items (n + 1) c.in-Some.next.number c.deref.ensures.value c.in-Some.ensures c.in-Ok-write_txn_current.ensures in
     either_way (λ m. undrawn_on _ c.args.base n c.in-Err-raise.place v m.0 m.2
-    (c.in-Err-raise.ensures.raised m.0 (drawn_of c.args.base n) m.1 (section_on (CountRead (drawn_of c.args.base n)) v m.0 m.2.reached) line)) (λ past. past) (c.in-Ok.ensures.counted v c.args.base known at le)
+    (c.in-Err-raise.ensures.raised m.0 (drawn_of c.args.base n) m.1 (section_on (CountRead (drawn_of c.args.base n)) v m.0 m.2.reached) line)) (λ past. past) (c.in-Ok.ensures.counted v known at le)

@@ -1,3 +1,4 @@
+use Rattle.std.proofs.Common.{sym, ◌∙◌}
 use Rattle.fsfs_draft.proofs.Merging.{reads_nothing}
 use Rattle.fsfs_draft.proofs.Stages.{meaning, if_open}
 use Rattle.fsfs_draft.proofs.txn_draft.TxnDraftBenchDraft.merge.Goals as goal
@@ -13,3 +14,7 @@ returns-in-Open-clause-err g c = λ v x known means can low long told.
 pub returns-in-Ended-clause-err : goal.returns-in-Ended-clause-err
 returns-in-Ended-clause-err g c = λ v x known means can low long told.
     (v, known, means, reads_nothing v (g.met.T.Turns.tells c.args.turns v known).shown, tt)
+
+-- nobody rests on a pass that is alone
+pub returns-in-Open-clause-duty : goal.returns-in-Open-clause-duty
+returns-in-Open-clause-duty g c = g.met.T.LoneTurns.free c.merge.result.0 ∙ sym (g.met.T.LoneTurns.free c.args.turns)

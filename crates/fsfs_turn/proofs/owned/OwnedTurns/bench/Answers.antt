@@ -16,4 +16,4 @@ pub returns-clause-left : goal.returns-clause-left
 returns-clause-left g c = unkept_label (label_of c.args.label.now) (g.D.Disk.trace c.args.self.now.disk) (g.D.Disk.trace c.bench.new.self) c.bench.result c.bench.ensures.err
 
 pub returns-clause-empty : goal.returns-clause-empty
-returns-clause-empty g c = empty_told (g.D.Disk.trace c.args.self.now.disk) (λ b. g.D.Bench.Bench.contents b) c.bench.result c.bench.ensures.empty
+returns-clause-empty g c = empty_told (label_of c.args.label.now) (g.D.Disk.trace c.args.self.now.disk) (g.D.Disk.trace c.bench.new.self) (λ b. g.D.Bench.Bench.contents b) c.bench.result c.bench.ensures.ok c.bench.ensures.empty
