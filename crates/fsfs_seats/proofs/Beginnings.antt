@@ -24,10 +24,10 @@ use Rattle.fsfs_seats.specs.First.{IsFirst}
 
 -- the seat's view of what is known
 abbrev seat_of : View → SeatView
-seat_of v = record { layout = v.layout; since = v.since; opened = v.opened; number = v.number; pass = v.pass; seen = v.seen; section = v.section; sure = false; given = v.given; told = true; hand = Empty }
+seat_of v = record { layout = v.layout; since = v.since; opened = v.opened; number = v.number; pass = v.pass; seen = v.seen; section = v.section; sure = false; given = v.given; told = true; hand = Empty; failures = 0 }
 
 abbrev untold : Layout → SeatView
-untold layout = record { layout = layout; since = 0; opened = 0; number = 0; pass = first_pass 0 0; seen = []; section = None; sure = false; given = []; told = false; hand = Empty }
+untold layout = record { layout = layout; since = 0; opened = 0; number = 0; pass = first_pass 0 0; seen = []; section = None; sure = false; given = []; told = false; hand = Empty; failures = 0 }
 
 -- who isn't sure knows no more
 unsure : (layout : Layout) (young : ℕ) (t : Trace) (v : View) → Knows layout young None (Some t) v → Knows layout young None (Some t) (record v { sure = false })

@@ -38,4 +38,6 @@ pub struct SeatView {
     pub given: Numbers,
     pub told: bool,
     pub hand: Hand,
+    // how often its calls of the disk failed
+    pub failures: u64,
 }

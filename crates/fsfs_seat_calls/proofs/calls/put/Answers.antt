@@ -1,0 +1,31 @@
+use Rattle.std.proofs.Common.{◌≡◌, ◌≤◌, ◌<◌, ◌^◌, ℕ, List, length, rules, true, false, ◌∷◌, sym, ap, subst, ◌∙◌, Some, None, Option, arith}
+use Rattle.std.specs.Prelude.{is_err}
+use Rattle.fsfs_disk.specs.Trace as real
+use Rattle.fsfs_places.specs.declared.place.DiskPlace.{DiskPlace}
+use Rattle.fsfs_turn.specs.Views.{View, IsDue}
+use Rattle.fsfs_seats.specs.declared.seat_view.SeatView.{SeatView}
+use Rattle.fsfs_seats.specs.Seats.{view_of}
+use Rattle.fsfs_seat_calls.specs.Tells.{CalledBy}
+use Rattle.fsfs_seat_calls.specs.Made.{risen}
+use Rattle.fsfs_seat_calls.proofs.Answering.{made_put, back_so, called_so, cause_so}
+use Rattle.fsfs_seat_calls.proofs.calls.put.Goals as goal
+
+pub give_called-requires-clause-made : goal.give_called-requires-clause-made
+give_called-requires-clause-made g c = let out = c.take-disk.ensures.out in let e = c.put-answer.ensures in (
+  c.take-disk.result.trace,
+  real.Put c.args.name.now c.args.bytes.now,
+  ap (λ m. m.0.hand) out,
+  made_put c.put-answer.new.self.failed c.args.name.now c.args.bytes.now c.take-disk.result.trace c.put-answer.new.self.trace c.put-answer.result e.flag e.ok e.err,
+  subst (λ (v : SeatView). v.told ≡ true → (place : DiskPlace) × IsDue (view_of v) place (real.Put c.args.name.now c.args.bytes.now)) (sym (ap (λ m. m.0) out)) c.requires.due,
+)
+
+pub returns-clause-back : goal.returns-clause-back
+returns-clause-back g c = back_so c.put-answer.new.self.failed (is_err c.put-answer.result) c.args.seat.now.me.0 c.take-disk.new.seat.me.0 c.give_called.new.seat.me.0 _ (ap (λ m. m.0) c.take-disk.ensures.out) c.put-answer.ensures.flag c.give_called.ensures.back
+
+pub returns-clause-called : goal.returns-clause-called
+returns-clause-called g c told place due = called_so c.put-answer.new.self.failed (view_of c.args.seat.now.me.0) (view_of c.give_called.new.seat.me.0) place (real.Put c.args.name.now c.args.bytes.now) c.put-answer.result c.put-answer.ensures.flag
+    (subst (λ (v : SeatView). v.told ≡ true → CalledBy c.put-answer.new.self.failed (view_of v) (view_of c.give_called.new.seat.me.0)) (ap (λ m. m.0) c.take-disk.ensures.out) c.give_called.ensures.called told) due
+
+pub returns-clause-cause : goal.returns-clause-cause
+returns-clause-cause g c = cause_so c.put-answer.new.self.failed c.args.seat.now.me.0.failures c.give_called.new.seat.me.0.failures c.put-answer.result c.put-answer.ensures.flag
+    (ap (λ (v : SeatView). v.failures) c.give_called.ensures.back ∙ ap (λ m. risen c.put-answer.new.self.failed m.0.failures) c.take-disk.ensures.out)
