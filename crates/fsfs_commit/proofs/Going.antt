@@ -19,11 +19,9 @@ use Rattle.fsfs_machine.specs.declared.machine.Step.TheVariants as step
 use Rattle.fsfs_machine.specs.Machine.{is_fine_in, answer, after, spoiled, reveals, with_next}
 use Rattle.fsfs_machine.specs.Kept.{coming_in}
 use Rattle.fsfs_turn.specs.Views.{View, IsDue, props_name, coming_at, given_by, called_view, Called, Adopted, coming_of, LockGiven, outside, Revealed, MayGive}
-use Rattle.fsfs_commit.specs.Courses.{Course, End, More, IsMade, Reached, Failed, leaves_doubt, spoilt, Goes, Ended, Published, StoppedAt, ends_at}
-
-pub append : (v m u : View) → Course v m → Course m u → Course v u
-append v m u (End _) more = more
-append v m u (More txns step outcome _ k _ turned rest) more = More txns step outcome v k u turned (append k m u rest more)
+use Rattle.fsfs_turn.specs.Courses.{Course, End, More}
+use Rattle.fsfs_turn.proofs.Reading.{course_on}
+use Rattle.fsfs_commit.specs.Courses.{IsMade, Reached, Failed, leaves_doubt, spoilt, Goes, Ended, Published, StoppedAt, ends_at}
 
 some_one : {A : Type 0} (a b : A) → Some a ≡ Some b → a ≡ b
 some_one a b e = cc
@@ -56,10 +54,10 @@ module _ (place : CommitPlace) (v : View) (s : Section) (x : Coming) (at : v.sec
 
 -- one after another
 pub reached_on : (s r : Section) (v m u : View) → Reached s v m → Reached r m u → Reached r v u
-reached_on s r v m u a b = record { is = b.is ∙ ap {A = View} (λ z. record z { pass = record z.pass { seen = length z.seen }; section = Some r }) a.is; course = append v m u a.course b.course }
+reached_on s r v m u a b = record { is = b.is ∙ ap {A = View} (λ z. record z { pass = record z.pass { seen = length z.seen }; section = Some r }) a.is; course = course_on v m u a.course b.course }
 
 pub failed_on : (s r : Section) (place : CommitPlace) (v m u : View) → Reached s v m → Failed place r m u → Failed place r v u
-failed_on s r place v m u a b = record { is = b.is ∙ ap {A = View} (λ z. record z { pass = record z.pass { seen = length z.seen; faults = z.pass.faults ++ Commit place ∷ [] }; section = Some r }) a.is; course = append v m u a.course b.course }
+failed_on s r place v m u a b = record { is = b.is ∙ ap {A = View} (λ z. record z { pass = record z.pass { seen = length z.seen; faults = z.pass.faults ++ Commit place ∷ [] }; section = Some r }) a.is; course = course_on v m u a.course b.course }
 
 pub goes_on : (k l : View → Type 0) (result : Result (Unit {0}) CommitPlace) (x : Coming) (s r : Section) (v : View) → Goes k (Ok tt) x s v → ((m : View) → k m → Reached s v m → Goes l result x r m) → Goes l result x r v
 goes_on k l (Ok done) x s r v a more = let b = more a.done.0 a.done.1 a.done.2 in record { done = (b.done.0, b.done.1, reached_on s r v a.done.0 b.done.0 a.done.2 b.done.2); failed = tt }
@@ -94,7 +92,7 @@ module _ (txn : Txn) (properties : List (List ℕ × List ℕ)) (next : Revision
   adopts_failed known to c = record { done = tt; failed = (c.0, c.2, record { is = c.4.is ∙ ap adopting_by c.3; course = adopting_course c.1 c.0 c.4 }) }
 
   pub published : (m u : View) → Reached (CurrentFirm x) v m → Ended x m u → Published txn properties next bytes v u
-  published m u a b = record { is = b.is ∙ ap {A = View} (λ z. record z { pass = reveals (length z.seen) z.pass; seen = with_next z.seen x; section = None; sure = false }) a.is; course = append v m u a.course b.course }
+  published m u a b = record { is = b.is ∙ ap {A = View} (λ z. record z { pass = reveals (length z.seen) z.pass; seen = with_next z.seen x; section = None; sure = false }) a.is; course = course_on v m u a.course b.course }
 
 pub ended : (x : Coming) (v m u : View) → Revealed x v m → LockGiven (step.GiveLock m.number) m u → Ended x v u
 ended x v m u a b = record { is = b.is ∙ ap {A = View} (λ z. outside z) a.is; course = More [] (step.Reveal v.number) outcome.Done v m u a.turned (More [] (step.GiveLock m.number) outcome.Done m u u b.turned (End u)) }

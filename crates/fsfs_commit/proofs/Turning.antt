@@ -1,5 +1,5 @@
 -- The turns of a commit.
-use Rattle.std.proofs.Common.{◌≡◌, ◌<◌, ◌≤◌, ◌+◌, ◌^◌, ℕ, List, [], ◌∷◌, ◌++◌, length, true, refl, sym, ap, subst, ◌∙◌, arith, take, drop, append_assoc, append-nil}
+use Rattle.std.proofs.Common.{◌≡◌, ◌<◌, ◌≤◌, ◌+◌, ◌^◌, ℕ, List, [], ◌∷◌, ◌++◌, length, true, refl, sym, ap, subst, ◌∙◌, arith, take, drop, append-nil}
 use Rattle.std.specs.Prelude.{Option, Some, None, Result, Ok, Err, IfOk, IfErr, OnOk, OnErr}
 use Rattle.std.proofs.lemmas.List.{take_all, length-take}
 use Rattle.fsfs_tree.specs.Revisions.{Revision}
@@ -25,11 +25,14 @@ use Rattle.fsfs_commit.specs.declared.made.Made.{Made}
 use Rattle.fsfs_commit.specs.declared.committing.Ready.{Ready}
 use Rattle.fsfs_commit.specs.declared.committing.CommitFault.{CommitFault}
 use Rattle.fsfs_commit.specs.declared.committing.CommitFault.TheVariants as fault
-use Rattle.fsfs_commit.specs.Courses.{Course, End, More, IsMade, Published, StoppedAt, ends_at}
-use Rattle.fsfs_commit.specs.Works.{BringsNoDoubt, CanCommit, LandedOn, Landings, Unmoved, Moved as LandedMore, ReadOnly}
+use Rattle.fsfs_commit.specs.Courses.{IsMade, Published, StoppedAt, ends_at}
+use Rattle.fsfs_turn.specs.Alone.{BringsNoDoubt}
+use Rattle.fsfs_turn.specs.Courses.{Course, End, More, ReadOnly}
+use Rattle.fsfs_commit.specs.Works.{CanCommit, LandedOn, Landings, Unmoved, Moved as LandedMore}
 use Rattle.fsfs_commit.specs.Replies.{Drifted, IsReady, Committed, Lost, IsTurn, Refusals, EndsShort, Cause, Refused}
-use Rattle.fsfs_commit.proofs.Going.{append}
-use Rattle.fsfs_commit.proofs.Doubts.{same_faults, looked_doubtless, taken_doubtless, found_doubtless, given_doubtless, stopped_doubtless, unless_on}
+use Rattle.fsfs_turn.proofs.Reading.{course_on, begins_on}
+use Rattle.fsfs_turn.proofs.Doubts.{same_faults, looked_doubtless, taken_doubtless, found_doubtless, given_doubtless}
+use Rattle.fsfs_commit.proofs.Doubts.{stopped_doubtless, unless_on}
 use Rattle.fsfs_turn.proofs.Longer.{txn_later}
 use Rattle.fsfs_turn.proofs.Stepping.{take_drop}
 use Rattle.fsfs_commit.proofs.Handing.{entry_back}
@@ -42,11 +45,8 @@ one_step txns s o v u t = More txns s o v u u t (End u)
 pub none_more : (h g : List Recorded) → h ≡ g → Begins h g
 none_more h g same = ([], same ∙ sym (append-nil g))
 
-pub begins_on : (a b c : List Recorded) → Begins b a → Begins c b → Begins c a
-begins_on a b c f g = (f.0 ++ g.0, g.1 ∙ ap (λ l. l ++ g.0) f.1 ∙ append_assoc a f.0 g.0)
-
 pub drifted_on : (v m u : View) → Drifted v m → Drifted m u → Drifted v u
-drifted_on v m u a b = record { number = b.number ∙ a.number; layout = b.layout ∙ a.layout; since = b.since ∙ a.since; opened = b.opened ∙ a.opened; mine = b.mine ∙ a.mine; least = omega (arith, a.least, b.least); given = b.given ∙ a.given; grows = begins_on v.seen m.seen u.seen a.grows b.grows; course = append v m u a.course b.course }
+drifted_on v m u a b = record { number = b.number ∙ a.number; layout = b.layout ∙ a.layout; since = b.since ∙ a.since; opened = b.opened ∙ a.opened; mine = b.mine ∙ a.mine; least = omega (arith, a.least, b.least); given = b.given ∙ a.given; grows = begins_on v.seen m.seen u.seen a.grows b.grows; course = course_on v m u a.course b.course }
 
 pub by_look : (young : ℕ) (v u : View) → Looked young v u → Drifted v u
 by_look young v u l = record {
@@ -123,7 +123,7 @@ by_stopping place v u l = record {
   given = ap {A = View} (λ z. z.given) l.is;
   least = let e : u.pass.least ≡ v.pass.least = ap {A = View} (λ z. z.pass.least) l.is in omega (arith, e);
   grows = none_more u.seen v.seen (ap {A = View} (λ z. z.seen) l.is);
-  course = append v l.before u l.course (one_step [] (ends_at place v.number) outcome.Done l.before u l.last.turned);
+  course = course_on v l.before u l.course (one_step [] (ends_at place v.number) outcome.Done l.before u l.last.turned);
 }
 
 -- what a draft means stays, as more is seen
@@ -212,15 +212,15 @@ not_made {Says = Says} refusal head v m u x y less l r landed says = record {
 }
 
 -- what a marshalling gives
-abbrev pub Marshalled : (List ℕ → Type 0) → ℕ → Made → List (List ℕ × List ℕ) → View → Txn → ℕ → Type 0
-Marshalled holds rev made properties u y number = (bytes : List ℕ) × holds bytes × (next : Revision) × IsNext (revisions (take rev u.seen)) (entry_of number y properties) next
+abbrev pub Marshalled : (Txn → Revision → List ℕ → Type 0) → ℕ → Made → List (List ℕ × List ℕ) → View → Txn → ℕ → Type 0
+Marshalled holds rev made properties u y number = (bytes : List ℕ) × (next : Revision) × holds y next bytes × IsNext (revisions (take rev u.seen)) (entry_of number y properties) next
     × BytesShow (take rev u.seen ++ record { revision = next; bytes = bytes } ∷ [])
     × (made.rev ≡ rev) × (rev ≡ length u.seen → IsMade u properties rev made.rev_file made.props_file made.properties.items made.current.items)
 
 pub marshal_shown : (head next : ℕ) (m u : View) → next ≡ head + 1 → ReadOnly m u → BytesShow (take next u.seen)
 marshal_shown head next m u e r = r.shown next (omega (arith, e))
 
-pub prepared : (holds : List ℕ → Type 0) (head : ℕ) (made : Made) (properties : List (List ℕ × List ℕ)) (v m u : View) (x y : Txn) → Looked head v m → ReadOnly m u → LandedOn head u.seen x y → CanCommit v x properties
+pub prepared : (holds : Txn → Revision → List ℕ → Type 0) (head : ℕ) (made : Made) (properties : List (List ℕ × List ℕ)) (v m u : View) (x y : Txn) → Looked head v m → ReadOnly m u → LandedOn head u.seen x y → CanCommit v x properties
     → ((number : ℕ) → Marshalled holds (head + 1) made properties u y number) → IsReady holds (record { head = head; made = made }) properties v u x y
 prepared holds head made properties v m u x y l r landed can all = record {
   moved = record { drifted = drifted_on v m u (by_look head v m l) (by_reads m u r); section = ap {A = View} (λ z. z.section) r.is ∙ ap {A = View} (λ z. z.section) l.is };
@@ -246,12 +246,12 @@ prepared holds head made properties v m u x y l r landed can all = record {
 pub can_marshal : (head : ℕ) (v m u : View) (x y : Txn) (p q : List (List ℕ × List ℕ)) → q ≡ p → Looked head v m → ReadOnly m u → LandedOn head u.seen x y → CanCommit v x p → CanCommit u y q
 can_marshal head v m u x y p q same l r landed can = subst (λ z. CanCommit u y z) (sym same) (can_landed head v u x y p (ap {A = View} (λ z. z.given) r.is ∙ ap {A = View} (λ z. z.given) l.is) landed can)
 
-pub marshalled_for : (holds : List ℕ → Type 0) (rev next number : ℕ) (made : Made) (p q : List (List ℕ × List ℕ)) (u : View) (y : Txn) → next ≡ rev → q ≡ p → Marshalled holds next made q u y number → Marshalled holds rev made p u y number
+pub marshalled_for : (holds : Txn → Revision → List ℕ → Type 0) (rev next number : ℕ) (made : Made) (p q : List (List ℕ × List ℕ)) (u : View) (y : Txn) → next ≡ rev → q ≡ p → Marshalled holds next made q u y number → Marshalled holds rev made p u y number
 marshalled_for holds rev next number made p q u y e same w = subst (λ n. Marshalled holds n made p u y number) e (subst (λ z. Marshalled holds next made z u y number) same w)
 
 -- ---- the turn
 
-pub found_stuck : {E : Type 0} {Says : Refusals E} (holds : List ℕ → Type 0) (place : DiskPlace) (ready : Ready) (properties : List (List ℕ × List ℕ)) (v u m : View) (x y : Txn) → IsReady holds ready properties v u x y → FoundStuck place u m → Refused Says (fault.Stuck place) v m x y
+pub found_stuck : {E : Type 0} {Says : Refusals E} (holds : Txn → Revision → List ℕ → Type 0) (place : DiskPlace) (ready : Ready) (properties : List (List ℕ × List ℕ)) (v u m : View) (x y : Txn) → IsReady holds ready properties v u x y → FoundStuck place u m → Refused Says (fault.Stuck place) v m x y
 found_stuck holds place ready properties v u m x y r f = record {
   moved = record { drifted = drifted_on v u m r.moved.drifted (by_finding place u m f); section = ap {A = View} (λ z. z.section) f.is ∙ r.moved.section };
   landings = landings_later u.seen m.seen x y (by_finding place u m f).grows r.landings;
@@ -260,16 +260,16 @@ found_stuck holds place ready properties v u m x y r f = record {
 }
 
 -- what is known with the lock held and the youngest number told
-pub drifted_in : (holds : List ℕ → Type 0) (young : ℕ) (ready : Ready) (properties : List (List ℕ × List ℕ)) (v u m n : View) (x y : Txn) → IsReady holds ready properties v u x y → LockTaken u m → Looked young m n → Drifted v n
+pub drifted_in : (holds : Txn → Revision → List ℕ → Type 0) (young : ℕ) (ready : Ready) (properties : List (List ℕ × List ℕ)) (v u m n : View) (x y : Txn) → IsReady holds ready properties v u x y → LockTaken u m → Looked young m n → Drifted v n
 drifted_in holds young ready properties v u m n x y r t l = drifted_on v m n (drifted_on v u m r.moved.drifted (by_taking u m t)) (by_look young m n l)
 
-pub doubtless_in : (holds : List ℕ → Type 0) (young : ℕ) (ready : Ready) (properties : List (List ℕ × List ℕ)) (v u m n : View) (x y : Txn) → IsReady holds ready properties v u x y → LockTaken u m → Looked young m n → BringsNoDoubt v n
+pub doubtless_in : (holds : Txn → Revision → List ℕ → Type 0) (young : ℕ) (ready : Ready) (properties : List (List ℕ × List ℕ)) (v u m n : View) (x y : Txn) → IsReady holds ready properties v u x y → LockTaken u m → Looked young m n → BringsNoDoubt v n
 doubtless_in holds young ready properties v u m n x y r t l = λ few. looked_doubtless young m n l (taken_doubtless u m t (r.doubtless few))
 
 pub may_let_go : (young : ℕ) (u m n : View) → LockTaken u m → Looked young m n → MayGive n
 may_let_go young u m n t l = record { inside = Begun; is = ap {A = View} (λ z. z.section) l.is ∙ ap {A = View} (λ z. z.section) t.is; quiet = refl }
 
-pub lost : (holds : List ℕ → Type 0) (young : ℕ) (ready : Ready) (properties : List (List ℕ × List ℕ)) (v u m n o : View) (x y : Txn) → v.section ≡ None → IsReady holds ready properties v u x y → LockTaken u m → Looked young m n → LockGiven (step.GiveLock n.number) n o → Lost properties v o x y
+pub lost : (holds : Txn → Revision → List ℕ → Type 0) (young : ℕ) (ready : Ready) (properties : List (List ℕ × List ℕ)) (v u m n o : View) (x y : Txn) → v.section ≡ None → IsReady holds ready properties v u x y → LockTaken u m → Looked young m n → LockGiven (step.GiveLock n.number) n o → Lost properties v o x y
 lost holds young ready properties v u m n o x y none r t l g = record {
   moved = record { drifted = drifted_on v n o (drifted_in holds young ready properties v u m n x y r t l) (by_giving (step.GiveLock n.number) n o g); section = ap {A = View} (λ z. z.section) g.is ∙ sym none };
   doubtless = λ few. given_doubtless (step.GiveLock n.number) n o g (doubtless_in holds young ready properties v u m n x y r t l few);
@@ -278,18 +278,18 @@ lost holds young ready properties v u m n o x y none r t l g = record {
   can = can_same u o y properties (ap {A = View} (λ z. z.seen) g.is ∙ ap {A = View} (λ z. z.seen) l.is ∙ ap {A = View} (λ z. z.seen) t.is) (ap {A = View} (λ z. z.given) g.is ∙ ap {A = View} (λ z. z.given) l.is ∙ ap {A = View} (λ z. z.given) t.is) r.can;
 }
 
-module _ (holds : List ℕ → Type 0) (ready : Ready) (properties : List (List ℕ × List ℕ)) (v u n : View) (x y : Txn) (r : IsReady holds ready properties v u x y) (section : n.section ≡ Some Begun) (sure : n.sure ≡ true) (least : n.pass.least ≡ ready.head) (seen : n.seen ≡ u.seen) (given : n.given ≡ u.given) (layout : n.layout ≡ u.layout) (drifted : Drifted v n) (within : length n.seen ≤ ready.head + 1) where
+module _ (holds : Txn → Revision → List ℕ → Type 0) (ready : Ready) (properties : List (List ℕ × List ℕ)) (v u n : View) (x y : Txn) (r : IsReady holds ready properties v u x y) (section : n.section ≡ Some Begun) (sure : n.sure ≡ true) (least : n.pass.least ≡ ready.head) (seen : n.seen ≡ u.seen) (given : n.given ≡ u.given) (layout : n.layout ≡ u.layout) (drifted : Drifted v n) (within : length n.seen ≤ ready.head + 1) where
   length_is : ready.head + 1 ≡ length u.seen
   length_is = let e : length n.seen ≡ length u.seen = ap length seen in omega (arith, e, r.seen, within)
 
   abbrev pub bytes : List ℕ
   bytes = (r.to_come n.number).0
 
-  pub held : holds bytes
-  held = (r.to_come n.number).1
-
   abbrev pub next : Revision
-  next = (r.to_come n.number).2
+  next = (r.to_come n.number).1
+
+  pub held : holds y next bytes
+  held = (r.to_come n.number).2
 
   first : take (ready.head + 1) u.seen ≡ n.seen
   first = take_all (ready.head + 1) u.seen (omega (arith, length_is)) ∙ sym seen
@@ -344,7 +344,7 @@ module _ (holds : List ℕ → Type 0) (ready : Ready) (properties : List (List 
     mine = ap {A = View} (λ z. z.pass.mine) p.is ∙ ap (λ k. n.pass.mine ++ k ∷ []) (sym is_made.number) ∙ ap (λ l. l ++ ready.made.rev ∷ []) drifted.mine;
     outside = ap {A = View} (λ z. z.section) p.is;
     doubtless = λ few. same_faults n o (ap {A = View} (λ z. z.pass.faults) p.is) (brings few);
-    course = append v n o drifted.course p.course;
+    course = course_on v n o drifted.course p.course;
   }
 
   pub failed_at : {E : Type 0} {Says : Refusals E} (place : CommitPlace) (o : View) → BringsNoDoubt v n → v.section ≡ None → StoppedAt place n o → Refused Says (fault.DiskFault place) v o x y
@@ -370,7 +370,7 @@ module _ (holds : List ℕ → Type 0) (ready : Ready) (properties : List (List 
   short_at (fault.DiskFault place) o brings none s = failed_at place o brings none s
 
 -- the lock was taken, and the youngest number is still the head
-module _ (holds : List ℕ → Type 0) (young : ℕ) (ready : Ready) (properties : List (List ℕ × List ℕ)) (v u m n : View) (x y : Txn) (r : IsReady holds ready properties v u x y) (t : LockTaken u m) (l : Looked young m n) (same : young ≡ ready.head) where
+module _ (holds : Txn → Revision → List ℕ → Type 0) (young : ℕ) (ready : Ready) (properties : List (List ℕ × List ℕ)) (v u m n : View) (x y : Txn) (r : IsReady holds ready properties v u x y) (t : LockTaken u m) (l : Looked young m n) (same : young ≡ ready.head) where
   pub section_at : n.section ≡ Some Begun
   section_at = ap {A = View} (λ z. z.section) l.is ∙ ap {A = View} (λ z. z.section) t.is
 
@@ -395,11 +395,11 @@ module _ (holds : List ℕ → Type 0) (young : ℕ) (ready : Ready) (properties
   abbrev pub bytes_at : List ℕ
   bytes_at = bytes holds ready properties v u n x y r section_at sure_at least_at seen_at given_at layout_at (drifted_in holds young ready properties v u m n x y r t l) within_at
 
-  pub held_at : holds bytes_at
-  held_at = held holds ready properties v u n x y r section_at sure_at least_at seen_at given_at layout_at (drifted_in holds young ready properties v u m n x y r t l) within_at
-
   abbrev pub next_at : Revision
   next_at = next holds ready properties v u n x y r section_at sure_at least_at seen_at given_at layout_at (drifted_in holds young ready properties v u m n x y r t l) within_at
+
+  pub held_at : holds y next_at bytes_at
+  held_at = held holds ready properties v u n x y r section_at sure_at least_at seen_at given_at layout_at (drifted_in holds young ready properties v u m n x y r t l) within_at
 
   pub adopts_at : MayAdopt n y properties next_at bytes_at
   adopts_at = may_adopt holds ready properties v u n x y r section_at sure_at least_at seen_at given_at layout_at (drifted_in holds young ready properties v u m n x y r t l) within_at
@@ -440,7 +440,7 @@ committed_on rev p v m o x y z d brings can landings c = record {
   opened = c.opened ∙ d.opened;
   outside = c.outside;
   doubtless = λ few. c.doubtless (brings few);
-  course = append v m o d.course c.course;
+  course = course_on v m o d.course c.course;
 }
   where
     first : Landings c.before x y
@@ -508,7 +508,7 @@ refused_last {Says = Says} f v m u o x y none t r g = record {
     cause_given W (fault.DiskFault place) c =
         let e : Some Begun ≡ None = sym (begun_then v m u t r.moved.section) ∙ ap {A = View} (λ z. z.section) c.2.is in absurd cc
 
-module _ (holds : List ℕ → Type 0) (ready : Ready) (p : List (List ℕ × List ℕ)) (v m u : View) (x y : Txn) (t : LockTaken v m) (r : IsReady holds ready p m u x y) where
+module _ (holds : Txn → Revision → List ℕ → Type 0) (ready : Ready) (p : List (List ℕ × List ℕ)) (v m u : View) (x y : Txn) (t : LockTaken v m) (r : IsReady holds ready p m u x y) where
   pub last_section : u.section ≡ Some Begun
   last_section = begun_then v m u t r.moved.section
 
@@ -518,11 +518,11 @@ module _ (holds : List ℕ → Type 0) (ready : Ready) (p : List (List ℕ × Li
   abbrev pub last_bytes : List ℕ
   last_bytes = bytes holds ready p m u u x y r last_section (r.sure ∙ last_held) r.least refl refl refl r.moved.drifted (r.within last_held)
 
-  pub last_holds : holds last_bytes
-  last_holds = held holds ready p m u u x y r last_section (r.sure ∙ last_held) r.least refl refl refl r.moved.drifted (r.within last_held)
-
   abbrev pub last_next : Revision
   last_next = next holds ready p m u u x y r last_section (r.sure ∙ last_held) r.least refl refl refl r.moved.drifted (r.within last_held)
+
+  pub last_holds : holds y last_next last_bytes
+  last_holds = held holds ready p m u u x y r last_section (r.sure ∙ last_held) r.least refl refl refl r.moved.drifted (r.within last_held)
 
   pub last_adopts : MayAdopt u y p last_next last_bytes
   last_adopts = may_adopt holds ready p m u u x y r last_section (r.sure ∙ last_held) r.least refl refl refl r.moved.drifted (r.within last_held)
@@ -620,7 +620,7 @@ pub of_rev : (rev same : ℕ) (p : List (List ℕ × List ℕ)) (v u : View) (x 
 of_rev rev same p v u x y e c = subst (λ n. Committed n p v u x y) (sym e) c
 
 -- the same properties by another name
-pub ready_as : (holds : List ℕ → Type 0) (ready : Ready) (p q : List (List ℕ × List ℕ)) (v u : View) (x y : Txn) → q ≡ p → IsReady holds ready p v u x y → IsReady holds ready q v u x y
+pub ready_as : (holds : Txn → Revision → List ℕ → Type 0) (ready : Ready) (p q : List (List ℕ × List ℕ)) (v u : View) (x y : Txn) → q ≡ p → IsReady holds ready p v u x y → IsReady holds ready q v u x y
 ready_as holds ready p q v u x y same r = subst (λ z. IsReady holds ready z v u x y) (sym same) r
 
 pub committed_as : (rev : ℕ) (p q : List (List ℕ × List ℕ)) (v u : View) (x y : Txn) → q ≡ p → Committed rev q v u x y → Committed rev p v u x y

@@ -10,16 +10,11 @@ use Rattle.fsfs_machine.specs.declared.machine.Section.TheVariants.{Doubtful, Ov
 use Rattle.fsfs_places.specs.declared.place.DiskPlace.TheVariants.{Commit}
 use Rattle.fsfs_places.specs.declared.place.CommitPlace.{CommitPlace}
 use Rattle.fsfs_places.specs.declared.place.CommitPlace.TheVariants.{RenameCurrent, FirmCurrent}
-use Rattle.fsfs_machine.specs.declared.machine.Outcome.{Outcome}
 use Rattle.fsfs_machine.specs.declared.machine.Step.{Step}
 use Rattle.fsfs_machine.specs.declared.machine.Step.TheVariants.{GiveLock, StickLock}
 use Rattle.fsfs_machine.specs.Machine.{reveals, with_next}
-use Rattle.fsfs_turn.specs.Views.{View, Turned, LockGiven, rev_name, props_name, coming_of}
-
--- A COURSE: steps of the machine, one after another, from what the pass knew to what it knows
-pub data Course : View → View → Type 0 where
-  End : (v : View) → Course v v
-  More : (txns : List Txn) (step : Step) (outcome : Outcome) (v m u : View) → Turned txns step outcome v m → Course m u → Course v u
+use Rattle.fsfs_turn.specs.Views.{View, LockGiven, MayAdopt, rev_name, props_name, coming_of}
+use Rattle.fsfs_turn.specs.Courses.{Course}
 
 -- what is written, for the revision that follows what the pass has seen
 pub record IsMade (v : View) (properties : List (List ℕ × List ℕ)) (rev : ℕ) (rev_file props_file props_bytes current : List ℕ) : Type 0 where
@@ -29,6 +24,17 @@ pub record IsMade (v : View) (properties : List (List ℕ × List ℕ)) (rev : �
   pub dump : IsDump props_bytes properties
   pub line : IsRevLine current rev
   pub fits : length v.seen < 2 ^ 32
+
+-- A commit's section may begin: of what is known these are the bytes of the revision to come, and this is what is written.
+pub record MayPublish (knows : View → Type 0) (holds : Txn → Revision → List ℕ → Type 0) (properties : List (List ℕ × List ℕ)) (rev : ℕ) (rev_file props_file props_bytes current : List ℕ) : Type 0 where
+  pub view : View
+  pub txn : Txn
+  pub next : Revision
+  pub bytes : List ℕ
+  pub known : knows view
+  pub held : holds txn next bytes
+  pub may : MayAdopt view txn properties next bytes
+  pub made : IsMade view properties rev rev_file props_file props_bytes current
 
 -- the revision was added, and the lock given
 pub record Published (txn : Txn) (properties : List (List ℕ × List ℕ)) (next : Revision) (bytes : List ℕ) (v u : View) : Type 0 where

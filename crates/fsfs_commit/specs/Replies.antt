@@ -7,16 +7,17 @@ use Rattle.fsfs_machine.specs.declared.machine.Recorded.{Recorded}
 use Rattle.fsfs_machine.specs.declared.machine.Txn.{Txn}
 use Rattle.fsfs_places.specs.declared.place.DiskPlace.TheVariants.{Commit}
 use Rattle.fsfs_machine.specs.Machine.{revisions, entry_of}
-use Rattle.fsfs_turn.specs.Alone.{brings_doubt}
+use Rattle.fsfs_turn.specs.Alone.{BringsNoDoubt, brings_doubt}
 use Rattle.fsfs_turn.specs.Bytes.{BytesShow}
 use Rattle.fsfs_machine.specs.declared.machine.Step.TheVariants.{GiveLock}
 use Rattle.fsfs_turn.specs.Views.{View, Begins, is_held, LockGiven}
+use Rattle.fsfs_turn.specs.Courses.{Course}
 use Rattle.fsfs_commit.specs.declared.made.Made.{Made}
 use Rattle.fsfs_commit.specs.declared.committing.Ready.{Ready}
 use Rattle.fsfs_commit.specs.declared.committing.CommitFault.{CommitFault}
 use Rattle.fsfs_commit.specs.declared.committing.CommitFault.TheVariants.{RevsFull, Stuck, Refused as Refuses, DiskFault}
-use Rattle.fsfs_commit.specs.Courses.{Course, IsMade, StoppedAt}
-use Rattle.fsfs_commit.specs.Works.{BringsNoDoubt, CanCommit, Landings}
+use Rattle.fsfs_commit.specs.Courses.{IsMade, StoppedAt}
+use Rattle.fsfs_commit.specs.Works.{CanCommit, Landings}
 
 -- the pass added nothing: it saw more, was told more, and faults came
 pub record Drifted (v u : View) : Type 0 where
@@ -42,7 +43,7 @@ pub record IsToCome (head : ℕ) (made : Made) (bytes : List ℕ) (number : ℕ)
   pub written : head + 1 ≡ length u.seen → IsMade u properties made.rev made.rev_file made.props_file made.properties.items made.current.items
 
 -- all is made for the revision that follows the head, on which the transaction stands
-pub record IsReady (holds : List ℕ → Type 0) (ready : Ready) (properties : List (List ℕ × List ℕ)) (v u : View) (x y : Txn) : Type 0 where
+pub record IsReady (holds : Txn → Revision → List ℕ → Type 0) (ready : Ready) (properties : List (List ℕ × List ℕ)) (v u : View) (x y : Txn) : Type 0 where
   pub moved : Moved v u
   pub doubtless : BringsNoDoubt v u
   pub from : CanCommit v x properties
@@ -56,7 +57,7 @@ pub record IsReady (holds : List ℕ → Type 0) (ready : Ready) (properties : L
   pub sure : u.sure ≡ is_held v.section
   -- where it holds the lock, it has seen no more
   pub within : is_held v.section ≡ true → length u.seen ≤ ready.head + 1
-  pub to_come : (number : ℕ) → (bytes : List ℕ) × holds bytes × (next : Revision) × IsToCome ready.head ready.made bytes number properties u y next
+  pub to_come : (number : ℕ) → (bytes : List ℕ) × (next : Revision) × holds y next bytes × IsToCome ready.head ready.made bytes number properties u y next
 
 -- COMMITTED: the revision is the next of those before it, of the entry of the landed transaction; the pass's own grew by it alone
 pub record Committed (rev : ℕ) (properties : List (List ℕ × List ℕ)) (v u : View) (x y : Txn) : Type 0 where

@@ -9,10 +9,7 @@ use Rattle.fsfs_machine.specs.declared.machine.Recorded.{Recorded}
 use Rattle.fsfs_machine.specs.declared.machine.Txn.{Txn}
 use Rattle.fsfs_machine.specs.Machine.{revisions}
 use Rattle.fsfs_machine.specs.Kept.{IsIn}
-use Rattle.fsfs_turn.specs.Alone.{are_harmless}
-use Rattle.fsfs_turn.specs.Bytes.{AllShow}
 use Rattle.fsfs_turn.specs.Views.{View, Begins, IsTxnOver}
-use Rattle.fsfs_commit.specs.Courses.{Course}
 
 -- the transaction may be committed by this pass: it is one over what the pass has seen
 pub record CanCommit (v : View) (x : Txn) (properties : List (List ℕ × List ℕ)) : Type 0 where
@@ -36,18 +33,3 @@ pub record LandedOn (head : ℕ) (seen : List Recorded) (x y : Txn) : Type 0 whe
 pub data Landings (h : List Recorded) : Txn → Txn → Type 0 where
   Unmoved : (x : Txn) → Landings h x x
   Moved : (x y z : Txn) (head : ℕ) (seen : List Recorded) → Landings h x y → Begins h seen → LandedOn head seen y z → Landings h x z
-
--- none of the faults that came leaves a revision in doubt
-abbrev pub BringsNoDoubt : View → View → Type 0
-BringsNoDoubt v u = are_harmless v.pass.faults ≡ true → are_harmless u.pass.faults ≡ true
-
--- only reads: more of the history was seen, and faults of reads came
-pub record ReadOnly (v u : View) : Type 0 where
-  pub is : u ≡ record v { pass = record v.pass { seen = u.pass.seen; faults = u.pass.faults; floor = u.pass.floor }; seen = u.seen }
-  pub grows : Begins u.seen v.seen
-  pub doubtless : BringsNoDoubt v u
-  -- the bytes beside what it has seen show it
-  pub shown : AllShow u.seen
-  -- while it holds the lock and was told the youngest number, there is no more to be seen
-  pub within : v.sure ≡ true → length v.seen ≤ v.pass.least + 1 → length u.seen ≤ v.pass.least + 1
-  pub course : Course v u

@@ -1,12 +1,14 @@
 //! A commit: up to four turns. Each of the first three merges and writes to memory before it takes the lock, and is lost where the
 //! youngest revision is another by then. The fourth takes the lock first, so it can't be lost.
-ghost use Rattle.std.specs.Prelude.{◌≡◌, ◌≤◌, ◌==◌, ℕ, List, None, IfOk, IfErr, OnOk};
+ghost use Rattle.std.specs.Prelude.{◌≡◌, ◌≤◌, ◌==◌, ℕ, List, true, None, IfOk, IfErr, OnOk};
 ghost use Rattle.fsfs_base.specs.Failures.{Rose};
+ghost use Rattle.fsfs_fields.specs.declared.txn_name.TxnName.{TxnName};
 ghost use Rattle.fsfs_tree.specs.Revisions.{Revision};
 ghost use Rattle.fsfs_machine.specs.declared.machine.Recorded.{Recorded};
 ghost use Rattle.fsfs_machine.specs.declared.machine.Txn.{Txn};
 ghost use Rattle.fsfs_turn.specs.Views.{View, MayAdopt};
-ghost use Rattle.fsfs_commit.specs.Courses.{IsMade, Published};
+ghost use Rattle.fsfs_turn.specs.Labels.{KeepsLabels};
+ghost use Rattle.fsfs_commit.specs.Courses.{IsMade, MayPublish, Published};
 ghost use Rattle.fsfs_commit.specs.Works.{CanCommit};
 ghost use Rattle.fsfs_commit.specs.Found.{IfRefused};
 ghost use Rattle.fsfs_commit.specs.Replies.{IsReady, IsTurn, Committed, EndsShort, RoseIfDisk, Refused};
@@ -55,13 +57,19 @@ fn prepare<R, T: Turns<R>, D: Draft<R, T>>(
     turns: T,
     draft: &mut D,
 ) -> (T, Result<Ready, CommitFault<D::Refusal>>)
+    requires pinned { D.pinned draft.old ≡ T.bound turns }
+    requires due { D.pinned draft.old ≡ true → (v : View) × (x : Txn) × T.knows turns v × D.means draft.old v.seen x × CanCommit v x (D.properties draft.old) }
     ensures ok { (v : View) (x : Txn) → T.knows turns v → D.means draft.old v.seen x → CanCommit v x (D.properties draft.old)
         → IfOk result.1 (λ ready. (u : View) × (y : Txn) × T.knows result.0 u × D.means draft.new u.seen y × IsReady (D.holds draft.new) ready (D.properties draft.old) v u x y) }
     ensures err { (v : View) (x : Txn) → T.knows turns v → D.means draft.old v.seen x → CanCommit v x (D.properties draft.old)
         → IfErr result.1 (λ fault. (u : View) × (y : Txn) × T.knows result.0 u × D.means draft.new u.seen y × Refused D.refuses fault v u x y) }
     ensures found { IfErr result.1 (IfRefused (D.finds draft.new)) }
+    ensures named { (name : TxnName) → D.named draft.old name → D.named draft.new name }
+    ensures pinned { D.pinned draft.new ≡ D.pinned draft.old }
     ensures same { D.properties draft.new ≡ D.properties draft.old }
     ensures mounted { T.mount_path result.0 ≡ T.mount_path turns }
+    ensures duty { T.bound result.0 ≡ T.bound turns }
+    ensures listed { KeepsLabels (T.bound turns) (T.labels turns) (T.labels result.0) }
     ensures later { T.faults turns ≤ T.faults result.0 }
     ensures cause { IfErr result.1 (RoseIfDisk D.is_disk_fault (Rose (T.faults turns) (T.faults result.0))) }
 {
@@ -99,17 +107,23 @@ fn add<R, T: Turns<R>, D: Draft<R, T>>(
     draft: D,
     made: &Made,
 ) -> (D, Result<RevNum, CommitFault<D::Refusal>>)
+    requires pinned { T.bound turns.old ≡ true → D.pinned draft ≡ true }
+    requires due { T.bound turns.old ≡ true → MayPublish (T.knows turns.old) (D.holds draft) (D.properties draft) made.now.rev made.now.rev_file made.now.props_file made.now.properties.items made.now.current.items }
     ensures number { IfOk result.1 (λ rev. rev ≡ made.now.rev) }
-    ensures ok { (v : View) (txn : Txn) (next : Revision) (bytes : List ℕ) → T.knows turns.old v → D.holds draft bytes → MayAdopt v txn (D.properties draft) next bytes
+    ensures ok { (v : View) (txn : Txn) (next : Revision) (bytes : List ℕ) → T.knows turns.old v → D.holds draft txn next bytes → MayAdopt v txn (D.properties draft) next bytes
         → IsMade v (D.properties draft) made.now.rev made.now.rev_file made.now.props_file made.now.properties.items made.now.current.items
         → OnOk result.1 ((u : View) × T.knows turns.new u × Published txn (D.properties draft) next bytes v u) }
-    ensures err { (v : View) (txn : Txn) (next : Revision) (bytes : List ℕ) → T.knows turns.old v → D.holds draft bytes → MayAdopt v txn (D.properties draft) next bytes
+    ensures err { (v : View) (txn : Txn) (next : Revision) (bytes : List ℕ) → T.knows turns.old v → D.holds draft txn next bytes → MayAdopt v txn (D.properties draft) next bytes
         → IsMade v (D.properties draft) made.now.rev made.now.rev_file made.now.props_file made.now.properties.items made.now.current.items
         → IfErr result.1 (λ fault. (u : View) × T.knows turns.new u × EndsShort D.refuses fault v u) }
     ensures means { (h : List Recorded) (x : Txn) → D.means draft h x → D.means result.0 h x }
     ensures found { IfErr result.1 (IfRefused (D.finds result.0)) }
+    ensures named { (name : TxnName) → D.named draft name → D.named result.0 name }
+    ensures pinned { D.pinned result.0 ≡ D.pinned draft }
     ensures same { D.properties result.0 ≡ D.properties draft }
     ensures mounted { T.mount_path turns.new ≡ T.mount_path turns.old }
+    ensures duty { T.bound turns.new ≡ T.bound turns.old }
+    ensures listed { KeepsLabels (T.bound turns.old) (T.labels turns.old) (T.labels turns.new) }
     ensures later { T.faults turns.old ≤ T.faults turns.new }
     ensures cause { IfErr result.1 (RoseIfDisk D.is_disk_fault (Rose (T.faults turns.old) (T.faults turns.new))) }
 {
@@ -135,13 +149,19 @@ fn take_turn<R, T: Turns<R>, D: Draft<R, T>>(
     turns: T,
     draft: D,
 ) -> (T, D, Result<Option<RevNum>, CommitFault<D::Refusal>>)
+    requires pinned { D.pinned draft ≡ T.bound turns }
+    requires due { D.pinned draft ≡ true → (v : View) × (x : Txn) × T.knows turns v × D.means draft v.seen x × CanCommit v x (D.properties draft) × (v.section ≡ None) }
     ensures ok { (v : View) (x : Txn) → T.knows turns v → D.means draft v.seen x → CanCommit v x (D.properties draft) → v.section ≡ None
         → IfOk result.2 (λ done. (u : View) × (y : Txn) × T.knows result.0 u × D.means result.1 u.seen y × IsTurn done (D.properties draft) v u x y) }
     ensures err { (v : View) (x : Txn) → T.knows turns v → D.means draft v.seen x → CanCommit v x (D.properties draft) → v.section ≡ None
         → IfErr result.2 (λ fault. (u : View) × (y : Txn) × T.knows result.0 u × D.means result.1 u.seen y × Refused D.refuses fault v u x y) }
     ensures found { IfErr result.2 (IfRefused (D.finds result.1)) }
+    ensures named { (name : TxnName) → D.named draft name → D.named result.1 name }
+    ensures pinned { D.pinned result.1 ≡ D.pinned draft }
     ensures same { D.properties result.1 ≡ D.properties draft }
     ensures mounted { T.mount_path result.0 ≡ T.mount_path turns }
+    ensures duty { T.bound result.0 ≡ T.bound turns }
+    ensures listed { KeepsLabels (T.bound turns) (T.labels turns) (T.labels result.0) }
     ensures later { T.faults turns ≤ T.faults result.0 }
     ensures cause { IfErr result.2 (RoseIfDisk D.is_disk_fault (Rose (T.faults turns) (T.faults result.0))) }
 {
@@ -174,12 +194,17 @@ fn take_last_turn<R, T: Turns<R>, D: Draft<R, T>>(
     turns: T,
     draft: D,
 ) -> (T, D, Result<RevNum, CommitFault<D::Refusal>>)
+    requires pinned { D.pinned draft ≡ T.bound turns }
+    requires due { D.pinned draft ≡ true → (v : View) × (x : Txn) × T.knows turns v × D.means draft v.seen x × CanCommit v x (D.properties draft) × (v.section ≡ None) }
     ensures ok { (v : View) (x : Txn) → T.knows turns v → D.means draft v.seen x → CanCommit v x (D.properties draft) → v.section ≡ None
         → IfOk result.2 (λ rev. (u : View) × (y : Txn) × T.knows result.0 u × D.means result.1 u.seen y × Committed rev (D.properties draft) v u x y) }
     ensures err { (v : View) (x : Txn) → T.knows turns v → D.means draft v.seen x → CanCommit v x (D.properties draft) → v.section ≡ None
         → IfErr result.2 (λ fault. (u : View) × (y : Txn) × T.knows result.0 u × D.means result.1 u.seen y × Refused D.refuses fault v u x y) }
     ensures found { IfErr result.2 (IfRefused (D.finds result.1)) }
+    ensures named { (name : TxnName) → D.named draft name → D.named result.1 name }
     ensures mounted { T.mount_path result.0 ≡ T.mount_path turns }
+    ensures duty { T.bound result.0 ≡ T.bound turns }
+    ensures listed { KeepsLabels (T.bound turns) (T.labels turns) (T.labels result.0) }
     ensures later { T.faults turns ≤ T.faults result.0 }
     ensures cause { IfErr result.2 (RoseIfDisk D.is_disk_fault (Rose (T.faults turns) (T.faults result.0))) }
 {
@@ -211,13 +236,19 @@ fn take_three_turns<R, T: Turns<R>, D: Draft<R, T>>(
     turns: T,
     draft: D,
 ) -> (T, D, Result<Option<RevNum>, CommitFault<D::Refusal>>)
+    requires pinned { D.pinned draft ≡ T.bound turns }
+    requires due { D.pinned draft ≡ true → (v : View) × (x : Txn) × T.knows turns v × D.means draft v.seen x × CanCommit v x (D.properties draft) × (v.section ≡ None) }
     ensures ok { (v : View) (x : Txn) → T.knows turns v → D.means draft v.seen x → CanCommit v x (D.properties draft) → v.section ≡ None
         → IfOk result.2 (λ done. (u : View) × (y : Txn) × T.knows result.0 u × D.means result.1 u.seen y × IsTurn done (D.properties draft) v u x y) }
     ensures err { (v : View) (x : Txn) → T.knows turns v → D.means draft v.seen x → CanCommit v x (D.properties draft) → v.section ≡ None
         → IfErr result.2 (λ fault. (u : View) × (y : Txn) × T.knows result.0 u × D.means result.1 u.seen y × Refused D.refuses fault v u x y) }
     ensures found { IfErr result.2 (IfRefused (D.finds result.1)) }
+    ensures named { (name : TxnName) → D.named draft name → D.named result.1 name }
+    ensures pinned { D.pinned result.1 ≡ D.pinned draft }
     ensures same { D.properties result.1 ≡ D.properties draft }
     ensures mounted { T.mount_path result.0 ≡ T.mount_path turns }
+    ensures duty { T.bound result.0 ≡ T.bound turns }
+    ensures listed { KeepsLabels (T.bound turns) (T.labels turns) (T.labels result.0) }
     ensures later { T.faults turns ≤ T.faults result.0 }
     ensures cause { IfErr result.2 (RoseIfDisk D.is_disk_fault (Rose (T.faults turns) (T.faults result.0))) }
 {
@@ -250,13 +281,18 @@ pub fn commit<R, T: Turns<R>, D: Draft<R, T>>(
     turns: T,
     draft: D,
 ) -> (T, D, Result<RevNum, CommitFault<D::Refusal>>)
+    requires pinned { D.pinned draft ≡ T.bound turns }
+    requires due { D.pinned draft ≡ true → (v : View) × (x : Txn) × T.knows turns v × D.means draft v.seen x × CanCommit v x (D.properties draft) × (v.section ≡ None) }
     ensures committed { (v : View) (x : Txn) → T.knows turns v → D.means draft v.seen x → CanCommit v x (D.properties draft) → v.section ≡ None
         → IfOk result.2 (λ rev. (u : View) × (y : Txn) × T.knows result.0 u × D.means result.1 u.seen y × Committed rev (D.properties draft) v u x y) }
     ensures refused { (v : View) (x : Txn) → T.knows turns v → D.means draft v.seen x → CanCommit v x (D.properties draft) → v.section ≡ None
         → IfErr result.2 (λ fault. (u : View) × (y : Txn) × T.knows result.0 u × D.means result.1 u.seen y × Refused D.refuses fault v u x y) }
     // A refusal says what it is of the draft that is given back, whatever is known.
     ensures found { IfErr result.2 (IfRefused (D.finds result.1)) }
+    ensures named { (name : TxnName) → D.named draft name → D.named result.1 name }
     ensures mounted { T.mount_path result.0 ≡ T.mount_path turns }
+    ensures duty { T.bound result.0 ≡ T.bound turns }
+    ensures listed { KeepsLabels (T.bound turns) (T.labels turns) (T.labels result.0) }
     ensures later { T.faults turns ≤ T.faults result.0 }
     ensures cause { IfErr result.2 (RoseIfDisk D.is_disk_fault (Rose (T.faults turns) (T.faults result.0))) }
 {

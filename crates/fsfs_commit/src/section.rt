@@ -1,6 +1,7 @@
 //! What is done with the write lock held: from the revision's file to the reveal.
-ghost use Rattle.std.specs.Prelude.{◌≡◌, ℕ, List, Some, length, IfErr, OnOk, OnErr};
+ghost use Rattle.std.specs.Prelude.{◌≡◌, ℕ, List, true, Some, length, IfErr, OnOk, OnErr};
 ghost use Rattle.fsfs_layout.specs.FileNames.{only_name};
+ghost use Rattle.fsfs_fields.specs.declared.txn_name.TxnName.{TxnName};
 ghost use Rattle.fsfs_tree.specs.Revisions.{Revision};
 ghost use Rattle.fsfs_base.specs.Failures.{HasCause};
 ghost use Rattle.fsfs_disk.specs.Trace.{Put};
@@ -10,8 +11,10 @@ ghost use Rattle.fsfs_machine.specs.declared.machine.Txn.{Txn};
 ghost use Rattle.fsfs_places.specs.declared.place.DiskPlace.{DiskPlace as SpecPlace};
 ghost use Rattle.fsfs_machine.specs.declared.machine.Section.TheVariants.{RevPut, PropsPut, RevFirm, CurrentPut, CurrentRenamed, CurrentFirm};
 ghost use Rattle.fsfs_machine.specs.declared.machine.Went.TheVariants.{Before};
+ghost use Rattle.fsfs_turn.specs.Adoptions.{NeedsFolder};
+ghost use Rattle.fsfs_turn.specs.Labels.{KeepsLabels};
 ghost use Rattle.fsfs_turn.specs.Views.{View, MayAdopt, IsDue, Called, Adopted, LockGiven, coming_of};
-ghost use Rattle.fsfs_commit.specs.Courses.{IsMade, Goes, Ended, Published, StoppedAt, leaves_doubt, spoilt, ends_at};
+ghost use Rattle.fsfs_commit.specs.Courses.{IsMade, MayPublish, Goes, Ended, Published, StoppedAt, leaves_doubt, spoilt, ends_at};
 
 use crate::draft::Draft;
 use crate::made::Made;
@@ -27,11 +30,14 @@ fn make_folder_at<R, T: Turns<R>>(
     turns: &mut T,
     folder: &Option<Name>,
 ) -> Result<(), Failed>
+    requires due { T.bound turns.old ≡ true → (v : View) × T.knows turns.old v × NeedsFolder v }
     ensures done { (v : View) → T.knows turns.old v → OnOk result (T.knows turns.new v) }
     ensures failed { (v : View) (place : SpecPlace) (file bytes : List ℕ) → T.knows turns.old v → IsDue v place (Put file bytes) → OnErr result ((u : View) × T.knows turns.new u × Called place Before v u) }
     ensures failed_first { (v : View) (txn : Txn) (properties : List (List ℕ × List ℕ)) (next : Revision) (bytes : List ℕ) → T.knows turns.old v → MayAdopt v txn properties next bytes
         → OnErr result ((u : View) × T.knows turns.new u × Adopted txn properties next bytes Before v u) }
     ensures mounted { T.mount_path turns.new ≡ T.mount_path turns.old }
+    ensures duty { T.bound turns.new ≡ T.bound turns.old }
+    ensures listed { KeepsLabels (T.bound turns.old) (T.labels turns.old) (T.labels turns.new) }
     ensures cause { HasCause (T.faults turns.old) (T.faults turns.new) result }
 {
     match folder {
@@ -47,13 +53,19 @@ fn put_revision<R, T: Turns<R>, D: Draft<R, T>>(
     draft: &mut D,
     made: &Made,
 ) -> Result<(), CommitPlace>
-    requires { D.is_written draft.old }
-    ensures turned { (v : View) (txn : Txn) (next : Revision) (bytes : List ℕ) → T.knows turns.old v → D.holds draft.old bytes → MayAdopt v txn (D.properties draft.old) next bytes
+    requires written { D.is_written draft.old }
+    requires pinned { T.bound turns.old ≡ true → D.pinned draft.old ≡ true }
+    requires due { T.bound turns.old ≡ true → MayPublish (T.knows turns.old) (D.holds draft.old) (D.properties draft.old) made.now.rev made.now.rev_file made.now.props_file made.now.properties.items made.now.current.items }
+    ensures turned { (v : View) (txn : Txn) (next : Revision) (bytes : List ℕ) → T.knows turns.old v → D.holds draft.old txn next bytes → MayAdopt v txn (D.properties draft.old) next bytes
         → IsMade v (D.properties draft.old) made.now.rev made.now.rev_file made.now.props_file made.now.properties.items made.now.current.items
         → Goes (T.knows turns.new) result (coming_of v txn (D.properties draft.old) next bytes) (RevPut (coming_of v txn (D.properties draft.old) next bytes)) v }
     ensures means { (h : List Recorded) (x : Txn) → D.means draft.old h x → D.means draft.new h x }
+    ensures named { (name : TxnName) → D.named draft.old name → D.named draft.new name }
+    ensures pinned { D.pinned draft.new ≡ D.pinned draft.old }
     ensures same { D.properties draft.new ≡ D.properties draft.old }
     ensures mounted { T.mount_path turns.new ≡ T.mount_path turns.old }
+    ensures duty { T.bound turns.new ≡ T.bound turns.old }
+    ensures listed { KeepsLabels (T.bound turns.old) (T.labels turns.old) (T.labels turns.new) }
     ensures cause { HasCause (T.faults turns.old) (T.faults turns.new) result }
 {
     match make_folder_at(rt, turns, &made.rev_folder) {
@@ -68,10 +80,13 @@ fn put_revision<R, T: Turns<R>, D: Draft<R, T>>(
 
 // The revision's property file.
 fn put_properties<R, T: Turns<R>>(rt: &R, turns: &mut T, made: &Made) -> Result<(), CommitPlace>
+    requires due { T.bound turns.old ≡ true → (v : View) × (x : Coming) × T.knows turns.old v × (v.section ≡ Some (RevPut x)) × IsMade v x.revision.properties made.now.rev made.now.rev_file made.now.props_file made.now.properties.items made.now.current.items }
     ensures turned { (v : View) (x : Coming) → T.knows turns.old v → v.section ≡ Some (RevPut x)
         → IsMade v x.revision.properties made.now.rev made.now.rev_file made.now.props_file made.now.properties.items made.now.current.items
         → Goes (T.knows turns.new) result x (PropsPut x) v }
     ensures mounted { T.mount_path turns.new ≡ T.mount_path turns.old }
+    ensures duty { T.bound turns.new ≡ T.bound turns.old }
+    ensures listed { KeepsLabels (T.bound turns.old) (T.labels turns.old) (T.labels turns.new) }
     ensures cause { HasCause (T.faults turns.old) (T.faults turns.new) result }
 {
     match make_folder_at(rt, turns, &made.props_folder) {
@@ -86,8 +101,11 @@ fn put_properties<R, T: Turns<R>>(rt: &R, turns: &mut T, made: &Made) -> Result<
 
 // Both files' names are made firm.
 fn firm_revision<R, T: Turns<R>>(rt: &R, turns: &mut T) -> Result<(), CommitPlace>
+    requires due { T.bound turns.old ≡ true → (v : View) × (x : Coming) × T.knows turns.old v × (v.section ≡ Some (PropsPut x)) }
     ensures turned { (v : View) (x : Coming) → T.knows turns.old v → v.section ≡ Some (PropsPut x) → Goes (T.knows turns.new) result x (RevFirm x) v }
     ensures mounted { T.mount_path turns.new ≡ T.mount_path turns.old }
+    ensures duty { T.bound turns.new ≡ T.bound turns.old }
+    ensures listed { KeepsLabels (T.bound turns.old) (T.labels turns.old) (T.labels turns.new) }
     ensures cause { HasCause (T.faults turns.old) (T.faults turns.new) result }
 {
     match turns.firm_names(rt) {
@@ -98,11 +116,14 @@ fn firm_revision<R, T: Turns<R>>(rt: &R, turns: &mut T) -> Result<(), CommitPlac
 
 // The text of `current` to come, under its other name.
 fn put_current<R, T: Turns<R>>(rt: &R, turns: &mut T, made: &Made) -> Result<(), CommitPlace>
+    requires due { T.bound turns.old ≡ true → (v : View) × (x : Coming) × T.knows turns.old v × (v.section ≡ Some (RevFirm x)) × IsMade v x.revision.properties made.now.rev made.now.rev_file made.now.props_file made.now.properties.items made.now.current.items }
     ensures turned { (v : View) (x : Coming) → T.knows turns.old v → v.section ≡ Some (RevFirm x)
         → IsMade v x.revision.properties made.now.rev made.now.rev_file made.now.props_file made.now.properties.items made.now.current.items
         → Goes (T.knows turns.new) result x (CurrentPut x) v }
     ensures used { OnOk result (T.in_use turns.new (only_name OnlyFile.CurrentNext)) }
     ensures mounted { T.mount_path turns.new ≡ T.mount_path turns.old }
+    ensures duty { T.bound turns.new ≡ T.bound turns.old }
+    ensures listed { KeepsLabels (T.bound turns.old) (T.labels turns.old) (T.labels turns.new) }
     ensures cause { HasCause (T.faults turns.old) (T.faults turns.new) result }
 {
     let next = OnlyFile::CurrentNext.name();
@@ -114,9 +135,12 @@ fn put_current<R, T: Turns<R>>(rt: &R, turns: &mut T, made: &Made) -> Result<(),
 
 // `current` names the revision.
 fn rename_current<R, T: Turns<R>>(rt: &R, turns: &mut T) -> Result<(), CommitPlace>
-    requires { T.in_use turns.old (only_name OnlyFile.CurrentNext) }
+    requires there { T.in_use turns.old (only_name OnlyFile.CurrentNext) }
+    requires due { T.bound turns.old ≡ true → (v : View) × (x : Coming) × T.knows turns.old v × (v.section ≡ Some (CurrentPut x)) }
     ensures turned { (v : View) (x : Coming) → T.knows turns.old v → v.section ≡ Some (CurrentPut x) → Goes (T.knows turns.new) result x (CurrentRenamed x) v }
     ensures mounted { T.mount_path turns.new ≡ T.mount_path turns.old }
+    ensures duty { T.bound turns.new ≡ T.bound turns.old }
+    ensures listed { KeepsLabels (T.bound turns.old) (T.labels turns.old) (T.labels turns.new) }
     ensures cause { HasCause (T.faults turns.old) (T.faults turns.new) result }
 {
     let next = OnlyFile::CurrentNext.name();
@@ -129,8 +153,11 @@ fn rename_current<R, T: Turns<R>>(rt: &R, turns: &mut T) -> Result<(), CommitPla
 
 // That name is made firm.
 fn firm_current<R, T: Turns<R>>(rt: &R, turns: &mut T) -> Result<(), CommitPlace>
+    requires due { T.bound turns.old ≡ true → (v : View) × (x : Coming) × T.knows turns.old v × (v.section ≡ Some (CurrentRenamed x)) }
     ensures turned { (v : View) (x : Coming) → T.knows turns.old v → v.section ≡ Some (CurrentRenamed x) → Goes (T.knows turns.new) result x (CurrentFirm x) v }
     ensures mounted { T.mount_path turns.new ≡ T.mount_path turns.old }
+    ensures duty { T.bound turns.new ≡ T.bound turns.old }
+    ensures listed { KeepsLabels (T.bound turns.old) (T.labels turns.old) (T.labels turns.new) }
     ensures cause { HasCause (T.faults turns.old) (T.faults turns.new) result }
 {
     match turns.firm_names(rt) {
@@ -146,13 +173,19 @@ fn write_revision<R, T: Turns<R>, D: Draft<R, T>>(
     draft: &mut D,
     made: &Made,
 ) -> Result<(), CommitPlace>
-    requires { D.is_written draft.old }
-    ensures turned { (v : View) (txn : Txn) (next : Revision) (bytes : List ℕ) → T.knows turns.old v → D.holds draft.old bytes → MayAdopt v txn (D.properties draft.old) next bytes
+    requires written { D.is_written draft.old }
+    requires pinned { T.bound turns.old ≡ true → D.pinned draft.old ≡ true }
+    requires due { T.bound turns.old ≡ true → MayPublish (T.knows turns.old) (D.holds draft.old) (D.properties draft.old) made.now.rev made.now.rev_file made.now.props_file made.now.properties.items made.now.current.items }
+    ensures turned { (v : View) (txn : Txn) (next : Revision) (bytes : List ℕ) → T.knows turns.old v → D.holds draft.old txn next bytes → MayAdopt v txn (D.properties draft.old) next bytes
         → IsMade v (D.properties draft.old) made.now.rev made.now.rev_file made.now.props_file made.now.properties.items made.now.current.items
         → Goes (T.knows turns.new) result (coming_of v txn (D.properties draft.old) next bytes) (RevFirm (coming_of v txn (D.properties draft.old) next bytes)) v }
     ensures means { (h : List Recorded) (x : Txn) → D.means draft.old h x → D.means draft.new h x }
+    ensures named { (name : TxnName) → D.named draft.old name → D.named draft.new name }
+    ensures pinned { D.pinned draft.new ≡ D.pinned draft.old }
     ensures same { D.properties draft.new ≡ D.properties draft.old }
     ensures mounted { T.mount_path turns.new ≡ T.mount_path turns.old }
+    ensures duty { T.bound turns.new ≡ T.bound turns.old }
+    ensures listed { KeepsLabels (T.bound turns.old) (T.labels turns.old) (T.labels turns.new) }
     ensures cause { HasCause (T.faults turns.old) (T.faults turns.new) result }
 {
     match put_revision(rt, turns, draft, made) {
@@ -168,10 +201,13 @@ fn write_revision<R, T: Turns<R>, D: Draft<R, T>>(
 
 // `current` names the revision, whatever crash comes.
 fn name_current<R, T: Turns<R>>(rt: &R, turns: &mut T, made: &Made) -> Result<(), CommitPlace>
+    requires due { T.bound turns.old ≡ true → (v : View) × (x : Coming) × T.knows turns.old v × (v.section ≡ Some (RevFirm x)) × IsMade v x.revision.properties made.now.rev made.now.rev_file made.now.props_file made.now.properties.items made.now.current.items }
     ensures turned { (v : View) (x : Coming) → T.knows turns.old v → v.section ≡ Some (RevFirm x)
         → IsMade v x.revision.properties made.now.rev made.now.rev_file made.now.props_file made.now.properties.items made.now.current.items
         → Goes (T.knows turns.new) result x (CurrentFirm x) v }
     ensures mounted { T.mount_path turns.new ≡ T.mount_path turns.old }
+    ensures duty { T.bound turns.new ≡ T.bound turns.old }
+    ensures listed { KeepsLabels (T.bound turns.old) (T.labels turns.old) (T.labels turns.new) }
     ensures cause { HasCause (T.faults turns.old) (T.faults turns.new) result }
 {
     match put_current(rt, turns, made) {
@@ -194,8 +230,11 @@ fn is_doubtful(place: CommitPlace) -> bool
 
 // The lock after a fault: stuck where `current` may name the revision, else given.
 fn settle<R, T: Turns<R>>(turns: &mut T, place: CommitPlace)
+    requires due { T.bound turns.old ≡ true → (v : View) × (x : Coming) × T.knows turns.old v × (v.section ≡ Some (spoilt x place)) }
     ensures turned { (v : View) (x : Coming) → T.knows turns.old v → v.section ≡ Some (spoilt x place) → (u : View) × T.knows turns.new u × LockGiven (ends_at place v.number) v u }
     ensures mounted { T.mount_path turns.new ≡ T.mount_path turns.old }
+    ensures duty { T.bound turns.new ≡ T.bound turns.old }
+    ensures listed { KeepsLabels (T.bound turns.old) (T.labels turns.old) (T.labels turns.new) }
     ensures faults { T.faults turns.new ≡ T.faults turns.old }
 {
     if is_doubtful(place) {
@@ -207,8 +246,11 @@ fn settle<R, T: Turns<R>>(turns: &mut T, place: CommitPlace)
 
 // The revision is in the history.
 fn finish<R, T: Turns<R>>(rt: &R, turns: &mut T, rev: RevNum)
+    requires due { T.bound turns.old ≡ true → (v : View) × (x : Coming) × T.knows turns.old v × (v.section ≡ Some (CurrentFirm x)) × (rev ≡ length v.seen) }
     ensures turned { (v : View) (x : Coming) → T.knows turns.old v → v.section ≡ Some (CurrentFirm x) → rev ≡ length v.seen → (u : View) × T.knows turns.new u × Ended x v u }
     ensures mounted { T.mount_path turns.new ≡ T.mount_path turns.old }
+    ensures duty { T.bound turns.new ≡ T.bound turns.old }
+    ensures listed { KeepsLabels (T.bound turns.old) (T.labels turns.old) (T.labels turns.new) }
     ensures faults { T.faults turns.new ≡ T.faults turns.old }
 {
     turns.reveal(rt, rev);
@@ -223,18 +265,24 @@ pub fn publish<R, T: Turns<R>, D: Draft<R, T>>(
     draft: &mut D,
     made: &Made,
 ) -> Result<(), CommitPlace>
-    requires { D.is_written draft.old }
-    ensures ok { (v : View) (txn : Txn) (next : Revision) (bytes : List ℕ) → T.knows turns.old v → D.holds draft.old bytes → MayAdopt v txn (D.properties draft.old) next bytes
+    requires written { D.is_written draft.old }
+    requires pinned { T.bound turns.old ≡ true → D.pinned draft.old ≡ true }
+    requires due { T.bound turns.old ≡ true → MayPublish (T.knows turns.old) (D.holds draft.old) (D.properties draft.old) made.now.rev made.now.rev_file made.now.props_file made.now.properties.items made.now.current.items }
+    ensures ok { (v : View) (txn : Txn) (next : Revision) (bytes : List ℕ) → T.knows turns.old v → D.holds draft.old txn next bytes → MayAdopt v txn (D.properties draft.old) next bytes
         → IsMade v (D.properties draft.old) made.now.rev made.now.rev_file made.now.props_file made.now.properties.items made.now.current.items
         → OnOk result ((u : View) × T.knows turns.new u × Published txn (D.properties draft.old) next bytes v u) }
-    ensures err { (v : View) (txn : Txn) (next : Revision) (bytes : List ℕ) → T.knows turns.old v → D.holds draft.old bytes → MayAdopt v txn (D.properties draft.old) next bytes
+    ensures err { (v : View) (txn : Txn) (next : Revision) (bytes : List ℕ) → T.knows turns.old v → D.holds draft.old txn next bytes → MayAdopt v txn (D.properties draft.old) next bytes
         → IsMade v (D.properties draft.old) made.now.rev made.now.rev_file made.now.props_file made.now.properties.items made.now.current.items
         → IfErr result (λ place. (u : View) × T.knows turns.new u × StoppedAt place v u) }
 
     // Whatever the disk tells: a fault comes only where the count of failed turns rose in this call.
     ensures means { (h : List Recorded) (x : Txn) → D.means draft.old h x → D.means draft.new h x }
+    ensures named { (name : TxnName) → D.named draft.old name → D.named draft.new name }
+    ensures pinned { D.pinned draft.new ≡ D.pinned draft.old }
     ensures same { D.properties draft.new ≡ D.properties draft.old }
     ensures mounted { T.mount_path turns.new ≡ T.mount_path turns.old }
+    ensures duty { T.bound turns.new ≡ T.bound turns.old }
+    ensures listed { KeepsLabels (T.bound turns.old) (T.labels turns.old) (T.labels turns.new) }
     ensures cause { HasCause (T.faults turns.old) (T.faults turns.new) result }
 {
     match write_all(rt, turns, draft, made) {
@@ -256,13 +304,19 @@ fn write_all<R, T: Turns<R>, D: Draft<R, T>>(
     draft: &mut D,
     made: &Made,
 ) -> Result<(), CommitPlace>
-    requires { D.is_written draft.old }
-    ensures turned { (v : View) (txn : Txn) (next : Revision) (bytes : List ℕ) → T.knows turns.old v → D.holds draft.old bytes → MayAdopt v txn (D.properties draft.old) next bytes
+    requires written { D.is_written draft.old }
+    requires pinned { T.bound turns.old ≡ true → D.pinned draft.old ≡ true }
+    requires due { T.bound turns.old ≡ true → MayPublish (T.knows turns.old) (D.holds draft.old) (D.properties draft.old) made.now.rev made.now.rev_file made.now.props_file made.now.properties.items made.now.current.items }
+    ensures turned { (v : View) (txn : Txn) (next : Revision) (bytes : List ℕ) → T.knows turns.old v → D.holds draft.old txn next bytes → MayAdopt v txn (D.properties draft.old) next bytes
         → IsMade v (D.properties draft.old) made.now.rev made.now.rev_file made.now.props_file made.now.properties.items made.now.current.items
         → Goes (T.knows turns.new) result (coming_of v txn (D.properties draft.old) next bytes) (CurrentFirm (coming_of v txn (D.properties draft.old) next bytes)) v }
     ensures means { (h : List Recorded) (x : Txn) → D.means draft.old h x → D.means draft.new h x }
+    ensures named { (name : TxnName) → D.named draft.old name → D.named draft.new name }
+    ensures pinned { D.pinned draft.new ≡ D.pinned draft.old }
     ensures same { D.properties draft.new ≡ D.properties draft.old }
     ensures mounted { T.mount_path turns.new ≡ T.mount_path turns.old }
+    ensures duty { T.bound turns.new ≡ T.bound turns.old }
+    ensures listed { KeepsLabels (T.bound turns.old) (T.labels turns.old) (T.labels turns.new) }
     ensures cause { HasCause (T.faults turns.old) (T.faults turns.new) result }
 {
     match write_revision(rt, turns, draft, made) {

@@ -1,7 +1,7 @@
 //! A value that only clauses read, carried by real code.
 #![tactic(auto)]
 
-ghost use Rattle.std.specs.Prelude.{◌≡◌};
+ghost use Rattle.std.specs.Prelude.{◌≡◌, None};
 ghost use base.Fml.{ftrue};
 
 use std::marker::{Model, PhantomData};
@@ -47,6 +47,23 @@ impl<T> Note<T> {
             marker: PhantomData,
         }
     }
+}
+
+// What a note of nothing is made of.
+#[derive(Drop)]
+struct Nothing {}
+
+impl<T> Says<Option<T>> for Nothing {
+    ghost use Rattle.std.specs.Prelude.{None};
+
+    ghost says = { λ _. None };
+}
+
+/// A note of no value.
+pub fn no_note<T>() -> Note<Option<T>>
+    ensures { result.value ≡ None }
+{
+    Note::of(&Nothing {})
 }
 
 unsafe impl<T> Send for Note<T> {}

@@ -25,19 +25,19 @@ use Rattle.fsfs_machine.specs.declared.machine.Step.TheVariants as step
 use Rattle.fsfs_base.specs.Files.{Files}
 use Rattle.fsfs_machine.specs.Disk.{Disk, IsImage}
 use Rattle.fsfs_machine.specs.Machine.{World, did, either, answer, learns, disk_after, is_begun, has_begun_by, file_of, recorded, revisions, with_next, entry_of, Adopts, adopted, stuck_place}
-use Rattle.fsfs_machine.specs.Kept.{Kept, IsIn, coming, one}
+use Rattle.fsfs_machine.specs.Kept.{Kept, IsIn, FloorIs, coming, one}
 use Rattle.fsfs_machine.proofs.Steps.{step_keeps}
-use Rattle.fsfs_machine.proofs.Whose.{length_at}
 use Rattle.fsfs_images.specs.RealNames.{machine_name}
 use Rattle.fsfs_images.specs.Shown.{IsTraceOf, MayChange, Reads, AreRead, Putting, Adopting, Attempting}
 use Rattle.fsfs_turn.specs.Bytes.{BytesShow}
-use Rattle.fsfs_turn.specs.Views.{View, Sees, with_txns, rev_name, IsTxnOver, MayAdopt, Answers, coming_of, adopting_view, Adopted}
-use Rattle.fsfs_turn.specs.Past.{doubt_in, doubt, IsPart, Safe}
-use Rattle.fsfs_turn.specs.Standing.{no_others, IsStore, Knows}
+use Rattle.fsfs_turn.specs.Views.{View, Sees, with_txns, rev_name, IsTxnOver, MayAdopt, coming_of, adopting_view, Adopted}
+use Rattle.fsfs_turn.specs.Past.{doubt_in, doubt, IsPart, HasCounter, Safe}
+use Rattle.fsfs_turn.specs.Standing.{no_others, IsStore}
+use Rattle.fsfs_turn.proofs.TurnEnds.{section_leaves, IsAfter, Comes}
 use Rattle.fsfs_turn.proofs.Stepping.{kept_bare, at_itself, held_here, lock_is}
 use Rattle.fsfs_turn.proofs.Due.{junk, le, torn_put}
 use Rattle.fsfs_images.proofs.Showing.{image_read}
-use Rattle.fsfs_turn.proofs.Moments.{safe_step}
+use Rattle.fsfs_turn.proofs.Moments.{numbers, safe_step}
 
 use_of_one : (given : List ℕ) (name k : ℕ) → IsIn name given → (0 + (one name k + 0) + 0 ≤ 1) × (0 < 0 + (one name k + 0) + 0 → IsIn k given)
 use_of_one given name k in_it = elim (name == k) as (λ b. (name == k) ≡ b → (0 + (cond b 1 0 + 0) + 0 ≤ 1) × (0 < 0 + (cond b 1 0 + 0) + 0 → IsIn k given)) [
@@ -67,7 +67,7 @@ kept_one w x k over given = record {
   holder = k.holder;
 }
 
-module _ (layout : Layout) (young : ℕ) (stuck : Option DiskPlace) (old : Trace) (w : World) (v : View) (store : IsStore layout young stuck old w) (sees : Sees w v) (layout_is : v.layout ≡ layout) (number_is : v.number ≡ 0) (safe : Safe layout v.since old v.opened w.floor w.history (doubt w.lock))
+module _ (layout : Layout) (young : ℕ) (stuck : Option DiskPlace) (old : Trace) (w : World) (v : View) (store : IsStore layout young stuck old w) (sees : Sees w v) (layout_is : v.layout ≡ layout) (safe : Safe layout v.since old v.opened w.floor w.history (doubt w.lock))
     (txn : Txn) (properties : List (List ℕ × List ℕ)) (next : Revision) (bytes : List ℕ) (may : MayAdopt v txn properties next bytes) where
   -- it has seen all
   all : v.seen ≡ w.history
@@ -105,23 +105,35 @@ module _ (layout : Layout) (young : ℕ) (stuck : Option DiskPlace) (old : Trace
   kept_after : (went : Went) → Kept (with_txns [] (after_it went))
   kept_after went = kept_bare (after_it went) (step_keeps laid (step.AdoptRev v.number 0 properties bytes went) (did (after_it went) (answer went)) (happens went) kept_laid).kept
 
+  numbers_after : (went : Went) (e : Disk) → IsImage (after_it went).disk e → FloorIs w.floor e × HasCounter e
+  numbers_after went e i = numbers (with_txns [] (after_it went)) (kept_after went) e i
+
   coming_then : (went : Went) → IfSome (coming (after_it went).lock) (λ y. BytesShow (with_next w.history y))
   coming_then Fine = shown
   coming_then Before = tt
   coming_then After = tt
   coming_then (Torn any) = tt
 
-  adopts : (new : Trace) (told : Option Trace) (went : Went) → told ≡ Some new → IsTraceOf layout w.floor no_others new.first new.operations (disk_after went (Put (Rev (length w.history)) (file_of (recorded x))) w.disk)
+  adopts : (new : Trace) (went : Went) → IsTraceOf layout w.floor no_others new.first new.operations (disk_after went (Put (Rev (length w.history)) (file_of (recorded x))) w.disk)
       → Safe layout v.since new v.opened w.floor w.history (doubt_in (either went (RevPut x) Over))
-      → (u : View) × Knows layout young stuck told u × Adopted txn properties next bytes went v u
-  adopts new told went is trace safe_then = (
-    adopting_view went x v,
-    subst (λ o. Knows layout young stuck o (adopting_view went x v)) (sym is) (after_it went, now, seen, layout_is, number_is, safe_then),
-    record {
+      → IsAfter layout young stuck new w v (λ u. Adopted txn properties next bytes went v u)
+  adopts new went trace safe_then = record {
+    world = after_it went;
+    view = adopting_view went x v;
+    store = now;
+    sees = seen;
+    turned = record {
       turned = record { world = w; kept = kept_laid; sees = sees; did = did (after_it went) (answer went); happens = happens went; answers = refl; after = kept_after went; leaves = seen };
       is = refl;
-    },
-  )
+    };
+    all = all;
+    safe = safe_then;
+    leaves = section_leaves w (after_it went) v.number (learns (length w.history) (Commit PutRev) went) Begun (either went (RevPut x) Over) went refl refl refl refl lock refl refl;
+    layout_is = refl;
+    since_is = refl;
+    opened_is = refl;
+    number_is = refl;
+  }
     where
       now : IsStore layout young stuck new (after_it went)
       now = record {
@@ -132,7 +144,6 @@ module _ (layout : Layout) (young : ℕ) (stuck : Option DiskPlace) (old : Trace
         coming = coming_then went;
         young_is = store.young_is;
         stuck_is = sym (ap stuck_place lock) ∙ store.stuck_is;
-        alone = length_at w.passes v.number (learns (length w.history) (Commit PutRev) went) ∙ store.alone;
       }
 
       seen : Sees (after_it went) (adopting_view went x v)
@@ -160,9 +171,13 @@ module _ (layout : Layout) (young : ℕ) (stuck : Option DiskPlace) (old : Trace
   part_here : (went : Went) (g : List Recorded) → IsPart w.history None g → IsPart w.history (doubt_in (either went (RevPut x) Over)) g
   part_here went g p = subst (λ d. IsPart w.history d g) (doubtless went) p
 
+  -- how a commit's first call ends
+  abbrev pub Ends : {X E : Type 0} → Option Trace → Result X E → Type 0
+  Ends told result = Comes layout young stuck told w v result (λ went u. Adopted txn properties next bytes went v u)
+
   pub adopt_comes : {X E : Type 0} (told : Option Trace) (name : List ℕ) (result : Result X E) → name ≡ rev_name v (length v.seen)
       → OnOk result (Performs (real.Put name bytes) (Some old) told) → OnErr result (FailsToPut name bytes (Some old) told)
-      → (u : View) × (went : Went) × Knows layout young stuck told u × Answers result went × Adopted txn properties next bytes went v u
+      → Ends told result
   adopt_comes told name result named ok err = by_result result ok err
     where
       name_is : name ≡ machine_name layout (Rev (length w.history))
@@ -180,28 +195,28 @@ module _ (layout : Layout) (young : ℕ) (stuck : Option DiskPlace) (old : Trace
           → Safe layout v.since (add_operation op old) v.opened w.floor w.history (doubt_in (either went (RevPut x) Over))
       safe_then op went trace middle =
           safe_step layout v.since v.opened w.floor w.history old op (disk_after went (Put (Rev (length w.history)) (file_of (recorded x))) w.disk) (Put (Rev (length w.history)) Junk ∷ w.disk) (Held v.number (either went (RevPut x) Over)) (Held v.number Over) None
-          (le layout young stuck old w v store sees layout_is number_is safe) (image_read layout w.floor no_others old.first (op ∷ old.operations) (disk_after went (Put (Rev (length w.history)) (file_of (recorded x))) w.disk) trace) (kept_after went).stands (kept_after went).floors middle (kept_after (Torn Junk)).stands (kept_after (Torn Junk)).floors (doubtless went) (part_here went) safe_here
+          (le layout young stuck old w v store sees layout_is safe) store.kept.floor (image_read layout w.floor no_others old.first (op ∷ old.operations) (disk_after went (Put (Rev (length w.history)) (file_of (recorded x))) w.disk) trace) (kept_after went).stands (numbers_after went) middle (kept_after (Torn Junk)).stands (numbers_after (Torn Junk)) (doubtless went) (part_here went) safe_here
 
       torn_here : (bytes : List ℕ) (m : Files) → (ImageAfter (real.Put name bytes) (files_after old.first old.operations) (real.IsImage old.first old.operations) m) ⊎ (TornBy (real.Put name bytes) (real.IsImage old.first old.operations) m) → (e : Disk) × IsImage (Put (Rev (length w.history)) Junk ∷ w.disk) e × AreRead layout w.floor m e
-      torn_here bytes m c = torn_put layout young stuck old w v store sees layout_is number_is safe (Rev (length w.history)) name bytes name_is fits m c
+      torn_here bytes m c = torn_put layout young stuck old w v store sees layout_is safe (Rev (length w.history)) name bytes name_is fits m c
 
       by_result : {X E : Type 0} (result : Result X E) → OnOk result (Performs (real.Put name bytes) (Some old) told) → OnErr result (FailsToPut name bytes (Some old) told)
-          → (u : View) × (went : Went) × Knows layout young stuck told u × Answers result went × Adopted txn properties next bytes went v u
+          → Ends told result
       by_result (Ok r) ok err =
-          let c = adopts (add_operation (Done (real.Put name bytes)) old) told Fine ok (put bytes (file_of (recorded x)) refl) (safe_then (Done (real.Put name bytes)) Fine (put bytes (file_of (recorded x)) refl) (torn_here bytes)) in
-          (c.0, Fine, c.1, refl, c.2)
+          let c = adopts (add_operation (Done (real.Put name bytes)) old) Fine (put bytes (file_of (recorded x)) refl) (safe_then (Done (real.Put name bytes)) Fine (put bytes (file_of (recorded x)) refl) (torn_here bytes)) in
+          (add_operation (Done (real.Put name bytes)) old, Fine, ok, refl, c)
       by_result (Err e) ok err =
-          ⊎_elim (λ same. let c = adopts old told Before same store.trace safe_here in (c.0, Before, c.1, refl, c.2))
-          (λ more. ⊎_elim (λ same. let c = adopts (add_operation (Attempted (real.Put name bytes)) old) told Before same (Attempting old.operations w.disk (real.Put name bytes) store.trace) (safe_then (Attempted (real.Put name bytes)) Before (Attempting old.operations w.disk (real.Put name bytes) store.trace) (torn_here bytes)) in (c.0, Before, c.1, refl, c.2))
-          (λ torn. let c = adopts (add_operation (Done (real.Put name torn.0)) old) told (Torn Junk) torn.1 (put torn.0 Junk (junk (Rev (length w.history)) torn.0)) (safe_then (Done (real.Put name torn.0)) (Torn Junk) (put torn.0 Junk (junk (Rev (length w.history)) torn.0)) (torn_here torn.0)) in (c.0, Torn Junk, c.1, refl, c.2)) more) err
+          ⊎_elim (λ same. (old, Before, same, refl, adopts old Before store.trace safe_here))
+          (λ more. ⊎_elim (λ same. let c = adopts (add_operation (Attempted (real.Put name bytes)) old) Before (Attempting old.operations w.disk (real.Put name bytes) store.trace) (safe_then (Attempted (real.Put name bytes)) Before (Attempting old.operations w.disk (real.Put name bytes) store.trace) (torn_here bytes)) in (add_operation (Attempted (real.Put name bytes)) old, Before, same, refl, c))
+          (λ torn. let c = adopts (add_operation (Done (real.Put name torn.0)) old) (Torn Junk) (put torn.0 Junk (junk (Rev (length w.history)) torn.0)) (safe_then (Done (real.Put name torn.0)) (Torn Junk) (put torn.0 Junk (junk (Rev (length w.history)) torn.0)) (torn_here torn.0)) in (add_operation (Done (real.Put name torn.0)) old, Torn Junk, torn.1, refl, c)) more) err
 
-  pub adopt_fails : (told : Option Trace) → told ≡ Some old → (u : View) × Knows layout young stuck told u × Adopted txn properties next bytes Before v u
-  adopt_fails told same = adopts old told Before same store.trace safe_here
+  pub adopt_fails : IsAfter layout young stuck old w v (λ u. Adopted txn properties next bytes Before v u)
+  adopt_fails = adopts old Before store.trace safe_here
 
   -- a bench's file gets the name by one change: the bytes are all there, or the name is as it was
   pub adopt_file_comes : {X E : Type 0} (A B : Type 0) (told : Option Trace) (name : List ℕ) (result : Result X E) → name ≡ rev_name v (length v.seen)
       → OnOk result (Performs (real.Adopt name bytes) (Some old) told) → OnErr result ((StaysAt (real.Adopt name bytes) (Some old) told × A) ⊎ (Performs (real.Adopt name bytes) (Some old) told × B))
-      → (u : View) × (went : Went) × Knows layout young stuck told u × Answers result went × Adopted txn properties next bytes went v u
+      → Ends told result
   adopt_file_comes A B told name result named ok err = by_result result ok err
     where
       name_is : name ≡ machine_name layout (Rev (length w.history))
@@ -221,20 +236,19 @@ module _ (layout : Layout) (young : ℕ) (stuck : Option DiskPlace) (old : Trace
           → Safe layout v.since (add_operation op old) v.opened w.floor w.history (doubt_in (either went (RevPut x) Over))
       safe_then op went change trace =
           safe_step layout v.since v.opened w.floor w.history old op (disk_after went (Put (Rev (length w.history)) (file_of (recorded x))) w.disk) (Put (Rev (length w.history)) (file_of (recorded x)) ∷ w.disk) (Held v.number (either went (RevPut x) Over)) (Held v.number Over) None
-          (le layout young stuck old w v store sees layout_is number_is safe) (image_read layout w.floor no_others old.first (op ∷ old.operations) (disk_after went (Put (Rev (length w.history)) (file_of (recorded x))) w.disk) trace) (kept_after went).stands (kept_after went).floors
+          (le layout young stuck old w v store sees layout_is safe) store.kept.floor (image_read layout w.floor no_others old.first (op ∷ old.operations) (disk_after went (Put (Rev (length w.history)) (file_of (recorded x))) w.disk) trace) (kept_after went).stands (numbers_after went)
           (subst (λ k. (m : Files) → (ImageAfter k (files_after old.first old.operations) (real.IsImage old.first old.operations) m) ⊎ (TornBy k (real.IsImage old.first old.operations) m) → (e : Disk) × IsImage (Put (Rev (length w.history)) (file_of (recorded x)) ∷ w.disk) e × AreRead layout w.floor m e) (sym change) middle)
-          (kept_after After).stands (kept_after After).floors (doubtless went) (part_here went) safe_here
+          (kept_after After).stands (numbers_after After) (doubtless went) (part_here went) safe_here
 
       tried : IsTraceOf layout w.floor no_others old.first (Attempted (real.Adopt name bytes) ∷ old.operations) w.disk
       tried = Attempting old.operations w.disk (real.Adopt name bytes) store.trace
 
       by_result : {X E : Type 0} (result : Result X E) → OnOk result (Performs (real.Adopt name bytes) (Some old) told) → OnErr result ((StaysAt (real.Adopt name bytes) (Some old) told × A) ⊎ (Performs (real.Adopt name bytes) (Some old) told × B))
-          → (u : View) × (went : Went) × Knows layout young stuck told u × Answers result went × Adopted txn properties next bytes went v u
+          → Ends told result
       by_result (Ok r) ok err =
-          let c = adopts (add_operation (Done (real.Adopt name bytes)) old) told Fine ok done (safe_then (Done (real.Adopt name bytes)) Fine refl done) in
-          (c.0, Fine, c.1, refl, c.2)
+          (add_operation (Done (real.Adopt name bytes)) old, Fine, ok, refl, adopts (add_operation (Done (real.Adopt name bytes)) old) Fine done (safe_then (Done (real.Adopt name bytes)) Fine refl done))
       by_result (Err e) ok err =
           ⊎_elim
-          (λ stays. ⊎_elim (λ same. let c = adopts old told Before same store.trace safe_here in (c.0, Before, c.1, refl, c.2))
-          (λ same. let c = adopts (add_operation (Attempted (real.Adopt name bytes)) old) told Before same tried (safe_then (Attempted (real.Adopt name bytes)) Before refl tried) in (c.0, Before, c.1, refl, c.2)) stays.0)
-          (λ gone. let c = adopts (add_operation (Done (real.Adopt name bytes)) old) told After gone.0 done (safe_then (Done (real.Adopt name bytes)) After refl done) in (c.0, After, c.1, refl, c.2)) err
+          (λ stays. ⊎_elim (λ same. (old, Before, same, refl, adopts old Before store.trace safe_here))
+          (λ same. (add_operation (Attempted (real.Adopt name bytes)) old, Before, same, refl, adopts (add_operation (Attempted (real.Adopt name bytes)) old) Before tried (safe_then (Attempted (real.Adopt name bytes)) Before refl tried))) stays.0)
+          (λ gone. (add_operation (Done (real.Adopt name bytes)) old, After, gone.0, refl, adopts (add_operation (Done (real.Adopt name bytes)) old) After done (safe_then (Done (real.Adopt name bytes)) After refl done))) err

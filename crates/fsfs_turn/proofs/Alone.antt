@@ -1,6 +1,6 @@
 -- The one pass of an owned store stays alone: each of its turns but a reveal adds no revision, and no turn but one that leaves a revision in
 -- doubt leaves the lock stuck.
-use Rattle.std.proofs.Common.{◌≡◌, ◌⊎◌, ◌≤◌, ◌+◌, ◌-◌, ◌++◌, ◌∷◌, [], ℕ, List, length, true, false, cond, inl, inr, ⊎_elim, refl, sym, ap, subst, ◌∙◌, arith, append-nil, length-append}
+use Rattle.std.proofs.Common.{◌≡◌, ◌⊎◌, ◌≤◌, ◌+◌, ◌++◌, ◌∷◌, [], ℕ, List, length, true, false, cond, inl, inr, ⊎_elim, refl, sym, ap, subst, ◌∙◌, arith, append-nil, length-append}
 use Rattle.std.proofs.lemmas.List.{nil_from_length}
 use Rattle.std.specs.Prelude.{Bool, Option, Some, None, Result, option_map, OnOk, OnErr, IfOk}
 use Rattle.fsfs_base.specs.Files.{Files}
@@ -9,7 +9,7 @@ use Rattle.fsfs_layout.specs.Small.{IsRevLine}
 use Rattle.fsfs_hash.specs.Dump.{IsDump}
 use Rattle.fsfs_tree.specs.Revisions.{Revision}
 use Rattle.fsfs_disk.specs.Labels.{Label}
-use Rattle.fsfs_disk.specs.Trace.{Trace, Operation, Done, Attempted, add_operation, Performs, PerformsIfThere, FailsAt, FailsToPut, FailsToAdopt}
+use Rattle.fsfs_disk.specs.Trace.{Trace, Operation, Done, Attempted, add_operation, change_of, Performs, PerformsIfThere, FailsAt, FailsToPut, FailsToAdopt}
 use Rattle.fsfs_disk.specs.Trace as real
 use Rattle.fsfs_disk.proofs.TraceLemmas.{ended, ended_put, ended_adopt, ended_if_there}
 use Rattle.fsfs_places.specs.declared.place.DiskPlace.{DiskPlace}
@@ -30,10 +30,10 @@ use Rattle.fsfs_machine.specs.Machine.{recorded, either, after, spoiled}
 use Rattle.fsfs_turn.specs.Views.{View, Begins, coming_of, IsDue, Answers, Called, Adopted, Looked, LockTaken, FoundStuck, LockGiven, Revealed, ReadTurn}
 use Rattle.fsfs_turn.specs.Learning.{PropsRead, FloorRead, drawn_of, CounterRead, ReadsCounter, Listed, BenchMade, Purged, SpentPurged}
 use Rattle.fsfs_turn.specs.Standing.{Knows}
-use Rattle.fsfs_turn.specs.Stands.{OwnFilesStand}
+use Rattle.fsfs_turn.specs.Stands.{OwnFilesLast}
 use Rattle.fsfs_turn.specs.Alone.{brings_doubt, are_harmless, is_doubtful, is_doubtful_at, KnowsAlone, AloneStays, AloneAdds}
 use Rattle.fsfs_turn.specs.Found.{seen_within}
-use Rattle.fsfs_turn.proofs.Standings.{own_more}
+use Rattle.fsfs_turn.proofs.OwnFiles.{IsNotOwn, SparesOwn, own_last}
 
 -- ---- for callers
 
@@ -132,32 +132,35 @@ due_brings v place change d inside was doubtful = absurd d
 
 -- ---- the files that no turn touches
 
--- a call of the disk adds one operation to its trace, or none
+-- a call of the disk adds one operation to its trace, which spares them, or none
 abbrev pub GoesOn : Option Trace → Option Trace → Type 0
-GoesOn old new = (new ≡ old) ⊎ ((op : Operation) × (new ≡ option_map (add_operation op) old))
+GoesOn old new = (new ≡ old) ⊎ ((op : Operation) × SparesOwn (change_of op) × (new ≡ option_map (add_operation op) old))
 
-goes_at : (change : real.NameChange) (old new : Option Trace) → FailsAt change old new → GoesOn old new
-goes_at change old new w = ⊎_elim (λ same. inl same) (λ more. ⊎_elim (λ tried. inr (Attempted change, tried)) (λ done. inr (Done change, done)) more) w
+goes_at : (change : real.NameChange) → SparesOwn change → (old new : Option Trace) → FailsAt change old new → GoesOn old new
+goes_at change spares old new w = ⊎_elim (λ same. inl same) (λ more. ⊎_elim (λ tried. inr (Attempted change, spares, tried)) (λ done. inr (Done change, spares, done)) more) w
 
-pub goes_by : {X E : Type 0} (change : real.NameChange) (old new : Option Trace) (result : Result X E) → OnOk result (Performs change old new) → OnErr result (FailsAt change old new) → GoesOn old new
-goes_by change old new result ok err = goes_at change old new (ended change old new result ok err)
+pub goes_by : {X E : Type 0} (change : real.NameChange) → SparesOwn change → (old new : Option Trace) (result : Result X E) → OnOk result (Performs change old new) → OnErr result (FailsAt change old new) → GoesOn old new
+goes_by change spares old new result ok err = goes_at change spares old new (ended change old new result ok err)
 
-pub goes_by_put : {X E : Type 0} (name bytes : List ℕ) (old new : Option Trace) (result : Result X E) → OnOk result (Performs (real.Put name bytes) old new) → OnErr result (FailsToPut name bytes old new) → GoesOn old new
-goes_by_put name bytes old new result ok err =
-    ⊎_elim (λ same. inl same) (λ more. ⊎_elim (λ tried. inr (Attempted (real.Put name bytes), tried)) (λ done. inr (Done (real.Put name done.0), done.1)) more) (ended_put name bytes old new result ok err)
+pub goes_by_put : {X E : Type 0} (name bytes : List ℕ) → IsNotOwn name → (old new : Option Trace) (result : Result X E) → OnOk result (Performs (real.Put name bytes) old new) → OnErr result (FailsToPut name bytes old new) → GoesOn old new
+goes_by_put name bytes spares old new result ok err =
+    ⊎_elim (λ same. inl same) (λ more. ⊎_elim (λ tried. inr (Attempted (real.Put name bytes), spares, tried)) (λ done. inr (Done (real.Put name done.0), spares, done.1)) more) (ended_put name bytes old new result ok err)
 
-pub goes_by_adoption : {X E : Type 0} (change : real.NameChange) (old new : Option Trace) (without : Files → Files) (held left : Option Files) (result : Result X E)
+pub goes_by_adoption : {X E : Type 0} (change : real.NameChange) → SparesOwn change → (old new : Option Trace) (without : Files → Files) (held left : Option Files) (result : Result X E)
     → OnOk result (Performs change old new) → OnErr result (FailsToAdopt change old new without held left) → GoesOn old new
-goes_by_adoption change old new without held left result ok err = goes_at change old new (ended_adopt change old new without held left result ok err)
+goes_by_adoption change spares old new without held left result ok err = goes_at change spares old new (ended_adopt change old new without held left result ok err)
 
-pub goes_if_there : {E : Type 0} (change : real.NameChange) (old new : Option Trace) (result : Result Bool E) → IfOk result (λ there. PerformsIfThere there change old new) → OnErr result (FailsAt change old new) → GoesOn old new
-goes_if_there change old new result ok err = goes_at change old new (ended_if_there change old new result ok err)
+pub goes_if_there : {E : Type 0} (change : real.NameChange) → SparesOwn change → (old new : Option Trace) (result : Result Bool E) → IfOk result (λ there. PerformsIfThere there change old new) → OnErr result (FailsAt change old new) → GoesOn old new
+goes_if_there change spares old new result ok err = goes_at change spares old new (ended_if_there change old new result ok err)
 
-own_next : (layout : Layout) (young now : ℕ) (stuck left : Option DiskPlace) (old new : Option Trace) (v u : View) → GoesOn old new → Knows layout young stuck old v → OwnFilesStand layout old → Knows layout now left new u → OwnFilesStand layout new
-own_next layout young now stuck left None new v u goes known own later = absurd known
-own_next layout young now stuck left (Some t) new v u goes known own later = ⊎_elim
-    (λ same. subst (λ o. OwnFilesStand layout o) (sym same) own)
-    (λ more. subst (λ o. OwnFilesStand layout o) (sym more.1) (own_more layout now left t more.0 u (subst (λ o. Knows layout now left o u) more.1 later) own)) goes
+own_next : (layout : Layout) (since now : ℕ) (old new : Option Trace) → now ≡ since → GoesOn old new → OwnFilesLast layout since old → OwnFilesLast layout now new
+own_next layout since now old new same goes own = subst (λ n. OwnFilesLast layout n new) (sym same) (⊎_elim
+    (λ is. subst (λ o. OwnFilesLast layout since o) (sym is) own)
+    (λ more. subst (λ o. OwnFilesLast layout since o) (sym more.2) (added old more.0 more.1 own)) goes)
+  where
+    added : (told : Option Trace) (op : Operation) → SparesOwn (change_of op) → OwnFilesLast layout since told → OwnFilesLast layout since (option_map (add_operation op) told)
+    added None op spares own = tt
+    added (Some t) op spares own = own_last layout since t op spares own
 
 -- ---- turns
 
@@ -172,36 +175,36 @@ longer h g b = let long : length g ≡ length h + length b.0 = ap length b.1 ∙
 -- what the pass knows after a turn
 module _ (layout : Layout) (young : ℕ) (stuck : Option DiskPlace) (old new : Option Trace) (goes : GoesOn old new) (v : View) (known : KnowsAlone layout young stuck old v) where
   -- one that added no revision, and by which no section came to be in doubt but by a fault that isn't harmless
-  then_known : (u : View) → Knows layout young stuck new u → length u.seen ≡ length v.seen → u.opened ≡ v.opened → u.pass.mine ≡ v.pass.mine → u.pass.stuck ≡ v.pass.stuck → (are_harmless u.pass.faults ≡ true → are_harmless v.pass.faults ≡ true)
+  then_known : (u : View) → Knows layout young stuck new u → length u.seen ≡ length v.seen → u.opened ≡ v.opened → u.since ≡ v.since → u.pass.mine ≡ v.pass.mine → u.pass.stuck ≡ v.pass.stuck → (are_harmless u.pass.faults ≡ true → are_harmless v.pass.faults ≡ true)
       → (are_harmless u.pass.faults ≡ true → is_doubtful_at v.section ≡ false → is_doubtful_at u.section ≡ false) → KnowsAlone layout young stuck new u
-  then_known u now seen opened mine found faults sound =
+  then_known u now seen opened since mine found faults sound =
       let own : length u.pass.mine ≡ length v.pass.mine = ap length mine in (
         now,
         record { all = omega (arith, known.1.all, seen); own = omega (arith, known.1.own, seen, opened, own); free = λ few. known.1.free (faults few); sound = λ few. sound few (known.1.sound (faults few)); found = λ few. found ∙ known.1.found (faults few) },
-        own_next layout young young stuck stuck old new v u goes known.0 known.2 now,
+        own_next layout v.since u.since old new since goes known.2,
       )
 
   -- one that leaves what was seen, and the faults
-  leaves : (u : View) → Knows layout young stuck new u → u.seen ≡ v.seen → u.opened ≡ v.opened → u.pass.mine ≡ v.pass.mine → u.pass.stuck ≡ v.pass.stuck → u.pass.faults ≡ v.pass.faults
+  leaves : (u : View) → Knows layout young stuck new u → u.seen ≡ v.seen → u.opened ≡ v.opened → u.since ≡ v.since → u.pass.mine ≡ v.pass.mine → u.pass.stuck ≡ v.pass.stuck → u.pass.faults ≡ v.pass.faults
       → (is_doubtful_at v.section ≡ false → is_doubtful_at u.section ≡ false) → KnowsAlone layout young stuck new u
-  leaves u now seen opened mine found faults sound = then_known u now (ap length seen) opened mine found (λ few. sym (ap (λ l. are_harmless l) faults) ∙ few) (λ few s. sound s)
+  leaves u now seen opened since mine found faults sound = then_known u now (ap length seen) opened since mine found (λ few. sym (ap (λ l. are_harmless l) faults) ∙ few) (λ few s. sound s)
 
   -- one that tells the history as it is
-  learned : (place : DiskPlace) (went : Went) (u : View) → Knows layout young stuck new u → Begins u.seen v.seen → u.opened ≡ v.opened → u.pass.mine ≡ v.pass.mine → u.pass.stuck ≡ v.pass.stuck → u.pass.faults ≡ either went v.pass.faults (v.pass.faults ++ place ∷ [])
+  learned : (place : DiskPlace) (went : Went) (u : View) → Knows layout young stuck new u → Begins u.seen v.seen → u.opened ≡ v.opened → u.since ≡ v.since → u.pass.mine ≡ v.pass.mine → u.pass.stuck ≡ v.pass.stuck → u.pass.faults ≡ either went v.pass.faults (v.pass.faults ++ place ∷ [])
       → (are_harmless (either went v.pass.faults (v.pass.faults ++ place ∷ [])) ≡ true → is_doubtful_at v.section ≡ false → is_doubtful_at u.section ≡ false) → KnowsAlone layout young stuck new u
-  learned place went u now grows opened mine found faults sound =
+  learned place went u now grows opened since mine found faults sound =
       let same : are_harmless u.pass.faults ≡ are_harmless (either went v.pass.faults (v.pass.faults ++ place ∷ [])) = ap (λ l. are_harmless l) faults in
-      then_known u now (omega (arith, known.1.all, seen_bound layout young stuck new u now, longer v.seen u.seen grows)) opened mine found
+      then_known u now (omega (arith, known.1.all, seen_bound layout young stuck new u now, longer v.seen u.seen grows)) opened since mine found
       (λ few. harmless_before went v.pass.faults place (sym same ∙ few)) (λ few s. sound (sym same ∙ few) s)
 
   same_at : (u : View) → u.section ≡ v.section → is_doubtful_at v.section ≡ false → is_doubtful_at u.section ≡ false
   same_at u is s = ap (λ o. is_doubtful_at o) is ∙ s
 
   pub look_alone : (u : View) × Knows layout young stuck new u × Looked young v u → (u : View) × KnowsAlone layout young stuck new u × Looked young v u
-  look_alone w = (w.0, leaves w.0 w.1 (ap {A = View} (λ z. z.seen) w.2.is) (ap {A = View} (λ z. z.opened) w.2.is) (ap {A = View} (λ z. z.pass.mine) w.2.is) (ap {A = View} (λ z. z.pass.stuck) w.2.is) (ap {A = View} (λ z. z.pass.faults) w.2.is) (same_at w.0 (ap {A = View} (λ z. z.section) w.2.is)), w.2)
+  look_alone w = (w.0, leaves w.0 w.1 (ap {A = View} (λ z. z.seen) w.2.is) (ap {A = View} (λ z. z.opened) w.2.is) (ap {A = View} (λ z. z.since) w.2.is) (ap {A = View} (λ z. z.pass.mine) w.2.is) (ap {A = View} (λ z. z.pass.stuck) w.2.is) (ap {A = View} (λ z. z.pass.faults) w.2.is) (same_at w.0 (ap {A = View} (λ z. z.section) w.2.is)), w.2)
 
   pub take_alone : (u : View) × Knows layout young stuck new u × LockTaken v u → (u : View) × KnowsAlone layout young stuck new u × LockTaken v u
-  take_alone w = (w.0, leaves w.0 w.1 (ap {A = View} (λ z. z.seen) w.2.is) (ap {A = View} (λ z. z.opened) w.2.is) (ap {A = View} (λ z. z.pass.mine) w.2.is) (ap {A = View} (λ z. z.pass.stuck) w.2.is) (ap {A = View} (λ z. z.pass.faults) w.2.is) (λ s. ap {A = View} (λ z. is_doubtful_at z.section) w.2.is), w.2)
+  take_alone w = (w.0, leaves w.0 w.1 (ap {A = View} (λ z. z.seen) w.2.is) (ap {A = View} (λ z. z.opened) w.2.is) (ap {A = View} (λ z. z.since) w.2.is) (ap {A = View} (λ z. z.pass.mine) w.2.is) (ap {A = View} (λ z. z.pass.stuck) w.2.is) (ap {A = View} (λ z. z.pass.faults) w.2.is) (λ s. ap {A = View} (λ z. is_doubtful_at z.section) w.2.is), w.2)
 
   -- it is found stuck only where a fault brought doubt
   pub stuck_alone : (place : DiskPlace) → stuck ≡ Some place → (u : View) × Knows layout young stuck new u × FoundStuck place v u → (u : View) × KnowsAlone layout young stuck new u × FoundStuck place v u
@@ -216,7 +219,7 @@ module _ (layout : Layout) (young : ℕ) (stuck : Option DiskPlace) (old new : O
         sound = λ few. ap {A = View} (λ z. is_doubtful_at z.section) w.2.is ∙ known.1.sound (sym faults ∙ few);
         found = λ few. doubtless few;
       },
-      own_next layout young young stuck stuck old new v w.0 goes known.0 known.2 w.1,
+      own_next layout v.since w.0.since old new (ap {A = View} (λ z. z.since) w.2.is) goes known.2,
     ),
     w.2,
   )
@@ -237,7 +240,7 @@ module _ (layout : Layout) (young : ℕ) (stuck : Option DiskPlace) (old new : O
       doubtless few = let both : None ≡ Some place = sym (known.1.free (sym faults ∙ few)) ∙ is in absurd cc
 
   pub give_alone : (step : Step) → (u : View) × Knows layout young stuck new u × LockGiven step v u → (u : View) × KnowsAlone layout young stuck new u × LockGiven step v u
-  give_alone step w = (w.0, leaves w.0 w.1 (ap {A = View} (λ z. z.seen) w.2.is) (ap {A = View} (λ z. z.opened) w.2.is) (ap {A = View} (λ z. z.pass.mine) w.2.is) (ap {A = View} (λ z. z.pass.stuck) w.2.is) (ap {A = View} (λ z. z.pass.faults) w.2.is) (λ s. ap {A = View} (λ z. is_doubtful_at z.section) w.2.is), w.2)
+  give_alone step w = (w.0, leaves w.0 w.1 (ap {A = View} (λ z. z.seen) w.2.is) (ap {A = View} (λ z. z.opened) w.2.is) (ap {A = View} (λ z. z.since) w.2.is) (ap {A = View} (λ z. z.pass.mine) w.2.is) (ap {A = View} (λ z. z.pass.stuck) w.2.is) (ap {A = View} (λ z. z.pass.faults) w.2.is) (λ s. ap {A = View} (λ z. is_doubtful_at z.section) w.2.is), w.2)
 
   -- it is left stuck only where the section was in doubt
   pub stick_alone : (place : DiskPlace) (x : Coming) (step : Step) → v.section ≡ Some (Doubtful place x) → (u : View) × Knows layout young (Some place) new u × LockGiven step v u → (u : View) × KnowsAlone layout young (Some place) new u × LockGiven step v u
@@ -246,7 +249,7 @@ module _ (layout : Layout) (young : ℕ) (stuck : Option DiskPlace) (old new : O
     (
       w.1,
       record { all = omega (arith, known.1.all, seen); own = omega (arith, known.1.own, seen, opened, own); free = λ few. doubtless few; sound = λ few. ap {A = View} (λ z. is_doubtful_at z.section) w.2.is; found = λ few. found ∙ known.1.found (sym faults ∙ few) },
-      own_next layout young young stuck (Some place) old new v w.0 goes known.0 known.2 w.1,
+      own_next layout v.since w.0.since old new (ap {A = View} (λ z. z.since) w.2.is) goes known.2,
     ),
     w.2,
   )
@@ -272,7 +275,7 @@ module _ (layout : Layout) (young : ℕ) (stuck : Option DiskPlace) (old new : O
   adopted_alone : (txn : Txn) (properties : List (List ℕ × List ℕ)) (next : Revision) (bytes : List ℕ) (went : Went) (u : View) → Knows layout young stuck new u → Adopted txn properties next bytes went v u → KnowsAlone layout young stuck new u
   adopted_alone txn properties next bytes went u now a =
       let same : are_harmless u.pass.faults ≡ are_harmless (either went v.pass.faults (v.pass.faults ++ Commit PutRev ∷ [])) = ap {A = View} (λ z. are_harmless z.pass.faults) a.is in
-      then_known u now (ap {A = View} (λ z. length z.seen) a.is) (ap {A = View} (λ z. z.opened) a.is) (ap {A = View} (λ z. z.pass.mine) a.is) (ap {A = View} (λ z. z.pass.stuck) a.is) (λ few. harmless_before went v.pass.faults (Commit PutRev) (sym same ∙ few))
+      then_known u now (ap {A = View} (λ z. length z.seen) a.is) (ap {A = View} (λ z. z.opened) a.is) (ap {A = View} (λ z. z.since) a.is) (ap {A = View} (λ z. z.pass.mine) a.is) (ap {A = View} (λ z. z.pass.stuck) a.is) (λ few. harmless_before went v.pass.faults (Commit PutRev) (sym same ∙ few))
       (λ few s. ap {A = View} (λ z. is_doubtful_at z.section) a.is ∙ either_sound went (RevPut (coming_of v txn properties next bytes)) Over refl refl)
 
   pub adopt_alone : {X E : Type 0} (txn : Txn) (properties : List (List ℕ × List ℕ)) (next : Revision) (bytes : List ℕ) (result : Result X E)
@@ -286,7 +289,7 @@ module _ (layout : Layout) (young : ℕ) (stuck : Option DiskPlace) (old new : O
   pub reveal_alone : (rev : ℕ) (x : Coming) → rev ≡ length v.seen → (u : View) × Knows layout rev stuck new u × Revealed x v u → (u : View) × KnowsAlone layout rev stuck new u × Revealed x v u
   reveal_alone rev x rev_is w = (
     w.0,
-    (w.1, record { all = omega (arith, rev_is, long); own = omega (arith, known.1.own, long, opened, own); free = λ few. known.1.free (sym faults ∙ few); sound = λ few. ap {A = View} (λ z. is_doubtful_at z.section) w.2.is; found = λ few. ap {A = View} (λ z. z.pass.stuck) w.2.is ∙ known.1.found (sym faults ∙ few) }, own_next layout young rev stuck stuck old new v w.0 goes known.0 known.2 w.1),
+    (w.1, record { all = omega (arith, rev_is, long); own = omega (arith, known.1.own, long, opened, own); free = λ few. known.1.free (sym faults ∙ few); sound = λ few. ap {A = View} (λ z. is_doubtful_at z.section) w.2.is; found = λ few. ap {A = View} (λ z. z.pass.stuck) w.2.is ∙ known.1.found (sym faults ∙ few) }, own_next layout v.since w.0.since old new (ap {A = View} (λ z. z.since) w.2.is) goes known.2),
     w.2,
   )
     where
@@ -304,7 +307,7 @@ module _ (layout : Layout) (young : ℕ) (stuck : Option DiskPlace) (old new : O
 
   -- a call of its section
   called_alone : (place : DiskPlace) (change : real.NameChange) (went : Went) (u : View) → IsDue v place change → Knows layout young stuck new u → Called place went v u → KnowsAlone layout young stuck new u
-  called_alone place change went u due now c = learned place went u now c.grows (ap {A = View} (λ z. z.opened) c.is) (ap {A = View} (λ z. z.pass.mine) c.is) (ap {A = View} (λ z. z.pass.stuck) c.is) (ap {A = View} (λ z. z.pass.faults) c.is)
+  called_alone place change went u due now c = learned place went u now c.grows (ap {A = View} (λ z. z.opened) c.is) (ap {A = View} (λ z. z.since) c.is) (ap {A = View} (λ z. z.pass.mine) c.is) (ap {A = View} (λ z. z.pass.stuck) c.is) (ap {A = View} (λ z. z.pass.faults) c.is)
       (λ few s. ap {A = View} (λ z. is_doubtful_at z.section) c.is ∙ called_sound went c.inside v.pass.faults place (λ doubtful. due_brings v place change due c.inside c.was doubtful) few)
 
   pub call_alone : {X E : Type 0} (place : DiskPlace) (change : real.NameChange) (result : Result X E) → IsDue v place change → (u : View) × (went : Went) × Knows layout young stuck new u × Answers result went × Called place went v u → (u : View) × (went : Went) × KnowsAlone layout young stuck new u × Answers result went × Called place went v u
@@ -316,21 +319,21 @@ module _ (layout : Layout) (young : ℕ) (stuck : Option DiskPlace) (old new : O
   -- with what is told beside it
   pub read_alone : {X E : Type 0} (r offset size : ℕ) (x : Recorded) (result : Result X E) (Read : Type 0) → (u : View) × (went : Went) × Knows layout young stuck new u × Answers result went × ReadTurn r offset size x went v u × Read
       → (u : View) × (went : Went) × KnowsAlone layout young stuck new u × Answers result went × ReadTurn r offset size x went v u × Read
-  read_alone r offset size x result Read w = (w.0, w.1, learned disk.Read w.1 w.0 w.2 w.4.grows (ap {A = View} (λ z. z.opened) w.4.is) (ap {A = View} (λ z. z.pass.mine) w.4.is) (ap {A = View} (λ z. z.pass.stuck) w.4.is) (ap {A = View} (λ z. z.pass.faults) w.4.is) (λ few. same_at w.0 (ap {A = View} (λ z. z.section) w.4.is)), w.3, w.4, w.5)
+  read_alone r offset size x result Read w = (w.0, w.1, learned disk.Read w.1 w.0 w.2 w.4.grows (ap {A = View} (λ z. z.opened) w.4.is) (ap {A = View} (λ z. z.since) w.4.is) (ap {A = View} (λ z. z.pass.mine) w.4.is) (ap {A = View} (λ z. z.pass.stuck) w.4.is) (ap {A = View} (λ z. z.pass.faults) w.4.is) (λ few. same_at w.0 (ap {A = View} (λ z. z.section) w.4.is)), w.3, w.4, w.5)
 
   pub props_alone : {X E : Type 0} (r : ℕ) (x : Recorded) (result : Result X E) (Read : List ℕ → Type 0)
       → (u : View) × (went : Went) × (text : List ℕ) × Knows layout young stuck new u × Answers result went × PropsRead r x went v u × IsDump text x.revision.properties × Read text
       → (u : View) × (went : Went) × (text : List ℕ) × KnowsAlone layout young stuck new u × Answers result went × PropsRead r x went v u × IsDump text x.revision.properties × Read text
-  props_alone r x result Read w = (w.0, w.1, w.2, learned disk.Read w.1 w.0 w.3 w.5.grows (ap {A = View} (λ z. z.opened) w.5.is) (ap {A = View} (λ z. z.pass.mine) w.5.is) (ap {A = View} (λ z. z.pass.stuck) w.5.is) (ap {A = View} (λ z. z.pass.faults) w.5.is) (λ few. same_at w.0 (ap {A = View} (λ z. z.section) w.5.is)), w.4, w.5, w.6, w.7)
+  props_alone r x result Read w = (w.0, w.1, w.2, learned disk.Read w.1 w.0 w.3 w.5.grows (ap {A = View} (λ z. z.opened) w.5.is) (ap {A = View} (λ z. z.since) w.5.is) (ap {A = View} (λ z. z.pass.mine) w.5.is) (ap {A = View} (λ z. z.pass.stuck) w.5.is) (ap {A = View} (λ z. z.pass.faults) w.5.is) (λ few. same_at w.0 (ap {A = View} (λ z. z.section) w.5.is)), w.4, w.5, w.6, w.7)
 
   pub floor_alone : {X E : Type 0} (result : Result X E) (Read : List ℕ → Type 0)
       → (u : View) × (went : Went) × (floor : ℕ) × (text : List ℕ) × Knows layout young stuck new u × Answers result went × FloorRead floor went v u × IsRevLine text floor × Read text
       → (u : View) × (went : Went) × (floor : ℕ) × (text : List ℕ) × KnowsAlone layout young stuck new u × Answers result went × FloorRead floor went v u × IsRevLine text floor × Read text
-  floor_alone result Read w = (w.0, w.1, w.2, w.3, learned disk.Read w.1 w.0 w.4 w.6.grows (ap {A = View} (λ z. z.opened) w.6.is) (ap {A = View} (λ z. z.pass.mine) w.6.is) (ap {A = View} (λ z. z.pass.stuck) w.6.is) (ap {A = View} (λ z. z.pass.faults) w.6.is) (λ few. same_at w.0 (ap {A = View} (λ z. z.section) w.6.is)), w.5, w.6, w.7, w.8)
+  floor_alone result Read w = (w.0, w.1, w.2, w.3, learned disk.Read w.1 w.0 w.4 w.6.grows (ap {A = View} (λ z. z.opened) w.6.is) (ap {A = View} (λ z. z.since) w.6.is) (ap {A = View} (λ z. z.pass.mine) w.6.is) (ap {A = View} (λ z. z.pass.stuck) w.6.is) (ap {A = View} (λ z. z.pass.faults) w.6.is) (λ few. same_at w.0 (ap {A = View} (λ z. z.section) w.6.is)), w.5, w.6, w.7, w.8)
 
   -- what it knew
   pub same_alone : Knows layout young stuck new v → KnowsAlone layout young stuck new v
-  same_alone now = leaves v now refl refl refl refl refl (λ s. s)
+  same_alone now = leaves v now refl refl refl refl refl refl (λ s. s)
 
   pub counter_alone : {E : Type 0} (files : Option Files) (base : ℕ) (result : Result (Option ℕ) E) (before filled : List ℕ) → ReadsCounter (Knows layout young stuck new) files base result before filled v → ReadsCounter (KnowsAlone layout young stuck new) files base result before filled v
   counter_alone files base result before filled c = record {
@@ -346,17 +349,17 @@ module _ (layout : Layout) (young : ℕ) (stuck : Option DiskPlace) (old new : O
   }
     where
       counted : (went : Went) (u : View) → Knows layout young stuck new u → CounterRead base c.number went v u → KnowsAlone layout young stuck new u
-      counted went u now r = learned (Begin begin.Read) went u now r.grows (ap {A = View} (λ z. z.opened) r.is) (ap {A = View} (λ z. z.pass.mine) r.is) (ap {A = View} (λ z. z.pass.stuck) r.is) (ap {A = View} (λ z. z.pass.faults) r.is)
+      counted went u now r = learned (Begin begin.Read) went u now r.grows (ap {A = View} (λ z. z.opened) r.is) (ap {A = View} (λ z. z.since) r.is) (ap {A = View} (λ z. z.pass.mine) r.is) (ap {A = View} (λ z. z.pass.stuck) r.is) (ap {A = View} (λ z. z.pass.faults) r.is)
           (λ few s. ap {A = View} (λ z. is_doubtful_at z.section) r.is ∙ either_sound went (CountRead (drawn_of base c.number)) Over refl refl)
 
   pub list_alone : (labels : Option (List Label)) (went : Went) → (ls : List Label) × (labels ≡ Some ls) × (u : View) × Knows layout young stuck new u × Listed ls went v u → (ls : List Label) × (labels ≡ Some ls) × (u : View) × KnowsAlone layout young stuck new u × Listed ls went v u
-  list_alone labels went w = (w.0, w.1, w.2, learned disk.List went w.2 w.3 w.4.grows (ap {A = View} (λ z. z.opened) w.4.is) (ap {A = View} (λ z. z.pass.mine) w.4.is) (ap {A = View} (λ z. z.pass.stuck) w.4.is) (ap {A = View} (λ z. z.pass.faults) w.4.is) (λ few. same_at w.2 (ap {A = View} (λ z. z.section) w.4.is)), w.4)
+  list_alone labels went w = (w.0, w.1, w.2, learned disk.List went w.2 w.3 w.4.grows (ap {A = View} (λ z. z.opened) w.4.is) (ap {A = View} (λ z. z.since) w.4.is) (ap {A = View} (λ z. z.pass.mine) w.4.is) (ap {A = View} (λ z. z.pass.stuck) w.4.is) (ap {A = View} (λ z. z.pass.faults) w.4.is) (λ few. same_at w.2 (ap {A = View} (λ z. z.section) w.4.is)), w.4)
 
   pub make_alone : {X E : Type 0} (x : Drawn) (result : Result X E) → (u : View) × (went : Went) × Knows layout young stuck new u × Answers result went × BenchMade x went v u → (u : View) × (went : Went) × KnowsAlone layout young stuck new u × Answers result went × BenchMade x went v u
-  make_alone x result w = (w.0, w.1, learned disk.MakeBench w.1 w.0 w.2 w.4.grows (ap {A = View} (λ z. z.opened) w.4.is) (ap {A = View} (λ z. z.pass.mine) w.4.is) (ap {A = View} (λ z. z.pass.stuck) w.4.is) (ap {A = View} (λ z. z.pass.faults) w.4.is) (λ few. same_at w.0 (ap {A = View} (λ z. z.section) w.4.is)), w.3, w.4)
+  make_alone x result w = (w.0, w.1, learned disk.MakeBench w.1 w.0 w.2 w.4.grows (ap {A = View} (λ z. z.opened) w.4.is) (ap {A = View} (λ z. z.since) w.4.is) (ap {A = View} (λ z. z.pass.mine) w.4.is) (ap {A = View} (λ z. z.pass.stuck) w.4.is) (ap {A = View} (λ z. z.pass.faults) w.4.is) (λ few. same_at w.0 (ap {A = View} (λ z. z.section) w.4.is)), w.3, w.4)
 
   pub purge_alone : {X E : Type 0} (txn : Txn) (result : Result X E) → (u : View) × (went : Went) × Knows layout young stuck new u × Answers result went × Purged txn went v u → (u : View) × (went : Went) × KnowsAlone layout young stuck new u × Answers result went × Purged txn went v u
-  purge_alone txn result w = (w.0, w.1, learned disk.Remove w.1 w.0 w.2 w.4.grows (ap {A = View} (λ z. z.opened) w.4.is) (ap {A = View} (λ z. z.pass.mine) w.4.is) (ap {A = View} (λ z. z.pass.stuck) w.4.is) (ap {A = View} (λ z. z.pass.faults) w.4.is) (λ few. same_at w.0 (ap {A = View} (λ z. z.section) w.4.is)), w.3, w.4)
+  purge_alone txn result w = (w.0, w.1, learned disk.Remove w.1 w.0 w.2 w.4.grows (ap {A = View} (λ z. z.opened) w.4.is) (ap {A = View} (λ z. z.since) w.4.is) (ap {A = View} (λ z. z.pass.mine) w.4.is) (ap {A = View} (λ z. z.pass.stuck) w.4.is) (ap {A = View} (λ z. z.pass.faults) w.4.is) (λ few. same_at w.0 (ap {A = View} (λ z. z.section) w.4.is)), w.3, w.4)
 
   pub spent_alone : {X E : Type 0} (name : ℕ) (result : Result X E) → (u : View) × (went : Went) × Knows layout young stuck new u × Answers result went × SpentPurged name went v u → (u : View) × (went : Went) × KnowsAlone layout young stuck new u × Answers result went × SpentPurged name went v u
-  spent_alone name result w = (w.0, w.1, learned disk.Remove w.1 w.0 w.2 w.4.grows (ap {A = View} (λ z. z.opened) w.4.is) (ap {A = View} (λ z. z.pass.mine) w.4.is) (ap {A = View} (λ z. z.pass.stuck) w.4.is) (ap {A = View} (λ z. z.pass.faults) w.4.is) (λ few. same_at w.0 (ap {A = View} (λ z. z.section) w.4.is)), w.3, w.4)
+  spent_alone name result w = (w.0, w.1, learned disk.Remove w.1 w.0 w.2 w.4.grows (ap {A = View} (λ z. z.opened) w.4.is) (ap {A = View} (λ z. z.since) w.4.is) (ap {A = View} (λ z. z.pass.mine) w.4.is) (ap {A = View} (λ z. z.pass.stuck) w.4.is) (ap {A = View} (λ z. z.pass.faults) w.4.is) (λ few. same_at w.0 (ap {A = View} (λ z. z.section) w.4.is)), w.3, w.4)

@@ -40,9 +40,10 @@ use Rattle.fsfs_turn.specs.Views.{View, Sees}
 use Rattle.fsfs_turn.specs.Standing.{no_others, IsStore}
 use Rattle.fsfs_turn.specs.Stands.{HasOwnFiles}
 use Rattle.fsfs_turn.specs.Opening.{new_revision, NewStoreIsKnown}
-use Rattle.fsfs_turn.specs.Past.{Safe}
+use Rattle.fsfs_turn.specs.Past.{HasCounter, Safe}
 use Rattle.fsfs_images.proofs.Showing.{own_file, image_read}
-use Rattle.fsfs_turn.proofs.Moments.{past_of}
+use Rattle.fsfs_turn.proofs.Moments.{past_of, numbers}
+use Rattle.fsfs_turn.proofs.OwnFiles.{own_from_opening}
 use Rattle.fsfs_turn.proofs.Stepping.{kept_bare}
 
 pub at_none : (n : FileName) (o : Option (List ℕ)) → AtName n o None
@@ -118,7 +119,7 @@ module _ (first : Files) (labels : List Label) (before : List Operation) (date :
 
   store : IsStore new.layout 0 None (record { first = first; labels = labels; operations = Done real.FirmNames ∷ before }) world
   unfolding world disk
-  store = record { trace = Opening before disk read; whole = zero-mod new.layout.shard_size; kept = kept_bare world (created_kept world ((date_name, date) ∷ []) first_bytes refl); shown = all_show; coming = tt; young_is = refl; stuck_is = refl; alone = refl }
+  store = record { trace = Opening before disk read; whole = zero-mod new.layout.shard_size; kept = kept_bare world (created_kept world ((date_name, date) ∷ []) first_bytes refl); shown = all_show; coming = tt; young_is = refl; stuck_is = refl }
 
   sees : Sees world view
   unfolding world view
@@ -128,13 +129,14 @@ module _ (first : Files) (labels : List Label) (before : List Operation) (date :
   unfolding disk
   safe m i =
       let r = image_read new.layout 0 no_others first (Done real.FirmNames ∷ before) (Firm ∷ disk) (Opening before disk read) m (now i) in
-      (r.0, r.2, past_of 1 0 (new_revision date ∷ []) Free r.0 (omega arith) (stands r.0 r.1), floors r.0 r.1)
+      let n = numbers_now r.0 r.1 in
+      (r.0, r.2, past_of 1 0 (new_revision date ∷ []) Free r.0 (omega arith) (omega arith) (stands r.0 r.1), n.0, n.1)
     where
       now : ImageSince (length before + 1) first (Done real.FirmNames ∷ before) m → real.IsImage first (Done real.FirmNames ∷ before) m
       now i = ⊎_elim (λ a. a) (λ b. absurd (omega (arith, b.0))) i
 
-      floors : (e : Disk) → IsImage (Firm ∷ disk) e → FloorIs 0 e
-      floors = (created_kept (created ((date_name, date) ∷ []) first_bytes) ((date_name, date) ∷ []) first_bytes refl).floors
+      numbers_now : (e : Disk) → IsImage (Firm ∷ disk) e → FloorIs 0 e × HasCounter e
+      numbers_now = numbers (created ((date_name, date) ∷ []) first_bytes) (created_kept (created ((date_name, date) ∷ []) first_bytes) ((date_name, date) ∷ []) first_bytes refl)
 
       stands : (e : Disk) → IsImage (Firm ∷ disk) e → Stands 0 (new_revision date ∷ []) Free e
       stands = (created_kept (created ((date_name, date) ∷ []) first_bytes) ((date_name, date) ∷ []) first_bytes refl).stands
@@ -149,7 +151,7 @@ module _ (first : Files) (labels : List Label) (before : List Operation) (date :
 
   pub new_is_known : (v : View) × KnowsAlone new.layout 0 None (Some (record { first = first; labels = labels; operations = Done real.FirmNames ∷ before })) v × (v.section ≡ None) × (v.pass ≡ first_pass 1 0) × (v.seen ≡ new_revision date ∷ []) × (v.since ≡ length before + 1)
   unfolding view world
-  new_is_known = (view, ((world, store, sees, refl, refl, safe), record { all = refl; own = refl; free = λ harmless. refl; sound = λ harmless. refl; found = λ harmless. refl }, own), refl, refl, refl, refl)
+  new_is_known = (view, ((world, store, sees, refl, refl, safe, refl), record { all = refl; own = refl; free = λ harmless. refl; sound = λ harmless. refl; found = λ harmless. refl }, own_from_opening new.layout first before own), refl, refl, refl, refl)
 
 pub new_store_is_known : NewStoreIsKnown
 new_store_is_known first labels before date new = new_is_known first labels before date new

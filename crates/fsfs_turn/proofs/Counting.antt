@@ -24,18 +24,18 @@ use Rattle.fsfs_machine.specs.Kept.{Kept, coming, AllBelow}
 use Rattle.fsfs_machine.proofs.Images.{read_is_image}
 use Rattle.fsfs_machine.proofs.Answering.{seen_of}
 use Rattle.fsfs_machine.proofs.Steps.{step_keeps}
-use Rattle.fsfs_machine.proofs.Whose.{length_at}
 use Rattle.fsfs_images.specs.RealNames.{machine_name}
 use Rattle.fsfs_images.proofs.Showing.{now_read}
 use Rattle.fsfs_turn.specs.Bytes.{BytesShow}
 use Rattle.fsfs_turn.specs.Past.{doubt_in, doubt, Safe}
 use Rattle.fsfs_turn.specs.Views.{View, Sees, with_txns, Answers}
 use Rattle.fsfs_turn.specs.Learning.{drawn_of, CounterRead, ReadsCounter}
-use Rattle.fsfs_turn.specs.Standing.{no_others, IsStore, Knows}
+use Rattle.fsfs_turn.specs.Standing.{no_others, IsStore}
+use Rattle.fsfs_turn.proofs.TurnEnds.{section_leaves, IsAfter, Comes}
 use Rattle.fsfs_turn.proofs.Stepping.{kept_bare, at_itself, held_here, lock_is, take_drop}
 use Rattle.fsfs_turn.proofs.Due.{at_found}
 
-module _ (layout : Layout) (young : ℕ) (stuck : Option DiskPlace) (t : Trace) (w : World) (v : View) (store : IsStore layout young stuck t w) (sees : Sees w v) (layout_is : v.layout ≡ layout) (number_is : v.number ≡ 0) (safe : Safe layout v.since t v.opened w.floor w.history (doubt w.lock))
+module _ (layout : Layout) (young : ℕ) (stuck : Option DiskPlace) (t : Trace) (w : World) (v : View) (store : IsStore layout young stuck t w) (sees : Sees w v) (safe : Safe layout v.since t v.opened w.floor w.history (doubt w.lock))
     (base : ℕ) (begun : v.section ≡ Some Begun) (told_base : base ≤ v.pass.least) where
   lock : w.lock ≡ Held v.number Begun
   lock = lock_is v.number w.lock Begun (sees.section ∙ begun)
@@ -46,7 +46,7 @@ module _ (layout : Layout) (young : ℕ) (stuck : Option DiskPlace) (t : Trace) 
   base_in : base < length w.history
   base_in = omega (arith, told_base, least_in)
 
-  counter : (k : ℕ) × (found w.disk Counter ≡ Some (Number k)) × AllBelow k w.given
+  pub counter : (k : ℕ) × (found w.disk Counter ≡ Some (Number k)) × AllBelow k w.given
   counter = store.kept.counts w.disk (read_is_image w.disk)
 
   abbrev world : Went → World
@@ -79,19 +79,28 @@ module _ (layout : Layout) (young : ℕ) (stuck : Option DiskPlace) (t : Trace) 
   coming_then After = tt
   coming_then (Torn any) = tt
 
-  turn : counter.0 < 2 ^ 64 - 1 → (told : Option Trace) → told ≡ Some t → (went : Went) → (u : View) × Knows layout young stuck told u × CounterRead base counter.0 went v u
-  turn few told same went = (
-    view went,
-    subst (λ o. Knows layout young stuck o (view went)) (sym same) (world went, now, after, layout_is, number_is, safe_then),
-    record {
+  pub counter_turns : counter.0 < 2 ^ 64 - 1 → (went : Went) → IsAfter layout young stuck t w v (λ u. CounterRead base counter.0 went v u)
+  counter_turns few went = record {
+    world = world went;
+    view = view went;
+    store = now;
+    sees = after;
+    turned = record {
       turned = record { world = w; kept = store.kept; sees = sees; did = did (world went) (answer went); happens = happens few went; answers = refl; after = kept; leaves = after };
       is = refl;
       grows = (drop v.pass.seen w.history, take_drop v.pass.seen w.history ∙ ap (λ l. l ++ drop v.pass.seen w.history) (sym sees.seen));
       within = λ sure. let up : w.young + 1 ≡ length w.history = store.kept.young sees.up in omega (arith, up, sees.sure sure);
       all = least_in;
       shown = store.shown;
-    },
-  )
+    };
+    all = refl;
+    safe = safe_then;
+    leaves = section_leaves w (world went) v.number (learns (length w.history) (Begin begin.Read) went) Begun (either went (CountRead (drawn_of base counter.0)) Over) went refl refl refl refl lock refl refl;
+    layout_is = refl;
+    since_is = refl;
+    opened_is = refl;
+    number_is = refl;
+  }
     where
       kept : Kept (with_txns [] (world went))
       kept = kept_bare (world went) (step_keeps (with_txns [] w) (step.Draw v.number base went) (did (world went) (answer went)) (happens few went) store.kept).kept
@@ -110,35 +119,37 @@ module _ (layout : Layout) (young : ℕ) (stuck : Option DiskPlace) (t : Trace) 
       }
 
       now : IsStore layout young stuck t (world went)
-      now = record { trace = store.trace; whole = store.whole; kept = kept; shown = store.shown; coming = coming_then went; young_is = store.young_is; stuck_is = stuck_then went; alone = length_at w.passes v.number (learns (length w.history) (Begin begin.Read) went) ∙ store.alone }
+      now = record { trace = store.trace; whole = store.whole; kept = kept; shown = store.shown; coming = coming_then went; young_is = store.young_is; stuck_is = stuck_then went }
 
       safe_then : Safe layout v.since t v.opened w.floor w.history (doubt (Held v.number (either went (CountRead (drawn_of base counter.0)) Over)))
       safe_then = subst (λ d. Safe layout v.since t v.opened w.floor w.history d) (doubtless went) (subst (λ l. Safe layout v.since t v.opened w.floor w.history (doubt l)) lock safe)
 
-  pub counter_comes : {E : Type 0} (told : Option Trace) → told ≡ Some t → (name old new : List ℕ) → name ≡ only_name only.TxnCurrent → (result : Result (Option ℕ) E) → IfOk result (IsRead (file_at t name) 0 old new)
-      → ReadsCounter (Knows layout young stuck told) (option_map files_now told) base result old new v
-  counter_comes told same name old new named result read = record {
-    text = at.0;
+  pub counter_comes : {X E : Type 0} (told : Option Trace) → told ≡ Some t → counter.0 < 2 ^ 64 - 1 → (result : Result X E) → Comes layout young stuck told w v result (λ went u. CounterRead base counter.0 went v u)
+  counter_comes told same few (Ok o) = (t, Fine, same, refl, counter_turns few Fine)
+  counter_comes told same few (Err e) = (t, Before, same, refl, counter_turns few Before)
+
+  -- the number stands in the file
+  pub counter_file : (text : List ℕ) × (get (files_now t) (machine_name layout Counter) ≡ Some text) × IsBase36Line text counter.0
+  counter_file = at_found Counter (get (files_now t) (machine_name layout Counter)) (found w.disk Counter) (Number counter.0) counter.1 (now_read layout w.floor no_others t.first t.operations w.disk store.trace Counter tt)
+
+  -- what is read there is its line
+  pub counter_reads : {E : Type 0} (knows : View → Type 0) (told : Option Trace) → told ≡ Some t → (name old new : List ℕ) → name ≡ only_name only.TxnCurrent → (result : Result (Option ℕ) E) → IfOk result (IsRead (file_at t name) 0 old new)
+      → (counter.0 < 2 ^ 64 - 1 → (u : View) × (went : Went) × knows u × Answers result went × CounterRead base counter.0 went v u) → knows v → ReadsCounter knows (option_map files_now told) base result old new v
+  counter_reads knows told same name old new named result read turned known = record {
+    text = counter_file.0;
     number = counter.0;
-    line = at.2;
+    line = counter_file.2;
     files = files_now t;
     files_are = ap (λ o. option_map files_now o) same;
-    there = at.1;
+    there = counter_file.1;
     read = read_it result read;
-    turned = λ few. by_result result few;
-    full = λ many. subst (λ o. Knows layout young stuck o v) (sym same) (w, store, sees, layout_is, number_is, safe);
+    turned = turned;
+    full = λ many. known;
   }
     where
-      at : (text : List ℕ) × (get (files_now t) (machine_name layout Counter) ≡ Some text) × IsBase36Line text counter.0
-      at = at_found Counter (get (files_now t) (machine_name layout Counter)) (found w.disk Counter) (Number counter.0) counter.1 (now_read layout w.floor no_others t.first t.operations w.disk store.trace Counter tt)
+      file_is : file_at t name ≡ Some counter_file.0
+      file_is = ap (λ n. get (files_now t) n) named ∙ counter_file.1
 
-      file_is : file_at t name ≡ Some at.0
-      file_is = ap (λ n. get (files_now t) n) named ∙ at.1
-
-      read_it : {E : Type 0} (result : Result (Option ℕ) E) → IfOk result (IsRead (file_at t name) 0 old new) → IfOk result (IsRead (Some at.0) 0 old new)
+      read_it : {E : Type 0} (result : Result (Option ℕ) E) → IfOk result (IsRead (file_at t name) 0 old new) → IfOk result (IsRead (Some counter_file.0) 0 old new)
       read_it (Ok o) read = subst (λ f. IsRead f 0 old new o) file_is read
       read_it (Err e) read = tt
-
-      by_result : {E : Type 0} (result : Result (Option ℕ) E) → counter.0 < 2 ^ 64 - 1 → (u : View) × (went : Went) × Knows layout young stuck told u × Answers result went × CounterRead base counter.0 went v u
-      by_result (Ok o) few = let u = turn few told same Fine in (u.0, Fine, u.1, refl, u.2)
-      by_result (Err e) few = let u = turn few told same Before in (u.0, Before, u.1, refl, u.2)

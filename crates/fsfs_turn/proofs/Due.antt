@@ -27,13 +27,14 @@ use Rattle.fsfs_machine.specs.Machine.{World, either, after, spoiled, due, is_du
 use Rattle.fsfs_machine.specs.Kept.{KnowsAt, Stands, FloorIs}
 use Rattle.fsfs_images.specs.RealNames.{machine_name}
 use Rattle.fsfs_images.specs.Shown.{MayChange, Reads, AtName, AreRead, IsTraceOf, Putting, Renaming, Firming, Attempting}
-use Rattle.fsfs_turn.specs.Views.{View, coming_at, Sees, IsDue, Answers, Called}
-use Rattle.fsfs_turn.specs.Past.{doubt_in, doubt, Safe}
+use Rattle.fsfs_turn.specs.Views.{View, coming_at, Sees, IsDue, Called}
+use Rattle.fsfs_turn.specs.Past.{doubt_in, doubt, HasCounter, Safe}
 pub use Rattle.fsfs_turn.specs.Found.{at_found}
-use Rattle.fsfs_turn.specs.Standing.{no_others, IsStore, Knows}
+use Rattle.fsfs_turn.specs.Standing.{no_others, IsStore}
 use Rattle.fsfs_images.proofs.Showing.{own_file, now_read, image_read, torn_read}
 use Rattle.fsfs_turn.proofs.Moments.{doubt_after, part_due, safe_step, safe_not}
-use Rattle.fsfs_turn.proofs.Stepping.{IsCalled, call_turns, kept_called, lock_is}
+use Rattle.fsfs_turn.proofs.TurnEnds.{IsAfter, Comes}
+use Rattle.fsfs_turn.proofs.Stepping.{call_turns, kept_called, lock_is}
 
 -- a put that is due
 record PutDue (layout : Layout) (w : World) (v : View) (place : DiskPlace) (name bytes : List ℕ) : Type 0 where
@@ -110,11 +111,7 @@ firm_due w v place d = absurd d
 pub junk : (n : FileName) (bytes : List ℕ) → Reads n bytes Junk
 junk n bytes = tt
 
--- how a call answered
-abbrev pub Comes : {X E : Type 0} → Layout → ℕ → Option DiskPlace → Option Trace → DiskPlace → Result X E → View → Type 0
-Comes layout young stuck told place result v = (u : View) × (went : Went) × Knows layout young stuck told u × Answers result went × Called place went v u
-
-module _ (layout : Layout) (young : ℕ) (stuck : Option DiskPlace) (old : Trace) (w : World) (v : View) (store : IsStore layout young stuck old w) (sees : Sees w v) (layout_is : v.layout ≡ layout) (number_is : v.number ≡ 0) (safe : Safe layout v.since old v.opened w.floor w.history (doubt w.lock)) where
+module _ (layout : Layout) (young : ℕ) (stuck : Option DiskPlace) (old : Trace) (w : World) (v : View) (store : IsStore layout young stuck old w) (sees : Sees w v) (layout_is : v.layout ≡ layout) (safe : Safe layout v.since old v.opened w.floor w.history (doubt w.lock)) where
   pub le : v.opened ≤ length w.history
   le = sees.opened
 
@@ -129,9 +126,12 @@ module _ (layout : Layout) (young : ℕ) (stuck : Option DiskPlace) (old : Trace
       → (e : Disk) → IsImage (disk_after went change w.disk) e → Stands w.floor w.history (Held v.number (either went (after s) (spoiled s))) e
   stands_after place went s change inside is due_is = (kept_called w v.number place went s change store.kept (sees.section ∙ inside) is due_is).stands
 
-  floors_after : (place : DiskPlace) (went : Went) (s : Section) (change : NameChange) → v.section ≡ Some s → is_due s place ≡ true → due w s ≡ Some change
-      → (e : Disk) → IsImage (disk_after went change w.disk) e → FloorIs w.floor e
-  floors_after place went s change inside is due_is = (kept_called w v.number place went s change store.kept (sees.section ∙ inside) is due_is).floors
+  numbers_after : (place : DiskPlace) (went : Went) (s : Section) (change : NameChange) → v.section ≡ Some s → is_due s place ≡ true → due w s ≡ Some change
+      → (e : Disk) → IsImage (disk_after went change w.disk) e → FloorIs w.floor e × HasCounter e
+  numbers_after place went s change inside is due_is e i =
+      let kept = kept_called w v.number place went s change store.kept (sees.section ∙ inside) is due_is in
+      let counter = kept.counts e i in
+      (kept.floors e i, (counter.0, counter.1))
 
   -- a call that reached it, with what it may leave in its middle
   safe_done : (op : Operation) (place : DiskPlace) (went mid : Went) (s : Section) (change : NameChange) → v.section ≡ Some s → is_due s place ≡ true → due w s ≡ Some change
@@ -139,8 +139,8 @@ module _ (layout : Layout) (young : ℕ) (stuck : Option DiskPlace) (old : Trace
       → ((m : Files) → (ImageAfter (change_of op) (files_after old.first old.operations) (real.IsImage old.first old.operations) m) ⊎ (TornBy (change_of op) (real.IsImage old.first old.operations) m) → (e : Disk) × IsImage (disk_after mid change w.disk) e × AreRead layout w.floor m e)
       → Safe layout v.since (add_operation op old) v.opened w.floor w.history (doubt_in (either went (after s) (spoiled s)))
   safe_done op place went mid s change inside is due_is trace middle =
-      safe_step layout v.since v.opened w.floor w.history old op (disk_after went change w.disk) (disk_after mid change w.disk) (Held v.number (either went (after s) (spoiled s))) (Held v.number (either mid (after s) (spoiled s))) (doubt_in s) le
-      (image_read layout w.floor no_others old.first (op ∷ old.operations) (disk_after went change w.disk) trace) (stands_after place went s change inside is due_is) (floors_after place went s change inside is due_is) middle (stands_after place mid s change inside is due_is) (floors_after place mid s change inside is due_is)
+      safe_step layout v.since v.opened w.floor w.history old op (disk_after went change w.disk) (disk_after mid change w.disk) (Held v.number (either went (after s) (spoiled s))) (Held v.number (either mid (after s) (spoiled s))) (doubt_in s) le store.kept.floor
+      (image_read layout w.floor no_others old.first (op ∷ old.operations) (disk_after went change w.disk) trace) (stands_after place went s change inside is due_is) (numbers_after place went s change inside is due_is) middle (stands_after place mid s change inside is due_is) (numbers_after place mid s change inside is due_is)
       (doubt_after s mid ∙ sym (doubt_after s went)) (λ g q. part_due w.history s place went g is q) (safe_in s inside)
 
   -- in the middle of a put the name may have any bytes
@@ -153,11 +153,12 @@ module _ (layout : Layout) (young : ℕ) (stuck : Option DiskPlace) (old : Trace
           (λ i. image_read layout w.floor no_others old.first (Done (real.Put (machine_name layout at) bytes) ∷ old.operations) (Put at Junk ∷ w.disk) (Putting old.operations w.disk at bytes Junk store.trace fits (junk at bytes)) m i)
           (λ t. torn_read layout w.floor no_others old.first old.operations w.disk store.trace at bytes fits m t) c
 
-  known : (new : Trace) (told : Option Trace) (place : DiskPlace) (went : Went) → told ≡ Some new → (c : IsCalled layout young stuck new place went v) → Knows layout young stuck told c.view
-  known new told place went is c = subst (λ o. Knows layout young stuck o c.view) (sym is) (c.world, c.store, c.sees, c.layout_is ∙ layout_is, c.number_is ∙ number_is, c.safe)
+  -- how a call of this section ends
+  abbrev pub Ends : {X E : Type 0} → Option Trace → DiskPlace → Result X E → Type 0
+  Ends told place result = Comes layout young stuck told w v result (λ went u. Called place went v u)
 
   pub put_comes : {X E : Type 0} (told : Option Trace) (place : DiskPlace) (name bytes : List ℕ) (result : Result X E) → IsDue v place (real.Put name bytes)
-      → OnOk result (Performs (real.Put name bytes) (Some old) told) → OnErr result (FailsToPut name bytes (Some old) told) → Comes layout young stuck told place result v
+      → OnOk result (Performs (real.Put name bytes) (Some old) told) → OnErr result (FailsToPut name bytes (Some old) told) → Ends told place result
   put_comes told place name bytes (Ok x) d ok err =
       let p = put_due layout w v place name bytes layout_is sees d in
       let new = add_operation (Done (real.Put name bytes)) old in
@@ -165,24 +166,24 @@ module _ (layout : Layout) (young : ℕ) (stuck : Option DiskPlace) (old : Trace
       subst (λ n. IsTraceOf layout w.floor no_others old.first (Done (real.Put n bytes) ∷ old.operations) (Put p.at p.contents ∷ w.disk)) (sym p.named)
       (Putting old.operations w.disk p.at bytes p.contents store.trace p.fits p.reads) in
       let c = call_turns layout young stuck old new w v place Fine p.section (Put p.at p.contents) store sees p.inside p.is p.change trace (safe_done (Done (real.Put name bytes)) place Fine (Torn Junk) p.section (Put p.at p.contents) p.inside p.is p.change trace (torn_put p.at name bytes p.named p.fits)) in
-      (c.view, Fine, known new told place Fine ok c, refl, c.called)
+      (new, Fine, ok, refl, c)
   put_comes told place name bytes (Err e) d ok err =
       let p = put_due layout w v place name bytes layout_is sees d in
       let before = call_turns layout young stuck old old w v place Before p.section (Put p.at p.contents) store sees p.inside p.is p.change store.trace (safe_before place p.section p.inside p.is) in
       let tried = add_operation (Attempted (real.Put name bytes)) old in
       let attempt = call_turns layout young stuck old tried w v place Before p.section (Put p.at p.contents) store sees p.inside p.is p.change (Attempting old.operations w.disk (real.Put name bytes) store.trace) (safe_done (Attempted (real.Put name bytes)) place Before (Torn Junk) p.section (Put p.at p.contents) p.inside p.is p.change (Attempting old.operations w.disk (real.Put name bytes) store.trace) (torn_put p.at name bytes p.named p.fits)) in
-      ⊎_elim (λ same. (before.view, Before, known old told place Before same before, refl, before.called))
-      (λ more. ⊎_elim (λ same. (attempt.view, Before, known tried told place Before same attempt, refl, attempt.called))
+      ⊎_elim (λ same. (old, Before, same, refl, before))
+      (λ more. ⊎_elim (λ same. (tried, Before, same, refl, attempt))
       (λ torn.
       let new = add_operation (Done (real.Put name torn.0)) old in
       let trace : IsTraceOf layout w.floor no_others old.first (Done (real.Put name torn.0) ∷ old.operations) (Put p.at Junk ∷ w.disk) =
       subst (λ n. IsTraceOf layout w.floor no_others old.first (Done (real.Put n torn.0) ∷ old.operations) (Put p.at Junk ∷ w.disk)) (sym p.named)
       (Putting old.operations w.disk p.at torn.0 Junk store.trace p.fits (junk p.at torn.0)) in
       let c = call_turns layout young stuck old new w v place (Torn Junk) p.section (Put p.at p.contents) store sees p.inside p.is p.change trace (safe_done (Done (real.Put name torn.0)) place (Torn Junk) (Torn Junk) p.section (Put p.at p.contents) p.inside p.is p.change trace (torn_put p.at name torn.0 p.named p.fits)) in
-      (c.view, Torn Junk, known new told place (Torn Junk) torn.1 c, refl, c.called)) more) err
+      (new, Torn Junk, torn.1, refl, c)) more) err
 
   pub rename_comes : {X E : Type 0} (told : Option Trace) (place : DiskPlace) (from to : List ℕ) (result : Result X E) → IsDue v place (real.Rename from to)
-      → OnOk result (Performs (real.Rename from to) (Some old) told) → OnErr result (FailsAt (real.Rename from to) (Some old) told) → Comes layout young stuck told place result v
+      → OnOk result (Performs (real.Rename from to) (Some old) told) → OnErr result (FailsAt (real.Rename from to) (Some old) told) → Ends told place result
   rename_comes told place from to result d ok err = by_result result ok err
     where
       p : RenameDue layout w v place from to
@@ -206,20 +207,20 @@ module _ (layout : Layout) (young : ℕ) (stuck : Option DiskPlace) (old : Trace
       tried : Trace
       tried = add_operation (Attempted (real.Rename from to)) old
 
-      by_result : {X E : Type 0} (result : Result X E) → OnOk result (Performs (real.Rename from to) (Some old) told) → OnErr result (FailsAt (real.Rename from to) (Some old) told) → Comes layout young stuck told place result v
+      by_result : {X E : Type 0} (result : Result X E) → OnOk result (Performs (real.Rename from to) (Some old) told) → OnErr result (FailsAt (real.Rename from to) (Some old) told) → Ends told place result
       by_result (Ok x) ok err =
           let c = call_turns layout young stuck old new w v place Fine p.section (Rename p.from p.to (Number p.number)) store sees p.inside p.is p.change done (safe_done (Done (real.Rename from to)) place Fine After p.section (Rename p.from p.to (Number p.number)) p.inside p.is p.change done middle) in
-          (c.view, Fine, known new told place Fine ok c, refl, c.called)
+          (new, Fine, ok, refl, c)
       by_result (Err e) ok err =
           let before = call_turns layout young stuck old old w v place Before p.section (Rename p.from p.to (Number p.number)) store sees p.inside p.is p.change store.trace (safe_before place p.section p.inside p.is) in
           let attempt = call_turns layout young stuck old tried w v place Before p.section (Rename p.from p.to (Number p.number)) store sees p.inside p.is p.change (Attempting old.operations w.disk (real.Rename from to) store.trace) (safe_done (Attempted (real.Rename from to)) place Before After p.section (Rename p.from p.to (Number p.number)) p.inside p.is p.change (Attempting old.operations w.disk (real.Rename from to) store.trace) middle) in
           let all = call_turns layout young stuck old new w v place After p.section (Rename p.from p.to (Number p.number)) store sees p.inside p.is p.change done (safe_done (Done (real.Rename from to)) place After After p.section (Rename p.from p.to (Number p.number)) p.inside p.is p.change done middle) in
-          ⊎_elim (λ same. (before.view, Before, known old told place Before same before, refl, before.called))
-          (λ more. ⊎_elim (λ same. (attempt.view, Before, known tried told place Before same attempt, refl, attempt.called))
-          (λ same. (all.view, After, known new told place After same all, refl, all.called)) more) err
+          ⊎_elim (λ same. (old, Before, same, refl, before))
+          (λ more. ⊎_elim (λ same. (tried, Before, same, refl, attempt))
+          (λ same. (new, After, same, refl, all)) more) err
 
   pub firm_comes : {X E : Type 0} (told : Option Trace) (place : DiskPlace) (result : Result X E) → IsDue v place real.FirmNames
-      → OnOk result (Performs real.FirmNames (Some old) told) → OnErr result (FailsAt real.FirmNames (Some old) told) → Comes layout young stuck told place result v
+      → OnOk result (Performs real.FirmNames (Some old) told) → OnErr result (FailsAt real.FirmNames (Some old) told) → Ends told place result
   firm_comes told place result d ok err = by_result result ok err
     where
       p : FirmDue w v place
@@ -234,21 +235,20 @@ module _ (layout : Layout) (young : ℕ) (stuck : Option DiskPlace) (old : Trace
       tried : Trace
       tried = add_operation (Attempted real.FirmNames) old
 
-      by_result : {X E : Type 0} (result : Result X E) → OnOk result (Performs real.FirmNames (Some old) told) → OnErr result (FailsAt real.FirmNames (Some old) told) → Comes layout young stuck told place result v
+      by_result : {X E : Type 0} (result : Result X E) → OnOk result (Performs real.FirmNames (Some old) told) → OnErr result (FailsAt real.FirmNames (Some old) told) → Ends told place result
       by_result (Ok x) ok err =
           let c = call_turns layout young stuck old new w v place Fine p.section Firm store sees p.inside p.is p.change (Firming old.operations w.disk store.trace) (safe_done (Done real.FirmNames) place Fine After p.section Firm p.inside p.is p.change (Firming old.operations w.disk store.trace) middle) in
-          (c.view, Fine, known new told place Fine ok c, refl, c.called)
+          (new, Fine, ok, refl, c)
       by_result (Err e) ok err =
           let before = call_turns layout young stuck old old w v place Before p.section Firm store sees p.inside p.is p.change store.trace (safe_before place p.section p.inside p.is) in
           let attempt = call_turns layout young stuck old tried w v place Before p.section Firm store sees p.inside p.is p.change (Attempting old.operations w.disk real.FirmNames store.trace) (safe_done (Attempted real.FirmNames) place Before After p.section Firm p.inside p.is p.change (Attempting old.operations w.disk real.FirmNames store.trace) middle) in
           let all = call_turns layout young stuck old new w v place After p.section Firm store sees p.inside p.is p.change (Firming old.operations w.disk store.trace) (safe_done (Done real.FirmNames) place After After p.section Firm p.inside p.is p.change (Firming old.operations w.disk store.trace) middle) in
-          ⊎_elim (λ same. (before.view, Before, known old told place Before same before, refl, before.called))
-          (λ more. ⊎_elim (λ same. (attempt.view, Before, known tried told place Before same attempt, refl, attempt.called))
-          (λ same. (all.view, After, known new told place After same all, refl, all.called)) more) err
+          ⊎_elim (λ same. (old, Before, same, refl, before))
+          (λ more. ⊎_elim (λ same. (tried, Before, same, refl, attempt))
+          (λ same. (new, After, same, refl, all)) more) err
 
   -- a call that is due fails before it reaches the disk
-  pub folder_fails : (told : Option Trace) (place : DiskPlace) (name bytes : List ℕ) → told ≡ Some old → IsDue v place (real.Put name bytes) → (u : View) × Knows layout young stuck told u × Called place Before v u
-  folder_fails told place name bytes same d =
+  pub folder_fails : (place : DiskPlace) (name bytes : List ℕ) → IsDue v place (real.Put name bytes) → IsAfter layout young stuck old w v (λ u. Called place Before v u)
+  folder_fails place name bytes d =
       let p = put_due layout w v place name bytes layout_is sees d in
-      let before = call_turns layout young stuck old old w v place Before p.section (Put p.at p.contents) store sees p.inside p.is p.change store.trace (safe_before place p.section p.inside p.is) in
-      (before.view, known old told place Before same before, before.called)
+      call_turns layout young stuck old old w v place Before p.section (Put p.at p.contents) store sees p.inside p.is p.change store.trace (safe_before place p.section p.inside p.is)

@@ -21,17 +21,17 @@ use Rattle.fsfs_machine.specs.Kept.{Kept}
 use Rattle.fsfs_machine.proofs.Images.{read_is_image}
 use Rattle.fsfs_machine.proofs.Steps.{step_keeps}
 use Rattle.fsfs_machine.proofs.Answering.{has_all, seen_of}
-use Rattle.fsfs_machine.proofs.Whose.{length_at}
 use Rattle.fsfs_images.specs.RealNames.{machine_name}
 use Rattle.fsfs_turn.specs.Past.{doubt, Safe}
-use Rattle.fsfs_turn.specs.Views.{View, rev_name, Sees, with_txns, Answers, ReadTurn}
-use Rattle.fsfs_turn.specs.Standing.{no_others, IsStore, Knows}
+use Rattle.fsfs_turn.specs.Views.{View, rev_name, Sees, with_txns, ReadTurn}
+use Rattle.fsfs_turn.specs.Standing.{no_others, IsStore}
+use Rattle.fsfs_turn.proofs.TurnEnds.{pass_leaves, IsAfter, Comes}
 use Rattle.fsfs_images.specs.Shown.{file_in}
 use Rattle.fsfs_images.proofs.Showing.{own_file, now_read}
 use Rattle.fsfs_turn.proofs.Stepping.{kept_bare, at_itself, take_drop, get_taken}
 use Rattle.fsfs_turn.proofs.Due.{at_found}
 
-module _ (layout : Layout) (young : ℕ) (stuck : Option DiskPlace) (t : Trace) (w : World) (v : View) (store : IsStore layout young stuck t w) (sees : Sees w v) (layout_is : v.layout ≡ layout) (number_is : v.number ≡ 0) (safe : Safe layout v.since t v.opened w.floor w.history (doubt w.lock))
+module _ (layout : Layout) (young : ℕ) (stuck : Option DiskPlace) (t : Trace) (w : World) (v : View) (store : IsStore layout young stuck t w) (sees : Sees w v) (layout_is : v.layout ≡ layout) (safe : Safe layout v.since t v.opened w.floor w.history (doubt w.lock))
     (r offset size : ℕ) (x : Recorded) (there : slice_get v.seen r ≡ Some x) where
   here : slice_get (take v.pass.seen w.history) r ≡ Some x
   here = subst (λ h. slice_get h r ≡ Some x) sees.seen there
@@ -76,7 +76,7 @@ module _ (layout : Layout) (young : ℕ) (stuck : Option DiskPlace) (t : Trace) 
   }
 
   now : (went : Went) → IsStore layout young stuck t (world went)
-  now went = record { trace = store.trace; whole = store.whole; kept = kept went; shown = store.shown; coming = store.coming; young_is = store.young_is; stuck_is = store.stuck_is; alone = length_at w.passes v.number (learns (length w.history) Read went) ∙ store.alone }
+  now went = record { trace = store.trace; whole = store.whole; kept = kept went; shown = store.shown; coming = store.coming; young_is = store.young_is; stuck_is = store.stuck_is }
 
   read_turn : (went : Went) → ReadTurn r offset size x went v (view went)
   read_turn went = record {
@@ -89,22 +89,38 @@ module _ (layout : Layout) (young : ℕ) (stuck : Option DiskPlace) (t : Trace) 
   }
 
   -- the file's bytes are those beside the revision
-  file_is : r < 2 ^ 32 → v.pass.floor ≤ r → (name : List ℕ) → name ≡ rev_name v r → file_at t name ≡ Some x.bytes
-  file_is fits above name named =
+  pub read_file : r < 2 ^ 32 → v.pass.floor ≤ r → (name : List ℕ) → name ≡ rev_name v r → file_at t name ≡ Some x.bytes
+  read_file fits above name named =
       let floor : v.pass.floor ≡ w.floor = (seen_of (length w.history) w.floor w.passes v.number v.pass store.kept.seen sees.pass).floor in
       let at = at_found (Rev r) (file_in layout w.floor (files_now t) (Rev r)) (found w.disk (Rev r)) (file_of x) in_file (now_read layout w.floor no_others t.first t.operations w.disk store.trace (Rev r) fits) in
       ap (λ n. get (files_now t) n) (named ∙ ap (λ k. machine_name k (Rev r)) layout_is) ∙ sym (own_file layout w.floor (files_now t) (Rev r) (omega (arith, above, floor))) ∙ at.1 ∙ ap (λ (b : List ℕ). Some b) at.2
 
-  pub read_comes : {E : Type 0} (told : Option Trace) → told ≡ Some t → r < 2 ^ 32 → v.pass.floor ≤ r → (name old new : List ℕ) → name ≡ rev_name v r → (result : Result (Option ℕ) E) → IfOk result (IsRead (file_at t name) offset old new)
-      → (u : View) × (went : Went) × Knows layout young stuck told u × Answers result went × ReadTurn r offset size x went v u × IfOk result (IsRead (Some x.bytes) offset old new)
-  read_comes told same fits above name old new named (Ok o) read =
-      (view Fine, Fine, subst (λ z. Knows layout young stuck z (view Fine)) (sym same) (world Fine, now Fine, after Fine, layout_is, number_is, safe), refl, read_turn Fine, subst (λ f. IsRead f offset old new o) (file_is fits above name named) read)
-  read_comes told same fits above name old new named (Err e) read =
-      (view Before, Before, subst (λ z. Knows layout young stuck z (view Before)) (sym same) (world Before, now Before, after Before, layout_is, number_is, safe), refl, read_turn Before, tt)
+  pub read_turns : (went : Went) → IsAfter layout young stuck t w v (λ u. ReadTurn r offset size x went v u)
+  read_turns went = record {
+    world = world went;
+    view = view went;
+    store = now went;
+    sees = after went;
+    turned = read_turn went;
+    all = refl;
+    safe = safe;
+    leaves = pass_leaves w (world went) v.number (learns (length w.history) Read went) refl refl refl refl refl refl;
+    layout_is = refl;
+    since_is = refl;
+    opened_is = refl;
+    number_is = refl;
+  }
 
-  pub size_comes : {E : Type 0} (told : Option Trace) → told ≡ Some t → r < 2 ^ 32 → v.pass.floor ≤ r → (name : List ℕ) → name ≡ rev_name v r → (result : Result (Option ℕ) E) → IfOk result (IsSize (file_at t name))
-      → (u : View) × (went : Went) × Knows layout young stuck told u × Answers result went × ReadTurn r offset size x went v u × IfOk result (IsSize (Some x.bytes))
-  size_comes told same fits above name named (Ok o) read =
-      (view Fine, Fine, subst (λ z. Knows layout young stuck z (view Fine)) (sym same) (world Fine, now Fine, after Fine, layout_is, number_is, safe), refl, read_turn Fine, subst (λ f. IsSize f o) (file_is fits above name named) read)
-  size_comes told same fits above name named (Err e) read =
-      (view Before, Before, subst (λ z. Knows layout young stuck z (view Before)) (sym same) (world Before, now Before, after Before, layout_is, number_is, safe), refl, read_turn Before, tt)
+  -- a range was read, or the size asked for
+  pub read_comes : {X E : Type 0} (told : Option Trace) → told ≡ Some t → (result : Result X E) → Comes layout young stuck told w v result (λ went u. ReadTurn r offset size x went v u)
+  read_comes told same (Ok o) = (t, Fine, same, refl, read_turns Fine)
+  read_comes told same (Err e) = (t, Before, same, refl, read_turns Before)
+
+  -- what is read there is of these bytes
+  pub read_bytes : {E : Type 0} → r < 2 ^ 32 → v.pass.floor ≤ r → (name old new : List ℕ) → name ≡ rev_name v r → (result : Result (Option ℕ) E) → IfOk result (IsRead (file_at t name) offset old new) → IfOk result (IsRead (Some x.bytes) offset old new)
+  read_bytes fits above name old new named (Ok o) read = subst (λ f. IsRead f offset old new o) (read_file fits above name named) read
+  read_bytes fits above name old new named (Err e) read = tt
+
+  pub size_bytes : {E : Type 0} → r < 2 ^ 32 → v.pass.floor ≤ r → (name : List ℕ) → name ≡ rev_name v r → (result : Result (Option ℕ) E) → IfOk result (IsSize (file_at t name)) → IfOk result (IsSize (Some x.bytes))
+  size_bytes fits above name named (Ok o) read = subst (λ f. IsSize f o) (read_file fits above name named) read
+  size_bytes fits above name named (Err e) read = tt

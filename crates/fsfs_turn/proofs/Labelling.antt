@@ -24,9 +24,10 @@ use Rattle.fsfs_machine.specs.Machine.{World, did, barred, either, answer, learn
 use Rattle.fsfs_machine.specs.Kept.{Kept, IsIn, AllGiven, one}
 use Rattle.fsfs_images.specs.Shown.{IsTraceOf, Attempting, KeepingLabel, DroppingLabel}
 use Rattle.fsfs_turn.specs.Past.{doubt, Safe}
-use Rattle.fsfs_turn.specs.Views.{View, Sees, with_txns, IsTxnOver, Answers}
+use Rattle.fsfs_turn.specs.Views.{View, Sees, with_txns, IsTxnOver}
 use Rattle.fsfs_turn.specs.Learning.{has_number, kept_names, with_labels, with_named, with_spent, Listed, MayMake, BenchMade, MayPurge, Purged, SpentPurged}
-use Rattle.fsfs_turn.specs.Standing.{no_others, IsStore, Knows}
+use Rattle.fsfs_turn.specs.Standing.{no_others, IsStore}
+use Rattle.fsfs_turn.proofs.TurnEnds.{IsAfter, Comes}
 use Rattle.fsfs_turn.proofs.Stepping.{take_drop}
 use Rattle.fsfs_turn.proofs.Longer.{txn_later}
 use Rattle.fsfs_turn.proofs.Locking.{there_in}
@@ -88,7 +89,7 @@ outside_is p (Held q s) e = elim (q == p) as (λ b. cond b (Some s) None ≡ Non
   | false ↦ λ e. refl
 ] e
 
-module _ (layout : Layout) (young : ℕ) (stuck : Option DiskPlace) (old : Trace) (w : World) (v : View) (store : IsStore layout young stuck old w) (sees : Sees w v) (layout_is : v.layout ≡ layout) (number_is : v.number ≡ 0) (safe : Safe layout v.since old v.opened w.floor w.history (doubt w.lock)) where
+module _ (layout : Layout) (young : ℕ) (stuck : Option DiskPlace) (old : Trace) (w : World) (v : View) (store : IsStore layout young stuck old w) (sees : Sees w v) (safe : Safe layout v.since old v.opened w.floor w.history (doubt w.lock)) where
   there : nat_lt v.number (length w.passes) ≡ true
   there = there_in w.passes v.number v.pass sees.pass
 
@@ -107,9 +108,9 @@ module _ (layout : Layout) (young : ℕ) (stuck : Option DiskPlace) (old : Trace
       ≡ (if is_there (with_labels (kept_names ls v.given) w) v.number then did (turned (with_labels (kept_names ls v.given) w) v.number place.List went) (listed (with_labels (kept_names ls v.given) w) went) else barred (with_labels (kept_names ls v.given) w))
   list_happens ls went = sym (ap (λ b. cond b (did (turned (with_labels (kept_names ls v.given) w) v.number place.List went) (listed (with_labels (kept_names ls v.given) w) went)) (barred (with_labels (kept_names ls v.given) w))) there)
 
-  pub list_comes : (told : Option Trace) → told ≡ Some old → (ls : List Label) (went : Went) → (u : View) × Knows layout young stuck told u × Listed ls went v u
-  list_comes told same ls went = tells layout young stuck old w v store sees layout_is number_is (with_labels (kept_names ls v.given)) (step.ListTxns v.number went) (either went (outcome.Names (kept_names ls v.given)) outcome.Failed)
-      (λ n. learns n place.List went) (kept_names ls v.given) [] [] [] (kept_labels w (kept_names ls v.given) store.kept (list_given ls)) (list_happens ls went) refl refl old told same store.trace safe
+  pub list_turns : (ls : List Label) (went : Went) → IsAfter layout young stuck old w v (λ u. Listed ls went v u)
+  list_turns ls went = tells layout young stuck old w v store sees (with_labels (kept_names ls v.given)) (step.ListTxns v.number went) (either went (outcome.Names (kept_names ls v.given)) outcome.Failed)
+      (λ n. learns n place.List went) (kept_names ls v.given) [] [] [] (kept_labels w (kept_names ls v.given) store.kept (list_given ls)) (list_happens ls went) refl refl old store.trace safe
 
   -- ---- a call on a label, however it went
 
@@ -125,32 +126,31 @@ module _ (layout : Layout) (young : ℕ) (stuck : Option DiskPlace) (old : Trace
   unshown_drop : (l : Label) → IsUnshown (DropLabel l)
   unshown_drop l = record { done = DroppingLabel old.operations w.disk l store.trace; images = λ m i. i; middle = λ m c. ⊎_elim (λ i. i) (λ t. absurd t) c }
 
-  -- what a turn of this trace comes to
-  abbrev Turn : Option Trace → (Went → View → Type 0) → Type 0
-  Turn told P = (new : Trace) → told ≡ Some new → IsTraceOf layout w.floor no_others new.first new.operations w.disk → Safe layout v.since new v.opened w.floor w.history (doubt w.lock) → (went : Went) → (u : View) × Knows layout young stuck told u × P went u
+  -- what a turn comes to that leaves the machine's disk
+  abbrev Turn : (Went → View → Type 0) → Type 0
+  Turn P = (new : Trace) → IsTraceOf layout w.floor no_others new.first new.operations w.disk → Safe layout v.since new v.opened w.floor w.history (doubt w.lock) → (went : Went) → IsAfter layout young stuck new w v (P went)
 
   label_call : {X E : Type 0} (change : real.NameChange) → IsUnshown change → (P : Went → View → Type 0) (told : Option Trace) (result : Result X E)
-      → OnOk result ((told ≡ Some old) ⊎ Performs change (Some old) told) → OnErr result (FailsAt change (Some old) told) → Turn told P
-      → (u : View) × (went : Went) × Knows layout young stuck told u × Answers result went × P went u
+      → OnOk result ((told ≡ Some old) ⊎ Performs change (Some old) told) → OnErr result (FailsAt change (Some old) told) → Turn P
+      → Comes layout young stuck told w v result P
   label_call change unshown P told result ok err turn = by_result result ok err
     where
-      untouched : told ≡ Some old → (went : Went) → (u : View) × Knows layout young stuck told u × P went u
-      untouched same went = turn old same store.trace safe went
+      untouched : (went : Went) → IsAfter layout young stuck old w v (P went)
+      untouched went = turn old store.trace safe went
 
-      tried : told ≡ Some (add_operation (Attempted change) old) → (went : Went) → (u : View) × Knows layout young stuck told u × P went u
-      tried same went = turn (add_operation (Attempted change) old) same (Attempting old.operations w.disk change store.trace)
+      attempt : (went : Went) → IsAfter layout young stuck (add_operation (Attempted change) old) w v (P went)
+      attempt went = turn (add_operation (Attempted change) old) (Attempting old.operations w.disk change store.trace)
           (safe_label layout v.since v.opened w.floor w.history (doubt w.lock) old (Attempted change) (λ m i. i) unshown.middle safe) went
 
-      performed : told ≡ Some (add_operation (Done change) old) → (went : Went) → (u : View) × Knows layout young stuck told u × P went u
-      performed same went = turn (add_operation (Done change) old) same unshown.done
+      performed : (went : Went) → IsAfter layout young stuck (add_operation (Done change) old) w v (P went)
+      performed went = turn (add_operation (Done change) old) unshown.done
           (safe_label layout v.since v.opened w.floor w.history (doubt w.lock) old (Done change) unshown.images unshown.middle safe) went
 
-      by_result : {X E : Type 0} (result : Result X E) → OnOk result ((told ≡ Some old) ⊎ Performs change (Some old) told) → OnErr result (FailsAt change (Some old) told)
-          → (u : View) × (went : Went) × Knows layout young stuck told u × Answers result went × P went u
-      by_result (Ok x) ok err = ⊎_elim (λ same. let u = untouched same Fine in (u.0, Fine, u.1, refl, u.2)) (λ same. let u = performed same Fine in (u.0, Fine, u.1, refl, u.2)) ok
+      by_result : {X E : Type 0} (result : Result X E) → OnOk result ((told ≡ Some old) ⊎ Performs change (Some old) told) → OnErr result (FailsAt change (Some old) told) → Comes layout young stuck told w v result P
+      by_result (Ok x) ok err = ⊎_elim (λ same. (old, Fine, same, refl, untouched Fine)) (λ same. (add_operation (Done change) old, Fine, same, refl, performed Fine)) ok
       by_result (Err e) ok err =
-          ⊎_elim (λ same. let u = untouched same Before in (u.0, Before, u.1, refl, u.2))
-          (λ more. ⊎_elim (λ same. let u = tried same Before in (u.0, Before, u.1, refl, u.2)) (λ same. let u = performed same After in (u.0, After, u.1, refl, u.2)) more) err
+          ⊎_elim (λ same. (old, Before, same, refl, untouched Before))
+          (λ more. ⊎_elim (λ same. (add_operation (Attempted change) old, Before, same, refl, attempt Before)) (λ same. (add_operation (Done change) old, After, same, refl, performed After)) more) err
 
   -- ---- a bench is made
 
@@ -165,13 +165,13 @@ module _ (layout : Layout) (young : ℕ) (stuck : Option DiskPlace) (old : Trace
         ≡ (if nat_lt v.number (length w.passes) && is_outside v.number w.lock then made (with_named (x ∷ []) w) v.number 0 went (Some x) else barred (with_named (x ∷ []) w))
     make_happens went = sym (ap (λ b. cond b (made (with_named (x ∷ []) w) v.number 0 went (Some x)) (barred (with_named (x ∷ []) w))) (both may.outside))
 
-    make_turn : (told : Option Trace) → Turn told (λ went u. BenchMade x went v u)
-    make_turn told new same trace safe_then went = tells layout young stuck old w v store sees layout_is number_is (with_named (x ∷ [])) (step.MakeBench v.number 0 went) (answer went) (λ n. learns n place.MakeBench went)
-        (labelled went x.name []) [] (either went (begun_txn w.history x ∷ []) []) (either went [] (x.name ∷ [])) (kept_named w x store.kept base_in given_in) (make_happens went) refl refl new told same trace safe_then
+    make_turn : Turn (λ went u. BenchMade x went v u)
+    make_turn new trace safe_then went = tells layout young stuck old w v store sees (with_named (x ∷ [])) (step.MakeBench v.number 0 went) (answer went) (λ n. learns n place.MakeBench went)
+        (labelled went x.name []) [] (either went (begun_txn w.history x ∷ []) []) (either went [] (x.name ∷ [])) (kept_named w x store.kept base_in given_in) (make_happens went) refl refl new trace safe_then
 
     pub make_comes : {X E : Type 0} (told : Option Trace) (l : Label) (result : Result X E) → OnOk result (Performs (KeepLabel l) (Some old) told) → OnErr result (FailsAt (KeepLabel l) (Some old) told)
-        → (u : View) × (went : Went) × Knows layout young stuck told u × Answers result went × BenchMade x went v u
-    make_comes told l result ok err = label_call (KeepLabel l) (unshown_keep l) (λ went u. BenchMade x went v u) told result (done_so result ok) err (make_turn told)
+        → Comes layout young stuck told w v result (λ went u. BenchMade x went v u)
+    make_comes told l result ok err = label_call (KeepLabel l) (unshown_keep l) (λ went u. BenchMade x went v u) told result (done_so result ok) err make_turn
       where
         done_so : {X E : Type 0} (result : Result X E) → OnOk result (Performs (KeepLabel l) (Some old) told) → OnOk result ((told ≡ Some old) ⊎ Performs (KeepLabel l) (Some old) told)
         done_so (Ok x) done = inr done
@@ -185,7 +185,7 @@ module _ (layout : Layout) (young : ℕ) (stuck : Option DiskPlace) (old : Trace
   dropped_so told l (Err e) done = tt
 
   pub purge_comes : {E : Type 0} (told : Option Trace) (l : Label) (txn : Txn) → MayPurge v txn → (result : Result Bool E) → IfOk result (λ there. PerformsIfThere there (DropLabel l) (Some old) told) → OnErr result (FailsAt (DropLabel l) (Some old) told)
-      → (u : View) × (went : Went) × Knows layout young stuck told u × Answers result went × Purged txn went v u
+      → Comes layout young stuck told w v result (λ went u. Purged txn went v u)
   purge_comes told l txn may result ok err = label_call (DropLabel l) (unshown_drop l) (λ went u. Purged txn went v u) told result (dropped_so told l result ok) err turn
     where
       over : IsTxnOver w.history txn
@@ -195,18 +195,18 @@ module _ (layout : Layout) (young : ℕ) (stuck : Option DiskPlace) (old : Trace
           ≡ (if nat_lt v.number (length w.passes) && is_outside v.number w.lock then purged (with_txns (txn ∷ []) w) v.number 0 went (Some txn) else barred (with_txns (txn ∷ []) w))
       happens went = sym (ap (λ b. cond b (purged (with_txns (txn ∷ []) w) v.number 0 went (Some txn)) (barred (with_txns (txn ∷ []) w))) (both may.outside))
 
-      turn : Turn told (λ went u. Purged txn went v u)
-      turn new same trace safe_then went = tells layout young stuck old w v store sees layout_is number_is (with_txns (txn ∷ [])) (step.Purge v.number 0 went) (answer went) (λ n. learns n place.Remove went)
-          (unlabelled went txn.name (txn.name ∷ [])) [] [] [] (kept_one w txn store.kept over (sees.given txn.name may.given)) (happens went) refl refl new told same trace safe_then
+      turn : Turn (λ went u. Purged txn went v u)
+      turn new trace safe_then went = tells layout young stuck old w v store sees (with_txns (txn ∷ [])) (step.Purge v.number 0 went) (answer went) (λ n. learns n place.Remove went)
+          (unlabelled went txn.name (txn.name ∷ [])) [] [] [] (kept_one w txn store.kept over (sees.given txn.name may.given)) (happens went) refl refl new trace safe_then
 
   pub spent_comes : {E : Type 0} (told : Option Trace) (l : Label) (name : ℕ) → v.section ≡ None → IsIn name v.given → (result : Result Bool E) → IfOk result (λ there. PerformsIfThere there (DropLabel l) (Some old) told) → OnErr result (FailsAt (DropLabel l) (Some old) told)
-      → (u : View) × (went : Went) × Knows layout young stuck told u × Answers result went × SpentPurged name went v u
+      → Comes layout young stuck told w v result (λ went u. SpentPurged name went v u)
   spent_comes told l name outside given result ok err = label_call (DropLabel l) (unshown_drop l) (λ went u. SpentPurged name went v u) told result (dropped_so told l result ok) err turn
     where
       happens : (went : Went) → did (told_world w v.number (learns (length w.history) place.Remove went) (unlabelled went name (name ∷ [])) [] [] []) (answer went)
           ≡ (if nat_lt v.number (length w.passes) && is_outside v.number w.lock then purged_spent (with_spent name w) v.number 0 went (Some name) else barred (with_spent name w))
       happens went = sym (ap (λ b. cond b (purged_spent (with_spent name w) v.number 0 went (Some name)) (barred (with_spent name w))) (both outside))
 
-      turn : Turn told (λ went u. SpentPurged name went v u)
-      turn new same trace safe_then went = tells layout young stuck old w v store sees layout_is number_is (with_spent name) (step.PurgeSpent v.number 0 went) (answer went) (λ n. learns n place.Remove went)
-          (unlabelled went name (name ∷ [])) [] [] [] (kept_spent w name store.kept (sees.given name given)) (happens went) refl refl new told same trace safe_then
+      turn : Turn (λ went u. SpentPurged name went v u)
+      turn new trace safe_then went = tells layout young stuck old w v store sees (with_spent name) (step.PurgeSpent v.number 0 went) (answer went) (λ n. learns n place.Remove went)
+          (unlabelled went name (name ∷ [])) [] [] [] (kept_spent w name store.kept (sees.given name given)) (happens went) refl refl new trace safe_then

@@ -1,8 +1,7 @@
--- Looks and moves of the lock, over an owned store.
-use Rattle.std.proofs.Common.{◌≡◌, ◌⊎◌, ◌<◌, ◌≤◌, ◌+◌, ℕ, suc, zero, List, [], ◌∷◌, ◌++◌, length, true, false, cond, inl, inr, ⊎_elim, refl, sym, ap, subst, ◌∙◌, arith, take, length-append}
+-- Looks and moves of the lock, by a pass of any number, and what the one pass of an owned store knows by them.
+use Rattle.std.proofs.Common.{◌≡◌, ◌⊎◌, ◌<◌, ◌≤◌, ◌+◌, ℕ, suc, zero, List, [], ◌∷◌, ◌++◌, length, Bool, true, false, cond, inl, inr, ⊎_elim, refl, sym, ap, subst, ◌∙◌, arith, take, length-append}
 use Rattle.std.specs.Prelude.{Option, Some, None, IfSome, slice_get, nat_lt, ◌&&◌, if◌then◌else◌}
 use Rattle.std.proofs.lemmas.List.{take_all, take-append-le}
-use Rattle.fsfs_layout.specs.Layouts.{place_in_shard}
 use Rattle.fsfs_layout.specs.declared.layout.Layout.{Layout}
 use Rattle.fsfs_disk.specs.Trace.{Trace}
 use Rattle.fsfs_machine.specs.declared.machine.Recorded.{Recorded}
@@ -13,20 +12,23 @@ use Rattle.fsfs_machine.specs.declared.machine.Section.{Section}
 use Rattle.fsfs_machine.specs.declared.machine.Section.TheVariants.{Begun, CurrentFirm, Doubtful, Over}
 use Rattle.fsfs_machine.specs.declared.machine.Lock.{Lock}
 use Rattle.fsfs_machine.specs.declared.machine.Lock.TheVariants.{Free, Held, Stuck, Down, DownDoubtful}
+use Rattle.fsfs_machine.specs.declared.machine.Outcome.{Outcome}
 use Rattle.fsfs_machine.specs.declared.machine.Outcome.TheVariants as outcome
+use Rattle.fsfs_machine.specs.declared.machine.Step.{Step}
 use Rattle.fsfs_machine.specs.declared.machine.Step.TheVariants as step
-use Rattle.fsfs_machine.specs.Machine.{World, did, barred, at_place, held_by, inside, is_there, is_up, is_quiet, looked, taken, let_go, stuck_at, recorded, reveals, revealed, with_next, stuck_place}
+use Rattle.fsfs_machine.specs.Machine.{World, Happens, did, barred, at_place, held_by, inside, is_there, is_up, is_quiet, looked, taken, let_go, stuck_at, recorded, reveals, revealed, with_next, stuck_place}
 use Rattle.fsfs_machine.specs.Kept.{Kept, IsHolder, coming}
 use Rattle.fsfs_machine.proofs.Answering.{seen_of}
 use Rattle.fsfs_machine.proofs.Steps.{step_keeps}
 use Rattle.fsfs_machine.proofs.Whose.{length_at}
-use Rattle.fsfs_images.specs.Shown.{IsTraceOf}
 use Rattle.fsfs_turn.specs.Bytes.{BytesShow, AllShow}
-use Rattle.fsfs_turn.specs.Views.{View, coming_at, is_held, Sees, with_txns, Looked, LockTaken, FoundStuck, outside, LockGiven, revealed_view, Revealed}
+use Rattle.fsfs_turn.specs.Views.{View, Turned, coming_at, is_held, Sees, with_txns, Looked, LockTaken, FoundStuck, outside, LockGiven, revealed_view, Revealed}
 use Rattle.fsfs_turn.specs.Past.{doubt, Safe}
 pub use Rattle.fsfs_turn.specs.Found.{seen_within}
-use Rattle.fsfs_turn.specs.Standing.{no_others, IsStore, Knows}
-use Rattle.fsfs_turn.proofs.Moments.{quiet_doubt, safe_more, part_revealed}
+use Rattle.fsfs_turn.specs.Standing.{IsStore, Knows}
+use Rattle.fsfs_turn.proofs.Moments.{itself, quiet_doubt, safe_more, part_revealed}
+use Rattle.fsfs_turn.proofs.Moves.{Spares, Moved, held_other, known_moved}
+use Rattle.fsfs_turn.proofs.TurnEnds.{at_other}
 use Rattle.fsfs_turn.proofs.Stepping.{kept_bare, at_itself, held_here, lock_is}
 
 pub there_in : {A : Type 0} (xs : List A) (p : ℕ) (x : A) → slice_get xs p ≡ Some x → nat_lt p (length xs) ≡ true
@@ -34,7 +36,7 @@ there_in [] p x e = absurd cc
 there_in (y ∷ ys) zero x e = grind arith
 there_in (y ∷ ys) (suc p) x e = let rest : nat_lt p (length ys) ≡ true = there_in ys p x e in grind (arith, rest)
 
--- one more
+-- with one revision more that shows, each first part shows
 show_more : (h : List Recorded) (x : Coming) → AllShow h → BytesShow (with_next h x) → AllShow (with_next h x)
 show_more h x shown next n some =
     ⊎_elim (λ less. subst (λ l. BytesShow l) (sym (take-append-le n h (recorded x ∷ []) less)) (shown n some))
@@ -46,69 +48,224 @@ show_more h x shown next n some =
     split_at (suc a) zero = inr (omega arith)
     split_at (suc a) (suc b) = ⊎_elim (λ l. inl (omega (arith, l))) (λ l. inr (omega (arith, l))) (split_at a b)
 
-module _ (layout : Layout) (young : ℕ) (stuck : Option DiskPlace) (t : Trace) (w : World) (v : View) (store : IsStore layout young stuck t w) (sees : Sees w v) (layout_is : v.layout ≡ layout) (number_is : v.number ≡ 0) (safe : Safe layout v.since t v.opened w.floor w.history (doubt w.lock)) where
-  -- the store after a step that leaves the disk and the history
-  moved : (w2 : World) → w2.floor ≡ w.floor → w2.disk ≡ w.disk → w2.history ≡ w.history → w2.young ≡ w.young → length w2.passes ≡ length w.passes → (o : Option DiskPlace) → stuck_place w2.lock ≡ o
-      → IfSome (coming w2.lock) (λ x. BytesShow (with_next w.history x)) → Kept (with_txns [] w2) → IsStore layout young o t w2
-  moved w2 floor disk history young_is passes o stuck_is next kept = record {
-    trace = subst (λ f. IsTraceOf layout f no_others t.first t.operations w2.disk) (sym floor) (subst (λ d. IsTraceOf layout w.floor no_others t.first t.operations d) (sym disk) store.trace);
-    whole = subst (λ f. place_in_shard layout f ≡ 0) (sym floor) store.whole;
-    kept = kept;
-    shown = subst (λ h. AllShow h) (sym history) store.shown;
-    coming = subst (λ h. IfSome (coming w2.lock) (λ x. BytesShow (with_next h x))) (sym history) next;
-    young_is = young_is ∙ store.young_is;
-    stuck_is = stuck_is;
-    alone = passes ∙ store.alone;
-  }
+-- ---- what a pass knows then
+
+abbrev pub looked_view : ℕ → View → View
+looked_view young v = record v { pass = record v.pass { least = young }; sure = is_held v.section }
+
+abbrev pub locked_view : View → View
+locked_view v = record v { section = Some Begun; sure = false }
+
+abbrev pub stuck_view : DiskPlace → View → View
+stuck_view place v = record v { pass = record v.pass { stuck = Some place } }
+
+-- ---- the steps
+
+module _ (layout : Layout) (young : ℕ) (stuck : Option DiskPlace) (t : Trace) (w : World) (v : View) (store : IsStore layout young stuck t w) (sees : Sees w v) (safe : Safe layout v.since t v.opened w.floor w.history (doubt w.lock)) where
+  there : is_there (with_txns [] w) v.number ≡ true
+  there = there_in w.passes v.number v.pass sees.pass
 
   safe_as : (lock : Lock) → w.lock ≡ lock → Safe layout v.since t v.opened w.floor w.history (doubt lock)
   safe_as lock is = subst (λ l. Safe layout v.since t v.opened w.floor w.history (doubt l)) is safe
 
-  there : is_there (with_txns [] w) v.number ≡ true
-  there = there_in w.passes v.number v.pass sees.pass
+  -- the step keeps what is kept
+  kept_by : (s : Step) (o : Outcome) (after : World) → Happens (with_txns [] w) s (did after o) → Kept (with_txns [] after)
+  kept_by s o after happens = kept_bare after (step_keeps (with_txns [] w) s (did after o) happens store.kept).kept
 
-  pub looks : (u : View) × Knows layout young stuck (Some t) u × Looked young v u
-  looks = (
-    view,
-    (world, moved world refl refl refl refl (length_at w.passes v.number tells) stuck store.stuck_is store.coming kept, seen, layout_is, number_is, safe),
+  turned_by : (s : Step) (o : Outcome) (after : World) (u : View) → Happens (with_txns [] w) s (did after o) → Sees after u → Turned [] s o v u
+  turned_by s o after u happens seen = record { world = w; kept = store.kept; sees = sees; did = did after o; happens = happens; answers = refl; after = kept_by s o after happens; leaves = seen }
+
+  -- a step that leaves the disk and the history
+  abbrev now : List Pass → Lock → World
+  now passes lock = record (with_txns [] w) { passes = passes; lock = lock }
+
+  abbrev knowing : Pass → Option Section → Bool → View
+  knowing pass section sure = record v { pass = pass; section = section; sure = sure }
+
+  moved_by : (s : Step) (o : Outcome) (passes : List Pass) (lock : Lock) (pass : Pass) (section : Option Section) (sure : Bool) → Happens (with_txns [] w) s (did (now passes lock) o) → Sees (now passes lock) (knowing pass section sure)
+      → IfSome (coming lock) (λ x. BytesShow (with_next w.history x)) → Safe layout v.since t v.opened w.floor w.history (doubt lock) → Spares v.number w (now passes lock) → Moved layout young t w v (knowing pass section sure) lock
+  moved_by s o passes lock pass section sure happens seen next safe spares = record {
+    world = now passes lock;
+    store = record { trace = store.trace; whole = store.whole; kept = kept_by s o (now passes lock) happens; shown = store.shown; coming = next; young_is = store.young_is; stuck_is = refl };
+    lock_is = refl;
+    sees = seen;
+    safe = safe;
+    spares = spares;
+    layout_is = refl;
+    since_is = refl;
+    opened_is = refl;
+    number_is = refl;
+  }
+
+  -- it changes what its pass knows
+  pass_spares : (f : Pass → Pass) → Spares v.number w (now (at_place w.passes v.number f) w.lock)
+  pass_spares f = record { passes = λ q apart. at_other w.passes v.number q f apart; count = length_at w.passes v.number f; grows = itself w.history; locks = λ q apart. refl; still = λ q s apart held. (refl, refl); floor = refl; given = λ k i. i }
+
+  -- it moves the lock
+  lock_spares : (lock : Lock) → ((q : ℕ) → (q ≡ v.number → ⊥) → held_by q lock ≡ held_by q w.lock) → Spares v.number w (now w.passes lock)
+  lock_spares lock locks = record { passes = λ q apart. refl; count = refl; grows = itself w.history; locks = locks; still = λ q s apart held. (refl, refl); floor = refl; given = λ k i. i }
+
+  -- ---- a look
+
+  abbrev tells : Pass → Pass
+  tells x = record x { least = w.young }
+
+  look_happens : did (now (at_place w.passes v.number tells) w.lock) (outcome.Youngest w.young) ≡ (if is_there (with_txns [] w) v.number && is_up w.lock then looked (with_txns [] w) v.number else barred (with_txns [] w))
+  look_happens = sym (ap (λ b. cond (b && is_up w.lock) (looked (with_txns [] w) v.number) (barred (with_txns [] w))) there ∙ ap (λ b. cond b (looked (with_txns [] w) v.number) (barred (with_txns [] w))) sees.up)
+
+  look_sees : Sees (now (at_place w.passes v.number tells) w.lock) (looked_view young v)
+  look_sees = record {
+    pass = at_itself w.passes v.number tells v.pass sees.pass ∙ ap (λ k. Some (record v.pass { least = k })) store.young_is;
+    seen = sees.seen;
+    section = sees.section;
+    up = sees.up;
+    sure = λ e. store.young_is;
+    whole = sees.whole;
+    given = sees.given;
+    opened = sees.opened;
+    shown = sees.shown;
+  }
+
+  pub look_comes : Looked young v (looked_view young v) × Moved layout young t w v (looked_view young v) w.lock
+  look_comes = (
     record {
-      turned = record { world = w; kept = store.kept; sees = sees; did = did world (outcome.Youngest w.young); happens = happens; answers = ap (λ (k : ℕ). outcome.Youngest k) store.young_is; after = kept; leaves = seen };
+      turned = subst (λ k. Turned [] (step.Look v.number) (outcome.Youngest k) v (looked_view young v)) store.young_is (turned_by (step.Look v.number) (outcome.Youngest w.young) (now (at_place w.passes v.number tells) w.lock) (looked_view young v) look_happens look_sees);
       is = refl;
       least = let up : w.young + 1 ≡ length w.history = store.kept.young sees.up in omega (arith, up, store.young_is, (seen_of (length w.history) w.floor w.passes v.number v.pass store.kept.seen sees.pass).least);
       seen = let up : w.young + 1 ≡ length w.history = store.kept.young sees.up in omega (arith, up, store.young_is, seen_within w v sees);
     },
+    moved_by (step.Look v.number) (outcome.Youngest w.young) (at_place w.passes v.number tells) w.lock (record v.pass { least = young }) v.section (is_held v.section) look_happens look_sees store.coming safe (pass_spares tells),
   )
-    where
-      tells : Pass → Pass
-      tells x = record x { least = w.young }
 
-      world : World
-      world = record (with_txns [] w) { passes = at_place w.passes v.number tells }
-
-      view : View
-      view = record v { pass = record v.pass { least = young }; sure = is_held v.section }
-
-      happens : did world (outcome.Youngest w.young) ≡ (if is_there (with_txns [] w) v.number && is_up w.lock then looked (with_txns [] w) v.number else barred (with_txns [] w))
-      happens = sym (ap (λ b. cond (b && is_up w.lock) (looked (with_txns [] w) v.number) (barred (with_txns [] w))) there ∙ ap (λ b. cond b (looked (with_txns [] w) v.number) (barred (with_txns [] w))) sees.up)
-
-      kept : Kept (with_txns [] world)
-      kept = kept_bare world (step_keeps (with_txns [] w) (step.Look v.number) (did world (outcome.Youngest w.young)) happens store.kept).kept
-
-      seen : Sees world view
-      seen = record {
-        pass = at_itself w.passes v.number tells v.pass sees.pass ∙ ap (λ k. Some (record v.pass { least = k })) store.young_is;
-        seen = sees.seen;
-        section = sees.section;
-        up = sees.up;
-        sure = λ e. store.young_is;
-        whole = sees.whole;
-        given = sees.given;
-        opened = sees.opened;
-        shown = sees.shown;
-      }
+  -- ---- the lock is taken, or found stuck
 
   taken_at : (lock : Lock) → w.lock ≡ lock → taken (with_txns [] w) v.number lock ≡ (if is_there (with_txns [] w) v.number then taken (with_txns [] w) v.number w.lock else barred (with_txns [] w))
   taken_at lock is = sym (ap (λ b. cond b (taken (with_txns [] w) v.number w.lock) (barred (with_txns [] w))) there ∙ ap (λ l. taken (with_txns [] w) v.number l) is)
+
+  take_sees : Sees (now w.passes (Held v.number Begun)) (locked_view v)
+  take_sees = record { pass = sees.pass; seen = sees.seen; section = held_here v.number Begun; up = refl; sure = λ e. absurd cc; whole = λ x e. absurd cc; given = sees.given; opened = sees.opened; shown = sees.shown }
+
+  pub take_comes : w.lock ≡ Free → LockTaken v (locked_view v) × Moved layout young t w v (locked_view v) (Held v.number Begun)
+  take_comes free = (
+    record { turned = turned_by (step.TakeLock v.number) outcome.Done (now w.passes (Held v.number Begun)) (locked_view v) (taken_at Free free) take_sees; is = refl },
+    moved_by (step.TakeLock v.number) outcome.Done w.passes (Held v.number Begun) v.pass (Some Begun) false (taken_at Free free) take_sees tt (safe_as Free free)
+        (lock_spares (Held v.number Begun) (λ q apart. held_other v.number q Begun apart ∙ sym (ap (λ l. held_by q l) free))),
+  )
+
+  abbrev learns_of : DiskPlace → Pass → Pass
+  learns_of place x = record x { stuck = Some place }
+
+  find_sees : (place : DiskPlace) → Sees (now (at_place w.passes v.number (learns_of place)) w.lock) (stuck_view place v)
+  find_sees place = record { pass = at_itself w.passes v.number (learns_of place) v.pass sees.pass; seen = sees.seen; section = sees.section; up = sees.up; sure = sees.sure; whole = sees.whole; given = sees.given; opened = sees.opened; shown = sees.shown }
+
+  pub find_comes : (place : DiskPlace) (x : Coming) → w.lock ≡ Stuck place x → FoundStuck place v (stuck_view place v) × Moved layout young t w v (stuck_view place v) w.lock
+  find_comes place x is = (
+    record { turned = turned_by (step.TakeLock v.number) (outcome.Stuck place) (now (at_place w.passes v.number (learns_of place)) w.lock) (stuck_view place v) (taken_at (Stuck place x) is) (find_sees place); is = refl },
+    moved_by (step.TakeLock v.number) (outcome.Stuck place) (at_place w.passes v.number (learns_of place)) w.lock (learns_of place v.pass) v.section v.sure (taken_at (Stuck place x) is) (find_sees place) store.coming safe (pass_spares (learns_of place)),
+  )
+
+  -- ---- it is given, or left stuck
+
+  -- who is in a section holds it
+  pub held_in : (s : Section) → v.section ≡ Some s → w.lock ≡ Held v.number s
+  held_in s is = lock_is v.number w.lock s (sees.section ∙ is)
+
+  others_none : (s : Section) → v.section ≡ Some s → (q : ℕ) → (q ≡ v.number → ⊥) → held_by q w.lock ≡ None
+  others_none s is q apart = ap (λ l. held_by q l) (held_in s is) ∙ held_other v.number q s apart
+
+  outside_sees : (lock : Lock) → held_by v.number lock ≡ None → is_up lock ≡ true → Sees (now w.passes lock) (outside v)
+  outside_sees lock none up = record { pass = sees.pass; seen = sees.seen; section = none; up = up; sure = λ e. absurd cc; whole = λ x e. absurd cc; given = sees.given; opened = sees.opened; shown = sees.shown }
+
+  give_happens : (s : Section) → v.section ≡ Some s → is_quiet s ≡ true → did (now w.passes Free) outcome.Done ≡ inside (with_txns [] w) (let_go (with_txns [] w)) (held_by v.number w.lock)
+  give_happens s is quiet = sym (ap (λ o. inside (with_txns [] w) (let_go (with_txns [] w)) o) (sees.section ∙ is) ∙ ap (λ b. cond b (did (now w.passes Free) outcome.Done) (barred (with_txns [] w))) quiet)
+
+  pub give_comes : (s : Section) → v.section ≡ Some s → is_quiet s ≡ true → LockGiven (step.GiveLock v.number) v (outside v) × Moved layout young t w v (outside v) Free
+  give_comes s is quiet = (
+    record { turned = turned_by (step.GiveLock v.number) outcome.Done (now w.passes Free) (outside v) (give_happens s is quiet) (outside_sees Free refl refl); is = refl },
+    moved_by (step.GiveLock v.number) outcome.Done w.passes Free v.pass None false (give_happens s is quiet) (outside_sees Free refl refl) tt
+        (subst (λ d. Safe layout v.since t v.opened w.floor w.history d) (quiet_doubt s quiet) (safe_as (Held v.number s) (held_in s is)))
+        (lock_spares Free (λ q apart. sym (others_none s is q apart))),
+  )
+
+  -- the bytes of the revision to come show it
+  next_shows : (s : Section) (x : Coming) → v.section ≡ Some s → coming_at (Some s) ≡ Some x → BytesShow (with_next w.history x)
+  next_shows s x is comes = subst (λ o. IfSome o (λ y. BytesShow (with_next w.history y))) comes (subst (λ l. IfSome (coming l) (λ y. BytesShow (with_next w.history y))) (held_in s is) store.coming)
+
+  stick_happens : (place : DiskPlace) (x : Coming) → v.section ≡ Some (Doubtful place x) → did (now w.passes (Stuck place x)) outcome.Done ≡ inside (with_txns [] w) (stuck_at (with_txns [] w)) (held_by v.number w.lock)
+  stick_happens place x is = sym (ap (λ o. inside (with_txns [] w) (stuck_at (with_txns [] w)) o) (sees.section ∙ is))
+
+  pub stick_comes : (place : DiskPlace) (x : Coming) → v.section ≡ Some (Doubtful place x) → LockGiven (step.StickLock v.number) v (outside v) × Moved layout young t w v (outside v) (Stuck place x)
+  stick_comes place x is = (
+    record { turned = turned_by (step.StickLock v.number) outcome.Done (now w.passes (Stuck place x)) (outside v) (stick_happens place x is) (outside_sees (Stuck place x) refl refl); is = refl },
+    moved_by (step.StickLock v.number) outcome.Done w.passes (Stuck place x) v.pass None false (stick_happens place x is) (outside_sees (Stuck place x) refl refl) (next_shows (Doubtful place x) x is refl)
+        (safe_as (Held v.number (Doubtful place x)) (held_in (Doubtful place x) is))
+        (lock_spares (Stuck place x) (λ q apart. sym (others_none (Doubtful place x) is q apart))),
+  )
+
+  -- ---- its revision joins the history
+
+  module _ (x : Coming) (is : v.section ≡ Some (CurrentFirm x)) where
+    abbrev shown_on : World
+    shown_on = record (with_txns [] w) { history = with_next w.history x; since = w.since ++ x.entry ∷ []; young = length w.history; lock = Held v.number Over; passes = at_place w.passes v.number (reveals (length w.history)) }
+
+    all : v.seen ≡ w.history
+    all = sees.whole x (ap (λ o. coming_at o) is)
+
+    reveal_happens : did shown_on outcome.Done ≡ inside (with_txns [] w) (revealed (with_txns [] w) v.number) (held_by v.number w.lock)
+    reveal_happens = sym (ap (λ o. inside (with_txns [] w) (revealed (with_txns [] w) v.number) o) (sees.section ∙ is))
+
+    all_show : AllShow (with_next w.history x)
+    all_show = show_more w.history x store.shown (next_shows (CurrentFirm x) x is refl)
+
+    one_more : (h : List Recorded) → length (with_next h x) ≤ length h + 1
+    one_more h = grind (arith, length-append)
+
+    reveal_sees : Sees shown_on (revealed_view x v)
+    reveal_sees = record {
+      pass = at_itself w.passes v.number (reveals (length w.history)) v.pass sees.pass ∙ ap (λ h. Some (reveals (length h) v.pass)) (sym all);
+      seen = sym (ap (λ h. take (length v.seen + 1) (with_next h x)) (sym all) ∙ take_all (length v.seen + 1) (with_next v.seen x) (one_more v.seen));
+      section = held_here v.number Over;
+      up = refl;
+      sure = λ e. absurd cc;
+      whole = λ y e. absurd cc;
+      given = sees.given;
+      opened = let e : length (with_next w.history x) ≡ length w.history + 1 = grind (arith, length-append) in omega (arith, e, sees.opened);
+      shown = subst (λ h. AllShow (with_next h x)) (sym all) all_show;
+    }
+
+    reveal_spares : Spares v.number w shown_on
+    reveal_spares = record {
+      passes = λ q apart. at_other w.passes v.number q (reveals (length w.history)) apart;
+      count = length_at w.passes v.number (reveals (length w.history));
+      grows = (recorded x ∷ [], refl);
+      locks = λ q apart. held_other v.number q Over apart ∙ sym (others_none (CurrentFirm x) is q apart);
+      still = λ q s apart held. let none : held_by q w.lock ≡ None = others_none (CurrentFirm x) is q apart in absurd cc;
+      floor = refl;
+      given = λ k i. i;
+    }
+
+    pub reveal_comes : (rev : ℕ) → rev ≡ length v.seen → Revealed x v (revealed_view x v) × Moved layout rev t w v (revealed_view x v) (Held v.number Over)
+    reveal_comes rev rev_is = (
+      record { turned = turned_by (step.Reveal v.number) outcome.Done shown_on (revealed_view x v) reveal_happens reveal_sees; is = refl },
+      record {
+        world = shown_on;
+        store = record { trace = store.trace; whole = store.whole; kept = kept_by (step.Reveal v.number) outcome.Done shown_on reveal_happens; shown = all_show; coming = tt; young_is = ap length (sym all) ∙ sym rev_is; stuck_is = refl };
+        lock_is = refl;
+        sees = reveal_sees;
+        safe = safe_more layout v.since v.opened w.floor t w.history (with_next w.history x) (Some x) None (λ g q. part_revealed w.history x g q) (safe_as (Held v.number (CurrentFirm x)) (held_in (CurrentFirm x) is));
+        spares = reveal_spares;
+        layout_is = refl;
+        since_is = refl;
+        opened_is = refl;
+        number_is = refl;
+      },
+    )
+
+-- ---- of an owned store
+
+module _ (layout : Layout) (young : ℕ) (stuck : Option DiskPlace) (t : Trace) (w : World) (v : View) (store : IsStore layout young stuck t w) (sees : Sees w v) (layout_is : v.layout ≡ layout) (number_is : v.number ≡ 0) (safe : Safe layout v.since t v.opened w.floor w.history (doubt w.lock)) (alone : length w.passes ≡ 1) where
+  known_so : (youngest : ℕ) (at : Option DiskPlace) (u : View) (lock : Lock) (P : View → Type 0) → stuck_place lock ≡ at → P u × Moved layout youngest t w v u lock → (z : View) × Knows layout youngest at (Some t) z × P z
+  known_so youngest at u lock P at_is comes = (u, known_moved layout youngest at t w v u lock layout_is number_is alone at_is comes.1, comes.0)
 
   -- a lock that nobody holds and that isn't stuck is free
   pub free : v.section ≡ None → stuck ≡ None → w.lock ≡ Free
@@ -118,38 +275,13 @@ module _ (layout : Layout) (young : ℕ) (stuck : Option DiskPlace) (t : Trace) 
       by_lock Free is = is
       by_lock (Held q s) is =
           let holder : IsHolder (length w.passes) (Held q s) = subst (λ l. IsHolder (length w.passes) l) is store.kept.holder in
-          let zero_is : q ≡ 0 = omega (arith, holder.0, store.alone) in
+          let zero_is : q ≡ 0 = omega (arith, holder.0, alone) in
           let here : held_by v.number (Held q s) ≡ Some s = ap (λ n. held_by n (Held q s)) number_is ∙ ap (λ n. held_by 0 (Held n s)) zero_is ∙ held_here 0 s in
           let not : held_by v.number (Held q s) ≡ None = ap (λ l. held_by v.number l) (sym is) ∙ sees.section ∙ none in
           absurd cc
       by_lock (Stuck place x) is = let e : Some place ≡ None = ap stuck_place (sym is) ∙ store.stuck_is ∙ not_stuck in absurd cc
       by_lock Down is = let e : false ≡ true = ap is_up (sym is) ∙ sees.up in absurd cc
       by_lock (DownDoubtful x) is = let e : false ≡ true = ap is_up (sym is) ∙ sees.up in absurd cc
-
-  pub takes : v.section ≡ None → stuck ≡ None → (u : View) × Knows layout young stuck (Some t) u × LockTaken v u
-  takes none not_stuck = (
-    view,
-    (world, moved world refl refl refl refl refl stuck (sym not_stuck) tt kept, seen, layout_is, number_is, safe_as Free (free none not_stuck)),
-    record {
-      turned = record { world = w; kept = store.kept; sees = sees; did = did world outcome.Done; happens = happens; answers = refl; after = kept; leaves = seen };
-      is = refl;
-    },
-  )
-    where
-      world : World
-      world = record (with_txns [] w) { lock = Held v.number Begun }
-
-      view : View
-      view = record v { section = Some Begun; sure = false }
-
-      happens : did world outcome.Done ≡ (if is_there (with_txns [] w) v.number then taken (with_txns [] w) v.number w.lock else barred (with_txns [] w))
-      happens = taken_at Free (free none not_stuck)
-
-      kept : Kept (with_txns [] world)
-      kept = kept_bare world (step_keeps (with_txns [] w) (step.TakeLock v.number) (did world outcome.Done) happens store.kept).kept
-
-      seen : Sees world view
-      seen = record { pass = sees.pass; seen = sees.seen; section = held_here v.number Begun; up = refl; sure = λ e. absurd cc; whole = λ x e. absurd cc; given = sees.given; opened = sees.opened; shown = sees.shown }
 
   -- where it is stuck
   pub stuck_lock : (place : DiskPlace) → stuck ≡ Some place → (x : Coming) × (w.lock ≡ Stuck place x)
@@ -162,136 +294,24 @@ module _ (layout : Layout) (young : ℕ) (stuck : Option DiskPlace) (t : Trace) 
       by_lock Down is = let e : None ≡ Some place = ap stuck_place (sym is) ∙ store.stuck_is ∙ is_stuck in absurd cc
       by_lock (DownDoubtful x) is = let e : None ≡ Some place = ap stuck_place (sym is) ∙ store.stuck_is ∙ is_stuck in absurd cc
 
+  -- a lock that its pass holds isn't stuck
+  unstuck : (s : Section) → v.section ≡ Some s → None ≡ stuck
+  unstuck s is = sym (ap stuck_place (held_in layout young stuck t w v store sees safe s is)) ∙ store.stuck_is
+
+  pub looks : (u : View) × Knows layout young stuck (Some t) u × Looked young v u
+  looks = known_so young stuck (looked_view young v) w.lock (λ u. Looked young v u) store.stuck_is (look_comes layout young stuck t w v store sees safe)
+
+  pub takes : v.section ≡ None → stuck ≡ None → (u : View) × Knows layout young stuck (Some t) u × LockTaken v u
+  takes none not_stuck = known_so young stuck (locked_view v) (Held v.number Begun) (λ u. LockTaken v u) (sym not_stuck) (take_comes layout young stuck t w v store sees safe (free none not_stuck))
+
   pub finds_stuck : (place : DiskPlace) → stuck ≡ Some place → (u : View) × Knows layout young stuck (Some t) u × FoundStuck place v u
-  finds_stuck place is_stuck = (
-    view,
-    (world, moved world refl refl refl refl (length_at w.passes v.number learns_it) stuck store.stuck_is store.coming kept, seen, layout_is, number_is, safe),
-    record {
-      turned = record { world = w; kept = store.kept; sees = sees; did = did world (outcome.Stuck place); happens = happens; answers = refl; after = kept; leaves = seen };
-      is = refl;
-    },
-  )
-    where
-      learns_it : Pass → Pass
-      learns_it x = record x { stuck = Some place }
-
-      at : (x : Coming) × (w.lock ≡ Stuck place x)
-      at = stuck_lock place is_stuck
-
-      world : World
-      world = record (with_txns [] w) { passes = at_place w.passes v.number learns_it }
-
-      view : View
-      view = record v { pass = record v.pass { stuck = Some place } }
-
-      happens : did world (outcome.Stuck place) ≡ (if is_there (with_txns [] w) v.number then taken (with_txns [] w) v.number w.lock else barred (with_txns [] w))
-      happens = taken_at (Stuck place at.0) at.1
-
-      kept : Kept (with_txns [] world)
-      kept = kept_bare world (step_keeps (with_txns [] w) (step.TakeLock v.number) (did world (outcome.Stuck place)) happens store.kept).kept
-
-      seen : Sees world view
-      seen = record { pass = at_itself w.passes v.number learns_it v.pass sees.pass; seen = sees.seen; section = sees.section; up = sees.up; sure = sees.sure; whole = sees.whole; given = sees.given; opened = sees.opened; shown = sees.shown }
+  finds_stuck place is_stuck = let at = stuck_lock place is_stuck in known_so young stuck (stuck_view place v) w.lock (λ u. FoundStuck place v u) store.stuck_is (find_comes layout young stuck t w v store sees safe place at.0 at.1)
 
   pub gives_lock : (s : Section) → v.section ≡ Some s → is_quiet s ≡ true → (u : View) × Knows layout young stuck (Some t) u × LockGiven (step.GiveLock v.number) v u
-  gives_lock s inside_is quiet = (
-    outside v,
-    (world, moved world refl refl refl refl refl stuck (sym (ap stuck_place lock) ∙ store.stuck_is) tt kept, seen, layout_is, number_is, subst (λ d. Safe layout v.since t v.opened w.floor w.history d) (quiet_doubt s quiet) (safe_as (Held v.number s) lock)),
-    record {
-      turned = record { world = w; kept = store.kept; sees = sees; did = did world outcome.Done; happens = happens; answers = refl; after = kept; leaves = seen };
-      is = refl;
-    },
-  )
-    where
-      lock : w.lock ≡ Held v.number s
-      lock = lock_is v.number w.lock s (sees.section ∙ inside_is)
-
-      world : World
-      world = record (with_txns [] w) { lock = Free }
-
-      happens : did world outcome.Done ≡ inside (with_txns [] w) (let_go (with_txns [] w)) (held_by v.number w.lock)
-      happens = sym (ap (λ o. inside (with_txns [] w) (let_go (with_txns [] w)) o) (sees.section ∙ inside_is) ∙ ap (λ b. cond b (did world outcome.Done) (barred (with_txns [] w))) quiet)
-
-      kept : Kept (with_txns [] world)
-      kept = kept_bare world (step_keeps (with_txns [] w) (step.GiveLock v.number) (did world outcome.Done) happens store.kept).kept
-
-      seen : Sees world (outside v)
-      seen = record { pass = sees.pass; seen = sees.seen; section = refl; up = refl; sure = λ e. absurd cc; whole = λ x e. absurd cc; given = sees.given; opened = sees.opened; shown = sees.shown }
+  gives_lock s is quiet = known_so young stuck (outside v) Free (λ u. LockGiven (step.GiveLock v.number) v u) (unstuck s is) (give_comes layout young stuck t w v store sees safe s is quiet)
 
   pub sticks : (place : DiskPlace) (x : Coming) → v.section ≡ Some (Doubtful place x) → (u : View) × Knows layout young (Some place) (Some t) u × LockGiven (step.StickLock v.number) v u
-  sticks place x inside_is = (
-    outside v,
-    (world, moved world refl refl refl refl refl (Some place) refl next kept, seen, layout_is, number_is, safe_as (Held v.number (Doubtful place x)) lock),
-    record {
-      turned = record { world = w; kept = store.kept; sees = sees; did = did world outcome.Done; happens = happens; answers = refl; after = kept; leaves = seen };
-      is = refl;
-    },
-  )
-    where
-      lock : w.lock ≡ Held v.number (Doubtful place x)
-      lock = lock_is v.number w.lock (Doubtful place x) (sees.section ∙ inside_is)
-
-      next : BytesShow (with_next w.history x)
-      next = subst (λ l. IfSome (coming l) (λ y. BytesShow (with_next w.history y))) lock store.coming
-
-      world : World
-      world = record (with_txns [] w) { lock = Stuck place x }
-
-      happens : did world outcome.Done ≡ inside (with_txns [] w) (stuck_at (with_txns [] w)) (held_by v.number w.lock)
-      happens = sym (ap (λ o. inside (with_txns [] w) (stuck_at (with_txns [] w)) o) (sees.section ∙ inside_is))
-
-      kept : Kept (with_txns [] world)
-      kept = kept_bare world (step_keeps (with_txns [] w) (step.StickLock v.number) (did world outcome.Done) happens store.kept).kept
-
-      seen : Sees world (outside v)
-      seen = record { pass = sees.pass; seen = sees.seen; section = refl; up = refl; sure = λ e. absurd cc; whole = λ y e. absurd cc; given = sees.given; opened = sees.opened; shown = sees.shown }
+  sticks place x is = known_so young (Some place) (outside v) (Stuck place x) (λ u. LockGiven (step.StickLock v.number) v u) refl (stick_comes layout young stuck t w v store sees safe place x is)
 
   pub reveals_it : (x : Coming) (rev : ℕ) → v.section ≡ Some (CurrentFirm x) → rev ≡ length v.seen → (u : View) × Knows layout rev stuck (Some t) u × Revealed x v u
-  reveals_it x rev inside_is rev_is = (
-    view,
-    (world, now, seen, layout_is, number_is, safe_more layout v.since v.opened w.floor t w.history (with_next w.history x) (Some x) None (λ g q. part_revealed w.history x g q) (safe_as (Held v.number (CurrentFirm x)) lock)),
-    record {
-      turned = record { world = w; kept = store.kept; sees = sees; did = did world outcome.Done; happens = happens; answers = refl; after = kept; leaves = seen };
-      is = refl;
-    },
-  )
-    where
-      all : v.seen ≡ w.history
-      all = sees.whole x (ap (λ o. coming_at o) inside_is)
-
-      lock : w.lock ≡ Held v.number (CurrentFirm x)
-      lock = lock_is v.number w.lock (CurrentFirm x) (sees.section ∙ inside_is)
-
-      next : BytesShow (with_next w.history x)
-      next = subst (λ l. IfSome (coming l) (λ y. BytesShow (with_next w.history y))) lock store.coming
-
-      world : World
-      world = record (with_txns [] w) { history = with_next w.history x; since = w.since ++ x.entry ∷ []; young = length w.history; lock = Held v.number Over; passes = at_place w.passes v.number (reveals (length w.history)) }
-
-      view : View
-      view = revealed_view x v
-
-      happens : did world outcome.Done ≡ inside (with_txns [] w) (revealed (with_txns [] w) v.number) (held_by v.number w.lock)
-      happens = sym (ap (λ o. inside (with_txns [] w) (revealed (with_txns [] w) v.number) o) (sees.section ∙ inside_is))
-
-      kept : Kept (with_txns [] world)
-      kept = kept_bare world (step_keeps (with_txns [] w) (step.Reveal v.number) (did world outcome.Done) happens store.kept).kept
-
-      now : IsStore layout rev stuck t world
-      now = record { trace = store.trace; whole = store.whole; kept = kept; shown = show_more w.history x store.shown next; coming = tt; young_is = ap length (sym all) ∙ sym rev_is; stuck_is = sym (ap stuck_place lock) ∙ store.stuck_is; alone = length_at w.passes v.number (reveals (length w.history)) ∙ store.alone }
-
-      one_more : (h : List Recorded) → length (with_next h x) ≤ length h + 1
-      one_more h = grind (arith, length-append)
-
-      seen : Sees world view
-      seen = record {
-        pass = at_itself w.passes v.number (reveals (length w.history)) v.pass sees.pass ∙ ap (λ h. Some (reveals (length h) v.pass)) (sym all);
-        seen = sym (ap (λ h. take (length v.seen + 1) (with_next h x)) (sym all) ∙ take_all (length v.seen + 1) (with_next v.seen x) (one_more v.seen));
-        section = held_here v.number Over;
-        up = refl;
-        sure = λ e. absurd cc;
-        whole = λ y e. absurd cc;
-        given = sees.given;
-        opened = let e : length (with_next w.history x) ≡ length w.history + 1 = grind (arith, length-append) in omega (arith, e, sees.opened);
-        shown = subst (λ h. AllShow (with_next h x)) (sym all) now.shown;
-      }
+  reveals_it x rev is rev_is = known_so rev stuck (revealed_view x v) (Held v.number Over) (λ u. Revealed x v u) (unstuck (CurrentFirm x) is) (reveal_comes layout young stuck t w v store sees safe x is rev rev_is)

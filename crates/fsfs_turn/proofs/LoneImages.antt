@@ -1,5 +1,5 @@
 -- Each image of a store whose pass is alone stands for what the pass has seen, but for a revision in doubt.
-use Rattle.std.proofs.Common.{◌≡◌, ◌⊎◌, ◌<◌, ◌≤◌, ◌+◌, ◌++◌, ℕ, List, length, true, ⊎_elim, sym, ap, subst, ◌∙◌, arith, drop}
+use Rattle.std.proofs.Common.{◌≡◌, ◌<◌, ◌≤◌, ◌+◌, ◌++◌, ℕ, List, length, ⊎_elim, sym, ap, subst, ◌∙◌, arith, drop}
 use Rattle.std.specs.Prelude.{Option, Some, None}
 use Rattle.fsfs_base.specs.Files.{Files}
 use Rattle.fsfs_layout.specs.declared.layout.Layout.{Layout}
@@ -12,11 +12,12 @@ use Rattle.fsfs_machine.specs.Machine.{revisions}
 use Rattle.fsfs_turn.specs.Past.{doubt, IsPart}
 use Rattle.fsfs_turn.specs.Views.{View}
 use Rattle.fsfs_turn.specs.Whole.{HasHistory}
-use Rattle.fsfs_turn.specs.Alone.{KnowsAlone, LoneImagesStand, NothingInDoubt}
+use Rattle.fsfs_turn.specs.Alone.{KnowsAlone, LoneMomentsStand, LoneImagesStand, NothingInDoubt}
 use Rattle.fsfs_turn.proofs.Stepping.{take_drop}
 use Rattle.fsfs_turn.proofs.Locking.{free}
 use Rattle.fsfs_turn.proofs.Wholeness.{has_history, part_shown}
-use Rattle.fsfs_turn.proofs.Standings.{part_stands}
+use Rattle.fsfs_turn.proofs.OwnFiles.{own_now}
+use Rattle.fsfs_turn.proofs.Standings.{files_stand, part_stands}
 use Rattle.fsfs_turn.proofs.Alone.{same_by_length}
 
 some_is_none : {A : Type 0} (x : A) → None ≡ Some x → ⊥
@@ -35,28 +36,30 @@ module _ (layout : Layout) (young : ℕ) (stuck : Option DiskPlace) (t : Trace) 
   all_of_it h g d is part le = ⊎_elim (λ b. sym (same_by_length g h b le)) (λ y. absurd (some_is_none y.0 (sym is ∙ y.1))) part
 
   quiet : v.section ≡ None → stuck ≡ None → doubt known.0.0.lock ≡ None
-  quiet outside unstuck = ap (λ l. doubt l) (free layout young stuck t known.0.0 v known.0.1 known.0.2 known.0.3 known.0.4 known.0.5 outside unstuck)
+  quiet outside unstuck = ap (λ l. doubt l) (free layout young stuck t known.0.0 v known.0.1 known.0.2 known.0.3 known.0.4 known.0.5 known.0.6 outside unstuck)
 
   -- the same of each moment since the opening, in the middle of a call too
-  pub moment_stands : (m : Files) → ImageSince v.since t.first t.operations m → (d : Option Coming) × (g : List Recorded) × IsPart v.seen d g × (v.opened ≤ length g) × HasHistory layout m g
+  pub moment_stands : (m : Files) → ImageSince v.since t.first t.operations m → (d : Option Coming) × (g : List Recorded) × IsPart v.seen d g × (v.opened ≤ length g) × HasHistory layout m g × StandsFor m (revisions g)
   moment_stands m image =
       let w = known.0.0 in
       let store = known.0.1 in
       let left = known.0.5 m image in
       let p = left.2 in
       let names = p.1.1 in
-      let some : 0 < length p.0 = omega (arith, names.2) in (
+      let some : 0 < length p.0 = omega (arith, names.2) in
+      let has = has_history layout w.floor m left.0 p.0 store.whole left.3 left.1 p.1 (part_shown w.history w.lock p.0 store.shown store.coming some p.3) in (
         doubt w.lock,
         p.0,
         subst (λ h. IsPart h (doubt w.lock) p.0) all_seen p.3,
         p.2,
-        has_history layout w.floor m left.0 p.0 store.whole left.3 left.1 p.1 (part_shown w.history w.lock p.0 store.shown store.coming some p.3),
+        has,
+        files_stand layout w.floor m left.0 p.0 store.whole left.1 left.3 left.4 p.4 has (known.2 m image),
       )
 
   pub image_stands : (m : Files) → IsImage t.first t.operations m
       → (d : Option Coming) × (g : List Recorded) × IsPart v.seen d g × (length v.seen ≤ length g) × HasHistory layout m g × StandsFor m (revisions g) × (v.section ≡ None → stuck ≡ None → g ≡ v.seen)
   image_stands m image =
-      let p = part_stands layout young stuck t v known.0 known.2 m image in (
+      let p = part_stands layout young stuck t v known.0 (own_now layout v.since t known.2) m image in (
         doubt known.0.0.lock,
         p.0,
         subst (λ h. IsPart h (doubt known.0.0.lock) p.0) all_seen p.1,
@@ -65,6 +68,9 @@ module _ (layout : Layout) (young : ℕ) (stuck : Option DiskPlace) (t : Trace) 
         p.4,
         λ outside unstuck. all_of_it known.0.0.history p.0 (doubt known.0.0.lock) (quiet outside unstuck) p.1 p.2 ∙ all_seen,
       )
+
+pub lone_moments_stand : LoneMomentsStand
+lone_moments_stand layout young stuck t v known m image = moment_stands layout young stuck t v known m image
 
 pub lone_images_stand : LoneImagesStand
 lone_images_stand layout young stuck t v known m image = image_stands layout young stuck t v known m image

@@ -53,7 +53,8 @@ use Rattle.fsfs_turn.specs.Opening.{LeftoversAgree, StoreIsKnown}
 use Rattle.fsfs_turn.specs.Past.{Safe}
 use Rattle.fsfs_turn.proofs.Beginning.{at_none, ok_is}
 use Rattle.fsfs_turn.proofs.FirstParts.{ids_lower}
-use Rattle.fsfs_turn.proofs.Moments.{past_of}
+use Rattle.fsfs_turn.proofs.Moments.{past_of, numbers}
+use Rattle.fsfs_turn.proofs.OwnFiles.{own_from_opening}
 use Rattle.fsfs_turn.proofs.Standings.{there_below, own_opened}
 use Rattle.fsfs_turn.proofs.Stepping.{kept_bare, get_taken}
 
@@ -320,7 +321,7 @@ module _ (first : Files) (labels : List Label) (before : List Operation) (h : Li
   trace = record { first = first; labels = labels; operations = Done real.FirmNames ∷ before }
 
   store : IsStore layout s.opened.youngest None trace world
-  store = record { trace = Opening before disk read; whole = floor_text.1; kept = kept_bare world kept; shown = all_show; coming = tt; young_is = refl; stuck_is = refl; alone = refl }
+  store = record { trace = Opening before disk read; whole = floor_text.1; kept = kept_bare world kept; shown = all_show; coming = tt; young_is = refl; stuck_is = refl }
 
   sees : Sees world view
   sees = record { pass = refl; seen = sym (take_all (length g) g (omega arith)); section = refl; up = refl; sure = λ e. absurd cc; whole = λ z e. absurd cc; given = λ q i. absurd i; opened = omega arith; shown = all_show }
@@ -328,7 +329,8 @@ module _ (first : Files) (labels : List Label) (before : List Operation) (h : Li
   safe : Safe layout (length before + 1) trace (length g) f g None
   safe z i =
       let r = image_read layout f no_others first (Done real.FirmNames ∷ before) (Firm ∷ disk) (Opening before disk read) z (now i) in
-      (r.0, r.2, past_of (length g) f g Free r.0 (omega arith) (stands r.0 r.1), kept.floors r.0 r.1)
+      let n = numbers world kept r.0 r.1 in
+      (r.0, r.2, past_of (length g) f g Free r.0 (omega arith) kept.floor (stands r.0 r.1), n.0, n.1)
     where
       now : ImageSince (length before + 1) first (Done real.FirmNames ∷ before) z → real.IsImage first (Done real.FirmNames ∷ before) z
       now i = ⊎_elim (λ a. a) (λ b. absurd (omega (arith, b.0))) i
@@ -337,7 +339,7 @@ module _ (first : Files) (labels : List Label) (before : List Operation) (h : Li
       stands = kept.stands
 
   pub is_known : (v : View) × KnowsAlone layout s.opened.youngest None (Some trace) v × (v.section ≡ None) × (v.pass ≡ first_pass (length h) s.opened.min_unpacked_rev) × (revisions v.seen ≡ h) × (v.since ≡ length before + 1)
-  is_known = (view, ((world, store, sees, refl, refl, safe), record { all = (let c = s.count in omega (arith, long, c)); own = omega arith; free = λ harmless. refl; sound = λ harmless. refl; found = λ harmless. refl }, own_opened (files_after first before) h s), refl, ap (λ n. first_pass n s.opened.min_unpacked_rev) long, revisions_are, refl)
+  is_known = (view, ((world, store, sees, refl, refl, safe, refl), record { all = (let c = s.count in omega (arith, long, c)); own = omega arith; free = λ harmless. refl; sound = λ harmless. refl; found = λ harmless. refl }, own_from_opening layout first before (own_opened (files_after first before) h s)), refl, ap (λ n. first_pass n s.opened.min_unpacked_rev) long, revisions_are, refl)
 
 pub store_is_known : StoreIsKnown
 store_is_known first labels before h s agreeing = is_known first labels before h s agreeing

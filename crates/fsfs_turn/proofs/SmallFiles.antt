@@ -26,14 +26,15 @@ use Rattle.fsfs_machine.proofs.Answering.{has_all}
 use Rattle.fsfs_images.specs.RealNames.{machine_name}
 use Rattle.fsfs_images.proofs.Showing.{now_read}
 use Rattle.fsfs_turn.specs.Past.{doubt, Safe}
-use Rattle.fsfs_turn.specs.Views.{View, props_name, Sees, with_txns, Answers}
+use Rattle.fsfs_turn.specs.Views.{View, props_name, Sees, with_txns}
 use Rattle.fsfs_turn.specs.Learning.{PropsRead, FloorRead}
-use Rattle.fsfs_turn.specs.Standing.{no_others, IsStore, Knows}
+use Rattle.fsfs_turn.specs.Standing.{no_others, IsStore}
+use Rattle.fsfs_turn.proofs.TurnEnds.{IsAfter, Comes}
 use Rattle.fsfs_turn.proofs.Stepping.{get_taken}
 use Rattle.fsfs_turn.proofs.Due.{at_found}
 use Rattle.fsfs_turn.proofs.Telling.{told_world, tells}
 
-module _ (layout : Layout) (young : ℕ) (stuck : Option DiskPlace) (t : Trace) (w : World) (v : View) (store : IsStore layout young stuck t w) (sees : Sees w v) (layout_is : v.layout ≡ layout) (number_is : v.number ≡ 0) (safe : Safe layout v.since t v.opened w.floor w.history (doubt w.lock)) where
+module _ (layout : Layout) (young : ℕ) (stuck : Option DiskPlace) (t : Trace) (w : World) (v : View) (store : IsStore layout young stuck t w) (sees : Sees w v) (layout_is : v.layout ≡ layout) (safe : Safe layout v.since t v.opened w.floor w.history (doubt w.lock)) where
   -- ---- the floor
 
   floor_there : found w.disk Floor ≡ Some (Number w.floor)
@@ -44,25 +45,24 @@ module _ (layout : Layout) (young : ℕ) (stuck : Option DiskPlace) (t : Trace) 
   floor_happens went = sym (ap (λ o. floor_read (with_txns [] w) v.number went o) sees.pass
       ∙ ap (λ c. did (told_world w v.number (sees_floor (length w.history) went (number_of c)) [] [] [] []) (either went (floor_of (number_of c)) outcome.Failed)) floor_there)
 
-  floor_turn : (told : Option Trace) → told ≡ Some t → (went : Went) → (u : View) × Knows layout young stuck told u × FloorRead w.floor went v u
-  floor_turn told same went = tells layout young stuck t w v store sees layout_is number_is (with_txns []) (step.ReadFloor v.number went) (either went (outcome.Floor w.floor) outcome.Failed)
-      (λ n. sees_floor n went (Some w.floor)) [] [] [] [] store.kept (floor_happens went) refl refl t told same store.trace safe
+  pub floor_turns : (went : Went) → IsAfter layout young stuck t w v (λ u. FloorRead w.floor went v u)
+  floor_turns went = tells layout young stuck t w v store sees (with_txns []) (step.ReadFloor v.number went) (either went (outcome.Floor w.floor) outcome.Failed)
+      (λ n. sees_floor n went (Some w.floor)) [] [] [] [] store.kept (floor_happens went) refl refl t store.trace safe
 
-  floor_file : (name : List ℕ) → name ≡ only_name only.MinUnpackedRev → (text : List ℕ) × (file_at t name ≡ Some text) × IsRevLine text w.floor
+  pub floor_file : (name : List ℕ) → name ≡ only_name only.MinUnpackedRev → (text : List ℕ) × (file_at t name ≡ Some text) × IsRevLine text w.floor
   floor_file name named =
       let at = at_found Floor (get (files_now t) (machine_name layout Floor)) (found w.disk Floor) (Number w.floor) floor_there (now_read layout w.floor no_others t.first t.operations w.disk store.trace Floor tt) in
       (at.0, ap (λ n. get (files_now t) n) named ∙ at.1, at.2)
 
-  pub floor_comes : {E : Type 0} (told : Option Trace) → told ≡ Some t → (offset : ℕ) (name old new : List ℕ) → name ≡ only_name only.MinUnpackedRev → (result : Result (Option ℕ) E) → IfOk result (IsRead (file_at t name) offset old new)
-      → (u : View) × (went : Went) × (floor : ℕ) × (text : List ℕ) × Knows layout young stuck told u × Answers result went × FloorRead floor went v u × IsRevLine text floor × IfOk result (IsRead (Some text) offset old new)
-  floor_comes told same offset name old new named (Ok o) read =
-      let u = floor_turn told same Fine in
-      let file = floor_file name named in
-      (u.0, Fine, w.floor, file.0, u.1, refl, u.2, file.2, subst (λ f. IsRead f offset old new o) file.1 read)
-  floor_comes told same offset name old new named (Err e) read =
-      let u = floor_turn told same Before in
-      let file = floor_file name named in
-      (u.0, Before, w.floor, file.0, u.1, refl, u.2, file.2, tt)
+  pub floor_comes : {X E : Type 0} (told : Option Trace) → told ≡ Some t → (result : Result X E) → Comes layout young stuck told w v result (λ went u. FloorRead w.floor went v u)
+  floor_comes told same (Ok o) = (t, Fine, same, refl, floor_turns Fine)
+  floor_comes told same (Err e) = (t, Before, same, refl, floor_turns Before)
+
+  -- what is read there is its line
+  pub floor_line : {E : Type 0} (offset : ℕ) (name old new : List ℕ) → name ≡ only_name only.MinUnpackedRev → (result : Result (Option ℕ) E) → IfOk result (IsRead (file_at t name) offset old new)
+      → (text : List ℕ) × IsRevLine text w.floor × IfOk result (IsRead (Some text) offset old new)
+  floor_line offset name old new named (Ok o) read = let file = floor_file name named in (file.0, file.2, subst (λ f. IsRead f offset old new o) file.1 read)
+  floor_line offset name old new named (Err e) read = let file = floor_file name named in (file.0, file.2, tt)
 
   -- ---- the properties of a revision
 
@@ -85,22 +85,21 @@ module _ (layout : Layout) (young : ℕ) (stuck : Option DiskPlace) (t : Trace) 
         ∙ ap (λ b. cond b (did (turned (with_txns [] w) v.number Read went) (either went (properties_in (found w.disk (Props r))) outcome.Failed)) (barred (with_txns [] w))) known_it
         ∙ ap (λ c. did (turned (with_txns [] w) v.number Read went) (either went (properties_in c) outcome.Failed)) props_there)
 
-    props_turn : (told : Option Trace) → told ≡ Some t → (went : Went) → (u : View) × Knows layout young stuck told u × PropsRead r x went v u
-    props_turn told same went = tells layout young stuck t w v store sees layout_is number_is (with_txns []) (step.ReadProps v.number r went) (either went (outcome.Properties x.revision.properties) outcome.Failed)
-        (λ n. learns n Read went) [] [] [] [] store.kept (props_happens went) refl refl t told same store.trace safe
+    pub props_turns : (went : Went) → IsAfter layout young stuck t w v (λ u. PropsRead r x went v u)
+    props_turns went = tells layout young stuck t w v store sees (with_txns []) (step.ReadProps v.number r went) (either went (outcome.Properties x.revision.properties) outcome.Failed)
+        (λ n. learns n Read went) [] [] [] [] store.kept (props_happens went) refl refl t store.trace safe
 
-    props_file : r < 2 ^ 32 → (name : List ℕ) → name ≡ props_name v r → (text : List ℕ) × (file_at t name ≡ Some text) × IsDump text x.revision.properties
+    pub props_file : r < 2 ^ 32 → (name : List ℕ) → name ≡ props_name v r → (text : List ℕ) × (file_at t name ≡ Some text) × IsDump text x.revision.properties
     props_file fits name named =
         let at = at_found (Props r) (get (files_now t) (machine_name layout (Props r))) (found w.disk (Props r)) (PropsFile x.revision.properties) props_there (now_read layout w.floor no_others t.first t.operations w.disk store.trace (Props r) fits) in
         (at.0, ap (λ n. get (files_now t) n) (named ∙ ap (λ k. machine_name k (Props r)) layout_is) ∙ at.1, at.2)
 
-    pub props_comes : {E : Type 0} (told : Option Trace) → told ≡ Some t → (offset : ℕ) → r < 2 ^ 32 → (name old new : List ℕ) → name ≡ props_name v r → (result : Result (Option ℕ) E) → IfOk result (IsRead (file_at t name) offset old new)
-        → (u : View) × (went : Went) × (text : List ℕ) × Knows layout young stuck told u × Answers result went × PropsRead r x went v u × IsDump text x.revision.properties × IfOk result (IsRead (Some text) offset old new)
-    props_comes told same offset fits name old new named (Ok o) read =
-        let u = props_turn told same Fine in
-        let file = props_file fits name named in
-        (u.0, Fine, file.0, u.1, refl, u.2, file.2, subst (λ f. IsRead f offset old new o) file.1 read)
-    props_comes told same offset fits name old new named (Err e) read =
-        let u = props_turn told same Before in
-        let file = props_file fits name named in
-        (u.0, Before, file.0, u.1, refl, u.2, file.2, tt)
+    pub props_comes : {X E : Type 0} (told : Option Trace) → told ≡ Some t → (result : Result X E) → Comes layout young stuck told w v result (λ went u. PropsRead r x went v u)
+    props_comes told same (Ok o) = (t, Fine, same, refl, props_turns Fine)
+    props_comes told same (Err e) = (t, Before, same, refl, props_turns Before)
+
+    -- what is read there is a dump of them
+    pub props_text : {E : Type 0} (offset : ℕ) → r < 2 ^ 32 → (name old new : List ℕ) → name ≡ props_name v r → (result : Result (Option ℕ) E) → IfOk result (IsRead (file_at t name) offset old new)
+        → (text : List ℕ) × IsDump text x.revision.properties × IfOk result (IsRead (Some text) offset old new)
+    props_text offset fits name old new named (Ok o) read = let file = props_file fits name named in (file.0, file.2, subst (λ f. IsRead f offset old new o) file.1 read)
+    props_text offset fits name old new named (Err e) read = let file = props_file fits name named in (file.0, file.2, tt)

@@ -18,13 +18,13 @@ use Rattle.fsfs_machine.specs.declared.machine.Step.TheVariants as step
 use Rattle.fsfs_machine.specs.Machine.{World, did, barred, either, answer, learns, disk_after, at_place, at_call, after, spoiled, gives, called, called_by, due, is_due, held_by, inside, with_next, stuck_place}
 use Rattle.fsfs_machine.specs.Kept.{Kept, IsIn, coming_in, coming}
 use Rattle.fsfs_machine.proofs.Steps.{step_keeps}
-use Rattle.fsfs_machine.proofs.Whose.{length_at}
 use Rattle.fsfs_images.specs.Shown.{IsTraceOf}
 use Rattle.fsfs_turn.specs.Bytes.{BytesShow, AllShow}
 use Rattle.fsfs_turn.specs.Views.{View, Sees, with_txns, given_by, called_view, Called}
-use Rattle.fsfs_turn.specs.Past.{doubt_in, doubt, Safe}
+use Rattle.fsfs_turn.specs.Past.{doubt_in, Safe}
 pub use Rattle.fsfs_turn.specs.Found.{get_taken}
 use Rattle.fsfs_turn.specs.Standing.{no_others, IsStore}
+use Rattle.fsfs_turn.proofs.TurnEnds.{section_leaves, IsAfter}
 
 -- no transaction is laid in
 pub kept_bare : (w : World) → Kept w → Kept (with_txns [] w)
@@ -141,22 +141,12 @@ kept_called w p place went s change kept held is change_is =
     kept_bare (called_store (with_txns [] w) p place went s change)
     (step_keeps (with_txns [] w) (step.Call p place went) (did (called_store (with_txns [] w) p place went s change) (answer went)) (happens_so (with_txns [] w) p place went s change held is change_is) kept).kept
 
--- what a call comes to
-pub record IsCalled (layout : Layout) (young : ℕ) (stuck : Option DiskPlace) (t : Trace) (place : DiskPlace) (went : Went) (v : View) : Type 0 where
-  pub world : World
-  pub view : View
-  pub store : IsStore layout young stuck t world
-  pub sees : Sees world view
-  pub called : Called place went v view
-  pub safe : Safe layout view.since t view.opened world.floor world.history (doubt world.lock)
-  pub layout_is : view.layout ≡ v.layout
-  pub number_is : view.number ≡ v.number
-
+-- what a call of a section comes to
 pub call_turns : (layout : Layout) (young : ℕ) (stuck : Option DiskPlace) (old new : Trace) (w : World) (v : View) (place : DiskPlace) (went : Went) (s : Section) (change : NameChange)
     → IsStore layout young stuck old w → Sees w v → v.section ≡ Some s → is_due s place ≡ true → due w s ≡ Some change
     → IsTraceOf layout w.floor no_others new.first new.operations (disk_after went change w.disk)
     → Safe layout v.since new v.opened w.floor w.history (doubt_in (either went (after s) (spoiled s)))
-    → IsCalled layout young stuck new place went v
+    → IsAfter layout young stuck new w v (λ u. Called place went v u)
 call_turns layout young stuck old new w v place went s change store sees section is due_is trace safe = record {
   world = world;
   view = view;
@@ -168,10 +158,9 @@ call_turns layout young stuck old new w v place went s change store sees section
     coming = coming_either went s (λ x. BytesShow (with_next w.history x)) (subst (λ l. IfSome (coming l) (λ x. BytesShow (with_next w.history x))) lock store.coming);
     young_is = store.young_is;
     stuck_is = sym (ap stuck_place lock) ∙ store.stuck_is;
-    alone = length_at w.passes v.number (learns (length w.history) place went) ∙ store.alone;
   };
   sees = seen;
-  called = record {
+  turned = record {
     turned = record { world = w; kept = store.kept; sees = sees; did = did (called_store (with_txns [] w) v.number place went s change) (answer went); happens = happens; answers = refl; after = kept; leaves = seen };
     inside = s;
     was = section;
@@ -179,8 +168,12 @@ call_turns layout young stuck old new w v place went s change store sees section
     grows = (drop v.pass.seen w.history, take_drop v.pass.seen w.history ∙ ap (λ l. l ++ drop v.pass.seen w.history) (sym sees.seen));
     same = λ x e. sym (sees.whole x e);
   };
+  all = refl;
   safe = safe;
+  leaves = section_leaves w world v.number (learns (length w.history) place went) s (either went (after s) (spoiled s)) went refl refl refl refl lock refl refl;
   layout_is = refl;
+  since_is = refl;
+  opened_is = refl;
   number_is = refl;
 }
   where

@@ -1,6 +1,6 @@
 -- A step that tells the pass the history as it is, over an owned store.
-use Rattle.std.proofs.Common.{◌≡◌, ◌+◌, ℕ, List, [], ◌++◌, length, refl, sym, ap, subst, ◌∙◌, arith, take, drop}
-use Rattle.std.specs.Prelude.{Option, Some}
+use Rattle.std.proofs.Common.{◌≡◌, ◌+◌, ℕ, List, [], ◌++◌, length, refl, sym, ap, ◌∙◌, arith, take, drop}
+use Rattle.std.specs.Prelude.{Option}
 use Rattle.std.proofs.lemmas.List.{take_all}
 use Rattle.fsfs_layout.specs.declared.layout.Layout.{Layout}
 use Rattle.fsfs_disk.specs.Trace.{Trace}
@@ -14,12 +14,12 @@ use Rattle.fsfs_machine.specs.Machine.{World, Happens, did, at_place}
 use Rattle.fsfs_machine.specs.Kept.{Kept}
 use Rattle.fsfs_machine.proofs.Answering.{seen_of}
 use Rattle.fsfs_machine.proofs.Steps.{step_keeps}
-use Rattle.fsfs_machine.proofs.Whose.{length_at}
 use Rattle.fsfs_images.specs.Shown.{IsTraceOf}
 use Rattle.fsfs_turn.specs.Past.{doubt, Safe}
 use Rattle.fsfs_turn.specs.Views.{View, Sees, with_txns}
 use Rattle.fsfs_turn.specs.Learning.{Learned}
-use Rattle.fsfs_turn.specs.Standing.{no_others, IsStore, Knows}
+use Rattle.fsfs_turn.specs.Standing.{no_others, IsStore}
+use Rattle.fsfs_turn.proofs.TurnEnds.{pass_leaves, IsAfter}
 use Rattle.fsfs_turn.proofs.Stepping.{kept_bare, at_itself, take_drop}
 
 -- the store after it: pass p knows more, and labels and transactions may be others
@@ -29,24 +29,33 @@ told_world w p f labels named txns spent = record w { labels = labels; named = n
 abbrev told_view : World → View → (Pass → Pass) → View
 told_view w v f = record v { pass = f v.pass; seen = w.history }
 
-module _ (layout : Layout) (young : ℕ) (stuck : Option DiskPlace) (old : Trace) (w : World) (v : View) (store : IsStore layout young stuck old w) (sees : Sees w v) (layout_is : v.layout ≡ layout) (number_is : v.number ≡ 0) where
+module _ (layout : Layout) (young : ℕ) (stuck : Option DiskPlace) (old : Trace) (w : World) (v : View) (store : IsStore layout young stuck old w) (sees : Sees w v) where
   pub tells : (lay : World → World) (step : Step) (outcome : Outcome) (tell : ℕ → Pass → Pass) (labels : List ℕ) (named : List Drawn) (txns : List Txn) (spent : List ℕ)
       → Kept (lay w) → Happens (lay w) step (did (told_world w v.number (tell (length w.history)) labels named txns spent) outcome)
       → (tell (length w.history) v.pass).least ≡ v.pass.least → (tell (length w.history) v.pass).seen ≡ length w.history
-      → (new : Trace) (told : Option Trace) → told ≡ Some new → IsTraceOf layout w.floor no_others new.first new.operations w.disk → Safe layout v.since new v.opened w.floor w.history (doubt w.lock)
-      → (u : View) × Knows layout young stuck told u × Learned lay step outcome tell v u
-  tells lay step outcome tell labels named txns spent kept_lay happens least_is seen_is new told is trace safe = (
-    told_view w v (tell (length w.history)),
-    subst (λ o. Knows layout young stuck o (told_view w v (tell (length w.history)))) (sym is) (world, now, after, layout_is, number_is, safe),
-    record {
+      → (new : Trace) → IsTraceOf layout w.floor no_others new.first new.operations w.disk → Safe layout v.since new v.opened w.floor w.history (doubt w.lock)
+      → IsAfter layout young stuck new w v (λ u. Learned lay step outcome tell v u)
+  tells lay step outcome tell labels named txns spent kept_lay happens least_is seen_is new trace safe = record {
+    world = world;
+    view = told_view w v (tell (length w.history));
+    store = record { trace = trace; whole = store.whole; kept = kept; shown = store.shown; coming = store.coming; young_is = store.young_is; stuck_is = store.stuck_is };
+    sees = after;
+    turned = record {
       turned = record { world = w; kept = kept_lay; sees = sees; did = did world outcome; happens = happens; answers = refl; after = kept; leaves = after };
       is = refl;
       grows = (drop v.pass.seen w.history, take_drop v.pass.seen w.history ∙ ap (λ l. l ++ drop v.pass.seen w.history) (sym sees.seen));
       within = λ sure. let up : w.young + 1 ≡ length w.history = store.kept.young sees.up in omega (arith, up, sees.sure sure);
       all = (seen_of (length w.history) w.floor w.passes v.number v.pass store.kept.seen sees.pass).least;
       shown = store.shown;
-    },
-  )
+    };
+    all = refl;
+    safe = safe;
+    leaves = pass_leaves w world v.number (tell (length w.history)) refl refl refl refl refl refl;
+    layout_is = refl;
+    since_is = refl;
+    opened_is = refl;
+    number_is = refl;
+  }
     where
       world : World
       world = told_world w v.number (tell (length w.history)) labels named txns spent
@@ -66,6 +75,3 @@ module _ (layout : Layout) (young : ℕ) (stuck : Option DiskPlace) (old : Trace
         opened = sees.opened;
         shown = store.shown;
       }
-
-      now : IsStore layout young stuck new world
-      now = record { trace = trace; whole = store.whole; kept = kept; shown = store.shown; coming = store.coming; young_is = store.young_is; stuck_is = store.stuck_is; alone = length_at w.passes v.number (tell (length w.history)) ∙ store.alone }

@@ -1,10 +1,10 @@
 -- What a pass has seen is whole in each image.
-use Rattle.std.proofs.Common.{◌≡◌, ◌<◌, ◌≤◌, ◌+◌, ◌^◌, ℕ, List, [], ◌∷◌, length, ⊎_elim, sym, ap, subst, ◌∙◌, ◌++◌, arith, take, drop, length-append}
+use Rattle.std.proofs.Common.{◌≡◌, ◌<◌, ◌^◌, ℕ, List, [], ◌∷◌, length, ⊎_elim, sym, ap, subst, ◌∙◌, ◌++◌, arith, take, drop}
 use Rattle.std.proofs.lemmas.List.{take_all, take-append-le}
 use Rattle.std.proofs.lemmas.Option.{slice_get_within}
 use Rattle.fsfs_turn.specs.Bytes.{BytesShow, AllShow}
 use Rattle.fsfs_turn.specs.Past.{doubt_in, doubt, IsPart, WasLeft, Safe}
-use Rattle.fsfs_turn.proofs.Moments.{past_of}
+use Rattle.fsfs_turn.proofs.Moments.{past_of, numbers}
 use Rattle.fsfs_turn.proofs.Stepping.{take_drop, get_taken}
 use Rattle.std.specs.Prelude.{Some, Ok, IfSome, slice_get}
 use Rattle.std.specs.FinMap.{get}
@@ -15,22 +15,22 @@ use Rattle.fsfs_rev_file.specs.RevBytes.{floor_in}
 use Rattle.fsfs_rev_file.proofs.FloorLemmas.{floor_is}
 use Rattle.fsfs_disk.specs.Trace.{Operation, ImageSince}
 use Rattle.fsfs_disk.specs.Trace as real
-use Rattle.fsfs_machine.specs.declared.contents.FileName.TheVariants.{Current, Rev, Props}
+use Rattle.fsfs_machine.specs.declared.contents.FileName.TheVariants.{Current, Props}
 use Rattle.fsfs_machine.specs.declared.contents.Contents.TheVariants.{PropsFile, Number}
 use Rattle.fsfs_machine.specs.declared.machine.Recorded.{Recorded}
 use Rattle.fsfs_machine.specs.declared.machine.Coming.{Coming}
 use Rattle.fsfs_machine.specs.declared.machine.Section.{Section}
-use Rattle.fsfs_machine.specs.declared.machine.Section.TheVariants.{RevFirm, CurrentPut, CurrentRenamed, CurrentFirm, Doubtful}
+use Rattle.fsfs_machine.specs.declared.machine.Section.TheVariants.{CurrentRenamed, CurrentFirm, Doubtful}
 use Rattle.fsfs_machine.specs.declared.machine.Lock.{Lock}
 use Rattle.fsfs_machine.specs.declared.machine.Lock.TheVariants.{Free, Held, Stuck, Down, DownDoubtful}
 use Rattle.fsfs_machine.specs.Disk.{Disk, found, IsImage}
-use Rattle.fsfs_machine.specs.Machine.{World, file_of, with_next}
-use Rattle.fsfs_machine.specs.Kept.{coming, coming_in, StandsFor, StandsForEither, StandsIn, Stands, NamesLast, FloorIs}
+use Rattle.fsfs_machine.specs.Machine.{World, with_next}
+use Rattle.fsfs_machine.specs.Kept.{coming, coming_in, StandsFor, Stands, FloorIs}
 use Rattle.fsfs_machine.proofs.Answering.{has_all}
 use Rattle.fsfs_layout.specs.Small.{IsRevLine}
 use Rattle.fsfs_images.specs.RealNames.{machine_name}
 use Rattle.fsfs_images.specs.Shown.{AreRead}
-use Rattle.fsfs_turn.specs.Views.{Sees}
+use Rattle.fsfs_turn.specs.Views.{Sees, with_txns}
 use Rattle.fsfs_turn.specs.Found.{bytes_are, floor_read, rev_there, LastFrom, last_at}
 use Rattle.fsfs_turn.specs.Standing.{no_others, IsStore}
 use Rattle.fsfs_turn.specs.Whole.{HasRevision, NamesFrom, SeenIsWhole, NamesLastOf, HasHistory, EachMomentStands, KnownFromNow}
@@ -137,12 +137,13 @@ known_from_now layout young stuck t v known =
     let w = known.0 in
     let store = known.1 in
     let sees = known.2 in
-    (w, store, record { pass = sees.pass; seen = sees.seen; section = sees.section; up = sees.up; sure = sees.sure; whole = sees.whole; given = sees.given; opened = seen_within w v sees; shown = sees.shown }, known.3, known.4, safe)
+    (w, store, record { pass = sees.pass; seen = sees.seen; section = sees.section; up = sees.up; sure = sees.sure; whole = sees.whole; given = sees.given; opened = seen_within w v sees; shown = sees.shown }, known.3, known.4, safe, known.6)
   where
     past : (m : Files) → real.IsImage t.first t.operations m → WasLeft layout (length v.seen) known.0.floor known.0.history (doubt known.0.lock) m
     past m i =
         let r = image_read layout known.0.floor no_others t.first t.operations known.0.disk known.1.trace m i in
-        (r.0, r.2, past_of (length v.seen) known.0.floor known.0.history known.0.lock r.0 (seen_within known.0 v known.2) (known.1.kept.stands r.0 r.1), known.1.kept.floors r.0 r.1)
+        let n = numbers (with_txns [] known.0) known.1.kept r.0 r.1 in
+        (r.0, r.2, past_of (length v.seen) known.0.floor known.0.history known.0.lock r.0 (seen_within known.0 v known.2) known.1.kept.floor (known.1.kept.stands r.0 r.1), n.0, n.1)
 
     now : (first : Files) (ops : List Operation) (m : Files) → ImageSince (length ops) first ops m → real.IsImage first ops m
     now first [] m i = i

@@ -2,7 +2,7 @@
 use Rattle.std.specs.Prelude.{◌≡◌, ◌+◌, ◌≤◌, if◌then◌else◌, ℕ, List, [], ◌∷◌, ◌++◌, length, Bool, true, false, Option, Some, None}
 use Rattle.fsfs_base.specs.Files.{Files}
 use Rattle.fsfs_layout.specs.declared.layout.Layout.{Layout}
-use Rattle.fsfs_disk.specs.Trace.{Trace, IsImage}
+use Rattle.fsfs_disk.specs.Trace.{Trace, IsImage, ImageSince}
 use Rattle.fsfs_stands.specs.Files.{StandsFor}
 use Rattle.fsfs_places.specs.declared.place.DiskPlace.{DiskPlace}
 use Rattle.fsfs_places.specs.declared.place.DiskPlace.TheVariants.{Commit}
@@ -15,7 +15,7 @@ use Rattle.fsfs_machine.specs.Machine.{revisions}
 use Rattle.fsfs_turn.specs.Past.{IsPart}
 use Rattle.fsfs_turn.specs.Views.{View, Begins}
 use Rattle.fsfs_turn.specs.Standing.{Knows}
-use Rattle.fsfs_turn.specs.Stands.{OwnFilesStand}
+use Rattle.fsfs_turn.specs.Stands.{OwnFilesLast}
 use Rattle.fsfs_turn.specs.Whole.{HasHistory}
 
 -- a fault there leaves the revision that a commit was to add in doubt
@@ -28,6 +28,10 @@ brings_doubt place = false
 abbrev pub are_harmless : List DiskPlace → Bool
 are_harmless [] = true
 are_harmless (place ∷ places) = if brings_doubt place then false else are_harmless places
+
+-- none of the faults that came leaves a revision in doubt
+abbrev pub BringsNoDoubt : View → View → Type 0
+BringsNoDoubt v u = are_harmless v.pass.faults ≡ true → are_harmless u.pass.faults ≡ true
 
 -- the lock is to be left stuck
 abbrev pub is_doubtful : Section → Bool
@@ -48,9 +52,9 @@ pub record IsAlone (young : ℕ) (stuck : Option DiskPlace) (v : View) : Type 0 
   -- nor was it found so before
   pub found : are_harmless v.pass.faults ≡ true → v.pass.stuck ≡ None
 
--- what the one pass of a store knows; and the files that no turn touches are in their formats
+-- what the one pass of a store knows; and the files that no turn touches are in their formats, in each image of each moment since the opening
 abbrev pub KnowsAlone : Layout → ℕ → Option DiskPlace → Option Trace → View → Type 0
-KnowsAlone layout young stuck told v = Knows layout young stuck told v × IsAlone young stuck v × OwnFilesStand layout told
+KnowsAlone layout young stuck told v = Knows layout young stuck told v × IsAlone young stuck v × OwnFilesLast layout v.since told
 
 -- Behind calls by which a pass that is alone added nothing it has seen what it had seen, and the youngest revision is the one that it was.
 abbrev pub AloneStays : Type 0
@@ -60,6 +64,12 @@ AloneStays = (young now : ℕ) (stuck left : Option DiskPlace) (v u : View) → 
 abbrev pub AloneAdds : Type 0
 AloneAdds = (young now rev : ℕ) (stuck left : Option DiskPlace) (v u : View) (before : List Recorded) (next : Recorded) → IsAlone young stuck v → IsAlone now left u → u.seen ≡ before ++ next ∷ [] → Begins before v.seen → u.opened ≡ v.opened → u.pass.mine ≡ v.pass.mine ++ rev ∷ []
     → (before ≡ v.seen) × (now ≡ young + 1)
+
+-- Each image of each moment since the opening, in the middle of a call too, stands for a first part of what the pass has seen, or for all
+-- that with the revision in doubt; and has all that there was at the opening.
+abbrev pub LoneMomentsStand : Type 0
+LoneMomentsStand = (layout : Layout) (young : ℕ) (stuck : Option DiskPlace) (t : Trace) (v : View) → KnowsAlone layout young stuck (Some t) v → (m : Files) → ImageSince v.since t.first t.operations m
+    → (d : Option Coming) × (g : List Recorded) × IsPart v.seen d g × (v.opened ≤ length g) × HasHistory layout m g × StandsFor m (revisions g)
 
 -- Each image now stands for what the pass has seen, or for that with the revision in doubt; where the lock isn't stuck and the pass is in
 -- no section, for what it has seen.

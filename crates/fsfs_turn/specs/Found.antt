@@ -16,6 +16,7 @@ use Rattle.fsfs_layout.specs.declared.only_file.OnlyFile.TheVariants as only
 use Rattle.fsfs_rev_file.specs.RevBytes.{floor_in, packed_bytes, or_missing, by_floor, rev_file, rev_bytes}
 use Rattle.fsfs_rev_file.proofs.FloorLemmas.{floor_is}
 use Rattle.fsfs_fetch.specs.Kept.{agrees}
+use Rattle.fsfs_fetch.specs.Views.{Reach, Ends, IsKnown}
 use Rattle.fsfs_damage.specs.declared.wrong.Refusal.{Refusal}
 use Rattle.fsfs_disk.specs.Trace.{Trace, files_now}
 use Rattle.fsfs_places.specs.declared.place.DiskPlace.{DiskPlace}
@@ -38,7 +39,7 @@ use Rattle.fsfs_images.specs.RealNames.{machine_name}
 use Rattle.fsfs_images.specs.Shown.{AtName, AreRead, Reads, there_in, packed_in, file_in}
 use Rattle.fsfs_images.proofs.Showing.{now_read}
 use Rattle.fsfs_turn.specs.Views.{View, Sees}
-use Rattle.fsfs_turn.specs.Standing.{no_others, Knows}
+use Rattle.fsfs_turn.specs.Standing.{no_others, IsStore, Knows}
 use Rattle.fsfs_turn.specs.Telling.{IsReadable, state_of, owned_view}
 
 -- what stands at a name that is found
@@ -139,47 +140,52 @@ last_at f h (DownDoubtful x) m i = last_either f m h x i
 last_at f h Free m i = last_of m (length h) i.1
 last_at f h Down m i = last_of m (length h) i.1
 
-module _ (layout : Layout) (young : ℕ) (stuck : Option DiskPlace) (t : Trace) (v : View) (known : Knows layout young stuck (Some t) v) where
-  all_read : AreRead layout known.0.floor (files_now t) known.0.disk
-  all_read = now_read layout known.0.floor no_others t.first t.operations known.0.disk known.1.trace
+-- a disk of which a state of the machine is known
+module _ (layout : Layout) (young : ℕ) (stuck : Option DiskPlace) (t : Trace) (w : World) (store : IsStore layout young stuck t w) where
+  all_read : AreRead layout w.floor (files_now t) w.disk
+  all_read = now_read layout w.floor no_others t.first t.operations w.disk store.trace
 
-  floor_now : floor_in layout (files_now t) ≡ Ok known.0.floor
-  floor_now = floor_is layout known.0.floor (files_now t) (floor_read layout known.0.floor (files_now t) known.0.disk all_read (known.1.kept.floors known.0.disk (read_is_image known.0.disk)) known.1.whole)
+  pub floor_now : floor_in layout (files_now t) ≡ Ok w.floor
+  floor_now = floor_is layout w.floor (files_now t) (floor_read layout w.floor (files_now t) w.disk all_read (store.kept.floors w.disk (read_is_image w.disk)) store.whole)
 
-  -- a revision that the pass has seen can be read
-  pub readable : (path : List ℕ) (r : ℕ) (x : Recorded) → slice_get v.seen r ≡ Some x → IsReadable (owned_view (state_of layout young stuck (Some t) path)) (files_now t) r x
-  readable path r x at = record {
-    known = omega (arith, slice_get_within v.seen r x at, seen_within w v known.2, up, known.1.young_is);
-    bytes = bytes_are layout known.0.floor (files_now t) r x.bytes floor_now rev;
-    own = own_agrees layout known.0.floor (files_now t) r x.bytes floor_now rev;
+  pub all_fit : (r : ℕ) → r < length w.history → r < 2 ^ 32
+  all_fit r some = omega (arith, some, last.2, current.2.fits)
+    where
+      last : LastFrom w.disk (length w.history)
+      last = last_at w.floor w.history w.lock w.disk (store.kept.stands w.disk (read_is_image w.disk))
+
+      current : (text : List ℕ) × (get (files_now t) (machine_name layout Current) ≡ Some text) × IsRevLine text last.0
+      current = at_found Current (get (files_now t) (machine_name layout Current)) (found w.disk Current) (Number last.0) last.1 (all_read Current tt)
+
+  -- a revision of the history can be read
+  pub history_reads : {L : Type 0} (reach : Reach) (told : Option Files) (below : L) (r : ℕ) (x : Recorded) → slice_get w.history r ≡ Some x → IsKnown reach r → IsReadable {Lasting = L} (record { layout = layout; reach = reach; files = told; below = below }) (files_now t) r x
+  history_reads reach told below r x here known = record {
+    known = known;
+    bytes = bytes_are layout w.floor (files_now t) r x.bytes floor_now rev;
+    own = own_agrees layout w.floor (files_now t) r x.bytes floor_now rev;
     text = props.0;
     props = ap (or_missing r) props.1;
     dump = props.2;
   }
     where
-      w : World
-      w = known.0
-
-      up : known.0.young + 1 ≡ length known.0.history
-      up = known.1.kept.young known.2.up
-
-      last : LastFrom known.0.disk (length known.0.history)
-      last = last_at known.0.floor known.0.history known.0.lock known.0.disk (known.1.kept.stands known.0.disk (read_is_image known.0.disk))
-
-      current : (text : List ℕ) × (get (files_now t) (machine_name layout Current) ≡ Some text) × IsRevLine text last.0
-      current = at_found Current (get (files_now t) (machine_name layout Current)) (found known.0.disk Current) (Number last.0) last.1 (all_read Current tt)
-
       fits : r < 2 ^ 32
-      fits = omega (arith, slice_get_within v.seen r x at, seen_within known.0 v known.2, last.2, current.2.fits)
+      fits = all_fit r (slice_get_within w.history r x here)
 
-      here : slice_get known.0.history r ≡ Some x
-      here = get_taken v.pass.seen r known.0.history x (ap (λ l. slice_get l r) (sym known.2.seen) ∙ at)
+      has : HasFiles w.floor w.disk r x
+      has = has_all w.floor w.history w.lock w.disk (store.kept.stands w.disk (read_is_image w.disk)) r x here
 
-      has : HasFiles known.0.floor known.0.disk r x
-      has = has_all known.0.floor known.0.history known.0.lock known.0.disk (known.1.kept.stands known.0.disk (read_is_image known.0.disk)) r x here
-
-      rev : file_in layout known.0.floor (files_now t) (Rev r) ≡ Some x.bytes
-      rev = rev_there layout known.0.floor (files_now t) known.0.disk r x all_read fits has
+      rev : file_in layout w.floor (files_now t) (Rev r) ≡ Some x.bytes
+      rev = rev_there layout w.floor (files_now t) w.disk r x all_read fits has
 
       props : (text : List ℕ) × (get (files_now t) (machine_name layout (Props r)) ≡ Some text) × IsDump text x.revision.properties
-      props = at_found (Props r) (get (files_now t) (machine_name layout (Props r))) (found known.0.disk (Props r)) (PropsFile x.revision.properties) has.1 (all_read (Props r) fits)
+      props = at_found (Props r) (get (files_now t) (machine_name layout (Props r))) (found w.disk (Props r)) (PropsFile x.revision.properties) has.1 (all_read (Props r) fits)
+
+-- a revision that the one pass of an owned store has seen can be read
+pub readable : (layout : Layout) (young : ℕ) (stuck : Option DiskPlace) (t : Trace) (v : View) (known : Knows layout young stuck (Some t) v) (path : List ℕ) (r : ℕ) (x : Recorded) → slice_get v.seen r ≡ Some x
+    → IsReadable (owned_view (state_of layout young stuck (Some t) path)) (files_now t) r x
+readable layout young stuck t v known path r x at =
+    history_reads layout young stuck t known.0 known.1 (Ends young) (Some (files_now t)) (state_of layout young stuck (Some t) path) r x here
+    (let up : known.0.young + 1 ≡ length known.0.history = known.1.kept.young known.2.up in omega (arith, slice_get_within v.seen r x at, seen_within known.0 v known.2, up, known.1.young_is))
+  where
+    here : slice_get known.0.history r ≡ Some x
+    here = get_taken v.pass.seen r known.0.history x (ap (λ l. slice_get l r) (sym known.2.seen) ∙ at)

@@ -1,10 +1,12 @@
 -- What an owned store tells one who reads it.
-use Rattle.std.proofs.Common.{◌≡◌, ℕ, List, refl, sym, ap, subst}
-use Rattle.std.specs.Prelude.{Option, Some, None, option_map, is_some, IsSome}
+use Rattle.std.proofs.Common.{◌≡◌, ℕ, List, [], refl, sym, ap, subst, append-nil}
+use Rattle.std.specs.Prelude.{true, false, Option, Some, None, option_map, is_some, IsSome}
 use Rattle.fsfs_layout.specs.declared.layout.Layout.{Layout}
-use Rattle.fsfs_disk.specs.Trace.{Trace, files_now}
+use Rattle.fsfs_disk.specs.Trace.{Trace, files_now, labels_now}
 use Rattle.fsfs_places.specs.declared.place.DiskPlace.{DiskPlace}
+use Rattle.fsfs_turn.specs.Bytes.{AllShow}
 use Rattle.fsfs_turn.specs.Views.{View}
+use Rattle.fsfs_turn.specs.Courses.{ReadOnly, End}
 use Rattle.fsfs_turn.specs.Standing.{Knows}
 use Rattle.fsfs_turn.specs.Alone.{KnowsAlone}
 use Rattle.fsfs_turn.specs.Telling.{TellsSeen, OwnedState, state_of, owned_view}
@@ -32,5 +34,26 @@ known_still a b v same known = subst (λ s. KnowsAlone s.layout s.young s.stuck 
 pub files_same : (a b : OwnedState) → b ≡ a → (owned_view b).files ≡ (owned_view a).files
 files_same a b same = ap (λ s. option_map files_now s.trace) same
 
+pub labels_same : (a b : OwnedState) → b ≡ a → option_map labels_now b.trace ≡ option_map labels_now a.trace
+labels_same a b same = ap (λ s. option_map labels_now s.trace) same
+
 pub path_same : (a b : OwnedState) → b ≡ a → b.mount_path ≡ a.mount_path
 path_same a b same = ap (λ s. s.mount_path) same
+
+-- ---- reading
+
+-- no read comes to no more than what was known
+pub reads_nothing : (v : View) → AllShow v.seen → ReadOnly v v
+reads_nothing v shown = record { is = refl; grows = ([], sym (append-nil v.seen)); doubtless = λ few. few; shown = shown; within = λ sure le. le; course = End v }
+
+seen_shows : (layout : Layout) (young : ℕ) (stuck : Option DiskPlace) (told : Option Trace) (v : View) → Knows layout young stuck told v → AllShow v.seen
+seen_shows layout young stuck None v known = absurd known
+seen_shows layout young stuck (Some t) v known = known.2.shown
+
+-- what is known of a disk that is read is known of it then
+pub read_onward : (layout : Layout) (young : ℕ) (stuck : Option DiskPlace) (told now : Option Trace) (v : View) → now ≡ told → KnowsAlone layout young stuck told v → (u : View) × KnowsAlone layout young stuck now u × ReadOnly v u
+read_onward layout young stuck told now v same known = (v, subst (λ t. KnowsAlone layout young stuck t v) (sym same) known, reads_nothing v (seen_shows layout young stuck told v known.0))
+
+-- nobody rests on what an owner does
+pub never_bound : {P : Type 0} → false ≡ true → P
+never_bound e = absurd cc

@@ -3,13 +3,15 @@ use Rattle.std.specs.Prelude.{◌≡◌, ◌⊎◌, ◌≤◌, ℕ, List, length
 use Rattle.fsfs_base.specs.Files.{Files}
 use Rattle.fsfs_layout.specs.declared.layout.Layout.{Layout}
 use Rattle.fsfs_disk.specs.Trace.{Trace, ImageSince}
+use Rattle.fsfs_machine.specs.declared.contents.FileName.TheVariants.{Counter}
+use Rattle.fsfs_machine.specs.declared.contents.Contents.TheVariants.{Number}
 use Rattle.fsfs_machine.specs.declared.machine.Recorded.{Recorded}
 use Rattle.fsfs_machine.specs.declared.machine.Coming.{Coming}
 use Rattle.fsfs_machine.specs.declared.machine.Section.{Section}
 use Rattle.fsfs_machine.specs.declared.machine.Section.TheVariants.{CurrentRenamed, CurrentFirm, Doubtful}
 use Rattle.fsfs_machine.specs.declared.machine.Lock.{Lock}
 use Rattle.fsfs_machine.specs.declared.machine.Lock.TheVariants.{Held, Stuck, DownDoubtful}
-use Rattle.fsfs_machine.specs.Disk.{Disk}
+use Rattle.fsfs_machine.specs.Disk.{Disk, found}
 use Rattle.fsfs_machine.specs.Machine.{with_next}
 use Rattle.fsfs_machine.specs.Kept.{StandsFor, FloorIs}
 use Rattle.fsfs_images.specs.Shown.{AreRead}
@@ -32,13 +34,17 @@ doubt lock = None
 abbrev pub IsPart : List Recorded → Option Coming → List Recorded → Type 0
 IsPart h d g = Begins h g ⊎ ((x : Coming) × (d ≡ Some x) × (g ≡ with_next h x))
 
--- the disk stands for such a part, which has all that there was at the opening
+-- the disk stands for such a part, which has all that there was at the opening, and all that is packed
 abbrev pub IsPast : ℕ → ℕ → List Recorded → Option Coming → Disk → Type 0
-IsPast opening f h d e = (g : List Recorded) × StandsFor f e g × (opening ≤ length g) × IsPart h d g
+IsPast opening f h d e = (g : List Recorded) × StandsFor f e g × (opening ≤ length g) × IsPart h d g × (f ≤ length g)
 
--- so do these files, and they show this floor
+-- there is a number for the next transaction
+abbrev pub HasCounter : Disk → Type 0
+HasCounter e = (k : ℕ) × (found e Counter ≡ Some (Number k))
+
+-- so do these files, and they show this floor and such a number
 abbrev pub WasLeft : Layout → ℕ → ℕ → List Recorded → Option Coming → Files → Type 0
-WasLeft layout opening f h d m = (e : Disk) × AreRead layout f m e × IsPast opening f h d e × FloorIs f e
+WasLeft layout opening f h d m = (e : Disk) × AreRead layout f m e × IsPast opening f h d e × FloorIs f e × HasCounter e
 
 -- each image of each moment since then, in the middle of a call too
 abbrev pub Safe : Layout → ℕ → Trace → ℕ → ℕ → List Recorded → Option Coming → Type 0

@@ -1,4 +1,4 @@
--- A store over one owned disk, as the machine.
+-- A store over one disk, as the machine.
 use Rattle.std.specs.Prelude.{◌≡◌, ℕ, List, [], length, Bool, false, Option, Some, None, IfSome}
 use Rattle.fsfs_layout.specs.Layouts.{place_in_shard}
 use Rattle.fsfs_layout.specs.declared.layout.Layout.{Layout}
@@ -26,12 +26,12 @@ pub record IsStore (layout : Layout) (young : ℕ) (stuck : Option DiskPlace) (t
   pub coming : IfSome (coming w.lock) (λ x. BytesShow (with_next w.history x))
   pub young_is : w.young ≡ young
   pub stuck_is : stuck_place w.lock ≡ stuck
-  -- there is one pass
-  pub alone : length w.passes ≡ 1
 
--- the pass of the store knows this, where the disk tells its files and they are a store
+-- the one pass of the store knows this, where the disk tells its files and they are a store
 abbrev pub Knows : Layout → ℕ → Option DiskPlace → Option Trace → View → Type 0
 Knows layout young stuck None v = ⊥
 Knows layout young stuck (Some t) v = (w : World) × IsStore layout young stuck t w × Sees w v × (v.layout ≡ layout) × (v.number ≡ 0)
     -- each image of each moment since the opening stands for a first part of the history, or for it with the revision in doubt
     × Safe layout v.since t v.opened w.floor w.history (doubt w.lock)
+    -- there is one pass
+    × (length w.passes ≡ 1)

@@ -8,7 +8,7 @@ use Rattle.fsfs_layout.specs.Small.{IsUuid}
 use Rattle.fsfs_layout.specs.declared.layout.Layout.{Layout}
 use Rattle.fsfs_layout.specs.declared.format_file.Format.TheVariants.{Sharded}
 use Rattle.fsfs_layout.specs.declared.only_file.OnlyFile.TheVariants as only
-use Rattle.fsfs_disk.specs.Trace.{Trace, files_now, IsImage}
+use Rattle.fsfs_disk.specs.Trace.{Trace, files_now, IsImage, ImageSince}
 use Rattle.fsfs_places.specs.declared.place.DiskPlace.{DiskPlace}
 use Rattle.fsfs_stands.specs.Files.{StandsFor}
 use Rattle.fsfs_machine.specs.declared.machine.Recorded.{Recorded}
@@ -23,9 +23,9 @@ pub record HasOwnFiles (files : Files) (layout : Layout) : Type 0 where
   pub format : (text : List ℕ) × IsFsfs (small_texts files) text × IsFormat text (Sharded layout.shard_size)
   pub uuid : (uuid : List ℕ) × IsUuid (text_at files (only_name only.Uuid)) uuid
 
--- they are, where the disk tells its files
-abbrev pub OwnFilesStand : Layout → Option Trace → Type 0
-OwnFilesStand layout told = IfSome told (λ t. HasOwnFiles (files_now t) layout)
+-- where the disk tells its files, they are in each image of each moment since then, in the middle of a call too
+abbrev pub OwnFilesLast : Layout → ℕ → Option Trace → Type 0
+OwnFilesLast layout since told = IfSome told (λ t. (m : Files) → ImageSince since t.first t.operations m → HasOwnFiles m layout)
 
 -- Each image now stands for a first part of the history (which begins with what the pass has seen) that has at least all that the pass
 -- has seen, or for the history with the revision in doubt.

@@ -4,11 +4,13 @@ ghost use Rattle.fsfs_disk.specs.Trace.{file_at, labels_now};
 ghost use Rattle.fsfs_turn.specs.Views.{View};
 ghost use Rattle.fsfs_turn.specs.Alone.{KnowsAlone};
 
+use crate::adoption::Adoption;
 use crate::turns::{LoneTurns, Turns};
 use fsfs_base::{Failed, Name};
 use fsfs_disk::{Disk, Label, ListFault};
 use fsfs_fields::RevNum;
 use fsfs_layout::{Layout, OnlyFile};
+use fsfs_note::Note;
 use fsfs_places::DiskPlace;
 use std::alloc::Global;
 
@@ -55,20 +57,23 @@ impl<D: Disk> Owned<D> {
 
 impl<R, D: Disk> Turns<R> for Owned<D> {
     ghost use Rattle.fsfs_turn.specs.Telling.{OwnedState, state_of, owned_view};
-    ghost use Rattle.fsfs_turn.specs.OwnedLemmas.{owned_tells, owned_benches_tell};
+    ghost use Rattle.fsfs_turn.specs.OwnedLemmas.{owned_tells, owned_benches_tell, never_bound};
     ghost use Rattle.fsfs_fetch.specs.OwnedShort.{owned_short};
-    ghost use Rattle.std.specs.Prelude.{◌⊎◌, ℕ, IfOk, OnOk, OnErr};
+    ghost use Rattle.std.specs.Prelude.{ℕ, false, IfOk, OnErr};
     ghost use Rattle.fsfs_base.specs.Failures.{HasCause};
-    ghost use Rattle.fsfs_disk.specs.Labels.{Txn as TxnLabel, label_of, has_label, without_label};
+    ghost use Rattle.fsfs_disk.specs.Labels.{Txn as TxnLabel, label_of, without_label};
     ghost use Rattle.fsfs_machine.specs.declared.machine.Txn.{Txn};
     ghost use Rattle.fsfs_machine.specs.declared.machine.Went.{Went};
     ghost use Rattle.fsfs_machine.specs.Kept.{IsIn};
     ghost use Rattle.fsfs_turn.specs.Views.{Answers};
+    ghost use Rattle.fsfs_turn.specs.Labels.{MayRelabel, Drops};
     ghost use Rattle.fsfs_turn.specs.Learning.{MayPurge, Purged, SpentPurged};
 
     type Bench = D::Bench;
 
     ghost knows = { λ s v. KnowsAlone s.layout s.young s.stuck (D.trace s.disk) v };
+
+    ghost bound = { λ s. false };
 
     ghost in_use = { λ s name. IfSome (D.trace s.disk) (λ t. IsSome (file_at t name)) };
 
@@ -107,7 +112,13 @@ impl<R, D: Disk> Turns<R> for Owned<D> {
         self.young = rev;
     }
 
-    fn adopt(&mut self, _rt: &R, name: &Name, bytes: &[u8]) -> Result<(), Failed> {
+    fn adopt(
+        &mut self,
+        _rt: &R,
+        name: &Name,
+        bytes: &[u8],
+        _about: &Note<Option<Adoption>>,
+    ) -> Result<(), Failed> {
         self.disk.put(name, bytes)
     }
 
@@ -133,6 +144,11 @@ impl<R, D: Disk> Turns<R> for Owned<D> {
         self.disk.read(name, offset, buffer)
     }
 
+    fn draw(&mut self, _rt: &R, _base: RevNum, buffer: &mut [u8]) -> Result<Option<usize>, Failed> {
+        let current = OnlyFile::TxnCurrent.name();
+        self.disk.read(&current, 0, buffer)
+    }
+
     fn make_folder(&mut self, _rt: &R, name: &Name) -> Result<(), Failed> {
         self.disk.make_folder(name)
     }
@@ -143,6 +159,7 @@ impl<R, D: Disk> Turns<R> for Owned<D> {
         bench: &mut D::Bench,
         file: &Name,
         to: &Name,
+        _about: &Note<Option<Adoption>>,
     ) -> Result<(), Failed> {
         self.disk.adopt(bench, file, to)
     }
@@ -170,13 +187,15 @@ impl<R, D: Disk> Turns<R> for Owned<D> {
         ensures spent { (v : View) (name base : ℕ) → KnowsAlone self.old.layout self.old.young self.old.stuck (D.trace self.old.disk) v → v.section ≡ None → IsIn name v.given → label_of label.now ≡ TxnLabel base name
             → (u : View) × (went : Went) × KnowsAlone self.new.layout self.new.young self.new.stuck (D.trace self.new.disk) u × Answers result went × SpentPurged name went v u }
         ensures mounted { D.mount_path self.new.disk ≡ D.mount_path self.old.disk }
-        ensures there { IfSome (option_map labels_now (D.trace self.old.disk)) (λ ls. IfOk result (λ there. there ≡ has_label (label_of label.now) ls)) }
-        ensures dropped { OnOk result (option_map labels_now (D.trace self.new.disk) ≡ option_map (without_label (label_of label.now)) (option_map labels_now (D.trace self.old.disk))) }
-        ensures left { OnErr result ((option_map labels_now (D.trace self.new.disk) ≡ option_map labels_now (D.trace self.old.disk)) ⊎ (option_map labels_now (D.trace self.new.disk) ≡ option_map (without_label (label_of label.now)) (option_map labels_now (D.trace self.old.disk)))) }
+        ensures duty { false ≡ false }
+        ensures dropped { IfOk result (λ there. Drops false (label_of label.now) there (option_map labels_now (D.trace self.old.disk)) (option_map labels_now (D.trace self.new.disk))) }
+        ensures left { OnErr result (MayRelabel false (without_label (label_of label.now)) (option_map labels_now (D.trace self.old.disk)) (option_map labels_now (D.trace self.new.disk))) }
         ensures cause { HasCause (D.faults self.old.disk) (D.faults self.new.disk) result }
     {
         self.disk.drop_bench(label, bench)
     }
+
+    ghost sole = { λ s v u bound known other. never_bound bound };
 
     ghost tells = { λ s v known. owned_tells s.layout s.young s.stuck (D.trace s.disk) (D.mount_path s.disk) v known.0 };
 
@@ -186,12 +205,17 @@ impl<R, D: Disk> Turns<R> for Owned<D> {
 }
 
 impl<R, D: Disk> LoneTurns<R> for Owned<D> {
+    ghost use Rattle.std.specs.Prelude.{refl};
     ghost use Rattle.fsfs_turn.specs.Telling.{state_of};
-    ghost use Rattle.fsfs_turn.specs.OwnedLemmas.{known_still, files_same, path_same};
+    ghost use Rattle.fsfs_turn.specs.OwnedLemmas.{known_still, files_same, labels_same, path_same};
+
+    ghost free = { λ s. refl };
 
     ghost still = { λ a b v same known. known_still (state_of a.layout a.young a.stuck (D.trace a.disk) (D.mount_path a.disk)) (state_of b.layout b.young b.stuck (D.trace b.disk) (D.mount_path b.disk)) v same known };
 
     ghost same_files = { λ a b same. files_same (state_of a.layout a.young a.stuck (D.trace a.disk) (D.mount_path a.disk)) (state_of b.layout b.young b.stuck (D.trace b.disk) (D.mount_path b.disk)) same };
+
+    ghost same_labels = { λ a b same. labels_same (state_of a.layout a.young a.stuck (D.trace a.disk) (D.mount_path a.disk)) (state_of b.layout b.young b.stuck (D.trace b.disk) (D.mount_path b.disk)) same };
 
     ghost same_path = { λ a b same. path_same (state_of a.layout a.young a.stuck (D.trace a.disk) (D.mount_path a.disk)) (state_of b.layout b.young b.stuck (D.trace b.disk) (D.mount_path b.disk)) same };
 }

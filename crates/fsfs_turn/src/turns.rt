@@ -1,5 +1,5 @@
 //! What a section is written over.
-ghost use Rattle.std.specs.Prelude.{◌≡◌, ◌⊎◌, ◌<◌, ◌≤◌, ◌^◌, ℕ, List, Option, Some, None, length, slice_get, option_map, OnOk, OnErr, IfOk, IfErr, IfSome, IsErrOf, IsSome};
+ghost use Rattle.std.specs.Prelude.{◌≡◌, ◌⊎◌, ◌<◌, ◌≤◌, ◌^◌, ℕ, List, Bool, true, false, Option, Some, None, length, slice_get, option_map, OnOk, OnErr, IfOk, IfErr, IfSome, IsErrOf, IsSome};
 ghost use Rattle.std.specs.FinMap.{get, empty};
 ghost use Rattle.fsfs_tree.specs.Revisions.{Revision};
 ghost use Rattle.fsfs_base.specs.Failures.{HasCause, Rose};
@@ -7,7 +7,7 @@ ghost use Rattle.fsfs_layout.specs.FileNames.{only_name};
 ghost use Rattle.fsfs_layout.specs.Small.{IsRevLine};
 ghost use Rattle.fsfs_layout.specs.declared.only_file.OnlyFile.TheVariants.{MinUnpackedRev, TxnCurrent};
 ghost use Rattle.fsfs_hash.specs.Dump.{IsDump};
-ghost use Rattle.fsfs_disk.specs.Labels.{Label as KeptLabel, Txn as TxnLabel, label_of, has_label, with_label, without_label, IsListing};
+ghost use Rattle.fsfs_disk.specs.Labels.{Label as KeptLabel, Txn as TxnLabel, label_of, with_label, without_label, IsListing};
 ghost use Rattle.fsfs_disk.specs.Benches.{removed, bytes_on, IsFirmFile, HasShortFiles};
 ghost use Rattle.fsfs_disk.specs.Trace.{Put, Rename, FirmNames, IsRead, IsSize};
 ghost use Rattle.fsfs_machine.specs.declared.machine.Recorded.{Recorded};
@@ -21,25 +21,37 @@ ghost use Rattle.fsfs_machine.specs.declared.machine.Went.{Went};
 ghost use Rattle.fsfs_machine.specs.declared.machine.Went.TheVariants.{Fine, Before};
 ghost use Rattle.fsfs_machine.specs.Kept.{IsIn};
 ghost use Rattle.fsfs_turn.specs.Views.{View, rev_name, props_name, IsDue, MayAdopt, MayGive, Answers, Called, Adopted, Looked, LockTaken, FoundStuck, LockGiven, Revealed, ReadTurn};
-ghost use Rattle.fsfs_fetch.specs.Views.{View as StoreView, Later, IsYoungest};
+ghost use Rattle.fsfs_fetch.specs.Views.{View as StoreView, Later, IsYoungest, IsKnown};
+ghost use Rattle.fsfs_turn.specs.Courses.{ReadOnly};
 ghost use Rattle.fsfs_turn.specs.Telling.{TellsSeen};
+ghost use Rattle.fsfs_turn.specs.Labels.{KeepsLabels, Relabels, MayRelabel, Drops};
+ghost use Rattle.fsfs_turn.specs.Adoptions.{adoption, NeedsFolder};
 ghost use Rattle.fsfs_turn.specs.Learning.{PropsRead, FloorRead, ReadsCounter, Listed, MayMake, BenchMade, MayPurge, Purged, SpentPurged};
 
+use crate::adoption::Adoption;
 use fsfs_base::{Failed, Name};
 use fsfs_disk::{Bench, Label, ListFault};
 use fsfs_fields::RevNum;
 use fsfs_layout::Layout;
+use fsfs_note::Note;
 use fsfs_places::DiskPlace;
 use std::alloc::Global;
 
 /// The turns of one pass. Each call is one step of the machine (`Turned`), made at one moment: between two calls other
 /// passes may step. `R` is what a call needs to wait for its turn: nothing, where there is one owner.
+///
+/// Where other passes rest on what this one does (`bound`), a call that changes the store asks that it is due: of what the pass knows then
+/// one view is there by which it is. Over one owner nobody else rests on it, and a call that isn't due costs what its own pass knows.
 pub trait Turns<R> {
     /// What is made for a transaction to write in. Its calls are no turns.
     type Bench: Bench;
 
     /// What the pass knows, where the disk tells its files and these are a store: of some view it is known that it holds.
     ghost knows: { Self → View → Type 0 };
+
+    /// Other passes rest on what these turns do, and the disk tells its files: only a call that is due may change the store. No call changes
+    /// it.
+    ghost bound: { Self → Bool };
 
     /// The name is in use, as far as the disk tells.
     ghost in_use: { Self → List ℕ → Type 0 };
@@ -50,7 +62,7 @@ pub trait Turns<R> {
     /// What it tells one who reads: how the files are laid out, which revisions there are, and the files as the last call met them.
     ghost store: { Self → StoreView Lasting };
 
-    /// The labels that are kept, where the disk tells.
+    /// The labels that are kept, where the disk tells, as the last call met them.
     ghost labels: { Self → Option (List KeptLabel) };
 
     /// How often its turns have failed. The count stops at the last number of a u64.
@@ -66,7 +78,10 @@ pub trait Turns<R> {
     /// The youngest revision. It waits for nobody.
     fn look(&mut self) -> RevNum
         ensures mounted { mount_path self.new ≡ mount_path self.old }
+        ensures duty { bound self.new ≡ bound self.old }
+        ensures listed { KeepsLabels (bound self.old) (labels self.old) (labels self.new) }
         ensures youngest { IsYoungest (store self.new).reach result }
+        ensures there { IsKnown (store self.new).reach result }
         ensures later { Later (store self.old) (store self.new) }
         ensures turned { (v : View) → knows self.old v → (u : View) × knows self.new u × Looked result v u }
         ensures faults { faults self.new ≡ faults self.old };
@@ -74,6 +89,8 @@ pub trait Turns<R> {
     /// Takes the write lock, or says at which place it is stuck.
     fn take_lock(&mut self, rt: &R) -> Result<(), DiskPlace>
         ensures mounted { mount_path self.new ≡ mount_path self.old }
+        ensures duty { bound self.new ≡ bound self.old }
+        ensures listed { KeepsLabels (bound self.old) (labels self.old) (labels self.new) }
         ensures same { (store self.new).below ≡ (store self.old).below }
         ensures ok { (v : View) → knows self.old v → v.section ≡ None → OnOk result ((u : View) × knows self.new u × LockTaken v u) }
         ensures stuck { (v : View) → knows self.old v → v.section ≡ None → IfErr result (λ place. (u : View) × knows self.new u × FoundStuck place v u) }
@@ -81,33 +98,56 @@ pub trait Turns<R> {
 
     /// Gives the write lock. It waits for nobody.
     fn give_lock(&mut self)
+        requires due { bound self.old ≡ true → (v : View) × knows self.old v × MayGive v }
         ensures mounted { mount_path self.new ≡ mount_path self.old }
+        ensures duty { bound self.new ≡ bound self.old }
+        ensures listed { KeepsLabels (bound self.old) (labels self.old) (labels self.new) }
         ensures turned { (v : View) → knows self.old v → MayGive v → (u : View) × knows self.new u × LockGiven (GiveLock v.number) v u }
         ensures faults { faults self.new ≡ faults self.old };
 
     /// Leaves the write lock stuck, after a fault at this place. It waits for nobody.
     fn stick(&mut self, place: DiskPlace)
+        requires due { bound self.old ≡ true → (v : View) × (x : Coming) × knows self.old v × (v.section ≡ Some (Doubtful place x)) }
         ensures mounted { mount_path self.new ≡ mount_path self.old }
+        ensures duty { bound self.new ≡ bound self.old }
+        ensures listed { KeepsLabels (bound self.old) (labels self.old) (labels self.new) }
         ensures turned { (v : View) (x : Coming) → knows self.old v → v.section ≡ Some (Doubtful place x) → (u : View) × knows self.new u × LockGiven (StickLock v.number) v u }
         ensures faults { faults self.new ≡ faults self.old };
 
     /// The revision that was written joins the history: it is the youngest now.
     fn reveal(&mut self, rt: &R, rev: RevNum)
+        requires due { bound self.old ≡ true → (v : View) × (x : Coming) × knows self.old v × (v.section ≡ Some (CurrentFirm x)) × (rev ≡ length v.seen) }
         ensures mounted { mount_path self.new ≡ mount_path self.old }
+        ensures duty { bound self.new ≡ bound self.old }
+        ensures listed { KeepsLabels (bound self.old) (labels self.old) (labels self.new) }
         ensures turned { (v : View) (x : Coming) → knows self.old v → v.section ≡ Some (CurrentFirm x) → rev ≡ length v.seen → (u : View) × knows self.new u × Revealed x v u }
         ensures faults { faults self.new ≡ faults self.old };
 
-    /// A commit's first call: the bytes are the file of the revision to come.
-    fn adopt(&mut self, rt: &R, name: &Name, bytes: &[u8]) -> Result<(), Failed>
+    /// A commit's first call: the bytes are the file of the revision to come. Where other passes rest on it, `about` says which revision
+    /// that is, and of which transaction: a pass of several knows of one alone.
+    fn adopt(
+        &mut self,
+        rt: &R,
+        name: &Name,
+        bytes: &[u8],
+        about: &Note<Option<Adoption>>,
+    ) -> Result<(), Failed>
+        requires due { bound self.old ≡ true → (v : View) × (txn : Txn) × (properties : List (List ℕ × List ℕ)) × (next : Revision) × knows self.old v × MayAdopt v txn properties next bytes.now
+            × (name.now ≡ rev_name v (length v.seen)) × (about.now.value ≡ Some (adoption txn properties next)) }
         ensures mounted { mount_path self.new ≡ mount_path self.old }
+        ensures duty { bound self.new ≡ bound self.old }
+        ensures listed { KeepsLabels (bound self.old) (labels self.old) (labels self.new) }
         ensures turned { (v : View) (txn : Txn) (properties : List (List ℕ × List ℕ)) (next : Revision) → knows self.old v → MayAdopt v txn properties next bytes.now
-            → name.now ≡ rev_name v (length v.seen)
+            → name.now ≡ rev_name v (length v.seen) → (bound self.old ≡ true → about.now.value ≡ Some (adoption txn properties next))
             → (u : View) × (went : Went) × knows self.new u × Answers result went × Adopted txn properties next bytes.now went v u }
         ensures cause { HasCause (faults self.old) (faults self.new) result };
 
     /// Makes a new file, firm, and gives it the name.
     fn put(&mut self, rt: &R, name: &Name, bytes: &[u8]) -> Result<(), Failed>
+        requires due { bound self.old ≡ true → (v : View) × (place : SpecPlace) × knows self.old v × IsDue v place (Put name.now bytes.now) }
         ensures mounted { mount_path self.new ≡ mount_path self.old }
+        ensures duty { bound self.new ≡ bound self.old }
+        ensures listed { KeepsLabels (bound self.old) (labels self.old) (labels self.new) }
         ensures turned { (v : View) (place : SpecPlace) → knows self.old v → IsDue v place (Put name.now bytes.now)
             → (u : View) × (went : Went) × knows self.new u × Answers result went × Called place went v u }
         ensures used { OnOk result (in_use self.new name.now) }
@@ -115,15 +155,21 @@ pub trait Turns<R> {
 
     /// Gives a file another name.
     fn rename(&mut self, rt: &R, from: &Name, to: &Name) -> Result<(), Failed>
-        requires { in_use self.old from.now }
+        requires there { in_use self.old from.now }
+        requires due { bound self.old ≡ true → (v : View) × (place : SpecPlace) × knows self.old v × IsDue v place (Rename from.now to.now) }
         ensures mounted { mount_path self.new ≡ mount_path self.old }
+        ensures duty { bound self.new ≡ bound self.old }
+        ensures listed { KeepsLabels (bound self.old) (labels self.old) (labels self.new) }
         ensures turned { (v : View) (place : SpecPlace) → knows self.old v → IsDue v place (Rename from.now to.now)
             → (u : View) × (went : Went) × knows self.new u × Answers result went × Called place went v u }
         ensures cause { HasCause (faults self.old) (faults self.new) result };
 
     /// Makes all changes of names firm.
     fn firm_names(&mut self, rt: &R) -> Result<(), Failed>
+        requires due { bound self.old ≡ true → (v : View) × (place : SpecPlace) × knows self.old v × IsDue v place FirmNames }
         ensures mounted { mount_path self.new ≡ mount_path self.old }
+        ensures duty { bound self.new ≡ bound self.old }
+        ensures listed { KeepsLabels (bound self.old) (labels self.old) (labels self.new) }
         ensures turned { (v : View) (place : SpecPlace) → knows self.old v → IsDue v place FirmNames
             → (u : View) × (went : Went) × knows self.new u × Answers result went × Called place went v u }
         ensures cause { HasCause (faults self.old) (faults self.new) result };
@@ -135,11 +181,16 @@ pub trait Turns<R> {
         bench: &mut Self::Bench,
         file: &Name,
         to: &Name,
+        about: &Note<Option<Adoption>>,
     ) -> Result<(), Failed>
-        requires { IsFirmFile (Self.Bench.contents bench.old) (Self.Bench.firm_to bench.old file.now) file.now }
+        requires firm { IsFirmFile (Self.Bench.contents bench.old) (Self.Bench.firm_to bench.old file.now) file.now }
+        requires due { bound self.old ≡ true → (v : View) × (txn : Txn) × (properties : List (List ℕ × List ℕ)) × (next : Revision) × knows self.old v × MayAdopt v txn properties next (bytes_on (Self.Bench.contents bench.old) file.now)
+            × (to.now ≡ rev_name v (length v.seen)) × (about.now.value ≡ Some (adoption txn properties next)) }
         ensures mounted { mount_path self.new ≡ mount_path self.old }
+        ensures duty { bound self.new ≡ bound self.old }
+        ensures listed { KeepsLabels (bound self.old) (labels self.old) (labels self.new) }
         ensures turned { (v : View) (txn : Txn) (properties : List (List ℕ × List ℕ)) (next : Revision) → knows self.old v → MayAdopt v txn properties next (bytes_on (Self.Bench.contents bench.old) file.now)
-            → to.now ≡ rev_name v (length v.seen)
+            → to.now ≡ rev_name v (length v.seen) → (bound self.old ≡ true → about.now.value ≡ Some (adoption txn properties next))
             → (u : View) × (went : Went) × knows self.new u × Answers result went × Adopted txn properties next (bytes_on (Self.Bench.contents bench.old) file.now) went v u }
         ensures gone { OnOk result (Self.Bench.contents bench.new ≡ option_map (removed file.now) (Self.Bench.contents bench.old)) }
         ensures left { OnErr result ((Self.Bench.contents bench.new ≡ Self.Bench.contents bench.old) ⊎ (Self.Bench.contents bench.new ≡ option_map (removed file.now) (Self.Bench.contents bench.old))) }
@@ -148,8 +199,7 @@ pub trait Turns<R> {
 
     /// Fills the buffer from an offset on, as far as the file goes. Of a revision that the pass has seen, from the floor on, it gives the
     /// bytes beside it.
-    /// In the same way it gives the properties of one, the floor, and, as a begin's first call, the number in `txn-current`.
-    /// `None`: there is no such file.
+    /// In the same way it gives the properties of one, and the floor. `None`: there is no such file.
     fn read(
         &mut self,
         rt: &R,
@@ -158,24 +208,42 @@ pub trait Turns<R> {
         buffer: &mut [u8],
     ) -> Result<Option<usize>, Failed>
         ensures mounted { mount_path self.new ≡ mount_path self.old }
-        ensures bound { IfOk result (λ found. IfSome found (λ n. n ≤ length buffer.new)) }
+        ensures duty { bound self.new ≡ bound self.old }
+        ensures listed { KeepsLabels (bound self.old) (labels self.old) (labels self.new) }
+        ensures within { IfOk result (λ found. IfSome found (λ n. n ≤ length buffer.new)) }
         ensures bytes { IfSome (store self.new).files (λ m. IfOk result (IsRead (get m name.now) offset buffer.old buffer.new)) }
         ensures later { Later (store self.old) (store self.new) }
+        // Whatever file it is, what the pass knows then comes of what it knew by reading alone.
+        ensures onward { (v : View) → knows self.old v → (u : View) × knows self.new u × ReadOnly v u }
         ensures turned { (v : View) (r : ℕ) (x : Recorded) → knows self.old v → slice_get v.seen r ≡ Some x → r < 2 ^ 32 → v.pass.floor ≤ r → name.now ≡ rev_name v r
             → (u : View) × (went : Went) × knows self.new u × Answers result went × ReadTurn r offset (length buffer.old) x went v u × IfOk result (IsRead (Some x.bytes) offset buffer.old buffer.new) }
         ensures properties { (v : View) (r : ℕ) (x : Recorded) → knows self.old v → slice_get v.seen r ≡ Some x → r < 2 ^ 32 → name.now ≡ props_name v r
             → (u : View) × (went : Went) × (text : List ℕ) × knows self.new u × Answers result went × PropsRead r x went v u × IsDump text x.revision.properties × IfOk result (IsRead (Some text) offset buffer.old buffer.new) }
         ensures floor { (v : View) → knows self.old v → name.now ≡ only_name MinUnpackedRev
             → (u : View) × (went : Went) × (floor : ℕ) × (text : List ℕ) × knows self.new u × Answers result went × FloorRead floor went v u × IsRevLine text floor × IfOk result (IsRead (Some text) offset buffer.old buffer.new) }
-        ensures counted { (v : View) (base : ℕ) → knows self.old v → v.section ≡ Some Begun → base ≤ v.pass.least → name.now ≡ only_name TxnCurrent → offset ≡ 0
+        ensures cause { HasCause (faults self.old) (faults self.new) result };
+
+    /// A begin's first call: reads `txn-current` from its beginning on, for a transaction on this revision. The number there is drawn.
+    fn draw(&mut self, rt: &R, base: RevNum, buffer: &mut [u8]) -> Result<Option<usize>, Failed>
+        requires due { bound self.old ≡ true → (v : View) × knows self.old v × (v.section ≡ Some Begun) × (base ≤ v.pass.least) }
+        ensures mounted { mount_path self.new ≡ mount_path self.old }
+        ensures duty { bound self.new ≡ bound self.old }
+        ensures listed { KeepsLabels (bound self.old) (labels self.old) (labels self.new) }
+        ensures within { IfOk result (λ found. IfSome found (λ n. n ≤ length buffer.new)) }
+        ensures bytes { IfSome (store self.new).files (λ m. IfOk result (IsRead (get m (only_name TxnCurrent)) 0 buffer.old buffer.new)) }
+        ensures later { Later (store self.old) (store self.new) }
+        ensures drawn { (v : View) → knows self.old v → v.section ≡ Some Begun → base ≤ v.pass.least
             → ReadsCounter (knows self.new) (store self.new).files base result buffer.old buffer.new v }
         ensures cause { HasCause (faults self.old) (faults self.new) result };
 
     /// The length of a file. Of a revision that the pass has seen, from the floor on, it is that of the bytes beside it.
     fn size(&mut self, rt: &R, name: &Name) -> Result<Option<u64>, Failed>
         ensures mounted { mount_path self.new ≡ mount_path self.old }
+        ensures duty { bound self.new ≡ bound self.old }
+        ensures listed { KeepsLabels (bound self.old) (labels self.old) (labels self.new) }
         ensures length { IfSome (store self.new).files (λ m. IfOk result (IsSize (get m name.now))) }
         ensures later { Later (store self.old) (store self.new) }
+        ensures onward { (v : View) → knows self.old v → (u : View) × knows self.new u × ReadOnly v u }
         ensures turned { (v : View) (r : ℕ) (x : Recorded) → knows self.old v → slice_get v.seen r ≡ Some x → r < 2 ^ 32 → v.pass.floor ≤ r → name.now ≡ rev_name v r
             → (u : View) × (went : Went) × knows self.new u × Answers result went × ReadTurn r 0 0 x went v u × IfOk result (IsSize (Some x.bytes)) }
         ensures cause { HasCause (faults self.old) (faults self.new) result };
@@ -183,11 +251,12 @@ pub trait Turns<R> {
     /// The names of the folders of transactions, in the order of their bytes: one for each label of a transaction that is kept.
     fn list(&mut self, rt: &R, alloc: Global) -> Result<Vec<Name>, ListFault>
         ensures mounted { mount_path self.new ≡ mount_path self.old }
+        ensures duty { bound self.new ≡ bound self.old }
         ensures names { IfSome (labels self.new) (λ ls. IfOk result (λ found. IsListing ls found.items)) }
         ensures ok { (v : View) → knows self.old v → OnOk result ((ls : List KeptLabel) × (labels self.new ≡ Some ls) × (u : View) × knows self.new u × Listed ls Fine v u) }
         ensures failed { (v : View) → knows self.old v → IsErrOf result ListFault.Failed → (ls : List KeptLabel) × (labels self.new ≡ Some ls) × (u : View) × knows self.new u × Listed ls Before v u }
         ensures memory { (v : View) → knows self.old v → IsErrOf result ListFault.Memory → knows self.new v }
-        ensures same { labels self.new ≡ labels self.old }
+        ensures same { KeepsLabels (bound self.old) (labels self.old) (labels self.new) }
         ensures later { faults self.old ≤ faults self.new }
         ensures kept { OnOk result (faults self.new ≡ faults self.old) }
         ensures rose { IsErrOf result ListFault.Failed → Rose (faults self.old) (faults self.new) }
@@ -195,12 +264,14 @@ pub trait Turns<R> {
 
     /// A begin's last call: keeps the label of a transaction whose name was given, and makes an empty bench for it.
     fn bench(&mut self, rt: &R, label: &Label) -> Result<Self::Bench, Failed>
+        requires due { bound self.old ≡ true → (v : View) × (x : Drawn) × knows self.old v × MayMake v x × (label_of label.now ≡ TxnLabel x.base x.name) }
         ensures mounted { mount_path self.new ≡ mount_path self.old }
+        ensures duty { bound self.new ≡ bound self.old }
         ensures turned { (v : View) (x : Drawn) → knows self.old v → MayMake v x → label_of label.now ≡ TxnLabel x.base x.name
             → (u : View) × (went : Went) × knows self.new u × Answers result went × BenchMade x went v u }
-        ensures kept { OnOk result (labels self.new ≡ option_map (with_label (label_of label.now)) (labels self.old)) }
-        ensures left { OnErr result ((labels self.new ≡ labels self.old) ⊎ (labels self.new ≡ option_map (with_label (label_of label.now)) (labels self.old))) }
-        ensures empty { IfOk result (λ bench. Self.Bench.contents bench ≡ option_map (λ _. empty) (labels self.old)) }
+        ensures kept { OnOk result (Relabels (bound self.old) (with_label (label_of label.now)) (labels self.old) (labels self.new)) }
+        ensures left { OnErr result (MayRelabel (bound self.old) (with_label (label_of label.now)) (labels self.old) (labels self.new)) }
+        ensures empty { IfOk result (λ bench. Self.Bench.contents bench ≡ option_map (λ _. empty) (labels self.new)) }
         ensures new { IfOk result (λ bench. Self.Bench.faults bench ≡ 0) }
         ensures cause { HasCause (faults self.old) (faults self.new) result };
 
@@ -212,24 +283,31 @@ pub trait Turns<R> {
         label: &Label,
         bench: Option<Self::Bench>,
     ) -> Result<bool, Failed>
+        requires due { bound self.old ≡ true → (v : View) × (name : ℕ) × (base : ℕ) × knows self.old v × (v.section ≡ None) × IsIn name v.given × (label_of label.now ≡ TxnLabel base name) }
         ensures mounted { mount_path self.new ≡ mount_path self.old }
+        ensures duty { bound self.new ≡ bound self.old }
         ensures purged { (v : View) (txn : Txn) (base : ℕ) → knows self.old v → MayPurge v txn → label_of label.now ≡ TxnLabel base txn.name
             → (u : View) × (went : Went) × knows self.new u × Answers result went × Purged txn went v u }
         ensures spent { (v : View) (name base : ℕ) → knows self.old v → v.section ≡ None → IsIn name v.given → label_of label.now ≡ TxnLabel base name
             → (u : View) × (went : Went) × knows self.new u × Answers result went × SpentPurged name went v u }
-        ensures there { IfSome (labels self.old) (λ ls. IfOk result (λ there. there ≡ has_label (label_of label.now) ls)) }
-        ensures dropped { OnOk result (labels self.new ≡ option_map (without_label (label_of label.now)) (labels self.old)) }
-        ensures left { OnErr result ((labels self.new ≡ labels self.old) ⊎ (labels self.new ≡ option_map (without_label (label_of label.now)) (labels self.old))) }
+        ensures dropped { IfOk result (λ there. Drops (bound self.old) (label_of label.now) there (labels self.old) (labels self.new)) }
+        ensures left { OnErr result (MayRelabel (bound self.old) (without_label (label_of label.now)) (labels self.old) (labels self.new)) }
         ensures cause { HasCause (faults self.old) (faults self.new) result };
 
     /// Makes a folder and those above it. It is no step; its fault is one of the call that is due.
     fn make_folder(&mut self, rt: &R, name: &Name) -> Result<(), Failed>
+        requires due { bound self.old ≡ true → (v : View) × knows self.old v × NeedsFolder v }
         ensures mounted { mount_path self.new ≡ mount_path self.old }
+        ensures duty { bound self.new ≡ bound self.old }
+        ensures listed { KeepsLabels (bound self.old) (labels self.old) (labels self.new) }
         ensures done { (v : View) → knows self.old v → OnOk result (knows self.new v) }
         ensures failed { (v : View) (place : SpecPlace) (file bytes : List ℕ) → knows self.old v → IsDue v place (Put file bytes) → OnErr result ((u : View) × knows self.new u × Called place Before v u) }
         ensures failed_first { (v : View) (txn : Txn) (properties : List (List ℕ × List ℕ)) (next : Revision) (bytes : List ℕ) → knows self.old v → MayAdopt v txn properties next bytes
             → OnErr result ((u : View) × knows self.new u × Adopted txn properties next bytes Before v u) }
         ensures cause { HasCause (faults self.old) (faults self.new) result };
+
+    /// Where other passes rest on it, one view is known.
+    ghost sole: { (turns : Self) (v u : View) → bound turns ≡ true → knows turns v → knows turns u → u ≡ v };
 
     /// What the pass has seen can be read, where something is known.
     ghost tells: { (turns : Self) (v : View) → knows turns v → TellsSeen (store turns) v };
@@ -243,11 +321,17 @@ pub trait Turns<R> {
 
 /// The turns of a pass that is alone: nobody else steps, so between its own turns nothing changes, and reading tells it nothing new.
 pub trait LoneTurns<R>: Turns<R> {
+    /// Nobody else rests on what it does.
+    ghost free: { (turns : Self) → Self.bound turns ≡ false };
+
     /// What it knows is of what no reading changes.
     ghost still: { (old new : Self) (v : View) → (Self.store new).below ≡ (Self.store old).below → Self.knows old v → Self.knows new v };
 
     /// So are the files.
     ghost same_files: { (old new : Self) → (Self.store new).below ≡ (Self.store old).below → (Self.store new).files ≡ (Self.store old).files };
+
+    /// And the labels that are kept.
+    ghost same_labels: { (old new : Self) → (Self.store new).below ≡ (Self.store old).below → Self.labels new ≡ Self.labels old };
 
     /// And the path of its disk.
     ghost same_path: { (old new : Self) → (Self.store new).below ≡ (Self.store old).below → Self.mount_path new ≡ Self.mount_path old };

@@ -1,8 +1,9 @@
 -- What a book over turns tells.
-use Rattle.std.specs.Prelude.{◌≡◌, ◌<◌, ℕ, List, length, Some, Ok, slice_get}
+use Rattle.std.specs.Prelude.{◌≡◌, ◌<◌, ◌≤◌, ℕ, List, length, Some, Ok, slice_get}
 use Rattle.fsfs_hash.specs.Dump.{IsDump}
 use Rattle.fsfs_book.specs.Told.{Telling}
 use Rattle.fsfs_machine.specs.declared.machine.Recorded.{Recorded}
+use Rattle.fsfs_fetch.specs.Views.{View as StoreView, Grows}
 use Rattle.fsfs_turn.specs.Bytes.{bytes_of}
 use Rattle.fsfs_turn.specs.Views.{View}
 
@@ -14,3 +15,12 @@ TellsProps told r x = (text : List ℕ) × (told.props r ≡ Some (Ok text)) × 
 pub record TellsRevisions (v : View) {Below : Type 0} (told : Telling Below) : Type 0 where
   pub revs : (r : ℕ) → r < length v.seen → told.revs r ≡ Some (bytes_of v.seen r)
   pub props : (r : ℕ) (x : Recorded) → slice_get v.seen r ≡ Some x → TellsProps told r x
+
+-- of those up to this one
+pub record TellsUpTo (last : ℕ) (v : View) {Below : Type 0} (told : Telling Below) : Type 0 where
+  pub revs : (r : ℕ) → r ≤ last → r < length v.seen → told.revs r ≡ Some (bytes_of v.seen r)
+  pub props : (r : ℕ) (x : Recorded) → r ≤ last → slice_get v.seen r ≡ Some x → TellsProps told r x
+
+-- a store as it is read up to this revision, with the turns as they were first below it
+abbrev pub up_to : {First Below : Type 0} → ℕ → First → StoreView Below → StoreView (First × Below)
+up_to last first s = record { layout = s.layout; reach = Grows last; files = s.files; below = (first, s.below) }

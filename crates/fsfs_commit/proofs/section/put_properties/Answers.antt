@@ -1,10 +1,28 @@
-use Rattle.std.proofs.Common.{Ok, Err, refl}
+use Rattle.std.proofs.Common.{Ok, Err, inl, refl, sym, ◌∙◌}
 use Rattle.fsfs_places.specs.declared.place.DiskPlace.TheVariants.{Commit}
 use Rattle.fsfs_places.specs.declared.place.CommitPlace.TheVariants as place
 use Rattle.fsfs_machine.specs.declared.machine.Section.TheVariants as section
 use Rattle.fsfs_machine.specs.declared.machine.Went.TheVariants.{Before}
 use Rattle.fsfs_commit.proofs.Going.{goes_done, goes_failed, props_due, cause_on}
 use Rattle.fsfs_commit.proofs.section.put_properties.Goals as goal
+
+-- ---- the calls are due
+
+pub make_folder_at-requires : goal.make_folder_at-requires
+make_folder_at-requires g c = record {
+  due = λ bound.
+      let w = c.requires.due bound in
+      (w.0, w.2, inl (Commit place.PutProps, c.args.made.now.props_file, c.args.made.now.properties.items, props_due w.0 w.1 c.args.made.now.rev c.args.made.now.rev_file c.args.made.now.props_file c.args.made.now.properties.items c.args.made.now.current.items c.args.made.now.properties.items refl w.3 w.4));
+}
+
+pub put-requires : goal.put-requires
+put-requires g c = record {
+  due = λ bound.
+      let w = c.requires.due (sym c.in-Ok.ensures.duty ∙ bound) in
+      (w.0, Commit place.PutProps, c.in-Ok.ensures.done w.0 w.2, props_due w.0 w.1 c.args.made.now.rev c.args.made.now.rev_file c.args.made.now.props_file c.args.made.now.properties.items c.args.made.now.current.items c.deref.result.now c.deref.ensures.value w.3 w.4);
+}
+
+-- ---- what they come to
 
 pub returns-in-Err-clause-turned : goal.returns-in-Err-clause-turned
 returns-in-Err-clause-turned g c = λ v x known at made.
@@ -26,3 +44,9 @@ returns-in-Ok-put-clause-cause g c = cause_on (Ok tt) c.in-Ok.ensures.cause c.in
 
 pub returns-in-Err-put-clause-cause : goal.returns-in-Err-put-clause-cause
 returns-in-Err-put-clause-cause g c = cause_on (Err place.PutProps) c.in-Ok.ensures.cause c.in-Err-put.ensures.cause.later tt c.in-Err-put.ensures.cause.failed
+
+pub returns-in-Ok-put-clause-listed : goal.returns-in-Ok-put-clause-listed
+returns-in-Ok-put-clause-listed g c = λ free. c.in-Ok-put.ensures.listed (c.in-Ok.ensures.duty ∙ free) ∙ c.in-Ok.ensures.listed free
+
+pub returns-in-Err-put-clause-listed : goal.returns-in-Err-put-clause-listed
+returns-in-Err-put-clause-listed g c = λ free. c.in-Err-put.ensures.listed (c.in-Ok.ensures.duty ∙ free) ∙ c.in-Ok.ensures.listed free

@@ -1,8 +1,31 @@
-use Rattle.std.proofs.Common.{Err}
+use Rattle.std.proofs.Common.{Err, sym, ◌∙◌}
 use Rattle.fsfs_machine.specs.declared.machine.Section.TheVariants as section
 use Rattle.fsfs_turn.specs.Views.{coming_of}
 use Rattle.fsfs_commit.proofs.Going.{goes_on, goes_no_further, section_on, made_on, made_next}
 use Rattle.fsfs_commit.proofs.section.write_revision.Goals as goal
+
+-- ---- the calls are due
+
+pub put_properties-requires : goal.put_properties-requires
+put_properties-requires g c = record {
+  due = λ bound.
+      let w = c.requires.due (sym c.in-Ok.ensures.duty ∙ bound) in
+      let x = coming_of w.view w.txn (g.D.Draft.properties c.args.draft.now) w.next w.bytes in
+      let a = c.in-Ok.ensures.turned w.view w.txn w.next w.bytes w.known w.held w.may w.made in
+      (a.done.0, x, a.done.1, section_on (section.RevPut x) w.view a.done.0 a.done.2, made_on (section.RevPut x) w.view a.done.0 w.next.properties c.args.made.now.rev c.args.made.now.rev_file c.args.made.now.props_file c.args.made.now.properties.items c.args.made.now.current.items a.done.2 (made_next w.view (g.D.Draft.properties c.args.draft.now) w.next.properties c.args.made.now.rev c.args.made.now.rev_file c.args.made.now.props_file c.args.made.now.properties.items c.args.made.now.current.items w.may.next_is.properties w.made));
+}
+
+pub firm_revision-requires : goal.firm_revision-requires
+firm_revision-requires g c = record {
+  due = λ bound.
+      let w = c.requires.due (sym c.in-Ok.ensures.duty ∙ sym c.in-Ok-put_properties.ensures.duty ∙ bound) in
+      let x = coming_of w.view w.txn (g.D.Draft.properties c.args.draft.now) w.next w.bytes in
+      let a = c.in-Ok.ensures.turned w.view w.txn w.next w.bytes w.known w.held w.may w.made in
+      let b = c.in-Ok-put_properties.ensures.turned a.done.0 x a.done.1 (section_on (section.RevPut x) w.view a.done.0 a.done.2) (made_on (section.RevPut x) w.view a.done.0 w.next.properties c.args.made.now.rev c.args.made.now.rev_file c.args.made.now.props_file c.args.made.now.properties.items c.args.made.now.current.items a.done.2 (made_next w.view (g.D.Draft.properties c.args.draft.now) w.next.properties c.args.made.now.rev c.args.made.now.rev_file c.args.made.now.props_file c.args.made.now.properties.items c.args.made.now.current.items w.may.next_is.properties w.made)) in
+      (b.done.0, x, b.done.1, section_on (section.PropsPut x) a.done.0 b.done.0 b.done.2);
+}
+
+-- ---- what they come to
 
 pub returns-in-Err-clause-turned : goal.returns-in-Err-clause-turned
 returns-in-Err-clause-turned g c = λ v txn next bytes known held may made.
@@ -23,3 +46,9 @@ returns-clause-turned g c = λ v txn next bytes known held may made.
     (λ m km r. goes_on _ _ c.firm_revision.result x (section.PropsPut x) (section.RevFirm x) m
     (c.in-Ok-put_properties.ensures.turned m x km (section_on (section.RevPut x) v m r) (made_on (section.RevPut x) v m next.properties c.args.made.now.rev c.args.made.now.rev_file c.args.made.now.props_file c.args.made.now.properties.items c.args.made.now.current.items r (made_next v (g.D.Draft.properties c.args.draft.now) next.properties c.args.made.now.rev c.args.made.now.rev_file c.args.made.now.props_file c.args.made.now.properties.items c.args.made.now.current.items may.next_is.properties made)))
     (λ n kn q. c.firm_revision.ensures.turned n x kn (section_on (section.PropsPut x) m n q)))
+
+pub returns-in-Err-put_properties-clause-listed : goal.returns-in-Err-put_properties-clause-listed
+returns-in-Err-put_properties-clause-listed g c = λ free. c.in-Err-put_properties.ensures.listed (c.in-Ok.ensures.duty ∙ free) ∙ c.in-Ok.ensures.listed free
+
+pub returns-clause-listed : goal.returns-clause-listed
+returns-clause-listed g c = λ free. c.firm_revision.ensures.listed (c.in-Ok-put_properties.ensures.duty ∙ c.in-Ok.ensures.duty ∙ free) ∙ c.in-Ok-put_properties.ensures.listed (c.in-Ok.ensures.duty ∙ free) ∙ c.in-Ok.ensures.listed free

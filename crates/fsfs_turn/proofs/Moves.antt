@@ -1,0 +1,90 @@
+-- What a step comes to: the state after it, of which its pass knows more, and in which the others find what they knew.
+use Rattle.std.proofs.Common.{◌≡◌, ◌==◌, ℕ, length, true, false, cond, ⊎_elim, refl, sym, ap, ◌∙◌, arith}
+use Rattle.std.specs.Prelude.{Option, Some, None, slice_get}
+use Rattle.fsfs_layout.specs.declared.layout.Layout.{Layout}
+use Rattle.fsfs_disk.specs.Trace.{Trace}
+use Rattle.fsfs_places.specs.declared.place.DiskPlace.{DiskPlace}
+use Rattle.fsfs_machine.specs.declared.machine.Section.{Section}
+use Rattle.fsfs_machine.specs.declared.machine.Lock.{Lock}
+use Rattle.fsfs_machine.specs.declared.machine.Lock.TheVariants.{Held}
+use Rattle.fsfs_machine.specs.Machine.{World, held_by, stuck_place}
+use Rattle.fsfs_machine.specs.Kept.{IsIn}
+use Rattle.fsfs_turn.specs.Views.{View, Sees, Begins}
+use Rattle.fsfs_turn.specs.Past.{doubt, Safe}
+use Rattle.fsfs_turn.specs.Standing.{IsStore, Knows}
+use Rattle.fsfs_turn.proofs.Moments.{itself}
+use Rattle.fsfs_turn.proofs.TurnEnds.{StaysWith, Leaves, IsAfter}
+
+-- How a step of pass p may change the state, as the other passes see it: they are as they were, nobody else takes or loses the lock, the
+-- history may have more revisions, and no floor moves and no name is forgotten.
+pub record Spares (p : ℕ) (w after : World) : Type 0 where
+  pub passes : (q : ℕ) → (q ≡ p → ⊥) → slice_get after.passes q ≡ slice_get w.passes q
+  pub count : length after.passes ≡ length w.passes
+  pub grows : Begins after.history w.history
+  pub locks : (q : ℕ) → (q ≡ p → ⊥) → held_by q after.lock ≡ held_by q w.lock
+  -- while another holds the lock no revision comes
+  pub still : (q : ℕ) (s : Section) → (q ≡ p → ⊥) → held_by q w.lock ≡ Some s → (after.young ≡ w.young) × (after.history ≡ w.history)
+  pub floor : after.floor ≡ w.floor
+  pub given : (k : ℕ) → IsIn k w.given → IsIn k after.given
+
+-- The state after a step by which the pass that knew v knows u, and the lock is this: the store with this trace is in it.
+pub record Moved (layout : Layout) (young : ℕ) (t : Trace) (w : World) (v u : View) (lock : Lock) : Type 0 where
+  pub world : World
+  pub store : IsStore layout young (stuck_place lock) t world
+  pub lock_is : world.lock ≡ lock
+  pub sees : Sees world u
+  pub safe : Safe layout u.since t u.opened world.floor world.history (doubt world.lock)
+  pub spares : Spares v.number w world
+  pub layout_is : u.layout ≡ v.layout
+  pub since_is : u.since ≡ v.since
+  pub opened_is : u.opened ≡ v.opened
+  pub number_is : u.number ≡ v.number
+
+-- who doesn't hold the lock has no section
+pub held_other : (p q : ℕ) (s : Section) → (q ≡ p → ⊥) → held_by q (Held p s) ≡ None
+held_other p q s apart = elim (p == q) as (λ b. (p == q) ≡ b → cond b (Some s) None ≡ None) [
+  | true ↦ λ t. absurd (apart (let same : q ≡ p = grind (arith, t) in same))
+  | false ↦ λ t. refl
+] refl
+
+-- ---- a call of the disk
+
+locks_stay : (p q : ℕ) (before after : Lock) → StaysWith p before after → (q ≡ p → ⊥) → held_by q after ≡ held_by q before
+locks_stay p q before after stays apart = ⊎_elim
+    (λ (same : after ≡ before). ap (λ l. held_by q l) same)
+    (λ (both : (s : Section) × (t : Section) × (before ≡ Held p s) × (after ≡ Held p t)).
+    (ap (λ l. held_by q l) both.3 ∙ held_other p q both.1 apart) ∙ sym (ap (λ l. held_by q l) both.2 ∙ held_other p q both.0 apart)) stays
+
+call_spares : (p : ℕ) (w after : World) → Leaves p w after → Spares p w after
+call_spares p w after l = record {
+  passes = l.passes;
+  count = l.count;
+  grows = ((itself w.history).0, l.history ∙ (itself w.history).1);
+  locks = λ q apart. locks_stay p q w.lock after.lock l.lock apart;
+  still = λ q s apart held. (l.young, l.history);
+  floor = l.floor;
+  given = l.given;
+}
+
+pub call_moved : (layout : Layout) (young : ℕ) (stuck : Option DiskPlace) (t : Trace) (w : World) (v : View) (P : View → Type 0) (a : IsAfter layout young stuck t w v P) → Moved layout young t w v a.view a.world.lock
+call_moved layout young stuck t w v P a = record {
+  world = a.world;
+  store = record { trace = a.store.trace; whole = a.store.whole; kept = a.store.kept; shown = a.store.shown; coming = a.store.coming; young_is = a.store.young_is; stuck_is = refl };
+  lock_is = refl;
+  sees = a.sees;
+  safe = a.safe;
+  spares = call_spares v.number w a.world a.leaves;
+  layout_is = a.layout_is;
+  since_is = a.since_is;
+  opened_is = a.opened_is;
+  number_is = a.number_is;
+}
+
+-- ---- one pass
+
+-- where there is one pass, that is what it knows
+pub known_moved : (layout : Layout) (young : ℕ) (stuck : Option DiskPlace) (t : Trace) (w : World) (v u : View) (lock : Lock) → v.layout ≡ layout → v.number ≡ 0 → length w.passes ≡ 1 → stuck_place lock ≡ stuck
+    → Moved layout young t w v u lock → Knows layout young stuck (Some t) u
+known_moved layout young stuck t w v u lock layout_is number_is alone stuck_is m =
+    let s = m.store in
+    (m.world, record { trace = s.trace; whole = s.whole; kept = s.kept; shown = s.shown; coming = s.coming; young_is = s.young_is; stuck_is = s.stuck_is ∙ stuck_is }, m.sees, m.layout_is ∙ layout_is, m.number_is ∙ number_is, m.safe, m.spares.count ∙ alone)
