@@ -7,7 +7,7 @@ use fsfs_memdisk::{MemBench, MemDisk};
 use fsfs_opened_store::{OpenedStore, Unopened, open_store};
 use fsfs_places::DiskPlace;
 use fsfs_turn::Owned;
-use fsfs_turn_begin::{BeginFault, begin};
+use fsfs_turn_begin::{BeginFault, Numbers, begin};
 use fsfs_turn_purge::{PurgeFault, purge};
 use std::alloc::Global;
 
@@ -61,7 +61,7 @@ fn begin_and_purge(
     out: &mut Transcript,
 ) -> MemDisk {
     let rt = ();
-    let (back, begun) = begin(alloc, &rt, store, base);
+    let (back, begun) = begin(alloc, &rt, store, base, Numbers::Any);
     let mut store = back;
     match begun {
         Ok(begun) => purge_begun(alloc, &mut store, begun, out),

@@ -14,7 +14,7 @@ use fsfs_fields::RevNum;
 use fsfs_memdisk::{MemBench, MemDisk};
 use fsfs_repo::open;
 use fsfs_turn::Owned;
-use fsfs_turn_begin::begin;
+use fsfs_turn_begin::{Numbers, begin};
 use fsfs_turn_book::{over_turns, turns_of};
 use fsfs_txn::Txn;
 use std::alloc::Global;
@@ -90,7 +90,7 @@ fn race_from(
     out: &mut Transcript,
 ) -> MemDisk {
     let rt = ();
-    let (store, begun) = begin(alloc, &rt, store, base);
+    let (store, begun) = begin(alloc, &rt, store, base, Numbers::Any);
     let Ok(begun) = begun else {
         out.say("? not begun");
         return store.into_disk();

@@ -1,11 +1,12 @@
 // Turns of a test: others commit before the lock is taken.
-ghost use Rattle.std.specs.Prelude.{◌≡◌, ◌⊎◌, ℕ, codes, refl, None, OnOk, OnErr, IfOk, IfSome, option_map};
+ghost use Rattle.std.specs.Prelude.{◌≡◌, ℕ, codes, refl, false, None, OnErr, IfOk};
 ghost use Rattle.fsfs_base.specs.Failures.{HasCause};
-ghost use Rattle.fsfs_disk.specs.Labels.{Txn as TxnLabel, label_of, has_label, without_label};
+ghost use Rattle.fsfs_disk.specs.Labels.{Txn as TxnLabel, label_of, without_label};
 ghost use Rattle.fsfs_machine.specs.declared.machine.Txn.{Txn};
 ghost use Rattle.fsfs_machine.specs.declared.machine.Went.{Went};
 ghost use Rattle.fsfs_machine.specs.Kept.{IsIn};
 ghost use Rattle.fsfs_turn.specs.Views.{View, Answers};
+ghost use Rattle.fsfs_turn.specs.Labels.{MayRelabel, Drops};
 ghost use Rattle.fsfs_turn.specs.Learning.{MayPurge, Purged, SpentPurged};
 
 use fsfs_base::{Failed, Name};
@@ -13,12 +14,13 @@ use fsfs_disk::{Disk, Label, ListFault};
 use fsfs_fields::RevNum;
 use fsfs_layout::Layout;
 use fsfs_memdisk::MemDisk;
+use fsfs_note::Note;
 use fsfs_places::DiskPlace;
-use fsfs_turn::{LoneTurns, Owned, Turns};
+use fsfs_turn::{Adoption, LoneTurns, Owned, Turns};
 use std::alloc::Global;
 
 /// A store on whose disk some revisions stand that are not revealed yet. Each time that the lock is to be taken the next of them is, as
-/// if another had committed it. It tells nothing.
+/// if another had committed it. It tells its youngest revision and its labels alone.
 #[derive(Drop)]
 pub struct Rivals {
     inner: Owned<MemDisk>,
@@ -49,17 +51,19 @@ impl Rivals {
 
 impl Turns<()> for Rivals {
     ghost use Rattle.std.specs.Prelude.{ℕ, List, Option};
-    ghost use Rattle.fsfs_fetch.specs.Views.{Grows};
+    ghost use Rattle.fsfs_disk.specs.Labels.{Label as KeptLabel};
 
     type Bench = <MemDisk as Disk>::Bench;
 
     ghost knows = { λ s v. ⊥ };
 
+    ghost bound = { λ s. false };
+
     ghost in_use = { λ s name. ⟦<Owned<MemDisk> as Turns<()>>⟧.in_use s.inner name };
 
-    ghost Lasting = { Unit {0} };
+    ghost Lasting = { Option (List KeptLabel) };
 
-    ghost store = { λ s. record { layout = s.inner.layout; reach = Grows 0; files = None; below = tt } };
+    ghost store = { λ s. record { layout = s.inner.layout; reach = (⟦<Owned<MemDisk> as Turns<()>>⟧.store s.inner).reach; files = None; below = ⟦<Owned<MemDisk> as Turns<()>>⟧.labels s.inner } };
 
     ghost labels = { λ s. ⟦<Owned<MemDisk> as Turns<()>>⟧.labels s.inner };
 
@@ -98,8 +102,14 @@ impl Turns<()> for Rivals {
         self.inner.reveal(rt, rev);
     }
 
-    fn adopt(&mut self, rt: &(), name: &Name, bytes: &[u8]) -> Result<(), Failed> {
-        self.inner.adopt(rt, name, bytes)
+    fn adopt(
+        &mut self,
+        rt: &(),
+        name: &Name,
+        bytes: &[u8],
+        about: &Note<Option<Adoption>>,
+    ) -> Result<(), Failed> {
+        self.inner.adopt(rt, name, bytes, about)
     }
 
     fn put(&mut self, rt: &(), name: &Name, bytes: &[u8]) -> Result<(), Failed> {
@@ -120,8 +130,9 @@ impl Turns<()> for Rivals {
         bench: &mut <MemDisk as Disk>::Bench,
         file: &Name,
         to: &Name,
+        about: &Note<Option<Adoption>>,
     ) -> Result<(), Failed> {
-        self.inner.adopt_file(rt, bench, file, to)
+        self.inner.adopt_file(rt, bench, file, to, about)
     }
 
     fn read(
@@ -132,6 +143,10 @@ impl Turns<()> for Rivals {
         buffer: &mut [u8],
     ) -> Result<Option<usize>, Failed> {
         self.inner.read(rt, name, offset, buffer)
+    }
+
+    fn draw(&mut self, rt: &(), base: RevNum, buffer: &mut [u8]) -> Result<Option<usize>, Failed> {
+        self.inner.draw(rt, base, buffer)
     }
 
     fn size(&mut self, rt: &(), name: &Name) -> Result<Option<u64>, Failed> {
@@ -157,9 +172,9 @@ impl Turns<()> for Rivals {
         ensures spent { (v : View) (name base : ℕ) → ⊥ → v.section ≡ None → IsIn name v.given → label_of label.now ≡ TxnLabel base name
             → (u : View) × (went : Went) × ⊥ × Answers result went × SpentPurged name went v u }
         ensures mounted { codes "" ≡ codes "" }
-        ensures there { IfSome (⟦<Owned<MemDisk> as Turns<()>>⟧.labels self.old.inner) (λ ls. IfOk result (λ there. there ≡ has_label (label_of label.now) ls)) }
-        ensures dropped { OnOk result (⟦<Owned<MemDisk> as Turns<()>>⟧.labels self.new.inner ≡ option_map (without_label (label_of label.now)) (⟦<Owned<MemDisk> as Turns<()>>⟧.labels self.old.inner)) }
-        ensures left { OnErr result ((⟦<Owned<MemDisk> as Turns<()>>⟧.labels self.new.inner ≡ ⟦<Owned<MemDisk> as Turns<()>>⟧.labels self.old.inner) ⊎ (⟦<Owned<MemDisk> as Turns<()>>⟧.labels self.new.inner ≡ option_map (without_label (label_of label.now)) (⟦<Owned<MemDisk> as Turns<()>>⟧.labels self.old.inner))) }
+        ensures duty { false ≡ false }
+        ensures dropped { IfOk result (λ there. Drops false (label_of label.now) there (⟦<Owned<MemDisk> as Turns<()>>⟧.labels self.old.inner) (⟦<Owned<MemDisk> as Turns<()>>⟧.labels self.new.inner)) }
+        ensures left { OnErr result (MayRelabel false (without_label (label_of label.now)) (⟦<Owned<MemDisk> as Turns<()>>⟧.labels self.old.inner) (⟦<Owned<MemDisk> as Turns<()>>⟧.labels self.new.inner)) }
         ensures cause { HasCause (⟦<Owned<MemDisk> as Turns<()>>⟧.faults self.old.inner) (⟦<Owned<MemDisk> as Turns<()>>⟧.faults self.new.inner) result }
     {
         self.inner.drop_bench(rt, label, bench)
@@ -169,6 +184,8 @@ impl Turns<()> for Rivals {
         self.inner.make_folder(rt, name)
     }
 
+    ghost sole = { λ s v u bound known other. absurd known };
+
     ghost tells = { λ s v known. absurd known };
 
     ghost benches_tell = { λ s v bench known. absurd known };
@@ -177,9 +194,13 @@ impl Turns<()> for Rivals {
 }
 
 impl LoneTurns<()> for Rivals {
+    ghost free = { λ s. refl };
+
     ghost still = { λ a b v same known. absurd known };
 
     ghost same_files = { λ a b same i. None };
+
+    ghost same_labels = { λ a b same. same };
 
     ghost same_path = { λ a b same. refl };
 }

@@ -28,13 +28,13 @@ module _ (seen : List Recorded) (rev : ℕ) (long : rev ≤ length seen) (fits :
   part_long : length (take rev seen) ≡ x.base + 1
   part_long = length-take-le rev seen long ∙ sym next_to
 
-  pub marshalled : (number : ℕ) (Holds : List ℕ → Type 0) (Numbered Written : Type 0) → Holds (settled.proto ++ made.behind) → Numbered → Written
-      → (bytes : List ℕ) × Holds bytes × (then : Revision) × IsNext (revisions (take rev seen)) (entry_of number x properties) then × BytesShow (take rev seen ++ record { revision = then; bytes = bytes } ∷ []) × Numbered × Written
-  marshalled number Holds Numbered Written holds numbered written = (
+  pub marshalled : (Holds : List ℕ → Type 0) (Numbered Written : Type 0) → Holds (settled.proto ++ made.behind) → Numbered → Written
+      → (bytes : List ℕ) × (then : Revision) × Holds bytes × ((number : ℕ) → IsNext (revisions (take rev seen)) (entry_of number x properties) then) × BytesShow (take rev seen ++ record { revision = then; bytes = bytes } ∷ []) × Numbered × Written
+  marshalled Holds Numbered Written holds numbered written = (
     settled.proto ++ made.behind,
-    holds,
     next (take rev seen) name x.base settled x here shown part_long settled.items made.behind properties dated made.final,
-    is_next (take rev seen) name x.base settled x here shown part_long settled.items made.behind properties dated made.final number (omega (arith, next_to, fits)),
+    holds,
+    λ number. is_next (take rev seen) name x.base settled x here shown part_long settled.items made.behind properties dated made.final number (omega (arith, next_to, fits)),
     next_shown (take rev seen) name x.base settled x here shown part_long settled.items made.behind properties dated made.final,
     numbered,
     written,
@@ -44,8 +44,8 @@ module _ (seen : List Recorded) (rev : ℕ) (long : rev ≤ length seen) (fits :
 pub stage_marshalled : {B : Type 0} {D : _} (contents : B → Option Files) → ((bench : B) → IsSome (contents bench)) → (s : Stage B D) (seen : List Recorded) (rev : ℕ) → rev ≤ length seen → rev ≤ last_rev → (x : Txn) (properties : List (List ℕ × List ℕ))
     → IsDated properties → x.base + 1 ≡ rev → BytesShow (take rev seen)
     → OfStage s (λ o. IsTxnOf (take rev seen) o.txn.own.txn o.txn.base (settled_in contents o) x × IsTextBehind (take rev seen) (settled_in contents o) x (option_map (λ t. t.items) o.text)) (λ e. ⊥)
-    → (number : ℕ) (Numbered Written : Type 0) → Numbered → Written
-    → (bytes : List ℕ) × OfStage s (λ o. behind contents bytes o) (λ e. bytes ≡ bytes_on (contents e.bench) e.file) × (then : Revision) × IsNext (revisions (take rev seen)) (entry_of number x properties) then × BytesShow (take rev seen ++ record { revision = then; bytes = bytes } ∷ []) × Numbered × Written
-stage_marshalled contents tells (Open o) seen rev long fits x properties dated next_to shown w number Numbered Written numbered written =
-    marshalled seen rev long fits x properties dated next_to shown o.txn.own.txn o.txn.base (settled_in contents o) w.0 (option_map (λ t. t.items) o.text) w.1 number (λ bytes. behind contents bytes o) Numbered Written (w.1.behind, tells o.txn.own.bench, w.1.text_is, refl) numbered written
-stage_marshalled contents tells (Ended e) seen rev long fits x properties dated next_to shown w number Numbered Written numbered written = absurd w
+    → (Numbered Written : Type 0) → Numbered → Written
+    → (bytes : List ℕ) × (then : Revision) × OfStage s (λ o. behind contents bytes o) (λ e. bytes ≡ bytes_on (contents e.bench) e.file) × ((number : ℕ) → IsNext (revisions (take rev seen)) (entry_of number x properties) then) × BytesShow (take rev seen ++ record { revision = then; bytes = bytes } ∷ []) × Numbered × Written
+stage_marshalled contents tells (Open o) seen rev long fits x properties dated next_to shown w Numbered Written numbered written =
+    marshalled seen rev long fits x properties dated next_to shown o.txn.own.txn o.txn.base (settled_in contents o) w.0 (option_map (λ t. t.items) o.text) w.1 (λ bytes. behind contents bytes o) Numbered Written (w.1.behind, tells o.txn.own.bench, w.1.text_is, refl) numbered written
+stage_marshalled contents tells (Ended e) seen rev long fits x properties dated next_to shown w Numbered Written numbered written = absurd w

@@ -28,15 +28,15 @@ use Rattle.fsfs_machine.specs.Machine.{revisions, either}
 use Rattle.fsfs_turn.specs.Bytes.{bytes_of, AllShow}
 use Rattle.fsfs_turn.specs.Views.{View, Begins, Turned}
 use Rattle.fsfs_turn.specs.Learning.{PropsRead}
+use Rattle.fsfs_turn.specs.Courses.{End, More, ReadOnly}
 use Rattle.fsfs_turn.proofs.Longer.{tree_first}
 use Rattle.fsfs_changes.specs.declared.item.ChangeItem.{ChangeItem}
 use Rattle.fsfs_limits.specs.declared.limit.PathLimit.{PathLimit}
 use Rattle.fsfs_final_bytes.specs.Texts.{IsRefused, HasPathPast}
 use Rattle.fsfs_final_bytes.specs.declared.error.FinalError.{FinalError}
 use Rattle.fsfs_final_bytes.specs.declared.error.FinalError.TheVariants as finals
-use Rattle.fsfs_commit.specs.Courses.{End, More}
-use Rattle.fsfs_commit.specs.Works.{LandedOn, ReadOnly}
-use Rattle.fsfs_commit.proofs.Doubts.{read_doubtless}
+use Rattle.fsfs_commit.specs.Works.{LandedOn}
+use Rattle.fsfs_turn.proofs.Doubts.{read_doubtless}
 use Rattle.fsfs_draft.specs.Meaning.{IsTxnOf}
 use Rattle.fsfs_draft.specs.declared.refusal.CommitRefusal.{CommitRefusal}
 use Rattle.fsfs_draft.specs.Findings.{Finds}
@@ -45,9 +45,6 @@ use Rattle.fsfs_draft.specs.SeenLemmas.{bytes_same, shown_trees}
 use Rattle.fsfs_draft.proofs.Landing.{first_part, part_long, part_last, landed, landed_means, landed_on}
 
 -- ---- what only reading tells
-
-pub reads_nothing : (v : View) → AllShow v.seen → ReadOnly v v
-reads_nothing v shown = record { is = refl; grows = ([], sym (append-nil v.seen)); doubtless = λ few. few; shown = shown; within = λ sure le. le; course = End v }
 
 pub reads_once : (r : ℕ) (x : Recorded) (went : Went) (v u : View) → PropsRead r x went v u → ReadOnly v u
 reads_once r x went v u t = record {
@@ -77,7 +74,7 @@ whole_part n h le = begins_part n h h ([], sym (append-nil h)) le
 
 -- ---- the merge
 
-module _ (v : View) (head : ℕ) (less : head < length v.seen) (name : TxnName) (base : ℕ) (settled after : Folder) (x : Txn) (low : base < head) (is : IsTxnOf (take (head + 1) v.seen) name base settled x) (shown : AllShow v.seen) (told : Told) (tells : (r : ℕ) → r < length v.seen → told r ≡ Some (bytes_of v.seen r)) where
+module _ (v : View) (head : ℕ) (less : head < length v.seen) (name : TxnName) (base : ℕ) (settled after : Folder) (x : Txn) (low : base < head) (is : IsTxnOf (take (head + 1) v.seen) name base settled x) (shown : AllShow v.seen) (told : Told) (tells : (r : ℕ) → r ≤ head → r < length v.seen → told r ≡ Some (bytes_of v.seen r)) where
   abbrev part : List Recorded
   part = take (head + 1) v.seen
 
@@ -85,7 +82,7 @@ module _ (v : View) (head : ℕ) (less : head < length v.seen) (name : TxnName) 
   same_tree r le = tree_first part v.seen r (first_part (head + 1) v.seen) (omega (arith, le, part_long head v.seen less))
 
   knows : Knows told head (bytes_of part)
-  knows r le = tells r (omega (arith, le, less)) ∙ ap (λ read. Some read) (sym (bytes_same part v.seen r (first_part (head + 1) v.seen) (omega (arith, le, part_long head v.seen less))))
+  knows r le = tells r le (omega (arith, le, less)) ∙ ap (λ read. Some read) (sym (bytes_same part v.seen r (first_part (head + 1) v.seen) (omega (arith, le, part_long head v.seen less))))
 
   shows : ShowTrees (bytes_of part) head (tree_of (revisions part))
   shows = subst (λ top. ShowTrees (bytes_of part) top (tree_of (revisions part))) (part_last head v.seen less) (shown_trees part (omega (arith, part_long head v.seen less)) (shown (head + 1) (omega arith)))

@@ -27,10 +27,13 @@ use Rattle.fsfs_machine.specs.Machine.{revisions}
 use Rattle.fsfs_machine.proofs.Growing.{goes_on, revisions_length}
 use Rattle.fsfs_turn.specs.Bytes.{bytes_of}
 use Rattle.fsfs_turn.specs.Views.{Begins}
+use Rattle.fsfs_turn.proofs.Reading.{begins_on}
 use Rattle.fsfs_draft.specs.declared.open_txn.OpenTxn.{OpenTxn}
 use Rattle.fsfs_draft.specs.declared.txn_draft.Stage.{Stage}
 use Rattle.fsfs_draft.specs.declared.txn_draft.Stage.TheVariants.{Open, Ended}
+use Rattle.fsfs_draft.specs.declared.standing.Standing.{Standing}
 use Rattle.fsfs_draft.specs.Meaning.{IsTxnOf, Means, IfOpen}
+use Rattle.fsfs_draft.specs.Pinned.{IsPinned}
 use Rattle.fsfs_draft.specs.SeenLemmas.{later, no_shorter}
 
 -- ---- copies are of revisions up to the youngest
@@ -105,3 +108,8 @@ pub open_grows : {B : Type 0} {D : _} (s : Stage B D) (spent : OpenTxn B D → O
     → IfOpen s (λ o. Means (spent o) h (name o) (base o) (settled o) x) → Begins more h → IfOpen s (λ o. Means (spent o) more (name o) (base o) (settled o) x)
 open_grows (Open o) spent name base settled h more x means b = λ none. txn_stays h more (name o) (base o) (settled o) x (means none) b
 open_grows (Ended e) spent name base settled h more x means b = tt
+
+-- and it stands for the one that is noted
+pub pinned_grows : (o : Option Standing) (h more : List Recorded) (x : Txn) → IsPinned o h x → Begins more h → IsPinned o more x
+pinned_grows None h more x pinned b = tt
+pinned_grows (Some s) h more x pinned b = (pinned.0, pinned.1, begins_on s.seen h more pinned.2 b)

@@ -4,8 +4,11 @@ ghost use Rattle.fsfs_base.specs.Failures.{Rose};
 ghost use Rattle.fsfs_disk.specs.Benches.{bytes_on, IsFirmFile};
 ghost use Rattle.fsfs_machine.specs.declared.machine.Recorded.{Recorded};
 ghost use Rattle.fsfs_machine.specs.declared.machine.Txn.{Txn as SpecTxn};
+ghost use Rattle.fsfs_fetch.specs.Views.{IsKnown};
 ghost use Rattle.fsfs_turn.specs.Views.{View};
-ghost use Rattle.fsfs_commit.specs.Works.{LandedOn, ReadOnly};
+ghost use Rattle.fsfs_turn.specs.Courses.{ReadOnly};
+ghost use Rattle.fsfs_turn.specs.Labels.{KeepsLabels};
+ghost use Rattle.fsfs_commit.specs.Works.{LandedOn};
 ghost use Rattle.fsfs_draft.specs.Meaning.{IsTxnOf, Means, IsYoungestOf, IsTextBehind, HoldsBehind};
 ghost use Rattle.fsfs_draft.specs.Findings.{Finds, FindsEnded};
 ghost use Rattle.fsfs_draft.specs.Refusals.{IsDiskFault, Refuses};
@@ -18,8 +21,8 @@ use fsfs_final_bytes::final_text;
 use fsfs_held::HeldNodes;
 use fsfs_layout::RepositoryFile;
 use fsfs_own::Own;
-use fsfs_turn::{LoneTurns, Turns};
-use fsfs_turn_book::{over_turns, turns_of};
+use fsfs_turn::Turns;
+use fsfs_turn_book::{over_pass, pass_of};
 use fsfs_txn::{Outcome, Txn};
 use std::alloc::Global;
 
@@ -32,29 +35,33 @@ pub(crate) struct OpenTxn<B: Bench> {
 
 impl<B: Bench> OpenTxn<B> {
     // Lands it on a later revision, which is read by turns.
-    fn land<R, T: LoneTurns<R>>(
+    fn land<R, T: Turns<R>>(
         &mut self,
         alloc: Global,
         rt: &R,
         turns: T,
         head: RevNum,
     ) -> (T, Result<(), CommitRefusal>)
+        requires there { IsKnown (T.store turns).reach head }
         ensures ok { (v : View) (x : SpecTxn) → T.knows turns v → self.old.txn.spent ≡ None → Means self.old.txn.spent (take (head + 1) v.seen) (⟦<HeldNodes<B> as Own>⟧.txn self.old.txn.own) self.old.txn.base (⟦<HeldNodes<B> as Own>⟧.settled self.old.txn.own) x
             → self.old.txn.base < head → head < length v.seen
-            → OnOk result.1 ((y : SpecTxn) × T.knows result.0 v × LandedOn head v.seen x y
+            → OnOk result.1 ((u : View) × (y : SpecTxn) × T.knows result.0 u × ReadOnly v u × LandedOn head v.seen x y
             × Means self.new.txn.spent (take (head + 1) v.seen) (⟦<HeldNodes<B> as Own>⟧.txn self.new.txn.own) self.new.txn.base (⟦<HeldNodes<B> as Own>⟧.settled self.new.txn.own) y) }
         ensures err { (v : View) (h : List Recorded) (x : SpecTxn) → T.knows turns v → self.old.txn.spent ≡ None → Means self.old.txn.spent (take (head + 1) v.seen) (⟦<HeldNodes<B> as Own>⟧.txn self.old.txn.own) self.old.txn.base (⟦<HeldNodes<B> as Own>⟧.settled self.old.txn.own) x
             → self.old.txn.base < head → head < length v.seen
-            → IfErr result.1 (λ why. T.knows result.0 v × Refuses why head v.seen x × (Means self.old.txn.spent h (⟦<HeldNodes<B> as Own>⟧.txn self.old.txn.own) self.old.txn.base (⟦<HeldNodes<B> as Own>⟧.settled self.old.txn.own) x
+            → IfErr result.1 (λ why. (u : View) × T.knows result.0 u × ReadOnly v u × Refuses why head v.seen x × (Means self.old.txn.spent h (⟦<HeldNodes<B> as Own>⟧.txn self.old.txn.own) self.old.txn.base (⟦<HeldNodes<B> as Own>⟧.settled self.old.txn.own) x
             → Means self.new.txn.spent h (⟦<HeldNodes<B> as Own>⟧.txn self.new.txn.own) self.new.txn.base (⟦<HeldNodes<B> as Own>⟧.settled self.new.txn.own) x)) }
         ensures found { IfErr result.1 (Finds (B.faults self.new.txn.own.bench) self.new.txn.spent (⟦<HeldNodes<B> as Own>⟧.settled self.new.txn.own)) }
         ensures mounted { T.mount_path result.0 ≡ T.mount_path turns }
+        ensures duty { T.bound result.0 ≡ T.bound turns }
+        ensures listed { KeepsLabels (T.bound turns) (T.labels turns) (T.labels result.0) }
+        ensures name { ⟦<HeldNodes<B> as Own>⟧.txn self.new.txn.own ≡ ⟦<HeldNodes<B> as Own>⟧.txn self.old.txn.own }
         ensures later { T.faults turns ≤ T.faults result.0 }
         ensures cause { IfErr result.1 (λ why. IsDiskFault why → Rose (T.faults turns) (T.faults result.0)) }
     {
-        let mut book = over_turns(alloc, rt, turns);
+        let mut book = over_pass(alloc, rt, turns, head);
         let merged = self.txn.merge(alloc, &mut book, head);
-        let turns = turns_of(book);
+        let turns = pass_of(book);
         match merged {
             Ok(Outcome::Landed) => (turns, Ok(())),
             Ok(Outcome::Clash(path)) => (turns, Err(CommitRefusal::Clash { head, path })),
@@ -62,15 +69,16 @@ impl<B: Bench> OpenTxn<B> {
         }
     }
 
-    /// Lands it on this revision, and gives the turns back; where it stands there already, it does nothing. It has to have seen the
-    /// revision: so it makes a turn first, a read of no bytes of its base's property file, which is in no pack.
-    pub(crate) fn merge<R, T: LoneTurns<R>>(
+    /// Lands it on this revision, and gives the turns back; where it stands there already, it does nothing. The pass was told of the
+    /// revision, and has to have seen it: so it makes a turn first, a read of no bytes of its base's property file, which is in no pack.
+    pub(crate) fn merge<R, T: Turns<R>>(
         &mut self,
         alloc: Global,
         rt: &R,
         turns: T,
         head: RevNum,
     ) -> (T, Result<(), CommitRefusal>)
+        requires there { IsKnown (T.store turns).reach head }
         ensures ok { (v : View) (x : SpecTxn) → T.knows turns v → Means self.old.txn.spent v.seen (⟦<HeldNodes<B> as Own>⟧.txn self.old.txn.own) self.old.txn.base (⟦<HeldNodes<B> as Own>⟧.settled self.old.txn.own) x
             → x.base ≤ head → length v.seen ≤ head + 1 → head ≤ v.pass.least
             → OnOk result.1 ((u : View) × (y : SpecTxn) × T.knows result.0 u
@@ -83,6 +91,9 @@ impl<B: Bench> OpenTxn<B> {
             × ReadOnly v u × Refuses why head u.seen x) }
         ensures found { IfErr result.1 (Finds (B.faults self.new.txn.own.bench) self.new.txn.spent (⟦<HeldNodes<B> as Own>⟧.settled self.new.txn.own)) }
         ensures mounted { T.mount_path result.0 ≡ T.mount_path turns }
+        ensures duty { T.bound result.0 ≡ T.bound turns }
+        ensures listed { KeepsLabels (T.bound turns) (T.labels turns) (T.labels result.0) }
+        ensures name { ⟦<HeldNodes<B> as Own>⟧.txn self.new.txn.own ≡ ⟦<HeldNodes<B> as Own>⟧.txn self.old.txn.own }
         ensures later { T.faults turns ≤ T.faults result.0 }
         ensures cause { IfErr result.1 (λ why. IsDiskFault why → Rose (T.faults turns) (T.faults result.0)) }
     {
@@ -112,6 +123,7 @@ impl<B: Bench> OpenTxn<B> {
             → IsYoungestOf h rev x → IfErr result (λ why. (head : ℕ) (more : List Recorded) → Refuses why head more x) }
         ensures found { IfErr result (Finds (B.faults self.new.txn.own.bench) self.new.txn.spent (⟦<HeldNodes<B> as Own>⟧.settled self.new.txn.own)) }
         ensures no_disk { IfErr result (λ why. IsDiskFault why → ⊥) }
+        ensures name { ⟦<HeldNodes<B> as Own>⟧.txn self.new.txn.own ≡ ⟦<HeldNodes<B> as Own>⟧.txn self.old.txn.own }
         ensures means { (h : List Recorded) (x : SpecTxn) → Means self.old.txn.spent h (⟦<HeldNodes<B> as Own>⟧.txn self.old.txn.own) self.old.txn.base (⟦<HeldNodes<B> as Own>⟧.settled self.old.txn.own) x
             → Means self.new.txn.spent h (⟦<HeldNodes<B> as Own>⟧.txn self.new.txn.own) self.new.txn.base (⟦<HeldNodes<B> as Own>⟧.settled self.new.txn.own) x }
     {

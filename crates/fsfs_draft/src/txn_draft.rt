@@ -1,26 +1,36 @@
 //! A transaction on its way to a revision.
-ghost use Rattle.std.specs.Prelude.{◌≡◌, ℕ, List, None, IsSome, option_map, OnOk, IfErr};
+ghost use Rattle.std.specs.Prelude.{◌≡◌, ◌<◌, ◌≤◌, ◌+◌, ℕ, List, Some, None, IsSome, length, take, option_map, OnOk, IfErr};
+ghost use Rattle.fsfs_base.specs.Failures.{Rose};
 ghost use Rattle.fsfs_disk.specs.Benches.{bytes_on, IsFirmFile};
+ghost use Rattle.fsfs_fields.specs.declared.txn_name.TxnName.{TxnName};
 ghost use Rattle.fsfs_limits.specs.declared.limit.PathLimit.{PathLimit};
 ghost use Rattle.fsfs_draft.specs.Meaning.{IsTxnOf, Means, IsYoungestOf, IsTextBehind, HoldsBehind, IfOpen, OfStage, left_of, IfTxn, bench_of};
 ghost use Rattle.fsfs_draft.specs.Findings.{Finds, FindsEnded, HoldsPast};
 ghost use Rattle.fsfs_draft.specs.Refusals.{IsDiskFault, Refuses};
 ghost use Rattle.fsfs_machine.specs.declared.machine.Recorded.{Recorded};
 ghost use Rattle.fsfs_machine.specs.declared.machine.Txn.{Txn as SpecTxn};
+ghost use Rattle.fsfs_fetch.specs.Views.{IsKnown};
+ghost use Rattle.fsfs_turn.specs.Courses.{ReadOnly};
+ghost use Rattle.fsfs_turn.specs.Labels.{KeepsLabels};
+ghost use Rattle.fsfs_turn.specs.Views.{View, Begins};
+ghost use Rattle.fsfs_commit.specs.Works.{LandedOn};
+ghost use Rattle.fsfs_draft.specs.Pinned.{IsPinned};
 ghost use Rattle.fsfs_draft.specs.declared.txn_draft.Stage.TheVariants.{Open};
 
 use crate::ended_txn::EndedTxn;
 use crate::making::make_rest;
 use crate::open_txn::OpenTxn;
 use crate::refusal::CommitRefusal;
+use crate::standing::{Pin, Standing};
 use fsfs_base::{Failed, Name, Pairs};
 use fsfs_commit::{Draft, Made};
 use fsfs_disk::Bench;
 use fsfs_fields::RevNum;
 use fsfs_held::HeldNodes;
 use fsfs_layout::Layout;
+use fsfs_note::{Claims, Note};
 use fsfs_own::Own;
-use fsfs_turn::{LoneTurns, Turns};
+use fsfs_turn::{Adoption, Turns};
 use fsfs_txn::Txn;
 use std::alloc::Global;
 
@@ -38,6 +48,7 @@ pub(crate) enum Stage<B: Bench> {
 pub struct TxnDraft<B: Bench> {
     properties: Pairs,
     stage: Stage<B>,
+    pin: Pin,
 }
 
 /// What is left of it.
@@ -62,17 +73,44 @@ impl<B: Bench> Left<B> {
 }
 
 impl<B: Bench> TxnDraft<B> {
-    /// The transaction, to be committed with these properties.
+    /// The transaction, to be committed with these properties over turns on which nobody else rests.
     pub fn new(txn: Txn<HeldNodes<B>>, properties: Pairs) -> TxnDraft<B>
         ensures stage { result.stage ≡ Open (record { txn = txn; text = None }) }
         ensures properties { result.properties ≡ properties }
+        ensures named { IfOpen result.stage (λ o. ⟦<HeldNodes<B> as Own>⟧.txn o.txn.own ≡ ⟦<HeldNodes<B> as Own>⟧.txn txn.own) }
+        ensures free { result.pin.standing.value ≡ None }
         // It means what the transaction does.
         ensures means { (h : List Recorded) (x : SpecTxn) → Means txn.spent h (⟦<HeldNodes<B> as Own>⟧.txn txn.own) txn.base (⟦<HeldNodes<B> as Own>⟧.settled txn.own) x
-            → IfOpen result.stage (λ o. Means o.txn.spent h (⟦<HeldNodes<B> as Own>⟧.txn o.txn.own) o.txn.base (⟦<HeldNodes<B> as Own>⟧.settled o.txn.own) x) }
+            → IfOpen result.stage (λ o. Means o.txn.spent h (⟦<HeldNodes<B> as Own>⟧.txn o.txn.own) o.txn.base (⟦<HeldNodes<B> as Own>⟧.settled o.txn.own) x) × IsPinned result.pin.standing.value h x }
     {
         TxnDraft {
             properties,
             stage: Stage::Open(OpenTxn { txn, text: None }),
+            pin: Pin::none(),
+        }
+    }
+
+    /// The transaction, to be committed with these properties over turns on which others rest: it stands for the one that is noted, and
+    /// for no other.
+    pub fn pinned(
+        txn: Txn<HeldNodes<B>>,
+        properties: Pairs,
+        standing: &Note<Standing>,
+    ) -> TxnDraft<B>
+        requires stands { Means txn.spent standing.now.value.seen (⟦<HeldNodes<B> as Own>⟧.txn txn.own) txn.base (⟦<HeldNodes<B> as Own>⟧.settled txn.own) standing.now.value.txn }
+        requires based { standing.now.value.txn.base < length standing.now.value.seen }
+        ensures stage { result.stage ≡ Open (record { txn = txn; text = None }) }
+        ensures properties { result.properties ≡ properties }
+        ensures named { IfOpen result.stage (λ o. ⟦<HeldNodes<B> as Own>⟧.txn o.txn.own ≡ ⟦<HeldNodes<B> as Own>⟧.txn txn.own) }
+        ensures noted { result.pin.standing.value ≡ Some standing.now.value }
+        // It means that one, over all revisions that go on from those noted with it.
+        ensures means { (h : List Recorded) → Begins h standing.now.value.seen
+            → IfOpen result.stage (λ o. Means o.txn.spent h (⟦<HeldNodes<B> as Own>⟧.txn o.txn.own) o.txn.base (⟦<HeldNodes<B> as Own>⟧.settled o.txn.own) standing.now.value.txn) × IsPinned result.pin.standing.value h standing.now.value.txn }
+    {
+        TxnDraft {
+            properties,
+            stage: Stage::Open(OpenTxn { txn, text: None }),
+            pin: Pin::of(standing),
         }
     }
 
@@ -82,6 +120,7 @@ impl<B: Bench> TxnDraft<B> {
         // The transaction means what the draft did.
         ensures means { (h : List Recorded) (x : SpecTxn) → IfOpen self.stage (λ o. Means o.txn.spent h (⟦<HeldNodes<B> as Own>⟧.txn o.txn.own) o.txn.base (⟦<HeldNodes<B> as Own>⟧.settled o.txn.own) x)
             → IfTxn result (λ txn. Means txn.spent h (⟦<HeldNodes<B> as Own>⟧.txn txn.own) txn.base (⟦<HeldNodes<B> as Own>⟧.settled txn.own) x) }
+        ensures named { (name : TxnName) → IfOpen self.stage (λ o. ⟦<HeldNodes<B> as Own>⟧.txn o.txn.own ≡ name) → IfTxn result (λ txn. ⟦<HeldNodes<B> as Own>⟧.txn txn.own ≡ name) }
         // A path past a limit that the draft has is one that the transaction has.
         ensures past { (limit : PathLimit) → OfStage self.stage (λ o. HoldsPast (⟦<HeldNodes<B> as Own>⟧.settled o.txn.own) limit) (λ ended. ⊥)
             → IfTxn result (λ txn. HoldsPast (⟦<HeldNodes<B> as Own>⟧.settled txn.own) limit) }
@@ -89,6 +128,7 @@ impl<B: Bench> TxnDraft<B> {
         let TxnDraft {
             properties: _,
             stage,
+            pin: _,
         } = self;
         match stage {
             Stage::Open(live) => Left::Txn(live.txn),
@@ -110,6 +150,7 @@ fn marshal_stage<B: Bench>(
         → IsYoungestOf h rev x → IfErr result (λ why. (head : ℕ) (more : List Recorded) → Refuses why head more x) }
     ensures found { IfErr result (λ why. OfStage stage.new (λ o. Finds (B.faults o.txn.own.bench) o.txn.spent (⟦<HeldNodes<B> as Own>⟧.settled o.txn.own) why) (λ ended. FindsEnded (B.faults ended.bench) why)) }
     ensures no_disk { IfErr result (λ why. IsDiskFault why → ⊥) }
+    ensures named { (name : TxnName) → IfOpen stage.old (λ o. ⟦<HeldNodes<B> as Own>⟧.txn o.txn.own ≡ name) → IfOpen stage.new (λ o. ⟦<HeldNodes<B> as Own>⟧.txn o.txn.own ≡ name) }
     ensures means { (h : List Recorded) (x : SpecTxn) → IfOpen stage.old (λ o. Means o.txn.spent h (⟦<HeldNodes<B> as Own>⟧.txn o.txn.own) o.txn.base (⟦<HeldNodes<B> as Own>⟧.settled o.txn.own) x)
         → IfOpen stage.new (λ o. Means o.txn.spent h (⟦<HeldNodes<B> as Own>⟧.txn o.txn.own) o.txn.base (⟦<HeldNodes<B> as Own>⟧.settled o.txn.own) x) }
 {
@@ -139,21 +180,87 @@ fn written<B: Bench>(stage: Stage<B>) -> (Stage<B>, Result<(), CommitRefusal>)
     }
 }
 
-impl<R, T: LoneTurns<R>> Draft<R, T> for TxnDraft<T::Bench> {
+// Lands it, where it is under way.
+fn merge_stage<R, T: Turns<R>>(
+    alloc: Global,
+    rt: &R,
+    turns: T,
+    stage: &mut Stage<T::Bench>,
+    head: RevNum,
+) -> (T, Result<(), CommitRefusal>)
+    requires there { IsKnown (T.store turns).reach head }
+    ensures ok { (v : View) (x : SpecTxn) → T.knows turns v → IfOpen stage.old (λ o. Means o.txn.spent v.seen (⟦<HeldNodes<T::Bench> as Own>⟧.txn o.txn.own) o.txn.base (⟦<HeldNodes<T::Bench> as Own>⟧.settled o.txn.own) x) → x.base ≤ head → length v.seen ≤ head + 1 → head ≤ v.pass.least
+        → OnOk result.1 ((u : View) × (y : SpecTxn) × T.knows result.0 u × IfOpen stage.new (λ o. Means o.txn.spent (take (head + 1) u.seen) (⟦<HeldNodes<T::Bench> as Own>⟧.txn o.txn.own) o.txn.base (⟦<HeldNodes<T::Bench> as Own>⟧.settled o.txn.own) y) × ReadOnly v u × LandedOn head u.seen x y) }
+    ensures err { (v : View) (x : SpecTxn) → T.knows turns v → IfOpen stage.old (λ o. Means o.txn.spent v.seen (⟦<HeldNodes<T::Bench> as Own>⟧.txn o.txn.own) o.txn.base (⟦<HeldNodes<T::Bench> as Own>⟧.settled o.txn.own) x) → x.base ≤ head → length v.seen ≤ head + 1 → head ≤ v.pass.least
+        → IfErr result.1 (λ why. (u : View) × T.knows result.0 u × IfOpen stage.new (λ o. Means o.txn.spent v.seen (⟦<HeldNodes<T::Bench> as Own>⟧.txn o.txn.own) o.txn.base (⟦<HeldNodes<T::Bench> as Own>⟧.settled o.txn.own) x) × ReadOnly v u × Refuses why head u.seen x) }
+    ensures found { IfErr result.1 (λ why. OfStage stage.new (λ o. Finds (T.Bench.faults o.txn.own.bench) o.txn.spent (⟦<HeldNodes<T::Bench> as Own>⟧.settled o.txn.own) why) (λ ended. FindsEnded (T.Bench.faults ended.bench) why)) }
+    ensures named { (name : TxnName) → IfOpen stage.old (λ o. ⟦<HeldNodes<T::Bench> as Own>⟧.txn o.txn.own ≡ name) → IfOpen stage.new (λ o. ⟦<HeldNodes<T::Bench> as Own>⟧.txn o.txn.own ≡ name) }
+    ensures mounted { T.mount_path result.0 ≡ T.mount_path turns }
+    ensures duty { T.bound result.0 ≡ T.bound turns }
+    ensures listed { KeepsLabels (T.bound turns) (T.labels turns) (T.labels result.0) }
+    ensures later { T.faults turns ≤ T.faults result.0 }
+    ensures cause { IfErr result.1 (λ why. IsDiskFault why → Rose (T.faults turns) (T.faults result.0)) }
+{
+    match stage {
+        Stage::Open(live) => live.merge(alloc, rt, turns, head),
+        Stage::Ended(_) => (turns, Err(CommitRefusal::Spent)),
+    }
+}
+
+// What a draft is noted to stand for, once it was landed on this head by these turns.
+#[derive(Drop)]
+struct Landing<'a, R, T: Turns<R>> {
+    rt: &'a R,
+    turns: &'a T,
+    stage: &'a Stage<T::Bench>,
+    was: &'a Note<Option<Standing>>,
+    head: RevNum,
+}
+
+impl<'a, R, T: Turns<R>> Claims<Option<Standing>> for Landing<'a, R, T> {
+    ghost use Rattle.fsfs_draft.specs.Meaning.{Means, IfOpen};
+    ghost use Rattle.fsfs_draft.specs.Pinned.{LandsAs, NotesLanding};
+
+    ghost claims = { λ l value. NotesLanding l.was.now.value value (λ s t. LandsAs (T.knows l.turns.now) (λ h y. IfOpen l.stage.now (λ o. Means o.txn.spent h (⟦<HeldNodes<T::Bench> as Own>⟧.txn o.txn.own) o.txn.base (⟦<HeldNodes<T::Bench> as Own>⟧.settled o.txn.own) y)) l.head s.txn t) };
+}
+
+// What the bytes of a draft are noted to be, once they were made.
+#[derive(Drop)]
+struct Adopting<'a, B: Bench> {
+    stage: &'a Stage<B>,
+    standing: &'a Note<Option<Standing>>,
+    properties: &'a Pairs,
+}
+
+impl<'a, B: Bench> Claims<Option<Adoption>> for Adopting<'a, B> {
+    ghost use Rattle.std.specs.Prelude.{◌≡◌, option_map};
+    ghost use Rattle.fsfs_disk.specs.Benches.{bytes_on};
+    ghost use Rattle.fsfs_draft.specs.Meaning.{HoldsBehind, OfStage};
+    ghost use Rattle.fsfs_draft.specs.Pinned.{AdoptsAs, NotesAdoption};
+
+    ghost claims = { λ a value. NotesAdoption a.standing.now.value value (λ s about. AdoptsAs (λ bytes. OfStage a.stage.now (λ o. HoldsBehind (B.contents o.txn.own.bench) (⟦<HeldNodes<B> as Own>⟧.settled o.txn.own).proto (option_map (λ t. t.items) o.text) bytes) (λ e. bytes ≡ bytes_on (B.contents e.bench) e.file)) a.properties.now s about) };
+}
+
+impl<R, T: Turns<R>> Draft<R, T> for TxnDraft<T::Bench> {
     ghost use Rattle.fsfs_draft.specs.Meaning.{Means, HoldsBehind, IfOpen, OfStage};
     ghost use Rattle.fsfs_disk.specs.Benches.{bytes_on, IsFirmFile};
-    ghost use Rattle.std.specs.Prelude.{◌≡◌, option_map};
+    ghost use Rattle.std.specs.Prelude.{◌≡◌, is_some, option_map};
     ghost use Rattle.fsfs_draft.specs.Findings.{Finds, FindsEnded};
     ghost use Rattle.fsfs_draft.specs.Refusals.{IsDiskFault, Refuses};
-    ghost use Rattle.fsfs_draft.specs.StayingLemmas.{open_grows};
+    ghost use Rattle.fsfs_draft.specs.Pinned.{IsPinned, IsAdopted};
+    ghost use Rattle.fsfs_draft.specs.StayingLemmas.{open_grows, pinned_grows};
 
     type Refusal = CommitRefusal;
 
-    ghost means = { λ d h x. IfOpen d.stage (λ o. Means o.txn.spent h (⟦<HeldNodes<T::Bench> as Own>⟧.txn o.txn.own) o.txn.base (⟦<HeldNodes<T::Bench> as Own>⟧.settled o.txn.own) x) };
+    ghost means = { λ d h x. IfOpen d.stage (λ o. Means o.txn.spent h (⟦<HeldNodes<T::Bench> as Own>⟧.txn o.txn.own) o.txn.base (⟦<HeldNodes<T::Bench> as Own>⟧.settled o.txn.own) x) × IsPinned d.pin.standing.value h x };
 
     ghost properties = { λ d. d.properties };
 
-    ghost holds = { λ d bytes. OfStage d.stage (λ o. HoldsBehind (T.Bench.contents o.txn.own.bench) (⟦<HeldNodes<T::Bench> as Own>⟧.settled o.txn.own).proto (option_map (λ t. t.items) o.text) bytes) (λ e. bytes ≡ bytes_on (T.Bench.contents e.bench) e.file) };
+    ghost named = { λ d name. IfOpen d.stage (λ o. ⟦<HeldNodes<T::Bench> as Own>⟧.txn o.txn.own ≡ name) };
+
+    ghost pinned = { λ d. is_some d.pin.standing.value };
+
+    ghost holds = { λ d txn next bytes. OfStage d.stage (λ o. HoldsBehind (T.Bench.contents o.txn.own.bench) (⟦<HeldNodes<T::Bench> as Own>⟧.settled o.txn.own).proto (option_map (λ t. t.items) o.text) bytes) (λ e. bytes ≡ bytes_on (T.Bench.contents e.bench) e.file) × IsAdopted d.pin.standing.value d.pin.about.value txn d.properties next };
 
     ghost is_written = { λ d. OfStage d.stage (λ o. ⊥) (λ e. IsFirmFile (T.Bench.contents e.bench) (T.Bench.firm_to e.bench e.file) e.file) };
 
@@ -170,9 +277,20 @@ impl<R, T: LoneTurns<R>> Draft<R, T> for TxnDraft<T::Bench> {
         turns: T,
         head: RevNum,
     ) -> (T, Result<(), CommitRefusal>) {
-        match &mut self.stage {
-            Stage::Open(live) => live.merge(alloc, rt, turns, head),
-            Stage::Ended(_) => (turns, Err(CommitRefusal::Spent)),
+        let (turns, done) = merge_stage(alloc, rt, turns, &mut self.stage, head);
+        match done {
+            Ok(()) => {
+                let noted = Note::some(&Landing {
+                    rt,
+                    turns: &turns,
+                    stage: &self.stage,
+                    was: &self.pin.standing,
+                    head,
+                });
+                self.pin.standing = noted;
+                (turns, Ok(()))
+            }
+            Err(refusal) => (turns, Err(refusal)),
         }
     }
 
@@ -187,23 +305,44 @@ impl<R, T: LoneTurns<R>> Draft<R, T> for TxnDraft<T::Bench> {
             Err(refusal) => return Err(refusal),
         }
         match make_rest(alloc, layout, rev, &self.properties) {
-            Ok(made) => Ok(made),
+            Ok(made) => {
+                let noted = Note::some(&Adopting {
+                    stage: &self.stage,
+                    standing: &self.pin.standing,
+                    properties: &self.properties,
+                });
+                self.pin.about = noted;
+                Ok(made)
+            }
             Err(_) => Err(CommitRefusal::Memory),
         }
     }
 
     fn write(self) -> (TxnDraft<T::Bench>, Result<(), CommitRefusal>) {
-        let TxnDraft { properties, stage } = self;
+        let TxnDraft {
+            properties,
+            stage,
+            pin,
+        } = self;
         let (stage, done) = written(stage);
-        (TxnDraft { properties, stage }, done)
+        (
+            TxnDraft {
+                properties,
+                stage,
+                pin,
+            },
+            done,
+        )
     }
 
     fn hand_over(&mut self, rt: &R, turns: &mut T, name: &Name) -> Result<(), Failed> {
         match &mut self.stage {
-            Stage::Ended(ended) => turns.adopt_file(rt, &mut ended.bench, &ended.file, name),
+            Stage::Ended(ended) => {
+                turns.adopt_file(rt, &mut ended.bench, &ended.file, name, &self.pin.about)
+            }
             Stage::Open(_) => unreachable!(),
         }
     }
 
-    ghost grows = { λ d h more x means begins. open_grows d.stage (λ o. o.txn.spent) (λ o. ⟦<HeldNodes<T::Bench> as Own>⟧.txn o.txn.own) (λ o. o.txn.base) (λ o. ⟦<HeldNodes<T::Bench> as Own>⟧.settled o.txn.own) h more x means begins };
+    ghost grows = { λ d h more x means begins. (open_grows d.stage (λ o. o.txn.spent) (λ o. ⟦<HeldNodes<T::Bench> as Own>⟧.txn o.txn.own) (λ o. o.txn.base) (λ o. ⟦<HeldNodes<T::Bench> as Own>⟧.settled o.txn.own) h more x means.0 begins, pinned_grows d.pin.standing.value h more x means.1 begins) };
 }

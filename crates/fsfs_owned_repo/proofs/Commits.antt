@@ -17,10 +17,10 @@ use Rattle.fsfs_machine.specs.Kept.{IsIn}
 use Rattle.fsfs_machine.specs.Machine.{revisions}
 use Rattle.fsfs_turn.specs.Learning.{with_spent}
 use Rattle.fsfs_turn.specs.Views.{View}
+use Rattle.fsfs_turn.specs.Courses.{End}
 use Rattle.fsfs_turn_purge.specs.Purged.{Purges, HasNotPurged}
 use Rattle.fsfs_turn_purge.specs.declared.purge_fault.PurgeFault.{PurgeFault}
 use Rattle.fsfs_turn_purge.specs.declared.purge_fault.PurgeFault.TheVariants as purges
-use Rattle.fsfs_commit.specs.Courses.{End}
 use Rattle.fsfs_commit.specs.Works.{CanCommit}
 use Rattle.fsfs_commit.specs.Replies.{Cause, Committed, Moved, Refused, RoseIfDisk, UnlessDoubt}
 use Rattle.fsfs_commit.specs.declared.committing.CommitFault.{CommitFault}

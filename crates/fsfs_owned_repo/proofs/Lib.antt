@@ -6,3 +6,4 @@ mod Dropped
 mod Listed
 mod Commits
 mod Limits
+mod Unlisted

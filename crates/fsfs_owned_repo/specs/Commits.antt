@@ -8,13 +8,13 @@ use Rattle.fsfs_machine.specs.declared.machine.Went.{Went}
 use Rattle.fsfs_machine.specs.declared.machine.Went.TheVariants.{Fine}
 use Rattle.fsfs_machine.specs.declared.machine.Step.TheVariants.{PurgeSpent}
 use Rattle.fsfs_machine.specs.Machine.{is_fine_in}
-use Rattle.fsfs_turn.specs.Alone.{brings_doubt}
+use Rattle.fsfs_turn.specs.Alone.{BringsNoDoubt, brings_doubt}
 use Rattle.fsfs_turn.specs.Learning.{with_spent}
 use Rattle.fsfs_turn.specs.Views.{View}
 use Rattle.fsfs_turn_purge.specs.Purged.{HasPurged, HasNotPurged}
 use Rattle.fsfs_commit.specs.Courses.{StoppedAt}
 use Rattle.fsfs_commit.specs.Replies.{Committed, Drifted, Moved}
-use Rattle.fsfs_commit.specs.Works.{BringsNoDoubt, Landings}
+use Rattle.fsfs_commit.specs.Works.{Landings}
 use Rattle.fsfs_draft.specs.Dating.{IsDatedAt}
 use Rattle.fsfs_draft.specs.Refusals.{IsClashAt}
 use Rattle.fsfs_owned_repo.specs.declared.answers.CommitBar.{CommitBar}
@@ -78,6 +78,11 @@ Meets knows back micros properties v x (answers.Committed rev purged) = (dated :
 Meets knows back micros properties v x (answers.Barred bar txn) = Ends knows back properties v x (answers.Barred bar txn)
 Meets knows back micros properties v x (answers.DiskFault at) = Ends knows back properties v x (answers.DiskFault at)
 Meets knows back micros properties v x answers.BenchFault = Ends knows back properties v x answers.BenchFault
+
+-- a fact of the transaction that is handed back
+abbrev pub IfBack : {X : Type 0} → CommitAnswer X → (X → Type 0) → Type 0
+IfBack (answers.Barred bar txn) P = P txn
+IfBack answer P = Unit {0}
 
 -- a fact, where its files are gone behind a commit
 abbrev pub IfPurged : {X : Type 0} → CommitAnswer X → Type 0 → Type 0

@@ -12,12 +12,12 @@ use Rattle.fsfs_turn.specs.Past.{IsPart}
 use Rattle.fsfs_turn.specs.Views.{View}
 use Rattle.fsfs_turn.specs.Whole.{HasHistory, HasRevision, NamesFrom}
 
--- A crash at any moment since the opening, in the middle of a call too, leaves files that stand for a first part of the history, which is
--- what the pass has seen, or for the history with the one revision that `current` may name though it isn't revealed; and that have all that
--- there was at the opening. A crash now leaves all that the pass has seen, and so all that was acknowledged.
+-- A crash at any moment since the opening, in the middle of a call too, leaves a repository that stands for a first part of the history,
+-- which is what the pass has seen, or for the history with the one revision that `current` may name though it isn't revealed; and that has
+-- all that there was at the opening. A crash now leaves all that the pass has seen, and so all that was acknowledged.
 pub record Survives (layout : Layout) (t : Trace) (v : View) : Type 0 where
   pub moments : (m : Files) → ImageSince v.since t.first t.operations m
-      → (d : Option Coming) × (g : List Recorded) × IsPart v.seen d g × (v.opened ≤ length g) × HasHistory layout m g
+      → (d : Option Coming) × (g : List Recorded) × IsPart v.seen d g × (v.opened ≤ length g) × HasHistory layout m g × StandsFor m (revisions g)
   pub whole : (m : Files) → IsImage t.first t.operations m → (r : ℕ) (x : Recorded) → slice_get v.seen r ≡ Some x → HasRevision layout m r x
   pub named : (m : Files) → IsImage t.first t.operations m → NamesFrom m (length v.seen)
   -- it leaves a repository that stands for what the pass has seen, or for that with the revision in doubt

@@ -7,3 +7,4 @@ pub mod Listings
 pub mod Commits
 pub mod Limits
 pub mod Fates
+pub mod Labels

@@ -1,7 +1,7 @@
 //! Transactions begin.
-ghost use Rattle.std.specs.Prelude.{◌≡◌, ◌⊎◌, ◌≤◌, true, codes, None, IfOk, IfErr, IfSome};
+ghost use Rattle.std.specs.Prelude.{◌≡◌, ◌⊎◌, ◌≤◌, true, codes, None, OnErr, IfOk, IfErr, IfSome, option_map};
 ghost use Rattle.fsfs_base.specs.Failures.{Rose};
-ghost use Rattle.fsfs_disk.specs.Labels.{has_label};
+ghost use Rattle.fsfs_disk.specs.Labels.{has_label, with_label};
 ghost use Rattle.fsfs_begin.specs.Benches.{TellsRoot};
 ghost use Rattle.fsfs_held.specs.Views.{begun_folder};
 ghost use Rattle.fsfs_machine.specs.Kept.{IsIn};
@@ -9,6 +9,7 @@ ghost use Rattle.fsfs_txns.specs.Txns.{pair_of, txn_label};
 ghost use Rattle.fsfs_turn.specs.Views.{View};
 ghost use Rattle.fsfs_turn_begin.specs.Steps.{IsPastNumbers, Moved};
 ghost use Rattle.fsfs_turn_begin.specs.Faults.{Cause, IfBench, IfDisk, IsAbove, LeavesNone};
+ghost use Rattle.fsfs_turn_begin.specs.Labels.{IsUnlisted, ListsNoMore};
 ghost use Rattle.fsfs_owned_repo.specs.Begun.{BeginsTxn};
 ghost use Rattle.fsfs_owned_repo.specs.Crashes.{CrashesLeave};
 
@@ -19,7 +20,7 @@ use fsfs_fields::{RevNum, TxnName};
 use fsfs_held::HeldNodes;
 use fsfs_own::Own;
 use fsfs_turn::{Owned, Turns};
-use fsfs_turn_begin::{BeginFault, begin};
+use fsfs_turn_begin::{BeginFault, Numbers, begin};
 use fsfs_txn::Txn;
 use std::alloc::Global;
 
@@ -45,6 +46,7 @@ fn hold<B: Bench>(alloc: Global, base: RevNum, begun: Begun<B>) -> Result<Txn<He
 fn forget<R, D: Disk>(rt: &R, turns: &mut Owned<D>, name: &TxnName, bench: D::Bench)
     ensures moved { (v : View) → ⟦<Owned<D> as Turns<R>>⟧.knows turns.old v → v.section ≡ None → IsIn name.now.number.number v.given
         → (u : View) × ⟦<Owned<D> as Turns<R>>⟧.knows turns.new u × Moved v u }
+    ensures unlisted { IsUnlisted (txn_label (pair_of name.now)) (Rose (⟦<Owned<D> as Turns<R>>⟧.faults turns.old) (⟦<Owned<D> as Turns<R>>⟧.faults turns.new)) (⟦<Owned<D> as Turns<R>>⟧.labels turns.old) (⟦<Owned<D> as Turns<R>>⟧.labels turns.new) }
     ensures mounted { D.mount_path turns.new.disk ≡ D.mount_path turns.old.disk }
     ensures later { ⟦<Owned<D> as Turns<R>>⟧.faults turns.old ≤ ⟦<Owned<D> as Turns<R>>⟧.faults turns.new }
 {
@@ -76,6 +78,9 @@ impl<D: Disk> Repo<D> {
             → IfErr result.1 (λ why. ((u : View) × ⟦<Owned<D> as Turns<R>>⟧.knows result.0.turns u × Moved v u × Cause base why u
             × IfBench why (LeavesNone base (⟦<Owned<D> as Turns<R>>⟧.labels result.0.turns) (Rose (⟦<Owned<D> as Turns<R>>⟧.faults self.turns) (⟦<Owned<D> as Turns<R>>⟧.faults result.0.turns)) v u))
             ⊎ IsPastNumbers (⟦<Owned<D> as Turns<R>>⟧.store self.turns)) }
+        // Its label came to those that were kept, and no other came or went. Where none was begun, none came, whatever is known.
+        ensures listed { IfOk result.1 (λ txn. ⟦<Owned<D> as Turns<R>>⟧.labels result.0.turns ≡ option_map (with_label (txn_label (pair_of (⟦<HeldNodes<D::Bench> as Own>⟧.txn txn.own)))) (⟦<Owned<D> as Turns<R>>⟧.labels self.turns)) }
+        ensures unlisted { OnErr result.1 (ListsNoMore base (Rose (⟦<Owned<D> as Turns<R>>⟧.faults self.turns) (⟦<Owned<D> as Turns<R>>⟧.faults result.0.turns)) (⟦<Owned<D> as Turns<R>>⟧.labels self.turns) (⟦<Owned<D> as Turns<R>>⟧.labels result.0.turns)) }
         // What is known then says what a crash leaves, at each moment of the call too.
         ensures crashes { (u : View) → ⟦<Owned<D> as Turns<R>>⟧.knows result.0.turns u → CrashesLeave result.0.turns.layout (D.trace result.0.turns.disk) u }
         // Whatever the disk tells.
@@ -85,7 +90,7 @@ impl<D: Disk> Repo<D> {
         ensures cause { IfErr result.1 (λ why. IfDisk why (Rose (⟦<Owned<D> as Turns<R>>⟧.faults self.turns) (⟦<Owned<D> as Turns<R>>⟧.faults result.0.turns))) }
     {
         let Repo { turns } = self;
-        let (back, begun) = begin(alloc, rt, turns, base);
+        let (back, begun) = begin(alloc, rt, turns, base, Numbers::Any);
         let mut turns = back;
         let begun = match begun {
             Ok(begun) => begun,

@@ -8,8 +8,9 @@ ghost use Rattle.fsfs_turn.specs.Views.{View};
 ghost use Rattle.fsfs_txns.specs.Txns.{pair_of, txn_label};
 ghost use Rattle.fsfs_draft.specs.Findings.{HoldsPast};
 ghost use Rattle.fsfs_draft.specs.Meaning.{IsTxnOf};
-ghost use Rattle.fsfs_owned_repo.specs.Commits.{IfFailed, IfPurged, Meets};
+ghost use Rattle.fsfs_owned_repo.specs.Commits.{IfBack, IfFailed, IfPurged, Meets};
 ghost use Rattle.fsfs_owned_repo.specs.Crashes.{CrashesLeave};
+ghost use Rattle.fsfs_owned_repo.specs.Labels.{LeavesLabels};
 ghost use Rattle.fsfs_owned_repo.specs.Limits.{IfPastLimit};
 
 use crate::answers::{CommitAnswer, CommitBar};
@@ -49,6 +50,10 @@ impl<D: Disk> Repo<D> {
         ensures past { IfPastLimit result.1 (λ limit t. HoldsPast (⟦<HeldNodes<D::Bench> as Own>⟧.settled t.own) limit) }
         // Where its files are gone, its label isn't kept any more.
         ensures unlisted { IfPurged result.1 (IfSome (⟦<Owned<D> as Turns<R>>⟧.labels result.0.turns) (λ ls. has_label (txn_label (pair_of (⟦<HeldNodes<D::Bench> as Own>⟧.txn txn.own))) ls ≡ false)) }
+        // One that is handed back has the name that it had.
+        ensures named { IfBack result.1 (λ t. ⟦<HeldNodes<D::Bench> as Own>⟧.txn t.own ≡ ⟦<HeldNodes<D::Bench> as Own>⟧.txn txn.own) }
+        // And what becomes of all labels: behind a commit that hands no transaction back its own goes, unless a turn failed.
+        ensures listed { LeavesLabels result.1 (txn_label (pair_of (⟦<HeldNodes<D::Bench> as Own>⟧.txn txn.own))) (Rose (⟦<Owned<D> as Turns<R>>⟧.faults self.turns) (⟦<Owned<D> as Turns<R>>⟧.faults result.0.turns)) (⟦<Owned<D> as Turns<R>>⟧.labels self.turns) (⟦<Owned<D> as Turns<R>>⟧.labels result.0.turns) }
         // What is known then says what a crash leaves, at each moment of the call too.
         ensures crashes { (u : View) → ⟦<Owned<D> as Turns<R>>⟧.knows result.0.turns u → CrashesLeave result.0.turns.layout (D.trace result.0.turns.disk) u }
         ensures mounted { D.mount_path result.0.turns.disk ≡ D.mount_path self.turns.disk }

@@ -6,15 +6,18 @@ ghost use Rattle.fsfs_machine.specs.declared.machine.Recorded.{Recorded};
 ghost use Rattle.fsfs_machine.specs.declared.machine.Txn.{Txn as MachineTxn};
 ghost use Rattle.fsfs_machine.specs.Kept.{IsIn};
 ghost use Rattle.fsfs_turn.specs.Views.{View};
+ghost use Rattle.fsfs_fields.specs.declared.txn_name.TxnName.{TxnName as SpecName};
 ghost use Rattle.fsfs_txns.specs.Txns.{pair_of, txn_label};
 ghost use Rattle.fsfs_limits.specs.declared.limit.PathLimit.{PathLimit};
 ghost use Rattle.fsfs_commit.specs.Found.{IfRefused};
 ghost use Rattle.fsfs_commit.specs.Replies.{Committed, Moved, Refused, RoseIfDisk};
-ghost use Rattle.fsfs_commit.specs.Works.{BringsNoDoubt, Landings};
+ghost use Rattle.fsfs_turn.specs.Alone.{BringsNoDoubt};
+ghost use Rattle.fsfs_commit.specs.Works.{Landings};
 ghost use Rattle.fsfs_draft.specs.Meaning.{IfTxn, IsTxnOf, Means};
 ghost use Rattle.fsfs_draft.specs.Refusals.{IsDiskFault, Refuses};
-ghost use Rattle.fsfs_owned_repo.specs.Commits.{Bars, Ends, IfFailed, IfPurged, IsDropped};
+ghost use Rattle.fsfs_owned_repo.specs.Commits.{Bars, Ends, IfBack, IfFailed, IfPurged, IsDropped};
 ghost use Rattle.fsfs_owned_repo.specs.Fates.{Fated, IfStopped, UnlessDoubtful};
+ghost use Rattle.fsfs_owned_repo.specs.Labels.{LeavesLabels, Unlists};
 ghost use Rattle.fsfs_draft.specs.Findings.{IfLimit, HoldsPast};
 ghost use Rattle.fsfs_owned_repo.specs.Limits.{IfBarLimit, IfFateLimit, IfPastLimit};
 
@@ -34,6 +37,7 @@ fn drop_bench<R, D: Disk>(rt: &R, turns: &mut Owned<D>, name: &TxnName, bench: D
     ensures dropped { (m : View) → ⟦<Owned<D> as Turns<R>>⟧.knows turns.old m → m.section ≡ None → IsIn name.now.number.number m.given
         → IsDropped (⟦<Owned<D> as Turns<R>>⟧.knows turns.new) result name.now.number.number m }
     ensures unlisted { result ≡ true → IfSome (⟦<Owned<D> as Turns<R>>⟧.labels turns.new) (λ ls. has_label (txn_label (pair_of name.now)) ls ≡ false) }
+    ensures listed { Unlists result (txn_label (pair_of name.now)) (Rose (⟦<Owned<D> as Turns<R>>⟧.faults turns.old) (⟦<Owned<D> as Turns<R>>⟧.faults turns.new)) (⟦<Owned<D> as Turns<R>>⟧.labels turns.old) (⟦<Owned<D> as Turns<R>>⟧.labels turns.new) }
     ensures mounted { D.mount_path turns.new.disk ≡ D.mount_path turns.old.disk }
     ensures later { ⟦<Owned<D> as Turns<R>>⟧.faults turns.old ≤ ⟦<Owned<D> as Turns<R>>⟧.faults turns.new }
     ensures cause { result ≡ false → Rose (⟦<Owned<D> as Turns<R>>⟧.faults turns.old) (⟦<Owned<D> as Turns<R>>⟧.faults turns.new) }
@@ -62,6 +66,8 @@ fn hand_back<R, D: Disk>(
     ensures past { IfBarLimit bar (λ limit. IfTxn left (λ t. HoldsPast (⟦<HeldNodes<D::Bench> as Own>⟧.settled t.own) limit))
         → IfPastLimit result (λ limit t. HoldsPast (⟦<HeldNodes<D::Bench> as Own>⟧.settled t.own) limit) }
     ensures label { IfPurged result (IfSome (⟦<Owned<D> as Turns<R>>⟧.labels turns.new) (λ ls. has_label (txn_label (pair_of name.now)) ls ≡ false)) }
+    ensures named { (n : SpecName) → IfTxn left (λ t. ⟦<HeldNodes<D::Bench> as Own>⟧.txn t.own ≡ n) → IfBack result (λ t. ⟦<HeldNodes<D::Bench> as Own>⟧.txn t.own ≡ n) }
+    ensures listed { LeavesLabels result (txn_label (pair_of name.now)) (Rose (⟦<Owned<D> as Turns<R>>⟧.faults turns.old) (⟦<Owned<D> as Turns<R>>⟧.faults turns.new)) (⟦<Owned<D> as Turns<R>>⟧.labels turns.old) (⟦<Owned<D> as Turns<R>>⟧.labels turns.new) }
 {
     let txn = match left {
         Left::Txn(txn) => txn,
@@ -95,6 +101,8 @@ fn fall<R, D: Disk>(
     ensures past { IfFateLimit fate (λ limit. IfTxn left (λ t. HoldsPast (⟦<HeldNodes<D::Bench> as Own>⟧.settled t.own) limit))
         → IfPastLimit result (λ limit t. HoldsPast (⟦<HeldNodes<D::Bench> as Own>⟧.settled t.own) limit) }
     ensures label { IfPurged result (IfSome (⟦<Owned<D> as Turns<R>>⟧.labels turns.new) (λ ls. has_label (txn_label (pair_of name.now)) ls ≡ false)) }
+    ensures named { (n : SpecName) → IfTxn left (λ t. ⟦<HeldNodes<D::Bench> as Own>⟧.txn t.own ≡ n) → IfBack result (λ t. ⟦<HeldNodes<D::Bench> as Own>⟧.txn t.own ≡ n) }
+    ensures listed { LeavesLabels result (txn_label (pair_of name.now)) (Rose (⟦<Owned<D> as Turns<R>>⟧.faults turns.old) (⟦<Owned<D> as Turns<R>>⟧.faults turns.new)) (⟦<Owned<D> as Turns<R>>⟧.labels turns.old) (⟦<Owned<D> as Turns<R>>⟧.labels turns.new) }
 {
     match fate {
         Fate::Barred(bar) => hand_back(rt, turns, name, left, bar),
@@ -128,6 +136,8 @@ pub(crate) fn end<R, D: Disk>(
     ensures past { IfErr done (IfRefused (λ why. IfLimit why (λ limit. IfTxn left (λ t. HoldsPast (⟦<HeldNodes<D::Bench> as Own>⟧.settled t.own) limit))))
         → IfPastLimit result (λ limit t. HoldsPast (⟦<HeldNodes<D::Bench> as Own>⟧.settled t.own) limit) }
     ensures label { IfPurged result (IfSome (⟦<Owned<D> as Turns<R>>⟧.labels turns.new) (λ ls. has_label (txn_label (pair_of name.now)) ls ≡ false)) }
+    ensures named { (n : SpecName) → IfTxn left (λ t. ⟦<HeldNodes<D::Bench> as Own>⟧.txn t.own ≡ n) → IfBack result (λ t. ⟦<HeldNodes<D::Bench> as Own>⟧.txn t.own ≡ n) }
+    ensures listed { LeavesLabels result (txn_label (pair_of name.now)) (Rose (⟦<Owned<D> as Turns<R>>⟧.faults turns.old) (⟦<Owned<D> as Turns<R>>⟧.faults turns.new)) (⟦<Owned<D> as Turns<R>>⟧.labels turns.old) (⟦<Owned<D> as Turns<R>>⟧.labels turns.new) }
 {
     match done {
         Ok(rev) => {

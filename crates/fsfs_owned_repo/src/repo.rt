@@ -1,9 +1,9 @@
 //! A repository that runs.
-ghost use Rattle.std.specs.Prelude.{◌≡◌, ◌≤◌, ◌+◌, List, length, IfOk, IfErr, IfSome, IsTrue, MatchResult};
+ghost use Rattle.std.specs.Prelude.{◌≡◌, ◌≤◌, ◌+◌, List, length, option_map, IfOk, IfErr, IfSome, IsTrue, MatchResult};
 ghost use Rattle.fsfs_base.specs.Failures.{Rose};
 ghost use Rattle.fsfs_tree.specs.Revisions.{Revision};
 ghost use Rattle.fsfs_layout.specs.Opening.{IsOpened, small_texts};
-ghost use Rattle.fsfs_disk.specs.Trace.{FirmNames, files_now, FailsAt, Performs};
+ghost use Rattle.fsfs_disk.specs.Trace.{FirmNames, files_now, labels_now, FailsAt, Performs};
 ghost use Rattle.fsfs_stands.specs.Files.{StandsFor};
 ghost use Rattle.fsfs_repo.specs.OpenFaults.{OpensBecause};
 ghost use Rattle.fsfs_opened_store.specs.Known.{HasSeenAll, DecidesSo};
@@ -44,6 +44,7 @@ impl<D: Disk> Repo<D> {
         ensures refused { IfErr result (λ e. OpensBecause (Rose (D.faults disk) (D.faults e.disk)) (D.trace disk) e.why) }
         // Where it is opened or refused is decided by the files alone.
         ensures decided { IfSome (D.trace disk) (λ t. DecidesSo (small_texts (files_now t)) result (λ o. o.said) (λ e. e.why)) }
+        ensures listed { IfOk result (λ o. ⟦<Owned<D> as Turns<()>>⟧.labels o.repo.turns ≡ option_map labels_now (D.trace disk)) }
         ensures firm { IfOk result (λ o. Performs FirmNames (D.trace disk) (D.trace o.repo.turns.disk)) }
         ensures left { IfErr result (λ e. FailsAt FirmNames (D.trace disk) (D.trace e.disk)) }
         ensures later { MatchResult result (λ o. D.faults disk ≤ ⟦<Owned<D> as Turns<()>>⟧.faults o.repo.turns) (λ e. D.faults disk ≤ D.faults e.disk) }
@@ -66,6 +67,7 @@ impl<D: Disk> Repo<D> {
         // It is alone, so it has seen all up to that one.
         ensures all { (v : View) → ⟦<Owned<D> as Turns<()>>⟧.knows self.new.turns v → length v.seen ≡ result + 1 }
         ensures same { (⟦<Owned<D> as Turns<()>>⟧.store self.new.turns).below ≡ (⟦<Owned<D> as Turns<()>>⟧.store self.old.turns).below }
+        ensures listed { ⟦<Owned<D> as Turns<()>>⟧.labels self.new.turns ≡ ⟦<Owned<D> as Turns<()>>⟧.labels self.old.turns }
         ensures mounted { D.mount_path self.new.turns.disk ≡ D.mount_path self.old.turns.disk }
         ensures faults { ⟦<Owned<D> as Turns<()>>⟧.faults self.new.turns ≡ ⟦<Owned<D> as Turns<()>>⟧.faults self.old.turns }
     {

@@ -1,5 +1,5 @@
 -- Calls of a begin's section, one after another.
-use Rattle.std.proofs.Common.{◌≡◌, ◌<◌, ℕ, List, [], ◌∷◌, ◌++◌, length, Bool, true, false, cond, refl, sym, ap, subst, ◌∙◌, arith, append_assoc, append-nil, length-append}
+use Rattle.std.proofs.Common.{◌≡◌, ◌<◌, ℕ, List, [], ◌∷◌, ◌++◌, length, Bool, true, false, cond, refl, sym, ap, subst, ◌∙◌, arith, append-nil, length-append}
 use Rattle.std.specs.Prelude.{Some, Result, Ok, Err}
 use Rattle.fsfs_places.specs.declared.place.BeginPlace.{BeginPlace}
 use Rattle.fsfs_places.specs.declared.place.BeginPlace.TheVariants as place
@@ -19,6 +19,7 @@ use Rattle.fsfs_turn.specs.Views.{View, Turned, Begins, with_txns, Called, calle
 use Rattle.fsfs_turn.specs.Learning.{TurnedFrom, CounterRead, drawn_of}
 use Rattle.fsfs_fields.specs.declared.txn_name.TxnName.{TxnName}
 use Rattle.fsfs_begin.specs.declared.name_fault.NameFault.TheVariants.{DiskFault, Memory}
+use Rattle.fsfs_turn.proofs.Reading.{begins_on}
 use Rattle.fsfs_turn_begin.specs.Steps.{Steps, End, More, Reached, Stopped, IsGiven}
 use Rattle.fsfs_turn_begin.specs.Drawing.{HasRead, Raises, Draws}
 
@@ -26,9 +27,6 @@ use Rattle.fsfs_turn_begin.specs.Drawing.{HasRead, Raises, Draws}
 
 pub begins_itself : (h : List Recorded) → Begins h h
 begins_itself h = ([], sym (append-nil h))
-
-pub begins_on : (a b c : List Recorded) → Begins b a → Begins c b → Begins c a
-begins_on a b c p q = (p.0 ++ q.0, q.1 ∙ ap (λ l. l ++ q.0) p.1 ∙ append_assoc a p.0 q.0)
 
 pub steps_on : (v m u : View) → Steps v m → Steps m u → Steps v u
 steps_on v m u (End _) more = more

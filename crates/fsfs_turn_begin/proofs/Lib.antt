@@ -3,3 +3,4 @@ pub mod Reading
 pub mod Moving
 pub mod Benching
 pub mod Parts
+pub mod Among

@@ -13,28 +13,17 @@ use Rattle.fsfs_machine.specs.declared.machine.Step.TheVariants as step
 use Rattle.fsfs_machine.specs.declared.machine.Went.{Went}
 use Rattle.fsfs_machine.specs.Machine.{is_fine_in, answer}
 use Rattle.fsfs_machine.specs.Kept.{IsIn}
-use Rattle.fsfs_turn.specs.Alone.{are_harmless, brings_doubt}
+use Rattle.fsfs_turn.specs.Alone.{BringsNoDoubt, are_harmless, brings_doubt}
 use Rattle.fsfs_turn.specs.Bytes.{bytes_beside, bytes_of}
 use Rattle.fsfs_turn.specs.Views.{View, Begins, Looked, LockTaken, FoundStuck, LockGiven, MayGive, outside}
 use Rattle.fsfs_turn.specs.Learning.{BenchMade, SpentPurged, MayMake, drawn_of, with_named, with_spent}
+use Rattle.fsfs_turn.proofs.Doubts.{harmless_more, same_faults}
 use Rattle.fsfs_turn_begin.specs.Steps.{Steps, End, Stopped, IsGiven, HasName, Moved, HasFault}
 use Rattle.fsfs_turn_begin.specs.Drawing.{IsUndrawn}
 use Rattle.fsfs_turn_begin.specs.Faults.{Cause, named_fault}
 use Rattle.fsfs_turn_begin.specs.Begun.{IsMade}
-use Rattle.fsfs_turn_begin.proofs.Going.{begins_itself, begins_on, steps_on, one_step, one_turn}
-
--- ---- faults that leave no revision in doubt
-
-same_harmless : (before now : List DiskPlace) → now ≡ before → are_harmless before ≡ true → are_harmless now ≡ true
-same_harmless before now same few = ap (λ l. are_harmless l) same ∙ few
-
-harmless_more : (places : List DiskPlace) (at : DiskPlace) → brings_doubt at ≡ false → are_harmless places ≡ true → are_harmless (places ++ at ∷ []) ≡ true
-harmless_more [] at none few = ap (λ b. cond b false true) none
-harmless_more (x ∷ places) at none few = by_test (brings_doubt x) few (λ less. harmless_more places at none less)
-  where
-    by_test : (b : Bool) → cond b false (are_harmless places) ≡ true → (are_harmless places ≡ true → are_harmless (places ++ at ∷ []) ≡ true) → cond b false (are_harmless (places ++ at ∷ [])) ≡ true
-    by_test true e rest = absurd cc
-    by_test false e rest = rest e
+use Rattle.fsfs_turn.proofs.Reading.{begins_on}
+use Rattle.fsfs_turn_begin.proofs.Going.{begins_itself, steps_on, one_step, one_turn}
 
 -- ---- the pass moved on
 
@@ -72,7 +61,7 @@ by_look young v u none l = record {
   more = [];
   given = ap {A = View} (λ z. z.given) l.is;
   outside = ap {A = View} (λ z. z.section) l.is ∙ none;
-  doubtless = same_harmless v.pass.faults u.pass.faults (ap {A = View} (λ z. z.pass.faults) l.is);
+  doubtless = same_faults v u (ap {A = View} (λ z. z.pass.faults) l.is);
   steps = one_turn [] (step.Look v.number) (outcome.Youngest young) v u l.turned;
 }
 
@@ -88,7 +77,7 @@ by_stuck at v u none f = record {
   more = [];
   given = ap {A = View} (λ z. z.given) f.is;
   outside = ap {A = View} (λ z. z.section) f.is ∙ none;
-  doubtless = same_harmless v.pass.faults u.pass.faults (ap {A = View} (λ z. z.pass.faults) f.is);
+  doubtless = same_faults v u (ap {A = View} (λ z. z.pass.faults) f.is);
   steps = one_turn [] (step.TakeLock v.number) (outcome.Stuck at) v u f.turned;
 }
 
@@ -104,7 +93,7 @@ by_name name v u h = record {
   more = name ∷ [];
   given = ap {A = View} (λ z. z.given) h.is;
   outside = ap {A = View} (λ z. z.section) h.is;
-  doubtless = same_harmless v.pass.faults u.pass.faults (ap {A = View} (λ z. z.pass.faults) h.is);
+  doubtless = same_faults v u (ap {A = View} (λ z. z.pass.faults) h.is);
   steps = h.steps;
 }
 
@@ -158,7 +147,7 @@ module _ (v m k u : View) (t : LockTaken v m) (g : LockGiven (step.GiveLock k.nu
     steps = course;
   }
 
-  pub moved_by : (number : k.number ≡ m.number) → k.layout ≡ m.layout → k.since ≡ m.since → k.opened ≡ m.opened → k.pass.mine ≡ m.pass.mine → k.pass.least ≡ m.pass.least → k.given ≡ m.given → (are_harmless m.pass.faults ≡ true → are_harmless k.pass.faults ≡ true) → Moved v u
+  pub moved_by : (number : k.number ≡ m.number) → k.layout ≡ m.layout → k.since ≡ m.since → k.opened ≡ m.opened → k.pass.mine ≡ m.pass.mine → k.pass.least ≡ m.pass.least → k.given ≡ m.given → BringsNoDoubt m k → Moved v u
   moved_by number layout since opened mine least given doubtless = record {
     number = ap {A = View} (λ z. z.number) g.is ∙ number ∙ ap {A = View} (λ z. z.number) t.is;
     layout = ap {A = View} (λ z. z.layout) g.is ∙ layout ∙ ap {A = View} (λ z. z.layout) t.is;
@@ -170,7 +159,7 @@ module _ (v m k u : View) (t : LockTaken v m) (g : LockGiven (step.GiveLock k.nu
     more = [];
     given = ap {A = View} (λ z. z.given) g.is ∙ given ∙ ap {A = View} (λ z. z.given) t.is;
     outside = ap {A = View} (λ z. z.section) g.is;
-    doubtless = λ few. same_harmless k.pass.faults u.pass.faults (ap {A = View} (λ z. z.pass.faults) g.is) (doubtless (same_harmless v.pass.faults m.pass.faults (ap {A = View} (λ z. z.pass.faults) t.is) few));
+    doubtless = λ few. same_faults k u (ap {A = View} (λ z. z.pass.faults) g.is) (doubtless (same_faults v m (ap {A = View} (λ z. z.pass.faults) t.is) few));
     steps = course;
   }
 
@@ -183,12 +172,12 @@ undrawn base v m k u (names.Small fault) t w g = absurd w
 undrawn base v m k u names.NamesFull t w g = absurd w
 undrawn base v m k u (names.DiskFault call) t w g = (
   moved_by v m k u t g w.grows w.steps (ap {A = View} (λ z. z.number) w.is) (ap {A = View} (λ z. z.layout) w.is) (ap {A = View} (λ z. z.since) w.is) (ap {A = View} (λ z. z.opened) w.is) (ap {A = View} (λ z. z.pass.mine) w.is) (ap {A = View} (λ z. z.pass.least) w.is) (ap {A = View} (λ z. z.given) w.is)
-      (λ few. ap {A = View} (λ z. are_harmless z.pass.faults) w.is ∙ harmless_more m.pass.faults (place.Begin call) refl few),
+      (λ few. ap {A = View} (λ z. are_harmless z.pass.faults) w.is ∙ harmless_more m.pass.faults (place.Begin call) few refl),
   record { before = v.pass.faults; later = []; is = stopped_faults v m k u t g w.grows w.steps call w },
 )
 undrawn base v m k u names.Memory t w g = (
   moved_by v m k u t g w.1.grows w.1.steps (ap {A = View} (λ z. z.number) w.1.is) (ap {A = View} (λ z. z.layout) w.1.is) (ap {A = View} (λ z. z.since) w.1.is) (ap {A = View} (λ z. z.opened) w.1.is) (ap {A = View} (λ z. z.pass.mine) w.1.is) (ap {A = View} (λ z. z.pass.least) w.1.is) (ap {A = View} (λ z. z.given) w.1.is)
-      (same_harmless m.pass.faults k.pass.faults (ap {A = View} (λ z. z.pass.faults) w.1.is)),
+      (same_faults m k (ap {A = View} (λ z. z.pass.faults) w.1.is)),
   tt,
 )
 
@@ -200,7 +189,7 @@ Tells at fine v u = u ≡ record v { pass = record v.pass { seen = length u.seen
 
 told_harmless : (at : DiskPlace) (fine : Bool) (places : List DiskPlace) → brings_doubt at ≡ false → are_harmless places ≡ true → are_harmless (cond fine places (places ++ at ∷ [])) ≡ true
 told_harmless at true places none few = few
-told_harmless at false places none few = harmless_more places at none few
+told_harmless at false places none few = harmless_more places at few none
 
 pub told_moved : (at : DiskPlace) (fine : Bool) (v u : View) → brings_doubt at ≡ false → v.section ≡ None → Tells at fine v u → Begins u.seen v.seen → Steps v u → Moved v u
 told_moved at fine v u harmless none is grows steps = record {
@@ -227,6 +216,7 @@ spent_steps name went v u b = one_step (with_spent name) (step.PurgeSpent v.numb
 pub is_made : (x : Drawn) (went : Went) (v u : View) → is_fine_in went ≡ true → BenchMade x went v u → IsMade v u
 is_made x went v u fine b = record {
   is = b.is ∙ ap (λ (c : Bool). record v { pass = record v.pass { seen = length u.seen; faults = cond c v.pass.faults (v.pass.faults ++ place.MakeBench ∷ []) }; seen = u.seen }) fine;
+  all = b.all;
   grows = b.grows;
   steps = made_steps x went v u b;
 }

@@ -26,16 +26,9 @@ use Rattle.fsfs_turn_begin.specs.Faults.{Cause, IfBench, IfBenchDisk, IsNoBench,
 use Rattle.fsfs_turn_begin.specs.Begun.{IsMade, HasBegun}
 use Rattle.fsfs_turn_begin.specs.declared.begin_fault.BeginFault.{BeginFault}
 use Rattle.fsfs_turn_begin.specs.declared.begin_fault.BeginFault.TheVariants.{NoRev, Stuck, Small, NamesFull, Wrong, DiskFault, BenchFault, Memory}
-use Rattle.fsfs_turn_begin.proofs.Going.{begins_on, steps_on, one_turn}
+use Rattle.fsfs_turn.proofs.Reading.{begins_on}
+use Rattle.fsfs_turn_begin.proofs.Going.{steps_on, one_turn}
 use Rattle.fsfs_turn_begin.proofs.Moving.{moved_itself, moved_on, by_look, by_name, bytes_stay, longer}
-
--- ---- the base's root
-
--- why it was not read; that told the pass nothing
-pub unread : (base : ℕ) (v : View) (e : ReadError) {X : Type 0} (view : X → NodeRev) → v.section ≡ None → base < length v.seen → Answers view (RootOf (bytes_of v.seen) base) (Err e) → Moved v v × (v.given ≡ v.given) × Cause base (read_fault e) v
-unread base v errors.OutOfMemory view none less told = (moved_itself v none, refl, tt)
-unread base v errors.DiskFault view none less told = (moved_itself v none, refl, tt)
-unread base v (errors.Wrong w) view none less told = (moved_itself v none, refl, (less, told))
 
 -- ---- what was drawn
 

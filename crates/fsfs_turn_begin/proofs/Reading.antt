@@ -21,7 +21,7 @@ use Rattle.fsfs_machine.specs.Machine.{is_fine_in}
 use Rattle.fsfs_turn.specs.Views.{View, Answers}
 use Rattle.fsfs_turn.specs.Learning.{ReadsCounter, CounterRead}
 use Rattle.fsfs_places.specs.declared.place.BeginPlace.TheVariants as place
-use Rattle.fsfs_turn_begin.specs.Steps.{IsPastNumbers}
+use Rattle.fsfs_turn_begin.specs.Steps.{IsPastNumbers, MeetsPastNumbers}
 use Rattle.fsfs_turn_begin.specs.Drawing.{Counts, HasRead}
 use Rattle.fsfs_turn_begin.proofs.Going.{count_reached, count_stopped}
 
@@ -36,9 +36,9 @@ past_there : {Lasting : Type 0} (s : StoreView Lasting) (m : Files) (text : List
 past_there s m text n told there line many =
     record { files = m; told = told; number = n; line = subst (λ (t : List ℕ). IsBase36Line t n) (sym (ap (λ (o : Option (List ℕ)). unwrap_or o []) there)) line; past = many }
 
--- the same store, before a call that left its files as they were
-pub past_before : {L M : Type 0} (old : StoreView L) (new : StoreView M) → new.files ≡ old.files → IsPastNumbers new → IsPastNumbers old
-past_before old new same past = record { files = past.files; told = sym same ∙ past.told; number = past.number; line = past.line; past = past.past }
+-- of turns before calls that left what no reading changes
+pub met_before : {T L : Type 0} (store : T → StoreView L) (old mid : T) → (store mid).below ≡ (store old).below → MeetsPastNumbers store mid → MeetsPastNumbers store old
+met_before store old mid same m = record { met = m.met; lasting = m.lasting ∙ same; past = m.past }
 
 -- one case each
 pub either_way : {A B P Q : Type 0} → (A → B) → (P → Q) → A ⊎ P → B ⊎ Q
@@ -56,14 +56,18 @@ err_either (Err e) A f g w = either_way f g w
 module _ {E : Type 0} (known : View → Type 0) {Lasting : Type 0} (s : StoreView Lasting) (base : ℕ) (old new : List ℕ) (v : View) (size : length old ≡ 64) where
   -- where bytes came, they are the number's
   pub counts_some : (count : ℕ) (bytes : List ℕ) (found : Result B36 NameFault) → bytes ≡ take count new → (r : Result (Option ℕ) E) → r ≡ Ok (Some count) → ReadsCounter known s.files base r old new v
-      → IfOk found (λ b. IsBase36Line bytes b.number) → IfErr found (IsSmallIn bytes) → Counts known base found v ⊎ IsPastNumbers s
-  counts_some count bytes found bytes_are r is c ok err = ⊎_elim (λ few. inl (by_found few found ok err)) (λ many. inr (past_there s c.files c.text c.number c.files_are c.there c.line many)) (few_or_many c.number)
+      → IfOk found (λ b. IsBase36Line bytes b.number) → IfErr found (IsSmallIn bytes) → Counts known base found v ⊎ (known v × IfOk found (λ b. 2 ^ 64 - 1 ≤ b.number) × IsPastNumbers s)
+  counts_some count bytes found bytes_are r is c ok err = ⊎_elim (λ few. inl (by_found few found ok err)) (λ many. inr (c.full many, past_found many found ok, past_there s c.files c.text c.number c.files_are c.there c.line many)) (few_or_many c.number)
     where
       first : bytes ≡ take 64 c.text
       first = bytes_are ∙ read_first (Some c.text) old new (Some count) count size (subst (λ q. IfOk q (IsRead (Some c.text) 0 old new)) is c.read) refl
 
       line : IsBase36Line bytes c.number
       line = subst (λ (t : List ℕ). IsBase36Line t c.number) (sym first) (first_of_text IsBase36Line 64 c.text c.number base36_line_short c.line)
+
+      past_found : 2 ^ 64 - 1 ≤ c.number → (found : Result B36 NameFault) → IfOk found (λ b. IsBase36Line bytes b.number) → IfOk found (λ b. 2 ^ 64 - 1 ≤ b.number)
+      past_found many (Ok b) ok = let same : c.number ≡ b.number = one_number bytes c.number b.number line ok in subst (λ n. 2 ^ 64 - 1 ≤ n) same many
+      past_found many (Err why) ok = tt
 
       turned : c.number < 2 ^ 64 - 1 → (u : View) × (went : Went) × known u × (is_fine_in went ≡ true) × CounterRead base c.number went v u
       turned few = subst (λ (q : Result (Option ℕ) E). (u : View) × (went : Went) × known u × Answers q went × CounterRead base c.number went v u) is (c.turned few)
@@ -82,13 +86,13 @@ module _ {E : Type 0} (known : View → Type 0) {Lasting : Type 0} (s : StoreVie
       by_found few (Err Memory) ok err = absurd err
 
   -- there is such a file
-  pub counts_none : (found : Result B36 NameFault) (r : Result (Option ℕ) E) → r ≡ Ok None → ReadsCounter known s.files base r old new v → Counts known base found v ⊎ IsPastNumbers s
+  pub counts_none : (found : Result B36 NameFault) (r : Result (Option ℕ) E) → r ≡ Ok None → ReadsCounter known s.files base r old new v → Counts known base found v ⊎ (known v × IfOk found (λ b. 2 ^ 64 - 1 ≤ b.number) × IsPastNumbers s)
   counts_none found r is c =
       let read : IsRead (Some c.text) 0 old new None = subst (λ q. IfOk q (IsRead (Some c.text) 0 old new)) is c.read in
       let h = read.0 in absurd cc
 
-  pub counts_failed : (e : E) (r : Result (Option ℕ) E) → r ≡ Err e → ReadsCounter known s.files base r old new v → Counts known base (Err (DiskFault place.Read)) v ⊎ IsPastNumbers s
-  counts_failed e r is c = ⊎_elim (λ few. inl (failed few)) (λ many. inr (past_there s c.files c.text c.number c.files_are c.there c.line many)) (few_or_many c.number)
+  pub counts_failed : (e : E) (r : Result (Option ℕ) E) → r ≡ Err e → ReadsCounter known s.files base r old new v → Counts known base (Err (DiskFault place.Read)) v ⊎ (known v × Unit {0} × IsPastNumbers s)
+  counts_failed e r is c = ⊎_elim (λ few. inl (failed few)) (λ many. inr (c.full many, tt, past_there s c.files c.text c.number c.files_are c.there c.line many)) (few_or_many c.number)
     where
       failed : c.number < 2 ^ 64 - 1 → Counts known base (Err (DiskFault place.Read)) v
       failed few =

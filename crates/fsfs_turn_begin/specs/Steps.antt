@@ -1,5 +1,5 @@
 -- What the turns of a begin come to, in what the pass knows.
-use Rattle.std.specs.Prelude.{◌≡◌, ◌≤◌, ◌<◌, ◌^◌, ◌-◌, ℕ, List, [], ◌∷◌, ◌++◌, length, true, false, Some, None}
+use Rattle.std.specs.Prelude.{◌≡◌, ◌≤◌, ◌<◌, ◌^◌, ◌-◌, ℕ, List, [], ◌∷◌, ◌++◌, length, false, Some, None}
 use Rattle.fsfs_base.specs.Files.{Files}
 use Rattle.fsfs_layout.specs.FileNames.{only_name}
 use Rattle.fsfs_layout.specs.Opening.{text_at}
@@ -14,7 +14,7 @@ use Rattle.fsfs_machine.specs.declared.machine.Section.TheVariants.{Over}
 use Rattle.fsfs_machine.specs.declared.machine.Outcome.{Outcome}
 use Rattle.fsfs_machine.specs.declared.machine.Step.{Step}
 use Rattle.fsfs_machine.specs.Machine.{World}
-use Rattle.fsfs_turn.specs.Alone.{are_harmless}
+use Rattle.fsfs_turn.specs.Alone.{BringsNoDoubt}
 use Rattle.fsfs_turn.specs.Views.{View, Begins}
 use Rattle.fsfs_turn.specs.Learning.{TurnedFrom}
 
@@ -61,7 +61,7 @@ pub record Moved (v u : View) : Type 0 where
   pub more : List ℕ
   pub given : u.given ≡ more ++ v.given
   pub outside : u.section ≡ None
-  pub doubtless : are_harmless v.pass.faults ≡ true → are_harmless u.pass.faults ≡ true
+  pub doubtless : BringsNoDoubt v u
   pub steps : Steps v u
 
 -- a call failed at this place
@@ -70,10 +70,16 @@ pub record HasFault (place : DiskPlace) (u : View) : Type 0 where
   pub later : List DiskPlace
   pub is : u.pass.faults ≡ before ++ place ∷ later
 
--- In `db/txn-current` a number stands that is past those that the machine reads: behind a draw of it nothing is known.
+-- In `db/txn-current` a number stands that is past those that the machine reads.
 pub record IsPastNumbers {Lasting : Type 0} (s : StoreView Lasting) : Type 0 where
   pub files : Files
   pub told : s.files ≡ Some files
   pub number : ℕ
   pub line : IsBase36Line (text_at files (only_name TxnCurrent)) number
   pub past : 2 ^ 64 - 1 ≤ number
+
+-- such a number stood there as a call of these turns met the files
+pub record MeetsPastNumbers {T Lasting : Type 0} (store : T → StoreView Lasting) (turns : T) : Type 0 where
+  pub met : T
+  pub lasting : (store met).below ≡ (store turns).below
+  pub past : IsPastNumbers (store met)

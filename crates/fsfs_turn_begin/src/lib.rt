@@ -5,7 +5,9 @@ mod begin_fault;
 mod beginning;
 mod drawing;
 mod making;
+mod numbers;
 mod root;
 
 pub use begin_fault::BeginFault;
 pub use beginning::begin;
+pub use numbers::Numbers;

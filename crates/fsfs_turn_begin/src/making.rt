@@ -1,16 +1,18 @@
 // The bench of a transaction whose name was drawn.
-ghost use Rattle.std.specs.Prelude.{◌≡◌, ◌≤◌, true, IfOk, IfErr, OnOk, OnErr, IfSome, option_map};
+ghost use Rattle.std.specs.Prelude.{◌≡◌, ◌≤◌, true, false, IfOk, IfErr, OnOk, OnErr, IfSome, option_map};
 ghost use Rattle.fsfs_base.specs.Failures.{Rose};
-ghost use Rattle.fsfs_disk.specs.Labels.{has_label};
+ghost use Rattle.fsfs_disk.specs.Labels.{has_label, with_label};
 ghost use Rattle.fsfs_noderev.specs.Writing.{HasText};
 ghost use Rattle.fsfs_begin.specs.Beginning.{BeginsOn};
 ghost use Rattle.fsfs_begin.specs.Benches.{first_files, TellsRoot};
 ghost use Rattle.fsfs_txns.specs.Txns.{pair_of, txn_label};
+ghost use Rattle.fsfs_turn.specs.Labels.{Relabels};
 ghost use Rattle.fsfs_turn.specs.Views.{View};
 ghost use Rattle.fsfs_turn.specs.Learning.{MayMake, drawn_of};
 ghost use Rattle.fsfs_turn_begin.specs.Steps.{HasFault, Moved};
 ghost use Rattle.fsfs_turn_begin.specs.Faults.{Cause, IfBench, IfDisk, IfBenchDisk, IsDropped, IsNoBase, made_fault};
 ghost use Rattle.fsfs_turn_begin.specs.Begun.{HoldsRoot, IsMade};
+ghost use Rattle.fsfs_turn_begin.specs.Labels.{IsUnlisted, ListsNoMore};
 
 use crate::begin_fault::BeginFault;
 use fsfs_begin::{Begun, BenchFault, fill, first_root};
@@ -40,6 +42,7 @@ fn begin_bench<R, T: Turns<R>>(
     id: &NodeId,
     root: &[u8],
 ) -> Result<T::Bench, BenchFault>
+    requires due { T.bound turns.old ≡ true → (v : View) × T.knows turns.old v × MayMake v (drawn_of name.now.base name.now.number.number) }
     ensures filled { IfOk result (λ bench. T.Bench.contents bench ≡ option_map (λ _. first_files id.now root.now) (T.labels turns.new)) }
     ensures sound { IfOk result (λ bench. T.Bench.faults bench ≡ 0) }
     ensures kept { IfSome (T.labels turns.new) (λ ls. OnOk result (has_label (txn_label (pair_of name.now)) ls ≡ true)) }
@@ -47,7 +50,10 @@ fn begin_bench<R, T: Turns<R>>(
     ensures refused { (v : View) → T.knows turns.old v → MayMake v (drawn_of name.now.base name.now.number.number)
         → IfErr result (λ why. (u : View) × T.knows turns.new u × Moved v u × (u.given ≡ v.given) × IfBenchDisk why (HasFault DiskPlace.MakeBench u)) }
     ensures dropped { OnErr result (IsDropped (txn_label (pair_of name.now)) (T.labels turns.new) (Rose (T.faults turns.old) (T.faults turns.new))) }
+    ensures listed { OnOk result (Relabels (T.bound turns.old) (with_label (txn_label (pair_of name.now))) (T.labels turns.old) (T.labels turns.new)) }
+    ensures unlisted { OnErr result (T.bound turns.old ≡ false → IsUnlisted (txn_label (pair_of name.now)) (Rose (T.faults turns.old) (T.faults turns.new)) (T.labels turns.old) (T.labels turns.new)) }
     ensures mounted { T.mount_path turns.new ≡ T.mount_path turns.old }
+    ensures duty { T.bound turns.new ≡ T.bound turns.old }
     ensures later { T.faults turns.old ≤ T.faults turns.new }
     ensures cause { IfErr result (λ why. IfBenchDisk why (Rose (T.faults turns.old) (T.faults turns.new))) }
 {
@@ -75,7 +81,8 @@ pub(crate) fn make<R, T: Turns<R>>(
     name: TxnName,
     base: &NodeRev,
 ) -> Result<Begun<T::Bench>, BeginFault>
-    requires { HasText base.now }
+    requires text { HasText base.now }
+    requires due { T.bound turns.old ≡ true → (v : View) × T.knows turns.old v × MayMake v (drawn_of name.base name.number.number) }
     ensures name { IfOk result (λ begun. begun.name ≡ name) }
     ensures root { IfOk result (λ begun. BeginsOn name base.now begun.root) }
     ensures filled { IfOk result (λ begun. HoldsRoot begun.root (T.labels turns.new) (T.Bench.contents begun.bench)) }
@@ -86,7 +93,10 @@ pub(crate) fn make<R, T: Turns<R>>(
     ensures refused { (v : View) → T.knows turns.old v → MayMake v (drawn_of name.base name.number.number)
         → IfErr result (λ why. (u : View) × T.knows turns.new u × Moved v u × (u.given ≡ v.given) × Cause name.base why u) }
     ensures dropped { IfErr result (λ why. IfBench why (IsDropped (txn_label (pair_of name)) (T.labels turns.new) (Rose (T.faults turns.old) (T.faults turns.new)))) }
+    ensures listed { OnOk result (Relabels (T.bound turns.old) (with_label (txn_label (pair_of name))) (T.labels turns.old) (T.labels turns.new)) }
+    ensures unlisted { OnErr result (T.bound turns.old ≡ false → ListsNoMore name.base (Rose (T.faults turns.old) (T.faults turns.new)) (T.labels turns.old) (T.labels turns.new)) }
     ensures mounted { T.mount_path turns.new ≡ T.mount_path turns.old }
+    ensures duty { T.bound turns.new ≡ T.bound turns.old }
     ensures later { T.faults turns.old ≤ T.faults turns.new }
     ensures cause { IfErr result (λ why. IfDisk why (Rose (T.faults turns.old) (T.faults turns.new))) }
     ensures there { IfErr result IsNoBase }

@@ -1,22 +1,24 @@
 // The root of a transaction's base.
-ghost use Rattle.std.specs.Prelude.{◌≡◌, ◌≤◌, ◌<◌, length, IfOk, IfErr};
+ghost use Rattle.std.specs.Prelude.{◌≡◌, ◌≤◌, ◌<◌, ℕ, length, IfOk, IfErr};
 ghost use Rattle.fsfs_base.specs.Failures.{Rose};
 ghost use Rattle.fsfs_damage.specs.Causes.{IfDisk};
 ghost use Rattle.fsfs_damage.specs.Readings.{Answers};
 ghost use Rattle.fsfs_noderev.specs.Writing.{HasText};
 ghost use Rattle.fsfs_shows.specs.Reading.{RootOf};
 ghost use Rattle.fsfs_turn.specs.Bytes.{bytes_of};
-ghost use Rattle.fsfs_turn.specs.Views.{View};
+ghost use Rattle.fsfs_turn.specs.Courses.{ReadOnly};
+ghost use Rattle.fsfs_turn.specs.Labels.{KeepsLabels};
+ghost use Rattle.fsfs_turn.specs.Views.{View, Looked};
 
 use fsfs_dag::{PlacedNode, root_of};
 use fsfs_damage::ReadError;
 use fsfs_fields::RevNum;
-use fsfs_turn::LoneTurns;
-use fsfs_turn_book::{over_turns, turns_of};
+use fsfs_turn::Turns;
+use fsfs_turn_book::{over_pass, pass_of};
 use std::alloc::Global;
 
-/// The root of a revision, read by turns, and the turns back. To a pass that is alone that tells nothing.
-pub(crate) fn base_root<R, T: LoneTurns<R>>(
+/// The root of a revision, read by turns, and the turns back. The pass is told the youngest revision first.
+pub(crate) fn base_root<R, T: Turns<R>>(
     alloc: Global,
     rt: &R,
     turns: T,
@@ -24,13 +26,18 @@ pub(crate) fn base_root<R, T: LoneTurns<R>>(
 ) -> (T, Result<PlacedNode, ReadError>)
     ensures told { (v : View) → T.knows turns v → base < length v.seen → Answers (λ found. found.node) (RootOf (bytes_of v.seen) base) result.1 }
     ensures writable { IfOk result.1 (λ found. HasText found.node) }
-    ensures still { (v : View) → T.knows turns v → T.knows result.0 v }
+    ensures onward { (v : View) → T.knows turns v → (m : View) × (young : ℕ) × (u : View) × T.knows result.0 u × Looked young v m × ReadOnly m u }
+    ensures below { (T.store result.0).below ≡ (T.store turns).below }
     ensures mounted { T.mount_path result.0 ≡ T.mount_path turns }
+    ensures duty { T.bound result.0 ≡ T.bound turns }
+    ensures listed { KeepsLabels (T.bound turns) (T.labels turns) (T.labels result.0) }
     ensures later { T.faults turns ≤ T.faults result.0 }
     ensures cause { IfErr result.1 (λ e. IfDisk e (Rose (T.faults turns) (T.faults result.0))) }
 {
-    let mut book = over_turns(alloc, rt, turns);
+    let mut turns = turns;
+    let youngest = turns.look();
+    let mut book = over_pass(alloc, rt, turns, youngest);
     let found = root_of(alloc, &mut book, base);
-    let turns = turns_of(book);
+    let turns = pass_of(book);
     (turns, found)
 }

@@ -1,3 +1,4 @@
+use Rattle.std.proofs.Common.{◌≡◌, ◌∙◌}
 use Rattle.fsfs_draft.proofs.Stages.{meaning, if_open}
 use Rattle.fsfs_draft.proofs.txn_draft.marshal_stage.Goals as goal
 
@@ -12,3 +13,6 @@ returns-in-Open-clause-means g c = λ h x means.
 pub returns-in-Open-clause-refused : goal.returns-in-Open-clause-refused
 returns-in-Open-clause-refused g c = λ h x tells means youngest.
     c.marshal.ensures.refused h x tells (if_open c.args.stage.now c.in-Open.live (meaning g.B.Bench.contents h x) c.in-Open.is means) youngest
+
+pub returns-in-Open-clause-named : goal.returns-in-Open-clause-named
+returns-in-Open-clause-named g c = λ name is. c.marshal.ensures.name ∙ if_open c.args.stage.now c.in-Open.live (λ o. o.txn.own.txn ≡ name) c.in-Open.is is

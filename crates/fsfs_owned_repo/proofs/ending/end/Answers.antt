@@ -1,7 +1,7 @@
 use Rattle.std.proofs.Common.{sym, subst}
 use Rattle.fsfs_base.specs.Failures.{Rose}
 use Rattle.fsfs_commit.proofs.Turning.{if_ok, if_err}
-use Rattle.fsfs_commit.specs.Works.{BringsNoDoubt}
+use Rattle.fsfs_turn.specs.Alone.{BringsNoDoubt}
 use Rattle.fsfs_owned_repo.specs.Fates.{Fated, IfStopped, UnlessDoubtful}
 use Rattle.fsfs_owned_repo.proofs.Commits.{dropped_as, given_still, fated, certain_so, stopped, rose_before}
 use Rattle.fsfs_owned_repo.proofs.Limits.{fate_past}

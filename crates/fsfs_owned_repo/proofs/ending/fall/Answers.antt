@@ -1,6 +1,6 @@
 use Rattle.std.proofs.Common.{subst}
 use Rattle.fsfs_base.specs.Failures.{Rose}
-use Rattle.fsfs_commit.specs.Works.{BringsNoDoubt}
+use Rattle.fsfs_turn.specs.Alone.{BringsNoDoubt}
 use Rattle.fsfs_owned_repo.specs.Fates.{Fated, IfStopped, UnlessDoubtful}
 use Rattle.fsfs_owned_repo.proofs.Commits.{no_more, rose_later}
 use Rattle.fsfs_owned_repo.proofs.Limits.{barred_past}
@@ -24,3 +24,9 @@ returns-in-DiskFault-clause-cause g c = λ n rose.
 
 pub returns-in-Barred-clause-past : goal.returns-in-Barred-clause-past
 returns-in-Barred-clause-past g c = λ past. c.hand_back.ensures.past (barred_past c.args.fate c.in-Barred.bar _ c.in-Barred.is past)
+
+pub returns-in-DiskFault-clause-listed : goal.returns-in-DiskFault-clause-listed
+returns-in-DiskFault-clause-listed g c = (c.drop_bench.result, c.drop_bench.ensures.listed)
+
+pub returns-in-BenchFault-clause-listed : goal.returns-in-BenchFault-clause-listed
+returns-in-BenchFault-clause-listed g c = (c.drop_bench-in-BenchFault.result, c.drop_bench-in-BenchFault.ensures.listed)

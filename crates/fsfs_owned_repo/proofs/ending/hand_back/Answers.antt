@@ -1,4 +1,4 @@
-use Rattle.std.proofs.Common.{sym, ◌∙◌}
+use Rattle.std.proofs.Common.{◌≡◌, sym, ◌∙◌}
 use Rattle.fsfs_commit.proofs.Turning.{landings_name}
 use Rattle.fsfs_owned_repo.proofs.Commits.{no_more, back_so, of_txn}
 use Rattle.fsfs_owned_repo.proofs.Limits.{bar_past}
@@ -18,3 +18,12 @@ returns-clause-ends g c = λ p v u x y known moved none given named landings bar
 
 pub returns-clause-past : goal.returns-clause-past
 returns-clause-past g c = λ past. bar_past c.args.bar c.args.left c.in-Txn.txn _ c.in-Txn.is past
+
+pub returns-in-Bench-clause-listed : goal.returns-in-Bench-clause-listed
+returns-in-Bench-clause-listed g c = (c.drop_bench.result, c.drop_bench.ensures.listed)
+
+pub returns-then-is_spent-clause-listed : goal.returns-then-is_spent-clause-listed
+returns-then-is_spent-clause-listed g c = (c.drop_bench-then-is_spent.result, c.drop_bench-then-is_spent.ensures.listed)
+
+pub returns-clause-named : goal.returns-clause-named
+returns-clause-named g c = λ n is. of_txn c.args.left c.in-Txn.txn (λ t. t.own.txn ≡ n) c.in-Txn.is is

@@ -1,4 +1,4 @@
-use Rattle.std.proofs.Common.{List, ℕ, refl, sym, subst}
+use Rattle.std.proofs.Common.{List, ℕ, inl, inr, refl, sym, subst}
 use Rattle.fsfs_txn_files.specs.Texts.{IsNodeFile}
 use Rattle.fsfs_begin.proofs.FirstFiles.{first_tell}
 use Rattle.fsfs_turn_begin.specs.Faults.{Cause}
@@ -24,3 +24,15 @@ returns-in-Ok-begin_bench-clause-tells g c =
     let is : IsNodeFile root text = record { lines = c.in-Ok-write_noderev.ensures.lines; reads_back = c.in-Ok-write_noderev.ensures.reads_back } in
     first_tell root c.deref.result.now (g.T.Turns.labels c.begin_bench.new.turns) (g.T.Bench.Bench.contents c.in-Ok-begin_bench.bench) c.id_fits.ensures
     (subst (λ (t : List ℕ). IsNodeFile root t) (sym c.deref.ensures.value) is) c.in-Ok-begin_bench.ensures.filled
+
+pub begin_bench-requires : goal.begin_bench-requires
+begin_bench-requires g c = record { due = λ bound. c.requires.due bound }
+
+pub returns-in_default-clause-unlisted : goal.returns-in_default-clause-unlisted
+returns-in_default-clause-unlisted g c = λ free. inl refl
+
+pub returns-in_default-write_noderev-clause-unlisted : goal.returns-in_default-write_noderev-clause-unlisted
+returns-in_default-write_noderev-clause-unlisted g c = λ free. inl refl
+
+pub returns-in-Err-clause-unlisted : goal.returns-in-Err-clause-unlisted
+returns-in-Err-clause-unlisted g c = λ free. inr (c.args.name.number.number, c.in-Err.ensures.unlisted free)

@@ -83,3 +83,14 @@ returns-in-Err-final_text-clause-found g c =
     let settled = c.proto_length.ensures.settled ∙ c.forget.ensures.settled in
     let items = c.items.ensures ∙ ap (λ o. (folder_of (files_of o.settled) o.settled_next o.items.items (contents o.bench) o.proto).items) c.own-own.ensures in
     made_found c.in-Err-final_text.error _ _ _ _ _ c.items.result.now c.not_made.ensures (folder ∙ sym settled) items c.in-Err-final_text.ensures.refused
+
+-- ---- its name stays
+
+pub returns-in-Err-clause-name : goal.returns-in-Err-clause-name
+returns-in-Err-clause-name g c = c.proto_length.ensures.name ∙ c.forget.ensures.name
+
+pub returns-in-Ok-final_text-clause-name : goal.returns-in-Ok-final_text-clause-name
+returns-in-Ok-final_text-clause-name g c = c.proto_length.ensures.name ∙ c.forget.ensures.name
+
+pub returns-in-Err-final_text-clause-name : goal.returns-in-Err-final_text-clause-name
+returns-in-Err-final_text-clause-name g c = c.proto_length.ensures.name ∙ c.forget.ensures.name

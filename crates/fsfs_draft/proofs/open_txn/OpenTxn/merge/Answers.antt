@@ -3,12 +3,20 @@ use Rattle.std.specs.Prelude.{length}
 use Rattle.fsfs_base.proofs.ResultLemmas.{none_of}
 use Rattle.fsfs_layout.specs.FileNames.{file_name}
 use Rattle.fsfs_layout.specs.declared.repository_file.RepositoryFile.TheVariants as file
+use Rattle.fsfs_fetch.specs.ViewLemmas.{known_later}
 use Rattle.fsfs_turn.proofs.Standings.{there_below}
+use Rattle.fsfs_turn.proofs.Reading.{reads_on}
+use Rattle.fsfs_turn.specs.OwnedLemmas.{reads_nothing}
 use Rattle.fsfs_draft.specs.StayingLemmas.{txn_stays}
 use Rattle.fsfs_draft.proofs.Landing.{stays_on}
-use Rattle.fsfs_draft.proofs.Merging.{reads_nothing, reads_once, begins_part, whole_part}
+use Rattle.fsfs_draft.proofs.Merging.{reads_once, begins_part, whole_part}
+use Rattle.fsfs_draft.proofs.Onward.{part_same, means_over, landed_more, refuses_more}
 use Rattle.fsfs_draft.proofs.Writing.{ok_then, if_err_then}
 use Rattle.fsfs_draft.proofs.open_txn.OpenTxn.merge.Goals as goal
+
+-- no read takes a revision away
+pub land-requires : goal.land-requires
+land-requires g c = record { there = known_later _ _ c.args.head c.in-Ok.ensures.later.reach c.requires.there }
 
 pub returns-then-is_spent-clause-err : goal.returns-then-is_spent-clause-err
 returns-then-is_spent-clause-err g c = λ v x known means le long told.
@@ -46,7 +54,14 @@ returns-in-Ok-clause-ok g c = λ v x known means le long told.
     let less : head < length s.0.seen = omega (arith, s.5.all, told) in
     let low : base < head = omega (arith, is.on, le, c.if-get.false, c.base-base.ensures, c.get.ensures.same, c.get-2.ensures.same) in
     let part = txn_stays v.seen (take (head + 1) s.0.seen) _ _ _ x is (begins_part (head + 1) v.seen s.0.seen s.5.grows long) in
-    ok_then c.land.result.1 _ _ (λ w. (s.0, w.0, w.1, w.3, reads_once base y.0 s.1 v s.0 s.5, w.2)) (c.land.ensures.ok s.0 x s.3 none (λ spent. part) low less)
+    ok_then c.land.result.1 _ _ (λ w. (
+      w.0,
+      w.1,
+      w.2,
+      means_over _ (take (head + 1) w.0.seen) (take (head + 1) s.0.seen) _ _ _ w.1 (sym (part_same head s.0.seen w.0.seen w.3.grows less)) w.5,
+      reads_on v s.0 w.0 (reads_once base y.0 s.1 v s.0 s.5) w.3,
+      landed_more head s.0.seen w.0.seen x w.1 w.3.grows w.4,
+    )) (c.land.ensures.ok s.0 x s.3 none (λ spent. part) low less)
 
 pub returns-in-Ok-clause-err : goal.returns-in-Ok-clause-err
 returns-in-Ok-clause-err g c = λ v x known means le long told.
@@ -60,7 +75,11 @@ returns-in-Ok-clause-err g c = λ v x known means le long told.
     let less : head < length s.0.seen = omega (arith, s.5.all, told) in
     let low : base < head = omega (arith, is.on, le, c.if-get.false, c.base-base.ensures, c.get.ensures.same, c.get-2.ensures.same) in
     let part = txn_stays v.seen (take (head + 1) s.0.seen) _ _ _ x is (begins_part (head + 1) v.seen s.0.seen s.5.grows long) in
-    if_err_then c.land.result.1 _ _ (λ why w. (s.0, w.0, w.2 means, reads_once base y.0 s.1 v s.0 s.5, w.1)) (c.land.ensures.err s.0 v.seen x s.3 none (λ spent. part) low less)
+    if_err_then c.land.result.1 _ _ (λ why w. (w.0, w.1, w.4 means, reads_on v s.0 w.0 (reads_once base y.0 s.1 v s.0 s.5) w.2, refuses_more why head s.0.seen w.0.seen x w.2.grows w.3))
+    (c.land.ensures.err s.0 v.seen x s.3 none (λ spent. part) low less)
 
 pub returns-then-is_spent-clause-found : goal.returns-then-is_spent-clause-found
 returns-then-is_spent-clause-found g c = sym c.is_spent.ensures ∙ c.if-is_spent.true
+
+pub returns-in-Ok-clause-listed : goal.returns-in-Ok-clause-listed
+returns-in-Ok-clause-listed g c = λ free. c.land.ensures.listed (c.in-Ok.ensures.duty ∙ free) ∙ c.in-Ok.ensures.listed free

@@ -1,5 +1,15 @@
 use Rattle.fsfs_draft.proofs.Stages.{no_open}
+use Rattle.fsfs_draft.proofs.Writing.{ok_then}
 use Rattle.fsfs_draft.proofs.txn_draft.TxnDraftBenchDraft.write.Goals as goal
 
 pub returns-clause-means : goal.returns-clause-means
-returns-clause-means g c = λ h x means. no_open c.written-stage.result.0 _ c.written-stage.ensures.ended
+returns-clause-means g c = λ h x means. (no_open c.written-stage.result.0 _ c.written-stage.ensures.ended, means.1)
+
+pub returns-clause-held : goal.returns-clause-held
+returns-clause-held g c = λ txn next bytes held. ok_then c.written-stage.result.1 _ _ (λ here. (here, held.1)) (c.written-stage.ensures.held bytes held.0)
+
+pub returns-clause-refused : goal.returns-clause-refused
+returns-clause-refused g c = λ txn next bytes held. c.written-stage.ensures.refused bytes held.0
+
+pub returns-clause-named : goal.returns-clause-named
+returns-clause-named g c = λ name is. no_open c.written-stage.result.0 _ c.written-stage.ensures.ended

@@ -1,4 +1,6 @@
 use Rattle.std.proofs.Common.{ap}
+use Rattle.std.specs.Prelude.{option_map}
+use Rattle.fsfs_disk.specs.Trace.{labels_now}
 use Rattle.fsfs_turn.specs.Telling.{OwnedState, state_of}
 use Rattle.fsfs_owned_repo.proofs.Readers.{tells_all}
 use Rattle.fsfs_owned_repo.proofs.repo.Repo.reader.Goals as goal
@@ -12,3 +14,6 @@ returns-clause-told g c = λ v known.
 
 pub returns-clause-mounted : goal.returns-clause-mounted
 returns-clause-mounted g c = ap {A = OwnedState} (λ s. s.mount_path) c.over_turns.ensures.below
+
+pub returns-clause-listed : goal.returns-clause-listed
+returns-clause-listed g c = ap {A = OwnedState} (λ s. option_map labels_now s.trace) c.over_turns.ensures.below

@@ -1,4 +1,4 @@
-use Rattle.std.proofs.Common.{map}
+use Rattle.std.proofs.Common.{map, refl}
 use Rattle.fsfs_txns.specs.Txns.{text_of}
 use Rattle.fsfs_owned_repo.proofs.Crashes.{survives}
 use Rattle.fsfs_owned_repo.proofs.Listed.{named_so}
@@ -15,3 +15,12 @@ returns-in-Ok-txns_among-clause-crashes g c = λ u known. let turns = c.list.new
 
 pub returns-clause-crashes : goal.returns-clause-crashes
 returns-clause-crashes g c = λ u known. let turns = c.list.new.self in survives turns.layout turns.young turns.stuck (g.D.Disk.trace turns.disk) u known
+
+pub returns-in-Err-clause-same : goal.returns-in-Err-clause-same
+returns-in-Err-clause-same g c = c.in-Err.ensures.same refl
+
+pub returns-in-Ok-txns_among-clause-same : goal.returns-in-Ok-txns_among-clause-same
+returns-in-Ok-txns_among-clause-same g c = c.in-Ok.ensures.same refl
+
+pub returns-clause-same : goal.returns-clause-same
+returns-clause-same g c = c.in-Ok.ensures.same refl
