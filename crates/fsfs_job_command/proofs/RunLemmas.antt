@@ -32,6 +32,7 @@ use Rattle.fsfs_job_lines.specs.declared.job.Job.{Job}
 use Rattle.fsfs_jobs.specs.declared.answer.JobAnswer.{JobAnswer}
 use Rattle.fsfs_serial.specs.Jobs.{DoesJob, Fails, ByDisk, ByBench, ByStuck, ByMemory, ByNames, ByCounts, AddsBy, RunsJob, RunJobs, End, More, StuckBehindDoubt}
 use Rattle.fsfs_serial.proofs.JobLemmas.{runs_serial, grow}
+use Rattle.fsfs_serial.proofs.ListedLemmas.{failed_on}
 use Rattle.fsfs_job_run.specs.Running.{DoAll, RunsPast}
 use Rattle.fsfs_job_run.proofs.Causes.{any_on}
 use Rattle.fsfs_job_command.specs.Histories.{EndsJob, EndJobs, DidScript, StopsShort}
@@ -82,7 +83,7 @@ held_all before layout (Some t) u opened leaves = record {
   layout = layout;
   seen = u.seen;
   are = refl;
-  moments = λ m image. let w = leaves.moments m image in (w.1, w.4, a_part u.seen w.1 w.0 w.2, omega (arith, w.3, opened));
+  moments = λ m image. let w = leaves.moments m image in (w.1, w.4, a_part u.seen w.1 w.0 w.2, omega (arith, w.3, opened), w.5);
   whole = leaves.whole;
   stands = λ m image.
       let w = leaves.stands m image in
@@ -152,7 +153,8 @@ pub runs_weaker : {D E : Type 0} (moment : ℕ) (a b : RunScene) (r : Result ℕ
 runs_weaker moment a b _ f (NotOpened why because untouched unread) = NotOpened why (opens_weaker a.trace why f because) untouched unread
 runs_weaker moment a b _ f (NotRead error read rose untouched) = NotRead error read rose untouched
 runs_weaker moment a b _ f (NoRoom js read untouched) = NoRoom js read untouched
-runs_weaker {D} {E} moment a b _ f (Done js answers youngest result read ends each failed quiet ran printed) = Done js answers youngest result read ends each (any_on D E answers f failed) (λ none. quiet (λ d. none (f d))) ran printed
+runs_weaker {D} {E} moment a b _ f (Done js answers youngest result read ends each failed quiet listed ran printed) =
+    Done js answers youngest result read ends each (any_on D E answers f failed) (λ none. quiet (λ d. none (f d))) (failed_on f listed) ran printed
 
 -- ---- the ends of a run
 

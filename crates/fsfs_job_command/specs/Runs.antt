@@ -1,10 +1,11 @@
 -- What a run of a script does to a disk, its input and its output.
-use Rattle.std.specs.Prelude.{◌≡◌, ◌⊎◌, ◌≤◌, ◌+◌, ◌++◌, ◌∷◌, [], ℕ, List, length, Option, Some, IfSome, Result, Ok, Err, slice_get}
+use Rattle.std.specs.Prelude.{◌≡◌, ◌⊎◌, ◌≤◌, ◌+◌, ◌++◌, ◌∷◌, [], ℕ, List, length, Option, Some, IfSome, option_map, Result, Ok, Err, slice_get}
 use Rattle.fsfs_base.specs.Failures.{Rose}
 use Rattle.fsfs_base.specs.Files.{Files}
 use Rattle.fsfs_layout.specs.declared.layout.Layout.{Layout}
 use Rattle.fsfs_tree.specs.Revisions.{Revision}
-use Rattle.fsfs_disk.specs.Trace.{Trace, FirmNames, FailsAt, ImageSince, IsImage, files_now}
+use Rattle.fsfs_disk.specs.Labels.{Label}
+use Rattle.fsfs_disk.specs.Trace.{Trace, FirmNames, FailsAt, ImageSince, IsImage, files_now, labels_now}
 use Rattle.fsfs_streams.specs.Streams.{Adds}
 use Rattle.fsfs_streams.specs.Output.{AddsFront}
 use Rattle.fsfs_stands.specs.Files.{StandsFor}
@@ -25,6 +26,7 @@ use Rattle.fsfs_faults.specs.declared.outside_fault.OutsideFault.TheVariants.{Wr
 use Rattle.fsfs_jobs.specs.Lines.{greatest_status, run_text}
 use Rattle.fsfs_jobs.specs.declared.answer.JobAnswer.{JobAnswer}
 use Rattle.fsfs_serial.specs.Jobs.{StuckBehindDoubt, TellNoDoubt}
+use Rattle.fsfs_serial.specs.Listed.{LeavesListed}
 use Rattle.fsfs_job_run.specs.Running.{IfAnyFails}
 use Rattle.fsfs_job_command.specs.Histories.{DidScript, StopsShort}
 
@@ -39,13 +41,18 @@ pub record RunScene : Type 0 where
 abbrev pub run_scene : Option Trace → Option (List ℕ) → ℕ → Option (List ℕ) → ℕ → RunScene
 run_scene trace remaining read_faults written write_faults = record { trace = trace; remaining = remaining; read_faults = read_faults; written = written; write_faults = write_faults }
 
+-- the labels that are kept
+abbrev pub labels_in : RunScene → Option (List Label)
+labels_in a = option_map labels_now a.trace
+
 -- a first part of the history, or the history with one revision more
 abbrev pub IsPartOf : List Revision → List Revision → Type 0
 IsPartOf h part = ((rest : List Revision) × (h ≡ part ++ rest)) ⊎ ((next : Revision) × (part ≡ h ++ next ∷ []))
 
 -- What a crash leaves behind, or in the middle of, a run that came from the history h to this one. Now each image has each revision of it whole, and
--- `current` names the last of them or a later one; it is a repository that stands for this history, or for it with one revision more. At each moment since the opening (by the number of the disk's operations before it), in the
--- middle of a call too, it has the files of a first part of that history with all that was in h, or of the history with one revision more.
+-- `current` names the last of them or a later one; it is a repository that stands for this history, or for it with one revision more. At each
+-- moment since the opening (by the number of the disk's operations before it), in the middle of a call too, it is a repository that stands for
+-- a first part of that history with all that was in h, or for the history with one revision more.
 pub record HoldsAll (since : ℕ) (t : Trace) (h now : List Revision) : Type 0 where
   pub layout : Layout
   pub seen : List Recorded
@@ -53,7 +60,7 @@ pub record HoldsAll (since : ℕ) (t : Trace) (h now : List Revision) : Type 0 w
   pub whole : (m : Files) → IsImage t.first t.operations m → (r : ℕ) (x : Recorded) → slice_get seen r ≡ Some x → HasRevision layout m r x
   pub named : (m : Files) → IsImage t.first t.operations m → NamesFrom m (length now)
   pub stands : (m : Files) → IsImage t.first t.operations m → (g : List Revision) × IsPartOf now g × (length now ≤ length g) × StandsFor m g
-  pub moments : (m : Files) → ImageSince since t.first t.operations m → (g : List Recorded) × HasHistory layout m g × IsPartOf now (revisions g) × (length h ≤ length g)
+  pub moments : (m : Files) → ImageSince since t.first t.operations m → (g : List Recorded) × HasHistory layout m g × IsPartOf now (revisions g) × (length h ≤ length g) × StandsFor m (revisions g)
 
 -- the files of the disk are a repository that stands for this history and for no more, and so is each image that a crash now may leave
 pub record AllStandFor (t : Trace) (h : List Revision) : Type 0 where
@@ -101,6 +108,6 @@ pub data RunsScript (moment : ℕ) (disk : Type 0) (a b : RunScene) : Result ℕ
   -- there is no memory for the answers
   NoRoom : (js : List Job) → ReadsScript a.remaining (Ok js) → IsUntouched a b → RunsScript moment disk a b (Err Memory)
   -- The input was read to its end, and its jobs were done. A line tells that the disk failed only where a call of it did; so where none did,
-  -- no line tells of a fault that leaves a revision in doubt.
+  -- no line tells of a fault that leaves a revision in doubt. Nor does a job leave its transaction listed then, whatever its line tells.
   Done : (js : List Job) (answers : List JobAnswer) (youngest : ℕ) (result : Result ℕ Fault) → ReadsScript a.remaining (Ok js) → EndsSource a.remaining b.remaining → length answers ≡ length js → IfAnyFails answers disk → ((disk → ⊥) → TellNoDoubt answers)
-      → RanOver moment js answers youngest a.trace b.trace → PrintsRun answers youngest a.written b.written a.write_faults b.write_faults result → RunsScript moment disk a b result
+      → LeavesListed (length js) (labels_in a) (labels_in b) ⊎ disk → RanOver moment js answers youngest a.trace b.trace → PrintsRun answers youngest a.written b.written a.write_faults b.write_faults result → RunsScript moment disk a b result

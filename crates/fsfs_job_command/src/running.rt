@@ -1,9 +1,11 @@
 //! A script is run.
-ghost use Rattle.std.specs.Prelude.{◌≡◌, ◌≤◌, length, true, None, IfOk, OnErr, IsTrue};
+ghost use Rattle.std.specs.Prelude.{◌≡◌, ◌⊎◌, ◌≤◌, length, true, None, option_map, IfOk, OnErr, IsTrue};
 ghost use Rattle.fsfs_base.specs.Failures.{Rose};
+ghost use Rattle.fsfs_disk.specs.Trace.{labels_now};
 ghost use Rattle.fsfs_machine.specs.Machine.{revisions};
 ghost use Rattle.fsfs_turn.specs.Alone.{are_harmless};
 ghost use Rattle.fsfs_turn.specs.Views.{View};
+ghost use Rattle.fsfs_serial.specs.Listed.{LeavesListed};
 ghost use Rattle.fsfs_job_run.specs.Running.{IfAnyFails};
 ghost use Rattle.fsfs_job_command.specs.Runs.{run_scene, PrintsRun, RanIn, RunsScript};
 
@@ -41,6 +43,8 @@ fn do_jobs<D: Disk, G: Gate>(
         → IfOk result.1 (λ done. RanIn micros v.since jobs.now done.answers.items done.youngest (revisions v.seen) (D.trace result.0)) }
     ensures each { IfOk result.1 (λ done. length done.answers.items ≡ length jobs.now) }
     ensures none { OnErr result.1 (D.trace result.0 ≡ D.trace repo.turns.disk) }
+    // No transaction of theirs stays listed, unless a call of the disk failed.
+    ensures listed { LeavesListed (length jobs.now) (option_map labels_now (D.trace repo.turns.disk)) (option_map labels_now (D.trace result.0)) ⊎ Rose (D.faults repo.turns.disk) (D.faults result.0) }
     ensures cause { IfOk result.1 (λ done. IfAnyFails done.answers.items (Rose (D.faults repo.turns.disk) (D.faults result.0))) }
     ensures mounted { D.mount_path result.0 ≡ D.mount_path repo.turns.disk }
     ensures later { D.faults repo.turns.disk ≤ D.faults result.0 }

@@ -9,10 +9,10 @@ use Rattle.fsfs_machine.specs.declared.machine.Txn.{Txn}
 use Rattle.fsfs_machine.specs.Kept.{IsIn}
 use Rattle.fsfs_machine.specs.Machine.{revisions}
 use Rattle.fsfs_machine.proofs.Growing.{revisions_length}
-use Rattle.fsfs_turn.specs.Alone.{brings_doubt}
+use Rattle.fsfs_turn.specs.Alone.{BringsNoDoubt, brings_doubt}
 use Rattle.fsfs_turn.specs.Views.{View, IsTxnOver}
 use Rattle.fsfs_commit.specs.Replies.{Committed, Moved}
-use Rattle.fsfs_commit.specs.Works.{BringsNoDoubt, Landings}
+use Rattle.fsfs_commit.specs.Works.{Landings}
 use Rattle.fsfs_draft.specs.Dating.{IsDatedAt}
 use Rattle.fsfs_owned_repo.specs.Commits.{Bars, IfFailed, IsDropped, Meets}
 use Rattle.fsfs_owned_repo.specs.declared.answers.CommitAnswer.{CommitAnswer}

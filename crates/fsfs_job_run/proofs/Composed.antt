@@ -17,8 +17,8 @@ use Rattle.fsfs_machine.specs.Machine.{revisions}
 use Rattle.fsfs_turn.specs.Bytes.{bytes_of}
 use Rattle.fsfs_turn.specs.Views.{View}
 use Rattle.fsfs_txn.specs.Standing.{Stands}
-use Rattle.fsfs_commit.specs.Works.{BringsNoDoubt}
-use Rattle.fsfs_commit.proofs.Doubts.{same_faults}
+use Rattle.fsfs_turn.specs.Alone.{BringsNoDoubt}
+use Rattle.fsfs_turn.proofs.Doubts.{same_faults}
 use Rattle.fsfs_draft.specs.Meaning.{IsTxnOf}
 use Rattle.fsfs_machine.specs.Kept.{IsIn}
 use Rattle.fsfs_owned_repo.specs.Begun.{BeginsTxn}

@@ -15,16 +15,15 @@ use Rattle.fsfs_machine.specs.declared.machine.Step.{Step}
 use Rattle.fsfs_machine.specs.declared.machine.Step.TheVariants.{PurgeSpent}
 use Rattle.fsfs_machine.specs.declared.machine.Txn.{Txn}
 use Rattle.fsfs_machine.specs.Machine.{World, revisions}
-use Rattle.fsfs_turn.specs.Alone.{brings_doubt}
+use Rattle.fsfs_turn.specs.Alone.{BringsNoDoubt, brings_doubt}
 use Rattle.fsfs_turn.specs.Learning.{with_spent}
 use Rattle.fsfs_turn.specs.Views.{View, Begins}
 use Rattle.fsfs_turn.proofs.Alone.{same_by_length}
 use Rattle.fsfs_turn_purge.specs.Purged.{HasPurged, HasNotPurged, Purges}
 use Rattle.fsfs_turn_purge.specs.declared.purge_fault.PurgeFault.{PurgeFault}
 use Rattle.fsfs_turn_purge.specs.declared.purge_fault.PurgeFault.TheVariants.{DiskFault}
-use Rattle.fsfs_commit.specs.Works.{BringsNoDoubt}
 use Rattle.fsfs_commit.specs.Replies.{Committed, Moved}
-use Rattle.fsfs_commit.proofs.Doubts.{same_faults, fault_more}
+use Rattle.fsfs_turn.proofs.Doubts.{same_faults, fault_more}
 use Rattle.fsfs_job_lines.specs.declared.job.CommitJob.{CommitJob}
 use Rattle.fsfs_job_lines.specs.declared.job.Job.TheVariants as jobs
 use Rattle.fsfs_jobs.specs.Properties.{undated_properties}

@@ -17,3 +17,4 @@ pub mod Stuck
 pub mod Causes
 pub mod Answered
 pub mod Seen
+pub mod Listing

@@ -9,7 +9,7 @@ use Rattle.fsfs_flat.specs.declared.mark.Mark.{Mark}
 use Rattle.fsfs_machine.specs.declared.machine.Txn.{Txn}
 use Rattle.fsfs_machine.specs.Machine.{revisions}
 use Rattle.fsfs_turn.specs.Views.{View}
-use Rattle.fsfs_commit.specs.Works.{BringsNoDoubt}
+use Rattle.fsfs_turn.specs.Alone.{BringsNoDoubt}
 use Rattle.fsfs_job_lines.specs.declared.edit.Edit.{Edit}
 use Rattle.fsfs_job_lines.specs.declared.job.CommitJob.{CommitJob}
 use Rattle.fsfs_job_lines.specs.declared.job.Job.TheVariants as jobs

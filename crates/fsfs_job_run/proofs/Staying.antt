@@ -11,9 +11,9 @@ use Rattle.fsfs_tree.specs.Dated.{last_of}
 use Rattle.fsfs_turn.specs.Views.{View, Begins, Looked}
 use Rattle.fsfs_turn.proofs.Alone.{same_by_length}
 use Rattle.fsfs_turn_purge.specs.Purged.{HasPurged, HasNotPurged}
-use Rattle.fsfs_commit.specs.Works.{BringsNoDoubt}
+use Rattle.fsfs_turn.specs.Alone.{BringsNoDoubt}
 use Rattle.fsfs_commit.specs.Replies.{Committed, Moved as CommitMoved}
-use Rattle.fsfs_commit.proofs.Doubts.{same_faults}
+use Rattle.fsfs_turn.proofs.Doubts.{same_faults}
 use Rattle.fsfs_jobs.specs.declared.answer.JobAnswer.{JobAnswer}
 use Rattle.fsfs_jobs.specs.declared.answer.JobAnswer.TheVariants as answers
 use Rattle.fsfs_serial.specs.Jobs.{AddsBy, own_of, tells_doubt, Leaves}

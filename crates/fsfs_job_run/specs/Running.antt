@@ -6,10 +6,9 @@ use Rattle.fsfs_tree.specs.Dated.{last_of}
 use Rattle.fsfs_machine.specs.declared.machine.Recorded.{Recorded}
 use Rattle.fsfs_machine.specs.Machine.{revisions}
 use Rattle.fsfs_turn.specs.Bytes.{bytes_of}
-use Rattle.fsfs_turn.specs.Alone.{are_harmless}
+use Rattle.fsfs_turn.specs.Alone.{BringsNoDoubt, are_harmless}
 use Rattle.fsfs_turn.specs.Views.{View}
 use Rattle.fsfs_turn.specs.Telling.{OwnedState, owned_view}
-use Rattle.fsfs_commit.specs.Works.{BringsNoDoubt}
 use Rattle.fsfs_turn_begin.specs.Steps.{IsPastNumbers}
 use Rattle.fsfs_owned_repo.specs.Alone.{KnowsIn}
 use Rattle.fsfs_job_lines.specs.declared.job.Base.{Base}

@@ -7,10 +7,13 @@ ghost use Rattle.fsfs_machine.specs.Machine.{revisions};
 ghost use Rattle.fsfs_machine.specs.Kept.{IsIn};
 ghost use Rattle.fsfs_turn.specs.Bytes.{bytes_of};
 ghost use Rattle.fsfs_turn.specs.Views.{View};
+ghost use Rattle.fsfs_turn_begin.specs.Labels.{IsUnlisted};
 ghost use Rattle.fsfs_turn_begin.specs.Steps.{IsPastNumbers};
+ghost use Rattle.fsfs_txns.specs.Txns.{pair_of, txn_label};
 ghost use Rattle.fsfs_txn.specs.Standing.{Stands};
 ghost use Rattle.fsfs_job_edits.specs.Editing.{AreEditing, IfDisk};
 ghost use Rattle.fsfs_job_reads.specs.TextReads.{IfAnswerFails};
+ghost use Rattle.fsfs_serial.specs.Listed.{LeavesListed};
 ghost use Rattle.fsfs_job_run.specs.Running.{CommitsSo};
 ghost use Rattle.fsfs_jobs.specs.Serial.{base_of as base_in};
 
@@ -48,6 +51,8 @@ fn edit<D: Disk, R>(
     ensures base { txn.new.base ≡ txn.old.base }
     ensures name { ⟦<HeldNodes<D::Bench> as Own>⟧.txn txn.new.own ≡ ⟦<HeldNodes<D::Bench> as Own>⟧.txn txn.old.own }
     ensures cause { IfErr result.1 (λ stopped. IfDisk stopped.fault (Rose (⟦<Owned<D> as Turns<R>>⟧.faults repo.turns) (⟦<Owned<D> as Turns<R>>⟧.faults result.0.turns))) }
+    // Nor any label that is kept: an edit works on its bench.
+    ensures listed { ⟦<Owned<D> as Turns<R>>⟧.labels result.0.turns ≡ ⟦<Owned<D> as Turns<R>>⟧.labels repo.turns }
     ensures mounted { D.mount_path result.0.turns.disk ≡ D.mount_path repo.turns.disk }
     ensures later { ⟦<Owned<D> as Turns<R>>⟧.faults repo.turns ≤ ⟦<Owned<D> as Turns<R>>⟧.faults result.0.turns }
 {
@@ -73,6 +78,7 @@ fn edit_and_commit<D: Disk, R>(
         → Stands (bytes_of v.seen) (tree_of (revisions v.seen)) (last_of (revisions v.seen)) txn.base (⟦<HeldNodes<D::Bench> as Own>⟧.txn txn.own) (⟦<HeldNodes<D::Bench> as Own>⟧.settled txn.own) (tree_of (revisions v.seen) txn.base) []
         → CommitsSo (⟦<Owned<D> as Turns<R>>⟧.knows result.0.turns) (Rose (⟦<Owned<D> as Turns<R>>⟧.faults repo.turns) (⟦<Owned<D> as Turns<R>>⟧.faults result.0.turns)) micros job.now result.1 v }
     ensures cause { IfAnswerFails result.1 (Rose (⟦<Owned<D> as Turns<R>>⟧.faults repo.turns) (⟦<Owned<D> as Turns<R>>⟧.faults result.0.turns)) }
+    ensures listed { IsUnlisted (txn_label (pair_of (⟦<HeldNodes<D::Bench> as Own>⟧.txn txn.own))) (Rose (⟦<Owned<D> as Turns<R>>⟧.faults repo.turns) (⟦<Owned<D> as Turns<R>>⟧.faults result.0.turns)) (⟦<Owned<D> as Turns<R>>⟧.labels repo.turns) (⟦<Owned<D> as Turns<R>>⟧.labels result.0.turns) }
     ensures mounted { D.mount_path result.0.turns.disk ≡ D.mount_path repo.turns.disk }
     ensures later { ⟦<Owned<D> as Turns<R>>⟧.faults repo.turns ≤ ⟦<Owned<D> as Turns<R>>⟧.faults result.0.turns }
 {
@@ -96,6 +102,8 @@ fn begin_and_commit<D: Disk, R>(
     ensures does { (v : View) → ⟦<Owned<D> as Turns<R>>⟧.knows repo.turns v → v.section ≡ None → v.pass.least ≡ last_of (revisions v.seen) → base ≡ base_in job.now.base (last_of (revisions v.seen)) → base ≤ last_of (revisions v.seen)
         → CommitsSo (⟦<Owned<D> as Turns<R>>⟧.knows result.0.turns) (Rose (⟦<Owned<D> as Turns<R>>⟧.faults repo.turns) (⟦<Owned<D> as Turns<R>>⟧.faults result.0.turns)) micros job.now result.1 v ⊎ IsPastNumbers (⟦<Owned<D> as Turns<R>>⟧.store repo.turns) }
     ensures cause { IfAnswerFails result.1 (Rose (⟦<Owned<D> as Turns<R>>⟧.faults repo.turns) (⟦<Owned<D> as Turns<R>>⟧.faults result.0.turns)) }
+    // Whatever is known: the transaction that was begun is listed no more, unless a call of the disk failed.
+    ensures listed { LeavesListed 1 (⟦<Owned<D> as Turns<R>>⟧.labels repo.turns) (⟦<Owned<D> as Turns<R>>⟧.labels result.0.turns) ⊎ Rose (⟦<Owned<D> as Turns<R>>⟧.faults repo.turns) (⟦<Owned<D> as Turns<R>>⟧.faults result.0.turns) }
     ensures mounted { D.mount_path result.0.turns.disk ≡ D.mount_path repo.turns.disk }
     ensures later { ⟦<Owned<D> as Turns<R>>⟧.faults repo.turns ≤ ⟦<Owned<D> as Turns<R>>⟧.faults result.0.turns }
 {
@@ -122,6 +130,7 @@ pub(crate) fn commit_job<D: Disk, R>(
     ensures does { (v : View) → ⟦<Owned<D> as Turns<R>>⟧.knows repo.turns v → v.section ≡ None
         → CommitsSo (⟦<Owned<D> as Turns<R>>⟧.knows result.0.turns) (Rose (⟦<Owned<D> as Turns<R>>⟧.faults repo.turns) (⟦<Owned<D> as Turns<R>>⟧.faults result.0.turns)) micros job.now result.1 v ⊎ IsPastNumbers (⟦<Owned<D> as Turns<R>>⟧.store repo.turns) }
     ensures cause { IfAnswerFails result.1 (Rose (⟦<Owned<D> as Turns<R>>⟧.faults repo.turns) (⟦<Owned<D> as Turns<R>>⟧.faults result.0.turns)) }
+    ensures listed { LeavesListed 1 (⟦<Owned<D> as Turns<R>>⟧.labels repo.turns) (⟦<Owned<D> as Turns<R>>⟧.labels result.0.turns) ⊎ Rose (⟦<Owned<D> as Turns<R>>⟧.faults repo.turns) (⟦<Owned<D> as Turns<R>>⟧.faults result.0.turns) }
     ensures mounted { D.mount_path result.0.turns.disk ≡ D.mount_path repo.turns.disk }
     ensures later { ⟦<Owned<D> as Turns<R>>⟧.faults repo.turns ≤ ⟦<Owned<D> as Turns<R>>⟧.faults result.0.turns }
 {

@@ -6,7 +6,9 @@ ghost use Rattle.fsfs_machine.specs.Kept.{IsIn};
 ghost use Rattle.fsfs_machine.specs.Machine.{revisions};
 ghost use Rattle.fsfs_tree.specs.Dated.{last_of};
 ghost use Rattle.fsfs_turn.specs.Views.{View};
-ghost use Rattle.fsfs_commit.specs.Works.{BringsNoDoubt};
+ghost use Rattle.fsfs_turn.specs.Alone.{BringsNoDoubt};
+ghost use Rattle.fsfs_turn_begin.specs.Labels.{IsUnlisted};
+ghost use Rattle.fsfs_txns.specs.Txns.{pair_of, txn_label};
 ghost use Rattle.fsfs_draft.specs.Meaning.{IsTxnOf};
 ghost use Rattle.fsfs_faults.specs.declared.fault.Fault.TheVariants.{Outside};
 ghost use Rattle.fsfs_jobs.specs.declared.answer.JobAnswer.TheVariants.{Stopped};
@@ -73,6 +75,8 @@ pub(crate) fn purged<D: Disk, R>(
 ) -> Repo<D>
     ensures leaves { (v : View) → ⟦<Owned<D> as Turns<R>>⟧.knows repo.turns v → v.section ≡ None → IsIn (⟦<HeldNodes<D::Bench> as Own>⟧.txn txn.own).number.number v.given
         → (u : View) × ⟦<Owned<D> as Turns<R>>⟧.knows result.turns u × Stays v u × BringsNoDoubt v u × (u.pass.stuck ≡ v.pass.stuck) }
+    // Whatever is known: its label is dropped, unless a call of the disk failed.
+    ensures listed { IsUnlisted (txn_label (pair_of (⟦<HeldNodes<D::Bench> as Own>⟧.txn txn.own))) (Rose (⟦<Owned<D> as Turns<R>>⟧.faults repo.turns) (⟦<Owned<D> as Turns<R>>⟧.faults result.turns)) (⟦<Owned<D> as Turns<R>>⟧.labels repo.turns) (⟦<Owned<D> as Turns<R>>⟧.labels result.turns) }
     ensures mounted { D.mount_path result.turns.disk ≡ D.mount_path repo.turns.disk }
     ensures later { ⟦<Owned<D> as Turns<R>>⟧.faults repo.turns ≤ ⟦<Owned<D> as Turns<R>>⟧.faults result.turns }
 {
@@ -99,6 +103,8 @@ fn commit_with<D: Disk, R>(
     ensures plain { IsNoRequest result.1 }
     // Whatever the disk tells: it is told to have failed only where the count of failed calls rose in this call.
     ensures cause { IfAnswerFails result.1 (Rose (⟦<Owned<D> as Turns<R>>⟧.faults repo.turns) (⟦<Owned<D> as Turns<R>>⟧.faults result.0.turns)) }
+    // Nor is its transaction listed any more, unless a call of the disk failed.
+    ensures listed { IsUnlisted (txn_label (pair_of (⟦<HeldNodes<D::Bench> as Own>⟧.txn txn.own))) (Rose (⟦<Owned<D> as Turns<R>>⟧.faults repo.turns) (⟦<Owned<D> as Turns<R>>⟧.faults result.0.turns)) (⟦<Owned<D> as Turns<R>>⟧.labels repo.turns) (⟦<Owned<D> as Turns<R>>⟧.labels result.0.turns) }
     ensures mounted { D.mount_path result.0.turns.disk ≡ D.mount_path repo.turns.disk }
     ensures later { ⟦<Owned<D> as Turns<R>>⟧.faults repo.turns ≤ ⟦<Owned<D> as Turns<R>>⟧.faults result.0.turns }
 {
@@ -129,6 +135,8 @@ pub(crate) fn commit_edited<D: Disk, R>(
     ensures plain { IsNoRequest result.1 }
     // Whatever the disk tells: it is told to have failed only where the count of failed calls rose in this call.
     ensures cause { IfAnswerFails result.1 (Rose (⟦<Owned<D> as Turns<R>>⟧.faults repo.turns) (⟦<Owned<D> as Turns<R>>⟧.faults result.0.turns)) }
+    // Nor is its transaction listed any more, unless a call of the disk failed.
+    ensures listed { IsUnlisted (txn_label (pair_of (⟦<HeldNodes<D::Bench> as Own>⟧.txn txn.own))) (Rose (⟦<Owned<D> as Turns<R>>⟧.faults repo.turns) (⟦<Owned<D> as Turns<R>>⟧.faults result.0.turns)) (⟦<Owned<D> as Turns<R>>⟧.labels repo.turns) (⟦<Owned<D> as Turns<R>>⟧.labels result.0.turns) }
     ensures mounted { D.mount_path result.0.turns.disk ≡ D.mount_path repo.turns.disk }
     ensures later { ⟦<Owned<D> as Turns<R>>⟧.faults repo.turns ≤ ⟦<Owned<D> as Turns<R>>⟧.faults result.0.turns }
 {

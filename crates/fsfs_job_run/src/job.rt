@@ -5,6 +5,7 @@ ghost use Rattle.fsfs_turn.specs.Views.{View};
 ghost use Rattle.fsfs_turn_begin.specs.Steps.{IsPastNumbers};
 ghost use Rattle.fsfs_owned_repo.specs.Crashes.{CrashesLeave};
 ghost use Rattle.fsfs_job_reads.specs.TextReads.{IfAnswerFails};
+ghost use Rattle.fsfs_serial.specs.Listed.{LeavesListed};
 ghost use Rattle.fsfs_job_run.specs.Running.{DoesSo, IfCounted, StopsOver};
 
 use crate::commit_job::commit_job;
@@ -37,6 +38,8 @@ pub fn do_job<D: Disk, R>(
     ensures crashes { (u : View) → ⟦<Owned<D> as Turns<R>>⟧.knows result.0.turns u → CrashesLeave result.0.turns.layout (D.trace result.0.turns.disk) u }
     // Whatever the disk tells: it is told to have failed only where the count of failed calls rose in this job.
     ensures cause { IfAnswerFails result.1 (Rose (⟦<Owned<D> as Turns<R>>⟧.faults repo.turns) (⟦<Owned<D> as Turns<R>>⟧.faults result.0.turns)) }
+    // Whatever is known and whatever it answers: no transaction that it began stays listed, and all others do, unless a call of the disk failed in it.
+    ensures listed { LeavesListed 1 (⟦<Owned<D> as Turns<R>>⟧.labels repo.turns) (⟦<Owned<D> as Turns<R>>⟧.labels result.0.turns) ⊎ Rose (⟦<Owned<D> as Turns<R>>⟧.faults repo.turns) (⟦<Owned<D> as Turns<R>>⟧.faults result.0.turns) }
     ensures mounted { D.mount_path result.0.turns.disk ≡ D.mount_path repo.turns.disk }
     ensures later { ⟦<Owned<D> as Turns<R>>⟧.faults repo.turns ≤ ⟦<Owned<D> as Turns<R>>⟧.faults result.0.turns }
 {

@@ -25,6 +25,7 @@ pub(crate) fn read_text<D: Disk, R>(
     ensures does { (v : View) (moment : ℕ) → ⟦<Owned<D> as Turns<R>>⟧.knows repo.turns v → v.section ≡ None
         → DoesSo (⟦<Owned<D> as Turns<R>>⟧.knows result.0.turns) (Rose (⟦<Owned<D> as Turns<R>>⟧.faults repo.turns) (⟦<Owned<D> as Turns<R>>⟧.faults result.0.turns)) moment (jobs.Read job.now) result.1 v }
     ensures cause { IfAnswerFails result.1 (Rose (⟦<Owned<D> as Turns<R>>⟧.faults repo.turns) (⟦<Owned<D> as Turns<R>>⟧.faults result.0.turns)) }
+    ensures listed { ⟦<Owned<D> as Turns<R>>⟧.labels result.0.turns ≡ ⟦<Owned<D> as Turns<R>>⟧.labels repo.turns }
     ensures mounted { D.mount_path result.0.turns.disk ≡ D.mount_path repo.turns.disk }
     ensures later { ⟦<Owned<D> as Turns<R>>⟧.faults repo.turns ≤ ⟦<Owned<D> as Turns<R>>⟧.faults result.0.turns }
 {

@@ -3,6 +3,7 @@ ghost use Rattle.std.specs.Prelude.{◌≡◌, ◌⊎◌, ◌≤◌, None, lengt
 ghost use Rattle.fsfs_base.specs.Failures.{Rose};
 ghost use Rattle.fsfs_turn.specs.Views.{View};
 ghost use Rattle.fsfs_owned_repo.specs.Crashes.{CrashesLeave};
+ghost use Rattle.fsfs_serial.specs.Listed.{LeavesListed};
 ghost use Rattle.fsfs_job_run.specs.Running.{DoAll, IfAnyFails, RunsPast};
 
 use crate::job::do_job;
@@ -34,6 +35,8 @@ pub fn run_jobs<D: Disk, R, G: Gate>(
     ensures crashes { (u : View) → ⟦<Owned<D> as Turns<R>>⟧.knows result.0.turns u → CrashesLeave result.0.turns.layout (D.trace result.0.turns.disk) u }
     // Whatever the disk tells: an answer tells that it failed only where the count of failed calls rose in this run.
     ensures cause { IfOk result.1 (λ answers. IfAnyFails answers.items (Rose (⟦<Owned<D> as Turns<R>>⟧.faults repo.turns) (⟦<Owned<D> as Turns<R>>⟧.faults result.0.turns))) }
+    // No transaction that they began stays listed, and all others do, unless a call of the disk failed in this run.
+    ensures listed { LeavesListed (length jobs.now) (⟦<Owned<D> as Turns<R>>⟧.labels repo.turns) (⟦<Owned<D> as Turns<R>>⟧.labels result.0.turns) ⊎ Rose (⟦<Owned<D> as Turns<R>>⟧.faults repo.turns) (⟦<Owned<D> as Turns<R>>⟧.faults result.0.turns) }
     ensures mounted { D.mount_path result.0.turns.disk ≡ D.mount_path repo.turns.disk }
     ensures later { ⟦<Owned<D> as Turns<R>>⟧.faults repo.turns ≤ ⟦<Owned<D> as Turns<R>>⟧.faults result.0.turns }
 {

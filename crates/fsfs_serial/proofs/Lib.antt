@@ -2,3 +2,4 @@ pub mod JobLemmas
 pub mod LineLemmas
 pub mod Finite
 pub mod Clashing
+pub mod ListedLemmas

@@ -6,9 +6,8 @@ use Rattle.fsfs_places.specs.declared.place.DiskPlace.{DiskPlace}
 use Rattle.fsfs_tree.specs.Revisions.{Revision}
 use Rattle.fsfs_machine.specs.declared.machine.Recorded.{Recorded}
 use Rattle.fsfs_machine.specs.Machine.{revisions}
-use Rattle.fsfs_turn.specs.Alone.{brings_doubt}
+use Rattle.fsfs_turn.specs.Alone.{BringsNoDoubt, brings_doubt}
 use Rattle.fsfs_turn.specs.Views.{View}
-use Rattle.fsfs_commit.specs.Works.{BringsNoDoubt}
 use Rattle.fsfs_job_lines.specs.declared.job.CommitJob.{CommitJob}
 use Rattle.fsfs_job_lines.specs.declared.job.Job.{Job}
 use Rattle.fsfs_job_lines.specs.declared.job.Job.TheVariants as jobs

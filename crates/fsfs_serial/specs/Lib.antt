@@ -2,3 +2,4 @@ pub mod Jobs
 pub mod Laws
 pub mod Trees
 pub mod Clashes
+pub mod Listed

@@ -1,5 +1,6 @@
 //! The laws. Each of these functions does nothing: what it ensures is proved once for all runs.
 ghost use Rattle.fsfs_serial.specs.Clashes.{LandedClashesAreClashes};
+ghost use Rattle.fsfs_serial.specs.Listed.{NoneIsLeft, AllAreKept, ListingsGoOn};
 ghost use Rattle.fsfs_serial.specs.Laws.{RunsAreSerial, RunsGoOn, RunsGrow};
 ghost use Rattle.fsfs_serial.specs.Trees.{EditedTreesAreMaps};
 
@@ -26,4 +27,11 @@ pub fn edited_trees_are_maps()
 /// Where a transaction clashes that was landed on the way, the one that was handed in clashes, first at the same path.
 pub fn landed_clashes_are_clashes()
     ensures { LandedClashesAreClashes }
+{}
+
+/// Behind jobs no transaction is listed that was not listed before them. Each that was is, unless one that they began had its name.
+pub fn listed_were_listed()
+    ensures none { NoneIsLeft }
+    ensures all { AllAreKept }
+    ensures on { ListingsGoOn }
 {}

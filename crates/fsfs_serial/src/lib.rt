@@ -6,7 +6,8 @@ mod output;
 mod statuses;
 
 pub use laws::{
-    edited_trees_are_maps, landed_clashes_are_clashes, runs_are_serial, runs_go_on, runs_grow,
+    edited_trees_are_maps, landed_clashes_are_clashes, listed_were_listed, runs_are_serial,
+    runs_go_on, runs_grow,
 };
 pub use output::print_run;
 pub use statuses::greatest_status;

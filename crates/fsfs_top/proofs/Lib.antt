@@ -8,3 +8,4 @@ pub mod LookReplies
 pub mod FlatTexts
 pub mod CommandReplies
 pub mod Making
+pub mod JobsTold

@@ -1,6 +1,9 @@
 -- What svnjobs does, from its words and its input to the files, the output and the status.
-use Rattle.std.specs.Prelude.{◌≡◌, ◌≢◌, ◌⊎◌, ◌≤◌, ℕ, List, Option, Some, None, IfSome, Result, Ok, Err}
+use Rattle.std.specs.Prelude.{◌≡◌, ◌≢◌, ◌⊎◌, ℕ, List, Option, Some, None, IfSome, Result, Ok, Err}
 use Rattle.fsfs_base.specs.Failures.{Rose}
+use Rattle.fsfs_disk.specs.Crash.{AllLabels}
+use Rattle.fsfs_disk.specs.Trace.{Trace}
+use Rattle.fsfs_txns.specs.Removals.{WasKept}
 use Rattle.fsfs_faults.specs.Faults.{fault_from_words}
 use Rattle.fsfs_faults.specs.Lines.{status_of}
 use Rattle.fsfs_faults.specs.declared.fault.Fault.{Fault}
@@ -39,3 +42,7 @@ abbrev pub DidJobs : List (List ℕ) → Option ℕ → Scene → SourceScene �
 DidJobs words clock a i b j ended =
     ((repos : List ℕ) × (workers : ℕ) × Asks Jobs words repos (RunJobs workers) × RunsAt repos clock a i b j ended × ((path : List ℕ) → path ≢ repos → b.host.disk_at path ≡ a.host.disk_at path))
     ⊎ ((why : WordsFault) × (ended ≡ Err (fault_from_words why)) × Refuses (asked Jobs words) why × (b ≡ a) × (j ≡ i))
+
+-- no transaction is listed that was not before
+abbrev pub ListsNoOther : Option Trace → Option Trace → Type 0
+ListsNoOther old new = AllLabels new (WasKept old)

@@ -1,5 +1,6 @@
 // The top call.
-ghost use Rattle.std.specs.Prelude.{◌≡◌, ◌≢◌, ◌≤◌, ℕ, List, map, string_bytes, Option, Some, Result, IfSome, IfNone, OnOk, option_map};
+ghost use Rattle.std.specs.Prelude.{◌≡◌, ◌≢◌, ◌⊎◌, ◌≤◌, ℕ, List, map, string_bytes, Option, Some, Result, IfSome, IfNone, OnOk, option_map};
+ghost use Rattle.fsfs_base.specs.Failures.{Rose};
 ghost use Rattle.fsfs_disk.specs.Trace.{Trace, files_now};
 ghost use Rattle.fsfs_disk.specs.Crash.{AllImages, IsFirm, Leaves};
 ghost use Rattle.fsfs_create.specs.Creation.{IsUnpublished, HasRepository};
@@ -7,7 +8,7 @@ ghost use Rattle.fsfs_cli.specs.Readings.{Asks};
 ghost use Rattle.fsfs_cli.specs.declared.request.Task.TheVariants.{Create, RemoveTxns};
 ghost use Rattle.fsfs_cli.specs.declared.tool.Tool.TheVariants.{Jobs};
 ghost use Rattle.fsfs_faults.specs.Lines.{status_of};
-ghost use Rattle.fsfs_top.specs.Scripts.{DidJobs, ended_fault, ended_status};
+ghost use Rattle.fsfs_top.specs.Scripts.{DidJobs, ListsNoOther, ended_fault, ended_status};
 ghost use Rattle.fsfs_top.specs.Command.{Created, Did, IsNoneOrCreated, IsNoneOrStore, Tells, answer_of, fault_of};
 ghost use Rattle.fsfs_top.specs.Replies.{Replies, Gives, MadeStands};
 ghost use Rattle.fsfs_top.specs.Scenes.{host_scene, sink_scene, source_scene, scene};
@@ -206,6 +207,9 @@ pub fn command<H: Host, I: Source, O: Sink, E: Sink, C: Clock, R: Dice, G: Gate>
     // Of svnjobs: what became of the script in the input, to which belong the status and the line about a fault.
     ensures jobs { tool ≡ Jobs → (ended : Result ℕ Fault) × (result ≡ ended_status ended) × Tells tool (sink_scene E.Sink err.old) (sink_scene E.Sink err.new) (ended_fault ended)
         × DidJobs (map string_bytes words.now) (C.next clock.old) (scene H.Host O.Sink host.old out.old) (source_scene I.Source input.old) (scene H.Host O.Sink host.new out.new) (source_scene I.Source input.new) ended }
+
+    // Whatever the disks hold, a run of svnjobs leaves no transaction listed that was not before it, unless a call of the disk failed.
+    ensures listed { tool ≡ Jobs → (path : List ℕ) → ListsNoOther (H.disk_at host.old path) (H.disk_at host.new path) ⊎ Rose (H.disk_faults host.old) (H.disk_faults host.new) }
 
     ensures unread { tool ≢ Jobs → I.remaining input.new ≡ I.remaining input.old }
 {

@@ -1,9 +1,11 @@
-use Rattle.std.proofs.Common.{◌≡◌, ◌∙◌, ap, subst, arith}
-use Rattle.std.specs.Prelude.{Result, Ok, IfOk}
+use Rattle.std.proofs.Common.{◌≡◌, ◌∙◌, ap, subst, length, arith}
+use Rattle.std.specs.Prelude.{Result, Ok, IfOk, option_map}
+use Rattle.fsfs_disk.specs.Trace.{labels_now}
 use Rattle.fsfs_turn.specs.Telling.{state_of}
 use Rattle.fsfs_turn.specs.OwnedLemmas.{known_still}
 use Rattle.fsfs_base.specs.Failures.{Rose}
 use Rattle.fsfs_job_run.proofs.Causes.{any_on}
+use Rattle.fsfs_job_run.proofs.Listing.{lists_then}
 use Rattle.fsfs_job_command.proofs.RunLemmas.{ran_in}
 use Rattle.fsfs_job_command.proofs.running.do_jobs.Goals as goal
 
@@ -31,3 +33,23 @@ returns-in-Ok-clause-cause g c =
     let now = count c.close-disk.result in
     let back : now ≡ count c.youngest-youngest.new.self.turns.disk = ap count c.close-disk.ensures in
     any_on (Rose start mid) (Rose start now) c.in-Ok.answers.items (λ r. omega (arith, r, c.youngest-youngest.ensures.faults, back)) (told_ok c.run_jobs-repo.result.1 c.in-Ok.answers _ c.in-Ok.is c.run_jobs-repo.ensures.cause)
+
+pub returns-in-Ok-clause-listed : goal.returns-in-Ok-clause-listed
+returns-in-Ok-clause-listed g c =
+    let count = g.D.Disk.faults in
+    let told = g.D.Disk.trace in
+    let start = count c.args.repo.turns.disk in
+    let mid = count c.run_jobs-repo.result.0.turns.disk in
+    let now = count c.close-disk.result in
+    let back : now ≡ count c.youngest-youngest.new.self.turns.disk = ap count c.close-disk.ensures in
+    lists_then (Rose start mid) (Rose start now) (length c.args.jobs.now) _ _ _ (λ r. omega (arith, r, c.youngest-youngest.ensures.faults, back)) (ap (λ d. option_map labels_now (told d)) c.close-disk.ensures ∙ c.youngest-youngest.ensures.listed) c.run_jobs-repo.ensures.listed
+
+pub returns-in-Err-clause-listed : goal.returns-in-Err-clause-listed
+returns-in-Err-clause-listed g c =
+    let count = g.D.Disk.faults in
+    let told = g.D.Disk.trace in
+    let start = count c.args.repo.turns.disk in
+    let mid = count c.run_jobs-repo.result.0.turns.disk in
+    let now = count c.close-disk.result in
+    let back : now ≡ count c.youngest-youngest.new.self.turns.disk = ap count c.close-disk.ensures in
+    lists_then (Rose start mid) (Rose start now) (length c.args.jobs.now) _ _ _ (λ r. omega (arith, r, c.youngest-youngest.ensures.faults, back)) (ap (λ d. option_map labels_now (told d)) c.close-disk.ensures ∙ c.youngest-youngest.ensures.listed) c.run_jobs-repo.ensures.listed

@@ -1,10 +1,12 @@
-use Rattle.std.proofs.Common.{◌≡◌, ◌∙◌, List, length, refl, sym, ap, subst, arith}
-use Rattle.std.specs.Prelude.{Result, Ok, Err, IfOk, OnErr}
-use Rattle.fsfs_disk.specs.Trace.{FirmNames, FailsAt}
+use Rattle.std.proofs.Common.{◌≡◌, ◌⊎◌, ◌∙◌, List, length, refl, sym, ap, subst, arith}
+use Rattle.std.specs.Prelude.{Result, Ok, Err, IfOk, OnErr, option_map}
+use Rattle.fsfs_disk.specs.Trace.{FirmNames, FailsAt, labels_now}
 use Rattle.fsfs_job_lines.specs.declared.job.Job.{Job}
 use Rattle.fsfs_base.specs.Failures.{Rose}
 use Rattle.fsfs_machine.specs.Machine.{revisions}
+use Rattle.fsfs_serial.specs.Listed.{LeavesListed}
 use Rattle.fsfs_job_run.proofs.Causes.{any_on, calm_all}
+use Rattle.fsfs_job_run.proofs.Listing.{lists_behind}
 use Rattle.fsfs_job_command.specs.Runs.{NoRoom, Done, RanIn}
 use Rattle.fsfs_job_command.proofs.RunLemmas.{firm_fails, not_opened, not_read, ran_over}
 use Rattle.fsfs_job_command.proofs.running.run_script.Goals as goal
@@ -37,7 +39,9 @@ returns-in-Ok-done-clause-ran g c =
     let count = g.D.Disk.faults in
     let now = count c.do_jobs-disk.result.0 in
     let failed = any_on (Rose (count c.in-Ok.field-0.repo.turns.disk) now) (Rose (count c.args.disk) now) answers (λ r. omega (arith, r, c.in-Ok.ensures.later)) (told_ok c.do_jobs-disk.result.1 c.in-Ok-done.done _ c.in-Ok-done.is c.do_jobs-disk.ensures.cause) in
-    Done js answers c.in-Ok-done.done.youngest c.tell.result c.in-Ok-read_script.ensures.read c.in-Ok-read_script.ensures.whole each failed (calm_all (Rose (count c.args.disk) now) answers failed) over c.tell.ensures.printed
+    let listed = subst (λ (l : List Job). LeavesListed (length l) (option_map labels_now (told c.args.disk)) (option_map labels_now (told c.do_jobs-disk.result.0)) ⊎ Rose (count c.args.disk) now) given
+    (lists_behind (Rose (count c.in-Ok.field-0.repo.turns.disk) now) (Rose (count c.args.disk) now) (length c.as_slice.result.now) _ _ _ (λ r. omega (arith, r, c.in-Ok.ensures.later)) c.in-Ok.ensures.listed c.do_jobs-disk.ensures.listed) in
+    Done js answers c.in-Ok-done.done.youngest c.tell.result c.in-Ok-read_script.ensures.read c.in-Ok-read_script.ensures.whole each failed (calm_all (Rose (count c.args.disk) now) answers failed) listed over c.tell.ensures.printed
 
 pub returns-clause-ran : goal.returns-clause-ran
 returns-clause-ran g c =

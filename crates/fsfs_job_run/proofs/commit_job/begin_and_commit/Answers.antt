@@ -1,5 +1,5 @@
 use Rattle.std.proofs.Common.{◌≡◌, ⊎_elim, inl, inr, sym, subst, arith}
-use Rattle.std.specs.Prelude.{Result, Ok, Err, IfOk, IfErr}
+use Rattle.std.specs.Prelude.{Result, Ok, Err, IfOk, IfErr, OnErr}
 use Rattle.fsfs_base.specs.Failures.{Rose}
 use Rattle.fsfs_tree.specs.Revisions.{tree_of}
 use Rattle.fsfs_machine.specs.Machine.{revisions}
@@ -13,6 +13,7 @@ use Rattle.fsfs_job_reads.specs.TextReads.{IfAnswerFails}
 use Rattle.fsfs_job_run.proofs.Causes.{fails_on, begin_fails}
 use Rattle.fsfs_job_run.proofs.Begun.{unbegun_so}
 use Rattle.fsfs_job_run.proofs.Composed.{begun_so}
+use Rattle.fsfs_job_run.proofs.Listing.{begun_lists, unbegun_lists}
 use Rattle.fsfs_job_run.proofs.Seen.{trees_seen}
 use Rattle.fsfs_job_run.proofs.Whole.{root_whole}
 use Rattle.fsfs_job_run.proofs.commit_job.begin_and_commit.Goals as goal
@@ -22,6 +23,9 @@ told_ok r x P e w = subst (λ z. IfOk z P) e w
 
 told_err : {X E : Type 0} (r : Result X E) (x : E) (P : E → Type 0) → r ≡ Err x → IfErr r P → P x
 told_err r x P e w = subst (λ z. IfErr z P) e w
+
+told_left : {X E : Type 0} (r : Result X E) (x : E) (P : Type 0) → r ≡ Err x → OnErr r P → P
+told_left r x P e w = subst (λ z. OnErr z P) e w
 
 pub returns-in-Ok-clause-does : goal.returns-in-Ok-clause-does
 returns-in-Ok-clause-does g c = λ v known none told on le.
@@ -55,3 +59,13 @@ returns-in-Err-clause-cause g c =
     let job = c.args.job.now in
     subst (λ f. IfAnswerFails (Stopped job.line f) rose) (sym c.of_begin-fault.ensures)
     (begin_fails rose job.line c.in-Err.why (told_err c.begin-repo.result.1 c.in-Err.why (λ why. IfDisk why rose) c.in-Err.is c.begin-repo.ensures.cause))
+
+pub returns-in-Ok-clause-listed : goal.returns-in-Ok-clause-listed
+returns-in-Ok-clause-listed g c =
+    let start = g.D.Disk.faults c.args.repo.turns.disk in
+    let mid = g.D.Disk.faults c.begin-repo.result.0.turns.disk in
+    let now = g.D.Disk.faults c.edit_and_commit.result.0.turns.disk in
+    begun_lists (Rose mid now) (Rose start now) _ _ _ _ (λ r. omega (arith, r, c.begin-repo.ensures.later)) (told_ok c.begin-repo.result.1 c.in-Ok.txn _ c.in-Ok.is c.begin-repo.ensures.listed) c.edit_and_commit.ensures.listed
+
+pub returns-in-Err-clause-listed : goal.returns-in-Err-clause-listed
+returns-in-Err-clause-listed g c = unbegun_lists _ c.args.base _ _ (told_left c.begin-repo.result.1 c.in-Err.why _ c.in-Err.is c.begin-repo.ensures.unlisted)

@@ -3,7 +3,9 @@ use Rattle.fsfs_base.specs.Failures.{Rose}
 use Rattle.fsfs_tree.specs.Dated.{last_of}
 use Rattle.fsfs_machine.specs.Machine.{revisions}
 use Rattle.fsfs_machine.specs.declared.machine.Recorded.{Recorded}
-use Rattle.std.specs.Prelude.{List}
+use Rattle.std.specs.Prelude.{List, option_map}
+use Rattle.fsfs_disk.specs.Trace.{labels_now}
+use Rattle.fsfs_serial.proofs.ListedLemmas.{none_begun}
 use Rattle.fsfs_turn.specs.Alone.{KnowsAlone}
 use Rattle.fsfs_turn.specs.Telling.{OwnedState, owned_view}
 use Rattle.fsfs_turn_begin.specs.Steps.{IsPastNumbers}
@@ -11,6 +13,7 @@ use Rattle.fsfs_jobs.specs.Serial.{base_of}
 use Rattle.fsfs_job_run.proofs.Based.{no_base, no_base_outside, no_base_counted}
 use Rattle.fsfs_job_run.proofs.Causes.{fails_on, request_fails}
 use Rattle.fsfs_job_run.proofs.Composed.{commits_behind}
+use Rattle.fsfs_job_run.proofs.Listing.{lists_behind}
 use Rattle.fsfs_job_run.proofs.commit_job.commit_job.Goals as goal
 
 pub returns-in-Ok-clause-does : goal.returns-in-Ok-clause-does
@@ -39,3 +42,13 @@ returns-in-Ok-clause-cause g c =
 
 pub returns-in-Err-clause-cause : goal.returns-in-Err-clause-cause
 returns-in-Err-clause-cause g c = request_fails _ c.args.job.now.line c.in-Err.fault c.in-Err.ensures.asked
+
+pub returns-in-Ok-clause-listed : goal.returns-in-Ok-clause-listed
+returns-in-Ok-clause-listed g c =
+    let start = g.D.Disk.faults c.args.repo.turns.disk in
+    let mid = g.D.Disk.faults c.base_of.new.repo.turns.disk in
+    let now = g.D.Disk.faults c.begin_and_commit.result.0.turns.disk in
+    lists_behind (Rose mid now) (Rose start now) 1 _ _ _ (λ r. omega (arith, r, c.in-Ok.ensures.faults)) (ap (λ (s : OwnedState). option_map labels_now s.trace) c.in-Ok.ensures.same) c.begin_and_commit.ensures.listed
+
+pub returns-in-Err-clause-listed : goal.returns-in-Err-clause-listed
+returns-in-Err-clause-listed g c = inl (none_begun 1 _ _ (ap (λ (s : OwnedState). option_map labels_now s.trace) c.in-Err.ensures.same))

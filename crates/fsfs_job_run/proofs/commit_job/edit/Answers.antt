@@ -1,9 +1,12 @@
-use Rattle.std.proofs.Common.{[], sym, subst, arith}
+use Rattle.std.proofs.Common.{[], sym, ap, subst, ◌∙◌, arith}
+use Rattle.std.specs.Prelude.{option_map}
 use Rattle.fsfs_tree.specs.Dated.{last_of}
 use Rattle.fsfs_tree.specs.Revisions.{tree_of}
 use Rattle.fsfs_machine.specs.Machine.{revisions}
 use Rattle.fsfs_machine.proofs.Growing.{revisions_length}
 use Rattle.fsfs_turn.specs.Bytes.{bytes_of}
+use Rattle.fsfs_disk.specs.Trace.{labels_now}
+use Rattle.fsfs_turn.specs.Telling.{OwnedState}
 use Rattle.fsfs_turn.specs.OwnedLemmas.{owned_benches_tell}
 use Rattle.fsfs_owned_repo.specs.Alone.{KnowsIn}
 use Rattle.fsfs_job_run.proofs.Composed.{edits_as, failed_as}
@@ -24,3 +27,6 @@ returns-clause-known g c = λ v known. c.of_reader.ensures.known v (subst (λ s.
 
 pub returns-clause-cause : goal.returns-clause-cause
 returns-clause-cause g c = failed_as c.do_edits-done.result _ _ _ _ c.reader-reader.ensures.faults (sym c.of_reader.ensures.faults) c.do_edits-done.ensures.disk.failed
+
+pub returns-clause-listed : goal.returns-clause-listed
+returns-clause-listed g c = ap (λ (s : OwnedState). option_map labels_now s.trace) (c.of_reader.ensures.below ∙ c.do_edits-done.ensures.kept.below ∙ c.reader-reader.ensures.below)

@@ -9,6 +9,7 @@ use Rattle.fsfs_turn.specs.Alone.{KnowsAlone}
 use Rattle.fsfs_turn.specs.Bytes.{bytes_of}
 use Rattle.fsfs_job_run.proofs.Causes.{fails_on, edit_fails}
 use Rattle.fsfs_job_run.proofs.Composed.{stands_for, edited_so, stopped_so, edits_done, edits_stopped, edits_failed, txn_as, given_as}
+use Rattle.fsfs_job_run.proofs.Listing.{unlisted_behind}
 use Rattle.fsfs_job_run.proofs.commit_job.edit_and_commit.Goals as goal
 
 pub returns-in-Ok-clause-does : goal.returns-in-Ok-clause-does
@@ -50,3 +51,17 @@ returns-in-Err-clause-cause g c =
     let now = g.D.Disk.faults c.purged.result.turns.disk in
     edit_fails (Rose start mid) (Rose start now) c.in-Err.field-0.line c.in-Err.field-0.fault (λ r. omega (arith, r, c.purged.ensures.later))
     (edits_failed c.edit-repo.result.1 c.in-Err.field-0 c.in-Err.field-0.fault (Rose start mid) c.in-Err.is refl c.edit-repo.ensures.cause)
+
+pub returns-in-Ok-clause-listed : goal.returns-in-Ok-clause-listed
+returns-in-Ok-clause-listed g c =
+    let start = g.D.Disk.faults c.args.repo.turns.disk in
+    let mid = g.D.Disk.faults c.edit-repo.result.0.turns.disk in
+    let now = g.D.Disk.faults c.commit_edited.result.0.turns.disk in
+    unlisted_behind (Rose mid now) (Rose start now) _ _ _ _ _ (λ r. omega (arith, r, c.edit-repo.ensures.later)) c.edit-repo.ensures.name c.edit-repo.ensures.listed c.commit_edited.ensures.listed
+
+pub returns-in-Err-clause-listed : goal.returns-in-Err-clause-listed
+returns-in-Err-clause-listed g c =
+    let start = g.D.Disk.faults c.args.repo.turns.disk in
+    let mid = g.D.Disk.faults c.edit-repo.result.0.turns.disk in
+    let now = g.D.Disk.faults c.purged.result.turns.disk in
+    unlisted_behind (Rose mid now) (Rose start now) _ _ _ _ _ (λ r. omega (arith, r, c.edit-repo.ensures.later)) c.edit-repo.ensures.name c.edit-repo.ensures.listed c.purged.ensures.listed

@@ -1,4 +1,4 @@
-use Rattle.std.proofs.Common.{sym, subst}
+use Rattle.std.proofs.Common.{sym, subst, arith}
 use Rattle.fsfs_base.specs.Failures.{Rose}
 use Rattle.fsfs_turn.specs.Alone.{KnowsAlone}
 use Rattle.fsfs_owned_repo.specs.Commits.{IfFailed}
@@ -9,6 +9,7 @@ use Rattle.fsfs_job_run.proofs.Causes.{bar_fails}
 use Rattle.fsfs_job_run.proofs.Alone.{is_lone}
 use Rattle.fsfs_job_run.proofs.Answered.{committed_by, barred_by, disk_by, bench_by}
 use Rattle.fsfs_job_run.proofs.Barred.{bar_none}
+use Rattle.fsfs_job_run.proofs.Listing.{unlisted_behind, committed_unlists, disk_unlists, bench_unlists, back_keeps, back_is}
 use Rattle.fsfs_job_run.proofs.Seen.{some_seen, history_seen, over_seen}
 use Rattle.fsfs_job_run.proofs.ending.commit_with.Goals as goal
 
@@ -64,3 +65,21 @@ pub returns-in-BenchFault-clause-cause : goal.returns-in-BenchFault-clause-cause
 returns-in-BenchFault-clause-cause g c =
     let rose = Rose (g.D.Disk.faults c.args.repo.turns.disk) (g.D.Disk.faults c.commit-repo.result.0.turns.disk) in
     subst (λ (a : JobAnswer). IfAnswerFails a rose) (sym c.stopped-in-BenchFault.ensures) tt
+
+pub returns-in-Committed-clause-listed : goal.returns-in-Committed-clause-listed
+returns-in-Committed-clause-listed g c = committed_unlists _ _ _ _ c.commit-repo.result.1 c.commit-repo.ensures.listed c.in-Committed.rev c.in-Committed.purged c.in-Committed.is
+
+pub returns-in-Barred-clause-listed : goal.returns-in-Barred-clause-listed
+returns-in-Barred-clause-listed g c =
+    let count = g.D.Disk.faults in
+    let start = count c.args.repo.turns.disk in
+    let mid = count c.commit-repo.result.0.turns.disk in
+    let now = count c.purged.result.turns.disk in
+    unlisted_behind (Rose mid now) (Rose start now) _ _ _ _ _ (λ r. omega (arith, r, c.commit-repo.ensures.later)) (back_is c.commit-repo.result.1 _ c.in-Barred.bar c.in-Barred.txn c.in-Barred.is c.commit-repo.ensures.named)
+    (back_keeps _ _ _ _ c.commit-repo.result.1 c.commit-repo.ensures.listed c.in-Barred.bar c.in-Barred.txn c.in-Barred.is) c.purged.ensures.listed
+
+pub returns-in-DiskFault-clause-listed : goal.returns-in-DiskFault-clause-listed
+returns-in-DiskFault-clause-listed g c = disk_unlists _ _ _ _ c.commit-repo.result.1 c.commit-repo.ensures.listed c.in-DiskFault.place c.in-DiskFault.is
+
+pub returns-in-BenchFault-clause-listed : goal.returns-in-BenchFault-clause-listed
+returns-in-BenchFault-clause-listed g c = bench_unlists _ _ _ _ c.commit-repo.result.1 c.commit-repo.ensures.listed c.in-BenchFault.is

@@ -3,6 +3,7 @@ use Rattle.fsfs_base.specs.Failures.{Rose}
 use Rattle.fsfs_job_lines.specs.declared.job.Job.{Job}
 use Rattle.fsfs_turn.specs.Alone.{KnowsAlone}
 use Rattle.fsfs_job_run.specs.Running.{DoesSo, IfCounted, StopsOver}
+use Rattle.fsfs_serial.proofs.ListedLemmas.{none_begun}
 use Rattle.fsfs_owned_repo.proofs.Crashes.{survives}
 use Rattle.fsfs_job_run.proofs.job.do_job.Goals as goal
 
@@ -29,3 +30,9 @@ returns-in-Read-clause-counted g c = λ v known none. inl (subst (λ (j : Job). 
 
 pub returns-in-Read-clause-crashes : goal.returns-in-Read-clause-crashes
 returns-in-Read-clause-crashes g c = λ u known. let turns = c.read_text.result.0.turns in survives turns.layout turns.young turns.stuck (g.D.Disk.trace turns.disk) u known
+
+pub returns-in-Commit-clause-listed : goal.returns-in-Commit-clause-listed
+returns-in-Commit-clause-listed g c = c.commit_job.ensures.listed
+
+pub returns-in-Read-clause-listed : goal.returns-in-Read-clause-listed
+returns-in-Read-clause-listed g c = inl (none_begun 1 _ _ c.read_text.ensures.listed)

@@ -1,4 +1,7 @@
-use Rattle.std.proofs.Common.{◌≤◌, List, sym, subst, ◌∙◌, arith}
+use Rattle.std.proofs.Common.{◌≤◌, List, sym, ap, subst, ◌∙◌, arith}
+use Rattle.std.specs.Prelude.{option_map}
+use Rattle.fsfs_disk.specs.Trace.{labels_now}
+use Rattle.fsfs_turn.specs.Telling.{OwnedState}
 use Rattle.fsfs_tree.specs.Dated.{last_of}
 use Rattle.fsfs_tree.specs.Revisions.{tree_of}
 use Rattle.fsfs_machine.specs.declared.machine.Recorded.{Recorded}
@@ -35,3 +38,9 @@ returns-in-Err-clause-cause g c = request_fails _ c.args.job.now.line c.in-Err.f
 
 pub returns-clause-cause : goal.returns-clause-cause
 returns-clause-cause g c = fails_as c.read_job-answer.result _ _ _ _ (c.reader-reader.ensures.faults ∙ c.in-Ok.ensures.faults) (sym c.of_reader.ensures.faults) c.read_job-answer.ensures.cause.failed
+
+pub returns-in-Err-clause-listed : goal.returns-in-Err-clause-listed
+returns-in-Err-clause-listed g c = ap (λ (s : OwnedState). option_map labels_now s.trace) c.in-Err.ensures.same
+
+pub returns-clause-listed : goal.returns-clause-listed
+returns-clause-listed g c = ap (λ (s : OwnedState). option_map labels_now s.trace) (c.of_reader.ensures.below ∙ c.read_job-answer.ensures.kept.below ∙ c.reader-reader.ensures.below ∙ c.in-Ok.ensures.same)

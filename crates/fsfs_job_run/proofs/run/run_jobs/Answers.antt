@@ -1,9 +1,11 @@
-use Rattle.std.proofs.Common.{◌+◌, ap, ℕ, ◌∙◌, refl, arith}
+use Rattle.std.proofs.Common.{◌+◌, ap, ℕ, ◌∙◌, refl, inl, length, arith}
 use Rattle.fsfs_turn.specs.Alone.{KnowsAlone}
 use Rattle.fsfs_turn.specs.Telling.{state_of}
 use Rattle.fsfs_base.specs.Failures.{Rose}
 use Rattle.fsfs_job_run.proofs.Causes.{any_none, any_more}
+use Rattle.fsfs_job_run.proofs.Listing.{lists_within}
 use Rattle.fsfs_job_run.proofs.Going.{runs_none, runs_more, runs_all, none_taken}
+use Rattle.fsfs_serial.proofs.ListedLemmas.{none_begun, lists_on}
 use Rattle.fsfs_owned_repo.proofs.Crashes.{survives}
 use Rattle.fsfs_job_run.proofs.run.run_jobs.Goals as goal
 
@@ -18,6 +20,7 @@ loop-job-init g c =
       count = c.in-Ok.ensures.len;
       mounted = refl;
       later = omega arith;
+      listed = inl (none_begun 0 _ _ refl);
       cause = any_none _ c.in-Ok.answers.items c.in-Ok.ensures.items;
     }
 
@@ -38,6 +41,7 @@ loop-job-preserved g c =
       count = c.push_reserved.ensures.len ∙ ap (λ (n : ℕ). n + 1) inv.count;
       mounted = c.do_job-after.ensures.mounted ∙ inv.mounted;
       later = omega (arith, inv.later, c.do_job-after.ensures.later);
+      listed = lists_on (Rose (g.D.Disk.faults start.disk) (g.D.Disk.faults before.disk)) (Rose (g.D.Disk.faults before.disk) (g.D.Disk.faults after.disk)) (Rose (g.D.Disk.faults start.disk) (g.D.Disk.faults after.disk)) c.loop-job.job-index 1 _ _ _ (λ r. omega (arith, r, c.do_job-after.ensures.later)) (λ r. omega (arith, r, inv.later)) inv.listed c.do_job-after.ensures.listed;
       cause = any_more (Rose (g.D.Disk.faults start.disk) (g.D.Disk.faults before.disk)) (Rose (g.D.Disk.faults before.disk) (g.D.Disk.faults after.disk)) (Rose (g.D.Disk.faults start.disk) (g.D.Disk.faults after.disk))
           c.loop-job.answers.items c.push_reserved.new.self.items c.do_job-after.result.1 c.push_reserved.ensures.items (λ r. omega (arith, r, c.do_job-after.ensures.later)) (λ r. omega (arith, r, inv.later)) inv.cause c.do_job-after.ensures.cause;
     }
@@ -53,3 +57,9 @@ returns-clause-crashes g c = λ u known. let turns = c.loop-job.repo.turns in su
 
 pub returns-in-Err-clause-crashes : goal.returns-in-Err-clause-crashes
 returns-in-Err-clause-crashes g c = λ u known. let turns = c.args.repo.turns in survives turns.layout turns.young turns.stuck (g.D.Disk.trace turns.disk) u known
+
+pub returns-clause-listed : goal.returns-clause-listed
+returns-clause-listed g c = lists_within _ c.loop-job.job-index (length c.args.jobs.now) _ _ (omega arith) c.loop-job.invariant.listed
+
+pub returns-in-Err-clause-listed : goal.returns-in-Err-clause-listed
+returns-in-Err-clause-listed g c = inl (none_begun (length c.args.jobs.now) _ _ refl)

@@ -1,5 +1,7 @@
-use Rattle.std.proofs.Common.{◌≡◌, ◌≤◌, take, length}
-use Rattle.std.specs.Prelude.{None, vec_len}
+use Rattle.std.proofs.Common.{◌≡◌, ◌⊎◌, ◌≤◌, take, length}
+use Rattle.std.specs.Prelude.{None, vec_len, option_map}
+use Rattle.fsfs_disk.specs.Trace.{labels_now}
+use Rattle.fsfs_serial.specs.Listed.{LeavesListed}
 use Rattle.std.specs.Vec.{vec_capacity}
 use Rattle.fsfs_turn.specs.Alone.{KnowsAlone}
 use Rattle.fsfs_turn.specs.Telling.{state_of}
@@ -20,5 +22,7 @@ invariant-loop-job g l = record {
   count : vec_len l.answers ≡ l.job-index;
   mounted : g.D.Disk.mount_path l.repo.turns.disk ≡ g.D.Disk.mount_path l.fn.repo.turns.disk;
   later : g.D.Disk.faults l.fn.repo.turns.disk ≤ g.D.Disk.faults l.repo.turns.disk;
+  listed : LeavesListed l.job-index (option_map labels_now (g.D.Disk.trace l.fn.repo.turns.disk)) (option_map labels_now (g.D.Disk.trace l.repo.turns.disk))
+      ⊎ Rose (g.D.Disk.faults l.fn.repo.turns.disk) (g.D.Disk.faults l.repo.turns.disk);
   cause : IfAnyFails l.answers.items (Rose (g.D.Disk.faults l.fn.repo.turns.disk) (g.D.Disk.faults l.repo.turns.disk));
 }

@@ -1,5 +1,7 @@
 use Rattle.std.proofs.Common.{map, refl}
 use Rattle.std.specs.Prelude.{string_bytes, Ok, Err}
+use Rattle.fsfs_top.specs.Scenes.{scene, source_scene}
+use Rattle.fsfs_top.proofs.JobsTold.{jobs_list}
 use Rattle.fsfs_top.proofs.TaskDone.{no_creation, no_removal}
 use Rattle.fsfs_top.proofs.top.command.Goals as goal
 
@@ -8,6 +10,9 @@ do_command-requires g c = c.in_default.not-Jobs
 
 pub returns-in_default-clause-jobs : goal.returns-in_default-clause-jobs
 returns-in_default-clause-jobs g c = λ jobs. absurd (c.in_default.not-Jobs jobs)
+
+pub returns-in_default-clause-listed : goal.returns-in_default-clause-listed
+returns-in_default-clause-listed g c = λ jobs. absurd (c.in_default.not-Jobs jobs)
 
 pub returns-in_default-clause-unread : goal.returns-in_default-clause-unread
 returns-in_default-clause-unread g c = λ apart. refl
@@ -83,3 +88,13 @@ returns-in-Ok-clause-jobs g c = λ jobs. (Ok c.in-Ok.status, refl, refl, c.in-Ok
 
 pub returns-in-Err-clause-jobs : goal.returns-in-Err-clause-jobs
 returns-in-Err-clause-jobs g c = λ jobs. (Err c.in-Err.fault, c.tell.ensures.status, c.tell.ensures.told, c.in-Err.ensures.did)
+
+pub returns-in-Ok-clause-listed : goal.returns-in-Ok-clause-listed
+returns-in-Ok-clause-listed g c = λ jobs.
+    jobs_list (map string_bytes c.args.words.now) (g.C.Clock.next c.args.clock.now) (scene g.H.Host g.O.Sink c.args.host.now c.args.out.now) (source_scene g.I.Source c.args.input.now) (scene g.H.Host g.O.Sink c.run_jobs.new.host c.run_jobs.new.out) (source_scene g.I.Source c.run_jobs.new.input)
+    (Ok c.in-Ok.status) c.in-Ok.ensures.did
+
+pub returns-in-Err-clause-listed : goal.returns-in-Err-clause-listed
+returns-in-Err-clause-listed g c = λ jobs.
+    jobs_list (map string_bytes c.args.words.now) (g.C.Clock.next c.args.clock.now) (scene g.H.Host g.O.Sink c.args.host.now c.args.out.now) (source_scene g.I.Source c.args.input.now) (scene g.H.Host g.O.Sink c.run_jobs.new.host c.run_jobs.new.out) (source_scene g.I.Source c.run_jobs.new.input)
+    (Err c.in-Err.fault) c.in-Err.ensures.did

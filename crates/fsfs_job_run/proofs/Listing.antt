@@ -1,0 +1,72 @@
+-- The label of a job's transaction, from its beginning to its end.
+use Rattle.std.proofs.Common.{◌≡◌, ◌⊎◌, ◌≤◌, ℕ, List, Bool, true, false, inl, inr, ⊎_elim, sym, subst}
+use Rattle.std.specs.Prelude.{Option, option_map, Result, Ok, Err, OnOk, OnErr}
+use Rattle.fsfs_fields.specs.declared.txn_name.TxnName.{TxnName}
+use Rattle.fsfs_disk.specs.Labels.{Label, with_label, without_label}
+use Rattle.fsfs_txns.specs.Txns.{pair_of, txn_label}
+use Rattle.fsfs_turn_begin.specs.Labels.{IsUnlisted, ListsNoMore}
+use Rattle.fsfs_turn_begin.proofs.Benching.{came_and_went}
+use Rattle.fsfs_owned_repo.specs.Labels.{LeavesLabels, Unlists}
+use Rattle.fsfs_owned_repo.specs.Commits.{IfBack}
+use Rattle.fsfs_owned_repo.specs.declared.answers.CommitAnswer.{CommitAnswer}
+use Rattle.fsfs_owned_repo.specs.declared.answers.CommitAnswer.TheVariants as answers
+use Rattle.fsfs_owned_repo.specs.declared.answers.CommitBar.{CommitBar}
+use Rattle.fsfs_places.specs.declared.place.DiskPlace.{DiskPlace}
+use Rattle.fsfs_serial.specs.Listed.{LeavesListed}
+use Rattle.fsfs_serial.proofs.ListedLemmas.{none_begun, one_gone, more_begun, failed_on}
+
+-- ---- the end of a transaction
+
+-- it was purged
+pub purge_unlists : {X E P : Type 0} (l : Label) (old new : Option (List Label)) (result : Result X E) → OnOk result (new ≡ option_map (without_label l) old) → OnErr result P → IsUnlisted l P old new
+purge_unlists l old new (Ok done) gone failed = inl gone
+purge_unlists l old new (Err why) gone failed = inr failed
+
+-- behind calls that keep all labels, and its name
+pub unlisted_behind : (P Q : Type 0) (n m : TxnName) (old mid new : Option (List Label)) → (P → Q) → n ≡ m → mid ≡ old → IsUnlisted (txn_label (pair_of n)) P mid new → IsUnlisted (txn_label (pair_of m)) Q old new
+unlisted_behind P Q n m old mid new f named same unlisted =
+    subst (λ (k : TxnName). IsUnlisted (txn_label (pair_of k)) Q old new) named (subst (λ (o : Option (List Label)). IsUnlisted (txn_label (pair_of n)) Q o new) same (failed_on f unlisted))
+
+-- a commit purged it
+unlisted_by : (gone : Bool) (l : Label) (P : Type 0) (old new : Option (List Label)) → Unlists gone l P old new → IsUnlisted l P old new
+unlisted_by true l P old new went = inl went
+unlisted_by false l P old new stays = inr stays.0
+
+module _ {X : Type 0} (l : Label) (P : Type 0) (old new : Option (List Label)) (answer : CommitAnswer X) (leaves : LeavesLabels answer l P old new) where
+  pub committed_unlists : (rev : ℕ) (purged : Bool) → answer ≡ answers.Committed rev purged → IsUnlisted l P old new
+  committed_unlists rev purged is = unlisted_by purged l P old new (subst (λ (a : CommitAnswer X). LeavesLabels a l P old new) is leaves)
+
+  pub disk_unlists : (at : DiskPlace) → answer ≡ answers.DiskFault at → IsUnlisted l P old new
+  disk_unlists at is = let w = subst (λ (a : CommitAnswer X). LeavesLabels a l P old new) is leaves in unlisted_by w.0 l P old new w.1
+
+  pub bench_unlists : answer ≡ answers.BenchFault → IsUnlisted l P old new
+  bench_unlists is = let w = subst (λ (a : CommitAnswer X). LeavesLabels a l P old new) is leaves in unlisted_by w.0 l P old new w.1
+
+  -- it was handed back
+  pub back_keeps : (bar : CommitBar) (txn : X) → answer ≡ answers.Barred bar txn → new ≡ old
+  back_keeps bar txn is = subst (λ (a : CommitAnswer X). LeavesLabels a l P old new) is leaves
+
+pub back_is : {X : Type 0} (answer : CommitAnswer X) (Q : X → Type 0) (bar : CommitBar) (txn : X) → answer ≡ answers.Barred bar txn → IfBack answer Q → Q txn
+back_is {X} answer Q bar txn is back = subst (λ (a : CommitAnswer X). IfBack a Q) is back
+
+-- ---- a job
+
+-- behind a beginning
+pub begun_lists : (P Q : Type 0) (txn : ℕ × ℕ) (old mid new : Option (List Label)) → (P → Q) → mid ≡ option_map (with_label (txn_label txn)) old → IsUnlisted (txn_label txn) P mid new → LeavesListed 1 old new ⊎ Q
+begun_lists P Q txn old mid new f came unlisted = ⊎_elim (λ gone. inl (one_gone old new txn (came_and_went (txn_label txn) old mid new came gone))) (λ p. inr (f p)) unlisted
+
+-- behind one that failed
+pub unbegun_lists : (P : Type 0) (base : ℕ) (old new : Option (List Label)) → ListsNoMore base P old new → LeavesListed 1 old new ⊎ P
+unbegun_lists P base old new left = ⊎_elim (λ same. inl (none_begun 1 old new same)) (λ w. ⊎_elim (λ gone. inl (one_gone old new (base, w.0) gone)) (λ p. inr p) w.1) left
+
+-- behind a call that keeps all labels
+pub lists_behind : (P Q : Type 0) (most : ℕ) (old mid new : Option (List Label)) → (P → Q) → mid ≡ old → LeavesListed most mid new ⊎ P → LeavesListed most old new ⊎ Q
+lists_behind P Q most old mid new f same lists = subst (λ (o : Option (List Label)). LeavesListed most o new ⊎ Q) same (failed_on f lists)
+
+-- before one
+pub lists_then : (P Q : Type 0) (most : ℕ) (old mid new : Option (List Label)) → (P → Q) → new ≡ mid → LeavesListed most old mid ⊎ P → LeavesListed most old new ⊎ Q
+lists_then P Q most old mid new f same lists = subst (λ (o : Option (List Label)). LeavesListed most old o ⊎ Q) (sym same) (failed_on f lists)
+
+-- of more jobs
+pub lists_within : (P : Type 0) (most all : ℕ) (old new : Option (List Label)) → most ≤ all → LeavesListed most old new ⊎ P → LeavesListed all old new ⊎ P
+lists_within P most all old new less lists = ⊎_elim (λ l. inl (more_begun most all old new less l)) (λ p. inr p) lists
