@@ -7,7 +7,7 @@ use Rattle.fsfs_seats.specs.declared.seat_view.Hand.TheVariants.{Empty}
 use Rattle.fsfs_seats.specs.declared.seat_view.SeatView.{SeatView}
 use Rattle.fsfs_seats.specs.Seats.{view_of}
 
--- it holds nothing; and where the disk tells this trace, it is in no section, and knows what is known of the store
+-- it holds nothing; and where the disk tells this trace, it has met it so, is in no section, and knows what is known of the store
 abbrev pub IsFirst : Layout → ℕ → Option Trace → SeatView → Type 0
-IsFirst layout young None v = (v.told ≡ false) × (v.hand ≡ Empty)
-IsFirst layout young (Some t) v = (v.told ≡ true) × (v.hand ≡ Empty) × (v.sure ≡ false) × (v.section ≡ None) × Knows layout young None (Some t) (view_of v)
+IsFirst layout young None v = (v.told ≡ false) × (v.hand ≡ Empty) × (v.met ≡ None)
+IsFirst layout young (Some t) v = (v.told ≡ true) × (v.hand ≡ Empty) × (v.sure ≡ false) × (v.section ≡ None) × (v.met ≡ Some t) × Knows layout young None (Some t) (view_of v)

@@ -1,28 +1,26 @@
 -- The rule of the table at which passes sit: it holds a state of the machine, and each seat knows what its pass knows of it.
 -- Word 0 is DISK: 0 where the disk is in its slot, 1 where a pass has it. Word 1 is LOCK. Word 2 is YOUNG, the youngest number.
-use Rattle.std.specs.Prelude.{◌≡◌, ◌≤◌, ℕ, List, [], ◌∷◌, true, Option, Some, IfSome, is_some}
+use Rattle.std.specs.Prelude.{◌≡◌, ◌≤◌, ℕ, List, [], ◌∷◌, true, Option, Some, is_some}
 use mathlib.Core.Option.{some}
 use lib.ListN.{get_elem?}
 use Rattle.atomic_table.specs.Table.{State}
 use Rattle.fsfs_fields.specs.RevNums.{last_rev}
-use Rattle.fsfs_layout.specs.Layouts.{place_in_shard}
-use Rattle.fsfs_disk.specs.Trace.{Trace}
-use Rattle.fsfs_machine.specs.Machine.{World, is_up, with_next}
-use Rattle.fsfs_machine.specs.Kept.{Kept, coming}
-use Rattle.fsfs_images.specs.Shown.{IsTraceOf}
-use Rattle.fsfs_turn.specs.Bytes.{BytesShow, AllShow}
-use Rattle.fsfs_turn.specs.Views.{Sees, is_held, with_txns}
+use Rattle.fsfs_disk.specs.Benches.{HasShortFiles}
+use Rattle.fsfs_disk.specs.Trace.{Trace, files_now}
+use Rattle.fsfs_machine.specs.Machine.{World, is_up, stuck_place}
+use Rattle.fsfs_turn.specs.Views.{Sees, is_held}
 use Rattle.fsfs_turn.specs.Past.{doubt, Safe}
-use Rattle.fsfs_turn.specs.Standing.{no_others}
+use Rattle.fsfs_turn.specs.Standing.{IsStore}
 use Rattle.fsfs_shared_disk.specs.Seen.{DiskSeen}
 use Rattle.fsfs_seats.specs.declared.seat_view.Hand.{Hand}
 use Rattle.fsfs_seats.specs.declared.seat_view.Hand.TheVariants.{Empty, Out}
 use Rattle.fsfs_seats.specs.declared.seat_view.SeatView.{SeatView}
 use Rattle.fsfs_seats.specs.LockWords.{lock_word}
 use Rattle.fsfs_seats.specs.Seats.{view_of}
+use Rattle.fsfs_seats.specs.Met.{HasMet}
 
 -- seat j is the pass of that number; images are spoken of from the opening on, which the first seat's view tells
-pub record Seated (first : SeatView) (w : World) (j : ℕ) (v : SeatView) : Type 0 where
+pub record Seated (first : SeatView) (w : World) (now : Trace) (j : ℕ) (v : SeatView) : Type 0 where
   pub number : v.number ≡ j
   pub sees : Sees w (view_of v)
   -- who is sure of the youngest number holds the lock
@@ -30,22 +28,19 @@ pub record Seated (first : SeatView) (w : World) (j : ℕ) (v : SeatView) : Type
   pub layout : v.layout ≡ first.layout
   pub since : v.since ≡ first.since
   pub opened : v.opened ≡ first.opened
+  -- it met the files of an earlier state
+  pub met : HasMet first.layout w now v
 
--- A state of the machine that is kept. Its disk is read in this trace; its lock and its youngest number are those of the words; and
--- each image of each moment since the opening stands for a first part of its history, or for it with the revision in doubt.
+-- A state of the machine. The disk with this trace is its disk; its lock and its youngest number are those of the words; and each image of
+-- each moment since the opening stands for a first part of its history, or for it with the revision in doubt.
 pub record Store (first : SeatView) (views : List SeatView) (lock young : ℕ) (t : Trace) : Type 0 where
   pub world : World
-  pub trace : IsTraceOf first.layout world.floor no_others t.first t.operations world.disk
-  -- only whole shards are packed
-  pub whole : place_in_shard first.layout world.floor ≡ 0
-  pub kept : Kept (with_txns [] world)
-  pub shown : AllShow world.history
-  pub next : IfSome (coming world.lock) (λ x. BytesShow (with_next world.history x))
+  pub store : IsStore first.layout young (stuck_place world.lock) t world
   pub safe : Safe first.layout first.since t first.opened world.floor world.history (doubt world.lock)
   pub up : is_up world.lock ≡ true
+  pub short : HasShortFiles (files_now t)
   pub lock_is : lock ≡ lock_word world.lock
-  pub young_is : young ≡ world.young
-  pub seats : (j : ℕ) (v : SeatView) → get_elem? views j ≡ some v → Seated first world j v
+  pub seats : (j : ℕ) (v : SeatView) → get_elem? views j ≡ some v → Seated first world t j v
 
 -- a seat that has the disk took it with the trace that it had
 abbrev pub HandIs : ℕ → ℕ → Option Trace → ℕ → Hand → Type 0
@@ -64,4 +59,5 @@ pub record Rule (first : SeatView) (s : State (Option DiskSeen) SeatView) : Type
   pub home : out ≡ 0 → (d : DiskSeen) × (get_elem? s.homes 0 ≡ some (some (Some d))) × (d.trace ≡ now)
   pub hands : (j : ℕ) (v : SeatView) → get_elem? s.views j ≡ some v → HandIs out holder now j v.hand
   pub told : (j : ℕ) (v : SeatView) → get_elem? s.views j ≡ some v → v.told ≡ is_some now
+  pub met : (j : ℕ) (v : SeatView) → get_elem? s.views j ≡ some v → is_some v.met ≡ is_some now
   pub store : (t : Trace) → now ≡ Some t → Store first s.views lock young t

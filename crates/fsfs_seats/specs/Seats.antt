@@ -1,5 +1,6 @@
 -- What a seat at the table knows, as what a pass knows.
 use Rattle.std.specs.Prelude.{ℕ, length, Option, Some, None, false}
+use Rattle.fsfs_disk.specs.Trace.{Trace}
 use Rattle.fsfs_places.specs.declared.place.DiskPlace.{DiskPlace}
 use Rattle.fsfs_machine.specs.declared.machine.Coming.{Coming}
 use Rattle.fsfs_machine.specs.declared.machine.Section.{Section}
@@ -11,9 +12,9 @@ use Rattle.fsfs_seats.specs.declared.seat_view.SeatView.{SeatView}
 abbrev pub view_of : SeatView → View
 view_of v = record { layout = v.layout; since = v.since; opened = v.opened; number = v.number; pass = v.pass; seen = v.seen; section = v.section; sure = v.sure; given = v.given }
 
--- it was told the youngest number
-abbrev pub look_view : ℕ → SeatView → SeatView
-look_view young v = record v { pass = record v.pass { least = young }; sure = is_held v.section }
+-- it was told the youngest number, and has met this trace
+abbrev pub look_view : ℕ → Option Trace → SeatView → SeatView
+look_view young met v = record v { pass = record v.pass { least = young }; sure = is_held v.section; met = met }
 
 -- it has taken the lock
 abbrev pub lock_view : SeatView → SeatView
@@ -27,10 +28,10 @@ stuck_view place v = record v { pass = record v.pass { stuck = Some place } }
 abbrev pub outside_view : SeatView → SeatView
 outside_view v = record v { section = None; sure = false }
 
--- its revision is in the history
-abbrev pub reveal_view : Coming → SeatView → SeatView
-reveal_view x v = record v { pass = reveals (length v.seen) v.pass; seen = with_next v.seen x; section = Some Over; sure = false }
+-- its revision is in the history, and it has met this trace
+abbrev pub reveal_view : Coming → Option Trace → SeatView → SeatView
+reveal_view x met v = record v { pass = reveals (length v.seen) v.pass; seen = with_next v.seen x; section = Some Over; sure = false; met = met }
 
-abbrev pub reveal_in : Option Section → SeatView → SeatView
-reveal_in (Some (CurrentFirm x)) v = reveal_view x v
-reveal_in s v = v
+abbrev pub reveal_in : Option Section → Option Trace → SeatView → SeatView
+reveal_in (Some (CurrentFirm x)) met v = reveal_view x met v
+reveal_in s met v = v

@@ -48,6 +48,7 @@ pub fn start<D: Disk + Drop>(
     ensures back { IfErr result (λ d. D.trace d ≡ D.trace disk) }
 {
     let shared = SharedDisk::new(disk);
+    shared.files_are_short();
     let first = Note::some(&First {
         disk: &shared,
         layout,

@@ -38,4 +38,8 @@ pub struct SeatView {
     pub given: Numbers,
     pub told: bool,
     pub hand: Hand,
+    // the trace of the disk as the pass met it last, at a look, at a reveal, or by a call of the disk
+    pub met: Told,
+    // how often its calls of the disk failed
+    pub failures: u64,
 }

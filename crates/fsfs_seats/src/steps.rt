@@ -1,6 +1,7 @@
 //! The steps of a pass that leave the disk as it is. Each is one atomic step at the table, and one step of the machine where the disk
 //! tells its files.
 ghost use Rattle.std.specs.Prelude.{◌≡◌, ◌≤◌, ◌<◌, [], ◌∷◌, true, Some, None, is_some, IfOk, OnOk, IfErr};
+ghost use Rattle.fsfs_fetch.specs.Views.{Later};
 ghost use Rattle.fsfs_fields.specs.RevNums.{last_rev};
 ghost use Rattle.fsfs_disk.specs.Trace.{Trace};
 ghost use Rattle.fsfs_machine.specs.declared.machine.Coming.{Coming};
@@ -9,7 +10,8 @@ ghost use Rattle.fsfs_machine.specs.declared.machine.Step.TheVariants.{GiveLock 
 ghost use Rattle.fsfs_turn.specs.Views.{Looked, LockTaken, FoundStuck, LockGiven, Revealed};
 ghost use Rattle.fsfs_seats.specs.declared.seat_view.Hand.TheVariants.{Empty, Out};
 ghost use Rattle.fsfs_seats.specs.Seats.{view_of, look_view, lock_view, stuck_view, outside_view, reveal_view, reveal_in};
-ghost use Rattle.fsfs_seats.specs.Tells.{CanGive, CanStick, CanReveal, IsMet};
+ghost use Rattle.fsfs_seats.specs.Met.{seat_store};
+ghost use Rattle.fsfs_seats.specs.Tells.{CanGive, CanStick, CanReveal, IsMet, TellsIt};
 
 use crate::law::{Board, GiveBack, GiveLock, Look, Reveal, SharedSeat, StickLock, Take, TakeLock};
 use crate::lock_word::{number_of_place, place_of_number};
@@ -33,8 +35,10 @@ fn revision_of(number: u64) -> RevNum
 /// The youngest revision: one load, which waits for nobody.
 pub fn look<D: Disk>(board: &Board<D>, seat: &mut SharedSeat<D>) -> RevNum
     requires { (seat.old.table_id ≡ board.now.shared.table_id) × (board.now.shared.table_id.words ≡ 3) }
-    ensures same { (seat.new.table_id ≡ seat.old.table_id) × (seat.new.id ≡ seat.old.id) × (seat.new.me ≡ (look_view result seat.old.me.0, seat.old.me.1)) }
-    ensures looked { seat.old.me.0.told ≡ true → Looked result (view_of seat.old.me.0) (view_of seat.new.me.0) }
+    ensures same { (seat.new.table_id ≡ seat.old.table_id) × (seat.new.id ≡ seat.old.id) × (seat.new.me ≡ (look_view result seat.new.me.0.met seat.old.me.0, seat.old.me.1)) }
+    ensures looked { seat.old.me.0.told ≡ true → Looked result (view_of seat.old.me.0) (view_of (look_view result seat.new.me.0.met seat.old.me.0)) }
+    ensures later { Later (seat_store seat.old.me.0) (seat_store seat.new.me.0) }
+    ensures tells { TellsIt seat.new.me.0 }
 {
     let found = board.shared.load::<Look>(seat, 2);
     revision_of(found)
@@ -90,8 +94,9 @@ pub fn stick<D: Disk>(board: &Board<D>, seat: &mut SharedSeat<D>, place: DiskPla
 pub fn reveal<D: Disk>(board: &Board<D>, seat: &mut SharedSeat<D>, rev: RevNum)
     requires table { (seat.old.table_id ≡ board.now.shared.table_id) × (board.now.shared.table_id.words ≡ 3) }
     requires may { CanReveal rev seat.old.me.0 }
-    ensures same { (seat.new.table_id ≡ seat.old.table_id) × (seat.new.id ≡ seat.old.id) × (seat.new.me ≡ (reveal_in seat.old.me.0.section seat.old.me.0, seat.old.me.1)) }
-    ensures revealed { seat.old.me.0.told ≡ true → (x : Coming) → seat.old.me.0.section ≡ Some (CurrentFirm x) → Revealed x (view_of seat.old.me.0) (view_of (reveal_view x seat.old.me.0)) }
+    ensures same { (seat.new.table_id ≡ seat.old.table_id) × (seat.new.id ≡ seat.old.id) × (seat.new.me ≡ (reveal_in seat.old.me.0.section seat.new.me.0.met seat.old.me.0, seat.old.me.1)) }
+    ensures revealed { seat.old.me.0.told ≡ true → (x : Coming) → seat.old.me.0.section ≡ Some (CurrentFirm x) → Revealed x (view_of seat.old.me.0) (view_of (reveal_view x seat.new.me.0.met seat.old.me.0)) }
+    ensures tells { TellsIt seat.new.me.0 }
 {
     board.shared.store::<Reveal>(seat, 2, rev.get() as u64);
 }

@@ -3,8 +3,8 @@ ghost use Rattle.std.specs.Prelude.{◌≡◌, ◌⊎◌, ◌≢◌, ◌≤◌, 
 ghost use Rattle.std.specs.FinMap.{empty};
 ghost use Rattle.fsfs_base.specs.Failures.{HasCause, Rose};
 ghost use Rattle.fsfs_disk.specs.Labels.{label_of, has_label, IsListing};
-ghost use Rattle.fsfs_disk.specs.Benches.{removed, bytes_on, IsFirmFile};
-ghost use Rattle.fsfs_disk.specs.Trace.{Put, Adopt, Rename, FirmNames, KeepLabel, DropLabel, file_at, labels_now, Performs, FailsAt, FailsToPut, FailsToAdopt, IsRead, IsSize, PerformsIfThere};
+ghost use Rattle.fsfs_disk.specs.Benches.{removed, bytes_on, IsFirmFile, HasShortFiles};
+ghost use Rattle.fsfs_disk.specs.Trace.{Put, Adopt, Rename, FirmNames, KeepLabel, DropLabel, file_at, files_now, labels_now, Performs, FailsAt, FailsToPut, FailsToAdopt, IsRead, IsSize, PerformsIfThere};
 
 use fsfs_base::{Failed, Name};
 use fsfs_disk::{Disk, Label, ListFault};
@@ -52,6 +52,13 @@ impl<D: Disk> SharedDisk<D> {
     {
         let SharedDisk { disk, failed: _ } = self;
         disk
+    }
+
+    /// No file that it tells of is longer than 2^62 bytes. It does nothing.
+    pub fn files_are_short(&self)
+        ensures { IfSome self.now.trace (λ t. HasShortFiles (files_now t)) }
+    {
+        let _disk = &self.disk;
     }
 
     /// As if its last call had been done.

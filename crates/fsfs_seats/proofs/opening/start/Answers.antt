@@ -20,4 +20,4 @@ new-requires g c =
     let first : SeatView = c.some-first.result.value in
     let items : c.push.new.self.items ≡ Some d ∷ [] = search rules in
     subst (λ (l : List (Option DiskSeen)). Rule first (opening (0 ∷ 0 ∷ c.get.result ∷ []) l first)) (sym items)
-    (subst (λ (n : ℕ). Rule first (opening (0 ∷ 0 ∷ n ∷ []) (Some d ∷ []) first)) (sym c.get.ensures.same) (begins c.args.layout c.args.young d first c.get.ensures.limit c.some-first.ensures))
+    (subst (λ (n : ℕ). Rule first (opening (0 ∷ 0 ∷ n ∷ []) (Some d ∷ []) first)) (sym c.get.ensures.same) (begins c.args.layout c.args.young d first c.get.ensures.limit c.files_are_short.ensures c.some-first.ensures))
