@@ -1,0 +1,12 @@
+pub mod FilesLast
+pub mod Going
+pub mod SectionCalls
+pub mod ReadCalls
+pub mod Counter
+pub mod Adoptions
+pub mod LabelCalls
+pub mod Answering
+pub mod Meeting
+pub mod Onward
+pub mod MetLabels
+pub mod Reading
