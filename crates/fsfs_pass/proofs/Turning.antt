@@ -1,0 +1,221 @@
+-- What a pass knows and tells, from one turn to the next.
+use Rattle.std.proofs.Common.{◌≡◌, ◌≤◌, ◌+◌, ◌-◌, ℕ, [], ◌∷◌, Bool, true, false, refl, sym, ap, subst, ◌∙◌, length, arith, length-append}
+use Rattle.std.specs.Prelude.{Option, Some, None, IfSome, is_some, option_map, slice_get, if◌then◌else◌, Result, Ok, Err, OnOk, OnErr, IfErr, IsErrOf}
+use Rattle.fsfs_disk.specs.Trace.{Trace, files_now, labels_now}
+use Rattle.fsfs_disk.specs.Benches.{HasShortFiles}
+use Rattle.fsfs_disk.specs.declared.disk.ListFault.{ListFault}
+use Rattle.fsfs_disk.specs.declared.disk.ListFault.TheVariants as fault
+use Rattle.fsfs_fetch.specs.Views.{View as StoreView, Grows, FilesLater, Later, IsYoungest, IsKnown}
+use Rattle.fsfs_machine.specs.declared.machine.Went.{Went}
+use Rattle.fsfs_machine.specs.declared.machine.Coming.{Coming}
+use Rattle.fsfs_machine.specs.declared.machine.Section.{Section}
+use Rattle.fsfs_machine.specs.declared.machine.Section.TheVariants.{CurrentFirm}
+use Rattle.fsfs_machine.specs.Machine.{recorded}
+use Rattle.fsfs_turn.specs.Bytes.{AllShow}
+use Rattle.fsfs_turn.specs.Views.{View, Looked}
+use Rattle.fsfs_turn.specs.Labels.{KeepsLabels}
+use Rattle.fsfs_turn.specs.Telling.{TellsSeen}
+use Rattle.fsfs_seats.specs.declared.seat_view.SeatView.{SeatView}
+use Rattle.fsfs_seats.specs.declared.seat_view.Hand.TheVariants.{Empty}
+use Rattle.fsfs_seats.specs.Seats.{view_of, look_view, reveal_view, reveal_in}
+use Rattle.fsfs_seats.specs.Met.{known_last, seat_store, seat_labels}
+use Rattle.fsfs_seats.specs.Tells.{TellsIt}
+use Rattle.fsfs_seat_calls.specs.Tells.{IsBack}
+use Rattle.fsfs_pass.specs.Passes.{reach_by, pass_store, KnowsIt}
+use Rattle.fsfs_pass.specs.PassLemmas.{pass_tells}
+
+-- ---- what is known
+
+pub knows_now : (first : Option Trace) (last : ℕ) (s : SeatView) → is_some first ≡ true → s.told ≡ true → TellsIt s → KnowsIt first last s (view_of s)
+knows_now first last s disk told tells = record { disk = disk; told = told; is = refl; tells = pass_tells last s (view_of s) told (tells.1 told) }
+
+-- a step of the pass, by what its seat's view was and is
+pub knows_on : (first : Option Trace) (last now : ℕ) (old new : SeatView) (R : View → View → Type 0) (v : View) → KnowsIt first last old v → new.told ≡ old.told → TellsIt new → (old.told ≡ true → R (view_of old) (view_of new))
+    → (u : View) × KnowsIt first now new u × R v u
+knows_on first last now old new R v k same tells step = (view_of new, knows_now first now new k.disk (same ∙ k.told) tells, subst (λ z. R z (view_of new)) k.is (step k.told))
+
+-- and how it went
+pub knows_went : (first : Option Trace) (last now : ℕ) (old new : SeatView) (A : Went → Type 0) (R : Went → View → View → Type 0) (v : View) → KnowsIt first last old v → new.told ≡ old.told → TellsIt new → ((went : Went) × A went × R went (view_of old) (view_of new))
+    → (u : View) × (went : Went) × KnowsIt first now new u × A went × R went v u
+knows_went first last now old new A R v k same tells step = (view_of new, step.0, knows_now first now new k.disk (same ∙ k.told) tells, step.1, subst (λ z. R step.0 z (view_of new)) k.is step.2)
+
+-- what was met stays where neither layout nor what was seen changed
+retell : {B : Type 0} (s : StoreView B) (v u : View) → u.layout ≡ v.layout → u.seen ≡ v.seen → TellsSeen s v → TellsSeen s u
+retell s v u layout seen t = record {
+  layout = t.layout ∙ sym layout;
+  files = t.files;
+  told = t.told;
+  each = λ r x at. t.each r x (ap (λ l. slice_get l r) (sym seen) ∙ at);
+  shown = subst AllShow (sym seen) t.shown;
+}
+
+-- a step that met nothing
+pub knows_still : (first : Option Trace) (last : ℕ) (old new : SeatView) (R : View → View → Type 0) (v : View) → KnowsIt first last old v → new.told ≡ old.told → pass_store last new ≡ pass_store last old → new.layout ≡ old.layout → new.seen ≡ old.seen → (old.told ≡ true → R (view_of old) (view_of new))
+    → (u : View) × KnowsIt first last new u × R v u
+knows_still first last old new R v k same store layout seen step = (
+  view_of new,
+  record {
+    disk = k.disk;
+    told = same ∙ k.told;
+    is = refl;
+    tells = subst (λ z. TellsSeen z (view_of new)) (sym store) (retell (pass_store last old) v (view_of new) (layout ∙ ap (λ z. z.layout) k.is) (seen ∙ ap (λ z. z.seen) k.is) k.tells);
+  },
+  subst (λ z. R z (view_of new)) k.is (step k.told),
+)
+
+-- its seat only has the disk no more
+pub known_empty : (first : Option Trace) (last : ℕ) (old new : SeatView) (v : View) → KnowsIt first last old v → new ≡ record old { hand = Empty } → KnowsIt first last new v
+known_empty first last old new v k is = subst (λ z. KnowsIt first last z v) (sym is) (record { disk = k.disk; told = k.told; is = k.is; tells = k.tells })
+
+-- ---- what is told
+
+none_of : {X : Type 0} (o : Option X) → is_some o ≡ false → o ≡ None
+none_of None e = refl
+none_of (Some x) e = absurd cc
+
+later_by : (t s : Bool) (last now : ℕ) (v u : SeatView) → s ≡ t → last ≤ now → (t ≡ false → v.met ≡ None) → Later (seat_store v) (seat_store u)
+    → Later (record (seat_store v) { reach = reach_by t last (known_last v) }) (record (seat_store u) { reach = reach_by s now (known_last u) })
+later_by true true last now v u same le none l = l
+later_by true false last now v u same le none l = absurd cc
+later_by false true last now v u same le none l = absurd cc
+later_by false false last now v u same le none l = record {
+  layout = l.layout;
+  reach = le;
+  files = subst (λ o. FilesLater v.layout (Grows last) (option_map files_now o) (option_map files_now u.met)) (sym (none refl)) tt;
+  below = l.below;
+}
+
+pub tells_later : (last now : ℕ) (v u : SeatView) → is_some v.met ≡ v.told → u.told ≡ v.told → last ≤ now → Later (seat_store v) (seat_store u) → Later (pass_store last v) (pass_store now u)
+tells_later last now v u met same le l = later_by v.told u.told last now v u same le (λ untold. none_of v.met (met ∙ untold)) l
+
+-- where the disk tells nothing, no labels are told
+pub keeps_untold : (v u : SeatView) → is_some v.met ≡ v.told → is_some u.met ≡ u.told → u.told ≡ v.told → KeepsLabels v.told (seat_labels v) (seat_labels u)
+keeps_untold v u met now same = λ untold. ap (λ o. option_map labels_now o) (none_of u.met (now ∙ same ∙ untold) ∙ sym (none_of v.met (met ∙ untold)))
+
+-- ---- what a call leaves of a seat
+
+-- whatever the disk tells
+pub record Keeps (old new : SeatView) : Type 0 where
+  pub told : new.told ≡ old.told
+  pub layout : new.layout ≡ old.layout
+  pub met : is_some new.met ≡ new.told
+  pub low : new.told ≡ true → known_last old ≤ known_last new
+  pub short : IfSome (option_map files_now new.met) HasShortFiles
+
+pub back_keeps : (failed : Bool) (v u : SeatView) → IsBack failed v u → TellsIt u → Later (seat_store v) (seat_store u) → Keeps v u
+back_keeps failed v u back tells later = record { told = ap {A = SeatView} (λ z. z.told) back; layout = ap {A = SeatView} (λ z. z.layout) back; met = tells.0; low = λ told. later.reach; short = tells.2 }
+
+-- it only has the disk no more
+pub empty_keeps : (v u : SeatView) → u ≡ record v { hand = Empty } → is_some v.met ≡ v.told → IfSome (option_map files_now v.met) HasShortFiles → Keeps v u
+empty_keeps v u is met short = record {
+  told = ap {A = SeatView} (λ z. z.told) is;
+  layout = ap {A = SeatView} (λ z. z.layout) is;
+  met = ap {A = SeatView} (λ z. is_some z.met) is ∙ met ∙ sym (ap {A = SeatView} (λ z. z.told) is);
+  low = λ told. let e : known_last u ≡ known_last v = ap {A = SeatView} (λ z. known_last z) is in omega (arith, e);
+  short = subst (λ o. IfSome (option_map files_now o) HasShortFiles) (sym (ap {A = SeatView} (λ z. z.met) is)) short;
+}
+
+-- the greatest number that a look told is one that the pass knows of
+pub low_on : (last : ℕ) (v u : SeatView) → Keeps v u → (v.told ≡ true → last ≤ known_last v) → u.told ≡ true → last ≤ known_last u
+low_on last v u k low told = omega (arith, low (sym k.told ∙ told), k.low told)
+
+-- ---- a look
+
+known_is : (v : SeatView) → v.told ≡ true → known_last v ≡ v.pass.least + (length v.seen - 1 - v.pass.least)
+known_is v told = ap (λ b. if b then v.pass.least + (length v.seen - 1 - v.pass.least) else 0) told
+
+module _ (last found now : ℕ) (old new : SeatView) (is : new ≡ look_view found new.met old) (low : old.told ≡ true → last ≤ known_last old) (looked : old.told ≡ true → Looked found (view_of old) (view_of (look_view found new.met old)))
+    (one : last ≤ now) (other : found ≤ now) (greater : last ≤ found → now ≡ found) where
+  pub look_told : new.told ≡ old.told
+  look_told = ap {A = SeatView} (λ z. z.told) is
+
+  -- where the disk tells, the number that was found is the greater one
+  pub found_is : old.told ≡ true → now ≡ found
+  found_is told = let l = looked told in greater (omega (arith, low told, known_is old told, l.least, l.seen))
+
+  now_known : new.told ≡ true → known_last new ≡ now
+  now_known told =
+      let was : old.told ≡ true = sym look_told ∙ told in
+      let l = looked was in
+      let least : new.pass.least ≡ found = ap {A = SeatView} (λ z. z.pass.least) is in
+      let seen : length new.seen ≡ length old.seen = ap {A = SeatView} (λ z. length z.seen) is in
+      omega (arith, known_is new told, least, seen, l.seen, found_is was)
+
+  pub look_low : new.told ≡ true → now ≤ known_last new
+  look_low told = omega (arith, now_known told)
+
+  young_by : (t : Bool) → (t ≡ true → known_last new ≡ now) → IsYoungest (reach_by t now (known_last new)) now
+  young_by true e = omega (arith, e refl)
+  young_by false e = omega arith
+
+  pub look_youngest : IsYoungest (pass_store now new).reach now
+  look_youngest = young_by new.told now_known
+
+  there_by : (t : Bool) → (t ≡ true → known_last new ≡ now) → IsKnown (reach_by t now (known_last new)) now
+  there_by true e = omega (arith, e refl)
+  there_by false e = omega arith
+
+  pub look_there : IsKnown (pass_store now new).reach now
+  look_there = there_by new.told now_known
+
+  pub look_turns : old.told ≡ true → Looked now (view_of old) (view_of new)
+  look_turns told = subst (λ n. Looked n (view_of old) (view_of new)) (sym (found_is told)) (subst (λ z. Looked found (view_of old) (view_of z)) (sym is) (looked told))
+
+-- ---- a reveal
+
+reveal_told : (s : Option Section) (met : Option Trace) (v : SeatView) → (reveal_in s met v).told ≡ v.told
+reveal_told None met v = refl
+reveal_told (Some (CurrentFirm x)) met v = refl
+reveal_told (Some s) met v = refl
+
+reveal_layout : (s : Option Section) (met : Option Trace) (v : SeatView) → (reveal_in s met v).layout ≡ v.layout
+reveal_layout None met v = refl
+reveal_layout (Some (CurrentFirm x)) met v = refl
+reveal_layout (Some s) met v = refl
+
+pub reveal_keeps : (v u : SeatView) → u ≡ reveal_in v.section u.met v → TellsIt u → (v.told ≡ true → (x : Coming) × (v.section ≡ Some (CurrentFirm x))) → Keeps v u
+reveal_keeps v u is tells at = record {
+  told = ap {A = SeatView} (λ z. z.told) is ∙ reveal_told v.section u.met v;
+  layout = ap {A = SeatView} (λ z. z.layout) is ∙ reveal_layout v.section u.met v;
+  met = tells.0;
+  low = λ told.
+      let was : v.told ≡ true = sym (ap {A = SeatView} (λ z. z.told) is ∙ reveal_told v.section u.met v) ∙ told in
+      let x = at was in
+      let now : u ≡ reveal_view x.0 u.met v = is ∙ ap (λ s. reveal_in s u.met v) x.1 in
+      let least : u.pass.least ≡ v.pass.least = ap {A = SeatView} (λ z. z.pass.least) now in
+      let seen : length u.seen ≡ length v.seen + 1 = ap {A = SeatView} (λ z. length z.seen) now ∙ length-append v.seen (recorded x.0 ∷ []) in
+      omega (arith, known_is u told, known_is v was, least, seen);
+  short = tells.2;
+}
+
+-- ---- an answer
+
+pub on_ok_map : {X E P Q : Type 0} (r : Result X E) → (P → Q) → OnOk r P → OnOk r Q
+on_ok_map (Ok x) f p = f p
+on_ok_map (Err e) f p = tt
+
+pub on_err_map : {X E P Q : Type 0} (r : Result X E) → (P → Q) → OnErr r P → OnErr r Q
+on_err_map (Ok x) f p = tt
+on_err_map (Err e) f p = f p
+
+pub on_err_both : {X E P Q R : Type 0} (r : Result X E) → (P → Q → R) → OnErr r P → OnErr r Q → OnErr r R
+on_err_both (Ok x) f p q = tt
+on_err_both (Err e) f p q = f p q
+
+pub on_ok_both : {X E P Q R : Type 0} (r : Result X E) → (P → Q → R) → OnOk r P → OnOk r Q → OnOk r R
+on_ok_both (Ok x) f p q = f p q
+on_ok_both (Err e) f p q = tt
+
+pub if_err_map : {X E : Type 0} (P Q : E → Type 0) (r : Result X E) → ((e : E) → P e → Q e) → IfErr r P → IfErr r Q
+if_err_map P Q (Ok x) f p = tt
+if_err_map P Q (Err e) f p = f e p
+
+-- whatever it was
+pub on_either : {X E F : Type 0} (r : Result X E) → OnOk r F → OnErr r F → F
+on_either (Ok x) ok err = ok
+on_either (Err e) ok err = err
+
+pub on_listing : {X F : Type 0} (r : Result X ListFault) → OnOk r F → (IsErrOf r fault.Failed → F) → (IsErrOf r fault.Memory → F) → F
+on_listing (Ok x) ok failed memory = ok
+on_listing (Err fault.Failed) ok failed memory = failed refl
+on_listing (Err fault.Memory) ok failed memory = memory refl

@@ -1,0 +1,24 @@
+use Rattle.std.proofs.Common.{ap, subst, ◌∙◌}
+use Rattle.std.specs.Prelude.{unwrap_or}
+use Rattle.fsfs_turn.specs.Views.{Answers, Adopted}
+use Rattle.fsfs_seats.specs.declared.seat_view.SeatView.{SeatView}
+use Rattle.fsfs_seats.specs.Seats.{view_of}
+use Rattle.fsfs_seat_calls.specs.Tells.{AdoptedAs, no_adoption}
+use Rattle.fsfs_pass.proofs.Turning.{Keeps, back_keeps, low_on, knows_went}
+use Rattle.fsfs_pass.proofs.turns.PassTurnsTurns.adopt.Goals as goal
+
+pub invariant_of-self : goal.invariant_of-self
+invariant_of-self g c =
+    let k : Keeps c.args.self.now.seat.me.0 c.adopt.new.seat.me.0 = back_keeps _ c.args.self.now.seat.me.0 c.adopt.new.seat.me.0 c.adopt.ensures.back c.adopt.ensures.tells c.adopt.ensures.later in
+    record {
+      sits = (c.adopt.ensures.same.0 ∙ c.args.self.now.sits.0, c.args.self.now.sits.1, c.args.self.now.sits.2, c.adopt.ensures.same.2);
+      layout_is = k.layout ∙ c.args.self.now.layout_is;
+      met_told = k.met;
+      last_low = low_on c.args.self.now.last c.args.self.now.seat.me.0 c.adopt.new.seat.me.0 k c.args.self.now.last_low;
+      short = k.short;
+    }
+
+pub returns-clause-turned : goal.returns-clause-turned
+returns-clause-turned g c = λ v txn properties next known may named about.
+    knows_went (g.D.Disk.trace c.args.self.now.first.value) c.args.self.now.last c.args.self.now.last c.args.self.now.seat.me.0 c.adopt.new.seat.me.0 (λ went. Answers c.adopt.result went) (λ went a b. Adopted txn properties next c.args.bytes.now went a b) v known (ap {A = SeatView} (λ z. z.told) c.adopt.ensures.back) c.adopt.ensures.tells
+    (subst (λ o. AdoptedAs (unwrap_or o no_adoption) c.args.bytes.now c.adopt.result (view_of c.args.self.now.seat.me.0) (view_of c.adopt.new.seat.me.0)) (about known.told) (c.adopt.ensures.adopted known.told))

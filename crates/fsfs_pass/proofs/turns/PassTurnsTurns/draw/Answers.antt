@@ -1,0 +1,38 @@
+use Rattle.std.proofs.Common.{sym, ap, subst, ◌∙◌, ◌≡◌, ◌≤◌}
+use Rattle.std.specs.Prelude.{Some}
+use Rattle.fsfs_machine.specs.declared.machine.Section.TheVariants.{Begun}
+use Rattle.fsfs_turn.specs.Learning.{ReadsCounter}
+use Rattle.fsfs_seats.specs.declared.seat_view.SeatView.{SeatView}
+use Rattle.fsfs_seats.specs.Met.{seat_store}
+use Rattle.fsfs_pass.specs.Passes.{KnowsIt}
+use Rattle.fsfs_pass.proofs.Turning.{Keeps, back_keeps, low_on, knows_now}
+use Rattle.fsfs_pass.proofs.turns.PassTurnsTurns.draw.Goals as goal
+
+pub invariant_of-self : goal.invariant_of-self
+invariant_of-self g c =
+    let k : Keeps c.args.self.now.seat.me.0 c.draw.new.seat.me.0 = back_keeps _ c.args.self.now.seat.me.0 c.draw.new.seat.me.0 c.draw.ensures.back c.draw.ensures.tells c.draw.ensures.later in
+    record {
+      sits = (c.draw.ensures.same.0 ∙ c.args.self.now.sits.0, c.args.self.now.sits.1, c.args.self.now.sits.2, c.draw.ensures.same.2);
+      layout_is = k.layout ∙ c.args.self.now.layout_is;
+      met_told = k.met;
+      last_low = low_on c.args.self.now.last c.args.self.now.seat.me.0 c.draw.new.seat.me.0 k c.args.self.now.last_low;
+      short = k.short;
+    }
+
+pub returns-clause-drawn : goal.returns-clause-drawn
+returns-clause-drawn g c = λ v known.
+    let k = knows_now (g.D.Disk.trace c.args.self.now.first.value) c.args.self.now.last c.draw.new.seat.me.0 known.disk (ap {A = SeatView} (λ z. z.told) c.draw.ensures.back ∙ known.told) c.draw.ensures.tells in
+    subst (λ z. z.section ≡ Some Begun → c.args.base ≤ z.pass.least → ReadsCounter (λ u. KnowsIt (g.D.Disk.trace c.args.self.now.first.value) c.args.self.now.last c.draw.new.seat.me.0 u) (seat_store c.draw.new.seat.me.0).files c.args.base c.draw.result c.args.buffer.now c.draw.new.buffer z) known.is
+    (λ begun at_most.
+    let r = c.draw.ensures.drawn known.told in
+    record {
+      text = r.text;
+      number = r.number;
+      line = r.line;
+      files = r.files;
+      files_are = r.files_are;
+      there = r.there;
+      read = r.read;
+      turned = λ few. let t = r.turned few in (t.0, t.1, subst (λ u. KnowsIt (g.D.Disk.trace c.args.self.now.first.value) c.args.self.now.last c.draw.new.seat.me.0 u) (sym t.2) k, t.3, t.4);
+      full = λ many. subst (λ u. KnowsIt (g.D.Disk.trace c.args.self.now.first.value) c.args.self.now.last c.draw.new.seat.me.0 u) (sym (r.full many)) k;
+    })

@@ -1,0 +1,31 @@
+use Rattle.std.proofs.Common.{sym, ap, subst, ◌∙◌}
+use Rattle.fsfs_machine.specs.Kept.{IsIn}
+use Rattle.fsfs_turn.specs.Views.{Answers}
+use Rattle.fsfs_turn.specs.Learning.{MayPurge, Purged, SpentPurged}
+use Rattle.fsfs_seats.specs.declared.seat_view.SeatView.{SeatView}
+use Rattle.fsfs_pass.proofs.Turning.{Keeps, back_keeps, low_on, knows_went}
+use Rattle.fsfs_pass.proofs.turns.PassTurnsTurns.drop_bench.Goals as goal
+
+pub invariant_of-self : goal.invariant_of-self
+invariant_of-self g c =
+    let k : Keeps c.args.self.now.seat.me.0 c.drop_bench.new.seat.me.0 = back_keeps _ c.args.self.now.seat.me.0 c.drop_bench.new.seat.me.0 c.drop_bench.ensures.back c.drop_bench.ensures.tells c.drop_bench.ensures.later in
+    record {
+      sits = (c.drop_bench.ensures.same.0 ∙ c.args.self.now.sits.0, c.args.self.now.sits.1, c.args.self.now.sits.2, c.drop_bench.ensures.same.2);
+      layout_is = k.layout ∙ c.args.self.now.layout_is;
+      met_told = k.met;
+      last_low = low_on c.args.self.now.last c.args.self.now.seat.me.0 c.drop_bench.new.seat.me.0 k c.args.self.now.last_low;
+      short = k.short;
+    }
+
+pub returns-clause-purged : goal.returns-clause-purged
+returns-clause-purged g c = λ v txn base known may labelled.
+    knows_went (g.D.Disk.trace c.args.self.now.first.value) c.args.self.now.last c.args.self.now.last c.args.self.now.seat.me.0 c.drop_bench.new.seat.me.0 (λ went. Answers c.drop_bench.result went) (λ went a b. Purged txn went a b) v known (ap {A = SeatView} (λ z. z.told) c.drop_bench.ensures.back) c.drop_bench.ensures.tells
+    (c.drop_bench.ensures.purged known.told txn (subst (λ z. MayPurge z txn) (sym known.is) may))
+
+pub returns-clause-spent : goal.returns-clause-spent
+returns-clause-spent g c = λ v name base known outside given labelled.
+    knows_went (g.D.Disk.trace c.args.self.now.first.value) c.args.self.now.last c.args.self.now.last c.args.self.now.seat.me.0 c.drop_bench.new.seat.me.0 (λ went. Answers c.drop_bench.result went) (λ went a b. SpentPurged name went a b) v known (ap {A = SeatView} (λ z. z.told) c.drop_bench.ensures.back) c.drop_bench.ensures.tells
+    (c.drop_bench.ensures.spent known.told name (ap (λ z. z.section) known.is ∙ outside) (subst (λ z. IsIn name z.given) (sym known.is) given))
+
+pub drop_bench-requires-clause-may : goal.drop_bench-requires-clause-may
+drop_bench-requires-clause-may g c = λ told. let w = c.requires.due told in (w.1, ap (λ z. z.section) w.3.is ∙ w.4, subst (λ z. IsIn w.1 z.given) (sym w.3.is) w.5)

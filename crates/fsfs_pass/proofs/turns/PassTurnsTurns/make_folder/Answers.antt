@@ -1,0 +1,33 @@
+use Rattle.std.proofs.Common.{sym, ap, subst, ◌∙◌}
+use Rattle.std.specs.Prelude.{true}
+use Rattle.fsfs_disk.specs.Trace.{Put}
+use Rattle.fsfs_machine.specs.declared.machine.Went.TheVariants.{Before}
+use Rattle.fsfs_turn.specs.Views.{IsDue, MayAdopt, Called, Adopted}
+use Rattle.fsfs_turn.specs.Adoptions.{NeedsFolder}
+use Rattle.fsfs_seats.specs.declared.seat_view.SeatView.{SeatView}
+use Rattle.fsfs_pass.proofs.Turning.{Keeps, back_keeps, empty_keeps, low_on, knows_on, on_either, on_ok_map, on_err_map, on_err_both}
+use Rattle.fsfs_pass.proofs.turns.PassTurnsTurns.make_folder.Goals as goal
+
+pub make_folder-requires-clause-due : goal.make_folder-requires-clause-due
+make_folder-requires-clause-due g c = λ told. let w = c.requires.due told in subst (λ z. NeedsFolder z) (sym w.1.is) w.2
+
+pub invariant_of-self : goal.invariant_of-self
+invariant_of-self g c =
+    let k : Keeps c.args.self.now.seat.me.0 c.make_folder.new.seat.me.0 = on_either c.make_folder.result (on_ok_map c.make_folder.result (λ same. empty_keeps c.args.self.now.seat.me.0 c.make_folder.new.seat.me.0 same c.args.self.now.met_told c.args.self.now.short) c.make_folder.ensures.done) (on_err_map c.make_folder.result (λ b. back_keeps true c.args.self.now.seat.me.0 c.make_folder.new.seat.me.0 b.0 b.1 b.2) c.make_folder.ensures.back) in
+    record {
+      sits = (c.make_folder.ensures.same.0 ∙ c.args.self.now.sits.0, c.args.self.now.sits.1, c.args.self.now.sits.2, c.make_folder.ensures.same.2);
+      layout_is = k.layout ∙ c.args.self.now.layout_is;
+      met_told = k.met;
+      last_low = low_on c.args.self.now.last c.args.self.now.seat.me.0 c.make_folder.new.seat.me.0 k c.args.self.now.last_low;
+      short = k.short;
+    }
+
+pub returns-clause-failed : goal.returns-clause-failed
+returns-clause-failed g c = λ v place file bytes known due.
+    on_err_both c.make_folder.result (λ b un. knows_on (g.D.Disk.trace c.args.self.now.first.value) c.args.self.now.last c.args.self.now.last c.args.self.now.seat.me.0 c.make_folder.new.seat.me.0 (λ a z. Called place Before a z) v known (ap {A = SeatView} (λ z. z.told) b.0) b.1 (λ told. un.call place file bytes (subst (λ z. IsDue z place (Put file bytes)) (sym known.is) due)))
+    c.make_folder.ensures.back (c.make_folder.ensures.unmade known.told)
+
+pub returns-clause-failed_first : goal.returns-clause-failed_first
+returns-clause-failed_first g c = λ v txn properties next bytes known may.
+    on_err_both c.make_folder.result (λ b un. knows_on (g.D.Disk.trace c.args.self.now.first.value) c.args.self.now.last c.args.self.now.last c.args.self.now.seat.me.0 c.make_folder.new.seat.me.0 (λ a z. Adopted txn properties next bytes Before a z) v known (ap {A = SeatView} (λ z. z.told) b.0) b.1 (λ told. un.first txn properties next bytes (subst (λ z. MayAdopt z txn properties next bytes) (sym known.is) may)))
+    c.make_folder.ensures.back (c.make_folder.ensures.unmade known.told)

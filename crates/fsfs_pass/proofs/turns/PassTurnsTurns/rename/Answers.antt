@@ -1,0 +1,22 @@
+use Rattle.std.proofs.Common.{sym, ap, subst, ◌∙◌}
+use Rattle.fsfs_disk.specs.Trace.{Rename}
+use Rattle.fsfs_turn.specs.Views.{IsDue, Answers, Called}
+use Rattle.fsfs_seats.specs.declared.seat_view.SeatView.{SeatView}
+use Rattle.fsfs_pass.proofs.Turning.{Keeps, back_keeps, low_on, knows_went}
+use Rattle.fsfs_pass.proofs.turns.PassTurnsTurns.rename.Goals as goal
+
+pub invariant_of-self : goal.invariant_of-self
+invariant_of-self g c =
+    let k : Keeps c.args.self.now.seat.me.0 c.rename.new.seat.me.0 = back_keeps _ c.args.self.now.seat.me.0 c.rename.new.seat.me.0 c.rename.ensures.back c.rename.ensures.tells c.rename.ensures.later in
+    record {
+      sits = (c.rename.ensures.same.0 ∙ c.args.self.now.sits.0, c.args.self.now.sits.1, c.args.self.now.sits.2, c.rename.ensures.same.2);
+      layout_is = k.layout ∙ c.args.self.now.layout_is;
+      met_told = k.met;
+      last_low = low_on c.args.self.now.last c.args.self.now.seat.me.0 c.rename.new.seat.me.0 k c.args.self.now.last_low;
+      short = k.short;
+    }
+
+pub returns-clause-turned : goal.returns-clause-turned
+returns-clause-turned g c = λ v place known due.
+    knows_went (g.D.Disk.trace c.args.self.now.first.value) c.args.self.now.last c.args.self.now.last c.args.self.now.seat.me.0 c.rename.new.seat.me.0 (λ went. Answers c.rename.result went) (λ went a b. Called place went a b) v known (ap {A = SeatView} (λ z. z.told) c.rename.ensures.back) c.rename.ensures.tells
+    (c.rename.ensures.called known.told place (subst (λ z. IsDue z place (Rename c.args.from.now c.args.to.now)) (sym known.is) due))
