@@ -1,0 +1,5 @@
+//! Tests of the gates that hold threads.
+#![tactic(auto)]
+
+#[cfg(test)]
+mod hold_gate;
