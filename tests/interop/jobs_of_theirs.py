@@ -19,7 +19,12 @@ def text(path):
 
 
 def do(root, filesystem, edit):
+    """An edit, as the simulation has it: a copy takes no path at which something stands, and counts of mergeinfo stay."""
     word, arguments = edit[0], edit[1:]
+    if word == "copy" and fs.check_path(root, text(arguments[2])) != core.svn_node_none:
+        raise Refused(f"Exists {text(arguments[2])}")
+    if word == "prop" and arguments[1] == "svn:mergeinfo":
+        raise Refused(f"Mergeinfo {text(arguments[0])}")
     if word == "mkdir":
         fs.make_dir(root, text(arguments[0]))
     elif word == "mkfile":
@@ -39,7 +44,7 @@ def do(root, filesystem, edit):
 
 
 def commit(filesystem, job, base):
-    """Commits a job. The path at which it conflicts, or none."""
+    """Commits a job: its revision, or none and the path at which it conflicts."""
     txn = fs.begin_txn2(filesystem, base, 0)
     for name, value in (("svn:author", job.author), ("svn:log", job.log)):
         if value is not None:
@@ -48,14 +53,14 @@ def commit(filesystem, job, base):
     for _, edit in job.edits:
         do(root, filesystem, edit)
     try:
-        fs.commit_txn(txn)
-        return None
+        _, revision = fs.commit_txn(txn)
+        return revision, None
     except core.SubversionException as why:
         if why.apr_err != core.SVN_ERR_FS_CONFLICT:
             raise
         fs.abort_txn(txn)
         path = re.search("Conflict at '/(.*)'", str(why))[1]
-        return tuple(name.encode() for name in path.split("/") if name)
+        return None, tuple(name.encode() for name in path.split("/") if name)
 
 
 def note_texts(changes):
@@ -122,7 +127,7 @@ def commit_jobs(path, script):
         sides = sides_of(history, job) if job.read is None else None
         if sides is None:
             continue
-        theirs = commit(filesystem, job, sides.base)
+        _, theirs = commit(filesystem, job, sides.base)
         found = difference(history, sides, theirs)
         if found is not None:
             differences.append(found)
