@@ -21,8 +21,8 @@ use Rattle.fsfs_turn.specs.Alone.{BringsNoDoubt}
 use Rattle.fsfs_turn.proofs.Doubts.{same_faults}
 use Rattle.fsfs_draft.specs.Meaning.{IsTxnOf}
 use Rattle.fsfs_machine.specs.Kept.{IsIn}
-use Rattle.fsfs_owned_repo.specs.Begun.{BeginsTxn}
-use Rattle.fsfs_owned_repo.specs.Purged.{PurgesAny}
+use Rattle.fsfs_pass_txns.specs.Begun.{BeginsTxn}
+use Rattle.fsfs_pass_txns.specs.Purged.{PurgesAny}
 use Rattle.fsfs_turn_purge.specs.declared.purge_fault.PurgeFault.{PurgeFault}
 use Rattle.fsfs_machine.specs.declared.machine.Step.TheVariants.{Purge}
 use Rattle.fsfs_turn.specs.Views.{with_txns}
