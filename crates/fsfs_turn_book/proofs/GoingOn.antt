@@ -19,7 +19,7 @@ use Rattle.fsfs_turn.proofs.Reading.{reads_on}
 use Rattle.fsfs_turn_book.specs.GoesOn.{GoesOn}
 use Rattle.fsfs_turn_book.specs.Seen.{TellsUpTo, up_to}
 
-module _ {T : Type 0} (knows : T → View → Type 0) (mount_path : T → List ℕ) (bound : T → Bool) (labels : T → Option (List Label)) where
+module _ {T P : Type 0} (knows : T → View → Type 0) (mount_path : T → P) (bound : T → Bool) (labels : T → Option (List Label)) where
   -- before the first read
   pub begins : (first now : T) → first ≡ now → ((v : View) → knows now v → AllShow v.seen) → GoesOn knows mount_path bound labels first now
   begins first now same shown = subst (λ z. GoesOn knows mount_path bound labels z now) (sym same) (record {
