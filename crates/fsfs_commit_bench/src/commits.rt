@@ -6,7 +6,8 @@ use fsfs_book::Book;
 use fsfs_disk::{Bench, Disk};
 use fsfs_held::HeldNodes;
 use fsfs_memstreams::MemSource;
-use fsfs_owned_repo::{CommitAnswer, Repo};
+use fsfs_owned_repo::Repo;
+use fsfs_pass_txns::CommitAnswer;
 use fsfs_txn::{PathOpened, TextSet, Txn};
 use std::alloc::Global;
 

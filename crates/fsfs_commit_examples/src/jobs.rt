@@ -9,7 +9,8 @@ use fsfs_fields::RevNum;
 use fsfs_held::HeldNodes;
 use fsfs_memdisk::{MemBench, MemDisk};
 use fsfs_memstreams::MemSource;
-use fsfs_owned_repo::{CommitAnswer, Repo};
+use fsfs_owned_repo::Repo;
+use fsfs_pass_txns::CommitAnswer;
 use fsfs_txn::{Deleted, Made, PathOpened, TextSet, Txn, TxnError};
 use std::alloc::Global;
 

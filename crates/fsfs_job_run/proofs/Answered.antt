@@ -14,14 +14,14 @@ use Rattle.fsfs_turn.specs.Views.{View, IsTxnOver}
 use Rattle.fsfs_commit.specs.Replies.{Committed, Moved}
 use Rattle.fsfs_commit.specs.Works.{Landings}
 use Rattle.fsfs_draft.specs.Dating.{IsDatedAt}
-use Rattle.fsfs_owned_repo.specs.Commits.{Bars, IfFailed, IsDropped, Meets}
-use Rattle.fsfs_owned_repo.specs.declared.answers.CommitAnswer.{CommitAnswer}
-use Rattle.fsfs_owned_repo.specs.declared.answers.CommitAnswer.TheVariants as replies
+use Rattle.fsfs_pass_txns.specs.Commits.{Bars, IfFailed, IsDropped, Meets}
+use Rattle.fsfs_pass_txns.specs.declared.answers.CommitAnswer.{CommitAnswer}
+use Rattle.fsfs_pass_txns.specs.declared.answers.CommitAnswer.TheVariants as replies
 use Rattle.fsfs_base.specs.declared.failed.Failed.{Failed}
 use Rattle.fsfs_fields.specs.declared.txn_name.TxnName.{TxnName}
 use Rattle.fsfs_drafts.specs.Drafts.{Folder}
 use Rattle.fsfs_draft.specs.Meaning.{IsTxnOf}
-use Rattle.fsfs_owned_repo.specs.declared.answers.CommitBar.{CommitBar}
+use Rattle.fsfs_pass_txns.specs.declared.answers.CommitBar.{CommitBar}
 use Rattle.fsfs_job_lines.specs.declared.job.CommitJob.{CommitJob}
 use Rattle.fsfs_job_lines.specs.declared.job.Job.TheVariants as jobs
 use Rattle.fsfs_faults.specs.declared.fault.Fault.TheVariants.{Outside}

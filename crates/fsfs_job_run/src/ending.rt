@@ -26,7 +26,8 @@ use fsfs_held::HeldNodes;
 use fsfs_job_lines::CommitJob;
 use fsfs_jobs::{JobAnswer, properties_of};
 use fsfs_own::Own;
-use fsfs_owned_repo::{CommitAnswer, CommitBar, Repo};
+use fsfs_owned_repo::Repo;
+use fsfs_pass_txns::{CommitAnswer, CommitBar};
 use fsfs_turn::{Owned, Turns};
 use fsfs_txn::Txn;
 use std::alloc::Global;
@@ -42,8 +43,8 @@ fn of_merge(wrong: Wrong) -> Fault
     }
 }
 
-// What is told of a commit that added nothing.
-fn barred(line: u64, bar: CommitBar) -> JobAnswer
+/// What is told of a commit that added nothing.
+pub fn barred(line: u64, bar: CommitBar) -> JobAnswer
     ensures { result ≡ answer_of_bar line bar }
 {
     let fault = match bar {
@@ -59,8 +60,8 @@ fn barred(line: u64, bar: CommitBar) -> JobAnswer
     JobAnswer::Stopped { line, fault }
 }
 
-// The outside failed.
-fn stopped(line: u64, fault: OutsideFault) -> JobAnswer
+/// The outside failed.
+pub fn stopped(line: u64, fault: OutsideFault) -> JobAnswer
     ensures { result ≡ Stopped line (Outside fault) }
 {
     let fault = Fault::Outside(fault);

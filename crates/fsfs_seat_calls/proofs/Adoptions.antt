@@ -13,7 +13,7 @@ use Rattle.fsfs_turn.proofs.Adopting.{adopt_comes, adopt_file_comes}
 use Rattle.fsfs_shared_disk.specs.Seen.{DiskSeen}
 use Rattle.fsfs_seats.specs.declared.seat_view.SeatView.{SeatView}
 use Rattle.fsfs_seats.specs.declared.seat_view.Hand.TheVariants.{Out}
-use Rattle.fsfs_seats.specs.Seats.{view_of}
+use Rattle.fsfs_seats.specs.Seats.{view_of, IsSitting}
 use Rattle.fsfs_seats.specs.Rule.{Rule}
 use Rattle.fsfs_seats.specs.Tells.{Sat}
 use Rattle.fsfs_turn.specs.declared.adoption.Adoption.{Adoption}
@@ -66,7 +66,7 @@ adopted_turn me d t a bytes name change may named put made told old is young w s
         adopt_file_comes me.layout young (stuck_place w.lock) old w v store sees refl safe a.txn a.properties a.next bytes may (Unit {0}) (Unit {0}) d.trace name (result_of d.failed) named
         (made_well d.failed (real.Adopt name bytes) (Some old) d.trace m) (file_ill d.failed name bytes (Some old) d.trace m)) put
 
-pub gives_adopted : (a : Adoption) (bytes : List ℕ) (first : SeatView) (slots id : ℕ) (me : Sat) (d : DiskSeen) → IsShort d → (t : Option Trace) (name : List ℕ) (change : real.NameChange) → 0 < slots → me.1 ≡ (0, Some d) ∷ [] → me.0.hand ≡ Out t → Made d.failed change t d.trace
+pub gives_adopted : (a : Adoption) (bytes : List ℕ) (first : SeatView) (slots id : ℕ) (me : Sat) (d : DiskSeen) → IsSitting me.0 → IsShort d → (t : Option Trace) (name : List ℕ) (change : real.NameChange) → 0 < slots → me.1 ≡ (0, Some d) ∷ [] → me.0.hand ≡ Out t → Made d.failed change t d.trace
     → (me.0.told ≡ true → MayAdoptIt (view_of me.0) a bytes × (name ≡ rev_name (view_of me.0) (length me.0.seen)) × IsPutOf name bytes change) → Allows (Rule first) slots id me 0 (λ _. 0) (λ _. adopted_back a bytes (step slots 0 0 0 none) me 0)
-gives_adopted a bytes first slots id me d short t name change room carries has made may = gives_so (λ m u. AdoptedBy a bytes (failed_of (carried m.1)) (view_of m.0) u) first slots id me d short t room carries has (made_told d.failed change t d.trace made)
+gives_adopted a bytes first slots id me d sits short t name change room carries has made may = gives_so (λ m u. AdoptedBy a bytes (failed_of (carried m.1)) (view_of m.0) u) first slots id me d sits short t room carries has (made_told d.failed change t d.trace made)
     (λ told. let x = may told in adopted_turn me.0 d t a bytes name change x.0 x.1 x.2 made told)

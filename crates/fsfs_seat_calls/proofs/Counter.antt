@@ -20,7 +20,7 @@ use Rattle.fsfs_turn.proofs.Counting.{counter, counter_turns, counter_file}
 use Rattle.fsfs_shared_disk.specs.Seen.{DiskSeen}
 use Rattle.fsfs_seats.specs.declared.seat_view.SeatView.{SeatView}
 use Rattle.fsfs_seats.specs.declared.seat_view.Hand.TheVariants.{Out}
-use Rattle.fsfs_seats.specs.Seats.{view_of}
+use Rattle.fsfs_seats.specs.Seats.{view_of, IsSitting}
 use Rattle.fsfs_seats.specs.Rule.{Rule}
 use Rattle.fsfs_seats.specs.Tells.{Sat}
 use Rattle.fsfs_seats.proofs.Following.{lasts_same}
@@ -64,6 +64,6 @@ drawn_turn me d t base same begun least told old is young w store sees safe = �
     drawn : (u : View) → (at.0 < 2 ^ 64 - 1 → CounterRead base at.0 went v u) → (2 ^ 64 - 1 ≤ at.0 → u ≡ v) → DrawnBy base d.trace went v u
     drawn u turned full = record { trace = old; told_is = same ∙ is; text = file.0; number = at.0; line = file.2; there = file.1; turned = turned; full = full }
 
-pub gives_drawn : (base : ℕ) (first : SeatView) (slots id : ℕ) (me : Sat) (d : DiskSeen) → IsShort d → 0 < slots → me.1 ≡ (0, Some d) ∷ [] → me.0.hand ≡ Out d.trace → (me.0.told ≡ true → (me.0.section ≡ Some Begun) × (base ≤ me.0.pass.least)) → Allows (Rule first) slots id me 0 (λ _. 0) (λ _. drawn_back base (step slots 0 0 0 none) me 0)
-gives_drawn base first slots id me d short room carries has may = gives_so (λ m u. DrawnBy base (trace_of (carried m.1)) (went_of (failed_of (carried m.1))) (view_of m.0) u) first slots id me d short d.trace room carries has refl
+pub gives_drawn : (base : ℕ) (first : SeatView) (slots id : ℕ) (me : Sat) (d : DiskSeen) → IsSitting me.0 → IsShort d → 0 < slots → me.1 ≡ (0, Some d) ∷ [] → me.0.hand ≡ Out d.trace → (me.0.told ≡ true → (me.0.section ≡ Some Begun) × (base ≤ me.0.pass.least)) → Allows (Rule first) slots id me 0 (λ _. 0) (λ _. drawn_back base (step slots 0 0 0 none) me 0)
+gives_drawn base first slots id me d sits short room carries has may = gives_so (λ m u. DrawnBy base (trace_of (carried m.1)) (went_of (failed_of (carried m.1))) (view_of m.0) u) first slots id me d sits short d.trace room carries has refl
     (λ told. let x = may told in drawn_turn me.0 d d.trace base refl x.0 x.1 told)

@@ -25,13 +25,13 @@ use Rattle.fsfs_shared_disk.specs.Seen.{DiskSeen}
 use Rattle.fsfs_seats.specs.declared.seat_view.Hand.TheVariants.{Empty, Out}
 use Rattle.fsfs_seats.specs.declared.seat_view.SeatView.{SeatView}
 use Rattle.fsfs_seats.specs.LockWords.{lock_word}
-use Rattle.fsfs_seats.specs.Seats.{view_of}
+use Rattle.fsfs_seats.specs.Seats.{view_of, IsSitting, Sits}
 use Rattle.fsfs_seats.specs.Rule.{Seated, Store, HandIs, Rule}
 use Rattle.fsfs_seats.specs.Met.{Lasts, Met, known_last, seat_store}
 use Rattle.fsfs_seats.specs.Tells.{Sat}
 use Rattle.fsfs_seats.proofs.Following.{met_now, met_after, tells_seen, later_now, later_untold}
-use Rattle.fsfs_seats.proofs.Others.{seat_sees, seat_safe, meets, goes_on}
-use Rattle.fsfs_seats.proofs.Rules.{St, restored, returned}
+use Rattle.fsfs_seats.proofs.Others.{seated, seat_sees, seat_safe, meets, goes_on}
+use Rattle.fsfs_seats.proofs.Rules.{St, seat_stays, restored, returned}
 use Rattle.fsfs_seat_calls.specs.Made.{risen}
 use Rattle.fsfs_seat_calls.specs.Tells.{IsBack, GivenBack, Back}
 
@@ -63,12 +63,12 @@ pub record StaysSure (v u : View) : Type 0 where
 pub after_more : (layout : Layout) (young : ℕ) (stuck : Option DiskPlace) (t : Trace) (w : World) (v : View) (P Q : View → Type 0) → ((u : View) → u.seen ≡ w.history → P u → Q u) → IsAfter layout young stuck t w v P → IsAfter layout young stuck t w v Q
 after_more layout young stuck t w v P Q more a = record { world = a.world; view = a.view; store = a.store; sees = a.sees; turned = more a.view a.all a.turned; safe = a.safe; leaves = a.leaves; layout_is = a.layout_is; since_is = a.since_is; opened_is = a.opened_is; number_is = a.number_is; all = a.all }
 
-module _ (first : SeatView) (views : List SeatView) (lock young : ℕ) (t : Trace) (s : Store first views lock young t) (id : ℕ) (me : SeatView) (at : get_elem? views id ≡ some me) where
+module _ (first : SeatView) (views : List SeatView) (lock young : ℕ) (t : Trace) (s : Store first views lock young t) (id : ℕ) (me : SeatView) (at : Sits views id me) where
   abbrev w : World
   w = s.world
 
   own : Seated first w t id me
-  own = s.seats id me at
+  own = seated first views lock young t s id me at
 
   -- the store, as one pass has it
   pub stands : IsStore me.layout young (stuck_place w.lock) t w
@@ -96,7 +96,7 @@ module _ (first : SeatView) (views : List SeatView) (lock young : ℕ) (t : Trac
     here = subst (λ l. Moved l young new w (view_of me) (view_of after_call) a.world.lock) own.layout moved
 
     pub goes_after : Store first (slice_set views id after_call) lock young new
-    goes_after = goes_on first views lock young t s id me at after_call a.world.lock lock young new here
+    goes_after = goes_on first views lock young t s id me at after_call a.world.lock lock young new here refl
         (s.lock_is ∙ sym (word_stays me.number w.lock a.world.lock a.leaves.lock)) (λ e. a.turned.0.held (own.sure e)) (subst (λ l. Lasts l (length w.history) (files_now t) (files_now new)) own.layout lasts) short
         (meets first views lock young t s id me at after_call a.world.lock young new here left_is)
 
@@ -129,7 +129,7 @@ module _ (first : SeatView) (views : List SeatView) (lock young : ℕ) (t : Trac
     met_same = met_now first.layout young (stuck_place w.lock) t w as_it_was s.store (seen_within w (view_of me) own.sees) (seen_of (length w.history) w.floor w.passes me.number me.pass s.store.kept.seen own.sees.pass).least
 
     pub still : Store first (slice_set views id as_it_was) lock young t
-    still = restored first views lock young t id me as_it_was at s record { number = own.number; sees = own.sees; sure = own.sure; layout = own.layout; since = own.since; opened = own.opened; met = (t, left_is, met_same) }
+    still = restored first views lock young t id me as_it_was at s (record { number = own.number; sees = own.sees; sure = own.sure; layout = own.layout; since = own.since; opened = own.opened; met = (t, left_is, met_same) }) refl
 
     pub seen_still : me.told ≡ true → TellsSeen (seat_store as_it_was) (view_of as_it_was)
     seen_still told = tells_seen w t t as_it_was (subst (λ l. Met l w t as_it_was t) (sym own.layout) met_same) told left_is own.sees
@@ -160,7 +160,7 @@ pub none_is : {A : Type 0} (o : Option A) → is_some o ≡ false → o ≡ None
 none_is None e = refl
 none_is (Some x) e = absurd cc
 
-module _ (first : SeatView) (slots id : ℕ) (me : Sat) (d : DiskSeen) (short : IsShort d) (t : Option Trace) (room : 0 < slots) (carries : me.1 ≡ (0, Some d) ∷ []) (has : me.0.hand ≡ Out t) (same : is_some d.trace ≡ is_some t) (P : View → Type 0) (turn : Turn me.0 d t P)
+module _ (first : SeatView) (slots id : ℕ) (me : Sat) (d : DiskSeen) (sits : IsSitting me.0) (short : IsShort d) (t : Option Trace) (room : 0 < slots) (carries : me.1 ≡ (0, Some d) ∷ []) (has : me.0.hand ≡ Out t) (same : is_some d.trace ≡ is_some t) (P : View → Type 0) (turn : Turn me.0 d t P)
     (s : St) (r : Rule first s) (long : length s.homes ≡ slots) (at : get_elem? s.views id ≡ some me.0) where
   abbrev Goes : Type 0
   Goes = (u : SeatView) × (a : Act (Option DiskSeen)) × Valid s.homes me.1 a × Rule first (stepped s 0 0 id me.1 u a) × ((carried_after me.1 a ≡ []) × GivenBack P d.failed d.trace me.0 u)
@@ -169,10 +169,10 @@ module _ (first : SeatView) (slots id : ℕ) (me : Sat) (d : DiskSeen) (short : 
   mine = subst (λ h. HandIs r.out r.holder r.now id h) has (r.hands id me.0 at)
 
   told_is : me.0.told ≡ is_some t
-  told_is = r.told id me.0 at ∙ ap (λ o. is_some o) (sym mine.2)
+  told_is = r.told id me.0 at (seat_stays me.0 sits) ∙ ap (λ o. is_some o) (sym mine.2)
 
   met_is : is_some me.0.met ≡ me.0.told
-  met_is = r.met id me.0 at ∙ sym (r.told id me.0 at)
+  met_is = r.met id me.0 at (seat_stays me.0 sits) ∙ sym (r.told id me.0 at (seat_stays me.0 sits))
 
   -- the seat knows so much, and the table holds such a store
   goes_so : (u : SeatView) → u.hand ≡ Empty → u.told ≡ me.0.told → u.met ≡ d.trace → IsBack d.failed me.0 u → (me.0.told ≡ true → TellsSeen (seat_store u) (view_of u)) → Later (seat_store me.0) (seat_store u) → (me.0.told ≡ true → P (view_of u))
@@ -181,7 +181,7 @@ module _ (first : SeatView) (slots id : ℕ) (me : Sat) (d : DiskSeen) (short : 
     u,
     gives,
     tt,
-    returned first s r id me.0 u d me.1 t at (omega (arith, room, long)) carries has hand told (ap (λ o. is_some o) met) same store,
+    returned first s r id me.0 u d me.1 t (at, sits) (omega (arith, room, long)) carries has hand told (ap (λ o. is_some o) met) same store,
     (
       ap (λ (cs : List (ℕ × Option DiskSeen)). rest cs) carries,
       record { back = back; left = met; was = met_is; tells = (ap (λ o. is_some o) met ∙ same ∙ sym told_is ∙ sym told, (λ is. tells (sym told ∙ is)), subst (λ o. IfSome (option_map files_now o) HasShortFiles) (sym met) (short_met d.trace short)); later = later; step = step },
@@ -205,33 +205,33 @@ module _ (first : SeatView) (slots id : ℕ) (me : Sat) (d : DiskSeen) (short : 
       ⊎_elim
       (λ (x : (new : Trace) × (d.trace ≡ Some new) × IsAfter me.0.layout r.young (stuck_place k.world.lock) new k.world (view_of me.0) (λ u. StaysSure (view_of me.0) u × P u) × Lasts me.0.layout (length k.world.history) (files_now old) (files_now new)).
       goes_so (seat_with d.failed d.trace me.0 x.2.view) refl refl refl refl
-      (seen_after first s.views r.lock r.young old k id me.0 at d.failed d.trace x.0 x.1 P x.2 x.3 (short_at x.0 x.1))
-      (later_after first s.views r.lock r.young old k id me.0 at d.failed d.trace x.0 x.1 P x.2 x.3 (short_at x.0 x.1) told)
-      (λ _. tells_after first s.views r.lock r.young old k id me.0 at d.failed d.trace x.0 x.1 P x.2 x.3 (short_at x.0 x.1))
+      (seen_after first s.views r.lock r.young old k id me.0 (at, sits) d.failed d.trace x.0 x.1 P x.2 x.3 (short_at x.0 x.1))
+      (later_after first s.views r.lock r.young old k id me.0 (at, sits) d.failed d.trace x.0 x.1 P x.2 x.3 (short_at x.0 x.1) told)
+      (λ _. tells_after first s.views r.lock r.young old k id me.0 (at, sits) d.failed d.trace x.0 x.1 P x.2 x.3 (short_at x.0 x.1))
       (λ new now. subst (λ (o : Trace). Store first (slice_set s.views id (seat_with d.failed d.trace me.0 x.2.view)) r.lock r.young o) (one_trace x.0 new (sym x.1 ∙ now))
-      (goes_after first s.views r.lock r.young old k id me.0 at d.failed d.trace x.0 x.1 P x.2 x.3 (short_at x.0 x.1))))
+      (goes_after first s.views r.lock r.young old k id me.0 (at, sits) d.failed d.trace x.0 x.1 P x.2 x.3 (short_at x.0 x.1))))
       (λ (x : (d.trace ≡ Some old) × P (view_of me.0)). goes_so (seat_as d.failed d.trace me.0) refl refl refl refl
-      (seen_still first s.views r.lock r.young old k id me.0 at d.failed d.trace x.0)
-      (later_still first s.views r.lock r.young old k id me.0 at d.failed d.trace x.0 told)
+      (seen_still first s.views r.lock r.young old k id me.0 (at, sits) d.failed d.trace x.0)
+      (later_still first s.views r.lock r.young old k id me.0 (at, sits) d.failed d.trace x.0 told)
       (λ _. x.1)
       (λ new now. subst (λ (o : Trace). Store first (slice_set s.views id (seat_as d.failed d.trace me.0)) r.lock r.young o) (one_trace old new (sym x.0 ∙ now))
-      (still first s.views r.lock r.young old k id me.0 at d.failed d.trace x.0)))
-      (turn told old is r.young k.world (stands first s.views r.lock r.young old k id me.0 at) (seat_sees first s.views r.lock r.young old k id me.0 at) (stands_safe first s.views r.lock r.young old k id me.0 at))
+      (still first s.views r.lock r.young old k id me.0 (at, sits) d.failed d.trace x.0)))
+      (turn told old is r.young k.world (stands first s.views r.lock r.young old k id me.0 (at, sits)) (seat_sees first s.views r.lock r.young old k id me.0 (at, sits)) (stands_safe first s.views r.lock r.young old k id me.0 (at, sits)))
 
   pub goes_now : Goes
   goes_now = by_trace t refl
 
 -- the seat gives the disk back with a call done
-pub goes_back : (first : SeatView) (slots id : ℕ) (me : Sat) (d : DiskSeen) → IsShort d → (t : Option Trace) → 0 < slots → me.1 ≡ (0, Some d) ∷ [] → me.0.hand ≡ Out t → is_some d.trace ≡ is_some t → (P : View → Type 0) → Turn me.0 d t P
+pub goes_back : (first : SeatView) (slots id : ℕ) (me : Sat) (d : DiskSeen) → IsSitting me.0 → IsShort d → (t : Option Trace) → 0 < slots → me.1 ≡ (0, Some d) ∷ [] → me.0.hand ≡ Out t → is_some d.trace ≡ is_some t → (P : View → Type 0) → Turn me.0 d t P
     → Allows (Rule first) slots id me 0 (λ _. 0) (λ found m'. (m'.1 ≡ []) × GivenBack P d.failed d.trace me.0 m'.0)
-goes_back first slots id me d short t room carries has same P turn s r long at small = goes_now first slots id me d short t room carries has same P turn s r long at
+goes_back first slots id me d sits short t room carries has same P turn s r long at small = goes_now first slots id me d sits short t room carries has same P turn s r long at
 
 -- as the store of the word asks for it
-pub gives_so : (T : Sat → View → Type 0) (first : SeatView) (slots id : ℕ) (me : Sat) (d : DiskSeen) → IsShort d → (t : Option Trace) → 0 < slots → me.1 ≡ (0, Some d) ∷ [] → me.0.hand ≡ Out t → is_some d.trace ≡ is_some t → Turn me.0 d t (T (me.0, (0, Some d) ∷ []))
+pub gives_so : (T : Sat → View → Type 0) (first : SeatView) (slots id : ℕ) (me : Sat) (d : DiskSeen) → IsSitting me.0 → IsShort d → (t : Option Trace) → 0 < slots → me.1 ≡ (0, Some d) ∷ [] → me.0.hand ≡ Out t → is_some d.trace ≡ is_some t → Turn me.0 d t (T (me.0, (0, Some d) ∷ []))
     → Allows (Rule first) slots id me 0 (λ _. 0) (λ _. Back T (step slots 0 0 0 none) me 0)
-gives_so T first slots id me d short t room carries has same turn =
+gives_so T first slots id me d sits short t room carries has same turn =
     subst (λ (cs : List (ℕ × Option DiskSeen)). Allows (Rule first) slots id (me.0, cs) 0 (λ _. 0) (λ _. Back T (step slots 0 0 0 none) (me.0, cs) 0)) (sym carries)
-    (goes_back first slots id (me.0, (0, Some d) ∷ []) d short t room refl has same (T (me.0, (0, Some d) ∷ [])) turn)
+    (goes_back first slots id (me.0, (0, Some d) ∷ []) d sits short t room refl has same (T (me.0, (0, Some d) ∷ [])) turn)
 
 -- what was told of the seat as it had the disk in its slot again
 pub told_so : (T : Sat → View → Type 0) (slots : ℕ) (me now after : Sat) (d : DiskSeen) → me.1 ≡ (0, None) ∷ [] → now ≡ (me.0, (0, Some d) ∷ rest me.1) → Back T (step slots 0 0 0 none) now 0 after

@@ -20,7 +20,7 @@ use Rattle.fsfs_turn.proofs.Labelling.{make_comes, purge_comes, spent_comes}
 use Rattle.fsfs_shared_disk.specs.Seen.{DiskSeen}
 use Rattle.fsfs_seats.specs.declared.seat_view.SeatView.{SeatView}
 use Rattle.fsfs_seats.specs.declared.seat_view.Hand.TheVariants.{Out}
-use Rattle.fsfs_seats.specs.Seats.{view_of}
+use Rattle.fsfs_seats.specs.Seats.{view_of, IsSitting}
 use Rattle.fsfs_seats.specs.Rule.{Rule}
 use Rattle.fsfs_seats.specs.Tells.{Sat}
 use Rattle.fsfs_seat_calls.specs.Made.{Made, Ended, Dropped, carried, failed_of}
@@ -122,12 +122,12 @@ dropped_told false l old new m = by_there m.0 m.1
     by_there false same = ap (λ o. is_some o) same
 dropped_told true l old new m = failed_told (DropLabel l) old new m
 
-pub gives_benched : (first : SeatView) (slots id : ℕ) (me : Sat) (d : DiskSeen) → IsShort d → (t : Option Trace) (l : Label) → 0 < slots → me.1 ≡ (0, Some d) ∷ [] → me.0.hand ≡ Out t → Made d.failed (KeepLabel l) t d.trace → (me.0.told ≡ true → (x : Drawn) × MayMake (view_of me.0) x)
+pub gives_benched : (first : SeatView) (slots id : ℕ) (me : Sat) (d : DiskSeen) → IsSitting me.0 → IsShort d → (t : Option Trace) (l : Label) → 0 < slots → me.1 ≡ (0, Some d) ∷ [] → me.0.hand ≡ Out t → Made d.failed (KeepLabel l) t d.trace → (me.0.told ≡ true → (x : Drawn) × MayMake (view_of me.0) x)
     → Allows (Rule first) slots id me 0 (λ _. 0) (λ _. benched_back (step slots 0 0 0 none) me 0)
-gives_benched first slots id me d short t l room carries has made may = gives_so (λ m u. BenchedBy (failed_of (carried m.1)) (view_of m.0) u) first slots id me d short t room carries has (made_told d.failed (KeepLabel l) t d.trace made)
+gives_benched first slots id me d sits short t l room carries has made may = gives_so (λ m u. BenchedBy (failed_of (carried m.1)) (view_of m.0) u) first slots id me d sits short t room carries has (made_told d.failed (KeepLabel l) t d.trace made)
     (λ told. let x = may told in benched_turn me.0 d t l x.0 x.1 made told)
 
-pub gives_purged : (first : SeatView) (slots id : ℕ) (me : Sat) (d : DiskSeen) → IsShort d → (t : Option Trace) (l : Label) → 0 < slots → me.1 ≡ (0, Some d) ∷ [] → me.0.hand ≡ Out t → Dropped d.failed l t d.trace → (me.0.told ≡ true → MayDrop (view_of me.0))
+pub gives_purged : (first : SeatView) (slots id : ℕ) (me : Sat) (d : DiskSeen) → IsSitting me.0 → IsShort d → (t : Option Trace) (l : Label) → 0 < slots → me.1 ≡ (0, Some d) ∷ [] → me.0.hand ≡ Out t → Dropped d.failed l t d.trace → (me.0.told ≡ true → MayDrop (view_of me.0))
     → Allows (Rule first) slots id me 0 (λ _. 0) (λ _. purged_back (step slots 0 0 0 none) me 0)
-gives_purged first slots id me d short t l room carries has dropped may = gives_so (λ m u. PurgedBy (failed_of (carried m.1)) (view_of m.0) u) first slots id me d short t room carries has (dropped_told d.failed l t d.trace dropped)
+gives_purged first slots id me d sits short t l room carries has dropped may = gives_so (λ m u. PurgedBy (failed_of (carried m.1)) (view_of m.0) u) first slots id me d sits short t room carries has (dropped_told d.failed l t d.trace dropped)
     (λ told. purged_turn me.0 d t l (may told) dropped told)

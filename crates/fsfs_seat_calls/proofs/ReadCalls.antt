@@ -24,7 +24,7 @@ use Rattle.fsfs_turn.proofs.Labelling.{list_turns}
 use Rattle.fsfs_shared_disk.specs.Seen.{DiskSeen}
 use Rattle.fsfs_seats.specs.declared.seat_view.SeatView.{SeatView}
 use Rattle.fsfs_seats.specs.declared.seat_view.Hand.TheVariants.{Out}
-use Rattle.fsfs_seats.specs.Seats.{view_of}
+use Rattle.fsfs_seats.specs.Seats.{view_of, IsSitting}
 use Rattle.fsfs_seats.specs.Rule.{Rule}
 use Rattle.fsfs_seats.specs.Tells.{Sat}
 use Rattle.fsfs_seats.proofs.Following.{lasts_same}
@@ -98,8 +98,8 @@ listed_turn me d t same told old is young w store sees safe = inl (old, same ∙
           subst (λ y. Listed ls went v y) (learned_is _ _ _ (λ n. learns n place.List went) w.history v a.view a.all a.turned ∙ sym (learned_is _ _ _ (λ n. learns n place.List went) w.history v u all k)) a.turned,
     )
 
-pub gives_read : (first : SeatView) (slots id : ℕ) (me : Sat) (d : DiskSeen) → IsShort d → 0 < slots → me.1 ≡ (0, Some d) ∷ [] → me.0.hand ≡ Out d.trace → Allows (Rule first) slots id me 0 (λ _. 0) (λ _. read_back (step slots 0 0 0 none) me 0)
-gives_read first slots id me d short room carries has = gives_so (λ m u. ReadBy (went_of (failed_of (carried m.1))) (view_of m.0) u) first slots id me d short d.trace room carries has refl (read_turn me.0 d d.trace refl)
+pub gives_read : (first : SeatView) (slots id : ℕ) (me : Sat) (d : DiskSeen) → IsSitting me.0 → IsShort d → 0 < slots → me.1 ≡ (0, Some d) ∷ [] → me.0.hand ≡ Out d.trace → Allows (Rule first) slots id me 0 (λ _. 0) (λ _. read_back (step slots 0 0 0 none) me 0)
+gives_read first slots id me d sits short room carries has = gives_so (λ m u. ReadBy (went_of (failed_of (carried m.1))) (view_of m.0) u) first slots id me d sits short d.trace room carries has refl (read_turn me.0 d d.trace refl)
 
-pub gives_listed : (first : SeatView) (slots id : ℕ) (me : Sat) (d : DiskSeen) → IsShort d → 0 < slots → me.1 ≡ (0, Some d) ∷ [] → me.0.hand ≡ Out d.trace → Allows (Rule first) slots id me 0 (λ _. 0) (λ _. listed_back (step slots 0 0 0 none) me 0)
-gives_listed first slots id me d short room carries has = gives_so (λ m u. (ls : List Label) → Listed ls (went_of (failed_of (carried m.1))) (view_of m.0) u) first slots id me d short d.trace room carries has refl (listed_turn me.0 d d.trace refl)
+pub gives_listed : (first : SeatView) (slots id : ℕ) (me : Sat) (d : DiskSeen) → IsSitting me.0 → IsShort d → 0 < slots → me.1 ≡ (0, Some d) ∷ [] → me.0.hand ≡ Out d.trace → Allows (Rule first) slots id me 0 (λ _. 0) (λ _. listed_back (step slots 0 0 0 none) me 0)
+gives_listed first slots id me d sits short room carries has = gives_so (λ m u. (ls : List Label) → Listed ls (went_of (failed_of (carried m.1))) (view_of m.0) u) first slots id me d sits short d.trace room carries has refl (listed_turn me.0 d d.trace refl)

@@ -24,7 +24,7 @@ use Rattle.fsfs_turn.proofs.Adopting.{adopt_fails}
 use Rattle.fsfs_shared_disk.specs.Seen.{DiskSeen}
 use Rattle.fsfs_seats.specs.declared.seat_view.SeatView.{SeatView}
 use Rattle.fsfs_seats.specs.declared.seat_view.Hand.TheVariants.{Out}
-use Rattle.fsfs_seats.specs.Seats.{view_of}
+use Rattle.fsfs_seats.specs.Seats.{view_of, IsSitting}
 use Rattle.fsfs_seats.specs.Rule.{Rule}
 use Rattle.fsfs_seats.specs.Tells.{Sat}
 use Rattle.fsfs_seats.proofs.Following.{lasts_same}
@@ -222,10 +222,10 @@ unmade_turn me d t due same told old is young w store sees safe = ⊎_elim
     unmade : (txn : Txn) (properties : List (List ℕ × List ℕ)) (next : Revision) (bytes : List ℕ) → MayAdopt v txn properties next bytes → IsAfter me.layout young (stuck_place w.lock) old w v (λ u. Adopted txn properties next bytes Before v u)
     unmade txn properties next bytes may = adopt_fails me.layout young (stuck_place w.lock) old w v store sees refl safe txn properties next bytes may
 
-pub gives_called : (first : SeatView) (slots id : ℕ) (me : Sat) (d : DiskSeen) → IsShort d → (t : Option Trace) (change : real.NameChange) → 0 < slots → me.1 ≡ (0, Some d) ∷ [] → me.0.hand ≡ Out t → Made d.failed change t d.trace → (me.0.told ≡ true → (place : DiskPlace) × IsDue (view_of me.0) place change)
+pub gives_called : (first : SeatView) (slots id : ℕ) (me : Sat) (d : DiskSeen) → IsSitting me.0 → IsShort d → (t : Option Trace) (change : real.NameChange) → 0 < slots → me.1 ≡ (0, Some d) ∷ [] → me.0.hand ≡ Out t → Made d.failed change t d.trace → (me.0.told ≡ true → (place : DiskPlace) × IsDue (view_of me.0) place change)
     → Allows (Rule first) slots id me 0 (λ _. 0) (λ _. called_back (step slots 0 0 0 none) me 0)
-gives_called first slots id me d short t change room carries has made due = gives_so (λ m u. CalledBy (failed_of (carried m.1)) (view_of m.0) u) first slots id me d short t room carries has (made_told d.failed change t d.trace made)
+gives_called first slots id me d sits short t change room carries has made due = gives_so (λ m u. CalledBy (failed_of (carried m.1)) (view_of m.0) u) first slots id me d sits short t room carries has (made_told d.failed change t d.trace made)
     (λ told. let x = due told in called_turn me.0 d t x.0 change x.1 made told)
 
-pub gives_unmade : (first : SeatView) (slots id : ℕ) (me : Sat) (d : DiskSeen) → IsShort d → 0 < slots → me.1 ≡ (0, Some d) ∷ [] → me.0.hand ≡ Out d.trace → (me.0.told ≡ true → NeedsFolder (view_of me.0)) → Allows (Rule first) slots id me 0 (λ _. 0) (λ _. unmade_back (step slots 0 0 0 none) me 0)
-gives_unmade first slots id me d short room carries has due = gives_so (λ m u. Unmade (view_of m.0) u) first slots id me d short d.trace room carries has refl (λ told. unmade_turn me.0 d d.trace (due told) refl told)
+pub gives_unmade : (first : SeatView) (slots id : ℕ) (me : Sat) (d : DiskSeen) → IsSitting me.0 → IsShort d → 0 < slots → me.1 ≡ (0, Some d) ∷ [] → me.0.hand ≡ Out d.trace → (me.0.told ≡ true → NeedsFolder (view_of me.0)) → Allows (Rule first) slots id me 0 (λ _. 0) (λ _. unmade_back (step slots 0 0 0 none) me 0)
+gives_unmade first slots id me d sits short room carries has due = gives_so (λ m u. Unmade (view_of m.0) u) first slots id me d sits short d.trace room carries has refl (λ told. unmade_turn me.0 d d.trace (due told) refl told)

@@ -1,8 +1,6 @@
 -- The steps that leave the disk as it is, at the table.
 use Rattle.std.proofs.Common.{◌≡◌, ◌≤◌, ◌+◌, ◌-◌, ℕ, List, length, true, sym, ap, subst, ◌∙◌, refl, arith}
 use Rattle.std.specs.Prelude.{Some, slice_set, if◌then◌else◌}
-use mathlib.Core.Option.{some}
-use lib.ListN.{get_elem?}
 use Rattle.fsfs_fetch.specs.Views.{Later}
 use Rattle.fsfs_disk.specs.Trace.{Trace, files_now}
 use Rattle.fsfs_places.specs.declared.place.DiskPlace.{DiskPlace}
@@ -19,13 +17,13 @@ use Rattle.fsfs_turn.proofs.Moves.{Moved}
 use Rattle.fsfs_turn.proofs.Locking.{look_comes, take_comes, find_comes, held_in, give_comes, stick_comes, reveal_comes}
 use Rattle.fsfs_seats.specs.declared.seat_view.SeatView.{SeatView}
 use Rattle.fsfs_seats.specs.LockWords.{lock_word, place_number}
-use Rattle.fsfs_seats.specs.Seats.{view_of, look_view, lock_view, stuck_view, outside_view, reveal_view}
+use Rattle.fsfs_seats.specs.Seats.{view_of, look_view, lock_view, stuck_view, outside_view, reveal_view, Sits}
 use Rattle.fsfs_seats.specs.Met.{Lasts, Met, known_last, seat_store}
 use Rattle.fsfs_seats.specs.Rule.{Store}
 use Rattle.fsfs_seats.proofs.Following.{lasts_same, tells_seen, later_now}
-use Rattle.fsfs_seats.proofs.Others.{seat_sees, seat_safe, meets, still_met, goes_on}
+use Rattle.fsfs_seats.proofs.Others.{seated, seat_sees, seat_safe, meets, still_met, goes_on}
 
-module _ (first : SeatView) (views : List SeatView) (lock young : ℕ) (t : Trace) (s : Store first views lock young t) (id : ℕ) (me : SeatView) (at : get_elem? views id ≡ some me) where
+module _ (first : SeatView) (views : List SeatView) (lock young : ℕ) (t : Trace) (s : Store first views lock young t) (id : ℕ) (me : SeatView) (at : Sits views id me) where
   sees : Sees s.world (view_of me)
   sees = seat_sees first views lock young t s id me at
 
@@ -40,39 +38,39 @@ module _ (first : SeatView) (views : List SeatView) (lock young : ℕ) (t : Trac
   Comes u lock2 young2 Tells = Tells (view_of me) (view_of u) × Store first (slice_set views id u) lock2 young2 t
 
   -- where the seat meets the trace as it is
-  meeting : (u : SeatView) (l : Lock) (lock2 young2 : ℕ) (Tells : View → View → Type 0) → u.met ≡ Some t → lock2 ≡ lock_word l → (u.sure ≡ true → is_held u.section ≡ true)
+  meeting : (u : SeatView) (l : Lock) (lock2 young2 : ℕ) (Tells : View → View → Type 0) → u.kin ≡ me.kin → u.met ≡ Some t → lock2 ≡ lock_word l → (u.sure ≡ true → is_held u.section ≡ true)
       → Tells (view_of me) (view_of u) × Moved first.layout young2 t s.world (view_of me) (view_of u) l → Comes u lock2 young2 Tells
-  meeting u l lock2 young2 Tells met lock_is sure step =
-      (step.0, goes_on first views lock young t s id me at u l lock2 young2 t step.1 lock_is sure unchanged s.short (meets first views lock young t s id me at u l young2 t step.1 met))
+  meeting u l lock2 young2 Tells kin met lock_is sure step =
+      (step.0, goes_on first views lock young t s id me at u l lock2 young2 t step.1 kin lock_is sure unchanged s.short (meets first views lock young t s id me at u l young2 t step.1 met))
 
   -- where it doesn't
-  aside : (u : SeatView) (l : Lock) (lock2 young2 : ℕ) (Tells : View → View → Type 0) → u.met ≡ me.met → length u.seen ≤ length me.seen → u.pass.least ≤ me.pass.least → lock2 ≡ lock_word l → (u.sure ≡ true → is_held u.section ≡ true)
+  aside : (u : SeatView) (l : Lock) (lock2 young2 : ℕ) (Tells : View → View → Type 0) → u.kin ≡ me.kin → u.met ≡ me.met → length u.seen ≤ length me.seen → u.pass.least ≤ me.pass.least → lock2 ≡ lock_word l → (u.sure ≡ true → is_held u.section ≡ true)
       → Tells (view_of me) (view_of u) × Moved first.layout young2 t s.world (view_of me) (view_of u) l → Comes u lock2 young2 Tells
-  aside u l lock2 young2 Tells met seen least lock_is sure step =
-      (step.0, goes_on first views lock young t s id me at u l lock2 young2 t step.1 lock_is sure unchanged s.short (still_met first views lock young t s id me at u l young2 t step.1 unchanged met seen least))
+  aside u l lock2 young2 Tells kin met seen least lock_is sure step =
+      (step.0, goes_on first views lock young t s id me at u l lock2 young2 t step.1 kin lock_is sure unchanged s.short (still_met first views lock young t s id me at u l young2 t step.1 unchanged met seen least))
 
   pub looks : Comes (look_view young (Some t) me) lock young (λ v u. Looked young v u)
-  looks = meeting (look_view young (Some t) me) s.world.lock lock young (λ v u. Looked young v u) refl s.lock_is (λ e. e)
+  looks = meeting (look_view young (Some t) me) s.world.lock lock young (λ v u. Looked young v u) refl refl s.lock_is (λ e. e)
       (look_comes first.layout young (stuck_place s.world.lock) t s.world (view_of me) s.store sees safe)
 
   pub takes : s.world.lock ≡ Free → Comes (lock_view me) 1 young (λ v u. LockTaken v u)
-  takes free = aside (lock_view me) (Held me.number Begun) 1 young (λ v u. LockTaken v u) refl (omega arith) (omega arith) refl (λ e. refl)
+  takes free = aside (lock_view me) (Held me.number Begun) 1 young (λ v u. LockTaken v u) refl refl (omega arith) (omega arith) refl (λ e. refl)
       (take_comes first.layout young (stuck_place s.world.lock) t s.world (view_of me) s.store sees safe free)
 
   pub finds : (place : DiskPlace) (x : Coming) → s.world.lock ≡ Stuck place x → Comes (stuck_view place me) lock young (λ v u. FoundStuck place v u)
-  finds place x is = aside (stuck_view place me) s.world.lock lock young (λ v u. FoundStuck place v u) refl (omega arith) (omega arith) s.lock_is (s.seats id me at).sure
+  finds place x is = aside (stuck_view place me) s.world.lock lock young (λ v u. FoundStuck place v u) refl refl (omega arith) (omega arith) s.lock_is (seated first views lock young t s id me at).sure
       (find_comes first.layout young (stuck_place s.world.lock) t s.world (view_of me) s.store sees safe place x is)
 
   pub gives : MayGive (view_of me) → Comes (outside_view me) 0 young (λ v u. LockGiven (step.GiveLock v.number) v u)
-  gives may = aside (outside_view me) Free 0 young (λ v u. LockGiven (step.GiveLock v.number) v u) refl (omega arith) (omega arith) refl (λ e. absurd cc)
+  gives may = aside (outside_view me) Free 0 young (λ v u. LockGiven (step.GiveLock v.number) v u) refl refl (omega arith) (omega arith) refl (λ e. absurd cc)
       (give_comes first.layout young (stuck_place s.world.lock) t s.world (view_of me) s.store sees safe may.inside may.is may.quiet)
 
   pub sticks : (place : DiskPlace) (x : Coming) → me.section ≡ Some (Doubtful place x) → Comes (outside_view me) (place_number place) young (λ v u. LockGiven (step.StickLock v.number) v u)
-  sticks place x inside = aside (outside_view me) (Stuck place x) (place_number place) young (λ v u. LockGiven (step.StickLock v.number) v u) refl (omega arith) (omega arith) refl (λ e. absurd cc)
+  sticks place x inside = aside (outside_view me) (Stuck place x) (place_number place) young (λ v u. LockGiven (step.StickLock v.number) v u) refl refl (omega arith) (omega arith) refl (λ e. absurd cc)
       (stick_comes first.layout young (stuck_place s.world.lock) t s.world (view_of me) s.store sees safe place x inside)
 
   pub reveals : (x : Coming) (rev : ℕ) → me.section ≡ Some (CurrentFirm x) → rev ≡ length me.seen → Comes (reveal_view x (Some t) me) lock rev (λ v u. Revealed x v u)
-  reveals x rev inside rev_is = meeting (reveal_view x (Some t) me) (Held me.number Over) lock rev (λ v u. Revealed x v u) refl
+  reveals x rev inside rev_is = meeting (reveal_view x (Some t) me) (Held me.number Over) lock rev (λ v u. Revealed x v u) refl refl
       (s.lock_is ∙ ap (λ l. lock_word l) (held_in first.layout young (stuck_place s.world.lock) t s.world (view_of me) s.store sees safe (CurrentFirm x) inside)) (λ e. absurd cc)
       (reveal_comes first.layout young (stuck_place s.world.lock) t s.world (view_of me) s.store sees safe x inside rev rev_is)
 
@@ -80,12 +78,12 @@ module _ (first : SeatView) (views : List SeatView) (lock young : ℕ) (t : Trac
 
   -- what the pass has seen
   pub tells : me.told ≡ true → TellsSeen (seat_store me) (view_of me)
-  tells told = let o = s.seats id me at in
+  tells told = let o = seated first views lock young t s id me at in
       tells_seen s.world t o.met.0 me (subst (λ l. Met l s.world t me o.met.0) (sym o.layout) o.met.2) told o.met.1 o.sees
 
   -- if it meets the trace as it is it tells what is later
   pub later : (u : SeatView) → me.told ≡ true → u.met ≡ Some t → u.layout ≡ me.layout → known_last me ≤ known_last u → Later (seat_store me) (seat_store u)
-  later u told met layout reach = let o = s.seats id me at in
+  later u told met layout reach = let o = seated first views lock young t s id me at in
       later_now s.world t o.met.0 me u (subst (λ l. Met l s.world t me o.met.0) (sym o.layout) o.met.2) told o.met.1 met layout reach
 
   -- a look tells of no fewer revisions than its pass knew of

@@ -1,22 +1,27 @@
 -- The rule of the table at which passes sit: it holds a state of the machine, and each seat knows what its pass knows of it.
 -- Word 0 is DISK: 0 where the disk is in its slot, 1 where a pass has it. Word 1 is LOCK. Word 2 is YOUNG, the youngest number.
-use Rattle.std.specs.Prelude.{◌≡◌, ◌≤◌, ℕ, List, [], ◌∷◌, true, Option, Some, is_some}
+use Rattle.std.specs.Prelude.{◌≡◌, ◌≤◌, ◌<◌, ℕ, List, [], ◌∷◌, length, true, false, Option, Some, None, is_some, slice_get}
 use mathlib.Core.Option.{some}
 use lib.ListN.{get_elem?}
 use Rattle.atomic_table.specs.Table.{State}
 use Rattle.fsfs_fields.specs.RevNums.{last_rev}
 use Rattle.fsfs_disk.specs.Benches.{HasShortFiles}
 use Rattle.fsfs_disk.specs.Trace.{Trace, files_now}
+use Rattle.fsfs_machine.specs.declared.machine.Pass.{Pass}
 use Rattle.fsfs_machine.specs.Machine.{World, is_up, stuck_place}
-use Rattle.fsfs_turn.specs.Views.{Sees, is_held}
+use Rattle.fsfs_turn.specs.Views.{Sees, Begins, is_held}
 use Rattle.fsfs_turn.specs.Past.{doubt, Safe}
 use Rattle.fsfs_turn.specs.Standing.{IsStore}
 use Rattle.fsfs_shared_disk.specs.Seen.{DiskSeen}
 use Rattle.fsfs_seats.specs.declared.seat_view.Hand.{Hand}
 use Rattle.fsfs_seats.specs.declared.seat_view.Hand.TheVariants.{Empty, Out}
+use Rattle.fsfs_seats.specs.declared.seat_view.Before.{Before}
+use Rattle.fsfs_seats.specs.declared.seat_view.Stage.{Stage}
+use Rattle.fsfs_seats.specs.declared.seat_view.Stage.TheVariants.{New, Sitting, Joining, Left}
 use Rattle.fsfs_seats.specs.declared.seat_view.SeatView.{SeatView}
 use Rattle.fsfs_seats.specs.LockWords.{lock_word}
-use Rattle.fsfs_seats.specs.Seats.{view_of}
+use Rattle.fsfs_seats.specs.Seats.{view_of, is_left, as_before}
+use Rattle.fsfs_seats.specs.Kinship.{branches, Kinship}
 use Rattle.fsfs_seats.specs.Met.{HasMet}
 
 -- seat j is the pass of that number; images are spoken of from the opening on, which the first seat's view tells
@@ -31,6 +36,30 @@ pub record Seated (first : SeatView) (w : World) (now : Trace) (j : ℕ) (v : Se
   -- it met the files of an earlier state
   pub met : HasMet first.layout w now v
 
+-- before the joining it knew this
+pub record Knew (first : SeatView) (w : World) (now : Trace) (v : SeatView) (b : Before) : Type 0 where
+  pub layout : b.layout ≡ first.layout
+  pub told : b.told ≡ true
+  pub least : b.least ≤ v.pass.least
+  pub line : Begins v.seen b.seen
+  pub met : HasMet first.layout w now (as_before v b)
+
+-- The same by how far the seat is. One that was split off doesn't know its number yet, but that of the one from which it was.
+abbrev pub Placed : SeatView → World → Trace → ℕ → SeatView → Stage → Type 0
+Placed first w now j v New = Seated first w now j (record v { number = j }) × (v.number < j)
+Placed first w now j v Sitting = Seated first w now j v
+Placed first w now j v (Joining a b) = Seated first w now j v × Knew first w now v a × Knew first w now v b
+Placed first w now j v Left = (x : Pass) × (slice_get w.passes j ≡ Some x)
+
+-- a pass that was joined into another: its seat has left, so it does nothing any more, and these are all its own revisions
+pub record IsJoined (views : List SeatView) (w : World) (x : ℕ × List ℕ) : Type 0 where
+  pub seat : SeatView
+  pub at : get_elem? views x.0 ≡ some seat
+  pub left : is_left seat.kin.stage ≡ true
+  pub pass : Pass
+  pub there : slice_get w.passes x.0 ≡ Some pass
+  pub mine : pass.mine ≡ x.1
+
 -- A state of the machine. The disk with this trace is its disk; its lock and its youngest number are those of the words; and each image of
 -- each moment since the opening stands for a first part of its history, or for it with the revision in doubt.
 pub record Store (first : SeatView) (views : List SeatView) (lock young : ℕ) (t : Trace) : Type 0 where
@@ -40,7 +69,11 @@ pub record Store (first : SeatView) (views : List SeatView) (lock young : ℕ) (
   pub up : is_up world.lock ≡ true
   pub short : HasShortFiles (files_now t)
   pub lock_is : lock ≡ lock_word world.lock
-  pub seats : (j : ℕ) (v : SeatView) → get_elem? views j ≡ some v → Seated first world t j v
+  -- each seat is a pass, and no other is there
+  pub seats : (j : ℕ) (v : SeatView) → get_elem? views j ≡ some v → Placed first world t j v v.kin.stage
+  pub no_more : (j : ℕ) → length views ≤ j → slice_get world.passes j ≡ None
+  pub kin : Kinship (branches views)
+  pub joined : (j : ℕ) (v : SeatView) → get_elem? views j ≡ some v → (i : ℕ) (x : ℕ × List ℕ) → get_elem? v.kin.joined i ≡ some x → IsJoined views world x
 
 -- a seat that has the disk took it with the trace that it had
 abbrev pub HandIs : ℕ → ℕ → Option Trace → ℕ → Hand → Type 0
@@ -58,6 +91,6 @@ pub record Rule (first : SeatView) (s : State (Option DiskSeen) SeatView) : Type
   pub holder : ℕ
   pub home : out ≡ 0 → (d : DiskSeen) × (get_elem? s.homes 0 ≡ some (some (Some d))) × (d.trace ≡ now)
   pub hands : (j : ℕ) (v : SeatView) → get_elem? s.views j ≡ some v → HandIs out holder now j v.hand
-  pub told : (j : ℕ) (v : SeatView) → get_elem? s.views j ≡ some v → v.told ≡ is_some now
-  pub met : (j : ℕ) (v : SeatView) → get_elem? s.views j ≡ some v → is_some v.met ≡ is_some now
+  pub told : (j : ℕ) (v : SeatView) → get_elem? s.views j ≡ some v → is_left v.kin.stage ≡ false → v.told ≡ is_some now
+  pub met : (j : ℕ) (v : SeatView) → get_elem? s.views j ≡ some v → is_left v.kin.stage ≡ false → is_some v.met ≡ is_some now
   pub store : (t : Trace) → now ≡ Some t → Store first s.views lock young t

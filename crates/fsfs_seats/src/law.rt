@@ -1,6 +1,6 @@
 //! The rule of the table, and what each step tells.
 use crate::seat_view::SeatView;
-use atomic_table::{Play, Seat, Table, TableRule};
+use atomic_table::{Join, Play, Seat, Split, Table, TableRule};
 use fsfs_disk::Disk;
 use fsfs_note::Note;
 use fsfs_shared_disk::SharedDisk;
@@ -77,4 +77,39 @@ impl<D: Disk> Play<Option<SharedDisk<D>>, SeatView> for GiveBack {
     ghost use Rattle.fsfs_seats.specs.Tells.{given_back};
 
     ghost then = { given_back };
+}
+
+pub(crate) struct TellNumber;
+
+impl<D: Disk> Play<Option<SharedDisk<D>>, SeatView> for TellNumber {
+    ghost use Rattle.fsfs_seats.specs.Tells.{numbered};
+
+    ghost then = { numbered };
+}
+
+pub(crate) struct Settle;
+
+impl<D: Disk> Play<Option<SharedDisk<D>>, SeatView> for Settle {
+    ghost use Rattle.fsfs_seats.specs.Tells.{settled};
+
+    ghost then = { settled };
+}
+
+/// How the view of a seat is cut in two, and how two become one.
+pub(crate) struct Parting;
+
+impl Split<SeatView> for Parting {
+    ghost use Rattle.fsfs_seats.specs.Seats.{halved_view, split_pass};
+
+    ghost left = { halved_view };
+
+    ghost right = { split_pass };
+}
+
+impl Join<SeatView> for Parting {
+    ghost use Rattle.fsfs_seats.specs.Seats.{joining_view, left_view};
+
+    ghost both = { joining_view };
+
+    ghost spent = { left_view };
 }

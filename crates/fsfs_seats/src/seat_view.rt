@@ -1,6 +1,7 @@
 //! What a pass at the table knows. No value of these types is made: they stand in what a seat is told.
 use fsfs_layout::Layout;
 use fsfs_machine::{Line, Numbers, Pass, Section};
+use std::collections::LinkedList;
 use std::marker::Model;
 
 /// The trace of a disk, where it tells one.
@@ -25,6 +26,34 @@ pub enum Hand {
     Out(Told),
 }
 
+/// What a seat knew before it was joined with another, as far as readers rest on it.
+pub struct Before {
+    pub layout: Layout,
+    pub told: bool,
+    pub least: u64,
+    pub seen: Line,
+    pub met: Told,
+}
+
+/// How far a seat is.
+pub enum Stage {
+    /// It was split off, and doesn't know its number yet.
+    New,
+    Sitting,
+    /// Another's pass was joined into its own. This is what the two knew.
+    Joining(Before, Before),
+    /// Its pass was joined into another.
+    Left,
+}
+
+/// What splitting and joining made of a seat: its parts of the right to know that no other sits, and the passes that were joined into
+/// its own, each by its number with its own revisions.
+pub struct Kin {
+    pub stage: Stage,
+    pub parts: u64,
+    pub joined: LinkedList<(u64, Numbers)>,
+}
+
 /// What a pass knows of the store, whether the disk tells its trace, and whether the pass has the disk.
 pub struct SeatView {
     pub layout: Layout,
@@ -42,4 +71,5 @@ pub struct SeatView {
     pub met: Told,
     // how often its calls of the disk failed
     pub failures: u64,
+    pub kin: Kin,
 }

@@ -9,7 +9,7 @@ ghost use Rattle.fsfs_machine.specs.declared.machine.Section.TheVariants.{Curren
 ghost use Rattle.fsfs_machine.specs.declared.machine.Step.TheVariants.{GiveLock as GivesLock, StickLock as SticksLock};
 ghost use Rattle.fsfs_turn.specs.Views.{Looked, LockTaken, FoundStuck, LockGiven, Revealed};
 ghost use Rattle.fsfs_seats.specs.declared.seat_view.Hand.TheVariants.{Empty, Out};
-ghost use Rattle.fsfs_seats.specs.Seats.{view_of, look_view, lock_view, stuck_view, outside_view, reveal_view, reveal_in};
+ghost use Rattle.fsfs_seats.specs.Seats.{view_of, look_view, lock_view, stuck_view, outside_view, reveal_view, reveal_in, IsSitting};
 ghost use Rattle.fsfs_seats.specs.Met.{seat_store};
 ghost use Rattle.fsfs_seats.specs.Tells.{CanGive, CanStick, CanReveal, IsMet, TellsIt};
 
@@ -34,7 +34,8 @@ fn revision_of(number: u64) -> RevNum
 
 /// The youngest revision: one load, which waits for nobody.
 pub fn look<D: Disk>(board: &Board<D>, seat: &mut SharedSeat<D>) -> RevNum
-    requires { (seat.old.table_id ≡ board.now.shared.table_id) × (board.now.shared.table_id.words ≡ 3) }
+    requires table { (seat.old.table_id ≡ board.now.shared.table_id) × (board.now.shared.table_id.words ≡ 3) }
+    requires sits { IsSitting seat.old.me.0 }
     ensures same { (seat.new.table_id ≡ seat.old.table_id) × (seat.new.id ≡ seat.old.id) × (seat.new.me ≡ (look_view result seat.new.me.0.met seat.old.me.0, seat.old.me.1)) }
     ensures looked { seat.old.me.0.told ≡ true → Looked result (view_of seat.old.me.0) (view_of (look_view result seat.new.me.0.met seat.old.me.0)) }
     ensures later { Later (seat_store seat.old.me.0) (seat_store seat.new.me.0) }
@@ -50,7 +51,8 @@ pub fn take_lock<D: Disk, R: Wait>(
     board: &Board<D>,
     seat: &mut SharedSeat<D>,
 ) -> Result<(), DiskPlace>
-    requires { (seat.old.table_id ≡ board.now.shared.table_id) × (board.now.shared.table_id.words ≡ 3) }
+    requires table { (seat.old.table_id ≡ board.now.shared.table_id) × (board.now.shared.table_id.words ≡ 3) }
+    requires sits { IsSitting seat.old.me.0 }
     ensures same { (seat.new.table_id ≡ seat.old.table_id) × (seat.new.id ≡ seat.old.id) }
     ensures taken { OnOk result ((seat.new.me ≡ (lock_view seat.old.me.0, seat.old.me.1)) × (seat.old.me.0.told ≡ true → LockTaken (view_of seat.old.me.0) (view_of seat.new.me.0))) }
     ensures stuck { IfErr result (λ place. (seat.new.me ≡ (stuck_view place seat.old.me.0, seat.old.me.1)) × (seat.old.me.0.told ≡ true → FoundStuck place (view_of seat.old.me.0) (view_of seat.new.me.0))) }
@@ -71,6 +73,7 @@ pub fn take_lock<D: Disk, R: Wait>(
 /// Gives the write lock. It waits for nobody.
 pub fn give_lock<D: Disk>(board: &Board<D>, seat: &mut SharedSeat<D>)
     requires table { (seat.old.table_id ≡ board.now.shared.table_id) × (board.now.shared.table_id.words ≡ 3) }
+    requires sits { IsSitting seat.old.me.0 }
     requires may { CanGive seat.old.me.0 }
     ensures same { (seat.new.table_id ≡ seat.old.table_id) × (seat.new.id ≡ seat.old.id) × (seat.new.me ≡ (outside_view seat.old.me.0, seat.old.me.1)) }
     ensures given { seat.old.me.0.told ≡ true → LockGiven (GivesLock seat.old.me.0.number) (view_of seat.old.me.0) (view_of seat.new.me.0) }
@@ -81,6 +84,7 @@ pub fn give_lock<D: Disk>(board: &Board<D>, seat: &mut SharedSeat<D>)
 /// Leaves the write lock stuck, after a fault at this place. It waits for nobody.
 pub fn stick<D: Disk>(board: &Board<D>, seat: &mut SharedSeat<D>, place: DiskPlace)
     requires table { (seat.old.table_id ≡ board.now.shared.table_id) × (board.now.shared.table_id.words ≡ 3) }
+    requires sits { IsSitting seat.old.me.0 }
     requires may { CanStick place seat.old.me.0 }
     ensures same { (seat.new.table_id ≡ seat.old.table_id) × (seat.new.id ≡ seat.old.id) × (seat.new.me ≡ (outside_view seat.old.me.0, seat.old.me.1)) }
     ensures given { seat.old.me.0.told ≡ true → LockGiven (SticksLock seat.old.me.0.number) (view_of seat.old.me.0) (view_of seat.new.me.0) }
@@ -93,6 +97,7 @@ pub fn stick<D: Disk>(board: &Board<D>, seat: &mut SharedSeat<D>, place: DiskPla
 /// The revision that was written joins the history: it is the youngest now. It waits for nobody.
 pub fn reveal<D: Disk>(board: &Board<D>, seat: &mut SharedSeat<D>, rev: RevNum)
     requires table { (seat.old.table_id ≡ board.now.shared.table_id) × (board.now.shared.table_id.words ≡ 3) }
+    requires sits { IsSitting seat.old.me.0 }
     requires may { CanReveal rev seat.old.me.0 }
     ensures same { (seat.new.table_id ≡ seat.old.table_id) × (seat.new.id ≡ seat.old.id) × (seat.new.me ≡ (reveal_in seat.old.me.0.section seat.new.me.0.met seat.old.me.0, seat.old.me.1)) }
     ensures revealed { seat.old.me.0.told ≡ true → (x : Coming) → seat.old.me.0.section ≡ Some (CurrentFirm x) → Revealed x (view_of seat.old.me.0) (view_of (reveal_view x seat.new.me.0.met seat.old.me.0)) }
@@ -103,7 +108,8 @@ pub fn reveal<D: Disk>(board: &Board<D>, seat: &mut SharedSeat<D>, rev: RevNum)
 
 /// Takes the disk out of its slot, once it is there.
 pub fn take<D: Disk, R: Wait>(rt: &R, board: &Board<D>, seat: &mut SharedSeat<D>) -> SharedDisk<D>
-    requires { (seat.old.table_id ≡ board.now.shared.table_id) × (board.now.shared.table_id.words ≡ 3) × (board.now.shared.table_id.slots ≡ 1) × (seat.old.me.1 ≡ []) }
+    requires table { (seat.old.table_id ≡ board.now.shared.table_id) × (board.now.shared.table_id.words ≡ 3) × (board.now.shared.table_id.slots ≡ 1) × (seat.old.me.1 ≡ []) }
+    requires sits { IsSitting seat.old.me.0 }
     ensures same { (seat.new.table_id ≡ seat.old.table_id) × (seat.new.id ≡ seat.old.id) }
     ensures out { seat.new.me ≡ (record seat.old.me.0 { hand = Out result.trace }, (0, None) ∷ []) }
     ensures told { seat.old.me.0.told ≡ is_some result.trace }
@@ -121,6 +127,7 @@ pub fn take<D: Disk, R: Wait>(rt: &R, board: &Board<D>, seat: &mut SharedSeat<D>
 /// Gives the disk back as it was taken. It waits for nobody.
 pub fn give_back<D: Disk + Drop>(board: &Board<D>, seat: &mut SharedSeat<D>, disk: SharedDisk<D>)
     requires table { (seat.old.table_id ≡ board.now.shared.table_id) × (board.now.shared.table_id.words ≡ 3) × (board.now.shared.table_id.slots ≡ 1) }
+    requires sits { IsSitting seat.old.me.0 }
     requires out { (seat.old.me.1 ≡ (0, None) ∷ []) × (seat.old.me.0.hand ≡ Out disk.trace) }
     ensures same { (seat.new.table_id ≡ seat.old.table_id) × (seat.new.id ≡ seat.old.id) }
     ensures back { seat.new.me ≡ (record seat.old.me.0 { hand = Empty }, []) }

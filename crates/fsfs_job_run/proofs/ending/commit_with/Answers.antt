@@ -1,7 +1,7 @@
 use Rattle.std.proofs.Common.{sym, subst, arith}
 use Rattle.fsfs_base.specs.Failures.{Rose}
 use Rattle.fsfs_turn.specs.Alone.{KnowsAlone}
-use Rattle.fsfs_owned_repo.specs.Commits.{IfFailed}
+use Rattle.fsfs_pass_txns.specs.Commits.{IfFailed}
 use Rattle.fsfs_jobs.specs.declared.answer.JobAnswer.{JobAnswer}
 use Rattle.fsfs_job_reads.specs.TextReads.{IfAnswerFails}
 use Rattle.fsfs_job_run.specs.Running.{IsNoRequest}

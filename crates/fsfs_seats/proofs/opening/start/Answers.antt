@@ -1,4 +1,4 @@
-use Rattle.std.proofs.Common.{◌≡◌, [], ◌∷◌, List, ℕ, ap, subst, sym, rules, Option, Some, None}
+use Rattle.std.proofs.Common.{◌≡◌, ◌+◌, length, [], ◌∷◌, List, ℕ, ap, subst, sym, rules, Option, Some, None}
 use Rattle.std.specs.Prelude.{IfSome}
 use Rattle.atomic_table.specs.Table.{opening}
 use Rattle.fsfs_turn.specs.Views.{View}
@@ -12,7 +12,7 @@ use Rattle.fsfs_seats.proofs.opening.start.Goals as goal
 pub some-first-requires : goal.some-first-requires
 some-first-requires g c =
     let same : c.new-shared.result.trace ≡ g.D.Disk.trace c.args.disk = ap (λ (d : DiskSeen). d.trace) c.new-shared.ensures in
-    first_there c.args.layout c.args.young c.new-shared.result.trace (subst (λ o. IfSome o (λ t. (v : View) × (v.section ≡ None) × Knows c.args.layout c.args.young None (Some t) v)) (sym same) c.requires.known)
+    first_there c.args.layout c.args.young c.new-shared.result.trace (subst (λ o. IfSome o (λ t. (v : View) × (v.section ≡ None) × Knows c.args.layout c.args.young None (Some t) v × (length v.seen ≡ c.args.young + 1))) (sym same) c.requires.known)
 
 pub new-requires : goal.new-requires
 new-requires g c =

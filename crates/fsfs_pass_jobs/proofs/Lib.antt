@@ -1,0 +1,12 @@
+mod Parts
+mod Steps
+mod Lines
+mod Going
+mod Ending
+mod Noting
+mod Answered
+mod Histories
+mod Editing
+mod Edited
+mod Shown
+mod Refusing

@@ -1,0 +1,3 @@
+pub mod InTurnLemmas
+pub mod Both
+pub mod Counting
