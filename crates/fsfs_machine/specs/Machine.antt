@@ -508,9 +508,14 @@ abbrev pub split_off : World → Option Pass → Did
 split_off w None = barred w
 split_off w (Some x) = did (record w { passes = w.passes ++ record x { mine = []; faults = [] } ∷ [] }) outcome.Done
 
+-- where either of two passes found the lock stuck; it is stuck for good, so that place is one
+abbrev pub either_place : Option DiskPlace → Option DiskPlace → Option DiskPlace
+either_place (Some at) other = Some at
+either_place None other = other
+
 -- the longer of two views; both hold a prefix of one history
 abbrev pub joined : Pass → Pass → Pass
-joined y x = record x { seen = max x.seen y.seen; least = max x.least y.least; floor = max x.floor y.floor; faults = x.faults ++ y.faults }
+joined y x = record x { seen = max x.seen y.seen; least = max x.least y.least; floor = max x.floor y.floor; faults = x.faults ++ y.faults; stuck = either_place x.stuck y.stuck }
 
 abbrev pub join_with : World → ℕ → Option Pass → Did
 join_with w p None = barred w

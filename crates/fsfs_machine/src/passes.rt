@@ -1,6 +1,6 @@
 //! What passes learn.
 ghost use Rattle.std.specs.Prelude.{◌≡◌, ◌+◌, ◌++◌, ◌∷◌, [], OnOk, IfOk, Some};
-ghost use Rattle.fsfs_machine.specs.Machine.{at_place, learns, reveals, joined, sees_floor, raised, is_known, first_pass};
+ghost use Rattle.fsfs_machine.specs.Machine.{at_place, learns, reveals, joined, either_place, sees_floor, raised, is_known, first_pass};
 
 use crate::files::is_fine;
 use crate::machine::{Numbers, Pass, Places, Went};
@@ -118,6 +118,9 @@ impl Pass {
         self.seen = self.seen.max(other.seen);
         self.least = self.least.max(other.least);
         self.floor = self.floor.max(other.floor);
+        if let None = self.stuck {
+            self.stuck = other.stuck;
+        }
         self.faults.append(&other.faults)
     }
 

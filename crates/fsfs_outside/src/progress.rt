@@ -1,58 +1,74 @@
 // What a program tells of its progress.
 
 use fsfs_streams::{Gate, GatePlace};
-use std::cell::{Cell, RefCell};
 use std::io::Write;
+use std::sync::Mutex;
+use std::sync::atomic::AtomicU64;
+use std::sync::atomic::Ordering::SeqCst;
 use std::time::{Clock, Duration, Instant};
 
-/// A gate that holds nobody, and tells on a stream how many jobs are done, at most once a second. That a line isn't written is passed over.
+// The stream of a gate, and when it told the last line.
 #[derive(Drop)]
-pub struct ProgressGate<C: Clock + Drop, W: Write + Drop> {
-    clock: C,
-    // None where nothing is told.
-    stream: Option<RefCell<W>>,
+struct Told<W: Write + Drop> {
+    stream: W,
     // The moment of the last line, or of the making; none where the clock didn't give it.
-    last: Cell<Option<Instant>>,
+    last: Option<Instant>,
 }
 
-impl<C: Clock + Drop, W: Write + Drop> ProgressGate<C, W> {
-    /// A gate that tells on this stream, or nothing. The first line comes a second behind this call at the earliest.
-    pub fn new(clock: C, stream: Option<W>) -> ProgressGate<C, W> {
-        let last = Cell::new(Instant::now(&clock).ok());
-        let stream = match stream {
-            Some(stream) => Some(RefCell::new(stream)),
-            None => None,
-        };
-        ProgressGate {
-            clock,
-            stream,
-            last,
-        }
-    }
-
+impl<W: Write + Drop> Told<W> {
     // Whether it has said nothing long enough; from then on it has just spoken.
-    fn is_due(&self) -> bool {
-        let (Some(last), Ok(now)) = (self.last.get(), Instant::now(&self.clock)) else {
+    fn is_due<C: Clock>(&mut self, clock: &C) -> bool {
+        let (Some(last), Ok(now)) = (self.last, Instant::now(clock)) else {
             return false;
         };
         if now.duration_since(last) < Duration::from_secs(1) {
             return false;
         }
-        self.last.set(Some(now));
+        self.last = Some(now);
         true
     }
 }
 
+/// A gate that holds nobody, and tells on a stream how many jobs are done, at most once a second. That a line isn't written is passed over.
+/// Of workers that end jobs at the same time one tells it; the others don't wait for that.
+#[derive(Drop)]
+pub struct ProgressGate<C: Clock + Drop, W: Write + Drop> {
+    clock: C,
+    done: AtomicU64,
+    // None where nothing is told.
+    told: Option<Mutex<Told<W>>>,
+}
+
+impl<C: Clock + Drop, W: Write + Drop> ProgressGate<C, W> {
+    /// A gate that tells on this stream, or nothing. The first line comes a second behind this call at the earliest.
+    pub fn new(clock: C, stream: Option<W>) -> ProgressGate<C, W> {
+        let last = Instant::now(&clock).ok();
+        let told = match stream {
+            Some(stream) => Some(Mutex::new(Told { stream, last })),
+            None => None,
+        };
+        ProgressGate {
+            clock,
+            done: AtomicU64::new(0),
+            told,
+        }
+    }
+}
+
 impl<C: Clock + Drop, W: Write + Drop> Gate for ProgressGate<C, W> {
-    fn at(&self, place: GatePlace, who: u64) {
-        let Some(stream) = &self.stream else {
+    fn at(&self, place: GatePlace, _who: u64) {
+        let Some(told) = &self.told else {
             return;
         };
-        if place != GatePlace::AfterJob || !self.is_due() {
+        if place != GatePlace::AfterJob {
             return;
         }
-        if let Ok(mut stream) = stream.try_borrow_mut() {
-            let _ = writeln!(stream, "{who} jobs done");
+        let done = self.done.fetch_add(1, SeqCst).saturating_add(1);
+        let Some(mut told) = told.try_lock() else {
+            return;
+        };
+        if told.is_due(&self.clock) {
+            let _ = writeln!(told.stream, "{done} jobs done");
         }
     }
 }

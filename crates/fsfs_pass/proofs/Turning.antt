@@ -1,6 +1,7 @@
 -- What a pass knows and tells, from one turn to the next.
-use Rattle.std.proofs.Common.{◌≡◌, ◌≤◌, ◌+◌, ◌-◌, ℕ, [], ◌∷◌, Bool, true, false, refl, sym, ap, subst, ◌∙◌, length, arith, length-append}
+use Rattle.std.proofs.Common.{◌≡◌, ◌≤◌, ◌+◌, ◌-◌, ℕ, List, [], ◌∷◌, Bool, true, false, refl, sym, ap, subst, ◌∙◌, length, arith, length-append}
 use Rattle.std.specs.Prelude.{Option, Some, None, IfSome, is_some, option_map, slice_get, if◌then◌else◌, Result, Ok, Err, OnOk, OnErr, IfErr, IsErrOf}
+use Rattle.atomic_table.specs.Seated.{TableId}
 use Rattle.fsfs_disk.specs.Trace.{Trace, files_now, labels_now}
 use Rattle.fsfs_disk.specs.Benches.{HasShortFiles}
 use Rattle.fsfs_disk.specs.declared.disk.ListFault.{ListFault}
@@ -17,12 +18,26 @@ use Rattle.fsfs_turn.specs.Labels.{KeepsLabels}
 use Rattle.fsfs_turn.specs.Telling.{TellsSeen}
 use Rattle.fsfs_seats.specs.declared.seat_view.SeatView.{SeatView}
 use Rattle.fsfs_seats.specs.declared.seat_view.Hand.TheVariants.{Empty}
-use Rattle.fsfs_seats.specs.Seats.{view_of, look_view, reveal_view, reveal_in}
+use Rattle.fsfs_seats.specs.declared.seat_view.Kin.{Kin}
+use Rattle.fsfs_seats.specs.declared.seat_view.Stage.{Stage}
+use Rattle.fsfs_seats.specs.declared.seat_view.Stage.TheVariants.{New, Sitting, Joining, Left}
+use Rattle.fsfs_seats.specs.Seats.{view_of, look_view, reveal_view, reveal_in, IsSitting}
 use Rattle.fsfs_seats.specs.Met.{known_last, seat_store, seat_labels}
 use Rattle.fsfs_seats.specs.Tells.{TellsIt}
 use Rattle.fsfs_seat_calls.specs.Tells.{IsBack}
-use Rattle.fsfs_pass.specs.Passes.{reach_by, pass_store, KnowsIt}
+use Rattle.fsfs_pass.specs.Passes.{is_sitting, sits_at, reach_by, pass_store, KnowsIt}
 use Rattle.fsfs_pass.specs.PassLemmas.{pass_tells}
+
+-- ---- the seat sits
+
+at_sitting : (s : Stage) → is_sitting s ≡ true → s ≡ Sitting
+at_sitting New e = absurd cc
+at_sitting Sitting e = refl
+at_sitting (Joining a b) e = absurd cc
+at_sitting Left e = absurd cc
+
+pub sits_so : (v : SeatView) → is_sitting v.kin.stage ≡ true → IsSitting v
+sits_so v e = at_sitting v.kin.stage e
 
 -- ---- what is known
 
@@ -69,7 +84,7 @@ known_empty first last old new v k is = subst (λ z. KnowsIt first last z v) (sy
 
 -- ---- what is told
 
-none_of : {X : Type 0} (o : Option X) → is_some o ≡ false → o ≡ None
+pub none_of : {X : Type 0} (o : Option X) → is_some o ≡ false → o ≡ None
 none_of None e = refl
 none_of (Some x) e = absurd cc
 
@@ -100,10 +115,19 @@ pub record Keeps (old new : SeatView) : Type 0 where
   pub layout : new.layout ≡ old.layout
   pub met : is_some new.met ≡ new.told
   pub low : new.told ≡ true → known_last old ≤ known_last new
+  pub kin : new.kin ≡ old.kin
   pub short : IfSome (option_map files_now new.met) HasShortFiles
 
 pub back_keeps : (failed : Bool) (v u : SeatView) → IsBack failed v u → TellsIt u → Later (seat_store v) (seat_store u) → Keeps v u
-back_keeps failed v u back tells later = record { told = ap {A = SeatView} (λ z. z.told) back; layout = ap {A = SeatView} (λ z. z.layout) back; met = tells.0; low = λ told. later.reach; short = tells.2 }
+back_keeps failed v u back tells later = record { told = ap {A = SeatView} (λ z. z.told) back; layout = ap {A = SeatView} (λ z. z.layout) back; met = tells.0; low = λ told. later.reach; kin = ap {A = SeatView} (λ z. z.kin) back; short = tells.2 }
+
+-- so its seat sits still
+pub stays : (old new : SeatView) → new.kin ≡ old.kin → is_sitting old.kin.stage ≡ true → is_sitting new.kin.stage ≡ true
+stays old new same sits = ap {A = Kin} (λ k. is_sitting k.stage) same ∙ sits
+
+-- and where it was
+pub seated : (path : List ℕ) (table now : TableId) (old new : SeatView) → now ≡ table → new.kin ≡ old.kin → sits_at path now new.kin ≡ sits_at path table old.kin
+seated path table now old new same kin = ap (λ t. sits_at path t new.kin) same ∙ ap {A = Kin} (λ k. sits_at path table k) kin
 
 -- it only has the disk no more
 pub empty_keeps : (v u : SeatView) → u ≡ record v { hand = Empty } → is_some v.met ≡ v.told → IfSome (option_map files_now v.met) HasShortFiles → Keeps v u
@@ -112,6 +136,7 @@ empty_keeps v u is met short = record {
   layout = ap {A = SeatView} (λ z. z.layout) is;
   met = ap {A = SeatView} (λ z. is_some z.met) is ∙ met ∙ sym (ap {A = SeatView} (λ z. z.told) is);
   low = λ told. let e : known_last u ≡ known_last v = ap {A = SeatView} (λ z. known_last z) is in omega (arith, e);
+  kin = ap {A = SeatView} (λ z. z.kin) is;
   short = subst (λ o. IfSome (option_map files_now o) HasShortFiles) (sym (ap {A = SeatView} (λ z. z.met) is)) short;
 }
 
@@ -173,6 +198,11 @@ reveal_layout None met v = refl
 reveal_layout (Some (CurrentFirm x)) met v = refl
 reveal_layout (Some s) met v = refl
 
+pub reveal_kin : (s : Option Section) (met : Option Trace) (v : SeatView) → (reveal_in s met v).kin ≡ v.kin
+reveal_kin None met v = refl
+reveal_kin (Some (CurrentFirm x)) met v = refl
+reveal_kin (Some s) met v = refl
+
 pub reveal_keeps : (v u : SeatView) → u ≡ reveal_in v.section u.met v → TellsIt u → (v.told ≡ true → (x : Coming) × (v.section ≡ Some (CurrentFirm x))) → Keeps v u
 reveal_keeps v u is tells at = record {
   told = ap {A = SeatView} (λ z. z.told) is ∙ reveal_told v.section u.met v;
@@ -185,6 +215,7 @@ reveal_keeps v u is tells at = record {
       let least : u.pass.least ≡ v.pass.least = ap {A = SeatView} (λ z. z.pass.least) now in
       let seen : length u.seen ≡ length v.seen + 1 = ap {A = SeatView} (λ z. length z.seen) now ∙ length-append v.seen (recorded x.0 ∷ []) in
       omega (arith, known_is u told, known_is v was, least, seen);
+  kin = ap {A = SeatView} (λ z. z.kin) is ∙ reveal_kin v.section u.met v;
   short = tells.2;
 }
 
@@ -209,6 +240,11 @@ on_ok_both (Err e) f p q = tt
 pub if_err_map : {X E : Type 0} (P Q : E → Type 0) (r : Result X E) → ((e : E) → P e → Q e) → IfErr r P → IfErr r Q
 if_err_map P Q (Ok x) f p = tt
 if_err_map P Q (Err e) f p = f e p
+
+-- the lock was taken, or was found stuck
+pub on_taken : {X E P F : Type 0} (Q : E → Type 0) (r : Result X E) → OnOk r P → IfErr r Q → (P → F) → ((e : E) → Q e → F) → F
+on_taken Q (Ok x) ok err f g = f ok
+on_taken Q (Err e) ok err f g = g e err
 
 -- whatever it was
 pub on_either : {X E F : Type 0} (r : Result X E) → OnOk r F → OnErr r F → F

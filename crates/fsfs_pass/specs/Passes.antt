@@ -1,13 +1,32 @@
 -- What a pass at the table knows, and what it tells one who reads.
-use Rattle.std.specs.Prelude.{◌≡◌, ℕ, Bool, true, Option, is_some, if◌then◌else◌}
+use Rattle.std.specs.Prelude.{◌≡◌, ◌++◌, ℕ, List, [], Bool, true, false, Option, None, is_some, if◌then◌else◌}
+use Rattle.atomic_table.specs.Seated.{TableId}
 use Rattle.fsfs_layout.specs.declared.layout.Layout.{Layout}
 use Rattle.fsfs_fetch.specs.Views.{View as StoreView, Reach, Grows}
 use Rattle.fsfs_disk.specs.Trace.{Trace}
-use Rattle.fsfs_turn.specs.Views.{View}
+use Rattle.fsfs_machine.specs.Machine.{joined}
+use Rattle.fsfs_turn.specs.Views.{View, Begins}
 use Rattle.fsfs_turn.specs.Telling.{TellsSeen}
+use Rattle.fsfs_seats.specs.declared.seat_view.Kin.{Kin}
 use Rattle.fsfs_seats.specs.declared.seat_view.SeatView.{SeatView}
+use Rattle.fsfs_seats.specs.declared.seat_view.Stage.{Stage}
+use Rattle.fsfs_seats.specs.declared.seat_view.Stage.TheVariants.{Sitting}
 use Rattle.fsfs_seats.specs.Seats.{view_of}
 use Rattle.fsfs_seats.specs.Met.{known_last, seat_store}
+
+-- the seat has its number, and nothing is left to be told of a joining
+abbrev pub is_sitting : Stage → Bool
+is_sitting Sitting = true
+is_sitting stage = false
+
+-- Where a pass sits: the path that its disk was mounted for, the table, and what splitting and joining made of its seat.
+pub record Seating : Type 0 where
+  pub mount_path : List ℕ
+  pub table : TableId
+  pub kin : Kin
+
+abbrev pub sits_at : List ℕ → TableId → Kin → Seating
+sits_at path table kin = record { mount_path = path; table = table; kin = kin }
 
 -- the revisions that there are at least: those that the pass has seen or was told of; where the disk tells nothing, those up to the
 -- greatest number that a look told
@@ -24,3 +43,14 @@ pub record KnowsIt (first : Option Trace) (last : ℕ) (s : SeatView) (v : View)
   pub told : s.told ≡ true
   pub is : view_of s ≡ v
   pub tells : TellsSeen (pass_store last s) v
+
+-- the pass that is split off, under this number: it knows as much, but of no revisions, faults or section of its own
+abbrev pub split_off : ℕ → View → View
+split_off n v = record v { number = n; pass = record v.pass { mine = []; faults = [] }; section = None; sure = false }
+
+-- Of two passes the first knows what both knew: the longer of the two lines that they saw, the later number that either was told, the
+-- greater floor, and the faults and the names given of both.
+pub record Joins (v u z : View) : Type 0 where
+  pub is : z ≡ record v { pass = joined u.pass v.pass; seen = z.seen; given = v.given ++ u.given }
+  pub one : Begins z.seen v.seen
+  pub other : Begins z.seen u.seen

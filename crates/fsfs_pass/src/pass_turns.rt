@@ -3,8 +3,10 @@ ghost use Rattle.std.specs.Prelude.{◌≡◌, ◌≤◌, [], true, is_some, IfS
 ghost use Rattle.fsfs_disk.specs.Trace.{files_now};
 ghost use Rattle.fsfs_disk.specs.Benches.{HasShortFiles};
 ghost use Rattle.fsfs_seats.specs.Met.{known_last};
+ghost use Rattle.fsfs_pass.specs.Passes.{is_sitting};
 ghost use Rattle.fsfs_pass.specs.Short.{short_prop};
 
+use crate::notes::said_again;
 use fsfs_disk::Disk;
 use fsfs_fields::RevNum;
 use fsfs_layout::Layout;
@@ -22,6 +24,7 @@ pub struct PassTurns<'a, D: Disk> {
     // The disk as it was first, which clauses alone read: its path, and that it tells.
     pub(crate) first: Note<D>,
     ghost sits: { (seat.table_id ≡ board.now.shared.table_id) × (board.now.shared.table_id.words ≡ 3) × (board.now.shared.table_id.slots ≡ 1) × (seat.me.1 ≡ []) },
+    ghost sitting: { is_sitting seat.me.0.kin.stage ≡ true },
     ghost layout_is: { seat.me.0.layout ≡ layout },
     ghost met_told: { is_some seat.me.0.met ≡ seat.me.0.told },
     ghost last_low: { seat.me.0.told ≡ true → last ≤ known_last seat.me.0 },
@@ -29,10 +32,13 @@ pub struct PassTurns<'a, D: Disk> {
 }
 
 impl<'a, D: Disk> PassTurns<'a, D> {
+    ghost use Rattle.std.specs.Prelude.{◌+◌, ◌<◌, ℕ, None};
+    ghost use Rattle.fsfs_fetch.specs.Views.{Later};
+    ghost use Rattle.fsfs_turn.specs.Views.{View};
     ghost use Rattle.fsfs_turn.specs.Telling.{TellsSeen};
     ghost use Rattle.fsfs_seats.specs.Met.{seat_store};
-    ghost use Rattle.fsfs_seats.specs.Seats.{view_of};
-    ghost use Rattle.fsfs_pass.specs.Passes.{KnowsIt};
+    ghost use Rattle.fsfs_seats.specs.Seats.{view_of, IsSitting, halved_view, split_pass, numbered_view, joined_view};
+    ghost use Rattle.fsfs_pass.specs.Passes.{pass_store, KnowsIt, split_off, Joins};
 
     /// The turns of the pass in this seat. The disk of the store, as it was first, is laid out so.
     pub fn new(
@@ -42,6 +48,7 @@ impl<'a, D: Disk> PassTurns<'a, D> {
         first: Note<D>,
     ) -> PassTurns<'a, D>
         requires sits { (seat.table_id ≡ board.now.shared.table_id) × (board.now.shared.table_id.words ≡ 3) × (board.now.shared.table_id.slots ≡ 1) × (seat.me.1 ≡ []) }
+        requires sitting { IsSitting seat.me.0 }
         requires layout { seat.me.0.layout ≡ layout }
         requires met { is_some seat.me.0.met ≡ seat.me.0.told }
         requires short { IfSome (option_map files_now seat.me.0.met) HasShortFiles }
@@ -60,9 +67,66 @@ impl<'a, D: Disk> PassTurns<'a, D> {
         }
     }
 
-    /// The seat again.
+    /// The turns of a new pass, which knows what this one knows, but of no revisions, faults or section of its own: these are only to
+    /// come. Its number is above this one's. It waits for nobody.
+    pub fn split(&mut self) -> PassTurns<'a, D>
+        // Of the parts of this one's seat the new one's has half.
+        requires parts { 1 < self.old.seat.me.0.kin.parts }
+        ensures halved { self.new.seat.me.0 ≡ halved_view self.old.seat.me.0 }
+        ensures split { (n : ℕ) × (result.seat.me.0 ≡ numbered_view n result.seat.me.0.met (split_pass self.old.seat.me.0)) }
+        ensures table { (self.new.seat.table_id ≡ self.old.seat.table_id) × (result.seat.table_id ≡ self.old.seat.table_id) }
+        ensures known { (v : View) → KnowsIt (D.trace self.old.first.value) self.old.last self.old.seat.me.0 v
+            → (n : ℕ) × (v.number < n) × KnowsIt (D.trace result.first.value) result.last result.seat.me.0 (split_off n v) }
+        ensures keeps { (v : View) → KnowsIt (D.trace self.old.first.value) self.old.last self.old.seat.me.0 v → KnowsIt (D.trace self.new.first.value) self.new.last self.new.seat.me.0 v }
+        // What the new one tells is later than what this one told, and this one tells that still.
+        ensures later { Later (pass_store self.old.last self.old.seat.me.0) (pass_store result.last result.seat.me.0) }
+        ensures same { pass_store self.new.last self.new.seat.me.0 ≡ pass_store self.old.last self.old.seat.me.0 }
+        ensures duty { (self.new.seat.me.0.told ≡ self.old.seat.me.0.told) × (result.seat.me.0.told ≡ self.old.seat.me.0.told) }
+        ensures mounted { (D.mount_path self.new.first.value ≡ D.mount_path self.old.first.value) × (D.mount_path result.first.value ≡ D.mount_path self.old.first.value) }
+        ensures faults { (self.new.seat.me.0.failures ≡ self.old.seat.me.0.failures) × (result.seat.me.0.failures ≡ 0) }
+    {
+        let board = self.board;
+        let first = said_again(&self.first);
+        let seat = fsfs_seats::split(board, &mut self.seat);
+        PassTurns {
+            board,
+            seat,
+            layout: self.layout,
+            last: self.last,
+            first,
+        }
+    }
+
+    /// Joins the other pass into this one, which knows from then on what both knew; and of the other that its own revisions are these. The
+    /// other is used up. It waits for nobody.
+    pub fn join(&mut self, other: PassTurns<'a, D>)
+        requires table { other.seat.table_id ≡ self.old.seat.table_id }
+        requires outside { other.seat.me.0.told ≡ true → other.seat.me.0.section ≡ None }
+        ensures joined { self.new.seat.me.0 ≡ joined_view self.new.seat.me.0.met self.old.seat.me.0 other.entry.seat.me.0 }
+        ensures table { self.new.seat.table_id ≡ self.old.seat.table_id }
+        ensures known { (v u : View) → KnowsIt (D.trace self.old.first.value) self.old.last self.old.seat.me.0 v → KnowsIt (D.trace other.entry.first.value) other.entry.last other.entry.seat.me.0 u
+            → (z : View) × KnowsIt (D.trace self.new.first.value) self.new.last self.new.seat.me.0 z × Joins v u z }
+        // What it tells is later than what it told; and where the disk tells, than what the other told.
+        ensures later { Later (pass_store self.old.last self.old.seat.me.0) (pass_store self.new.last self.new.seat.me.0) }
+        ensures later_too { (v u : View) → KnowsIt (D.trace self.old.first.value) self.old.last self.old.seat.me.0 v → KnowsIt (D.trace other.entry.first.value) other.entry.last other.entry.seat.me.0 u
+            → Later (pass_store other.entry.last other.entry.seat.me.0) (pass_store self.new.last self.new.seat.me.0) }
+        ensures duty { self.new.seat.me.0.told ≡ self.old.seat.me.0.told }
+        ensures mounted { D.mount_path self.new.first.value ≡ D.mount_path self.old.first.value }
+        ensures faults { self.new.seat.me.0.failures ≡ self.old.seat.me.0.failures + other.entry.seat.me.0.failures }
+    {
+        let PassTurns { seat, .. } = other;
+        let board = self.board;
+        fsfs_seats::join(board, &mut self.seat, seat);
+    }
+
+    /// The seat again, and what `new` asks of it.
     pub fn into_seat(self) -> SharedSeat<D>
-        ensures { result ≡ self.entry.seat }
+        ensures seat { result ≡ self.entry.seat }
+        ensures sits { (result.table_id ≡ self.entry.board.now.shared.table_id) × (result.me.1 ≡ []) }
+        ensures sitting { IsSitting result.me.0 }
+        ensures layout { result.me.0.layout ≡ self.entry.layout }
+        ensures met { is_some result.me.0.met ≡ result.me.0.told }
+        ensures short { IfSome (option_map files_now result.me.0.met) HasShortFiles }
     {
         let PassTurns { seat, .. } = self;
         seat

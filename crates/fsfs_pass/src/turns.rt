@@ -33,7 +33,7 @@ impl<'a, R: Wait, D: Disk + Drop> Turns<R> for PassTurns<'a, D> {
     ghost use Rattle.fsfs_turn.specs.Labels.{MayRelabel, Drops};
     ghost use Rattle.fsfs_turn.specs.Learning.{MayPurge, Purged, SpentPurged};
     ghost use Rattle.fsfs_seats.specs.Met.{seat_labels};
-    ghost use Rattle.fsfs_pass.specs.Passes.{pass_store, KnowsIt};
+    ghost use Rattle.fsfs_pass.specs.Passes.{Seating, sits_at, pass_store, KnowsIt};
     ghost use Rattle.fsfs_pass.specs.PassLemmas.{one_known, bench_tells};
 
     type Bench = D::Bench;
@@ -53,7 +53,9 @@ impl<'a, R: Wait, D: Disk + Drop> Turns<R> for PassTurns<'a, D> {
 
     ghost faults = { λ s. s.seat.me.0.failures };
 
-    ghost mount_path = { λ s. D.mount_path s.first.value };
+    ghost Mount = { Seating };
+
+    ghost mount_path = { λ s. sits_at (D.mount_path s.first.value) s.seat.table_id s.seat.me.0.kin };
 
     fn layout(&self) -> Layout {
         self.layout
@@ -162,7 +164,7 @@ impl<'a, R: Wait, D: Disk + Drop> Turns<R> for PassTurns<'a, D> {
             → (u : View) × (went : Went) × KnowsIt (D.trace self.new.first.value) self.new.last self.new.seat.me.0 u × Answers result went × Purged txn went v u }
         ensures spent { (v : View) (name base : ℕ) → KnowsIt (D.trace self.old.first.value) self.old.last self.old.seat.me.0 v → v.section ≡ None → IsIn name v.given → label_of label.now ≡ TxnLabel base name
             → (u : View) × (went : Went) × KnowsIt (D.trace self.new.first.value) self.new.last self.new.seat.me.0 u × Answers result went × SpentPurged name went v u }
-        ensures mounted { D.mount_path self.new.first.value ≡ D.mount_path self.old.first.value }
+        ensures mounted { sits_at (D.mount_path self.new.first.value) self.new.seat.table_id self.new.seat.me.0.kin ≡ sits_at (D.mount_path self.old.first.value) self.old.seat.table_id self.old.seat.me.0.kin }
         ensures duty { self.new.seat.me.0.told ≡ self.old.seat.me.0.told }
         ensures dropped { IfOk result (λ there. Drops self.old.seat.me.0.told (label_of label.now) there (seat_labels self.old.seat.me.0) (seat_labels self.new.seat.me.0)) }
         ensures left { OnErr result (MayRelabel self.old.seat.me.0.told (without_label (label_of label.now)) (seat_labels self.old.seat.me.0) (seat_labels self.new.seat.me.0)) }

@@ -16,12 +16,29 @@ use Rattle.fsfs_machine.specs.Kept.{IsIn}
 use Rattle.fsfs_turn.specs.Views.{View, IsDue, Answers, Called}
 use Rattle.fsfs_turn.specs.declared.adoption.Adoption.{Adoption}
 use Rattle.fsfs_turn.specs.Learning.{MayMake, BenchMade, MayPurge, Purged, SpentPurged}
+use Rattle.fsfs_shared_disk.specs.Seen.{DiskSeen, IsLater}
 use Rattle.fsfs_seats.specs.declared.seat_view.Hand.{Hand}
 use Rattle.fsfs_seats.specs.declared.seat_view.SeatView.{SeatView}
 use Rattle.fsfs_seats.specs.Seats.{view_of}
 use Rattle.fsfs_seats.specs.Met.{seat_store}
-use Rattle.fsfs_seat_calls.specs.Made.{Made, Dropped, Ended, risen, went_of}
+use Rattle.fsfs_seat_calls.specs.Made.{Made, Dropped, Ended, once, risen, went_of}
 use Rattle.fsfs_seat_calls.specs.Tells.{IsBack, CalledBy, AdoptedBy, AdoptedAs, BenchedBy, PurgedBy}
+
+-- ---- the disk behind the call
+
+-- none failed
+pub later_still : (old new : DiskSeen) → new.mount_path ≡ old.mount_path → old.faults ≤ new.faults → IsLater 0 old new
+later_still old new mounted later = record { mounted = mounted; later = later; rose = omega (arith, later) }
+
+pub later_done : (old new : DiskSeen) → new.mount_path ≡ old.mount_path → new.failed ≡ false → old.faults ≤ new.faults → IsLater (once new.failed) old new
+later_done old new mounted flag later = subst (λ f. IsLater (once f) old new) (sym flag) (later_still old new mounted later)
+
+pub later_failed : (old new : DiskSeen) → new.mount_path ≡ old.mount_path → new.failed ≡ true → old.faults ≤ new.faults → Rose old.faults new.faults → IsLater (once new.failed) old new
+later_failed old new mounted flag later rose = subst (λ f. IsLater (once f) old new) (sym flag) record { mounted = mounted; later = later; rose = rose }
+
+pub later_call : {X E : Type 0} (old new : DiskSeen) (result : Result X E) → new.mount_path ≡ old.mount_path → new.failed ≡ is_err result → HasCause old.faults new.faults result → IsLater (once new.failed) old new
+later_call old new (Ok x) mounted flag cause = later_done old new mounted flag cause.later
+later_call old new (Err e) mounted flag cause = later_failed old new mounted flag cause.later cause.failed
 
 -- ---- how the call was made
 

@@ -15,17 +15,18 @@ use Rattle.fsfs_machine.specs.Machine.{learns, stuck_place}
 use Rattle.fsfs_machine.specs.Kept.{IsIn}
 use Rattle.fsfs_turn.specs.Views.{View, Answers}
 use Rattle.fsfs_turn.specs.Learning.{MayMake, BenchMade, MayPurge, Purged, SpentPurged}
+use Rattle.fsfs_turn.proofs.Alone.{harmless_before}
 use Rattle.fsfs_turn.proofs.TurnEnds.{Comes}
 use Rattle.fsfs_turn.proofs.Labelling.{make_comes, purge_comes, spent_comes}
-use Rattle.fsfs_shared_disk.specs.Seen.{DiskSeen}
+use Rattle.fsfs_shared_disk.specs.Seen.{DiskSeen, IsLater}
 use Rattle.fsfs_seats.specs.declared.seat_view.SeatView.{SeatView}
 use Rattle.fsfs_seats.specs.declared.seat_view.Hand.TheVariants.{Out}
-use Rattle.fsfs_seats.specs.Seats.{view_of}
+use Rattle.fsfs_seats.specs.Seats.{view_of, IsSitting}
 use Rattle.fsfs_seats.specs.Rule.{Rule}
 use Rattle.fsfs_seats.specs.Tells.{Sat}
-use Rattle.fsfs_seat_calls.specs.Made.{Made, Ended, Dropped, carried, failed_of}
+use Rattle.fsfs_seat_calls.specs.Made.{Made, Ended, Dropped, carried, failed_of, once}
 use Rattle.fsfs_seat_calls.specs.Tells.{BenchedBy, MayDrop, PurgedBy, benched_back, purged_back}
-use Rattle.fsfs_seat_calls.proofs.FilesLast.{made_lasts, dropped_lasts}
+use Rattle.fsfs_seat_calls.proofs.FilesLast.{made_lasts, dropped_lasts, made_own, dropped_own}
 use Rattle.fsfs_seat_calls.proofs.Going.{IsShort, StaysSure, after_more, Turn, gives_so}
 use Rattle.fsfs_seat_calls.proofs.SectionCalls.{result_of, ended_so, made_well, done_told, failed_told, made_told}
 use Rattle.fsfs_seat_calls.proofs.ReadCalls.{seen_view, learned_is, learned_stays}
@@ -46,7 +47,7 @@ benched_turn me d t l x may made told old is young w store sees safe =
       c.2,
       after_more me.layout young (stuck_place w.lock) c.0 w v (λ u. BenchMade x c.1 v u) (λ u. StaysSure v u × BenchedBy d.failed v u)
           (λ u all k. (
-            learned_stays _ _ _ (λ n. learns n place.MakeBench c.1) v u (λ n x. refl) k,
+            learned_stays _ _ _ (λ n. learns n place.MakeBench c.1) v u (λ n x. (refl, refl, refl)) (λ n x few. harmless_before c.1 x.faults place.MakeBench few) k,
             λ y its. let e = comes y its in (
               e.1,
               ended_so d.failed e.1 e.3,
@@ -56,6 +57,7 @@ benched_turn me d t l x may made told old is young w store sees safe =
             ),
           )) c.4,
       made_lasts me.layout (length w.history) old c.0 d.failed (KeepLabel l) tt (subst (λ o. Made d.failed (KeepLabel l) (Some old) o) c.2 here),
+      made_own me.layout me.since old c.0 d.failed (KeepLabel l) tt (subst (λ o. Made d.failed (KeepLabel l) (Some old) o) c.2 here),
     )
   where
     v : View
@@ -85,8 +87,9 @@ purged_turn me d t l may dropped told old is young w store sees safe =
       c.0,
       c.2,
       after_more me.layout young (stuck_place w.lock) c.0 w v (λ u. SpentPurged may.0 c.1 v u) (λ u. StaysSure v u × PurgedBy d.failed v u)
-          (λ u all k. (learned_stays _ _ _ (λ n. learns n place.Remove c.1) v u (λ n x. refl) k, purged u c.1 (call.ended c.1 c.3) (learned_is _ _ _ (λ n. learns n place.Remove c.1) w.history v u all k))) c.4,
+          (λ u all k. (learned_stays _ _ _ (λ n. learns n place.Remove c.1) v u (λ n x. (refl, refl, refl)) (λ n x few. harmless_before c.1 x.faults place.Remove few) k, purged u c.1 (call.ended c.1 c.3) (learned_is _ _ _ (λ n. learns n place.Remove c.1) w.history v u all k))) c.4,
       dropped_lasts me.layout (length w.history) old c.0 d.failed l (subst (λ o. Dropped d.failed l (Some old) o) c.2 here),
+      dropped_own me.layout me.since old c.0 d.failed l (subst (λ o. Dropped d.failed l (Some old) o) c.2 here),
     )
   where
     v : View
@@ -122,12 +125,12 @@ dropped_told false l old new m = by_there m.0 m.1
     by_there false same = ap (λ o. is_some o) same
 dropped_told true l old new m = failed_told (DropLabel l) old new m
 
-pub gives_benched : (first : SeatView) (slots id : ℕ) (me : Sat) (d : DiskSeen) → IsShort d → (t : Option Trace) (l : Label) → 0 < slots → me.1 ≡ (0, Some d) ∷ [] → me.0.hand ≡ Out t → Made d.failed (KeepLabel l) t d.trace → (me.0.told ≡ true → (x : Drawn) × MayMake (view_of me.0) x)
-    → Allows (Rule first) slots id me 0 (λ _. 0) (λ _. benched_back (step slots 0 0 0 none) me 0)
-gives_benched first slots id me d short t l room carries has made may = gives_so (λ m u. BenchedBy (failed_of (carried m.1)) (view_of m.0) u) first slots id me d short t room carries has (made_told d.failed (KeepLabel l) t d.trace made)
-    (λ told. let x = may told in benched_turn me.0 d t l x.0 x.1 made told)
+pub gives_benched : (began : DiskSeen) (first : SeatView) (slots id : ℕ) (me : Sat) (d : DiskSeen) → IsSitting me.0 → IsShort d → (was : DiskSeen) (l : Label) → 0 < slots → me.1 ≡ (0, Some d) ∷ [] → me.0.hand ≡ Out was → IsLater (once d.failed) was d → Made d.failed (KeepLabel l) was.trace d.trace → (me.0.told ≡ true → (x : Drawn) × MayMake (view_of me.0) x)
+    → Allows (Rule began first) slots id me 0 (λ _. 0) (λ _. benched_back (step slots 0 0 0 none) me 0)
+gives_benched began first slots id me d sits short was l room carries has later made may = gives_so (λ m u. BenchedBy (failed_of (carried m.1)) (view_of m.0) u) began first slots id me d sits short was room carries has later (made_told d.failed (KeepLabel l) was.trace d.trace made)
+    (λ told. let x = may told in benched_turn me.0 d was.trace l x.0 x.1 made told)
 
-pub gives_purged : (first : SeatView) (slots id : ℕ) (me : Sat) (d : DiskSeen) → IsShort d → (t : Option Trace) (l : Label) → 0 < slots → me.1 ≡ (0, Some d) ∷ [] → me.0.hand ≡ Out t → Dropped d.failed l t d.trace → (me.0.told ≡ true → MayDrop (view_of me.0))
-    → Allows (Rule first) slots id me 0 (λ _. 0) (λ _. purged_back (step slots 0 0 0 none) me 0)
-gives_purged first slots id me d short t l room carries has dropped may = gives_so (λ m u. PurgedBy (failed_of (carried m.1)) (view_of m.0) u) first slots id me d short t room carries has (dropped_told d.failed l t d.trace dropped)
-    (λ told. purged_turn me.0 d t l (may told) dropped told)
+pub gives_purged : (began : DiskSeen) (first : SeatView) (slots id : ℕ) (me : Sat) (d : DiskSeen) → IsSitting me.0 → IsShort d → (was : DiskSeen) (l : Label) → 0 < slots → me.1 ≡ (0, Some d) ∷ [] → me.0.hand ≡ Out was → IsLater (once d.failed) was d → Dropped d.failed l was.trace d.trace → (me.0.told ≡ true → MayDrop (view_of me.0))
+    → Allows (Rule began first) slots id me 0 (λ _. 0) (λ _. purged_back (step slots 0 0 0 none) me 0)
+gives_purged began first slots id me d sits short was l room carries has later dropped may = gives_so (λ m u. PurgedBy (failed_of (carried m.1)) (view_of m.0) u) began first slots id me d sits short was room carries has later (dropped_told d.failed l was.trace d.trace dropped)
+    (λ told. purged_turn me.0 d was.trace l (may told) dropped told)

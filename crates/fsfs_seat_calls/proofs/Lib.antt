@@ -1,4 +1,5 @@
 pub mod FilesLast
+pub mod Doubting
 pub mod Going
 pub mod SectionCalls
 pub mod ReadCalls

@@ -1,5 +1,5 @@
 -- Calls of a section, as the disk goes back.
-use Rattle.std.proofs.Common.{length, ◌≡◌, ◌<◌, ℕ, List, [], ◌∷◌, true, false, ⊎_elim, inl, refl, sym, ap, subst, ◌∙◌, arith}
+use Rattle.std.proofs.Common.{length, ◌≡◌, ◌<◌, ℕ, List, [], ◌∷◌, ◌++◌, true, false, ⊎_elim, inl, refl, sym, ap, subst, ◌∙◌, arith}
 use Rattle.std.specs.Prelude.{Option, Some, None, Bool, Result, Ok, Err, OnOk, OnErr, is_some}
 use mathlib.Core.Option.{none}
 use Rattle.atomic_table.specs.Table.{step, Allows}
@@ -7,31 +7,35 @@ use Rattle.fsfs_tree.specs.Revisions.{Revision}
 use Rattle.fsfs_disk.specs.Trace.{Trace, files_now, Performs, FailsAt, FailsToPut}
 use Rattle.fsfs_disk.specs.Trace as real
 use Rattle.fsfs_places.specs.declared.place.DiskPlace.{DiskPlace}
-use Rattle.fsfs_places.specs.declared.place.DiskPlace.TheVariants.{Read, Begin, Commit}
+use Rattle.fsfs_places.specs.declared.place.DiskPlace.TheVariants.{Begin, Commit}
 use Rattle.fsfs_places.specs.declared.place.BeginPlace.TheVariants as begin
-use Rattle.fsfs_places.specs.declared.place.CommitPlace.TheVariants.{PutProps, FirmRev, PutCurrent, RenameCurrent, FirmCurrent}
+use Rattle.fsfs_places.specs.declared.place.CommitPlace.TheVariants.{PutRev, PutProps, FirmRev, PutCurrent, RenameCurrent, FirmCurrent}
 use Rattle.fsfs_machine.specs.declared.machine.Section.{Section}
-use Rattle.fsfs_machine.specs.declared.machine.Section.TheVariants.{Begun, CountRead, CountPut, CountRenamed, RevPut, PropsPut, RevFirm, CurrentPut, CurrentRenamed}
+use Rattle.fsfs_machine.specs.declared.machine.Section.TheVariants.{Begun, CountRead, CountPut, CountRenamed, RevPut, PropsPut, RevFirm, CurrentPut, CurrentRenamed, Over}
 use Rattle.fsfs_machine.specs.declared.machine.Txn.{Txn}
 use Rattle.fsfs_machine.specs.declared.machine.Went.{Went}
 use Rattle.fsfs_machine.specs.declared.machine.Went.TheVariants.{Before}
-use Rattle.fsfs_machine.specs.Machine.{is_due, stuck_place}
-use Rattle.fsfs_turn.specs.Views.{View, is_held, IsDue, Answers, Called, MayAdopt, Adopted}
+use Rattle.fsfs_machine.specs.Machine.{either, is_due, stuck_place}
+use Rattle.fsfs_turn.specs.Alone.{are_harmless, is_doubtful_at}
+use Rattle.fsfs_turn.specs.Views.{View, is_held, coming_of, IsDue, Answers, Called, MayAdopt, Adopted}
 use Rattle.fsfs_turn.specs.Adoptions.{NeedsFolder}
 use Rattle.fsfs_turn.proofs.TurnEnds.{IsAfter, Comes}
 use Rattle.fsfs_turn.proofs.Due.{put_comes, rename_comes, firm_comes, folder_fails}
 use Rattle.fsfs_turn.proofs.Adopting.{adopt_fails}
-use Rattle.fsfs_shared_disk.specs.Seen.{DiskSeen}
+use Rattle.fsfs_turn.proofs.Alone.{harmless_before}
+use Rattle.fsfs_turn.proofs.OwnFiles.{due_spares}
+use Rattle.fsfs_shared_disk.specs.Seen.{DiskSeen, IsLater}
 use Rattle.fsfs_seats.specs.declared.seat_view.SeatView.{SeatView}
 use Rattle.fsfs_seats.specs.declared.seat_view.Hand.TheVariants.{Out}
-use Rattle.fsfs_seats.specs.Seats.{view_of}
+use Rattle.fsfs_seats.specs.Seats.{view_of, IsSitting}
 use Rattle.fsfs_seats.specs.Rule.{Rule}
 use Rattle.fsfs_seats.specs.Tells.{Sat}
 use Rattle.fsfs_seats.proofs.Following.{lasts_same}
 use Rattle.fsfs_seats.proofs.Lasting.{due_passes}
-use Rattle.fsfs_seat_calls.specs.Made.{Made, Ended, carried, failed_of}
+use Rattle.fsfs_seat_calls.specs.Made.{Made, Ended, carried, failed_of, once}
 use Rattle.fsfs_seat_calls.specs.Tells.{CalledBy, Unmade, called_back, unmade_back}
-use Rattle.fsfs_seat_calls.proofs.FilesLast.{made_lasts}
+use Rattle.fsfs_seat_calls.proofs.Doubting.{place_due, called_calm, either_calm}
+use Rattle.fsfs_seat_calls.proofs.FilesLast.{made_lasts, made_own}
 use Rattle.fsfs_seat_calls.proofs.Going.{IsShort, StaysSure, after_more, Turn, gives_so}
 
 -- ---- how it ended
@@ -92,17 +96,6 @@ made_told true (real.DropLabel l) old new m = failed_told (real.DropLabel l) old
 
 -- ---- one call is due
 
-abbrev place_due : Section → DiskPlace
-place_due (CountRead x) = Begin begin.Put
-place_due (CountPut x) = Begin begin.Rename
-place_due (CountRenamed x) = Begin begin.Firm
-place_due (RevPut x) = Commit PutProps
-place_due (PropsPut x) = Commit FirmRev
-place_due (RevFirm x) = Commit PutCurrent
-place_due (CurrentPut x) = Commit RenameCurrent
-place_due (CurrentRenamed x) = Commit FirmCurrent
-place_due s = Read
-
 record AtPlace (v : View) (place : DiskPlace) : Type 0 where
   pub section : Section
   pub inside : v.section ≡ Some section
@@ -150,11 +143,32 @@ sections_due v (Commit RenameCurrent) (real.Rename from to) d = tt
 sections_due v (Commit FirmCurrent) real.FirmNames d = tt
 sections_due v place change d = absurd d
 
-called_stays : (place : DiskPlace) (went : Went) (v u : View) → Called place went v u → StaysSure v u
-called_stays place went v u c = record { same = ap (λ (x : View). x.sure) c.is; least = ap (λ (x : View). x.pass.least) c.is; held = λ _. ap (λ (x : View). is_held x.section) c.is }
+called_stays : (place : DiskPlace) (change : real.NameChange) (went : Went) (v u : View) → IsDue v place change → Called place went v u → StaysSure v u
+called_stays place change went v u due c =
+    let here = at_place v place change due in
+    let inside : c.inside ≡ here.section = one_section c.inside here.section (sym c.was ∙ here.inside) in
+    let place_is : place ≡ place_due c.inside = sym here.place_is ∙ ap (λ s. place_due s) (sym inside) in
+    record {
+      same = ap (λ (x : View). x.sure) c.is;
+      least = ap (λ (x : View). x.pass.least) c.is;
+      mine = ap (λ (x : View). x.pass.mine) c.is;
+      stuck = ap (λ (x : View). x.pass.stuck) c.is;
+      held = λ _. ap (λ (x : View). is_held x.section) c.is;
+      harm = λ few. harmless_before went v.pass.faults place (sym (ap (λ (x : View). are_harmless x.pass.faults) c.is) ∙ few);
+      calm = λ few so. ap (λ (x : View). is_doubtful_at x.section) c.is
+          ∙ called_calm went c.inside v.pass.faults (subst (λ p. are_harmless (either went v.pass.faults (v.pass.faults ++ p ∷ [])) ≡ true) place_is (sym (ap (λ (x : View). are_harmless x.pass.faults) c.is) ∙ few));
+    }
 
 pub adopted_stays : (txn : Txn) (properties : List (List ℕ × List ℕ)) (next : Revision) (bytes : List ℕ) (went : Went) (v u : View) → Adopted txn properties next bytes went v u → StaysSure v u
-adopted_stays txn properties next bytes went v u c = record { same = ap (λ (x : View). x.sure) c.is; least = ap (λ (x : View). x.pass.least) c.is; held = λ _. ap (λ (x : View). is_held x.section) c.is }
+adopted_stays txn properties next bytes went v u c = record {
+  same = ap (λ (x : View). x.sure) c.is;
+  least = ap (λ (x : View). x.pass.least) c.is;
+  mine = ap (λ (x : View). x.pass.mine) c.is;
+  stuck = ap (λ (x : View). x.pass.stuck) c.is;
+  held = λ _. ap (λ (x : View). is_held x.section) c.is;
+  harm = λ few. harmless_before went v.pass.faults (Commit PutRev) (sym (ap (λ (x : View). are_harmless x.pass.faults) c.is) ∙ few);
+  calm = λ few so. ap (λ (x : View). is_doubtful_at x.section) c.is ∙ either_calm went (RevPut (coming_of v txn properties next bytes)) Over refl refl;
+}
 
 pub called_turn : (me : SeatView) (d : DiskSeen) (t : Option Trace) (place : DiskPlace) (change : real.NameChange) → IsDue (view_of me) place change → Made d.failed change t d.trace → Turn me d t (CalledBy d.failed (view_of me))
 called_turn me d t place change due made told old is young w store sees safe =
@@ -164,8 +178,9 @@ called_turn me d t place change due made told old is young w store sees safe =
       c.0,
       c.2,
       after_more me.layout young (stuck_place w.lock) c.0 w v (λ u. Called place c.1 v u) (λ u. StaysSure v u × CalledBy d.failed v u)
-          (λ u _ call. (called_stays place c.1 v u call, λ other its its_due. (c.1, ended_so d.failed c.1 c.3, subst (λ p. Called p c.1 v u) (one_place v place other (at_place v place change due) (at_place v other its its_due)) call))) c.4,
+          (λ u _ call. (called_stays place change c.1 v u due call, λ other its its_due. (c.1, ended_so d.failed c.1 c.3, subst (λ p. Called p c.1 v u) (one_place v place other (at_place v place change due) (at_place v other its its_due)) call))) c.4,
       made_lasts me.layout (length w.history) old c.0 d.failed change (due_passes (length w.history) v place change due (λ x coming. let e : length v.seen ≡ length w.history = ap length (sees.whole x coming) in omega (arith, e))) (subst (λ o. Made d.failed change (Some old) o) c.2 here),
+      made_own me.layout me.since old c.0 d.failed change (due_spares v place change due) (subst (λ o. Made d.failed change (Some old) o) c.2 here),
     )
   where
     v : View
@@ -193,13 +208,14 @@ unmade_turn me d t due same told old is young w store sees safe = ⊎_elim
       same ∙ is,
       after_more me.layout young (stuck_place w.lock) old w v (λ u. Called x.0 Before v u) (λ u. StaysSure v u × Unmade v u)
           (λ u _ call. (
-            called_stays x.0 Before v u call,
+            called_stays x.0 (real.Put x.1 x.2) Before v u x.3 call,
             record {
               call = λ other file bytes its. subst (λ p. Called p Before v u) (one_place v x.0 other here (at_place v other (real.Put file bytes) its)) call;
               first = λ txn properties next bytes may. absurd (none_due v x.0 here may.begun);
             },
           )) (folder_fails me.layout young (stuck_place w.lock) old w v store sees refl safe x.0 x.1 x.2 x.3),
       lasts_same me.layout (length w.history) (files_now old),
+      λ own. own,
     ))
     (λ (x : (txn : Txn) × (properties : List (List ℕ × List ℕ)) × (next : Revision) × (bytes : List ℕ) × MayAdopt v txn properties next bytes).
     inl (
@@ -214,6 +230,7 @@ unmade_turn me d t due same told old is young w store sees safe = ⊎_elim
             },
           )) (unmade x.0 x.1 x.2 x.3 x.4),
       lasts_same me.layout (length w.history) (files_now old),
+      λ own. own,
     )) due
   where
     v : View
@@ -222,10 +239,10 @@ unmade_turn me d t due same told old is young w store sees safe = ⊎_elim
     unmade : (txn : Txn) (properties : List (List ℕ × List ℕ)) (next : Revision) (bytes : List ℕ) → MayAdopt v txn properties next bytes → IsAfter me.layout young (stuck_place w.lock) old w v (λ u. Adopted txn properties next bytes Before v u)
     unmade txn properties next bytes may = adopt_fails me.layout young (stuck_place w.lock) old w v store sees refl safe txn properties next bytes may
 
-pub gives_called : (first : SeatView) (slots id : ℕ) (me : Sat) (d : DiskSeen) → IsShort d → (t : Option Trace) (change : real.NameChange) → 0 < slots → me.1 ≡ (0, Some d) ∷ [] → me.0.hand ≡ Out t → Made d.failed change t d.trace → (me.0.told ≡ true → (place : DiskPlace) × IsDue (view_of me.0) place change)
-    → Allows (Rule first) slots id me 0 (λ _. 0) (λ _. called_back (step slots 0 0 0 none) me 0)
-gives_called first slots id me d short t change room carries has made due = gives_so (λ m u. CalledBy (failed_of (carried m.1)) (view_of m.0) u) first slots id me d short t room carries has (made_told d.failed change t d.trace made)
-    (λ told. let x = due told in called_turn me.0 d t x.0 change x.1 made told)
+pub gives_called : (began : DiskSeen) (first : SeatView) (slots id : ℕ) (me : Sat) (d : DiskSeen) → IsSitting me.0 → IsShort d → (was : DiskSeen) (change : real.NameChange) → 0 < slots → me.1 ≡ (0, Some d) ∷ [] → me.0.hand ≡ Out was → IsLater (once d.failed) was d → Made d.failed change was.trace d.trace → (me.0.told ≡ true → (place : DiskPlace) × IsDue (view_of me.0) place change)
+    → Allows (Rule began first) slots id me 0 (λ _. 0) (λ _. called_back (step slots 0 0 0 none) me 0)
+gives_called began first slots id me d sits short was change room carries has later made due = gives_so (λ m u. CalledBy (failed_of (carried m.1)) (view_of m.0) u) began first slots id me d sits short was room carries has later (made_told d.failed change was.trace d.trace made)
+    (λ told. let x = due told in called_turn me.0 d was.trace x.0 change x.1 made told)
 
-pub gives_unmade : (first : SeatView) (slots id : ℕ) (me : Sat) (d : DiskSeen) → IsShort d → 0 < slots → me.1 ≡ (0, Some d) ∷ [] → me.0.hand ≡ Out d.trace → (me.0.told ≡ true → NeedsFolder (view_of me.0)) → Allows (Rule first) slots id me 0 (λ _. 0) (λ _. unmade_back (step slots 0 0 0 none) me 0)
-gives_unmade first slots id me d short room carries has due = gives_so (λ m u. Unmade (view_of m.0) u) first slots id me d short d.trace room carries has refl (λ told. unmade_turn me.0 d d.trace (due told) refl told)
+pub gives_unmade : (began : DiskSeen) (first : SeatView) (slots id : ℕ) (me : Sat) (d was : DiskSeen) → IsSitting me.0 → IsShort d → 0 < slots → me.1 ≡ (0, Some d) ∷ [] → me.0.hand ≡ Out was → IsLater (once d.failed) was d → d.trace ≡ was.trace → (me.0.told ≡ true → NeedsFolder (view_of me.0)) → Allows (Rule began first) slots id me 0 (λ _. 0) (λ _. unmade_back (step slots 0 0 0 none) me 0)
+gives_unmade began first slots id me d was sits short room carries has later same due = gives_so (λ m u. Unmade (view_of m.0) u) began first slots id me d sits short was room carries has later (ap (λ o. is_some o) same) (λ told. unmade_turn me.0 d was.trace (due told) same told)

@@ -26,6 +26,10 @@ Ended failed went = is_fine_in went ≡ not failed
 abbrev pub went_of : Bool → Went
 went_of failed = if failed then Before else Fine
 
+-- how often one call failed
+abbrev pub once : Bool → ℕ
+once failed = if failed then 1 else 0
+
 -- a count of failures, after one call more
 abbrev pub risen : Bool → ℕ → ℕ
 risen failed n = if failed then n + 1 else n

@@ -1,5 +1,5 @@
 //! The calls of a section.
-ghost use Rattle.std.specs.Prelude.{◌≡◌, [], List, ℕ, true, is_err, OnOk, OnErr};
+ghost use Rattle.std.specs.Prelude.{◌≡◌, [], true, is_err, OnOk, OnErr};
 ghost use Rattle.fsfs_base.specs.Failures.{HasCause};
 ghost use Rattle.fsfs_fetch.specs.Views.{Later};
 ghost use Rattle.fsfs_disk.specs.Trace.{Put, Rename, FirmNames};
@@ -8,7 +8,7 @@ ghost use Rattle.fsfs_machine.specs.declared.machine.Went.{Went};
 ghost use Rattle.fsfs_turn.specs.Views.{IsDue, Answers, Called};
 ghost use Rattle.fsfs_turn.specs.Adoptions.{NeedsFolder};
 ghost use Rattle.fsfs_seats.specs.declared.seat_view.Hand.TheVariants.{Empty};
-ghost use Rattle.fsfs_seats.specs.Seats.{view_of};
+ghost use Rattle.fsfs_seats.specs.Seats.{view_of, IsSitting};
 ghost use Rattle.fsfs_seats.specs.Met.{seat_store};
 ghost use Rattle.fsfs_seats.specs.Tells.{TellsIt};
 ghost use Rattle.fsfs_seat_calls.specs.Tells.{IsBack, Unmade};
@@ -28,6 +28,7 @@ pub fn put<D: Disk + Drop, R: Wait>(
     bytes: &[u8],
 ) -> Result<(), Failed>
     requires table { (seat.old.table_id ≡ board.now.shared.table_id) × (board.now.shared.table_id.words ≡ 3) × (board.now.shared.table_id.slots ≡ 1) × (seat.old.me.1 ≡ []) }
+    requires sits { IsSitting seat.old.me.0 }
     requires due { seat.old.me.0.told ≡ true → (place : DiskPlace) × IsDue (view_of seat.old.me.0) place (Put name.now bytes.now) }
     ensures same { (seat.new.table_id ≡ seat.old.table_id) × (seat.new.id ≡ seat.old.id) × (seat.new.me.1 ≡ []) }
     ensures back { IsBack (is_err result) seat.old.me.0 seat.new.me.0 }
@@ -51,6 +52,7 @@ pub fn rename<D: Disk + Drop, R: Wait>(
     to: &Name,
 ) -> Result<(), Failed>
     requires table { (seat.old.table_id ≡ board.now.shared.table_id) × (board.now.shared.table_id.words ≡ 3) × (board.now.shared.table_id.slots ≡ 1) × (seat.old.me.1 ≡ []) }
+    requires sits { IsSitting seat.old.me.0 }
     requires due { seat.old.me.0.told ≡ true → (place : DiskPlace) × IsDue (view_of seat.old.me.0) place (Rename from.now to.now) }
     ensures same { (seat.new.table_id ≡ seat.old.table_id) × (seat.new.id ≡ seat.old.id) × (seat.new.me.1 ≡ []) }
     ensures back { IsBack (is_err result) seat.old.me.0 seat.new.me.0 }
@@ -72,6 +74,7 @@ pub fn firm_names<D: Disk + Drop, R: Wait>(
     seat: &mut SharedSeat<D>,
 ) -> Result<(), Failed>
     requires table { (seat.old.table_id ≡ board.now.shared.table_id) × (board.now.shared.table_id.words ≡ 3) × (board.now.shared.table_id.slots ≡ 1) × (seat.old.me.1 ≡ []) }
+    requires sits { IsSitting seat.old.me.0 }
     requires due { seat.old.me.0.told ≡ true → (place : DiskPlace) × IsDue (view_of seat.old.me.0) place FirmNames }
     ensures same { (seat.new.table_id ≡ seat.old.table_id) × (seat.new.id ≡ seat.old.id) × (seat.new.me.1 ≡ []) }
     ensures back { IsBack (is_err result) seat.old.me.0 seat.new.me.0 }
@@ -94,6 +97,7 @@ pub fn make_folder<D: Disk + Drop, R: Wait>(
     name: &Name,
 ) -> Result<(), Failed>
     requires table { (seat.old.table_id ≡ board.now.shared.table_id) × (board.now.shared.table_id.words ≡ 3) × (board.now.shared.table_id.slots ≡ 1) × (seat.old.me.1 ≡ []) }
+    requires sits { IsSitting seat.old.me.0 }
     requires due { seat.old.me.0.told ≡ true → NeedsFolder (view_of seat.old.me.0) }
     ensures same { (seat.new.table_id ≡ seat.old.table_id) × (seat.new.id ≡ seat.old.id) × (seat.new.me.1 ≡ []) }
     ensures done { OnOk result (seat.new.me.0 ≡ record seat.old.me.0 { hand = Empty }) }

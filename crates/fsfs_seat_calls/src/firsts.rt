@@ -10,7 +10,7 @@ ghost use Rattle.fsfs_disk.specs.Trace.{IsRead};
 ghost use Rattle.fsfs_machine.specs.declared.machine.Section.TheVariants.{Begun};
 ghost use Rattle.fsfs_turn.specs.Views.{rev_name};
 ghost use Rattle.fsfs_turn.specs.Learning.{ReadsCounter};
-ghost use Rattle.fsfs_seats.specs.Seats.{view_of};
+ghost use Rattle.fsfs_seats.specs.Seats.{view_of, IsSitting};
 ghost use Rattle.fsfs_seats.specs.Met.{seat_store};
 ghost use Rattle.fsfs_seats.specs.Tells.{TellsIt};
 ghost use Rattle.fsfs_seat_calls.specs.Tells.{IsBack, MayAdoptIt, no_adoption, AdoptedAs};
@@ -59,6 +59,7 @@ pub fn draw<D: Disk + Drop, R: Wait>(
     buffer: &mut [u8],
 ) -> Result<Option<usize>, Failed>
     requires table { (seat.old.table_id ≡ board.now.shared.table_id) × (board.now.shared.table_id.words ≡ 3) × (board.now.shared.table_id.slots ≡ 1) × (seat.old.me.1 ≡ []) }
+    requires sits { IsSitting seat.old.me.0 }
     requires may { seat.old.me.0.told ≡ true → (seat.old.me.0.section ≡ Some Begun) × (base ≤ seat.old.me.0.pass.least) }
     ensures same { (seat.new.table_id ≡ seat.old.table_id) × (seat.new.id ≡ seat.old.id) × (seat.new.me.1 ≡ []) }
     ensures back { IsBack (is_err result) seat.old.me.0 seat.new.me.0 }
@@ -86,6 +87,7 @@ pub fn adopt<D: Disk + Drop, R: Wait>(
     about: &Note<Option<Adoption>>,
 ) -> Result<(), Failed>
     requires table { (seat.old.table_id ≡ board.now.shared.table_id) × (board.now.shared.table_id.words ≡ 3) × (board.now.shared.table_id.slots ≡ 1) × (seat.old.me.1 ≡ []) }
+    requires sits { IsSitting seat.old.me.0 }
     requires may { seat.old.me.0.told ≡ true → MayAdoptIt (view_of seat.old.me.0) (unwrap_or about.now.value no_adoption) bytes.now × (name.now ≡ rev_name (view_of seat.old.me.0) (length seat.old.me.0.seen)) }
     ensures same { (seat.new.table_id ≡ seat.old.table_id) × (seat.new.id ≡ seat.old.id) × (seat.new.me.1 ≡ []) }
     ensures back { IsBack (is_err result) seat.old.me.0 seat.new.me.0 }
@@ -112,6 +114,7 @@ pub fn adopt_file<D: Disk + Drop, R: Wait>(
     about: &Note<Option<Adoption>>,
 ) -> Result<(), Failed>
     requires table { (seat.old.table_id ≡ board.now.shared.table_id) × (board.now.shared.table_id.words ≡ 3) × (board.now.shared.table_id.slots ≡ 1) × (seat.old.me.1 ≡ []) }
+    requires sits { IsSitting seat.old.me.0 }
     requires firm { IsFirmFile (D.Bench.contents bench.old) (D.Bench.firm_to bench.old file.now) file.now }
     requires may { seat.old.me.0.told ≡ true → MayAdoptIt (view_of seat.old.me.0) (unwrap_or about.now.value no_adoption) (bytes_on (D.Bench.contents bench.old) file.now) × (to.now ≡ rev_name (view_of seat.old.me.0) (length seat.old.me.0.seen)) }
     ensures same { (seat.new.table_id ≡ seat.old.table_id) × (seat.new.id ≡ seat.old.id) × (seat.new.me.1 ≡ []) }

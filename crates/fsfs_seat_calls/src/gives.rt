@@ -1,16 +1,17 @@
 //! The disk goes back with a call done.
-ghost use Rattle.std.specs.Prelude.{◌≡◌, ◌≤◌, [], ◌∷◌, List, ℕ, length, true, Option, Some, None, unwrap_or};
+ghost use Rattle.std.specs.Prelude.{◌≡◌, ◌≤◌, [], ◌∷◌, List, length, true, Option, Some, None, unwrap_or};
 ghost use Rattle.fsfs_disk.specs.Labels.{Label as KeptLabel};
-ghost use Rattle.fsfs_disk.specs.Trace.{Trace, NameChange, KeepLabel};
+ghost use Rattle.fsfs_disk.specs.Trace.{NameChange, KeepLabel};
 ghost use Rattle.fsfs_places.specs.declared.place.DiskPlace.{DiskPlace};
 ghost use Rattle.fsfs_machine.specs.declared.machine.Drawn.{Drawn};
 ghost use Rattle.fsfs_machine.specs.declared.machine.Section.TheVariants.{Begun};
 ghost use Rattle.fsfs_turn.specs.Views.{rev_name, IsDue};
 ghost use Rattle.fsfs_turn.specs.Adoptions.{NeedsFolder};
 ghost use Rattle.fsfs_turn.specs.Learning.{Listed, MayMake};
+ghost use Rattle.fsfs_shared_disk.specs.Seen.{DiskSeen, IsLater};
 ghost use Rattle.fsfs_seats.specs.declared.seat_view.Hand.TheVariants.{Out};
-ghost use Rattle.fsfs_seats.specs.Seats.{view_of};
-ghost use Rattle.fsfs_seat_calls.specs.Made.{Made, Dropped, went_of};
+ghost use Rattle.fsfs_seats.specs.Seats.{view_of, IsSitting};
+ghost use Rattle.fsfs_seat_calls.specs.Made.{Made, Dropped, once, went_of};
 ghost use Rattle.fsfs_seat_calls.specs.Tells.{GivenBack, CalledBy, Unmade, ReadBy, DrawnBy, MayAdoptIt, IsPutOf, AdoptedBy, no_adoption, BenchedBy, MayDrop, PurgedBy};
 
 use crate::plays::{
@@ -33,7 +34,8 @@ pub(crate) fn give_called<D: Disk + Drop>(
     disk: SharedDisk<D>,
 )
     requires table { (seat.old.table_id ≡ board.now.shared.table_id) × (board.now.shared.table_id.words ≡ 3) × (board.now.shared.table_id.slots ≡ 1) × (seat.old.me.1 ≡ (0, None) ∷ []) }
-    requires made { (t : Option Trace) × (change : NameChange) × (seat.old.me.0.hand ≡ Out t) × Made disk.failed change t disk.trace × (seat.old.me.0.told ≡ true → (place : DiskPlace) × IsDue (view_of seat.old.me.0) place change) }
+    requires sits { IsSitting seat.old.me.0 }
+    requires made { (was : DiskSeen) × (change : NameChange) × (seat.old.me.0.hand ≡ Out was) × IsLater (once disk.failed) was disk × Made disk.failed change was.trace disk.trace × (seat.old.me.0.told ≡ true → (place : DiskPlace) × IsDue (view_of seat.old.me.0) place change) }
     ensures same { (seat.new.table_id ≡ seat.old.table_id) × (seat.new.id ≡ seat.old.id) × (seat.new.me.1 ≡ []) }
     ensures given { GivenBack (λ u. CalledBy disk.failed (view_of seat.old.me.0) u) disk.failed disk.trace seat.old.me.0 seat.new.me.0 }
 {
@@ -49,7 +51,8 @@ pub(crate) fn give_unmade<D: Disk + Drop>(
     disk: SharedDisk<D>,
 )
     requires table { (seat.old.table_id ≡ board.now.shared.table_id) × (board.now.shared.table_id.words ≡ 3) × (board.now.shared.table_id.slots ≡ 1) × (seat.old.me.1 ≡ (0, None) ∷ []) }
-    requires out { seat.old.me.0.hand ≡ Out disk.trace }
+    requires sits { IsSitting seat.old.me.0 }
+    requires out { (was : DiskSeen) × (seat.old.me.0.hand ≡ Out was) × IsLater (once disk.failed) was disk × (disk.trace ≡ was.trace) }
     requires due { seat.old.me.0.told ≡ true → NeedsFolder (view_of seat.old.me.0) }
     ensures same { (seat.new.table_id ≡ seat.old.table_id) × (seat.new.id ≡ seat.old.id) × (seat.new.me.1 ≡ []) }
     ensures given { GivenBack (λ u. Unmade (view_of seat.old.me.0) u) disk.failed disk.trace seat.old.me.0 seat.new.me.0 }
@@ -66,7 +69,8 @@ pub(crate) fn give_read<D: Disk + Drop>(
     disk: SharedDisk<D>,
 )
     requires table { (seat.old.table_id ≡ board.now.shared.table_id) × (board.now.shared.table_id.words ≡ 3) × (board.now.shared.table_id.slots ≡ 1) × (seat.old.me.1 ≡ (0, None) ∷ []) }
-    requires out { seat.old.me.0.hand ≡ Out disk.trace }
+    requires sits { IsSitting seat.old.me.0 }
+    requires out { (was : DiskSeen) × (seat.old.me.0.hand ≡ Out was) × IsLater (once disk.failed) was disk × (disk.trace ≡ was.trace) }
     ensures same { (seat.new.table_id ≡ seat.old.table_id) × (seat.new.id ≡ seat.old.id) × (seat.new.me.1 ≡ []) }
     ensures given { GivenBack (λ u. ReadBy (went_of disk.failed) (view_of seat.old.me.0) u) disk.failed disk.trace seat.old.me.0 seat.new.me.0 }
 {
@@ -82,7 +86,8 @@ pub(crate) fn give_listed<D: Disk + Drop>(
     disk: SharedDisk<D>,
 )
     requires table { (seat.old.table_id ≡ board.now.shared.table_id) × (board.now.shared.table_id.words ≡ 3) × (board.now.shared.table_id.slots ≡ 1) × (seat.old.me.1 ≡ (0, None) ∷ []) }
-    requires out { seat.old.me.0.hand ≡ Out disk.trace }
+    requires sits { IsSitting seat.old.me.0 }
+    requires out { (was : DiskSeen) × (seat.old.me.0.hand ≡ Out was) × IsLater (once disk.failed) was disk × (disk.trace ≡ was.trace) }
     ensures same { (seat.new.table_id ≡ seat.old.table_id) × (seat.new.id ≡ seat.old.id) × (seat.new.me.1 ≡ []) }
     ensures given { GivenBack (λ u. (ls : List KeptLabel) → Listed ls (went_of disk.failed) (view_of seat.old.me.0) u) disk.failed disk.trace seat.old.me.0 seat.new.me.0 }
 {
@@ -100,7 +105,8 @@ pub(crate) fn give_drawn<K: Drawing, D: Disk + Drop>(
 )
     requires base { base ≡ K.base }
     requires table { (seat.old.table_id ≡ board.now.shared.table_id) × (board.now.shared.table_id.words ≡ 3) × (board.now.shared.table_id.slots ≡ 1) × (seat.old.me.1 ≡ (0, None) ∷ []) }
-    requires out { seat.old.me.0.hand ≡ Out disk.trace }
+    requires sits { IsSitting seat.old.me.0 }
+    requires out { (was : DiskSeen) × (seat.old.me.0.hand ≡ Out was) × IsLater (once disk.failed) was disk × (disk.trace ≡ was.trace) }
     requires may { seat.old.me.0.told ≡ true → (seat.old.me.0.section ≡ Some Begun) × (base ≤ seat.old.me.0.pass.least) }
     ensures same { (seat.new.table_id ≡ seat.old.table_id) × (seat.new.id ≡ seat.old.id) × (seat.new.me.1 ≡ []) }
     ensures given { GivenBack (λ u. DrawnBy base disk.trace (went_of disk.failed) (view_of seat.old.me.0) u) disk.failed disk.trace seat.old.me.0 seat.new.me.0 }
@@ -122,7 +128,8 @@ pub(crate) fn give_adopted<K: Committing, D: Disk + Drop>(
     requires about { unwrap_or about.now.value no_adoption ≡ K.adoption }
     requires bytes { bytes.now.value ≡ K.bytes }
     requires table { (seat.old.table_id ≡ board.now.shared.table_id) × (board.now.shared.table_id.words ≡ 3) × (board.now.shared.table_id.slots ≡ 1) × (seat.old.me.1 ≡ (0, None) ∷ []) }
-    requires made { (t : Option Trace) × (change : NameChange) × (seat.old.me.0.hand ≡ Out t) × Made disk.failed change t disk.trace × (seat.old.me.0.told ≡ true → MayAdoptIt (view_of seat.old.me.0) K.adoption K.bytes × (name.now ≡ rev_name (view_of seat.old.me.0) (length seat.old.me.0.seen)) × IsPutOf name.now K.bytes change) }
+    requires sits { IsSitting seat.old.me.0 }
+    requires made { (was : DiskSeen) × (change : NameChange) × (seat.old.me.0.hand ≡ Out was) × IsLater (once disk.failed) was disk × Made disk.failed change was.trace disk.trace × (seat.old.me.0.told ≡ true → MayAdoptIt (view_of seat.old.me.0) K.adoption K.bytes × (name.now ≡ rev_name (view_of seat.old.me.0) (length seat.old.me.0.seen)) × IsPutOf name.now K.bytes change) }
     ensures same { (seat.new.table_id ≡ seat.old.table_id) × (seat.new.id ≡ seat.old.id) × (seat.new.me.1 ≡ []) }
     ensures given { GivenBack (λ u. AdoptedBy (unwrap_or about.now.value no_adoption) bytes.now.value disk.failed (view_of seat.old.me.0) u) disk.failed disk.trace seat.old.me.0 seat.new.me.0 }
 {
@@ -141,7 +148,8 @@ pub(crate) fn give_benched<D: Disk + Drop>(
     disk: SharedDisk<D>,
 )
     requires table { (seat.old.table_id ≡ board.now.shared.table_id) × (board.now.shared.table_id.words ≡ 3) × (board.now.shared.table_id.slots ≡ 1) × (seat.old.me.1 ≡ (0, None) ∷ []) }
-    requires made { (t : Option Trace) × (l : KeptLabel) × (seat.old.me.0.hand ≡ Out t) × Made disk.failed (KeepLabel l) t disk.trace }
+    requires sits { IsSitting seat.old.me.0 }
+    requires made { (was : DiskSeen) × (l : KeptLabel) × (seat.old.me.0.hand ≡ Out was) × IsLater (once disk.failed) was disk × Made disk.failed (KeepLabel l) was.trace disk.trace }
     requires may { seat.old.me.0.told ≡ true → (x : Drawn) × MayMake (view_of seat.old.me.0) x }
     ensures same { (seat.new.table_id ≡ seat.old.table_id) × (seat.new.id ≡ seat.old.id) × (seat.new.me.1 ≡ []) }
     ensures given { GivenBack (λ u. BenchedBy disk.failed (view_of seat.old.me.0) u) disk.failed disk.trace seat.old.me.0 seat.new.me.0 }
@@ -158,7 +166,8 @@ pub(crate) fn give_purged<D: Disk + Drop>(
     disk: SharedDisk<D>,
 )
     requires table { (seat.old.table_id ≡ board.now.shared.table_id) × (board.now.shared.table_id.words ≡ 3) × (board.now.shared.table_id.slots ≡ 1) × (seat.old.me.1 ≡ (0, None) ∷ []) }
-    requires made { (t : Option Trace) × (l : KeptLabel) × (seat.old.me.0.hand ≡ Out t) × Dropped disk.failed l t disk.trace }
+    requires sits { IsSitting seat.old.me.0 }
+    requires made { (was : DiskSeen) × (l : KeptLabel) × (seat.old.me.0.hand ≡ Out was) × IsLater (once disk.failed) was disk × Dropped disk.failed l was.trace disk.trace }
     requires may { seat.old.me.0.told ≡ true → MayDrop (view_of seat.old.me.0) }
     ensures same { (seat.new.table_id ≡ seat.old.table_id) × (seat.new.id ≡ seat.old.id) × (seat.new.me.1 ≡ []) }
     ensures given { GivenBack (λ u. PurgedBy disk.failed (view_of seat.old.me.0) u) disk.failed disk.trace seat.old.me.0 seat.new.me.0 }

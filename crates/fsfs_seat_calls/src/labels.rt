@@ -13,7 +13,7 @@ ghost use Rattle.fsfs_turn.specs.Labels.{Relabels, MayRelabel, Drops};
 ghost use Rattle.fsfs_turn.specs.Views.{Answers};
 ghost use Rattle.fsfs_turn.specs.Learning.{Listed, MayMake, BenchMade, MayPurge, Purged, SpentPurged};
 ghost use Rattle.fsfs_seats.specs.declared.seat_view.Hand.TheVariants.{Empty};
-ghost use Rattle.fsfs_seats.specs.Seats.{view_of};
+ghost use Rattle.fsfs_seats.specs.Seats.{view_of, IsSitting};
 ghost use Rattle.fsfs_seats.specs.Met.{seat_store, seat_labels};
 ghost use Rattle.fsfs_seats.specs.Tells.{TellsIt};
 ghost use Rattle.fsfs_seat_calls.specs.Tells.{IsBack, MayDrop};
@@ -33,7 +33,8 @@ pub fn list<D: Disk + Drop, R: Wait>(
     seat: &mut SharedSeat<D>,
     alloc: Global,
 ) -> Result<Vec<Name>, ListFault>
-    requires { (seat.old.table_id ≡ board.now.shared.table_id) × (board.now.shared.table_id.words ≡ 3) × (board.now.shared.table_id.slots ≡ 1) × (seat.old.me.1 ≡ []) }
+    requires table { (seat.old.table_id ≡ board.now.shared.table_id) × (board.now.shared.table_id.words ≡ 3) × (board.now.shared.table_id.slots ≡ 1) × (seat.old.me.1 ≡ []) }
+    requires sits { IsSitting seat.old.me.0 }
     ensures same { (seat.new.table_id ≡ seat.old.table_id) × (seat.new.id ≡ seat.old.id) × (seat.new.me.1 ≡ []) }
     ensures ok { OnOk result (IsBack false seat.old.me.0 seat.new.me.0 × TellsIt seat.new.me.0 × Later (seat_store seat.old.me.0) (seat_store seat.new.me.0)) }
     ensures failed { IsErrOf result ListFault.Failed → IsBack true seat.old.me.0 seat.new.me.0 × TellsIt seat.new.me.0 × Later (seat_store seat.old.me.0) (seat_store seat.new.me.0) }
@@ -68,6 +69,7 @@ pub fn bench<D: Disk + Drop, R: Wait>(
     label: &Label,
 ) -> Result<D::Bench, Failed>
     requires table { (seat.old.table_id ≡ board.now.shared.table_id) × (board.now.shared.table_id.words ≡ 3) × (board.now.shared.table_id.slots ≡ 1) × (seat.old.me.1 ≡ []) }
+    requires sits { IsSitting seat.old.me.0 }
     requires may { seat.old.me.0.told ≡ true → (x : Drawn) × MayMake (view_of seat.old.me.0) x }
     ensures same { (seat.new.table_id ≡ seat.old.table_id) × (seat.new.id ≡ seat.old.id) × (seat.new.me.1 ≡ []) }
     ensures back { IsBack (is_err result) seat.old.me.0 seat.new.me.0 }
@@ -95,6 +97,7 @@ pub fn drop_bench<D: Disk + Drop, R: Wait>(
     bench: Option<D::Bench>,
 ) -> Result<bool, Failed>
     requires table { (seat.old.table_id ≡ board.now.shared.table_id) × (board.now.shared.table_id.words ≡ 3) × (board.now.shared.table_id.slots ≡ 1) × (seat.old.me.1 ≡ []) }
+    requires sits { IsSitting seat.old.me.0 }
     requires may { seat.old.me.0.told ≡ true → MayDrop (view_of seat.old.me.0) }
     ensures same { (seat.new.table_id ≡ seat.old.table_id) × (seat.new.id ≡ seat.old.id) × (seat.new.me.1 ≡ []) }
     ensures back { IsBack (is_err result) seat.old.me.0 seat.new.me.0 }

@@ -13,7 +13,7 @@ ghost use Rattle.fsfs_machine.specs.declared.machine.Went.{Went};
 ghost use Rattle.fsfs_turn.specs.Views.{rev_name, props_name, Answers, ReadTurn};
 ghost use Rattle.fsfs_turn.specs.Courses.{ReadOnly};
 ghost use Rattle.fsfs_turn.specs.Learning.{PropsRead, FloorRead};
-ghost use Rattle.fsfs_seats.specs.Seats.{view_of};
+ghost use Rattle.fsfs_seats.specs.Seats.{view_of, IsSitting};
 ghost use Rattle.fsfs_seats.specs.Met.{seat_store};
 ghost use Rattle.fsfs_seats.specs.Tells.{TellsIt};
 ghost use Rattle.fsfs_seat_calls.specs.Tells.{IsBack};
@@ -34,7 +34,8 @@ pub fn read<D: Disk + Drop, R: Wait>(
     offset: u64,
     buffer: &mut [u8],
 ) -> Result<Option<usize>, Failed>
-    requires { (seat.old.table_id ≡ board.now.shared.table_id) × (board.now.shared.table_id.words ≡ 3) × (board.now.shared.table_id.slots ≡ 1) × (seat.old.me.1 ≡ []) }
+    requires table { (seat.old.table_id ≡ board.now.shared.table_id) × (board.now.shared.table_id.words ≡ 3) × (board.now.shared.table_id.slots ≡ 1) × (seat.old.me.1 ≡ []) }
+    requires sits { IsSitting seat.old.me.0 }
     ensures same { (seat.new.table_id ≡ seat.old.table_id) × (seat.new.id ≡ seat.old.id) × (seat.new.me.1 ≡ []) }
     ensures back { IsBack (is_err result) seat.old.me.0 seat.new.me.0 }
     ensures tells { TellsIt seat.new.me.0 }
@@ -63,7 +64,8 @@ pub fn size<D: Disk + Drop, R: Wait>(
     seat: &mut SharedSeat<D>,
     name: &Name,
 ) -> Result<Option<u64>, Failed>
-    requires { (seat.old.table_id ≡ board.now.shared.table_id) × (board.now.shared.table_id.words ≡ 3) × (board.now.shared.table_id.slots ≡ 1) × (seat.old.me.1 ≡ []) }
+    requires table { (seat.old.table_id ≡ board.now.shared.table_id) × (board.now.shared.table_id.words ≡ 3) × (board.now.shared.table_id.slots ≡ 1) × (seat.old.me.1 ≡ []) }
+    requires sits { IsSitting seat.old.me.0 }
     ensures same { (seat.new.table_id ≡ seat.old.table_id) × (seat.new.id ≡ seat.old.id) × (seat.new.me.1 ≡ []) }
     ensures back { IsBack (is_err result) seat.old.me.0 seat.new.me.0 }
     ensures tells { TellsIt seat.new.me.0 }

@@ -1,5 +1,5 @@
 -- What a seat tells one who reads: what it has seen stands in the files that it met last, and files that it meets later follow these.
-use Rattle.std.proofs.Common.{◌≡◌, ◌<◌, ◌≤◌, ◌+◌, ◌-◌, ◌^◌, ℕ, suc, zero, List, [], ◌∷◌, ◌++◌, length, true, false, cond, inl, refl, sym, ap, subst, ◌∙◌, arith, append_assoc, length-append}
+use Rattle.std.proofs.Common.{◌≡◌, ◌<◌, ◌≤◌, ◌+◌, ◌-◌, ◌^◌, ℕ, suc, zero, List, [], ◌∷◌, ◌++◌, length, Bool, true, false, cond, inl, refl, sym, ap, subst, ◌∙◌, arith, append_assoc, length-append}
 use Rattle.std.specs.Prelude.{Option, Some, None, Result, if◌then◌else◌, nat_lt, unwrap_or, slice_get, option_map}
 use Rattle.std.proofs.lemmas.Option.{slice_get_within}
 use Rattle.fsfs_base.specs.Files.{Files}
@@ -50,7 +50,7 @@ met_now layout young stuck t w v s seen least = record {
 begins_then : (h g k : List Recorded) → Begins h g → Begins k h → Begins k g
 begins_then h g k a b = (a.0 ++ b.0, b.1 ∙ ap (λ l. l ++ b.0) a.1 ∙ append_assoc g a.0 b.0)
 
-grown_long : (h g : List Recorded) → Begins h g → length g ≤ length h
+pub grown_long : (h g : List Recorded) → Begins h g → length g ≤ length h
 grown_long h g b = let e : length h ≡ length g + length b.0 = ap length b.1 ∙ length-append g b.0 in omega (arith, e)
 
 -- what it met is behind the state after a step, too
@@ -135,6 +135,10 @@ tells_seen w now t v m told is sees = record {
 
     known : (r : ℕ) (x : Recorded) → slice_get v.seen r ≡ Some x → r ≤ known_last v
     known r x at = subst (λ b. r ≤ (if b then v.pass.least + (length v.seen - 1 - v.pass.least) else 0)) (sym told) (omega (arith, slice_get_within v.seen r x at))
+
+-- who has seen no less, and was told of no less, knows of no less
+pub last_grows : (v u : SeatView) → v.told ≡ true → u.told ≡ true → v.pass.least ≤ u.pass.least → length v.seen ≤ length u.seen → known_last v ≤ known_last u
+last_grows v u a b least seen = subst (λ (y : Bool × Bool). (if y.0 then v.pass.least + (length v.seen - 1 - v.pass.least) else 0) ≤ (if y.1 then u.pass.least + (length u.seen - 1 - u.pass.least) else 0)) (λ i. (sym a i, sym b i)) (omega (arith, least, seen))
 
 -- what a seat that has met this now tells is later than what it told
 pub later_now : (w : World) (now t : Trace) (v u : SeatView) → Met v.layout w now v t → v.told ≡ true → v.met ≡ Some t → u.met ≡ Some now → u.layout ≡ v.layout → known_last v ≤ known_last u → Later (seat_store v) (seat_store u)

@@ -1,5 +1,5 @@
 //! A disk that may be written, with whether its last call failed.
-ghost use Rattle.std.specs.Prelude.{◌≡◌, ◌⊎◌, ◌≢◌, ◌≤◌, ℕ, List, codes, length, false, is_err, option_map, IfOk, IfSome, OnOk, OnErr, IsErrOf, IsSome, IsTrue};
+ghost use Rattle.std.specs.Prelude.{◌≡◌, ◌≢◌, ◌≤◌, ℕ, List, codes, length, false, is_err, option_map, IfOk, IfSome, OnOk, OnErr, IsErrOf, IsSome, IsTrue};
 ghost use Rattle.std.specs.FinMap.{empty};
 ghost use Rattle.fsfs_base.specs.Failures.{HasCause, Rose};
 ghost use Rattle.fsfs_disk.specs.Labels.{label_of, has_label, IsListing};
@@ -28,7 +28,7 @@ impl<D: Disk> Model for SharedDisk<D> {
 
     ghost coded = { coded_seen };
 
-    ghost view = { λ s. record { trace = D.trace s.disk; faults = D.faults s.disk; failed = s.failed } };
+    ghost view = { λ s. record { mount_path = D.mount_path s.disk; trace = D.trace s.disk; faults = D.faults s.disk; failed = s.failed } };
 
     ghost invariant = { λ s. IsTrue (D.may_write s.disk) };
 }
@@ -37,7 +37,7 @@ impl<D: Disk> SharedDisk<D> {
     /// This disk, of which no call failed.
     pub fn new(disk: D) -> SharedDisk<D>
         requires { IsTrue (D.may_write disk) }
-        ensures { result ≡ record { trace = D.trace disk; faults = D.faults disk; failed = false } }
+        ensures { result ≡ record { mount_path = D.mount_path disk; trace = D.trace disk; faults = D.faults disk; failed = false } }
     {
         SharedDisk {
             disk,
@@ -47,7 +47,7 @@ impl<D: Disk> SharedDisk<D> {
 
     /// The disk again.
     pub fn into_disk(self) -> D
-        ensures told { (D.trace result ≡ self.trace) × (D.faults result ≡ self.faults) }
+        ensures told { (D.mount_path result ≡ self.mount_path) × (D.trace result ≡ self.trace) × (D.faults result ≡ self.faults) }
         ensures right { IsTrue (D.may_write result) }
     {
         let SharedDisk { disk, failed: _ } = self;
@@ -78,6 +78,7 @@ impl<D: Disk> SharedDisk<D> {
         ensures bound { IfOk result (λ found. IfSome found (λ n. n ≤ length buffer.new)) }
         ensures bytes { IfSome self.old.trace (λ t. IfOk result (IsRead (file_at t name.now) offset buffer.old buffer.new)) }
         ensures same { self.new.trace ≡ self.old.trace }
+        ensures mounted { self.new.mount_path ≡ self.old.mount_path }
         ensures flag { self.new.failed ≡ is_err result }
         ensures cause { HasCause self.old.faults self.new.faults result }
     {
@@ -90,6 +91,7 @@ impl<D: Disk> SharedDisk<D> {
     pub fn size(&mut self, name: &Name) -> Result<Option<u64>, Failed>
         ensures length { IfSome self.old.trace (λ t. IfOk result (IsSize (file_at t name.now))) }
         ensures same { self.new.trace ≡ self.old.trace }
+        ensures mounted { self.new.mount_path ≡ self.old.mount_path }
         ensures flag { self.new.failed ≡ is_err result }
         ensures cause { HasCause self.old.faults self.new.faults result }
     {
@@ -102,6 +104,7 @@ impl<D: Disk> SharedDisk<D> {
     pub fn put(&mut self, name: &Name, bytes: &[u8]) -> Result<(), Failed>
         ensures ok { OnOk result (Performs (Put name.now bytes.now) self.old.trace self.new.trace) }
         ensures err { OnErr result (FailsToPut name.now bytes.now self.old.trace self.new.trace) }
+        ensures mounted { self.new.mount_path ≡ self.old.mount_path }
         ensures flag { self.new.failed ≡ is_err result }
         ensures cause { HasCause self.old.faults self.new.faults result }
     {
@@ -115,6 +118,7 @@ impl<D: Disk> SharedDisk<D> {
         requires { IfSome self.old.trace (λ t. IsSome (file_at t from.now)) }
         ensures ok { OnOk result (Performs (Rename from.now to.now) self.old.trace self.new.trace) }
         ensures err { OnErr result (FailsAt (Rename from.now to.now) self.old.trace self.new.trace) }
+        ensures mounted { self.new.mount_path ≡ self.old.mount_path }
         ensures flag { self.new.failed ≡ is_err result }
         ensures cause { HasCause self.old.faults self.new.faults result }
     {
@@ -127,6 +131,7 @@ impl<D: Disk> SharedDisk<D> {
     pub fn firm_names(&mut self) -> Result<(), Failed>
         ensures ok { OnOk result (Performs FirmNames self.old.trace self.new.trace) }
         ensures err { OnErr result (FailsAt FirmNames self.old.trace self.new.trace) }
+        ensures mounted { self.new.mount_path ≡ self.old.mount_path }
         ensures flag { self.new.failed ≡ is_err result }
         ensures cause { HasCause self.old.faults self.new.faults result }
     {
@@ -138,6 +143,7 @@ impl<D: Disk> SharedDisk<D> {
     /// Makes a folder and those above it.
     pub fn make_folder(&mut self, name: &Name) -> Result<(), Failed>
         ensures same { self.new.trace ≡ self.old.trace }
+        ensures mounted { self.new.mount_path ≡ self.old.mount_path }
         ensures flag { self.new.failed ≡ is_err result }
         ensures cause { HasCause self.old.faults self.new.faults result }
     {
@@ -151,6 +157,7 @@ impl<D: Disk> SharedDisk<D> {
         requires { folder.now ≡ codes "db/transactions" }
         ensures names { IfSome self.old.trace (λ t. IfOk result (λ found. IsListing (labels_now t) found.items)) }
         ensures same { self.new.trace ≡ self.old.trace }
+        ensures mounted { self.new.mount_path ≡ self.old.mount_path }
         ensures flag { self.new.failed ≡ is_err result }
         ensures later { self.old.faults ≤ self.new.faults }
         ensures kept { OnOk result (self.new.faults ≡ self.old.faults) }
@@ -168,6 +175,7 @@ impl<D: Disk> SharedDisk<D> {
         ensures err { OnErr result (FailsAt (KeepLabel (label_of label.now)) self.old.trace self.new.trace) }
         ensures empty { IfOk result (λ bench. D.Bench.contents bench ≡ option_map (λ _. empty) self.old.trace) }
         ensures new { IfOk result (λ bench. D.Bench.faults bench ≡ 0) }
+        ensures mounted { self.new.mount_path ≡ self.old.mount_path }
         ensures flag { self.new.failed ≡ is_err result }
         ensures cause { HasCause self.old.faults self.new.faults result }
     {
@@ -181,6 +189,7 @@ impl<D: Disk> SharedDisk<D> {
         ensures there { IfSome self.old.trace (λ t. IfOk result (λ there. there ≡ has_label (label_of label.now) (labels_now t))) }
         ensures ok { IfOk result (λ there. PerformsIfThere there (DropLabel (label_of label.now)) self.old.trace self.new.trace) }
         ensures err { OnErr result (FailsAt (DropLabel (label_of label.now)) self.old.trace self.new.trace) }
+        ensures mounted { self.new.mount_path ≡ self.old.mount_path }
         ensures flag { self.new.failed ≡ is_err result }
         ensures cause { HasCause self.old.faults self.new.faults result }
     {
@@ -197,6 +206,7 @@ impl<D: Disk> SharedDisk<D> {
         ensures gone { OnOk result (D.Bench.contents bench.new ≡ option_map (removed file.now) (D.Bench.contents bench.old)) }
         ensures others { (q : List ℕ) → q ≢ file.now → D.Bench.firm_to bench.new q ≡ D.Bench.firm_to bench.old q }
         ensures bench_same { D.Bench.faults bench.new ≡ D.Bench.faults bench.old }
+        ensures mounted { self.new.mount_path ≡ self.old.mount_path }
         ensures flag { self.new.failed ≡ is_err result }
         ensures cause { HasCause self.old.faults self.new.faults result }
     {

@@ -15,7 +15,7 @@ pub store-requires : goal.store-requires
 store-requires g c = let now = c.exchange.ensures.3 in let me = ap (λ m. m.0) now in let hand = ap (λ m. m.0.hand) now in (
   search rules,
   search rules,
-  gives_listed _ _ _ _ c.args.disk c.files_are_short.ensures (let one = c.requires.table.2 in omega (arith, one)) (ap (λ m. m.1) now ∙ ap (λ cs. (0, Some c.args.disk) ∷ rest cs) c.requires.table.3) (hand ∙ c.requires.out),
+  gives_listed _ _ _ _ _ c.args.disk c.requires.out.0 (ap (λ m. m.0.kin.stage) now ∙ c.requires.sits) c.files_are_short.ensures (let one = c.requires.table.2 in omega (arith, one)) (ap (λ m. m.1) now ∙ ap (λ cs. (0, Some c.args.disk) ∷ rest cs) c.requires.table.3) (hand ∙ c.requires.out.1) c.requires.out.2 c.requires.out.3,
 )
 
 pub returns-clause-same : goal.returns-clause-same

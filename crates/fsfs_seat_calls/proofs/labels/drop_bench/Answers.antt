@@ -7,35 +7,36 @@ use Rattle.fsfs_seat_calls.specs.Made.{risen}
 use Rattle.fsfs_disk.specs.Labels.{label_of, without_label}
 use Rattle.fsfs_turn.proofs.Knowing.{dropped_label, undropped_label}
 use Rattle.fsfs_seat_calls.specs.Tells.{MayDrop, PurgedBy}
-use Rattle.fsfs_seat_calls.proofs.Answering.{later_so, made_drop, back_so, before_so, may_so, was_so, purged_so, spent_so, cause_so}
+use Rattle.fsfs_seat_calls.proofs.Answering.{later_call, later_so, made_drop, back_so, before_so, may_so, was_so, purged_so, spent_so, cause_so}
 use Rattle.fsfs_seat_calls.proofs.MetLabels.{drops_on, may_relabel_on}
 use Rattle.fsfs_seat_calls.proofs.labels.drop_bench.Goals as goal
 
 pub give_purged-requires-clause-made : goal.give_purged-requires-clause-made
 give_purged-requires-clause-made g c = (
-  c.take-disk.result.trace,
+  c.take-disk.result,
   (label_of c.args.label.now),
   ap (λ m. m.0.hand) c.take-disk.ensures.out,
+  later_call c.take-disk.result c.drop_bench-answer.new.self c.drop_bench-answer.result c.drop_bench-answer.ensures.mounted c.drop_bench-answer.ensures.flag c.drop_bench-answer.ensures.cause,
   made_drop c.drop_bench-answer.new.self.failed (label_of c.args.label.now) c.take-disk.result.trace c.drop_bench-answer.new.self.trace c.drop_bench-answer.result c.drop_bench-answer.ensures.flag c.drop_bench-answer.ensures.ok c.drop_bench-answer.ensures.err,
 )
 
 pub give_purged-requires-clause-may : goal.give_purged-requires-clause-may
-give_purged-requires-clause-may g c = may_so MayDrop c.args.seat.now.me.0 c.take-disk.new.seat.me.0 (Out c.take-disk.result.trace) (ap (λ m. m.0) c.take-disk.ensures.out) c.requires.may
+give_purged-requires-clause-may g c = may_so MayDrop c.args.seat.now.me.0 c.take-disk.new.seat.me.0 (Out c.take-disk.result) (ap (λ m. m.0) c.take-disk.ensures.out) c.requires.may
 
 pub returns-clause-back : goal.returns-clause-back
-returns-clause-back g c = back_so c.drop_bench-answer.new.self.failed (is_err c.drop_bench-answer.result) c.args.seat.now.me.0 c.take-disk.new.seat.me.0 c.give_purged.new.seat.me.0 (Out c.take-disk.result.trace) (ap (λ m. m.0) c.take-disk.ensures.out) c.drop_bench-answer.ensures.flag c.give_purged.ensures.given.back
+returns-clause-back g c = back_so c.drop_bench-answer.new.self.failed (is_err c.drop_bench-answer.result) c.args.seat.now.me.0 c.take-disk.new.seat.me.0 c.give_purged.new.seat.me.0 (Out c.take-disk.result) (ap (λ m. m.0) c.take-disk.ensures.out) c.drop_bench-answer.ensures.flag c.give_purged.ensures.given.back
 
 pub returns-clause-purged : goal.returns-clause-purged
-returns-clause-purged g c told txn may = purged_so c.drop_bench-answer.new.self.failed (view_of c.args.seat.now.me.0) (view_of c.give_purged.new.seat.me.0) txn c.drop_bench-answer.result c.drop_bench-answer.ensures.flag (before_so (λ v. PurgedBy c.drop_bench-answer.new.self.failed v (view_of c.give_purged.new.seat.me.0)) c.args.seat.now.me.0 c.take-disk.new.seat.me.0 (Out c.take-disk.result.trace) (ap (λ m. m.0) c.take-disk.ensures.out) c.give_purged.ensures.given.step told) may
+returns-clause-purged g c told txn may = purged_so c.drop_bench-answer.new.self.failed (view_of c.args.seat.now.me.0) (view_of c.give_purged.new.seat.me.0) txn c.drop_bench-answer.result c.drop_bench-answer.ensures.flag (before_so (λ v. PurgedBy c.drop_bench-answer.new.self.failed v (view_of c.give_purged.new.seat.me.0)) c.args.seat.now.me.0 c.take-disk.new.seat.me.0 (Out c.take-disk.result) (ap (λ m. m.0) c.take-disk.ensures.out) c.give_purged.ensures.given.step told) may
 
 pub returns-clause-spent : goal.returns-clause-spent
-returns-clause-spent g c told name outside given = spent_so c.drop_bench-answer.new.self.failed (view_of c.args.seat.now.me.0) (view_of c.give_purged.new.seat.me.0) name c.drop_bench-answer.result c.drop_bench-answer.ensures.flag (before_so (λ v. PurgedBy c.drop_bench-answer.new.self.failed v (view_of c.give_purged.new.seat.me.0)) c.args.seat.now.me.0 c.take-disk.new.seat.me.0 (Out c.take-disk.result.trace) (ap (λ m. m.0) c.take-disk.ensures.out) c.give_purged.ensures.given.step told) outside given
+returns-clause-spent g c told name outside given = spent_so c.drop_bench-answer.new.self.failed (view_of c.args.seat.now.me.0) (view_of c.give_purged.new.seat.me.0) name c.drop_bench-answer.result c.drop_bench-answer.ensures.flag (before_so (λ v. PurgedBy c.drop_bench-answer.new.self.failed v (view_of c.give_purged.new.seat.me.0)) c.args.seat.now.me.0 c.take-disk.new.seat.me.0 (Out c.take-disk.result) (ap (λ m. m.0) c.take-disk.ensures.out) c.give_purged.ensures.given.step told) outside given
 
 pub returns-clause-dropped : goal.returns-clause-dropped
-returns-clause-dropped g c = drops_on c.args.seat.now.me.0 c.give_purged.new.seat.me.0 c.take-disk.result.trace c.drop_bench-answer.new.self.trace c.take-disk.ensures.told (was_so c.args.seat.now.me.0 c.take-disk.new.seat.me.0 (Out c.take-disk.result.trace) (ap (λ m. m.0) c.take-disk.ensures.out) c.give_purged.ensures.given.was) c.give_purged.ensures.given.left (label_of c.args.label.now) c.drop_bench-answer.result (dropped_label (label_of c.args.label.now) c.take-disk.result.trace c.drop_bench-answer.new.self.trace c.drop_bench-answer.result c.drop_bench-answer.ensures.there c.drop_bench-answer.ensures.ok)
+returns-clause-dropped g c = drops_on c.args.seat.now.me.0 c.give_purged.new.seat.me.0 c.take-disk.result.trace c.drop_bench-answer.new.self.trace c.take-disk.ensures.told (was_so c.args.seat.now.me.0 c.take-disk.new.seat.me.0 (Out c.take-disk.result) (ap (λ m. m.0) c.take-disk.ensures.out) c.give_purged.ensures.given.was) c.give_purged.ensures.given.left (label_of c.args.label.now) c.drop_bench-answer.result (dropped_label (label_of c.args.label.now) c.take-disk.result.trace c.drop_bench-answer.new.self.trace c.drop_bench-answer.result c.drop_bench-answer.ensures.there c.drop_bench-answer.ensures.ok)
 
 pub returns-clause-left : goal.returns-clause-left
-returns-clause-left g c = may_relabel_on c.args.seat.now.me.0 c.give_purged.new.seat.me.0 c.take-disk.result.trace c.drop_bench-answer.new.self.trace c.take-disk.ensures.told (was_so c.args.seat.now.me.0 c.take-disk.new.seat.me.0 (Out c.take-disk.result.trace) (ap (λ m. m.0) c.take-disk.ensures.out) c.give_purged.ensures.given.was) c.give_purged.ensures.given.left (without_label (label_of c.args.label.now)) c.drop_bench-answer.result (undropped_label (label_of c.args.label.now) c.take-disk.result.trace c.drop_bench-answer.new.self.trace c.drop_bench-answer.result c.drop_bench-answer.ensures.err)
+returns-clause-left g c = may_relabel_on c.args.seat.now.me.0 c.give_purged.new.seat.me.0 c.take-disk.result.trace c.drop_bench-answer.new.self.trace c.take-disk.ensures.told (was_so c.args.seat.now.me.0 c.take-disk.new.seat.me.0 (Out c.take-disk.result) (ap (λ m. m.0) c.take-disk.ensures.out) c.give_purged.ensures.given.was) c.give_purged.ensures.given.left (without_label (label_of c.args.label.now)) c.drop_bench-answer.result (undropped_label (label_of c.args.label.now) c.take-disk.result.trace c.drop_bench-answer.new.self.trace c.drop_bench-answer.result c.drop_bench-answer.ensures.err)
 
 pub returns-clause-cause : goal.returns-clause-cause
 returns-clause-cause g c = cause_so c.drop_bench-answer.new.self.failed c.args.seat.now.me.0.failures c.give_purged.new.seat.me.0.failures c.drop_bench-answer.result c.drop_bench-answer.ensures.flag
@@ -45,4 +46,4 @@ pub returns-clause-tells : goal.returns-clause-tells
 returns-clause-tells g c = c.give_purged.ensures.given.tells
 
 pub returns-clause-later : goal.returns-clause-later
-returns-clause-later g c = later_so c.args.seat.now.me.0 c.take-disk.new.seat.me.0 c.give_purged.new.seat.me.0 (Out c.take-disk.result.trace) (ap (λ m. m.0) c.take-disk.ensures.out) c.give_purged.ensures.given.later
+returns-clause-later g c = later_so c.args.seat.now.me.0 c.take-disk.new.seat.me.0 c.give_purged.new.seat.me.0 (Out c.take-disk.result) (ap (λ m. m.0) c.take-disk.ensures.out) c.give_purged.ensures.given.later

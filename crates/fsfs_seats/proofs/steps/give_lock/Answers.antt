@@ -3,4 +3,4 @@ use Rattle.fsfs_seats.proofs.Rules.{gives_lock}
 use Rattle.fsfs_seats.proofs.steps.give_lock.Goals as goal
 
 pub store-requires : goal.store-requires
-store-requires g c = (search rules, search rules, gives_lock _ _ _ _ c.requires.may)
+store-requires g c = (search rules, search rules, gives_lock _ _ _ _ _ c.requires.sits c.requires.may)

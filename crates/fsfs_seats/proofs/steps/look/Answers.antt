@@ -3,4 +3,4 @@ use Rattle.fsfs_seats.proofs.Rules.{looks}
 use Rattle.fsfs_seats.proofs.steps.look.Goals as goal
 
 pub load-found-requires : goal.load-found-requires
-load-found-requires g c = (search rules, search rules, looks _ _ _ _)
+load-found-requires g c = (search rules, search rules, looks _ _ _ _ _ c.requires.sits)

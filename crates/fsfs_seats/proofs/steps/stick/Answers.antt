@@ -3,4 +3,4 @@ use Rattle.fsfs_seats.proofs.Rules.{sticks}
 use Rattle.fsfs_seats.proofs.steps.stick.Goals as goal
 
 pub store-requires : goal.store-requires
-store-requires g c = (search rules, search rules, sticks _ _ _ _ c.args.place _ (search rules) c.requires.may)
+store-requires g c = (search rules, search rules, sticks _ _ _ _ _ c.args.place _ c.requires.sits (search rules) c.requires.may)

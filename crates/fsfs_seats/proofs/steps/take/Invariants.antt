@@ -1,5 +1,4 @@
-use Rattle.std.proofs.Common.{◌≡◌}
 use Rattle.fsfs_seats.proofs.steps.take.Given as goal
 
-abbrev pub invariant-loop : goal.invariant-loop
-invariant-loop g l = (l.seat.table_id ≡ l.initial.seat.table_id) × (l.seat.id ≡ l.initial.seat.id) × (l.seat.me ≡ l.initial.seat.me)
+abbrev pub ghosts-take_of : goal.ghosts-take_of
+ghosts-take_of g a = record { disk = a.board.now.shared.key.value.disk }

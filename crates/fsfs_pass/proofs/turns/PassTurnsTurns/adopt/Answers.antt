@@ -1,10 +1,10 @@
-use Rattle.std.proofs.Common.{ap, subst, ◌∙◌}
+use Rattle.std.proofs.Common.{ap, subst, ◌∙◌, ◌≡◌}
 use Rattle.std.specs.Prelude.{unwrap_or}
 use Rattle.fsfs_turn.specs.Views.{Answers, Adopted}
 use Rattle.fsfs_seats.specs.declared.seat_view.SeatView.{SeatView}
 use Rattle.fsfs_seats.specs.Seats.{view_of}
 use Rattle.fsfs_seat_calls.specs.Tells.{AdoptedAs, no_adoption}
-use Rattle.fsfs_pass.proofs.Turning.{Keeps, back_keeps, low_on, knows_went}
+use Rattle.fsfs_pass.proofs.Turning.{Keeps, back_keeps, low_on, knows_went, sits_so, stays, seated}
 use Rattle.fsfs_pass.proofs.turns.PassTurnsTurns.adopt.Goals as goal
 
 pub invariant_of-self : goal.invariant_of-self
@@ -13,6 +13,7 @@ invariant_of-self g c =
     record {
       sits = (c.adopt.ensures.same.0 ∙ c.args.self.now.sits.0, c.args.self.now.sits.1, c.args.self.now.sits.2, c.adopt.ensures.same.2);
       layout_is = k.layout ∙ c.args.self.now.layout_is;
+      sitting = stays c.args.self.now.seat.me.0 c.adopt.new.seat.me.0 k.kin c.args.self.now.sitting;
       met_told = k.met;
       last_low = low_on c.args.self.now.last c.args.self.now.seat.me.0 c.adopt.new.seat.me.0 k c.args.self.now.last_low;
       short = k.short;
@@ -22,3 +23,11 @@ pub returns-clause-turned : goal.returns-clause-turned
 returns-clause-turned g c = λ v txn properties next known may named about.
     knows_went (g.D.Disk.trace c.args.self.now.first.value) c.args.self.now.last c.args.self.now.last c.args.self.now.seat.me.0 c.adopt.new.seat.me.0 (λ went. Answers c.adopt.result went) (λ went a b. Adopted txn properties next c.args.bytes.now went a b) v known (ap {A = SeatView} (λ z. z.told) c.adopt.ensures.back) c.adopt.ensures.tells
     (subst (λ o. AdoptedAs (unwrap_or o no_adoption) c.args.bytes.now c.adopt.result (view_of c.args.self.now.seat.me.0) (view_of c.adopt.new.seat.me.0)) (about known.told) (c.adopt.ensures.adopted known.told))
+
+pub adopt-requires-clause-sits : goal.adopt-requires-clause-sits
+adopt-requires-clause-sits g c = sits_so c.args.self.now.seat.me.0 c.args.self.now.sitting
+
+pub returns-clause-mounted : goal.returns-clause-mounted
+returns-clause-mounted g c =
+    let kin : c.adopt.new.seat.me.0.kin ≡ c.args.self.now.seat.me.0.kin = ap {A = SeatView} (λ z. z.kin) c.adopt.ensures.back in
+    seated (g.D.Disk.mount_path c.args.self.now.first.value) c.args.self.now.seat.table_id c.adopt.new.seat.table_id c.args.self.now.seat.me.0 c.adopt.new.seat.me.0 c.adopt.ensures.same.0 kin

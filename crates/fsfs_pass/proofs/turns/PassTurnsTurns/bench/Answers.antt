@@ -1,8 +1,8 @@
-use Rattle.std.proofs.Common.{sym, ap, subst, ◌∙◌}
+use Rattle.std.proofs.Common.{sym, ap, subst, ◌∙◌, ◌≡◌}
 use Rattle.fsfs_turn.specs.Views.{Answers}
 use Rattle.fsfs_turn.specs.Learning.{MayMake, BenchMade}
 use Rattle.fsfs_seats.specs.declared.seat_view.SeatView.{SeatView}
-use Rattle.fsfs_pass.proofs.Turning.{Keeps, back_keeps, low_on, knows_went}
+use Rattle.fsfs_pass.proofs.Turning.{Keeps, back_keeps, low_on, knows_went, sits_so, stays, seated}
 use Rattle.fsfs_pass.proofs.turns.PassTurnsTurns.bench.Goals as goal
 
 pub invariant_of-self : goal.invariant_of-self
@@ -11,6 +11,7 @@ invariant_of-self g c =
     record {
       sits = (c.bench.ensures.same.0 ∙ c.args.self.now.sits.0, c.args.self.now.sits.1, c.args.self.now.sits.2, c.bench.ensures.same.2);
       layout_is = k.layout ∙ c.args.self.now.layout_is;
+      sitting = stays c.args.self.now.seat.me.0 c.bench.new.seat.me.0 k.kin c.args.self.now.sitting;
       met_told = k.met;
       last_low = low_on c.args.self.now.last c.args.self.now.seat.me.0 c.bench.new.seat.me.0 k c.args.self.now.last_low;
       short = k.short;
@@ -20,3 +21,11 @@ pub returns-clause-turned : goal.returns-clause-turned
 returns-clause-turned g c = λ v x known may labelled.
     knows_went (g.D.Disk.trace c.args.self.now.first.value) c.args.self.now.last c.args.self.now.last c.args.self.now.seat.me.0 c.bench.new.seat.me.0 (λ went. Answers c.bench.result went) (λ went a b. BenchMade x went a b) v known (ap {A = SeatView} (λ z. z.told) c.bench.ensures.back) c.bench.ensures.tells
     (c.bench.ensures.made known.told x (subst (λ z. MayMake z x) (sym known.is) may))
+
+pub bench-requires-clause-sits : goal.bench-requires-clause-sits
+bench-requires-clause-sits g c = sits_so c.args.self.now.seat.me.0 c.args.self.now.sitting
+
+pub returns-clause-mounted : goal.returns-clause-mounted
+returns-clause-mounted g c =
+    let kin : c.bench.new.seat.me.0.kin ≡ c.args.self.now.seat.me.0.kin = ap {A = SeatView} (λ z. z.kin) c.bench.ensures.back in
+    seated (g.D.Disk.mount_path c.args.self.now.first.value) c.args.self.now.seat.table_id c.bench.new.seat.table_id c.args.self.now.seat.me.0 c.bench.new.seat.me.0 c.bench.ensures.same.0 kin

@@ -5,7 +5,7 @@ use Rattle.fsfs_turn.specs.Learning.{ReadsCounter}
 use Rattle.fsfs_seats.specs.declared.seat_view.SeatView.{SeatView}
 use Rattle.fsfs_seats.specs.Met.{seat_store}
 use Rattle.fsfs_pass.specs.Passes.{KnowsIt}
-use Rattle.fsfs_pass.proofs.Turning.{Keeps, back_keeps, low_on, knows_now}
+use Rattle.fsfs_pass.proofs.Turning.{Keeps, back_keeps, low_on, knows_now, sits_so, stays, seated}
 use Rattle.fsfs_pass.proofs.turns.PassTurnsTurns.draw.Goals as goal
 
 pub invariant_of-self : goal.invariant_of-self
@@ -14,6 +14,7 @@ invariant_of-self g c =
     record {
       sits = (c.draw.ensures.same.0 ∙ c.args.self.now.sits.0, c.args.self.now.sits.1, c.args.self.now.sits.2, c.draw.ensures.same.2);
       layout_is = k.layout ∙ c.args.self.now.layout_is;
+      sitting = stays c.args.self.now.seat.me.0 c.draw.new.seat.me.0 k.kin c.args.self.now.sitting;
       met_told = k.met;
       last_low = low_on c.args.self.now.last c.args.self.now.seat.me.0 c.draw.new.seat.me.0 k c.args.self.now.last_low;
       short = k.short;
@@ -36,3 +37,11 @@ returns-clause-drawn g c = λ v known.
       turned = λ few. let t = r.turned few in (t.0, t.1, subst (λ u. KnowsIt (g.D.Disk.trace c.args.self.now.first.value) c.args.self.now.last c.draw.new.seat.me.0 u) (sym t.2) k, t.3, t.4);
       full = λ many. subst (λ u. KnowsIt (g.D.Disk.trace c.args.self.now.first.value) c.args.self.now.last c.draw.new.seat.me.0 u) (sym (r.full many)) k;
     })
+
+pub draw-requires-clause-sits : goal.draw-requires-clause-sits
+draw-requires-clause-sits g c = sits_so c.args.self.now.seat.me.0 c.args.self.now.sitting
+
+pub returns-clause-mounted : goal.returns-clause-mounted
+returns-clause-mounted g c =
+    let kin : c.draw.new.seat.me.0.kin ≡ c.args.self.now.seat.me.0.kin = ap {A = SeatView} (λ z. z.kin) c.draw.ensures.back in
+    seated (g.D.Disk.mount_path c.args.self.now.first.value) c.args.self.now.seat.table_id c.draw.new.seat.table_id c.args.self.now.seat.me.0 c.draw.new.seat.me.0 c.draw.ensures.same.0 kin

@@ -1,9 +1,9 @@
-use Rattle.std.proofs.Common.{sym, ap, subst, ◌∙◌}
+use Rattle.std.proofs.Common.{sym, ap, subst, ◌∙◌, ◌≡◌}
 use Rattle.fsfs_machine.specs.Kept.{IsIn}
 use Rattle.fsfs_turn.specs.Views.{Answers}
 use Rattle.fsfs_turn.specs.Learning.{MayPurge, Purged, SpentPurged}
 use Rattle.fsfs_seats.specs.declared.seat_view.SeatView.{SeatView}
-use Rattle.fsfs_pass.proofs.Turning.{Keeps, back_keeps, low_on, knows_went}
+use Rattle.fsfs_pass.proofs.Turning.{Keeps, back_keeps, low_on, knows_went, sits_so, stays, seated}
 use Rattle.fsfs_pass.proofs.turns.PassTurnsTurns.drop_bench.Goals as goal
 
 pub invariant_of-self : goal.invariant_of-self
@@ -12,6 +12,7 @@ invariant_of-self g c =
     record {
       sits = (c.drop_bench.ensures.same.0 ∙ c.args.self.now.sits.0, c.args.self.now.sits.1, c.args.self.now.sits.2, c.drop_bench.ensures.same.2);
       layout_is = k.layout ∙ c.args.self.now.layout_is;
+      sitting = stays c.args.self.now.seat.me.0 c.drop_bench.new.seat.me.0 k.kin c.args.self.now.sitting;
       met_told = k.met;
       last_low = low_on c.args.self.now.last c.args.self.now.seat.me.0 c.drop_bench.new.seat.me.0 k c.args.self.now.last_low;
       short = k.short;
@@ -29,3 +30,11 @@ returns-clause-spent g c = λ v name base known outside given labelled.
 
 pub drop_bench-requires-clause-may : goal.drop_bench-requires-clause-may
 drop_bench-requires-clause-may g c = λ told. let w = c.requires.due told in (w.1, ap (λ z. z.section) w.3.is ∙ w.4, subst (λ z. IsIn w.1 z.given) (sym w.3.is) w.5)
+
+pub drop_bench-requires-clause-sits : goal.drop_bench-requires-clause-sits
+drop_bench-requires-clause-sits g c = sits_so c.args.self.now.seat.me.0 c.args.self.now.sitting
+
+pub returns-clause-mounted : goal.returns-clause-mounted
+returns-clause-mounted g c =
+    let kin : c.drop_bench.new.seat.me.0.kin ≡ c.args.self.now.seat.me.0.kin = ap {A = SeatView} (λ z. z.kin) c.drop_bench.ensures.back in
+    seated (g.D.Disk.mount_path c.args.self.now.first.value) c.args.self.now.seat.table_id c.drop_bench.new.seat.table_id c.args.self.now.seat.me.0 c.drop_bench.new.seat.me.0 c.drop_bench.ensures.same.0 kin

@@ -1,9 +1,9 @@
-use Rattle.std.proofs.Common.{ap, subst, ◌∙◌}
+use Rattle.std.proofs.Common.{ap, ◌∙◌, ◌≡◌}
 use Rattle.std.specs.Prelude.{true, false}
 use Rattle.fsfs_machine.specs.declared.machine.Went.TheVariants.{Fine, Before}
 use Rattle.fsfs_turn.specs.Learning.{Listed}
 use Rattle.fsfs_seats.specs.declared.seat_view.SeatView.{SeatView}
-use Rattle.fsfs_pass.proofs.Turning.{Keeps, back_keeps, empty_keeps, low_on, knows_on, known_empty, on_listing, on_ok_map, on_ok_both}
+use Rattle.fsfs_pass.proofs.Turning.{Keeps, back_keeps, empty_keeps, low_on, knows_on, known_empty, on_listing, on_ok_map, on_ok_both, sits_so, stays, seated}
 use Rattle.fsfs_pass.proofs.turns.PassTurnsTurns.list.Goals as goal
 
 pub invariant_of-self : goal.invariant_of-self
@@ -12,6 +12,7 @@ invariant_of-self g c =
     record {
       sits = (c.list.ensures.same.0 ∙ c.args.self.now.sits.0, c.args.self.now.sits.1, c.args.self.now.sits.2, c.list.ensures.same.2);
       layout_is = k.layout ∙ c.args.self.now.layout_is;
+      sitting = stays c.args.self.now.seat.me.0 c.list.new.seat.me.0 k.kin c.args.self.now.sitting;
       met_told = k.met;
       last_low = low_on c.args.self.now.last c.args.self.now.seat.me.0 c.list.new.seat.me.0 k c.args.self.now.last_low;
       short = k.short;
@@ -32,3 +33,11 @@ returns-clause-failed g c = λ v known failed.
 
 pub returns-clause-memory : goal.returns-clause-memory
 returns-clause-memory g c = λ v known wanting. known_empty (g.D.Disk.trace c.args.self.now.first.value) c.args.self.now.last c.args.self.now.seat.me.0 c.list.new.seat.me.0 v known (c.list.ensures.memory wanting)
+
+pub list-requires-clause-sits : goal.list-requires-clause-sits
+list-requires-clause-sits g c = sits_so c.args.self.now.seat.me.0 c.args.self.now.sitting
+
+pub returns-clause-mounted : goal.returns-clause-mounted
+returns-clause-mounted g c =
+    let kin : c.list.new.seat.me.0.kin ≡ c.args.self.now.seat.me.0.kin = on_listing c.list.result (on_ok_map c.list.result (λ b. ap {A = SeatView} (λ z. z.kin) b.0) c.list.ensures.ok) (λ failed. ap {A = SeatView} (λ z. z.kin) (c.list.ensures.failed failed).0) (λ wanting. ap {A = SeatView} (λ z. z.kin) (c.list.ensures.memory wanting)) in
+    seated (g.D.Disk.mount_path c.args.self.now.first.value) c.args.self.now.seat.table_id c.list.new.seat.table_id c.args.self.now.seat.me.0 c.list.new.seat.me.0 c.list.ensures.same.0 kin

@@ -1,11 +1,11 @@
-use Rattle.std.proofs.Common.{sym, ap, subst, ◌∙◌}
+use Rattle.std.proofs.Common.{sym, ap, subst, ◌∙◌, ◌≡◌}
 use Rattle.std.specs.Prelude.{true}
 use Rattle.fsfs_disk.specs.Trace.{Put}
 use Rattle.fsfs_machine.specs.declared.machine.Went.TheVariants.{Before}
 use Rattle.fsfs_turn.specs.Views.{IsDue, MayAdopt, Called, Adopted}
 use Rattle.fsfs_turn.specs.Adoptions.{NeedsFolder}
 use Rattle.fsfs_seats.specs.declared.seat_view.SeatView.{SeatView}
-use Rattle.fsfs_pass.proofs.Turning.{Keeps, back_keeps, empty_keeps, low_on, knows_on, on_either, on_ok_map, on_err_map, on_err_both}
+use Rattle.fsfs_pass.proofs.Turning.{Keeps, back_keeps, empty_keeps, low_on, knows_on, on_either, on_ok_map, on_err_map, on_err_both, sits_so, stays, seated}
 use Rattle.fsfs_pass.proofs.turns.PassTurnsTurns.make_folder.Goals as goal
 
 pub make_folder-requires-clause-due : goal.make_folder-requires-clause-due
@@ -17,6 +17,7 @@ invariant_of-self g c =
     record {
       sits = (c.make_folder.ensures.same.0 ∙ c.args.self.now.sits.0, c.args.self.now.sits.1, c.args.self.now.sits.2, c.make_folder.ensures.same.2);
       layout_is = k.layout ∙ c.args.self.now.layout_is;
+      sitting = stays c.args.self.now.seat.me.0 c.make_folder.new.seat.me.0 k.kin c.args.self.now.sitting;
       met_told = k.met;
       last_low = low_on c.args.self.now.last c.args.self.now.seat.me.0 c.make_folder.new.seat.me.0 k c.args.self.now.last_low;
       short = k.short;
@@ -31,3 +32,11 @@ pub returns-clause-failed_first : goal.returns-clause-failed_first
 returns-clause-failed_first g c = λ v txn properties next bytes known may.
     on_err_both c.make_folder.result (λ b un. knows_on (g.D.Disk.trace c.args.self.now.first.value) c.args.self.now.last c.args.self.now.last c.args.self.now.seat.me.0 c.make_folder.new.seat.me.0 (λ a z. Adopted txn properties next bytes Before a z) v known (ap {A = SeatView} (λ z. z.told) b.0) b.1 (λ told. un.first txn properties next bytes (subst (λ z. MayAdopt z txn properties next bytes) (sym known.is) may)))
     c.make_folder.ensures.back (c.make_folder.ensures.unmade known.told)
+
+pub make_folder-requires-clause-sits : goal.make_folder-requires-clause-sits
+make_folder-requires-clause-sits g c = sits_so c.args.self.now.seat.me.0 c.args.self.now.sitting
+
+pub returns-clause-mounted : goal.returns-clause-mounted
+returns-clause-mounted g c =
+    let kin : c.make_folder.new.seat.me.0.kin ≡ c.args.self.now.seat.me.0.kin = on_either c.make_folder.result (on_ok_map c.make_folder.result (λ same. ap {A = SeatView} (λ z. z.kin) same) c.make_folder.ensures.done) (on_err_map c.make_folder.result (λ b. ap {A = SeatView} (λ z. z.kin) b.0) c.make_folder.ensures.back) in
+    seated (g.D.Disk.mount_path c.args.self.now.first.value) c.args.self.now.seat.table_id c.make_folder.new.seat.table_id c.args.self.now.seat.me.0 c.make_folder.new.seat.me.0 c.make_folder.ensures.same.0 kin

@@ -1,10 +1,10 @@
 use Rattle.std.proofs.Common.{rules, ◌∷◌, sym, ap, ◌∙◌, Some}
 use Rattle.atomic_table.specs.Table.{rest}
-use Rattle.fsfs_seats.proofs.Rules.{takes_out}
-use Rattle.fsfs_seats.proofs.steps.take.Goals as goal
+use Rattle.fsfs_seats.proofs.Rules.{takes_of}
+use Rattle.fsfs_seats.proofs.steps.take_of.Goals as goal
 
 pub compare_exchange-requires : goal.compare_exchange-requires
-compare_exchange-requires g c = (search rules, search rules, takes_out _ _ _ _)
+compare_exchange-requires g c = (search rules, search rules, takes_of _ _ _ c.requires.began _ _ _ (search rules))
 
 pub exchange-requires : goal.exchange-requires
 exchange-requires g c = let got = c.compare_exchange.ensures.2.0 (search rules) in let e = ap (λ m. m.1) got.1 in
