@@ -35,6 +35,14 @@ has-without l (k ∷ ls) = by_test (same_label k l) (has-without l ls) refl wher
   by_test true rest is = rest
   by_test false rest is = ap (λ b. b || has_label l (without_label l ls)) is ∙ rest
 
+pub without_absent : (l : Label) (ls : List Label) → has_label l ls ≡ false → without_label l ls ≡ ls
+without_absent l [] absent = refl
+without_absent l (k ∷ ls) absent = by_head (same_label k l) (without_absent l ls) absent
+  where
+    by_head : (b : Bool) → (has_label l ls ≡ false → without_label l ls ≡ ls) → (b || has_label l ls) ≡ false → cond b (without_label l ls) (k ∷ without_label l ls) ≡ k ∷ ls
+    by_head true rest none = cc
+    by_head false rest none = ap (λ (x : List Label). k ∷ x) (rest none)
+
 -- a label that is kept is there
 pub has-with : (l : Label) (ls : List Label) → has_label l (with_label l ls) ≡ true
 has-with l ls =
