@@ -1,6 +1,6 @@
 -- The turns of a commit.
 use Rattle.std.proofs.Common.{◌≡◌, ◌<◌, ◌≤◌, ◌+◌, ◌^◌, ℕ, List, [], ◌∷◌, ◌++◌, length, true, refl, sym, ap, subst, ◌∙◌, arith, take, drop, append-nil}
-use Rattle.std.specs.Prelude.{Option, Some, None, Result, Ok, Err, IfOk, IfErr, OnOk, OnErr}
+use Rattle.std.specs.Prelude.{Option, Some, None, is_some, Result, Ok, Err, IfOk, IfErr, OnOk, OnErr}
 use Rattle.std.proofs.lemmas.List.{take_all, length-take}
 use Rattle.fsfs_tree.specs.Revisions.{Revision}
 use Rattle.fsfs_tree.specs.Histories.{IsHistory}
@@ -46,7 +46,7 @@ pub none_more : (h g : List Recorded) → h ≡ g → Begins h g
 none_more h g same = ([], same ∙ sym (append-nil g))
 
 pub drifted_on : (v m u : View) → Drifted v m → Drifted m u → Drifted v u
-drifted_on v m u a b = record { number = b.number ∙ a.number; layout = b.layout ∙ a.layout; since = b.since ∙ a.since; opened = b.opened ∙ a.opened; mine = b.mine ∙ a.mine; least = omega (arith, a.least, b.least); given = b.given ∙ a.given; grows = begins_on v.seen m.seen u.seen a.grows b.grows; course = course_on v m u a.course b.course }
+drifted_on v m u a b = record { number = b.number ∙ a.number; layout = b.layout ∙ a.layout; since = b.since ∙ a.since; opened = b.opened ∙ a.opened; mine = b.mine ∙ a.mine; least = omega (arith, a.least, b.least); given = b.given ∙ a.given; still = λ stuck. b.still (a.still stuck); grows = begins_on v.seen m.seen u.seen a.grows b.grows; course = course_on v m u a.course b.course }
 
 pub by_look : (young : ℕ) (v u : View) → Looked young v u → Drifted v u
 by_look young v u l = record {
@@ -56,6 +56,7 @@ by_look young v u l = record {
   opened = ap {A = View} (λ z. z.opened) l.is;
   mine = ap {A = View} (λ z. z.pass.mine) l.is;
   given = ap {A = View} (λ z. z.given) l.is;
+  still = λ stuck. ap {A = View} (λ z. is_some z.pass.stuck) l.is ∙ stuck;
   least = let e : u.pass.least ≡ young = ap {A = View} (λ z. z.pass.least) l.is in omega (arith, e, l.least);
   grows = none_more u.seen v.seen (ap {A = View} (λ z. z.seen) l.is);
   course = one_step [] (step.Look v.number) (outcome.Youngest young) v u l.turned;
@@ -69,6 +70,7 @@ by_reads v u r = record {
   opened = ap {A = View} (λ z. z.opened) r.is;
   mine = ap {A = View} (λ z. z.pass.mine) r.is;
   given = ap {A = View} (λ z. z.given) r.is;
+  still = λ stuck. ap {A = View} (λ z. is_some z.pass.stuck) r.is ∙ stuck;
   least = let e : u.pass.least ≡ v.pass.least = ap {A = View} (λ z. z.pass.least) r.is in omega (arith, e);
   grows = r.grows;
   course = r.course;
@@ -82,6 +84,7 @@ by_taking v u l = record {
   opened = ap {A = View} (λ z. z.opened) l.is;
   mine = ap {A = View} (λ z. z.pass.mine) l.is;
   given = ap {A = View} (λ z. z.given) l.is;
+  still = λ stuck. ap {A = View} (λ z. is_some z.pass.stuck) l.is ∙ stuck;
   least = let e : u.pass.least ≡ v.pass.least = ap {A = View} (λ z. z.pass.least) l.is in omega (arith, e);
   grows = none_more u.seen v.seen (ap {A = View} (λ z. z.seen) l.is);
   course = one_step [] (step.TakeLock v.number) outcome.Done v u l.turned;
@@ -95,6 +98,7 @@ by_finding place v u l = record {
   opened = ap {A = View} (λ z. z.opened) l.is;
   mine = ap {A = View} (λ z. z.pass.mine) l.is;
   given = ap {A = View} (λ z. z.given) l.is;
+  still = λ stuck. ap {A = View} (λ z. is_some z.pass.stuck) l.is;
   least = let e : u.pass.least ≡ v.pass.least = ap {A = View} (λ z. z.pass.least) l.is in omega (arith, e);
   grows = none_more u.seen v.seen (ap {A = View} (λ z. z.seen) l.is);
   course = one_step [] (step.TakeLock v.number) (outcome.Stuck place) v u l.turned;
@@ -108,6 +112,7 @@ by_giving s v u l = record {
   opened = ap {A = View} (λ z. z.opened) l.is;
   mine = ap {A = View} (λ z. z.pass.mine) l.is;
   given = ap {A = View} (λ z. z.given) l.is;
+  still = λ stuck. ap {A = View} (λ z. is_some z.pass.stuck) l.is ∙ stuck;
   least = let e : u.pass.least ≡ v.pass.least = ap {A = View} (λ z. z.pass.least) l.is in omega (arith, e);
   grows = none_more u.seen v.seen (ap {A = View} (λ z. z.seen) l.is);
   course = one_step [] s outcome.Done v u l.turned;
@@ -121,6 +126,7 @@ by_stopping place v u l = record {
   opened = ap {A = View} (λ z. z.opened) l.is;
   mine = ap {A = View} (λ z. z.pass.mine) l.is;
   given = ap {A = View} (λ z. z.given) l.is;
+  still = λ stuck. ap {A = View} (λ z. is_some z.pass.stuck) l.is ∙ stuck;
   least = let e : u.pass.least ≡ v.pass.least = ap {A = View} (λ z. z.pass.least) l.is in omega (arith, e);
   grows = none_more u.seen v.seen (ap {A = View} (λ z. z.seen) l.is);
   course = course_on v l.before u l.course (one_step [] (ends_at place v.number) outcome.Done l.before u l.last.turned);
@@ -339,6 +345,7 @@ module _ (holds : Txn → Revision → List ℕ → Type 0) (ready : Ready) (pro
     is_next = subst (λ k. IsNext (revisions n.seen) (entry_of k y properties) next) drifted.number next_is;
     shows = shows;
     given = ap {A = View} (λ z. z.given) p.is ∙ drifted.given;
+    still = λ stuck. ap {A = View} (λ z. is_some z.pass.stuck) p.is ∙ drifted.still stuck;
     since = ap {A = View} (λ z. z.since) p.is ∙ drifted.since;
     opened = ap {A = View} (λ z. z.opened) p.is ∙ drifted.opened;
     mine = ap {A = View} (λ z. z.pass.mine) p.is ∙ ap (λ k. n.pass.mine ++ k ∷ []) (sym is_made.number) ∙ ap (λ l. l ++ ready.made.rev ∷ []) drifted.mine;
@@ -436,6 +443,7 @@ committed_on rev p v m o x y z d brings can landings c = record {
   shows = c.shows;
   mine = c.mine ∙ ap (λ l. l ++ rev ∷ []) d.mine;
   given = c.given ∙ d.given;
+  still = λ stuck. c.still (d.still stuck);
   since = c.since ∙ d.since;
   opened = c.opened ∙ d.opened;
   outside = c.outside;

@@ -1,5 +1,5 @@
 -- The answers of a commit, and their causes.
-use Rattle.std.specs.Prelude.{◌≡◌, ◌<◌, ◌≤◌, ◌+◌, ℕ, List, [], ◌∷◌, ◌++◌, length, take, true, false, Option, Some, None}
+use Rattle.std.specs.Prelude.{◌≡◌, ◌<◌, ◌≤◌, ◌+◌, ℕ, List, [], ◌∷◌, ◌++◌, length, take, true, false, Option, Some, None, is_some}
 use Rattle.fsfs_tree.specs.Revisions.{Revision}
 use Rattle.fsfs_tree.specs.Histories.{IsHistory}
 use Rattle.fsfs_flat.specs.Transactions.{IsNext}
@@ -28,6 +28,8 @@ pub record Drifted (v u : View) : Type 0 where
   pub mine : u.pass.mine ≡ v.pass.mine
   pub least : v.pass.least ≤ u.pass.least
   pub given : u.given ≡ v.given
+  -- a pass that found the lock stuck knows so still
+  pub still : is_some v.pass.stuck ≡ true → is_some u.pass.stuck ≡ true
   pub grows : Begins u.seen v.seen
   pub course : Course v u
 
@@ -78,6 +80,7 @@ pub record Committed (rev : ℕ) (properties : List (List ℕ × List ℕ)) (v u
   pub since : u.since ≡ v.since
   pub opened : u.opened ≡ v.opened
   pub given : u.given ≡ v.given
+  pub still : is_some v.pass.stuck ≡ true → is_some u.pass.stuck ≡ true
   pub outside : u.section ≡ None
   pub doubtless : BringsNoDoubt v u
   pub course : Course v u

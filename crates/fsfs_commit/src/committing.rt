@@ -18,6 +18,7 @@ use crate::made::Made;
 use crate::section::publish;
 use fsfs_fields::RevNum;
 use fsfs_places::{CommitPlace, DiskPlace};
+use fsfs_streams::{Gate, GatePlace};
 use fsfs_turn::Turns;
 use std::alloc::Global;
 
@@ -101,11 +102,12 @@ fn is_still(head: RevNum, youngest: RevNum) -> bool
 }
 
 // With the lock held: writes the draft and publishes it. Where it can't be written, the lock is given.
-fn add<R, T: Turns<R>, D: Draft<R, T>>(
+fn add<R, T: Turns<R>, D: Draft<R, T>, G: Gate>(
     rt: &R,
     turns: &mut T,
     draft: D,
     made: &Made,
+    gate: &G,
 ) -> (D, Result<RevNum, CommitFault<D::Refusal>>)
     requires pinned { T.bound turns.old ≡ true → D.pinned draft ≡ true }
     requires due { T.bound turns.old ≡ true → MayPublish (T.knows turns.old) (D.holds draft) (D.properties draft) made.now.rev made.now.rev_file made.now.props_file made.now.properties.items made.now.current.items }
@@ -136,18 +138,19 @@ fn add<R, T: Turns<R>, D: Draft<R, T>>(
         }
     }
     let rev = made.rev();
-    match publish(rt, turns, &mut draft, made) {
+    match publish(rt, turns, &mut draft, made, gate) {
         Ok(()) => (draft, Ok(rev)),
         Err(place) => (draft, Err(CommitFault::DiskFault(place))),
     }
 }
 
 // A turn. `None`: it was lost.
-fn take_turn<R, T: Turns<R>, D: Draft<R, T>>(
+fn take_turn<R, T: Turns<R>, D: Draft<R, T>, G: Gate>(
     alloc: Global,
     rt: &R,
     turns: T,
     draft: D,
+    gate: &G,
 ) -> (T, D, Result<Option<RevNum>, CommitFault<D::Refusal>>)
     requires pinned { D.pinned draft ≡ T.bound turns }
     requires due { D.pinned draft ≡ true → (v : View) × (x : Txn) × T.knows turns v × D.means draft v.seen x × CanCommit v x (D.properties draft) × (v.section ≡ None) }
@@ -172,6 +175,7 @@ fn take_turn<R, T: Turns<R>, D: Draft<R, T>>(
         Err(fault) => return (turns, draft, Err(fault)),
     };
     let head = ready.head();
+    gate.at(GatePlace::BeforeLock, 0);
     match turns.take_lock(rt) {
         Ok(()) => {}
         Err(place) => return (turns, draft, Err(CommitFault::Stuck(place))),
@@ -180,7 +184,7 @@ fn take_turn<R, T: Turns<R>, D: Draft<R, T>>(
         turns.give_lock();
         return (turns, draft, Ok(None));
     }
-    let (draft, added) = add(rt, &mut turns, draft, &ready.made);
+    let (draft, added) = add(rt, &mut turns, draft, &ready.made, gate);
     match added {
         Ok(rev) => (turns, draft, Ok(Some(rev))),
         Err(fault) => (turns, draft, Err(fault)),
@@ -188,11 +192,12 @@ fn take_turn<R, T: Turns<R>, D: Draft<R, T>>(
 }
 
 // The last turn: it takes the lock first.
-fn take_last_turn<R, T: Turns<R>, D: Draft<R, T>>(
+fn take_last_turn<R, T: Turns<R>, D: Draft<R, T>, G: Gate>(
     alloc: Global,
     rt: &R,
     turns: T,
     draft: D,
+    gate: &G,
 ) -> (T, D, Result<RevNum, CommitFault<D::Refusal>>)
     requires pinned { D.pinned draft ≡ T.bound turns }
     requires due { D.pinned draft ≡ true → (v : View) × (x : Txn) × T.knows turns v × D.means draft v.seen x × CanCommit v x (D.properties draft) × (v.section ≡ None) }
@@ -210,6 +215,7 @@ fn take_last_turn<R, T: Turns<R>, D: Draft<R, T>>(
 {
     let mut turns = turns;
     let mut draft = draft;
+    gate.at(GatePlace::BeforeLock, 0);
     match turns.take_lock(rt) {
         Ok(()) => {}
         Err(place) => return (turns, draft, Err(CommitFault::Stuck(place))),
@@ -222,7 +228,7 @@ fn take_last_turn<R, T: Turns<R>, D: Draft<R, T>>(
             return (turns, draft, Err(fault));
         }
     };
-    let (draft, added) = add(rt, &mut turns, draft, &ready.made);
+    let (draft, added) = add(rt, &mut turns, draft, &ready.made, gate);
     match added {
         Ok(rev) => (turns, draft, Ok(rev)),
         Err(fault) => (turns, draft, Err(fault)),
@@ -230,11 +236,12 @@ fn take_last_turn<R, T: Turns<R>, D: Draft<R, T>>(
 }
 
 // Up to three turns.
-fn take_three_turns<R, T: Turns<R>, D: Draft<R, T>>(
+fn take_three_turns<R, T: Turns<R>, D: Draft<R, T>, G: Gate>(
     alloc: Global,
     rt: &R,
     turns: T,
     draft: D,
+    gate: &G,
 ) -> (T, D, Result<Option<RevNum>, CommitFault<D::Refusal>>)
     requires pinned { D.pinned draft ≡ T.bound turns }
     requires due { D.pinned draft ≡ true → (v : View) × (x : Txn) × T.knows turns v × D.means draft v.seen x × CanCommit v x (D.properties draft) × (v.section ≡ None) }
@@ -252,7 +259,7 @@ fn take_three_turns<R, T: Turns<R>, D: Draft<R, T>>(
     ensures later { T.faults turns ≤ T.faults result.0 }
     ensures cause { IfErr result.2 (RoseIfDisk D.is_disk_fault (Rose (T.faults turns) (T.faults result.0))) }
 {
-    let (turns, draft, first) = take_turn(alloc, rt, turns, draft);
+    let (turns, draft, first) = take_turn(alloc, rt, turns, draft, gate);
     let first = match first {
         Ok(first) => first,
         Err(fault) => return (turns, draft, Err(fault)),
@@ -261,7 +268,7 @@ fn take_three_turns<R, T: Turns<R>, D: Draft<R, T>>(
         None => {}
         Some(rev) => return (turns, draft, Ok(Some(rev))),
     }
-    let (turns, draft, second) = take_turn(alloc, rt, turns, draft);
+    let (turns, draft, second) = take_turn(alloc, rt, turns, draft, gate);
     let second = match second {
         Ok(second) => second,
         Err(fault) => return (turns, draft, Err(fault)),
@@ -270,16 +277,17 @@ fn take_three_turns<R, T: Turns<R>, D: Draft<R, T>>(
         None => {}
         Some(rev) => return (turns, draft, Ok(Some(rev))),
     }
-    take_turn(alloc, rt, turns, draft)
+    take_turn(alloc, rt, turns, draft, gate)
 }
 
 /// Commits the draft, and gives the turns and the draft back: answers its revision, or why nothing was added. Then the draft stands
 /// on the head of its last landing, or where it stood, as far as it still tells what it means.
-pub fn commit<R, T: Turns<R>, D: Draft<R, T>>(
+pub fn commit<R, T: Turns<R>, D: Draft<R, T>, G: Gate>(
     alloc: Global,
     rt: &R,
     turns: T,
     draft: D,
+    gate: &G,
 ) -> (T, D, Result<RevNum, CommitFault<D::Refusal>>)
     requires pinned { D.pinned draft ≡ T.bound turns }
     requires due { D.pinned draft ≡ true → (v : View) × (x : Txn) × T.knows turns v × D.means draft v.seen x × CanCommit v x (D.properties draft) × (v.section ≡ None) }
@@ -296,13 +304,13 @@ pub fn commit<R, T: Turns<R>, D: Draft<R, T>>(
     ensures later { T.faults turns ≤ T.faults result.0 }
     ensures cause { IfErr result.2 (RoseIfDisk D.is_disk_fault (Rose (T.faults turns) (T.faults result.0))) }
 {
-    let (turns, draft, done) = take_three_turns(alloc, rt, turns, draft);
+    let (turns, draft, done) = take_three_turns(alloc, rt, turns, draft, gate);
     let done = match done {
         Ok(done) => done,
         Err(fault) => return (turns, draft, Err(fault)),
     };
     match done {
-        None => take_last_turn(alloc, rt, turns, draft),
+        None => take_last_turn(alloc, rt, turns, draft, gate),
         Some(rev) => (turns, draft, Ok(rev)),
     }
 }

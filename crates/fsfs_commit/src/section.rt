@@ -22,6 +22,7 @@ use fsfs_base::{Failed, Name};
 use fsfs_fields::RevNum;
 use fsfs_layout::OnlyFile;
 use fsfs_places::{CommitPlace, DiskPlace};
+use fsfs_streams::{Gate, GatePlace};
 use fsfs_turn::Turns;
 
 // Makes a folder, where there is one to be made.
@@ -167,11 +168,12 @@ fn firm_current<R, T: Turns<R>>(rt: &R, turns: &mut T) -> Result<(), CommitPlace
 }
 
 // The revision's two files.
-fn write_revision<R, T: Turns<R>, D: Draft<R, T>>(
+fn write_revision<R, T: Turns<R>, D: Draft<R, T>, G: Gate>(
     rt: &R,
     turns: &mut T,
     draft: &mut D,
     made: &Made,
+    gate: &G,
 ) -> Result<(), CommitPlace>
     requires written { D.is_written draft.old }
     requires pinned { T.bound turns.old ≡ true → D.pinned draft.old ≡ true }
@@ -192,6 +194,7 @@ fn write_revision<R, T: Turns<R>, D: Draft<R, T>>(
         Ok(()) => {}
         Err(place) => return Err(place),
     }
+    gate.at(GatePlace::AfterPutRev, 0);
     match put_properties(rt, turns, made) {
         Ok(()) => {}
         Err(place) => return Err(place),
@@ -245,7 +248,7 @@ fn settle<R, T: Turns<R>>(turns: &mut T, place: CommitPlace)
 }
 
 // The revision is in the history.
-fn finish<R, T: Turns<R>>(rt: &R, turns: &mut T, rev: RevNum)
+fn finish<R, T: Turns<R>, G: Gate>(rt: &R, turns: &mut T, rev: RevNum, gate: &G)
     requires due { T.bound turns.old ≡ true → (v : View) × (x : Coming) × T.knows turns.old v × (v.section ≡ Some (CurrentFirm x)) × (rev ≡ length v.seen) }
     ensures turned { (v : View) (x : Coming) → T.knows turns.old v → v.section ≡ Some (CurrentFirm x) → rev ≡ length v.seen → (u : View) × T.knows turns.new u × Ended x v u }
     ensures mounted { T.mount_path turns.new ≡ T.mount_path turns.old }
@@ -253,17 +256,19 @@ fn finish<R, T: Turns<R>>(rt: &R, turns: &mut T, rev: RevNum)
     ensures listed { KeepsLabels (T.bound turns.old) (T.labels turns.old) (T.labels turns.new) }
     ensures faults { T.faults turns.new ≡ T.faults turns.old }
 {
+    gate.at(GatePlace::BeforeReveal, 0);
     turns.reveal(rt, rev);
     turns.give_lock();
 }
 
 /// With the lock held and all memory taken: writes the revision, lets `current` name it, reveals it and gives the lock.
 /// `Err` says at which place the disk failed: then nothing was added, and the lock was given, or left stuck there.
-pub fn publish<R, T: Turns<R>, D: Draft<R, T>>(
+pub fn publish<R, T: Turns<R>, D: Draft<R, T>, G: Gate>(
     rt: &R,
     turns: &mut T,
     draft: &mut D,
     made: &Made,
+    gate: &G,
 ) -> Result<(), CommitPlace>
     requires written { D.is_written draft.old }
     requires pinned { T.bound turns.old ≡ true → D.pinned draft.old ≡ true }
@@ -285,9 +290,9 @@ pub fn publish<R, T: Turns<R>, D: Draft<R, T>>(
     ensures listed { KeepsLabels (T.bound turns.old) (T.labels turns.old) (T.labels turns.new) }
     ensures cause { HasCause (T.faults turns.old) (T.faults turns.new) result }
 {
-    match write_all(rt, turns, draft, made) {
+    match write_all(rt, turns, draft, made, gate) {
         Ok(()) => {
-            finish(rt, turns, made.rev);
+            finish(rt, turns, made.rev, gate);
             Ok(())
         }
         Err(place) => {
@@ -298,11 +303,12 @@ pub fn publish<R, T: Turns<R>, D: Draft<R, T>>(
 }
 
 // All that is written.
-fn write_all<R, T: Turns<R>, D: Draft<R, T>>(
+fn write_all<R, T: Turns<R>, D: Draft<R, T>, G: Gate>(
     rt: &R,
     turns: &mut T,
     draft: &mut D,
     made: &Made,
+    gate: &G,
 ) -> Result<(), CommitPlace>
     requires written { D.is_written draft.old }
     requires pinned { T.bound turns.old ≡ true → D.pinned draft.old ≡ true }
@@ -319,7 +325,7 @@ fn write_all<R, T: Turns<R>, D: Draft<R, T>>(
     ensures listed { KeepsLabels (T.bound turns.old) (T.labels turns.old) (T.labels turns.new) }
     ensures cause { HasCause (T.faults turns.old) (T.faults turns.new) result }
 {
-    match write_revision(rt, turns, draft, made) {
+    match write_revision(rt, turns, draft, made, gate) {
         Ok(()) => {}
         Err(place) => return Err(place),
     }

@@ -5,8 +5,9 @@ use fsfs_base::{FsPath, Pairs};
 use fsfs_book::Book;
 use fsfs_disk::{Bench, Disk};
 use fsfs_held::HeldNodes;
-use fsfs_memstreams::MemSource;
-use fsfs_owned_repo::{CommitAnswer, Repo};
+use fsfs_memstreams::{MemSource, NoGate};
+use fsfs_owned_repo::Repo;
+use fsfs_pass_txns::CommitAnswer;
 use fsfs_txn::{PathOpened, TextSet, Txn};
 use std::alloc::Global;
 
@@ -67,7 +68,7 @@ where
     if !done || txn.is_spent() {
         return (repo, false);
     }
-    let (repo, answer) = repo.commit(&rt, alloc, txn, Pairs::new(alloc), MOMENT);
+    let (repo, answer) = repo.commit(&rt, alloc, txn, Pairs::new(alloc), MOMENT, &NoGate);
     match answer {
         CommitAnswer::Committed { .. } => (repo, true),
         _ => (repo, false),

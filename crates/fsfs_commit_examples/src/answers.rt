@@ -3,7 +3,7 @@ use fsfs_damage::Wrong;
 use fsfs_escapes::Transcript;
 use fsfs_fields::{TxnName, put_txn_name};
 use fsfs_own::EditError;
-use fsfs_owned_repo::CommitBar;
+use fsfs_pass_txns::CommitBar;
 use fsfs_places::{DiskPlace, OpenFault};
 use fsfs_turn_begin::BeginFault;
 use fsfs_txn::TxnError;

@@ -8,8 +8,9 @@ use fsfs_escapes::{Transcript, bytes_of};
 use fsfs_fields::RevNum;
 use fsfs_held::HeldNodes;
 use fsfs_memdisk::{MemBench, MemDisk};
-use fsfs_memstreams::MemSource;
-use fsfs_owned_repo::{CommitAnswer, Repo};
+use fsfs_memstreams::{MemSource, NoGate};
+use fsfs_owned_repo::Repo;
+use fsfs_pass_txns::CommitAnswer;
 use fsfs_txn::{Deleted, Made, PathOpened, TextSet, Txn, TxnError};
 use std::alloc::Global;
 
@@ -154,7 +155,7 @@ fn finish(
         let _ = repo.purge(&rt, txn);
         return repo;
     }
-    let (back, answer) = repo.commit(&rt, alloc, txn, Pairs::new(alloc), MOMENT);
+    let (back, answer) = repo.commit(&rt, alloc, txn, Pairs::new(alloc), MOMENT, &NoGate);
     let mut repo = back;
     say_answer(&mut repo, answer, out);
     repo

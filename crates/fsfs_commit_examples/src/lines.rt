@@ -11,6 +11,8 @@ use fsfs_layout::Layout;
 use fsfs_memdisk::MemDisk;
 use fsfs_owned_repo::{OpenedRepo, Repo};
 use std::alloc::Global;
+use std::sync::Wait;
+use std::thread::Threads;
 use uuid::Builder;
 
 /// 2024-01-02T03:04:05.678901Z
@@ -93,14 +95,20 @@ fn call_opened(
 }
 
 /// Makes the call of a line, writes what it answers, and gives the disk back.
-pub fn call(alloc: Global, disk: MemDisk, line: &str, out: &mut Transcript) -> MemDisk {
+pub fn call<T: Threads + Wait + Sync>(
+    rt: &T,
+    alloc: Global,
+    disk: MemDisk,
+    line: &str,
+    out: &mut Transcript,
+) -> MemDisk {
     let mut disk = disk;
     let (word, rest) = cut(line);
     match word {
         "create" => make(alloc, &mut disk, out),
         "put" => put(alloc, &mut disk, rest, out),
         "show" => show(&disk, rest, out),
-        "svnlook" => return look(alloc, disk, rest, out),
+        "svnlook" => return look(rt, alloc, disk, rest, out),
         "race" => return race(alloc, disk, rest, out),
         "list" => return call_opened(alloc, disk, word, rest, out),
         "jobs" => return call_opened(alloc, disk, word, rest, out),
@@ -110,12 +118,18 @@ pub fn call(alloc: Global, disk: MemDisk, line: &str, out: &mut Transcript) -> M
 }
 
 /// Makes the calls of these lines, and writes each line and its answer.
-pub fn call_lines(alloc: Global, disk: MemDisk, lines: &[&str], out: &mut Transcript) -> MemDisk {
+pub fn call_lines<T: Threads + Wait + Sync>(
+    rt: &T,
+    alloc: Global,
+    disk: MemDisk,
+    lines: &[&str],
+    out: &mut Transcript,
+) -> MemDisk {
     let mut left = disk;
     for line in lines {
         out.say(line);
         out.say(": ");
-        left = call(alloc, left, line, out);
+        left = call(rt, alloc, left, line, out);
         if !out.as_str().ends_with("\n") {
             out.say("\n");
         }

@@ -22,7 +22,7 @@ fn main(rt: HostRuntime) -> Result<()> {
     let alloc = rt.alloc();
     let text = io::read_to_string(alloc, rt.stdin())?;
     let mut out = Transcript::new(alloc);
-    play::play(alloc, text.as_str(), &mut out)?;
+    play::play(&rt, alloc, text.as_str(), &mut out)?;
     rt.print(out.finish()?)?;
     Ok(())
 }

@@ -12,6 +12,7 @@ use fsfs_draft::{CommitRefusal, TxnDraft, dated};
 use fsfs_escapes::Transcript;
 use fsfs_fields::RevNum;
 use fsfs_memdisk::{MemBench, MemDisk};
+use fsfs_memstreams::NoGate;
 use fsfs_repo::open;
 use fsfs_turn::Owned;
 use fsfs_turn_begin::{Numbers, begin};
@@ -44,7 +45,7 @@ fn commit_beside(
         return store.into_disk();
     };
     let turns = Rivals::new(store, txn.base(), last);
-    let (turns, _draft, done) = commit(alloc, &rt, turns, TxnDraft::new(txn, properties));
+    let (turns, _draft, done) = commit(alloc, &rt, turns, TxnDraft::new(txn, properties), &NoGate);
     say_done(&done, out);
     let (store, asked) = turns.into_parts();
     out.tell(", lock asked for ", &asked);

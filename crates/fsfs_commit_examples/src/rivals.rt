@@ -69,6 +69,8 @@ impl Turns<()> for Rivals {
 
     ghost faults = { λ s. ⟦<Owned<MemDisk> as Turns<()>>⟧.faults s.inner };
 
+    ghost Mount = { List ℕ };
+
     ghost mount_path = { λ s. codes "" };
 
     fn layout(&self) -> Layout {

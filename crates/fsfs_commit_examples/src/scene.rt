@@ -3,6 +3,8 @@ use crate::lines::call_lines;
 use fsfs_escapes::Transcript;
 use fsfs_memdisk::MemDisk;
 use std::alloc::Global;
+use std::sync::Wait;
+use std::thread::Threads;
 
 /// Lines of a text that are done in order: the first ones, with which each example begins, and then some of its own.
 #[derive(Clone, Copy)]
@@ -23,10 +25,10 @@ impl<'a> Scene<'a> {
     }
 
     /// The disk behind all of them. What its own answer is written.
-    pub fn play(&self, out: &mut Transcript) -> MemDisk {
+    pub fn play<T: Threads + Wait + Sync>(&self, rt: &T, out: &mut Transcript) -> MemDisk {
         let first = self.text.get(..self.first).unwrap_or(&[]);
         let mut unseen = Transcript::new(self.alloc);
-        let disk = call_lines(self.alloc, MemDisk::new(self.alloc), first, &mut unseen);
-        call_lines(self.alloc, disk, self.lines(), out)
+        let disk = call_lines(rt, self.alloc, MemDisk::new(self.alloc), first, &mut unseen);
+        call_lines(rt, self.alloc, disk, self.lines(), out)
     }
 }

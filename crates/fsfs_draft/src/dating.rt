@@ -1,5 +1,5 @@
 //! The date of a revision.
-ghost use Rattle.std.specs.Prelude.{◌≡◌, ◌≤◌, ℕ, List, IfOk};
+ghost use Rattle.std.specs.Prelude.{◌≤◌, IfOk};
 ghost use Rattle.fsfs_tree.specs.Dated.{IsDated};
 ghost use Rattle.fsfs_draft.specs.Dating.{IsDatedAt};
 

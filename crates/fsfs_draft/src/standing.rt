@@ -42,6 +42,16 @@ impl Pin {
         }
     }
 
+    /// What is noted here.
+    pub(crate) fn noted(standing: Note<Option<Standing>>) -> Pin
+        ensures { result.standing.value ≡ standing.value }
+    {
+        Pin {
+            standing,
+            about: no_note(),
+        }
+    }
+
     /// Of this transaction.
     pub(crate) fn of(standing: &Note<Standing>) -> Pin
         ensures { result.standing.value ≡ Some standing.now.value }

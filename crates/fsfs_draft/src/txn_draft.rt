@@ -114,6 +114,27 @@ impl<B: Bench> TxnDraft<B> {
         }
     }
 
+    /// The transaction, to be committed with these properties over any turns: where one is noted it stands for that one alone.
+    pub fn with_note(
+        txn: Txn<HeldNodes<B>>,
+        properties: Pairs,
+        standing: Note<Option<Standing>>,
+    ) -> TxnDraft<B>
+        ensures stage { result.stage ≡ Open (record { txn = txn; text = None }) }
+        ensures properties { result.properties ≡ properties }
+        ensures named { IfOpen result.stage (λ o. ⟦<HeldNodes<B> as Own>⟧.txn o.txn.own ≡ ⟦<HeldNodes<B> as Own>⟧.txn txn.own) }
+        ensures noted { result.pin.standing.value ≡ standing.value }
+        // It means what the transaction does, where that is what is noted.
+        ensures means { (h : List Recorded) (x : SpecTxn) → Means txn.spent h (⟦<HeldNodes<B> as Own>⟧.txn txn.own) txn.base (⟦<HeldNodes<B> as Own>⟧.settled txn.own) x → IsPinned standing.value h x
+            → IfOpen result.stage (λ o. Means o.txn.spent h (⟦<HeldNodes<B> as Own>⟧.txn o.txn.own) o.txn.base (⟦<HeldNodes<B> as Own>⟧.settled o.txn.own) x) × IsPinned result.pin.standing.value h x }
+    {
+        TxnDraft {
+            properties,
+            stage: Stage::Open(OpenTxn { txn, text: None }),
+            pin: Pin::noted(standing),
+        }
+    }
+
     /// What is left of it.
     pub fn into_left(self) -> Left<B>
         ensures left { result ≡ left_of self.stage }

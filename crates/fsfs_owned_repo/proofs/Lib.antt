@@ -1,9 +1,4 @@
 pub mod Shown
 mod Readers
-mod Begun
 pub mod Crashes
-mod Dropped
-mod Listed
-mod Commits
-mod Limits
 mod Unlisted

@@ -13,7 +13,8 @@ use Rattle.fsfs_turn_book.specs.Seen.{TellsRevisions}
 use Rattle.fsfs_draft.specs.SeenLemmas.{shown_trees}
 use Rattle.fsfs_owned_repo.specs.Alone.{KnowsIn}
 use Rattle.fsfs_owned_repo.specs.Readers.{TellsSeenAll}
-use Rattle.fsfs_owned_repo.proofs.Shown.{seen_shows, known_shown}
+use Rattle.fsfs_pass_txns.proofs.Shown.{seen_shows}
+use Rattle.fsfs_owned_repo.proofs.Shown.{known_shown}
 
 young_told : (s : OwnedState) (floor : ℕ) (kept : Option KeptManifest) → (telling (owned_view s) floor kept).youngest ≡ Some s.young
 unfolding telling

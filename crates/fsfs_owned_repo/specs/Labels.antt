@@ -1,8 +1,8 @@
 -- What becomes of the labels that are kept, where the label of a transaction is to go.
 use Rattle.std.specs.Prelude.{◌≡◌, ◌⊎◌, List, Bool, true, false, Option, option_map}
 use Rattle.fsfs_disk.specs.Labels.{Label, without_label}
-use Rattle.fsfs_owned_repo.specs.declared.answers.CommitAnswer.{CommitAnswer}
-use Rattle.fsfs_owned_repo.specs.declared.answers.CommitAnswer.TheVariants as answers
+use Rattle.fsfs_pass_txns.specs.declared.answers.CommitAnswer.{CommitAnswer}
+use Rattle.fsfs_pass_txns.specs.declared.answers.CommitAnswer.TheVariants as answers
 
 -- it went, and no other; or the disk failed to drop it: all stay, or all but this one
 abbrev pub Unlists : Bool → Label → Type 0 → Option (List Label) → Option (List Label) → Type 0

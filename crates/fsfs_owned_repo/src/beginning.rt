@@ -1,57 +1,25 @@
 //! Transactions begin.
-ghost use Rattle.std.specs.Prelude.{◌≡◌, ◌⊎◌, ◌≤◌, true, codes, None, OnErr, IfOk, IfErr, IfSome, option_map};
+ghost use Rattle.std.specs.Prelude.{◌≡◌, ◌⊎◌, ◌≤◌, true, None, OnErr, IfOk, IfErr, IfSome, option_map};
 ghost use Rattle.fsfs_base.specs.Failures.{Rose};
 ghost use Rattle.fsfs_disk.specs.Labels.{has_label, with_label};
-ghost use Rattle.fsfs_begin.specs.Benches.{TellsRoot};
-ghost use Rattle.fsfs_held.specs.Views.{begun_folder};
-ghost use Rattle.fsfs_machine.specs.Kept.{IsIn};
 ghost use Rattle.fsfs_txns.specs.Txns.{pair_of, txn_label};
 ghost use Rattle.fsfs_turn.specs.Views.{View};
 ghost use Rattle.fsfs_turn_begin.specs.Steps.{IsPastNumbers, Moved};
 ghost use Rattle.fsfs_turn_begin.specs.Faults.{Cause, IfBench, IfDisk, IsAbove, LeavesNone};
-ghost use Rattle.fsfs_turn_begin.specs.Labels.{IsUnlisted, ListsNoMore};
-ghost use Rattle.fsfs_owned_repo.specs.Begun.{BeginsTxn};
+ghost use Rattle.fsfs_turn_begin.specs.Labels.{ListsNoMore};
+ghost use Rattle.fsfs_pass_txns.specs.Begun.{BeginsTxn};
 ghost use Rattle.fsfs_owned_repo.specs.Crashes.{CrashesLeave};
 
 use crate::repo::Repo;
-use fsfs_begin::Begun;
-use fsfs_disk::{Bench, Disk, Label};
-use fsfs_fields::{RevNum, TxnName};
+use fsfs_disk::Disk;
+use fsfs_fields::RevNum;
 use fsfs_held::HeldNodes;
 use fsfs_own::Own;
+use fsfs_pass_txns::begin_txn;
 use fsfs_turn::{Owned, Turns};
-use fsfs_turn_begin::{BeginFault, Numbers, begin};
+use fsfs_turn_begin::{BeginFault, Numbers};
 use fsfs_txn::Txn;
 use std::alloc::Global;
-
-// The transaction that was begun, with its node-revisions in memory. Its prototype revision file is the file `rev` of its bench. An
-// `Err` is for want of memory, and gives the bench back.
-fn hold<B: Bench>(alloc: Global, base: RevNum, begun: Begun<B>) -> Result<Txn<HeldNodes<B>>, B>
-    // As a beginning ensures.
-    requires { TellsRoot begun.root (B.contents begun.bench) }
-    ensures base { IfOk result (λ txn. txn.base ≡ base) }
-    ensures name { IfOk result (λ txn. ⟦<HeldNodes<B> as Own>⟧.txn txn.own ≡ begun.name) }
-    ensures folder { IfOk result (λ txn. ⟦<HeldNodes<B> as Own>⟧.settled txn.own ≡ begun_folder begun.root (B.contents begun.bench) (codes "rev")) }
-    ensures faults { IfOk result (λ txn. ⟦<HeldNodes<B> as Own>⟧.faults txn.own ≡ B.faults begun.bench) }
-    ensures fresh { IfOk result (λ txn. (txn.spent ≡ None) × (txn.moves ≡ 0)) }
-    ensures back { IfErr result (λ bench. bench ≡ begun.bench) }
-{
-    match begun.hold(alloc) {
-        Ok(own) => Ok(Txn::new(own, base)),
-        Err(bench) => Err(bench),
-    }
-}
-
-// Drops the bench and the label of a transaction that was begun, as far as the disk lets.
-fn forget<R, D: Disk>(rt: &R, turns: &mut Owned<D>, name: &TxnName, bench: D::Bench)
-    ensures moved { (v : View) → ⟦<Owned<D> as Turns<R>>⟧.knows turns.old v → v.section ≡ None → IsIn name.now.number.number v.given
-        → (u : View) × ⟦<Owned<D> as Turns<R>>⟧.knows turns.new u × Moved v u }
-    ensures unlisted { IsUnlisted (txn_label (pair_of name.now)) (Rose (⟦<Owned<D> as Turns<R>>⟧.faults turns.old) (⟦<Owned<D> as Turns<R>>⟧.faults turns.new)) (⟦<Owned<D> as Turns<R>>⟧.labels turns.old) (⟦<Owned<D> as Turns<R>>⟧.labels turns.new) }
-    ensures mounted { D.mount_path turns.new.disk ≡ D.mount_path turns.old.disk }
-    ensures later { ⟦<Owned<D> as Turns<R>>⟧.faults turns.old ≤ ⟦<Owned<D> as Turns<R>>⟧.faults turns.new }
-{
-    let _ = <Owned<D> as Turns<R>>::drop_bench(turns, rt, &Label::Txn(*name), Some(bench));
-}
 
 impl<D: Disk> Repo<D> {
     /// Begins a transaction on a revision. Its name is drawn first, by a section of its own; then the root of the base is read, and
@@ -90,19 +58,7 @@ impl<D: Disk> Repo<D> {
         ensures cause { IfErr result.1 (λ why. IfDisk why (Rose (⟦<Owned<D> as Turns<R>>⟧.faults self.turns) (⟦<Owned<D> as Turns<R>>⟧.faults result.0.turns))) }
     {
         let Repo { turns } = self;
-        let (back, begun) = begin(alloc, rt, turns, base, Numbers::Any);
-        let mut turns = back;
-        let begun = match begun {
-            Ok(begun) => begun,
-            Err(fault) => return (Repo { turns }, Err(fault)),
-        };
-        let name = begun.name;
-        match hold(alloc, base, begun) {
-            Ok(txn) => (Repo { turns }, Ok(txn)),
-            Err(bench) => {
-                forget(rt, &mut turns, &name, bench);
-                (Repo { turns }, Err(BeginFault::Memory))
-            }
-        }
+        let (back, begun) = begin_txn(rt, alloc, turns, base, Numbers::Any);
+        (Repo { turns: back }, begun)
     }
 }

@@ -1,5 +1,5 @@
 //! Transactions are committed.
-ghost use Rattle.std.specs.Prelude.{◌≡◌, ◌≤◌, ℕ, List, None, false, IfSome};
+ghost use Rattle.std.specs.Prelude.{◌≡◌, ◌≤◌, None, false, IfSome};
 ghost use Rattle.fsfs_base.specs.Failures.{Rose};
 ghost use Rattle.fsfs_disk.specs.Labels.{has_label};
 ghost use Rattle.fsfs_machine.specs.declared.machine.Txn.{Txn as MachineTxn};
@@ -8,20 +8,19 @@ ghost use Rattle.fsfs_turn.specs.Views.{View};
 ghost use Rattle.fsfs_txns.specs.Txns.{pair_of, txn_label};
 ghost use Rattle.fsfs_draft.specs.Findings.{HoldsPast};
 ghost use Rattle.fsfs_draft.specs.Meaning.{IsTxnOf};
-ghost use Rattle.fsfs_owned_repo.specs.Commits.{IfBack, IfFailed, IfPurged, Meets};
+ghost use Rattle.fsfs_pass_txns.specs.Commits.{IfBack, IfFailed, IfPurged, Meets};
 ghost use Rattle.fsfs_owned_repo.specs.Crashes.{CrashesLeave};
 ghost use Rattle.fsfs_owned_repo.specs.Labels.{LeavesLabels};
-ghost use Rattle.fsfs_owned_repo.specs.Limits.{IfPastLimit};
+ghost use Rattle.fsfs_pass_txns.specs.Limits.{IfPastLimit};
 
-use crate::answers::{CommitAnswer, CommitBar};
-use crate::ending::end;
 use crate::repo::Repo;
 use fsfs_base::Pairs;
-use fsfs_commit::commit;
 use fsfs_disk::Disk;
-use fsfs_draft::{TxnDraft, dated};
 use fsfs_held::HeldNodes;
+use fsfs_note::no_note;
 use fsfs_own::Own;
+use fsfs_pass_txns::{CommitAnswer, commit_txn};
+use fsfs_streams::Gate;
 use fsfs_turn::{Owned, Turns};
 use fsfs_txn::Txn;
 use std::alloc::Global;
@@ -31,13 +30,14 @@ impl<D: Disk> Repo<D> {
     /// a year up to 2099. It takes up to four turns, each of which lands the transaction on the youngest revision and makes what is
     /// written; with the write lock held it writes that behind the texts, and publishes it by the section. What is left of the
     /// transaction is purged then. The lock is given in the end, but where a fault left it stuck.
-    pub fn commit<R>(
+    pub fn commit<R, G: Gate>(
         self,
         rt: &R,
         alloc: Global,
         txn: Txn<HeldNodes<D::Bench>>,
         properties: Pairs,
         micros: u64,
+        gate: &G,
     ) -> (Repo<D>, CommitAnswer<Txn<HeldNodes<D::Bench>>>)
         requires moment { micros ≤ 4102444799999999 }
         requires sound { txn.spent ≡ None }
@@ -61,18 +61,8 @@ impl<D: Disk> Repo<D> {
         ensures cause { IfFailed result.1 (Rose (⟦<Owned<D> as Turns<R>>⟧.faults self.turns) (⟦<Owned<D> as Turns<R>>⟧.faults result.0.turns)) }
     {
         let Repo { turns } = self;
-        let given = match dated(alloc, properties, micros) {
-            Ok(given) => given,
-            Err(_) => {
-                let bar = CommitBar::Memory;
-                return (Repo { turns }, CommitAnswer::Barred { bar, txn });
-            }
-        };
-        let name = txn.name();
-        let (back, draft, done) = commit(alloc, rt, turns, TxnDraft::new(txn, given));
-        let left = draft.into_left();
-        let mut turns = back;
-        let answer = end(rt, &mut turns, &name, left, done);
-        (Repo { turns }, answer)
+        // Nobody else rests on these turns, so nothing is noted.
+        let (back, answer) = commit_txn(rt, alloc, turns, txn, properties, micros, no_note(), gate);
+        (Repo { turns: back }, answer)
     }
 }

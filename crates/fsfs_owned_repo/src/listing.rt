@@ -4,13 +4,13 @@ ghost use Rattle.fsfs_base.specs.Failures.{Rose};
 ghost use Rattle.fsfs_txns.specs.Txns.{text_of, AreTxns};
 ghost use Rattle.fsfs_turn.specs.Views.{View};
 ghost use Rattle.fsfs_owned_repo.specs.Crashes.{CrashesLeave};
-ghost use Rattle.fsfs_owned_repo.specs.Listings.{ListsSo};
+ghost use Rattle.fsfs_pass_txns.specs.Listings.{ListsSo};
 
 use crate::repo::Repo;
 use fsfs_disk::{Disk, ListFault};
 use fsfs_fields::TxnName;
+use fsfs_pass_txns::list_txns;
 use fsfs_turn::{Owned, Turns};
-use fsfs_txns::txns_among;
 use std::alloc::Global;
 
 impl<D: Disk> Repo<D> {
@@ -30,13 +30,6 @@ impl<D: Disk> Repo<D> {
         ensures failed { IsErrOf result ListFault.Failed → Rose (⟦<Owned<D> as Turns<R>>⟧.faults self.old.turns) (⟦<Owned<D> as Turns<R>>⟧.faults self.new.turns) }
         ensures wanting { IsErrOf result ListFault.Memory → ⟦<Owned<D> as Turns<R>>⟧.faults self.new.turns ≡ ⟦<Owned<D> as Turns<R>>⟧.faults self.old.turns }
     {
-        let entries = match <Owned<D> as Turns<R>>::list(&mut self.turns, rt, alloc) {
-            Ok(entries) => entries,
-            Err(fault) => return Err(fault),
-        };
-        match txns_among(alloc, &entries) {
-            Ok(names) => Ok(names),
-            Err(_) => Err(ListFault::Memory),
-        }
+        list_txns(rt, alloc, &mut self.turns)
     }
 }

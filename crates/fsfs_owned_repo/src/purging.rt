@@ -5,26 +5,17 @@ ghost use Rattle.fsfs_disk.specs.Labels.{has_label, without_label};
 ghost use Rattle.fsfs_machine.specs.Kept.{IsIn};
 ghost use Rattle.fsfs_txns.specs.Txns.{pair_of, txn_label};
 ghost use Rattle.fsfs_turn.specs.Views.{View};
-ghost use Rattle.fsfs_owned_repo.specs.Purged.{PurgesAny};
+ghost use Rattle.fsfs_pass_txns.specs.Purged.{PurgesAny};
 ghost use Rattle.fsfs_owned_repo.specs.Crashes.{CrashesLeave};
 
 use crate::repo::Repo;
-use fsfs_disk::{Bench, Disk};
-use fsfs_fields::TxnName;
+use fsfs_disk::Disk;
 use fsfs_held::HeldNodes;
 use fsfs_own::Own;
+use fsfs_pass_txns::purge_txn;
 use fsfs_turn::{Owned, Turns};
-use fsfs_turn_purge::{PurgeFault, purge};
+use fsfs_turn_purge::PurgeFault;
 use fsfs_txn::Txn;
-
-// The bench of a transaction, and its name.
-fn bench_of<B: Bench>(txn: Txn<HeldNodes<B>>) -> (TxnName, B)
-    ensures name { result.0 ≡ ⟦<HeldNodes<B> as Own>⟧.txn txn.own }
-    ensures bench { result.1 ≡ txn.own.bench }
-{
-    let name = txn.name();
-    (name, txn.into_own().into_bench())
-}
 
 impl<D: Disk> Repo<D> {
     /// Purges a transaction, also one whose bench has failed: what its bench holds goes, then the bench, and last its label. A failure
@@ -44,7 +35,6 @@ impl<D: Disk> Repo<D> {
         ensures mounted { D.mount_path self.new.turns.disk ≡ D.mount_path self.old.turns.disk }
         ensures cause { HasCause (⟦<Owned<D> as Turns<R>>⟧.faults self.old.turns) (⟦<Owned<D> as Turns<R>>⟧.faults self.new.turns) result }
     {
-        let (name, bench) = bench_of(txn);
-        purge(rt, &mut self.turns, &name, bench)
+        purge_txn(rt, &mut self.turns, txn)
     }
 }

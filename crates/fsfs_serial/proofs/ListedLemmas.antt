@@ -2,17 +2,9 @@
 use Rattle.std.proofs.Common.{◌≡◌, ◌⊎◌, ◌≤◌, ◌+◌, ℕ, List, [], ◌∷◌, ◌++◌, Bool, true, false, cond, refl, sym, ap, subst, ◌∙◌, length-append, inl, inr, ⊎_elim, arith}
 use Rattle.std.specs.Prelude.{◌||◌, Option, Some, None, IfSome, option_map}
 use Rattle.fsfs_disk.specs.Labels.{Label, same_label, has_label, without_label, AreLeft}
-use Rattle.fsfs_disk.proofs.LabelLemmas.{without-AreLeft, left_itself, left_then}
+use Rattle.fsfs_disk.proofs.LabelLemmas.{without-AreLeft, without_absent, left_itself, left_then}
 use Rattle.fsfs_txns.specs.Txns.{txn_label}
 use Rattle.fsfs_serial.specs.Listed.{without_txns, LeavesListed, AreUnlisted, NoneIsLeft, AllAreKept, ListingsGoOn}
-
-without_absent : (l : Label) (ls : List Label) → has_label l ls ≡ false → without_label l ls ≡ ls
-without_absent l [] absent = refl
-without_absent l (k ∷ ls) absent = by_head (same_label k l) (without_absent l ls) absent
-  where
-    by_head : (b : Bool) → (has_label l ls ≡ false → without_label l ls ≡ ls) → (b || has_label l ls) ≡ false → cond b (without_label l ls) (k ∷ without_label l ls) ≡ k ∷ ls
-    by_head true rest none = cc
-    by_head false rest none = ap (λ (x : List Label). k ∷ x) (rest none)
 
 -- ---- the laws
 

@@ -5,7 +5,7 @@ use Rattle.std.specs.FinMap.{get}
 use Rattle.fsfs_base.specs.Files.{Files}
 use Rattle.fsfs_layout.specs.Small.{IsRevLine}
 use Rattle.fsfs_layout.specs.declared.layout.Layout.{Layout}
-use Rattle.fsfs_disk.specs.Trace.{Trace, Operation, Done, Attempted, add_operation, change_of, files_after, ImageAfter, TornBy, files_now, Performs, Attempts, FailsAt, FailsToPut}
+use Rattle.fsfs_disk.specs.Trace.{Trace, Operation, Done, Attempted, add_operation, change_of, files_after, ImageAfter, TornBy, files_now, Performs, FailsAt, FailsToPut}
 use Rattle.fsfs_disk.specs.Trace as real
 use Rattle.fsfs_machine.specs.declared.contents.FileName.{FileName}
 use Rattle.fsfs_machine.specs.declared.contents.FileName.TheVariants.{Current, CurrentNext, Counter, CounterNext, Props}

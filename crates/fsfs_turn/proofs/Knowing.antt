@@ -10,7 +10,7 @@ use Rattle.fsfs_layout.specs.Small.{IsRevLine}
 use Rattle.fsfs_layout.specs.declared.only_file.OnlyFile.TheVariants as only
 use Rattle.fsfs_hash.specs.Dump.{IsDump}
 use Rattle.fsfs_disk.specs.Labels.{Label, same_label, has_label, with_label, without_label}
-use Rattle.fsfs_disk.specs.Trace.{Trace, KeepLabel, DropLabel, file_at, files_now, labels_now, IsRead, IsSize, Performs, PerformsIfThere, FailsAt, FailsToPut, FailsToAdopt, StaysAt}
+use Rattle.fsfs_disk.specs.Trace.{Trace, KeepLabel, DropLabel, file_at, files_now, labels_now, IsRead, IsSize, Performs, PerformsIfThere, FailsAt, FailsToPut, FailsToAdopt}
 use Rattle.fsfs_disk.specs.Trace as real
 use Rattle.fsfs_disk.proofs.TraceLemmas.{file_at-put}
 use Rattle.fsfs_machine.specs.declared.machine.Recorded.{Recorded}

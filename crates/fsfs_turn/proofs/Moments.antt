@@ -3,7 +3,7 @@ use Rattle.std.proofs.Common.{◌≡◌, ◌⊎◌, ◌≤◌, ◌+◌, ℕ, Lis
 use Rattle.std.specs.Prelude.{Option, Some, None}
 use Rattle.fsfs_base.specs.Files.{Files}
 use Rattle.fsfs_layout.specs.declared.layout.Layout.{Layout}
-use Rattle.fsfs_disk.specs.Trace.{Trace, Operation, change_of, files_after, ImageAfter, TornBy, ImageSince, add_operation}
+use Rattle.fsfs_disk.specs.Trace.{Trace, Operation, change_of, files_after, ImageAfter, TornBy, add_operation}
 use Rattle.fsfs_disk.specs.Trace as real
 use Rattle.fsfs_machine.specs.declared.machine.Recorded.{Recorded}
 use Rattle.fsfs_machine.specs.declared.machine.Coming.{Coming}

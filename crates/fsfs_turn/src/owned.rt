@@ -59,7 +59,7 @@ impl<R, D: Disk> Turns<R> for Owned<D> {
     ghost use Rattle.fsfs_turn.specs.Telling.{OwnedState, state_of, owned_view};
     ghost use Rattle.fsfs_turn.specs.OwnedLemmas.{owned_tells, owned_benches_tell, never_bound};
     ghost use Rattle.fsfs_fetch.specs.OwnedShort.{owned_short};
-    ghost use Rattle.std.specs.Prelude.{ℕ, false, IfOk, OnErr};
+    ghost use Rattle.std.specs.Prelude.{ℕ, List, false, IfOk, OnErr};
     ghost use Rattle.fsfs_base.specs.Failures.{HasCause};
     ghost use Rattle.fsfs_disk.specs.Labels.{Txn as TxnLabel, label_of, without_label};
     ghost use Rattle.fsfs_machine.specs.declared.machine.Txn.{Txn};
@@ -84,6 +84,8 @@ impl<R, D: Disk> Turns<R> for Owned<D> {
     ghost labels = { λ s. option_map labels_now (D.trace s.disk) };
 
     ghost faults = { λ s. D.faults s.disk };
+
+    ghost Mount = { List ℕ };
 
     ghost mount_path = { λ s. D.mount_path s.disk };
 

@@ -68,8 +68,11 @@ pub trait Turns<R> {
     /// How often its turns have failed. The count stops at the last number of a u64.
     ghost faults: { Self → ℕ };
 
-    /// The path that its disk was mounted for. No call changes it.
-    ghost mount_path: { Self → List ℕ };
+    /// What is told of where the turns are.
+    ghost Mount: { Type 0 };
+
+    /// Where they are: the path that their disk was mounted for, and of a pass of several also where it sits. No call changes it.
+    ghost mount_path: { Self → Mount };
 
     /// How the files are laid out.
     fn layout(&self) -> Layout

@@ -1,6 +1,6 @@
 -- A begin of a pass beside others: it is told the youngest revision and reads, and what it knows goes on.
-use Rattle.std.proofs.Common.{◌≡◌, ◌⊎◌, ◌≤◌, ◌<◌, ℕ, List, [], ◌∷◌, length, Bool, true, false, inl, inr, ⊎_elim, refl, sym, ap, subst, ◌∙◌, arith}
-use Rattle.std.specs.Prelude.{Some, None, Option, Result, Ok, Err, IfOk, IfErr, OnOk, OnErr}
+use Rattle.std.proofs.Common.{◌≡◌, ◌⊎◌, ◌≤◌, ◌<◌, ℕ, List, [], ◌∷◌, length, Bool, false, inl, inr, refl, sym, ap, subst, ◌∙◌, arith}
+use Rattle.std.specs.Prelude.{Some, None, is_some, Option, Result, Ok, Err, IfOk, IfErr, OnOk, OnErr}
 use Rattle.fsfs_base.specs.Files.{Files}
 use Rattle.fsfs_damage.specs.Readings.{Answers}
 use Rattle.fsfs_damage.specs.declared.wrong.ReadError.{ReadError}
@@ -8,6 +8,7 @@ use Rattle.fsfs_damage.specs.declared.wrong.ReadError.TheVariants as errors
 use Rattle.fsfs_disk.specs.Labels.{Label, with_label}
 use Rattle.fsfs_fields.specs.declared.txn_name.TxnName.{TxnName}
 use Rattle.fsfs_noderev.specs.declared.node_rev.NodeRev.{NodeRev}
+use Rattle.fsfs_places.specs.declared.place.BeginPlace.TheVariants as begin
 use Rattle.fsfs_book.specs.Told.{RevisionBytes}
 use Rattle.fsfs_damage.specs.declared.wrong.Wrong.{Wrong}
 use Rattle.fsfs_shows.specs.Reading.{RootOf}
@@ -21,7 +22,6 @@ use Rattle.fsfs_machine.specs.declared.machine.Section.TheVariants.{Begun}
 use Rattle.fsfs_machine.specs.declared.machine.Outcome.TheVariants as outcome
 use Rattle.fsfs_machine.specs.declared.machine.Step.TheVariants as step
 use Rattle.fsfs_machine.specs.Kept.{IsIn}
-use Rattle.fsfs_turn.specs.Alone.{BringsNoDoubt}
 use Rattle.fsfs_turn.specs.Bytes.{bytes_of}
 use Rattle.fsfs_turn.specs.Courses.{Course, ReadOnly, End as CourseEnd, More as CourseMore}
 use Rattle.fsfs_turn.specs.Labels.{KeepsLabels, Relabels}
@@ -31,7 +31,7 @@ use Rattle.fsfs_turn.proofs.Doubts.{same_faults}
 use Rattle.fsfs_turn.proofs.Reading.{begins_on}
 use Rattle.fsfs_turn_begin.specs.Steps.{Steps, End, HasName, Moved}
 use Rattle.fsfs_turn_begin.specs.Drawing.{Draws}
-use Rattle.fsfs_turn_begin.specs.Faults.{Cause, read_fault}
+use Rattle.fsfs_turn_begin.specs.Faults.{Cause, LacksNumber, NoNumber, named_fault, read_fault}
 use Rattle.fsfs_turn_begin.specs.Begun.{IsMade, IsMadeAmong, HasBegunAmong}
 use Rattle.fsfs_turn_begin.specs.Labels.{ListsNoMore}
 use Rattle.fsfs_turn_begin.specs.declared.begin_fault.BeginFault.{BeginFault}
@@ -44,14 +44,23 @@ use Rattle.fsfs_turn_begin.proofs.Moving.{moved_on, by_look, moved_by, may_give,
 pub held_begun : (v : View) → v.section ≡ Some Begun → MayGive v
 held_begun v at = record { inside = Begun; is = at; quiet = refl }
 
-pub give_due : (known : View → Type 0) (base : ℕ) (r : Result TxnName NameFault) (m : View) (P S : Type 0) → m.section ≡ Some Begun → S → Draws known base r m ⊎ (P × (S → OnOk r ⊥ × known m)) → (u : View) × known u × MayGive u
-give_due known base r m P S at s (inr p) = (m, (p.1 s).1, held_begun m at)
+pub give_due : (known : View → Type 0) (base : ℕ) (r : Result TxnName NameFault) (m : View) (P S : Type 0) → m.section ≡ Some Begun → S → Draws known base r m ⊎ (P × (S → OnOk r ⊥ × IfErr r NoNumber × known m)) → (u : View) × known u × MayGive u
+give_due known base r m P S at s (inr p) = (m, (p.1 s).2, held_begun m at)
 give_due known base (Ok name) m P S at s (inl d) = (d.0, d.1, given_over name.number.number m d.0 d.2)
 give_due known base (Err why) m P S at s (inl d) = (d.0, d.1, may_give base m d.0 why d.2)
 
 -- nothing was drawn
+pub lacks_named : (why : NameFault) → NoNumber why → LacksNumber (named_fault why)
+lacks_named (names.Small fault) w = absurd w
+lacks_named names.NamesFull w = tt
+lacks_named (names.DiskFault begin.Read) w = tt
+lacks_named (names.DiskFault begin.Put) w = absurd w
+lacks_named (names.DiskFault begin.Rename) w = absurd w
+lacks_named (names.DiskFault begin.Firm) w = absurd w
+lacks_named names.Memory w = absurd w
+
 pub undrawn_moved : (v m u : View) → LockTaken v m → LockGiven (step.GiveLock m.number) m u → Moved v u
-undrawn_moved v m u t g = moved_by v m m u t g (begins_itself m.seen) (End m) refl refl refl refl refl refl refl (λ few. few)
+undrawn_moved v m u t g = moved_by v m m u t g (begins_itself m.seen) (End m) refl refl refl refl refl refl refl refl (λ few. few)
 
 -- ---- reading
 
@@ -70,6 +79,7 @@ by_reading v u none r = record {
   grows = r.grows;
   more = [];
   given = ap {A = View} (λ z. z.given) r.is;
+  still = λ stuck. ap {A = View} (λ z. is_some z.pass.stuck) r.is ∙ stuck;
   outside = ap {A = View} (λ z. z.section) r.is ∙ none;
   doubtless = r.doubtless;
   steps = steps_of v u r.course;

@@ -1,16 +1,14 @@
 -- The label and the files of a bench that was made or dropped.
 use Rattle.std.proofs.Common.{◌≡◌, ◌≤◌, ℕ, List, [], ◌∷◌, ◌++◌, Bool, true, false, cond, inl, inr, ⊎_elim, refl, sym, ap, subst, ◌∙◌, arith}
-use Rattle.std.specs.Prelude.{Option, Some, None, IfSome, IfOk, option_map, Result, Ok, Err, OnOk, OnErr}
+use Rattle.std.specs.Prelude.{Option, Some, None, IfSome, IfOk, option_map, Result, Ok, Err, OnErr}
 use Rattle.std.specs.FinMap.{empty}
 use Rattle.fsfs_base.specs.Files.{Files}
 use Rattle.fsfs_base.specs.Failures.{Rose}
 use Rattle.fsfs_disk.specs.Labels.{Label, same_label, has_label, with_label, without_label}
 use Rattle.fsfs_disk.proofs.LabelLemmas.{has-without, has-with, same_label-itself}
-use Rattle.fsfs_fields.specs.declared.txn_name.TxnName.{TxnName}
 use Rattle.fsfs_noderev.specs.declared.node_id.NodeId.{NodeId}
 use Rattle.fsfs_begin.specs.Benches.{first_files, with_first_files}
 use Rattle.fsfs_turn.specs.Labels.{Relabels, Drops}
-use Rattle.fsfs_txns.specs.Txns.{pair_of, txn_label}
 use Rattle.fsfs_turn_begin.specs.Faults.{IsDropped}
 use Rattle.fsfs_turn_begin.specs.Labels.{IsUnlisted, ListsNoMore}
 

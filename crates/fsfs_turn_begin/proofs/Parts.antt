@@ -2,13 +2,10 @@
 use Rattle.std.proofs.Common.{◌≡◌, ◌≤◌, ◌<◌, ℕ, List, [], ◌∷◌, length, false, inl, inr, ⊎_elim, refl, sym, ap, subst, ◌∙◌, arith}
 use Rattle.std.specs.Prelude.{Some, None, Option, Result, Ok, Err, IfOk, IfErr, OnOk}
 use Rattle.fsfs_base.specs.Files.{Files}
-use Rattle.fsfs_damage.specs.Readings.{Answers}
-use Rattle.fsfs_damage.specs.declared.wrong.ReadError.{ReadError}
 use Rattle.fsfs_damage.specs.declared.wrong.ReadError.TheVariants as errors
 use Rattle.fsfs_disk.specs.Labels.{Label, Txn}
 use Rattle.fsfs_fields.specs.declared.txn_name.TxnName.{TxnName}
 use Rattle.fsfs_noderev.specs.declared.node_rev.NodeRev.{NodeRev}
-use Rattle.fsfs_shows.specs.Reading.{RootOf}
 use Rattle.fsfs_txns.specs.Txns.{pair_of, txn_label}
 use Rattle.fsfs_places.specs.declared.place.DiskPlace.TheVariants as place
 use Rattle.fsfs_begin.specs.declared.making.BenchFault.{BenchFault as BenchCause}
@@ -22,13 +19,13 @@ use Rattle.fsfs_turn.specs.Bytes.{bytes_of}
 use Rattle.fsfs_turn.specs.Views.{View, Begins, Looked}
 use Rattle.fsfs_turn.specs.Learning.{MayMake, drawn_of}
 use Rattle.fsfs_turn_begin.specs.Steps.{HasName, HasFault, Moved}
-use Rattle.fsfs_turn_begin.specs.Faults.{Cause, IfBench, IfBenchDisk, IsNoBench, IsDropped, LeavesNone, made_fault, read_fault}
+use Rattle.fsfs_turn_begin.specs.Faults.{Cause, IfBench, IfBenchDisk, IsNoBench, IsDropped, LeavesNone, made_fault}
 use Rattle.fsfs_turn_begin.specs.Begun.{IsMade, HasBegun}
 use Rattle.fsfs_turn_begin.specs.declared.begin_fault.BeginFault.{BeginFault}
 use Rattle.fsfs_turn_begin.specs.declared.begin_fault.BeginFault.TheVariants.{NoRev, Stuck, Small, NamesFull, Wrong, DiskFault, BenchFault, Memory}
 use Rattle.fsfs_turn.proofs.Reading.{begins_on}
 use Rattle.fsfs_turn_begin.proofs.Going.{steps_on, one_turn}
-use Rattle.fsfs_turn_begin.proofs.Moving.{moved_itself, moved_on, by_look, by_name, bytes_stay, longer}
+use Rattle.fsfs_turn_begin.proofs.Moving.{moved_on, by_look, by_name, bytes_stay, longer}
 
 -- ---- what was drawn
 

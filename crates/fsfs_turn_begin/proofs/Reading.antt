@@ -23,6 +23,7 @@ use Rattle.fsfs_turn.specs.Learning.{ReadsCounter, CounterRead}
 use Rattle.fsfs_places.specs.declared.place.BeginPlace.TheVariants as place
 use Rattle.fsfs_turn_begin.specs.Steps.{IsPastNumbers, MeetsPastNumbers}
 use Rattle.fsfs_turn_begin.specs.Drawing.{Counts, HasRead}
+use Rattle.fsfs_turn_begin.specs.Faults.{NoNumber}
 use Rattle.fsfs_turn_begin.proofs.Going.{count_reached, count_stopped}
 
 few_or_many : (n : ℕ) → (n < 2 ^ 64 - 1) ⊎ (2 ^ 64 - 1 ≤ n)
@@ -48,16 +49,16 @@ pub ok_either : {X E D Q P : Type 0} (r : Result X E) (A : X → Type 0) → (D 
 ok_either (Ok x) A f g w = either_way f g w
 ok_either (Err e) A f g w = tt
 
-pub err_either : {X E D Q P : Type 0} (r : Result X E) (A : E → Type 0) → (D → IfErr r A) → (Q → P) → D ⊎ Q → IfErr r (λ e. A e ⊎ P)
-err_either (Ok x) A f g w = tt
-err_either (Err e) A f g w = either_way f g w
+pub err_either : {X E D Q : Type 0} (r : Result X E) (A P : E → Type 0) → (D → IfErr r A) → ((e : E) → Q → P e) → D ⊎ Q → IfErr r (λ e. A e ⊎ P e)
+err_either (Ok x) A P f g w = tt
+err_either (Err e) A P f g w = either_way f (g e) w
 
 -- what was read of it
 module _ {E : Type 0} (known : View → Type 0) {Lasting : Type 0} (s : StoreView Lasting) (base : ℕ) (old new : List ℕ) (v : View) (size : length old ≡ 64) where
   -- where bytes came, they are the number's
   pub counts_some : (count : ℕ) (bytes : List ℕ) (found : Result B36 NameFault) → bytes ≡ take count new → (r : Result (Option ℕ) E) → r ≡ Ok (Some count) → ReadsCounter known s.files base r old new v
-      → IfOk found (λ b. IsBase36Line bytes b.number) → IfErr found (IsSmallIn bytes) → Counts known base found v ⊎ (known v × IfOk found (λ b. 2 ^ 64 - 1 ≤ b.number) × IsPastNumbers s)
-  counts_some count bytes found bytes_are r is c ok err = ⊎_elim (λ few. inl (by_found few found ok err)) (λ many. inr (c.full many, past_found many found ok, past_there s c.files c.text c.number c.files_are c.there c.line many)) (few_or_many c.number)
+      → IfOk found (λ b. IsBase36Line bytes b.number) → IfErr found (IsSmallIn bytes) → Counts known base found v ⊎ (known v × IfOk found (λ b. 2 ^ 64 - 1 ≤ b.number) × IfErr found NoNumber × IsPastNumbers s)
+  counts_some count bytes found bytes_are r is c ok err = ⊎_elim (λ few. inl (by_found few found ok err)) (λ many. inr (c.full many, past_found many found ok, past_err found err, past_there s c.files c.text c.number c.files_are c.there c.line many)) (few_or_many c.number)
     where
       first : bytes ≡ take 64 c.text
       first = bytes_are ∙ read_first (Some c.text) old new (Some count) count size (subst (λ q. IfOk q (IsRead (Some c.text) 0 old new)) is c.read) refl
@@ -68,6 +69,13 @@ module _ {E : Type 0} (known : View → Type 0) {Lasting : Type 0} (s : StoreVie
       past_found : 2 ^ 64 - 1 ≤ c.number → (found : Result B36 NameFault) → IfOk found (λ b. IsBase36Line bytes b.number) → IfOk found (λ b. 2 ^ 64 - 1 ≤ b.number)
       past_found many (Ok b) ok = let same : c.number ≡ b.number = one_number bytes c.number b.number line ok in subst (λ n. 2 ^ 64 - 1 ≤ n) same many
       past_found many (Err why) ok = tt
+
+      past_err : (found : Result B36 NameFault) → IfErr found (IsSmallIn bytes) → IfErr found NoNumber
+      past_err (Ok b) err = tt
+      past_err (Err (Small fault)) err = absurd (err.0 c.number line)
+      past_err (Err NamesFull) err = absurd err
+      past_err (Err (DiskFault call)) err = absurd err
+      past_err (Err Memory) err = absurd err
 
       turned : c.number < 2 ^ 64 - 1 → (u : View) × (went : Went) × known u × (is_fine_in went ≡ true) × CounterRead base c.number went v u
       turned few = subst (λ (q : Result (Option ℕ) E). (u : View) × (went : Went) × known u × Answers q went × CounterRead base c.number went v u) is (c.turned few)
@@ -86,13 +94,13 @@ module _ {E : Type 0} (known : View → Type 0) {Lasting : Type 0} (s : StoreVie
       by_found few (Err Memory) ok err = absurd err
 
   -- there is such a file
-  pub counts_none : (found : Result B36 NameFault) (r : Result (Option ℕ) E) → r ≡ Ok None → ReadsCounter known s.files base r old new v → Counts known base found v ⊎ (known v × IfOk found (λ b. 2 ^ 64 - 1 ≤ b.number) × IsPastNumbers s)
+  pub counts_none : (found : Result B36 NameFault) (r : Result (Option ℕ) E) → r ≡ Ok None → ReadsCounter known s.files base r old new v → Counts known base found v ⊎ (known v × IfOk found (λ b. 2 ^ 64 - 1 ≤ b.number) × IfErr found NoNumber × IsPastNumbers s)
   counts_none found r is c =
       let read : IsRead (Some c.text) 0 old new None = subst (λ q. IfOk q (IsRead (Some c.text) 0 old new)) is c.read in
       let h = read.0 in absurd cc
 
-  pub counts_failed : (e : E) (r : Result (Option ℕ) E) → r ≡ Err e → ReadsCounter known s.files base r old new v → Counts known base (Err (DiskFault place.Read)) v ⊎ (known v × Unit {0} × IsPastNumbers s)
-  counts_failed e r is c = ⊎_elim (λ few. inl (failed few)) (λ many. inr (c.full many, tt, past_there s c.files c.text c.number c.files_are c.there c.line many)) (few_or_many c.number)
+  pub counts_failed : (e : E) (r : Result (Option ℕ) E) → r ≡ Err e → ReadsCounter known s.files base r old new v → Counts known base (Err (DiskFault place.Read)) v ⊎ (known v × Unit {0} × Unit {0} × IsPastNumbers s)
+  counts_failed e r is c = ⊎_elim (λ few. inl (failed few)) (λ many. inr (c.full many, tt, tt, past_there s c.files c.text c.number c.files_are c.there c.line many)) (few_or_many c.number)
     where
       failed : c.number < 2 ^ 64 - 1 → Counts known base (Err (DiskFault place.Read)) v
       failed few =

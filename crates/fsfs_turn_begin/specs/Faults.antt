@@ -7,6 +7,7 @@ use Rattle.fsfs_begin.specs.declared.name_fault.NameFault.TheVariants as names
 use Rattle.fsfs_disk.specs.Labels.{Label, Txn, has_label}
 use Rattle.fsfs_damage.specs.declared.wrong.ReadError.{ReadError}
 use Rattle.fsfs_damage.specs.declared.wrong.ReadError.TheVariants as errors
+use Rattle.fsfs_places.specs.declared.place.BeginPlace.TheVariants as begin
 use Rattle.fsfs_places.specs.declared.place.DiskPlace.TheVariants as place
 use Rattle.fsfs_shows.specs.Reading.{RootOf}
 use Rattle.fsfs_turn.specs.Bytes.{bytes_of}
@@ -67,6 +68,21 @@ IsAbove base fault = Unit {0}
 abbrev pub IfBench : BeginFault → Type 0 → Type 0
 IfBench BenchFault P = P
 IfBench fault P = Unit {0}
+
+-- No number was drawn: the next one isn't among those that may be drawn, or it could not be read.
+abbrev pub NoNumber : NameFault → Type 0
+NoNumber (names.Small fault) = ⊥
+NoNumber names.NamesFull = Unit {0}
+NoNumber (names.DiskFault begin.Read) = Unit {0}
+NoNumber (names.DiskFault begin.Put) = ⊥
+NoNumber (names.DiskFault begin.Rename) = ⊥
+NoNumber (names.DiskFault begin.Firm) = ⊥
+NoNumber names.Memory = ⊥
+
+abbrev pub LacksNumber : BeginFault → Type 0
+LacksNumber NamesFull = Unit {0}
+LacksNumber (DiskFault (place.Begin begin.Read)) = Unit {0}
+LacksNumber fault = ⊥
 
 -- the label isn't kept, where these are, or the disk failed to drop it
 abbrev pub IsDropped : Label → Option (List Label) → Type 0 → Type 0

@@ -1,5 +1,5 @@
 -- What the turns of a begin come to, in what the pass knows.
-use Rattle.std.specs.Prelude.{◌≡◌, ◌≤◌, ◌<◌, ◌^◌, ◌-◌, ℕ, List, [], ◌∷◌, ◌++◌, length, false, Some, None}
+use Rattle.std.specs.Prelude.{◌≡◌, ◌≤◌, ◌<◌, ◌^◌, ◌-◌, ℕ, List, [], ◌∷◌, ◌++◌, length, true, false, Some, None, is_some}
 use Rattle.fsfs_base.specs.Files.{Files}
 use Rattle.fsfs_layout.specs.FileNames.{only_name}
 use Rattle.fsfs_layout.specs.Opening.{text_at}
@@ -60,6 +60,8 @@ pub record Moved (v u : View) : Type 0 where
   pub grows : Begins u.seen v.seen
   pub more : List ℕ
   pub given : u.given ≡ more ++ v.given
+  -- a pass that found the lock stuck knows so still
+  pub still : is_some v.pass.stuck ≡ true → is_some u.pass.stuck ≡ true
   pub outside : u.section ≡ None
   pub doubtless : BringsNoDoubt v u
   pub steps : Steps v u

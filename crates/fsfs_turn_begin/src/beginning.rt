@@ -10,7 +10,7 @@ ghost use Rattle.fsfs_turn.specs.Labels.{Relabels};
 ghost use Rattle.fsfs_turn.specs.Views.{View};
 ghost use Rattle.fsfs_turn.specs.Learning.{MayMake, drawn_of};
 ghost use Rattle.fsfs_turn_begin.specs.Steps.{MeetsPastNumbers, Moved};
-ghost use Rattle.fsfs_turn_begin.specs.Faults.{Cause, IfBench, IfDisk, IsAbove, IsDropped, LeavesNone, read_fault};
+ghost use Rattle.fsfs_turn_begin.specs.Faults.{Cause, IfBench, IfDisk, IsAbove, IsDropped, LacksNumber, LeavesNone, read_fault};
 ghost use Rattle.fsfs_turn_begin.specs.Begun.{HoldsRoot, IsMade, IsMadeAmong, HasBegun, HasBegunAmong};
 ghost use Rattle.fsfs_turn_begin.specs.Labels.{ListsNoMore};
 ghost use Rattle.fsfs_turn_begin.specs.declared.numbers.Numbers.TheVariants.{OfMachine};
@@ -98,14 +98,15 @@ pub fn begin<R, T: Turns<R>>(
     ensures sound { IfOk result.1 (λ begun. T.Bench.faults begun.bench ≡ 0) }
     ensures kept { IfSome (T.labels result.0) (λ ls. IfOk result.1 (λ begun. has_label (txn_label (pair_of begun.name)) ls ≡ true)) }
     // What the pass knows then; and why none was begun, where none was. Or a number stood in `db/txn-current`, as a call met it, that the
-    // machine doesn't read: where only those that it reads are drawn, none was begun then, and the lock was given.
+    // machine doesn't read: where only those that it reads are drawn, none was begun then, for want of a number or since its read failed, and
+    // the lock was given.
     ensures begun { (v : View) → T.knows turns v → v.section ≡ None
         → IfOk result.1 (λ begun. ((u : View) × T.knows result.0 u × HasBegunAmong begun.name begun.root (T.Bench.contents begun.bench) v u)
         ⊎ (MeetsPastNumbers T.store turns × (numbers ≡ OfMachine → ⊥))) }
     ensures refused { (v : View) → T.knows turns v → v.section ≡ None
         → IfErr result.1 (λ why. ((u : View) × T.knows result.0 u × Moved v u × Cause base why u
         × IfBench why (LeavesNone base (T.labels result.0) (Rose (T.faults turns) (T.faults result.0)) v u))
-        ⊎ (MeetsPastNumbers T.store turns × (numbers ≡ OfMachine → (u : View) × T.knows result.0 u × Moved v u))) }
+        ⊎ (MeetsPastNumbers T.store turns × (numbers ≡ OfMachine → LacksNumber why × ((u : View) × T.knows result.0 u × Moved v u)))) }
     // Where what is known is of what no reading changes, as it is for a pass that is alone, reading tells it nothing.
     ensures alone { ((old new : T) (v : View) → (T.store new).below ≡ (T.store old).below → T.knows old v → T.knows new v)
         → (v : View) → T.knows turns v → v.section ≡ None

@@ -9,7 +9,7 @@ ghost use Rattle.fsfs_turn.specs.Labels.{KeepsLabels};
 ghost use Rattle.fsfs_turn.specs.Views.{View};
 ghost use Rattle.fsfs_turn_begin.specs.Steps.{MeetsPastNumbers, Moved};
 ghost use Rattle.fsfs_turn_begin.specs.declared.numbers.Numbers.TheVariants.{OfMachine};
-ghost use Rattle.fsfs_turn_begin.specs.Faults.{IfDisk, IfNameDisk, IsNoBase, IsNoBench, named_fault};
+ghost use Rattle.fsfs_turn_begin.specs.Faults.{IfDisk, IfNameDisk, IsNoBase, IsNoBench, LacksNumber, NoNumber, named_fault};
 ghost use Rattle.fsfs_turn_begin.specs.Drawing.{Counts, Raises, Draws, Drew};
 
 use crate::begin_fault::BeginFault;
@@ -41,7 +41,7 @@ fn number_in(bytes: &[u8]) -> Result<B36, NameFault>
 fn read_number<R, T: Turns<R>>(rt: &R, turns: &mut T, base: RevNum) -> Result<B36, NameFault>
     requires due { T.bound turns.old ≡ true → (v : View) × T.knows turns.old v × (v.section ≡ Some Begun) × (base ≤ v.pass.least) }
     ensures counted { (v : View) → T.knows turns.old v → v.section ≡ Some Begun → base ≤ v.pass.least
-        → Counts (T.knows turns.new) base result v ⊎ (T.knows turns.new v × IfOk result (λ b. 2 ^ 64 - 1 ≤ b.number) × MeetsPastNumbers T.store turns.old) }
+        → Counts (T.knows turns.new) base result v ⊎ (T.knows turns.new v × IfOk result (λ b. 2 ^ 64 - 1 ≤ b.number) × IfErr result NoNumber × MeetsPastNumbers T.store turns.old) }
     ensures mounted { T.mount_path turns.new ≡ T.mount_path turns.old }
     ensures duty { T.bound turns.new ≡ T.bound turns.old }
     ensures listed { KeepsLabels (T.bound turns.old) (T.labels turns.old) (T.labels turns.new) }
@@ -95,7 +95,7 @@ fn next_name<R, T: Turns<R>>(
     requires due { T.bound turns.old ≡ true → (v : View) × T.knows turns.old v × (v.section ≡ Some Begun) × (base ≤ v.pass.least) }
     ensures base { IfOk result (λ name. name.base ≡ base) }
     ensures drawn { (v : View) → T.knows turns.old v → v.section ≡ Some Begun → base ≤ v.pass.least
-        → Draws (T.knows turns.new) base result v ⊎ (MeetsPastNumbers T.store turns.old × (numbers ≡ OfMachine → OnOk result ⊥ × T.knows turns.new v)) }
+        → Draws (T.knows turns.new) base result v ⊎ (MeetsPastNumbers T.store turns.old × (numbers ≡ OfMachine → OnOk result ⊥ × IfErr result NoNumber × T.knows turns.new v)) }
     ensures mounted { T.mount_path turns.new ≡ T.mount_path turns.old }
     ensures duty { T.bound turns.new ≡ T.bound turns.old }
     ensures listed { KeepsLabels (T.bound turns.old) (T.labels turns.old) (T.labels turns.new) }
@@ -146,7 +146,7 @@ pub(crate) fn draw<R, T: Turns<R>>(
     requires due { T.bound turns.old ≡ true → (v : View) × T.knows turns.old v × (v.section ≡ None) × (base ≤ v.pass.least) }
     ensures base { IfOk result (λ name. name.base ≡ base) }
     ensures drew { (v : View) → T.knows turns.old v → v.section ≡ None → base ≤ v.pass.least
-        → Drew (T.knows turns.new) base result v ⊎ (MeetsPastNumbers T.store turns.old × (numbers ≡ OfMachine → OnOk result ⊥ × ((u : View) × T.knows turns.new u × Moved v u))) }
+        → Drew (T.knows turns.new) base result v ⊎ (MeetsPastNumbers T.store turns.old × (numbers ≡ OfMachine → OnOk result ⊥ × IfErr result LacksNumber × ((u : View) × T.knows turns.new u × Moved v u))) }
     ensures mounted { T.mount_path turns.new ≡ T.mount_path turns.old }
     ensures duty { T.bound turns.new ≡ T.bound turns.old }
     ensures listed { KeepsLabels (T.bound turns.old) (T.labels turns.old) (T.labels turns.new) }

@@ -7,7 +7,8 @@ use Rattle.fsfs_layout.specs.declared.layout.Layout.{Layout}
 use Rattle.fsfs_book.specs.Told.{Telling}
 use Rattle.fsfs_fetch.specs.Views.{View as StoreView, Reach, Ends, Grows, IsKnown, Follows, FilesLater, Later}
 use Rattle.fsfs_fetch.specs.ViewLemmas.{extends_same, known_later}
-use Rattle.fsfs_fetch.specs.Kept.{TellsOwn}
+use Rattle.fsfs_fetch.specs.Kept.{TellsOwn, telling}
+use Rattle.fsfs_fetch.specs.declared.manifests.KeptManifest.{KeptManifest}
 use Rattle.fsfs_turn.specs.Bytes.{AllShow, bytes_beside}
 use Rattle.fsfs_turn.specs.Telling.{TellsSeen}
 use Rattle.fsfs_turn.proofs.Standings.{there_below}
@@ -19,7 +20,7 @@ use Rattle.fsfs_turn.proofs.Reading.{reads_on}
 use Rattle.fsfs_turn_book.specs.GoesOn.{GoesOn}
 use Rattle.fsfs_turn_book.specs.Seen.{TellsUpTo, up_to}
 
-module _ {T : Type 0} (knows : T → View → Type 0) (mount_path : T → List ℕ) (bound : T → Bool) (labels : T → Option (List Label)) where
+module _ {T P : Type 0} (knows : T → View → Type 0) (mount_path : T → P) (bound : T → Bool) (labels : T → Option (List Label)) where
   -- before the first read
   pub begins : (first now : T) → first ≡ now → ((v : View) → knows now v → AllShow v.seen) → GoesOn knows mount_path bound labels first now
   begins first now same shown = subst (λ z. GoesOn knows mount_path bound labels z now) (sym same) (record {
@@ -48,6 +49,11 @@ module _ {T : Type 0} (knows : T → View → Type 0) (mount_path : T → List �
 
 -- ---- a store that is read up to a revision
 
+-- that one is told to be the youngest
+pub youngest_told : {First Below : Type 0} (last : ℕ) (first : First) (s : StoreView Below) (floor : ℕ) (kept : Option KeptManifest) → (telling (up_to last first s) floor kept).youngest ≡ Some last
+unfolding telling
+youngest_told last first s floor kept = refl
+
 known_below : (reach : Reach) (n r : ℕ) → r ≤ n → IsKnown reach n → IsKnown reach r
 known_below (Ends y) n r le known = omega (arith, le, known)
 known_below (Grows y) n r le known = omega (arith, le, known)
@@ -71,16 +77,16 @@ files_less layout more less (Some old) (Some new) within f = follows_less layout
 pub later_up_to : {First Below : Type 0} (last : ℕ) (first : First) (old new : StoreView Below) → IsKnown old.reach last → Later old new → Later (up_to last first old) (up_to last first new)
 later_up_to last first old new known l = record {
   layout = l.layout;
-  reach = extends_same (Grows last);
-  files = files_less old.layout old.reach (Grows last) old.files new.files (λ r le. known_below old.reach last r le known) l.files;
+  reach = extends_same (Ends last);
+  files = files_less old.layout old.reach (Ends last) old.files new.files (λ r le. known_below old.reach last r le known) l.files;
   below = ap (λ b. (first, b)) l.below;
 }
 
 pub known_on : {Below : Type 0} (last : ℕ) (old new : StoreView Below) → IsKnown old.reach last → Later old new → IsKnown new.reach last
 known_on last old new known l = known_later old.reach new.reach last l.reach known
 
-pub tells_up_to : {First Lasting Below : Type 0} (last : ℕ) (first : First) (s : StoreView Lasting) (floor : ℕ) (v : View) (told : Telling Below) → (seen : TellsSeen s v) → floor ≡ 0 → TellsOwn (up_to last first s) floor seen.files told → TellsUpTo last v told
-tells_up_to last first s floor v told seen zero own = record {
+pub tells_up_to : {First Lasting Below : Type 0} (last : ℕ) (first : First) (s : StoreView Lasting) (floor : ℕ) (v : View) (told : Telling Below) → (seen : TellsSeen s v) → floor ≡ 0 → TellsOwn (up_to last first s) floor seen.files told → told.youngest ≡ Some last → TellsUpTo last v told
+tells_up_to last first s floor v told seen zero own top = record {
   revs = λ r le less.
       let x = there_below v.seen r less in
       let one = seen.each r x.0 x.1 in
@@ -88,4 +94,5 @@ tells_up_to last first s floor v told seen zero own = record {
   props = λ r x le at.
       let one = seen.each r x at in
       (one.text, own.props r le ∙ ap (λ read. Some read) one.props, one.dump);
+  youngest = top;
 }

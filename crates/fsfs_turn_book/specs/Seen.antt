@@ -3,7 +3,7 @@ use Rattle.std.specs.Prelude.{◌≡◌, ◌<◌, ◌≤◌, ℕ, List, length, 
 use Rattle.fsfs_hash.specs.Dump.{IsDump}
 use Rattle.fsfs_book.specs.Told.{Telling}
 use Rattle.fsfs_machine.specs.declared.machine.Recorded.{Recorded}
-use Rattle.fsfs_fetch.specs.Views.{View as StoreView, Grows}
+use Rattle.fsfs_fetch.specs.Views.{View as StoreView, Ends}
 use Rattle.fsfs_turn.specs.Bytes.{bytes_of}
 use Rattle.fsfs_turn.specs.Views.{View}
 
@@ -16,11 +16,12 @@ pub record TellsRevisions (v : View) {Below : Type 0} (told : Telling Below) : T
   pub revs : (r : ℕ) → r < length v.seen → told.revs r ≡ Some (bytes_of v.seen r)
   pub props : (r : ℕ) (x : Recorded) → slice_get v.seen r ≡ Some x → TellsProps told r x
 
--- of those up to this one
+-- of those up to this one, which is told to be the youngest
 pub record TellsUpTo (last : ℕ) (v : View) {Below : Type 0} (told : Telling Below) : Type 0 where
   pub revs : (r : ℕ) → r ≤ last → r < length v.seen → told.revs r ≡ Some (bytes_of v.seen r)
   pub props : (r : ℕ) (x : Recorded) → r ≤ last → slice_get v.seen r ≡ Some x → TellsProps told r x
+  pub youngest : told.youngest ≡ Some last
 
 -- a store as it is read up to this revision, with the turns as they were first below it
 abbrev pub up_to : {First Below : Type 0} → ℕ → First → StoreView Below → StoreView (First × Below)
-up_to last first s = record { layout = s.layout; reach = Grows last; files = s.files; below = (first, s.below) }
+up_to last first s = record { layout = s.layout; reach = Ends last; files = s.files; below = (first, s.below) }

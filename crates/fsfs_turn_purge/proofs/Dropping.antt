@@ -1,5 +1,5 @@
 -- A purge from the turn that it makes.
-use Rattle.std.proofs.Common.{◌≡◌, ◌<◌, ℕ, List, length, true, false, refl, sym, subst}
+use Rattle.std.proofs.Common.{◌≡◌, ◌<◌, ℕ, List, length, true, false, sym, subst}
 use Rattle.std.specs.Prelude.{Bool, Option, Some, None, IfSome, option_map}
 use Rattle.fsfs_disk.specs.Labels.{Label, has_label, without_label}
 use Rattle.fsfs_disk.proofs.LabelLemmas.{has-without}

@@ -1,5 +1,5 @@
 -- What a purge comes to, in what the pass knows.
-use Rattle.std.specs.Prelude.{◌≡◌, ◌<◌, List, [], ◌∷◌, ◌++◌, length, false, Result, Ok, Err}
+use Rattle.std.specs.Prelude.{◌≡◌, ◌<◌, [], ◌∷◌, ◌++◌, length, false, Result, Ok, Err}
 use Rattle.fsfs_places.specs.declared.place.DiskPlace.{DiskPlace}
 use Rattle.fsfs_places.specs.declared.place.DiskPlace.TheVariants.{Remove}
 use Rattle.fsfs_machine.specs.declared.machine.Outcome.TheVariants.{Done, Failed}

@@ -4,6 +4,8 @@ use fsfs_memdisk::{MemDisk, MemHost};
 use fsfs_memstreams::{FixedClock, FixedDice, MemSink, MemSource, NoGate};
 use fsfs_top::{Tool, command};
 use std::alloc::{AllocError, Global};
+use std::sync::Wait;
+use std::thread::Threads;
 
 fn words_of(alloc: Global, rest: &str) -> Result<Vec<String>, AllocError> {
     let mut words = Vec::new(alloc);
@@ -13,13 +15,20 @@ fn words_of(alloc: Global, rest: &str) -> Result<Vec<String>, AllocError> {
     Ok(words)
 }
 
-fn run(alloc: Global, words: &[String], host: &mut MemHost, out: &mut Transcript) {
+fn run<T: Threads + Wait + Sync>(
+    rt: &T,
+    alloc: Global,
+    words: &[String],
+    host: &mut MemHost,
+    out: &mut Transcript,
+) {
     let mut input = MemSource::new(alloc, Vec::new(alloc));
     let mut sink = MemSink::new(alloc);
     let mut err = MemSink::new(alloc);
     let mut clock = FixedClock::new(0);
     let mut dice = FixedDice { bytes: [0; 16] };
     let status = command(
+        rt,
         alloc,
         Tool::Look,
         words,
@@ -30,6 +39,7 @@ fn run(alloc: Global, words: &[String], host: &mut MemHost, out: &mut Transcript
         &mut clock,
         &mut dice,
         &NoGate,
+        false,
     );
     out.show(&status);
     out.say("\n");
@@ -38,13 +48,19 @@ fn run(alloc: Global, words: &[String], host: &mut MemHost, out: &mut Transcript
 }
 
 /// Runs `svnlook` with these words over the disk, which is `R`, and gives the disk back.
-pub fn look(alloc: Global, disk: MemDisk, rest: &str, out: &mut Transcript) -> MemDisk {
+pub fn look<T: Threads + Wait + Sync>(
+    rt: &T,
+    alloc: Global,
+    disk: MemDisk,
+    rest: &str,
+    out: &mut Transcript,
+) -> MemDisk {
     let mut host = MemHost::new(alloc);
     let (Ok(words), Ok(())) = (words_of(alloc, rest), host.add_disk("R", disk)) else {
         out.lose();
         return MemDisk::new(alloc);
     };
-    run(alloc, &words, &mut host, out);
+    run(rt, alloc, &words, &mut host, out);
     match host.take_disk("R") {
         Some(disk) => disk,
         None => {

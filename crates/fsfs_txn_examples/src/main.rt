@@ -32,7 +32,7 @@ fn main(rt: HostRuntime) -> Result<()> {
     let text = io::read_to_string(alloc, rt.stdin())?;
     let mut out = Transcript::new(alloc);
     match words.as_slice() {
-        [] => play::play(alloc, text.as_str(), &mut out)?,
+        [] => play::play(&rt, alloc, text.as_str(), &mut out)?,
         [repos] => folder::play(&rt, repos.as_str(), text.as_str(), &mut out)?,
         _ => bail!("fsfs_txn_examples [REPOS]"),
     }

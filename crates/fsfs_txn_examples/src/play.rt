@@ -2,13 +2,20 @@
 use crate::stage::Stage;
 use fsfs_escapes::Transcript;
 use std::alloc::{AllocError, Global};
+use std::sync::Wait;
+use std::thread::Threads;
 
-fn call_lines(stage: Stage, lines: &[&str], out: &mut Transcript) -> Stage {
+fn call_lines<T: Threads + Wait + Sync>(
+    rt: &T,
+    stage: Stage,
+    lines: &[&str],
+    out: &mut Transcript,
+) -> Stage {
     let mut stage = stage;
     for line in lines {
         out.say(line);
         out.say(": ");
-        stage = stage.call(line, out);
+        stage = stage.call(rt, line, out);
         if !out.as_str().ends_with("\n") {
             out.say("\n");
         }
@@ -17,17 +24,24 @@ fn call_lines(stage: Stage, lines: &[&str], out: &mut Transcript) -> Stage {
 }
 
 // The stage behind the lines with which each example begins.
-fn set_stage(alloc: Global, first: &[&str]) -> Stage {
+fn set_stage<T: Threads + Wait + Sync>(rt: &T, alloc: Global, first: &[&str]) -> Stage {
     let mut unseen = Transcript::new(alloc);
-    call_lines(Stage::new(alloc), first, &mut unseen)
+    call_lines(rt, Stage::new(alloc), first, &mut unseen)
 }
 
 // What the lines answer, one behind the other, where this call of each bench fails; none follows a transaction that did not begin.
-fn play_failing(alloc: Global, first: &[&str], lines: &[&str], number: u64, out: &mut Transcript) {
-    let mut stage = set_stage(alloc, first).failing(number, out);
+fn play_failing<T: Threads + Wait + Sync>(
+    rt: &T,
+    alloc: Global,
+    first: &[&str],
+    lines: &[&str],
+    number: u64,
+    out: &mut Transcript,
+) {
+    let mut stage = set_stage(rt, alloc, first).failing(number, out);
     for line in lines {
         out.say(", ");
-        stage = stage.call(line, out);
+        stage = stage.call(rt, line, out);
         if line.starts_with("begin ") && out.as_str().ends_with("BenchFault") {
             return;
         }
@@ -39,11 +53,17 @@ const MOST_CALLS: u64 = 200;
 
 // Plays the lines once for each call of a bench that fails, up to the first number where none does. A row that is as that before is
 // left out.
-fn play_each(alloc: Global, first: &[&str], lines: &[&str], out: &mut Transcript) {
+fn play_each<T: Threads + Wait + Sync>(
+    rt: &T,
+    alloc: Global,
+    first: &[&str],
+    lines: &[&str],
+    out: &mut Transcript,
+) {
     let mut last = Transcript::new(alloc);
     for number in 1..=MOST_CALLS {
         let mut row = Transcript::new(alloc);
-        play_failing(alloc, first, lines, number, &mut row);
+        play_failing(rt, alloc, first, lines, number, &mut row);
         if row.as_str() != last.as_str() {
             out.show(&number);
             out.say(row.as_str());
@@ -57,22 +77,33 @@ fn play_each(alloc: Global, first: &[&str], lines: &[&str], out: &mut Transcript
 }
 
 // Plays the lines from a headline on, behind those with which each example begins.
-fn play_example(alloc: Global, first: &[&str], lines: &[&str], out: &mut Transcript) {
+fn play_example<T: Threads + Wait + Sync>(
+    rt: &T,
+    alloc: Global,
+    first: &[&str],
+    lines: &[&str],
+    out: &mut Transcript,
+) {
     let Some((headline, behind)) = lines.split_first() else {
         return;
     };
     out.say(headline);
     out.say("\n");
     match behind.split_first() {
-        Some((line, lines)) if *line == "failing each" => play_each(alloc, first, lines, out),
+        Some((line, lines)) if *line == "failing each" => play_each(rt, alloc, first, lines, out),
         _ => {
-            let _ = call_lines(set_stage(alloc, first), behind, out);
+            let _ = call_lines(rt, set_stage(rt, alloc, first), behind, out);
         }
     }
 }
 
 /// Plays a text of examples; each begins with the lines before the first headline.
-pub fn play(alloc: Global, text: &str, out: &mut Transcript) -> Result<(), AllocError> {
+pub fn play<T: Threads + Wait + Sync>(
+    rt: &T,
+    alloc: Global,
+    text: &str,
+    out: &mut Transcript,
+) -> Result<(), AllocError> {
     let lines: Vec<&str> = text
         .lines()
         .filter(|line| !line.is_empty() && !line.starts_with('#'))
@@ -85,10 +116,10 @@ pub fn play(alloc: Global, text: &str, out: &mut Transcript) -> Result<(), Alloc
     let mut begun = start;
     for (at, line) in lines.iter().enumerate() {
         if at > begun && line.starts_with("== ") {
-            play_example(alloc, first, lines.get(begun..at).unwrap_or(&[]), out);
+            play_example(rt, alloc, first, lines.get(begun..at).unwrap_or(&[]), out);
             begun = at;
         }
     }
-    play_example(alloc, first, lines.get(begun..).unwrap_or(&[]), out);
+    play_example(rt, alloc, first, lines.get(begun..).unwrap_or(&[]), out);
     Ok(())
 }

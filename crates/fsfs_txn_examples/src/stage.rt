@@ -10,6 +10,8 @@ use fsfs_escapes::Transcript;
 use fsfs_fetch::disk_of;
 use fsfs_memdisk::{MemBench, MemDisk};
 use std::alloc::Global;
+use std::sync::Wait;
+use std::thread::Threads;
 
 /// A repository in memory, with its transactions.
 #[derive(Drop)]
@@ -70,9 +72,9 @@ impl Stage {
         Stage { alloc, disk, cast }
     }
 
-    fn look(self, words: &str, out: &mut Transcript) -> Stage {
+    fn look<T: Threads + Wait + Sync>(self, rt: &T, words: &str, out: &mut Transcript) -> Stage {
         let Stage { alloc, disk, cast } = self;
-        let disk = look(alloc, disk, words, out);
+        let disk = look(rt, alloc, disk, words, out);
         Stage { alloc, disk, cast }
     }
 
@@ -84,14 +86,19 @@ impl Stage {
     }
 
     /// Makes the calls of a line, and writes what they answer.
-    pub fn call(mut self, line: &str, out: &mut Transcript) -> Stage {
+    pub fn call<T: Threads + Wait + Sync>(
+        mut self,
+        rt: &T,
+        line: &str,
+        out: &mut Transcript,
+    ) -> Stage {
         let (word, rest) = cut(line);
         match word {
             "file" => put_file(self.alloc, &mut self.disk, rest, out),
             "show" => show(&self.disk, rest, out),
             "folder" => self.show_folder(rest, out),
             "begin" => return self.begin(rest, out),
-            "svnlook" => return self.look(rest, out),
+            "svnlook" => return self.look(rt, rest, out),
             "final" => return self.land(word, out),
             "commit" => return self.land(word, out),
             _ => return self.edit(line, out),

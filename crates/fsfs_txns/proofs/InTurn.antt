@@ -7,20 +7,13 @@ use Rattle.fsfs_disk.specs.Labels.{Label, has_label, same_label, without_label}
 use Rattle.fsfs_disk.specs.Trace.{Trace, DropLabel, files_now, labels_now, Attempts, Performs, PerformsIfThere, FailsAt}
 use Rattle.fsfs_disk.specs.Crash.{AllImages, AllLabels, AreAll, Leaves, LeavesBoth}
 use Rattle.fsfs_disk.proofs.CrashLemmas.{keeps_no_label, leaves_then, own_images, same_leaves}
+use Rattle.fsfs_disk.proofs.LabelLemmas.{without_absent}
 use Rattle.fsfs_disk.proofs.LeftLemmas.{amid_same, both_then, keeps_labels_at, same_both}
 use Rattle.fsfs_fields.specs.declared.txn_name.TxnName.{TxnName}
 use Rattle.fsfs_txns.specs.Txns.{pair_of, txn_label}
 use Rattle.fsfs_txns.specs.Removals.{first_lacking, labels_left, HasLabels, IsImageOf, WasKept}
 
 -- ---- one removal
-
-without_absent : (l : Label) (ls : List Label) → has_label l ls ≡ false → without_label l ls ≡ ls
-without_absent l [] absent = refl
-without_absent l (k ∷ ls) absent = by_head (same_label k l) (without_absent l ls) absent
-  where
-    by_head : (b : Bool) → (has_label l ls ≡ false → without_label l ls ≡ ls) → (b || has_label l ls) ≡ false → cond b (without_label l ls) (k ∷ without_label l ls) ≡ k ∷ ls
-    by_head true rest none = cc
-    by_head false rest none = ap (λ (x : List Label). k ∷ x) (rest none)
 
 labels_dropped : (l : Label) (old new : Option Trace) (there : Bool) → IfSome old (λ t. there ≡ has_label l (labels_now t)) → PerformsIfThere there (DropLabel l) old new → HasLabels (without_label l) old new
 labels_dropped l None new true is performed = ap (λ o. option_map labels_now o) performed

@@ -45,7 +45,7 @@ returns-in-Err-clause-refused g c = λ v known none.
     let a = c.look-youngest.ensures.turned v known in
     let le : c.args.base ≤ c.look-youngest.result = grind (arith, nat_tests, c.lt.ensures, c.if-lt.false) in
     either_way (λ d. (d.0, d.1, moved_on v a.0 d.0 (by_look c.look-youngest.result v a.0 none a.2) d.2, d.3, no_bench _ c.in-Err.fault c.in-Err.ensures.there))
-    (λ past. (met_before g.T.Turns.store c.args.turns c.look-youngest.new.self c.look-youngest.ensures.later.below past.0, λ few. let q = (past.1 few).1 in (q.0, q.1, moved_on v a.0 q.0 (by_look c.look-youngest.result v a.0 none a.2) q.2)))
+    (λ past. (met_before g.T.Turns.store c.args.turns c.look-youngest.new.self c.look-youngest.ensures.later.below past.0, λ few. let p = past.1 few in let q = p.2 in (p.1, (q.0, q.1, moved_on v a.0 q.0 (by_look c.look-youngest.result v a.0 none a.2) q.2))))
     (c.in-Err.ensures.drew a.0 a.1 (ap {A = View} (λ z. z.section) a.2.is ∙ none) (least_at_look c.args.base c.look-youngest.result v a.0 a.2 le))
 
 pub returns-in-Ok-clause-begun : goal.returns-in-Ok-clause-begun
@@ -76,11 +76,11 @@ returns-in-Ok-clause-refused g c = λ v known none.
     let le : c.args.base ≤ c.look-youngest.result = grind (arith, nat_tests, c.lt.ensures, c.if-lt.false) in
     let name = c.in-Ok.name in
     let below : name.base ≤ c.look-youngest.result = omega (arith, le, c.in-Ok.ensures.base) in
-    err_either c.begin_named.result.1 _ (λ d. refused_all (g.T.Turns.knows c.begin_named.result.0) c.look-youngest.result v a.0 d.0 name c.args.base a.2 d.2 none c.in-Ok.ensures.base (g.T.Turns.labels c.begin_named.result.0)
+    err_either c.begin_named.result.1 _ _ (λ d. refused_all (g.T.Turns.knows c.begin_named.result.0) c.look-youngest.result v a.0 d.0 name c.args.base a.2 d.2 none c.in-Ok.ensures.base (g.T.Turns.labels c.begin_named.result.0)
     (Rose (g.T.Turns.faults c.draw.new.turns) (g.T.Turns.faults c.begin_named.result.0)) (Rose (g.T.Turns.faults c.args.turns) (g.T.Turns.faults c.begin_named.result.0))
     (λ rose. omega (arith, rose, c.draw.ensures.later, c.look-youngest.ensures.faults)) c.begin_named.result.1
     (c.begin_named.ensures.refused d.0 d.1 (may_make c.look-youngest.result v a.0 d.0 name.number.number a.2 d.2 name.base below)) c.begin_named.ensures.dropped)
-    (λ past. (met_before g.T.Turns.store c.args.turns c.look-youngest.new.self c.look-youngest.ensures.later.below past.0, λ few. absurd (past.1 few).0))
+    (λ why past. (met_before g.T.Turns.store c.args.turns c.look-youngest.new.self c.look-youngest.ensures.later.below past.0, λ few. absurd (past.1 few).0))
     (c.in-Ok.ensures.drew a.0 a.1 (ap {A = View} (λ z. z.section) a.2.is ∙ none) (least_at_look c.args.base c.look-youngest.result v a.0 a.2 le))
 
 -- ---- the labels

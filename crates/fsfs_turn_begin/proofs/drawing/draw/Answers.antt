@@ -1,7 +1,7 @@
 use Rattle.std.proofs.Common.{inl, ap, sym, subst, ◌∙◌}
 use Rattle.fsfs_turn.specs.Views.{View}
-use Rattle.fsfs_turn_begin.specs.Faults.{Cause}
-use Rattle.fsfs_turn_begin.proofs.Among.{held_begun, give_due, undrawn_moved}
+use Rattle.fsfs_turn_begin.specs.Faults.{Cause, LacksNumber}
+use Rattle.fsfs_turn_begin.proofs.Among.{held_begun, give_due, lacks_named, undrawn_moved}
 use Rattle.fsfs_turn_begin.proofs.Reading.{met_before, either_way}
 use Rattle.fsfs_turn_begin.proofs.Moving.{by_stuck, begun_at, least_at, given_over, may_give, has_name, undrawn}
 use Rattle.fsfs_turn_begin.proofs.drawing.draw.Goals as goal
@@ -51,9 +51,9 @@ returns-in-Err-drawn-clause-drew g c = λ v known none le.
     (l.0, l.1, p.0, subst (λ f. Cause c.args.base f l.0) (sym c.named_fault.ensures) p.1)) (λ past. (
       met_before g.T.Turns.store c.args.turns.now c.take_lock.new.self c.take_lock.ensures.same past.0,
       λ few.
-          let k = (past.1 few).1 in
-          let l = c.give_lock.ensures.turned m.0 k (held_begun m.0 (begun_at v m.0 m.2)) in
-          (tt, (l.0, l.1, undrawn_moved v m.0 l.0 m.2 l.2)),
+          let k = past.1 few in
+          let l = c.give_lock.ensures.turned m.0 k.2 (held_begun m.0 (begun_at v m.0 m.2)) in
+          (tt, subst (λ f. LacksNumber f) (sym c.named_fault.ensures) (lacks_named c.in-Err-drawn.fault k.1), (l.0, l.1, undrawn_moved v m.0 l.0 m.2 l.2)),
     )) (c.in-Err-drawn.ensures.drawn m.0 m.1 (begun_at v m.0 m.2) (least_at c.args.base v m.0 m.2 le))
 
 -- ---- the labels stay

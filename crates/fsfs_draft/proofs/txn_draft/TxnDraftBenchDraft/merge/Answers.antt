@@ -1,4 +1,4 @@
-use Rattle.std.proofs.Common.{◌≡◌, sym, ◌∙◌}
+use Rattle.std.proofs.Common.{sym, ◌∙◌}
 use Rattle.fsfs_draft.specs.Meaning.{IfOpen}
 use Rattle.fsfs_draft.specs.Pinned.{LandsAs}
 use Rattle.fsfs_draft.proofs.Pinning.{is_noted, pinned_is, noted_same, notes_landing, lands_as, landed_pinned}

@@ -1,0 +1,8 @@
+pub mod Shown
+mod Begun
+mod Dropped
+mod Listed
+mod Commits
+mod Limits
+pub mod Unlisted
+pub mod Noted
