@@ -14,14 +14,14 @@ use Rattle.fsfs_turn.specs.Views.{View, IsTxnOver}
 use Rattle.fsfs_commit.specs.Replies.{Committed, Moved}
 use Rattle.fsfs_commit.specs.Works.{Landings}
 use Rattle.fsfs_draft.specs.Dating.{IsDatedAt}
-use Rattle.fsfs_owned_repo.specs.Commits.{Bars, IfFailed, IsDropped, Meets}
-use Rattle.fsfs_owned_repo.specs.declared.answers.CommitAnswer.{CommitAnswer}
-use Rattle.fsfs_owned_repo.specs.declared.answers.CommitAnswer.TheVariants as replies
+use Rattle.fsfs_pass_txns.specs.Commits.{Bars, IfFailed, IsDropped, Meets}
+use Rattle.fsfs_pass_txns.specs.declared.answers.CommitAnswer.{CommitAnswer}
+use Rattle.fsfs_pass_txns.specs.declared.answers.CommitAnswer.TheVariants as replies
 use Rattle.fsfs_base.specs.declared.failed.Failed.{Failed}
 use Rattle.fsfs_fields.specs.declared.txn_name.TxnName.{TxnName}
 use Rattle.fsfs_drafts.specs.Drafts.{Folder}
 use Rattle.fsfs_draft.specs.Meaning.{IsTxnOf}
-use Rattle.fsfs_owned_repo.specs.declared.answers.CommitBar.{CommitBar}
+use Rattle.fsfs_pass_txns.specs.declared.answers.CommitBar.{CommitBar}
 use Rattle.fsfs_job_lines.specs.declared.job.CommitJob.{CommitJob}
 use Rattle.fsfs_job_lines.specs.declared.job.Job.TheVariants as jobs
 use Rattle.fsfs_faults.specs.declared.fault.Fault.TheVariants.{Outside}
@@ -33,7 +33,7 @@ use Rattle.fsfs_serial.specs.Jobs.{ByDisk, ByBench}
 use Rattle.fsfs_job_run.specs.Faults.{answer_of_bar}
 use Rattle.fsfs_job_run.specs.Running.{Stays}
 use Rattle.fsfs_job_run.specs.Ending.{EndsSo}
-use Rattle.fsfs_job_run.proofs.Barred.{bar_bare, bar_done, bar_outside}
+use Rattle.fsfs_job_run.proofs.Bars.{bar_bare, bar_done, bar_outside}
 use Rattle.fsfs_job_run.proofs.Ends.{IsLone, StaysKnown, back_stays, ends_committed, ends_failed, ends_purged}
 use Rattle.fsfs_job_run.proofs.Staying.{IsCounted}
 

@@ -19,7 +19,7 @@ use Rattle.fsfs_turn_begin.specs.Steps.{Moved}
 use Rattle.fsfs_turn_begin.specs.Faults.{Cause, IfDisk}
 use Rattle.fsfs_turn_begin.specs.declared.begin_fault.BeginFault.{BeginFault}
 use Rattle.fsfs_turn_begin.specs.declared.begin_fault.BeginFault.TheVariants as begin
-use Rattle.fsfs_owned_repo.specs.Begun.{BeginsTxn}
+use Rattle.fsfs_pass_txns.specs.Begun.{BeginsTxn}
 use Rattle.fsfs_job_lines.specs.declared.job.CommitJob.{CommitJob}
 use Rattle.fsfs_job_lines.specs.declared.job.Job.TheVariants as jobs
 use Rattle.fsfs_jobs.specs.declared.answer.JobAnswer.TheVariants.{Stopped}

@@ -12,8 +12,8 @@ use Rattle.fsfs_faults.specs.declared.request_fault.RequestFault.TheVariants.{No
 use Rattle.fsfs_turn_begin.specs.Faults.{IfDisk as IfBeginFails}
 use Rattle.fsfs_turn_begin.specs.declared.begin_fault.BeginFault.{BeginFault}
 use Rattle.fsfs_turn_begin.specs.declared.begin_fault.BeginFault.TheVariants as begin
-use Rattle.fsfs_owned_repo.specs.declared.answers.CommitBar.{CommitBar}
-use Rattle.fsfs_owned_repo.specs.declared.answers.CommitBar.TheVariants as bars
+use Rattle.fsfs_pass_txns.specs.declared.answers.CommitBar.{CommitBar}
+use Rattle.fsfs_pass_txns.specs.declared.answers.CommitBar.TheVariants as bars
 use Rattle.fsfs_jobs.specs.declared.answer.JobAnswer.{JobAnswer}
 use Rattle.fsfs_jobs.specs.declared.answer.JobAnswer.TheVariants as answers
 use Rattle.fsfs_job_edits.specs.Editing.{IfDisk as IfEditFails}

@@ -21,8 +21,8 @@ use Rattle.fsfs_turn.specs.Alone.{BringsNoDoubt}
 use Rattle.fsfs_turn.proofs.Doubts.{same_faults}
 use Rattle.fsfs_draft.specs.Meaning.{IsTxnOf}
 use Rattle.fsfs_machine.specs.Kept.{IsIn}
-use Rattle.fsfs_owned_repo.specs.Begun.{BeginsTxn}
-use Rattle.fsfs_owned_repo.specs.Purged.{PurgesAny}
+use Rattle.fsfs_pass_txns.specs.Begun.{BeginsTxn}
+use Rattle.fsfs_pass_txns.specs.Purged.{PurgesAny}
 use Rattle.fsfs_turn_purge.specs.declared.purge_fault.PurgeFault.{PurgeFault}
 use Rattle.fsfs_machine.specs.declared.machine.Step.TheVariants.{Purge}
 use Rattle.fsfs_turn.specs.Views.{with_txns}
@@ -95,7 +95,7 @@ pub told_so : (look : RevisionBytes) (trees : ℕ → TreeFunction) (top base : 
 told_so look trees top base name t marks edit fault c = (path_of edit, c.fault_is)
 
 -- of the outside only the disk or a bench fails in an edit
-outside_so : (P : Type 0) (job : CommitJob) (line : ℕ) (why : OutsideFault) → IfDiskIn why P → Fails (jobs.Commit job) (Stopped line (Outside why))
+pub outside_so : (P : Type 0) (job : CommitJob) (line : ℕ) (why : OutsideFault) → IfDiskIn why P → Fails (jobs.Commit job) (Stopped line (Outside why))
 outside_so P job line outside.Mount failed = absurd failed
 outside_so P job line (outside.Disk at) failed = ByDisk (jobs.Commit job) line at
 outside_so P job line outside.Read failed = absurd failed

@@ -24,7 +24,7 @@ use Rattle.fsfs_job_run.specs.Running.{HasOutsideCause, IfCounted, IsNoRequest, 
 
 -- ---- causes
 
-outside_on : (P Q : Type 0) (u : View) (answer : JobAnswer) → (P → Q) → HasOutsideCause P u answer → HasOutsideCause Q u answer
+pub outside_on : (P Q : Type 0) (u : View) (answer : JobAnswer) → (P → Q) → HasOutsideCause P u answer → HasOutsideCause Q u answer
 outside_on P Q u (answers.Committed rev) f h = tt
 outside_on P Q u (answers.Read text) f h = tt
 outside_on P Q u (answers.Conflict head path) f h = tt

@@ -31,7 +31,7 @@ use Rattle.fsfs_jobs.specs.declared.answer.JobAnswer.{JobAnswer}
 use Rattle.fsfs_jobs.specs.declared.answer.JobAnswer.TheVariants as answers
 use Rattle.fsfs_serial.specs.Jobs.{Fails, tells_doubt}
 use Rattle.fsfs_draft.specs.Dating.{IsDatedAt}
-use Rattle.fsfs_owned_repo.specs.Commits.{IsDropped}
+use Rattle.fsfs_pass_txns.specs.Commits.{IsDropped}
 use Rattle.fsfs_job_run.specs.Running.{Stays, HasOutsideCause}
 use Rattle.fsfs_job_run.specs.Ending.{CommitsTxn, EndsSo}
 use Rattle.fsfs_job_run.proofs.PropertyLemmas.{job_dated}

@@ -10,7 +10,7 @@ pub mod Ends
 pub mod Begun
 pub mod Whole
 pub mod Composed
-pub mod Barred
+pub mod Bars
 pub mod Alone
 pub mod Counted
 pub mod Stuck

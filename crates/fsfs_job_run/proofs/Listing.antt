@@ -7,10 +7,10 @@ use Rattle.fsfs_txns.specs.Txns.{pair_of, txn_label}
 use Rattle.fsfs_turn_begin.specs.Labels.{IsUnlisted, ListsNoMore}
 use Rattle.fsfs_turn_begin.proofs.Benching.{came_and_went}
 use Rattle.fsfs_owned_repo.specs.Labels.{LeavesLabels, Unlists}
-use Rattle.fsfs_owned_repo.specs.Commits.{IfBack}
-use Rattle.fsfs_owned_repo.specs.declared.answers.CommitAnswer.{CommitAnswer}
-use Rattle.fsfs_owned_repo.specs.declared.answers.CommitAnswer.TheVariants as answers
-use Rattle.fsfs_owned_repo.specs.declared.answers.CommitBar.{CommitBar}
+use Rattle.fsfs_pass_txns.specs.Commits.{IfBack}
+use Rattle.fsfs_pass_txns.specs.declared.answers.CommitAnswer.{CommitAnswer}
+use Rattle.fsfs_pass_txns.specs.declared.answers.CommitAnswer.TheVariants as answers
+use Rattle.fsfs_pass_txns.specs.declared.answers.CommitBar.{CommitBar}
 use Rattle.fsfs_places.specs.declared.place.DiskPlace.{DiskPlace}
 use Rattle.fsfs_serial.specs.Listed.{LeavesListed}
 use Rattle.fsfs_serial.proofs.ListedLemmas.{none_begun, one_gone, more_begun, failed_on}

@@ -32,7 +32,7 @@ kind_bare job rev File (Bytes bytes) (answers.Read read) is = tt
 kind_bare job rev File (Bytes bytes) (answers.Conflict head path) is = tt
 kind_bare job rev File (Bytes bytes) (answers.Stopped line fault) is = tt
 
-found_bare : (job : ReadJob) (rev : ℕ) (found : Found) (answer : JobAnswer) → IsReadOf job rev found answer → IfAdded answer ⊥
+pub found_bare : (job : ReadJob) (rev : ℕ) (found : Found) (answer : JobAnswer) → IsReadOf job rev found answer → IfAdded answer ⊥
 found_bare job rev (Stands node) answer is = kind_bare job rev node.kind node.text answer is
 found_bare job rev (Lacking at) answer is = subst (λ (a : JobAnswer). IfAdded a ⊥) (sym is) tt
 found_bare job rev (Blocked at) answer is = subst (λ (a : JobAnswer). IfAdded a ⊥) (sym is) tt
@@ -42,7 +42,7 @@ reads_bare job rev found answer (ByTree _ is) = found_bare job rev found answer 
 reads_bare job rev found _ DiskFails = tt
 reads_bare job rev found _ Wants = tt
 
-none_added : (P : Type 0) (answer : JobAnswer) → IfAdded answer ⊥ → IfAdded answer P
+pub none_added : (P : Type 0) (answer : JobAnswer) → IfAdded answer ⊥ → IfAdded answer P
 none_added P (answers.Committed r) none = absurd none
 none_added P (answers.Read text) none = tt
 none_added P (answers.Conflict head path) none = tt

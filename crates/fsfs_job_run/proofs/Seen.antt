@@ -22,7 +22,8 @@ use Rattle.fsfs_turn.specs.Bytes.{bytes_of}
 use Rattle.fsfs_turn.specs.Views.{View, IsTxnOver}
 use Rattle.fsfs_draft.specs.Meaning.{IsTxnOf}
 use Rattle.fsfs_draft.specs.SeenLemmas.{shown_trees}
-use Rattle.fsfs_owned_repo.proofs.Shown.{seen_shows, known_shown}
+use Rattle.fsfs_owned_repo.proofs.Shown.{known_shown}
+use Rattle.fsfs_pass_txns.proofs.Shown.{seen_shows}
 
 module _ (layout : Layout) (young : ℕ) (stuck : Option DiskPlace) (told : Option Trace) (v : View) (known : KnowsAlone layout young stuck told v) where
   pub some_seen : 0 < length v.seen

@@ -11,8 +11,8 @@ use Rattle.fsfs_faults.specs.declared.outside_fault.OutsideFault.TheVariants as 
 use Rattle.fsfs_faults.specs.declared.limit_fault.LimitFault.TheVariants as limits
 use Rattle.fsfs_turn_begin.specs.declared.begin_fault.BeginFault.{BeginFault}
 use Rattle.fsfs_turn_begin.specs.declared.begin_fault.BeginFault.TheVariants as begin
-use Rattle.fsfs_owned_repo.specs.declared.answers.CommitBar.{CommitBar}
-use Rattle.fsfs_owned_repo.specs.declared.answers.CommitBar.TheVariants as bars
+use Rattle.fsfs_pass_txns.specs.declared.answers.CommitBar.{CommitBar}
+use Rattle.fsfs_pass_txns.specs.declared.answers.CommitBar.TheVariants as bars
 use Rattle.fsfs_jobs.specs.declared.answer.JobAnswer.{JobAnswer}
 use Rattle.fsfs_jobs.specs.declared.answer.JobAnswer.TheVariants.{Conflict, Stopped}
 use Rattle.std.specs.Prelude.{ℕ}

@@ -6,7 +6,7 @@ use fsfs_faults::{Fault, LimitFault, OutsideFault, RepositoryFault, RequestFault
 use fsfs_turn_begin::BeginFault;
 
 /// The fault of a job whose transaction was not begun.
-pub(crate) fn of_begin(fault: BeginFault) -> Fault
+pub fn of_begin(fault: BeginFault) -> Fault
     ensures { result ≡ fault_of_begin fault }
 {
     match fault {

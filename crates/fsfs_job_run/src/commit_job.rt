@@ -28,6 +28,7 @@ use fsfs_job_lines::{CommitJob, Steps};
 use fsfs_jobs::JobAnswer;
 use fsfs_own::Own;
 use fsfs_owned_repo::Repo;
+use fsfs_streams::Gate;
 use fsfs_turn::{Owned, Turns};
 use fsfs_txn::Txn;
 use std::alloc::Global;
@@ -62,13 +63,14 @@ fn edit<D: Disk, R>(
 }
 
 // Edits the transaction that was begun, and commits it; one that is refused is purged.
-fn edit_and_commit<D: Disk, R>(
+fn edit_and_commit<D: Disk, R, G: Gate>(
     repo: Repo<D>,
     rt: &R,
     alloc: Global,
     mut txn: Txn<HeldNodes<D::Bench>>,
     job: &CommitJob,
     micros: u64,
+    gate: &G,
 ) -> (Repo<D>, JobAnswer)
     requires moment { micros ≤ 4102444799999999 }
     requires fresh { txn.spent ≡ None }
@@ -84,19 +86,20 @@ fn edit_and_commit<D: Disk, R>(
 {
     let (repo, done) = edit(repo, rt, alloc, &mut txn, &job.steps);
     match done {
-        Ok(()) => commit_edited(repo, rt, alloc, txn, job, micros),
+        Ok(()) => commit_edited(repo, rt, alloc, txn, job, micros, gate),
         Err(Stopped { line, fault }) => (purged(repo, rt, txn), JobAnswer::Stopped { line, fault }),
     }
 }
 
 // Begins on a revision that there is.
-fn begin_and_commit<D: Disk, R>(
+fn begin_and_commit<D: Disk, R, G: Gate>(
     repo: Repo<D>,
     rt: &R,
     alloc: Global,
     base: RevNum,
     job: &CommitJob,
     micros: u64,
+    gate: &G,
 ) -> (Repo<D>, JobAnswer)
     requires moment { micros ≤ 4102444799999999 }
     ensures does { (v : View) → ⟦<Owned<D> as Turns<R>>⟧.knows repo.turns v → v.section ≡ None → v.pass.least ≡ last_of (revisions v.seen) → base ≡ base_in job.now.base (last_of (revisions v.seen)) → base ≤ last_of (revisions v.seen)
@@ -109,7 +112,7 @@ fn begin_and_commit<D: Disk, R>(
 {
     let (repo, begun) = repo.begin(rt, alloc, base);
     match begun {
-        Ok(txn) => edit_and_commit(repo, rt, alloc, txn, job, micros),
+        Ok(txn) => edit_and_commit(repo, rt, alloc, txn, job, micros, gate),
         Err(why) => {
             let line = job.line;
             let fault = of_begin(why);
@@ -119,12 +122,13 @@ fn begin_and_commit<D: Disk, R>(
 }
 
 /// Does the edits of a job in a transaction of its own, and commits it.
-pub(crate) fn commit_job<D: Disk, R>(
+pub(crate) fn commit_job<D: Disk, R, G: Gate>(
     mut repo: Repo<D>,
     rt: &R,
     alloc: Global,
     job: &CommitJob,
     micros: u64,
+    gate: &G,
 ) -> (Repo<D>, JobAnswer)
     requires moment { micros ≤ 4102444799999999 }
     ensures does { (v : View) → ⟦<Owned<D> as Turns<R>>⟧.knows repo.turns v → v.section ≡ None
@@ -135,7 +139,7 @@ pub(crate) fn commit_job<D: Disk, R>(
     ensures later { ⟦<Owned<D> as Turns<R>>⟧.faults repo.turns ≤ ⟦<Owned<D> as Turns<R>>⟧.faults result.0.turns }
 {
     match base_of(&mut repo, job.base) {
-        Ok(base) => begin_and_commit(repo, rt, alloc, base, job, micros),
+        Ok(base) => begin_and_commit(repo, rt, alloc, base, job, micros, gate),
         Err(fault) => {
             let line = job.line;
             (repo, JobAnswer::Stopped { line, fault })

@@ -26,7 +26,9 @@ use fsfs_held::HeldNodes;
 use fsfs_job_lines::CommitJob;
 use fsfs_jobs::{JobAnswer, properties_of};
 use fsfs_own::Own;
-use fsfs_owned_repo::{CommitAnswer, CommitBar, Repo};
+use fsfs_owned_repo::Repo;
+use fsfs_pass_txns::{CommitAnswer, CommitBar};
+use fsfs_streams::Gate;
 use fsfs_turn::{Owned, Turns};
 use fsfs_txn::Txn;
 use std::alloc::Global;
@@ -42,8 +44,8 @@ fn of_merge(wrong: Wrong) -> Fault
     }
 }
 
-// What is told of a commit that added nothing.
-fn barred(line: u64, bar: CommitBar) -> JobAnswer
+/// What is told of a commit that added nothing.
+pub fn barred(line: u64, bar: CommitBar) -> JobAnswer
     ensures { result ≡ answer_of_bar line bar }
 {
     let fault = match bar {
@@ -59,8 +61,8 @@ fn barred(line: u64, bar: CommitBar) -> JobAnswer
     JobAnswer::Stopped { line, fault }
 }
 
-// The outside failed.
-fn stopped(line: u64, fault: OutsideFault) -> JobAnswer
+/// The outside failed.
+pub fn stopped(line: u64, fault: OutsideFault) -> JobAnswer
     ensures { result ≡ Stopped line (Outside fault) }
 {
     let fault = Fault::Outside(fault);
@@ -85,7 +87,7 @@ pub(crate) fn purged<D: Disk, R>(
 }
 
 // Commits a transaction with these properties. One that is handed back is purged.
-fn commit_with<D: Disk, R>(
+fn commit_with<D: Disk, R, G: Gate>(
     repo: Repo<D>,
     rt: &R,
     alloc: Global,
@@ -93,6 +95,7 @@ fn commit_with<D: Disk, R>(
     job: &CommitJob,
     properties: Pairs,
     micros: u64,
+    gate: &G,
 ) -> (Repo<D>, JobAnswer)
     requires moment { micros ≤ 4102444799999999 }
     requires sound { txn.spent ≡ None }
@@ -109,7 +112,7 @@ fn commit_with<D: Disk, R>(
     ensures later { ⟦<Owned<D> as Turns<R>>⟧.faults repo.turns ≤ ⟦<Owned<D> as Turns<R>>⟧.faults result.0.turns }
 {
     let line = job.line;
-    let (repo, answer) = repo.commit(rt, alloc, txn, properties, micros);
+    let (repo, answer) = repo.commit(rt, alloc, txn, properties, micros, gate);
     match answer {
         CommitAnswer::Committed { rev, .. } => (repo, JobAnswer::Committed(rev)),
         CommitAnswer::Barred { bar, txn } => (purged(repo, rt, txn), barred(line, bar)),
@@ -119,13 +122,14 @@ fn commit_with<D: Disk, R>(
 }
 
 /// Commits a transaction in which the edits of a job were done. One that is handed back is purged.
-pub(crate) fn commit_edited<D: Disk, R>(
+pub(crate) fn commit_edited<D: Disk, R, G: Gate>(
     repo: Repo<D>,
     rt: &R,
     alloc: Global,
     txn: Txn<HeldNodes<D::Bench>>,
     job: &CommitJob,
     micros: u64,
+    gate: &G,
 ) -> (Repo<D>, JobAnswer)
     requires moment { micros ≤ 4102444799999999 }
     requires sound { txn.spent ≡ None }
@@ -141,7 +145,7 @@ pub(crate) fn commit_edited<D: Disk, R>(
     ensures later { ⟦<Owned<D> as Turns<R>>⟧.faults repo.turns ≤ ⟦<Owned<D> as Turns<R>>⟧.faults result.0.turns }
 {
     match properties_of(alloc, job) {
-        Ok(properties) => commit_with(repo, rt, alloc, txn, job, properties, micros),
+        Ok(properties) => commit_with(repo, rt, alloc, txn, job, properties, micros, gate),
         Err(_) => {
             let line = job.line;
             let fault = Fault::Memory;

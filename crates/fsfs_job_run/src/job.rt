@@ -14,18 +14,20 @@ use fsfs_disk::Disk;
 use fsfs_job_lines::Job;
 use fsfs_jobs::JobAnswer;
 use fsfs_owned_repo::Repo;
+use fsfs_streams::Gate;
 use fsfs_turn::{Owned, Turns};
 use std::alloc::Global;
 
 /// Does a job, and tells what became of it. A revision that it adds has as its date the moment, in microseconds after
 /// 1970-01-01T00:00:00 UTC, in a year up to 2099. A transaction that is not committed is purged; if that fails too, its name stays
 /// listed.
-pub fn do_job<D: Disk, R>(
+pub fn do_job<D: Disk, R, G: Gate>(
     repo: Repo<D>,
     rt: &R,
     alloc: Global,
     job: &Job,
     micros: u64,
+    gate: &G,
 ) -> (Repo<D>, JobAnswer)
     requires moment { micros ≤ 4102444799999999 }
     // Over what the pass knows, in no section: what the job did, by the definition of jobs, or that it failed. Or the number that stood in
@@ -44,7 +46,7 @@ pub fn do_job<D: Disk, R>(
     ensures later { ⟦<Owned<D> as Turns<R>>⟧.faults repo.turns ≤ ⟦<Owned<D> as Turns<R>>⟧.faults result.0.turns }
 {
     match job {
-        Job::Commit(job) => commit_job(repo, rt, alloc, job, micros),
-        Job::Read(job) => read_text(repo, rt, alloc, job),
+        Job::Commit(job) => commit_job(repo, rt, alloc, job, micros, gate),
+        Job::Read(job) => read_text(repo, rt, alloc, job, gate),
     }
 }

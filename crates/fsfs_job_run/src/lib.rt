@@ -9,5 +9,7 @@ mod job;
 mod read_text;
 mod run;
 
+pub use begin_faults::of_begin;
+pub use ending::{barred, stopped};
 pub use job::do_job;
 pub use run::run_jobs;

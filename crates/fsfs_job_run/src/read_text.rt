@@ -12,15 +12,17 @@ use fsfs_job_lines::ReadJob;
 use fsfs_job_reads::read_job;
 use fsfs_jobs::JobAnswer;
 use fsfs_owned_repo::Repo;
+use fsfs_streams::{Gate, GatePlace};
 use fsfs_turn::{Owned, Turns};
 use std::alloc::Global;
 
 /// Reads the text of a file in a revision.
-pub(crate) fn read_text<D: Disk, R>(
+pub(crate) fn read_text<D: Disk, R, G: Gate>(
     mut repo: Repo<D>,
     rt: &R,
     alloc: Global,
     job: &ReadJob,
+    gate: &G,
 ) -> (Repo<D>, JobAnswer)
     ensures does { (v : View) (moment : ℕ) → ⟦<Owned<D> as Turns<R>>⟧.knows repo.turns v → v.section ≡ None
         → DoesSo (⟦<Owned<D> as Turns<R>>⟧.knows result.0.turns) (Rose (⟦<Owned<D> as Turns<R>>⟧.faults repo.turns) (⟦<Owned<D> as Turns<R>>⟧.faults result.0.turns)) moment (jobs.Read job.now) result.1 v }
@@ -36,6 +38,7 @@ pub(crate) fn read_text<D: Disk, R>(
             return (repo, JobAnswer::Stopped { line, fault });
         }
     };
+    gate.at(GatePlace::InRead, 0);
     let mut reader = repo.reader(rt, alloc);
     let answer = read_job(alloc, &mut reader, base, job);
     (Repo::of_reader(reader), answer)

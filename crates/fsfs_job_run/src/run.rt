@@ -11,6 +11,7 @@ use fsfs_disk::Disk;
 use fsfs_job_lines::Job;
 use fsfs_jobs::JobAnswer;
 use fsfs_owned_repo::Repo;
+use fsfs_serial::JobGate;
 use fsfs_streams::{Gate, GatePlace};
 use fsfs_turn::{Owned, Turns};
 use std::alloc::{AllocError, Global};
@@ -47,7 +48,8 @@ pub fn run_jobs<D: Disk, R, G: Gate>(
     let mut number: u64 = 0;
     for job in jobs {
         number += 1;
-        let (after, answer) = do_job(repo, rt, alloc, job, micros);
+        let job_gate = JobGate::new(gate, number);
+        let (after, answer) = do_job(repo, rt, alloc, job, micros, &job_gate);
         repo = after;
         gate.at(GatePlace::AfterJob, number);
         answers.push_reserved(answer);

@@ -1,14 +1,14 @@
 use Rattle.std.proofs.Common.{sym, subst, arith}
 use Rattle.fsfs_base.specs.Failures.{Rose}
 use Rattle.fsfs_turn.specs.Alone.{KnowsAlone}
-use Rattle.fsfs_owned_repo.specs.Commits.{IfFailed}
+use Rattle.fsfs_pass_txns.specs.Commits.{IfFailed}
 use Rattle.fsfs_jobs.specs.declared.answer.JobAnswer.{JobAnswer}
 use Rattle.fsfs_job_reads.specs.TextReads.{IfAnswerFails}
 use Rattle.fsfs_job_run.specs.Running.{IsNoRequest}
 use Rattle.fsfs_job_run.proofs.Causes.{bar_fails}
 use Rattle.fsfs_job_run.proofs.Alone.{is_lone}
 use Rattle.fsfs_job_run.proofs.Answered.{committed_by, barred_by, disk_by, bench_by}
-use Rattle.fsfs_job_run.proofs.Barred.{bar_none}
+use Rattle.fsfs_job_run.proofs.Bars.{bar_none}
 use Rattle.fsfs_job_run.proofs.Listing.{unlisted_behind, committed_unlists, disk_unlists, bench_unlists, back_keeps, back_is}
 use Rattle.fsfs_job_run.proofs.Seen.{some_seen, history_seen, over_seen}
 use Rattle.fsfs_job_run.proofs.ending.commit_with.Goals as goal

@@ -12,9 +12,9 @@ use Rattle.fsfs_machine.proofs.Growing.{revisions_length}
 use Rattle.fsfs_turn.specs.Views.{View, IsTxnOver}
 use Rattle.fsfs_commit.specs.Works.{Landings}
 use Rattle.fsfs_draft.specs.Refusals.{IsClashAt}
-use Rattle.fsfs_owned_repo.specs.Commits.{Bars}
-use Rattle.fsfs_owned_repo.specs.declared.answers.CommitBar.{CommitBar}
-use Rattle.fsfs_owned_repo.specs.declared.answers.CommitBar.TheVariants as bars
+use Rattle.fsfs_pass_txns.specs.Commits.{Bars}
+use Rattle.fsfs_pass_txns.specs.declared.answers.CommitBar.{CommitBar}
+use Rattle.fsfs_pass_txns.specs.declared.answers.CommitBar.TheVariants as bars
 use Rattle.fsfs_job_lines.specs.declared.job.CommitJob.{CommitJob}
 use Rattle.fsfs_job_lines.specs.declared.job.Job.TheVariants as jobs
 use Rattle.fsfs_jobs.specs.declared.answer.JobAnswer.TheVariants.{Conflict, Stopped}

@@ -1,0 +1,4 @@
+pub mod Beside
+pub mod Lines
+pub mod Passes
+pub mod Laws

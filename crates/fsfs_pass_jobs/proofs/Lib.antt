@@ -1,0 +1,15 @@
+mod Parts
+mod Steps
+mod Lines
+mod Going
+mod Ending
+mod NoteLemmas
+mod Answered
+mod Histories
+mod EditLemmas
+mod Edited
+mod Shown
+mod Refusing
+mod Based
+mod Unbegun
+mod ReadLemmas
