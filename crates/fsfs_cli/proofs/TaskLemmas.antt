@@ -23,13 +23,16 @@ use Rattle.fsfs_cli.proofs.NumberLemmas.{shard_found}
 abbrev pub IsShardSize : ℕ → Type 0
 IsShardSize n = (1 ≤ n) × (n ≤ 100_000)
 
+abbrev pub AreWorkers : ℕ → Type 0
+AreWorkers n = (1 ≤ n) × (n ≤ 2)
+
 -- the program does this task
 abbrev pub IsTaskOf : Tool → Task → Type 0
 IsTaskOf tool (Create shard) = (tool ≡ tools.Admin) × IsShardSize shard
 IsTaskOf tool ListTxns = tool ≡ tools.Admin
 IsTaskOf tool (RemoveTxns txns) = tool ≡ tools.Admin
 IsTaskOf tool (Look look) = tool ≡ tools.Look
-IsTaskOf tool (RunJobs workers) = (tool ≡ tools.Jobs) × (workers ≡ 1)
+IsTaskOf tool (RunJobs workers) = (tool ≡ tools.Jobs) × AreWorkers workers
 
 -- ---- the size of a shard
 
@@ -46,13 +49,14 @@ given_size (Some word) n e = word_size word n (shard_of word) refl e
 
 -- ---- the number of workers
 
-one_word : (b : Bool) (n : ℕ) → option_map (λ k. unwrap_or k 1) (option_map (λ (k : ℕ). Some k) (if b then Some 1 else None)) ≡ Some n → n ≡ 1
-one_word true n e = sym (same_Some 1 n e)
-one_word false n e = absurd cc
+word_workers : (one two : Bool) (n : ℕ) → option_map (λ k. unwrap_or k 1) (option_map (λ (k : ℕ). Some k) (if one then Some 1 else if two then Some 2 else None)) ≡ Some n → AreWorkers n
+word_workers true two n e = subst AreWorkers (same_Some 1 n e) (omega arith, omega arith)
+word_workers false true n e = subst AreWorkers (same_Some 2 n e) (omega arith, omega arith)
+word_workers false false n e = absurd cc
 
-given_workers : (given : Option (List ℕ)) (n : ℕ) → option_map (λ k. unwrap_or k 1) (number_of workers_of given) ≡ Some n → n ≡ 1
-given_workers None n e = sym (same_Some 1 n e)
-given_workers (Some word) n e = one_word (bytes_eq word (codes "1")) n e
+given_workers : (given : Option (List ℕ)) (n : ℕ) → option_map (λ k. unwrap_or k 1) (number_of workers_of given) ≡ Some n → AreWorkers n
+given_workers None n e = subst AreWorkers (same_Some 1 n e) (omega arith, omega arith)
+given_workers (Some word) n e = word_workers (bytes_eq word (codes "1")) (bytes_eq word (codes "2")) n e
 
 -- ---- the words behind a command's own
 

@@ -27,9 +27,9 @@ is_shard text shard = bytes_eq text (decimal shard) && nat_le 1 shard && nat_le 
 unfoldable pub shard_of : List ℕ → Option ℕ
 shard_of text = if is_shard text (digits_value 10 text) then Some (digits_value 10 text) else None
 
--- N of `-j N`, how many workers do the jobs: one, as there are no more yet
+-- N of `-j N`, how many workers do the jobs: 1 or 2
 abbrev pub workers_of : List ℕ → Option ℕ
-workers_of text = if bytes_eq text (codes "1") then Some 1 else None
+workers_of text = if bytes_eq text (codes "1") then Some 1 else if bytes_eq text (codes "2") then Some 2 else None
 
 -- TXN..: the base and the number of the transaction that each word names; none where one of them names none
 abbrev pub txns_named : List (List ℕ) → Option (List (ℕ × ℕ))

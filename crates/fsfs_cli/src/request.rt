@@ -31,7 +31,7 @@ pub enum Task {
     Look(Look),
     /// `svnjobs`: the jobs of the script in the input are done.
     RunJobs {
-        /// How many workers do them: 1.
+        /// How many workers do them: 1 or 2.
         workers: u32,
     },
 }

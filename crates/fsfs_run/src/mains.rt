@@ -7,10 +7,12 @@ use fsfs_outside::{ProgressGate, StreamSink, StreamSource, SystemClock, SystemDi
 use fsfs_top::{Tool, command};
 use std::io::IsTerminal;
 use std::process::ExitCode;
+use std::sync::Wait;
+use std::thread::Threads;
 
 /// Makes the real outside, calls `command` for this program, and gives its status. Where the machine can't give the moment or
-/// random bytes the program ends with `ReadFault` and 4, before the command.
-pub fn run(rt: HostRuntime, tool: Tool) -> ExitCode {
+/// random bytes the program ends with `ReadFault` and 4, before the command. Only a `main` can hand in a handle on threads.
+pub fn run<T: Threads + Wait + Sync>(threads: &T, rt: HostRuntime, tool: Tool) -> ExitCode {
     let mut err = StreamSink::new(rt.stderr());
     let Ok(words) = words(&rt) else {
         let _ = print_fault(&mut err, tool, &Fault::Memory);
@@ -30,6 +32,7 @@ pub fn run(rt: HostRuntime, tool: Tool) -> ExitCode {
     };
     let gate = ProgressGate::new(rt, shown);
     ExitCode::from(command(
+        threads,
         rt.alloc(),
         tool,
         &words,
@@ -40,5 +43,7 @@ pub fn run(rt: HostRuntime, tool: Tool) -> ExitCode {
         &mut clock,
         &mut dice,
         &gate,
+        // The machine's disks tell nothing.
+        true,
     ))
 }

@@ -1,8 +1,11 @@
 -- What a run of svnjobs lists no more, as the top call tells it.
-use Rattle.std.proofs.Common.{◌≡◌, ◌⊎◌, ℕ, List, inl, inr, ⊎_elim, ap, sym, subst}
+use Rattle.std.proofs.Common.{◌≡◌, ◌⊎◌, ℕ, Bool, List, inl, inr, ⊎_elim, ap, sym, subst, arith}
 use Rattle.std.specs.Prelude.{Option, Some, None, option_map, Result}
 use Rattle.fsfs_base.specs.Failures.{Rose}
 use Rattle.fsfs_disk.specs.Trace.{Trace, labels_now}
+use Rattle.fsfs_cli.specs.Readings.{Asks}
+use Rattle.fsfs_cli.specs.declared.request.Task.TheVariants.{RunJobs}
+use Rattle.fsfs_cli.specs.declared.tool.Tool.TheVariants.{Jobs}
 use Rattle.fsfs_faults.specs.declared.fault.Fault.{Fault}
 use Rattle.fsfs_serial.specs.Listed.{LeavesListed}
 use Rattle.fsfs_serial.proofs.ListedLemmas.{none_begun, none_is_left}
@@ -31,15 +34,18 @@ script_lists moment disk a b _ (Done js answers youngest result read ends each f
 
 -- ---- of the disk of each path
 
-run_lists : (repos : List ℕ) (clock : Option ℕ) (a : Scene) (i : SourceScene) (b : Scene) (j : SourceScene) (ended : Result ℕ Fault) → RunsAt repos clock a i b j ended
+run_lists : (repos : List ℕ) (workers : ℕ) (known : Bool) (clock : Option ℕ) (a : Scene) (i : SourceScene) (b : Scene) (j : SourceScene) (ended : Result ℕ Fault) → workers ≡ 1 → RunsAt repos workers known clock a i b j ended
     → ListsNoOther (a.host.disk_at repos) (b.host.disk_at repos) ⊎ Rose a.host.disk_faults b.host.disk_faults
-run_lists repos clock a i b j ended (inl unmounted) = inl (lists_same (a.host.disk_at repos) (b.host.disk_at repos) (ap (option_map labels_now) unmounted.2))
-run_lists repos clock a i b j ended (inr ran) = script_lists ran.0 (Rose a.host.disk_faults b.host.disk_faults) (run_scene repos a i) (run_scene repos b j) ended ran.2
+run_lists repos workers known clock a i b j ended one (inl unmounted) = inl (lists_same (a.host.disk_at repos) (b.host.disk_at repos) (ap (option_map labels_now) unmounted.2))
+run_lists repos workers known clock a i b j ended one (inr (moment, tells, inl ran)) = script_lists moment (Rose a.host.disk_faults b.host.disk_faults) (run_scene repos a i) (run_scene repos b j) ended ran.1
+run_lists repos workers known clock a i b j ended one (inr (moment, tells, inr ran)) = absurd (omega (arith, one, ran.0))
 
-pub jobs_list : (words : List (List ℕ)) (clock : Option ℕ) (a : Scene) (i : SourceScene) (b : Scene) (j : SourceScene) (ended : Result ℕ Fault) → DidJobs words clock a i b j ended
-    → (path : List ℕ) → ListsNoOther (a.host.disk_at path) (b.host.disk_at path) ⊎ Rose a.host.disk_faults b.host.disk_faults
-jobs_list words clock a i b j ended (inl did) path = ⊎_elim here (λ apart. inl (lists_same (a.host.disk_at path) (b.host.disk_at path) (ap (option_map labels_now) (did.4 path apart)))) (path_cases path did.0)
+pub jobs_list : (words : List (List ℕ)) (known : Bool) (clock : Option ℕ) (a : Scene) (i : SourceScene) (b : Scene) (j : SourceScene) (ended : Result ℕ Fault) → DidJobs words known clock a i b j ended
+    → ((repos : List ℕ) (workers : ℕ) → Asks Jobs words repos (RunJobs workers) → workers ≡ 1) → (path : List ℕ) → ListsNoOther (a.host.disk_at path) (b.host.disk_at path) ⊎ Rose a.host.disk_faults b.host.disk_faults
+jobs_list words known clock a i b j ended (inl (repos, workers, asks, ran, others)) one path = ⊎_elim here (λ apart. inl (lists_same (a.host.disk_at path) (b.host.disk_at path) (ap (option_map labels_now) (others path apart)))) (path_cases path repos)
   where
-    here : path ≡ did.0 → ListsNoOther (a.host.disk_at path) (b.host.disk_at path) ⊎ Rose a.host.disk_faults b.host.disk_faults
-    here is = subst (λ (p : List ℕ). ListsNoOther (a.host.disk_at p) (b.host.disk_at p) ⊎ Rose a.host.disk_faults b.host.disk_faults) (sym is) (run_lists did.0 clock a i b j ended did.3)
-jobs_list words clock a i b j ended (inr refused) path = inl (lists_same (a.host.disk_at path) (b.host.disk_at path) (ap (λ (s : Scene). option_map labels_now (s.host.disk_at path)) refused.3))
+    here : path ≡ repos → ListsNoOther (a.host.disk_at path) (b.host.disk_at path) ⊎ Rose a.host.disk_faults b.host.disk_faults
+    here is =
+        subst (λ (p : List ℕ). ListsNoOther (a.host.disk_at p) (b.host.disk_at p) ⊎ Rose a.host.disk_faults b.host.disk_faults) (sym is) (run_lists repos workers known clock a i b j ended (one repos workers asks) ran)
+jobs_list words known clock a i b j ended (inr refused) one path =
+    inl (lists_same (a.host.disk_at path) (b.host.disk_at path) (ap (λ (s : Scene). option_map labels_now (s.host.disk_at path)) refused.3))

@@ -9,3 +9,4 @@ pub mod FlatTexts
 pub mod CommandReplies
 pub mod Making
 pub mod JobsTold
+pub mod WorkersTold

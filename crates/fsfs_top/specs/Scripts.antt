@@ -1,8 +1,11 @@
 -- What svnjobs does, from its words and its input to the files, the output and the status.
-use Rattle.std.specs.Prelude.{◌≡◌, ◌≢◌, ◌⊎◌, ℕ, List, Option, Some, None, IfSome, Result, Ok, Err}
+use Rattle.std.specs.Prelude.{◌≡◌, ◌≢◌, ◌⊎◌, ℕ, Bool, List, Option, Some, None, IfSome, Result, Ok, Err}
 use Rattle.fsfs_base.specs.Failures.{Rose}
 use Rattle.fsfs_disk.specs.Crash.{AllLabels}
-use Rattle.fsfs_disk.specs.Trace.{Trace}
+use Rattle.fsfs_disk.specs.Trace.{Trace, files_now}
+use Rattle.fsfs_tree.specs.Revisions.{Revision}
+use Rattle.fsfs_stands.specs.Files.{StandsFor}
+use Rattle.fsfs_turn.specs.Opening.{LeftoversAgree}
 use Rattle.fsfs_txns.specs.Removals.{WasKept}
 use Rattle.fsfs_faults.specs.Faults.{fault_from_words}
 use Rattle.fsfs_faults.specs.Lines.{status_of}
@@ -15,6 +18,7 @@ use Rattle.fsfs_cli.specs.declared.fault.WordsFault.{WordsFault}
 use Rattle.fsfs_cli.specs.declared.request.Task.TheVariants.{RunJobs}
 use Rattle.fsfs_cli.specs.declared.tool.Tool.TheVariants.{Jobs}
 use Rattle.fsfs_job_command.specs.Runs.{RunScene, RunsScript}
+use Rattle.fsfs_worker_command.specs.ByWorkers.{RunsByWorkers}
 use Rattle.fsfs_top.specs.Scenes.{Scene, SourceScene}
 
 -- the status of a run, or that of its fault
@@ -31,16 +35,25 @@ ended_fault (Err fault) = Some fault
 abbrev pub run_scene : List ℕ → Scene → SourceScene → RunScene
 run_scene repos a i = record { trace = a.host.disk_at repos; remaining = i.remaining; read_faults = i.faults; written = a.out.written; write_faults = a.out.faults }
 
+-- The disk tells nothing; or its files stand for a history, packed or not, and files that are left over of packed revisions have the same bytes.
+abbrev pub HasHistory : Option Trace → Type 0
+HasHistory told = IfSome told (λ t. (h : List Revision) × (stands : StandsFor (files_now t) h) × LeftoversAgree stands)
+
+-- What so many workers did over a disk whose count of faults went from `before` to `after`. One does the jobs one after another; two do them beside each
+-- other, and what is told of them rests on whether the disk is known to have a history (`known`).
+abbrev pub RunsBy : ℕ → Bool → ℕ → ℕ → ℕ → RunScene → RunScene → Result ℕ Fault → Type 0
+RunsBy workers known moment before after a b ended = ((workers ≡ 1) × RunsScript moment (Rose before after) a b ended) ⊎ ((workers ≡ 2) × RunsByWorkers moment 2 known before after a b ended)
+
 -- the path was mounted and the script run over the disk there, at a moment that the clock gave; or it was not mounted, and nothing was done
-abbrev pub RunsAt : List ℕ → Option ℕ → Scene → SourceScene → Scene → SourceScene → Result ℕ Fault → Type 0
-RunsAt repos clock a i b j ended =
+abbrev pub RunsAt : List ℕ → ℕ → Bool → Option ℕ → Scene → SourceScene → Scene → SourceScene → Result ℕ Fault → Type 0
+RunsAt repos workers known clock a i b j ended =
     ((ended ≡ Err (Outside Mount)) × Rose a.host.mount_faults b.host.mount_faults × (b.host.disk_at repos ≡ a.host.disk_at repos) × (b.out ≡ a.out) × (j ≡ i))
-    ⊎ ((moment : ℕ) × IfSome clock (λ t. moment ≡ t) × RunsScript moment (Rose a.host.disk_faults b.host.disk_faults) (run_scene repos a i) (run_scene repos b j) ended)
+    ⊎ ((moment : ℕ) × IfSome clock (λ t. moment ≡ t) × RunsBy workers known moment a.host.disk_faults b.host.disk_faults (run_scene repos a i) (run_scene repos b j) ended)
 
 -- what svnjobs did: what its words ask for, at that path alone; or they were refused, and nothing was done
-abbrev pub DidJobs : List (List ℕ) → Option ℕ → Scene → SourceScene → Scene → SourceScene → Result ℕ Fault → Type 0
-DidJobs words clock a i b j ended =
-    ((repos : List ℕ) × (workers : ℕ) × Asks Jobs words repos (RunJobs workers) × RunsAt repos clock a i b j ended × ((path : List ℕ) → path ≢ repos → b.host.disk_at path ≡ a.host.disk_at path))
+abbrev pub DidJobs : List (List ℕ) → Bool → Option ℕ → Scene → SourceScene → Scene → SourceScene → Result ℕ Fault → Type 0
+DidJobs words known clock a i b j ended =
+    ((repos : List ℕ) × (workers : ℕ) × Asks Jobs words repos (RunJobs workers) × RunsAt repos workers known clock a i b j ended × ((path : List ℕ) → path ≢ repos → b.host.disk_at path ≡ a.host.disk_at path))
     ⊎ ((why : WordsFault) × (ended ≡ Err (fault_from_words why)) × Refuses (asked Jobs words) why × (b ≡ a) × (j ≡ i))
 
 -- no transaction is listed that was not before

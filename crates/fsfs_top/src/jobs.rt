@@ -1,26 +1,70 @@
 // The run of a job script.
-ghost use Rattle.std.specs.Prelude.{◌≡◌, ◌≢◌, ℕ, List, map, string_bytes};
+ghost use Rattle.std.specs.Prelude.{◌≡◌, ◌≢◌, ◌≤◌, ℕ, List, map, string_bytes, true, IsTrue};
+ghost use Rattle.fsfs_cli.specs.Readings.{Asks};
+ghost use Rattle.fsfs_cli.specs.declared.request.Task.TheVariants.{RunJobs};
+ghost use Rattle.fsfs_cli.specs.declared.tool.Tool.TheVariants.{Jobs};
+ghost use Rattle.fsfs_job_command.specs.Runs.{run_scene};
 ghost use Rattle.fsfs_top.specs.Scenes.{scene, source_scene};
-ghost use Rattle.fsfs_top.specs.Scripts.{DidJobs, RunsAt};
+ghost use Rattle.fsfs_top.specs.Scripts.{DidJobs, HasHistory, RunsAt, RunsBy};
 
 use fsfs_cli::{Task, Tool, read_words};
-use fsfs_disk::Host;
+use fsfs_disk::{Disk, Host};
 use fsfs_faults::{Fault, OutsideFault};
 use fsfs_job_command::run_script;
 use fsfs_streams::{Clock, Gate, Sink, Source};
+use fsfs_worker_command::run_script_by_two;
 use std::alloc::Global;
+use std::sync::Wait;
+use std::thread::Threads;
+
+// Runs the script in the input over the repository on a disk, by one worker or by two.
+fn run_on<T: Threads + Wait + Sync, D: Disk + Drop + Send, I: Source, O: Sink, G: Gate + Sync>(
+    rt: &T,
+    alloc: Global,
+    disk: D,
+    workers: u32,
+    input: &mut I,
+    micros: u64,
+    out: &mut O,
+    gate: &G,
+    known: bool,
+) -> (D, Result<u8, Fault>)
+where
+    D::Bench: Send,
+    requires right { IsTrue (D.may_write disk) }
+    requires workers { (1 ≤ workers) × (workers ≤ 2) }
+    requires moment { micros ≤ 4102444799999999 }
+    requires knows { known ≡ true → HasHistory (D.trace disk) }
+    ensures ran { RunsBy workers known micros (D.faults disk) (D.faults result.0) (run_scene (D.trace disk) (I.remaining input.old) (I.faults input.old) (O.written out.old) (O.faults out.old))
+        (run_scene (D.trace result.0) (I.remaining input.new) (I.faults input.new) (O.written out.new) (O.faults out.new)) result.1 }
+    ensures mounted { D.mount_path result.0 ≡ D.mount_path disk }
+{
+    if workers == 1 {
+        run_script(alloc, disk, input, micros, out, gate)
+    } else {
+        run_script_by_two(rt, alloc, disk, input, micros, out, gate, known)
+    }
+}
 
 // Mounts a path, and runs the script in the input over the repository there.
-fn run_at<H: Host, I: Source, O: Sink, C: Clock, G: Gate>(
+fn run_at<T: Threads + Wait + Sync, H: Host, I: Source, O: Sink, C: Clock, G: Gate + Sync>(
+    rt: &T,
     alloc: Global,
     repos: &str,
+    workers: u32,
     host: &mut H,
     input: &mut I,
     out: &mut O,
     clock: &mut C,
     gate: &G,
+    known: bool,
 ) -> Result<u8, Fault>
-    ensures ran { RunsAt repos.now (C.next clock.old) (scene H.Host O.Sink host.old out.old) (source_scene I.Source input.old) (scene H.Host O.Sink host.new out.new) (source_scene I.Source input.new) result }
+where
+    H::Mounted: Drop + Send,
+    <H::Mounted as Disk>::Bench: Send,
+    requires workers { (1 ≤ workers) × (workers ≤ 2) }
+    requires knows { known ≡ true → HasHistory (H.disk_at host.old repos.now) }
+    ensures ran { RunsAt repos.now workers known (C.next clock.old) (scene H.Host O.Sink host.old out.old) (source_scene I.Source input.old) (scene H.Host O.Sink host.new out.new) (source_scene I.Source input.new) result }
     ensures others { (path : List ℕ) → path ≢ repos.now → H.disk_at host.new path ≡ H.disk_at host.old path }
 {
     let disk = match host.mount(repos, true) {
@@ -28,13 +72,21 @@ fn run_at<H: Host, I: Source, O: Sink, C: Clock, G: Gate>(
         Err(_) => return Err(Fault::Outside(OutsideFault::Mount)),
     };
     let micros = clock.micros();
-    let (disk, ran) = run_script(alloc, disk, input, micros, out, gate);
+    let (disk, ran) = run_on(rt, alloc, disk, workers, input, micros, out, gate, known);
     host.unmount(disk);
     ran
 }
 
 /// Reads the words of svnjobs, and does what they ask for. The answer is the greatest status that a job's line asks for.
-pub(crate) fn run_jobs<H: Host, I: Source, O: Sink, C: Clock, G: Gate>(
+pub(crate) fn run_jobs<
+    T: Threads + Wait + Sync,
+    H: Host,
+    I: Source,
+    O: Sink,
+    C: Clock,
+    G: Gate + Sync,
+>(
+    rt: &T,
     alloc: Global,
     words: &[String],
     host: &mut H,
@@ -42,12 +94,28 @@ pub(crate) fn run_jobs<H: Host, I: Source, O: Sink, C: Clock, G: Gate>(
     out: &mut O,
     clock: &mut C,
     gate: &G,
+    known: bool,
 ) -> Result<u8, Fault>
-    ensures did { DidJobs (map string_bytes words.now) (C.next clock.old) (scene H.Host O.Sink host.old out.old) (source_scene I.Source input.old) (scene H.Host O.Sink host.new out.new) (source_scene I.Source input.new) result }
+where
+    H::Mounted: Drop + Send,
+    <H::Mounted as Disk>::Bench: Send,
+    requires knows { known ≡ true → (repos : List ℕ) (workers : ℕ) → Asks Jobs (map string_bytes words.now) repos (RunJobs workers) → HasHistory (H.disk_at host.old repos) }
+    ensures did { DidJobs (map string_bytes words.now) known (C.next clock.old) (scene H.Host O.Sink host.old out.old) (source_scene I.Source input.old) (scene H.Host O.Sink host.new out.new) (source_scene I.Source input.new) result }
 {
     let request = read_words(alloc, Tool::Jobs, words)?;
     match &request.task {
-        Task::RunJobs { .. } => run_at(alloc, request.repos, host, input, out, clock, gate),
+        Task::RunJobs { workers } => run_at(
+            rt,
+            alloc,
+            request.repos,
+            *workers,
+            host,
+            input,
+            out,
+            clock,
+            gate,
+            known,
+        ),
         // Other programs do these.
         Task::Create { .. } | Task::ListTxns | Task::RemoveTxns { .. } | Task::Look(_) => {
             unreachable!()

@@ -1,14 +1,14 @@
 // The top call.
-ghost use Rattle.std.specs.Prelude.{◌≡◌, ◌≢◌, ◌⊎◌, ◌≤◌, ℕ, List, map, string_bytes, Option, Some, Result, IfSome, IfNone, OnOk, option_map};
+ghost use Rattle.std.specs.Prelude.{◌≡◌, ◌≢◌, ◌⊎◌, ◌≤◌, ℕ, List, map, string_bytes, true, Option, Some, Result, IfSome, IfNone, OnOk, option_map};
 ghost use Rattle.fsfs_base.specs.Failures.{Rose};
 ghost use Rattle.fsfs_disk.specs.Trace.{Trace, files_now};
 ghost use Rattle.fsfs_disk.specs.Crash.{AllImages, IsFirm, Leaves};
 ghost use Rattle.fsfs_create.specs.Creation.{IsUnpublished, HasRepository};
 ghost use Rattle.fsfs_cli.specs.Readings.{Asks};
-ghost use Rattle.fsfs_cli.specs.declared.request.Task.TheVariants.{Create, RemoveTxns};
+ghost use Rattle.fsfs_cli.specs.declared.request.Task.TheVariants.{Create, RemoveTxns, RunJobs};
 ghost use Rattle.fsfs_cli.specs.declared.tool.Tool.TheVariants.{Jobs};
 ghost use Rattle.fsfs_faults.specs.Lines.{status_of};
-ghost use Rattle.fsfs_top.specs.Scripts.{DidJobs, ListsNoOther, ended_fault, ended_status};
+ghost use Rattle.fsfs_top.specs.Scripts.{DidJobs, HasHistory, ListsNoOther, ended_fault, ended_status};
 ghost use Rattle.fsfs_top.specs.Command.{Created, Did, IsNoneOrCreated, IsNoneOrStore, Tells, answer_of, fault_of};
 ghost use Rattle.fsfs_top.specs.Replies.{Replies, Gives, MadeStands};
 ghost use Rattle.fsfs_top.specs.Scenes.{host_scene, sink_scene, source_scene, scene};
@@ -20,11 +20,13 @@ use crate::look::look_at;
 use crate::txns::{list_at, remove_at};
 use fsfs_cli::{Task, Tool, read_words};
 use fsfs_create::create;
-use fsfs_disk::Host;
+use fsfs_disk::{Disk, Host};
 use fsfs_faults::{Fault, OutsideFault, print_fault, status};
 use fsfs_layout::Layout;
 use fsfs_streams::{Clock, Dice, Gate, Sink, Source};
 use std::alloc::Global;
+use std::sync::Wait;
+use std::thread::Threads;
 use uuid::Builder;
 
 // Mounts a path and makes a repository there.
@@ -157,7 +159,20 @@ fn do_command<H: Host, O: Sink, E: Sink, C: Clock, R: Dice>(
 
 /// The top call: all that a program does. It answers the program's status, 0 where it did what its words ask for; else it writes one
 /// line about the fault to `err`. Of svnjobs it is the greatest status that a job's line asks for.
-pub fn command<H: Host, I: Source, O: Sink, E: Sink, C: Clock, R: Dice, G: Gate>(
+///
+/// `known`: where the host tells the files at the path of the words, they are known to stand for a history, which two workers of svnjobs
+/// rest on. Who doesn't know hands in false; then less is told of these.
+pub fn command<
+    T: Threads + Wait + Sync,
+    H: Host,
+    I: Source,
+    O: Sink,
+    E: Sink,
+    C: Clock,
+    R: Dice,
+    G: Gate + Sync,
+>(
+    rt: &T,
     alloc: Global,
     tool: Tool,
     words: &[String],
@@ -168,7 +183,13 @@ pub fn command<H: Host, I: Source, O: Sink, E: Sink, C: Clock, R: Dice, G: Gate>
     clock: &mut C,
     dice: &mut R,
     gate: &G,
+    known: bool,
 ) -> u8
+where
+    H::Mounted: Drop + Send,
+    <H::Mounted as Disk>::Bench: Send,
+    requires knows { known ≡ true → (repos : List ℕ) (workers : ℕ) → Asks tool (map string_bytes words.now) repos (RunJobs workers) → HasHistory (H.disk_at host.old repos) }
+
     // Of svnadmin and svnlook: one fault or none, to which belong the status, the line, and what was done and printed.
     ensures answer { tool ≢ Jobs → (fault : Option Fault) × (result ≡ answer_of fault) × Tells tool (sink_scene E.Sink err.old) (sink_scene E.Sink err.new) fault
         × Did tool (map string_bytes words.now) (C.next clock.old) (R.next dice.old) (scene H.Host O.Sink host.old out.old) (scene H.Host O.Sink host.new out.new) fault }
@@ -206,15 +227,16 @@ pub fn command<H: Host, I: Source, O: Sink, E: Sink, C: Clock, R: Dice, G: Gate>
 
     // Of svnjobs: what became of the script in the input, to which belong the status and the line about a fault.
     ensures jobs { tool ≡ Jobs → (ended : Result ℕ Fault) × (result ≡ ended_status ended) × Tells tool (sink_scene E.Sink err.old) (sink_scene E.Sink err.new) (ended_fault ended)
-        × DidJobs (map string_bytes words.now) (C.next clock.old) (scene H.Host O.Sink host.old out.old) (source_scene I.Source input.old) (scene H.Host O.Sink host.new out.new) (source_scene I.Source input.new) ended }
+        × DidJobs (map string_bytes words.now) known (C.next clock.old) (scene H.Host O.Sink host.old out.old) (source_scene I.Source input.old) (scene H.Host O.Sink host.new out.new) (source_scene I.Source input.new) ended }
 
-    // Whatever the disks hold, a run of svnjobs leaves no transaction listed that was not before it, unless a call of the disk failed.
-    ensures listed { tool ≡ Jobs → (path : List ℕ) → ListsNoOther (H.disk_at host.old path) (H.disk_at host.new path) ⊎ Rose (H.disk_faults host.old) (H.disk_faults host.new) }
+    // Whatever the disks hold, a run of svnjobs by one worker leaves no transaction listed that was not before it, unless a call of the disk failed.
+    ensures listed { tool ≡ Jobs → ((repos : List ℕ) (workers : ℕ) → Asks tool (map string_bytes words.now) repos (RunJobs workers) → workers ≡ 1)
+        → (path : List ℕ) → ListsNoOther (H.disk_at host.old path) (H.disk_at host.new path) ⊎ Rose (H.disk_faults host.old) (H.disk_faults host.new) }
 
     ensures unread { tool ≢ Jobs → I.remaining input.new ≡ I.remaining input.old }
 {
     match tool {
-        Tool::Jobs => match run_jobs(alloc, words, host, input, out, clock, gate) {
+        Tool::Jobs => match run_jobs(rt, alloc, words, host, input, out, clock, gate, known) {
             Ok(status) => status,
             Err(fault) => tell(err, tool, &fault),
         },

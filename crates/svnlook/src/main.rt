@@ -6,5 +6,5 @@ use fsfs_top::Tool;
 use std::process::ExitCode;
 
 fn main(rt: HostRuntime) -> ExitCode {
-    run(rt, Tool::Look)
+    run(&rt, rt, Tool::Look)
 }

@@ -1,5 +1,8 @@
-use Rattle.std.proofs.Common.{map, refl}
+use Rattle.std.proofs.Common.{map, refl, sym, subst}
 use Rattle.std.specs.Prelude.{string_bytes, Ok, Err}
+use Rattle.fsfs_cli.specs.Readings.{Asks}
+use Rattle.fsfs_cli.specs.declared.request.Task.TheVariants.{RunJobs}
+use Rattle.fsfs_cli.specs.declared.tool.Tool.{Tool}
 use Rattle.fsfs_top.specs.Scenes.{scene, source_scene}
 use Rattle.fsfs_top.proofs.JobsTold.{jobs_list}
 use Rattle.fsfs_top.proofs.TaskDone.{no_creation, no_removal}
@@ -12,7 +15,7 @@ pub returns-in_default-clause-jobs : goal.returns-in_default-clause-jobs
 returns-in_default-clause-jobs g c = λ jobs. absurd (c.in_default.not-Jobs jobs)
 
 pub returns-in_default-clause-listed : goal.returns-in_default-clause-listed
-returns-in_default-clause-listed g c = λ jobs. absurd (c.in_default.not-Jobs jobs)
+returns-in_default-clause-listed g c = λ jobs one. absurd (c.in_default.not-Jobs jobs)
 
 pub returns-in_default-clause-unread : goal.returns-in_default-clause-unread
 returns-in_default-clause-unread g c = λ apart. refl
@@ -90,11 +93,15 @@ pub returns-in-Err-clause-jobs : goal.returns-in-Err-clause-jobs
 returns-in-Err-clause-jobs g c = λ jobs. (Err c.in-Err.fault, c.tell.ensures.status, c.tell.ensures.told, c.in-Err.ensures.did)
 
 pub returns-in-Ok-clause-listed : goal.returns-in-Ok-clause-listed
-returns-in-Ok-clause-listed g c = λ jobs.
-    jobs_list (map string_bytes c.args.words.now) (g.C.Clock.next c.args.clock.now) (scene g.H.Host g.O.Sink c.args.host.now c.args.out.now) (source_scene g.I.Source c.args.input.now) (scene g.H.Host g.O.Sink c.run_jobs.new.host c.run_jobs.new.out) (source_scene g.I.Source c.run_jobs.new.input)
-    (Ok c.in-Ok.status) c.in-Ok.ensures.did
+returns-in-Ok-clause-listed g c = λ jobs one.
+    jobs_list (map string_bytes c.args.words.now) c.args.known (g.C.Clock.next c.args.clock.now) (scene g.H.Host g.O.Sink c.args.host.now c.args.out.now) (source_scene g.I.Source c.args.input.now) (scene g.H.Host g.O.Sink c.run_jobs.new.host c.run_jobs.new.out) (source_scene g.I.Source c.run_jobs.new.input)
+    (Ok c.in-Ok.status) c.in-Ok.ensures.did (λ repos workers asks. one repos workers (subst (λ (t : Tool). Asks t (map string_bytes c.args.words.now) repos (RunJobs workers)) (sym jobs) asks))
 
 pub returns-in-Err-clause-listed : goal.returns-in-Err-clause-listed
-returns-in-Err-clause-listed g c = λ jobs.
-    jobs_list (map string_bytes c.args.words.now) (g.C.Clock.next c.args.clock.now) (scene g.H.Host g.O.Sink c.args.host.now c.args.out.now) (source_scene g.I.Source c.args.input.now) (scene g.H.Host g.O.Sink c.run_jobs.new.host c.run_jobs.new.out) (source_scene g.I.Source c.run_jobs.new.input)
-    (Err c.in-Err.fault) c.in-Err.ensures.did
+returns-in-Err-clause-listed g c = λ jobs one.
+    jobs_list (map string_bytes c.args.words.now) c.args.known (g.C.Clock.next c.args.clock.now) (scene g.H.Host g.O.Sink c.args.host.now c.args.out.now) (source_scene g.I.Source c.args.input.now) (scene g.H.Host g.O.Sink c.run_jobs.new.host c.run_jobs.new.out) (source_scene g.I.Source c.run_jobs.new.input)
+    (Err c.in-Err.fault) c.in-Err.ensures.did (λ repos workers asks. one repos workers (subst (λ (t : Tool). Asks t (map string_bytes c.args.words.now) repos (RunJobs workers)) (sym jobs) asks))
+
+pub run_jobs-requires-clause-knows : goal.run_jobs-requires-clause-knows
+run_jobs-requires-clause-knows g c = λ κs within known repos workers asks.
+    c.requires.knows known repos workers (subst (λ (t : Tool). Asks t (map string_bytes c.args.words.now) repos (RunJobs workers)) (sym c.in-Jobs.is) asks)

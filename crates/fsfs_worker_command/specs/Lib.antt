@@ -1,0 +1,2 @@
+pub mod ByWorkers
+pub mod Works

@@ -1,0 +1,142 @@
+-- What two workers did, over the seat into which the second one's was joined.
+use Rattle.std.proofs.Common.{◌≡◌, ◌<◌, ◌≤◌, ◌+◌, ◌-◌, ◌/◌, ℕ, zero, suc, List, [], ◌∷◌, ◌++◌, length, Bool, true, false, cond, ap, sym, subst, refl, ◌∙◌, arith}
+use Rattle.std.specs.Prelude.{Option, Some, None, is_some}
+use Rattle.fsfs_disk.specs.Trace.{Trace}
+use Rattle.fsfs_places.specs.declared.place.DiskPlace.{DiskPlace}
+use Rattle.fsfs_machine.specs.declared.machine.Recorded.{Recorded}
+use Rattle.fsfs_machine.specs.Machine.{either_place, revisions}
+use Rattle.fsfs_turn.specs.Alone.{BringsNoDoubt, are_harmless, brings_doubt}
+use Rattle.fsfs_turn.specs.Views.{View, Begins}
+use Rattle.fsfs_seats.specs.declared.seat_view.Kin.{Kin}
+use Rattle.fsfs_seats.specs.declared.seat_view.SeatView.{SeatView}
+use Rattle.fsfs_seats.specs.Seats.{view_of, halved_view, split_pass, numbered_view, joined_view}
+use Rattle.fsfs_seats.proofs.Following.{grown_long}
+use Rattle.fsfs_job_lines.specs.declared.job.Job.{Job}
+use Rattle.fsfs_jobs.specs.declared.answer.JobAnswer.{JobAnswer}
+use Rattle.fsfs_serial.specs.Jobs.{own_of_all, TellNoDoubt}
+use Rattle.fsfs_beside.specs.Lines.{WorkerLines, dealt, disk_faults_in, RoseBy}
+use Rattle.fsfs_beside.specs.Passes.{last_known, IsOnward, WorkJobs, End, More}
+use Rattle.fsfs_beside.proofs.BesideLemmas.{begins_on, onward, worked}
+use Rattle.fsfs_workers.specs.InTurn.{in_turn, AreDealt}
+use Rattle.fsfs_workers.specs.Ready.{IsAtRest}
+use Rattle.fsfs_workers.specs.Two.{BothWorked}
+use Rattle.fsfs_workers.specs.OneWorker.{HasWorked}
+use Rattle.fsfs_workers.proofs.Counting.{faults_in_turn}
+use Rattle.fsfs_workers.proofs.InTurnLemmas.{first_share, second_share, shares_are_dealt, shares_are_all, length_in_turn}
+use Rattle.fsfs_workers.proofs.Shares.{share_is_calm, none_stuck}
+
+-- ---- what its jobs leave
+
+-- images are spoken of since the same moment
+since_when : (moment : ℕ) (js : List Job) (answers : List JobAnswer) (v u : View) → WorkJobs moment js answers v u → (u.since ≡ v.since) × (u.opened ≡ v.opened)
+since_when moment _ _ _ _ (End v) = (refl, refl)
+since_when moment _ _ _ _ (More job answer js answers v m u first rest) =
+    let then = since_when moment js answers m u rest in (then.0 ∙ first.since, then.1 ∙ first.opened)
+
+-- no fault leaves a revision in doubt but where a line tells of that
+without_doubt : (moment : ℕ) (js : List Job) (answers : List JobAnswer) (v u : View) → WorkJobs moment js answers v u → TellNoDoubt answers → BringsNoDoubt v u
+without_doubt moment _ _ _ _ (End v) calm = λ few. few
+without_doubt moment _ _ _ _ (More job answer js answers v m u first rest) calm = λ few. without_doubt moment js answers m u rest calm.1 (first.doubtless calm.0 few)
+
+-- ---- both
+
+knows_less : (u w : View) → Begins u.seen w.seen → w.pass.least ≤ u.pass.least → last_known w ≤ last_known u
+knows_less u w begins least = let long = grown_long u.seen w.seen begins in omega (arith, least, long)
+
+both_harmless : (a b : List DiskPlace) → are_harmless a ≡ true → are_harmless b ≡ true → are_harmless (a ++ b) ≡ true
+both_harmless [] b few less = less
+both_harmless (x ∷ a) b few less = by_test (brings_doubt x) few (λ rest. both_harmless a b rest less)
+  where
+    by_test : (doubt : Bool) → cond doubt false (are_harmless a) ≡ true → (are_harmless a ≡ true → are_harmless (a ++ b) ≡ true) → cond doubt false (are_harmless (a ++ b)) ≡ true
+    by_test true e on = absurd cc
+    by_test false e on = on e
+
+neither_stuck : (a b : Option DiskPlace) → either_place a b ≡ None → (is_some a ≡ false) × (is_some b ≡ false)
+neither_stuck (Some at) b e = let no : Some at ≡ None = e in absurd cc
+neither_stuck None b e = (refl, ap is_some e)
+
+pub both_worked : (moment : ℕ) (js : List Job) (answers : List JobAnswer) (v one two : SeatView) (n : ℕ) (met last : Option Trace) → length answers ≡ length js
+    → WorkJobs moment (dealt 2 0 js) (dealt 2 0 answers) (view_of (halved_view v)) (view_of one)
+    → WorkJobs moment (dealt 2 1 js) (dealt 2 1 answers) (view_of (numbered_view n met (split_pass v))) (view_of two)
+    → one.kin ≡ (halved_view v).kin → two.kin ≡ (numbered_view n met (split_pass v)).kin
+    → Begins (joined_view last one two).seen one.seen → Begins (joined_view last one two).seen two.seen → BothWorked moment js answers v (joined_view last one two)
+both_worked moment js answers v one two n met last each a b first_kin second_kin first_seen second_seen =
+    let u = joined_view last one two in
+    let first = worked moment (dealt 2 0 js) (dealt 2 0 answers) (view_of (halved_view v)) (view_of one) a in
+    let second = worked moment (dealt 2 1 js) (dealt 2 1 answers) (view_of (numbered_view n met (split_pass v))) (view_of two) b in
+    let when = since_when moment (dealt 2 0 js) (dealt 2 0 answers) (view_of (halved_view v)) (view_of one) a in
+    record {
+      each = each;
+      grows = begins_on u.seen one.seen v.seen first_seen first.begins;
+      since = when.0;
+      opened = when.1;
+      lines = lines;
+      own = first.own;
+      other = two.number;
+      joined = ap (λ (l : List (ℕ × List ℕ)). l ++ (two.number, two.pass.mine) ∷ two.kin.joined) (ap (λ (k : Kin). k.joined) first_kin)
+          ∙ ap (λ (l : List ℕ). v.kin.joined ++ (two.number, l) ∷ two.kin.joined) second.own
+          ∙ ap (λ (l : List (ℕ × List ℕ)). v.kin.joined ++ (two.number, own_of_all (dealt 2 1 answers)) ∷ l) (ap (λ (k : Kin). k.joined) second_kin);
+      doubtless = λ calm few. both_harmless one.pass.faults two.pass.faults
+          (without_doubt moment (dealt 2 0 js) (dealt 2 0 answers) (view_of (halved_view v)) (view_of one) a (share_is_calm 2 0 answers calm) few)
+          (without_doubt moment (dealt 2 1 js) (dealt 2 1 answers) (view_of (numbered_view n met (split_pass v))) (view_of two) b (share_is_calm 2 1 answers calm) refl);
+      found = λ none. let free = neither_stuck one.pass.stuck two.pass.stuck none in none_stuck answers (first.stuck free.0) (second.stuck free.1);
+    }
+  where
+    lines : (h : List Recorded) → IsOnward (view_of (joined_view last one two)) h → (w : ℕ) → w < 2 → WorkerLines moment (revisions h) (last_known (view_of v)) (dealt 2 w js) (dealt 2 w answers)
+    lines h on zero less =
+        (worked moment (dealt 2 0 js) (dealt 2 0 answers) (view_of (halved_view v)) (view_of one) a).lines h
+        (onward h (view_of one) (view_of (joined_view last one two)) first_seen (knows_less (view_of (joined_view last one two)) (view_of one) first_seen (omega arith)) on)
+    lines h on (suc zero) less =
+        (worked moment (dealt 2 1 js) (dealt 2 1 answers) (view_of (numbered_view n met (split_pass v))) (view_of two) b).lines h
+        (onward h (view_of two) (view_of (joined_view last one two)) second_seen (knows_less (view_of (joined_view last one two)) (view_of two) second_seen (omega arith)) on)
+    lines h on (suc (suc w)) less = absurd (omega (arith, less))
+
+-- ---- the two seats of a split, and the one into which the other was joined
+
+module _ (moment : ℕ) (js : List Job) (firsts seconds answers : List JobAnswer) (v half new one two u : SeatView) (n : ℕ) (half_is : half ≡ halved_view v) (new_is : new ≡ numbered_view n new.met (split_pass v)) (u_is : u ≡ joined_view u.met one two) (answers_are : answers ≡ in_turn firsts seconds)
+    (a : HasWorked moment (dealt 2 0 js) firsts half one) (b : HasWorked moment (dealt 2 1 js) seconds new two) where
+  lengths : AreDealt (length firsts) (length seconds)
+  lengths = subst (λ (p : ℕ × ℕ). AreDealt p.0 p.1) (λ i. (sym a.each i, sym b.each i)) (shares_are_dealt js)
+
+  pub each_told : length answers ≡ length js
+  each_told = let all = shares_are_all js in let both = length_in_turn firsts seconds in ap (λ (l : List JobAnswer). length l) answers_are ∙ (let e : length (in_turn firsts seconds) ≡ length js = omega (arith, all, both, a.each, b.each) in e)
+
+  first_kin : one.kin ≡ (halved_view v).kin
+  first_kin = a.kin ∙ ap (λ (z : SeatView). z.kin) half_is
+
+  second_kin : two.kin ≡ (numbered_view n new.met (split_pass v)).kin
+  second_kin = b.kin ∙ ap (λ (z : SeatView). z.kin) new_is
+
+  pub both_did : v.told ≡ true → Begins u.seen one.seen → Begins u.seen two.seen → BothWorked moment js answers v u
+  both_did told first_seen second_seen =
+      let firsts_are : firsts ≡ dealt 2 0 answers = sym (ap (λ (l : List JobAnswer). dealt 2 0 l) answers_are ∙ first_share firsts seconds lengths) in
+      let seconds_are : seconds ≡ dealt 2 1 answers = sym (ap (λ (l : List JobAnswer). dealt 2 1 l) answers_are ∙ second_share firsts seconds lengths) in
+      subst (λ z. BothWorked moment js answers v z) (sym u_is)
+      (both_worked moment js answers v one two n new.met u.met each_told
+      (subst (λ (x : List JobAnswer × SeatView). WorkJobs moment (dealt 2 0 js) x.0 (view_of x.1) (view_of one)) (λ i. (firsts_are i, half_is i)) (a.did (ap (λ (z : SeatView). z.told) half_is ∙ told)))
+      (subst (λ (x : List JobAnswer × SeatView). WorkJobs moment (dealt 2 1 js) x.0 (view_of x.1) (view_of two)) (λ i. (seconds_are i, new_is i)) (b.did (ap (λ (z : SeatView). z.told) new_is ∙ told)))
+      first_kin second_kin (subst (λ (z : SeatView). Begins z.seen one.seen) u_is first_seen) (subst (λ (z : SeatView). Begins z.seen two.seen) u_is second_seen))
+
+  pub both_rose : RoseBy (disk_faults_in answers) v.failures u.failures
+  both_rose =
+      let told : disk_faults_in answers ≡ disk_faults_in firsts + disk_faults_in seconds = ap disk_faults_in answers_are ∙ faults_in_turn firsts seconds in
+      let before : half.failures ≡ v.failures = ap (λ (z : SeatView). z.failures) half_is in
+      let none : new.failures ≡ 0 = ap (λ (z : SeatView). z.failures) new_is in
+      let sum : u.failures ≡ one.failures + two.failures = ap (λ (z : SeatView). z.failures) u_is in
+      omega (arith, a.cause, b.cause, told, before, none, sum)
+
+  pub same_parts : u.kin.parts ≡ v.kin.parts
+  same_parts =
+      let x : one.kin.parts ≡ v.kin.parts - v.kin.parts / 2 = ap (λ (k : Kin). k.parts) first_kin in
+      let y : two.kin.parts ≡ v.kin.parts / 2 = ap (λ (k : Kin). k.parts) second_kin in
+      let sum : u.kin.parts ≡ one.kin.parts + two.kin.parts = ap (λ (z : SeatView). z.kin.parts) u_is in
+      omega (arith, x, y, sum)
+
+  pub same_duty : u.told ≡ v.told
+  same_duty = ap (λ (z : SeatView). z.told) u_is ∙ a.duty ∙ ap (λ (z : SeatView). z.told) half_is
+
+  pub at_rest : IsAtRest u
+  at_rest = record {
+    sitting = ap (λ (z : SeatView). z.kin.stage) u_is;
+    outside = λ told. ap (λ (z : SeatView). z.section) u_is ∙ a.rests.outside (sym (ap (λ (z : SeatView). z.told) u_is) ∙ told);
+  }

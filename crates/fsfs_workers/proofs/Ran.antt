@@ -1,0 +1,162 @@
+-- What a run of two workers comes to, behind the close.
+use Rattle.std.proofs.Common.{◌≡◌, ◌<◌, ◌≤◌, ◌+◌, ◌++◌, ℕ, List, [], ◌∷◌, length, true, inl, inr, refl, sym, ap, subst, ◌∙◌, append-nil, arith}
+use Rattle.std.proofs.lemmas.List.{map-append, length-map}
+use Rattle.std.specs.Prelude.{Option, Some, None, IfSome, is_some, slice_get}
+use Rattle.fsfs_base.specs.Files.{Files}
+use Rattle.fsfs_tree.specs.Revisions.{Revision}
+use Rattle.fsfs_tree.specs.Dated.{last_of}
+use Rattle.fsfs_disk.specs.Trace.{Trace, IsImage, files_now}
+use Rattle.fsfs_disk.proofs.CrashLemmas.{files_are_image}
+use Rattle.fsfs_stands.specs.Files.{StandsFor}
+use Rattle.fsfs_machine.specs.declared.machine.Recorded.{Recorded}
+use Rattle.fsfs_machine.specs.declared.machine.Coming.{Coming}
+use Rattle.fsfs_machine.specs.Kept.{IsIn}
+use Rattle.fsfs_machine.specs.Machine.{recorded, revisions}
+use Rattle.fsfs_turn.specs.Alone.{are_harmless}
+use Rattle.fsfs_turn.specs.Past.{IsPart}
+use Rattle.fsfs_turn.specs.Views.{Begins, Looked}
+use Rattle.fsfs_turn.specs.Whole.{NamesFrom}
+use Rattle.fsfs_turn.proofs.Alone.{same_by_length}
+use Rattle.fsfs_seats.specs.declared.seat_view.Kin.{Kin}
+use Rattle.fsfs_seats.specs.declared.seat_view.SeatView.{SeatView}
+use Rattle.fsfs_seats.specs.Seats.{all_parts, alone, look_view, view_of}
+use Rattle.fsfs_seats.specs.Kinship.{all_own, own_in, AreOnce as AreSeatsOnce}
+use Rattle.fsfs_seats.proofs.Following.{grown_long}
+use Rattle.fsfs_shared_repo.specs.Left.{Leaves}
+use Rattle.fsfs_job_lines.specs.declared.job.Job.{Job}
+use Rattle.fsfs_jobs.specs.declared.answer.JobAnswer.{JobAnswer}
+use Rattle.fsfs_serial.specs.Jobs.{own_of_all}
+use Rattle.fsfs_beside.specs.Beside.{GoesOnFrom}
+use Rattle.fsfs_beside.specs.Lines.{AreOnce, JobLines, WorkerLines, dealt}
+use Rattle.fsfs_beside.specs.Passes.{IsOnward, last_known}
+use Rattle.fsfs_beside.proofs.BesideLemmas.{all_stay, begins_on}
+use Rattle.fsfs_job_command.specs.Runs.{AllStandFor, HoldsAll, IsPartOf}
+use Rattle.fsfs_workers.specs.Ready.{IsAtRest}
+use Rattle.fsfs_workers.specs.Two.{BothWorked, RanTwo}
+use Rattle.fsfs_workers.proofs.Shares.{shares_tell, shares_tell_once}
+
+-- ---- histories and their revisions
+
+many : (h : List Recorded) → length (revisions h) ≡ length h
+many h = length-map h (λ (x : Recorded). x.revision)
+
+goes_on : (h g : List Recorded) → Begins h g → GoesOnFrom (revisions g) (revisions h)
+goes_on h g begins = (revisions begins.0, ap revisions begins.1 ∙ map-append (λ (x : Recorded). x.revision) g begins.0)
+
+same : (h : List Revision) → GoesOnFrom h h
+same h = ([], sym (append-nil h))
+
+a_part : (h g : List Recorded) (d : Option Coming) → IsPart h d g → IsPartOf (revisions h) (revisions g)
+a_part h g d (inl (more, is)) = inl (revisions more, ap revisions is ∙ map-append (λ (x : Recorded). x.revision) g more)
+a_part h g d (inr (x, is, with)) = inr (x.revision, ap revisions with ∙ map-append (λ (r : Recorded). r.revision) h (recorded x ∷ []))
+
+-- where no revision is in doubt, a part that is no shorter is the history
+whole_part : (h g : List Recorded) (d : Option Coming) → d ≡ None → IsPart h d g → length h ≤ length g → g ≡ h
+whole_part h g d none (inl begins) long = sym (same_by_length g h begins long)
+whole_part h g d none (inr (x, is, with)) long = let no : Some x ≡ None = sym is ∙ none in absurd cc
+
+once_so : (xs : List ℕ) → AreSeatsOnce xs → AreOnce xs
+once_so [] once = tt
+once_so (x ∷ xs) once = (once.0, once_so xs once.1)
+
+-- ---- the run
+
+-- v is what the first pass knew as it began, u what it knew when the other was joined into it; behind that it looked, and closed the repository
+module _ (moment young : ℕ) (js : List Job) (answers : List JobAnswer) (v u : SeatView) (met : Option Trace) (t : Trace) (both : BothWorked moment js answers v u) (looked : Looked young (view_of u) (view_of (look_view young met u))) (leaves : Leaves (look_view young met u) t)
+    (opened : v.opened ≡ length v.seen) (mine : v.pass.mine ≡ []) (faults : v.pass.faults ≡ []) (kin : v.kin ≡ alone) (parts : u.kin.parts ≡ all_parts) where
+  abbrev h : List Recorded
+  h = leaves.history
+
+  all : h ≡ u.seen
+  all = leaves.all parts
+
+  since_then : u.opened ≡ length (revisions v.seen)
+  since_then = both.opened ∙ opened ∙ sym (many v.seen)
+
+  begins : Begins h u.seen
+  begins = leaves.begins
+
+  last : length h ≡ young + 1
+  last = let e : length h ≡ length u.seen = ap length all in omega (arith, e, looked.seen, leaves.least)
+
+  -- ---- whose each revision is
+
+  abbrev all_told : List ℕ
+  all_told = own_of_all (dealt 2 0 answers) ++ own_of_all (dealt 2 1 answers)
+
+  own_are : all_own (look_view young met u) ≡ all_told
+  own_are =
+      let first : u.pass.mine ≡ own_of_all (dealt 2 0 answers) = both.own ∙ ap (λ (l : List ℕ). l ++ own_of_all (dealt 2 0 answers)) mine in
+      let joined : u.kin.joined ≡ (both.other, own_of_all (dealt 2 1 answers)) ∷ [] = both.joined ∙ ap (λ (k : Kin). k.joined ++ (both.other, own_of_all (dealt 2 1 answers)) ∷ []) kin in
+      let second : own_in u.kin.joined ≡ own_of_all (dealt 2 1 answers) = ap own_in joined ∙ append-nil (own_of_all (dealt 2 1 answers)) in
+      ap (λ (l : List ℕ). l ++ own_in u.kin.joined) first ∙ ap (λ (l : List ℕ). own_of_all (dealt 2 0 answers) ++ l) second
+
+  -- ---- the lines
+
+  knew_all : last_of (revisions v.seen) ≤ last_known (view_of v)
+  knew_all = let e = many v.seen in omega (arith, e)
+
+  on : IsOnward (view_of u) h
+  on = record { begins = begins; has = let long = grown_long h u.seen begins in omega (arith, looked.least, leaves.least, long) }
+
+  lines_hold : (w : ℕ) → w < 2 → WorkerLines moment (revisions h) (last_of (revisions v.seen)) (dealt 2 w js) (dealt 2 w answers)
+  lines_hold w less = all_stay moment (revisions h) (revisions h) (last_known (view_of v)) (last_of (revisions v.seen)) (dealt 2 w js) (dealt 2 w answers) (same (revisions h)) knew_all (both.lines h on w less)
+
+  lines : JobLines moment 2 js answers (revisions v.seen) (revisions h)
+  lines = record {
+    each = both.each;
+    grew = goes_on h v.seen (begins_on h u.seen v.seen begins both.grows);
+    lines = lines_hold;
+    told = λ r from less.
+        let few = many h in
+        shares_tell answers r (subst (λ (l : List ℕ). IsIn r l) own_are (leaves.added parts r (omega (arith, from, since_then)) (omega (arith, less, few))));
+    once = shares_tell_once answers (once_so all_told (subst AreSeatsOnce own_are leaves.once));
+  }
+
+  -- ---- the disk
+
+  held : HoldsAll v.since t (revisions v.seen) (revisions h)
+  held = subst (λ n. HoldsAll n t (revisions v.seen) (revisions h)) both.since record {
+    layout = u.layout;
+    seen = h;
+    are = refl;
+    whole = λ m image r x at. leaves.whole m image r x (ap (λ (l : List Recorded). slice_get l r) (sym all) ∙ at);
+    named = λ m image. subst (NamesFrom m) (ap (λ (l : List Recorded). length l) (sym all) ∙ sym (many h)) (leaves.named m image);
+    stands = λ m image.
+        let p = leaves.now m image in
+        let a = many h in
+        let b = many p.0 in
+        (revisions p.0, a_part h p.0 leaves.doubt p.1, omega (arith, a, b, p.2), p.4);
+    moments = λ m image. let p = leaves.moments m image in (p.0, p.3, a_part h p.0 leaves.doubt p.1, omega (arith, p.2, since_then), p.4);
+  }
+
+  -- where none is in doubt
+  stands_all : leaves.doubt ≡ None → AllStandFor t (revisions h)
+  stands_all none = record { now = each (files_now t) (files_are_image t.first t.operations); images = each }
+    where
+      each : (m : Files) → IsImage t.first t.operations m → StandsFor m (revisions h)
+      each m image = let p = leaves.now m image in subst (λ (g : List Recorded). StandsFor m (revisions g)) (whole_part h p.0 leaves.doubt none p.1 p.2) p.4
+
+  pub ran_two : (are_harmless u.pass.faults ≡ true → (leaves.doubt ≡ None) × (u.pass.stuck ≡ None)) → RanTwo moment v.since js answers young (revisions v.seen) t
+  ran_two calm =
+      let few : are_harmless v.pass.faults ≡ true = ap are_harmless faults in
+      record {
+        now = revisions h;
+        lines = lines;
+        last = many h ∙ last;
+        held = held;
+        stuck = λ quiet. both.found (calm (both.doubtless quiet few)).1;
+        certain = λ quiet. stands_all (calm (both.doubtless quiet few)).0;
+      }
+
+-- the same, where the disk that was given back tells; s is what the first pass knew as it closed the repository
+pub ran_so : (moment young : ℕ) (js : List Job) (answers : List JobAnswer) (v u s : SeatView) (told : Option Trace) (t : Trace) → told ≡ Some t → s ≡ look_view young s.met u → s.told ≡ is_some told → IfSome told (λ t. Leaves s t)
+    → (v.told ≡ true → BothWorked moment js answers v u) → (u.told ≡ true → Looked young (view_of u) (view_of (look_view young s.met u))) → IsAtRest u → u.told ≡ v.told
+    → (v.told ≡ true → (v.opened ≡ length v.seen) × (v.pass.mine ≡ []) × (v.pass.faults ≡ [])) → v.kin ≡ alone → u.kin.parts ≡ v.kin.parts → RanTwo moment v.since js answers young (revisions v.seen) t
+ran_so moment young js answers v u s told t is s_is closed left both looked rests duty seen kin same_parts =
+    let told_last : u.told ≡ true = sym (ap (λ (z : SeatView). z.told) s_is) ∙ closed ∙ ap (λ (o : Option Trace). is_some o) is in
+    let told_first : v.told ≡ true = sym duty ∙ told_last in
+    let begun = seen told_first in
+    let parts : u.kin.parts ≡ all_parts = same_parts ∙ ap (λ (k : Kin). k.parts) kin in
+    let leaves = subst (λ (z : SeatView). Leaves z t) s_is (subst (λ (o : Option Trace). IfSome o (λ t. Leaves s t)) is left) in
+    ran_two moment young js answers v u s.met t (both told_first) (looked told_last) leaves begun.0 begun.1 begun.2 kin parts (leaves.calm parts (rests.outside told_last))

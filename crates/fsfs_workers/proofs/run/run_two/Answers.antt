@@ -1,0 +1,53 @@
+use Rattle.std.proofs.Common.{◌≡◌, ◌∙◌, sym, ap, subst, arith}
+use Rattle.std.specs.Prelude.{Result, Ok, Err, is_some, IfOk, OnErr}
+use Rattle.fsfs_seats.specs.declared.seat_view.Kin.{Kin}
+use Rattle.fsfs_workers.specs.Ready.{IsReady}
+use Rattle.fsfs_workers.proofs.Ran.{ran_so}
+use Rattle.fsfs_workers.proofs.run.run_two.Goals as goal
+
+told_ok : {X E : Type 0} (r : Result X E) (x : X) (P : X → Type 0) → r ≡ Ok x → IfOk r P → P x
+told_ok r x P e w = subst (λ z. IfOk z P) e w
+
+told_err : {X E : Type 0} (r : Result X E) (x : E) (P : Type 0) → r ≡ Err x → OnErr r P → P
+told_err r x P e w = subst (λ z. OnErr z P) e w
+
+pub do_beside-seat-requires-clause-sits : goal.do_beside-seat-requires-clause-sits
+do_beside-seat-requires-clause-sits g c κs within =
+    (c.requires.sits.0 ∙ sym (ap (λ b. b.shared.table_id) c.board-board.ensures.same), c.board-board.ensures.sized.0, c.board-board.ensures.sized.1, c.requires.sits.1)
+
+pub do_beside-seat-requires-clause-parts : goal.do_beside-seat-requires-clause-parts
+do_beside-seat-requires-clause-parts g c = let e = ap (λ (k : Kin). k.parts) c.requires.alone in omega (arith, e)
+
+pub do_beside-seat-requires-clause-ready : goal.do_beside-seat-requires-clause-ready
+do_beside-seat-requires-clause-ready g c κs within =
+    subst (λ l. IsReady l (is_some (g.D.Disk.trace c.first-first.result.value)) c.args.seat.me.0) (sym c.layout-layout.ensures)
+    (subst (λ d. IsReady c.args.repo.layout (is_some (g.D.Disk.trace d)) c.args.seat.me.0) (sym c.first-first.ensures) c.requires.ready)
+
+pub look-youngest-requires-clause-sits : goal.look-youngest-requires-clause-sits
+look-youngest-requires-clause-sits g c = c.do_beside-seat.ensures.rests.sitting
+
+pub returns-in-Ok-clause-ran : goal.returns-in-Ok-clause-ran
+returns-in-Ok-clause-ran g c = λ t is.
+    let b = c.do_beside-seat in
+    ran_so c.args.micros c.look-youngest.result c.args.jobs.now c.in-Ok.answers.items c.args.seat.me.0 b.result.0.me.0 c.look-youngest.new.seat.me.0 (g.D.Disk.trace c.close.result) t is
+    (ap (λ m. m.0) c.look-youngest.ensures.same.2) c.close.ensures.told c.close.ensures.left (λ told. told_ok b.result.1 c.in-Ok.answers _ c.in-Ok.is (b.ensures.did told)) c.look-youngest.ensures.looked b.ensures.rests b.ensures.duty
+    c.requires.seen c.requires.alone b.ensures.parts
+
+pub returns-in-Ok-clause-cause : goal.returns-in-Ok-clause-cause
+returns-in-Ok-clause-cause g c =
+    let b = c.do_beside-seat in
+    let told = told_ok b.result.1 c.in-Ok.answers _ c.in-Ok.is b.ensures.cause in
+    let looked : c.look-youngest.new.seat.me.0.failures ≡ b.result.0.me.0.failures = ap (λ m. m.0.failures) c.look-youngest.ensures.same.2 in
+    omega (arith, told, looked, c.close.ensures.rose, c.requires.began.1, c.requires.fresh.1)
+
+pub returns-in-Ok-clause-mounted : goal.returns-in-Ok-clause-mounted
+returns-in-Ok-clause-mounted g c = c.close.ensures.mounted ∙ c.requires.began.0
+
+pub returns-in-Ok-clause-later : goal.returns-in-Ok-clause-later
+returns-in-Ok-clause-later g c = omega (arith, c.close.ensures.later, c.requires.began.1)
+
+pub returns-clause-mounted : goal.returns-clause-mounted
+returns-clause-mounted g c = c.close-in-Err.ensures.mounted ∙ c.requires.began.0
+
+pub returns-clause-later : goal.returns-clause-later
+returns-clause-later g c = omega (arith, c.close-in-Err.ensures.later, c.requires.began.1)

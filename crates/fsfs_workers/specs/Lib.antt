@@ -1,0 +1,4 @@
+pub mod InTurn
+pub mod Ready
+pub mod OneWorker
+pub mod Two

@@ -1,0 +1,20 @@
+-- What a worker does.
+use Rattle.std.specs.Prelude.{◌≡◌, ℕ, List, length, true}
+use Rattle.fsfs_seats.specs.declared.seat_view.SeatView.{SeatView}
+use Rattle.fsfs_seats.specs.Seats.{view_of}
+use Rattle.fsfs_job_lines.specs.declared.job.Job.{Job}
+use Rattle.fsfs_jobs.specs.declared.answer.JobAnswer.{JobAnswer}
+use Rattle.fsfs_beside.specs.Lines.{disk_faults_in, RoseBy}
+use Rattle.fsfs_beside.specs.Passes.{WorkJobs}
+use Rattle.fsfs_workers.specs.Ready.{IsAtRest}
+
+-- A WORKER DID ITS JOBS: what its pass's seat knew before, v, and behind them, u.
+pub record HasWorked (moment : ℕ) (js : List Job) (answers : List JobAnswer) (v u : SeatView) : Type 0 where
+  -- where the disk tells: what the pass did, and what it knows then
+  pub did : v.told ≡ true → WorkJobs moment js answers (view_of v) (view_of u)
+  pub each : length answers ≡ length js
+  -- whatever the disk tells: as many of its turns failed as answers tell of
+  pub cause : RoseBy (disk_faults_in answers) v.failures u.failures
+  pub rests : IsAtRest u
+  pub kin : u.kin ≡ v.kin
+  pub duty : u.told ≡ v.told

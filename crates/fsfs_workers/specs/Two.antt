@@ -1,0 +1,48 @@
+-- What a run of two workers comes to, over what the passes know.
+use Rattle.std.specs.Prelude.{◌≡◌, ◌<◌, ◌+◌, ◌++◌, ◌∷◌, [], ℕ, List, length, true, None}
+use Rattle.fsfs_tree.specs.Revisions.{Revision}
+use Rattle.fsfs_disk.specs.Trace.{Trace}
+use Rattle.fsfs_machine.specs.declared.machine.Recorded.{Recorded}
+use Rattle.fsfs_machine.specs.Machine.{revisions}
+use Rattle.fsfs_turn.specs.Alone.{are_harmless}
+use Rattle.fsfs_turn.specs.Views.{Begins}
+use Rattle.fsfs_seats.specs.declared.seat_view.SeatView.{SeatView}
+use Rattle.fsfs_seats.specs.Seats.{view_of}
+use Rattle.fsfs_job_lines.specs.declared.job.Job.{Job}
+use Rattle.fsfs_jobs.specs.declared.answer.JobAnswer.{JobAnswer}
+use Rattle.fsfs_serial.specs.Jobs.{own_of_all, TellNoDoubt}
+use Rattle.fsfs_beside.specs.Lines.{WorkerLines, JobLines, TellNoneStuck, StuckByDoubt, dealt}
+use Rattle.fsfs_beside.specs.Passes.{last_known, IsOnward}
+use Rattle.fsfs_job_command.specs.Runs.{HoldsAll, AllStandFor}
+
+-- Two passes did the jobs, of which the second was split from the first and joined into it again: what the first one's seat knew before, v, and
+-- behind it, u.
+pub record BothWorked (moment : ℕ) (js : List Job) (answers : List JobAnswer) (v u : SeatView) : Type 0 where
+  -- a line for each job, in the order of the input
+  pub each : length answers ≡ length js
+  pub grows : Begins u.seen v.seen
+  pub since : u.since ≡ v.since
+  pub opened : u.opened ≡ v.opened
+  -- the lines of each of the two hold of the one history, however it goes on; both knew what the first one did before
+  pub lines : (h : List Recorded) → IsOnward (view_of u) h → (w : ℕ) → w < 2 → WorkerLines moment (revisions h) (last_known (view_of v)) (dealt 2 w js) (dealt 2 w answers)
+  -- the revisions that the lines of the first tell are its own, and those that the lines of the second tell are all that one's
+  pub own : u.pass.mine ≡ v.pass.mine ++ own_of_all (dealt 2 0 answers)
+  pub other : ℕ
+  pub joined : u.kin.joined ≡ v.kin.joined ++ (other, own_of_all (dealt 2 1 answers)) ∷ []
+  -- no fault of either leaves a revision in doubt but where a line tells of that
+  pub doubtless : TellNoDoubt answers → are_harmless v.pass.faults ≡ true → are_harmless u.pass.faults ≡ true
+  -- nor does a line tell that the lock is stuck but where it was found so
+  pub found : u.pass.stuck ≡ None → TellNoneStuck answers
+
+-- WHAT A RUN OF TWO WORKERS COMES TO, over a disk that tells: of jobs that were done over the history h, since which `since` operations of the disk
+-- are spoken of. The lines are those of the one history that came of it; the last names its youngest revision; and the disk that is given back
+-- holds it.
+pub record RanTwo (moment since : ℕ) (js : List Job) (answers : List JobAnswer) (youngest : ℕ) (h : List Revision) (t : Trace) : Type 0 where
+  pub now : List Revision
+  pub lines : JobLines moment 2 js answers h now
+  pub last : length now ≡ youngest + 1
+  pub held : HoldsAll since t h now
+  -- the lock is told to be stuck only where a line, of whichever worker, tells of a fault as `current` was renamed or made firm
+  pub stuck : StuckByDoubt answers
+  -- nothing is in doubt where no line tells of such a fault
+  pub certain : TellNoDoubt answers → AllStandFor t now

@@ -1,0 +1,72 @@
+//! A run of two workers over a repository.
+ghost use Rattle.std.specs.Prelude.{◌≡◌, ◌≤◌, [], length, true, Some, is_some, IfOk, OnErr};
+ghost use Rattle.fsfs_disk.specs.Trace.{Trace};
+ghost use Rattle.fsfs_machine.specs.Machine.{revisions};
+ghost use Rattle.fsfs_seats.specs.Seats.{alone};
+ghost use Rattle.fsfs_beside.specs.Lines.{disk_faults_in, RoseBy};
+ghost use Rattle.fsfs_workers.specs.Ready.{IsReady};
+ghost use Rattle.fsfs_workers.specs.Two.{RanTwo};
+
+use crate::beside::do_beside;
+use fsfs_disk::Disk;
+use fsfs_fields::RevNum;
+use fsfs_job_lines::Job;
+use fsfs_jobs::JobAnswer;
+use fsfs_seats::{SharedSeat, look};
+use fsfs_shared_repo::SharedRepo;
+use fsfs_streams::Gate;
+use std::alloc::{AllocError, Global};
+use std::sync::Wait;
+use std::thread::Threads;
+
+/// What became of jobs, and the youngest revision behind them.
+#[derive(Drop)]
+pub struct WorkDone {
+    pub answers: Vec<JobAnswer>,
+    pub youngest: RevNum,
+}
+
+/// Does jobs by two workers beside each other in a repository, of which nobody but the pass in this seat has turns, and gives its disk
+/// back. Both workers have ended then. An `Err` is for want of memory, and then no job was done.
+pub fn run_two<R: Threads + Wait + Sync, D: Disk + Drop + Send, G: Gate + Sync>(
+    rt: &R,
+    alloc: Global,
+    repo: SharedRepo<D>,
+    seat: SharedSeat<D>,
+    jobs: &[Job],
+    micros: u64,
+    gate: &G,
+) -> (D, Result<WorkDone, AllocError>)
+where
+    D::Bench: Send,
+    requires moment { micros ≤ 4102444799999999 }
+    requires sits { (seat.table_id ≡ repo.board.shared.table_id) × (seat.me.1 ≡ []) }
+    requires ready { IsReady repo.layout (is_some (D.trace repo.first.value)) seat.me.0 }
+    requires alone { seat.me.0.kin ≡ alone }
+    // It has seen all that there was as images began to be spoken of, has added nothing since, and met no fault; and it has met the disk as it
+    // was first.
+    requires seen { seat.me.0.told ≡ true → (seat.me.0.opened ≡ length seat.me.0.seen) × (seat.me.0.pass.mine ≡ []) × (seat.me.0.pass.faults ≡ []) }
+    // The table began with that disk.
+    requires began { (repo.board.shared.key.value.disk.mount_path ≡ D.mount_path repo.first.value) × (repo.board.shared.key.value.disk.faults ≡ D.faults repo.first.value) }
+    requires fresh { (seat.me.0.met ≡ D.trace repo.first.value) × (seat.me.0.failures ≡ 0) }
+    ensures ran { (t : Trace) → D.trace result.0 ≡ Some t → IfOk result.1 (λ done. RanTwo micros seat.me.0.since jobs.now done.answers.items done.youngest (revisions seat.me.0.seen) t) }
+    ensures told { is_some (D.trace result.0) ≡ seat.me.0.told }
+    ensures each { IfOk result.1 (λ done. length done.answers.items ≡ length jobs.now) }
+    ensures none { OnErr result.1 (D.trace result.0 ≡ D.trace repo.first.value) }
+    // Whatever the disk tells: as many calls of it failed as lines tell of.
+    ensures cause { IfOk result.1 (λ done. RoseBy (disk_faults_in done.answers.items) (D.faults repo.first.value) (D.faults result.0)) }
+    ensures mounted { D.mount_path result.0 ≡ D.mount_path repo.first.value }
+    ensures later { D.faults repo.first.value ≤ D.faults result.0 }
+{
+    let first = repo.first();
+    let layout = repo.layout();
+    let board = repo.board();
+    let (mut seat, done) = do_beside(rt, alloc, board, seat, layout, &first, jobs, micros, gate);
+    match done {
+        Ok(answers) => {
+            let youngest = look(board, &mut seat);
+            (repo.close(rt, seat), Ok(WorkDone { answers, youngest }))
+        }
+        Err(error) => (repo.close(rt, seat), Err(error)),
+    }
+}
