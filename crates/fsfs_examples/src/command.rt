@@ -7,6 +7,8 @@ use fsfs_memdisk::{MemDisk, MemHost};
 use fsfs_memstreams::{FixedClock, FixedDice, MemSink, MemSource, NoGate};
 use fsfs_top::{Tool, command};
 use std::alloc::{AllocError, Global};
+use std::sync::Wait;
+use std::thread::Threads;
 
 /// The last moment that a clock can show: the end of the year 2099.
 const LAST_MOMENT: u64 = 4_102_444_799_999_999;
@@ -97,7 +99,13 @@ fn word_of(alloc: Global, text: &str) -> Result<String> {
 }
 
 /// Runs the program that the first word names with the others, over a disk with these files at `R`.
-pub fn run(alloc: Global, line: &str, files: &Files, given: &Given) -> Result<Ran> {
+pub fn run<T: Threads + Wait + Sync>(
+    rt: &T,
+    alloc: Global,
+    line: &str,
+    files: &Files,
+    given: &Given,
+) -> Result<Ran> {
     let (tool, rest) = line.split_once(' ').unwrap_or((line, ""));
     let tool = tool_of(tool)?;
     let mut words = Vec::new(alloc);
@@ -115,8 +123,8 @@ pub fn run(alloc: Global, line: &str, files: &Files, given: &Given) -> Result<Ra
     let mut clock = FixedClock::new(given.moment);
     let mut dice = FixedDice { bytes: given.dice };
     let status = command(
-        alloc, tool, &words, &mut host, &mut input, &mut out, &mut err, &mut clock, &mut dice,
-        &NoGate,
+        rt, alloc, tool, &words, &mut host, &mut input, &mut out, &mut err, &mut clock, &mut dice,
+        &NoGate, false,
     );
     let Some(disk) = host.take_disk("R") else {
         return Err(anyhow!("the disk is still mounted"));

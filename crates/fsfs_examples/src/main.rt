@@ -15,6 +15,6 @@ use std::io;
 
 fn main(rt: HostRuntime) -> Result<()> {
     let text = io::read_to_string(rt.alloc(), rt.stdin())?;
-    rt.print(play::transcript_of(rt.alloc(), text.as_str())?)?;
+    rt.print(play::transcript_of(&rt, rt.alloc(), text.as_str())?)?;
     Ok(())
 }

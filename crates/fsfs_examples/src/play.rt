@@ -5,6 +5,8 @@ use crate::stage::{Stage, Whole};
 use fsfs_escapes::Transcript;
 use std::alloc::{AllocError, Global};
 use std::mem;
+use std::sync::Wait;
+use std::thread::Threads;
 
 /// So many calls of a block's first command can fail in turn.
 const MOST_CALLS: u64 = 4096;
@@ -17,7 +19,8 @@ struct Block<'a> {
 }
 
 // Runs a block over these files, where a call of the first command fails or none does. What it prints.
-fn play_block(
+fn play_block<T: Threads + Wait + Sync>(
+    rt: &T,
     stage: &mut Stage,
     block: Block<'_>,
     files: &Files,
@@ -33,7 +36,7 @@ fn play_block(
     }
     let out = mem::replace(&mut stage.out, Transcript::new(alloc));
     for (at, line) in block.lines.iter().enumerate() {
-        stage.play(block.first.saturating_add(at), line);
+        stage.play(rt, block.first.saturating_add(at), line);
     }
     Ok(mem::replace(&mut stage.out, out))
 }
@@ -48,7 +51,8 @@ fn is_past(stage: &Stage, place: Place, call: u64, told: &Transcript, whole: &Tr
 
 // Runs a block with each call of its first command failing in turn. What is printed of calls beside one another that give
 // the same is printed once.
-fn play_calls(
+fn play_calls<T: Threads + Wait + Sync>(
+    rt: &T,
     stage: &mut Stage,
     block: Block<'_>,
     files: &Files,
@@ -57,7 +61,7 @@ fn play_calls(
 ) -> Result<(), AllocError> {
     let mut last = Transcript::new(stage.alloc);
     for call in 1..=MOST_CALLS {
-        let told = play_block(stage, block, files, place, Some(call))?;
+        let told = play_block(rt, stage, block, files, place, Some(call))?;
         if is_past(stage, place, call, &told, whole) {
             return Ok(());
         }
@@ -72,14 +76,19 @@ fn play_calls(
 }
 
 // Runs a block with each call of its first command failing in turn, and then with none.
-fn play_each(stage: &mut Stage, block: Block<'_>, place: Place) -> Result<(), AllocError> {
+fn play_each<T: Threads + Wait + Sync>(
+    rt: &T,
+    stage: &mut Stage,
+    block: Block<'_>,
+    place: Place,
+) -> Result<(), AllocError> {
     let files = copy_of(stage.alloc, &stage.files)?;
     stage.out.say("each ");
     stage.out.say(place.word());
     stage.out.say("\n");
     stage.whole = Whole::Asked;
-    let whole = play_block(stage, block, &files, place, None)?;
-    play_calls(stage, block, &files, place, &whole)?;
+    let whole = play_block(rt, stage, block, &files, place, None)?;
+    play_calls(rt, stage, block, &files, place, &whole)?;
     stage.whole = Whole::NotAsked;
     stage.files = files;
     stage.out.say("then\n");
@@ -89,7 +98,11 @@ fn play_each(stage: &mut Stage, block: Block<'_>, place: Place) -> Result<(), Al
 }
 
 /// What is printed of a text of examples.
-pub fn transcript_of(alloc: Global, text: &str) -> Result<String, AllocError> {
+pub fn transcript_of<T: Threads + Wait + Sync>(
+    rt: &T,
+    alloc: Global,
+    text: &str,
+) -> Result<String, AllocError> {
     let lines: Vec<&str> = text.lines().collect(alloc)?;
     let mut stage = Stage::new(alloc);
     let mut begun: Option<(Place, usize)> = None;
@@ -100,11 +113,11 @@ pub fn transcript_of(alloc: Global, text: &str) -> Result<String, AllocError> {
             (Ok(Line::End), Some((place, start))) => {
                 let lines = lines.get(start..at).unwrap_or(&[]);
                 let first = start.saturating_add(1);
-                play_each(&mut stage, Block { first, lines }, place)?;
+                play_each(rt, &mut stage, Block { first, lines }, place)?;
                 begun = None;
             }
             (_, Some(_)) => {}
-            (_, None) => stage.play(number, line),
+            (_, None) => stage.play(rt, number, line),
         }
     }
     if begun.is_some() {

@@ -10,6 +10,8 @@ use fsfs_memdisk::MemDisk;
 use std::alloc::{AllocError, Global};
 use std::collections::BTreeMap;
 use std::mem;
+use std::sync::Wait;
+use std::thread::Threads;
 
 /// So many changes of one command can be left by a stop.
 const MOST_CHANGES: usize = 4096;
@@ -58,9 +60,9 @@ impl Stage {
     }
 
     /// Does what a line says. Where that can't be done, its number is printed, and why.
-    pub fn play(&mut self, number: usize, line: &str) {
+    pub fn play<T: Threads + Wait + Sync>(&mut self, rt: &T, number: usize, line: &str) {
         let done = match Line::read(line) {
-            Ok(line) => self.act(line),
+            Ok(line) => self.act(rt, line),
             Err(error) => Err(error),
         };
         if let Err(error) = done {
@@ -70,7 +72,7 @@ impl Stage {
         }
     }
 
-    fn act(&mut self, line: Line<'_>) -> Result<()> {
+    fn act<T: Threads + Wait + Sync>(&mut self, rt: &T, line: Line<'_>) -> Result<()> {
         match line {
             Line::Example(name) => self.begin(name),
             Line::Like(name) => return self.take_over(name),
@@ -81,7 +83,7 @@ impl Stage {
             Line::Input(text) => return self.give(1, text, b"\n"),
             Line::InputCut(text) => return self.give(1, text, b""),
             Line::InputTimes(count, text) => return self.give(count, text, b""),
-            Line::Run(line) => return self.run(line),
+            Line::Run(line) => return self.run(rt, line),
             Line::Crash(picks) => return self.crash(picks),
             Line::Each(_) => bail!("a block in a block"),
             Line::End => bail!("no block ends here"),
@@ -161,11 +163,11 @@ impl Stage {
     }
 
     // Runs a command over the files.
-    fn run(&mut self, line: &str) -> Result<()> {
+    fn run<T: Threads + Wait + Sync>(&mut self, rt: &T, line: &str) -> Result<()> {
         self.out.say("$ ");
         self.out.say(line);
         self.out.say("\n");
-        let ran = run(self.alloc, line, &self.files, &self.given)?;
+        let ran = run(rt, self.alloc, line, &self.files, &self.given)?;
         if let Whole::Asked = &self.whole {
             self.whole = Whole::Known(Vec::from_slice(self.alloc, ran.out.bytes())?);
         }

@@ -1,0 +1,134 @@
+// One example: a script that two workers run, and what is looked at behind each run.
+use crate::machine::{machine, run};
+use crate::ways::{Hold, Way};
+use fsfs_escapes::Transcript;
+use fsfs_memdisk::MemHost;
+use fsfs_memstreams::NoGate;
+use fsfs_top::Tool;
+use std::alloc::Global;
+use std::sync::Wait;
+use std::thread::Threads;
+
+/// An example, as it is written.
+#[derive(Clone, Copy)]
+pub struct Example<'a> {
+    /// The script that one worker runs first.
+    pub before: &'a str,
+    /// The script that two workers run.
+    pub script: &'a str,
+    /// Words of `svnlook`, a line for each look.
+    pub looks: &'a str,
+}
+
+// What is told of one run.
+#[derive(Drop)]
+struct Told {
+    // What svnjobs printed, and its status.
+    answer: Transcript,
+    // What svnlook printed behind it.
+    looks: Transcript,
+    // A job that was to be held went on by itself.
+    gave_up: bool,
+}
+
+// Two workers run the script. Whether a job that was to be held went on by itself.
+fn run_script<T: Threads + Wait + Sync>(
+    rt: &T,
+    alloc: Global,
+    script: &str,
+    hold: Option<Hold>,
+    host: &mut MemHost,
+    told: &mut Transcript,
+) -> bool {
+    let words = "R -j 2";
+    match hold {
+        Some(hold) => {
+            let gate = hold.gate();
+            run(rt, alloc, Tool::Jobs, words, script, host, &gate, told);
+            gate.gave_up()
+        }
+        None => {
+            run(rt, alloc, Tool::Jobs, words, script, host, &NoGate, told);
+            false
+        }
+    }
+}
+
+fn look<T: Threads + Wait + Sync>(
+    rt: &T,
+    alloc: Global,
+    looks: &str,
+    host: &mut MemHost,
+    told: &mut Transcript,
+) {
+    for line in looks.lines() {
+        told.say("$ svnlook ");
+        told.say(line);
+        told.say("\n");
+        run(rt, alloc, Tool::Look, line, "", host, &NoGate, told);
+    }
+}
+
+fn run_once<T: Threads + Wait + Sync>(
+    rt: &T,
+    alloc: Global,
+    example: Example<'_>,
+    hold: Option<Hold>,
+) -> Told {
+    let mut unsaid = Transcript::new(alloc);
+    let mut answer = Transcript::new(alloc);
+    let mut looks = Transcript::new(alloc);
+    let mut host = machine(rt, alloc, example.before, &mut unsaid);
+    let gave_up = run_script(rt, alloc, example.script, hold, &mut host, &mut answer);
+    look(rt, alloc, example.looks, &mut host, &mut looks);
+    Told {
+        answer,
+        looks,
+        gave_up,
+    }
+}
+
+// Whether it is one of the answers, between which stand lines `or`.
+fn is_allowed(answer: &str, allowed: &str) -> bool {
+    allowed
+        .split("\nor\n")
+        .any(|one| one.trim_end() == answer.trim_end())
+}
+
+// Judges one run. The looks of the first are kept, and those of each other must be the same.
+fn judge(told: Told, allowed: &str, seen: &mut Transcript, out: &mut Transcript) -> bool {
+    if seen.as_str().is_empty() {
+        seen.say(told.looks.as_str());
+    }
+    if told.gave_up {
+        out.say("? a job that was held went on by itself\n");
+    } else if !is_allowed(told.answer.as_str(), allowed) {
+        out.say("? another answer\n");
+        out.say(told.answer.as_str());
+    } else if told.looks.as_str() != seen.as_str() {
+        out.say("? it looks otherwise\n");
+        out.say(told.looks.as_str());
+    } else {
+        return true;
+    }
+    false
+}
+
+/// Runs the script of an example in a way, each time over a new repository, up to the first run that is not as it is allowed.
+pub fn play_way<T: Threads + Wait + Sync>(
+    rt: &T,
+    alloc: Global,
+    example: Example<'_>,
+    way: Way,
+    allowed: &str,
+    seen: &mut Transcript,
+    out: &mut Transcript,
+) {
+    for _ in 0..way.times {
+        let told = run_once(rt, alloc, example, way.hold);
+        if !judge(told, allowed, seen, out) {
+            return;
+        }
+    }
+    out.say("as allowed\n");
+}
