@@ -1,6 +1,7 @@
 // One example: a script that two workers run, and what is looked at behind each run.
 use crate::machine::{machine, run};
-use crate::ways::{Hold, Way};
+use crate::overtaking::Overtaking;
+use crate::ways::{Course, Way};
 use fsfs_escapes::Transcript;
 use fsfs_memdisk::MemHost;
 use fsfs_memstreams::NoGate;
@@ -31,25 +32,36 @@ struct Told {
     gave_up: bool,
 }
 
-// Two workers run the script. Whether a job that was to be held went on by itself.
+// Two workers run the script, and it is told how often a job that is overtaken asked for the lock. Whether one that was to be held went on
+// by itself.
 fn run_script<T: Threads + Wait + Sync>(
     rt: &T,
     alloc: Global,
     script: &str,
-    hold: Option<Hold>,
+    course: &Course,
     host: &mut MemHost,
     told: &mut Transcript,
 ) -> bool {
     let words = "R -j 2";
-    match hold {
-        Some(hold) => {
+    match course {
+        Course::Free => {
+            run(rt, alloc, Tool::Jobs, words, script, host, &NoGate, told);
+            false
+        }
+        Course::Held(hold) => {
             let gate = hold.gate();
             run(rt, alloc, Tool::Jobs, words, script, host, &gate, told);
             gate.gave_up()
         }
-        None => {
-            run(rt, alloc, Tool::Jobs, words, script, host, &NoGate, told);
-            false
+        Course::Overtaken { who, others } => {
+            let Ok(gate) = Overtaking::new(alloc, *who, others) else {
+                told.lose();
+                return false;
+            };
+            run(rt, alloc, Tool::Jobs, words, script, host, &gate, told);
+            told.tell("asked ", &gate.asked());
+            told.say(" times\n");
+            gate.gave_up()
         }
     }
 }
@@ -73,13 +85,13 @@ fn run_once<T: Threads + Wait + Sync>(
     rt: &T,
     alloc: Global,
     example: Example<'_>,
-    hold: Option<Hold>,
+    course: &Course,
 ) -> Told {
     let mut unsaid = Transcript::new(alloc);
     let mut answer = Transcript::new(alloc);
     let mut looks = Transcript::new(alloc);
     let mut host = machine(rt, alloc, example.before, &mut unsaid);
-    let gave_up = run_script(rt, alloc, example.script, hold, &mut host, &mut answer);
+    let gave_up = run_script(rt, alloc, example.script, course, &mut host, &mut answer);
     look(rt, alloc, example.looks, &mut host, &mut looks);
     Told {
         answer,
@@ -119,13 +131,13 @@ pub fn play_way<T: Threads + Wait + Sync>(
     rt: &T,
     alloc: Global,
     example: Example<'_>,
-    way: Way,
+    way: &Way,
     allowed: &str,
     seen: &mut Transcript,
     out: &mut Transcript,
 ) {
     for _ in 0..way.times {
-        let told = run_once(rt, alloc, example, way.hold);
+        let told = run_once(rt, alloc, example, &way.course);
         if !judge(told, allowed, seen, out) {
             return;
         }

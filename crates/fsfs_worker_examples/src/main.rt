@@ -4,6 +4,7 @@
 
 mod example;
 mod machine;
+mod overtaking;
 mod play;
 mod ways;
 

@@ -19,7 +19,7 @@ fn play_lines<T: Threads + Wait + Sync>(
     out.say(line);
     out.say(": ");
     match read_way(alloc, line) {
-        Ok(Some(way)) => play_way(rt, alloc, example, way, allowed, seen, out),
+        Ok(Some(way)) => play_way(rt, alloc, example, &way, allowed, seen, out),
         Ok(None) => out.say("? no such way\n"),
         Err(_) => out.lose(),
     }

@@ -19,11 +19,22 @@ impl Hold {
     }
 }
 
-/// How often a script is run, and which of its jobs is held.
-#[derive(Clone, Copy)]
+/// What becomes of a job.
+#[derive(Drop)]
+pub enum Course {
+    /// No job is held.
+    Free,
+    /// One is held once.
+    Held(Hold),
+    /// Each time that the job `who` is about to ask for the write lock, the next of the others commits first.
+    Overtaken { who: u64, others: Vec<u64> },
+}
+
+/// How often a script is run, and what becomes of its jobs.
+#[derive(Drop)]
 pub struct Way {
     pub times: u64,
-    pub hold: Option<Hold>,
+    pub course: Course,
 }
 
 fn place_of(word: &str) -> Option<GatePlace> {
@@ -59,22 +70,49 @@ fn hold_of(words: &[&str]) -> Option<Hold> {
     }
 }
 
-fn way_of(words: &[&str]) -> Option<Way> {
-    match words {
-        [times, "times"] => Some(Way {
-            times: times.parse::<u64>().ok()?,
-            hold: None,
-        }),
-        [times, "times,", rest @ ..] => Some(Way {
-            times: times.parse::<u64>().ok()?,
-            hold: Some(hold_of(rest)?),
-        }),
-        _ => None,
+fn numbers_of(alloc: Global, words: &[&str]) -> Result<Option<Vec<u64>>, AllocError> {
+    let mut numbers = Vec::new(alloc);
+    for word in words {
+        let Ok(number) = word.parse::<u64>() else {
+            return Ok(None);
+        };
+        numbers.push(number)?;
     }
+    Ok(Some(numbers))
 }
 
-/// Reads `N times`, or `N times, N held at PLACE until N passed PLACE`.
+// `N overtaken by N ..`
+fn overtaken_of(alloc: Global, who: &str, others: &[&str]) -> Result<Option<Course>, AllocError> {
+    let others = numbers_of(alloc, others)?;
+    Ok(match (who.parse::<u64>(), others) {
+        (Ok(who), Some(others)) => Some(Course::Overtaken { who, others }),
+        _ => None,
+    })
+}
+
+fn times_of(times: &str, course: Option<Course>) -> Option<Way> {
+    Some(Way {
+        times: times.parse::<u64>().ok()?,
+        course: course?,
+    })
+}
+
+fn way_of(alloc: Global, words: &[&str]) -> Result<Option<Way>, AllocError> {
+    Ok(match words {
+        [times, "times"] => times_of(times, Some(Course::Free)),
+        [times, "times,", who, "overtaken", "by", others @ ..] => {
+            times_of(times, overtaken_of(alloc, who, others)?)
+        }
+        [times, "times,", rest @ ..] => times_of(
+            times,
+            hold_of(rest).map(|hold| Course::Held(hold)),
+        ),
+        _ => None,
+    })
+}
+
+/// Reads `N times`, with `, N held at PLACE until N passed PLACE` or `, N overtaken by N ..` behind it.
 pub fn read_way(alloc: Global, line: &str) -> Result<Option<Way>, AllocError> {
     let words: Vec<&str> = line.split(' ').collect(alloc)?;
-    Ok(way_of(&words))
+    way_of(alloc, &words)
 }
