@@ -1,5 +1,5 @@
 // Turns of a test: others commit before the lock is taken.
-ghost use Rattle.std.specs.Prelude.{◌≡◌, ℕ, codes, refl, false, None, OnErr, IfOk};
+ghost use Rattle.std.specs.Prelude.{◌≡◌, ℕ, refl, false, None, OnErr, IfOk, MatchOption};
 ghost use Rattle.fsfs_base.specs.Failures.{HasCause};
 ghost use Rattle.fsfs_disk.specs.Labels.{Txn as TxnLabel, label_of, without_label};
 ghost use Rattle.fsfs_machine.specs.declared.machine.Txn.{Txn};
@@ -7,13 +7,14 @@ ghost use Rattle.fsfs_machine.specs.declared.machine.Went.{Went};
 ghost use Rattle.fsfs_machine.specs.Kept.{IsIn};
 ghost use Rattle.fsfs_turn.specs.Views.{View, Answers};
 ghost use Rattle.fsfs_turn.specs.Labels.{MayRelabel, Drops};
+ghost use Rattle.fsfs_turn.specs.Mountings.{RoseBy};
 ghost use Rattle.fsfs_turn.specs.Learning.{MayPurge, Purged, SpentPurged};
 
 use fsfs_base::{Failed, Name};
-use fsfs_disk::{Disk, Label, ListFault};
+use fsfs_disk::{Bench, Disk, Label, ListFault};
 use fsfs_fields::RevNum;
 use fsfs_layout::Layout;
-use fsfs_memdisk::MemDisk;
+use fsfs_memdisk::{MemBench, MemDisk};
 use fsfs_note::Note;
 use fsfs_places::DiskPlace;
 use fsfs_turn::{Adoption, LoneTurns, Owned, Turns};
@@ -52,6 +53,7 @@ impl Rivals {
 impl Turns<()> for Rivals {
     ghost use Rattle.std.specs.Prelude.{ℕ, List, Option};
     ghost use Rattle.fsfs_disk.specs.Labels.{Label as KeptLabel};
+    ghost use Rattle.fsfs_turn.specs.Mountings.{Mounting};
 
     type Bench = <MemDisk as Disk>::Bench;
 
@@ -61,9 +63,9 @@ impl Turns<()> for Rivals {
 
     ghost in_use = { λ s name. ⟦<Owned<MemDisk> as Turns<()>>⟧.in_use s.inner name };
 
-    ghost Lasting = { Option (List KeptLabel) };
+    ghost Lasting = { Option (List KeptLabel) × Mounting (List ℕ) };
 
-    ghost store = { λ s. record { layout = s.inner.layout; reach = (⟦<Owned<MemDisk> as Turns<()>>⟧.store s.inner).reach; files = None; below = ⟦<Owned<MemDisk> as Turns<()>>⟧.labels s.inner } };
+    ghost store = { λ s. record { layout = s.inner.layout; reach = (⟦<Owned<MemDisk> as Turns<()>>⟧.store s.inner).reach; files = None; below = (⟦<Owned<MemDisk> as Turns<()>>⟧.labels s.inner, ⟦<Owned<MemDisk> as Turns<()>>⟧.mounting s.inner) } };
 
     ghost labels = { λ s. ⟦<Owned<MemDisk> as Turns<()>>⟧.labels s.inner };
 
@@ -71,7 +73,7 @@ impl Turns<()> for Rivals {
 
     ghost Mount = { List ℕ };
 
-    ghost mount_path = { λ s. codes "" };
+    ghost mounting = { λ s. ⟦<Owned<MemDisk> as Turns<()>>⟧.mounting s.inner };
 
     fn layout(&self) -> Layout {
         <Owned<MemDisk> as Turns<()>>::layout(&self.inner)
@@ -173,10 +175,11 @@ impl Turns<()> for Rivals {
             → (u : View) × (went : Went) × ⊥ × Answers result went × Purged txn went v u }
         ensures spent { (v : View) (name base : ℕ) → ⊥ → v.section ≡ None → IsIn name v.given → label_of label.now ≡ TxnLabel base name
             → (u : View) × (went : Went) × ⊥ × Answers result went × SpentPurged name went v u }
-        ensures mounted { codes "" ≡ codes "" }
+        ensures mounted { (⟦<Owned<MemDisk> as Turns<()>>⟧.mounting self.new.inner).mount ≡ (⟦<Owned<MemDisk> as Turns<()>>⟧.mounting self.old.inner).mount }
         ensures duty { false ≡ false }
         ensures dropped { IfOk result (λ there. Drops false (label_of label.now) there (⟦<Owned<MemDisk> as Turns<()>>⟧.labels self.old.inner) (⟦<Owned<MemDisk> as Turns<()>>⟧.labels self.new.inner)) }
         ensures left { OnErr result (MayRelabel false (without_label (label_of label.now)) (⟦<Owned<MemDisk> as Turns<()>>⟧.labels self.old.inner) (⟦<Owned<MemDisk> as Turns<()>>⟧.labels self.new.inner)) }
+        ensures benches { MatchOption bench ((⟦<Owned<MemDisk> as Turns<()>>⟧.mounting self.new.inner).bench_faults ≡ (⟦<Owned<MemDisk> as Turns<()>>⟧.mounting self.old.inner).bench_faults) (λ b. RoseBy (⟦<MemBench as Bench>⟧.faults b) (⟦<Owned<MemDisk> as Turns<()>>⟧.mounting self.old.inner).bench_faults (⟦<Owned<MemDisk> as Turns<()>>⟧.mounting self.new.inner).bench_faults) }
         ensures cause { HasCause (⟦<Owned<MemDisk> as Turns<()>>⟧.faults self.old.inner) (⟦<Owned<MemDisk> as Turns<()>>⟧.faults self.new.inner) result }
     {
         self.inner.drop_bench(rt, label, bench)
@@ -202,7 +205,7 @@ impl LoneTurns<()> for Rivals {
 
     ghost same_files = { λ a b same i. None };
 
-    ghost same_labels = { λ a b same. same };
+    ghost same_labels = { λ a b same i. (same i).0 };
 
-    ghost same_path = { λ a b same. refl };
+    ghost same_mounting = { λ a b same i. (same i).1 };
 }

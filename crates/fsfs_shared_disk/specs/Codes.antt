@@ -92,7 +92,7 @@ abbrev pub coded_told : Coded (Option Trace)
 coded_told = coded_option coded_trace
 
 abbrev pub coded_seen : Coded DiskSeen
-coded_seen = code_by (List ℕ × (Option Trace × (ℕ × Bool))) (coded× coded_text (coded× coded_told (coded× coded_ℕ coded_bool)))
-    (λ s. (s.mount_path, (s.trace, (s.faults, s.failed))))
-    (λ p. record { mount_path = p.0; trace = p.1.0; faults = p.1.1.0; failed = p.1.1.1 })
+coded_seen = code_by (List ℕ × (Option Trace × (ℕ × (ℕ × Bool)))) (coded× coded_text (coded× coded_told (coded× coded_ℕ (coded× coded_ℕ coded_bool))))
+    (λ s. (s.mount_path, (s.trace, (s.faults, (s.bench_faults, s.failed)))))
+    (λ p. record { mount_path = p.0; trace = p.1.0; faults = p.1.1.0; bench_faults = p.1.1.1.0; failed = p.1.1.1.1 })
     (λ _. refl)

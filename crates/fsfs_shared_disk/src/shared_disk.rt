@@ -1,7 +1,7 @@
 //! A disk that may be written, with whether its last call failed.
-ghost use Rattle.std.specs.Prelude.{◌≡◌, ◌≢◌, ◌≤◌, ℕ, List, codes, length, false, is_err, option_map, IfOk, IfSome, OnOk, OnErr, IsErrOf, IsSome, IsTrue};
+ghost use Rattle.std.specs.Prelude.{◌≡◌, ◌≢◌, ◌≤◌, ℕ, List, codes, length, false, is_err, option_map, IfOk, IfSome, OnOk, OnErr, IsErrOf, IsSome, IsTrue, MatchOption};
 ghost use Rattle.std.specs.FinMap.{empty};
-ghost use Rattle.fsfs_base.specs.Failures.{HasCause, Rose};
+ghost use Rattle.fsfs_base.specs.Failures.{HasCause, Rose, added_count};
 ghost use Rattle.fsfs_disk.specs.Labels.{label_of, has_label, IsListing};
 ghost use Rattle.fsfs_disk.specs.Benches.{removed, bytes_on, IsFirmFile, HasShortFiles};
 ghost use Rattle.fsfs_disk.specs.Trace.{Put, Adopt, Rename, FirmNames, KeepLabel, DropLabel, file_at, files_now, labels_now, Performs, FailsAt, FailsToPut, FailsToAdopt, IsRead, IsSize, PerformsIfThere};
@@ -28,7 +28,7 @@ impl<D: Disk> Model for SharedDisk<D> {
 
     ghost coded = { coded_seen };
 
-    ghost view = { λ s. record { mount_path = D.mount_path s.disk; trace = D.trace s.disk; faults = D.faults s.disk; failed = s.failed } };
+    ghost view = { λ s. record { mount_path = D.mount_path s.disk; trace = D.trace s.disk; faults = D.faults s.disk; bench_faults = D.bench_faults s.disk; failed = s.failed } };
 
     ghost invariant = { λ s. IsTrue (D.may_write s.disk) };
 }
@@ -37,7 +37,7 @@ impl<D: Disk> SharedDisk<D> {
     /// This disk, of which no call failed.
     pub fn new(disk: D) -> SharedDisk<D>
         requires { IsTrue (D.may_write disk) }
-        ensures { result ≡ record { mount_path = D.mount_path disk; trace = D.trace disk; faults = D.faults disk; failed = false } }
+        ensures { result ≡ record { mount_path = D.mount_path disk; trace = D.trace disk; faults = D.faults disk; bench_faults = D.bench_faults disk; failed = false } }
     {
         SharedDisk {
             disk,
@@ -47,7 +47,7 @@ impl<D: Disk> SharedDisk<D> {
 
     /// The disk again.
     pub fn into_disk(self) -> D
-        ensures told { (D.mount_path result ≡ self.mount_path) × (D.trace result ≡ self.trace) × (D.faults result ≡ self.faults) }
+        ensures told { (D.mount_path result ≡ self.mount_path) × (D.trace result ≡ self.trace) × (D.faults result ≡ self.faults) × (D.bench_faults result ≡ self.bench_faults) }
         ensures right { IsTrue (D.may_write result) }
     {
         let SharedDisk { disk, failed: _ } = self;
@@ -79,6 +79,7 @@ impl<D: Disk> SharedDisk<D> {
         ensures bytes { IfSome self.old.trace (λ t. IfOk result (IsRead (file_at t name.now) offset buffer.old buffer.new)) }
         ensures same { self.new.trace ≡ self.old.trace }
         ensures mounted { self.new.mount_path ≡ self.old.mount_path }
+        ensures benches { self.new.bench_faults ≡ self.old.bench_faults }
         ensures flag { self.new.failed ≡ is_err result }
         ensures cause { HasCause self.old.faults self.new.faults result }
     {
@@ -92,6 +93,7 @@ impl<D: Disk> SharedDisk<D> {
         ensures length { IfSome self.old.trace (λ t. IfOk result (IsSize (file_at t name.now))) }
         ensures same { self.new.trace ≡ self.old.trace }
         ensures mounted { self.new.mount_path ≡ self.old.mount_path }
+        ensures benches { self.new.bench_faults ≡ self.old.bench_faults }
         ensures flag { self.new.failed ≡ is_err result }
         ensures cause { HasCause self.old.faults self.new.faults result }
     {
@@ -105,6 +107,7 @@ impl<D: Disk> SharedDisk<D> {
         ensures ok { OnOk result (Performs (Put name.now bytes.now) self.old.trace self.new.trace) }
         ensures err { OnErr result (FailsToPut name.now bytes.now self.old.trace self.new.trace) }
         ensures mounted { self.new.mount_path ≡ self.old.mount_path }
+        ensures benches { self.new.bench_faults ≡ self.old.bench_faults }
         ensures flag { self.new.failed ≡ is_err result }
         ensures cause { HasCause self.old.faults self.new.faults result }
     {
@@ -119,6 +122,7 @@ impl<D: Disk> SharedDisk<D> {
         ensures ok { OnOk result (Performs (Rename from.now to.now) self.old.trace self.new.trace) }
         ensures err { OnErr result (FailsAt (Rename from.now to.now) self.old.trace self.new.trace) }
         ensures mounted { self.new.mount_path ≡ self.old.mount_path }
+        ensures benches { self.new.bench_faults ≡ self.old.bench_faults }
         ensures flag { self.new.failed ≡ is_err result }
         ensures cause { HasCause self.old.faults self.new.faults result }
     {
@@ -132,6 +136,7 @@ impl<D: Disk> SharedDisk<D> {
         ensures ok { OnOk result (Performs FirmNames self.old.trace self.new.trace) }
         ensures err { OnErr result (FailsAt FirmNames self.old.trace self.new.trace) }
         ensures mounted { self.new.mount_path ≡ self.old.mount_path }
+        ensures benches { self.new.bench_faults ≡ self.old.bench_faults }
         ensures flag { self.new.failed ≡ is_err result }
         ensures cause { HasCause self.old.faults self.new.faults result }
     {
@@ -144,6 +149,7 @@ impl<D: Disk> SharedDisk<D> {
     pub fn make_folder(&mut self, name: &Name) -> Result<(), Failed>
         ensures same { self.new.trace ≡ self.old.trace }
         ensures mounted { self.new.mount_path ≡ self.old.mount_path }
+        ensures benches { self.new.bench_faults ≡ self.old.bench_faults }
         ensures flag { self.new.failed ≡ is_err result }
         ensures cause { HasCause self.old.faults self.new.faults result }
     {
@@ -158,6 +164,7 @@ impl<D: Disk> SharedDisk<D> {
         ensures names { IfSome self.old.trace (λ t. IfOk result (λ found. IsListing (labels_now t) found.items)) }
         ensures same { self.new.trace ≡ self.old.trace }
         ensures mounted { self.new.mount_path ≡ self.old.mount_path }
+        ensures benches { self.new.bench_faults ≡ self.old.bench_faults }
         ensures flag { self.new.failed ≡ is_err result }
         ensures later { self.old.faults ≤ self.new.faults }
         ensures kept { OnOk result (self.new.faults ≡ self.old.faults) }
@@ -176,6 +183,7 @@ impl<D: Disk> SharedDisk<D> {
         ensures empty { IfOk result (λ bench. D.Bench.contents bench ≡ option_map (λ _. empty) self.old.trace) }
         ensures new { IfOk result (λ bench. D.Bench.faults bench ≡ 0) }
         ensures mounted { self.new.mount_path ≡ self.old.mount_path }
+        ensures benches { self.new.bench_faults ≡ self.old.bench_faults }
         ensures flag { self.new.failed ≡ is_err result }
         ensures cause { HasCause self.old.faults self.new.faults result }
     {
@@ -184,12 +192,13 @@ impl<D: Disk> SharedDisk<D> {
         answer
     }
 
-    /// Drops what a label's bench holds, and then the label. `false`: the label isn't kept.
+    /// Drops what a label's bench holds, and then the label. `false`: the label isn't kept. The bench's faults are added to the count of benches.
     pub fn drop_bench(&mut self, label: &Label, bench: Option<D::Bench>) -> Result<bool, Failed>
         ensures there { IfSome self.old.trace (λ t. IfOk result (λ there. there ≡ has_label (label_of label.now) (labels_now t))) }
         ensures ok { IfOk result (λ there. PerformsIfThere there (DropLabel (label_of label.now)) self.old.trace self.new.trace) }
         ensures err { OnErr result (FailsAt (DropLabel (label_of label.now)) self.old.trace self.new.trace) }
         ensures mounted { self.new.mount_path ≡ self.old.mount_path }
+        ensures benches { MatchOption bench (self.new.bench_faults ≡ self.old.bench_faults) (λ b. self.new.bench_faults ≡ added_count self.old.bench_faults (D.Bench.faults b)) }
         ensures flag { self.new.failed ≡ is_err result }
         ensures cause { HasCause self.old.faults self.new.faults result }
     {
@@ -207,6 +216,7 @@ impl<D: Disk> SharedDisk<D> {
         ensures others { (q : List ℕ) → q ≢ file.now → D.Bench.firm_to bench.new q ≡ D.Bench.firm_to bench.old q }
         ensures bench_same { D.Bench.faults bench.new ≡ D.Bench.faults bench.old }
         ensures mounted { self.new.mount_path ≡ self.old.mount_path }
+        ensures benches { self.new.bench_faults ≡ self.old.bench_faults }
         ensures flag { self.new.failed ≡ is_err result }
         ensures cause { HasCause self.old.faults self.new.faults result }
     {

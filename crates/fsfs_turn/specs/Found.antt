@@ -181,10 +181,10 @@ module _ (layout : Layout) (young : ℕ) (stuck : Option DiskPlace) (t : Trace) 
       props = at_found (Props r) (get (files_now t) (machine_name layout (Props r))) (found w.disk (Props r)) (PropsFile x.revision.properties) has.1 (all_read (Props r) fits)
 
 -- a revision that the one pass of an owned store has seen can be read
-pub readable : (layout : Layout) (young : ℕ) (stuck : Option DiskPlace) (t : Trace) (v : View) (known : Knows layout young stuck (Some t) v) (path : List ℕ) (r : ℕ) (x : Recorded) → slice_get v.seen r ≡ Some x
-    → IsReadable (owned_view (state_of layout young stuck (Some t) path)) (files_now t) r x
-readable layout young stuck t v known path r x at =
-    history_reads layout young stuck t known.0 known.1 (Ends young) (Some (files_now t)) (state_of layout young stuck (Some t) path) r x here
+pub readable : (layout : Layout) (young : ℕ) (stuck : Option DiskPlace) (t : Trace) (v : View) (known : Knows layout young stuck (Some t) v) (path : List ℕ) (benches r : ℕ) (x : Recorded) → slice_get v.seen r ≡ Some x
+    → IsReadable (owned_view (state_of layout young stuck (Some t) path benches)) (files_now t) r x
+readable layout young stuck t v known path benches r x at =
+    history_reads layout young stuck t known.0 known.1 (Ends young) (Some (files_now t)) (state_of layout young stuck (Some t) path benches) r x here
     (let up : known.0.young + 1 ≡ length known.0.history = known.1.kept.young known.2.up in omega (arith, slice_get_within v.seen r x at, seen_within known.0 v known.2, up, known.1.young_is))
   where
     here : slice_get known.0.history r ≡ Some x

@@ -10,15 +10,16 @@ use Rattle.fsfs_turn.specs.Courses.{ReadOnly, End}
 use Rattle.fsfs_turn.specs.Standing.{Knows}
 use Rattle.fsfs_turn.specs.Alone.{KnowsAlone}
 use Rattle.fsfs_turn.specs.Telling.{TellsSeen, OwnedState, state_of, owned_view}
+use Rattle.fsfs_turn.specs.Mountings.{Mounting}
 use Rattle.fsfs_turn.specs.Found.{readable}
 
-pub owned_tells : (layout : Layout) (young : ℕ) (stuck : Option DiskPlace) (told : Option Trace) (path : List ℕ) (v : View) → Knows layout young stuck told v → TellsSeen (owned_view (state_of layout young stuck told path)) v
-owned_tells layout young stuck None path v known = absurd known
-owned_tells layout young stuck (Some t) path v known = record {
+pub owned_tells : (layout : Layout) (young : ℕ) (stuck : Option DiskPlace) (told : Option Trace) (path : List ℕ) (benches : ℕ) (v : View) → Knows layout young stuck told v → TellsSeen (owned_view (state_of layout young stuck told path benches)) v
+owned_tells layout young stuck None path benches v known = absurd known
+owned_tells layout young stuck (Some t) path benches v known = record {
   layout = sym known.3;
   files = files_now t;
   told = refl;
-  each = λ r x at. readable layout young stuck t v known path r x at;
+  each = λ r x at. readable layout young stuck t v known path benches r x at;
   shown = known.2.shown;
 }
 
@@ -37,8 +38,11 @@ files_same a b same = ap (λ s. option_map files_now s.trace) same
 pub labels_same : (a b : OwnedState) → b ≡ a → option_map labels_now b.trace ≡ option_map labels_now a.trace
 labels_same a b same = ap (λ s. option_map labels_now s.trace) same
 
-pub path_same : (a b : OwnedState) → b ≡ a → b.mount_path ≡ a.mount_path
-path_same a b same = ap (λ s. s.mount_path) same
+abbrev pub mounting_of : OwnedState → Mounting (List ℕ)
+mounting_of s = record { mount = s.mount_path; bench_faults = s.bench_faults }
+
+pub mounting_same : (a b : OwnedState) → b ≡ a → mounting_of b ≡ mounting_of a
+mounting_same a b same = ap mounting_of same
 
 -- ---- reading
 

@@ -40,9 +40,11 @@ pub record OwnedState : Type 0 where
   pub trace : Option Trace
   -- the path that the disk was mounted for
   pub mount_path : List ℕ
+  -- how often the benches failed that it took back
+  pub bench_faults : ℕ
 
-abbrev pub state_of : Layout → ℕ → Option DiskPlace → Option Trace → List ℕ → OwnedState
-state_of layout young stuck trace mount_path = record { layout = layout; young = young; stuck = stuck; trace = trace; mount_path = mount_path }
+abbrev pub state_of : Layout → ℕ → Option DiskPlace → Option Trace → List ℕ → ℕ → OwnedState
+state_of layout young stuck trace mount_path bench_faults = record { layout = layout; young = young; stuck = stuck; trace = trace; mount_path = mount_path; bench_faults = bench_faults }
 
 abbrev pub owned_view : OwnedState → StoreView OwnedState
 owned_view s = record { layout = s.layout; reach = Ends s.young; files = option_map files_now s.trace; below = s }

@@ -59,7 +59,7 @@ impl<R, D: Disk> Turns<R> for Owned<D> {
     ghost use Rattle.fsfs_turn.specs.Telling.{OwnedState, state_of, owned_view};
     ghost use Rattle.fsfs_turn.specs.OwnedLemmas.{owned_tells, owned_benches_tell, never_bound};
     ghost use Rattle.fsfs_fetch.specs.OwnedShort.{owned_short};
-    ghost use Rattle.std.specs.Prelude.{ℕ, List, false, IfOk, OnErr};
+    ghost use Rattle.std.specs.Prelude.{ℕ, List, false, IfOk, OnErr, MatchOption};
     ghost use Rattle.fsfs_base.specs.Failures.{HasCause};
     ghost use Rattle.fsfs_disk.specs.Labels.{Txn as TxnLabel, label_of, without_label};
     ghost use Rattle.fsfs_machine.specs.declared.machine.Txn.{Txn};
@@ -68,6 +68,7 @@ impl<R, D: Disk> Turns<R> for Owned<D> {
     ghost use Rattle.fsfs_turn.specs.Views.{Answers};
     ghost use Rattle.fsfs_turn.specs.Labels.{MayRelabel, Drops};
     ghost use Rattle.fsfs_turn.specs.Learning.{MayPurge, Purged, SpentPurged};
+    ghost use Rattle.fsfs_turn.specs.Mountings.{RoseBy};
 
     type Bench = D::Bench;
 
@@ -79,7 +80,7 @@ impl<R, D: Disk> Turns<R> for Owned<D> {
 
     ghost Lasting = { OwnedState };
 
-    ghost store = { λ s. owned_view (state_of s.layout s.young s.stuck (D.trace s.disk) (D.mount_path s.disk)) };
+    ghost store = { λ s. owned_view (state_of s.layout s.young s.stuck (D.trace s.disk) (D.mount_path s.disk) (D.bench_faults s.disk)) };
 
     ghost labels = { λ s. option_map labels_now (D.trace s.disk) };
 
@@ -87,7 +88,7 @@ impl<R, D: Disk> Turns<R> for Owned<D> {
 
     ghost Mount = { List ℕ };
 
-    ghost mount_path = { λ s. D.mount_path s.disk };
+    ghost mounting = { λ s. record { mount = D.mount_path s.disk; bench_faults = D.bench_faults s.disk } };
 
     fn layout(&self) -> Layout {
         self.layout
@@ -192,6 +193,7 @@ impl<R, D: Disk> Turns<R> for Owned<D> {
         ensures duty { false ≡ false }
         ensures dropped { IfOk result (λ there. Drops false (label_of label.now) there (option_map labels_now (D.trace self.old.disk)) (option_map labels_now (D.trace self.new.disk))) }
         ensures left { OnErr result (MayRelabel false (without_label (label_of label.now)) (option_map labels_now (D.trace self.old.disk)) (option_map labels_now (D.trace self.new.disk))) }
+        ensures benches { MatchOption bench (D.bench_faults self.new.disk ≡ D.bench_faults self.old.disk) (λ b. RoseBy (D.Bench.faults b) (D.bench_faults self.old.disk) (D.bench_faults self.new.disk)) }
         ensures cause { HasCause (D.faults self.old.disk) (D.faults self.new.disk) result }
     {
         self.disk.drop_bench(label, bench)
@@ -199,7 +201,7 @@ impl<R, D: Disk> Turns<R> for Owned<D> {
 
     ghost sole = { λ s v u bound known other. never_bound bound };
 
-    ghost tells = { λ s v known. owned_tells s.layout s.young s.stuck (D.trace s.disk) (D.mount_path s.disk) v known.0 };
+    ghost tells = { λ s v known. owned_tells s.layout s.young s.stuck (D.trace s.disk) (D.mount_path s.disk) (D.bench_faults s.disk) v known.0 };
 
     ghost benches_tell = { λ s v bench known. owned_benches_tell s.layout s.young s.stuck (D.trace s.disk) (D.Bench.contents bench) v (D.benches_tell s.disk bench) known.0 };
 
@@ -209,15 +211,15 @@ impl<R, D: Disk> Turns<R> for Owned<D> {
 impl<R, D: Disk> LoneTurns<R> for Owned<D> {
     ghost use Rattle.std.specs.Prelude.{refl};
     ghost use Rattle.fsfs_turn.specs.Telling.{state_of};
-    ghost use Rattle.fsfs_turn.specs.OwnedLemmas.{known_still, files_same, labels_same, path_same};
+    ghost use Rattle.fsfs_turn.specs.OwnedLemmas.{known_still, files_same, labels_same, mounting_same};
 
     ghost free = { λ s. refl };
 
-    ghost still = { λ a b v same known. known_still (state_of a.layout a.young a.stuck (D.trace a.disk) (D.mount_path a.disk)) (state_of b.layout b.young b.stuck (D.trace b.disk) (D.mount_path b.disk)) v same known };
+    ghost still = { λ a b v same known. known_still (state_of a.layout a.young a.stuck (D.trace a.disk) (D.mount_path a.disk) (D.bench_faults a.disk)) (state_of b.layout b.young b.stuck (D.trace b.disk) (D.mount_path b.disk) (D.bench_faults b.disk)) v same known };
 
-    ghost same_files = { λ a b same. files_same (state_of a.layout a.young a.stuck (D.trace a.disk) (D.mount_path a.disk)) (state_of b.layout b.young b.stuck (D.trace b.disk) (D.mount_path b.disk)) same };
+    ghost same_files = { λ a b same. files_same (state_of a.layout a.young a.stuck (D.trace a.disk) (D.mount_path a.disk) (D.bench_faults a.disk)) (state_of b.layout b.young b.stuck (D.trace b.disk) (D.mount_path b.disk) (D.bench_faults b.disk)) same };
 
-    ghost same_labels = { λ a b same. labels_same (state_of a.layout a.young a.stuck (D.trace a.disk) (D.mount_path a.disk)) (state_of b.layout b.young b.stuck (D.trace b.disk) (D.mount_path b.disk)) same };
+    ghost same_labels = { λ a b same. labels_same (state_of a.layout a.young a.stuck (D.trace a.disk) (D.mount_path a.disk) (D.bench_faults a.disk)) (state_of b.layout b.young b.stuck (D.trace b.disk) (D.mount_path b.disk) (D.bench_faults b.disk)) same };
 
-    ghost same_path = { λ a b same. path_same (state_of a.layout a.young a.stuck (D.trace a.disk) (D.mount_path a.disk)) (state_of b.layout b.young b.stuck (D.trace b.disk) (D.mount_path b.disk)) same };
+    ghost same_mounting = { λ a b same. mounting_same (state_of a.layout a.young a.stuck (D.trace a.disk) (D.mount_path a.disk) (D.bench_faults a.disk)) (state_of b.layout b.young b.stuck (D.trace b.disk) (D.mount_path b.disk) (D.bench_faults b.disk)) same };
 }

@@ -1,5 +1,5 @@
 //! What a section is written over.
-ghost use Rattle.std.specs.Prelude.{◌≡◌, ◌⊎◌, ◌<◌, ◌≤◌, ◌^◌, ℕ, List, Bool, true, false, Option, Some, None, length, slice_get, option_map, OnOk, OnErr, IfOk, IfErr, IfSome, IsErrOf, IsSome};
+ghost use Rattle.std.specs.Prelude.{◌≡◌, ◌⊎◌, ◌<◌, ◌≤◌, ◌^◌, ℕ, List, Bool, true, false, Option, Some, None, length, slice_get, option_map, OnOk, OnErr, IfOk, IfErr, IfSome, IsErrOf, IsSome, MatchOption};
 ghost use Rattle.std.specs.FinMap.{get, empty};
 ghost use Rattle.fsfs_tree.specs.Revisions.{Revision};
 ghost use Rattle.fsfs_base.specs.Failures.{HasCause, Rose};
@@ -26,6 +26,7 @@ ghost use Rattle.fsfs_turn.specs.Courses.{ReadOnly};
 ghost use Rattle.fsfs_turn.specs.Telling.{TellsSeen};
 ghost use Rattle.fsfs_turn.specs.Labels.{KeepsLabels, Relabels, MayRelabel, Drops};
 ghost use Rattle.fsfs_turn.specs.Adoptions.{adoption, NeedsFolder};
+ghost use Rattle.fsfs_turn.specs.Mountings.{Mounting, RoseBy};
 ghost use Rattle.fsfs_turn.specs.Learning.{PropsRead, FloorRead, ReadsCounter, Listed, MayMake, BenchMade, MayPurge, Purged, SpentPurged};
 
 use crate::adoption::Adoption;
@@ -71,8 +72,9 @@ pub trait Turns<R> {
     /// What is told of where the turns are.
     ghost Mount: { Type 0 };
 
-    /// Where they are: the path that their disk was mounted for, and of a pass of several also where it sits. No call changes it.
-    ghost mount_path: { Self → Mount };
+    /// Where they are: the path that their disk was mounted for, and of a pass of several also where it sits. No call changes that. And how
+    /// often the benches failed that they dropped: no other call changes that.
+    ghost mounting: { Self → Mounting Mount };
 
     /// How the files are laid out.
     fn layout(&self) -> Layout
@@ -80,7 +82,7 @@ pub trait Turns<R> {
 
     /// The youngest revision. It waits for nobody.
     fn look(&mut self) -> RevNum
-        ensures mounted { mount_path self.new ≡ mount_path self.old }
+        ensures mounted { mounting self.new ≡ mounting self.old }
         ensures duty { bound self.new ≡ bound self.old }
         ensures listed { KeepsLabels (bound self.old) (labels self.old) (labels self.new) }
         ensures youngest { IsYoungest (store self.new).reach result }
@@ -91,7 +93,7 @@ pub trait Turns<R> {
 
     /// Takes the write lock, or says at which place it is stuck.
     fn take_lock(&mut self, rt: &R) -> Result<(), DiskPlace>
-        ensures mounted { mount_path self.new ≡ mount_path self.old }
+        ensures mounted { mounting self.new ≡ mounting self.old }
         ensures duty { bound self.new ≡ bound self.old }
         ensures listed { KeepsLabels (bound self.old) (labels self.old) (labels self.new) }
         ensures same { (store self.new).below ≡ (store self.old).below }
@@ -102,7 +104,7 @@ pub trait Turns<R> {
     /// Gives the write lock. It waits for nobody.
     fn give_lock(&mut self)
         requires due { bound self.old ≡ true → (v : View) × knows self.old v × MayGive v }
-        ensures mounted { mount_path self.new ≡ mount_path self.old }
+        ensures mounted { mounting self.new ≡ mounting self.old }
         ensures duty { bound self.new ≡ bound self.old }
         ensures listed { KeepsLabels (bound self.old) (labels self.old) (labels self.new) }
         ensures turned { (v : View) → knows self.old v → MayGive v → (u : View) × knows self.new u × LockGiven (GiveLock v.number) v u }
@@ -111,7 +113,7 @@ pub trait Turns<R> {
     /// Leaves the write lock stuck, after a fault at this place. It waits for nobody.
     fn stick(&mut self, place: DiskPlace)
         requires due { bound self.old ≡ true → (v : View) × (x : Coming) × knows self.old v × (v.section ≡ Some (Doubtful place x)) }
-        ensures mounted { mount_path self.new ≡ mount_path self.old }
+        ensures mounted { mounting self.new ≡ mounting self.old }
         ensures duty { bound self.new ≡ bound self.old }
         ensures listed { KeepsLabels (bound self.old) (labels self.old) (labels self.new) }
         ensures turned { (v : View) (x : Coming) → knows self.old v → v.section ≡ Some (Doubtful place x) → (u : View) × knows self.new u × LockGiven (StickLock v.number) v u }
@@ -120,7 +122,7 @@ pub trait Turns<R> {
     /// The revision that was written joins the history: it is the youngest now.
     fn reveal(&mut self, rt: &R, rev: RevNum)
         requires due { bound self.old ≡ true → (v : View) × (x : Coming) × knows self.old v × (v.section ≡ Some (CurrentFirm x)) × (rev ≡ length v.seen) }
-        ensures mounted { mount_path self.new ≡ mount_path self.old }
+        ensures mounted { mounting self.new ≡ mounting self.old }
         ensures duty { bound self.new ≡ bound self.old }
         ensures listed { KeepsLabels (bound self.old) (labels self.old) (labels self.new) }
         ensures turned { (v : View) (x : Coming) → knows self.old v → v.section ≡ Some (CurrentFirm x) → rev ≡ length v.seen → (u : View) × knows self.new u × Revealed x v u }
@@ -137,7 +139,7 @@ pub trait Turns<R> {
     ) -> Result<(), Failed>
         requires due { bound self.old ≡ true → (v : View) × (txn : Txn) × (properties : List (List ℕ × List ℕ)) × (next : Revision) × knows self.old v × MayAdopt v txn properties next bytes.now
             × (name.now ≡ rev_name v (length v.seen)) × (about.now.value ≡ Some (adoption txn properties next)) }
-        ensures mounted { mount_path self.new ≡ mount_path self.old }
+        ensures mounted { mounting self.new ≡ mounting self.old }
         ensures duty { bound self.new ≡ bound self.old }
         ensures listed { KeepsLabels (bound self.old) (labels self.old) (labels self.new) }
         ensures turned { (v : View) (txn : Txn) (properties : List (List ℕ × List ℕ)) (next : Revision) → knows self.old v → MayAdopt v txn properties next bytes.now
@@ -148,7 +150,7 @@ pub trait Turns<R> {
     /// Makes a new file, firm, and gives it the name.
     fn put(&mut self, rt: &R, name: &Name, bytes: &[u8]) -> Result<(), Failed>
         requires due { bound self.old ≡ true → (v : View) × (place : SpecPlace) × knows self.old v × IsDue v place (Put name.now bytes.now) }
-        ensures mounted { mount_path self.new ≡ mount_path self.old }
+        ensures mounted { mounting self.new ≡ mounting self.old }
         ensures duty { bound self.new ≡ bound self.old }
         ensures listed { KeepsLabels (bound self.old) (labels self.old) (labels self.new) }
         ensures turned { (v : View) (place : SpecPlace) → knows self.old v → IsDue v place (Put name.now bytes.now)
@@ -160,7 +162,7 @@ pub trait Turns<R> {
     fn rename(&mut self, rt: &R, from: &Name, to: &Name) -> Result<(), Failed>
         requires there { in_use self.old from.now }
         requires due { bound self.old ≡ true → (v : View) × (place : SpecPlace) × knows self.old v × IsDue v place (Rename from.now to.now) }
-        ensures mounted { mount_path self.new ≡ mount_path self.old }
+        ensures mounted { mounting self.new ≡ mounting self.old }
         ensures duty { bound self.new ≡ bound self.old }
         ensures listed { KeepsLabels (bound self.old) (labels self.old) (labels self.new) }
         ensures turned { (v : View) (place : SpecPlace) → knows self.old v → IsDue v place (Rename from.now to.now)
@@ -170,7 +172,7 @@ pub trait Turns<R> {
     /// Makes all changes of names firm.
     fn firm_names(&mut self, rt: &R) -> Result<(), Failed>
         requires due { bound self.old ≡ true → (v : View) × (place : SpecPlace) × knows self.old v × IsDue v place FirmNames }
-        ensures mounted { mount_path self.new ≡ mount_path self.old }
+        ensures mounted { mounting self.new ≡ mounting self.old }
         ensures duty { bound self.new ≡ bound self.old }
         ensures listed { KeepsLabels (bound self.old) (labels self.old) (labels self.new) }
         ensures turned { (v : View) (place : SpecPlace) → knows self.old v → IsDue v place FirmNames
@@ -189,7 +191,7 @@ pub trait Turns<R> {
         requires firm { IsFirmFile (Self.Bench.contents bench.old) (Self.Bench.firm_to bench.old file.now) file.now }
         requires due { bound self.old ≡ true → (v : View) × (txn : Txn) × (properties : List (List ℕ × List ℕ)) × (next : Revision) × knows self.old v × MayAdopt v txn properties next (bytes_on (Self.Bench.contents bench.old) file.now)
             × (to.now ≡ rev_name v (length v.seen)) × (about.now.value ≡ Some (adoption txn properties next)) }
-        ensures mounted { mount_path self.new ≡ mount_path self.old }
+        ensures mounted { mounting self.new ≡ mounting self.old }
         ensures duty { bound self.new ≡ bound self.old }
         ensures listed { KeepsLabels (bound self.old) (labels self.old) (labels self.new) }
         ensures turned { (v : View) (txn : Txn) (properties : List (List ℕ × List ℕ)) (next : Revision) → knows self.old v → MayAdopt v txn properties next (bytes_on (Self.Bench.contents bench.old) file.now)
@@ -210,7 +212,7 @@ pub trait Turns<R> {
         offset: u64,
         buffer: &mut [u8],
     ) -> Result<Option<usize>, Failed>
-        ensures mounted { mount_path self.new ≡ mount_path self.old }
+        ensures mounted { mounting self.new ≡ mounting self.old }
         ensures duty { bound self.new ≡ bound self.old }
         ensures listed { KeepsLabels (bound self.old) (labels self.old) (labels self.new) }
         ensures within { IfOk result (λ found. IfSome found (λ n. n ≤ length buffer.new)) }
@@ -229,7 +231,7 @@ pub trait Turns<R> {
     /// A begin's first call: reads `txn-current` from its beginning on, for a transaction on this revision. The number there is drawn.
     fn draw(&mut self, rt: &R, base: RevNum, buffer: &mut [u8]) -> Result<Option<usize>, Failed>
         requires due { bound self.old ≡ true → (v : View) × knows self.old v × (v.section ≡ Some Begun) × (base ≤ v.pass.least) }
-        ensures mounted { mount_path self.new ≡ mount_path self.old }
+        ensures mounted { mounting self.new ≡ mounting self.old }
         ensures duty { bound self.new ≡ bound self.old }
         ensures listed { KeepsLabels (bound self.old) (labels self.old) (labels self.new) }
         ensures within { IfOk result (λ found. IfSome found (λ n. n ≤ length buffer.new)) }
@@ -241,7 +243,7 @@ pub trait Turns<R> {
 
     /// The length of a file. Of a revision that the pass has seen, from the floor on, it is that of the bytes beside it.
     fn size(&mut self, rt: &R, name: &Name) -> Result<Option<u64>, Failed>
-        ensures mounted { mount_path self.new ≡ mount_path self.old }
+        ensures mounted { mounting self.new ≡ mounting self.old }
         ensures duty { bound self.new ≡ bound self.old }
         ensures listed { KeepsLabels (bound self.old) (labels self.old) (labels self.new) }
         ensures length { IfSome (store self.new).files (λ m. IfOk result (IsSize (get m name.now))) }
@@ -253,7 +255,7 @@ pub trait Turns<R> {
 
     /// The names of the folders of transactions, in the order of their bytes: one for each label of a transaction that is kept.
     fn list(&mut self, rt: &R, alloc: Global) -> Result<Vec<Name>, ListFault>
-        ensures mounted { mount_path self.new ≡ mount_path self.old }
+        ensures mounted { mounting self.new ≡ mounting self.old }
         ensures duty { bound self.new ≡ bound self.old }
         ensures names { IfSome (labels self.new) (λ ls. IfOk result (λ found. IsListing ls found.items)) }
         ensures ok { (v : View) → knows self.old v → OnOk result ((ls : List KeptLabel) × (labels self.new ≡ Some ls) × (u : View) × knows self.new u × Listed ls Fine v u) }
@@ -268,7 +270,7 @@ pub trait Turns<R> {
     /// A begin's last call: keeps the label of a transaction whose name was given, and makes an empty bench for it.
     fn bench(&mut self, rt: &R, label: &Label) -> Result<Self::Bench, Failed>
         requires due { bound self.old ≡ true → (v : View) × (x : Drawn) × knows self.old v × MayMake v x × (label_of label.now ≡ TxnLabel x.base x.name) }
-        ensures mounted { mount_path self.new ≡ mount_path self.old }
+        ensures mounted { mounting self.new ≡ mounting self.old }
         ensures duty { bound self.new ≡ bound self.old }
         ensures turned { (v : View) (x : Drawn) → knows self.old v → MayMake v x → label_of label.now ≡ TxnLabel x.base x.name
             → (u : View) × (went : Went) × knows self.new u × Answers result went × BenchMade x went v u }
@@ -279,7 +281,7 @@ pub trait Turns<R> {
         ensures cause { HasCause (faults self.old) (faults self.new) result };
 
     /// Drops what a label's bench holds, and then the label: that of a transaction under way, or of one that is no more. `false`: the
-    /// label isn't kept.
+    /// label isn't kept. Whatever is answered, the bench is no more, and its faults are counted.
     fn drop_bench(
         &mut self,
         rt: &R,
@@ -287,7 +289,7 @@ pub trait Turns<R> {
         bench: Option<Self::Bench>,
     ) -> Result<bool, Failed>
         requires due { bound self.old ≡ true → (v : View) × (name : ℕ) × (base : ℕ) × knows self.old v × (v.section ≡ None) × IsIn name v.given × (label_of label.now ≡ TxnLabel base name) }
-        ensures mounted { mount_path self.new ≡ mount_path self.old }
+        ensures mounted { (mounting self.new).mount ≡ (mounting self.old).mount }
         ensures duty { bound self.new ≡ bound self.old }
         ensures purged { (v : View) (txn : Txn) (base : ℕ) → knows self.old v → MayPurge v txn → label_of label.now ≡ TxnLabel base txn.name
             → (u : View) × (went : Went) × knows self.new u × Answers result went × Purged txn went v u }
@@ -295,12 +297,13 @@ pub trait Turns<R> {
             → (u : View) × (went : Went) × knows self.new u × Answers result went × SpentPurged name went v u }
         ensures dropped { IfOk result (λ there. Drops (bound self.old) (label_of label.now) there (labels self.old) (labels self.new)) }
         ensures left { OnErr result (MayRelabel (bound self.old) (without_label (label_of label.now)) (labels self.old) (labels self.new)) }
+        ensures benches { MatchOption bench ((mounting self.new).bench_faults ≡ (mounting self.old).bench_faults) (λ b. RoseBy (Self.Bench.faults b) (mounting self.old).bench_faults (mounting self.new).bench_faults) }
         ensures cause { HasCause (faults self.old) (faults self.new) result };
 
     /// Makes a folder and those above it. It is no step; its fault is one of the call that is due.
     fn make_folder(&mut self, rt: &R, name: &Name) -> Result<(), Failed>
         requires due { bound self.old ≡ true → (v : View) × knows self.old v × NeedsFolder v }
-        ensures mounted { mount_path self.new ≡ mount_path self.old }
+        ensures mounted { mounting self.new ≡ mounting self.old }
         ensures duty { bound self.new ≡ bound self.old }
         ensures listed { KeepsLabels (bound self.old) (labels self.old) (labels self.new) }
         ensures done { (v : View) → knows self.old v → OnOk result (knows self.new v) }
@@ -336,6 +339,6 @@ pub trait LoneTurns<R>: Turns<R> {
     /// And the labels that are kept.
     ghost same_labels: { (old new : Self) → (Self.store new).below ≡ (Self.store old).below → Self.labels new ≡ Self.labels old };
 
-    /// And the path of its disk.
-    ghost same_path: { (old new : Self) → (Self.store new).below ≡ (Self.store old).below → Self.mount_path new ≡ Self.mount_path old };
+    /// And the path of its disk, and the count of benches.
+    ghost same_mounting: { (old new : Self) → (Self.store new).below ≡ (Self.store old).below → Self.mounting new ≡ Self.mounting old };
 }

@@ -20,10 +20,10 @@ use Rattle.fsfs_turn.proofs.Reading.{reads_on}
 use Rattle.fsfs_turn_book.specs.GoesOn.{GoesOn}
 use Rattle.fsfs_turn_book.specs.Seen.{TellsUpTo, up_to}
 
-module _ {T P : Type 0} (knows : T → View → Type 0) (mount_path : T → P) (bound : T → Bool) (labels : T → Option (List Label)) where
+module _ {T P : Type 0} (knows : T → View → Type 0) (mounting : T → P) (bound : T → Bool) (labels : T → Option (List Label)) where
   -- before the first read
-  pub begins : (first now : T) → first ≡ now → ((v : View) → knows now v → AllShow v.seen) → GoesOn knows mount_path bound labels first now
-  begins first now same shown = subst (λ z. GoesOn knows mount_path bound labels z now) (sym same) (record {
+  pub begins : (first now : T) → first ≡ now → ((v : View) → knows now v → AllShow v.seen) → GoesOn knows mounting bound labels first now
+  begins first now same shown = subst (λ z. GoesOn knows mounting bound labels z now) (sym same) (record {
     known = λ v known. (v, known, reads_nothing v (shown v known));
     mounted = refl;
     duty = refl;
@@ -31,8 +31,8 @@ module _ {T P : Type 0} (knows : T → View → Type 0) (mount_path : T → P) (
   })
 
   -- one more
-  pub goes_on : (first old now : T) → GoesOn knows mount_path bound labels first old → ((v : View) → knows old v → (u : View) × knows now u × ReadOnly v u) → mount_path now ≡ mount_path old → bound now ≡ bound old → KeepsLabels (bound old) (labels old) (labels now)
-      → GoesOn knows mount_path bound labels first now
+  pub goes_on : (first old now : T) → GoesOn knows mounting bound labels first old → ((v : View) → knows old v → (u : View) × knows now u × ReadOnly v u) → mounting now ≡ mounting old → bound now ≡ bound old → KeepsLabels (bound old) (labels old) (labels now)
+      → GoesOn knows mounting bound labels first now
   goes_on first old now so_far onward mounted duty listed = record {
     known = λ v known.
         let m = so_far.known v known in
@@ -44,8 +44,8 @@ module _ {T P : Type 0} (knows : T → View → Type 0) (mount_path : T → P) (
   }
 
   -- what a book tells to be below it at the end is what was there at the beginning
-  pub going_from : {L : Type 0} (first now : T) (below : T × L) {lasting : L} → below ≡ (first, lasting) → GoesOn knows mount_path bound labels below.0 now → GoesOn knows mount_path bound labels first now
-  going_from first now below same going = subst (λ z. GoesOn knows mount_path bound labels z now) (ap (λ p. p.0) same) going
+  pub going_from : {L : Type 0} (first now : T) (below : T × L) {lasting : L} → below ≡ (first, lasting) → GoesOn knows mounting bound labels below.0 now → GoesOn knows mounting bound labels first now
+  going_from first now below same going = subst (λ z. GoesOn knows mounting bound labels z now) (ap (λ p. p.0) same) going
 
 -- ---- a store that is read up to a revision
 
