@@ -59,6 +59,9 @@ module _ (n : ℕ) (old new : SeatView) (is : new ≡ numbered_view n new.met (s
   pub split_failures : new.failures ≡ 0
   split_failures = ap {A = SeatView} (λ z. z.failures) is
 
+  pub split_bench_failures : new.bench_failures ≡ 0
+  split_bench_failures = ap {A = SeatView} (λ z. z.bench_failures) is
+
   split_view : view_of new ≡ split_off n (view_of old)
   split_view = ap {A = SeatView} (λ z. view_of z) is
 

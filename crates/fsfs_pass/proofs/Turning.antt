@@ -1,6 +1,7 @@
 -- What a pass knows and tells, from one turn to the next.
-use Rattle.std.proofs.Common.{◌≡◌, ◌≤◌, ◌+◌, ◌-◌, ℕ, List, [], ◌∷◌, Bool, true, false, refl, sym, ap, subst, ◌∙◌, length, arith, length-append}
-use Rattle.std.specs.Prelude.{Option, Some, None, IfSome, is_some, option_map, slice_get, if◌then◌else◌, Result, Ok, Err, OnOk, OnErr, IfErr, IsErrOf}
+use Rattle.std.proofs.Common.{◌≡◌, ◌≤◌, ◌+◌, ◌-◌, ◌^◌, ℕ, List, [], ◌∷◌, Bool, true, false, refl, sym, ap, subst, ◌∙◌, length, arith, length-append}
+use Rattle.std.specs.Prelude.{Option, Some, None, IfSome, is_some, option_map, slice_get, if◌then◌else◌, Result, Ok, Err, OnOk, OnErr, IfErr, IsErrOf, MatchOption, min, unwrap_or}
+use Rattle.std.proofs.Math.Nat.{min-le_left}
 use Rattle.atomic_table.specs.Seated.{TableId}
 use Rattle.fsfs_disk.specs.Trace.{Trace, files_now, labels_now}
 use Rattle.fsfs_disk.specs.Benches.{HasShortFiles}
@@ -15,6 +16,7 @@ use Rattle.fsfs_machine.specs.Machine.{recorded}
 use Rattle.fsfs_turn.specs.Bytes.{AllShow}
 use Rattle.fsfs_turn.specs.Views.{View, Looked}
 use Rattle.fsfs_turn.specs.Labels.{KeepsLabels}
+use Rattle.fsfs_turn.specs.Mountings.{RoseBy}
 use Rattle.fsfs_turn.specs.Telling.{TellsSeen}
 use Rattle.fsfs_seats.specs.declared.seat_view.SeatView.{SeatView}
 use Rattle.fsfs_seats.specs.declared.seat_view.Hand.TheVariants.{Empty}
@@ -24,8 +26,8 @@ use Rattle.fsfs_seats.specs.declared.seat_view.Stage.TheVariants.{New, Sitting, 
 use Rattle.fsfs_seats.specs.Seats.{view_of, look_view, reveal_view, reveal_in, IsSitting}
 use Rattle.fsfs_seats.specs.Met.{known_last, seat_store, seat_labels}
 use Rattle.fsfs_seats.specs.Tells.{TellsIt}
-use Rattle.fsfs_seat_calls.specs.Tells.{IsBack}
-use Rattle.fsfs_pass.specs.Passes.{is_sitting, sits_at, reach_by, pass_store, KnowsIt}
+use Rattle.fsfs_seat_calls.specs.Tells.{IsBack, counting}
+use Rattle.fsfs_pass.specs.Passes.{Seating, is_sitting, sits_at, mounted_at, reach_by, pass_store, KnowsIt}
 use Rattle.fsfs_pass.specs.PassLemmas.{pass_tells}
 
 -- ---- the seat sits
@@ -129,6 +131,19 @@ stays old new same sits = ap {A = Kin} (λ k. is_sitting k.stage) same ∙ sits
 pub seated : (path : List ℕ) (table now : TableId) (old new : SeatView) → now ≡ table → new.kin ≡ old.kin → sits_at path now new.kin ≡ sits_at path table old.kin
 seated path table now old new same kin = ap (λ t. sits_at path t new.kin) same ∙ ap {A = Kin} (λ k. sits_at path table k) kin
 
+-- with no bench dropped
+pub mounted_still : (path : List ℕ) (table now : TableId) (old new : SeatView) → now ≡ table → new.kin ≡ old.kin → new.bench_failures ≡ old.bench_failures → mounted_at path now new ≡ mounted_at path table old
+mounted_still path table now old new same kin benches =
+    ap {A = Seating} (λ s. record { mount = s; bench_faults = new.bench_failures }) (seated path table now old new same kin) ∙ ap (λ n. record { mount = sits_at path table old.kin; bench_faults = n }) benches
+
+-- its count of benches tells nothing else
+pub count_keeps : (n : ℕ) (old new : SeatView) → Keeps (counting n old) new → Keeps old new
+count_keeps n old new k = record { told = k.told; layout = k.layout; met = k.met; low = k.low; kin = k.kin; short = k.short }
+
+pub count_dropped : {B : Type 0} (faults : B → ℕ) (bench : Option B) (before now : ℕ) → now ≡ before + unwrap_or (option_map faults bench) 0 → MatchOption bench (now ≡ before) (λ b. RoseBy (faults b) before now)
+count_dropped faults None before now same = omega (arith, same)
+count_dropped faults (Some b) before now more = let e : min (before + faults b) (2 ^ 64 - 1) ≤ now = omega (arith, more, min-le_left (before + faults b) (2 ^ 64 - 1)) in e
+
 -- it only has the disk no more
 pub empty_keeps : (v u : SeatView) → u ≡ record v { hand = Empty } → is_some v.met ≡ v.told → IfSome (option_map files_now v.met) HasShortFiles → Keeps v u
 empty_keeps v u is met short = record {
@@ -202,6 +217,11 @@ pub reveal_kin : (s : Option Section) (met : Option Trace) (v : SeatView) → (r
 reveal_kin None met v = refl
 reveal_kin (Some (CurrentFirm x)) met v = refl
 reveal_kin (Some s) met v = refl
+
+pub reveal_benches : (s : Option Section) (met : Option Trace) (v : SeatView) → (reveal_in s met v).bench_failures ≡ v.bench_failures
+reveal_benches None met v = refl
+reveal_benches (Some (CurrentFirm x)) met v = refl
+reveal_benches (Some s) met v = refl
 
 pub reveal_keeps : (v u : SeatView) → u ≡ reveal_in v.section u.met v → TellsIt u → (v.told ≡ true → (x : Coming) × (v.section ≡ Some (CurrentFirm x))) → Keeps v u
 reveal_keeps v u is tells at = record {

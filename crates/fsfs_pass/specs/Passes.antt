@@ -6,6 +6,7 @@ use Rattle.fsfs_fetch.specs.Views.{View as StoreView, Reach, Grows}
 use Rattle.fsfs_disk.specs.Trace.{Trace}
 use Rattle.fsfs_machine.specs.Machine.{joined}
 use Rattle.fsfs_turn.specs.Views.{View, Begins}
+use Rattle.fsfs_turn.specs.Mountings.{Mounting}
 use Rattle.fsfs_turn.specs.Telling.{TellsSeen}
 use Rattle.fsfs_seats.specs.declared.seat_view.Kin.{Kin}
 use Rattle.fsfs_seats.specs.declared.seat_view.SeatView.{SeatView}
@@ -27,6 +28,10 @@ pub record Seating : Type 0 where
 
 abbrev pub sits_at : List ℕ → TableId → Kin → Seating
 sits_at path table kin = record { mount_path = path; table = table; kin = kin }
+
+-- and how often the benches failed that it dropped
+abbrev pub mounted_at : List ℕ → TableId → SeatView → Mounting Seating
+mounted_at path table v = record { mount = sits_at path table v.kin; bench_faults = v.bench_failures }
 
 -- the revisions that there are at least: those that the pass has seen or was told of; where the disk tells nothing, those up to the
 -- greatest number that a look told

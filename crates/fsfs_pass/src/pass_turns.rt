@@ -84,6 +84,7 @@ impl<'a, D: Disk> PassTurns<'a, D> {
         ensures duty { (self.new.seat.me.0.told ≡ self.old.seat.me.0.told) × (result.seat.me.0.told ≡ self.old.seat.me.0.told) }
         ensures mounted { (D.mount_path self.new.first.value ≡ D.mount_path self.old.first.value) × (D.mount_path result.first.value ≡ D.mount_path self.old.first.value) }
         ensures faults { (self.new.seat.me.0.failures ≡ self.old.seat.me.0.failures) × (result.seat.me.0.failures ≡ 0) }
+        ensures benches { (self.new.seat.me.0.bench_failures ≡ self.old.seat.me.0.bench_failures) × (result.seat.me.0.bench_failures ≡ 0) }
     {
         let board = self.board;
         let first = said_again(&self.first);
@@ -113,6 +114,7 @@ impl<'a, D: Disk> PassTurns<'a, D> {
         ensures duty { self.new.seat.me.0.told ≡ self.old.seat.me.0.told }
         ensures mounted { D.mount_path self.new.first.value ≡ D.mount_path self.old.first.value }
         ensures faults { self.new.seat.me.0.failures ≡ self.old.seat.me.0.failures + other.entry.seat.me.0.failures }
+        ensures benches { self.new.seat.me.0.bench_failures ≡ self.old.seat.me.0.bench_failures + other.entry.seat.me.0.bench_failures }
     {
         let PassTurns { seat, .. } = other;
         let board = self.board;

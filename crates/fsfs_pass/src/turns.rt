@@ -22,7 +22,7 @@ fn later_of(one: RevNum, other: RevNum) -> RevNum
 }
 
 impl<'a, R: Wait, D: Disk + Drop> Turns<R> for PassTurns<'a, D> {
-    ghost use Rattle.std.specs.Prelude.{◌≡◌, ℕ, true, None, IfOk, OnErr};
+    ghost use Rattle.std.specs.Prelude.{◌≡◌, ℕ, true, None, IfOk, OnErr, MatchOption};
     ghost use Rattle.fsfs_base.specs.Failures.{HasCause};
     ghost use Rattle.fsfs_layout.specs.declared.layout.Layout.{Layout};
     ghost use Rattle.fsfs_disk.specs.Labels.{Txn as TxnLabel, label_of, without_label};
@@ -32,8 +32,9 @@ impl<'a, R: Wait, D: Disk + Drop> Turns<R> for PassTurns<'a, D> {
     ghost use Rattle.fsfs_turn.specs.Views.{View, Answers};
     ghost use Rattle.fsfs_turn.specs.Labels.{MayRelabel, Drops};
     ghost use Rattle.fsfs_turn.specs.Learning.{MayPurge, Purged, SpentPurged};
+    ghost use Rattle.fsfs_turn.specs.Mountings.{RoseBy};
     ghost use Rattle.fsfs_seats.specs.Met.{seat_labels};
-    ghost use Rattle.fsfs_pass.specs.Passes.{Seating, sits_at, pass_store, KnowsIt};
+    ghost use Rattle.fsfs_pass.specs.Passes.{Seating, sits_at, mounted_at, pass_store, KnowsIt};
     ghost use Rattle.fsfs_pass.specs.PassLemmas.{one_known, bench_tells};
 
     type Bench = D::Bench;
@@ -55,7 +56,7 @@ impl<'a, R: Wait, D: Disk + Drop> Turns<R> for PassTurns<'a, D> {
 
     ghost Mount = { Seating };
 
-    ghost mount_path = { λ s. sits_at (D.mount_path s.first.value) s.seat.table_id s.seat.me.0.kin };
+    ghost mounting = { λ s. mounted_at (D.mount_path s.first.value) s.seat.table_id s.seat.me.0 };
 
     fn layout(&self) -> Layout {
         self.layout
@@ -168,6 +169,7 @@ impl<'a, R: Wait, D: Disk + Drop> Turns<R> for PassTurns<'a, D> {
         ensures duty { self.new.seat.me.0.told ≡ self.old.seat.me.0.told }
         ensures dropped { IfOk result (λ there. Drops self.old.seat.me.0.told (label_of label.now) there (seat_labels self.old.seat.me.0) (seat_labels self.new.seat.me.0)) }
         ensures left { OnErr result (MayRelabel self.old.seat.me.0.told (without_label (label_of label.now)) (seat_labels self.old.seat.me.0) (seat_labels self.new.seat.me.0)) }
+        ensures benches { MatchOption bench (self.new.seat.me.0.bench_failures ≡ self.old.seat.me.0.bench_failures) (λ b. RoseBy (D.Bench.faults b) self.old.seat.me.0.bench_failures self.new.seat.me.0.bench_failures) }
         ensures cause { HasCause self.old.seat.me.0.failures self.new.seat.me.0.failures result }
     {
         let board = self.board;

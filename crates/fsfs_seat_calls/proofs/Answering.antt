@@ -1,9 +1,9 @@
 -- What a call tells, by its answer.
 use Rattle.std.proofs.Common.{◌≡◌, ◌≤◌, ◌+◌, ◌-◌, ◌^◌, ℕ, List, true, false, ⊎_elim, inl, inr, refl, sym, ap, subst, ◌∙◌, arith}
-use Rattle.std.specs.Prelude.{is_some, Option, None, Bool, Result, Ok, Err, OnOk, OnErr, IfOk, is_err, min}
+use Rattle.std.specs.Prelude.{is_some, Option, Some, None, Bool, Result, Ok, Err, OnOk, OnErr, IfOk, is_err, min, MatchOption, unwrap_or, option_map}
 use Rattle.std.proofs.Math.Nat.{min-le_left}
 use Rattle.fsfs_base.specs.Files.{Files}
-use Rattle.fsfs_base.specs.Failures.{HasCause, Rose}
+use Rattle.fsfs_base.specs.Failures.{HasCause, Rose, added_count}
 use Rattle.fsfs_fetch.specs.Views.{Later}
 use Rattle.fsfs_disk.specs.Labels.{Label}
 use Rattle.fsfs_disk.specs.Trace.{Trace, DropLabel, Performs, PerformsIfThere, FailsAt, FailsToPut, FailsToAdopt}
@@ -26,19 +26,30 @@ use Rattle.fsfs_seat_calls.specs.Tells.{IsBack, CalledBy, AdoptedBy, AdoptedAs, 
 
 -- ---- the disk behind the call
 
--- none failed
-pub later_still : (old new : DiskSeen) → new.mount_path ≡ old.mount_path → old.faults ≤ new.faults → IsLater 0 old new
-later_still old new mounted later = record { mounted = mounted; later = later; rose = omega (arith, later) }
+-- none failed, of the disk's or of a bench's
+pub later_still : (old new : DiskSeen) → new.mount_path ≡ old.mount_path → old.faults ≤ new.faults → new.bench_faults ≡ old.bench_faults → IsLater 0 0 old new
+later_still old new mounted later same = record { mounted = mounted; later = later; rose = omega (arith, later); benches = omega (arith, same) }
 
-pub later_done : (old new : DiskSeen) → new.mount_path ≡ old.mount_path → new.failed ≡ false → old.faults ≤ new.faults → IsLater (once new.failed) old new
-later_done old new mounted flag later = subst (λ f. IsLater (once f) old new) (sym flag) (later_still old new mounted later)
+pub later_done : (k : ℕ) (old new : DiskSeen) → new.mount_path ≡ old.mount_path → new.failed ≡ false → old.faults ≤ new.faults → min (old.bench_faults + k) (2 ^ 64 - 1) ≤ new.bench_faults → IsLater (once new.failed) k old new
+later_done k old new mounted flag later benches = subst (λ f. IsLater (once f) k old new) (sym flag) record { mounted = mounted; later = later; rose = omega (arith, later); benches = benches }
 
-pub later_failed : (old new : DiskSeen) → new.mount_path ≡ old.mount_path → new.failed ≡ true → old.faults ≤ new.faults → Rose old.faults new.faults → IsLater (once new.failed) old new
-later_failed old new mounted flag later rose = subst (λ f. IsLater (once f) old new) (sym flag) record { mounted = mounted; later = later; rose = rose }
+pub later_failed : (k : ℕ) (old new : DiskSeen) → new.mount_path ≡ old.mount_path → new.failed ≡ true → old.faults ≤ new.faults → Rose old.faults new.faults → min (old.bench_faults + k) (2 ^ 64 - 1) ≤ new.bench_faults → IsLater (once new.failed) k old new
+later_failed k old new mounted flag later rose benches = subst (λ f. IsLater (once f) k old new) (sym flag) record { mounted = mounted; later = later; rose = rose; benches = benches }
 
-pub later_call : {X E : Type 0} (old new : DiskSeen) (result : Result X E) → new.mount_path ≡ old.mount_path → new.failed ≡ is_err result → HasCause old.faults new.faults result → IsLater (once new.failed) old new
-later_call old new (Ok x) mounted flag cause = later_done old new mounted flag cause.later
-later_call old new (Err e) mounted flag cause = later_failed old new mounted flag cause.later cause.failed
+pub later_dropping : {X E : Type 0} (k : ℕ) (old new : DiskSeen) (result : Result X E) → new.mount_path ≡ old.mount_path → new.failed ≡ is_err result → HasCause old.faults new.faults result → min (old.bench_faults + k) (2 ^ 64 - 1) ≤ new.bench_faults → IsLater (once new.failed) k old new
+later_dropping k old new (Ok x) mounted flag cause benches = later_done k old new mounted flag cause.later benches
+later_dropping k old new (Err e) mounted flag cause benches = later_failed k old new mounted flag cause.later cause.failed benches
+
+pub none_more : (a b c : ℕ) → b ≡ a → min (a + 0) c ≤ b
+none_more a b c same = omega (arith, same)
+
+pub later_call : {X E : Type 0} (old new : DiskSeen) (result : Result X E) → new.mount_path ≡ old.mount_path → new.failed ≡ is_err result → HasCause old.faults new.faults result → new.bench_faults ≡ old.bench_faults → IsLater (once new.failed) 0 old new
+later_call old new result mounted flag cause same = later_dropping 0 old new result mounted flag cause (none_more old.bench_faults new.bench_faults (2 ^ 64 - 1) same)
+
+-- a bench was dropped, or none
+pub count_dropped : {B : Type 0} (faults : B → ℕ) (bench : Option B) (before now : ℕ) → MatchOption bench (now ≡ before) (λ b. now ≡ added_count before (faults b)) → min (before + unwrap_or (option_map faults bench) 0) (2 ^ 64 - 1) ≤ now
+count_dropped faults None before now same = none_more before now (2 ^ 64 - 1) same
+count_dropped faults (Some b) before now more = omega (arith, more)
 
 -- ---- how the call was made
 

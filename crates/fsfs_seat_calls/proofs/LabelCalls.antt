@@ -27,7 +27,7 @@ use Rattle.fsfs_seats.specs.Tells.{Sat}
 use Rattle.fsfs_seat_calls.specs.Made.{Made, Ended, Dropped, carried, failed_of, once}
 use Rattle.fsfs_seat_calls.specs.Tells.{BenchedBy, MayDrop, PurgedBy, benched_back, purged_back}
 use Rattle.fsfs_seat_calls.proofs.FilesLast.{made_lasts, dropped_lasts, made_own, dropped_own}
-use Rattle.fsfs_seat_calls.proofs.Going.{IsShort, StaysSure, after_more, Turn, gives_so}
+use Rattle.fsfs_seat_calls.proofs.Going.{IsShort, StaysSure, after_more, Turn, gives_so, gives_with}
 use Rattle.fsfs_seat_calls.proofs.SectionCalls.{result_of, ended_so, made_well, done_told, failed_told, made_told}
 use Rattle.fsfs_seat_calls.proofs.ReadCalls.{seen_view, learned_is, learned_stays}
 
@@ -125,12 +125,12 @@ dropped_told false l old new m = by_there m.0 m.1
     by_there false same = ap (λ o. is_some o) same
 dropped_told true l old new m = failed_told (DropLabel l) old new m
 
-pub gives_benched : (began : DiskSeen) (first : SeatView) (slots id : ℕ) (me : Sat) (d : DiskSeen) → IsSitting me.0 → IsShort d → (was : DiskSeen) (l : Label) → 0 < slots → me.1 ≡ (0, Some d) ∷ [] → me.0.hand ≡ Out was → IsLater (once d.failed) was d → Made d.failed (KeepLabel l) was.trace d.trace → (me.0.told ≡ true → (x : Drawn) × MayMake (view_of me.0) x)
+pub gives_benched : (began : DiskSeen) (first : SeatView) (slots id : ℕ) (me : Sat) (d : DiskSeen) → IsSitting me.0 → IsShort d → (was : DiskSeen) (l : Label) → 0 < slots → me.1 ≡ (0, Some d) ∷ [] → me.0.hand ≡ Out was → IsLater (once d.failed) 0 was d → Made d.failed (KeepLabel l) was.trace d.trace → (me.0.told ≡ true → (x : Drawn) × MayMake (view_of me.0) x)
     → Allows (Rule began first) slots id me 0 (λ _. 0) (λ _. benched_back (step slots 0 0 0 none) me 0)
 gives_benched began first slots id me d sits short was l room carries has later made may = gives_so (λ m u. BenchedBy (failed_of (carried m.1)) (view_of m.0) u) began first slots id me d sits short was room carries has later (made_told d.failed (KeepLabel l) was.trace d.trace made)
     (λ told. let x = may told in benched_turn me.0 d was.trace l x.0 x.1 made told)
 
-pub gives_purged : (began : DiskSeen) (first : SeatView) (slots id : ℕ) (me : Sat) (d : DiskSeen) → IsSitting me.0 → IsShort d → (was : DiskSeen) (l : Label) → 0 < slots → me.1 ≡ (0, Some d) ∷ [] → me.0.hand ≡ Out was → IsLater (once d.failed) was d → Dropped d.failed l was.trace d.trace → (me.0.told ≡ true → MayDrop (view_of me.0))
-    → Allows (Rule began first) slots id me 0 (λ _. 0) (λ _. purged_back (step slots 0 0 0 none) me 0)
-gives_purged began first slots id me d sits short was l room carries has later dropped may = gives_so (λ m u. PurgedBy (failed_of (carried m.1)) (view_of m.0) u) began first slots id me d sits short was room carries has later (dropped_told d.failed l was.trace d.trace dropped)
+pub gives_purged : (k : ℕ) (began : DiskSeen) (first : SeatView) (slots id : ℕ) (me : Sat) (d : DiskSeen) → IsSitting me.0 → IsShort d → (was : DiskSeen) (l : Label) → 0 < slots → me.1 ≡ (0, Some d) ∷ [] → me.0.hand ≡ Out was → IsLater (once d.failed) k was d → Dropped d.failed l was.trace d.trace → (me.0.told ≡ true → MayDrop (view_of me.0))
+    → Allows (Rule began first) slots id me 0 (λ _. 0) (λ _. purged_back k (step slots 0 0 0 none) me 0)
+gives_purged k began first slots id me d sits short was l room carries has later dropped may = gives_with (λ m u. PurgedBy (failed_of (carried m.1)) (view_of m.0) u) began first slots id me d sits short was k room carries has later (dropped_told d.failed l was.trace d.trace dropped)
     (λ told. purged_turn me.0 d was.trace l (may told) dropped told)

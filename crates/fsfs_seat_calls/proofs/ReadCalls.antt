@@ -108,8 +108,8 @@ listed_turn me d t same told old is young w store sees safe = inl (old, same ∙
           subst (λ y. Listed ls went v y) (learned_is _ _ _ (λ n. learns n place.List went) w.history v a.view a.all a.turned ∙ sym (learned_is _ _ _ (λ n. learns n place.List went) w.history v u all k)) a.turned,
     )
 
-pub gives_read : (began : DiskSeen) (first : SeatView) (slots id : ℕ) (me : Sat) (d was : DiskSeen) → IsSitting me.0 → IsShort d → 0 < slots → me.1 ≡ (0, Some d) ∷ [] → me.0.hand ≡ Out was → IsLater (once d.failed) was d → d.trace ≡ was.trace → Allows (Rule began first) slots id me 0 (λ _. 0) (λ _. read_back (step slots 0 0 0 none) me 0)
+pub gives_read : (began : DiskSeen) (first : SeatView) (slots id : ℕ) (me : Sat) (d was : DiskSeen) → IsSitting me.0 → IsShort d → 0 < slots → me.1 ≡ (0, Some d) ∷ [] → me.0.hand ≡ Out was → IsLater (once d.failed) 0 was d → d.trace ≡ was.trace → Allows (Rule began first) slots id me 0 (λ _. 0) (λ _. read_back (step slots 0 0 0 none) me 0)
 gives_read began first slots id me d was sits short room carries has later same = gives_so (λ m u. ReadBy (went_of (failed_of (carried m.1))) (view_of m.0) u) began first slots id me d sits short was room carries has later (ap (λ o. is_some o) same) (read_turn me.0 d was.trace same)
 
-pub gives_listed : (began : DiskSeen) (first : SeatView) (slots id : ℕ) (me : Sat) (d was : DiskSeen) → IsSitting me.0 → IsShort d → 0 < slots → me.1 ≡ (0, Some d) ∷ [] → me.0.hand ≡ Out was → IsLater (once d.failed) was d → d.trace ≡ was.trace → Allows (Rule began first) slots id me 0 (λ _. 0) (λ _. listed_back (step slots 0 0 0 none) me 0)
+pub gives_listed : (began : DiskSeen) (first : SeatView) (slots id : ℕ) (me : Sat) (d was : DiskSeen) → IsSitting me.0 → IsShort d → 0 < slots → me.1 ≡ (0, Some d) ∷ [] → me.0.hand ≡ Out was → IsLater (once d.failed) 0 was d → d.trace ≡ was.trace → Allows (Rule began first) slots id me 0 (λ _. 0) (λ _. listed_back (step slots 0 0 0 none) me 0)
 gives_listed began first slots id me d was sits short room carries has later same = gives_so (λ m u. (ls : List Label) → Listed ls (went_of (failed_of (carried m.1))) (view_of m.0) u) began first slots id me d sits short was room carries has later (ap (λ o. is_some o) same) (listed_turn me.0 d was.trace same)

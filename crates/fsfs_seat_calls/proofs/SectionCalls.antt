@@ -239,10 +239,10 @@ unmade_turn me d t due same told old is young w store sees safe = ⊎_elim
     unmade : (txn : Txn) (properties : List (List ℕ × List ℕ)) (next : Revision) (bytes : List ℕ) → MayAdopt v txn properties next bytes → IsAfter me.layout young (stuck_place w.lock) old w v (λ u. Adopted txn properties next bytes Before v u)
     unmade txn properties next bytes may = adopt_fails me.layout young (stuck_place w.lock) old w v store sees refl safe txn properties next bytes may
 
-pub gives_called : (began : DiskSeen) (first : SeatView) (slots id : ℕ) (me : Sat) (d : DiskSeen) → IsSitting me.0 → IsShort d → (was : DiskSeen) (change : real.NameChange) → 0 < slots → me.1 ≡ (0, Some d) ∷ [] → me.0.hand ≡ Out was → IsLater (once d.failed) was d → Made d.failed change was.trace d.trace → (me.0.told ≡ true → (place : DiskPlace) × IsDue (view_of me.0) place change)
+pub gives_called : (began : DiskSeen) (first : SeatView) (slots id : ℕ) (me : Sat) (d : DiskSeen) → IsSitting me.0 → IsShort d → (was : DiskSeen) (change : real.NameChange) → 0 < slots → me.1 ≡ (0, Some d) ∷ [] → me.0.hand ≡ Out was → IsLater (once d.failed) 0 was d → Made d.failed change was.trace d.trace → (me.0.told ≡ true → (place : DiskPlace) × IsDue (view_of me.0) place change)
     → Allows (Rule began first) slots id me 0 (λ _. 0) (λ _. called_back (step slots 0 0 0 none) me 0)
 gives_called began first slots id me d sits short was change room carries has later made due = gives_so (λ m u. CalledBy (failed_of (carried m.1)) (view_of m.0) u) began first slots id me d sits short was room carries has later (made_told d.failed change was.trace d.trace made)
     (λ told. let x = due told in called_turn me.0 d was.trace x.0 change x.1 made told)
 
-pub gives_unmade : (began : DiskSeen) (first : SeatView) (slots id : ℕ) (me : Sat) (d was : DiskSeen) → IsSitting me.0 → IsShort d → 0 < slots → me.1 ≡ (0, Some d) ∷ [] → me.0.hand ≡ Out was → IsLater (once d.failed) was d → d.trace ≡ was.trace → (me.0.told ≡ true → NeedsFolder (view_of me.0)) → Allows (Rule began first) slots id me 0 (λ _. 0) (λ _. unmade_back (step slots 0 0 0 none) me 0)
+pub gives_unmade : (began : DiskSeen) (first : SeatView) (slots id : ℕ) (me : Sat) (d was : DiskSeen) → IsSitting me.0 → IsShort d → 0 < slots → me.1 ≡ (0, Some d) ∷ [] → me.0.hand ≡ Out was → IsLater (once d.failed) 0 was d → d.trace ≡ was.trace → (me.0.told ≡ true → NeedsFolder (view_of me.0)) → Allows (Rule began first) slots id me 0 (λ _. 0) (λ _. unmade_back (step slots 0 0 0 none) me 0)
 gives_unmade began first slots id me d was sits short room carries has later same due = gives_so (λ m u. Unmade (view_of m.0) u) began first slots id me d sits short was room carries has later (ap (λ o. is_some o) same) (λ told. unmade_turn me.0 d was.trace (due told) same told)

@@ -1,5 +1,5 @@
 -- What a pass is told as it gives the disk back with a call done: the step that the call was.
-use Rattle.std.specs.Prelude.{◌≡◌, ◌<◌, ◌≤◌, ◌-◌, ◌^◌, ◌⊎◌, ℕ, List, [], Bool, true, Option, Some, None, Result, is_some, slice_get}
+use Rattle.std.specs.Prelude.{◌≡◌, ◌+◌, ◌<◌, ◌≤◌, ◌-◌, ◌^◌, ◌⊎◌, ℕ, List, [], Bool, true, Option, Some, None, Result, is_some, slice_get}
 use Rattle.std.specs.FinMap as finmap
 use Rattle.fsfs_tree.specs.Revisions.{Revision}
 use Rattle.fsfs_layout.specs.FileNames.{only_name}
@@ -131,5 +131,10 @@ pub record PurgedBy (failed : Bool) (v u : View) : Type 0 where
   pub under_way : (txn : Txn) → MayPurge v txn → (went : Went) × Ended failed went × Purged txn went v u
   pub no_more : (name : ℕ) → v.section ≡ None → IsIn name v.given → (went : Went) × Ended failed went × SpentPurged name went v u
 
-abbrev pub purged_back : At → Sat → ℕ → Sat → Type 0
-purged_back = Back (λ m u. PurgedBy (failed_of (carried m.1)) (view_of m.0) u)
+-- the seat with so many failures of benches more
+abbrev pub counting : ℕ → SeatView → SeatView
+counting n v = record v { bench_failures = v.bench_failures + n }
+
+-- with a bench dropped whose calls failed so often
+abbrev pub purged_back : ℕ → At → Sat → ℕ → Sat → Type 0
+purged_back n st m found m' = Back (λ m u. PurgedBy (failed_of (carried m.1)) (view_of m.0) u) st (counting n m.0, m.1) found m'

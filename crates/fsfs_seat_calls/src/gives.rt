@@ -12,11 +12,11 @@ ghost use Rattle.fsfs_shared_disk.specs.Seen.{DiskSeen, IsLater};
 ghost use Rattle.fsfs_seats.specs.declared.seat_view.Hand.TheVariants.{Out};
 ghost use Rattle.fsfs_seats.specs.Seats.{view_of, IsSitting};
 ghost use Rattle.fsfs_seat_calls.specs.Made.{Made, Dropped, once, went_of};
-ghost use Rattle.fsfs_seat_calls.specs.Tells.{GivenBack, CalledBy, Unmade, ReadBy, DrawnBy, MayAdoptIt, IsPutOf, AdoptedBy, no_adoption, BenchedBy, MayDrop, PurgedBy};
+ghost use Rattle.fsfs_seat_calls.specs.Tells.{GivenBack, CalledBy, Unmade, ReadBy, DrawnBy, MayAdoptIt, IsPutOf, AdoptedBy, no_adoption, BenchedBy, MayDrop, PurgedBy, counting};
 
 use crate::plays::{
-    Committing, Drawing, GiveAdopted, GiveBenched, GiveCalled, GiveDrawn, GiveListed, GivePurged,
-    GiveRead, GiveUnmade,
+    Committing, Drawing, Dropping, GiveAdopted, GiveBenched, GiveCalled, GiveDrawn, GiveListed,
+    GivePurged, GiveRead, GiveUnmade,
 };
 use fsfs_base::Name;
 use fsfs_disk::Disk;
@@ -35,7 +35,7 @@ pub(crate) fn give_called<D: Disk + Drop>(
 )
     requires table { (seat.old.table_id ≡ board.now.shared.table_id) × (board.now.shared.table_id.words ≡ 3) × (board.now.shared.table_id.slots ≡ 1) × (seat.old.me.1 ≡ (0, None) ∷ []) }
     requires sits { IsSitting seat.old.me.0 }
-    requires made { (was : DiskSeen) × (change : NameChange) × (seat.old.me.0.hand ≡ Out was) × IsLater (once disk.failed) was disk × Made disk.failed change was.trace disk.trace × (seat.old.me.0.told ≡ true → (place : DiskPlace) × IsDue (view_of seat.old.me.0) place change) }
+    requires made { (was : DiskSeen) × (change : NameChange) × (seat.old.me.0.hand ≡ Out was) × IsLater (once disk.failed) 0 was disk × Made disk.failed change was.trace disk.trace × (seat.old.me.0.told ≡ true → (place : DiskPlace) × IsDue (view_of seat.old.me.0) place change) }
     ensures same { (seat.new.table_id ≡ seat.old.table_id) × (seat.new.id ≡ seat.old.id) × (seat.new.me.1 ≡ []) }
     ensures given { GivenBack (λ u. CalledBy disk.failed (view_of seat.old.me.0) u) disk.failed disk.trace seat.old.me.0 seat.new.me.0 }
 {
@@ -52,7 +52,7 @@ pub(crate) fn give_unmade<D: Disk + Drop>(
 )
     requires table { (seat.old.table_id ≡ board.now.shared.table_id) × (board.now.shared.table_id.words ≡ 3) × (board.now.shared.table_id.slots ≡ 1) × (seat.old.me.1 ≡ (0, None) ∷ []) }
     requires sits { IsSitting seat.old.me.0 }
-    requires out { (was : DiskSeen) × (seat.old.me.0.hand ≡ Out was) × IsLater (once disk.failed) was disk × (disk.trace ≡ was.trace) }
+    requires out { (was : DiskSeen) × (seat.old.me.0.hand ≡ Out was) × IsLater (once disk.failed) 0 was disk × (disk.trace ≡ was.trace) }
     requires due { seat.old.me.0.told ≡ true → NeedsFolder (view_of seat.old.me.0) }
     ensures same { (seat.new.table_id ≡ seat.old.table_id) × (seat.new.id ≡ seat.old.id) × (seat.new.me.1 ≡ []) }
     ensures given { GivenBack (λ u. Unmade (view_of seat.old.me.0) u) disk.failed disk.trace seat.old.me.0 seat.new.me.0 }
@@ -70,7 +70,7 @@ pub(crate) fn give_read<D: Disk + Drop>(
 )
     requires table { (seat.old.table_id ≡ board.now.shared.table_id) × (board.now.shared.table_id.words ≡ 3) × (board.now.shared.table_id.slots ≡ 1) × (seat.old.me.1 ≡ (0, None) ∷ []) }
     requires sits { IsSitting seat.old.me.0 }
-    requires out { (was : DiskSeen) × (seat.old.me.0.hand ≡ Out was) × IsLater (once disk.failed) was disk × (disk.trace ≡ was.trace) }
+    requires out { (was : DiskSeen) × (seat.old.me.0.hand ≡ Out was) × IsLater (once disk.failed) 0 was disk × (disk.trace ≡ was.trace) }
     ensures same { (seat.new.table_id ≡ seat.old.table_id) × (seat.new.id ≡ seat.old.id) × (seat.new.me.1 ≡ []) }
     ensures given { GivenBack (λ u. ReadBy (went_of disk.failed) (view_of seat.old.me.0) u) disk.failed disk.trace seat.old.me.0 seat.new.me.0 }
 {
@@ -87,7 +87,7 @@ pub(crate) fn give_listed<D: Disk + Drop>(
 )
     requires table { (seat.old.table_id ≡ board.now.shared.table_id) × (board.now.shared.table_id.words ≡ 3) × (board.now.shared.table_id.slots ≡ 1) × (seat.old.me.1 ≡ (0, None) ∷ []) }
     requires sits { IsSitting seat.old.me.0 }
-    requires out { (was : DiskSeen) × (seat.old.me.0.hand ≡ Out was) × IsLater (once disk.failed) was disk × (disk.trace ≡ was.trace) }
+    requires out { (was : DiskSeen) × (seat.old.me.0.hand ≡ Out was) × IsLater (once disk.failed) 0 was disk × (disk.trace ≡ was.trace) }
     ensures same { (seat.new.table_id ≡ seat.old.table_id) × (seat.new.id ≡ seat.old.id) × (seat.new.me.1 ≡ []) }
     ensures given { GivenBack (λ u. (ls : List KeptLabel) → Listed ls (went_of disk.failed) (view_of seat.old.me.0) u) disk.failed disk.trace seat.old.me.0 seat.new.me.0 }
 {
@@ -106,7 +106,7 @@ pub(crate) fn give_drawn<K: Drawing, D: Disk + Drop>(
     requires base { base ≡ K.base }
     requires table { (seat.old.table_id ≡ board.now.shared.table_id) × (board.now.shared.table_id.words ≡ 3) × (board.now.shared.table_id.slots ≡ 1) × (seat.old.me.1 ≡ (0, None) ∷ []) }
     requires sits { IsSitting seat.old.me.0 }
-    requires out { (was : DiskSeen) × (seat.old.me.0.hand ≡ Out was) × IsLater (once disk.failed) was disk × (disk.trace ≡ was.trace) }
+    requires out { (was : DiskSeen) × (seat.old.me.0.hand ≡ Out was) × IsLater (once disk.failed) 0 was disk × (disk.trace ≡ was.trace) }
     requires may { seat.old.me.0.told ≡ true → (seat.old.me.0.section ≡ Some Begun) × (base ≤ seat.old.me.0.pass.least) }
     ensures same { (seat.new.table_id ≡ seat.old.table_id) × (seat.new.id ≡ seat.old.id) × (seat.new.me.1 ≡ []) }
     ensures given { GivenBack (λ u. DrawnBy base disk.trace (went_of disk.failed) (view_of seat.old.me.0) u) disk.failed disk.trace seat.old.me.0 seat.new.me.0 }
@@ -129,7 +129,7 @@ pub(crate) fn give_adopted<K: Committing, D: Disk + Drop>(
     requires bytes { bytes.now.value ≡ K.bytes }
     requires table { (seat.old.table_id ≡ board.now.shared.table_id) × (board.now.shared.table_id.words ≡ 3) × (board.now.shared.table_id.slots ≡ 1) × (seat.old.me.1 ≡ (0, None) ∷ []) }
     requires sits { IsSitting seat.old.me.0 }
-    requires made { (was : DiskSeen) × (change : NameChange) × (seat.old.me.0.hand ≡ Out was) × IsLater (once disk.failed) was disk × Made disk.failed change was.trace disk.trace × (seat.old.me.0.told ≡ true → MayAdoptIt (view_of seat.old.me.0) K.adoption K.bytes × (name.now ≡ rev_name (view_of seat.old.me.0) (length seat.old.me.0.seen)) × IsPutOf name.now K.bytes change) }
+    requires made { (was : DiskSeen) × (change : NameChange) × (seat.old.me.0.hand ≡ Out was) × IsLater (once disk.failed) 0 was disk × Made disk.failed change was.trace disk.trace × (seat.old.me.0.told ≡ true → MayAdoptIt (view_of seat.old.me.0) K.adoption K.bytes × (name.now ≡ rev_name (view_of seat.old.me.0) (length seat.old.me.0.seen)) × IsPutOf name.now K.bytes change) }
     ensures same { (seat.new.table_id ≡ seat.old.table_id) × (seat.new.id ≡ seat.old.id) × (seat.new.me.1 ≡ []) }
     ensures given { GivenBack (λ u. AdoptedBy (unwrap_or about.now.value no_adoption) bytes.now.value disk.failed (view_of seat.old.me.0) u) disk.failed disk.trace seat.old.me.0 seat.new.me.0 }
 {
@@ -149,7 +149,7 @@ pub(crate) fn give_benched<D: Disk + Drop>(
 )
     requires table { (seat.old.table_id ≡ board.now.shared.table_id) × (board.now.shared.table_id.words ≡ 3) × (board.now.shared.table_id.slots ≡ 1) × (seat.old.me.1 ≡ (0, None) ∷ []) }
     requires sits { IsSitting seat.old.me.0 }
-    requires made { (was : DiskSeen) × (l : KeptLabel) × (seat.old.me.0.hand ≡ Out was) × IsLater (once disk.failed) was disk × Made disk.failed (KeepLabel l) was.trace disk.trace }
+    requires made { (was : DiskSeen) × (l : KeptLabel) × (seat.old.me.0.hand ≡ Out was) × IsLater (once disk.failed) 0 was disk × Made disk.failed (KeepLabel l) was.trace disk.trace }
     requires may { seat.old.me.0.told ≡ true → (x : Drawn) × MayMake (view_of seat.old.me.0) x }
     ensures same { (seat.new.table_id ≡ seat.old.table_id) × (seat.new.id ≡ seat.old.id) × (seat.new.me.1 ≡ []) }
     ensures given { GivenBack (λ u. BenchedBy disk.failed (view_of seat.old.me.0) u) disk.failed disk.trace seat.old.me.0 seat.new.me.0 }
@@ -159,20 +159,23 @@ pub(crate) fn give_benched<D: Disk + Drop>(
     board.shared.store::<GiveBenched>(seat, 0, 0);
 }
 
-/// With a label dropped.
-pub(crate) fn give_purged<D: Disk + Drop>(
+/// With a label dropped, and a bench whose calls failed so often.
+pub(crate) fn give_purged<K: Dropping, D: Disk + Drop>(
     board: &Board<D>,
     seat: &mut SharedSeat<D>,
     disk: SharedDisk<D>,
+    faults: &Note<u64>,
 )
+    requires faults { faults.now.value ≡ K.faults }
     requires table { (seat.old.table_id ≡ board.now.shared.table_id) × (board.now.shared.table_id.words ≡ 3) × (board.now.shared.table_id.slots ≡ 1) × (seat.old.me.1 ≡ (0, None) ∷ []) }
     requires sits { IsSitting seat.old.me.0 }
-    requires made { (was : DiskSeen) × (l : KeptLabel) × (seat.old.me.0.hand ≡ Out was) × IsLater (once disk.failed) was disk × Dropped disk.failed l was.trace disk.trace }
+    requires made { (was : DiskSeen) × (l : KeptLabel) × (seat.old.me.0.hand ≡ Out was) × IsLater (once disk.failed) K.faults was disk × Dropped disk.failed l was.trace disk.trace }
     requires may { seat.old.me.0.told ≡ true → MayDrop (view_of seat.old.me.0) }
     ensures same { (seat.new.table_id ≡ seat.old.table_id) × (seat.new.id ≡ seat.old.id) × (seat.new.me.1 ≡ []) }
-    ensures given { GivenBack (λ u. PurgedBy disk.failed (view_of seat.old.me.0) u) disk.failed disk.trace seat.old.me.0 seat.new.me.0 }
+    ensures given { GivenBack (λ u. PurgedBy disk.failed (view_of seat.old.me.0) u) disk.failed disk.trace (counting faults.now.value seat.old.me.0) seat.new.me.0 }
 {
+    let _ = faults;
     disk.files_are_short();
     board.shared.exchange(seat, 0, Some(disk));
-    board.shared.store::<GivePurged>(seat, 0, 0);
+    board.shared.store::<GivePurged<K>>(seat, 0, 0);
 }

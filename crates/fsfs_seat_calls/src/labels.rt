@@ -1,5 +1,5 @@
 //! Calls on labels.
-ghost use Rattle.std.specs.Prelude.{◌≡◌, [], List, ℕ, Option, Some, None, true, false, is_err, IfOk, IfSome, OnErr, OnOk, IsErrOf, option_map};
+ghost use Rattle.std.specs.Prelude.{◌≡◌, [], List, ℕ, Option, Some, None, true, false, is_err, IfOk, IfSome, OnErr, OnOk, IsErrOf, option_map, unwrap_or};
 ghost use Rattle.std.specs.FinMap.{empty};
 ghost use Rattle.fsfs_base.specs.Failures.{HasCause};
 ghost use Rattle.fsfs_fetch.specs.Views.{Later};
@@ -16,15 +16,29 @@ ghost use Rattle.fsfs_seats.specs.declared.seat_view.Hand.TheVariants.{Empty};
 ghost use Rattle.fsfs_seats.specs.Seats.{view_of, IsSitting};
 ghost use Rattle.fsfs_seats.specs.Met.{seat_store, seat_labels};
 ghost use Rattle.fsfs_seats.specs.Tells.{TellsIt};
-ghost use Rattle.fsfs_seat_calls.specs.Tells.{IsBack, MayDrop};
+ghost use Rattle.fsfs_seat_calls.specs.Tells.{IsBack, MayDrop, counting};
 
 use crate::gives::{give_benched, give_listed, give_purged};
 use fsfs_base::{Failed, Name};
-use fsfs_disk::{Disk, Label, ListFault};
+use fsfs_disk::{Bench, Disk, Label, ListFault};
 use fsfs_layout::OnlyFile;
+use fsfs_note::{Note, Says};
 use fsfs_seats::{Board, SharedSeat, give_back, take};
 use std::alloc::Global;
+use std::marker::Brand;
 use std::sync::Wait;
+
+// How often a bench failed; of none, 0.
+#[derive(Drop)]
+struct BenchFaults<'a, B: Bench> {
+    bench: &'a Option<B>,
+}
+
+impl<'a, B: Bench> Says<u64> for BenchFaults<'a, B> {
+    ghost use Rattle.std.specs.Prelude.{option_map, unwrap_or};
+
+    ghost says = { λ o. unwrap_or (option_map B.faults o.bench.now) 0 };
+}
 
 /// The names of the folders of transactions: one for each label of a transaction that is kept.
 pub fn list<D: Disk + Drop, R: Wait>(
@@ -100,7 +114,8 @@ pub fn drop_bench<D: Disk + Drop, R: Wait>(
     requires sits { IsSitting seat.old.me.0 }
     requires may { seat.old.me.0.told ≡ true → MayDrop (view_of seat.old.me.0) }
     ensures same { (seat.new.table_id ≡ seat.old.table_id) × (seat.new.id ≡ seat.old.id) × (seat.new.me.1 ≡ []) }
-    ensures back { IsBack (is_err result) seat.old.me.0 seat.new.me.0 }
+    // The bench's failures are counted.
+    ensures back { IsBack (is_err result) (counting (unwrap_or (option_map D.Bench.faults bench) 0) seat.old.me.0) seat.new.me.0 }
     ensures tells { TellsIt seat.new.me.0 }
     ensures later { Later (seat_store seat.old.me.0) (seat_store seat.new.me.0) }
     ensures purged { seat.old.me.0.told ≡ true → (txn : Txn) → MayPurge (view_of seat.old.me.0) txn → (went : Went) × Answers result went × Purged txn went (view_of seat.old.me.0) (view_of seat.new.me.0) }
@@ -109,8 +124,9 @@ pub fn drop_bench<D: Disk + Drop, R: Wait>(
     ensures left { OnErr result (MayRelabel seat.old.me.0.told (without_label (label_of label.now)) (seat_labels seat.old.me.0) (seat_labels seat.new.me.0)) }
     ensures cause { HasCause seat.old.me.0.failures seat.new.me.0.failures result }
 {
+    let faults = Note::of(&BenchFaults { bench: &bench });
     let mut disk = take(rt, board, seat);
     let answer = disk.drop_bench(label, bench);
-    give_purged(board, seat, disk);
+    give_purged::<Brand, D>(board, seat, disk, &faults);
     answer
 }

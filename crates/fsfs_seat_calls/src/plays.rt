@@ -48,12 +48,23 @@ impl<D: Disk> Play<Option<SharedDisk<D>>, SeatView> for GiveBenched {
     ghost then = { benched_back };
 }
 
-pub(crate) struct GivePurged;
+/// How often the bench failed that is dropped. Each call picks it.
+pub(crate) trait Dropping {
+    ghost faults: { ℕ };
+}
 
-impl<D: Disk> Play<Option<SharedDisk<D>>, SeatView> for GivePurged {
+impl Dropping for Brand {
+    ghost faults = { 0 };
+}
+
+pub(crate) struct GivePurged<K> {
+    of: PhantomData<K>,
+}
+
+impl<K: Dropping, D: Disk> Play<Option<SharedDisk<D>>, SeatView> for GivePurged<K> {
     ghost use Rattle.fsfs_seat_calls.specs.Tells.{purged_back};
 
-    ghost then = { purged_back };
+    ghost then = { purged_back K.faults };
 }
 
 /// For which base a number is drawn. Each call picks it.

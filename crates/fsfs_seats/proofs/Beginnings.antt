@@ -44,6 +44,10 @@ first_unfailed : (layout : Layout) (young : ℕ) (told : Option Trace) (v : Seat
 first_unfailed layout young None v k = k.5
 first_unfailed layout young (Some t) v k = k.9
 
+first_sound : (layout : Layout) (young : ℕ) (told : Option Trace) (v : SeatView) → IsFirst layout young told v → v.bench_failures ≡ 0
+first_sound layout young None v k = k.6
+first_sound layout young (Some t) v k = k.14
+
 first_alone : (layout : Layout) (young : ℕ) (told : Option Trace) (v : SeatView) → IsFirst layout young told v → v.met ≡ told
 first_alone layout young None v k = k.2
 first_alone layout young (Some t) v k = k.4
@@ -106,7 +110,7 @@ begins layout young d first fits short k = record {
   disk = d;
   holder = 0;
   home = λ _. refl;
-  later = later_as 0 (first.failures + 0) d d (let none = first_unfailed layout young d.trace first k in omega (arith, none)) (later_itself d);
+  later = later_as 0 (first.failures + 0) 0 (first.bench_failures + 0) d d (let none = first_unfailed layout young d.trace first k in omega (arith, none)) (let none = first_sound layout young d.trace first k in omega (arith, none)) (later_itself d);
   hands = one_seat (λ j v. HandIs 0 0 d j v.hand) first (subst (λ h. HandIs 0 0 d 0 h) (sym (first_hand layout young d.trace first k)) tt);
   told = λ j v e is_there. one_seat (λ j v. v.told ≡ is_some d.trace) first (first_told layout young d.trace first k) j v e;
   met = λ j v e is_there. one_seat (λ j v. is_some v.met ≡ is_some d.trace) first (first_met layout young d.trace first k) j v e;

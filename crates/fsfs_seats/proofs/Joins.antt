@@ -36,12 +36,12 @@ use Rattle.fsfs_seats.specs.Seats.{all_parts, view_of, is_left, IsSitting, Sits,
 use Rattle.fsfs_seats.specs.Kinship.{numbers_of, Branch, branch_of, branches, Kinship, grown}
 use Rattle.fsfs_seats.specs.Causes.{IsSound, HasLock, Causes}
 use Rattle.fsfs_seats.specs.Met.{Met, HasMet}
-use Rattle.fsfs_seats.specs.Rule.{Seated, Knew, Placed, IsJoined, IsSeenBySome, Store, HandIs, failures_in, Rule}
+use Rattle.fsfs_seats.specs.Rule.{Seated, Knew, Placed, IsJoined, IsSeenBySome, Store, HandIs, failures_in, bench_failures_in, Rule}
 use Rattle.fsfs_seats.specs.Tells.{Sat, TellsIt, GoesOn, settled}
 use Rattle.fsfs_seats.proofs.Following.{lasts_same, met_now, last_grows, later_now, grown_long}
 use Rattle.fsfs_seats.proofs.Kinships.{set_there, in_either, map_there, kin_joined}
 use Rattle.fsfs_seats.proofs.Accounts.{harmless_both, harmful_more, quiet_turn}
-use Rattle.fsfs_seats.proofs.Failures.{failures_joined, later_as}
+use Rattle.fsfs_seats.proofs.Failures.{failed, bench_failed, sum_joined, later_as}
 use Rattle.fsfs_seats.proofs.Others.{at_less, left_apart, placed_other, as_long, seated, replaced}
 use Rattle.fsfs_seats.proofs.Stores as stores
 use Rattle.fsfs_seats.proofs.Rules.{short_told, seat_stays, goes, trace_of}
@@ -369,7 +369,8 @@ module _ (began : DiskSeen) (first : SeatView) where
         disk = r.disk;
         holder = r.holder;
         home = r.home;
-        later = later_as (failures_in s.views) (failures_in (slice_set (slice_set s.views id (joining_view v z)) other left_view)) began r.disk (failures_joined s.views id other v z (joining_view v z) left_view at found refl refl) r.later;
+        later = later_as (failures_in s.views) (failures_in (slice_set (slice_set s.views id (joining_view v z)) other left_view)) (bench_failures_in s.views) (bench_failures_in (slice_set (slice_set s.views id (joining_view v z)) other left_view)) began r.disk
+            (sum_joined failed s.views id other v z (joining_view v z) left_view at found refl refl) (sum_joined bench_failed s.views id other v z (joining_view v z) left_view at found refl refl) r.later;
         hands = λ j y e. ⊎_elim
             (λ (gone : (j ≡ other) × (left_view ≡ y)). subst (λ (h : Hand). HandIs r.out r.holder r.disk j h) (ap (λ (a : SeatView). a.hand) gone.1) tt)
             (λ (stays : (j ≢ other) × (get_elem? (slice_set s.views id (joining_view v z)) j ≡ some y)). ⊎_elim
@@ -413,7 +414,7 @@ module _ (began : DiskSeen) (first : SeatView) where
     settled_view r.disk.trace me.0,
     keeps,
     tt,
-    goes began first s r id me.0 (settled_view r.disk.trace me.0) (slice_set s.words 0 (slice_index s.words 0)) r.lock r.young at stays (ap (λ ws. slice_set ws 0 (slice_index ws 0)) r.words) r.bound refl refl refl refl (λ _ _. refl) after,
+    goes began first s r id me.0 (settled_view r.disk.trace me.0) (slice_set s.words 0 (slice_index s.words 0)) r.lock r.young at stays (ap (λ ws. slice_set ws 0 (slice_index ws 0)) r.words) r.bound refl refl refl refl refl (λ _ _. refl) after,
     (refl, fits, tells_it),
   )
     where

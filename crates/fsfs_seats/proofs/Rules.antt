@@ -39,14 +39,14 @@ use Rattle.fsfs_seats.specs.Seats.{all_parts, view_of, look_view, lock_view, stu
 use Rattle.fsfs_seats.specs.Causes.{HasLock}
 use Rattle.fsfs_seats.specs.Met.{seat_store}
 use Rattle.fsfs_seats.specs.Kinship.{numbers_of, AreOnce, branch_of, branches}
-use Rattle.fsfs_seats.specs.Rule.{Seated, Placed, Store, HandIs, failures_in, Rule}
+use Rattle.fsfs_seats.specs.Rule.{Seated, Placed, Store, HandIs, failures_in, bench_failures_in, Rule}
 use Rattle.fsfs_seats.specs.Tells.{Sat, TellsIt, looked, locked, CanGive, gave_lock, CanStick, stuck_it, CanReveal, revealed, IsOwn, IsMet, taken, given_back}
 use Rattle.fsfs_seats.proofs.Locks.{word_free, word_stuck}
 use Rattle.fsfs_seats.proofs.Following.{later_untold}
 use Rattle.fsfs_seats.proofs.Accounts.{Turns, quiet_turn, harmful_so}
 use Rattle.fsfs_seats.proofs.Kinships.{set_there, map_there, same_kin, only_one, all_others_left}
 use Rattle.fsfs_seats.proofs.WhoseOwn.{all_once, all_there}
-use Rattle.fsfs_seats.proofs.Failures.{failures_of_one, failures_more, failures_same, later_then, later_less, later_as}
+use Rattle.fsfs_seats.proofs.Failures.{failed, bench_failed, sum_of_one, sum_more, sum_same, later_then, later_less, later_as}
 use Rattle.fsfs_seats.proofs.Others.{reseated, left_apart, there_at, none_past, seated, replaced}
 use Rattle.fsfs_seats.proofs.Stores as stores
 
@@ -89,9 +89,9 @@ unseated first views lock young t id me at s = subst (λ (l : List SeatView). St
 
 module _ (began : DiskSeen) (first : SeatView) where
   -- one seat's view and a word change, and the disk stays where it is
-  pub goes : (s : St) (r : Rule began first s) (id : ℕ) (me u : SeatView) (ws : List ℕ) (lock young : ℕ) → get_elem? s.views id ≡ some me → is_left me.kin.stage ≡ false → ws ≡ r.out ∷ lock ∷ young ∷ [] → young ≤ last_rev → u.hand ≡ me.hand → u.failures ≡ me.failures → u.told ≡ me.told → is_some u.met ≡ is_some r.disk.trace → (IsSitting u → u.kin.parts ≡ all_parts → u.met ≡ r.disk.trace)
+  pub goes : (s : St) (r : Rule began first s) (id : ℕ) (me u : SeatView) (ws : List ℕ) (lock young : ℕ) → get_elem? s.views id ≡ some me → is_left me.kin.stage ≡ false → ws ≡ r.out ∷ lock ∷ young ∷ [] → young ≤ last_rev → u.hand ≡ me.hand → u.failures ≡ me.failures → u.bench_failures ≡ me.bench_failures → u.told ≡ me.told → is_some u.met ≡ is_some r.disk.trace → (IsSitting u → u.kin.parts ≡ all_parts → u.met ≡ r.disk.trace)
       → ((t : Trace) → r.disk.trace ≡ Some t → Store first (slice_set s.views id u) lock young t) → Rule began first record { words = ws; homes = s.homes; views = slice_set s.views id u }
-  goes s r id me u ws lock young at stays words bound hand failed told met alone store = record {
+  goes s r id me u ws lock young at stays words bound hand fails benches told met alone store = record {
     out = r.out;
     lock = lock;
     young = young;
@@ -100,7 +100,7 @@ module _ (began : DiskSeen) (first : SeatView) where
     disk = r.disk;
     holder = r.holder;
     home = r.home;
-    later = later_as (failures_in s.views) (failures_in (slice_set s.views id u)) began r.disk (failures_same s.views id me u at failed) r.later;
+    later = later_as (failures_in s.views) (failures_in (slice_set s.views id u)) (bench_failures_in s.views) (bench_failures_in (slice_set s.views id u)) began r.disk (sum_same failed s.views id me u at fails) (sum_same bench_failed s.views id me u at benches) r.later;
     hands = λ j z e. ⊎_elim
         (λ (here : (j ≡ id) × (u ≡ z)). subst (λ (y : ℕ × Hand). HandIs r.out r.holder r.disk y.0 y.1) (λ i. (sym here.0 i, (sym hand ∙ ap (λ (a : SeatView). a.hand) here.1) i)) (r.hands id me at))
         (λ (there : (j ≢ id) × (get_elem? s.views j ≡ some z)). r.hands j z there.1) (at_set s.views id j u z e);
@@ -132,7 +132,7 @@ module _ (began : DiskSeen) (first : SeatView) where
         keeps,
         tt,
         subst (λ n. Rule began first record { words = slice_set s.words 2 (slice_index s.words 2); homes = s.homes; views = slice_set s.views id (look_view n r.disk.trace me.0) }) (sym found)
-            (goes s r id me.0 (look_view r.young r.disk.trace me.0) (slice_set s.words 2 (slice_index s.words 2)) r.lock r.young at (seat_stays me.0 sits) next r.bound refl refl refl refl (λ _ _. refl) (λ t is. (looks_at t is).1)),
+            (goes s r id me.0 (look_view r.young r.disk.trace me.0) (slice_set s.words 2 (slice_index s.words 2)) r.lock r.young at (seat_stays me.0 sits) next r.bound refl refl refl refl refl (λ _ _. refl) (λ t is. (looks_at t is).1)),
         subst (λ n. looked (step slots 2 0 0 none) me n (look_view n r.disk.trace me.0, me.1)) (sym found) (r.bound, refl, (λ told. let t = trace_of s r id me.0 at (seat_stays me.0 sits) told in (looks_at t.0 t.1).0), by_told me.0.told refl, tells_it, λ all. sym (r.alone id me.0 at sits all)),
       )
     where
@@ -163,7 +163,7 @@ module _ (began : DiskSeen) (first : SeatView) where
         lock_view me.0,
         keeps,
         tt,
-        goes s r id me.0 (lock_view me.0) _ 1 r.young at (seat_stays me.0 sits) (next ∙ ap (λ b. r.out ∷ either b 1 r.lock ∷ r.young ∷ []) (eq-eqb r.lock 0 zero)) r.bound refl refl refl (r.met id me.0 at (seat_stays me.0 sits)) (λ _. r.alone id me.0 at sits)
+        goes s r id me.0 (lock_view me.0) _ 1 r.young at (seat_stays me.0 sits) (next ∙ ap (λ b. r.out ∷ either b 1 r.lock ∷ r.young ∷ []) (eq-eqb r.lock 0 zero)) r.bound refl refl refl refl (r.met id me.0 at (seat_stays me.0 sits)) (λ _. r.alone id me.0 at sits)
             (λ t is. let k = r.store t is in (stores.takes first s.views r.lock r.young t k id me.0 (at, sits) (word_free k.world.lock k.up (sym k.lock_is ∙ zero))).1),
         tell (lock_view me.0) (
           (λ _. (refl, λ told. let t = trace_of s r id me.0 at (seat_stays me.0 sits) told in let k = r.store t.0 t.1 in (stores.takes first s.views r.lock r.young t.0 k id me.0 (at, sits) (word_free k.world.lock k.up (sym k.lock_is ∙ zero))).0)),
@@ -176,14 +176,14 @@ module _ (began : DiskSeen) (first : SeatView) where
         me.0,
         keeps,
         tt,
-        goes s r id me.0 me.0 _ r.lock r.young at (seat_stays me.0 sits) (same no) r.bound refl refl refl (r.met id me.0 at (seat_stays me.0 sits)) (λ _. r.alone id me.0 at sits) (λ t is. unseated first s.views r.lock r.young t id me.0 at (r.store t is)),
+        goes s r id me.0 me.0 _ r.lock r.young at (seat_stays me.0 sits) (same no) r.bound refl refl refl refl (r.met id me.0 at (seat_stays me.0 sits)) (λ _. r.alone id me.0 at sits) (λ t is. unseated first s.views r.lock r.young t id me.0 at (r.store t is)),
         tell me.0 ((λ zero. absurd (no zero)), (λ _. refl), λ more. absurd (omega (arith, one, more))),
       ))
       (λ not_one. let above : 2 ≤ r.lock = above_one r.lock no not_one in (
         stuck_view (place_at r.lock) me.0,
         keeps,
         tt,
-        goes s r id me.0 (stuck_view (place_at r.lock) me.0) _ r.lock r.young at (seat_stays me.0 sits) (same no) r.bound refl refl refl (r.met id me.0 at (seat_stays me.0 sits)) (λ _. r.alone id me.0 at sits) (λ t is. stays r.lock above t (r.store t is)),
+        goes s r id me.0 (stuck_view (place_at r.lock) me.0) _ r.lock r.young at (seat_stays me.0 sits) (same no) r.bound refl refl refl refl (r.met id me.0 at (seat_stays me.0 sits)) (λ _. r.alone id me.0 at sits) (λ t is. stays r.lock above t (r.store t is)),
         tell (stuck_view (place_at r.lock) me.0) (
           (λ zero. absurd (no zero)),
           (λ one. absurd (not_one one)),
@@ -207,7 +207,7 @@ module _ (began : DiskSeen) (first : SeatView) where
     outside_view me.0,
     keeps,
     tt,
-    goes s r id me.0 (outside_view me.0) _ 0 r.young at (seat_stays me.0 sits) (ap (λ ws. slice_set ws 1 0) r.words) r.bound refl refl refl (r.met id me.0 at (seat_stays me.0 sits)) (λ _. r.alone id me.0 at sits)
+    goes s r id me.0 (outside_view me.0) _ 0 r.young at (seat_stays me.0 sits) (ap (λ ws. slice_set ws 1 0) r.words) r.bound refl refl refl refl (r.met id me.0 at (seat_stays me.0 sits)) (λ _. r.alone id me.0 at sits)
         (λ t is. (stores.gives first s.views r.lock r.young t (r.store t is) id me.0 (at, sits) (may (told_of s r id me.0 at (seat_stays me.0 sits) t is))).1),
     (refl, λ told. let t = trace_of s r id me.0 at (seat_stays me.0 sits) told in (stores.gives first s.views r.lock r.young t.0 (r.store t.0 t.1) id me.0 (at, sits) (may told)).0),
   )
@@ -217,7 +217,7 @@ module _ (began : DiskSeen) (first : SeatView) where
     outside_view me.0,
     keeps,
     tt,
-    goes s r id me.0 (outside_view me.0) _ n r.young at (seat_stays me.0 sits) (ap (λ ws. slice_set ws 1 n) r.words) r.bound refl refl refl (r.met id me.0 at (seat_stays me.0 sits)) (λ _. r.alone id me.0 at sits)
+    goes s r id me.0 (outside_view me.0) _ n r.young at (seat_stays me.0 sits) (ap (λ ws. slice_set ws 1 n) r.words) r.bound refl refl refl refl (r.met id me.0 at (seat_stays me.0 sits)) (λ _. r.alone id me.0 at sits)
         (λ t is. let m = may (told_of s r id me.0 at (seat_stays me.0 sits) t is) in subst (λ k. Store first (slice_set s.views id (outside_view me.0)) k r.young t) (sym is_n) (stores.sticks first s.views r.lock r.young t (r.store t is) id me.0 (at, sits) place m.0 m.1).1),
     (refl, λ told. let t = trace_of s r id me.0 at (seat_stays me.0 sits) told in let m = may told in (stores.sticks first s.views r.lock r.young t.0 (r.store t.0 t.1) id me.0 (at, sits) place m.0 m.1).0),
   )
@@ -227,7 +227,7 @@ module _ (began : DiskSeen) (first : SeatView) where
     reveal_in me.0.section r.disk.trace me.0,
     keeps,
     tt,
-    goes s r id me.0 (reveal_in me.0.section r.disk.trace me.0) _ r.lock rev at (seat_stays me.0 sits) (ap (λ ws. slice_set ws 2 rev) r.words) fits (hand_in me.0.section) (failures_at me.0.section) (told_in me.0.section) (met_in me.0.section) (alone_in me.0.section) after,
+    goes s r id me.0 (reveal_in me.0.section r.disk.trace me.0) _ r.lock rev at (seat_stays me.0 sits) (ap (λ ws. slice_set ws 2 rev) r.words) fits (hand_in me.0.section) (failures_at me.0.section) (benches_at me.0.section) (told_in me.0.section) (met_in me.0.section) (alone_in me.0.section) after,
     ((λ i. (meets_as me.0.section i, me.1)), told_so, tells_it),
   )
     where
@@ -238,6 +238,10 @@ module _ (began : DiskSeen) (first : SeatView) where
       failures_at : (o : Option Section) → (reveal_in o r.disk.trace me.0).failures ≡ me.0.failures
       failures_at (Some (CurrentFirm x)) = refl
       failures_at o = refl
+
+      benches_at : (o : Option Section) → (reveal_in o r.disk.trace me.0).bench_failures ≡ me.0.bench_failures
+      benches_at (Some (CurrentFirm x)) = refl
+      benches_at o = refl
 
       told_in : (o : Option Section) → (reveal_in o r.disk.trace me.0).told ≡ me.0.told
       told_in (Some (CurrentFirm x)) = refl
@@ -311,7 +315,7 @@ module _ (began : DiskSeen) (first : SeatView) where
           disk = r.disk;
           holder = id;
           home = λ z. absurd (omega (arith, z));
-          later = later_as (failures_in s.views) (failures_in (slice_set s.views id u)) began r.disk (failures_same s.views id me.0 u at refl) r.later;
+          later = later_as (failures_in s.views) (failures_in (slice_set s.views id u)) (bench_failures_in s.views) (bench_failures_in (slice_set s.views id u)) began r.disk (sum_same failed s.views id me.0 u at refl) (sum_same bench_failed s.views id me.0 u at refl) r.later;
           hands = λ j z e. ⊎_elim
               (λ (here : (j ≡ id) × (u ≡ z)). subst (λ (y : ℕ × Hand). HandIs 1 id r.disk y.0 y.1) (λ i. (sym here.0 i, ap (λ (a : SeatView). a.hand) here.1 i)) (refl, refl, refl))
               (λ (there : (j ≢ id) × (get_elem? s.views j ≡ some z)). nobody hit j z.hand (r.hands j z there.1)) (at_set s.views id j u z e);
@@ -326,13 +330,13 @@ module _ (began : DiskSeen) (first : SeatView) where
               (λ (there : (j ≢ id) × (get_elem? s.views j ≡ some z)). r.alone j z there.1) (at_set s.views id j u z e);
           store = λ t is. rehand first s.views r.lock r.young t id me.0 (Out r.disk) (at, sits) (r.store t is);
         },
-        ((λ _. (r.disk, refl, r.told id me.0 at (seat_stays me.0 sits), (λ all. sym (r.alone id me.0 at sits all)), later_less (failures_in s.views) me.0.failures began r.disk (failures_of_one s.views id me.0 at) r.later, λ t is. met t (r.store t is))), λ no. absurd (no (found ∙ hit))),
+        ((λ _. (r.disk, refl, r.told id me.0 at (seat_stays me.0 sits), (λ all. sym (r.alone id me.0 at sits all)), later_less (failures_in s.views) me.0.failures (bench_failures_in s.views) me.0.bench_failures began r.disk (sum_of_one failed s.views id me.0 at) (sum_of_one bench_failed s.views id me.0 at) r.later, λ t is. met t (r.store t is))), λ no. absurd (no (found ∙ hit))),
       ))
       (λ miss. (
         me.0,
         keeps,
         tt,
-        goes s r id me.0 me.0 _ r.lock r.young at (seat_stays me.0 sits) (next ∙ ap (λ b. either b 1 r.out ∷ r.lock ∷ r.young ∷ []) (ne_eqb r.out 0 miss)) r.bound refl refl refl (r.met id me.0 at (seat_stays me.0 sits)) (λ _. r.alone id me.0 at sits) (λ t is. unseated first s.views r.lock r.young t id me.0 at (r.store t is)),
+        goes s r id me.0 me.0 _ r.lock r.young at (seat_stays me.0 sits) (next ∙ ap (λ b. either b 1 r.out ∷ r.lock ∷ r.young ∷ []) (ne_eqb r.out 0 miss)) r.bound refl refl refl refl (r.met id me.0 at (seat_stays me.0 sits)) (λ _. r.alone id me.0 at sits) (λ t is. unseated first s.views r.lock r.young t id me.0 at (r.store t is)),
         ((λ z. absurd (miss (sym found ∙ z))), λ _. refl),
       ))
     where
@@ -398,11 +402,11 @@ module _ (began : DiskSeen) (first : SeatView) where
   pub takes_of : (k : DiskSeen) → began ≡ k → (slots id : ℕ) (me : Sat) → IsSitting me.0 → Allows (Rule began first) slots id me 0 (λ n. either (eqb n 0) 1 n) (taken k (step slots 0 0 1 none) me)
   takes_of k is slots id me sits = subst (λ b. Allows (Rule began first) slots id me 0 (λ n. either (eqb n 0) 1 n) (taken b (step slots 0 0 1 none) me)) is (takes_out slots id me sits)
 
-  -- the disk goes back to its slot, n calls of which have failed since it was taken, and the seat knows so much
-  pub returned : (s : St) (r : Rule began first s) (id : ℕ) (me u : SeatView) (d : DiskSeen) (cs : List (ℕ × Option DiskSeen)) (was : DiskSeen) (n : ℕ) → Sits s.views id me → 0 < length s.homes → cs ≡ (0, Some d) ∷ [] → me.hand ≡ Out was → IsLater n was d
-      → u.hand ≡ Empty → u.failures ≡ me.failures + n → u.told ≡ me.told → is_some u.met ≡ is_some d.trace → is_some d.trace ≡ is_some was.trace → u.kin ≡ me.kin → (me.kin.parts ≡ all_parts → u.met ≡ d.trace) → ((now : Trace) → d.trace ≡ Some now → Store first (slice_set s.views id u) r.lock r.young now)
+  -- the disk goes back to its slot, n calls of which have failed since it was taken, and k of benches that it took back, and the seat knows so much
+  pub returned : (s : St) (r : Rule began first s) (id : ℕ) (me u : SeatView) (d : DiskSeen) (cs : List (ℕ × Option DiskSeen)) (was : DiskSeen) (n k : ℕ) → Sits s.views id me → 0 < length s.homes → cs ≡ (0, Some d) ∷ [] → me.hand ≡ Out was → IsLater n k was d
+      → u.hand ≡ Empty → u.failures ≡ me.failures + n → u.bench_failures ≡ me.bench_failures + k → u.told ≡ me.told → is_some u.met ≡ is_some d.trace → is_some d.trace ≡ is_some was.trace → u.kin ≡ me.kin → (me.kin.parts ≡ all_parts → u.met ≡ d.trace) → ((now : Trace) → d.trace ≡ Some now → Store first (slice_set s.views id u) r.lock r.young now)
       → Rule began first record { words = slice_set s.words 0 0; homes = put_back s.homes cs; views = slice_set s.views id u }
-  returned s r id me u d cs was n at room carried has later hand failed told met same kin alone store = record {
+  returned s r id me u d cs was n k at room carried has later hand fails benches told met same kin alone store = record {
     out = 0;
     lock = r.lock;
     young = r.young;
@@ -411,8 +415,8 @@ module _ (began : DiskSeen) (first : SeatView) where
     disk = d;
     holder = r.holder;
     home = λ _. ap (λ (c : List (ℕ × Option DiskSeen)). get_elem? (put_back s.homes c) 0) carried ∙ set_here s.homes 0 (some (Some d)) room;
-    later = later_as (failures_in s.views + n) (failures_in (slice_set s.views id u)) began d (failures_more s.views id me u n at.0 failed)
-        (later_then (failures_in s.views) n began r.disk d r.later (subst (λ x. IsLater n x d) mine.2 later));
+    later = later_as (failures_in s.views + n) (failures_in (slice_set s.views id u)) (bench_failures_in s.views + k) (bench_failures_in (slice_set s.views id u)) began d (sum_more failed s.views id me u n at.0 fails) (sum_more bench_failed s.views id me u k at.0 benches)
+        (later_then (failures_in s.views) n (bench_failures_in s.views) k began r.disk d r.later (subst (λ x. IsLater n k x d) mine.2 later));
     hands = λ j z e. ⊎_elim
         (λ (here : (j ≡ id) × (u ≡ z)). subst (λ (y : Hand). HandIs 0 r.holder d j y) (sym hand ∙ ap (λ (a : SeatView). a.hand) here.1) tt)
         (λ (there : (j ≢ id) × (get_elem? s.views j ≡ some z)). nobody j there.0 z.hand (r.hands j z there.1)) (at_set s.views id j u z e);
@@ -446,7 +450,7 @@ module _ (began : DiskSeen) (first : SeatView) where
       nobody j apart (Out x) k = absurd (apart (k.1 ∙ sym mine.1))
 
   -- with the trace with which it was taken
-  pub gives_back : (slots id : ℕ) (me : Sat) (d was : DiskSeen) → IsSitting me.0 → 0 < slots → me.1 ≡ (0, Some d) ∷ [] → me.0.hand ≡ Out was → d.trace ≡ was.trace → IsLater 0 was d → Allows (Rule began first) slots id me 0 (λ _. 0) (λ _. given_back (step slots 0 0 0 none) me 0)
+  pub gives_back : (slots id : ℕ) (me : Sat) (d was : DiskSeen) → IsSitting me.0 → 0 < slots → me.1 ≡ (0, Some d) ∷ [] → me.0.hand ≡ Out was → d.trace ≡ was.trace → IsLater 0 0 was d → Allows (Rule began first) slots id me 0 (λ _. 0) (λ _. given_back (step slots 0 0 0 none) me 0)
   gives_back slots id me d was sits room carried has same later s r long at small =
       let mine : HandIs r.out r.holder r.disk id (Out was) = subst (λ h. HandIs r.out r.holder r.disk id h) has (r.hands id me.0 at) in
       let stays : d.trace ≡ r.disk.trace = same ∙ ap (λ (x : DiskSeen). x.trace) mine.2 in
@@ -454,7 +458,7 @@ module _ (began : DiskSeen) (first : SeatView) where
         u,
         gives,
         tt,
-        returned s r id me.0 u d me.1 was 0 (at, sits) (omega (arith, room, long)) carried has later refl (omega arith) refl (r.met id me.0 at (seat_stays me.0 sits) ∙ ap (λ o. is_some o) (sym stays)) (ap (λ o. is_some o) same) refl (λ all. r.alone id me.0 at sits all ∙ sym stays)
+        returned s r id me.0 u d me.1 was 0 0 (at, sits) (omega (arith, room, long)) carried has later refl (omega arith) (omega arith) refl (r.met id me.0 at (seat_stays me.0 sits) ∙ ap (λ o. is_some o) (sym stays)) (ap (λ o. is_some o) same) refl (λ all. r.alone id me.0 at sits all ∙ sym stays)
             (λ t is. rehand first s.views r.lock r.young t id me.0 Empty (at, sits) (r.store t (sym stays ∙ is))),
         ap (λ (cs : List (ℕ × Option DiskSeen)). (u, rest cs)) carried,
       )

@@ -31,11 +31,11 @@ use Rattle.fsfs_seats.specs.Seats.{all_parts, view_of, is_left, IsSitting, Sits,
 use Rattle.fsfs_seats.specs.Kinship.{numbers_of, Branch, branch_of, branches, Kinship}
 use Rattle.fsfs_seats.specs.Causes.{IsSound, HasLock, Causes}
 use Rattle.fsfs_seats.specs.Met.{Met, HasMet, seat_store}
-use Rattle.fsfs_seats.specs.Rule.{Seated, Knew, Placed, IsJoined, IsSeenBySome, Store, HandIs, failures_in, Rule}
+use Rattle.fsfs_seats.specs.Rule.{Seated, Knew, Placed, IsJoined, IsSeenBySome, Store, HandIs, failures_in, bench_failures_in, Rule}
 use Rattle.fsfs_seats.specs.Tells.{Sat, TellsIt, numbered}
 use Rattle.fsfs_seats.proofs.Following.{met_now, last_grows, later_now, later_untold}
 use Rattle.fsfs_seats.proofs.Kinships.{at_end, set_there, map_there, parts_most, kin_split}
-use Rattle.fsfs_seats.proofs.Failures.{failures_split, later_as}
+use Rattle.fsfs_seats.proofs.Failures.{failed, bench_failed, sum_split, later_as}
 use Rattle.fsfs_seats.proofs.Accounts.{quiet_turn, causes_set}
 use Rattle.fsfs_seats.proofs.Others.{still_seen, reseated, at_less, there_at, none_past, left_apart, seated, replaced}
 use Rattle.fsfs_seats.proofs.Stores as stores
@@ -236,7 +236,8 @@ module _ (began : DiskSeen) (first : SeatView) where
     disk = r.disk;
     holder = r.holder;
     home = r.home;
-    later = later_as (failures_in s.views) (failures_in (slice_set s.views id (halved_view v) ++ split_pass v ∷ [])) began r.disk (failures_split s.views id v (halved_view v) (split_pass v) at refl refl) r.later;
+    later = later_as (failures_in s.views) (failures_in (slice_set s.views id (halved_view v) ++ split_pass v ∷ [])) (bench_failures_in s.views) (bench_failures_in (slice_set s.views id (halved_view v) ++ split_pass v ∷ [])) began r.disk
+        (sum_split failed s.views id v (halved_view v) (split_pass v) at refl refl) (sum_split bench_failed s.views id v (halved_view v) (split_pass v) at refl refl) r.later;
     hands = λ j z e. cases_of s.views id v (λ j z. HandIs r.out r.holder r.disk j z.hand) j z e (r.hands id v at) (λ old. r.hands j z old) tt;
     told = λ j z e. cases_of s.views id v (λ j z. is_left z.kin.stage ≡ false → z.told ≡ is_some r.disk.trace) j z e (r.told id v at) (λ old. r.told j z old) (λ is_there. r.told id v at (seat_stays v sits));
     met = λ j z e. cases_of s.views id v (λ j z. is_left z.kin.stage ≡ false → is_some z.met ≡ is_some r.disk.trace) j z e (r.met id v at) (λ old. r.met j z old) (λ is_there. r.met id v at (seat_stays v sits));
@@ -257,7 +258,7 @@ module _ (began : DiskSeen) (first : SeatView) where
     numbered_view id r.disk.trace me.0,
     keeps,
     tt,
-    goes began first s r id me.0 (numbered_view id r.disk.trace me.0) (slice_set s.words 0 (slice_index s.words 0)) r.lock r.young at stays (ap (λ ws. slice_set ws 0 (slice_index ws 0)) r.words) r.bound refl refl refl refl (λ _ _. refl) after,
+    goes began first s r id me.0 (numbered_view id r.disk.trace me.0) (slice_set s.words 0 (slice_index s.words 0)) r.lock r.young at stays (ap (λ ws. slice_set ws 0 (slice_index ws 0)) r.words) r.bound refl refl refl refl refl (λ _ _. refl) after,
     (id, refl, (λ told. let t = trace_of began first s r id me.0 at stays told in (placed t.0 (r.store t.0 t.1)).1), by_told me.0.told refl, tells_it),
   )
     where

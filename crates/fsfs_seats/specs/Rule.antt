@@ -93,10 +93,17 @@ abbrev pub HandIs : ℕ → ℕ → DiskSeen → ℕ → Hand → Type 0
 HandIs out holder disk j Empty = Unit {0}
 HandIs out holder disk j (Out d) = (out ≡ 1) × (j ≡ holder) × (d ≡ disk)
 
--- how many calls of the disk failed of all that these made
+-- the sum of a number of each
+abbrev pub sum_in : (SeatView → ℕ) → List SeatView → ℕ
+sum_in count [] = 0
+sum_in count (v ∷ vs) = count v + sum_in count vs
+
+-- how many calls of the disk failed of all that these made, and how many of benches of all that they dropped
 abbrev pub failures_in : List SeatView → ℕ
-failures_in [] = 0
-failures_in (v ∷ vs) = v.failures + failures_in vs
+failures_in views = sum_in (λ v. v.failures) views
+
+abbrev pub bench_failures_in : List SeatView → ℕ
+bench_failures_in views = sum_in (λ v. v.bench_failures) views
 
 -- the table began with this disk, and this view of its first seat
 pub record Rule (began : DiskSeen) (first : SeatView) (s : State (Option DiskSeen) SeatView) : Type 0 where
@@ -109,8 +116,8 @@ pub record Rule (began : DiskSeen) (first : SeatView) (s : State (Option DiskSee
   pub disk : DiskSeen
   pub holder : ℕ
   pub home : out ≡ 0 → get_elem? s.homes 0 ≡ some (some (Some disk))
-  -- as many of its calls have failed as failed of all seats'
-  pub later : IsLater (failures_in s.views) began disk
+  -- as many of its calls have failed as failed of all seats', and as many of those of benches
+  pub later : IsLater (failures_in s.views) (bench_failures_in s.views) began disk
   pub hands : (j : ℕ) (v : SeatView) → get_elem? s.views j ≡ some v → HandIs out holder disk j v.hand
   pub told : (j : ℕ) (v : SeatView) → get_elem? s.views j ≡ some v → is_left v.kin.stage ≡ false → v.told ≡ is_some disk.trace
   pub met : (j : ℕ) (v : SeatView) → get_elem? s.views j ≡ some v → is_left v.kin.stage ≡ false → is_some v.met ≡ is_some disk.trace

@@ -73,7 +73,7 @@ halved_view v = record v { kin = record v.kin { parts = v.kin.parts - v.kin.part
 
 -- the pass that is split off: it has seen as much, and did nothing itself
 abbrev pub split_pass : SeatView → SeatView
-split_pass v = record v { pass = record v.pass { mine = []; faults = [] }; section = None; sure = false; hand = Empty; failures = 0; kin = record { stage = New; parts = v.kin.parts / 2; joined = [] } }
+split_pass v = record v { pass = record v.pass { mine = []; faults = [] }; section = None; sure = false; hand = Empty; failures = 0; bench_failures = 0; kin = record { stage = New; parts = v.kin.parts / 2; joined = [] } }
 
 -- it was told its number, and has met this trace
 abbrev pub numbered_view : ℕ → Option Trace → SeatView → SeatView
@@ -105,6 +105,7 @@ joined_view met v z = record v {
   given = v.given ++ z.given;
   met = met;
   failures = v.failures + z.failures;
+  bench_failures = v.bench_failures + z.bench_failures;
   kin = record { stage = Sitting; parts = v.kin.parts + z.kin.parts; joined = v.kin.joined ++ joined_with z };
 }
 
@@ -138,5 +139,6 @@ left_view = record {
   hand = Empty;
   met = None;
   failures = 0;
+  bench_failures = 0;
   kin = record { stage = Left; parts = 0; joined = [] };
 }

@@ -106,9 +106,9 @@ pub record IsMet (v : SeatView) (t : Trace) : Type 0 where
   pub safe : Safe v.layout v.since t v.opened world.floor world.history (doubt world.lock)
   pub own : OwnFilesLast v.layout v.since (Some t)
 
--- the disk was taken where it was there: that with which the table began, of which as many calls have failed as failed of the seat's, or more
+-- the disk was taken where it was there: that with which the table began, of which as many calls have failed as failed of the seat's, or more, and as many of its benches'
 abbrev pub taken : DiskSeen → At → Sat → ℕ → Sat → Type 0
-taken began st m found m' = (found ≡ 0 → (d : DiskSeen) × (m' ≡ (record m.0 { hand = Out d }, (0, Some d) ∷ m.1)) × (m.0.told ≡ is_some d.trace) × (m.0.kin.parts ≡ all_parts → d.trace ≡ m.0.met) × IsLater m.0.failures began d × ((t : Trace) → d.trace ≡ Some t → IsMet m.0 t)) × (found ≢ 0 → m' ≡ m)
+taken began st m found m' = (found ≡ 0 → (d : DiskSeen) × (m' ≡ (record m.0 { hand = Out d }, (0, Some d) ∷ m.1)) × (m.0.told ≡ is_some d.trace) × (m.0.kin.parts ≡ all_parts → d.trace ≡ m.0.met) × IsLater m.0.failures m.0.bench_failures began d × ((t : Trace) → d.trace ≡ Some t → IsMet m.0 t)) × (found ≢ 0 → m' ≡ m)
 
 -- it went back as it was taken
 abbrev pub given_back : At → Sat → ℕ → Sat → Type 0

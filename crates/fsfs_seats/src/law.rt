@@ -74,7 +74,7 @@ pub(crate) trait Began {
 impl Began for Brand {
     ghost use Rattle.std.specs.Prelude.{[], None, false};
 
-    ghost disk = { record { mount_path = []; trace = None; faults = 0; failed = false } };
+    ghost disk = { record { mount_path = []; trace = None; faults = 0; bench_faults = 0; failed = false } };
 }
 
 pub(crate) struct Take<K> {

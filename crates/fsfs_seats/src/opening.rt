@@ -40,8 +40,8 @@ pub fn start<D: Disk + Drop>(
     requires right { IsTrue (D.may_write disk) }
     requires known { IsFirst layout young (D.trace disk) about.now.value }
     ensures sized { IfOk result (λ r. (r.1.table_id ≡ r.0.shared.table_id) × (r.0.shared.table_id.words ≡ 3) × (r.0.shared.table_id.slots ≡ 1) × (r.1.me ≡ (about.now.value, []))) }
-    ensures began { IfOk result (λ r. (r.0.shared.key.value.disk.mount_path ≡ D.mount_path disk) × (r.0.shared.key.value.disk.faults ≡ D.faults disk)) }
-    ensures back { IfErr result (λ d. (D.mount_path d ≡ D.mount_path disk) × (D.trace d ≡ D.trace disk) × (D.faults d ≡ D.faults disk)) }
+    ensures began { IfOk result (λ r. (r.0.shared.key.value.disk.mount_path ≡ D.mount_path disk) × (r.0.shared.key.value.disk.faults ≡ D.faults disk) × (r.0.shared.key.value.disk.bench_faults ≡ D.bench_faults disk)) }
+    ensures back { IfErr result (λ d. (D.mount_path d ≡ D.mount_path disk) × (D.trace d ≡ D.trace disk) × (D.faults d ≡ D.faults disk) × (D.bench_faults d ≡ D.bench_faults disk)) }
 {
     let shared = SharedDisk::new(disk);
     shared.files_are_short();
@@ -70,10 +70,11 @@ pub fn close<D: Disk + Drop, R: Wait>(rt: &R, board: Board<D>, seat: SharedSeat<
     ensures told { seat.me.0.told ≡ is_some (D.trace result) }
     // With all parts, nobody else changed the disk.
     ensures alone { seat.me.0.kin.parts ≡ all_parts → D.trace result ≡ seat.me.0.met }
-    // It is that with which the table began; as many of its calls have failed as failed of the pass's, or more.
+    // It is that with which the table began; as many of its calls have failed as failed of the pass's, or more, and as many of those of benches.
     ensures mounted { D.mount_path result ≡ board.shared.key.value.disk.mount_path }
     ensures later { board.shared.key.value.disk.faults ≤ D.faults result }
     ensures rose { min (board.shared.key.value.disk.faults + seat.me.0.failures) (2 ^ 64 - 1) ≤ D.faults result }
+    ensures benches { min (board.shared.key.value.disk.bench_faults + seat.me.0.bench_failures) (2 ^ 64 - 1) ≤ D.bench_faults result }
     ensures met { (t : Trace) → D.trace result ≡ Some t → IsMet seat.me.0 t }
 {
     let mut seat = seat;

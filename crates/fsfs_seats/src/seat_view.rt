@@ -33,7 +33,7 @@ impl Model for Taken {
 
     ghost coded = { coded_seen };
 
-    ghost view = { λ _. record { mount_path = []; trace = None; faults = 0; failed = false } };
+    ghost view = { λ _. record { mount_path = []; trace = None; faults = 0; bench_faults = 0; failed = false } };
 }
 
 /// Whether the pass has the disk, and how it took it.
@@ -87,6 +87,8 @@ pub struct SeatView {
     pub met: Told,
     // how often its calls of the disk failed
     pub failures: u64,
+    // and how often the benches failed that it dropped
+    pub bench_failures: u64,
     pub kin: Kin,
 }
 

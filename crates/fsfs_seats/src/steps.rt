@@ -125,7 +125,7 @@ fn take_of<K: Began, D: Disk, R: Wait>(
     ensures out { seat.new.me ≡ (record seat.old.me.0 { hand = Out result }, (0, None) ∷ []) }
     ensures told { seat.old.me.0.told ≡ is_some result.trace }
     ensures alone { seat.old.me.0.kin.parts ≡ all_parts → result.trace ≡ seat.old.me.0.met }
-    ensures later { IsLater seat.old.me.0.failures K.disk result }
+    ensures later { IsLater seat.old.me.0.failures seat.old.me.0.bench_failures K.disk result }
     ensures met { (t : Trace) → result.trace ≡ Some t → IsMet seat.old.me.0 t }
 {
     for _ in rt.forever() {
@@ -146,8 +146,8 @@ pub fn take<D: Disk, R: Wait>(rt: &R, board: &Board<D>, seat: &mut SharedSeat<D>
     ensures told { seat.old.me.0.told ≡ is_some result.trace }
     // With all parts, nobody else changed the disk.
     ensures alone { seat.old.me.0.kin.parts ≡ all_parts → result.trace ≡ seat.old.me.0.met }
-    // It is that with which the table began; as many of its calls have failed as failed of the pass's, or more.
-    ensures later { IsLater seat.old.me.0.failures board.now.shared.key.value.disk result }
+    // It is that with which the table began; as many of its calls have failed as failed of the pass's, or more, and as many of those of benches.
+    ensures later { IsLater seat.old.me.0.failures seat.old.me.0.bench_failures board.now.shared.key.value.disk result }
     ensures met { (t : Trace) → result.trace ≡ Some t → IsMet seat.old.me.0 t }
 {
     take_of::<Brand, D, R>(rt, board, seat)
@@ -157,7 +157,7 @@ pub fn take<D: Disk, R: Wait>(rt: &R, board: &Board<D>, seat: &mut SharedSeat<D>
 pub fn give_back<D: Disk + Drop>(board: &Board<D>, seat: &mut SharedSeat<D>, disk: SharedDisk<D>)
     requires table { (seat.old.table_id ≡ board.now.shared.table_id) × (board.now.shared.table_id.words ≡ 3) × (board.now.shared.table_id.slots ≡ 1) }
     requires sits { IsSitting seat.old.me.0 }
-    requires out { (seat.old.me.1 ≡ (0, None) ∷ []) × (was : DiskSeen) × (seat.old.me.0.hand ≡ Out was) × (disk.trace ≡ was.trace) × IsLater 0 was disk }
+    requires out { (seat.old.me.1 ≡ (0, None) ∷ []) × (was : DiskSeen) × (seat.old.me.0.hand ≡ Out was) × (disk.trace ≡ was.trace) × IsLater 0 0 was disk }
     ensures same { (seat.new.table_id ≡ seat.old.table_id) × (seat.new.id ≡ seat.old.id) }
     ensures back { seat.new.me ≡ (record seat.old.me.0 { hand = Empty }, []) }
 {

@@ -32,10 +32,10 @@ if_ok_map P Q (Err e) f p = tt
 
 -- where the disk tells, the seat's view of what is known
 abbrev seat_of : Trace → View → SeatView
-seat_of t v = record { layout = v.layout; since = v.since; opened = v.opened; number = v.number; pass = v.pass; seen = v.seen; section = v.section; sure = false; given = v.given; told = true; hand = Empty; met = Some t; failures = 0; kin = alone }
+seat_of t v = record { layout = v.layout; since = v.since; opened = v.opened; number = v.number; pass = v.pass; seen = v.seen; section = v.section; sure = false; given = v.given; told = true; hand = Empty; met = Some t; failures = 0; bench_failures = 0; kin = alone }
 
 abbrev untold : Layout → SeatView
-untold layout = record { layout = layout; since = 0; opened = 0; number = 0; pass = first_pass 0 0; seen = []; section = None; sure = false; given = []; told = false; hand = Empty; met = None; failures = 0; kin = alone }
+untold layout = record { layout = layout; since = 0; opened = 0; number = 0; pass = first_pass 0 0; seen = []; section = None; sure = false; given = []; told = false; hand = Empty; met = None; failures = 0; bench_failures = 0; kin = alone }
 
 -- who isn't sure knows no more
 unsure : (layout : Layout) (young : ℕ) (t : Trace) (v : View) → Knows layout young None (Some t) v → Knows layout young None (Some t) (record v { sure = false })
@@ -50,7 +50,7 @@ begun : (layout : Layout) (young : ℕ) (stuck : Option DiskPlace) (before now :
     → IfSome before (λ t. (h : List Revision) × (stands : StandsFor (files_now t) h) × LeftoversAgree stands)
     → IfSome before (λ t. (h : List Revision) (stands : StandsFor (files_now t) h) → LeftoversAgree stands → HasSeenAll (λ v. KnowsAlone layout young stuck now v) t stands.opened.min_unpacked_rev h)
     → (v : SeatView) × IsBegun layout young before now v
-begun layout young stuck None now firm stands known = (untold layout, (subst (λ o. IsFirst layout young o (untold layout)) (sym firm) (refl, refl, refl, refl, refl, refl), tt))
+begun layout young stuck None now firm stands known = (untold layout, (subst (λ o. IsFirst layout young o (untold layout)) (sym firm) (refl, refl, refl, refl, refl, refl, refl), tt))
 begun layout young stuck (Some t) now firm stands known =
     let k = known stands.0 stands.1 stands.2 in
     let new : Trace = add_operation (Done FirmNames) t in
@@ -63,7 +63,7 @@ begun layout young stuck (Some t) now firm stands known =
       seat_of new k.0,
       (
         subst (λ o. IsFirst layout young o (seat_of new k.0)) (sym firm)
-            (refl, refl, refl, k.2, refl, refl, unsure layout young new k.0 (subst (λ o. Knows layout young o (Some new) k.0) unstuck all.0), all.1.all, all.2, refl, opened, mine, faults, found),
+            (refl, refl, refl, k.2, refl, refl, unsure layout young new k.0 (subst (λ o. Knows layout young o (Some new) k.0) unstuck all.0), all.1.all, all.2, refl, opened, mine, faults, found, refl),
         record { told = refl; outside = k.2; since = k.5; opened = opened; stands = subst (λ l. StandsFor (files_now t) l) (sym k.4) stands.1; mine = mine; faults = faults; stuck = found },
       ),
     )
@@ -92,6 +92,10 @@ first_laid layout young (Some t) v k = k.6.3
 pub first_unfailed : (layout : Layout) (young : ℕ) (told : Option Trace) (v : SeatView) → IsFirst layout young told v → v.failures ≡ 0
 first_unfailed layout young None v k = k.5
 first_unfailed layout young (Some t) v k = k.9
+
+pub first_sound : (layout : Layout) (young : ℕ) (told : Option Trace) (v : SeatView) → IsFirst layout young told v → v.bench_failures ≡ 0
+first_sound layout young None v k = k.6
+first_sound layout young (Some t) v k = k.14
 
 -- behind a look the pass has seen what it had
 sees_on : (t : Trace) (young : ℕ) (met : Option Trace) (v : SeatView) → SeesAll t v → SeesAll t (look_view young met v)

@@ -72,13 +72,13 @@ fn share<D: Disk + Drop>(
     ensures first { IfOk result (λ o. o.repo.first.value ≡ disk) }
     ensures laid { IfOk result (λ o. (o.repo.layout ≡ o.said.layout) × (o.seat.me.0.layout ≡ o.said.layout)) }
     ensures sits { IfOk result (λ o. (o.seat.table_id ≡ o.repo.board.shared.table_id) × (o.seat.me.1 ≡ []) × IsSitting o.seat.me.0) }
-    ensures began { IfOk result (λ o. (o.repo.board.shared.key.value.disk.mount_path ≡ D.mount_path o.repo.first.value) × (o.repo.board.shared.key.value.disk.faults ≡ D.faults o.repo.first.value)) }
+    ensures began { IfOk result (λ o. (o.repo.board.shared.key.value.disk.mount_path ≡ D.mount_path o.repo.first.value) × (o.repo.board.shared.key.value.disk.faults ≡ D.faults o.repo.first.value) × (o.repo.board.shared.key.value.disk.bench_faults ≡ D.bench_faults o.repo.first.value)) }
     ensures alone { IfOk result (λ o. o.seat.me.0.kin ≡ alone) }
-    ensures fresh { IfOk result (λ o. (o.seat.me.0.met ≡ D.trace o.repo.first.value) × (o.seat.me.0.failures ≡ 0)) }
+    ensures fresh { IfOk result (λ o. (o.seat.me.0.met ≡ D.trace o.repo.first.value) × (o.seat.me.0.failures ≡ 0) × (o.seat.me.0.bench_failures ≡ 0)) }
     ensures tells { IfOk result (λ o. TellsIt o.seat.me.0) }
     ensures known { IfOk result (λ o. (s : SeatView) × IsFirst o.said.layout o.said.youngest (D.trace o.repo.first.value) s × (o.seat.me.0 ≡ look_view o.youngest o.seat.me.0.met s)) }
     ensures looked { IfOk result (λ o. o.seat.me.0 ≡ look_view o.youngest o.seat.me.0.met about.now.value) }
-    ensures wanting { IfErr result (λ e. (e.why ≡ OpenFault.Memory) × (D.trace e.disk ≡ D.trace disk) × (D.mount_path e.disk ≡ D.mount_path disk) × (D.faults e.disk ≡ D.faults disk)) }
+    ensures wanting { IfErr result (λ e. (e.why ≡ OpenFault.Memory) × (D.trace e.disk ≡ D.trace disk) × (D.mount_path e.disk ≡ D.mount_path disk) × (D.faults e.disk ≡ D.faults disk) × (D.bench_faults e.disk ≡ D.bench_faults disk)) }
 {
     let layout = said.layout;
     let first = Note::of(&AsItIs { disk: &disk });
@@ -121,12 +121,12 @@ impl<D: Disk + Drop> SharedRepo<D> {
         ensures later { MatchResult result (λ o. D.faults disk ≤ D.faults o.repo.first.value) (λ e. D.faults disk ≤ D.faults e.disk) }
         ensures laid { IfOk result (λ o. (o.repo.layout ≡ o.said.layout) × (o.seat.me.0.layout ≡ o.said.layout)) }
         // The table began with that disk.
-        ensures began { IfOk result (λ o. (o.repo.board.shared.key.value.disk.mount_path ≡ D.mount_path o.repo.first.value) × (o.repo.board.shared.key.value.disk.faults ≡ D.faults o.repo.first.value)) }
+        ensures began { IfOk result (λ o. (o.repo.board.shared.key.value.disk.mount_path ≡ D.mount_path o.repo.first.value) × (o.repo.board.shared.key.value.disk.faults ≡ D.faults o.repo.first.value) × (o.repo.board.shared.key.value.disk.bench_faults ≡ D.bench_faults o.repo.first.value)) }
         // The first pass sits at the table, in all parts of the right to know that no other sits; it has met the disk as it is, and knows what is
         // known of the store, and the youngest revision.
         ensures sits { IfOk result (λ o. (o.seat.table_id ≡ o.repo.board.shared.table_id) × (o.seat.me.1 ≡ []) × IsSitting o.seat.me.0) }
         ensures alone { IfOk result (λ o. o.seat.me.0.kin ≡ alone) }
-        ensures fresh { IfOk result (λ o. (o.seat.me.0.met ≡ D.trace o.repo.first.value) × (o.seat.me.0.failures ≡ 0)) }
+        ensures fresh { IfOk result (λ o. (o.seat.me.0.met ≡ D.trace o.repo.first.value) × (o.seat.me.0.failures ≡ 0) × (o.seat.me.0.bench_failures ≡ 0)) }
         ensures tells { IfOk result (λ o. TellsIt o.seat.me.0) }
         ensures known { IfOk result (λ o. (s : SeatView) × IsFirst o.said.layout o.said.youngest (D.trace o.repo.first.value) s × (o.seat.me.0 ≡ look_view o.youngest o.seat.me.0.met s)) }
         ensures seen { IfSome (D.trace disk) (λ t. IfOk result (λ o. SeesAll t o.seat.me.0)) }

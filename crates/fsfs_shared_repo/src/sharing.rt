@@ -61,10 +61,12 @@ impl<D: Disk + Drop> SharedRepo<D> {
         ensures left { IfSome (D.trace result) (λ t. Leaves seat.me.0 t) }
         // With all parts nobody else changed the disk: the pass has met it so.
         ensures alone { seat.me.0.kin.parts ≡ all_parts → D.trace result ≡ seat.me.0.met }
-        // It is the disk with which the table began (`began` of `open`), and as many of its calls have failed as failed of the pass's, or more.
+        // It is the disk with which the table began (`began` of `open`), and as many of its calls have failed as failed of the pass's, or more, and as
+        // many of those of benches.
         ensures mounted { D.mount_path result ≡ self.board.shared.key.value.disk.mount_path }
         ensures later { self.board.shared.key.value.disk.faults ≤ D.faults result }
         ensures rose { min (self.board.shared.key.value.disk.faults + seat.me.0.failures) (2 ^ 64 - 1) ≤ D.faults result }
+        ensures benches { min (self.board.shared.key.value.disk.bench_faults + seat.me.0.bench_failures) (2 ^ 64 - 1) ≤ D.bench_faults result }
     {
         let SharedRepo { board, .. } = self;
         fsfs_seats::close(rt, board, seat)

@@ -16,7 +16,7 @@ give_called-requires-clause-made g c = (
   c.take-disk.result,
   real.FirmNames,
   ap (λ m. m.0.hand) c.take-disk.ensures.out,
-  later_call c.take-disk.result c.firm_names-answer.new.self c.firm_names-answer.result c.firm_names-answer.ensures.mounted c.firm_names-answer.ensures.flag c.firm_names-answer.ensures.cause,
+  later_call c.take-disk.result c.firm_names-answer.new.self c.firm_names-answer.result c.firm_names-answer.ensures.mounted c.firm_names-answer.ensures.flag c.firm_names-answer.ensures.cause c.firm_names-answer.ensures.benches,
   made_firm c.firm_names-answer.new.self.failed c.take-disk.result.trace c.firm_names-answer.new.self.trace c.firm_names-answer.result c.firm_names-answer.ensures.flag c.firm_names-answer.ensures.ok c.firm_names-answer.ensures.err,
   may_so (λ v. (place : DiskPlace) × IsDue v place real.FirmNames) c.args.seat.now.me.0 c.take-disk.new.seat.me.0 (Out c.take-disk.result) (ap (λ m. m.0) c.take-disk.ensures.out) c.requires.due,
 )

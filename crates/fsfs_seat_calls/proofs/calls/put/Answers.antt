@@ -16,7 +16,7 @@ give_called-requires-clause-made g c = (
   c.take-disk.result,
   (real.Put c.args.name.now c.args.bytes.now),
   ap (λ m. m.0.hand) c.take-disk.ensures.out,
-  later_call c.take-disk.result c.put-answer.new.self c.put-answer.result c.put-answer.ensures.mounted c.put-answer.ensures.flag c.put-answer.ensures.cause,
+  later_call c.take-disk.result c.put-answer.new.self c.put-answer.result c.put-answer.ensures.mounted c.put-answer.ensures.flag c.put-answer.ensures.cause c.put-answer.ensures.benches,
   made_put c.put-answer.new.self.failed c.args.name.now c.args.bytes.now c.take-disk.result.trace c.put-answer.new.self.trace c.put-answer.result c.put-answer.ensures.flag c.put-answer.ensures.ok c.put-answer.ensures.err,
   may_so (λ v. (place : DiskPlace) × IsDue v place (real.Put c.args.name.now c.args.bytes.now)) c.args.seat.now.me.0 c.take-disk.new.seat.me.0 (Out c.take-disk.result) (ap (λ m. m.0) c.take-disk.ensures.out) c.requires.due,
 )

@@ -20,7 +20,7 @@ give_called-requires-clause-made g c = (
   c.take-disk.result,
   (real.Rename c.args.from.now c.args.to.now),
   ap (λ m. m.0.hand) c.take-disk.ensures.out,
-  later_call c.take-disk.result c.rename-answer.new.self c.rename-answer.result c.rename-answer.ensures.mounted c.rename-answer.ensures.flag c.rename-answer.ensures.cause,
+  later_call c.take-disk.result c.rename-answer.new.self c.rename-answer.result c.rename-answer.ensures.mounted c.rename-answer.ensures.flag c.rename-answer.ensures.cause c.rename-answer.ensures.benches,
   made_rename c.rename-answer.new.self.failed c.args.from.now c.args.to.now c.take-disk.result.trace c.rename-answer.new.self.trace c.rename-answer.result c.rename-answer.ensures.flag c.rename-answer.ensures.ok c.rename-answer.ensures.err,
   may_so (λ v. (place : DiskPlace) × IsDue v place (real.Rename c.args.from.now c.args.to.now)) c.args.seat.now.me.0 c.take-disk.new.seat.me.0 (Out c.take-disk.result) (ap (λ m. m.0) c.take-disk.ensures.out) c.requires.due,
 )

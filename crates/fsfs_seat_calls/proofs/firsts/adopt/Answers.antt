@@ -15,7 +15,7 @@ give_adopted-requires-clause-made g c = let same = sym c.of-all.ensures in (
   c.take-disk.result,
   (real.Put c.args.name.now c.args.bytes.now),
   ap (λ m. m.0.hand) c.take-disk.ensures.out,
-  later_call c.take-disk.result c.put-answer.new.self c.put-answer.result c.put-answer.ensures.mounted c.put-answer.ensures.flag c.put-answer.ensures.cause,
+  later_call c.take-disk.result c.put-answer.new.self c.put-answer.result c.put-answer.ensures.mounted c.put-answer.ensures.flag c.put-answer.ensures.cause c.put-answer.ensures.benches,
   made_put c.put-answer.new.self.failed c.args.name.now c.args.bytes.now c.take-disk.result.trace c.put-answer.new.self.trace c.put-answer.result c.put-answer.ensures.flag c.put-answer.ensures.ok c.put-answer.ensures.err,
   may_so (λ v. MayAdoptIt v (unwrap_or c.args.about.now.value no_adoption) c.of-all.result.value × (c.args.name.now ≡ rev_name v (length v.seen)) × IsPutOf c.args.name.now c.of-all.result.value (real.Put c.args.name.now c.args.bytes.now)) c.args.seat.now.me.0 c.take-disk.new.seat.me.0 (Out c.take-disk.result) (ap (λ m. m.0) c.take-disk.ensures.out)
       (λ told. let may = c.requires.may told in (subst (λ bs. MayAdoptIt (view_of c.args.seat.now.me.0) (unwrap_or c.args.about.now.value no_adoption) bs) same may.0, may.1, inl (ap (λ bs. real.Put c.args.name.now bs) same))),

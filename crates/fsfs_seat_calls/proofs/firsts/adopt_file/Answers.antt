@@ -17,7 +17,7 @@ give_adopted-requires-clause-made g c = let same = sym c.of-all.ensures in (
   c.take-disk.result,
   (real.Adopt c.args.to.now (bytes_on (g.D.Bench.Bench.contents c.args.bench.now) c.args.file.now)),
   ap (λ m. m.0.hand) c.take-disk.ensures.out,
-  later_call c.take-disk.result c.adopt-answer.new.self c.adopt-answer.result c.adopt-answer.ensures.mounted c.adopt-answer.ensures.flag c.adopt-answer.ensures.cause,
+  later_call c.take-disk.result c.adopt-answer.new.self c.adopt-answer.result c.adopt-answer.ensures.mounted c.adopt-answer.ensures.flag c.adopt-answer.ensures.cause c.adopt-answer.ensures.benches,
   made_adopt c.adopt-answer.new.self.failed c.args.to.now (bytes_on (g.D.Bench.Bench.contents c.args.bench.now) c.args.file.now) c.take-disk.result.trace c.adopt-answer.new.self.trace (removed c.args.file.now) (g.D.Bench.Bench.contents c.args.bench.now) (g.D.Bench.Bench.contents c.adopt-answer.new.bench) c.adopt-answer.result c.adopt-answer.ensures.flag c.adopt-answer.ensures.ok c.adopt-answer.ensures.err,
   may_so (λ v. MayAdoptIt v (unwrap_or c.args.about.now.value no_adoption) c.of-all.result.value × (c.args.to.now ≡ rev_name v (length v.seen)) × IsPutOf c.args.to.now c.of-all.result.value (real.Adopt c.args.to.now (bytes_on (g.D.Bench.Bench.contents c.args.bench.now) c.args.file.now))) c.args.seat.now.me.0 c.take-disk.new.seat.me.0 (Out c.take-disk.result) (ap (λ m. m.0) c.take-disk.ensures.out)
       (λ told. let may = c.requires.may told in (subst (λ bs. MayAdoptIt (view_of c.args.seat.now.me.0) (unwrap_or c.args.about.now.value no_adoption) bs) same may.0, may.1, inr (ap (λ bs. real.Adopt c.args.to.now bs) same))),

@@ -18,7 +18,7 @@ give_benched-requires-clause-made g c = (
   c.take-disk.result,
   (label_of c.args.label.now),
   ap (λ m. m.0.hand) c.take-disk.ensures.out,
-  later_call c.take-disk.result c.bench-answer.new.self c.bench-answer.result c.bench-answer.ensures.mounted c.bench-answer.ensures.flag c.bench-answer.ensures.cause,
+  later_call c.take-disk.result c.bench-answer.new.self c.bench-answer.result c.bench-answer.ensures.mounted c.bench-answer.ensures.flag c.bench-answer.ensures.cause c.bench-answer.ensures.benches,
   made_keep c.bench-answer.new.self.failed (label_of c.args.label.now) c.take-disk.result.trace c.bench-answer.new.self.trace c.bench-answer.result c.bench-answer.ensures.flag c.bench-answer.ensures.ok c.bench-answer.ensures.err,
 )
 

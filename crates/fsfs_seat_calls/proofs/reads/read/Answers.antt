@@ -17,7 +17,7 @@ pub give_read-requires-clause-out : goal.give_read-requires-clause-out
 give_read-requires-clause-out g c = (
   c.take-disk.result,
   ap (λ m. m.0.hand) c.take-disk.ensures.out,
-  later_call c.take-disk.result c.read-answer.new.self c.read-answer.result c.read-answer.ensures.mounted c.read-answer.ensures.flag c.read-answer.ensures.cause,
+  later_call c.take-disk.result c.read-answer.new.self c.read-answer.result c.read-answer.ensures.mounted c.read-answer.ensures.flag c.read-answer.ensures.cause c.read-answer.ensures.benches,
   c.read-answer.ensures.same,
 )
 

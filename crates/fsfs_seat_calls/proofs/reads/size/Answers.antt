@@ -17,7 +17,7 @@ pub give_read-requires-clause-out : goal.give_read-requires-clause-out
 give_read-requires-clause-out g c = (
   c.take-disk.result,
   ap (λ m. m.0.hand) c.take-disk.ensures.out,
-  later_call c.take-disk.result c.size-answer.new.self c.size-answer.result c.size-answer.ensures.mounted c.size-answer.ensures.flag c.size-answer.ensures.cause,
+  later_call c.take-disk.result c.size-answer.new.self c.size-answer.result c.size-answer.ensures.mounted c.size-answer.ensures.flag c.size-answer.ensures.cause c.size-answer.ensures.benches,
   c.size-answer.ensures.same,
 )
 

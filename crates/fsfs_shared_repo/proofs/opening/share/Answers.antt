@@ -1,7 +1,7 @@
 use Rattle.std.proofs.Common.{rules, sym, ap, subst, ◌∙◌}
 use Rattle.fsfs_seats.specs.First.{IsFirst}
 use Rattle.fsfs_seats.specs.Seats.{look_view}
-use Rattle.fsfs_shared_repo.proofs.Opened.{first_kin, first_laid, first_met, first_unfailed}
+use Rattle.fsfs_shared_repo.proofs.Opened.{first_kin, first_laid, first_met, first_unfailed, first_sound}
 use Rattle.fsfs_shared_repo.proofs.opening.share.Goals as goal
 
 pub look-youngest-requires-clause-sits : goal.look-youngest-requires-clause-sits
@@ -11,7 +11,11 @@ pub invariant_of-repo : goal.invariant_of-repo
 invariant_of-repo g c = record { sized = (c.in-Ok.ensures.sized.1, c.in-Ok.ensures.sized.2) }
 
 pub returns-clause-began : goal.returns-clause-began
-returns-clause-began g c = (c.in-Ok.ensures.began.0 ∙ ap (λ d. g.D.Disk.mount_path d) (sym c.of-first.ensures), c.in-Ok.ensures.began.1 ∙ ap (λ d. g.D.Disk.faults d) (sym c.of-first.ensures))
+returns-clause-began g c = (
+  c.in-Ok.ensures.began.0 ∙ ap (λ d. g.D.Disk.mount_path d) (sym c.of-first.ensures),
+  c.in-Ok.ensures.began.1 ∙ ap (λ d. g.D.Disk.faults d) (sym c.of-first.ensures),
+  c.in-Ok.ensures.began.2 ∙ ap (λ d. g.D.Disk.bench_faults d) (sym c.of-first.ensures),
+)
 
 pub returns-clause-sits : goal.returns-clause-sits
 returns-clause-sits g c =
@@ -37,6 +41,7 @@ returns-clause-fresh g c =
       c.look-youngest.ensures.alone (ap (λ m. m.0.kin.parts) c.in-Ok.ensures.sized.3 ∙ ap (λ k. k.parts) kin) ∙ ap (λ m. m.0.met) c.in-Ok.ensures.sized.3
           ∙ first_met c.args.said.layout c.args.said.youngest (g.D.Disk.trace c.args.disk) c.args.about.now.value c.requires.known ∙ ap (λ d. g.D.Disk.trace d) (sym c.of-first.ensures),
       ap (λ m. m.0.failures) c.look-youngest.ensures.same.2 ∙ ap (λ m. m.0.failures) c.in-Ok.ensures.sized.3 ∙ first_unfailed c.args.said.layout c.args.said.youngest (g.D.Disk.trace c.args.disk) c.args.about.now.value c.requires.known,
+      ap (λ m. m.0.bench_failures) c.look-youngest.ensures.same.2 ∙ ap (λ m. m.0.bench_failures) c.in-Ok.ensures.sized.3 ∙ first_sound c.args.said.layout c.args.said.youngest (g.D.Disk.trace c.args.disk) c.args.about.now.value c.requires.known,
     )
 
 pub returns-clause-known : goal.returns-clause-known

@@ -46,3 +46,6 @@ returns-clause-duty g c = ap (λ m. m.0.told) c.join.ensures.joined
 
 pub returns-clause-faults : goal.returns-clause-faults
 returns-clause-faults g c = ap (λ m. m.0.failures) c.join.ensures.joined
+
+pub returns-clause-benches : goal.returns-clause-benches
+returns-clause-benches g c = ap (λ m. m.0.bench_failures) c.join.ensures.joined

@@ -1,6 +1,6 @@
 use Rattle.std.proofs.Common.{refl, ap, ◌∙◌, arith}
 use Rattle.fsfs_pass.proofs.Turning.{sits_so, tells_later}
-use Rattle.fsfs_pass.proofs.Partings.{halved_layout, halved_sits, halved_met, halved_low, halved_short, halved_knows, halved_tells, split_told, split_layout, split_sits, split_failures, split_low, split_knows}
+use Rattle.fsfs_pass.proofs.Partings.{halved_layout, halved_sits, halved_met, halved_low, halved_short, halved_knows, halved_tells, split_told, split_layout, split_sits, split_failures, split_bench_failures, split_low, split_knows}
 use Rattle.fsfs_pass.proofs.pass_turns.PassTurns.split.Goals as goal
 
 pub split-seat-requires-clause-sits : goal.split-seat-requires-clause-sits
@@ -71,3 +71,8 @@ returns-clause-table g c = (c.split-seat.ensures.same.0, c.split-seat.ensures.ne
 
 pub returns-clause-mounted : goal.returns-clause-mounted
 returns-clause-mounted g c = (refl, ap (λ d. g.D.Disk.mount_path d) c.said_again-first.ensures)
+
+pub returns-clause-benches : goal.returns-clause-benches
+returns-clause-benches g c =
+    let s = c.split-seat.ensures.split in
+    (ap (λ m. m.0.bench_failures) c.split-seat.ensures.same.2, split_bench_failures s.0 c.args.self.now.seat.me.0 c.split-seat.result.me.0 s.1)

@@ -5,7 +5,7 @@ use Rattle.fsfs_turn.specs.Views.{Answers, Adopted}
 use Rattle.fsfs_seats.specs.declared.seat_view.SeatView.{SeatView}
 use Rattle.fsfs_seats.specs.Seats.{view_of}
 use Rattle.fsfs_seat_calls.specs.Tells.{AdoptedAs, no_adoption}
-use Rattle.fsfs_pass.proofs.Turning.{Keeps, back_keeps, low_on, knows_went, sits_so, stays, seated}
+use Rattle.fsfs_pass.proofs.Turning.{Keeps, back_keeps, low_on, knows_went, sits_so, stays, mounted_still}
 use Rattle.fsfs_pass.proofs.turns.PassTurnsTurns.adopt_file.Goals as goal
 
 pub invariant_of-self : goal.invariant_of-self
@@ -31,4 +31,5 @@ adopt_file-requires-clause-sits g c = sits_so c.args.self.now.seat.me.0 c.args.s
 pub returns-clause-mounted : goal.returns-clause-mounted
 returns-clause-mounted g c =
     let kin : c.adopt_file.new.seat.me.0.kin ≡ c.args.self.now.seat.me.0.kin = ap {A = SeatView} (λ z. z.kin) c.adopt_file.ensures.back in
-    seated (g.D.Disk.mount_path c.args.self.now.first.value) c.args.self.now.seat.table_id c.adopt_file.new.seat.table_id c.args.self.now.seat.me.0 c.adopt_file.new.seat.me.0 c.adopt_file.ensures.same.0 kin
+    let benches : c.adopt_file.new.seat.me.0.bench_failures ≡ c.args.self.now.seat.me.0.bench_failures = ap {A = SeatView} (λ z. z.bench_failures) c.adopt_file.ensures.back in
+    mounted_still (g.D.Disk.mount_path c.args.self.now.first.value) c.args.self.now.seat.table_id c.adopt_file.new.seat.table_id c.args.self.now.seat.me.0 c.adopt_file.new.seat.me.0 c.adopt_file.ensures.same.0 kin benches

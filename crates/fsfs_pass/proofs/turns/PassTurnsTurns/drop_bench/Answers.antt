@@ -1,14 +1,17 @@
 use Rattle.std.proofs.Common.{sym, ap, subst, ◌∙◌, ◌≡◌}
+use Rattle.std.specs.Prelude.{option_map, unwrap_or}
 use Rattle.fsfs_machine.specs.Kept.{IsIn}
 use Rattle.fsfs_turn.specs.Views.{Answers}
 use Rattle.fsfs_turn.specs.Learning.{MayPurge, Purged, SpentPurged}
 use Rattle.fsfs_seats.specs.declared.seat_view.SeatView.{SeatView}
-use Rattle.fsfs_pass.proofs.Turning.{Keeps, back_keeps, low_on, knows_went, sits_so, stays, seated}
+use Rattle.fsfs_seat_calls.specs.Tells.{counting}
+use Rattle.fsfs_pass.proofs.Turning.{Keeps, back_keeps, count_keeps, count_dropped, low_on, knows_went, sits_so, stays, seated}
 use Rattle.fsfs_pass.proofs.turns.PassTurnsTurns.drop_bench.Goals as goal
 
 pub invariant_of-self : goal.invariant_of-self
 invariant_of-self g c =
-    let k : Keeps c.args.self.now.seat.me.0 c.drop_bench.new.seat.me.0 = back_keeps _ c.args.self.now.seat.me.0 c.drop_bench.new.seat.me.0 c.drop_bench.ensures.back c.drop_bench.ensures.tells c.drop_bench.ensures.later in
+    let n = unwrap_or (option_map g.D.Bench.Bench.faults c.args.bench) 0 in
+    let k : Keeps c.args.self.now.seat.me.0 c.drop_bench.new.seat.me.0 = count_keeps n c.args.self.now.seat.me.0 c.drop_bench.new.seat.me.0 (back_keeps _ (counting n c.args.self.now.seat.me.0) c.drop_bench.new.seat.me.0 c.drop_bench.ensures.back c.drop_bench.ensures.tells c.drop_bench.ensures.later) in
     record {
       sits = (c.drop_bench.ensures.same.0 ∙ c.args.self.now.sits.0, c.args.self.now.sits.1, c.args.self.now.sits.2, c.drop_bench.ensures.same.2);
       layout_is = k.layout ∙ c.args.self.now.layout_is;
@@ -38,3 +41,6 @@ pub returns-clause-mounted : goal.returns-clause-mounted
 returns-clause-mounted g c =
     let kin : c.drop_bench.new.seat.me.0.kin ≡ c.args.self.now.seat.me.0.kin = ap {A = SeatView} (λ z. z.kin) c.drop_bench.ensures.back in
     seated (g.D.Disk.mount_path c.args.self.now.first.value) c.args.self.now.seat.table_id c.drop_bench.new.seat.table_id c.args.self.now.seat.me.0 c.drop_bench.new.seat.me.0 c.drop_bench.ensures.same.0 kin
+
+pub returns-clause-benches : goal.returns-clause-benches
+returns-clause-benches g c = count_dropped g.D.Bench.Bench.faults c.args.bench c.args.self.now.seat.me.0.bench_failures c.drop_bench.new.seat.me.0.bench_failures (ap {A = SeatView} (λ z. z.bench_failures) c.drop_bench.ensures.back)

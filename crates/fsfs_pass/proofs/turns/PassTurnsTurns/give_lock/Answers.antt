@@ -3,7 +3,7 @@ use Rattle.fsfs_machine.specs.declared.machine.Step.TheVariants.{GiveLock}
 use Rattle.fsfs_turn.specs.Views.{LockGiven}
 use Rattle.fsfs_seats.specs.declared.seat_view.SeatView.{SeatView}
 use Rattle.fsfs_pass.specs.Passes.{pass_store}
-use Rattle.fsfs_pass.proofs.Turning.{knows_still, sits_so, seated, stays}
+use Rattle.fsfs_pass.proofs.Turning.{knows_still, sits_so, mounted_still, stays}
 use Rattle.fsfs_pass.proofs.turns.PassTurnsTurns.give_lock.Goals as goal
 
 pub returns-clause-turned : goal.returns-clause-turned
@@ -17,7 +17,8 @@ give_lock-requires-clause-sits g c = sits_so c.args.self.now.seat.me.0 c.args.se
 pub returns-clause-mounted : goal.returns-clause-mounted
 returns-clause-mounted g c =
     let kin : c.give_lock.new.seat.me.0.kin ≡ c.args.self.now.seat.me.0.kin = ap {A = SeatView} (λ z. z.kin) (ap (λ m. m.0) c.give_lock.ensures.same.2) in
-    seated (g.D.Disk.mount_path c.args.self.now.first.value) c.args.self.now.seat.table_id c.give_lock.new.seat.table_id c.args.self.now.seat.me.0 c.give_lock.new.seat.me.0 c.give_lock.ensures.same.0 kin
+    let benches : c.give_lock.new.seat.me.0.bench_failures ≡ c.args.self.now.seat.me.0.bench_failures = ap {A = SeatView} (λ z. z.bench_failures) (ap (λ m. m.0) c.give_lock.ensures.same.2) in
+    mounted_still (g.D.Disk.mount_path c.args.self.now.first.value) c.args.self.now.seat.table_id c.give_lock.new.seat.table_id c.args.self.now.seat.me.0 c.give_lock.new.seat.me.0 c.give_lock.ensures.same.0 kin benches
 
 pub invariant_of-self-clause-sitting : goal.invariant_of-self-clause-sitting
 invariant_of-self-clause-sitting g c =

@@ -3,7 +3,7 @@ use Rattle.std.specs.Prelude.{true, false}
 use Rattle.fsfs_machine.specs.declared.machine.Went.TheVariants.{Fine, Before}
 use Rattle.fsfs_turn.specs.Learning.{Listed}
 use Rattle.fsfs_seats.specs.declared.seat_view.SeatView.{SeatView}
-use Rattle.fsfs_pass.proofs.Turning.{Keeps, back_keeps, empty_keeps, low_on, knows_on, known_empty, on_listing, on_ok_map, on_ok_both, sits_so, stays, seated}
+use Rattle.fsfs_pass.proofs.Turning.{Keeps, back_keeps, empty_keeps, low_on, knows_on, known_empty, on_listing, on_ok_map, on_ok_both, sits_so, stays, mounted_still}
 use Rattle.fsfs_pass.proofs.turns.PassTurnsTurns.list.Goals as goal
 
 pub invariant_of-self : goal.invariant_of-self
@@ -40,4 +40,5 @@ list-requires-clause-sits g c = sits_so c.args.self.now.seat.me.0 c.args.self.no
 pub returns-clause-mounted : goal.returns-clause-mounted
 returns-clause-mounted g c =
     let kin : c.list.new.seat.me.0.kin ≡ c.args.self.now.seat.me.0.kin = on_listing c.list.result (on_ok_map c.list.result (λ b. ap {A = SeatView} (λ z. z.kin) b.0) c.list.ensures.ok) (λ failed. ap {A = SeatView} (λ z. z.kin) (c.list.ensures.failed failed).0) (λ wanting. ap {A = SeatView} (λ z. z.kin) (c.list.ensures.memory wanting)) in
-    seated (g.D.Disk.mount_path c.args.self.now.first.value) c.args.self.now.seat.table_id c.list.new.seat.table_id c.args.self.now.seat.me.0 c.list.new.seat.me.0 c.list.ensures.same.0 kin
+    let benches : c.list.new.seat.me.0.bench_failures ≡ c.args.self.now.seat.me.0.bench_failures = on_listing c.list.result (on_ok_map c.list.result (λ b. ap {A = SeatView} (λ z. z.bench_failures) b.0) c.list.ensures.ok) (λ failed. ap {A = SeatView} (λ z. z.bench_failures) (c.list.ensures.failed failed).0) (λ wanting. ap {A = SeatView} (λ z. z.bench_failures) (c.list.ensures.memory wanting)) in
+    mounted_still (g.D.Disk.mount_path c.args.self.now.first.value) c.args.self.now.seat.table_id c.list.new.seat.table_id c.args.self.now.seat.me.0 c.list.new.seat.me.0 c.list.ensures.same.0 kin benches

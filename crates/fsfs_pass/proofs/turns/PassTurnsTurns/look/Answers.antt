@@ -1,7 +1,7 @@
 use Rattle.std.proofs.Common.{ap, ◌∙◌, ◌≡◌}
 use Rattle.fsfs_turn.specs.Views.{Looked}
 use Rattle.fsfs_seats.specs.declared.seat_view.SeatView.{SeatView}
-use Rattle.fsfs_pass.proofs.Turning.{look_told, look_low, look_youngest, look_there, look_turns, tells_later, knows_on, sits_so, stays, seated}
+use Rattle.fsfs_pass.proofs.Turning.{look_told, look_low, look_youngest, look_there, look_turns, tells_later, knows_on, sits_so, stays, mounted_still}
 use Rattle.fsfs_pass.proofs.turns.PassTurnsTurns.look.Goals as goal
 
 pub invariant_of-self : goal.invariant_of-self
@@ -36,4 +36,5 @@ look-found-requires-clause-sits g c = sits_so c.args.self.now.seat.me.0 c.args.s
 pub returns-clause-mounted : goal.returns-clause-mounted
 returns-clause-mounted g c =
     let kin : c.look-found.new.seat.me.0.kin ≡ c.args.self.now.seat.me.0.kin = ap {A = SeatView} (λ z. z.kin) (ap (λ m. m.0) c.look-found.ensures.same.2) in
-    seated (g.D.Disk.mount_path c.args.self.now.first.value) c.args.self.now.seat.table_id c.look-found.new.seat.table_id c.args.self.now.seat.me.0 c.look-found.new.seat.me.0 c.look-found.ensures.same.0 kin
+    let benches : c.look-found.new.seat.me.0.bench_failures ≡ c.args.self.now.seat.me.0.bench_failures = ap {A = SeatView} (λ z. z.bench_failures) (ap (λ m. m.0) c.look-found.ensures.same.2) in
+    mounted_still (g.D.Disk.mount_path c.args.self.now.first.value) c.args.self.now.seat.table_id c.look-found.new.seat.table_id c.args.self.now.seat.me.0 c.look-found.new.seat.me.0 c.look-found.ensures.same.0 kin benches

@@ -5,7 +5,7 @@ use Rattle.fsfs_machine.specs.declared.machine.Went.TheVariants.{Before}
 use Rattle.fsfs_turn.specs.Views.{IsDue, MayAdopt, Called, Adopted}
 use Rattle.fsfs_turn.specs.Adoptions.{NeedsFolder}
 use Rattle.fsfs_seats.specs.declared.seat_view.SeatView.{SeatView}
-use Rattle.fsfs_pass.proofs.Turning.{Keeps, back_keeps, empty_keeps, low_on, knows_on, on_either, on_ok_map, on_err_map, on_err_both, sits_so, stays, seated}
+use Rattle.fsfs_pass.proofs.Turning.{Keeps, back_keeps, empty_keeps, low_on, knows_on, on_either, on_ok_map, on_err_map, on_err_both, sits_so, stays, mounted_still}
 use Rattle.fsfs_pass.proofs.turns.PassTurnsTurns.make_folder.Goals as goal
 
 pub make_folder-requires-clause-due : goal.make_folder-requires-clause-due
@@ -39,4 +39,5 @@ make_folder-requires-clause-sits g c = sits_so c.args.self.now.seat.me.0 c.args.
 pub returns-clause-mounted : goal.returns-clause-mounted
 returns-clause-mounted g c =
     let kin : c.make_folder.new.seat.me.0.kin ≡ c.args.self.now.seat.me.0.kin = on_either c.make_folder.result (on_ok_map c.make_folder.result (λ same. ap {A = SeatView} (λ z. z.kin) same) c.make_folder.ensures.done) (on_err_map c.make_folder.result (λ b. ap {A = SeatView} (λ z. z.kin) b.0) c.make_folder.ensures.back) in
-    seated (g.D.Disk.mount_path c.args.self.now.first.value) c.args.self.now.seat.table_id c.make_folder.new.seat.table_id c.args.self.now.seat.me.0 c.make_folder.new.seat.me.0 c.make_folder.ensures.same.0 kin
+    let benches : c.make_folder.new.seat.me.0.bench_failures ≡ c.args.self.now.seat.me.0.bench_failures = on_either c.make_folder.result (on_ok_map c.make_folder.result (λ same. ap {A = SeatView} (λ z. z.bench_failures) same) c.make_folder.ensures.done) (on_err_map c.make_folder.result (λ b. ap {A = SeatView} (λ z. z.bench_failures) b.0) c.make_folder.ensures.back) in
+    mounted_still (g.D.Disk.mount_path c.args.self.now.first.value) c.args.self.now.seat.table_id c.make_folder.new.seat.table_id c.args.self.now.seat.me.0 c.make_folder.new.seat.me.0 c.make_folder.ensures.same.0 kin benches

@@ -2,7 +2,7 @@ use Rattle.std.proofs.Common.{sym, ap, subst, ◌∙◌, ◌≡◌}
 use Rattle.fsfs_disk.specs.Trace.{Put}
 use Rattle.fsfs_turn.specs.Views.{IsDue, Answers, Called}
 use Rattle.fsfs_seats.specs.declared.seat_view.SeatView.{SeatView}
-use Rattle.fsfs_pass.proofs.Turning.{Keeps, back_keeps, low_on, knows_went, sits_so, stays, seated}
+use Rattle.fsfs_pass.proofs.Turning.{Keeps, back_keeps, low_on, knows_went, sits_so, stays, mounted_still}
 use Rattle.fsfs_pass.proofs.turns.PassTurnsTurns.put.Goals as goal
 
 pub invariant_of-self : goal.invariant_of-self
@@ -28,4 +28,5 @@ put-requires-clause-sits g c = sits_so c.args.self.now.seat.me.0 c.args.self.now
 pub returns-clause-mounted : goal.returns-clause-mounted
 returns-clause-mounted g c =
     let kin : c.put.new.seat.me.0.kin ≡ c.args.self.now.seat.me.0.kin = ap {A = SeatView} (λ z. z.kin) c.put.ensures.back in
-    seated (g.D.Disk.mount_path c.args.self.now.first.value) c.args.self.now.seat.table_id c.put.new.seat.table_id c.args.self.now.seat.me.0 c.put.new.seat.me.0 c.put.ensures.same.0 kin
+    let benches : c.put.new.seat.me.0.bench_failures ≡ c.args.self.now.seat.me.0.bench_failures = ap {A = SeatView} (λ z. z.bench_failures) c.put.ensures.back in
+    mounted_still (g.D.Disk.mount_path c.args.self.now.first.value) c.args.self.now.seat.table_id c.put.new.seat.table_id c.args.self.now.seat.me.0 c.put.new.seat.me.0 c.put.ensures.same.0 kin benches

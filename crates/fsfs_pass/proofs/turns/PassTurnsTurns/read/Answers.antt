@@ -10,7 +10,7 @@ use Rattle.fsfs_turn.specs.Learning.{PropsRead, FloorRead}
 use Rattle.fsfs_seats.specs.declared.seat_view.SeatView.{SeatView}
 use Rattle.fsfs_seats.specs.Seats.{view_of}
 use Rattle.fsfs_pass.specs.Passes.{KnowsIt}
-use Rattle.fsfs_pass.proofs.Turning.{Keeps, back_keeps, low_on, knows_now, knows_on, sits_so, stays, seated}
+use Rattle.fsfs_pass.proofs.Turning.{Keeps, back_keeps, low_on, knows_now, knows_on, sits_so, stays, mounted_still}
 use Rattle.fsfs_pass.proofs.turns.PassTurnsTurns.read.Goals as goal
 
 pub invariant_of-self : goal.invariant_of-self
@@ -49,4 +49,5 @@ read-requires-clause-sits g c = sits_so c.args.self.now.seat.me.0 c.args.self.no
 pub returns-clause-mounted : goal.returns-clause-mounted
 returns-clause-mounted g c =
     let kin : c.read.new.seat.me.0.kin ≡ c.args.self.now.seat.me.0.kin = ap {A = SeatView} (λ z. z.kin) c.read.ensures.back in
-    seated (g.D.Disk.mount_path c.args.self.now.first.value) c.args.self.now.seat.table_id c.read.new.seat.table_id c.args.self.now.seat.me.0 c.read.new.seat.me.0 c.read.ensures.same.0 kin
+    let benches : c.read.new.seat.me.0.bench_failures ≡ c.args.self.now.seat.me.0.bench_failures = ap {A = SeatView} (λ z. z.bench_failures) c.read.ensures.back in
+    mounted_still (g.D.Disk.mount_path c.args.self.now.first.value) c.args.self.now.seat.table_id c.read.new.seat.table_id c.args.self.now.seat.me.0 c.read.new.seat.me.0 c.read.ensures.same.0 kin benches

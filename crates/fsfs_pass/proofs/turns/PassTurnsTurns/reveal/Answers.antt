@@ -2,7 +2,7 @@ use Rattle.std.proofs.Common.{ap, sym, subst, ◌∙◌, length, ◌≡◌}
 use Rattle.fsfs_turn.specs.Views.{Revealed}
 use Rattle.fsfs_seats.specs.Seats.{view_of, reveal_in}
 use Rattle.fsfs_seats.specs.declared.seat_view.SeatView.{SeatView}
-use Rattle.fsfs_pass.proofs.Turning.{Keeps, reveal_keeps, low_on, knows_on, sits_so, stays, seated, reveal_kin}
+use Rattle.fsfs_pass.proofs.Turning.{Keeps, reveal_keeps, low_on, knows_on, sits_so, stays, mounted_still, reveal_kin, reveal_benches}
 use Rattle.fsfs_pass.proofs.turns.PassTurnsTurns.reveal.Goals as goal
 
 pub reveal-requires-clause-may : goal.reveal-requires-clause-may
@@ -33,4 +33,5 @@ reveal-requires-clause-sits g c = sits_so c.args.self.now.seat.me.0 c.args.self.
 pub returns-clause-mounted : goal.returns-clause-mounted
 returns-clause-mounted g c =
     let kin : c.reveal.new.seat.me.0.kin ≡ c.args.self.now.seat.me.0.kin = ap {A = SeatView} (λ z. z.kin) (ap (λ m. m.0) c.reveal.ensures.same.2) ∙ reveal_kin c.args.self.now.seat.me.0.section c.reveal.new.seat.me.0.met c.args.self.now.seat.me.0 in
-    seated (g.D.Disk.mount_path c.args.self.now.first.value) c.args.self.now.seat.table_id c.reveal.new.seat.table_id c.args.self.now.seat.me.0 c.reveal.new.seat.me.0 c.reveal.ensures.same.0 kin
+    let benches : c.reveal.new.seat.me.0.bench_failures ≡ c.args.self.now.seat.me.0.bench_failures = ap {A = SeatView} (λ z. z.bench_failures) (ap (λ m. m.0) c.reveal.ensures.same.2) ∙ reveal_benches c.args.self.now.seat.me.0.section c.reveal.new.seat.me.0.met c.args.self.now.seat.me.0 in
+    mounted_still (g.D.Disk.mount_path c.args.self.now.first.value) c.args.self.now.seat.table_id c.reveal.new.seat.table_id c.args.self.now.seat.me.0 c.reveal.new.seat.me.0 c.reveal.ensures.same.0 kin benches

@@ -3,7 +3,7 @@ use Rattle.fsfs_machine.specs.declared.machine.Step.TheVariants.{StickLock}
 use Rattle.fsfs_turn.specs.Views.{LockGiven}
 use Rattle.fsfs_seats.specs.declared.seat_view.SeatView.{SeatView}
 use Rattle.fsfs_pass.specs.Passes.{pass_store}
-use Rattle.fsfs_pass.proofs.Turning.{knows_still, sits_so, seated, stays}
+use Rattle.fsfs_pass.proofs.Turning.{knows_still, sits_so, mounted_still, stays}
 use Rattle.fsfs_pass.proofs.turns.PassTurnsTurns.stick.Goals as goal
 
 pub stick-requires-clause-may : goal.stick-requires-clause-may
@@ -20,7 +20,8 @@ stick-requires-clause-sits g c = sits_so c.args.self.now.seat.me.0 c.args.self.n
 pub returns-clause-mounted : goal.returns-clause-mounted
 returns-clause-mounted g c =
     let kin : c.stick.new.seat.me.0.kin ≡ c.args.self.now.seat.me.0.kin = ap {A = SeatView} (λ z. z.kin) (ap (λ m. m.0) c.stick.ensures.same.2) in
-    seated (g.D.Disk.mount_path c.args.self.now.first.value) c.args.self.now.seat.table_id c.stick.new.seat.table_id c.args.self.now.seat.me.0 c.stick.new.seat.me.0 c.stick.ensures.same.0 kin
+    let benches : c.stick.new.seat.me.0.bench_failures ≡ c.args.self.now.seat.me.0.bench_failures = ap {A = SeatView} (λ z. z.bench_failures) (ap (λ m. m.0) c.stick.ensures.same.2) in
+    mounted_still (g.D.Disk.mount_path c.args.self.now.first.value) c.args.self.now.seat.table_id c.stick.new.seat.table_id c.args.self.now.seat.me.0 c.stick.new.seat.me.0 c.stick.ensures.same.0 kin benches
 
 pub invariant_of-self-clause-sitting : goal.invariant_of-self-clause-sitting
 invariant_of-self-clause-sitting g c =

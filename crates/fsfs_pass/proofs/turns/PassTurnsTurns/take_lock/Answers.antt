@@ -3,7 +3,7 @@ use Rattle.fsfs_turn.specs.Views.{View, LockTaken, FoundStuck}
 use Rattle.fsfs_seats.specs.declared.seat_view.SeatView.{SeatView}
 use Rattle.fsfs_seats.specs.Seats.{view_of, stuck_view}
 use Rattle.fsfs_pass.specs.Passes.{pass_store, KnowsIt}
-use Rattle.fsfs_pass.proofs.Turning.{knows_still, on_ok_map, if_err_map, sits_so, seated, on_taken, stays}
+use Rattle.fsfs_pass.proofs.Turning.{knows_still, on_ok_map, if_err_map, sits_so, mounted_still, on_taken, stays}
 use Rattle.fsfs_pass.proofs.turns.PassTurnsTurns.take_lock.Goals as goal
 
 pub returns-clause-ok : goal.returns-clause-ok
@@ -21,7 +21,8 @@ take_lock-requires-clause-sits g c = sits_so c.args.self.now.seat.me.0 c.args.se
 pub returns-clause-mounted : goal.returns-clause-mounted
 returns-clause-mounted g c =
     let kin : c.take_lock.new.seat.me.0.kin ≡ c.args.self.now.seat.me.0.kin = on_taken (λ place. (c.take_lock.new.seat.me ≡ (stuck_view place c.args.self.now.seat.me.0, c.args.self.now.seat.me.1)) × (c.args.self.now.seat.me.0.told ≡ true → FoundStuck place (view_of c.args.self.now.seat.me.0) (view_of c.take_lock.new.seat.me.0))) c.take_lock.result c.take_lock.ensures.taken c.take_lock.ensures.stuck (λ t. ap {A = SeatView} (λ z. z.kin) (ap (λ m. m.0) t.0)) (λ place t. ap {A = SeatView} (λ z. z.kin) (ap (λ m. m.0) t.0)) in
-    seated (g.D.Disk.mount_path c.args.self.now.first.value) c.args.self.now.seat.table_id c.take_lock.new.seat.table_id c.args.self.now.seat.me.0 c.take_lock.new.seat.me.0 c.take_lock.ensures.same.0 kin
+    let benches : c.take_lock.new.seat.me.0.bench_failures ≡ c.args.self.now.seat.me.0.bench_failures = on_taken (λ place. (c.take_lock.new.seat.me ≡ (stuck_view place c.args.self.now.seat.me.0, c.args.self.now.seat.me.1)) × (c.args.self.now.seat.me.0.told ≡ true → FoundStuck place (view_of c.args.self.now.seat.me.0) (view_of c.take_lock.new.seat.me.0))) c.take_lock.result c.take_lock.ensures.taken c.take_lock.ensures.stuck (λ t. ap {A = SeatView} (λ z. z.bench_failures) (ap (λ m. m.0) t.0)) (λ place t. ap {A = SeatView} (λ z. z.bench_failures) (ap (λ m. m.0) t.0)) in
+    mounted_still (g.D.Disk.mount_path c.args.self.now.first.value) c.args.self.now.seat.table_id c.take_lock.new.seat.table_id c.args.self.now.seat.me.0 c.take_lock.new.seat.me.0 c.take_lock.ensures.same.0 kin benches
 
 pub invariant_of-self-clause-sitting : goal.invariant_of-self-clause-sitting
 invariant_of-self-clause-sitting g c =

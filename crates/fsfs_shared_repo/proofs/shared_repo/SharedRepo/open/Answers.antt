@@ -25,7 +25,7 @@ returns-in-Ok-clause-opened g c = said_on c.share.result (λ o. o.said) c.in-Ok.
 
 pub returns-in-Ok-clause-refused : goal.returns-in-Ok-clause-refused
 returns-in-Ok-clause-refused g c =
-    wanting_because c.share.result (λ e. e.why) (λ e. Rose (g.D.Disk.faults c.args.disk) (g.D.Disk.faults e.disk)) (g.D.Disk.trace c.args.disk) (λ e. (e.why ≡ Memory) × (g.D.Disk.trace e.disk ≡ g.D.Disk.trace c.into_disk-disk.result) × (g.D.Disk.mount_path e.disk ≡ g.D.Disk.mount_path c.into_disk-disk.result) × (g.D.Disk.faults e.disk ≡ g.D.Disk.faults c.into_disk-disk.result)) (λ e q. q.0) c.share.ensures.wanting
+    wanting_because c.share.result (λ e. e.why) (λ e. Rose (g.D.Disk.faults c.args.disk) (g.D.Disk.faults e.disk)) (g.D.Disk.trace c.args.disk) (λ e. (e.why ≡ Memory) × (g.D.Disk.trace e.disk ≡ g.D.Disk.trace c.into_disk-disk.result) × (g.D.Disk.mount_path e.disk ≡ g.D.Disk.mount_path c.into_disk-disk.result) × (g.D.Disk.faults e.disk ≡ g.D.Disk.faults c.into_disk-disk.result) × (g.D.Disk.bench_faults e.disk ≡ g.D.Disk.bench_faults c.into_disk-disk.result)) (λ e q. q.0) c.share.ensures.wanting
 
 pub returns-in-Ok-clause-firm : goal.returns-in-Ok-clause-firm
 returns-in-Ok-clause-firm g c =
@@ -34,18 +34,18 @@ returns-in-Ok-clause-firm g c =
 
 pub returns-in-Ok-clause-left : goal.returns-in-Ok-clause-left
 returns-in-Ok-clause-left g c =
-    firm_left c.share.result (λ e. g.D.Disk.trace e.disk) (g.D.Disk.trace c.args.disk) (g.D.Disk.trace c.into_disk-disk.result) (λ e. (e.why ≡ Memory) × (g.D.Disk.trace e.disk ≡ g.D.Disk.trace c.into_disk-disk.result) × (g.D.Disk.mount_path e.disk ≡ g.D.Disk.mount_path c.into_disk-disk.result) × (g.D.Disk.faults e.disk ≡ g.D.Disk.faults c.into_disk-disk.result)) (λ e q. q.1)
+    firm_left c.share.result (λ e. g.D.Disk.trace e.disk) (g.D.Disk.trace c.args.disk) (g.D.Disk.trace c.into_disk-disk.result) (λ e. (e.why ≡ Memory) × (g.D.Disk.trace e.disk ≡ g.D.Disk.trace c.into_disk-disk.result) × (g.D.Disk.mount_path e.disk ≡ g.D.Disk.mount_path c.into_disk-disk.result) × (g.D.Disk.faults e.disk ≡ g.D.Disk.faults c.into_disk-disk.result) × (g.D.Disk.bench_faults e.disk ≡ g.D.Disk.bench_faults c.into_disk-disk.result)) (λ e q. q.1)
     (ap (λ d. g.D.Disk.trace d) c.into_disk-disk.ensures ∙ c.in-Ok.ensures.firm) c.share.ensures.wanting
 
 pub returns-in-Ok-clause-mounted : goal.returns-in-Ok-clause-mounted
 returns-in-Ok-clause-mounted g c =
-    both_so (λ o. o.repo.first.value ≡ c.into_disk-disk.result) (λ e. (e.why ≡ Memory) × (g.D.Disk.trace e.disk ≡ g.D.Disk.trace c.into_disk-disk.result) × (g.D.Disk.mount_path e.disk ≡ g.D.Disk.mount_path c.into_disk-disk.result) × (g.D.Disk.faults e.disk ≡ g.D.Disk.faults c.into_disk-disk.result))
+    both_so (λ o. o.repo.first.value ≡ c.into_disk-disk.result) (λ e. (e.why ≡ Memory) × (g.D.Disk.trace e.disk ≡ g.D.Disk.trace c.into_disk-disk.result) × (g.D.Disk.mount_path e.disk ≡ g.D.Disk.mount_path c.into_disk-disk.result) × (g.D.Disk.faults e.disk ≡ g.D.Disk.faults c.into_disk-disk.result) × (g.D.Disk.bench_faults e.disk ≡ g.D.Disk.bench_faults c.into_disk-disk.result))
     (λ o. g.D.Disk.mount_path o.repo.first.value ≡ g.D.Disk.mount_path c.args.disk) (λ e. g.D.Disk.mount_path e.disk ≡ g.D.Disk.mount_path c.args.disk) c.share.result
     (λ o is. ap (λ d. g.D.Disk.mount_path d) (is ∙ c.into_disk-disk.ensures) ∙ c.in-Ok.ensures.mounted) (λ e is. is.2 ∙ ap (λ d. g.D.Disk.mount_path d) c.into_disk-disk.ensures ∙ c.in-Ok.ensures.mounted) c.share.ensures.first c.share.ensures.wanting
 
 pub returns-in-Ok-clause-later : goal.returns-in-Ok-clause-later
 returns-in-Ok-clause-later g c =
-    both_so (λ o. o.repo.first.value ≡ c.into_disk-disk.result) (λ e. (e.why ≡ Memory) × (g.D.Disk.trace e.disk ≡ g.D.Disk.trace c.into_disk-disk.result) × (g.D.Disk.mount_path e.disk ≡ g.D.Disk.mount_path c.into_disk-disk.result) × (g.D.Disk.faults e.disk ≡ g.D.Disk.faults c.into_disk-disk.result))
+    both_so (λ o. o.repo.first.value ≡ c.into_disk-disk.result) (λ e. (e.why ≡ Memory) × (g.D.Disk.trace e.disk ≡ g.D.Disk.trace c.into_disk-disk.result) × (g.D.Disk.mount_path e.disk ≡ g.D.Disk.mount_path c.into_disk-disk.result) × (g.D.Disk.faults e.disk ≡ g.D.Disk.faults c.into_disk-disk.result) × (g.D.Disk.bench_faults e.disk ≡ g.D.Disk.bench_faults c.into_disk-disk.result))
     (λ o. g.D.Disk.faults c.args.disk ≤ g.D.Disk.faults o.repo.first.value) (λ e. g.D.Disk.faults c.args.disk ≤ g.D.Disk.faults e.disk) c.share.result
     (λ o is. subst (λ n. g.D.Disk.faults c.args.disk ≤ n) (sym (ap (λ d. g.D.Disk.faults d) (is ∙ c.into_disk-disk.ensures))) c.in-Ok.ensures.later)
     (λ e is. subst (λ n. g.D.Disk.faults c.args.disk ≤ n) (sym (is.3 ∙ ap (λ d. g.D.Disk.faults d) c.into_disk-disk.ensures)) c.in-Ok.ensures.later) c.share.ensures.first c.share.ensures.wanting
