@@ -597,6 +597,9 @@ if_ok r x P e w = subst (λ z. IfOk z P) e w
 pub if_err : {X E : Type 0} (r : Result X E) (x : E) (P : E → Type 0) → r ≡ Err x → IfErr r P → P x
 if_err r x P e w = subst (λ z. IfErr z P) e w
 
+pub not_lost : (rev : ℕ) → Some rev ≡ None → ⊥
+not_lost rev none = cc
+
 pub turn_is : (o came : Option ℕ) (p : List (List ℕ × List ℕ)) (v u : View) (x y : Txn) → o ≡ came → IsTurn o p v u x y → IsTurn came p v u x y
 turn_is o came p v u x y same t = subst (λ z. IsTurn z p v u x y) same t
 

@@ -10,7 +10,7 @@ ghost use Rattle.fsfs_turn.specs.Views.{View, MayAdopt};
 ghost use Rattle.fsfs_turn.specs.Labels.{KeepsLabels};
 ghost use Rattle.fsfs_commit.specs.Courses.{IsMade, MayPublish, Published};
 ghost use Rattle.fsfs_commit.specs.Works.{CanCommit};
-ghost use Rattle.fsfs_commit.specs.Found.{IfRefused};
+ghost use Rattle.fsfs_commit.specs.Found.{IfRefused, LeavesSo};
 ghost use Rattle.fsfs_commit.specs.Replies.{IsReady, IsTurn, Committed, EndsShort, RoseIfDisk, Refused};
 
 use crate::draft::Draft;
@@ -65,10 +65,12 @@ fn prepare<R, T: Turns<R>, D: Draft<R, T>>(
     ensures err { (v : View) (x : Txn) → T.knows turns v → D.means draft.old v.seen x → CanCommit v x (D.properties draft.old)
         → IfErr result.1 (λ fault. (u : View) × (y : Txn) × T.knows result.0 u × D.means draft.new u.seen y × Refused D.refuses fault v u x y) }
     ensures found { IfErr result.1 (IfRefused (D.finds draft.new)) }
+    ensures made { D.lives draft.old → OnOk result.1 (D.lives draft.new × D.is_made draft.new) }
+    ensures left { D.lives draft.old → IfErr result.1 (LeavesSo (D.lives draft.new) (D.blames draft.new)) }
     ensures named { (name : TxnName) → D.named draft.old name → D.named draft.new name }
     ensures pinned { D.pinned draft.new ≡ D.pinned draft.old }
     ensures same { D.properties draft.new ≡ D.properties draft.old }
-    ensures mounted { T.mount_path result.0 ≡ T.mount_path turns }
+    ensures mounted { T.mounting result.0 ≡ T.mounting turns }
     ensures duty { T.bound result.0 ≡ T.bound turns }
     ensures listed { KeepsLabels (T.bound turns) (T.labels turns) (T.labels result.0) }
     ensures later { T.faults turns ≤ T.faults result.0 }
@@ -120,10 +122,11 @@ fn add<R, T: Turns<R>, D: Draft<R, T>, G: Gate>(
         → IfErr result.1 (λ fault. (u : View) × T.knows turns.new u × EndsShort D.refuses fault v u) }
     ensures means { (h : List Recorded) (x : Txn) → D.means draft h x → D.means result.0 h x }
     ensures found { IfErr result.1 (IfRefused (D.finds result.0)) }
+    ensures left { D.is_made draft → IfErr result.1 (LeavesSo (D.lives result.0) (D.blames result.0)) }
     ensures named { (name : TxnName) → D.named draft name → D.named result.0 name }
     ensures pinned { D.pinned result.0 ≡ D.pinned draft }
     ensures same { D.properties result.0 ≡ D.properties draft }
-    ensures mounted { T.mount_path turns.new ≡ T.mount_path turns.old }
+    ensures mounted { T.mounting turns.new ≡ T.mounting turns.old }
     ensures duty { T.bound turns.new ≡ T.bound turns.old }
     ensures listed { KeepsLabels (T.bound turns.old) (T.labels turns.old) (T.labels turns.new) }
     ensures later { T.faults turns.old ≤ T.faults turns.new }
@@ -159,10 +162,12 @@ fn take_turn<R, T: Turns<R>, D: Draft<R, T>, G: Gate>(
     ensures err { (v : View) (x : Txn) → T.knows turns v → D.means draft v.seen x → CanCommit v x (D.properties draft) → v.section ≡ None
         → IfErr result.2 (λ fault. (u : View) × (y : Txn) × T.knows result.0 u × D.means result.1 u.seen y × Refused D.refuses fault v u x y) }
     ensures found { IfErr result.2 (IfRefused (D.finds result.1)) }
+    ensures lost { D.lives draft → IfOk result.2 (λ done. done ≡ None → D.lives result.1) }
+    ensures left { D.lives draft → IfErr result.2 (LeavesSo (D.lives result.1) (D.blames result.1)) }
     ensures named { (name : TxnName) → D.named draft name → D.named result.1 name }
     ensures pinned { D.pinned result.1 ≡ D.pinned draft }
     ensures same { D.properties result.1 ≡ D.properties draft }
-    ensures mounted { T.mount_path result.0 ≡ T.mount_path turns }
+    ensures mounted { T.mounting result.0 ≡ T.mounting turns }
     ensures duty { T.bound result.0 ≡ T.bound turns }
     ensures listed { KeepsLabels (T.bound turns) (T.labels turns) (T.labels result.0) }
     ensures later { T.faults turns ≤ T.faults result.0 }
@@ -206,8 +211,9 @@ fn take_last_turn<R, T: Turns<R>, D: Draft<R, T>, G: Gate>(
     ensures err { (v : View) (x : Txn) → T.knows turns v → D.means draft v.seen x → CanCommit v x (D.properties draft) → v.section ≡ None
         → IfErr result.2 (λ fault. (u : View) × (y : Txn) × T.knows result.0 u × D.means result.1 u.seen y × Refused D.refuses fault v u x y) }
     ensures found { IfErr result.2 (IfRefused (D.finds result.1)) }
+    ensures left { D.lives draft → IfErr result.2 (LeavesSo (D.lives result.1) (D.blames result.1)) }
     ensures named { (name : TxnName) → D.named draft name → D.named result.1 name }
-    ensures mounted { T.mount_path result.0 ≡ T.mount_path turns }
+    ensures mounted { T.mounting result.0 ≡ T.mounting turns }
     ensures duty { T.bound result.0 ≡ T.bound turns }
     ensures listed { KeepsLabels (T.bound turns) (T.labels turns) (T.labels result.0) }
     ensures later { T.faults turns ≤ T.faults result.0 }
@@ -250,10 +256,12 @@ fn take_three_turns<R, T: Turns<R>, D: Draft<R, T>, G: Gate>(
     ensures err { (v : View) (x : Txn) → T.knows turns v → D.means draft v.seen x → CanCommit v x (D.properties draft) → v.section ≡ None
         → IfErr result.2 (λ fault. (u : View) × (y : Txn) × T.knows result.0 u × D.means result.1 u.seen y × Refused D.refuses fault v u x y) }
     ensures found { IfErr result.2 (IfRefused (D.finds result.1)) }
+    ensures lost { D.lives draft → IfOk result.2 (λ done. done ≡ None → D.lives result.1) }
+    ensures left { D.lives draft → IfErr result.2 (LeavesSo (D.lives result.1) (D.blames result.1)) }
     ensures named { (name : TxnName) → D.named draft name → D.named result.1 name }
     ensures pinned { D.pinned result.1 ≡ D.pinned draft }
     ensures same { D.properties result.1 ≡ D.properties draft }
-    ensures mounted { T.mount_path result.0 ≡ T.mount_path turns }
+    ensures mounted { T.mounting result.0 ≡ T.mounting turns }
     ensures duty { T.bound result.0 ≡ T.bound turns }
     ensures listed { KeepsLabels (T.bound turns) (T.labels turns) (T.labels result.0) }
     ensures later { T.faults turns ≤ T.faults result.0 }
@@ -297,8 +305,10 @@ pub fn commit<R, T: Turns<R>, D: Draft<R, T>, G: Gate>(
         → IfErr result.2 (λ fault. (u : View) × (y : Txn) × T.knows result.0 u × D.means result.1 u.seen y × Refused D.refuses fault v u x y) }
     // A refusal says what it is of the draft that is given back, whatever is known.
     ensures found { IfErr result.2 (IfRefused (D.finds result.1)) }
+    // And of its bench: where that is told to have failed, or the draft is used up, it did.
+    ensures left { D.lives draft → IfErr result.2 (LeavesSo (D.lives result.1) (D.blames result.1)) }
     ensures named { (name : TxnName) → D.named draft name → D.named result.1 name }
-    ensures mounted { T.mount_path result.0 ≡ T.mount_path turns }
+    ensures mounted { T.mounting result.0 ≡ T.mounting turns }
     ensures duty { T.bound result.0 ≡ T.bound turns }
     ensures listed { KeepsLabels (T.bound turns) (T.labels turns) (T.labels result.0) }
     ensures later { T.faults turns ≤ T.faults result.0 }

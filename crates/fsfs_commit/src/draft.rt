@@ -57,6 +57,15 @@ pub trait Draft<R, T: Turns<R>> {
     /// It is for a failed call of the disk.
     ghost is_disk_fault: { Self.Refusal → Type 0 };
 
+    /// It was not written; and it is used up only where its bench failed.
+    ghost lives: { Self → Type 0 };
+
+    /// The bytes of its revision were made.
+    ghost is_made: { Self → Type 0 };
+
+    /// What a refusal says of its bench: where it is told to have failed, or the draft is used up, it did.
+    ghost blames: { Self → Self.Refusal → Type 0 };
+
     /// Lands the transaction on this revision, which there is, and gives the turns back; where it stands there already, it does nothing. A
     /// refusal leaves it as it was.
     fn merge(
@@ -74,7 +83,9 @@ pub trait Draft<R, T: Turns<R>> {
         ensures err { (v : View) (x : Txn) → T.knows turns v → means self.old v.seen x → CanCommit v x (properties self.old) → x.base ≤ head → length v.seen ≤ head + 1 → head ≤ v.pass.least
             → IfErr result.1 (λ why. (u : View) × T.knows result.0 u × means self.new v.seen x × ReadOnly v u × refuses why head u.seen x) }
         ensures found { IfErr result.1 (finds self.new) }
-        ensures mounted { T.mount_path result.0 ≡ T.mount_path turns }
+        ensures lives { lives self.old → OnOk result.1 (lives self.new) }
+        ensures blamed { lives self.old → IfErr result.1 (blames self.new) }
+        ensures mounted { T.mounting result.0 ≡ T.mounting turns }
         ensures later { T.faults turns ≤ T.faults result.0 }
         ensures cause { IfErr result.1 (λ why. is_disk_fault why → Rose (T.faults turns) (T.faults result.0)) }
         ensures duty { T.bound result.0 ≡ T.bound turns }
@@ -95,6 +106,8 @@ pub trait Draft<R, T: Turns<R>> {
         ensures refused { (turns : T) (v : View) (x : Txn) → T.knows turns v → means self.old (take rev v.seen) x → CanCommit v x (properties self.old) → x.base + 1 ≡ rev → rev ≤ length v.seen → BytesShow (take rev v.seen)
             → IfErr result (λ why. refuses why x.base v.seen x) }
         ensures found { IfErr result (finds self.new) }
+        ensures lives { lives self.old → OnOk result (lives self.new × is_made self.new) }
+        ensures blamed { lives self.old → IfErr result (blames self.new) }
         ensures no_disk { IfErr result (λ why. is_disk_fault why → ⊥) }
         ensures means { (h : List Recorded) (x : Txn) → means self.old h x → means self.new h x }
         ensures named { (name : TxnName) → named self.old name → named self.new name }
@@ -109,6 +122,7 @@ pub trait Draft<R, T: Turns<R>> {
         // A refusal of bytes that were made is one of any transaction.
         ensures refused { (txn : Txn) (next : Revision) (bytes : List ℕ) → holds self txn next bytes → IfErr result.1 (λ why. (head : ℕ) (h : List Recorded) (x : Txn) → refuses why head h x) }
         ensures found { IfErr result.1 (finds result.0) }
+        ensures blamed { is_made self → IfErr result.1 (blames result.0) }
         ensures no_disk { IfErr result.1 (λ why. is_disk_fault why → ⊥) }
         ensures means { (h : List Recorded) (x : Txn) → means self h x → means result.0 h x }
         ensures named { (name : TxnName) → named self name → named result.0 name }
@@ -127,7 +141,7 @@ pub trait Draft<R, T: Turns<R>> {
         ensures named { (name : TxnName) → named self.old name → named self.new name }
         ensures pinned { pinned self.new ≡ pinned self.old }
         ensures same { properties self.new ≡ properties self.old }
-        ensures mounted { T.mount_path turns.new ≡ T.mount_path turns.old }
+        ensures mounted { T.mounting turns.new ≡ T.mounting turns.old }
         ensures duty { T.bound turns.new ≡ T.bound turns.old }
         ensures listed { KeepsLabels (T.bound turns.old) (T.labels turns.old) (T.labels turns.new) }
         ensures cause { HasCause (T.faults turns.old) (T.faults turns.new) result };

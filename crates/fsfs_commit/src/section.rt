@@ -36,7 +36,7 @@ fn make_folder_at<R, T: Turns<R>>(
     ensures failed { (v : View) (place : SpecPlace) (file bytes : List ℕ) → T.knows turns.old v → IsDue v place (Put file bytes) → OnErr result ((u : View) × T.knows turns.new u × Called place Before v u) }
     ensures failed_first { (v : View) (txn : Txn) (properties : List (List ℕ × List ℕ)) (next : Revision) (bytes : List ℕ) → T.knows turns.old v → MayAdopt v txn properties next bytes
         → OnErr result ((u : View) × T.knows turns.new u × Adopted txn properties next bytes Before v u) }
-    ensures mounted { T.mount_path turns.new ≡ T.mount_path turns.old }
+    ensures mounted { T.mounting turns.new ≡ T.mounting turns.old }
     ensures duty { T.bound turns.new ≡ T.bound turns.old }
     ensures listed { KeepsLabels (T.bound turns.old) (T.labels turns.old) (T.labels turns.new) }
     ensures cause { HasCause (T.faults turns.old) (T.faults turns.new) result }
@@ -64,7 +64,7 @@ fn put_revision<R, T: Turns<R>, D: Draft<R, T>>(
     ensures named { (name : TxnName) → D.named draft.old name → D.named draft.new name }
     ensures pinned { D.pinned draft.new ≡ D.pinned draft.old }
     ensures same { D.properties draft.new ≡ D.properties draft.old }
-    ensures mounted { T.mount_path turns.new ≡ T.mount_path turns.old }
+    ensures mounted { T.mounting turns.new ≡ T.mounting turns.old }
     ensures duty { T.bound turns.new ≡ T.bound turns.old }
     ensures listed { KeepsLabels (T.bound turns.old) (T.labels turns.old) (T.labels turns.new) }
     ensures cause { HasCause (T.faults turns.old) (T.faults turns.new) result }
@@ -85,7 +85,7 @@ fn put_properties<R, T: Turns<R>>(rt: &R, turns: &mut T, made: &Made) -> Result<
     ensures turned { (v : View) (x : Coming) → T.knows turns.old v → v.section ≡ Some (RevPut x)
         → IsMade v x.revision.properties made.now.rev made.now.rev_file made.now.props_file made.now.properties.items made.now.current.items
         → Goes (T.knows turns.new) result x (PropsPut x) v }
-    ensures mounted { T.mount_path turns.new ≡ T.mount_path turns.old }
+    ensures mounted { T.mounting turns.new ≡ T.mounting turns.old }
     ensures duty { T.bound turns.new ≡ T.bound turns.old }
     ensures listed { KeepsLabels (T.bound turns.old) (T.labels turns.old) (T.labels turns.new) }
     ensures cause { HasCause (T.faults turns.old) (T.faults turns.new) result }
@@ -104,7 +104,7 @@ fn put_properties<R, T: Turns<R>>(rt: &R, turns: &mut T, made: &Made) -> Result<
 fn firm_revision<R, T: Turns<R>>(rt: &R, turns: &mut T) -> Result<(), CommitPlace>
     requires due { T.bound turns.old ≡ true → (v : View) × (x : Coming) × T.knows turns.old v × (v.section ≡ Some (PropsPut x)) }
     ensures turned { (v : View) (x : Coming) → T.knows turns.old v → v.section ≡ Some (PropsPut x) → Goes (T.knows turns.new) result x (RevFirm x) v }
-    ensures mounted { T.mount_path turns.new ≡ T.mount_path turns.old }
+    ensures mounted { T.mounting turns.new ≡ T.mounting turns.old }
     ensures duty { T.bound turns.new ≡ T.bound turns.old }
     ensures listed { KeepsLabels (T.bound turns.old) (T.labels turns.old) (T.labels turns.new) }
     ensures cause { HasCause (T.faults turns.old) (T.faults turns.new) result }
@@ -122,7 +122,7 @@ fn put_current<R, T: Turns<R>>(rt: &R, turns: &mut T, made: &Made) -> Result<(),
         → IsMade v x.revision.properties made.now.rev made.now.rev_file made.now.props_file made.now.properties.items made.now.current.items
         → Goes (T.knows turns.new) result x (CurrentPut x) v }
     ensures used { OnOk result (T.in_use turns.new (only_name OnlyFile.CurrentNext)) }
-    ensures mounted { T.mount_path turns.new ≡ T.mount_path turns.old }
+    ensures mounted { T.mounting turns.new ≡ T.mounting turns.old }
     ensures duty { T.bound turns.new ≡ T.bound turns.old }
     ensures listed { KeepsLabels (T.bound turns.old) (T.labels turns.old) (T.labels turns.new) }
     ensures cause { HasCause (T.faults turns.old) (T.faults turns.new) result }
@@ -139,7 +139,7 @@ fn rename_current<R, T: Turns<R>>(rt: &R, turns: &mut T) -> Result<(), CommitPla
     requires there { T.in_use turns.old (only_name OnlyFile.CurrentNext) }
     requires due { T.bound turns.old ≡ true → (v : View) × (x : Coming) × T.knows turns.old v × (v.section ≡ Some (CurrentPut x)) }
     ensures turned { (v : View) (x : Coming) → T.knows turns.old v → v.section ≡ Some (CurrentPut x) → Goes (T.knows turns.new) result x (CurrentRenamed x) v }
-    ensures mounted { T.mount_path turns.new ≡ T.mount_path turns.old }
+    ensures mounted { T.mounting turns.new ≡ T.mounting turns.old }
     ensures duty { T.bound turns.new ≡ T.bound turns.old }
     ensures listed { KeepsLabels (T.bound turns.old) (T.labels turns.old) (T.labels turns.new) }
     ensures cause { HasCause (T.faults turns.old) (T.faults turns.new) result }
@@ -156,7 +156,7 @@ fn rename_current<R, T: Turns<R>>(rt: &R, turns: &mut T) -> Result<(), CommitPla
 fn firm_current<R, T: Turns<R>>(rt: &R, turns: &mut T) -> Result<(), CommitPlace>
     requires due { T.bound turns.old ≡ true → (v : View) × (x : Coming) × T.knows turns.old v × (v.section ≡ Some (CurrentRenamed x)) }
     ensures turned { (v : View) (x : Coming) → T.knows turns.old v → v.section ≡ Some (CurrentRenamed x) → Goes (T.knows turns.new) result x (CurrentFirm x) v }
-    ensures mounted { T.mount_path turns.new ≡ T.mount_path turns.old }
+    ensures mounted { T.mounting turns.new ≡ T.mounting turns.old }
     ensures duty { T.bound turns.new ≡ T.bound turns.old }
     ensures listed { KeepsLabels (T.bound turns.old) (T.labels turns.old) (T.labels turns.new) }
     ensures cause { HasCause (T.faults turns.old) (T.faults turns.new) result }
@@ -185,7 +185,7 @@ fn write_revision<R, T: Turns<R>, D: Draft<R, T>, G: Gate>(
     ensures named { (name : TxnName) → D.named draft.old name → D.named draft.new name }
     ensures pinned { D.pinned draft.new ≡ D.pinned draft.old }
     ensures same { D.properties draft.new ≡ D.properties draft.old }
-    ensures mounted { T.mount_path turns.new ≡ T.mount_path turns.old }
+    ensures mounted { T.mounting turns.new ≡ T.mounting turns.old }
     ensures duty { T.bound turns.new ≡ T.bound turns.old }
     ensures listed { KeepsLabels (T.bound turns.old) (T.labels turns.old) (T.labels turns.new) }
     ensures cause { HasCause (T.faults turns.old) (T.faults turns.new) result }
@@ -208,7 +208,7 @@ fn name_current<R, T: Turns<R>>(rt: &R, turns: &mut T, made: &Made) -> Result<()
     ensures turned { (v : View) (x : Coming) → T.knows turns.old v → v.section ≡ Some (RevFirm x)
         → IsMade v x.revision.properties made.now.rev made.now.rev_file made.now.props_file made.now.properties.items made.now.current.items
         → Goes (T.knows turns.new) result x (CurrentFirm x) v }
-    ensures mounted { T.mount_path turns.new ≡ T.mount_path turns.old }
+    ensures mounted { T.mounting turns.new ≡ T.mounting turns.old }
     ensures duty { T.bound turns.new ≡ T.bound turns.old }
     ensures listed { KeepsLabels (T.bound turns.old) (T.labels turns.old) (T.labels turns.new) }
     ensures cause { HasCause (T.faults turns.old) (T.faults turns.new) result }
@@ -235,7 +235,7 @@ fn is_doubtful(place: CommitPlace) -> bool
 fn settle<R, T: Turns<R>>(turns: &mut T, place: CommitPlace)
     requires due { T.bound turns.old ≡ true → (v : View) × (x : Coming) × T.knows turns.old v × (v.section ≡ Some (spoilt x place)) }
     ensures turned { (v : View) (x : Coming) → T.knows turns.old v → v.section ≡ Some (spoilt x place) → (u : View) × T.knows turns.new u × LockGiven (ends_at place v.number) v u }
-    ensures mounted { T.mount_path turns.new ≡ T.mount_path turns.old }
+    ensures mounted { T.mounting turns.new ≡ T.mounting turns.old }
     ensures duty { T.bound turns.new ≡ T.bound turns.old }
     ensures listed { KeepsLabels (T.bound turns.old) (T.labels turns.old) (T.labels turns.new) }
     ensures faults { T.faults turns.new ≡ T.faults turns.old }
@@ -251,7 +251,7 @@ fn settle<R, T: Turns<R>>(turns: &mut T, place: CommitPlace)
 fn finish<R, T: Turns<R>, G: Gate>(rt: &R, turns: &mut T, rev: RevNum, gate: &G)
     requires due { T.bound turns.old ≡ true → (v : View) × (x : Coming) × T.knows turns.old v × (v.section ≡ Some (CurrentFirm x)) × (rev ≡ length v.seen) }
     ensures turned { (v : View) (x : Coming) → T.knows turns.old v → v.section ≡ Some (CurrentFirm x) → rev ≡ length v.seen → (u : View) × T.knows turns.new u × Ended x v u }
-    ensures mounted { T.mount_path turns.new ≡ T.mount_path turns.old }
+    ensures mounted { T.mounting turns.new ≡ T.mounting turns.old }
     ensures duty { T.bound turns.new ≡ T.bound turns.old }
     ensures listed { KeepsLabels (T.bound turns.old) (T.labels turns.old) (T.labels turns.new) }
     ensures faults { T.faults turns.new ≡ T.faults turns.old }
@@ -285,7 +285,7 @@ pub fn publish<R, T: Turns<R>, D: Draft<R, T>, G: Gate>(
     ensures named { (name : TxnName) → D.named draft.old name → D.named draft.new name }
     ensures pinned { D.pinned draft.new ≡ D.pinned draft.old }
     ensures same { D.properties draft.new ≡ D.properties draft.old }
-    ensures mounted { T.mount_path turns.new ≡ T.mount_path turns.old }
+    ensures mounted { T.mounting turns.new ≡ T.mounting turns.old }
     ensures duty { T.bound turns.new ≡ T.bound turns.old }
     ensures listed { KeepsLabels (T.bound turns.old) (T.labels turns.old) (T.labels turns.new) }
     ensures cause { HasCause (T.faults turns.old) (T.faults turns.new) result }
@@ -320,7 +320,7 @@ fn write_all<R, T: Turns<R>, D: Draft<R, T>, G: Gate>(
     ensures named { (name : TxnName) → D.named draft.old name → D.named draft.new name }
     ensures pinned { D.pinned draft.new ≡ D.pinned draft.old }
     ensures same { D.properties draft.new ≡ D.properties draft.old }
-    ensures mounted { T.mount_path turns.new ≡ T.mount_path turns.old }
+    ensures mounted { T.mounting turns.new ≡ T.mounting turns.old }
     ensures duty { T.bound turns.new ≡ T.bound turns.old }
     ensures listed { KeepsLabels (T.bound turns.old) (T.labels turns.old) (T.labels turns.new) }
     ensures cause { HasCause (T.faults turns.old) (T.faults turns.new) result }

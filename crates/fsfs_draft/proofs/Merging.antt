@@ -1,5 +1,5 @@
 -- A merge over what a pass has seen.
-use Rattle.std.proofs.Common.{◌≡◌, ◌<◌, ◌≤◌, ◌+◌, ℕ, suc, zero, List, [], ◌∷◌, ◌++◌, length, refl, sym, ap, subst, ◌∙◌, arith, take, append-nil}
+use Rattle.std.proofs.Common.{◌≡◌, ◌<◌, ◌≤◌, ◌+◌, ℕ, suc, zero, List, [], ◌∷◌, ◌++◌, length, true, false, refl, sym, ap, subst, ◌∙◌, arith, take, append-nil}
 use Rattle.std.specs.Prelude.{Option, Some, None, Result, Ok, Err, is_some}
 use Rattle.std.specs.FinMap.{get}
 use Rattle.fsfs_base.specs.Paths.{Path}
@@ -39,7 +39,7 @@ use Rattle.fsfs_commit.specs.Works.{LandedOn}
 use Rattle.fsfs_turn.proofs.Doubts.{read_doubtless}
 use Rattle.fsfs_draft.specs.Meaning.{IsTxnOf}
 use Rattle.fsfs_draft.specs.declared.refusal.CommitRefusal.{CommitRefusal}
-use Rattle.fsfs_draft.specs.Findings.{Finds}
+use Rattle.fsfs_draft.specs.Findings.{Finds, SpentByBench, IfBench, Blames}
 use Rattle.fsfs_draft.specs.Refusals.{of_txn, of_final, IsClashAt, IsDiskFault, Refuses}
 use Rattle.fsfs_draft.specs.SeenLemmas.{bytes_same, shown_trees}
 use Rattle.fsfs_draft.proofs.Landing.{first_part, part_long, part_last, landed, landed_means, landed_on}
@@ -162,6 +162,43 @@ final_found (finals.PastLimit limit) faults spent f refused = refused
 pub made_found : (error : FinalError) (why : CommitRefusal) (faults : ℕ) (spent : Option Failed) (f g : Folder) (items : List ChangeItem) → why ≡ of_final error → g ≡ f → items ≡ f.items → IsRefused (Unit {0}) (HasPathPast g items) error → Finds faults spent f why
 made_found error why faults spent f g items same folder here refused =
     subst (λ z. Finds faults spent f z) (sym same) (final_found error faults spent f (subst (λ l. IsRefused (Unit {0}) (HasPathPast f l) error) here (subst (λ z. IsRefused (Unit {0}) (HasPathPast z items) error) folder refused)))
+
+-- ---- what it says of its bench
+
+-- one that is not used up
+pub unspent_lives : (spent : Option Failed) (faults : ℕ) → spent ≡ None → SpentByBench faults spent
+unspent_lives spent faults none some = let no : false ≡ true = sym (ap (λ o. is_some o) none) ∙ some in absurd cc
+
+error_blamed : {X : Type 0} (error : TxnError) (old new : Option Failed) (before now : ℕ) → IsSpentAfter {T = X} old new (Err error) → HasBenchCause {T = X} before now (Err error) → SpentByBench before old → Blames now new (of_txn error)
+error_blamed (txns.Spent first) old new before now spent cause by =
+    let failed : 0 < now = omega (arith, by (ap (λ o. is_some o) spent.0), cause.failed) in
+    (λ some. failed, failed)
+error_blamed (txns.Fault edits.OutOfMemory) old new before now spent cause by = (unspent_lives new now spent.1, tt)
+error_blamed (txns.Fault edits.DiskFault) old new before now spent cause by = (unspent_lives new now spent.1, tt)
+error_blamed (txns.Fault edits.BenchFault) old new before now spent cause by =
+    let failed = some_failed before now cause.failed in
+    (λ some. failed, failed)
+error_blamed (txns.Fault (edits.Wrong w)) old new before now spent cause by = (unspent_lives new now spent.1, tt)
+error_blamed (txns.Fault edits.Lacking) old new before now spent cause by = (unspent_lives new now spent.1, tt)
+
+-- a merge that failed
+pub merge_blamed : {X : Type 0} (error : TxnError) (r : Result X TxnError) (why : CommitRefusal) (old new : Option Failed) (before now : ℕ) → r ≡ Err error → why ≡ of_txn error → IsSpentAfter old new r → HasBenchCause before now r → SpentByBench before old → Blames now new why
+merge_blamed error r why old new before now is same spent cause by =
+    subst (λ z. Blames now new z) (sym same) (error_blamed error old new before now (subst (λ z. IsSpentAfter old new z) is spent) (subst (λ z. HasBenchCause before now z) is cause) by)
+
+-- and one that is done
+pub merge_lives : {X : Type 0} (done : X) (r : Result X TxnError) (old new : Option Failed) (now : ℕ) → r ≡ Ok done → IsSpentAfter old new r → SpentByBench now new
+merge_lives done r old new now is spent = unspent_lives new now (subst (λ z. IsSpentAfter old new z) is spent).1
+
+final_blamed : (error : FinalError) (Past : PathLimit → Type 0) (P : Type 0) → IsRefused (Unit {0}) Past error → IfBench (of_final error) P
+final_blamed finals.OutOfMemory Past P refused = tt
+final_blamed finals.SinkFault Past P refused = absurd refused
+final_blamed finals.Lacking Past P refused = tt
+final_blamed (finals.PastLimit limit) Past P refused = tt
+
+-- a text that was not made
+pub made_blamed : (error : FinalError) (why : CommitRefusal) (Past : PathLimit → Type 0) (faults : ℕ) (spent : Option Failed) → why ≡ of_final error → IsRefused (Unit {0}) Past error → spent ≡ None → Blames faults spent why
+made_blamed error why Past faults spent same refused none = (unspent_lives spent faults none, subst (λ z. IfBench z (0 < faults)) (sym same) (final_blamed error Past (0 < faults) refused))
 
 not_none : (o : Option Failed) (first : Failed) → o ≡ Some first → o ≡ None → ⊥
 not_none o first e none = let same : Some first ≡ None = sym e ∙ none in cc

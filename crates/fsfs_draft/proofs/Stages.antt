@@ -42,3 +42,7 @@ of_open s o P Q is w = subst (λ z. OfStage z P Q) is w
 pub no_open : {B : Type 0} {D : _} (s : Stage B D) (P : OpenTxn B D → Type 0) → OfStage s (λ o. ⊥) (λ e. Unit {0}) → IfOpen s P
 no_open (Open o) P w = absurd w
 no_open (Ended e) P w = tt
+
+pub of_stage_then : {B : Type 0} {D : _} (s : Stage B D) (P R : OpenTxn B D → Type 0) (Q S : EndedTxn B → Type 0) → ((o : OpenTxn B D) → P o → R o) → ((e : EndedTxn B) → Q e → S e) → OfStage s P Q → OfStage s R S
+of_stage_then (Open o) P R Q S open_on ended_on w = open_on o w
+of_stage_then (Ended e) P R Q S open_on ended_on w = ended_on e w

@@ -44,3 +44,23 @@ IfLimit refusals.BenchFault P = Unit {0}
 IfLimit (refusals.Wrong wrong) P = Unit {0}
 IfLimit (refusals.PastLimit limit) P = P limit
 IfLimit refusals.Lacking P = Unit {0}
+
+-- ---- the bench
+
+-- it is used up only where its bench failed
+abbrev pub SpentByBench : ℕ → Option Failed → Type 0
+SpentByBench faults spent = is_some spent ≡ true → 0 < faults
+
+-- a fact, where a refusal is for a bench that failed
+abbrev pub IfBench : CommitRefusal → Type 0 → Type 0
+IfBench (refusals.Clash rev path) P = Unit {0}
+IfBench refusals.Spent P = P
+IfBench refusals.Memory P = Unit {0}
+IfBench refusals.DiskFault P = Unit {0}
+IfBench refusals.BenchFault P = P
+IfBench (refusals.Wrong wrong) P = Unit {0}
+IfBench (refusals.PastLimit limit) P = Unit {0}
+IfBench refusals.Lacking P = Unit {0}
+
+abbrev pub Blames : ℕ → Option Failed → CommitRefusal → Type 0
+Blames faults spent why = SpentByBench faults spent × IfBench why (0 < faults)

@@ -71,6 +71,11 @@ abbrev pub IfTxn : {B : Type 0} {D : _} → Left B D → (LiveTxn (HeldNodes B D
 IfTxn (Kept txn) P = P txn
 IfTxn (Bench bench) P = Unit {0}
 
+-- one of the transaction, or one of the bench
+abbrev pub OfLeft : {B : Type 0} {D : _} → Left B D → (LiveTxn (HeldNodes B D) → Type 0) → (B → Type 0) → Type 0
+OfLeft (Kept txn) P Q = P txn
+OfLeft (Bench bench) P Q = Q bench
+
 abbrev pub bench_of : {B : Type 0} {D : _} → Left B D → B
 bench_of (Kept txn) = txn.own.bench
 bench_of (Bench bench) = bench

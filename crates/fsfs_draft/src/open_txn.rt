@@ -1,5 +1,5 @@
 //! A transaction under way, as it is landed and written.
-ghost use Rattle.std.specs.Prelude.{◌≡◌, ◌<◌, ◌≤◌, ◌+◌, ℕ, List, None, IsSome, length, take, option_map, IfErr, OnOk};
+ghost use Rattle.std.specs.Prelude.{◌≡◌, ◌<◌, ◌≤◌, ◌+◌, ℕ, List, None, IsSome, true, is_some, length, take, option_map, IfErr, OnOk};
 ghost use Rattle.fsfs_base.specs.Failures.{Rose};
 ghost use Rattle.fsfs_disk.specs.Benches.{bytes_on, IsFirmFile};
 ghost use Rattle.fsfs_machine.specs.declared.machine.Recorded.{Recorded};
@@ -10,7 +10,7 @@ ghost use Rattle.fsfs_turn.specs.Courses.{ReadOnly};
 ghost use Rattle.fsfs_turn.specs.Labels.{KeepsLabels};
 ghost use Rattle.fsfs_commit.specs.Works.{LandedOn};
 ghost use Rattle.fsfs_draft.specs.Meaning.{IsTxnOf, Means, IsYoungestOf, IsTextBehind, HoldsBehind};
-ghost use Rattle.fsfs_draft.specs.Findings.{Finds, FindsEnded};
+ghost use Rattle.fsfs_draft.specs.Findings.{Finds, FindsEnded, SpentByBench, Blames};
 ghost use Rattle.fsfs_draft.specs.Refusals.{IsDiskFault, Refuses};
 
 use crate::ended_txn::{EndedTxn, end_file};
@@ -52,7 +52,9 @@ impl<B: Bench> OpenTxn<B> {
             → IfErr result.1 (λ why. (u : View) × T.knows result.0 u × ReadOnly v u × Refuses why head v.seen x × (Means self.old.txn.spent h (⟦<HeldNodes<B> as Own>⟧.txn self.old.txn.own) self.old.txn.base (⟦<HeldNodes<B> as Own>⟧.settled self.old.txn.own) x
             → Means self.new.txn.spent h (⟦<HeldNodes<B> as Own>⟧.txn self.new.txn.own) self.new.txn.base (⟦<HeldNodes<B> as Own>⟧.settled self.new.txn.own) x)) }
         ensures found { IfErr result.1 (Finds (B.faults self.new.txn.own.bench) self.new.txn.spent (⟦<HeldNodes<B> as Own>⟧.settled self.new.txn.own)) }
-        ensures mounted { T.mount_path result.0 ≡ T.mount_path turns }
+        ensures lives { SpentByBench (B.faults self.old.txn.own.bench) self.old.txn.spent → OnOk result.1 (SpentByBench (B.faults self.new.txn.own.bench) self.new.txn.spent) }
+        ensures blamed { SpentByBench (B.faults self.old.txn.own.bench) self.old.txn.spent → IfErr result.1 (Blames (B.faults self.new.txn.own.bench) self.new.txn.spent) }
+        ensures mounted { T.mounting result.0 ≡ T.mounting turns }
         ensures duty { T.bound result.0 ≡ T.bound turns }
         ensures listed { KeepsLabels (T.bound turns) (T.labels turns) (T.labels result.0) }
         ensures name { ⟦<HeldNodes<B> as Own>⟧.txn self.new.txn.own ≡ ⟦<HeldNodes<B> as Own>⟧.txn self.old.txn.own }
@@ -90,7 +92,9 @@ impl<B: Bench> OpenTxn<B> {
             × Means self.new.txn.spent v.seen (⟦<HeldNodes<B> as Own>⟧.txn self.new.txn.own) self.new.txn.base (⟦<HeldNodes<B> as Own>⟧.settled self.new.txn.own) x
             × ReadOnly v u × Refuses why head u.seen x) }
         ensures found { IfErr result.1 (Finds (B.faults self.new.txn.own.bench) self.new.txn.spent (⟦<HeldNodes<B> as Own>⟧.settled self.new.txn.own)) }
-        ensures mounted { T.mount_path result.0 ≡ T.mount_path turns }
+        ensures lives { SpentByBench (B.faults self.old.txn.own.bench) self.old.txn.spent → OnOk result.1 (SpentByBench (B.faults self.new.txn.own.bench) self.new.txn.spent) }
+        ensures blamed { SpentByBench (B.faults self.old.txn.own.bench) self.old.txn.spent → IfErr result.1 (Blames (B.faults self.new.txn.own.bench) self.new.txn.spent) }
+        ensures mounted { T.mounting result.0 ≡ T.mounting turns }
         ensures duty { T.bound result.0 ≡ T.bound turns }
         ensures listed { KeepsLabels (T.bound turns) (T.labels turns) (T.labels result.0) }
         ensures name { ⟦<HeldNodes<B> as Own>⟧.txn self.new.txn.own ≡ ⟦<HeldNodes<B> as Own>⟧.txn self.old.txn.own }
@@ -122,6 +126,8 @@ impl<B: Bench> OpenTxn<B> {
         ensures refused { (h : List Recorded) (x : SpecTxn) → ((bench : B) → IsSome (B.contents bench)) → Means self.old.txn.spent h (⟦<HeldNodes<B> as Own>⟧.txn self.old.txn.own) self.old.txn.base (⟦<HeldNodes<B> as Own>⟧.settled self.old.txn.own) x
             → IsYoungestOf h rev x → IfErr result (λ why. (head : ℕ) (more : List Recorded) → Refuses why head more x) }
         ensures found { IfErr result (Finds (B.faults self.new.txn.own.bench) self.new.txn.spent (⟦<HeldNodes<B> as Own>⟧.settled self.new.txn.own)) }
+        ensures lives { SpentByBench (B.faults self.old.txn.own.bench) self.old.txn.spent → OnOk result (SpentByBench (B.faults self.new.txn.own.bench) self.new.txn.spent × (is_some self.new.text ≡ true)) }
+        ensures blamed { SpentByBench (B.faults self.old.txn.own.bench) self.old.txn.spent → IfErr result (Blames (B.faults self.new.txn.own.bench) self.new.txn.spent) }
         ensures no_disk { IfErr result (λ why. IsDiskFault why → ⊥) }
         ensures name { ⟦<HeldNodes<B> as Own>⟧.txn self.new.txn.own ≡ ⟦<HeldNodes<B> as Own>⟧.txn self.old.txn.own }
         ensures means { (h : List Recorded) (x : SpecTxn) → Means self.old.txn.spent h (⟦<HeldNodes<B> as Own>⟧.txn self.old.txn.own) self.old.txn.base (⟦<HeldNodes<B> as Own>⟧.settled self.old.txn.own) x
@@ -152,6 +158,7 @@ impl<B: Bench> OpenTxn<B> {
         ensures refused { (bytes : List ℕ) → HoldsBehind (B.contents self.txn.own.bench) (⟦<HeldNodes<B> as Own>⟧.settled self.txn.own).proto (option_map (λ t. t.items) self.text) bytes
             → IfErr result.1 (λ why. (head : ℕ) (h : List Recorded) (x : SpecTxn) → Refuses why head h x) }
         ensures found { IfErr result.1 (FindsEnded (B.faults result.0.bench)) }
+        ensures blamed { is_some self.text ≡ true → IfErr result.1 (λ why. 0 < B.faults result.0.bench) }
         ensures no_disk { IfErr result.1 (λ why. IsDiskFault why → ⊥) }
         ensures firm { OnOk result.1 (IsFirmFile (B.contents result.0.bench) (B.firm_to result.0.bench result.0.file) result.0.file) }
     {

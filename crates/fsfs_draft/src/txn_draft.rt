@@ -1,11 +1,11 @@
 //! A transaction on its way to a revision.
-ghost use Rattle.std.specs.Prelude.{◌≡◌, ◌<◌, ◌≤◌, ◌+◌, ℕ, List, Some, None, IsSome, length, take, option_map, OnOk, IfErr};
+ghost use Rattle.std.specs.Prelude.{◌≡◌, ◌<◌, ◌≤◌, ◌+◌, ℕ, List, Some, None, IsSome, true, is_some, length, take, option_map, OnOk, IfErr};
 ghost use Rattle.fsfs_base.specs.Failures.{Rose};
 ghost use Rattle.fsfs_disk.specs.Benches.{bytes_on, IsFirmFile};
 ghost use Rattle.fsfs_fields.specs.declared.txn_name.TxnName.{TxnName};
 ghost use Rattle.fsfs_limits.specs.declared.limit.PathLimit.{PathLimit};
-ghost use Rattle.fsfs_draft.specs.Meaning.{IsTxnOf, Means, IsYoungestOf, IsTextBehind, HoldsBehind, IfOpen, OfStage, left_of, IfTxn, bench_of};
-ghost use Rattle.fsfs_draft.specs.Findings.{Finds, FindsEnded, HoldsPast};
+ghost use Rattle.fsfs_draft.specs.Meaning.{IsTxnOf, Means, IsYoungestOf, IsTextBehind, HoldsBehind, IfOpen, OfStage, left_of, IfTxn, OfLeft, bench_of};
+ghost use Rattle.fsfs_draft.specs.Findings.{Finds, FindsEnded, HoldsPast, SpentByBench, Blames};
 ghost use Rattle.fsfs_draft.specs.Refusals.{IsDiskFault, Refuses};
 ghost use Rattle.fsfs_machine.specs.declared.machine.Recorded.{Recorded};
 ghost use Rattle.fsfs_machine.specs.declared.machine.Txn.{Txn as SpecTxn};
@@ -15,6 +15,7 @@ ghost use Rattle.fsfs_turn.specs.Labels.{KeepsLabels};
 ghost use Rattle.fsfs_turn.specs.Views.{View, Begins};
 ghost use Rattle.fsfs_commit.specs.Works.{LandedOn};
 ghost use Rattle.fsfs_draft.specs.Pinned.{IsPinned};
+ghost use Rattle.fsfs_draft.specs.declared.refusal.CommitRefusal.{CommitRefusal};
 ghost use Rattle.fsfs_draft.specs.declared.txn_draft.Stage.TheVariants.{Open};
 
 use crate::ended_txn::EndedTxn;
@@ -145,6 +146,9 @@ impl<B: Bench> TxnDraft<B> {
         // A path past a limit that the draft has is one that the transaction has.
         ensures past { (limit : PathLimit) → OfStage self.stage (λ o. HoldsPast (⟦<HeldNodes<B> as Own>⟧.settled o.txn.own) limit) (λ ended. ⊥)
             → IfTxn result (λ txn. HoldsPast (⟦<HeldNodes<B> as Own>⟧.settled txn.own) limit) }
+        // So is what it says of its bench, where it was refused and where it wasn't.
+        ensures lives { OfStage self.stage (λ o. SpentByBench (B.faults o.txn.own.bench) o.txn.spent) (λ ended. ⊥) → OfLeft result (λ txn. SpentByBench (B.faults txn.own.bench) txn.spent) (λ bench. ⊥) }
+        ensures blames { (why : CommitRefusal) → OfStage self.stage (λ o. Blames (B.faults o.txn.own.bench) o.txn.spent why) (λ ended. 0 < B.faults ended.bench) → OfLeft result (λ txn. Blames (B.faults txn.own.bench) txn.spent why) (λ bench. 0 < B.faults bench) }
     {
         let TxnDraft {
             properties: _,
@@ -170,6 +174,8 @@ fn marshal_stage<B: Bench>(
     ensures refused { (h : List Recorded) (x : SpecTxn) → ((bench : B) → IsSome (B.contents bench)) → IfOpen stage.old (λ o. Means o.txn.spent h (⟦<HeldNodes<B> as Own>⟧.txn o.txn.own) o.txn.base (⟦<HeldNodes<B> as Own>⟧.settled o.txn.own) x)
         → IsYoungestOf h rev x → IfErr result (λ why. (head : ℕ) (more : List Recorded) → Refuses why head more x) }
     ensures found { IfErr result (λ why. OfStage stage.new (λ o. Finds (B.faults o.txn.own.bench) o.txn.spent (⟦<HeldNodes<B> as Own>⟧.settled o.txn.own) why) (λ ended. FindsEnded (B.faults ended.bench) why)) }
+    ensures lives { OfStage stage.old (λ o. SpentByBench (B.faults o.txn.own.bench) o.txn.spent) (λ ended. ⊥) → OnOk result (OfStage stage.new (λ o. SpentByBench (B.faults o.txn.own.bench) o.txn.spent × (is_some o.text ≡ true)) (λ ended. ⊥)) }
+    ensures blamed { OfStage stage.old (λ o. SpentByBench (B.faults o.txn.own.bench) o.txn.spent) (λ ended. ⊥) → IfErr result (λ why. OfStage stage.new (λ o. Blames (B.faults o.txn.own.bench) o.txn.spent why) (λ ended. 0 < B.faults ended.bench)) }
     ensures no_disk { IfErr result (λ why. IsDiskFault why → ⊥) }
     ensures named { (name : TxnName) → IfOpen stage.old (λ o. ⟦<HeldNodes<B> as Own>⟧.txn o.txn.own ≡ name) → IfOpen stage.new (λ o. ⟦<HeldNodes<B> as Own>⟧.txn o.txn.own ≡ name) }
     ensures means { (h : List Recorded) (x : SpecTxn) → IfOpen stage.old (λ o. Means o.txn.spent h (⟦<HeldNodes<B> as Own>⟧.txn o.txn.own) o.txn.base (⟦<HeldNodes<B> as Own>⟧.settled o.txn.own) x)
@@ -189,6 +195,7 @@ fn written<B: Bench>(stage: Stage<B>) -> (Stage<B>, Result<(), CommitRefusal>)
     ensures refused { (bytes : List ℕ) → OfStage stage (λ o. HoldsBehind (B.contents o.txn.own.bench) (⟦<HeldNodes<B> as Own>⟧.settled o.txn.own).proto (option_map (λ t. t.items) o.text) bytes) (λ ended. bytes ≡ bytes_on (B.contents ended.bench) ended.file)
         → IfErr result.1 (λ why. (head : ℕ) (h : List Recorded) (x : SpecTxn) → Refuses why head h x) }
     ensures found { IfErr result.1 (λ why. OfStage result.0 (λ o. Finds (B.faults o.txn.own.bench) o.txn.spent (⟦<HeldNodes<B> as Own>⟧.settled o.txn.own) why) (λ ended. FindsEnded (B.faults ended.bench) why)) }
+    ensures blamed { OfStage stage (λ o. is_some o.text ≡ true) (λ ended. ⊥) → IfErr result.1 (λ why. OfStage result.0 (λ o. ⊥) (λ ended. 0 < B.faults ended.bench)) }
     ensures no_disk { IfErr result.1 (λ why. IsDiskFault why → ⊥) }
     ensures ended { OfStage result.0 (λ o. ⊥) (λ ended. Unit {0}) }
 {
@@ -215,8 +222,10 @@ fn merge_stage<R, T: Turns<R>>(
     ensures err { (v : View) (x : SpecTxn) → T.knows turns v → IfOpen stage.old (λ o. Means o.txn.spent v.seen (⟦<HeldNodes<T::Bench> as Own>⟧.txn o.txn.own) o.txn.base (⟦<HeldNodes<T::Bench> as Own>⟧.settled o.txn.own) x) → x.base ≤ head → length v.seen ≤ head + 1 → head ≤ v.pass.least
         → IfErr result.1 (λ why. (u : View) × T.knows result.0 u × IfOpen stage.new (λ o. Means o.txn.spent v.seen (⟦<HeldNodes<T::Bench> as Own>⟧.txn o.txn.own) o.txn.base (⟦<HeldNodes<T::Bench> as Own>⟧.settled o.txn.own) x) × ReadOnly v u × Refuses why head u.seen x) }
     ensures found { IfErr result.1 (λ why. OfStage stage.new (λ o. Finds (T.Bench.faults o.txn.own.bench) o.txn.spent (⟦<HeldNodes<T::Bench> as Own>⟧.settled o.txn.own) why) (λ ended. FindsEnded (T.Bench.faults ended.bench) why)) }
+    ensures lives { OfStage stage.old (λ o. SpentByBench (T.Bench.faults o.txn.own.bench) o.txn.spent) (λ ended. ⊥) → OnOk result.1 (OfStage stage.new (λ o. SpentByBench (T.Bench.faults o.txn.own.bench) o.txn.spent) (λ ended. ⊥)) }
+    ensures blamed { OfStage stage.old (λ o. SpentByBench (T.Bench.faults o.txn.own.bench) o.txn.spent) (λ ended. ⊥) → IfErr result.1 (λ why. OfStage stage.new (λ o. Blames (T.Bench.faults o.txn.own.bench) o.txn.spent why) (λ ended. 0 < T.Bench.faults ended.bench)) }
     ensures named { (name : TxnName) → IfOpen stage.old (λ o. ⟦<HeldNodes<T::Bench> as Own>⟧.txn o.txn.own ≡ name) → IfOpen stage.new (λ o. ⟦<HeldNodes<T::Bench> as Own>⟧.txn o.txn.own ≡ name) }
-    ensures mounted { T.mount_path result.0 ≡ T.mount_path turns }
+    ensures mounted { T.mounting result.0 ≡ T.mounting turns }
     ensures duty { T.bound result.0 ≡ T.bound turns }
     ensures listed { KeepsLabels (T.bound turns) (T.labels turns) (T.labels result.0) }
     ensures later { T.faults turns ≤ T.faults result.0 }
@@ -265,8 +274,8 @@ impl<'a, B: Bench> Claims<Option<Adoption>> for Adopting<'a, B> {
 impl<R, T: Turns<R>> Draft<R, T> for TxnDraft<T::Bench> {
     ghost use Rattle.fsfs_draft.specs.Meaning.{Means, HoldsBehind, IfOpen, OfStage};
     ghost use Rattle.fsfs_disk.specs.Benches.{bytes_on, IsFirmFile};
-    ghost use Rattle.std.specs.Prelude.{◌≡◌, is_some, option_map};
-    ghost use Rattle.fsfs_draft.specs.Findings.{Finds, FindsEnded};
+    ghost use Rattle.std.specs.Prelude.{◌≡◌, ◌<◌, true, is_some, option_map};
+    ghost use Rattle.fsfs_draft.specs.Findings.{Finds, FindsEnded, SpentByBench, Blames};
     ghost use Rattle.fsfs_draft.specs.Refusals.{IsDiskFault, Refuses};
     ghost use Rattle.fsfs_draft.specs.Pinned.{IsPinned, IsAdopted};
     ghost use Rattle.fsfs_draft.specs.StayingLemmas.{open_grows, pinned_grows};
@@ -290,6 +299,12 @@ impl<R, T: Turns<R>> Draft<R, T> for TxnDraft<T::Bench> {
     ghost finds = { λ d why. OfStage d.stage (λ o. Finds (T.Bench.faults o.txn.own.bench) o.txn.spent (⟦<HeldNodes<T::Bench> as Own>⟧.settled o.txn.own) why) (λ e. FindsEnded (T.Bench.faults e.bench) why) };
 
     ghost is_disk_fault = { IsDiskFault };
+
+    ghost lives = { λ d. OfStage d.stage (λ o. SpentByBench (T.Bench.faults o.txn.own.bench) o.txn.spent) (λ e. ⊥) };
+
+    ghost is_made = { λ d. OfStage d.stage (λ o. is_some o.text ≡ true) (λ e. ⊥) };
+
+    ghost blames = { λ d why. OfStage d.stage (λ o. Blames (T.Bench.faults o.txn.own.bench) o.txn.spent why) (λ e. 0 < T.Bench.faults e.bench) };
 
     fn merge(
         &mut self,

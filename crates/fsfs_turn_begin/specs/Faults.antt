@@ -1,5 +1,5 @@
 -- Why no transaction was begun.
-use Rattle.std.specs.Prelude.{◌≡◌, ◌⊎◌, ◌<◌, ℕ, List, ◌∷◌, length, false, Option, Some, Err, IfSome}
+use Rattle.std.specs.Prelude.{◌≡◌, ◌⊎◌, ◌<◌, ℕ, List, ◌∷◌, length, false, Option, Some, Result, Ok, Err, IfSome}
 use Rattle.fsfs_begin.specs.declared.making.BenchFault.{BenchFault as BenchCause}
 use Rattle.fsfs_begin.specs.declared.making.BenchFault.TheVariants as bench
 use Rattle.fsfs_begin.specs.declared.name_fault.NameFault.{NameFault}
@@ -43,6 +43,23 @@ IfDisk fault P = Unit {0}
 abbrev pub IfBenchDisk : BenchCause → Type 0 → Type 0
 IfBenchDisk bench.Disk P = P
 IfBenchDisk bench.Bench P = Unit {0}
+
+-- whether a bench failed, as a count
+abbrev pub bench_failures : BenchCause → ℕ
+bench_failures bench.Disk = 0
+bench_failures bench.Bench = 1
+
+abbrev pub bench_failures_in : {X : Type 0} → Result X BenchCause → ℕ
+bench_failures_in (Ok x) = 0
+bench_failures_in (Err why) = bench_failures why
+
+abbrev pub bench_faults : BeginFault → ℕ
+bench_faults BenchFault = 1
+bench_faults fault = 0
+
+abbrev pub bench_faults_in : {X : Type 0} → Result X BeginFault → ℕ
+bench_faults_in (Ok x) = 0
+bench_faults_in (Err why) = bench_faults why
 
 abbrev pub IfNameDisk : NameFault → Type 0 → Type 0
 IfNameDisk (names.DiskFault at) P = P

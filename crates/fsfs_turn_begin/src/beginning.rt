@@ -7,10 +7,11 @@ ghost use Rattle.fsfs_begin.specs.Begun.{IsBegunOn};
 ghost use Rattle.fsfs_begin.specs.Benches.{TellsRoot};
 ghost use Rattle.fsfs_turn.specs.Bytes.{bytes_of};
 ghost use Rattle.fsfs_turn.specs.Labels.{Relabels};
+ghost use Rattle.fsfs_turn.specs.Mountings.{RoseBy};
 ghost use Rattle.fsfs_turn.specs.Views.{View};
 ghost use Rattle.fsfs_turn.specs.Learning.{MayMake, drawn_of};
 ghost use Rattle.fsfs_turn_begin.specs.Steps.{MeetsPastNumbers, Moved};
-ghost use Rattle.fsfs_turn_begin.specs.Faults.{Cause, IfBench, IfDisk, IsAbove, IsDropped, LacksNumber, LeavesNone, read_fault};
+ghost use Rattle.fsfs_turn_begin.specs.Faults.{Cause, IfBench, IfDisk, IsAbove, IsDropped, LacksNumber, LeavesNone, bench_faults_in, read_fault};
 ghost use Rattle.fsfs_turn_begin.specs.Begun.{HoldsRoot, IsMade, IsMadeAmong, HasBegun, HasBegunAmong};
 ghost use Rattle.fsfs_turn_begin.specs.Labels.{ListsNoMore};
 ghost use Rattle.fsfs_turn_begin.specs.declared.numbers.Numbers.TheVariants.{OfMachine};
@@ -60,7 +61,8 @@ fn begin_named<R, T: Turns<R>>(
     ensures dropped { IfErr result.1 (λ why. IfBench why (IsDropped (txn_label (pair_of name)) (T.labels result.0) (Rose (T.faults turns) (T.faults result.0)))) }
     ensures listed { OnOk result.1 (Relabels (T.bound turns) (with_label (txn_label (pair_of name))) (T.labels turns) (T.labels result.0)) }
     ensures unlisted { OnErr result.1 (T.bound turns ≡ false → ListsNoMore name.base (Rose (T.faults turns) (T.faults result.0)) (T.labels turns) (T.labels result.0)) }
-    ensures mounted { T.mount_path result.0 ≡ T.mount_path turns }
+    ensures mounted { (T.mounting result.0).mount ≡ (T.mounting turns).mount }
+    ensures benches { RoseBy (bench_faults_in result.1) (T.mounting turns).bench_faults (T.mounting result.0).bench_faults }
     ensures duty { T.bound result.0 ≡ T.bound turns }
     ensures later { T.faults turns ≤ T.faults result.0 }
     ensures cause { IfErr result.1 (λ why. IfDisk why (Rose (T.faults turns) (T.faults result.0))) }
@@ -118,7 +120,8 @@ pub fn begin<R, T: Turns<R>>(
     // Whatever the disk tells.
     ensures above { IfErr result.1 (IsAbove base) }
     ensures duty { T.bound result.0 ≡ T.bound turns }
-    ensures mounted { T.mount_path result.0 ≡ T.mount_path turns }
+    ensures mounted { (T.mounting result.0).mount ≡ (T.mounting turns).mount }
+    ensures benches { RoseBy (bench_faults_in result.1) (T.mounting turns).bench_faults (T.mounting result.0).bench_faults }
     ensures later { T.faults turns ≤ T.faults result.0 }
     ensures cause { IfErr result.1 (λ why. IfDisk why (Rose (T.faults turns) (T.faults result.0))) }
 {

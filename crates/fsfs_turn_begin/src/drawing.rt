@@ -42,7 +42,7 @@ fn read_number<R, T: Turns<R>>(rt: &R, turns: &mut T, base: RevNum) -> Result<B3
     requires due { T.bound turns.old ≡ true → (v : View) × T.knows turns.old v × (v.section ≡ Some Begun) × (base ≤ v.pass.least) }
     ensures counted { (v : View) → T.knows turns.old v → v.section ≡ Some Begun → base ≤ v.pass.least
         → Counts (T.knows turns.new) base result v ⊎ (T.knows turns.new v × IfOk result (λ b. 2 ^ 64 - 1 ≤ b.number) × IfErr result NoNumber × MeetsPastNumbers T.store turns.old) }
-    ensures mounted { T.mount_path turns.new ≡ T.mount_path turns.old }
+    ensures mounted { T.mounting turns.new ≡ T.mounting turns.old }
     ensures duty { T.bound turns.new ≡ T.bound turns.old }
     ensures listed { KeepsLabels (T.bound turns.old) (T.labels turns.old) (T.labels turns.new) }
     ensures later { T.faults turns.old ≤ T.faults turns.new }
@@ -61,7 +61,7 @@ fn read_number<R, T: Turns<R>>(rt: &R, turns: &mut T, base: RevNum) -> Result<B3
 fn raise<R, T: Turns<R>>(rt: &R, turns: &mut T, text: &[u8]) -> Result<(), BeginPlace>
     requires due { T.bound turns.old ≡ true → (v : View) × (x : Drawn) × T.knows turns.old v × (v.section ≡ Some (CountRead x)) × IsBase36Line text.now x.next }
     ensures raised { (v : View) (x : Drawn) → T.knows turns.old v → v.section ≡ Some (CountRead x) → IsBase36Line text.now x.next → Raises (T.knows turns.new) x result v }
-    ensures mounted { T.mount_path turns.new ≡ T.mount_path turns.old }
+    ensures mounted { T.mounting turns.new ≡ T.mounting turns.old }
     ensures duty { T.bound turns.new ≡ T.bound turns.old }
     ensures listed { KeepsLabels (T.bound turns.old) (T.labels turns.old) (T.labels turns.new) }
     ensures cause { HasCause (T.faults turns.old) (T.faults turns.new) result }
@@ -96,7 +96,7 @@ fn next_name<R, T: Turns<R>>(
     ensures base { IfOk result (λ name. name.base ≡ base) }
     ensures drawn { (v : View) → T.knows turns.old v → v.section ≡ Some Begun → base ≤ v.pass.least
         → Draws (T.knows turns.new) base result v ⊎ (MeetsPastNumbers T.store turns.old × (numbers ≡ OfMachine → OnOk result ⊥ × IfErr result NoNumber × T.knows turns.new v)) }
-    ensures mounted { T.mount_path turns.new ≡ T.mount_path turns.old }
+    ensures mounted { T.mounting turns.new ≡ T.mounting turns.old }
     ensures duty { T.bound turns.new ≡ T.bound turns.old }
     ensures listed { KeepsLabels (T.bound turns.old) (T.labels turns.old) (T.labels turns.new) }
     ensures later { T.faults turns.old ≤ T.faults turns.new }
@@ -147,7 +147,7 @@ pub(crate) fn draw<R, T: Turns<R>>(
     ensures base { IfOk result (λ name. name.base ≡ base) }
     ensures drew { (v : View) → T.knows turns.old v → v.section ≡ None → base ≤ v.pass.least
         → Drew (T.knows turns.new) base result v ⊎ (MeetsPastNumbers T.store turns.old × (numbers ≡ OfMachine → OnOk result ⊥ × IfErr result LacksNumber × ((u : View) × T.knows turns.new u × Moved v u))) }
-    ensures mounted { T.mount_path turns.new ≡ T.mount_path turns.old }
+    ensures mounted { T.mounting turns.new ≡ T.mounting turns.old }
     ensures duty { T.bound turns.new ≡ T.bound turns.old }
     ensures listed { KeepsLabels (T.bound turns.old) (T.labels turns.old) (T.labels turns.new) }
     ensures later { T.faults turns.old ≤ T.faults turns.new }

@@ -7,10 +7,11 @@ ghost use Rattle.fsfs_begin.specs.Beginning.{BeginsOn};
 ghost use Rattle.fsfs_begin.specs.Benches.{first_files, TellsRoot};
 ghost use Rattle.fsfs_txns.specs.Txns.{pair_of, txn_label};
 ghost use Rattle.fsfs_turn.specs.Labels.{Relabels};
+ghost use Rattle.fsfs_turn.specs.Mountings.{RoseBy};
 ghost use Rattle.fsfs_turn.specs.Views.{View};
 ghost use Rattle.fsfs_turn.specs.Learning.{MayMake, drawn_of};
 ghost use Rattle.fsfs_turn_begin.specs.Steps.{HasFault, Moved};
-ghost use Rattle.fsfs_turn_begin.specs.Faults.{Cause, IfBench, IfDisk, IfBenchDisk, IsDropped, IsNoBase, made_fault};
+ghost use Rattle.fsfs_turn_begin.specs.Faults.{Cause, IfBench, IfDisk, IfBenchDisk, IsDropped, IsNoBase, bench_failures_in, bench_faults_in, made_fault};
 ghost use Rattle.fsfs_turn_begin.specs.Begun.{HoldsRoot, IsMade};
 ghost use Rattle.fsfs_turn_begin.specs.Labels.{IsUnlisted, ListsNoMore};
 
@@ -52,7 +53,8 @@ fn begin_bench<R, T: Turns<R>>(
     ensures dropped { OnErr result (IsDropped (txn_label (pair_of name.now)) (T.labels turns.new) (Rose (T.faults turns.old) (T.faults turns.new))) }
     ensures listed { OnOk result (Relabels (T.bound turns.old) (with_label (txn_label (pair_of name.now))) (T.labels turns.old) (T.labels turns.new)) }
     ensures unlisted { OnErr result (T.bound turns.old ≡ false → IsUnlisted (txn_label (pair_of name.now)) (Rose (T.faults turns.old) (T.faults turns.new)) (T.labels turns.old) (T.labels turns.new)) }
-    ensures mounted { T.mount_path turns.new ≡ T.mount_path turns.old }
+    ensures mounted { (T.mounting turns.new).mount ≡ (T.mounting turns.old).mount }
+    ensures benches { RoseBy (bench_failures_in result) (T.mounting turns.old).bench_faults (T.mounting turns.new).bench_faults }
     ensures duty { T.bound turns.new ≡ T.bound turns.old }
     ensures later { T.faults turns.old ≤ T.faults turns.new }
     ensures cause { IfErr result (λ why. IfBenchDisk why (Rose (T.faults turns.old) (T.faults turns.new))) }
@@ -95,7 +97,8 @@ pub(crate) fn make<R, T: Turns<R>>(
     ensures dropped { IfErr result (λ why. IfBench why (IsDropped (txn_label (pair_of name)) (T.labels turns.new) (Rose (T.faults turns.old) (T.faults turns.new)))) }
     ensures listed { OnOk result (Relabels (T.bound turns.old) (with_label (txn_label (pair_of name))) (T.labels turns.old) (T.labels turns.new)) }
     ensures unlisted { OnErr result (T.bound turns.old ≡ false → ListsNoMore name.base (Rose (T.faults turns.old) (T.faults turns.new)) (T.labels turns.old) (T.labels turns.new)) }
-    ensures mounted { T.mount_path turns.new ≡ T.mount_path turns.old }
+    ensures mounted { (T.mounting turns.new).mount ≡ (T.mounting turns.old).mount }
+    ensures benches { RoseBy (bench_faults_in result) (T.mounting turns.old).bench_faults (T.mounting turns.new).bench_faults }
     ensures duty { T.bound turns.new ≡ T.bound turns.old }
     ensures later { T.faults turns.old ≤ T.faults turns.new }
     ensures cause { IfErr result (λ why. IfDisk why (Rose (T.faults turns.old) (T.faults turns.new))) }

@@ -28,7 +28,7 @@ pub(crate) fn base_root<R, T: Turns<R>>(
     ensures writable { IfOk result.1 (λ found. HasText found.node) }
     ensures onward { (v : View) → T.knows turns v → (m : View) × (young : ℕ) × (u : View) × T.knows result.0 u × Looked young v m × ReadOnly m u }
     ensures below { (T.store result.0).below ≡ (T.store turns).below }
-    ensures mounted { T.mount_path result.0 ≡ T.mount_path turns }
+    ensures mounted { T.mounting result.0 ≡ T.mounting turns }
     ensures duty { T.bound result.0 ≡ T.bound turns }
     ensures listed { KeepsLabels (T.bound turns) (T.labels turns) (T.labels result.0) }
     ensures later { T.faults turns ≤ T.faults result.0 }

@@ -8,6 +8,7 @@ ghost use Rattle.fsfs_machine.specs.Kept.{IsIn};
 ghost use Rattle.fsfs_txns.specs.Txns.{pair_of, txn_label};
 ghost use Rattle.fsfs_turn.specs.Views.{View, with_txns};
 ghost use Rattle.fsfs_turn.specs.Labels.{Relabels, MayRelabel};
+ghost use Rattle.fsfs_turn.specs.Mountings.{RoseBy};
 ghost use Rattle.fsfs_turn.specs.Learning.{MayPurge, with_spent};
 ghost use Rattle.fsfs_turn_purge.specs.Purged.{Purges};
 
@@ -39,7 +40,9 @@ pub fn purge<R, T: Turns<R>>(
         → (txn : Txn) × (txn.name ≡ name.now.number.number) × MayPurge v txn × Purges (T.knows turns.new) (with_txns (txn ∷ [])) (λ went. Purge v.number 0 went) result v }
     ensures spent { (v : View) → T.knows turns.old v → v.section ≡ None → IsIn name.now.number.number v.given
         → Purges (T.knows turns.new) (with_spent name.now.number.number) (λ went. PurgeSpent v.number 0 went) result v }
-    ensures mounted { T.mount_path turns.new ≡ T.mount_path turns.old }
+    ensures mounted { (T.mounting turns.new).mount ≡ (T.mounting turns.old).mount }
+    // The bench's faults are counted, however it went.
+    ensures benches { RoseBy (T.Bench.faults bench) (T.mounting turns.old).bench_faults (T.mounting turns.new).bench_faults }
     ensures duty { T.bound turns.new ≡ T.bound turns.old }
     ensures cause { HasCause (T.faults turns.old) (T.faults turns.new) result }
 {

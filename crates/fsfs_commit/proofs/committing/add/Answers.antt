@@ -65,3 +65,6 @@ returns-in-Ok-publish-clause-named g c = λ name is. c.in-Ok-publish.ensures.nam
 
 pub returns-in-Err-publish-clause-named : goal.returns-in-Err-publish-clause-named
 returns-in-Err-publish-clause-named g c = λ name is. c.in-Err-publish.ensures.named name (c.write-draft.ensures.named name is)
+
+pub returns-in-Err-clause-left : goal.returns-in-Err-clause-left
+returns-in-Err-clause-left g c = λ made. if_err c.write-draft.result.1 c.in-Err.refusal _ c.in-Err.is (c.write-draft.ensures.blamed made)

@@ -1,5 +1,5 @@
 use Rattle.std.proofs.Common.{◌≡◌, ◌∙◌}
-use Rattle.fsfs_draft.proofs.Stages.{meaning, if_open}
+use Rattle.fsfs_draft.proofs.Stages.{meaning, if_open, of_open, of_ended}
 use Rattle.fsfs_draft.proofs.txn_draft.marshal_stage.Goals as goal
 
 pub returns-in-Open-clause-made : goal.returns-in-Open-clause-made
@@ -16,3 +16,12 @@ returns-in-Open-clause-refused g c = λ h x tells means youngest.
 
 pub returns-in-Open-clause-named : goal.returns-in-Open-clause-named
 returns-in-Open-clause-named g c = λ name is. c.marshal.ensures.name ∙ if_open c.args.stage.now c.in-Open.live (λ o. o.txn.own.txn ≡ name) c.in-Open.is is
+
+pub returns-in-Open-clause-lives : goal.returns-in-Open-clause-lives
+returns-in-Open-clause-lives g c = λ by. c.marshal.ensures.lives (of_open c.args.stage.now c.in-Open.live _ _ c.in-Open.is by)
+
+pub returns-in-Open-clause-blamed : goal.returns-in-Open-clause-blamed
+returns-in-Open-clause-blamed g c = λ by. c.marshal.ensures.blamed (of_open c.args.stage.now c.in-Open.live _ _ c.in-Open.is by)
+
+pub returns-in-Ended-clause-blamed : goal.returns-in-Ended-clause-blamed
+returns-in-Ended-clause-blamed g c = λ by. absurd (of_ended c.args.stage.now c.in-Ended.field-0 _ _ c.in-Ended.is by)

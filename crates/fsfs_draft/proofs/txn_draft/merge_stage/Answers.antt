@@ -1,6 +1,6 @@
 use Rattle.std.proofs.Common.{◌≡◌, ◌∙◌}
 use Rattle.fsfs_turn.specs.OwnedLemmas.{reads_nothing}
-use Rattle.fsfs_draft.proofs.Stages.{meaning, if_open}
+use Rattle.fsfs_draft.proofs.Stages.{meaning, if_open, of_open, of_ended}
 use Rattle.fsfs_draft.proofs.txn_draft.merge_stage.Goals as goal
 
 pub merge-requires : goal.merge-requires
@@ -20,3 +20,12 @@ returns-in-Ended-clause-err g c = λ v x known means low long told.
 
 pub returns-in-Open-clause-named : goal.returns-in-Open-clause-named
 returns-in-Open-clause-named g c = λ name is. c.merge.ensures.name ∙ if_open c.args.stage.now c.in-Open.live (λ o. o.txn.own.txn ≡ name) c.in-Open.is is
+
+pub returns-in-Open-clause-lives : goal.returns-in-Open-clause-lives
+returns-in-Open-clause-lives g c = λ by. c.merge.ensures.lives (of_open c.args.stage.now c.in-Open.live _ _ c.in-Open.is by)
+
+pub returns-in-Open-clause-blamed : goal.returns-in-Open-clause-blamed
+returns-in-Open-clause-blamed g c = λ by. c.merge.ensures.blamed (of_open c.args.stage.now c.in-Open.live _ _ c.in-Open.is by)
+
+pub returns-in-Ended-clause-blamed : goal.returns-in-Ended-clause-blamed
+returns-in-Ended-clause-blamed g c = λ by. absurd (of_ended c.args.stage.now c.in-Ended.field-0 _ _ c.in-Ended.is by)

@@ -80,3 +80,21 @@ returns-in-Err-fill-clause-unlisted g c = λ free.
 
 pub returns-in-Err-clause-unlisted : goal.returns-in-Err-clause-unlisted
 returns-in-Err-clause-unlisted g c = λ free. inr (omega (arith, c.in-Err.ensures.cause.failed, c.drop_bench-in-Err.ensures.cause.later))
+
+pub returns-in-Ok-fill-clause-benches : goal.returns-in-Ok-fill-clause-benches
+returns-in-Ok-fill-clause-benches g c = let same = ap (λ m. m.bench_faults) c.in-Ok.ensures.mounted in omega (arith, same)
+
+pub returns-in-Err-fill-clause-benches : goal.returns-in-Err-fill-clause-benches
+returns-in-Err-fill-clause-benches g c = let same = ap (λ m. m.bench_faults) c.in-Ok.ensures.mounted in omega (arith, same, c.drop_bench.ensures.benches, c.in-Err-fill.ensures.cause.failed, c.in-Ok.ensures.new)
+
+pub returns-in-Err-clause-benches : goal.returns-in-Err-clause-benches
+returns-in-Err-clause-benches g c = let same = ap (λ m. m.bench_faults) c.in-Err.ensures.mounted in omega (arith, same, c.drop_bench-in-Err.ensures.benches)
+
+pub returns-in-Err-fill-clause-mounted : goal.returns-in-Err-fill-clause-mounted
+returns-in-Err-fill-clause-mounted g c = c.drop_bench.ensures.mounted ∙ ap (λ m. m.mount) c.in-Ok.ensures.mounted
+
+pub returns-in-Err-clause-mounted : goal.returns-in-Err-clause-mounted
+returns-in-Err-clause-mounted g c = c.drop_bench-in-Err.ensures.mounted ∙ ap (λ m. m.mount) c.in-Err.ensures.mounted
+
+pub returns-in-Ok-fill-clause-mounted : goal.returns-in-Ok-fill-clause-mounted
+returns-in-Ok-fill-clause-mounted g c = ap (λ m. m.mount) c.in-Ok.ensures.mounted

@@ -9,7 +9,7 @@ use Rattle.fsfs_held.specs.Views.{folder_of}
 use Rattle.fsfs_machine.specs.Machine.{revisions}
 use Rattle.fsfs_turn.specs.Bytes.{bytes_of}
 use Rattle.fsfs_draft.proofs.Coming.{handed, handed_as, final_as}
-use Rattle.fsfs_draft.proofs.Merging.{made_refuses, some_failed, made_found}
+use Rattle.fsfs_draft.proofs.Merging.{made_refuses, some_failed, made_found, unspent_lives, made_blamed}
 use Rattle.fsfs_draft.proofs.Writing.{where_told, txn_as, means_as}
 use Rattle.fsfs_draft.proofs.open_txn.OpenTxn.marshal.Goals as goal
 
@@ -94,3 +94,17 @@ returns-in-Ok-final_text-clause-name g c = c.proto_length.ensures.name ∙ c.for
 
 pub returns-in-Err-final_text-clause-name : goal.returns-in-Err-final_text-clause-name
 returns-in-Err-final_text-clause-name g c = c.proto_length.ensures.name ∙ c.forget.ensures.name
+
+-- ---- what it says of its bench
+
+pub returns-then-is_spent-clause-blamed : goal.returns-then-is_spent-clause-blamed
+returns-then-is_spent-clause-blamed g c = λ by. (by, by (sym c.is_spent.ensures ∙ c.if-is_spent.true))
+
+pub returns-in-Ok-final_text-clause-lives : goal.returns-in-Ok-final_text-clause-lives
+returns-in-Ok-final_text-clause-lives g c = λ by. (unspent_lives c.proto_length.new.self.spent _ (ap (λ t. t.spent) c.proto_length.ensures.rest ∙ ap (λ t. t.spent) c.forget.ensures.rest ∙ none_of c.args.self.now.txn.spent (sym c.is_spent.ensures ∙ c.if-is_spent.false)), refl)
+
+pub returns-in-Err-clause-blamed : goal.returns-in-Err-clause-blamed
+returns-in-Err-clause-blamed g c = λ by. (unspent_lives c.proto_length.new.self.spent _ (ap (λ t. t.spent) c.proto_length.ensures.rest ∙ ap (λ t. t.spent) c.forget.ensures.rest ∙ none_of c.args.self.now.txn.spent (sym c.is_spent.ensures ∙ c.if-is_spent.false)), some_failed _ _ c.in-Err.ensures.cause.failed)
+
+pub returns-in-Err-final_text-clause-blamed : goal.returns-in-Err-final_text-clause-blamed
+returns-in-Err-final_text-clause-blamed g c = λ by. made_blamed c.in-Err-final_text.error _ _ _ c.proto_length.new.self.spent c.not_made.ensures c.in-Err-final_text.ensures.refused (ap (λ t. t.spent) c.proto_length.ensures.rest ∙ ap (λ t. t.spent) c.forget.ensures.rest ∙ none_of c.args.self.now.txn.spent (sym c.is_spent.ensures ∙ c.if-is_spent.false))

@@ -83,3 +83,9 @@ returns-then-is_spent-clause-found g c = sym c.is_spent.ensures ∙ c.if-is_spen
 
 pub returns-in-Ok-clause-listed : goal.returns-in-Ok-clause-listed
 returns-in-Ok-clause-listed g c = λ free. c.land.ensures.listed (c.in-Ok.ensures.duty ∙ free) ∙ c.in-Ok.ensures.listed free
+
+pub returns-then-is_spent-clause-blamed : goal.returns-then-is_spent-clause-blamed
+returns-then-is_spent-clause-blamed g c = λ by. (by, by (sym c.is_spent.ensures ∙ c.if-is_spent.true))
+
+pub returns-in-Err-clause-blamed : goal.returns-in-Err-clause-blamed
+returns-in-Err-clause-blamed g c = λ by. (by, tt)

@@ -21,3 +21,6 @@ returns-in-Ok-clause-held g c = λ bytes held.
 
 pub returns-clause-found : goal.returns-clause-found
 returns-clause-found g c = some_failed _ _ c.in-Err.ensures.cause.failed
+
+pub returns-clause-blamed : goal.returns-clause-blamed
+returns-clause-blamed g c = λ made. some_failed _ _ c.in-Err.ensures.cause.failed

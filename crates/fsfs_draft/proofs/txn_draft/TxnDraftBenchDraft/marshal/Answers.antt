@@ -7,7 +7,7 @@ use Rattle.fsfs_commit.specs.Courses.{IsMade}
 use Rattle.fsfs_draft.specs.Meaning.{OfStage}
 use Rattle.fsfs_draft.proofs.Marshalled.{stage_marshalled}
 use Rattle.fsfs_draft.proofs.Pinning.{is_noted, pinned_is, notes_adoption, adopts_as, marshalled_pinned}
-use Rattle.fsfs_draft.proofs.Stages.{behind}
+use Rattle.fsfs_draft.proofs.Stages.{behind, of_stage_then}
 use Rattle.fsfs_draft.proofs.Writing.{on_ok, if_err}
 use Rattle.fsfs_draft.proofs.txn_draft.TxnDraftBenchDraft.marshal.Goals as goal
 
@@ -68,3 +68,17 @@ returns-in-Ok-make_rest-clause-means g c = λ h x means. (c.marshal_stage.ensure
 
 pub returns-in-Err-make_rest-clause-means : goal.returns-in-Err-make_rest-clause-means
 returns-in-Err-make_rest-clause-means g c = λ h x means. (c.marshal_stage.ensures.means h x means.0, means.1)
+
+pub returns-in-Ok-make_rest-clause-lives : goal.returns-in-Ok-make_rest-clause-lives
+returns-in-Ok-make_rest-clause-lives g c = λ lives.
+    let stage = c.marshal_stage.new.stage in
+    let made = on_ok c.marshal_stage.result tt _ c.in-Ok.is (c.marshal_stage.ensures.lives lives) in
+    (of_stage_then stage _ _ _ (λ e. ⊥) (λ o w. w.0) (λ e w. w) made, of_stage_then stage _ _ _ (λ e. ⊥) (λ o w. w.1) (λ e w. w) made)
+
+pub returns-in-Err-clause-blamed : goal.returns-in-Err-clause-blamed
+returns-in-Err-clause-blamed g c = λ lives. if_err c.marshal_stage.result c.in-Err.refusal _ c.in-Err.is (c.marshal_stage.ensures.blamed lives)
+
+pub returns-in-Err-make_rest-clause-blamed : goal.returns-in-Err-make_rest-clause-blamed
+returns-in-Err-make_rest-clause-blamed g c = λ lives.
+    let made = on_ok c.marshal_stage.result tt _ c.in-Ok.is (c.marshal_stage.ensures.lives lives) in
+    of_stage_then c.marshal_stage.new.stage _ _ (λ e. ⊥) _ (λ o w. (w.0, tt)) (λ e no. absurd no) made

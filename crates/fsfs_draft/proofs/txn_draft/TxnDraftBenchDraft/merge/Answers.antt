@@ -42,3 +42,9 @@ returns-in-Err-clause-found g c = if_err c.merge_stage-turns.result.1 c.in-Err.r
 
 pub returns-in-Err-clause-cause : goal.returns-in-Err-clause-cause
 returns-in-Err-clause-cause g c = if_err c.merge_stage-turns.result.1 c.in-Err.refusal _ c.in-Err.is c.merge_stage-turns.ensures.cause
+
+pub returns-in-Ok-clause-lives : goal.returns-in-Ok-clause-lives
+returns-in-Ok-clause-lives g c = λ lives. on_ok c.merge_stage-turns.result.1 tt _ c.in-Ok.is (c.merge_stage-turns.ensures.lives lives)
+
+pub returns-in-Err-clause-blamed : goal.returns-in-Err-clause-blamed
+returns-in-Err-clause-blamed g c = λ lives. if_err c.merge_stage-turns.result.1 c.in-Err.refusal _ c.in-Err.is (c.merge_stage-turns.ensures.blamed lives)

@@ -1,5 +1,5 @@
-use Rattle.fsfs_draft.proofs.Stages.{no_open}
-use Rattle.fsfs_draft.proofs.Writing.{ok_then}
+use Rattle.fsfs_draft.proofs.Stages.{no_open, of_stage_then}
+use Rattle.fsfs_draft.proofs.Writing.{ok_then, if_err_then}
 use Rattle.fsfs_draft.proofs.txn_draft.TxnDraftBenchDraft.write.Goals as goal
 
 pub returns-clause-means : goal.returns-clause-means
@@ -13,3 +13,6 @@ returns-clause-refused g c = λ txn next bytes held. c.written-stage.ensures.ref
 
 pub returns-clause-named : goal.returns-clause-named
 returns-clause-named g c = λ name is. no_open c.written-stage.result.0 _ c.written-stage.ensures.ended
+
+pub returns-clause-blamed : goal.returns-clause-blamed
+returns-clause-blamed g c = λ made. if_err_then c.written-stage.result.1 _ _ (λ why w. of_stage_then c.written-stage.result.0 (λ o. ⊥) _ _ _ (λ o no. absurd no) (λ e failed. failed) w) (c.written-stage.ensures.blamed made)
