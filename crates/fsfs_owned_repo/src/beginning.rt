@@ -3,9 +3,10 @@ ghost use Rattle.std.specs.Prelude.{◌≡◌, ◌⊎◌, ◌≤◌, true, None,
 ghost use Rattle.fsfs_base.specs.Failures.{Rose};
 ghost use Rattle.fsfs_disk.specs.Labels.{has_label, with_label};
 ghost use Rattle.fsfs_txns.specs.Txns.{pair_of, txn_label};
+ghost use Rattle.fsfs_turn.specs.Mountings.{RoseBy};
 ghost use Rattle.fsfs_turn.specs.Views.{View};
 ghost use Rattle.fsfs_turn_begin.specs.Steps.{IsPastNumbers, Moved};
-ghost use Rattle.fsfs_turn_begin.specs.Faults.{Cause, IfBench, IfDisk, IsAbove, LeavesNone};
+ghost use Rattle.fsfs_turn_begin.specs.Faults.{Cause, IfBench, IfDisk, IsAbove, LeavesNone, bench_faults_in};
 ghost use Rattle.fsfs_turn_begin.specs.Labels.{ListsNoMore};
 ghost use Rattle.fsfs_pass_txns.specs.Begun.{BeginsTxn};
 ghost use Rattle.fsfs_owned_repo.specs.Crashes.{CrashesLeave};
@@ -54,6 +55,8 @@ impl<D: Disk> Repo<D> {
         // Whatever the disk tells.
         ensures above { IfErr result.1 (IsAbove base) }
         ensures mounted { D.mount_path result.0.turns.disk ≡ D.mount_path self.turns.disk }
+        // A bench is told to have failed only where the count of those rose.
+        ensures benches { RoseBy (bench_faults_in result.1) (D.bench_faults self.turns.disk) (D.bench_faults result.0.turns.disk) }
         ensures later { ⟦<Owned<D> as Turns<R>>⟧.faults self.turns ≤ ⟦<Owned<D> as Turns<R>>⟧.faults result.0.turns }
         ensures cause { IfErr result.1 (λ why. IfDisk why (Rose (⟦<Owned<D> as Turns<R>>⟧.faults self.turns) (⟦<Owned<D> as Turns<R>>⟧.faults result.0.turns))) }
     {

@@ -4,11 +4,12 @@ ghost use Rattle.fsfs_base.specs.Failures.{Rose};
 ghost use Rattle.fsfs_disk.specs.Labels.{has_label};
 ghost use Rattle.fsfs_machine.specs.declared.machine.Txn.{Txn as MachineTxn};
 ghost use Rattle.fsfs_machine.specs.Kept.{IsIn};
+ghost use Rattle.fsfs_turn.specs.Mountings.{RoseBy};
 ghost use Rattle.fsfs_turn.specs.Views.{View};
 ghost use Rattle.fsfs_txns.specs.Txns.{pair_of, txn_label};
 ghost use Rattle.fsfs_draft.specs.Findings.{HoldsPast};
 ghost use Rattle.fsfs_draft.specs.Meaning.{IsTxnOf};
-ghost use Rattle.fsfs_pass_txns.specs.Commits.{IfBack, IfFailed, IfPurged, Meets};
+ghost use Rattle.fsfs_pass_txns.specs.Commits.{IfBack, IfFailed, IfPurged, Meets, bench_faults_told};
 ghost use Rattle.fsfs_owned_repo.specs.Crashes.{CrashesLeave};
 ghost use Rattle.fsfs_owned_repo.specs.Labels.{LeavesLabels};
 ghost use Rattle.fsfs_pass_txns.specs.Limits.{IfPastLimit};
@@ -57,6 +58,8 @@ impl<D: Disk> Repo<D> {
         // What is known then says what a crash leaves, at each moment of the call too.
         ensures crashes { (u : View) → ⟦<Owned<D> as Turns<R>>⟧.knows result.0.turns u → CrashesLeave result.0.turns.layout (D.trace result.0.turns.disk) u }
         ensures mounted { D.mount_path result.0.turns.disk ≡ D.mount_path self.turns.disk }
+        // A bench is told to have failed only where the count of those rose.
+        ensures benches { RoseBy (bench_faults_told result.1) (D.bench_faults self.turns.disk) (D.bench_faults result.0.turns.disk) }
         ensures later { ⟦<Owned<D> as Turns<R>>⟧.faults self.turns ≤ ⟦<Owned<D> as Turns<R>>⟧.faults result.0.turns }
         ensures cause { IfFailed result.1 (Rose (⟦<Owned<D> as Turns<R>>⟧.faults self.turns) (⟦<Owned<D> as Turns<R>>⟧.faults result.0.turns)) }
     {

@@ -25,6 +25,7 @@ impl<D: Disk> Repo<D> {
         ensures crashes { (u : View) → ⟦<Owned<D> as Turns<R>>⟧.knows self.new.turns u → CrashesLeave self.new.turns.layout (D.trace self.new.turns.disk) u }
         ensures same { ⟦<Owned<D> as Turns<R>>⟧.labels self.new.turns ≡ ⟦<Owned<D> as Turns<R>>⟧.labels self.old.turns }
         ensures mounted { D.mount_path self.new.turns.disk ≡ D.mount_path self.old.turns.disk }
+        ensures benches { D.bench_faults self.new.turns.disk ≡ D.bench_faults self.old.turns.disk }
         ensures later { ⟦<Owned<D> as Turns<R>>⟧.faults self.old.turns ≤ ⟦<Owned<D> as Turns<R>>⟧.faults self.new.turns }
         ensures done { OnOk result (⟦<Owned<D> as Turns<R>>⟧.faults self.new.turns ≡ ⟦<Owned<D> as Turns<R>>⟧.faults self.old.turns) }
         ensures failed { IsErrOf result ListFault.Failed → Rose (⟦<Owned<D> as Turns<R>>⟧.faults self.old.turns) (⟦<Owned<D> as Turns<R>>⟧.faults self.new.turns) }

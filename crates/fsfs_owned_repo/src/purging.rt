@@ -4,6 +4,7 @@ ghost use Rattle.fsfs_base.specs.Failures.{HasCause};
 ghost use Rattle.fsfs_disk.specs.Labels.{has_label, without_label};
 ghost use Rattle.fsfs_machine.specs.Kept.{IsIn};
 ghost use Rattle.fsfs_txns.specs.Txns.{pair_of, txn_label};
+ghost use Rattle.fsfs_turn.specs.Mountings.{RoseBy};
 ghost use Rattle.fsfs_turn.specs.Views.{View};
 ghost use Rattle.fsfs_pass_txns.specs.Purged.{PurgesAny};
 ghost use Rattle.fsfs_owned_repo.specs.Crashes.{CrashesLeave};
@@ -33,6 +34,7 @@ impl<D: Disk> Repo<D> {
         // What is known then says what a crash leaves, at each moment of the call too.
         ensures crashes { (u : View) → ⟦<Owned<D> as Turns<R>>⟧.knows self.new.turns u → CrashesLeave self.new.turns.layout (D.trace self.new.turns.disk) u }
         ensures mounted { D.mount_path self.new.turns.disk ≡ D.mount_path self.old.turns.disk }
+        ensures benches { RoseBy (⟦<HeldNodes<D::Bench> as Own>⟧.faults txn.own) (D.bench_faults self.old.turns.disk) (D.bench_faults self.new.turns.disk) }
         ensures cause { HasCause (⟦<Owned<D> as Turns<R>>⟧.faults self.old.turns) (⟦<Owned<D> as Turns<R>>⟧.faults self.new.turns) result }
     {
         purge_txn(rt, &mut self.turns, txn)

@@ -26,6 +26,7 @@ impl<D: Disk> Repo<D> {
         // The labels that are kept are of what no reading changes.
         ensures listed { option_map labels_now (⟦<Direct<TurnReads<'a, R, Owned<D>>> as Book>⟧.told result).below.trace ≡ ⟦<Owned<D> as Turns<R>>⟧.labels self.turns }
         ensures mounted { (⟦<Direct<TurnReads<'a, R, Owned<D>>> as Book>⟧.told result).below.mount_path ≡ D.mount_path self.turns.disk }
+        ensures benches { (⟦<Direct<TurnReads<'a, R, Owned<D>>> as Book>⟧.told result).below.bench_faults ≡ D.bench_faults self.turns.disk }
         ensures faults { ⟦<Direct<TurnReads<'a, R, Owned<D>>> as Book>⟧.faults result ≡ ⟦<Owned<D> as Turns<R>>⟧.faults self.turns }
     {
         let Repo { turns } = self;
@@ -38,6 +39,7 @@ impl<D: Disk> Repo<D> {
         ensures known { (v : View) → KnowsIn (⟦<Direct<TurnReads<'a, R, Owned<D>>> as Book>⟧.told reader.entry).below v → ⟦<Owned<D> as Turns<R>>⟧.knows result.turns v }
         ensures listed { ⟦<Owned<D> as Turns<R>>⟧.labels result.turns ≡ option_map labels_now (⟦<Direct<TurnReads<'a, R, Owned<D>>> as Book>⟧.told reader.entry).below.trace }
         ensures mounted { D.mount_path result.turns.disk ≡ (⟦<Direct<TurnReads<'a, R, Owned<D>>> as Book>⟧.told reader.entry).below.mount_path }
+        ensures benches { D.bench_faults result.turns.disk ≡ (⟦<Direct<TurnReads<'a, R, Owned<D>>> as Book>⟧.told reader.entry).below.bench_faults }
         ensures faults { ⟦<Owned<D> as Turns<R>>⟧.faults result.turns ≡ ⟦<Direct<TurnReads<'a, R, Owned<D>>> as Book>⟧.faults reader.entry }
     {
         Repo {

@@ -69,6 +69,7 @@ impl<D: Disk> Repo<D> {
         ensures same { (⟦<Owned<D> as Turns<()>>⟧.store self.new.turns).below ≡ (⟦<Owned<D> as Turns<()>>⟧.store self.old.turns).below }
         ensures listed { ⟦<Owned<D> as Turns<()>>⟧.labels self.new.turns ≡ ⟦<Owned<D> as Turns<()>>⟧.labels self.old.turns }
         ensures mounted { D.mount_path self.new.turns.disk ≡ D.mount_path self.old.turns.disk }
+        ensures benches { D.bench_faults self.new.turns.disk ≡ D.bench_faults self.old.turns.disk }
         ensures faults { ⟦<Owned<D> as Turns<()>>⟧.faults self.new.turns ≡ ⟦<Owned<D> as Turns<()>>⟧.faults self.old.turns }
     {
         <Owned<D> as Turns<()>>::look(&mut self.turns)

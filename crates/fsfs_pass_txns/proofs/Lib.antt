@@ -6,3 +6,4 @@ mod Commits
 mod Limits
 pub mod Unlisted
 pub mod Noted
+mod BenchFaults

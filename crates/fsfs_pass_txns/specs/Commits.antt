@@ -94,3 +94,10 @@ abbrev pub IfFailed : {X : Type 0} → CommitAnswer X → Type 0 → Type 0
 IfFailed (answers.Committed rev purged) P = purged ≡ false → P
 IfFailed (answers.DiskFault at) P = P
 IfFailed answer P = Unit {0}
+
+-- whether a bench is told to have failed, as a count
+abbrev pub bench_faults_told : {X : Type 0} → CommitAnswer X → ℕ
+bench_faults_told (answers.Committed rev purged) = 0
+bench_faults_told (answers.Barred bar txn) = 0
+bench_faults_told (answers.DiskFault at) = 0
+bench_faults_told answers.BenchFault = 1

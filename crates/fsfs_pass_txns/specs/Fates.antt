@@ -45,3 +45,10 @@ UnlessDoubtful fates.BenchFault P = P
 abbrev pub IfStopped : Fate → Type 0 → Type 0
 IfStopped (fates.DiskFault at) P = P
 IfStopped fate P = Unit {0}
+
+-- what is left has no bench that is told to have failed, or is used up, but for one that did: by what was left where it is handed back, and by
+-- its bench where that is told
+abbrev pub FateLeaves : Fate → Type 0 → Type 0 → Type 0
+FateLeaves (fates.Barred bar) left failed = left
+FateLeaves (fates.DiskFault at) left failed = Unit {0}
+FateLeaves fates.BenchFault left failed = failed

@@ -7,9 +7,10 @@ ghost use Rattle.fsfs_held.specs.Views.{begun_folder};
 ghost use Rattle.fsfs_machine.specs.Kept.{IsIn};
 ghost use Rattle.fsfs_txns.specs.Txns.{pair_of, txn_label};
 ghost use Rattle.fsfs_turn.specs.Labels.{Relabels};
+ghost use Rattle.fsfs_turn.specs.Mountings.{RoseBy};
 ghost use Rattle.fsfs_turn.specs.Views.{View};
 ghost use Rattle.fsfs_turn_begin.specs.Steps.{MeetsPastNumbers, Moved};
-ghost use Rattle.fsfs_turn_begin.specs.Faults.{Cause, IfBench, IfDisk, IsAbove, LacksNumber, LeavesNone};
+ghost use Rattle.fsfs_turn_begin.specs.Faults.{Cause, IfBench, IfDisk, IsAbove, LacksNumber, LeavesNone, bench_faults_in};
 ghost use Rattle.fsfs_turn_begin.specs.Labels.{IsUnlisted, ListsNoMore};
 ghost use Rattle.fsfs_turn_begin.specs.declared.numbers.Numbers.TheVariants.{OfMachine};
 ghost use Rattle.fsfs_pass_txns.specs.Begun.{BeginsTxn, BeginsTxnAmong};
@@ -47,7 +48,8 @@ fn forget<R, T: Turns<R>>(rt: &R, turns: &mut T, name: &TxnName, bench: T::Bench
     requires due { T.bound turns.old ≡ true → (v : View) × T.knows turns.old v × (v.section ≡ None) × IsIn name.now.number.number v.given }
     ensures moved { (v : View) → T.knows turns.old v → v.section ≡ None → IsIn name.now.number.number v.given → (u : View) × T.knows turns.new u × Moved v u }
     ensures unlisted { T.bound turns.old ≡ false → IsUnlisted (txn_label (pair_of name.now)) (Rose (T.faults turns.old) (T.faults turns.new)) (T.labels turns.old) (T.labels turns.new) }
-    ensures mounted { T.mount_path turns.new ≡ T.mount_path turns.old }
+    ensures mounted { (T.mounting turns.new).mount ≡ (T.mounting turns.old).mount }
+    ensures benches { RoseBy (T.Bench.faults bench) (T.mounting turns.old).bench_faults (T.mounting turns.new).bench_faults }
     ensures duty { T.bound turns.new ≡ T.bound turns.old }
     ensures later { T.faults turns.old ≤ T.faults turns.new }
 {
@@ -93,7 +95,9 @@ pub fn begin_txn<R, T: Turns<R>>(
     // Whatever the disk tells.
     ensures above { IfErr result.1 (IsAbove base) }
     ensures duty { T.bound result.0 ≡ T.bound turns }
-    ensures mounted { T.mount_path result.0 ≡ T.mount_path turns }
+    ensures mounted { (T.mounting result.0).mount ≡ (T.mounting turns).mount }
+    // A bench is told to have failed only where the count of those rose.
+    ensures benches { RoseBy (bench_faults_in result.1) (T.mounting turns).bench_faults (T.mounting result.0).bench_faults }
     ensures later { T.faults turns ≤ T.faults result.0 }
     ensures cause { IfErr result.1 (λ why. IfDisk why (Rose (T.faults turns) (T.faults result.0))) }
 {

@@ -4,12 +4,13 @@ ghost use Rattle.fsfs_base.specs.Failures.{Rose};
 ghost use Rattle.fsfs_disk.specs.Labels.{has_label};
 ghost use Rattle.fsfs_machine.specs.declared.machine.Txn.{Txn as MachineTxn};
 ghost use Rattle.fsfs_machine.specs.Kept.{IsIn};
+ghost use Rattle.fsfs_turn.specs.Mountings.{RoseBy};
 ghost use Rattle.fsfs_turn.specs.Views.{View};
 ghost use Rattle.fsfs_txns.specs.Txns.{pair_of, txn_label};
 ghost use Rattle.fsfs_draft.specs.Findings.{HoldsPast};
 ghost use Rattle.fsfs_draft.specs.Meaning.{IsTxnOf};
 ghost use Rattle.fsfs_draft.specs.Pinned.{IsPinned};
-ghost use Rattle.fsfs_pass_txns.specs.Commits.{IfBack, IfFailed, IfPurged, Meets};
+ghost use Rattle.fsfs_pass_txns.specs.Commits.{IfBack, IfFailed, IfPurged, Meets, bench_faults_told};
 ghost use Rattle.fsfs_pass_txns.specs.Labels.{LeavesLabels};
 ghost use Rattle.fsfs_pass_txns.specs.Limits.{IfPastLimit};
 
@@ -60,7 +61,9 @@ pub fn commit_txn<R, T: Turns<R>, G: Gate>(
     // And what becomes of all labels: behind a commit that hands no transaction back its own goes, unless a turn failed.
     ensures listed { LeavesLabels (T.bound turns) result.1 (txn_label (pair_of (⟦<HeldNodes<T::Bench> as Own>⟧.txn txn.own))) (Rose (T.faults turns) (T.faults result.0)) (T.labels turns) (T.labels result.0) }
     ensures duty { T.bound result.0 ≡ T.bound turns }
-    ensures mounted { T.mount_path result.0 ≡ T.mount_path turns }
+    ensures mounted { (T.mounting result.0).mount ≡ (T.mounting turns).mount }
+    // A bench is told to have failed only where the count of those rose.
+    ensures benches { RoseBy (bench_faults_told result.1) (T.mounting turns).bench_faults (T.mounting result.0).bench_faults }
     ensures later { T.faults turns ≤ T.faults result.0 }
     ensures cause { IfFailed result.1 (Rose (T.faults turns) (T.faults result.0)) }
 {

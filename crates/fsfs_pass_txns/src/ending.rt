@@ -1,9 +1,10 @@
 //! What becomes of a transaction behind a commit.
-ghost use Rattle.std.specs.Prelude.{◌≡◌, ◌≤◌, ℕ, List, true, false, None, IfOk, IfErr, IfSome};
+ghost use Rattle.std.specs.Prelude.{◌≡◌, ◌<◌, ◌≤◌, ℕ, List, true, false, None, IfOk, IfErr, IfSome};
 ghost use Rattle.fsfs_base.specs.Failures.{Rose};
 ghost use Rattle.fsfs_disk.specs.Labels.{has_label};
 ghost use Rattle.fsfs_machine.specs.declared.machine.Txn.{Txn as MachineTxn};
 ghost use Rattle.fsfs_machine.specs.Kept.{IsIn};
+ghost use Rattle.fsfs_turn.specs.Mountings.{RoseBy};
 ghost use Rattle.fsfs_turn.specs.Views.{View};
 ghost use Rattle.fsfs_fields.specs.declared.txn_name.TxnName.{TxnName as SpecName};
 ghost use Rattle.fsfs_txns.specs.Txns.{pair_of, txn_label};
@@ -11,12 +12,12 @@ ghost use Rattle.fsfs_commit.specs.Found.{IfRefused};
 ghost use Rattle.fsfs_commit.specs.Replies.{Committed, Moved, Refused, RoseIfDisk};
 ghost use Rattle.fsfs_turn.specs.Alone.{BringsNoDoubt};
 ghost use Rattle.fsfs_commit.specs.Works.{Landings};
-ghost use Rattle.fsfs_draft.specs.Meaning.{IfTxn, IsTxnOf, Means};
+ghost use Rattle.fsfs_draft.specs.Meaning.{IfTxn, OfLeft, IsTxnOf, Means, bench_of};
 ghost use Rattle.fsfs_draft.specs.Refusals.{IsDiskFault, Refuses};
-ghost use Rattle.fsfs_pass_txns.specs.Commits.{Bars, Ends, IfBack, IfFailed, IfPurged, IsDropped};
-ghost use Rattle.fsfs_pass_txns.specs.Fates.{Fated, IfStopped, UnlessDoubtful};
+ghost use Rattle.fsfs_pass_txns.specs.Commits.{Bars, Ends, IfBack, IfFailed, IfPurged, IsDropped, bench_faults_told};
+ghost use Rattle.fsfs_pass_txns.specs.Fates.{Fated, FateLeaves, IfStopped, UnlessDoubtful, of_fault};
 ghost use Rattle.fsfs_pass_txns.specs.Labels.{LeavesLabels, Unlists};
-ghost use Rattle.fsfs_draft.specs.Findings.{IfLimit, HoldsPast};
+ghost use Rattle.fsfs_draft.specs.Findings.{IfLimit, HoldsPast, SpentByBench};
 ghost use Rattle.fsfs_pass_txns.specs.Limits.{IfBarLimit, IfFateLimit, IfPastLimit};
 
 use crate::answers::{CommitAnswer, CommitBar, Fate, fate_of};
@@ -36,7 +37,8 @@ fn drop_bench<R, T: Turns<R>>(rt: &R, turns: &mut T, name: &TxnName, bench: T::B
         → IsDropped (T.knows turns.new) result name.now.number.number m }
     ensures unlisted { result ≡ true → IfSome (T.labels turns.new) (λ ls. has_label (txn_label (pair_of name.now)) ls ≡ false) }
     ensures listed { Unlists (T.bound turns.old) result (txn_label (pair_of name.now)) (Rose (T.faults turns.old) (T.faults turns.new)) (T.labels turns.old) (T.labels turns.new) }
-    ensures mounted { T.mount_path turns.new ≡ T.mount_path turns.old }
+    ensures mounted { (T.mounting turns.new).mount ≡ (T.mounting turns.old).mount }
+    ensures benches { RoseBy (T.Bench.faults bench) (T.mounting turns.old).bench_faults (T.mounting turns.new).bench_faults }
     ensures duty { T.bound turns.new ≡ T.bound turns.old }
     ensures later { T.faults turns.old ≤ T.faults turns.new }
     ensures cause { result ≡ false → Rose (T.faults turns.old) (T.faults turns.new) }
@@ -60,7 +62,8 @@ fn hand_back<R, T: Turns<R>>(
         → x.name ≡ name.now.number.number → Landings u.seen x y → Bars bar u y → BringsNoDoubt v u
         → IfTxn left (λ t. Means t.spent u.seen (⟦<HeldNodes<T::Bench> as Own>⟧.txn t.own) t.base (⟦<HeldNodes<T::Bench> as Own>⟧.settled t.own) y)
         → Ends (T.knows turns.new) (λ h z t. (t.spent ≡ None) × IsTxnOf h (⟦<HeldNodes<T::Bench> as Own>⟧.txn t.own) t.base (⟦<HeldNodes<T::Bench> as Own>⟧.settled t.own) z) p v x result }
-    ensures mounted { T.mount_path turns.new ≡ T.mount_path turns.old }
+    ensures mounted { (T.mounting turns.new).mount ≡ (T.mounting turns.old).mount }
+    ensures benches { OfLeft left (λ txn. SpentByBench (T.Bench.faults txn.own.bench) txn.spent) (λ bench. 0 < T.Bench.faults bench) → RoseBy (bench_faults_told result) (T.mounting turns.old).bench_faults (T.mounting turns.new).bench_faults }
     ensures duty { T.bound turns.new ≡ T.bound turns.old }
     ensures later { T.faults turns.old ≤ T.faults turns.new }
     ensures cause { (n : ℕ) → IfFailed result (Rose n (T.faults turns.new)) }
@@ -97,7 +100,8 @@ fn fall<R, T: Turns<R>>(
         → x.name ≡ name.now.number.number → Landings u.seen x y → Fated fate v u y → UnlessDoubtful fate (BringsNoDoubt v u)
         → IfTxn left (λ t. Means t.spent u.seen (⟦<HeldNodes<T::Bench> as Own>⟧.txn t.own) t.base (⟦<HeldNodes<T::Bench> as Own>⟧.settled t.own) y)
         → Ends (T.knows turns.new) (λ h z t. (t.spent ≡ None) × IsTxnOf h (⟦<HeldNodes<T::Bench> as Own>⟧.txn t.own) t.base (⟦<HeldNodes<T::Bench> as Own>⟧.settled t.own) z) p v x result }
-    ensures mounted { T.mount_path turns.new ≡ T.mount_path turns.old }
+    ensures mounted { (T.mounting turns.new).mount ≡ (T.mounting turns.old).mount }
+    ensures benches { FateLeaves fate (OfLeft left (λ txn. SpentByBench (T.Bench.faults txn.own.bench) txn.spent) (λ bench. 0 < T.Bench.faults bench)) (0 < T.Bench.faults (bench_of left)) → RoseBy (bench_faults_told result) (T.mounting turns.old).bench_faults (T.mounting turns.new).bench_faults }
     ensures duty { T.bound turns.new ≡ T.bound turns.old }
     ensures later { T.faults turns.old ≤ T.faults turns.new }
     ensures cause { (n : ℕ) → IfStopped fate (Rose n (T.faults turns.old)) → IfFailed result (Rose n (T.faults turns.new)) }
@@ -134,7 +138,8 @@ pub(crate) fn end<R, T: Turns<R>>(
         → IfErr done (λ fault. (u : View) × (y : MachineTxn) × T.knows turns.old u × Refused Refuses fault v u x y
         × IfTxn left (λ t. Means t.spent u.seen (⟦<HeldNodes<T::Bench> as Own>⟧.txn t.own) t.base (⟦<HeldNodes<T::Bench> as Own>⟧.settled t.own) y))
         → Ends (T.knows turns.new) (λ h z t. (t.spent ≡ None) × IsTxnOf h (⟦<HeldNodes<T::Bench> as Own>⟧.txn t.own) t.base (⟦<HeldNodes<T::Bench> as Own>⟧.settled t.own) z) p v x result }
-    ensures mounted { T.mount_path turns.new ≡ T.mount_path turns.old }
+    ensures mounted { (T.mounting turns.new).mount ≡ (T.mounting turns.old).mount }
+    ensures benches { IfErr done (λ fault. FateLeaves (of_fault fault) (OfLeft left (λ txn. SpentByBench (T.Bench.faults txn.own.bench) txn.spent) (λ bench. 0 < T.Bench.faults bench)) (0 < T.Bench.faults (bench_of left))) → RoseBy (bench_faults_told result) (T.mounting turns.old).bench_faults (T.mounting turns.new).bench_faults }
     ensures duty { T.bound turns.new ≡ T.bound turns.old }
     ensures later { T.faults turns.old ≤ T.faults turns.new }
     ensures cause { (n : ℕ) → n ≤ T.faults turns.old → IfErr done (RoseIfDisk IsDiskFault (Rose n (T.faults turns.old))) → IfFailed result (Rose n (T.faults turns.new)) }

@@ -23,7 +23,7 @@ pub fn list_txns<R, T: Turns<R>>(
     // It is one step of the machine.
     ensures listed { (v : View) → T.knows turns.old v → ListsSo (T.knows turns.new) (T.labels turns.new) result v }
     ensures same { KeepsLabels (T.bound turns.old) (T.labels turns.old) (T.labels turns.new) }
-    ensures mounted { T.mount_path turns.new ≡ T.mount_path turns.old }
+    ensures mounted { T.mounting turns.new ≡ T.mounting turns.old }
     ensures duty { T.bound turns.new ≡ T.bound turns.old }
     ensures later { T.faults turns.old ≤ T.faults turns.new }
     ensures done { OnOk result (T.faults turns.new ≡ T.faults turns.old) }

@@ -5,6 +5,7 @@ ghost use Rattle.fsfs_disk.specs.Labels.{has_label, without_label};
 ghost use Rattle.fsfs_machine.specs.Kept.{IsIn};
 ghost use Rattle.fsfs_txns.specs.Txns.{pair_of, txn_label};
 ghost use Rattle.fsfs_turn.specs.Labels.{MayRelabel, Relabels};
+ghost use Rattle.fsfs_turn.specs.Mountings.{RoseBy};
 ghost use Rattle.fsfs_turn.specs.Views.{View};
 ghost use Rattle.fsfs_pass_txns.specs.Purged.{PurgesAny};
 
@@ -42,7 +43,8 @@ pub fn purge_txn<R, T: Turns<R>>(
     // any revision.
     ensures purged { (v : View) → T.knows turns.old v → v.section ≡ None → IsIn (⟦<HeldNodes<T::Bench> as Own>⟧.txn txn.own).number.number v.given → 0 < length v.seen
         → PurgesAny (T.knows turns.new) (⟦<HeldNodes<T::Bench> as Own>⟧.txn txn.own).number.number result v }
-    ensures mounted { T.mount_path turns.new ≡ T.mount_path turns.old }
+    ensures mounted { (T.mounting turns.new).mount ≡ (T.mounting turns.old).mount }
+    ensures benches { RoseBy (⟦<HeldNodes<T::Bench> as Own>⟧.faults txn.own) (T.mounting turns.old).bench_faults (T.mounting turns.new).bench_faults }
     ensures duty { T.bound turns.new ≡ T.bound turns.old }
     ensures cause { HasCause (T.faults turns.old) (T.faults turns.new) result }
 {

@@ -6,6 +6,8 @@ use Rattle.fsfs_fields.specs.declared.txn_name.TxnName.{TxnName}
 use Rattle.fsfs_txns.specs.Txns.{pair_of, txn_label}
 use Rattle.fsfs_begin.specs.Benches.{TellsRoot}
 use Rattle.fsfs_turn.specs.Labels.{Relabels}
+use Rattle.fsfs_turn.specs.Mountings.{RoseBy}
+use Rattle.fsfs_turn_begin.specs.Faults.{bench_faults_in}
 use Rattle.fsfs_turn_begin.proofs.Moving.{moved_on}
 use Rattle.fsfs_turn_begin.proofs.Reading.{either_way}
 use Rattle.fsfs_pass_txns.proofs.Begun.{begins_as, among_as, begun_moved, begun_given}
@@ -104,3 +106,18 @@ returns-in-Err-hold-clause-unlisted g c = λ free.
     old mid (g.T.Turns.labels c.forget.new.turns)
     (told_ok c.begin-back.result.1 begun (λ z. z.name.base ≡ c.args.base) c.in-Ok.is c.begin-back.ensures.base) (relabelled bound (with_label (txn_label (pair_of begun.name))) old mid free came)
     (λ rose. omega (arith, rose, c.begin-back.ensures.later)) (c.forget.ensures.unlisted (c.begin-back.ensures.duty ∙ free))
+
+-- ---- the benches
+
+pub returns-in-Err-clause-benches : goal.returns-in-Err-clause-benches
+returns-in-Err-clause-benches g c =
+    subst (λ r. RoseBy (bench_faults_in r) (g.T.Turns.mounting c.args.turns).bench_faults (g.T.Turns.mounting c.begin-back.result.0).bench_faults) c.in-Err.is c.begin-back.ensures.benches
+
+pub returns-in-Ok-hold-clause-benches : goal.returns-in-Ok-hold-clause-benches
+returns-in-Ok-hold-clause-benches g c =
+    subst (λ r. RoseBy (bench_faults_in r) (g.T.Turns.mounting c.args.turns).bench_faults (g.T.Turns.mounting c.begin-back.result.0).bench_faults) c.in-Ok.is c.begin-back.ensures.benches
+
+pub returns-in-Err-hold-clause-benches : goal.returns-in-Err-hold-clause-benches
+returns-in-Err-hold-clause-benches g c =
+    let begun = subst (λ r. RoseBy (bench_faults_in r) (g.T.Turns.mounting c.args.turns).bench_faults (g.T.Turns.mounting c.begin-back.result.0).bench_faults) c.in-Ok.is c.begin-back.ensures.benches in
+    omega (arith, begun, c.forget.ensures.benches)

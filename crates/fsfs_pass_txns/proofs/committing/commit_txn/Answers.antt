@@ -4,6 +4,7 @@ use Rattle.fsfs_base.specs.Failures.{Rose}
 use Rattle.fsfs_fields.specs.declared.txn_name.TxnName.{TxnName}
 use Rattle.fsfs_commit.specs.Works.{CanCommit, Unmoved}
 use Rattle.fsfs_pass_txns.proofs.Commits.{can_commit, unmoved, meets_so, added_so, left_so, known_then}
+use Rattle.fsfs_pass_txns.proofs.BenchFaults.{leaves_so, fresh_lives}
 use Rattle.fsfs_pass_txns.proofs.Limits.{commit_found}
 use Rattle.fsfs_pass_txns.proofs.Unlisted.{leaves_labels}
 use Rattle.fsfs_pass_txns.proofs.committing.commit_txn.Goals as goal
@@ -64,3 +65,15 @@ returns-clause-listed g c =
     leaves_labels c.end-answer.result c.args.txn.own.txn c.name-name.result (g.T.Turns.bound c.args.turns) (g.T.Turns.bound back) (Rose (g.T.Turns.faults back) (g.T.Turns.faults last)) (Rose (g.T.Turns.faults c.args.turns) (g.T.Turns.faults last))
     (g.T.Turns.labels c.args.turns) (g.T.Turns.labels back) (g.T.Turns.labels last)
     c.name-name.ensures c.commit-back.ensures.duty c.commit-back.ensures.listed (λ rose. omega (arith, rose, c.commit-back.ensures.later)) c.end-answer.ensures.listed
+
+-- ---- the benches
+
+pub returns-in-Err-clause-benches : goal.returns-in-Err-clause-benches
+returns-in-Err-clause-benches g c = omega arith
+
+pub returns-clause-benches : goal.returns-clause-benches
+returns-clause-benches g c =
+    let same = ap (λ m. m.bench_faults) c.commit-back.ensures.mounted in
+    let fresh = fresh_lives g.T.Bench.Bench.faults c.with_note.result.stage _ c.requires.sound c.with_note.ensures.stage in
+    let rose = c.end-answer.ensures.benches (leaves_so g.T.Bench.Bench.faults c.into_left-left.result c.commit-back.result.2 (c.commit-back.ensures.left fresh) c.into_left-left.ensures.lives c.into_left-left.ensures.blames) in
+    omega (arith, same, rose)

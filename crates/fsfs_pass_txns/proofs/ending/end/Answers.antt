@@ -1,8 +1,9 @@
-use Rattle.std.proofs.Common.{sym, subst}
+use Rattle.std.proofs.Common.{sym, subst, arith}
 use Rattle.fsfs_base.specs.Failures.{Rose}
 use Rattle.fsfs_commit.proofs.Turning.{if_ok, if_err}
 use Rattle.fsfs_turn.specs.Alone.{BringsNoDoubt}
 use Rattle.fsfs_pass_txns.specs.Fates.{Fated, IfStopped, UnlessDoubtful}
+use Rattle.fsfs_pass_txns.proofs.BenchFaults.{fate_left}
 use Rattle.fsfs_pass_txns.proofs.Commits.{dropped_as, given_still, fated, certain_so, stopped, rose_before}
 use Rattle.fsfs_pass_txns.proofs.Limits.{fate_past}
 use Rattle.fsfs_pass_txns.proofs.ending.end.Goals as goal
@@ -39,3 +40,9 @@ returns-in-Err-clause-cause g c = λ n low rose.
 
 pub returns-in-Err-clause-past : goal.returns-in-Err-clause-past
 returns-in-Err-clause-past g c = λ past. c.fall.ensures.past (fate_past c.in-Err.fault c.fate_of.result _ c.fate_of.ensures (if_err c.args.done c.in-Err.fault _ c.in-Err.is past))
+
+pub returns-in-Ok-clause-benches : goal.returns-in-Ok-clause-benches
+returns-in-Ok-clause-benches g c = λ left. omega (arith, c.drop_bench-purged.ensures.benches)
+
+pub returns-in-Err-clause-benches : goal.returns-in-Err-clause-benches
+returns-in-Err-clause-benches g c = λ left. c.fall.ensures.benches (fate_left c.fate_of.result c.in-Err.fault _ _ c.fate_of.ensures (if_err c.args.done c.in-Err.fault _ c.in-Err.is left))

@@ -1,7 +1,8 @@
-use Rattle.std.proofs.Common.{subst}
+use Rattle.std.proofs.Common.{ap, subst, arith}
 use Rattle.fsfs_base.specs.Failures.{Rose}
 use Rattle.fsfs_turn.specs.Alone.{BringsNoDoubt}
 use Rattle.fsfs_pass_txns.specs.Fates.{Fated, IfStopped, UnlessDoubtful}
+use Rattle.fsfs_pass_txns.proofs.BenchFaults.{barred_left, failed_left}
 use Rattle.fsfs_pass_txns.proofs.Commits.{no_more, rose_later}
 use Rattle.fsfs_pass_txns.proofs.Limits.{barred_past}
 use Rattle.fsfs_pass_txns.proofs.ending.fall.Goals as goal
@@ -43,3 +44,15 @@ returns-in-DiskFault-clause-listed g c = (c.drop_bench.result, c.drop_bench.ensu
 
 pub returns-in-BenchFault-clause-listed : goal.returns-in-BenchFault-clause-listed
 returns-in-BenchFault-clause-listed g c = (c.drop_bench-in-BenchFault.result, c.drop_bench-in-BenchFault.ensures.listed)
+
+pub returns-in-Barred-clause-benches : goal.returns-in-Barred-clause-benches
+returns-in-Barred-clause-benches g c = λ left. c.hand_back.ensures.benches (barred_left c.args.fate c.in-Barred.bar _ _ c.in-Barred.is left)
+
+pub returns-in-DiskFault-clause-benches : goal.returns-in-DiskFault-clause-benches
+returns-in-DiskFault-clause-benches g c = λ left. omega (arith, c.drop_bench.ensures.benches)
+
+pub returns-in-BenchFault-clause-benches : goal.returns-in-BenchFault-clause-benches
+returns-in-BenchFault-clause-benches g c = λ left.
+    let failed = failed_left c.args.fate _ _ c.in-BenchFault.is left in
+    let same = ap g.T.Bench.Bench.faults c.into_bench-in-BenchFault.ensures in
+    omega (arith, c.drop_bench-in-BenchFault.ensures.benches, failed, same)

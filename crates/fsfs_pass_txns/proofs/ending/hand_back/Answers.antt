@@ -1,4 +1,6 @@
-use Rattle.std.proofs.Common.{◌≡◌, refl, sym, ◌∙◌}
+use Rattle.std.proofs.Common.{◌≡◌, refl, sym, ap, ◌∙◌, arith}
+use Rattle.fsfs_held.specs.declared.held.HeldNodes.{HeldNodes}
+use Rattle.fsfs_pass_txns.proofs.BenchFaults.{bench_left, txn_left}
 use Rattle.fsfs_commit.proofs.Turning.{landings_name}
 use Rattle.fsfs_pass_txns.proofs.Commits.{no_more, back_so, of_txn}
 use Rattle.fsfs_pass_txns.proofs.Limits.{bar_past}
@@ -40,3 +42,16 @@ returns-clause-listed g c = λ free. refl
 
 pub returns-clause-named : goal.returns-clause-named
 returns-clause-named g c = λ n is. of_txn c.args.left c.in-Txn.txn (λ t. t.own.txn ≡ n) c.in-Txn.is is
+
+pub returns-in-Bench-clause-benches : goal.returns-in-Bench-clause-benches
+returns-in-Bench-clause-benches g c = λ left. let failed = bench_left g.T.Bench.Bench.faults c.args.left c.in-Bench.bench c.in-Bench.is left in omega (arith, failed, c.drop_bench.ensures.benches)
+
+pub returns-then-is_spent-clause-benches : goal.returns-then-is_spent-clause-benches
+returns-then-is_spent-clause-benches g c = λ left.
+    let failed = txn_left g.T.Bench.Bench.faults c.args.left c.in-Txn.txn c.in-Txn.is left (sym c.is_spent.ensures ∙ c.if-is_spent.true) in
+    let own = ap (λ (h : HeldNodes _ _). g.T.Bench.Bench.faults h.bench) c.into_own.ensures in
+    let same = ap g.T.Bench.Bench.faults c.into_bench.ensures in
+    omega (arith, failed, c.drop_bench-then-is_spent.ensures.benches, own, same)
+
+pub returns-clause-benches : goal.returns-clause-benches
+returns-clause-benches g c = λ left. omega arith

@@ -7,6 +7,7 @@ use Rattle.fsfs_machine.specs.Machine.{begun_txn}
 use Rattle.fsfs_txns.specs.Txns.{pair_of, txn_label}
 use Rattle.fsfs_turn.specs.Labels.{MayRelabel, Relabels}
 use Rattle.fsfs_turn.specs.Learning.{drawn_of}
+use Rattle.fsfs_turn.specs.Mountings.{RoseBy}
 use Rattle.fsfs_turn_purge.proofs.Dropping.{begun_may}
 use Rattle.fsfs_pass_txns.proofs.Dropped.{purges_so}
 use Rattle.fsfs_pass_txns.proofs.purging.purge_txn.Goals as goal
@@ -38,3 +39,7 @@ returns-clause-purged g c = λ v known none given some.
     let txn = begun_txn v.seen (drawn_of 0 number) in
     purges_so _ c.args.txn.own.txn c.bench_of-name.result.0 c.purge.result v c.bench_of-name.ensures.name
     (λ there. let may = begun_may v 0 number none there some in (txn, refl, may, c.purge.ensures.purged v txn known may refl)) given
+
+pub returns-clause-benches : goal.returns-clause-benches
+returns-clause-benches g c =
+    subst (λ b. RoseBy (g.T.Bench.Bench.faults b) (g.T.Turns.mounting c.args.turns.now).bench_faults (g.T.Turns.mounting c.purge.new.turns).bench_faults) c.bench_of-name.ensures.bench c.purge.ensures.benches

@@ -21,7 +21,7 @@ begin_txn-back-requires g c = record { few = λ bound. absurd (both_ways false r
 pub returns-clause-begun : goal.returns-clause-begun
 returns-clause-begun g c = λ v known none.
     if_ok_then c.begin_txn-back.result.1 _ _ (λ txn w. either_way (λ a. a) (λ past. subst (λ (s : OwnedState). IsPastNumbers (owned_view s)) past.0.lasting past.0.past) w)
-    (c.begin_txn-back.ensures.alone (λ a b v same known. known_still (state_of a.layout a.young a.stuck (g.D.Disk.trace a.disk) (g.D.Disk.mount_path a.disk)) (state_of b.layout b.young b.stuck (g.D.Disk.trace b.disk) (g.D.Disk.mount_path b.disk)) v same known) v known none)
+    (c.begin_txn-back.ensures.alone (λ a b v same known. known_still (state_of a.layout a.young a.stuck (g.D.Disk.trace a.disk) (g.D.Disk.mount_path a.disk) (g.D.Disk.bench_faults a.disk)) (state_of b.layout b.young b.stuck (g.D.Disk.trace b.disk) (g.D.Disk.mount_path b.disk) (g.D.Disk.bench_faults b.disk)) v same known) v known none)
 
 pub returns-clause-refused : goal.returns-clause-refused
 returns-clause-refused g c = λ v known none.

@@ -13,3 +13,6 @@ returns-clause-mounted g c = ap {A = OwnedState} (λ s. s.mount_path) c.turns_of
 
 pub returns-clause-listed : goal.returns-clause-listed
 returns-clause-listed g c = ap {A = OwnedState} (λ s. option_map labels_now s.trace) c.turns_of.ensures.below
+
+pub returns-clause-benches : goal.returns-clause-benches
+returns-clause-benches g c = ap {A = OwnedState} (λ s. s.bench_faults) c.turns_of.ensures.below
