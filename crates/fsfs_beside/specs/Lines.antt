@@ -3,6 +3,7 @@ use Rattle.std.specs.Prelude.{◌≡◌, ◌+◌, ◌-◌, ◌^◌, ◌<◌, ◌
 use Rattle.fsfs_tree.specs.Revisions.{Revision}
 use Rattle.fsfs_tree.specs.Dated.{last_of}
 use Rattle.fsfs_machine.specs.Kept.{IsIn}
+pub use Rattle.fsfs_turn.specs.Mountings.{RoseBy}
 use Rattle.fsfs_job_lines.specs.declared.job.Job.{Job}
 use Rattle.fsfs_faults.specs.declared.fault.Fault.TheVariants.{Outside}
 use Rattle.fsfs_faults.specs.declared.outside_fault.OutsideFault.TheVariants.{Disk}
@@ -57,10 +58,6 @@ tells_disk answer = false
 abbrev pub disk_faults_in : List JobAnswer → ℕ
 disk_faults_in [] = 0
 disk_faults_in (answer ∷ answers) = (if tells_disk answer then 1 else 0) + disk_faults_in answers
-
--- a count rose by so many, or stands at its last value
-abbrev pub RoseBy : ℕ → ℕ → ℕ → Type 0
-RoseBy n before now = min (before + n) (2 ^ 64 - 1) ≤ now
 
 -- none of these tells that the lock is stuck
 abbrev pub TellNoneStuck : List JobAnswer → Type 0

@@ -1,5 +1,5 @@
 -- What is told of a job that reads, where the bytes show a tree.
-use Rattle.std.proofs.Common.{◌≡◌, ◌⊎◌, ℕ, List, [], length, take, Ok, Err, refl, sym, ap, subst, ◌∙◌, inl, inr}
+use Rattle.std.proofs.Common.{◌≡◌, ◌⊎◌, ℕ, List, [], length, take, Ok, Err, refl, sym, ap, subst, ◌∙◌, inl, inr, ⊎_elim}
 use Rattle.md5.specs.Md5.{md5}
 use Rattle.fsfs_base.specs.Paths.{Path}
 use Rattle.fsfs_base.specs.declared.kind.Kind.{Kind}
@@ -15,7 +15,11 @@ use Rattle.fsfs_printed.specs.ByTree.{IsContent, IsFileOf}
 use Rattle.fsfs_printed.proofs.FileByTree.{files_by_tree}
 use Rattle.fsfs_look.specs.declared.look_error.LookError.{LookError}
 use Rattle.fsfs_look.specs.declared.look_error.LookError.TheVariants as errors
-use Rattle.fsfs_faults.specs.Faults.{IsFromLook}
+use Rattle.fsfs_damage.specs.declared.wrong.Wrong.{Wrong}
+use Rattle.fsfs_damage.specs.declared.wrong.Wrong.TheVariants as wrongs
+use Rattle.fsfs_damage.specs.declared.wrong.Refusal.{Refusal}
+use Rattle.fsfs_damage.specs.declared.wrong.Refusal.TheVariants as refusals
+use Rattle.fsfs_faults.specs.Faults.{IsFromLook, fault_from_refusal, fault_from_wrong}
 use Rattle.fsfs_faults.specs.declared.fault.Fault.{Fault}
 use Rattle.fsfs_faults.specs.declared.fault.Fault.TheVariants.{Request, Memory}
 use Rattle.fsfs_faults.specs.declared.request_fault.RequestFault.TheVariants.{NotFound, NotDir, NotFile}
@@ -24,7 +28,7 @@ use Rattle.fsfs_jobs.specs.Serial.{IsReadOf, read_kind}
 use Rattle.fsfs_jobs.specs.declared.answer.TextRead.{TextRead}
 use Rattle.fsfs_jobs.specs.declared.answer.JobAnswer.{JobAnswer}
 use Rattle.fsfs_jobs.specs.declared.answer.JobAnswer.TheVariants.{Read, Stopped}
-use Rattle.fsfs_job_reads.specs.TextReads.{TellsText, IsTextRead, IsFromLookError, ReadsSo, ByTree, DiskFails, Wants}
+use Rattle.fsfs_job_reads.specs.TextReads.{TellsText, IsTextRead, IsFromLookError, IsNoBench, ReadsSo, ByTree, DiskFails, Wants}
 
 module _ (job : ReadJob) (rev : ℕ) where
   -- ---- a text
@@ -85,3 +89,30 @@ module _ (job : ReadJob) (rev : ℕ) where
     job_stopped errors.OutOfMemory fault file from = subst (λ (f : Fault). ReadsSo job rev (found_at tree job.path) (Stopped job.line f)) (sym from) Wants
     job_stopped errors.DiskFault fault file from = subst (λ (f : Fault). ReadsSo job rev (found_at tree job.path) (Stopped job.line f)) (sym from) DiskFails
     job_stopped errors.WriteFault fault file from = absurd file
+
+-- ---- no reading has a bench
+
+no_bench_refused : (line : ℕ) (why : Refusal) → IsNoBench (Stopped line (fault_from_refusal why))
+no_bench_refused line (refusals.NoRev asked youngest) = tt
+no_bench_refused line (refusals.Missing rev) = tt
+no_bench_refused line (refusals.Small small) = tt
+
+no_bench_wrong : (line : ℕ) (wrong : Wrong) → IsNoBench (Stopped line (fault_from_wrong wrong))
+no_bench_wrong line (wrongs.Refused why) = no_bench_refused line why
+no_bench_wrong line (wrongs.Damaged damage) = tt
+no_bench_wrong line (wrongs.Delta at) = tt
+
+no_bench_as : (line : ℕ) (one fault : Fault) → fault ≡ one → IsNoBench (Stopped line one) → IsNoBench (Stopped line fault)
+no_bench_as line one fault is k = subst (λ f. IsNoBench (Stopped line f)) (sym is) k
+
+no_bench_look : (line : ℕ) (path : Path) (why : LookFault) (fault : Fault) → IsFromLook path why fault → IsNoBench (Stopped line fault)
+no_bench_look line path (looks.NotFound names) fault k = ⊎_elim (λ is. no_bench_as line _ fault is tt) (λ is. no_bench_as line _ fault is tt) k
+no_bench_look line path (looks.NotDir names) fault k = ⊎_elim (λ is. no_bench_as line _ fault is tt) (λ is. no_bench_as line _ fault is tt) k
+no_bench_look line path looks.NotFile fault k = ⊎_elim (λ is. no_bench_as line _ fault is tt) (λ is. no_bench_as line _ fault is tt) k
+no_bench_look line path (looks.Wrong wrong) fault k = no_bench_as line _ fault k (no_bench_wrong line wrong)
+
+pub no_bench : (line : ℕ) (path : Path) (error : LookError) (fault : Fault) → IsFromLookError path error fault → IsNoBench (Stopped line fault)
+no_bench line path (errors.Fault why) fault k = no_bench_look line path why fault k
+no_bench line path errors.OutOfMemory fault k = no_bench_as line _ fault k tt
+no_bench line path errors.DiskFault fault k = no_bench_as line _ fault k tt
+no_bench line path errors.WriteFault fault k = no_bench_as line _ fault k tt

@@ -64,3 +64,8 @@ IfAnswerFails (Stopped line fault) P = IfDiskFails fault P
 pub record HasAnswerCause (before now : ℕ) (answer : JobAnswer) : Type 0 where
   pub later : before ≤ now
   pub failed : IfAnswerFails answer (Rose before now)
+
+-- it doesn't tell that a bench failed: a read has none
+abbrev pub IsNoBench : JobAnswer → Type 0
+IsNoBench (Stopped line (Outside outside.Bench)) = ⊥
+IsNoBench answer = Unit {0}

@@ -4,7 +4,7 @@ ghost use Rattle.fsfs_book.specs.Told.{RevisionBytes, Knows, Keeps};
 ghost use Rattle.fsfs_answers.specs.Answers.{found_at};
 ghost use Rattle.fsfs_tree.specs.Nodes.{TreeFunction};
 ghost use Rattle.fsfs_shows.specs.Shown.{Shows};
-ghost use Rattle.fsfs_job_reads.specs.TextReads.{IsFromLookError, ReadsSo, HasAnswerCause};
+ghost use Rattle.fsfs_job_reads.specs.TextReads.{IsFromLookError, IsNoBench, ReadsSo, HasAnswerCause};
 
 use crate::reading::read_text;
 use fsfs_base::FsPath;
@@ -35,6 +35,7 @@ pub fn read_job<B: Book>(alloc: Global, book: &mut B, rev: RevNum, job: &ReadJob
     ensures told { (look : RevisionBytes) (tree : TreeFunction) → Knows (B.told book.old).revs rev look → Shows look rev tree → ReadsSo job.now rev (found_at tree job.now.path) result }
     ensures kept { Keeps (B.told book.old) (B.told book.new) }
     ensures cause { HasAnswerCause (B.faults book.old) (B.faults book.new) result }
+    ensures no_bench { IsNoBench result }
 {
     match read_text(alloc, book, rev, &job.path) {
         Ok(read) => JobAnswer::Read(read),

@@ -18,3 +18,4 @@ pub mod Causes
 pub mod Answered
 pub mod Seen
 pub mod Listing
+pub mod BenchCauses

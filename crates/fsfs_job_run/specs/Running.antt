@@ -28,7 +28,7 @@ use Rattle.fsfs_job_edits.specs.Editing.{Bars}
 use Rattle.fsfs_job_reads.specs.TextReads.{IfAnswerFails}
 use Rattle.fsfs_serial.specs.Jobs.{RunsJob, RunJobs, StuckBehindDoubt}
 
--- Why the outside is told to have failed: the count rose, or the lock is stuck there. A bench's own count ends with it.
+-- Why the outside is told to have failed: the count rose, or the lock is stuck there. The failures of benches are counted apart.
 abbrev pub HasOutsideCause : Type 0 → View → JobAnswer → Type 0
 HasOutsideCause rose u (Stopped line (Outside outside.Mount)) = ⊥
 HasOutsideCause rose u (Stopped line (Outside (outside.Disk at))) = rose

@@ -6,13 +6,15 @@ ghost use Rattle.fsfs_tree.specs.Revisions.{tree_of};
 ghost use Rattle.fsfs_machine.specs.Machine.{revisions};
 ghost use Rattle.fsfs_machine.specs.Kept.{IsIn};
 ghost use Rattle.fsfs_turn.specs.Bytes.{bytes_of};
+ghost use Rattle.fsfs_turn.specs.Mountings.{RoseBy};
 ghost use Rattle.fsfs_turn.specs.Views.{View};
 ghost use Rattle.fsfs_turn_begin.specs.Labels.{IsUnlisted};
 ghost use Rattle.fsfs_turn_begin.specs.Steps.{IsPastNumbers};
 ghost use Rattle.fsfs_txns.specs.Txns.{pair_of, txn_label};
 ghost use Rattle.fsfs_txn.specs.Standing.{Stands};
-ghost use Rattle.fsfs_job_edits.specs.Editing.{AreEditing, IfDisk};
+ghost use Rattle.fsfs_job_edits.specs.Editing.{AreEditing, IfBench, IfDisk};
 ghost use Rattle.fsfs_job_reads.specs.TextReads.{IfAnswerFails};
+ghost use Rattle.fsfs_serial.specs.Jobs.{bench_told};
 ghost use Rattle.fsfs_serial.specs.Listed.{LeavesListed};
 ghost use Rattle.fsfs_job_run.specs.Running.{CommitsSo};
 ghost use Rattle.fsfs_jobs.specs.Serial.{base_of as base_in};
@@ -55,6 +57,8 @@ fn edit<D: Disk, R>(
     // Nor any label that is kept: an edit works on its bench.
     ensures listed { ⟦<Owned<D> as Turns<R>>⟧.labels result.0.turns ≡ ⟦<Owned<D> as Turns<R>>⟧.labels repo.turns }
     ensures mounted { D.mount_path result.0.turns.disk ≡ D.mount_path repo.turns.disk }
+    ensures benches { D.bench_faults result.0.turns.disk ≡ D.bench_faults repo.turns.disk }
+    ensures failed { IfErr result.1 (λ stopped. IfBench stopped.fault (0 < ⟦<HeldNodes<D::Bench> as Own>⟧.faults txn.new.own)) }
     ensures later { ⟦<Owned<D> as Turns<R>>⟧.faults repo.turns ≤ ⟦<Owned<D> as Turns<R>>⟧.faults result.0.turns }
 {
     let mut reader = repo.reader(rt, alloc);
@@ -82,6 +86,7 @@ fn edit_and_commit<D: Disk, R, G: Gate>(
     ensures cause { IfAnswerFails result.1 (Rose (⟦<Owned<D> as Turns<R>>⟧.faults repo.turns) (⟦<Owned<D> as Turns<R>>⟧.faults result.0.turns)) }
     ensures listed { IsUnlisted (txn_label (pair_of (⟦<HeldNodes<D::Bench> as Own>⟧.txn txn.own))) (Rose (⟦<Owned<D> as Turns<R>>⟧.faults repo.turns) (⟦<Owned<D> as Turns<R>>⟧.faults result.0.turns)) (⟦<Owned<D> as Turns<R>>⟧.labels repo.turns) (⟦<Owned<D> as Turns<R>>⟧.labels result.0.turns) }
     ensures mounted { D.mount_path result.0.turns.disk ≡ D.mount_path repo.turns.disk }
+    ensures benches { RoseBy (bench_told result.1) (D.bench_faults repo.turns.disk) (D.bench_faults result.0.turns.disk) }
     ensures later { ⟦<Owned<D> as Turns<R>>⟧.faults repo.turns ≤ ⟦<Owned<D> as Turns<R>>⟧.faults result.0.turns }
 {
     let (repo, done) = edit(repo, rt, alloc, &mut txn, &job.steps);
@@ -108,6 +113,7 @@ fn begin_and_commit<D: Disk, R, G: Gate>(
     // Whatever is known: the transaction that was begun is listed no more, unless a call of the disk failed.
     ensures listed { LeavesListed 1 (⟦<Owned<D> as Turns<R>>⟧.labels repo.turns) (⟦<Owned<D> as Turns<R>>⟧.labels result.0.turns) ⊎ Rose (⟦<Owned<D> as Turns<R>>⟧.faults repo.turns) (⟦<Owned<D> as Turns<R>>⟧.faults result.0.turns) }
     ensures mounted { D.mount_path result.0.turns.disk ≡ D.mount_path repo.turns.disk }
+    ensures benches { RoseBy (bench_told result.1) (D.bench_faults repo.turns.disk) (D.bench_faults result.0.turns.disk) }
     ensures later { ⟦<Owned<D> as Turns<R>>⟧.faults repo.turns ≤ ⟦<Owned<D> as Turns<R>>⟧.faults result.0.turns }
 {
     let (repo, begun) = repo.begin(rt, alloc, base);
@@ -136,6 +142,7 @@ pub(crate) fn commit_job<D: Disk, R, G: Gate>(
     ensures cause { IfAnswerFails result.1 (Rose (⟦<Owned<D> as Turns<R>>⟧.faults repo.turns) (⟦<Owned<D> as Turns<R>>⟧.faults result.0.turns)) }
     ensures listed { LeavesListed 1 (⟦<Owned<D> as Turns<R>>⟧.labels repo.turns) (⟦<Owned<D> as Turns<R>>⟧.labels result.0.turns) ⊎ Rose (⟦<Owned<D> as Turns<R>>⟧.faults repo.turns) (⟦<Owned<D> as Turns<R>>⟧.faults result.0.turns) }
     ensures mounted { D.mount_path result.0.turns.disk ≡ D.mount_path repo.turns.disk }
+    ensures benches { RoseBy (bench_told result.1) (D.bench_faults repo.turns.disk) (D.bench_faults result.0.turns.disk) }
     ensures later { ⟦<Owned<D> as Turns<R>>⟧.faults repo.turns ≤ ⟦<Owned<D> as Turns<R>>⟧.faults result.0.turns }
 {
     match base_of(&mut repo, job.base) {

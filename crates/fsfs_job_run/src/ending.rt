@@ -5,6 +5,7 @@ ghost use Rattle.fsfs_machine.specs.declared.machine.Txn.{Txn as MachineTxn};
 ghost use Rattle.fsfs_machine.specs.Kept.{IsIn};
 ghost use Rattle.fsfs_machine.specs.Machine.{revisions};
 ghost use Rattle.fsfs_tree.specs.Dated.{last_of};
+ghost use Rattle.fsfs_turn.specs.Mountings.{RoseBy};
 ghost use Rattle.fsfs_turn.specs.Views.{View};
 ghost use Rattle.fsfs_turn.specs.Alone.{BringsNoDoubt};
 ghost use Rattle.fsfs_turn_begin.specs.Labels.{IsUnlisted};
@@ -15,6 +16,7 @@ ghost use Rattle.fsfs_jobs.specs.declared.answer.JobAnswer.TheVariants.{Stopped}
 ghost use Rattle.fsfs_jobs.specs.Properties.{undated_properties};
 ghost use Rattle.fsfs_job_run.specs.Faults.{fault_of_merge, answer_of_bar};
 ghost use Rattle.fsfs_job_reads.specs.TextReads.{IfAnswerFails};
+ghost use Rattle.fsfs_serial.specs.Jobs.{bench_told};
 ghost use Rattle.fsfs_job_run.specs.Running.{IsNoRequest, Stays};
 ghost use Rattle.fsfs_job_run.specs.Ending.{EndsSo};
 
@@ -80,6 +82,7 @@ pub(crate) fn purged<D: Disk, R>(
     // Whatever is known: its label is dropped, unless a call of the disk failed.
     ensures listed { IsUnlisted (txn_label (pair_of (⟦<HeldNodes<D::Bench> as Own>⟧.txn txn.own))) (Rose (⟦<Owned<D> as Turns<R>>⟧.faults repo.turns) (⟦<Owned<D> as Turns<R>>⟧.faults result.turns)) (⟦<Owned<D> as Turns<R>>⟧.labels repo.turns) (⟦<Owned<D> as Turns<R>>⟧.labels result.turns) }
     ensures mounted { D.mount_path result.turns.disk ≡ D.mount_path repo.turns.disk }
+    ensures benches { RoseBy (⟦<HeldNodes<D::Bench> as Own>⟧.faults txn.own) (D.bench_faults repo.turns.disk) (D.bench_faults result.turns.disk) }
     ensures later { ⟦<Owned<D> as Turns<R>>⟧.faults repo.turns ≤ ⟦<Owned<D> as Turns<R>>⟧.faults result.turns }
 {
     let _ = repo.purge(rt, txn);
@@ -109,6 +112,7 @@ fn commit_with<D: Disk, R, G: Gate>(
     // Nor is its transaction listed any more, unless a call of the disk failed.
     ensures listed { IsUnlisted (txn_label (pair_of (⟦<HeldNodes<D::Bench> as Own>⟧.txn txn.own))) (Rose (⟦<Owned<D> as Turns<R>>⟧.faults repo.turns) (⟦<Owned<D> as Turns<R>>⟧.faults result.0.turns)) (⟦<Owned<D> as Turns<R>>⟧.labels repo.turns) (⟦<Owned<D> as Turns<R>>⟧.labels result.0.turns) }
     ensures mounted { D.mount_path result.0.turns.disk ≡ D.mount_path repo.turns.disk }
+    ensures benches { RoseBy (bench_told result.1) (D.bench_faults repo.turns.disk) (D.bench_faults result.0.turns.disk) }
     ensures later { ⟦<Owned<D> as Turns<R>>⟧.faults repo.turns ≤ ⟦<Owned<D> as Turns<R>>⟧.faults result.0.turns }
 {
     let line = job.line;
@@ -142,6 +146,7 @@ pub(crate) fn commit_edited<D: Disk, R, G: Gate>(
     // Nor is its transaction listed any more, unless a call of the disk failed.
     ensures listed { IsUnlisted (txn_label (pair_of (⟦<HeldNodes<D::Bench> as Own>⟧.txn txn.own))) (Rose (⟦<Owned<D> as Turns<R>>⟧.faults repo.turns) (⟦<Owned<D> as Turns<R>>⟧.faults result.0.turns)) (⟦<Owned<D> as Turns<R>>⟧.labels repo.turns) (⟦<Owned<D> as Turns<R>>⟧.labels result.0.turns) }
     ensures mounted { D.mount_path result.0.turns.disk ≡ D.mount_path repo.turns.disk }
+    ensures benches { RoseBy (bench_told result.1) (D.bench_faults repo.turns.disk) (D.bench_faults result.0.turns.disk) }
     ensures later { ⟦<Owned<D> as Turns<R>>⟧.faults repo.turns ≤ ⟦<Owned<D> as Turns<R>>⟧.faults result.0.turns }
 {
     match properties_of(alloc, job) {

@@ -1,10 +1,12 @@
 //! One job over a repository.
 ghost use Rattle.std.specs.Prelude.{◌≡◌, ◌⊎◌, ◌≤◌, None};
 ghost use Rattle.fsfs_base.specs.Failures.{Rose};
+ghost use Rattle.fsfs_turn.specs.Mountings.{RoseBy};
 ghost use Rattle.fsfs_turn.specs.Views.{View};
 ghost use Rattle.fsfs_turn_begin.specs.Steps.{IsPastNumbers};
 ghost use Rattle.fsfs_owned_repo.specs.Crashes.{CrashesLeave};
 ghost use Rattle.fsfs_job_reads.specs.TextReads.{IfAnswerFails};
+ghost use Rattle.fsfs_serial.specs.Jobs.{bench_told};
 ghost use Rattle.fsfs_serial.specs.Listed.{LeavesListed};
 ghost use Rattle.fsfs_job_run.specs.Running.{DoesSo, IfCounted, StopsOver};
 
@@ -43,6 +45,8 @@ pub fn do_job<D: Disk, R, G: Gate>(
     // Whatever is known and whatever it answers: no transaction that it began stays listed, and all others do, unless a call of the disk failed in it.
     ensures listed { LeavesListed 1 (⟦<Owned<D> as Turns<R>>⟧.labels repo.turns) (⟦<Owned<D> as Turns<R>>⟧.labels result.0.turns) ⊎ Rose (⟦<Owned<D> as Turns<R>>⟧.faults repo.turns) (⟦<Owned<D> as Turns<R>>⟧.faults result.0.turns) }
     ensures mounted { D.mount_path result.0.turns.disk ≡ D.mount_path repo.turns.disk }
+    // Nor is a bench told to have failed, but where the count of those rose.
+    ensures benches { RoseBy (bench_told result.1) (D.bench_faults repo.turns.disk) (D.bench_faults result.0.turns.disk) }
     ensures later { ⟦<Owned<D> as Turns<R>>⟧.faults repo.turns ≤ ⟦<Owned<D> as Turns<R>>⟧.faults result.0.turns }
 {
     match job {

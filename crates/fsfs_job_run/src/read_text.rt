@@ -1,9 +1,11 @@
 //! A job that reads.
 ghost use Rattle.std.specs.Prelude.{◌≡◌, ◌≤◌, ℕ, None};
 ghost use Rattle.fsfs_base.specs.Failures.{Rose};
+ghost use Rattle.fsfs_turn.specs.Mountings.{RoseBy};
 ghost use Rattle.fsfs_turn.specs.Views.{View};
 ghost use Rattle.fsfs_job_lines.specs.declared.job.Job.TheVariants as jobs;
 ghost use Rattle.fsfs_job_reads.specs.TextReads.{IfAnswerFails};
+ghost use Rattle.fsfs_serial.specs.Jobs.{bench_told};
 ghost use Rattle.fsfs_job_run.specs.Running.{DoesSo};
 
 use crate::bases::base_of;
@@ -29,6 +31,7 @@ pub(crate) fn read_text<D: Disk, R, G: Gate>(
     ensures cause { IfAnswerFails result.1 (Rose (⟦<Owned<D> as Turns<R>>⟧.faults repo.turns) (⟦<Owned<D> as Turns<R>>⟧.faults result.0.turns)) }
     ensures listed { ⟦<Owned<D> as Turns<R>>⟧.labels result.0.turns ≡ ⟦<Owned<D> as Turns<R>>⟧.labels repo.turns }
     ensures mounted { D.mount_path result.0.turns.disk ≡ D.mount_path repo.turns.disk }
+    ensures benches { RoseBy (bench_told result.1) (D.bench_faults repo.turns.disk) (D.bench_faults result.0.turns.disk) }
     ensures later { ⟦<Owned<D> as Turns<R>>⟧.faults repo.turns ≤ ⟦<Owned<D> as Turns<R>>⟧.faults result.0.turns }
 {
     let base = match base_of(&mut repo, job.base) {

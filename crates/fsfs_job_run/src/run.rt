@@ -1,8 +1,10 @@
 //! The jobs of a script one after another.
 ghost use Rattle.std.specs.Prelude.{◌≡◌, ◌⊎◌, ◌≤◌, None, length, IfOk, OnErr};
 ghost use Rattle.fsfs_base.specs.Failures.{Rose};
+ghost use Rattle.fsfs_turn.specs.Mountings.{RoseBy};
 ghost use Rattle.fsfs_turn.specs.Views.{View};
 ghost use Rattle.fsfs_owned_repo.specs.Crashes.{CrashesLeave};
+ghost use Rattle.fsfs_serial.specs.Jobs.{bench_faults_in};
 ghost use Rattle.fsfs_serial.specs.Listed.{LeavesListed};
 ghost use Rattle.fsfs_job_run.specs.Running.{DoAll, IfAnyFails, RunsPast};
 
@@ -39,6 +41,8 @@ pub fn run_jobs<D: Disk, R, G: Gate>(
     // No transaction that they began stays listed, and all others do, unless a call of the disk failed in this run.
     ensures listed { LeavesListed (length jobs.now) (⟦<Owned<D> as Turns<R>>⟧.labels repo.turns) (⟦<Owned<D> as Turns<R>>⟧.labels result.0.turns) ⊎ Rose (⟦<Owned<D> as Turns<R>>⟧.faults repo.turns) (⟦<Owned<D> as Turns<R>>⟧.faults result.0.turns) }
     ensures mounted { D.mount_path result.0.turns.disk ≡ D.mount_path repo.turns.disk }
+    // As many calls of benches failed as answers tell of one, or more.
+    ensures benches { IfOk result.1 (λ answers. RoseBy (bench_faults_in answers.items) (D.bench_faults repo.turns.disk) (D.bench_faults result.0.turns.disk)) }
     ensures later { ⟦<Owned<D> as Turns<R>>⟧.faults repo.turns ≤ ⟦<Owned<D> as Turns<R>>⟧.faults result.0.turns }
 {
     let mut answers = match Vec::with_capacity(alloc, jobs.len()) {

@@ -30,7 +30,7 @@ pub(crate) fn base_of<R, T: Turns<R>>(turns: &mut T, base: Base) -> (RevNum, Res
     ensures base { IfOk result.1 (λ rev. (rev ≡ base_of base result.0) × (rev ≤ result.0)) }
     ensures lacks { IfErr result.1 (LacksBase base result.0) }
     ensures there { IsKnown (T.store turns.new).reach result.0 }
-    ensures mounted { T.mount_path turns.new ≡ T.mount_path turns.old }
+    ensures mounted { T.mounting turns.new ≡ T.mounting turns.old }
     ensures duty { T.bound turns.new ≡ T.bound turns.old }
     ensures listed { KeepsLabels (T.bound turns.old) (T.labels turns.old) (T.labels turns.new) }
     ensures faults { T.faults turns.new ≡ T.faults turns.old }

@@ -3,12 +3,14 @@ ghost use Rattle.std.specs.Prelude.{◌≡◌, ◌≤◌, ◌<◌, ℕ, None, tr
 ghost use Rattle.fsfs_base.specs.Failures.{Rose};
 ghost use Rattle.fsfs_machine.specs.declared.machine.Txn.{Txn as MachineTxn};
 ghost use Rattle.fsfs_machine.specs.Kept.{IsIn};
+ghost use Rattle.fsfs_turn.specs.Mountings.{RoseBy};
 ghost use Rattle.fsfs_turn.specs.Views.{View};
 ghost use Rattle.fsfs_pass_txns.specs.Begun.{BeginsTxnAmong};
 ghost use Rattle.fsfs_job_lines.specs.declared.job.Job.TheVariants as jobs;
 ghost use Rattle.fsfs_jobs.specs.Properties.{undated_properties};
 ghost use Rattle.fsfs_jobs.specs.Serial.{base_of as base_in};
 ghost use Rattle.fsfs_job_reads.specs.TextReads.{IfAnswerFails};
+ghost use Rattle.fsfs_serial.specs.Jobs.{bench_told};
 ghost use Rattle.fsfs_pass_jobs.specs.Working.{EndsFrom, GoesOnKnown, IsEditedTxn, WorksSo};
 
 use crate::bases::base_of;
@@ -35,7 +37,8 @@ fn purged<R, T: Turns<R>>(rt: &R, turns: &mut T, txn: Txn<HeldNodes<T::Bench>>)
     requires due { T.bound turns.old ≡ true → (v : View) × T.knows turns.old v × (v.section ≡ None) × IsIn (⟦<HeldNodes<T::Bench> as Own>⟧.txn txn.own).number.number v.given }
     ensures leaves { (v : View) → T.knows turns.old v → v.section ≡ None → IsIn (⟦<HeldNodes<T::Bench> as Own>⟧.txn txn.own).number.number v.given → 0 < length v.seen → GoesOnKnown (T.knows turns.new) v }
     ensures duty { T.bound turns.new ≡ T.bound turns.old }
-    ensures mounted { T.mount_path turns.new ≡ T.mount_path turns.old }
+    ensures mounted { (T.mounting turns.new).mount ≡ (T.mounting turns.old).mount }
+    ensures benches { RoseBy (⟦<HeldNodes<T::Bench> as Own>⟧.faults txn.own) (T.mounting turns.old).bench_faults (T.mounting turns.new).bench_faults }
     ensures later { T.faults turns.old ≤ T.faults turns.new }
 {
     let _ = purge_txn(rt, turns, txn);
@@ -62,7 +65,8 @@ fn commit_with<R, T: Turns<R>, G: Gate>(
         → EndsFrom (T.knows result.0) (Rose (T.faults turns) (T.faults result.0)) micros k (jobs.Commit job.now) result.1 v }
     ensures cause { IfAnswerFails result.1 (Rose (T.faults turns) (T.faults result.0)) }
     ensures duty { T.bound result.0 ≡ T.bound turns }
-    ensures mounted { T.mount_path result.0 ≡ T.mount_path turns }
+    ensures mounted { (T.mounting result.0).mount ≡ (T.mounting turns).mount }
+    ensures benches { RoseBy (bench_told result.1) (T.mounting turns).bench_faults (T.mounting result.0).bench_faults }
     ensures later { T.faults turns ≤ T.faults result.0 }
 {
     let line = job.line;
@@ -99,7 +103,8 @@ fn commit_edited<R, T: Turns<R>, G: Gate>(
         → EndsFrom (T.knows result.0) (Rose (T.faults turns) (T.faults result.0)) micros k (jobs.Commit job.now) result.1 v }
     ensures cause { IfAnswerFails result.1 (Rose (T.faults turns) (T.faults result.0)) }
     ensures duty { T.bound result.0 ≡ T.bound turns }
-    ensures mounted { T.mount_path result.0 ≡ T.mount_path turns }
+    ensures mounted { (T.mounting result.0).mount ≡ (T.mounting turns).mount }
+    ensures benches { RoseBy (bench_told result.1) (T.mounting turns).bench_faults (T.mounting result.0).bench_faults }
     ensures later { T.faults turns ≤ T.faults result.0 }
 {
     let mut turns = turns;
@@ -133,7 +138,8 @@ fn edit_and_commit<R, T: Turns<R>, G: Gate>(
         → EndsFrom (T.knows result.0) (Rose (T.faults turns) (T.faults result.0)) micros k (jobs.Commit job.now) result.1 u }
     ensures cause { IfAnswerFails result.1 (Rose (T.faults turns) (T.faults result.0)) }
     ensures duty { T.bound result.0 ≡ T.bound turns }
-    ensures mounted { T.mount_path result.0 ≡ T.mount_path turns }
+    ensures mounted { (T.mounting result.0).mount ≡ (T.mounting turns).mount }
+    ensures benches { RoseBy (bench_told result.1) (T.mounting turns).bench_faults (T.mounting result.0).bench_faults }
     ensures later { T.faults turns ≤ T.faults result.0 }
 {
     let (back, done) = edit(rt, alloc, turns, last, &mut txn, &job.steps);
@@ -162,7 +168,8 @@ pub(crate) fn commit_job<R, T: Turns<R>, G: Gate>(
         → WorksSo (T.knows result.0) (Rose (T.faults turns) (T.faults result.0)) micros (jobs.Commit job.now) result.1 v }
     ensures cause { IfAnswerFails result.1 (Rose (T.faults turns) (T.faults result.0)) }
     ensures duty { T.bound result.0 ≡ T.bound turns }
-    ensures mounted { T.mount_path result.0 ≡ T.mount_path turns }
+    ensures mounted { (T.mounting result.0).mount ≡ (T.mounting turns).mount }
+    ensures benches { RoseBy (bench_told result.1) (T.mounting turns).bench_faults (T.mounting result.0).bench_faults }
     ensures later { T.faults turns ≤ T.faults result.0 }
 {
     let line = job.line;

@@ -9,7 +9,7 @@ ghost use Rattle.fsfs_turn.specs.Courses.{ReadOnly};
 ghost use Rattle.fsfs_turn.specs.Labels.{KeepsLabels};
 ghost use Rattle.fsfs_turn.specs.Views.{View, Looked};
 ghost use Rattle.fsfs_txn.specs.Standing.{Stands};
-ghost use Rattle.fsfs_job_edits.specs.Editing.{AreEditing, IfDisk};
+ghost use Rattle.fsfs_job_edits.specs.Editing.{AreEditing, IfBench, IfDisk};
 ghost use Rattle.fsfs_pass_jobs.specs.Working.{up_to};
 
 use fsfs_fields::RevNum;
@@ -49,10 +49,11 @@ pub(crate) fn edit<R, T: Turns<R>>(
     ensures lasts { OnOk result.1 (txn.new.spent ≡ None) }
     ensures base { txn.new.base ≡ txn.old.base }
     ensures name { ⟦<HeldNodes<T::Bench> as Own>⟧.txn txn.new.own ≡ ⟦<HeldNodes<T::Bench> as Own>⟧.txn txn.old.own }
+    ensures failed { IfErr result.1 (λ stopped. IfBench stopped.fault (0 < ⟦<HeldNodes<T::Bench> as Own>⟧.faults txn.new.own)) }
     ensures cause { IfErr result.1 (λ stopped. IfDisk stopped.fault (Rose (T.faults turns) (T.faults result.0))) }
     ensures listed { KeepsLabels (T.bound turns) (T.labels turns) (T.labels result.0) }
     ensures duty { T.bound result.0 ≡ T.bound turns }
-    ensures mounted { T.mount_path result.0 ≡ T.mount_path turns }
+    ensures mounted { T.mounting result.0 ≡ T.mounting turns }
     ensures later { T.faults turns ≤ T.faults result.0 }
 {
     let mut turns = turns;

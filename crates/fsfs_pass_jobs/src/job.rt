@@ -1,8 +1,10 @@
 //! One job by turns.
 ghost use Rattle.std.specs.Prelude.{◌≡◌, ◌≤◌, None, true};
 ghost use Rattle.fsfs_base.specs.Failures.{Rose};
+ghost use Rattle.fsfs_turn.specs.Mountings.{RoseBy};
 ghost use Rattle.fsfs_turn.specs.Views.{View};
 ghost use Rattle.fsfs_job_reads.specs.TextReads.{IfAnswerFails};
+ghost use Rattle.fsfs_serial.specs.Jobs.{bench_told};
 ghost use Rattle.fsfs_pass_jobs.specs.Working.{WorksSo};
 
 use crate::committing::commit_job;
@@ -32,7 +34,9 @@ pub fn do_job<R, T: Turns<R>, G: Gate>(
     // Whatever the disk tells: it is told to have failed only where the count of failed turns rose in this job.
     ensures cause { IfAnswerFails result.1 (Rose (T.faults turns) (T.faults result.0)) }
     ensures duty { T.bound result.0 ≡ T.bound turns }
-    ensures mounted { T.mount_path result.0 ≡ T.mount_path turns }
+    ensures mounted { (T.mounting result.0).mount ≡ (T.mounting turns).mount }
+    // Nor is a bench told to have failed, but where the count of those rose.
+    ensures benches { RoseBy (bench_told result.1) (T.mounting turns).bench_faults (T.mounting result.0).bench_faults }
     ensures later { T.faults turns ≤ T.faults result.0 }
 {
     match job {

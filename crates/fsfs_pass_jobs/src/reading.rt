@@ -4,7 +4,7 @@ ghost use Rattle.fsfs_base.specs.Failures.{Rose};
 ghost use Rattle.fsfs_turn.specs.Labels.{KeepsLabels};
 ghost use Rattle.fsfs_turn.specs.Views.{View};
 ghost use Rattle.fsfs_job_lines.specs.declared.job.Job.TheVariants as jobs;
-ghost use Rattle.fsfs_job_reads.specs.TextReads.{IfAnswerFails};
+ghost use Rattle.fsfs_job_reads.specs.TextReads.{IfAnswerFails, IsNoBench};
 ghost use Rattle.fsfs_pass_jobs.specs.Working.{WorksSo};
 
 use crate::bases::base_of;
@@ -30,10 +30,11 @@ pub(crate) fn read_text<R, T: Turns<R>, G: Gate>(
 ) -> (T, JobAnswer)
     ensures works { (v : View) (moment : ℕ) → T.knows turns v → v.section ≡ None
         → WorksSo (T.knows result.0) (Rose (T.faults turns) (T.faults result.0)) moment (jobs.Read job.now) result.1 v }
+    ensures no_bench { IsNoBench result.1 }
     ensures cause { IfAnswerFails result.1 (Rose (T.faults turns) (T.faults result.0)) }
     ensures listed { KeepsLabels (T.bound turns) (T.labels turns) (T.labels result.0) }
     ensures duty { T.bound result.0 ≡ T.bound turns }
-    ensures mounted { T.mount_path result.0 ≡ T.mount_path turns }
+    ensures mounted { T.mounting result.0 ≡ T.mounting turns }
     ensures later { T.faults turns ≤ T.faults result.0 }
 {
     let mut turns = turns;

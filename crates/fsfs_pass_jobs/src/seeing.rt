@@ -15,7 +15,7 @@ pub(crate) fn see<R, T: Turns<R>>(rt: &R, turns: &mut T) -> Result<(), Failed>
     ensures seen { (v : View) → T.knows turns.old v → v.section ≡ None
         → (u : View) × T.knows turns.new u × GoesOn v u × (u.pass.stuck ≡ v.pass.stuck) × (u.pass.least ≡ v.pass.least) × (v.pass.least < length u.seen) }
     ensures later { Later (T.store turns.old) (T.store turns.new) }
-    ensures mounted { T.mount_path turns.new ≡ T.mount_path turns.old }
+    ensures mounted { T.mounting turns.new ≡ T.mounting turns.old }
     ensures duty { T.bound turns.new ≡ T.bound turns.old }
     ensures listed { KeepsLabels (T.bound turns.old) (T.labels turns.old) (T.labels turns.new) }
     ensures cause { HasCause (T.faults turns.old) (T.faults turns.new) result }

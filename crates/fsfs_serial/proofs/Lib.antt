@@ -3,3 +3,4 @@ pub mod LineLemmas
 pub mod Finite
 pub mod Clashing
 pub mod ListedLemmas
+pub mod BenchCounts

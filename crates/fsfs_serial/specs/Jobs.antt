@@ -100,6 +100,16 @@ IsSerialAt moment h t (job ∷ js) [] now named = ⊥
 IsSerialAt moment h t (job ∷ js) (answer ∷ answers) now named =
     (date : List ℕ) × IfAdded answer (IsDateAt moment date) × ((between : List Revision) × (drawn : ℕ) × Runs h date t job answer between drawn × IsSerialAt moment between drawn js answers now named)
 
+-- whether it tells that a bench failed, as a count
+abbrev pub bench_told : JobAnswer → ℕ
+bench_told (Stopped line (Outside Bench)) = 1
+bench_told answer = 0
+
+-- so many of these do
+abbrev pub bench_faults_in : List JobAnswer → ℕ
+bench_faults_in [] = 0
+bench_faults_in (answer ∷ answers) = bench_told answer + bench_faults_in answers
+
 -- none of these tells of a fault that leaves a revision in doubt
 abbrev pub TellNoDoubt : List JobAnswer → Type 0
 TellNoDoubt [] = Unit {0}

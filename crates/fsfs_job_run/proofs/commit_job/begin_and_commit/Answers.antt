@@ -1,4 +1,4 @@
-use Rattle.std.proofs.Common.{◌≡◌, ⊎_elim, inl, inr, sym, subst, arith}
+use Rattle.std.proofs.Common.{◌≡◌, ⊎_elim, inl, inr, sym, ap, subst, ◌∙◌, arith}
 use Rattle.std.specs.Prelude.{Result, Ok, Err, IfOk, IfErr, OnErr}
 use Rattle.fsfs_base.specs.Failures.{Rose}
 use Rattle.fsfs_tree.specs.Revisions.{tree_of}
@@ -6,11 +6,14 @@ use Rattle.fsfs_machine.specs.Machine.{revisions}
 use Rattle.fsfs_machine.proofs.Growing.{revisions_length}
 use Rattle.fsfs_turn.specs.Alone.{KnowsAlone}
 use Rattle.fsfs_turn.specs.Bytes.{bytes_of}
-use Rattle.fsfs_turn_begin.specs.Faults.{IfDisk}
+use Rattle.fsfs_turn.specs.Mountings.{RoseBy}
+use Rattle.fsfs_turn_begin.specs.Faults.{IfDisk, bench_faults_in}
 use Rattle.fsfs_jobs.specs.declared.answer.JobAnswer.TheVariants.{Stopped}
 use Rattle.fsfs_job_run.specs.Running.{CommitsSo}
 use Rattle.fsfs_job_reads.specs.TextReads.{IfAnswerFails}
 use Rattle.fsfs_job_run.proofs.Causes.{fails_on, begin_fails}
+use Rattle.fsfs_serial.specs.Jobs.{bench_told}
+use Rattle.fsfs_job_run.proofs.BenchCauses.{begin_told}
 use Rattle.fsfs_job_run.proofs.Begun.{unbegun_so}
 use Rattle.fsfs_job_run.proofs.Composed.{begun_so}
 use Rattle.fsfs_job_run.proofs.Listing.{begun_lists, unbegun_lists}
@@ -69,3 +72,17 @@ returns-in-Ok-clause-listed g c =
 
 pub returns-in-Err-clause-listed : goal.returns-in-Err-clause-listed
 returns-in-Err-clause-listed g c = unbegun_lists _ c.args.base _ _ (told_left c.begin-repo.result.1 c.in-Err.why _ c.in-Err.is c.begin-repo.ensures.unlisted)
+
+pub returns-in-Ok-clause-benches : goal.returns-in-Ok-clause-benches
+returns-in-Ok-clause-benches g c =
+    let count = g.D.Disk.bench_faults in
+    let begun = subst (λ r. RoseBy (bench_faults_in r) (count c.args.repo.turns.disk) (count c.begin-repo.result.0.turns.disk)) c.in-Ok.is c.begin-repo.ensures.benches in
+    omega (arith, begun, c.edit_and_commit.ensures.benches)
+
+pub returns-in-Err-clause-benches : goal.returns-in-Err-clause-benches
+returns-in-Err-clause-benches g c =
+    let count = g.D.Disk.bench_faults in
+    let line = c.args.job.now.line in
+    let begun = subst (λ r. RoseBy (bench_faults_in r) (count c.args.repo.turns.disk) (count c.begin-repo.result.0.turns.disk)) c.in-Err.is c.begin-repo.ensures.benches in
+    let told = ap (λ f. bench_told (Stopped line f)) c.of_begin-fault.ensures ∙ begin_told line c.in-Err.why in
+    omega (arith, begun, told)

@@ -12,6 +12,7 @@ use Rattle.fsfs_turn_begin.specs.Steps.{IsPastNumbers}
 use Rattle.fsfs_jobs.specs.Serial.{base_of}
 use Rattle.fsfs_job_run.proofs.Based.{no_base, no_base_outside, no_base_counted}
 use Rattle.fsfs_job_run.proofs.Causes.{fails_on, request_fails}
+use Rattle.fsfs_job_run.proofs.BenchCauses.{request_told}
 use Rattle.fsfs_job_run.proofs.Composed.{commits_behind}
 use Rattle.fsfs_job_run.proofs.Listing.{lists_behind}
 use Rattle.fsfs_job_run.proofs.commit_job.commit_job.Goals as goal
@@ -52,3 +53,12 @@ returns-in-Ok-clause-listed g c =
 
 pub returns-in-Err-clause-listed : goal.returns-in-Err-clause-listed
 returns-in-Err-clause-listed g c = inl (none_begun 1 _ _ (ap (λ (s : OwnedState). option_map labels_now s.trace) c.in-Err.ensures.same))
+
+pub returns-in-Ok-clause-benches : goal.returns-in-Ok-clause-benches
+returns-in-Ok-clause-benches g c = let same = ap (λ (s : OwnedState). s.bench_faults) c.in-Ok.ensures.same in omega (arith, same, c.begin_and_commit.ensures.benches)
+
+pub returns-in-Err-clause-benches : goal.returns-in-Err-clause-benches
+returns-in-Err-clause-benches g c =
+    let same = ap (λ (s : OwnedState). s.bench_faults) c.in-Err.ensures.same in
+    let told = request_told c.args.job.now.line c.in-Err.fault c.in-Err.ensures.asked in
+    omega (arith, same, told)

@@ -9,6 +9,7 @@ use Rattle.fsfs_disk.specs.Trace.{labels_now}
 use Rattle.fsfs_turn.specs.Telling.{OwnedState}
 use Rattle.fsfs_turn.specs.OwnedLemmas.{owned_benches_tell}
 use Rattle.fsfs_owned_repo.specs.Alone.{KnowsIn}
+use Rattle.fsfs_job_run.proofs.BenchCauses.{bench_failed}
 use Rattle.fsfs_job_run.proofs.Composed.{edits_as, failed_as}
 use Rattle.fsfs_job_run.proofs.Seen.{revisions_seen}
 use Rattle.fsfs_job_run.proofs.commit_job.edit.Goals as goal
@@ -30,3 +31,9 @@ returns-clause-cause g c = failed_as c.do_edits-done.result _ _ _ _ c.reader-rea
 
 pub returns-clause-listed : goal.returns-clause-listed
 returns-clause-listed g c = ap (λ (s : OwnedState). option_map labels_now s.trace) (c.of_reader.ensures.below ∙ c.do_edits-done.ensures.kept.below ∙ c.reader-reader.ensures.below)
+
+pub returns-clause-benches : goal.returns-clause-benches
+returns-clause-benches g c = ap (λ (s : OwnedState). s.bench_faults) (c.of_reader.ensures.below ∙ c.do_edits-done.ensures.kept.below ∙ c.reader-reader.ensures.below)
+
+pub returns-clause-failed : goal.returns-clause-failed
+returns-clause-failed g c = bench_failed c.do_edits-done.result _ _ c.do_edits-done.ensures.bench.failed

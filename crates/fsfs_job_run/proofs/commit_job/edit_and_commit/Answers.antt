@@ -1,4 +1,4 @@
-use Rattle.std.proofs.Common.{ℕ, refl, sym, subst, arith}
+use Rattle.std.proofs.Common.{◌<◌, ℕ, refl, sym, subst, arith}
 use Rattle.fsfs_base.specs.Failures.{Rose}
 use Rattle.fsfs_tree.specs.Dated.{last_of}
 use Rattle.fsfs_tree.specs.Revisions.{tree_of}
@@ -8,6 +8,7 @@ use Rattle.fsfs_machine.proofs.Growing.{revisions_length}
 use Rattle.fsfs_turn.specs.Alone.{KnowsAlone}
 use Rattle.fsfs_turn.specs.Bytes.{bytes_of}
 use Rattle.fsfs_job_run.proofs.Causes.{fails_on, edit_fails}
+use Rattle.fsfs_job_run.proofs.BenchCauses.{edit_told, edits_blamed}
 use Rattle.fsfs_job_run.proofs.Composed.{stands_for, edited_so, stopped_so, edits_done, edits_stopped, edits_failed, txn_as, given_as}
 use Rattle.fsfs_job_run.proofs.Listing.{unlisted_behind}
 use Rattle.fsfs_job_run.proofs.commit_job.edit_and_commit.Goals as goal
@@ -65,3 +66,13 @@ returns-in-Err-clause-listed g c =
     let mid = g.D.Disk.faults c.edit-repo.result.0.turns.disk in
     let now = g.D.Disk.faults c.purged.result.turns.disk in
     unlisted_behind (Rose mid now) (Rose start now) _ _ _ _ _ (λ r. omega (arith, r, c.edit-repo.ensures.later)) c.edit-repo.ensures.name c.edit-repo.ensures.listed c.purged.ensures.listed
+
+pub returns-in-Ok-clause-benches : goal.returns-in-Ok-clause-benches
+returns-in-Ok-clause-benches g c = omega (arith, c.edit-repo.ensures.benches, c.commit_edited.ensures.benches)
+
+pub returns-in-Err-clause-benches : goal.returns-in-Err-clause-benches
+returns-in-Err-clause-benches g c =
+    let stopped = c.in-Err.field-0 in
+    let failed = edits_blamed c.edit-repo.result.1 stopped stopped.fault (0 < g.D.Bench.Bench.faults c.edit-repo.new.txn.own.bench) c.in-Err.is refl c.edit-repo.ensures.failed in
+    let few = edit_told stopped.line stopped.fault (g.D.Bench.Bench.faults c.edit-repo.new.txn.own.bench) failed in
+    omega (arith, few, c.edit-repo.ensures.benches, c.purged.ensures.benches)

@@ -1,4 +1,4 @@
-use Rattle.std.proofs.Common.{ℕ, inr, subst}
+use Rattle.std.proofs.Common.{ℕ, inr, subst, arith}
 use Rattle.fsfs_base.specs.Failures.{Rose}
 use Rattle.fsfs_machine.specs.Kept.{IsIn}
 use Rattle.fsfs_turn.specs.Alone.{KnowsAlone}
@@ -26,3 +26,6 @@ returns-in-Ok-clause-listed g c = c.commit_with.ensures.listed
 
 pub returns-in-Err-clause-listed : goal.returns-in-Err-clause-listed
 returns-in-Err-clause-listed g c = c.purged.ensures.listed
+
+pub returns-in-Err-clause-benches : goal.returns-in-Err-clause-benches
+returns-in-Err-clause-benches g c = omega (arith, c.purged.ensures.benches)

@@ -1,10 +1,13 @@
-use Rattle.std.proofs.Common.{sym, subst, arith}
+use Rattle.std.proofs.Common.{sym, ap, subst, ◌∙◌, arith}
 use Rattle.fsfs_base.specs.Failures.{Rose}
 use Rattle.fsfs_turn.specs.Alone.{KnowsAlone}
-use Rattle.fsfs_pass_txns.specs.Commits.{IfFailed}
+use Rattle.fsfs_turn.specs.Mountings.{RoseBy}
+use Rattle.fsfs_pass_txns.specs.Commits.{IfFailed, bench_faults_told}
 use Rattle.fsfs_jobs.specs.declared.answer.JobAnswer.{JobAnswer}
 use Rattle.fsfs_job_reads.specs.TextReads.{IfAnswerFails}
 use Rattle.fsfs_job_run.specs.Running.{IsNoRequest}
+use Rattle.fsfs_serial.specs.Jobs.{bench_told}
+use Rattle.fsfs_job_run.proofs.BenchCauses.{bar_told}
 use Rattle.fsfs_job_run.proofs.Causes.{bar_fails}
 use Rattle.fsfs_job_run.proofs.Alone.{is_lone}
 use Rattle.fsfs_job_run.proofs.Answered.{committed_by, barred_by, disk_by, bench_by}
@@ -83,3 +86,27 @@ returns-in-DiskFault-clause-listed g c = disk_unlists _ _ _ _ c.commit-repo.resu
 
 pub returns-in-BenchFault-clause-listed : goal.returns-in-BenchFault-clause-listed
 returns-in-BenchFault-clause-listed g c = bench_unlists _ _ _ _ c.commit-repo.result.1 c.commit-repo.ensures.listed c.in-BenchFault.is
+
+pub returns-in-Committed-clause-benches : goal.returns-in-Committed-clause-benches
+returns-in-Committed-clause-benches g c =
+    let count = g.D.Disk.bench_faults in
+    subst (λ a. RoseBy (bench_faults_told a) (count c.args.repo.turns.disk) (count c.commit-repo.result.0.turns.disk)) c.in-Committed.is c.commit-repo.ensures.benches
+
+pub returns-in-Barred-clause-benches : goal.returns-in-Barred-clause-benches
+returns-in-Barred-clause-benches g c =
+    let count = g.D.Disk.bench_faults in
+    let rose = subst (λ a. RoseBy (bench_faults_told a) (count c.args.repo.turns.disk) (count c.commit-repo.result.0.turns.disk)) c.in-Barred.is c.commit-repo.ensures.benches in
+    let told = ap bench_told c.barred.ensures ∙ bar_told c.args.job.now.line c.in-Barred.bar in
+    omega (arith, rose, told, c.purged.ensures.benches)
+
+pub returns-in-DiskFault-clause-benches : goal.returns-in-DiskFault-clause-benches
+returns-in-DiskFault-clause-benches g c =
+    let count = g.D.Disk.bench_faults in
+    let rose = subst (λ a. RoseBy (bench_faults_told a) (count c.args.repo.turns.disk) (count c.commit-repo.result.0.turns.disk)) c.in-DiskFault.is c.commit-repo.ensures.benches in
+    subst (λ (a : JobAnswer). RoseBy (bench_told a) (count c.args.repo.turns.disk) (count c.commit-repo.result.0.turns.disk)) (sym c.stopped.ensures) rose
+
+pub returns-in-BenchFault-clause-benches : goal.returns-in-BenchFault-clause-benches
+returns-in-BenchFault-clause-benches g c =
+    let count = g.D.Disk.bench_faults in
+    let rose = subst (λ a. RoseBy (bench_faults_told a) (count c.args.repo.turns.disk) (count c.commit-repo.result.0.turns.disk)) c.in-BenchFault.is c.commit-repo.ensures.benches in
+    subst (λ (a : JobAnswer). RoseBy (bench_told a) (count c.args.repo.turns.disk) (count c.commit-repo.result.0.turns.disk)) (sym c.stopped-in-BenchFault.ensures) rose

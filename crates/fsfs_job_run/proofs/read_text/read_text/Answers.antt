@@ -10,6 +10,7 @@ use Rattle.fsfs_turn.specs.Alone.{KnowsAlone}
 use Rattle.fsfs_turn.specs.Bytes.{bytes_of}
 use Rattle.fsfs_owned_repo.specs.Alone.{KnowsIn}
 use Rattle.fsfs_job_run.proofs.Based.{no_base_read, no_base_outside}
+use Rattle.fsfs_job_run.proofs.BenchCauses.{request_told, read_told}
 use Rattle.fsfs_job_run.proofs.Causes.{request_fails}
 use Rattle.fsfs_job_run.proofs.Reading.{read_so, fails_as}
 use Rattle.fsfs_job_run.proofs.read_text.read_text.Goals as goal
@@ -44,3 +45,15 @@ returns-in-Err-clause-listed g c = ap (λ (s : OwnedState). option_map labels_no
 
 pub returns-clause-listed : goal.returns-clause-listed
 returns-clause-listed g c = ap (λ (s : OwnedState). option_map labels_now s.trace) (c.of_reader.ensures.below ∙ c.read_job-answer.ensures.kept.below ∙ c.reader-reader.ensures.below ∙ c.in-Ok.ensures.same)
+
+pub returns-in-Err-clause-benches : goal.returns-in-Err-clause-benches
+returns-in-Err-clause-benches g c =
+    let same = ap (λ (s : OwnedState). s.bench_faults) c.in-Err.ensures.same in
+    let told = request_told c.args.job.now.line c.in-Err.fault c.in-Err.ensures.asked in
+    omega (arith, same, told)
+
+pub returns-clause-benches : goal.returns-clause-benches
+returns-clause-benches g c =
+    let same = ap (λ (s : OwnedState). s.bench_faults) (c.of_reader.ensures.below ∙ c.read_job-answer.ensures.kept.below ∙ c.reader-reader.ensures.below ∙ c.in-Ok.ensures.same) in
+    let told = read_told c.read_job-answer.result c.read_job-answer.ensures.no_bench in
+    omega (arith, same, told)

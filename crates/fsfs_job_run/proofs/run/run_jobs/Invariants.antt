@@ -1,6 +1,8 @@
 use Rattle.std.proofs.Common.{◌≡◌, ◌⊎◌, ◌≤◌, take, length}
 use Rattle.std.specs.Prelude.{None, vec_len, option_map}
 use Rattle.fsfs_disk.specs.Trace.{labels_now}
+use Rattle.fsfs_turn.specs.Mountings.{RoseBy}
+use Rattle.fsfs_serial.specs.Jobs.{bench_faults_in}
 use Rattle.fsfs_serial.specs.Listed.{LeavesListed}
 use Rattle.std.specs.Vec.{vec_capacity}
 use Rattle.fsfs_turn.specs.Alone.{KnowsAlone}
@@ -15,12 +17,13 @@ use Rattle.fsfs_job_run.proofs.run.run_jobs.Given as goal
 abbrev pub invariant-loop-job : goal.invariant-loop-job
 invariant-loop-job g l = record {
   does : (v : View) → KnowsAlone l.fn.repo.turns.layout l.fn.repo.turns.young l.fn.repo.turns.stuck (g.D.Disk.trace l.fn.repo.turns.disk) v → v.section ≡ None
-      → RunsOn (KnowsAlone l.repo.turns.layout l.repo.turns.young l.repo.turns.stuck (g.D.Disk.trace l.repo.turns.disk)) (state_of l.fn.repo.turns.layout l.fn.repo.turns.young l.fn.repo.turns.stuck (g.D.Disk.trace l.fn.repo.turns.disk) (g.D.Disk.mount_path l.fn.repo.turns.disk)) l.micros (take l.job-index l.jobs) l.answers.items v;
+      → RunsOn (KnowsAlone l.repo.turns.layout l.repo.turns.young l.repo.turns.stuck (g.D.Disk.trace l.repo.turns.disk)) (state_of l.fn.repo.turns.layout l.fn.repo.turns.young l.fn.repo.turns.stuck (g.D.Disk.trace l.fn.repo.turns.disk) (g.D.Disk.mount_path l.fn.repo.turns.disk) (g.D.Disk.bench_faults l.fn.repo.turns.disk)) l.micros (take l.job-index l.jobs) l.answers.items v;
   first : l.job-index ≡ 0 → l.repo ≡ l.fn.repo;
   numbered : l.number ≡ l.job-index;
   room : vec_capacity l.answers ≡ length l.jobs;
   count : vec_len l.answers ≡ l.job-index;
   mounted : g.D.Disk.mount_path l.repo.turns.disk ≡ g.D.Disk.mount_path l.fn.repo.turns.disk;
+  benches : RoseBy (bench_faults_in l.answers.items) (g.D.Disk.bench_faults l.fn.repo.turns.disk) (g.D.Disk.bench_faults l.repo.turns.disk);
   later : g.D.Disk.faults l.fn.repo.turns.disk ≤ g.D.Disk.faults l.repo.turns.disk;
   listed : LeavesListed l.job-index (option_map labels_now (g.D.Disk.trace l.fn.repo.turns.disk)) (option_map labels_now (g.D.Disk.trace l.repo.turns.disk))
       ⊎ Rose (g.D.Disk.faults l.fn.repo.turns.disk) (g.D.Disk.faults l.repo.turns.disk);

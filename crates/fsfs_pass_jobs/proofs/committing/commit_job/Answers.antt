@@ -1,11 +1,14 @@
-use Rattle.std.proofs.Common.{◌≡◌, ⊎_elim, refl, sym, subst, ◌∙◌, arith}
+use Rattle.std.proofs.Common.{◌≡◌, ⊎_elim, refl, sym, ap, subst, ◌∙◌, arith}
+use Rattle.fsfs_turn.specs.Mountings.{RoseBy}
+use Rattle.fsfs_serial.specs.Jobs.{bench_told}
 use Rattle.fsfs_base.specs.Failures.{Rose}
 use Rattle.fsfs_job_lines.specs.declared.job.Job.TheVariants as jobs
 use Rattle.fsfs_jobs.specs.declared.answer.JobAnswer.TheVariants.{Stopped}
-use Rattle.fsfs_turn_begin.specs.Faults.{IfDisk}
+use Rattle.fsfs_turn_begin.specs.Faults.{IfDisk, bench_faults_in}
 use Rattle.fsfs_beside.specs.Passes.{last_known}
 use Rattle.fsfs_job_reads.specs.TextReads.{IfAnswerFails}
 use Rattle.fsfs_job_run.specs.Running.{LacksBase}
+use Rattle.fsfs_job_run.proofs.BenchCauses.{begin_told, request_told}
 use Rattle.fsfs_job_run.proofs.Causes.{begin_fails, fails_on, request_fails}
 use Rattle.fsfs_pass_jobs.proofs.Based.{looked_last, looked_outside, looked_told, no_base, works_whole}
 use Rattle.fsfs_pass_jobs.proofs.Edited.{behind}
@@ -102,3 +105,36 @@ returns-in-Err-begun-clause-cause g c =
     subst (λ f. IfAnswerFails (Stopped job.line f) (Rose (g.T.Turns.faults c.args.turns) after)) (sym c.of_begin-fault.ensures)
     (begin_fails (Rose (g.T.Turns.faults c.args.turns) after) job.line c.in-Err-begun.why
     (subst (λ n. IfDisk c.in-Err-begun.why (Rose n after)) c.base_of-youngest.ensures.faults (told_err c.begin_txn-turns.result.1 c.in-Err-begun.why (λ why. IfDisk why (Rose (g.T.Turns.faults c.base_of-youngest.new.turns) after)) c.in-Err-begun.is c.begin_txn-turns.ensures.cause)))
+
+-- ---- the benches
+
+pub returns-in-Err-clause-mounted : goal.returns-in-Err-clause-mounted
+returns-in-Err-clause-mounted g c = ap (λ m. m.mount) c.base_of-youngest.ensures.mounted
+
+pub returns-in-Ok-begun-clause-mounted : goal.returns-in-Ok-begun-clause-mounted
+returns-in-Ok-begun-clause-mounted g c = c.edit_and_commit.ensures.mounted ∙ c.begin_txn-turns.ensures.mounted ∙ ap (λ m. m.mount) c.base_of-youngest.ensures.mounted
+
+pub returns-in-Err-begun-clause-mounted : goal.returns-in-Err-begun-clause-mounted
+returns-in-Err-begun-clause-mounted g c = c.begin_txn-turns.ensures.mounted ∙ ap (λ m. m.mount) c.base_of-youngest.ensures.mounted
+
+pub returns-in-Err-clause-benches : goal.returns-in-Err-clause-benches
+returns-in-Err-clause-benches g c =
+    let young = c.base_of-youngest.result.0 in
+    let lacks = told_err c.base_of-youngest.result.1 c.in-Err.fault (LacksBase c.args.job.now.base young) c.in-Err.is c.base_of-youngest.ensures.lacks in
+    let told = request_told c.args.job.now.line c.in-Err.fault (lacks.0, young, lacks.3) in
+    let same = ap (λ m. m.bench_faults) c.base_of-youngest.ensures.mounted in
+    omega (arith, told, same)
+
+pub returns-in-Ok-begun-clause-benches : goal.returns-in-Ok-begun-clause-benches
+returns-in-Ok-begun-clause-benches g c =
+    let same = ap (λ m. m.bench_faults) c.base_of-youngest.ensures.mounted in
+    let begun = subst (λ r. RoseBy (bench_faults_in r) (g.T.Turns.mounting c.base_of-youngest.new.turns).bench_faults (g.T.Turns.mounting c.begin_txn-turns.result.0).bench_faults) c.in-Ok-begun.is c.begin_txn-turns.ensures.benches in
+    omega (arith, same, begun, c.edit_and_commit.ensures.benches)
+
+pub returns-in-Err-begun-clause-benches : goal.returns-in-Err-begun-clause-benches
+returns-in-Err-begun-clause-benches g c =
+    let line = c.args.job.now.line in
+    let same = ap (λ m. m.bench_faults) c.base_of-youngest.ensures.mounted in
+    let begun = subst (λ r. RoseBy (bench_faults_in r) (g.T.Turns.mounting c.base_of-youngest.new.turns).bench_faults (g.T.Turns.mounting c.begin_txn-turns.result.0).bench_faults) c.in-Err-begun.is c.begin_txn-turns.ensures.benches in
+    let told = ap (λ f. bench_told (Stopped line f)) c.of_begin-fault.ensures ∙ begin_told line c.in-Err-begun.why in
+    omega (arith, same, begun, told)

@@ -1,4 +1,8 @@
-use Rattle.std.proofs.Common.{sym, subst, ◌∙◌}
+use Rattle.std.proofs.Common.{sym, ap, subst, ◌∙◌, arith}
+use Rattle.fsfs_turn.specs.Mountings.{RoseBy}
+use Rattle.fsfs_serial.specs.Jobs.{bench_told}
+use Rattle.fsfs_pass_txns.specs.Commits.{bench_faults_told}
+use Rattle.fsfs_job_run.proofs.BenchCauses.{bar_told}
 use Rattle.fsfs_base.specs.Failures.{Rose}
 use Rattle.fsfs_pass_txns.specs.Commits.{IfFailed}
 use Rattle.fsfs_pass_txns.proofs.Noted.{noted_if}
@@ -84,3 +88,25 @@ pub returns-in-BenchFault-clause-cause : goal.returns-in-BenchFault-clause-cause
 returns-in-BenchFault-clause-cause g c =
     let rose = Rose (g.T.Turns.faults c.args.turns) (g.T.Turns.faults c.commit_txn-back.result.0) in
     subst (λ (a : JobAnswer). IfAnswerFails a rose) (sym c.stopped-in-BenchFault.ensures) tt
+
+-- ---- the benches
+
+pub returns-in-Committed-clause-benches : goal.returns-in-Committed-clause-benches
+returns-in-Committed-clause-benches g c =
+    subst (λ a. RoseBy (bench_faults_told a) (g.T.Turns.mounting c.args.turns).bench_faults (g.T.Turns.mounting c.commit_txn-back.result.0).bench_faults) c.in-Committed.is c.commit_txn-back.ensures.benches
+
+pub returns-in-Barred-clause-benches : goal.returns-in-Barred-clause-benches
+returns-in-Barred-clause-benches g c =
+    let rose = subst (λ a. RoseBy (bench_faults_told a) (g.T.Turns.mounting c.args.turns).bench_faults (g.T.Turns.mounting c.commit_txn-back.result.0).bench_faults) c.in-Barred.is c.commit_txn-back.ensures.benches in
+    let told = ap bench_told c.barred.ensures ∙ bar_told c.args.job.now.line c.in-Barred.bar in
+    omega (arith, rose, told, c.purged.ensures.benches)
+
+pub returns-in-DiskFault-clause-benches : goal.returns-in-DiskFault-clause-benches
+returns-in-DiskFault-clause-benches g c =
+    let rose = subst (λ a. RoseBy (bench_faults_told a) (g.T.Turns.mounting c.args.turns).bench_faults (g.T.Turns.mounting c.commit_txn-back.result.0).bench_faults) c.in-DiskFault.is c.commit_txn-back.ensures.benches in
+    subst (λ (a : JobAnswer). RoseBy (bench_told a) (g.T.Turns.mounting c.args.turns).bench_faults (g.T.Turns.mounting c.commit_txn-back.result.0).bench_faults) (sym c.stopped.ensures) rose
+
+pub returns-in-BenchFault-clause-benches : goal.returns-in-BenchFault-clause-benches
+returns-in-BenchFault-clause-benches g c =
+    let rose = subst (λ a. RoseBy (bench_faults_told a) (g.T.Turns.mounting c.args.turns).bench_faults (g.T.Turns.mounting c.commit_txn-back.result.0).bench_faults) c.in-BenchFault.is c.commit_txn-back.ensures.benches in
+    subst (λ (a : JobAnswer). RoseBy (bench_told a) (g.T.Turns.mounting c.args.turns).bench_faults (g.T.Turns.mounting c.commit_txn-back.result.0).bench_faults) (sym c.stopped-in-BenchFault.ensures) rose

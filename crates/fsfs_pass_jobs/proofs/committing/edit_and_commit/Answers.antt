@@ -9,6 +9,7 @@ use Rattle.fsfs_turn.specs.Views.{View}
 use Rattle.fsfs_commit.proofs.Turning.{begins_take}
 use Rattle.fsfs_job_lines.specs.declared.job.Job.TheVariants as jobs
 use Rattle.fsfs_draft.specs.SeenLemmas.{no_shorter}
+use Rattle.fsfs_job_run.proofs.BenchCauses.{edit_told, edits_blamed}
 use Rattle.fsfs_job_run.proofs.Causes.{edit_fails}
 use Rattle.fsfs_job_run.proofs.Composed.{edits_done, edits_failed, edits_stopped, given_as}
 use Rattle.fsfs_pass_jobs.specs.Working.{up_to}
@@ -99,3 +100,22 @@ returns-in-Err-clause-cause g c =
     let rose = Rose (g.T.Turns.faults c.args.turns) (g.T.Turns.faults c.edit-back.result.0) in
     edit_fails rose (Rose (g.T.Turns.faults c.args.turns) (g.T.Turns.faults c.purged.new.turns)) c.in-Err.field-0.line c.in-Err.field-0.fault (λ r. omega (arith, r, c.purged.ensures.later))
     (edits_failed c.edit-back.result.1 c.in-Err.field-0 c.in-Err.field-0.fault rose c.in-Err.is refl c.edit-back.ensures.cause)
+
+-- ---- the benches
+
+pub returns-in-Ok-clause-mounted : goal.returns-in-Ok-clause-mounted
+returns-in-Ok-clause-mounted g c = c.commit_edited.ensures.mounted ∙ ap (λ m. m.mount) c.edit-back.ensures.mounted
+
+pub returns-in-Err-clause-mounted : goal.returns-in-Err-clause-mounted
+returns-in-Err-clause-mounted g c = c.purged.ensures.mounted ∙ ap (λ m. m.mount) c.edit-back.ensures.mounted
+
+pub returns-in-Ok-clause-benches : goal.returns-in-Ok-clause-benches
+returns-in-Ok-clause-benches g c = let same = ap (λ m. m.bench_faults) c.edit-back.ensures.mounted in omega (arith, same, c.commit_edited.ensures.benches)
+
+pub returns-in-Err-clause-benches : goal.returns-in-Err-clause-benches
+returns-in-Err-clause-benches g c =
+    let stopped = c.in-Err.field-0 in
+    let k = g.T.Bench.Bench.faults c.edit-back.new.txn.own.bench in
+    let same = ap (λ m. m.bench_faults) c.edit-back.ensures.mounted in
+    let few = edit_told stopped.line stopped.fault k (edits_blamed c.edit-back.result.1 stopped stopped.fault (0 < k) c.in-Err.is refl c.edit-back.ensures.failed) in
+    omega (arith, few, same, c.purged.ensures.benches)

@@ -6,6 +6,7 @@ use Rattle.fsfs_turn.specs.Bytes.{bytes_of}
 use Rattle.fsfs_turn.specs.Views.{View}
 use Rattle.fsfs_turn_book.proofs.GoingOn.{going_from}
 use Rattle.fsfs_draft.specs.SeenLemmas.{shown_trees}
+use Rattle.fsfs_job_run.proofs.BenchCauses.{bench_failed}
 use Rattle.fsfs_job_run.proofs.Composed.{edits_as, failed_as}
 use Rattle.fsfs_pass_jobs.specs.Working.{up_to}
 use Rattle.fsfs_pass_jobs.proofs.EditLemmas.{known_less, part_some, part_shown, part_last, part_known, part_youngest}
@@ -34,7 +35,7 @@ returns-clause-edits g c = λ v known less told within stands.
 pub returns-clause-onward : goal.returns-clause-onward
 returns-clause-onward g c = λ v known.
     let l = c.look-youngest.ensures.turned v known in
-    let on = going_from g.T.Turns.knows g.T.Turns.mount_path g.T.Turns.bound g.T.Turns.labels c.look-youngest.new.self c.pass_of.result _ (c.do_edits-done.ensures.kept.below ∙ c.over_pass-book.ensures.below) c.pass_of.ensures.goes_on in
+    let on = going_from g.T.Turns.knows g.T.Turns.mounting g.T.Turns.bound g.T.Turns.labels c.look-youngest.new.self c.pass_of.result _ (c.do_edits-done.ensures.kept.below ∙ c.over_pass-book.ensures.below) c.pass_of.ensures.goes_on in
     let k = on.known l.0 l.1 in
     (c.look-youngest.result, l.0, k.0, k.1, l.2, k.2)
 
@@ -43,15 +44,18 @@ returns-clause-cause g c = failed_as c.do_edits-done.result _ _ _ _ (c.over_pass
 
 pub returns-clause-listed : goal.returns-clause-listed
 returns-clause-listed g c = λ free.
-    let on = going_from g.T.Turns.knows g.T.Turns.mount_path g.T.Turns.bound g.T.Turns.labels c.look-youngest.new.self c.pass_of.result _ (c.do_edits-done.ensures.kept.below ∙ c.over_pass-book.ensures.below) c.pass_of.ensures.goes_on in
+    let on = going_from g.T.Turns.knows g.T.Turns.mounting g.T.Turns.bound g.T.Turns.labels c.look-youngest.new.self c.pass_of.result _ (c.do_edits-done.ensures.kept.below ∙ c.over_pass-book.ensures.below) c.pass_of.ensures.goes_on in
     on.listed (c.look-youngest.ensures.duty ∙ free) ∙ c.look-youngest.ensures.listed free
 
 pub returns-clause-duty : goal.returns-clause-duty
 returns-clause-duty g c =
-    let on = going_from g.T.Turns.knows g.T.Turns.mount_path g.T.Turns.bound g.T.Turns.labels c.look-youngest.new.self c.pass_of.result _ (c.do_edits-done.ensures.kept.below ∙ c.over_pass-book.ensures.below) c.pass_of.ensures.goes_on in
+    let on = going_from g.T.Turns.knows g.T.Turns.mounting g.T.Turns.bound g.T.Turns.labels c.look-youngest.new.self c.pass_of.result _ (c.do_edits-done.ensures.kept.below ∙ c.over_pass-book.ensures.below) c.pass_of.ensures.goes_on in
     on.duty ∙ c.look-youngest.ensures.duty
 
 pub returns-clause-mounted : goal.returns-clause-mounted
 returns-clause-mounted g c =
-    let on = going_from g.T.Turns.knows g.T.Turns.mount_path g.T.Turns.bound g.T.Turns.labels c.look-youngest.new.self c.pass_of.result _ (c.do_edits-done.ensures.kept.below ∙ c.over_pass-book.ensures.below) c.pass_of.ensures.goes_on in
+    let on = going_from g.T.Turns.knows g.T.Turns.mounting g.T.Turns.bound g.T.Turns.labels c.look-youngest.new.self c.pass_of.result _ (c.do_edits-done.ensures.kept.below ∙ c.over_pass-book.ensures.below) c.pass_of.ensures.goes_on in
     on.mounted ∙ c.look-youngest.ensures.mounted
+
+pub returns-clause-failed : goal.returns-clause-failed
+returns-clause-failed g c = bench_failed c.do_edits-done.result _ _ c.do_edits-done.ensures.bench.failed

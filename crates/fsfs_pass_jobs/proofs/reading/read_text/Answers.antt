@@ -7,8 +7,9 @@ use Rattle.fsfs_turn.specs.Bytes.{bytes_of}
 use Rattle.fsfs_turn_book.proofs.GoingOn.{going_from}
 use Rattle.fsfs_draft.specs.SeenLemmas.{shown_trees}
 use Rattle.fsfs_jobs.specs.declared.answer.JobAnswer.{JobAnswer}
-use Rattle.fsfs_job_reads.specs.TextReads.{IfAnswerFails}
+use Rattle.fsfs_job_reads.specs.TextReads.{IfAnswerFails, IsNoBench}
 use Rattle.fsfs_job_run.specs.Running.{LacksBase}
+use Rattle.fsfs_job_run.proofs.BenchCauses.{request_is_none}
 use Rattle.fsfs_job_run.proofs.Causes.{request_fails}
 use Rattle.fsfs_job_run.proofs.Reading.{fails_as}
 use Rattle.fsfs_pass_jobs.specs.Working.{up_to}
@@ -69,7 +70,7 @@ returns-clause-works g c = λ v moment known none.
     let some = part_some m young less in
     let shows = part_shown m young less (g.met.T.Turns.tells c.see.new.turns m s.1).shown in
     let up = c.over_pass-book.ensures.told m s.1 in
-    let on = going_from g.T.Turns.knows g.T.Turns.mount_path g.T.Turns.bound g.T.Turns.labels c.see.new.turns after _ (c.read_job-answer.ensures.kept.below ∙ c.over_pass-book.ensures.below) c.pass_of.ensures.goes_on in
+    let on = going_from g.T.Turns.knows g.T.Turns.mounting g.T.Turns.bound g.T.Turns.labels c.see.new.turns after _ (c.read_job-answer.ensures.kept.below ∙ c.over_pass-book.ensures.below) c.pass_of.ensures.goes_on in
     let k = on.known m s.1 in
     let look = by_look young v l.0 none l.2 in
     let seen = goes_on v l.0 m look s.2 in
@@ -77,3 +78,14 @@ returns-clause-works g c = λ v moment known none.
     (c.read_job-answer.ensures.told (bytes_of part) (tree_of (revisions part) c.in-Ok.base) (λ r le. part_known m young less m young _ refl refl up r (omega (arith, le, base.1, part_last m young less)))
     ((shown_trees part some shows).each c.in-Ok.base (omega (arith, base.1, part_last m young less))))
     (fails_as c.read_job-answer.result _ _ _ _ (c.over_pass-book.ensures.faults ∙ c.in-Ok-see.ensures.cause.kept ∙ c.base_of-youngest.ensures.faults) (sym c.pass_of.ensures.faults) c.read_job-answer.ensures.cause.failed)
+
+-- ---- no bench is told to have failed
+
+pub returns-in-Err-clause-no_bench : goal.returns-in-Err-clause-no_bench
+returns-in-Err-clause-no_bench g c =
+    let young = c.base_of-youngest.result.0 in
+    let lacks = told_err c.base_of-youngest.result.1 c.in-Err.fault (LacksBase c.args.job.now.base young) c.in-Err.is c.base_of-youngest.ensures.lacks in
+    request_is_none c.args.job.now.line c.in-Err.fault (lacks.0, young, lacks.3)
+
+pub returns-in-Err-see-clause-no_bench : goal.returns-in-Err-see-clause-no_bench
+returns-in-Err-see-clause-no_bench g c = subst (λ (a : JobAnswer). IsNoBench a) (sym c.stopped.ensures) tt
