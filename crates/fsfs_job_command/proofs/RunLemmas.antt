@@ -1,5 +1,5 @@
 -- A run of jobs over what a pass has seen is one over histories.
-use Rattle.std.proofs.Common.{◌≡◌, ◌⊎◌, ◌+◌, ℕ, List, [], ◌∷◌, length, map, true, refl, sym, ap, subst, ◌∙◌, length-append, inl, inr, arith}
+use Rattle.std.proofs.Common.{◌≡◌, ◌⊎◌, ◌+◌, ℕ, List, [], ◌∷◌, length, true, refl, sym, ap, subst, ◌∙◌, length-append, inl, inr, arith}
 use Rattle.std.proofs.lemmas.List.{map-append, length-map}
 use Rattle.std.specs.Prelude.{Option, Some, None, IfSome, Result, Err}
 use Rattle.fsfs_base.specs.Failures.{Rose}
@@ -30,7 +30,7 @@ use Rattle.fsfs_turn.specs.Whole.{NamesFrom}
 use Rattle.fsfs_owned_repo.specs.Crashes.{CrashesLeave}
 use Rattle.fsfs_job_lines.specs.declared.job.Job.{Job}
 use Rattle.fsfs_jobs.specs.declared.answer.JobAnswer.{JobAnswer}
-use Rattle.fsfs_serial.specs.Jobs.{DoesJob, Fails, ByDisk, ByBench, ByStuck, ByMemory, ByNames, ByCounts, AddsBy, RunsJob, RunJobs, End, More, StuckBehindDoubt}
+use Rattle.fsfs_serial.specs.Jobs.{DoesJob, Fails, ByDisk, ByBench, ByStuck, ByMemory, ByNames, ByCounts, AddsBy, RunsJob, RunJobs, End, More, StuckBehindDoubt, bench_faults_in}
 use Rattle.fsfs_serial.proofs.JobLemmas.{runs_serial, grow}
 use Rattle.fsfs_serial.proofs.ListedLemmas.{failed_on}
 use Rattle.fsfs_job_run.specs.Running.{DoAll, RunsPast}
@@ -149,24 +149,24 @@ opens_weaker told (Small fault) f because = because
 opens_weaker told (DiskFault at) f because = (f because.0, because.1)
 opens_weaker told Memory f because = tt
 
-pub runs_weaker : {D E : Type 0} (moment : ℕ) (a b : RunScene) (r : Result ℕ Fault) → (D → E) → RunsScript moment D a b r → RunsScript moment E a b r
-runs_weaker moment a b _ f (NotOpened why because untouched unread) = NotOpened why (opens_weaker a.trace why f because) untouched unread
-runs_weaker moment a b _ f (NotRead error read rose untouched) = NotRead error read rose untouched
-runs_weaker moment a b _ f (NoRoom js read untouched) = NoRoom js read untouched
-runs_weaker {D} {E} moment a b _ f (Done js answers youngest result read ends each failed quiet listed ran printed) =
-    Done js answers youngest result read ends each (any_on D E answers f failed) (λ none. quiet (λ d. none (f d))) (failed_on f listed) ran printed
+pub runs_weaker : {D E : Type 0} (B C : ℕ → Type 0) (moment : ℕ) (a b : RunScene) (r : Result ℕ Fault) → (D → E) → ((n : ℕ) → B n → C n) → RunsScript moment D B a b r → RunsScript moment E C a b r
+runs_weaker B C moment a b _ f g (NotOpened why because untouched unread) = NotOpened why (opens_weaker a.trace why f because) untouched unread
+runs_weaker B C moment a b _ f g (NotRead error read rose untouched) = NotRead error read rose untouched
+runs_weaker B C moment a b _ f g (NoRoom js read untouched) = NoRoom js read untouched
+runs_weaker {D} {E} B C moment a b _ f g (Done js answers youngest result read ends each failed quiet benches listed ran printed) =
+    Done js answers youngest result read ends each (any_on D E answers f failed) (λ none. quiet (λ d. none (f d))) (g (bench_faults_in answers) benches) (failed_on f listed) ran printed
 
 -- ---- the ends of a run
 
-pub not_opened : {D : Type 0} (moment : ℕ) (a b : RunScene) (why : OpenFault) (fault : Fault) → fault ≡ fault_from_open why → OpensBecause D a.trace why → FailsAt FirmNames a.trace b.trace → b.written ≡ a.written → b.write_faults ≡ a.write_faults
-    → b.remaining ≡ a.remaining → RunsScript moment D a b (Err fault)
-not_opened {D} moment a b why fault is because firm written faults unread =
-    subst (λ (f : Fault). RunsScript moment D a b (Err f)) (sym is) (NotOpened why because (record { disk = firm; output = written; output_faults = faults }) unread)
+pub not_opened : {D : Type 0} {B : ℕ → Type 0} (moment : ℕ) (a b : RunScene) (why : OpenFault) (fault : Fault) → fault ≡ fault_from_open why → OpensBecause D a.trace why → FailsAt FirmNames a.trace b.trace → b.written ≡ a.written → b.write_faults ≡ a.write_faults
+    → b.remaining ≡ a.remaining → RunsScript moment D B a b (Err fault)
+not_opened {D} {B} moment a b why fault is because firm written faults unread =
+    subst (λ (f : Fault). RunsScript moment D B a b (Err f)) (sym is) (NotOpened why because (record { disk = firm; output = written; output_faults = faults }) unread)
 
-pub not_read : {D : Type 0} (moment : ℕ) (a b : RunScene) (error : ScriptError) (fault : Fault) → fault ≡ fault_from_script error → ReadsScript a.remaining (Err error) → IfReadFault error (Rose a.read_faults b.read_faults)
-    → FailsAt FirmNames a.trace b.trace → b.written ≡ a.written → b.write_faults ≡ a.write_faults → RunsScript moment D a b (Err fault)
-not_read {D} moment a b error fault is read rose firm written faults =
-    subst (λ (f : Fault). RunsScript moment D a b (Err f)) (sym is) (NotRead error read rose (record { disk = firm; output = written; output_faults = faults }))
+pub not_read : {D : Type 0} {B : ℕ → Type 0} (moment : ℕ) (a b : RunScene) (error : ScriptError) (fault : Fault) → fault ≡ fault_from_script error → ReadsScript a.remaining (Err error) → IfReadFault error (Rose a.read_faults b.read_faults)
+    → FailsAt FirmNames a.trace b.trace → b.written ≡ a.written → b.write_faults ≡ a.write_faults → RunsScript moment D B a b (Err fault)
+not_read {D} {B} moment a b error fault is read rose firm written faults =
+    subst (λ (f : Fault). RunsScript moment D B a b (Err f)) (sym is) (NotRead error read rose (record { disk = firm; output = written; output_faults = faults }))
 
 -- over what the opening told
 pub ran_over : (knows : View → Type 0) (moment : ℕ) (js : List Job) (answers : List JobAnswer) (youngest : ℕ) (old new : Option Trace) → IfSome old (λ t. (h : List Revision) (stands : StandsFor (files_now t) h) → LeftoversAgree stands → HasSeenAll knows t stands.opened.min_unpacked_rev h)

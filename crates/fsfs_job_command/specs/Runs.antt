@@ -25,7 +25,7 @@ use Rattle.fsfs_faults.specs.declared.fault.Fault.TheVariants.{Outside, Memory}
 use Rattle.fsfs_faults.specs.declared.outside_fault.OutsideFault.TheVariants.{Write}
 use Rattle.fsfs_jobs.specs.Lines.{greatest_status, run_text}
 use Rattle.fsfs_jobs.specs.declared.answer.JobAnswer.{JobAnswer}
-use Rattle.fsfs_serial.specs.Jobs.{StuckBehindDoubt, TellNoDoubt}
+use Rattle.fsfs_serial.specs.Jobs.{StuckBehindDoubt, TellNoDoubt, bench_faults_in}
 use Rattle.fsfs_serial.specs.Listed.{LeavesListed}
 use Rattle.fsfs_job_run.specs.Running.{IfAnyFails}
 use Rattle.fsfs_job_command.specs.Histories.{DidScript, StopsShort}
@@ -99,15 +99,17 @@ abbrev pub PrintsRun : List JobAnswer → ℕ → Option (List ℕ) → Option (
 PrintsRun answers youngest old new before now (Ok status) = (status ≡ greatest_status answers) × Adds old new (run_text answers youngest)
 PrintsRun answers youngest old new before now (Err fault) = (fault ≡ Outside Write) × Rose before now × AddsFront old new (run_text answers youngest)
 
--- A RUN OF A SCRIPT, by its status or its fault. `disk` says that the count of the disk's faults rose.
-pub data RunsScript (moment : ℕ) (disk : Type 0) (a b : RunScene) : Result ℕ Fault → Type 0 where
+-- A RUN OF A SCRIPT, by its status or its fault. `disk` says that the count of the disk's faults rose, and `benches` that so many calls of benches
+-- failed at least.
+pub data RunsScript (moment : ℕ) (disk : Type 0) (benches : ℕ → Type 0) (a b : RunScene) : Result ℕ Fault → Type 0 where
   -- the repository is not opened, and nothing is read
-  NotOpened : (why : OpenFault) → OpensBecause disk a.trace why → IsUntouched a b → b.remaining ≡ a.remaining → RunsScript moment disk a b (Err (fault_from_open why))
+  NotOpened : (why : OpenFault) → OpensBecause disk a.trace why → IsUntouched a b → b.remaining ≡ a.remaining → RunsScript moment disk benches a b (Err (fault_from_open why))
   -- what was read is no script
-  NotRead : (error : ScriptError) → ReadsScript a.remaining (Err error) → IfReadFault error (Rose a.read_faults b.read_faults) → IsUntouched a b → RunsScript moment disk a b (Err (fault_from_script error))
+  NotRead : (error : ScriptError) → ReadsScript a.remaining (Err error) → IfReadFault error (Rose a.read_faults b.read_faults) → IsUntouched a b → RunsScript moment disk benches a b (Err (fault_from_script error))
   -- there is no memory for the answers
-  NoRoom : (js : List Job) → ReadsScript a.remaining (Ok js) → IsUntouched a b → RunsScript moment disk a b (Err Memory)
+  NoRoom : (js : List Job) → ReadsScript a.remaining (Ok js) → IsUntouched a b → RunsScript moment disk benches a b (Err Memory)
   -- The input was read to its end, and its jobs were done. A line tells that the disk failed only where a call of it did; so where none did,
-  -- no line tells of a fault that leaves a revision in doubt. Nor does a job leave its transaction listed then, whatever its line tells.
-  Done : (js : List Job) (answers : List JobAnswer) (youngest : ℕ) (result : Result ℕ Fault) → ReadsScript a.remaining (Ok js) → EndsSource a.remaining b.remaining → length answers ≡ length js → IfAnyFails answers disk → ((disk → ⊥) → TellNoDoubt answers)
-      → LeavesListed (length js) (labels_in a) (labels_in b) ⊎ disk → RanOver moment js answers youngest a.trace b.trace → PrintsRun answers youngest a.written b.written a.write_faults b.write_faults result → RunsScript moment disk a b result
+  -- no line tells of a fault that leaves a revision in doubt. Nor does a job leave its transaction listed then, whatever its line tells. As many
+  -- calls of benches failed as lines tell of.
+  Done : (js : List Job) (answers : List JobAnswer) (youngest : ℕ) (result : Result ℕ Fault) → ReadsScript a.remaining (Ok js) → EndsSource a.remaining b.remaining → length answers ≡ length js → IfAnyFails answers disk → ((disk → ⊥) → TellNoDoubt answers) → benches (bench_faults_in answers)
+      → LeavesListed (length js) (labels_in a) (labels_in b) ⊎ disk → RanOver moment js answers youngest a.trace b.trace → PrintsRun answers youngest a.written b.written a.write_faults b.write_faults result → RunsScript moment disk benches a b result

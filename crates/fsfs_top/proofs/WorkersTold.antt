@@ -1,6 +1,6 @@
--- What a run tells of its disk's count of faults, told of the host's.
-use Rattle.std.proofs.Common.{◌+◌, ◌^◌, ◌≤◌, ◌≡◌, ℕ, Bool, inl, inr, arith}
-use Rattle.std.specs.Prelude.{Option, Result, min}
+-- What a run tells of its disk's counts of faults, told of the host's.
+use Rattle.std.proofs.Common.{◌≡◌, ℕ, Bool, inl, inr, arith}
+use Rattle.std.specs.Prelude.{Option, Result}
 use Rattle.fsfs_base.specs.Failures.{added_count}
 use Rattle.fsfs_disk.specs.Trace.{Trace}
 use Rattle.fsfs_beside.specs.Lines.{RoseBy}
@@ -22,17 +22,17 @@ opens_weaker told (DiskFault at) f because = (f because.0, because.1)
 opens_weaker told Memory f because = tt
 
 -- what the disk of a host counted, the host counts as it takes the disk back
-by_host : (n before after old new : ℕ) → before ≡ 0 → new ≡ added_count old after → RoseBy n before after → RoseBy n old new
+pub by_host : (n before after old new : ℕ) → before ≡ 0 → new ≡ added_count old after → RoseBy n before after → RoseBy n old new
 by_host n before after old new none is rose = omega (arith, none, is, rose)
 
-module _ (known : Bool) (moment before after old new : ℕ) (none : before ≡ 0) (is : new ≡ added_count old after) where
-  beside_by_host : (workers : ℕ) (a b : RunScene) (ended : Result ℕ Fault) → RunsBeside moment workers known before after a b ended → RunsBeside moment workers known old new a b ended
+module _ (known : Bool) (moment before after old new : ℕ) (none : before ≡ 0) (is : new ≡ added_count old after) (B C : ℕ → Type 0) (on : (n : ℕ) → B n → C n) where
+  beside_by_host : (workers : ℕ) (a b : RunScene) (ended : Result ℕ Fault) → RunsBeside moment workers known before after B a b ended → RunsBeside moment workers known old new C a b ended
   beside_by_host workers a b _ (NotOpened why because untouched unread) = NotOpened why (opens_weaker a.trace why (by_host 1 before after old new none is) because) untouched unread
   beside_by_host workers a b _ (NotRead error read rose untouched) = NotRead error read rose untouched
   beside_by_host workers a b _ (NoRoom js read untouched) = NoRoom js read untouched
-  beside_by_host workers a b _ (Done js answers youngest result read ends each rose ran printed) = Done js answers youngest result read ends each (by_host _ before after old new none is rose) ran printed
+  beside_by_host workers a b _ (Done js answers youngest result read ends each rose failed ran printed) = Done js answers youngest result read ends each (by_host _ before after old new none is rose) (on _ failed) ran printed
   beside_by_host workers a b _ (Lost unknown unwritten same) = Lost unknown unwritten same
 
-  pub run_by_host : (a b : RunScene) (workers : ℕ) (ended : Result ℕ Fault) → RunsBy workers known moment before after a b ended → RunsBy workers known moment old new a b ended
-  run_by_host a b workers ended (inl (one, ran)) = inl (one, runs_weaker moment a b ended (by_host 1 before after old new none is) ran)
+  pub run_by_host : (a b : RunScene) (workers : ℕ) (ended : Result ℕ Fault) → RunsBy workers known moment before after B a b ended → RunsBy workers known moment old new C a b ended
+  run_by_host a b workers ended (inl (one, ran)) = inl (one, runs_weaker B C moment a b ended (by_host 1 before after old new none is) on ran)
   run_by_host a b workers ended (inr (two, ran)) = inr (two, beside_by_host 2 (scene_where known a) (scene_where known b) ended ran)

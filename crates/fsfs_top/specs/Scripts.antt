@@ -5,6 +5,7 @@ use Rattle.fsfs_disk.specs.Crash.{AllLabels}
 use Rattle.fsfs_disk.specs.Trace.{Trace, files_now}
 use Rattle.fsfs_tree.specs.Revisions.{Revision}
 use Rattle.fsfs_stands.specs.Files.{StandsFor}
+use Rattle.fsfs_turn.specs.Mountings.{RoseBy}
 use Rattle.fsfs_turn.specs.Opening.{LeftoversAgree}
 use Rattle.fsfs_txns.specs.Removals.{WasKept}
 use Rattle.fsfs_faults.specs.Faults.{fault_from_words}
@@ -39,16 +40,16 @@ run_scene repos a i = record { trace = a.host.disk_at repos; remaining = i.remai
 abbrev pub HasHistory : Option Trace → Type 0
 HasHistory told = IfSome told (λ t. (h : List Revision) × (stands : StandsFor (files_now t) h) × LeftoversAgree stands)
 
--- What so many workers did over a disk whose count of faults went from `before` to `after`. One does the jobs one after another; two do them beside each
+-- What so many workers did over a disk whose count of faults went from `before` to `after`, and of whose benches so many calls failed (`benches`). One does the jobs one after another; two do them beside each
 -- other, and what is told of them rests on whether the disk is known to have a history (`known`).
-abbrev pub RunsBy : ℕ → Bool → ℕ → ℕ → ℕ → RunScene → RunScene → Result ℕ Fault → Type 0
-RunsBy workers known moment before after a b ended = ((workers ≡ 1) × RunsScript moment (Rose before after) a b ended) ⊎ ((workers ≡ 2) × RunsByWorkers moment 2 known before after a b ended)
+abbrev pub RunsBy : ℕ → Bool → ℕ → ℕ → ℕ → (ℕ → Type 0) → RunScene → RunScene → Result ℕ Fault → Type 0
+RunsBy workers known moment before after benches a b ended = ((workers ≡ 1) × RunsScript moment (Rose before after) benches a b ended) ⊎ ((workers ≡ 2) × RunsByWorkers moment 2 known before after benches a b ended)
 
 -- the path was mounted and the script run over the disk there, at a moment that the clock gave; or it was not mounted, and nothing was done
 abbrev pub RunsAt : List ℕ → ℕ → Bool → Option ℕ → Scene → SourceScene → Scene → SourceScene → Result ℕ Fault → Type 0
 RunsAt repos workers known clock a i b j ended =
     ((ended ≡ Err (Outside Mount)) × Rose a.host.mount_faults b.host.mount_faults × (b.host.disk_at repos ≡ a.host.disk_at repos) × (b.out ≡ a.out) × (j ≡ i))
-    ⊎ ((moment : ℕ) × IfSome clock (λ t. moment ≡ t) × RunsBy workers known moment a.host.disk_faults b.host.disk_faults (run_scene repos a i) (run_scene repos b j) ended)
+    ⊎ ((moment : ℕ) × IfSome clock (λ t. moment ≡ t) × RunsBy workers known moment a.host.disk_faults b.host.disk_faults (λ n. RoseBy n a.host.bench_faults b.host.bench_faults) (run_scene repos a i) (run_scene repos b j) ended)
 
 -- what svnjobs did: what its words ask for, at that path alone; or they were refused, and nothing was done
 abbrev pub DidJobs : List (List ℕ) → Bool → Option ℕ → Scene → SourceScene → Scene → SourceScene → Result ℕ Fault → Type 0

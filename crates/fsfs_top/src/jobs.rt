@@ -3,6 +3,7 @@ ghost use Rattle.std.specs.Prelude.{◌≡◌, ◌≢◌, ◌≤◌, ℕ, List, 
 ghost use Rattle.fsfs_cli.specs.Readings.{Asks};
 ghost use Rattle.fsfs_cli.specs.declared.request.Task.TheVariants.{RunJobs};
 ghost use Rattle.fsfs_cli.specs.declared.tool.Tool.TheVariants.{Jobs};
+ghost use Rattle.fsfs_turn.specs.Mountings.{RoseBy};
 ghost use Rattle.fsfs_job_command.specs.Runs.{run_scene};
 ghost use Rattle.fsfs_top.specs.Scenes.{scene, source_scene};
 ghost use Rattle.fsfs_top.specs.Scripts.{DidJobs, HasHistory, RunsAt, RunsBy};
@@ -35,7 +36,7 @@ where
     requires workers { (1 ≤ workers) × (workers ≤ 2) }
     requires moment { micros ≤ 4102444799999999 }
     requires knows { known ≡ true → HasHistory (D.trace disk) }
-    ensures ran { RunsBy workers known micros (D.faults disk) (D.faults result.0) (run_scene (D.trace disk) (I.remaining input.old) (I.faults input.old) (O.written out.old) (O.faults out.old))
+    ensures ran { RunsBy workers known micros (D.faults disk) (D.faults result.0) (λ n. RoseBy n 0 (D.bench_faults result.0)) (run_scene (D.trace disk) (I.remaining input.old) (I.faults input.old) (O.written out.old) (O.faults out.old))
         (run_scene (D.trace result.0) (I.remaining input.new) (I.faults input.new) (O.written out.new) (O.faults out.new)) result.1 }
     ensures mounted { D.mount_path result.0 ≡ D.mount_path disk }
 {

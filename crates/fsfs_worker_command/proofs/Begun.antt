@@ -3,8 +3,7 @@ use Rattle.std.proofs.Common.{◌≡◌, ◌+◌, ℕ, List, [], length, true, f
 use Rattle.std.specs.Prelude.{Option, Some, None, IfSome, is_some}
 use Rattle.fsfs_tree.specs.Revisions.{Revision}
 use Rattle.fsfs_layout.specs.declared.layout.Layout.{Layout}
-use Rattle.fsfs_disk.specs.Trace.{Trace, FirmNames, Performs, files_now}
-use Rattle.fsfs_stands.specs.Files.{StandsFor}
+use Rattle.fsfs_disk.specs.Trace.{Trace, FirmNames, Performs}
 use Rattle.fsfs_machine.specs.Machine.{revisions}
 use Rattle.fsfs_seats.specs.declared.seat_view.SeatView.{SeatView}
 use Rattle.fsfs_seats.specs.Seats.{IsSitting}

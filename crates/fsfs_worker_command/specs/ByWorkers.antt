@@ -16,7 +16,7 @@ use Rattle.fsfs_faults.specs.declared.fault.Fault.{Fault}
 use Rattle.fsfs_faults.specs.declared.fault.Fault.TheVariants.{Repository, Memory}
 use Rattle.fsfs_faults.specs.declared.repository_fault.RepositoryFault.TheVariants.{Small}
 use Rattle.fsfs_jobs.specs.declared.answer.JobAnswer.{JobAnswer}
-use Rattle.fsfs_serial.specs.Jobs.{TellNoDoubt}
+use Rattle.fsfs_serial.specs.Jobs.{TellNoDoubt, bench_faults_in}
 use Rattle.fsfs_beside.specs.Lines.{JobLines, StuckByDoubt, disk_faults_in, RoseBy}
 use Rattle.fsfs_job_command.specs.Runs.{RunScene, HoldsAll, AllStandFor, IsUntouched, PrintsRun}
 
@@ -43,22 +43,23 @@ RanBesideOver moment workers js answers youngest old new =
     IfSome old (λ t. (h : List Revision) × StandsFor (files_now t) h × RanBeside moment (length t.operations + 1) workers js answers youngest h new)
 
 -- A run by its status or its fault, over what is told of the disk: as of one worker, but for what is told of the jobs.
-pub data RunsBeside (moment workers : ℕ) (known : Bool) (before after : ℕ) (a b : RunScene) : Result ℕ Fault → Type 0 where
+pub data RunsBeside (moment workers : ℕ) (known : Bool) (before after : ℕ) (benches : ℕ → Type 0) (a b : RunScene) : Result ℕ Fault → Type 0 where
   -- the repository is not opened, and nothing is read
-  NotOpened : (why : OpenFault) → OpensBecause (Rose before after) a.trace why → IsUntouched a b → b.remaining ≡ a.remaining → RunsBeside moment workers known before after a b (Err (fault_from_open why))
+  NotOpened : (why : OpenFault) → OpensBecause (Rose before after) a.trace why → IsUntouched a b → b.remaining ≡ a.remaining → RunsBeside moment workers known before after benches a b (Err (fault_from_open why))
   -- what was read is no script
-  NotRead : (error : ScriptError) → ReadsScript a.remaining (Err error) → IfReadFault error (Rose a.read_faults b.read_faults) → IsUntouched a b → RunsBeside moment workers known before after a b (Err (fault_from_script error))
+  NotRead : (error : ScriptError) → ReadsScript a.remaining (Err error) → IfReadFault error (Rose a.read_faults b.read_faults) → IsUntouched a b → RunsBeside moment workers known before after benches a b (Err (fault_from_script error))
   -- there is no memory for the answers
-  NoRoom : (js : List Job) → ReadsScript a.remaining (Ok js) → IsUntouched a b → RunsBeside moment workers known before after a b (Err Memory)
+  NoRoom : (js : List Job) → ReadsScript a.remaining (Ok js) → IsUntouched a b → RunsBeside moment workers known before after benches a b (Err Memory)
   -- The input was read to its end, and its jobs were done; all workers had ended before the first line was printed. As many calls of the disk
-  -- failed as lines tell of.
+  -- failed as lines tell of, and as many of benches.
   Done : (js : List Job) (answers : List JobAnswer) (youngest : ℕ) (result : Result ℕ Fault) → ReadsScript a.remaining (Ok js) → EndsSource a.remaining b.remaining → length answers ≡ length js
-      → RoseBy (disk_faults_in answers) before after → RanBesideOver moment workers js answers youngest a.trace b.trace → PrintsRun answers youngest a.written b.written a.write_faults b.write_faults result
-      → RunsBeside moment workers known before after a b result
+      → RoseBy (disk_faults_in answers) before after → benches (bench_faults_in answers) → RanBesideOver moment workers js answers youngest a.trace b.trace → PrintsRun answers youngest a.written b.written a.write_faults b.write_faults result
+      → RunsBeside moment workers known before after benches a b result
   -- A file was gone as it was to get its name, and no line is printed. It is so only where the files weren't known.
-  Lost : known ≡ false → b.written ≡ a.written → b.write_faults ≡ a.write_faults → RunsBeside moment workers known before after a b (Err (Repository (Small (record { file = Current; at = 0 }))))
+  Lost : known ≡ false → b.written ≡ a.written → b.write_faults ≡ a.write_faults → RunsBeside moment workers known before after benches a b (Err (Repository (Small (record { file = Current; at = 0 }))))
 
 -- A RUN OF A SCRIPT BY SO MANY WORKERS, by its status or its fault. `known` says that the files, where the disk tells them, were known to stand
--- for a history; else nothing is told of the disk but its count of faults, which went from `before` to `after`.
-abbrev pub RunsByWorkers : ℕ → ℕ → Bool → ℕ → ℕ → RunScene → RunScene → Result ℕ Fault → Type 0
-RunsByWorkers moment workers known before after a b ended = RunsBeside moment workers known before after (scene_where known a) (scene_where known b) ended
+-- for a history; else nothing is told of the disk but its counts of faults: the one of its own went from `before` to `after`, and `benches` says that so many
+-- calls of benches failed at least.
+abbrev pub RunsByWorkers : ℕ → ℕ → Bool → ℕ → ℕ → (ℕ → Type 0) → RunScene → RunScene → Result ℕ Fault → Type 0
+RunsByWorkers moment workers known before after benches a b ended = RunsBeside moment workers known before after benches (scene_where known a) (scene_where known b) ended

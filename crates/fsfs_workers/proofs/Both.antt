@@ -13,7 +13,7 @@ use Rattle.fsfs_seats.specs.Seats.{view_of, halved_view, split_pass, numbered_vi
 use Rattle.fsfs_seats.proofs.Following.{grown_long}
 use Rattle.fsfs_job_lines.specs.declared.job.Job.{Job}
 use Rattle.fsfs_jobs.specs.declared.answer.JobAnswer.{JobAnswer}
-use Rattle.fsfs_serial.specs.Jobs.{own_of_all, TellNoDoubt}
+use Rattle.fsfs_serial.specs.Jobs.{own_of_all, TellNoDoubt, bench_faults_in}
 use Rattle.fsfs_beside.specs.Lines.{WorkerLines, dealt, disk_faults_in, RoseBy}
 use Rattle.fsfs_beside.specs.Passes.{last_known, IsOnward, WorkJobs, End, More}
 use Rattle.fsfs_beside.proofs.BesideLemmas.{begins_on, onward, worked}
@@ -21,7 +21,7 @@ use Rattle.fsfs_workers.specs.InTurn.{in_turn, AreDealt}
 use Rattle.fsfs_workers.specs.Ready.{IsAtRest}
 use Rattle.fsfs_workers.specs.Two.{BothWorked}
 use Rattle.fsfs_workers.specs.OneWorker.{HasWorked}
-use Rattle.fsfs_workers.proofs.Counting.{faults_in_turn}
+use Rattle.fsfs_workers.proofs.Counting.{faults_in_turn, benches_in_turn}
 use Rattle.fsfs_workers.proofs.InTurnLemmas.{first_share, second_share, shares_are_dealt, shares_are_all, length_in_turn}
 use Rattle.fsfs_workers.proofs.Shares.{share_is_calm, none_stuck}
 
@@ -124,6 +124,14 @@ module _ (moment : ℕ) (js : List Job) (firsts seconds answers : List JobAnswer
       let none : new.failures ≡ 0 = ap (λ (z : SeatView). z.failures) new_is in
       let sum : u.failures ≡ one.failures + two.failures = ap (λ (z : SeatView). z.failures) u_is in
       omega (arith, a.cause, b.cause, told, before, none, sum)
+
+  pub both_benches : RoseBy (bench_faults_in answers) v.bench_failures u.bench_failures
+  both_benches =
+      let told : bench_faults_in answers ≡ bench_faults_in firsts + bench_faults_in seconds = ap bench_faults_in answers_are ∙ benches_in_turn firsts seconds in
+      let before : half.bench_failures ≡ v.bench_failures = ap (λ (z : SeatView). z.bench_failures) half_is in
+      let none : new.bench_failures ≡ 0 = ap (λ (z : SeatView). z.bench_failures) new_is in
+      let sum : u.bench_failures ≡ one.bench_failures + two.bench_failures = ap (λ (z : SeatView). z.bench_failures) u_is in
+      omega (arith, a.benches, b.benches, told, before, none, sum)
 
   pub same_parts : u.kin.parts ≡ v.kin.parts
   same_parts =

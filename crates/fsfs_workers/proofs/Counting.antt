@@ -8,6 +8,7 @@ use Rattle.fsfs_jobs.specs.declared.answer.JobAnswer.{JobAnswer}
 use Rattle.fsfs_jobs.specs.declared.answer.JobAnswer.TheVariants.{Committed, Read, Conflict, Stopped}
 use Rattle.fsfs_job_reads.specs.TextReads.{IfAnswerFails}
 use Rattle.fsfs_beside.specs.Lines.{tells_disk, disk_faults_in, RoseBy}
+use Rattle.fsfs_serial.specs.Jobs.{bench_faults_in}
 use Rattle.fsfs_workers.specs.InTurn.{in_turn}
 
 -- how many one answer tells of
@@ -46,3 +47,8 @@ pub faults_in_turn : (xs ys : List JobAnswer) → disk_faults_in (in_turn xs ys)
 faults_in_turn [] ys = omega arith
 faults_in_turn (x ∷ xs) [] = omega arith
 faults_in_turn (x ∷ xs) (y ∷ ys) = let rest = faults_in_turn xs ys in omega (arith, rest)
+
+pub benches_in_turn : (xs ys : List JobAnswer) → bench_faults_in (in_turn xs ys) ≡ bench_faults_in xs + bench_faults_in ys
+benches_in_turn [] ys = omega arith
+benches_in_turn (x ∷ xs) [] = omega arith
+benches_in_turn (x ∷ xs) (y ∷ ys) = let rest = benches_in_turn xs ys in omega (arith, rest)

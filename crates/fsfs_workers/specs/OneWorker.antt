@@ -6,6 +6,7 @@ use Rattle.fsfs_job_lines.specs.declared.job.Job.{Job}
 use Rattle.fsfs_jobs.specs.declared.answer.JobAnswer.{JobAnswer}
 use Rattle.fsfs_beside.specs.Lines.{disk_faults_in, RoseBy}
 use Rattle.fsfs_beside.specs.Passes.{WorkJobs}
+use Rattle.fsfs_serial.specs.Jobs.{bench_faults_in}
 use Rattle.fsfs_workers.specs.Ready.{IsAtRest}
 
 -- A WORKER DID ITS JOBS: what its pass's seat knew before, v, and behind them, u.
@@ -15,6 +16,8 @@ pub record HasWorked (moment : ℕ) (js : List Job) (answers : List JobAnswer) (
   pub each : length answers ≡ length js
   -- whatever the disk tells: as many of its turns failed as answers tell of
   pub cause : RoseBy (disk_faults_in answers) v.failures u.failures
+  -- and as many calls of benches
+  pub benches : RoseBy (bench_faults_in answers) v.bench_failures u.bench_failures
   pub rests : IsAtRest u
   pub kin : u.kin ≡ v.kin
   pub duty : u.told ≡ v.told

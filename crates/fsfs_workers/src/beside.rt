@@ -2,6 +2,7 @@
 ghost use Rattle.std.specs.Prelude.{◌≡◌, ◌<◌, ◌≤◌, [], length, true, is_some, IfOk, OnErr};
 ghost use Rattle.std.specs.Vec.{vec_capacity};
 ghost use Rattle.fsfs_beside.specs.Lines.{dealt, disk_faults_in, RoseBy};
+ghost use Rattle.fsfs_serial.specs.Jobs.{bench_faults_in};
 ghost use Rattle.fsfs_workers.specs.Ready.{IsAtRest, IsReady};
 ghost use Rattle.fsfs_workers.specs.Two.{BothWorked};
 ghost use Rattle.fsfs_workers.specs.OneWorker.{HasWorked};
@@ -57,8 +58,9 @@ where
     // Where the disk tells: the lines of both hold of the one history, and each revision that they tell is the pass's own or the other's.
     ensures did { seat.me.0.told ≡ true → IfOk result.1 (λ answers. BothWorked micros jobs.now answers.items seat.me.0 result.0.me.0) }
     ensures each { IfOk result.1 (λ answers. length answers.items ≡ length jobs.now) }
-    // Whatever the disk tells: as many turns failed as lines tell of.
+    // Whatever the disk tells: as many turns failed as lines tell of, and as many calls of benches.
     ensures cause { IfOk result.1 (λ answers. RoseBy (disk_faults_in answers.items) seat.me.0.failures result.0.me.0.failures) }
+    ensures benches { IfOk result.1 (λ answers. RoseBy (bench_faults_in answers.items) seat.me.0.bench_failures result.0.me.0.bench_failures) }
     ensures none { OnErr result.1 (result.0 ≡ seat) }
     ensures sits { (result.0.table_id ≡ seat.table_id) × (result.0.me.1 ≡ []) }
     ensures rests { IsAtRest result.0.me.0 }

@@ -4,6 +4,7 @@ ghost use Rattle.fsfs_disk.specs.Trace.{Trace};
 ghost use Rattle.fsfs_machine.specs.Machine.{revisions};
 ghost use Rattle.fsfs_seats.specs.Seats.{alone};
 ghost use Rattle.fsfs_beside.specs.Lines.{disk_faults_in, RoseBy};
+ghost use Rattle.fsfs_serial.specs.Jobs.{bench_faults_in};
 ghost use Rattle.fsfs_workers.specs.Ready.{IsReady};
 ghost use Rattle.fsfs_workers.specs.Two.{RanTwo};
 
@@ -47,14 +48,15 @@ where
     // was first.
     requires seen { seat.me.0.told ≡ true → (seat.me.0.opened ≡ length seat.me.0.seen) × (seat.me.0.pass.mine ≡ []) × (seat.me.0.pass.faults ≡ []) }
     // The table began with that disk.
-    requires began { (repo.board.shared.key.value.disk.mount_path ≡ D.mount_path repo.first.value) × (repo.board.shared.key.value.disk.faults ≡ D.faults repo.first.value) }
-    requires fresh { (seat.me.0.met ≡ D.trace repo.first.value) × (seat.me.0.failures ≡ 0) }
+    requires began { (repo.board.shared.key.value.disk.mount_path ≡ D.mount_path repo.first.value) × (repo.board.shared.key.value.disk.faults ≡ D.faults repo.first.value) × (repo.board.shared.key.value.disk.bench_faults ≡ D.bench_faults repo.first.value) }
+    requires fresh { (seat.me.0.met ≡ D.trace repo.first.value) × (seat.me.0.failures ≡ 0) × (seat.me.0.bench_failures ≡ 0) }
     ensures ran { (t : Trace) → D.trace result.0 ≡ Some t → IfOk result.1 (λ done. RanTwo micros seat.me.0.since jobs.now done.answers.items done.youngest (revisions seat.me.0.seen) t) }
     ensures told { is_some (D.trace result.0) ≡ seat.me.0.told }
     ensures each { IfOk result.1 (λ done. length done.answers.items ≡ length jobs.now) }
     ensures none { OnErr result.1 (D.trace result.0 ≡ D.trace repo.first.value) }
-    // Whatever the disk tells: as many calls of it failed as lines tell of.
+    // Whatever the disk tells: as many calls of it failed as lines tell of, and as many of its benches.
     ensures cause { IfOk result.1 (λ done. RoseBy (disk_faults_in done.answers.items) (D.faults repo.first.value) (D.faults result.0)) }
+    ensures benches { IfOk result.1 (λ done. RoseBy (bench_faults_in done.answers.items) (D.bench_faults repo.first.value) (D.bench_faults result.0)) }
     ensures mounted { D.mount_path result.0 ≡ D.mount_path repo.first.value }
     ensures later { D.faults repo.first.value ≤ D.faults result.0 }
 {

@@ -4,6 +4,7 @@ ghost use Rattle.std.specs.Vec.{vec_capacity};
 ghost use Rattle.fsfs_turn.specs.Views.{View};
 ghost use Rattle.fsfs_beside.specs.Lines.{dealt, disk_faults_in, RoseBy};
 ghost use Rattle.fsfs_beside.specs.Passes.{WorkedSo};
+ghost use Rattle.fsfs_serial.specs.Jobs.{bench_faults_in};
 
 use fsfs_job_lines::Job;
 use fsfs_jobs::JobAnswer;
@@ -60,8 +61,10 @@ pub(crate) fn do_share<R, T: Turns<R>, G: Gate>(
     ensures each { length result.1.items ≡ length (dealt share.workers share.before jobs.now) }
     // Whatever the disk tells: as many of its turns failed as answers tell of.
     ensures cause { RoseBy (disk_faults_in result.1.items) (T.faults turns) (T.faults result.0) }
+    // And as many calls of benches as answers tell of.
+    ensures benches { RoseBy (bench_faults_in result.1.items) (T.mounting turns).bench_faults (T.mounting result.0).bench_faults }
     ensures duty { T.bound result.0 ≡ T.bound turns }
-    ensures mounted { T.mount_path result.0 ≡ T.mount_path turns }
+    ensures mounted { (T.mounting result.0).mount ≡ (T.mounting turns).mount }
     ensures later { T.faults turns ≤ T.faults result.0 }
 {
     let mut number: u64 = 0;

@@ -4,6 +4,8 @@ use Rattle.fsfs_disk.specs.Trace.{FirmNames, FailsAt, labels_now}
 use Rattle.fsfs_job_lines.specs.declared.job.Job.{Job}
 use Rattle.fsfs_base.specs.Failures.{Rose}
 use Rattle.fsfs_machine.specs.Machine.{revisions}
+use Rattle.fsfs_turn.specs.Mountings.{RoseBy}
+use Rattle.fsfs_serial.specs.Jobs.{bench_faults_in}
 use Rattle.fsfs_serial.specs.Listed.{LeavesListed}
 use Rattle.fsfs_job_run.proofs.Causes.{any_on, calm_all}
 use Rattle.fsfs_job_run.proofs.Listing.{lists_behind}
@@ -41,7 +43,9 @@ returns-in-Ok-done-clause-ran g c =
     let failed = any_on (Rose (count c.in-Ok.field-0.repo.turns.disk) now) (Rose (count c.args.disk) now) answers (λ r. omega (arith, r, c.in-Ok.ensures.later)) (told_ok c.do_jobs-disk.result.1 c.in-Ok-done.done _ c.in-Ok-done.is c.do_jobs-disk.ensures.cause) in
     let listed = subst (λ (l : List Job). LeavesListed (length l) (option_map labels_now (told c.args.disk)) (option_map labels_now (told c.do_jobs-disk.result.0)) ⊎ Rose (count c.args.disk) now) given
     (lists_behind (Rose (count c.in-Ok.field-0.repo.turns.disk) now) (Rose (count c.args.disk) now) (length c.as_slice.result.now) _ _ _ (λ r. omega (arith, r, c.in-Ok.ensures.later)) c.in-Ok.ensures.listed c.do_jobs-disk.ensures.listed) in
-    Done js answers c.in-Ok-done.done.youngest c.tell.result c.in-Ok-read_script.ensures.read c.in-Ok-read_script.ensures.whole each failed (calm_all (Rose (count c.args.disk) now) answers failed) listed over c.tell.ensures.printed
+    let rose = told_ok c.do_jobs-disk.result.1 c.in-Ok-done.done _ c.in-Ok-done.is c.do_jobs-disk.ensures.benches in
+    let benches : RoseBy (bench_faults_in answers) 0 (g.D.Disk.bench_faults c.do_jobs-disk.result.0) = omega (arith, rose) in
+    Done js answers c.in-Ok-done.done.youngest c.tell.result c.in-Ok-read_script.ensures.read c.in-Ok-read_script.ensures.whole each failed (calm_all (Rose (count c.args.disk) now) answers failed) benches listed over c.tell.ensures.printed
 
 pub returns-clause-ran : goal.returns-clause-ran
 returns-clause-ran g c =

@@ -2,9 +2,10 @@ use Rattle.std.proofs.Common.{◌≡◌, ◌∙◌, ℕ, ap, sym, subst, refl, i
 use Rattle.std.specs.Prelude.{Option}
 use Rattle.fsfs_base.specs.Failures.{added_count}
 use Rattle.fsfs_disk.specs.Trace.{Trace}
+use Rattle.fsfs_turn.specs.Mountings.{RoseBy}
 use Rattle.fsfs_job_command.specs.Runs.{run_scene}
 use Rattle.fsfs_top.specs.Scripts.{HasHistory, RunsBy}
-use Rattle.fsfs_top.proofs.WorkersTold.{run_by_host}
+use Rattle.fsfs_top.proofs.WorkersTold.{by_host, run_by_host}
 use Rattle.fsfs_top.proofs.jobs.run_at.Goals as goal
 
 pub run_on-disk-requires-clause-right : goal.run_on-disk-requires-clause-right
@@ -23,17 +24,22 @@ returns-clause-ran g c =
     let path : g.H.Mounted.Disk.mount_path c.run_on-disk.result.0 ≡ c.args.repos.now = c.run_on-disk.ensures.mounted ∙ c.in-Ok.ensures.path in
     let back : g.H.Host.disk_at c.unmount.new.self c.args.repos.now ≡ told c.run_on-disk.result.0 = ap (g.H.Host.disk_at c.unmount.new.self) (sym path) ∙ c.unmount.ensures.back in
     let counted = c.unmount.ensures.faults ∙ ap (λ (n : ℕ). added_count n (count c.run_on-disk.result.0)) c.in-Ok.ensures.same_faults in
+    let benches = g.H.Mounted.Disk.bench_faults in
+    let old = g.H.Host.bench_faults c.args.host.now in
+    let new = g.H.Host.bench_faults c.unmount.new.self in
+    let counts = c.unmount.ensures.benches ∙ ap (λ (n : ℕ). added_count n (benches c.run_on-disk.result.0)) c.in-Ok.ensures.same_benches in
+    let rose = λ (n : ℕ). RoseBy n old new in
     inr (
       c.micros-micros.result,
       c.micros-micros.ensures.value,
-      subst (λ (x : Option Trace). RunsBy c.args.workers c.args.known c.micros-micros.result (g.H.Host.disk_faults c.args.host.now) (g.H.Host.disk_faults c.unmount.new.self)
+      subst (λ (x : Option Trace). RunsBy c.args.workers c.args.known c.micros-micros.result (g.H.Host.disk_faults c.args.host.now) (g.H.Host.disk_faults c.unmount.new.self) rose
           (run_scene x (g.I.Source.remaining c.args.input.now) (g.I.Source.faults c.args.input.now) (g.O.Sink.written c.args.out.now) (g.O.Sink.faults c.args.out.now))
           (run_scene (g.H.Host.disk_at c.unmount.new.self c.args.repos.now) (g.I.Source.remaining c.run_on-disk.new.input) (g.I.Source.faults c.run_on-disk.new.input) (g.O.Sink.written c.run_on-disk.new.out) (g.O.Sink.faults c.run_on-disk.new.out)) c.run_on-disk.result.1)
           c.in-Ok.ensures.disk
-          (subst (λ (y : Option Trace). RunsBy c.args.workers c.args.known c.micros-micros.result (g.H.Host.disk_faults c.args.host.now) (g.H.Host.disk_faults c.unmount.new.self)
+          (subst (λ (y : Option Trace). RunsBy c.args.workers c.args.known c.micros-micros.result (g.H.Host.disk_faults c.args.host.now) (g.H.Host.disk_faults c.unmount.new.self) rose
           (run_scene (told c.in-Ok.disk) (g.I.Source.remaining c.args.input.now) (g.I.Source.faults c.args.input.now) (g.O.Sink.written c.args.out.now) (g.O.Sink.faults c.args.out.now))
           (run_scene y (g.I.Source.remaining c.run_on-disk.new.input) (g.I.Source.faults c.run_on-disk.new.input) (g.O.Sink.written c.run_on-disk.new.out) (g.O.Sink.faults c.run_on-disk.new.out)) c.run_on-disk.result.1)
           (sym back)
-          (run_by_host c.args.known c.micros-micros.result (count c.in-Ok.disk) (count c.run_on-disk.result.0) (g.H.Host.disk_faults c.args.host.now) (g.H.Host.disk_faults c.unmount.new.self) c.in-Ok.ensures.new counted _ _ c.args.workers
+          (run_by_host c.args.known c.micros-micros.result (count c.in-Ok.disk) (count c.run_on-disk.result.0) (g.H.Host.disk_faults c.args.host.now) (g.H.Host.disk_faults c.unmount.new.self) c.in-Ok.ensures.new counted (λ n. RoseBy n 0 (benches c.run_on-disk.result.0)) rose (λ n risen. by_host n 0 (benches c.run_on-disk.result.0) old new refl counts risen) _ _ c.args.workers
           c.run_on-disk.result.1 c.run_on-disk.ensures.ran)),
     )

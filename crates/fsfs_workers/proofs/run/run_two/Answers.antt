@@ -40,6 +40,13 @@ returns-in-Ok-clause-cause g c =
     let looked : c.look-youngest.new.seat.me.0.failures ≡ b.result.0.me.0.failures = ap (λ m. m.0.failures) c.look-youngest.ensures.same.2 in
     omega (arith, told, looked, c.close.ensures.rose, c.requires.began.1, c.requires.fresh.1)
 
+pub returns-in-Ok-clause-benches : goal.returns-in-Ok-clause-benches
+returns-in-Ok-clause-benches g c =
+    let b = c.do_beside-seat in
+    let told = told_ok b.result.1 c.in-Ok.answers _ c.in-Ok.is b.ensures.benches in
+    let looked : c.look-youngest.new.seat.me.0.bench_failures ≡ b.result.0.me.0.bench_failures = ap (λ m. m.0.bench_failures) c.look-youngest.ensures.same.2 in
+    omega (arith, told, looked, c.close.ensures.benches, c.requires.began.2, c.requires.fresh.2)
+
 pub returns-in-Ok-clause-mounted : goal.returns-in-Ok-clause-mounted
 returns-in-Ok-clause-mounted g c = c.close.ensures.mounted ∙ c.requires.began.0
 

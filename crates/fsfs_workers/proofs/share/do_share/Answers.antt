@@ -7,6 +7,8 @@ use Rattle.fsfs_jobs.specs.declared.answer.JobAnswer.{JobAnswer}
 use Rattle.fsfs_beside.specs.Lines.{dealt, disk_faults_in}
 use Rattle.fsfs_beside.specs.Passes.{WorkedSo}
 use Rattle.fsfs_workers.specs.InTurn.{turn_after}
+use Rattle.fsfs_serial.specs.Jobs.{bench_faults_in}
+use Rattle.fsfs_serial.proofs.BenchCounts.{benches_more}
 use Rattle.fsfs_workers.proofs.Counting.{rose_more}
 use Rattle.fsfs_workers.proofs.Sharing.{none_worked, share_others, turn_is_mine, turn_is_others, each_mine, worked_mine}
 use Rattle.fsfs_workers.proofs.share.do_share.Goals as goal
@@ -16,6 +18,7 @@ pub loop-job-init : goal.loop-job-init
 loop-job-init g c =
     let none = c.requires.room.0 in
     let told : disk_faults_in c.args.answers.items ≡ 0 = ap disk_faults_in none in
+    let benches : bench_faults_in c.args.answers.items ≡ 0 = ap bench_faults_in none in
     let long : length c.args.answers.items ≡ 0 = ap (λ (l : List JobAnswer). length l) none in
     record {
       worked = λ bound v known outside. none_worked (g.T.Turns.knows c.args.turns) c.args.micros c.args.answers.items v none known outside;
@@ -29,6 +32,7 @@ loop-job-init g c =
       cause = omega (arith, told);
       duty = refl;
       mounted = refl;
+      benches = omega (arith, benches);
       later = omega arith;
     }
 
@@ -66,7 +70,8 @@ loop-job-preserved g c =
             each = each_mine n b jobs i job less is mine had c.if-has_next.answers.items answer are inv.each;
             cause = let more = rose_more had answer (count c.args.turns) (count c.loop-job.turns) (count w.do_job-after.result.0) inv.cause did.later did.cause in let e = ap disk_faults_in are in omega (arith, more, e, same);
             duty = ap g.T.Turns.bound w.turns-is ∙ did.duty ∙ inv.duty;
-            mounted = ap g.T.Turns.mount_path w.turns-is ∙ did.mounted ∙ inv.mounted;
+            mounted = ap (λ t. (g.T.Turns.mounting t).mount) w.turns-is ∙ did.mounted ∙ inv.mounted;
+            benches = let more = benches_more had answer (g.T.Turns.mounting c.args.turns).bench_faults (g.T.Turns.mounting c.loop-job.turns).bench_faults (g.T.Turns.mounting w.do_job-after.result.0).bench_faults inv.benches did.benches in let e = ap bench_faults_in are in omega (arith, more, e, ap (λ t. (g.T.Turns.mounting t).bench_faults) w.turns-is);
             later = omega (arith, same, did.later, inv.later);
           }
       | else-has_next w ↦
@@ -88,7 +93,8 @@ loop-job-preserved g c =
             each = ap (λ (l : List JobAnswer). length l) are ∙ inv.each ∙ sym (ap (λ (l : List Job). length l) share);
             cause = let e = ap disk_faults_in are in omega (arith, inv.cause, e, same);
             duty = ap g.T.Turns.bound w.turns-is ∙ inv.duty;
-            mounted = ap g.T.Turns.mount_path w.turns-is ∙ inv.mounted;
+            mounted = ap (λ t. (g.T.Turns.mounting t).mount) w.turns-is ∙ inv.mounted;
+            benches = let e = ap bench_faults_in are in omega (arith, inv.benches, e, ap (λ t. (g.T.Turns.mounting t).bench_faults) w.turns-is);
             later = omega (arith, same, inv.later);
           }
     ]

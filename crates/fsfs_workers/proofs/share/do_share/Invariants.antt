@@ -4,6 +4,7 @@ use Rattle.std.specs.Vec.{vec_capacity}
 use Rattle.fsfs_turn.specs.Views.{View}
 use Rattle.fsfs_beside.specs.Lines.{dealt, disk_faults_in, RoseBy}
 use Rattle.fsfs_beside.specs.Passes.{WorkedSo}
+use Rattle.fsfs_serial.specs.Jobs.{bench_faults_in}
 use Rattle.fsfs_workers.specs.InTurn.{turn_after}
 use Rattle.fsfs_workers.proofs.share.do_share.Given as goal
 
@@ -21,6 +22,7 @@ invariant-loop-job g l = record {
   each : length l.answers.items ≡ length (dealt l.fn.share.workers l.fn.share.before (take l.job-index l.jobs));
   cause : RoseBy (disk_faults_in l.answers.items) (g.T.Turns.faults l.fn.turns) (g.T.Turns.faults l.turns);
   duty : g.T.Turns.bound l.turns ≡ g.T.Turns.bound l.fn.turns;
-  mounted : g.T.Turns.mount_path l.turns ≡ g.T.Turns.mount_path l.fn.turns;
+  mounted : (g.T.Turns.mounting l.turns).mount ≡ (g.T.Turns.mounting l.fn.turns).mount;
+  benches : RoseBy (bench_faults_in l.answers.items) (g.T.Turns.mounting l.fn.turns).bench_faults (g.T.Turns.mounting l.turns).bench_faults;
   later : g.T.Turns.faults l.fn.turns ≤ g.T.Turns.faults l.turns;
 }

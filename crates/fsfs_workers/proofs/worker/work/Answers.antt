@@ -40,6 +40,7 @@ returns-clause-worked g c =
       did = λ told. subst (λ (z : View). WorkJobs c.args.micros (dealt c.args.share.workers c.args.share.before c.args.jobs.now) c.do_share-pass.result.1.items (view_of seat) z) (after told) (known told).3;
       each = s.each;
       cause = let a = ap (λ z. z.me.0.failures) was in let b = ap (λ z. z.me.0.failures) is in omega (arith, a, b, s.cause);
+      benches = let a = ap (λ z. z.me.0.bench_failures) was in let b = ap (λ z. z.me.0.bench_failures) is in omega (arith, a, b, s.benches);
       rests = record {
         sitting = c.into_seat.ensures.sitting;
         outside = λ told. let had : seat.told ≡ true = sym (ap (λ z. z.me.0.told) was) ∙ sym s.duty ∙ sym (ap (λ z. z.me.0.told) is) ∙ told in sym (ap (λ (z : View). z.section) (after had)) ∙ (known had).2;
